@@ -5,9 +5,9 @@ LARGEST = b"170141183460469231731687303715884105727"
 
 def place(text, offset):
     """The line and the column of an offset, as a fault shows them."""
-    front = text[:offset]
-    line = front.count(b"\n") + 1
-    column = offset - (front.rfind(b"\n") + 1) + 1
+    prefix = text[:offset]
+    line = prefix.count(b"\n") + 1
+    column = offset - (prefix.rfind(b"\n") + 1) + 1
     return b"line %d column %d: " % (line, column)
 
 

@@ -1,7 +1,7 @@
 -- What the tool guarantees for sources over texts and for a page, in terms of the texts alone.
 use Rattle.std.proofs.Common.{◌≡◌, ◌∙◌, ℕ, List, Bool, Bor, Option, Some, None, Result, ap, subst}
-use Rattle.pb_text.specs.contract.Kept.{inner_of, shown_of}
-use Rattle.pb_text.specs.contract.Over.{told}
+use Rattle.pb_text.specs.contract.OverState.{inner_of, shown_of}
+use Rattle.pb_text.specs.contract.Over.{reported}
 use Rattle.pb_text.specs.declared.Limits.{Limits}
 use Rattle.pb_text.specs.declared.over.Over.{Over}
 use Rattle.pb_replay.specs.declared.verdict.Verdict.{Verdict}
@@ -12,8 +12,8 @@ use Rattle.pb_c.specs.Answers.{empty, faults, written}
 use Rattle.pb_c.specs.declared.page.Page.{Page}
 
 -- a source over a slice has the bytes of the slice left
-pub whole : (o : Over (Bor (List ℕ))) (s : Bor (List ℕ)) → inner_of o ≡ s → shown_of o ≡ None → told (Some o.inner.now) None o.shown ≡ Some s.now
-whole o s is none = ap (λ (x : Option ℕ). told (Some o.inner.now) None x) none ∙ ap (λ (x : Bor (List ℕ)). Some x.now) is
+pub whole : (o : Over (Bor (List ℕ))) (s : Bor (List ℕ)) → inner_of o ≡ s → shown_of o ≡ None → reported (Some o.inner.now) None o.shown ≡ Some s.now
+whole o s is none = ap (λ (x : Option ℕ). reported (Some o.inner.now) None x) none ∙ ap (λ (x : Bor (List ℕ)). Some x.now) is
 
 module _ (limits : Limits) (longest : ℕ) where
   pub of_check : (i : List ℕ) (p left right : Option (List ℕ)) (old new : Page) (answer : Result Verdict ToolFault) (i' p' : Option (List ℕ))

@@ -76,8 +76,8 @@ module _ (law : VerdictsAreTrue) (limits : Limits) (longest : ℕ) where
 pub shows_truth : VerdictsAreTrue → (o : Options) (i p old new : List ℕ) (status whole : ℕ) → AnswersCheck o i p old status new whole → ShowsTruth o i old status new whole
 shows_truth law o i p old new status whole (text, put, inl (wrong, line, two)) zero = absurd (omega (arith, two, zero))
 shows_truth law o i p old new status whole (text, put, inr (limits, longest, asked, a)) zero =
-    let (after, v, file, w, told, true) = of_answer law limits (unwrap_or longest (2 ^ 40)) i (Some p) text old new status whole a.page a.answer a.instance_left a.proof_left a.checks a.line_is a.status_is put zero in
-    (limits, longest, asked, after, v, file, w, told, true)
+    let (after, v, file, w, reported, true) = of_answer law limits (unwrap_or longest (2 ^ 40)) i (Some p) text old new status whole a.page a.answer a.instance_left a.proof_left a.checks a.line_is a.status_is put zero in
+    (limits, longest, asked, after, v, file, w, reported, true)
 
 -- the line of UNSAT differs from the others in its length
 no_solution : (v : Instance) (w : Verdict) → MeansWritten v w → length (verdict_line w) ≡ 15 → IsUnsatisfiable v
@@ -88,5 +88,5 @@ no_solution v (Bounds lower upper) h k = absurd (omega (arith, k, length-append 
 
 pub shows_unsat : (o : Options) (i old new : List ℕ) (status whole : ℕ) → ShowsTruth o i old status new whole → ShowsUnsat o i status new whole
 shows_unsat o i old new status whole truth zero fifteen says =
-    let (limits, longest, asked, after, v, file, w, told, true) = truth zero in
-    (limits, longest, asked, after, v, file, no_solution v w true (sym told.1 ∙ fifteen))
+    let (limits, longest, asked, after, v, file, w, reported, true) = truth zero in
+    (limits, longest, asked, after, v, file, no_solution v w true (sym reported.1 ∙ fifteen))

@@ -8,9 +8,9 @@ use Rattle.pb_opb.specs.declared.Instance.{Instance}
 use Rattle.pb_proof.specs.contract.ValueLaws.{ReadStatements}
 use Rattle.pb_proof.specs.contract.Values.{IsStatementValue}
 use Rattle.pb_proof.specs.declared.Stage.{Stage}
-use Rattle.pb_proof.specs.declared.Stage.TheVariants.{Opening, Formula, Steps, Claim, Closing, Complete}
+use Rattle.pb_proof.specs.declared.Stage.TheVariants.{Opening, Formula, Steps, Concluding, Closing, Complete}
 use Rattle.pb_proof.specs.declared.Statement.{Statement}
-use Rattle.pb_replay.specs.contract.Kept.{Replaying, StandsFor, verdict_at}
+use Rattle.pb_replay.specs.contract.ReplayModel.{Replaying, StandsFor, verdict_at}
 use Rattle.pb_replay.specs.contract.Laws.{MeaningsAgree, StatementsAreSound}
 use Rattle.pb_replay.specs.meaning.Meaning.{IsProblem, IsSound, Means, MeansWritten}
 use Rattle.pb_replay.specs.meaning.Problem.{Opened, Problem}
@@ -27,7 +27,7 @@ concluded_as Complete concluded w e = e
 concluded_as Opening concluded w e = absurd cc
 concluded_as Formula concluded w e = absurd cc
 concluded_as Steps concluded w e = absurd cc
-concluded_as Claim concluded w e = absurd cc
+concluded_as Concluding concluded w e = absurd cc
 concluded_as Closing concluded w e = absurd cc
 
 same_state : {s t : State} → ◌≡◌ {A = Result State Fault} (Ok s) (Ok t) → s ≡ t
@@ -47,21 +47,21 @@ module _ (law : StatementsAreSound) (agree : MeaningsAgree) (read : ReadStatemen
   from_state fine s at sound =
       let (place, (t, replayed, is)) = shows (Ok s) at in
       let (u, same, accepted) = replayed.accepted in
-      let begins = read (largest r.limits) (top_of r.limits) byte_limit bytes replayed.used replayed.marks place true None replayed.reads in
-      let last = sound_after law (largest r.limits) (top_of r.limits) r.problem fine (events_at replayed.marks) s u begins.each sound accepted in
+      let begins = read (largest r.limits) (top_of r.limits) byte_limit bytes replayed.used replayed.spans place true None replayed.reads in
+      let last = sound_after law (largest r.limits) (top_of r.limits) r.problem fine (events_at replayed.spans) s u begins.each sound accepted in
       last.meant w (concluded_as u.next u.concluded w (subst (λ (x : State). verdict_at x.next x.concluded ≡ Some w) (same_state same) is))
 
   -- a spent one verifies nothing
   at_fault : (fault : Option Fault) → r.fault ≡ fault → (r.fault ≡ None → IsProblem r.problem)
       → (r.fault ≡ None → (s : State) × StandsFor r s × IsSound r.problem s) → Means r.problem w
-  at_fault None none fine told =
-      let (s, stands, sound) = told none in
+  at_fault None none fine reported =
+      let (s, stands, sound) = reported none in
       from_state (fine none) s (none, stands) sound
-  at_fault (Some e) spent fine told =
+  at_fault (Some e) spent fine reported =
       let (place, (t, replayed, is)) = shows (Err e) spent in
       let (nothing, other) = replayed.accepted in
       absurd cc
 
   pub true_of : (r.fault ≡ None → IsProblem r.problem) → (r.fault ≡ None → (s : State) × StandsFor r s × IsSound r.problem s)
       → (limit : ℕ) (v : Instance) → Opened limit v (Ok r.problem) → MeansWritten v w
-  true_of fine told limit v opened = agree limit v r.problem w opened (at_fault r.fault refl fine told)
+  true_of fine reported limit v opened = agree limit v r.problem w opened (at_fault r.fault refl fine reported)

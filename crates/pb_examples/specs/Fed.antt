@@ -3,7 +3,7 @@ use Rattle.std.specs.Prelude.{◌≡◌, ◌↔◌, ℕ, List, Bool, IsTrue, Res
 use Rattle.pb_text.specs.meaning.Reading.{byte_limit}
 use Rattle.pb_text.specs.declared.Place.{Place}
 use Rattle.pb_opb.specs.declared.Instance.{Instance}
-use Rattle.pb_replay.specs.contract.Kept.{Replaying}
+use Rattle.pb_replay.specs.contract.ReplayModel.{Replaying}
 use Rattle.pb_replay.specs.meaning.Problem.{Opened}
 use Rattle.pb_replay.specs.meaning.Replay.{State}
 use Rattle.pb_replay.specs.declared.fault.Fault.{Fault}
@@ -23,5 +23,5 @@ Verifies replay bytes w =
     (first : Result State Fault) → IsAt replay first → (place : Place) × Ends replay.limits byte_limit replay.problem first bytes place (Ok w)
 
 -- The answer is whether the verdict on the bytes is UNSAT.
-abbrev pub TellsUnsat : Replaying → List ℕ → Bool → Type 0
-TellsUnsat replay bytes answer = (w : Verdict) × Verifies replay bytes w × (IsTrue answer ↔ (w ≡ Unsat))
+abbrev pub ReportsUnsat : Replaying → List ℕ → Bool → Type 0
+ReportsUnsat replay bytes answer = (w : Verdict) × Verifies replay bytes w × (IsTrue answer ↔ (w ≡ Unsat))

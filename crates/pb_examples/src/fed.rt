@@ -2,7 +2,7 @@
 
 ghost use Rattle.std.specs.List.{flat_map};
 ghost use Rattle.std.specs.Prelude.{◌≡◌, true, IfOk};
-ghost use Rattle.pb_examples.specs.Fed.{IsRefuted, TellsUnsat};
+ghost use Rattle.pb_examples.specs.Fed.{IsRefuted, ReportsUnsat};
 
 use pb_proof::laws::values::reads_are_of_proofs;
 use pb_replay::laws::{statements_are_sound, verdicts_are_true};
@@ -20,12 +20,12 @@ pub fn is_refuted_in_pieces(
     // `true` means that no assignment satisfies the instance.
     ensures unsat { result ≡ Ok true → IsRefuted replay }
     // The pieces in a row begin with a proof that the rules accept. The answer is whether its verdict is UNSAT.
-    ensures exact { IfOk result (TellsUnsat replay (flat_map (λ piece. piece.now) pieces.now)) }
+    ensures exact { IfOk result (ReportsUnsat replay (flat_map (λ piece. piece.now) pieces.now)) }
 {
     reads_are_of_proofs();
     statements_are_sound();
     verdicts_are_true();
-    replay.tell_sound();
+    replay.report_sound();
     let mut checker = Checker::new(alloc, replay, None);
     for piece in pieces {
         let _used = checker.feed(piece)?;

@@ -5,7 +5,7 @@ ghost use Rattle.pb_text.specs.meaning.Limits.{largest};
 ghost use Rattle.pb_sums.specs.declared.values.Linear.{Linear as Written};
 ghost use Rattle.pb_normal.specs.meaning.Constraints.{AreFormsOf, Fits, constraint_names, sides_in, with_sides};
 ghost use Rattle.pb_normal.specs.meaning.Form.{Form};
-ghost use Rattle.pb_normal.specs.meaning.Names.{AfterFront, HasNames, with_names};
+ghost use Rattle.pb_normal.specs.meaning.Names.{AfterPrefix, HasNames, with_names};
 ghost use Rattle.pb_normal.specs.meaning.Written.{names_of};
 
 use crate::fault::NormalFault;
@@ -32,7 +32,7 @@ fn add_side(
     ensures named { OnOk result (HasNames names.new (names_of constraint.now.terms)) }
     ensures fits { OnOk result (Fits (largest limits) constraint.now) }
     ensures overflow { result ≡ Err NormalFault.Overflow → ¬ Fits (largest limits) constraint.now }
-    ensures err { OnErr result (AfterFront names.old (names_of constraint.now.terms) names.new) }
+    ensures err { OnErr result (AfterPrefix names.old (names_of constraint.now.terms) names.new) }
 {
     let form = Normal::from_linear(alloc, names, constraint, side, limits)?;
     forms.push(form)?;
@@ -53,7 +53,7 @@ fn add(
     ensures names { OnOk result (names.new ≡ with_names names.old (names_of constraint.now.terms)) }
     ensures fits { OnOk result (Fits (largest limits) constraint.now) }
     ensures overflow { result ≡ Err NormalFault.Overflow → ¬ Fits (largest limits) constraint.now }
-    ensures err { OnErr result (AfterFront names.old (names_of constraint.now.terms) names.new) }
+    ensures err { OnErr result (AfterPrefix names.old (names_of constraint.now.terms) names.new) }
 {
     add_side(alloc, names, constraint, Side::AtLeast, limits, forms)?;
     match constraint.relation {
@@ -93,9 +93,9 @@ pub fn load(
         (c : Written) × Contains constraints.now c × ¬ Fits (largest limits) c }
     ensures memory { result ≡ Err NormalFault.Memory → All (Fits (largest limits)) constraints.now }
     ensures unchanged { result ≡ Err NormalFault.Overflow → names.new ≡ names.old }
-    ensures err { OnErr result (AfterFront names.old (constraint_names constraints.now) names.new) }
+    ensures err { OnErr result (AfterPrefix names.old (constraint_names constraints.now) names.new) }
 {
-    names.tell_distinct();
+    names.report_distinct();
     match test(constraints, limits) {
         Ok(()) => load_tested(alloc, names, constraints, limits),
         Err(fault) => Err(fault),
@@ -112,9 +112,9 @@ fn load_tested(
     requires { All (Fits (largest limits)) constraints.now }
     ensures forms { IfOk result (λ v. AreFormsOf names.new (sides_in constraints.now) v.items) }
     ensures names { OnOk result (names.new ≡ with_names names.old (constraint_names constraints.now)) }
-    ensures err { IfErr result (λ e. (e ≡ NormalFault.Memory) × AfterFront names.old (constraint_names constraints.now) names.new) }
+    ensures err { IfErr result (λ e. (e ≡ NormalFault.Memory) × AfterPrefix names.old (constraint_names constraints.now) names.new) }
 {
-    names.tell_distinct();
+    names.report_distinct();
     let mut forms = Vec::with_capacity(alloc, constraints.len())?;
     for constraint in constraints {
         match add(alloc, names, constraint, limits, &mut forms) {

@@ -60,7 +60,7 @@ pub fn written_forms_are_exact()
 /// After other names appear, the names before them have the same numbers, and each of the others has a number. If the
 /// names were distinct, they still are. If each of the others had a number, no name is new.
 pub fn names_keep_their_numbers()
-    ensures front { (names others : List (List ℕ)) → (more : List (List ℕ)) × (with_names names others ≡ names ++ more) }
+    ensures prefix { (names others : List (List ℕ)) → (more : List (List ℕ)) × (with_names names others ≡ names ++ more) }
     ensures named { (names others : List (List ℕ)) → HasNames (with_names names others) others }
     ensures distinct { (names others : List (List ℕ)) → AreDistinct names → AreDistinct (with_names names others) }
     ensures present { (names others : List (List ℕ)) → HasNames names others → with_names names others ≡ names }

@@ -5,7 +5,7 @@ ghost use Rattle.std.specs.Int.RustNames.{unsigned_abs};
 ghost use Rattle.pb_text.specs.meaning.Limits.{largest};
 ghost use Rattle.pb_normal.specs.meaning.Constraints.{Fits};
 ghost use Rattle.pb_normal.specs.meaning.Form.{IsNormal, IsWithin};
-ghost use Rattle.pb_normal.specs.meaning.Names.{AreDistinct, with_names, AfterFront, HasNames};
+ghost use Rattle.pb_normal.specs.meaning.Names.{AreDistinct, with_names, AfterPrefix, HasNames};
 ghost use Rattle.pb_normal.specs.engine.Raw.{entry_of, raw_of, shift};
 ghost use Rattle.pb_normal.specs.meaning.Written.{names_of, magnitude, side_terms, side_number, IsSideOf, SameSolutions};
 
@@ -39,10 +39,10 @@ impl Normal {
         ensures names { OnOk result (names.new ≡ with_names names.old (names_of linear.now.terms)) }
         ensures named { OnOk result (HasNames names.new (names_of linear.now.terms)) }
         ensures unchanged { result ≡ Err NormalFault.Overflow → names.new ≡ names.old }
-        ensures err { OnErr result (AfterFront names.old (names_of linear.now.terms) names.new) }
+        ensures err { OnErr result (AfterPrefix names.old (names_of linear.now.terms) names.new) }
         ensures distinct { AreDistinct names.new }
     {
-        names.tell_distinct();
+        names.report_distinct();
         let terms = linear.terms.as_slice();
         if !is_within(terms, linear.degree, limits.largest()) {
             return Err(NormalFault::Overflow);
@@ -112,7 +112,7 @@ fn numbered(
     ensures names { OnOk result (names.new ≡ with_names names.old (names_of terms.now)) }
     ensures named { OnOk result (HasNames names.new (names_of terms.now)) }
     ensures entries { IfOk result (λ v. v.items ≡ map (raw_of names.new) (side_terms side terms.now)) }
-    ensures err { OnErr result (AfterFront names.old (names_of terms.now) names.new) }
+    ensures err { OnErr result (AfterPrefix names.old (names_of terms.now) names.new) }
     ensures distinct { AreDistinct names.new }
 {
     let mut out = Vec::with_capacity(alloc, terms.len())?;

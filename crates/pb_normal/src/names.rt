@@ -63,7 +63,7 @@ impl Names {
     }
 
     // Gives a proof the fact that no name appears twice.
-    pub(crate) fn tell_distinct(&self)
+    pub(crate) fn report_distinct(&self)
         ensures { AreDistinct self.now }
     {
         let _ = &self.set;

@@ -2,4 +2,4 @@
 pub mod Canonical
 pub mod Fields
 pub mod Formats
-pub mod Statements
+pub mod Laws

@@ -1,8 +1,8 @@
 //! The laws of instances and their texts.
 
 ghost use Rattle.pb_opb.specs.contract.Fields.{KeepsItsState};
-ghost use Rattle.pb_opb.specs.contract.Formats.{ReadsInstances, OneInstance, FixedMarks, NoFront, LargerLimits};
-ghost use Rattle.pb_opb.specs.contract.Statements.{CanonicalInstance, InstanceValues, ReadsBack};
+ghost use Rattle.pb_opb.specs.contract.Formats.{ReadsInstances, OneInstance, FixedSpans, PrefixFree, LargerLimits};
+ghost use Rattle.pb_opb.specs.contract.Laws.{CanonicalInstance, InstanceValues, ReadsBack};
 
 /// A new machine accepts exactly the instances.
 pub fn instances_are_exact()
@@ -16,13 +16,13 @@ pub fn one_instance()
 
 /// In all instances whose texts begin with the same bytes, the statements that end within these bytes are the same.
 /// Their positions are the same too.
-pub fn fixed_marks()
-    ensures { FixedMarks }
+pub fn fixed_spans()
+    ensures { FixedSpans }
 {}
 
 /// No instance's text is a prefix of another's.
-pub fn no_front()
-    ensures { NoFront }
+pub fn prefix_free()
+    ensures { PrefixFree }
 {}
 
 /// An instance under limits is the same instance under larger ones.

@@ -8,7 +8,7 @@ mod end;
 
 use crate::event::OpbEvent;
 use crate::line::line_prefix;
-use crate::phase::{Field, Move, Phase};
+use crate::phase::{Action, Field, Phase};
 use crate::transition::{is_done, is_within, plan};
 use pb_sums::{Part, Spaces, SumEvent, SumMachine};
 use pb_text::bytes::is_digit;
@@ -60,9 +60,9 @@ impl OpbMachine {
     pub fn new(alloc: Global, limits: Limits) -> Self
         ensures accepts { (items : List (Item OpbEvent)) → Accepts opb result items ↔ IsInstance (largest limits) (top_of limits) items }
         // Whatever `Reads` says of this machine, it says of the instances.
-        ensures reads { (longest : ℕ) (input used : List ℕ) (marks : List (Spanned OpbEvent)) (place : Place) (done : Bool) (stop : Option Stop)
-            → Reads (Accepts opb result) longest input used marks place done stop
-            → Reads (IsInstance (largest limits) (top_of limits)) longest input used marks place done stop }
+        ensures reads { (longest : ℕ) (input used : List ℕ) (spans : List (Spanned OpbEvent)) (place : Place) (done : Bool) (stop : Option Stop)
+            → Reads (Accepts opb result) longest input used spans place done stop
+            → Reads (IsInstance (largest limits) (top_of limits)) longest input used spans place done stop }
         // It may allocate only at a byte of a tail or a comment, at one of a name, and at one that ends a literal.
         ensures asks { (used : List ℕ) (b : ℕ) → MayAsk opb result used b → AsksOnly (IsInstance (largest limits) (top_of limits)) (Asks (top_of limits)) used b }
         ensures begins { result ≡ begin (largest limits) (top_of limits) }
@@ -90,16 +90,16 @@ impl OpbMachine {
         ensures { Pushes opb self.old byte result self.new }
     {
         match plan(self.limits.top(), self.phase, byte) {
-            Move::To(phase) => {
+            Action::To(phase) => {
                 self.phase = phase;
                 Push::Go
             }
-            Move::Declare(variables) => {
+            Action::Declare(variables) => {
                 self.variables = variables;
                 self.phase = Phase::BeforeWord(Field::Constraints);
                 Push::Go
             }
-            Move::BeginTail(constraints, first) => {
+            Action::BeginTail(constraints, first) => {
                 if self.text.push(first).is_err() {
                     return Push::Memory;
                 }
@@ -107,13 +107,13 @@ impl OpbMachine {
                 self.phase = Phase::Tail;
                 Push::Go
             }
-            Move::Keep(next) => {
+            Action::Keep(next) => {
                 if self.text.push(next).is_err() {
                     return Push::Memory;
                 }
                 Push::Go
             }
-            Move::EndHeader(constraints) => {
+            Action::EndHeader(constraints) => {
                 self.owed = constraints;
                 self.phase = phase_owing(true, constraints);
                 Push::Event(OpbEvent::Header {
@@ -122,7 +122,7 @@ impl OpbMachine {
                     tail: Bytes::new(self.alloc),
                 })
             }
-            Move::EndTail => {
+            Action::EndTail => {
                 self.phase = phase_owing(true, self.owed);
                 Push::Event(OpbEvent::Header {
                     variables: self.variables,
@@ -130,17 +130,17 @@ impl OpbMachine {
                     tail: mem::replace(&mut self.text, Bytes::new(self.alloc)),
                 })
             }
-            Move::EndComment(may) => {
+            Action::EndComment(may) => {
                 self.phase = phase_owing(may, self.owed);
                 Push::Event(OpbEvent::Comment(mem::replace(&mut self.text, Bytes::new(self.alloc))))
             }
-            Move::BeginSum => {
+            Action::BeginSum => {
                 self.sums.restart(Part::Sum);
                 self.phase = Phase::AfterMin;
                 Push::Go
             }
-            Move::Give(phase) => self.give(phase, byte),
-            Move::Stop => {
+            Action::Give(phase) => self.give(phase, byte),
+            Action::Stop => {
                 if matches!(self.phase, Phase::Count(_, _)) && is_digit(byte) {
                     Push::Large
                 } else {
@@ -152,7 +152,7 @@ impl OpbMachine {
 
     /// Gives a byte to the machine of sums.
     fn give(&mut self, phase: Phase, byte: u8) -> Push<OpbEvent>
-        requires { plan self.old.top self.old.phase byte ≡ Move.Give phase }
+        requires { plan self.old.top self.old.phase byte ≡ Action.Give phase }
         ensures { Pushes opb self.old byte result self.new }
     {
         match self.sums.push(byte) {
@@ -183,11 +183,11 @@ impl OpbMachine {
         ensures { Goes opb self.old byte result self.new }
     {
         match plan(self.limits.top(), self.phase, byte) {
-            Move::To(next) => {
+            Action::To(next) => {
                 self.phase = next;
                 true
             }
-            Move::Give(next) => {
+            Action::Give(next) => {
                 if !self.sums.goes(byte) {
                     return false;
                 }
@@ -294,9 +294,9 @@ impl Machine for OpbMachine {
             return false;
         }
         match plan(self.limits.top(), self.phase, byte) {
-            Move::Stop | Move::Keep(_) => false,
-            Move::To(next) => is_within(next),
-            Move::Give(_) => self.sums.starts(byte),
+            Action::Stop | Action::Keep(_) => false,
+            Action::To(next) => is_within(next),
+            Action::Give(_) => self.sums.starts(byte),
             _ => true,
         }
     }

@@ -40,7 +40,7 @@ pub enum Phase {
 
 /// What a machine does with a byte.
 #[derive(Clone, Copy, Drop)]
-pub enum Move {
+pub enum Action {
     /// Continues.
     To(Phase),
     /// Stores the count of variables.

@@ -1,5 +1,5 @@
 pub mod Carried
-pub mod Claim
+pub mod Conclusion
 pub mod Count
 pub mod Each
 pub mod Ids

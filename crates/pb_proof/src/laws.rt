@@ -1,9 +1,9 @@
 //! The laws of proofs and their texts.
 
 ghost use Rattle.pb_proof.specs.contract.Fields.{ProofKeeps};
-ghost use Rattle.pb_proof.specs.engine.Line.ClaimFields.{ClaimKeeps};
+ghost use Rattle.pb_proof.specs.engine.Line.ConclusionFields.{ConclusionKeeps};
 ghost use Rattle.pb_proof.specs.engine.Line.Fields.{CountKeeps, IdsKeeps, LiteralsKeeps, RupKeeps, PolKeeps};
-ghost use Rattle.pb_proof.specs.contract.Formats.{ReadsProofs, OneProof, FixedMarks, NoFront, LargerLimits};
+ghost use Rattle.pb_proof.specs.contract.Formats.{ReadsProofs, OneProof, FixedSpans, PrefixFree, LargerLimits};
 
 pub mod values;
 
@@ -19,13 +19,13 @@ pub fn one_proof()
 
 /// In all proofs whose texts begin with the same bytes, the statements that end within these bytes are the same, at
 /// the same positions.
-pub fn fixed_marks()
-    ensures { FixedMarks }
+pub fn fixed_spans()
+    ensures { FixedSpans }
 {}
 
 /// No proof is a prefix of another.
-pub fn no_front()
-    ensures { NoFront }
+pub fn prefix_free()
+    ensures { PrefixFree }
 {}
 
 /// A proof under limits is the same proof under larger limits.
@@ -40,7 +40,7 @@ pub fn keeps_its_state()
     ensures ids { IdsKeeps }
     ensures literals { LiteralsKeeps }
     ensures rup { RupKeeps }
-    ensures claim { ClaimKeeps }
+    ensures conclusion { ConclusionKeeps }
     ensures pol { PolKeeps }
     ensures proof { ProofKeeps }
 {}

@@ -1,8 +1,8 @@
 //! The line machines: they read the rest of a statement after its first word.
 
 mod byte_kind;
-mod claim;
 pub(crate) mod classes;
+mod conclusion;
 mod count;
 mod id_prefix;
 mod ids;
@@ -11,7 +11,7 @@ mod pol;
 pub(crate) mod push;
 mod rup;
 
-use crate::line::claim::ClaimMachine;
+use crate::line::conclusion::ConclusionMachine;
 use crate::line::count::CountMachine;
 use crate::line::ids::IdsMachine;
 use crate::line::literals::LiteralsMachine;
@@ -34,5 +34,5 @@ pub enum LineMachine {
     /// After `del id`.
     Delete(IdsMachine),
     /// After `conclusion`.
-    Conclusion(ClaimMachine),
+    Conclusion(ConclusionMachine),
 }

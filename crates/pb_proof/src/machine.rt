@@ -10,8 +10,8 @@ mod transition;
 
 use crate::line::LineMachine;
 use crate::line::push::line_first;
-use crate::machine::phase::{LineKind, Move, Phase, Stage};
-use crate::machine::transition::{is_done, is_within, plan, stage_behind, words_prefix};
+use crate::machine::phase::{Action, LineKind, Phase, Stage};
+use crate::machine::transition::{is_done, is_within, next_stage, plan, words_prefix};
 use crate::statement::Statement;
 use pb_text::{Limits, Machine, Push};
 use std::alloc::Global;
@@ -69,9 +69,9 @@ impl ProofMachine {
     pub fn new(alloc: Global, limits: Limits) -> Self
         ensures accepts { (items : List (Item Statement)) → Accepts proofs result items ↔ IsProof (largest limits) (top_of limits) items }
         // What is read by this machine is read of the format of proofs.
-        ensures reads { (longest : ℕ) (input used : List ℕ) (marks : List (Spanned Statement)) (place : Place) (done : Bool) (stop : Option Stop)
-            → Reads (Accepts proofs result) longest input used marks place done stop
-            → Reads (IsProof (largest limits) (top_of limits)) longest input used marks place done stop }
+        ensures reads { (longest : ℕ) (input used : List ℕ) (spans : List (Spanned Statement)) (place : Place) (done : Bool) (stop : Option Stop)
+            → Reads (Accepts proofs result) longest input used spans place done stop
+            → Reads (IsProof (largest limits) (top_of limits)) longest input used spans place done stop }
         // It may allocate only at a byte of a name or `pol` operator, or at one that ends a literal, id or `pol` word.
         ensures asks { (used : List ℕ) (b : ℕ) → MayAsk proofs result used b → AsksOnly (IsProof (largest limits) (top_of limits)) Asks used b }
         ensures begins { result ≡ begin (largest limits) (top_of limits) }
@@ -98,35 +98,35 @@ impl ProofMachine {
         ensures { Pushes proofs self.old byte result self.new }
     {
         match plan(self.phase, byte) {
-            Move::To(phase) => {
+            Action::To(phase) => {
                 self.phase = phase;
                 Push::Go
             }
-            Move::Begin(kind) => {
+            Action::Begin(kind) => {
                 start_line(&mut self.line, self.alloc, self.limits, kind);
                 self.phase = Phase::Inside(kind);
                 Push::Go
             }
-            Move::Give(kind) => self.give(kind, byte),
-            Move::EndHeader => {
+            Action::Give(kind) => self.give(kind, byte),
+            Action::EndHeader => {
                 self.phase = Phase::Between(Stage::Formula);
                 Push::Event(Statement::Header)
             }
-            Move::EndOutput => {
-                self.phase = Phase::Between(Stage::Claim);
+            Action::EndOutput => {
+                self.phase = Phase::Between(Stage::Concluding);
                 Push::Event(Statement::Output)
             }
-            Move::EndProof => {
+            Action::EndProof => {
                 self.phase = Phase::Between(Stage::Complete);
                 Push::Event(Statement::End)
             }
-            Move::Stop => Push::No,
+            Action::Stop => Push::No,
         }
     }
 
     /// Gives a byte to the line machine.
     fn give(&mut self, kind: LineKind, byte: u8) -> Push<Statement>
-        requires { plan self.old.phase byte ≡ Move.Give kind }
+        requires { plan self.old.phase byte ≡ Action.Give kind }
         ensures { Pushes proofs self.old byte result self.new }
     {
         let Some(line) = &mut self.line else {
@@ -136,7 +136,7 @@ impl ProofMachine {
             Push::Go => Push::Go,
             Push::Event(statement) => {
                 clear(&mut self.line);
-                self.phase = Phase::Between(stage_behind(kind));
+                self.phase = Phase::Between(next_stage(kind));
                 Push::Event(statement)
             }
             Push::No => Push::No,
@@ -152,7 +152,7 @@ impl ProofMachine {
     ghost use Rattle.pb_proof.specs.engine.Machine.State.{proofs};
 
     /// Gives bytes at the start of a text to the line machine, if there is one. Returns how many it took.
-    fn give_front(&mut self, text: &[u8]) -> usize
+    fn give_prefix(&mut self, text: &[u8]) -> usize
         ensures bound { result ≤ length text.now }
         ensures runs { Runs proofs self.old (take result text.now) self.new }
         ensures state { IsState proofs self.new }
@@ -177,8 +177,8 @@ impl ProofMachine {
             return 0;
         };
         match next {
-            Move::To(phase) => self.phase = phase,
-            Move::Begin(kind) => {
+            Action::To(phase) => self.phase = phase,
+            Action::Begin(kind) => {
                 start_line(&mut self.line, self.alloc, self.limits, kind);
                 self.phase = Phase::Inside(kind);
             }
@@ -201,11 +201,11 @@ impl Machine for ProofMachine {
 
     fn goes(&mut self, byte: u8) -> bool {
         let gone = match plan(self.phase, byte) {
-            Move::To(phase) => {
+            Action::To(phase) => {
                 self.phase = phase;
                 true
             }
-            Move::Begin(kind) => {
+            Action::Begin(kind) => {
                 start_line(&mut self.line, self.alloc, self.limits, kind);
                 self.phase = Phase::Inside(kind);
                 true
@@ -221,7 +221,7 @@ impl Machine for ProofMachine {
         self.end(byte)
     }
 
-    fn take_front(&mut self, piece: &[u8]) -> usize {
+    fn take_prefix(&mut self, piece: &[u8]) -> usize {
         let length = self.take_words(piece);
         if length > 0 {
             return length;
@@ -235,9 +235,9 @@ impl Machine for ProofMachine {
         let mut taken: usize = 0;
         while taken < piece.len() {
             if matches!(self.phase, Phase::Inside(_)) {
-                return taken + self.give_front(&piece[taken..]);
+                return taken + self.give_prefix(&piece[taken..]);
             }
-            let more = self.take_front(&piece[taken..]);
+            let more = self.take_prefix(&piece[taken..]);
             if more == 0 {
                 return taken;
             }
@@ -261,8 +261,8 @@ impl Machine for ProofMachine {
             return false;
         }
         match plan(self.phase, byte) {
-            Move::Stop | Move::Give(_) => false,
-            Move::To(next) => is_within(next),
+            Action::Stop | Action::Give(_) => false,
+            Action::To(next) => is_within(next),
             _ => true,
         }
     }

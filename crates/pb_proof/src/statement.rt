@@ -43,19 +43,19 @@ impl Statement {
         match self {
             Statement::Header => Stage::Opening,
             Statement::F(_) => Stage::Formula,
-            Statement::Conclude(_) => Stage::Claim,
+            Statement::Conclude(_) => Stage::Concluding,
             Statement::End => Stage::Closing,
             _ => Stage::Steps,
         }
     }
 
     /// The stage of a proof after the statement, if the statement may come.
-    pub fn stage_behind(&self) -> Stage
+    pub fn next_stage(&self) -> Stage
         ensures { result ≡ stage_after self.now }
     {
         match self {
             Statement::Header => Stage::Formula,
-            Statement::Output => Stage::Claim,
+            Statement::Output => Stage::Concluding,
             Statement::Conclude(_) => Stage::Closing,
             Statement::End => Stage::Complete,
             _ => Stage::Steps,

@@ -3,7 +3,7 @@
 ghost use Rattle.std.specs.Prelude.{◌≡◌, [], ◌∷◌, ◌++◌};
 ghost use Rattle.std.specs.Fmt.{signed_decimal};
 ghost use Rattle.pb_text.specs.meaning.Writing.{Writes};
-ghost use Rattle.pb_proof.specs.meaning.Canonical.{literal_line, listed_bytes, bound_bytes, id_shown_bytes, shown_bytes, claim_bytes, count_bytes, statement_bytes, proof_bytes};
+ghost use Rattle.pb_proof.specs.meaning.Canonical.{literal_line, listed_bytes, bound_bytes, id_shown_bytes, shown_bytes, conclusion_bytes, count_bytes, statement_bytes, proof_bytes};
 ghost use Rattle.pb_proof.specs.engine.Line.Ended.{ended_lines};
 
 mod words;
@@ -99,7 +99,7 @@ fn write_bounds<S: Sink>(
     shown: &Option<Sequence<Literal>>,
     out: &mut S,
 ) -> Result<(), Failed>
-    ensures { Writes S.contents S.faults out.old (claim_bytes (Conclusion.Bounds lower id upper shown.now)) result out.new }
+    ensures { Writes S.contents S.faults out.old (conclusion_bytes (Conclusion.Bounds lower id upper shown.now)) result out.new }
 {
     write_bytes(b"BOUNDS", out)?;
     write_next_bound(lower, out)?;
@@ -109,23 +109,23 @@ fn write_bounds<S: Sink>(
 }
 
 fn write_unsat<S: Sink>(id: Option<i64>, out: &mut S) -> Result<(), Failed>
-    ensures { Writes S.contents S.faults out.old (claim_bytes (Conclusion.Unsat id)) result out.new }
+    ensures { Writes S.contents S.faults out.old (conclusion_bytes (Conclusion.Unsat id)) result out.new }
 {
     write_bytes(b"UNSAT", out)?;
     write_id_shown(id, out)
 }
 
 fn write_sat<S: Sink>(shown: &Option<Sequence<Literal>>, out: &mut S) -> Result<(), Failed>
-    ensures { Writes S.contents S.faults out.old (claim_bytes (Conclusion.Sat shown.now)) result out.new }
+    ensures { Writes S.contents S.faults out.old (conclusion_bytes (Conclusion.Sat shown.now)) result out.new }
 {
     write_bytes(b"SAT", out)?;
     write_shown(shown, out)
 }
 
-fn write_claim<S: Sink>(claim: &Conclusion, out: &mut S) -> Result<(), Failed>
-    ensures { Writes S.contents S.faults out.old (claim_bytes claim.now) result out.new }
+fn write_conclusion_text<S: Sink>(concluding: &Conclusion, out: &mut S) -> Result<(), Failed>
+    ensures { Writes S.contents S.faults out.old (conclusion_bytes concluding.now) result out.new }
 {
-    match claim {
+    match concluding {
         Conclusion::NoClaim => write_bytes(b"NONE", out),
         Conclusion::Unsat(id) => write_unsat(*id, out),
         Conclusion::Sat(shown) => write_sat(shown, out),
@@ -182,7 +182,7 @@ fn write_conclusion<S: Sink>(conclusion: &Conclusion, out: &mut S) -> Result<(),
     ensures { Writes S.contents S.faults out.old (statement_bytes (Statement.Conclude conclusion.now)) result out.new }
 {
     write_bytes(b"conclusion ", out)?;
-    write_claim(conclusion, out)
+    write_conclusion_text(conclusion, out)
 }
 
 /// Writes the line of a statement without its line feed.

@@ -2,6 +2,6 @@
 pub mod Example
 pub mod Faults
 pub mod Fields
-pub mod Kept
+pub mod ReplayModel
 pub mod Laws
 pub mod Visits

@@ -7,10 +7,10 @@ ghost use Rattle.pb_text.specs.meaning.Limits.{largest, top_of};
 ghost use Rattle.pb_proof.specs.contract.Values.{IsStatementValue};
 ghost use Rattle.pb_replay.specs.meaning.Problem.{FitsAll, Opened};
 ghost use Rattle.pb_replay.specs.meaning.Replay.{State, first_state};
-ghost use Rattle.pb_replay.specs.meaning.Meaning.{IsFront, IsProblem, IsSound, Means, MeansWritten};
-ghost use Rattle.pb_replay.specs.contract.Kept.{StandsFor, StepsAs, verdict_in, constraint_in};
+ghost use Rattle.pb_replay.specs.meaning.Meaning.{IsNamePrefix, IsProblem, IsSound, Means, MeansWritten};
+ghost use Rattle.pb_replay.specs.contract.ReplayModel.{StandsFor, StepsAs, verdict_in, constraint_in};
 ghost use Rattle.pb_replay.specs.meaning.Statements.{MayWantAt};
-ghost use Rattle.pb_replay.specs.contract.Visits.{LooksOf};
+ghost use Rattle.pb_replay.specs.contract.Visits.{StepVisits};
 ghost use Rattle.pb_replay.specs.declared.fault.Fault.{Fault as AFault};
 
 use crate::fault::Fault;
@@ -33,7 +33,7 @@ pub struct Replay {
 }
 
 impl Model for Replay {
-    ghost use Rattle.pb_replay.specs.contract.Kept.{Replaying, IsKept, problem_of};
+    ghost use Rattle.pb_replay.specs.contract.ReplayModel.{Replaying, IsKept, problem_of};
 
     ghost Value = { Replaying };
 
@@ -101,13 +101,13 @@ impl Replay {
         ensures again { (fault : AFault) → self.old.fault ≡ Some fault → (result ≡ Err fault) × (self.new ≡ self.old) }
         ensures limits { self.new.limits ≡ self.old.limits }
         ensures problem { self.new.problem ≡ self.old.problem }
-        ensures names { IsFront self.old.names self.new.names }
+        ensures names { IsNamePrefix self.old.names self.new.names }
         // What can be tested without memory is reported first. It is the order, a number of constraints that is wrong or
         // too large, a constraint that is too large, and a missing objective.
         ensures memory { self.old.fault ≡ None → result ≡ Err Fault.Memory →
             MayWantAt (largest self.old.limits) (top_of self.old.limits) self.old.problem self.old.next statement.now }
         ensures unvalued { (n : ℕ) → result ≡ Err (Fault.NotTotal n) → n < length self.old.names }
-        ensures looks { self.old.fault ≡ None → LooksOf self.old.live self.old.names statement.now result self.old.visits self.new.visits }
+        ensures visits_made { self.old.fault ≡ None → StepVisits self.old.live self.old.names statement.now result self.old.visits self.new.visits }
     {
         if let Some(fault) = self.fault {
             return Err(fault);
@@ -122,7 +122,7 @@ impl Replay {
     }
 
     /// A replay that is not spent represents a sound state of its problem. A call makes this known to the caller.
-    pub fn tell_sound(&self)
+    pub fn report_sound(&self)
         ensures problem { self.now.fault ≡ None → IsProblem self.now.problem }
         ensures sound { self.now.fault ≡ None → (s : State) × StandsFor self.now s × IsSound self.now.problem s }
     {

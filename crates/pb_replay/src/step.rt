@@ -4,9 +4,9 @@ ghost use Rattle.std.specs.Prelude.{◌≡◌, ◌↔◌, Err, IsTrue, OnOk};
 ghost use Rattle.pb_text.specs.meaning.Limits.{largest, top_of};
 ghost use Rattle.pb_proof.specs.meaning.Order.{stage_of};
 ghost use Rattle.pb_proof.specs.contract.Values.{IsStatementValue};
-ghost use Rattle.pb_replay.specs.contract.Kept.{Keeps, Goes, Comes, IsLinked, IsReady, problem_of};
+ghost use Rattle.pb_replay.specs.contract.ReplayModel.{Keeps, Goes, Comes, IsLinked, IsReady, problem_of};
 ghost use Rattle.pb_replay.specs.meaning.Statements.{IsCount, MayWant, MayWantAt, PassesFirst};
-ghost use Rattle.pb_replay.specs.contract.Visits.{LooksOf, counted_from};
+ghost use Rattle.pb_replay.specs.contract.Visits.{StepVisits, counted_from};
 
 mod bounds;
 mod conclude;
@@ -79,7 +79,7 @@ fn output(running: &mut Running) -> Result<(), Fault>
     ensures visits { running.new.visits ≡ running.old.visits }
     ensures memory { result ≡ Err Fault.Memory → ⊥ }
 {
-    running.next = Stage::Claim;
+    running.next = Stage::Concluding;
     Ok(())
 }
 
@@ -121,7 +121,7 @@ fn carry_out(running: &mut Running, statement: &Statement) -> Result<(), Fault>
     ensures goes { Goes running.old statement.now result running.new }
     ensures linked { OnOk result (IsLinked running.new) }
     ensures kept { Keeps running.old running.new }
-    ensures looks { LooksOf running.old.engine.forms running.old.names statement.now result running.old.visits running.new.visits }
+    ensures visits_made { StepVisits running.old.engine.forms running.old.names statement.now result running.old.visits running.new.visits }
     ensures memory { result ≡ Err Fault.Memory →
         MayWant statement.now × PassesFirst (largest running.old.limits) (top_of running.old.limits) (problem_of running.old) statement.now }
 {
@@ -146,7 +146,7 @@ pub(crate) fn take(running: &mut Running, statement: &Statement) -> Result<(), F
     ensures comes { Comes running.old statement.now result running.new }
     ensures linked { OnOk result (IsLinked running.new) }
     ensures kept { Keeps running.old running.new }
-    ensures looks { LooksOf running.old.engine.forms running.old.names statement.now result running.old.visits running.new.visits }
+    ensures visits_made { StepVisits running.old.engine.forms running.old.names statement.now result running.old.visits running.new.visits }
     ensures memory { result ≡ Err Fault.Memory →
         MayWantAt (largest running.old.limits) (top_of running.old.limits) (problem_of running.old) running.old.next statement.now }
 {

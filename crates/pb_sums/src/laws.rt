@@ -1,8 +1,8 @@
 //! The laws of the grammar and of the machine.
 
 ghost use Rattle.pb_sums.specs.contract.Fields.{NameKeeps, ShortKeeps};
-ghost use Rattle.pb_sums.specs.contract.Kept.{KeepsItsState};
-ghost use Rattle.pb_sums.specs.contract.Statements.{ReadsGrammar, EndsLast, EachReads, EachIsState, OneValue, NoFront, LargerLimits, CanonicalLinear, CanonicalSum, CanonicalBytes};
+ghost use Rattle.pb_sums.specs.contract.MachineFields.{KeepsItsState};
+ghost use Rattle.pb_sums.specs.contract.Laws.{ReadsGrammar, EndsLast, EachReads, EachIsState, OneValue, PrefixFree, LargerLimits, CanonicalLinear, CanonicalSum, CanonicalBytes};
 
 /// A new machine reads exactly the grammar, and each state that has not ended reads something.
 pub fn sums_are_exact()
@@ -18,8 +18,8 @@ pub fn one_value()
 {}
 
 /// No text of a value is a proper prefix of another.
-pub fn no_front()
-    ensures { NoFront }
+pub fn prefix_free()
+    ensures { PrefixFree }
 {}
 
 /// A text of a value under some limits is a text of the same value under larger ones.

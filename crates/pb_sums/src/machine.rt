@@ -13,11 +13,11 @@ mod end;
 use crate::classes::kind;
 use crate::grammar::{Part, Spaces};
 use crate::name::Name;
-use crate::phase::{Move, Phase};
+use crate::phase::{Action, Phase};
 use crate::prefix::{name_prefix, relation_prefix, sign_prefix};
 use crate::term_prefix::{begins_term, literal_prefix, spaced_number_prefix};
 use crate::transition::{
-    begins_number, begins_relation, behind_name, behind_number, behind_space, in_hand, is_done,
+    after_name, after_number, after_space, begins_number, begins_relation, in_hand, is_done,
     is_in_number, is_more, is_numeric, plan, role, sign_read,
 };
 use crate::values::{Linear, Literal, SumEvent, Term};
@@ -46,7 +46,7 @@ impl Model for SumMachine {
 
     ghost Value = { SumState };
 
-    ghost use Rattle.pb_sums.specs.contract.Kept.{state_of};
+    ghost use Rattle.pb_sums.specs.contract.MachineFields.{state_of};
 
     ghost view = { state_of };
 
@@ -271,7 +271,7 @@ impl SumMachine {
         let Some((length, value)) = spaced_number_prefix(self.limit, self.phase, text) else {
             return 0;
         };
-        self.phase = behind_number(role(self.phase), value);
+        self.phase = after_number(role(self.phase), value);
         length
     }
 
@@ -308,10 +308,10 @@ impl SumMachine {
         if length < 2 || !is_letter(text[0]) {
             return 0;
         }
-        let Some(phase) = behind_name(self.phase) else {
+        let Some(phase) = after_name(self.phase) else {
             return 0;
         };
-        let Ok(name) = Name::from_front(self.alloc, text, length) else {
+        let Ok(name) = Name::from_prefix(self.alloc, text, length) else {
             return 0;
         };
         self.name = name;
@@ -348,7 +348,7 @@ impl SumMachine {
         ensures state { IsState sums self.new }
     {
         let _ = self.is_done();
-        let Some(phase) = behind_space(self.phase) else {
+        let Some(phase) = after_space(self.phase) else {
             return false;
         };
         if flush(self.alloc, &mut self.terms, &mut self.name, self.phase).is_err() {
@@ -393,7 +393,7 @@ impl Machine for SumMachine {
         }
         let kind = kind(self.spaces, is_numeric(self.phase), byte);
         match plan(self.part, self.limit, self.phase, kind) {
-            Move::Begin(phase, first) => {
+            Action::Begin(phase, first) => {
                 let mut name = Name::new(self.alloc);
                 if name.push(first).is_err() {
                     return false;
@@ -402,14 +402,14 @@ impl Machine for SumMachine {
                 self.phase = phase;
                 true
             }
-            Move::Add(phase, next) => {
+            Action::Add(phase, next) => {
                 if self.name.push(next).is_err() {
                     return false;
                 }
                 self.phase = phase;
                 true
             }
-            Move::To(phase) => {
+            Action::To(phase) => {
                 if flush(self.alloc, &mut self.terms, &mut self.name, self.phase).is_err() {
                     return false;
                 }
@@ -427,7 +427,7 @@ impl Machine for SumMachine {
     }
 
     #[inline(always)]
-    fn take_front(&mut self, piece: &[u8]) -> usize {
+    fn take_prefix(&mut self, piece: &[u8]) -> usize {
         if piece[0] == b' ' {
             return if self.take_space() { 1 } else { 0 };
         }
@@ -437,8 +437,8 @@ impl Machine for SumMachine {
     fn push(&mut self, byte: u8) -> Push<SumEvent> {
         let kind = kind(self.spaces, is_numeric(self.phase), byte);
         match plan(self.part, self.limit, self.phase, kind) {
-            Move::Stop => refusal(self.phase, byte),
-            Move::Begin(phase, first) => {
+            Action::Stop => refusal(self.phase, byte),
+            Action::Begin(phase, first) => {
                 let mut name = Name::new(self.alloc);
                 if name.push(first).is_err() {
                     return Push::Memory;
@@ -447,28 +447,28 @@ impl Machine for SumMachine {
                 self.phase = phase;
                 Push::Go
             }
-            Move::Add(phase, next) => {
+            Action::Add(phase, next) => {
                 if self.name.push(next).is_err() {
                     return Push::Memory;
                 }
                 self.phase = phase;
                 Push::Go
             }
-            Move::To(phase) => {
+            Action::To(phase) => {
                 if flush(self.alloc, &mut self.terms, &mut self.name, self.phase).is_err() {
                     return Push::Memory;
                 }
                 self.phase = phase;
                 Push::Go
             }
-            Move::EndSum => {
+            Action::EndSum => {
                 let Ok(terms) = finish(self.alloc, &mut self.terms, &mut self.name, &mut self.phase)
                 else {
                     return Push::Memory;
                 };
                 Push::Event(SumEvent::Sum(terms))
             }
-            Move::EndLinear(relation, degree) => {
+            Action::EndLinear(relation, degree) => {
                 let Ok(terms) = finish(self.alloc, &mut self.terms, &mut self.name, &mut self.phase)
                 else {
                     return Push::Memory;
@@ -491,7 +491,10 @@ impl Machine for SumMachine {
             return false;
         }
         let kind = kind(self.spaces, true, byte);
-        !matches!(plan(self.part, self.limit, Phase::Start, kind), Move::Stop)
+        !matches!(
+            plan(self.part, self.limit, Phase::Start, kind),
+            Action::Stop
+        )
     }
 
     fn held(&self) -> usize {

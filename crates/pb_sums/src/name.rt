@@ -71,14 +71,14 @@ impl Name {
 
     /// The name of the first `len` bytes of a text.
     #[inline(always)]
-    pub(crate) fn from_front(alloc: Global, text: &[u8], len: usize) -> Result<Name, AllocError>
+    pub(crate) fn from_prefix(alloc: Global, text: &[u8], len: usize) -> Result<Name, AllocError>
         requires within { len ≤ length text.now }
         requires text { IsUtf8 (take len text.now) }
         ensures name { IfOk result (λ name. name ≡ take len text.now) }
         ensures short { len ≤ 22 → is_ok result ≡ true }
     {
         if len <= SHORT {
-            return Ok(Name::short_front(alloc, text, len));
+            return Ok(Name::short_prefix(alloc, text, len));
         }
         // These bytes are UTF-8, as required.
         Name::from_text(alloc, unsafe { str::from_utf8_unchecked(&text[..len]) })
@@ -86,14 +86,14 @@ impl Name {
 
     /// The short name of the first `len` bytes of a text. It does not allocate.
     #[inline(always)]
-    pub(crate) fn short_front(alloc: Global, text: &[u8], len: usize) -> Name
+    pub(crate) fn short_prefix(alloc: Global, text: &[u8], len: usize) -> Name
         requires short { len ≤ 22 }
         requires within { len ≤ length text.now }
         requires text { IsUtf8 (take len text.now) }
         ensures name { result ≡ take len text.now }
     {
         Name {
-            kept: Kept::Short(ShortText::from_front(alloc, text, len)),
+            kept: Kept::Short(ShortText::from_prefix(alloc, text, len)),
         }
     }
 
@@ -152,8 +152,8 @@ impl Name {
         ensures { self.new ≡ (if is_ok result then self.old ++ text.now else self.old) }
     {
         let longer = match &mut self.kept {
-            Kept::Long(front) => return front.push_str(text),
-            Kept::Short(front) => with_text(front, text)?,
+            Kept::Long(prefix) => return prefix.push_str(text),
+            Kept::Short(prefix) => with_text(prefix, text)?,
         };
         self.kept = Kept::Long(longer);
         Ok(())
@@ -161,20 +161,20 @@ impl Name {
 }
 
 /// The string of a text followed by an ASCII byte.
-fn with_byte(front: &ShortText, byte: u8) -> Result<String, AllocError>
+fn with_byte(prefix: &ShortText, byte: u8) -> Result<String, AllocError>
     requires { byte < 128 }
-    ensures { IfOk result (λ all. string_bytes all ≡ front.now ++ byte ∷ []) }
+    ensures { IfOk result (λ all. string_bytes all ≡ prefix.now ++ byte ∷ []) }
 {
-    let mut all = String::from_str(front.allocator(), front.as_str())?;
+    let mut all = String::from_str(prefix.allocator(), prefix.as_str())?;
     all.push(byte as char)?;
     Ok(all)
 }
 
 /// The string of a text followed by another.
-fn with_text(front: &ShortText, text: &str) -> Result<String, AllocError>
-    ensures { IfOk result (λ all. string_bytes all ≡ front.now ++ text.now) }
+fn with_text(prefix: &ShortText, text: &str) -> Result<String, AllocError>
+    ensures { IfOk result (λ all. string_bytes all ≡ prefix.now ++ text.now) }
 {
-    let mut all = String::from_str(front.allocator(), front.as_str())?;
+    let mut all = String::from_str(prefix.allocator(), prefix.as_str())?;
     all.push_str(text)?;
     Ok(all)
 }

@@ -54,7 +54,7 @@ pub enum Phase {
 
 /// What a machine does with a byte.
 #[derive(Clone, Copy)]
-pub enum Move {
+pub enum Action {
     /// Continues. A literal that is complete ends its term.
     To(Phase),
     /// Begins a name with a byte.

@@ -36,13 +36,13 @@ pub fn sign_prefix(read: Option<bool>, text: &[u8]) -> (usize, bool)
 {
     match read {
         Some(negative) => (0, negative),
-        None => sign_front(text),
+        None => leading_sign(text),
     }
 }
 
 /// The length of the sign at the start of the text, and whether it is a minus.
 #[inline(always)]
-fn sign_front(text: &[u8]) -> (usize, bool)
+fn leading_sign(text: &[u8]) -> (usize, bool)
     ensures bound { result.0 ≤ length text.now }
     ensures sign { HasSign None text.now result.0 result.1 }
 {

@@ -58,7 +58,7 @@ impl ShortText {
 
     /// The text of the first `len` bytes of another.
     #[inline(always)]
-    pub fn from_front(alloc: Global, text: &[u8], len: usize) -> ShortText
+    pub fn from_prefix(alloc: Global, text: &[u8], len: usize) -> ShortText
         requires short { len ≤ 22 }
         requires within { len ≤ length text.now }
         requires text { IsUtf8 (take len text.now) }

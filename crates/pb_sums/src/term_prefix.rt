@@ -79,6 +79,6 @@ pub fn literal_prefix(alloc: Global, text: &[u8]) -> Option<(usize, Literal)>
     if length < 2 || length > SHORT || !is_letter(rest[0]) {
         return None;
     }
-    let name = Name::short_front(alloc, rest, length);
+    let name = Name::short_prefix(alloc, rest, length);
     Some((tilde + length, Literal { negated, name }))
 }

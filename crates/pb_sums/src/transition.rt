@@ -2,12 +2,12 @@
 
 ghost use Rattle.std.specs.Prelude.{◌≡◌, ℕ, ◌-◌, ◌<◌, ◌≤◌, ◌^◌, Bool, None};
 ghost use Rattle.pb_sums.specs.meaning.Sums.{reads_sums, allows};
-ghost use Rattle.pb_sums.specs.engine.Machine.{digits, number, behind, plan, KindFits, PhaseFits, MoveFits, is_numeric, is_in_number, is_more, is_done};
-ghost use Rattle.pb_sums.specs.engine.Prefix.{begins_number, begins_relation, role, sign_read, behind_name, behind_number, behind_space};
+ghost use Rattle.pb_sums.specs.engine.Machine.{digits, number, next_action, plan, KindFits, PhaseFits, ActionFits, is_numeric, is_in_number, is_more, is_done};
+ghost use Rattle.pb_sums.specs.engine.Prefix.{begins_number, begins_relation, role, sign_read, after_name, after_number, after_space};
 ghost use Rattle.pb_sums.specs.engine.State.{in_hand};
 
 use crate::grammar::Part;
-use crate::phase::{Kind, Move, Phase};
+use crate::phase::{Action, Kind, Phase};
 use crate::values::Relation;
 use pb_text::decimal::{next_digit, signed};
 
@@ -97,8 +97,8 @@ pub fn begins_relation(phase: Phase) -> bool
 }
 
 /// The phase after a number and space.
-pub fn behind_number(role: Option<Relation>, value: i128) -> Phase
-    ensures { result ≡ behind_number role value }
+pub fn after_number(role: Option<Relation>, value: i128) -> Phase
+    ensures { result ≡ after_number role value }
 {
     match role {
         None => Phase::Gap(value),
@@ -107,8 +107,8 @@ pub fn behind_number(role: Option<Relation>, value: i128) -> Phase
 }
 
 /// The phase after a name, if one may begin.
-pub fn behind_name(phase: Phase) -> Option<Phase>
-    ensures { result ≡ behind_name phase }
+pub fn after_name(phase: Phase) -> Option<Phase>
+    ensures { result ≡ after_name phase }
 {
     match phase {
         Phase::Gap(z) => Some(Phase::More(z, false)),
@@ -119,9 +119,9 @@ pub fn behind_name(phase: Phase) -> Option<Phase>
 
 /// The phase after a space, in the phases where one is common.
 #[inline(always)]
-pub fn behind_space(phase: Phase) -> Option<Phase>
+pub fn after_space(phase: Phase) -> Option<Phase>
     requires { PhaseFits (2 ^ 127 - 1) phase }
-    ensures { result ≡ behind_space phase }
+    ensures { result ≡ after_space phase }
 {
     match phase {
         Phase::Digits(None, negative, n) => Some(Phase::Gap(signed(negative, n))),
@@ -165,90 +165,92 @@ pub fn allows(part: Part, relation: Relation) -> bool
 }
 
 #[inline(always)]
-fn digits(limit: u128, role: Option<Relation>, negative: bool, magnitude: u128, digit: u8) -> Move
+fn digits(limit: u128, role: Option<Relation>, negative: bool, magnitude: u128, digit: u8) -> Action
     requires room { limit < 2 ^ 127 }
     requires fits { magnitude ≤ limit }
     requires digit { digit < 10 }
     ensures plan { result ≡ digits limit role negative magnitude digit }
-    ensures fits { MoveFits limit result }
+    ensures fits { ActionFits limit result }
 {
     match next_digit(limit, magnitude, digit) {
-        None => Move::Stop,
-        Some(next) => Move::To(Phase::Digits(role, negative, next)),
+        None => Action::Stop,
+        Some(next) => Action::To(Phase::Digits(role, negative, next)),
     }
 }
 
 #[inline(always)]
-fn number(limit: u128, role: Option<Relation>, kind: Kind) -> Move
+fn number(limit: u128, role: Option<Relation>, kind: Kind) -> Action
     requires room { limit < 2 ^ 127 }
     requires fits { KindFits kind }
     ensures plan { result ≡ number limit role kind }
-    ensures fits { MoveFits limit result }
+    ensures fits { ActionFits limit result }
 {
     match kind {
-        Kind::Plus => Move::To(Phase::Signed(role, false)),
-        Kind::Minus => Move::To(Phase::Signed(role, true)),
+        Kind::Plus => Action::To(Phase::Signed(role, false)),
+        Kind::Minus => Action::To(Phase::Signed(role, true)),
         Kind::Digit(d) => digits(limit, role, false, 0, d),
-        _ => Move::Stop,
+        _ => Action::Stop,
     }
 }
 
 #[inline(always)]
-fn behind(part: Part, kind: Kind) -> Move
-    ensures plan { result ≡ behind part kind }
-    ensures fits { (limit : ℕ) → MoveFits limit result }
+fn next_action(part: Part, kind: Kind) -> Action
+    ensures plan { result ≡ next_action part kind }
+    ensures fits { (limit : ℕ) → ActionFits limit result }
 {
     match kind {
-        Kind::Greater if allows(part, Relation::AtLeast) => Move::To(Phase::Greater),
-        Kind::Equals if allows(part, Relation::Equal) => Move::To(Phase::Operator(Relation::Equal)),
-        Kind::Semicolon if reads_sums(part) => Move::EndSum,
-        _ => Move::Stop,
+        Kind::Greater if allows(part, Relation::AtLeast) => Action::To(Phase::Greater),
+        Kind::Equals if allows(part, Relation::Equal) => Action::To(Phase::Operator(
+            Relation::Equal,
+        )),
+        Kind::Semicolon if reads_sums(part) => Action::EndSum,
+        _ => Action::Stop,
     }
 }
 
 /// What a machine does with a kind of byte. It does not allocate.
 #[inline(always)]
-pub fn plan(part: Part, limit: u128, phase: Phase, kind: Kind) -> Move
+pub fn plan(part: Part, limit: u128, phase: Phase, kind: Kind) -> Action
     requires room { limit < 2 ^ 127 }
     requires phase { PhaseFits limit phase }
     requires kind { KindFits kind }
     ensures plan { result ≡ plan part limit phase kind }
-    ensures fits { MoveFits limit result }
+    ensures fits { ActionFits limit result }
 {
     match (phase, kind) {
-        (Phase::Start, Kind::Space) if reads_sums(part) => Move::To(Phase::Empty),
-        (Phase::Start, Kind::Space) => Move::Stop,
+        (Phase::Start, Kind::Space) if reads_sums(part) => Action::To(Phase::Empty),
+        (Phase::Start, Kind::Space) => Action::Stop,
         (Phase::Start | Phase::Between, Kind::Plus | Kind::Minus | Kind::Digit(_)) => {
             number(limit, None, kind)
         }
-        (Phase::Start, _) => behind(part, kind),
+        (Phase::Start, _) => next_action(part, kind),
         (Phase::Signed(role, negative), Kind::Digit(d)) => digits(limit, role, negative, 0, d),
         (Phase::Digits(role, negative, n), Kind::Digit(d)) => digits(limit, role, negative, n, d),
-        (Phase::Digits(None, negative, n), Kind::Space) => Move::To(Phase::Gap(signed(
+        (Phase::Digits(None, negative, n), Kind::Space) => Action::To(Phase::Gap(signed(
             negative, n,
         ))),
         (Phase::Digits(Some(r), negative, n), Kind::Space) => {
-            Move::To(Phase::Tail(r, signed(negative, n)))
+            Action::To(Phase::Tail(r, signed(negative, n)))
         }
         (Phase::Digits(Some(r), negative, n), Kind::Semicolon) => {
-            Move::EndLinear(r, signed(negative, n))
+            Action::EndLinear(r, signed(negative, n))
         }
-        (Phase::Gap(z), Kind::Space) => Move::To(Phase::Gap(z)),
-        (Phase::Gap(z), Kind::Tilde) => Move::To(Phase::Tilde(z)),
-        (Phase::Gap(z), Kind::Start(b)) => Move::Begin(Phase::First(z, false), b),
-        (Phase::Tilde(z), Kind::Start(b)) => Move::Begin(Phase::First(z, true), b),
+        (Phase::Gap(z), Kind::Space) => Action::To(Phase::Gap(z)),
+        (Phase::Gap(z), Kind::Tilde) => Action::To(Phase::Tilde(z)),
+        (Phase::Gap(z), Kind::Start(b)) => Action::Begin(Phase::First(z, false), b),
+        (Phase::Tilde(z), Kind::Start(b)) => Action::Begin(Phase::First(z, true), b),
         (Phase::First(z, negated) | Phase::More(z, negated), Kind::Start(b) | Kind::Inner(b)) => {
-            Move::Add(Phase::More(z, negated), b)
+            Action::Add(Phase::More(z, negated), b)
         }
-        (Phase::More(_, _) | Phase::Between, Kind::Space) => Move::To(Phase::Between),
-        (Phase::More(_, _) | Phase::Between, _) => behind(part, kind),
-        (Phase::Greater, Kind::Equals) => Move::To(Phase::Operator(Relation::AtLeast)),
-        (Phase::Operator(r), Kind::Space) => Move::To(Phase::Operator(r)),
+        (Phase::More(_, _) | Phase::Between, Kind::Space) => Action::To(Phase::Between),
+        (Phase::More(_, _) | Phase::Between, _) => next_action(part, kind),
+        (Phase::Greater, Kind::Equals) => Action::To(Phase::Operator(Relation::AtLeast)),
+        (Phase::Operator(r), Kind::Space) => Action::To(Phase::Operator(r)),
         (Phase::Operator(r), _) => number(limit, Some(r), kind),
-        (Phase::Tail(r, z), Kind::Space) => Move::To(Phase::Tail(r, z)),
-        (Phase::Tail(r, z), Kind::Semicolon) => Move::EndLinear(r, z),
-        (Phase::Empty, Kind::Space) => Move::To(Phase::Empty),
-        (Phase::Empty, Kind::Semicolon) => Move::EndSum,
-        _ => Move::Stop,
+        (Phase::Tail(r, z), Kind::Space) => Action::To(Phase::Tail(r, z)),
+        (Phase::Tail(r, z), Kind::Semicolon) => Action::EndLinear(r, z),
+        (Phase::Empty, Kind::Space) => Action::To(Phase::Empty),
+        (Phase::Empty, Kind::Semicolon) => Action::EndSum,
+        _ => Action::Stop,
     }
 }

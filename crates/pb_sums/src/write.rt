@@ -12,7 +12,7 @@ use crate::values::{Linear, Literal, Relation, Term};
 use pb_text::{Failed, Place, Sink, write_bytes};
 
 /// The maximum number of bytes of a name that are written in one piece with the text before it.
-const FRONT: usize = 48;
+const PREFIX: usize = 48;
 
 /// The maximum length of a term without its name but with a space before it, in bytes.
 const LONGEST: usize = 43;
@@ -52,31 +52,31 @@ pub fn write_place<S: Sink>(place: Place, out: &mut S) -> Result<(), Failed>
 
 /// The prefix of a name that fits in a piece, and the rest, which is empty for most names.
 fn split_name(name: &Name) -> (&[u8], &[u8])
-    ensures short { length result.0.now ≤ FRONT }
+    ensures short { length result.0.now ≤ PREFIX }
     ensures whole { name.now ≡ result.0.now ++ result.1.now }
 {
     let bytes = name.as_bytes();
-    bytes.split_at(bytes.len().min(FRONT))
+    bytes.split_at(bytes.len().min(PREFIX))
 }
 
 /// Prepends the start of a literal: `~` if it is negated, and the prefix of its name.
-fn put_literal(negated: bool, front: &[u8], piece: &mut Piece)
-    requires { 1 + length front.now + length piece.old ≤ ROOM }
-    ensures { piece.new ≡ literal_bytes negated front.now ++ piece.old }
+fn put_literal(negated: bool, prefix: &[u8], piece: &mut Piece)
+    requires { 1 + length prefix.now + length piece.old ≤ ROOM }
+    ensures { piece.new ≡ literal_bytes negated prefix.now ++ piece.old }
 {
-    piece.put_text(front);
+    piece.put_text(prefix);
     if negated {
         piece.put(b'~');
     }
 }
 
 /// Prepends the start of a term: all of it except the rest of its name.
-fn put_term(term: &Term, front: &[u8], piece: &mut Piece)
-    requires { 42 + length front.now + length piece.old ≤ ROOM }
-    ensures text { piece.new ≡ (weight_bytes term.now.coefficient ++ (32 ∷ literal_bytes term.now.literal.negated front.now)) ++ piece.old }
-    ensures short { length piece.new ≤ 42 + length front.now + length piece.old }
+fn put_term(term: &Term, prefix: &[u8], piece: &mut Piece)
+    requires { 42 + length prefix.now + length piece.old ≤ ROOM }
+    ensures text { piece.new ≡ (weight_bytes term.now.coefficient ++ (32 ∷ literal_bytes term.now.literal.negated prefix.now)) ++ piece.old }
+    ensures short { length piece.new ≤ 42 + length prefix.now + length piece.old }
 {
-    put_literal(term.literal.negated, front, piece);
+    put_literal(term.literal.negated, prefix, piece);
     piece.put(b' ');
     piece.put_weight(term.coefficient);
 }
@@ -93,27 +93,27 @@ fn write_both<S: Sink>(piece: &Piece, rest: &[u8], out: &mut S) -> Result<(), Fa
 pub fn write_literal<S: Sink>(literal: &Literal, out: &mut S) -> Result<(), Failed>
     ensures { Writes S.contents S.faults out.old (literal_bytes literal.now.negated literal.now.name) result out.new }
 {
-    let (front, rest) = split_name(&literal.name);
+    let (prefix, rest) = split_name(&literal.name);
     let mut piece = Piece::new();
-    put_literal(literal.negated, front, &mut piece);
+    put_literal(literal.negated, prefix, &mut piece);
     write_both(&piece, rest, out)
 }
 
 fn write_term<S: Sink>(term: &Term, out: &mut S) -> Result<(), Failed>
     ensures { Writes S.contents S.faults out.old (term_bytes term.now) result out.new }
 {
-    let (front, rest) = split_name(&term.literal.name);
+    let (prefix, rest) = split_name(&term.literal.name);
     let mut piece = Piece::new();
-    put_term(term, front, &mut piece);
+    put_term(term, prefix, &mut piece);
     write_both(&piece, rest, out)
 }
 
 fn write_further_term<S: Sink>(term: &Term, out: &mut S) -> Result<(), Failed>
     ensures { Writes S.contents S.faults out.old (32 ∷ term_bytes term.now) result out.new }
 {
-    let (front, rest) = split_name(&term.literal.name);
+    let (prefix, rest) = split_name(&term.literal.name);
     let mut piece = Piece::new();
-    put_term(term, front, &mut piece);
+    put_term(term, prefix, &mut piece);
     piece.put(b' ');
     write_both(&piece, rest, out)
 }
@@ -169,9 +169,9 @@ fn write_further<S: Sink>(terms: &[Term], out: &mut S) -> Result<(), Failed>
 {
     let mut rest = terms;
     while !rest.is_empty() {
-        let (batch, behind) = rest.split_at(rest.len().min(BATCH));
+        let (batch, following) = rest.split_at(rest.len().min(BATCH));
         write_batch(batch, out)?;
-        rest = behind;
+        rest = following;
     }
     Ok(())
 }

@@ -5,7 +5,7 @@ pub mod Events
 pub mod Feeding
 pub mod Fields
 pub mod FormatLaws
-pub mod Kept
+pub mod OverState
 pub mod NothingRead
 pub mod Over
 pub mod Parts

@@ -54,7 +54,7 @@ impl<M: Machine> Feeder<M> {
     ghost use Rattle.pb_text.specs.contract.Automaton.{Accepts, IsState};
     ghost use Rattle.pb_text.specs.contract.Standing.{IsOpen};
     ghost use Rattle.pb_text.specs.meaning.Reading.{Reads, EndsAs};
-    ghost use Rattle.pb_text.specs.contract.Feeding.{StandsAt, FeedsOnce, HoldsFew, WantsMemory, stop_of, marks_in, marks_taken, state_of, place_of, halt_of, is_complete};
+    ghost use Rattle.pb_text.specs.contract.Feeding.{StandsAt, FeedsOnce, HoldsFew, WantsMemory, stop_of, spans_in, spans_taken, state_of, place_of, halt_of, is_complete};
 
     /// A feeder for a machine that has begun no statement.
     pub fn new(machine: M) -> Self
@@ -92,9 +92,9 @@ impl<M: Machine> Feeder<M> {
         ensures done { result ≡ is_complete self.now }
         ensures state { IsState M.automaton (state_of self.now) }
         // The spans that were returned, the position, this result and the stop are those of a read of the input.
-        ensures reads { (longest : ℕ) (start : M) (input : List ℕ) (marks : List (Spanned M.Event))
-            → StandsAt longest start input marks self.now
-            → (used : List ℕ) × Reads (Accepts M.automaton start) longest input used marks (place_of self.now) result (halt_of self.now) }
+        ensures reads { (longest : ℕ) (start : M) (input : List ℕ) (spans : List (Spanned M.Event))
+            → StandsAt longest start input spans self.now
+            → (used : List ℕ) × Reads (Accepts M.automaton start) longest input used spans (place_of self.now) result (halt_of self.now) }
     {
         self.machine.is_done()
     }
@@ -110,8 +110,8 @@ impl<M: Machine> Feeder<M> {
     /// How much of the current statement is stored.
     pub fn held(&self) -> usize
         ensures kept { result ≡ M.automaton.kept (state_of self.now) }
-        ensures few { (longest : ℕ) (start : M) (input : List ℕ) (marks : List (Spanned M.Event))
-            → StandsAt longest start input marks self.now
+        ensures few { (longest : ℕ) (start : M) (input : List ℕ) (spans : List (Spanned M.Event))
+            → StandsAt longest start input spans self.now
             → HoldsFew start input self.now result }
     {
         self.machine.held()
@@ -119,10 +119,10 @@ impl<M: Machine> Feeder<M> {
 
     /// The input has ended: `Ok` if the text is complete, otherwise `Ended`.
     pub fn finish(&mut self) -> Result<(), Stop>
-        ensures ends { (longest : ℕ) (start : M) (input : List ℕ) (marks : List (Spanned M.Event))
+        ensures ends { (longest : ℕ) (start : M) (input : List ℕ) (spans : List (Spanned M.Event))
             → halt_of self.old ≡ None
-            → StandsAt longest start input marks self.old
-            → (used : List ℕ) × EndsAs (Accepts M.automaton start) longest input used marks (place_of self.new) result }
+            → StandsAt longest start input spans self.old
+            → (used : List ℕ) × EndsAs (Accepts M.automaton start) longest input used spans (place_of self.new) result }
         ensures again { (stop : Stop) → halt_of self.old ≡ Some stop → (result ≡ Err stop) × (self.new ≡ self.old) }
         ensures ok { OnOk result (self.new ≡ self.old) }
         ensures stop { halt_of self.new ≡ stop_of result }
@@ -210,9 +210,9 @@ impl<M: Machine> Feeder<M> {
         requires running { halt_of self.old ≡ None }
         requires state { IsState M.automaton (state_of self.old) }
         ensures bound { result.used ≤ length piece.now }
-        ensures stands { (longest : ℕ) (start : M) (input : List ℕ) (marks : List (Spanned M.Event))
-            → StandsAt longest start input marks self.old
-            → StandsAt longest start (input ++ take result.used piece.now) (marks ++ marks_in result.event) self.new }
+        ensures stands { (longest : ℕ) (start : M) (input : List ℕ) (spans : List (Spanned M.Event))
+            → StandsAt longest start input spans self.old
+            → StandsAt longest start (input ++ take result.used piece.now) (spans ++ spans_in result.event) self.new }
         ensures offset { (place_of self.new).offset ≡ (place_of self.old).offset + result.used }
         ensures some { (event : Spanned M.Event) → result.event ≡ Some event → 0 < result.used }
         ensures past { (event : Spanned M.Event) → result.event ≡ Some event → event.past ≡ place_of self.new }
@@ -235,9 +235,9 @@ impl<M: Machine> Feeder<M> {
         requires unfinished { is_complete self.old ≡ false }
         requires running { halt_of self.old ≡ None }
         requires state { IsState M.automaton (state_of self.old) }
-        ensures stands { (longest : ℕ) (start : M) (input : List ℕ) (marks : List (Spanned M.Event))
-            → StandsAt longest start input marks self.old
-            → StandsAt longest start (input ++ (if is_some result then byte ∷ [] else [])) (marks ++ marks_in result) self.new }
+        ensures stands { (longest : ℕ) (start : M) (input : List ℕ) (spans : List (Spanned M.Event))
+            → StandsAt longest start input spans self.old
+            → StandsAt longest start (input ++ (if is_some result then byte ∷ [] else [])) (spans ++ spans_in result) self.new }
         ensures offset { (place_of self.new).offset ≡ (place_of self.old).offset + (if is_some result then 1 else 0) }
         ensures past { (event : Spanned M.Event) → result ≡ Some event → event.past ≡ place_of self.new }
         ensures unfinished { result ≡ None → is_complete self.new ≡ false }
@@ -248,7 +248,7 @@ impl<M: Machine> Feeder<M> {
             return None;
         }
         match self.machine.closes(byte) {
-            Some(event) => Some(self.mark(event, byte)),
+            Some(event) => Some(self.span(event, byte)),
             None => None,
         }
     }
@@ -260,9 +260,9 @@ impl<M: Machine> Feeder<M> {
         requires running { halt_of self.old ≡ None }
         requires state { IsState M.automaton (state_of self.old) }
         ensures bound { result ≤ length piece.now }
-        ensures stands { (longest : ℕ) (start : M) (input : List ℕ) (marks : List (Spanned M.Event))
-            → StandsAt longest start input marks self.old
-            → StandsAt longest start (input ++ take result piece.now) marks self.new }
+        ensures stands { (longest : ℕ) (start : M) (input : List ℕ) (spans : List (Spanned M.Event))
+            → StandsAt longest start input spans self.old
+            → StandsAt longest start (input ++ take result piece.now) spans self.new }
         ensures offset { (place_of self.new).offset ≡ (place_of self.old).offset + result }
         ensures running { halt_of self.new ≡ None }
         ensures unfinished { is_complete self.new ≡ false }
@@ -279,9 +279,9 @@ impl<M: Machine> Feeder<M> {
         requires running { halt_of self.old ≡ None }
         requires state { IsState M.automaton (state_of self.old) }
         ensures bound { result ≤ length piece.now }
-        ensures stands { (longest : ℕ) (start : M) (input : List ℕ) (marks : List (Spanned M.Event))
-            → StandsAt longest start input marks self.old
-            → StandsAt longest start (input ++ take result piece.now) marks self.new }
+        ensures stands { (longest : ℕ) (start : M) (input : List ℕ) (spans : List (Spanned M.Event))
+            → StandsAt longest start input spans self.old
+            → StandsAt longest start (input ++ take result piece.now) spans self.new }
         ensures offset { (place_of self.new).offset ≡ (place_of self.old).offset + result }
         ensures running { halt_of self.new ≡ None }
         ensures unfinished { is_complete self.new ≡ false }
@@ -303,9 +303,9 @@ impl<M: Machine> Feeder<M> {
         requires unfinished { is_complete self.old ≡ false }
         requires running { halt_of self.old ≡ None }
         requires state { IsState M.automaton (state_of self.old) }
-        ensures stands { (longest : ℕ) (start : M) (input : List ℕ) (marks : List (Spanned M.Event))
-            → StandsAt longest start input marks self.old
-            → StandsAt longest start (input ++ (if result then byte ∷ [] else [])) marks self.new }
+        ensures stands { (longest : ℕ) (start : M) (input : List ℕ) (spans : List (Spanned M.Event))
+            → StandsAt longest start input spans self.old
+            → StandsAt longest start (input ++ (if result then byte ∷ [] else [])) spans self.new }
         ensures offset { (place_of self.new).offset ≡ (place_of self.old).offset + (if result then 1 else 0) }
         ensures running { halt_of self.new ≡ None }
         ensures unfinished { is_complete self.new ≡ false }
@@ -329,9 +329,9 @@ impl<M: Machine> Feeder<M> {
         requires running { halt_of self.old ≡ None }
         requires state { IsState M.automaton (state_of self.old) }
         ensures bound { result ≤ length piece.now }
-        ensures stands { (longest : ℕ) (start : M) (input : List ℕ) (marks : List (Spanned M.Event))
-            → StandsAt longest start input marks self.old
-            → StandsAt longest start (input ++ take result piece.now) marks self.new }
+        ensures stands { (longest : ℕ) (start : M) (input : List ℕ) (spans : List (Spanned M.Event))
+            → StandsAt longest start input spans self.old
+            → StandsAt longest start (input ++ take result piece.now) spans self.new }
         ensures offset { (place_of self.new).offset ≡ (place_of self.old).offset + result }
         ensures running { halt_of self.new ≡ None }
         ensures unfinished { is_complete self.new ≡ false }
@@ -341,9 +341,9 @@ impl<M: Machine> Feeder<M> {
             return 0;
         }
         let room = (self.end - self.place.offset) as usize;
-        let front = &piece[..piece.len().min(room)];
-        let used = self.machine.run(front);
-        self.place = self.place.past(&front[..used]);
+        let prefix = &piece[..piece.len().min(room)];
+        let used = self.machine.run(prefix);
+        self.place = self.place.past(&prefix[..used]);
         used
     }
 
@@ -352,9 +352,9 @@ impl<M: Machine> Feeder<M> {
         requires unfinished { is_complete self.old ≡ false }
         requires running { halt_of self.old ≡ None }
         requires state { IsState M.automaton (state_of self.old) }
-        ensures stands { (longest : ℕ) (start : M) (input : List ℕ) (marks : List (Spanned M.Event))
-            → StandsAt longest start input marks self.old
-            → StandsAt longest start (input ++ byte ∷ []) (marks ++ marks_taken result) self.new }
+        ensures stands { (longest : ℕ) (start : M) (input : List ℕ) (spans : List (Spanned M.Event))
+            → StandsAt longest start input spans self.old
+            → StandsAt longest start (input ++ byte ∷ []) (spans ++ spans_taken result) self.new }
         ensures stop { halt_of self.new ≡ stop_of result }
         ensures counted { IsOpen (halt_of self.new) }
         ensures offset { OnOk result ((place_of self.new).offset ≡ (place_of self.old).offset + 1) }
@@ -375,7 +375,7 @@ impl<M: Machine> Feeder<M> {
                 self.move_on(starts, byte);
                 Ok(None)
             }
-            Push::Event(event) => Ok(Some(self.mark(event, byte))),
+            Push::Event(event) => Ok(Some(self.span(event, byte))),
             Push::No => Err(self.halt(Why::Byte(byte))),
             Push::Large => Err(self.halt(Why::TooLarge)),
             Push::Memory => Err(self.halt(Why::Memory)),
@@ -400,9 +400,9 @@ impl<M: Machine> Feeder<M> {
     }
 
     /// Advances past the byte that ends a statement, and returns its event with its positions.
-    fn mark(&mut self, event: M::Event, byte: u8) -> Spanned<M::Event>
+    fn span(&mut self, event: M::Event, byte: u8) -> Spanned<M::Event>
         requires room { self.old.place.offset < self.old.end }
-        ensures marks { result ≡ record { event = event; first = place_or self.old.first self.old.place; past = self.new.place } }
+        ensures spans { result ≡ record { event = event; first = place_or self.old.first self.old.place; past = self.new.place } }
         ensures machine { self.new.machine ≡ self.old.machine }
         ensures place { self.new.place ≡ place_next self.old.place byte }
         ensures first { self.new.first ≡ None }

@@ -4,9 +4,9 @@ ghost use Rattle.std.specs.Prelude.{◌≡◌, ℕ, List, [], Bool, Result, leng
 ghost use Rattle.pb_text.specs.contract.Automaton.{Accepts};
 ghost use Rattle.pb_text.specs.contract.Fields.{BytesKeep, SequenceKeeps};
 ghost use Rattle.pb_text.specs.contract.Parts.{KeepsItsParts};
-ghost use Rattle.pb_text.specs.meaning.Reading.{Reads, HasFixedMarks};
+ghost use Rattle.pb_text.specs.meaning.Reading.{Reads, HasFixedSpans};
 ghost use Rattle.pb_text.specs.contract.Standing.{IsOpen, IsUnread};
-ghost use Rattle.pb_text.specs.contract.Feeding.{StandsAt, Feeds, NoneStopped, input_fed, marks_answered, used_by, place_of, halt_of, is_complete};
+ghost use Rattle.pb_text.specs.contract.Feeding.{StandsAt, Feeds, NoneStopped, input_fed, spans_answered, used_by, place_of, halt_of, is_complete};
 ghost use Rattle.pb_text.specs.declared.feeder.Fed.{Fed};
 ghost use Rattle.pb_text.specs.declared.feeder.Feeder.{Feeder};
 ghost use Rattle.pb_text.specs.declared.place.Spanned.{Spanned};
@@ -21,7 +21,7 @@ pub fn any_cutting<M: Machine>()
         → StandsAt longest start [] [] before
         → IsOpen (halt_of before)
         → Feeds before feeds after
-        → (used : List ℕ) × Reads (Accepts M.automaton start) longest (input_fed feeds) used (marks_answered feeds)
+        → (used : List ℕ) × Reads (Accepts M.automaton start) longest (input_fed feeds) used (spans_answered feeds)
         (place_of after) (is_complete after) (halt_of after)
         × (NoneStopped feeds → length used ≡ used_by feeds) }
     // There is no reader that can fail.
@@ -34,16 +34,16 @@ pub fn any_cutting<M: Machine>()
 /// A feeder that `StandsAt` its input has read it. The spans that it returned, its position, whether the text is complete,
 /// and its stop are those of a read.
 pub fn standing_is_reading<M: Machine>()
-    ensures { (longest : ℕ) (start : M) (input : List ℕ) (marks : List (Spanned M.Event)) (feeder : Feeder M M.Event M.Machine)
-        → StandsAt longest start input marks feeder
-        → (used : List ℕ) × Reads (Accepts M.automaton start) longest input used marks
+    ensures { (longest : ℕ) (start : M) (input : List ℕ) (spans : List (Spanned M.Event)) (feeder : Feeder M M.Event M.Machine)
+        → StandsAt longest start input spans feeder
+        → (used : List ℕ) × Reads (Accepts M.automaton start) longest input used spans
         (place_of feeder) (is_complete feeder) (halt_of feeder) }
 {}
 
 /// All texts of a machine that begin with the same prefix have the same statements that end within it, at the same
 /// positions.
-pub fn fixed_marks<M: Machine>()
-    ensures { (start : M) → HasFixedMarks (Accepts M.automaton start) }
+pub fn fixed_spans<M: Machine>()
+    ensures { (start : M) → HasFixedSpans (Accepts M.automaton start) }
 {}
 
 /// A feeder stores only its machine, the positions of the next byte and of the statement that has begun, its limit and

@@ -56,7 +56,7 @@ pub trait Machine {
 
     /// Takes the first byte of a piece as `goes` does, or a longer prefix that is faster to take at once. Such a prefix may be
     /// a whole name or number. It returns the number of bytes taken.
-    fn take_front(&mut self, piece: &[u8]) -> usize
+    fn take_prefix(&mut self, piece: &[u8]) -> usize
         requires { 0 < length piece.now }
         ensures bound { result ≤ length piece.now }
         ensures runs { Runs automaton self.old (take result piece.now) self.new }
@@ -74,7 +74,7 @@ pub trait Machine {
         let _ = self.is_done();
         let mut taken: usize = 0;
         while taken < piece.len() {
-            let more = self.take_front(&piece[taken..]);
+            let more = self.take_prefix(&piece[taken..]);
             if more == 0 {
                 return taken;
             }

@@ -21,14 +21,14 @@ pub fn pull<S: Source, M: Machine>(
     source: &mut S,
     feeder: &mut Feeder<M>,
 ) -> Result<Option<Spanned<M::Event>>, Stop>
-    ensures pulls { (longest : ℕ) (start : M) (input : List ℕ) (marks : List (Spanned M.Event))
+    ensures pulls { (longest : ℕ) (start : M) (input : List ℕ) (spans : List (Spanned M.Event))
         → IsOpen (halt_of feeder.old)
-        → StandsAt longest start input marks feeder.old
-        → Pulls longest start input marks feeder.old (S.left source.old) result feeder.new (S.left source.new) (S.history source.old) (S.history source.new) }
+        → StandsAt longest start input spans feeder.old
+        → Pulls longest start input spans feeder.old (S.left source.old) result feeder.new (S.left source.new) (S.history source.old) (S.history source.new) }
     // Consecutive pulls are a read of what they have taken.
-    ensures row { (longest : ℕ) (start : M) (before : Option (List ℕ)) (marks : List (Spanned M.Event))
-        → HasPulled longest start before marks feeder.old (S.left source.old)
-        → PullsOn longest start before marks result feeder.new (S.left source.new) }
+    ensures row { (longest : ℕ) (start : M) (before : Option (List ℕ)) (spans : List (Spanned M.Event))
+        → HasPulled longest start before spans feeder.old (S.left source.old)
+        → PullsOn longest start before spans result feeder.new (S.left source.new) }
     ensures again { (stop : Stop) → halt_of feeder.old ≡ Some stop
         → (result ≡ Err stop) × (feeder.new ≡ feeder.old) × (source.new ≡ source.old) }
     ensures done { is_complete feeder.old ≡ true → halt_of feeder.old ≡ None

@@ -3,7 +3,7 @@
 ghost use Rattle.std.specs.Prelude.{◌≡◌, [], None, false};
 ghost use Rattle.pb_text.specs.contract.Automaton.{IsState};
 ghost use Rattle.pb_text.specs.contract.Feeding.{state_of, halt_of, is_complete};
-ghost use Rattle.pb_text.specs.contract.Over.{Shows, told};
+ghost use Rattle.pb_text.specs.contract.Over.{Shows, reported};
 ghost use Rattle.pb_text.specs.contract.Pouring.{Pours, brought};
 
 use crate::feeder::{Fed, Feeder};
@@ -26,7 +26,7 @@ pub struct Over<T> {
 }
 
 impl<T> Over<T> {
-    ghost use Rattle.pb_text.specs.contract.Kept.{inner_of, failures_of, history_of, shown_of};
+    ghost use Rattle.pb_text.specs.contract.OverState.{inner_of, failures_of, history_of, shown_of};
 
     pub fn new(inner: T) -> Self
         ensures inner { inner_of result ≡ inner }
@@ -52,7 +52,7 @@ impl<T> Over<T> {
 }
 
 impl<T: BufRead> Source for Over<T> {
-    ghost left = { λ o. told (T.remaining o.inner) (T.consumable_len o.inner) o.shown };
+    ghost left = { λ o. reported (T.remaining o.inner) (T.consumable_len o.inner) o.shown };
 
     ghost shown = { λ o. o.shown };
 

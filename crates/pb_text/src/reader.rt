@@ -2,7 +2,7 @@
 
 ghost use Rattle.std.specs.Prelude.{None, false, ◌≡◌, ◌<◌};
 ghost use Rattle.pb_text.specs.contract.Automaton.{Accepts, MayAsk};
-ghost use Rattle.pb_text.specs.contract.Kept.{failures_of, inner_of};
+ghost use Rattle.pb_text.specs.contract.OverState.{failures_of, inner_of};
 ghost use Rattle.pb_text.specs.meaning.Pulling.{faults_after};
 ghost use Rattle.pb_text.specs.meaning.Whole.{ReadsWhole};
 

@@ -35,7 +35,7 @@ pub fn tidied_text_stays()
     ensures faultless { HasNoFault }
 {
     pb_opb::laws::canonical_instance_spells();
-    pb_opb::laws::no_front();
+    pb_opb::laws::prefix_free();
     pb_opb::laws::written_instance_reads_back();
 }
 
@@ -46,7 +46,7 @@ pub fn tidied_proof_stays()
     ensures faultless { ProofHasNoFault }
 {
     pb_proof::laws::values::canonical_proof_spells();
-    pb_proof::laws::no_front();
+    pb_proof::laws::prefix_free();
     pb_proof::laws::values::written_proof_reads_back();
 }
 

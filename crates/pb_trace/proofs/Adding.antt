@@ -2,7 +2,7 @@
 use Rattle.std.proofs.Common.{◌≡◌, ℕ, zero, suc, ◌+◌, ◌-◌, ◌<◌, ◌≤◌, List, [], ◌∷◌, ◌++◌, take, drop, length, get_or, Option, None, sym, ap, ◌∙◌, arith, append_assoc}
 use Rattle.std.proofs.lemmas.List.{append-nil, take_more, length-drop, get_or-drop}
 use Rattle.pb_normal.specs.meaning.Form.{Form}
-use Rattle.pb_replay.specs.contract.Kept.{constraint_in}
+use Rattle.pb_replay.specs.contract.ReplayModel.{constraint_in}
 use Rattle.pb_trace.specs.Traced.{added_bytes, found_bytes}
 
 -- the constraint with the next id

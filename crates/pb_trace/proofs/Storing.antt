@@ -18,7 +18,7 @@ use Rattle.pb_normal.specs.meaning.Form.{Form}
 use Rattle.pb_normal.specs.meaning.Names.{with_names}
 use Rattle.pb_replay.specs.meaning.Answer.{Answer}
 use Rattle.pb_replay.specs.meaning.Conclusions.{none_left, named, lower_bound, upper_bound, Concludes}
-use Rattle.pb_replay.specs.contract.Kept.{StandsFor}
+use Rattle.pb_replay.specs.contract.ReplayModel.{StandsFor}
 use Rattle.pb_replay.specs.meaning.Problem.{Problem}
 use Rattle.pb_replay.specs.meaning.Replay.{State, Deleted, place}
 use Rattle.pb_replay.specs.meaning.Statements.{Does, Outcome, mentioned}

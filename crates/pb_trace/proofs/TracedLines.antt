@@ -43,14 +43,14 @@ module _ {S : Type 0} (contents : S → Option (List ℕ)) (faults : S → ℕ) 
         let step = state-stores (largest limits) (top_of limits) v s u m.event empty out in
         (rw (stored, ← is, same) at after ∙ step.0, step.1)
 
-    all_lines : (s t : State) (marks : List (Spanned Statement)) (calls : List Call) (old new : Tracing S) → IsEmptyAt s.next s.live → old.stored ≡ s.live → old.end ≡ Ok tt
-        → ShowsEach limits v s marks calls t → GotEach (TracesCall contents faults) old calls new → new.end ≡ Ok tt → Wrote contents faults old.out (lines_of s.live calls) new.out
+    all_lines : (s t : State) (spans : List (Spanned Statement)) (calls : List Call) (old new : Tracing S) → IsEmptyAt s.next s.live → old.stored ≡ s.live → old.end ≡ Ok tt
+        → ShowsEach limits v s spans calls t → GotEach (TracesCall contents faults) old calls new → new.end ≡ Ok tt → Wrote contents faults old.out (lines_of s.live calls) new.out
     all_lines s t [] [] old new empty stored begun shows got done = subst (λ (x : Tracing S). Wrote contents faults old.out [] x.out) (sym got) (writes_nothing contents faults old.out)
     all_lines s t [] (c ∷ calls) old new empty stored begun shows got done = absurd shows
-    all_lines s t (m ∷ marks) [] old new empty stored begun shows got done = absurd shows
-    all_lines s t (m ∷ marks) (Rejected n r f ∷ calls) old new empty stored begun shows got done = absurd shows
-    all_lines s t (m ∷ marks) (Accepted n r ∷ calls) old new empty stored begun (same, u, out, stands, runs, rest) (mid, first, others) done =
-        by mid.end refl (λ live empty' on. all_lines u t marks calls mid new empty' live on rest others done)
+    all_lines s t (m ∷ spans) [] old new empty stored begun shows got done = absurd shows
+    all_lines s t (m ∷ spans) (Rejected n r f ∷ calls) old new empty stored begun shows got done = absurd shows
+    all_lines s t (m ∷ spans) (Accepted n r ∷ calls) old new empty stored begun (same, u, out, stands, runs, rest) (mid, first, others) done =
+        by mid.end refl (λ live empty' on. all_lines u t spans calls mid new empty' live on rest others done)
       where
         by : (e : Result Unit ToolFault) → mid.end ≡ e → (mid.stored ≡ u.live → IsEmptyAt u.next u.live → mid.end ≡ Ok tt → Wrote contents faults mid.out (lines_of u.live calls) new.out) → Wrote contents faults old.out (line_bytes s.live n r ++ lines_of r.live calls) new.out
         by (Ok x) is ih =
@@ -63,5 +63,5 @@ module _ {S : Type 0} (contents : S → Option (List ℕ)) (faults : S → ℕ) 
         by (Err f) is ih = absurd (failed_stays calls mid new f is done others)
 
 pub traces-each-line : {S : Type 0} (contents : S → Option (List ℕ)) (faults : S → ℕ) → TracesEachLine contents faults
-traces-each-line contents faults limits v marks calls last old new stored begun shows got done =
-    all_lines contents faults limits v (first_state v) last marks calls old new refl stored begun shows got done
+traces-each-line contents faults limits v spans calls last old new stored begun shows got done =
+    all_lines contents faults limits v (first_state v) last spans calls old new refl stored begun shows got done

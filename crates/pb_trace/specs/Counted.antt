@@ -4,7 +4,7 @@ use Rattle.std.specs.List.{flat_map}
 use Rattle.pb_text.specs.declared.Spanned.{Spanned}
 use Rattle.pb_proof.specs.declared.Statement.{Statement}
 use Rattle.pb_proof.specs.declared.Statement.TheVariants.{Header, F, Pol, Rup, Soli, Solx, Delete, Output, Conclude, End}
-use Rattle.pb_replay.specs.contract.Kept.{Replaying}
+use Rattle.pb_replay.specs.contract.ReplayModel.{Replaying}
 use Rattle.pb_tool.specs.contract.Watched.{Call, Accepted, Rejected}
 use Rattle.pb_trace.specs.declared.stats.Stats.{Stats}
 

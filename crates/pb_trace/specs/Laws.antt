@@ -4,10 +4,10 @@ use Rattle.pb_text.specs.meaning.Writing.{Wrote}
 use Rattle.pb_text.specs.declared.Limits.{Limits}
 use Rattle.pb_text.specs.declared.Spanned.{Spanned}
 use Rattle.pb_proof.specs.declared.Stage.{Stage}
-use Rattle.pb_proof.specs.declared.Stage.TheVariants.{Opening, Formula, Steps, Claim, Closing, Complete}
+use Rattle.pb_proof.specs.declared.Stage.TheVariants.{Opening, Formula, Steps, Concluding, Closing, Complete}
 use Rattle.pb_proof.specs.declared.Statement.{Statement}
 use Rattle.pb_normal.specs.meaning.Form.{Form}
-use Rattle.pb_replay.specs.contract.Kept.{Replaying, StandsFor, StepsAs}
+use Rattle.pb_replay.specs.contract.ReplayModel.{Replaying, StandsFor, StepsAs}
 use Rattle.pb_replay.specs.meaning.Problem.{Problem}
 use Rattle.pb_replay.specs.meaning.Replay.{State, first_state}
 use Rattle.pb_tool.specs.contract.Watched.{Call, Accepted, Rejected, GotEach, ShowsEach}
@@ -18,7 +18,7 @@ abbrev pub IsEmptyAt : Stage → List (Option Form) → Type 0
 IsEmptyAt Opening live = live ≡ []
 IsEmptyAt Formula live = live ≡ []
 IsEmptyAt Steps live = Unit {0}
-IsEmptyAt Claim live = Unit {0}
+IsEmptyAt Concluding live = Unit {0}
 IsEmptyAt Closing live = Unit {0}
 IsEmptyAt Complete live = Unit {0}
 
@@ -38,6 +38,6 @@ lines_of live (Rejected read replay fault ∷ calls) = lines_of live calls
 
 -- A new trace that got a call for each of these accepted statements has written their lines, if it could write all.
 abbrev pub TracesEachLine : {S : Type 0} → (S → Option (List ℕ)) → (S → ℕ) → Type 0
-TracesEachLine {S} contents faults = (limits : Limits) (v : Problem) (marks : List (Spanned Statement)) (calls : List Call) (last : State) (old new : Tracing S)
-    → old.stored ≡ [] → old.end ≡ Ok tt → ShowsEach limits v (first_state v) marks calls last → GotEach (TracesCall contents faults) old calls new → new.end ≡ Ok tt
+TracesEachLine {S} contents faults = (limits : Limits) (v : Problem) (spans : List (Spanned Statement)) (calls : List Call) (last : State) (old new : Tracing S)
+    → old.stored ≡ [] → old.end ≡ Ok tt → ShowsEach limits v (first_state v) spans calls last → GotEach (TracesCall contents faults) old calls new → new.end ≡ Ok tt
     → Wrote contents faults old.out (lines_of [] calls) new.out

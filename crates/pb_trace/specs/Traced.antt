@@ -11,7 +11,7 @@ use Rattle.pb_proof.specs.meaning.Canonical.{statement_bytes}
 use Rattle.pb_proof.specs.declared.Statement.{Statement}
 use Rattle.pb_proof.specs.declared.Statement.TheVariants.{Header, F, Pol, Rup, Soli, Solx, Delete, Output, Conclude, End}
 use Rattle.pb_normal.specs.meaning.Form.{Form}
-use Rattle.pb_replay.specs.contract.Kept.{Replaying}
+use Rattle.pb_replay.specs.contract.ReplayModel.{Replaying}
 use Rattle.pb_replay.specs.meaning.Replay.{place}
 use Rattle.pb_tool.specs.contract.Watched.{Call, Accepted, Rejected}
 use Rattle.pb_tool.specs.declared.Input.TheVariants.{Proof}

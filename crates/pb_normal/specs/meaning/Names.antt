@@ -21,8 +21,8 @@ with_names names [] = names
 with_names names (n ∷ ns) = with_names (with_name names n) ns
 
 -- a prefix of the others has appeared
-abbrev pub AfterFront : List (List ℕ) → List (List ℕ) → List (List ℕ) → Type 0
-AfterFront names others new = (k : ℕ) × (new ≡ with_names names (take k others))
+abbrev pub AfterPrefix : List (List ℕ) → List (List ℕ) → List (List ℕ) → Type 0
+AfterPrefix names others new = (k : ℕ) × (new ≡ with_names names (take k others))
 
 -- a name's number, if it has one
 abbrev pub number_in : List (List ℕ) → List ℕ → ℕ

@@ -9,4 +9,4 @@ pub mod Meets
 pub mod OneValue
 pub mod Spelled
 pub mod Texts
-pub mod Told
+pub mod Reported

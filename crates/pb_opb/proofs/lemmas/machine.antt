@@ -2,13 +2,13 @@
 pub mod Alive
 pub mod Asked
 pub mod Bodies
-pub mod EntryFront
+pub mod EntryPrefix
 pub mod EntryWalk
 pub mod Exactly
 pub mod FirstLetters
-pub mod Fronts
+pub mod Prefixes
 pub mod GivenBytes
-pub mod HeaderFront
+pub mod HeaderPrefix
 pub mod HeaderWalk
 pub mod Lines
 pub mod Objectives

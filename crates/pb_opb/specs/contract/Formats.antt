@@ -1,7 +1,7 @@
 -- The laws of the format of instances.
 use Rattle.std.specs.Prelude.{ℕ, List, ◌↔◌}
 use Rattle.pb_text.specs.contract.Automaton.{Accepts}
-use Rattle.pb_text.specs.contract.FormatLaws.{IsOneText, FixesMarks, HasNoFront, Widens}
+use Rattle.pb_text.specs.contract.FormatLaws.{IsOneText, FixesSpans, IsPrefixFree, Widens}
 use Rattle.pb_text.specs.meaning.Spelling.{Item}
 use Rattle.pb_opb.specs.meaning.Instances.{IsInstance}
 use Rattle.pb_opb.specs.engine.State.{opb, begin}
@@ -16,12 +16,12 @@ abbrev pub OneInstance : Type 0
 OneInstance = IsOneText IsInstance
 
 -- In all instances whose texts begin with the same prefix, the spans that end within the prefix are the same.
-abbrev pub FixedMarks : Type 0
-FixedMarks = FixesMarks IsInstance
+abbrev pub FixedSpans : Type 0
+FixedSpans = FixesSpans IsInstance
 
 -- No instance's text is a prefix of another's.
-abbrev pub NoFront : Type 0
-NoFront = HasNoFront IsInstance
+abbrev pub PrefixFree : Type 0
+PrefixFree = IsPrefixFree IsInstance
 
 -- An instance remains an instance under larger limits.
 abbrev pub LargerLimits : Type 0

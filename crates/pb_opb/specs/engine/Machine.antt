@@ -6,35 +6,35 @@ use Rattle.pb_opb.specs.declared.phase.Field.{Field}
 use Rattle.pb_opb.specs.declared.phase.Field.TheVariants.{Variables, Constraints}
 use Rattle.pb_opb.specs.declared.phase.Phase.{Phase}
 use Rattle.pb_opb.specs.declared.phase.Phase as phase
-use Rattle.pb_opb.specs.declared.phase.Move.{Move}
-use Rattle.pb_opb.specs.declared.phase.Move.TheVariants.{To, Declare, BeginTail, Keep, EndHeader, EndTail, EndComment, BeginSum, Give, Stop}
+use Rattle.pb_opb.specs.declared.phase.Action.{Action}
+use Rattle.pb_opb.specs.declared.phase.Action.TheVariants.{To, Declare, BeginTail, Keep, EndHeader, EndTail, EndComment, BeginSum, Give, Stop}
 
 abbrev pub word_of : Field → List ℕ
 word_of Variables = variable_word
 word_of Constraints = constraint_word
 
 -- the next byte of a word, of which k were read
-abbrev pub spell : List ℕ → ℕ → ℕ → Phase → Phase → Move
+abbrev pub spell : List ℕ → ℕ → ℕ → Phase → Phase → Action
 spell word k b more whole =
     cond (nat_eq b (slice_index word k)) (To (cond (nat_eq (k + 1) (length word)) whole more)) Stop
 
 -- the next digit of a count
-abbrev pub count : ℕ → Field → ℕ → ℕ → Move
+abbrev pub count : ℕ → Field → ℕ → ℕ → Action
 count top field n b =
     cond (is_digit b && nat_le (10 * n + (b - 48)) top) (To (phase.TheVariants.Count field (10 * n + (b - 48)))) Stop
 
 -- what comes after the digits of a count
-abbrev pub behind_count : Field → ℕ → ℕ → Move
-behind_count Variables n b = cond (is_blank b) (Declare n) Stop
-behind_count Constraints n b = cond (nat_eq b 10) (EndHeader n) (cond (is_blank b) (BeginTail n b) Stop)
+abbrev pub after_count : Field → ℕ → ℕ → Action
+after_count Variables n b = cond (is_blank b) (Declare n) Stop
+after_count Constraints n b = cond (nat_eq b 10) (EndHeader n) (cond (is_blank b) (BeginTail n b) Stop)
 
-abbrev pub plan : ℕ → Phase → ℕ → Move
+abbrev pub plan : ℕ → Phase → ℕ → Action
 plan top phase.TheVariants.Start b = cond (nat_eq b 42) (To (phase.TheVariants.BeforeWord Variables)) Stop
 plan top (phase.TheVariants.BeforeWord f) b =
     cond (is_blank b) (To (phase.TheVariants.BeforeWord f)) (cond (nat_eq b 35) (To (phase.TheVariants.Word f 1)) Stop)
 plan top (phase.TheVariants.Word f k) b = spell (word_of f) k b (phase.TheVariants.Word f (k + 1)) (phase.TheVariants.BeforeCount f)
 plan top (phase.TheVariants.BeforeCount f) b = cond (is_blank b) (To (phase.TheVariants.BeforeCount f)) (count top f 0 b)
-plan top (phase.TheVariants.Count f n) b = cond (is_digit b) (count top f n b) (behind_count f n b)
+plan top (phase.TheVariants.Count f n) b = cond (is_digit b) (count top f n b) (after_count f n b)
 plan top phase.TheVariants.Tail b = cond (nat_eq b 10) EndTail (Keep b)
 plan top (phase.TheVariants.Between may) b =
     cond (is_white b) (To (phase.TheVariants.Between may))

@@ -7,8 +7,8 @@ use Rattle.pb_opb.specs.engine.Machine.{word_of}
 use Rattle.pb_opb.specs.engine.State.{OpbState, linears, objectives}
 use Rattle.pb_opb.specs.declared.phase.Phase.{Phase}
 use Rattle.pb_opb.specs.declared.phase.Phase as phase
-use Rattle.pb_opb.specs.declared.phase.Move.{Move}
-use Rattle.pb_opb.specs.declared.phase.Move.TheVariants.{To, Declare, BeginTail, EndHeader, Give}
+use Rattle.pb_opb.specs.declared.phase.Action.{Action}
+use Rattle.pb_opb.specs.declared.phase.Action.TheVariants.{To, Declare, BeginTail, EndHeader, Give}
 
 -- a word was not read to its end, and a count is at most top
 abbrev pub PhaseFits : ℕ → Phase → Type 0
@@ -17,15 +17,15 @@ PhaseFits top (phase.TheVariants.Count f n) = n ≤ top
 PhaseFits top (phase.TheVariants.Min k) = (0 < k) × (k < 4)
 PhaseFits top _ = Unit {0}
 
-abbrev pub MoveFits : ℕ → Move → Type 0
-MoveFits top (To p) = PhaseFits top p
-MoveFits top (Declare n) = n ≤ top
-MoveFits top (BeginTail n b) = n ≤ top
-MoveFits top (EndHeader n) = n ≤ top
-MoveFits top (Give phase.TheVariants.Objective) = Unit {0}
-MoveFits top (Give phase.TheVariants.Constraint) = Unit {0}
-MoveFits top (Give _) = ⊥
-MoveFits top _ = Unit {0}
+abbrev pub ActionFits : ℕ → Action → Type 0
+ActionFits top (To p) = PhaseFits top p
+ActionFits top (Declare n) = n ≤ top
+ActionFits top (BeginTail n b) = n ≤ top
+ActionFits top (EndHeader n) = n ≤ top
+ActionFits top (Give phase.TheVariants.Objective) = Unit {0}
+ActionFits top (Give phase.TheVariants.Constraint) = Unit {0}
+ActionFits top (Give _) = ⊥
+ActionFits top _ = Unit {0}
 
 -- no byte is stored, and the machine of sums is at its start
 abbrev pub IsIdle : OpbState → Type 0

@@ -12,8 +12,8 @@ use Rattle.pb_opb.specs.declared.event.OpbEvent as event
 use Rattle.pb_opb.specs.declared.phase.Field as field
 use Rattle.pb_opb.specs.declared.phase.Phase.{Phase}
 use Rattle.pb_opb.specs.declared.phase.Phase as phase
-use Rattle.pb_opb.specs.declared.phase.Move.{Move}
-use Rattle.pb_opb.specs.declared.phase.Move.TheVariants.{To, Declare, BeginTail, Keep, EndHeader, EndTail, EndComment, BeginSum, Give, Stop}
+use Rattle.pb_opb.specs.declared.phase.Action.{Action}
+use Rattle.pb_opb.specs.declared.phase.Action.TheVariants.{To, Declare, BeginTail, Keep, EndHeader, EndTail, EndComment, BeginSum, Give, Stop}
 
 -- what a machine stores: its limits, the counts of its header, the phase, the bytes of a tail or a comment, and the
 -- machine of sums
@@ -90,7 +90,7 @@ over s p (Go inner) = Go (giving s p inner)
 over s p (End e inner) = End (statement_of e) (after s p)
 over s p Refuse = Refuse
 
-abbrev pub act : OpbState → ℕ → Move → Next OpbState OpbEvent
+abbrev pub act : OpbState → ℕ → Action → Next OpbState OpbEvent
 act s b (To p) = Go (at s p)
 act s b (Declare n) = Go (record s { variables = n; phase = phase.TheVariants.BeforeWord field.TheVariants.Constraints })
 act s b (BeginTail n c) = Go (record s { owed = n; phase = phase.TheVariants.Tail; text = c ∷ [] })
@@ -129,7 +129,7 @@ is_in_number s phase.TheVariants.Constraint = sums.in_number s.sums
 is_in_number s _ = false
 
 -- whether a byte is stored, or given to the machine of sums, which may allocate at it
-abbrev pub asks : OpbState → ℕ → Move → Bool
+abbrev pub asks : OpbState → ℕ → Action → Bool
 asks s b (BeginTail n c) = true
 asks s b (Keep c) = true
 asks s b (Give p) = sums.asks s.sums b

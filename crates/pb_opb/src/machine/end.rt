@@ -7,7 +7,7 @@ ghost use Rattle.pb_opb.specs.engine.State.{opb};
 
 use crate::event::OpbEvent;
 use crate::machine::{OpbMachine, owed_after, phase_owing, statement_of};
-use crate::phase::{Move, Phase};
+use crate::phase::{Action, Phase};
 use crate::transition::plan;
 use pb_sums::Part;
 use pb_text::{Bytes, Machine};
@@ -20,12 +20,12 @@ impl OpbMachine {
         ensures { Closes opb self.old byte result self.new }
     {
         match plan(self.limits.top(), self.phase, byte) {
-            Move::Give(phase) => self.end_sum(phase, byte),
-            Move::EndComment(may) => {
+            Action::Give(phase) => self.end_sum(phase, byte),
+            Action::EndComment(may) => {
                 self.phase = phase_owing(may, self.owed);
                 Some(OpbEvent::Comment(mem::replace(&mut self.text, Bytes::new(self.alloc))))
             }
-            Move::EndTail => {
+            Action::EndTail => {
                 self.phase = phase_owing(true, self.owed);
                 Some(OpbEvent::Header {
                     variables: self.variables,
@@ -33,7 +33,7 @@ impl OpbMachine {
                     tail: mem::replace(&mut self.text, Bytes::new(self.alloc)),
                 })
             }
-            Move::EndHeader(constraints) => {
+            Action::EndHeader(constraints) => {
                 self.owed = constraints;
                 self.phase = phase_owing(true, constraints);
                 Some(OpbEvent::Header {
@@ -49,7 +49,7 @@ impl OpbMachine {
     /// Ends a sum or a linear text with a byte.
     #[inline(always)]
     fn end_sum(&mut self, phase: Phase, byte: u8) -> Option<OpbEvent>
-        requires { plan self.old.top self.old.phase byte ≡ Move.Give phase }
+        requires { plan self.old.top self.old.phase byte ≡ Action.Give phase }
         ensures { Closes opb self.old byte result self.new }
     {
         match self.sums.closes(byte) {

@@ -5,7 +5,7 @@ pub mod AtOnce
 pub mod Complete
 pub mod Covers
 pub mod Finished
-pub mod Fronts
+pub mod Prefixes
 pub mod Kinds
 pub mod Postfix
 pub mod Pushes

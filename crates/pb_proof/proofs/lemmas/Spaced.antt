@@ -6,7 +6,7 @@ use Rattle.std.specs.Prelude.{nat_eq}
 use Rattle.pb_text.specs.meaning.Classes.{is_blank}
 use Rattle.pb_text.specs.meaning.Languages.{unmarked, Language, ◌⋅◌, Empty, Byte, Bytes, Blanks1}
 use Rattle.pb_text.specs.meaning.Spelling.{Letter, plain}
-use Rattle.pb_text.proofs.lemmas.text.Languages.{grown, none_yet, regroup, regroup⁻¹, behind_it}
+use Rattle.pb_text.proofs.lemmas.text.Languages.{grown, none_yet, regroup, regroup⁻¹, after_it}
 use Rattle.pb_text.proofs.lemmas.text.Letters.{as_unmarked}
 use Rattle.pb_proof.specs.engine.Machine.Transition.{words_of, meets}
 use Rattle.pb_proof.specs.meaning.Lines.{pseudo_word, proof_word, version_word, two_word, f_word, pol_word, rup_word, del_word, id_word, output_word, none_word, conclusion_word, end_word}
@@ -94,7 +94,7 @@ led_only P (w ∷ ws) h t k =
     let g = and_parts (is_plain w) (are_plain ws) h in
     led_only (P ⋅ Blanks1 ⋅ Bytes w) ws g.1 t
     (regroup⁻¹ (P ⋅ Blanks1) (Bytes w) (Spaced (led ws)) t
-    (behind_it (P ⋅ Blanks1) (Spaced (w ++ led ws)) (Bytes w ⋅ Spaced (led ws)) t (plain_only w (led ws) g.0)
+    (after_it (P ⋅ Blanks1) (Spaced (w ++ led ws)) (Bytes w ⋅ Spaced (led ws)) t (plain_only w (led ws) g.0)
     (regroup⁻¹ P Blanks1 (Spaced (w ++ led ws)) t k)))
 
 led_each : (P : Language) (ws : List (List ℕ)) → are_plain ws ≡ true → (t : List Letter) → Words P ws t → (P ⋅ Spaced (led ws)) t
@@ -102,7 +102,7 @@ led_each P [] h t k = (t, [], sym (append-nil t), k, refl)
 led_each P (w ∷ ws) h t k =
     let g = and_parts (is_plain w) (are_plain ws) h in
     regroup P Blanks1 (Spaced (w ++ led ws)) t
-    (behind_it (P ⋅ Blanks1) (Bytes w ⋅ Spaced (led ws)) (Spaced (w ++ led ws)) t (plain_each w (led ws) g.0)
+    (after_it (P ⋅ Blanks1) (Bytes w ⋅ Spaced (led ws)) (Spaced (w ++ led ws)) t (plain_each w (led ws) g.0)
     (regroup (P ⋅ Blanks1) (Bytes w) (Spaced (led ws)) t
     (led_each (P ⋅ Blanks1 ⋅ Bytes w) ws g.1 t k)))
 

@@ -1,7 +1,7 @@
 -- The laws of the format of proofs.
 use Rattle.std.specs.Prelude.{ℕ, List, ◌↔◌}
 use Rattle.pb_text.specs.contract.Automaton.{Accepts}
-use Rattle.pb_text.specs.contract.FormatLaws.{IsOneText, FixesMarks, HasNoFront, Widens}
+use Rattle.pb_text.specs.contract.FormatLaws.{IsOneText, FixesSpans, IsPrefixFree, Widens}
 use Rattle.pb_text.specs.meaning.Spelling.{Item}
 use Rattle.pb_proof.specs.meaning.Proofs.{IsProof}
 use Rattle.pb_proof.specs.engine.Machine.State.{proofs, begin}
@@ -16,12 +16,12 @@ abbrev pub OneProof : Type 0
 OneProof = IsOneText IsProof
 
 -- In all texts that begin with the same prefix, the spans that end within it are the same.
-abbrev pub FixedMarks : Type 0
-FixedMarks = FixesMarks IsProof
+abbrev pub FixedSpans : Type 0
+FixedSpans = FixesSpans IsProof
 
 -- No proof is a prefix of another.
-abbrev pub NoFront : Type 0
-NoFront = HasNoFront IsProof
+abbrev pub PrefixFree : Type 0
+PrefixFree = IsPrefixFree IsProof
 
 -- A proof under limits is a proof under larger limits.
 abbrev pub LargerLimits : Type 0

@@ -21,8 +21,8 @@ Leaves n [] = n ≡ 1
 Leaves n (w ∷ ws) = (takes w ≤ n) × Leaves (n + 1 - takes w) ws
 
 -- The words of an expression determine it.
-abbrev pub WordsTell : Type 0
-WordsTell = (a b : Tree) → words a ≡ words b → a ≡ b
+abbrev pub WordsReport : Type 0
+WordsReport = (a b : Tree) → words a ≡ words b → a ≡ b
 
 -- Words are those of one expression if and only if they leave one.
 abbrev pub WordsLeaveOne : Type 0

@@ -38,8 +38,8 @@ pub record BeginProof (limit top : ℕ) (statements : List Statement) (all : Boo
 
 -- The statements read are the first ones of a proof, and all of them if the read is done.
 abbrev pub ReadStatements : Type 0
-ReadStatements = (limit top longest : ℕ) (input used : List ℕ) (marks : List (Spanned Statement)) (place : Place) (done : Bool) (stop : Option Stop) →
-    Reads (IsProof limit top) longest input used marks place done stop → BeginProof limit top (events_at marks) done
+ReadStatements = (limit top longest : ℕ) (input used : List ℕ) (spans : List (Spanned Statement)) (place : Place) (done : Bool) (stop : Option Stop) →
+    Reads (IsProof limit top) longest input used spans place done stop → BeginProof limit top (events_at spans) done
 
 -- Statements are those of at most one proof.
 abbrev pub OneValue : Type 0

@@ -1,8 +1,8 @@
 -- The line machines: they read the rest of a statement after its first word.
 pub mod ByteKind
-pub mod Claim
-pub mod ClaimFields
-pub mod ClaimState
+pub mod Conclusion
+pub mod ConclusionFields
+pub mod ConclusionState
 pub mod Count
 pub mod Ended
 pub mod Fields
@@ -12,6 +12,6 @@ pub mod Ids
 pub mod Literals
 pub mod Machine
 pub mod Pol
-pub mod PolFront
+pub mod PolFast
 pub mod PolState
 pub mod Rup

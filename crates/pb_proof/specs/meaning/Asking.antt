@@ -24,22 +24,22 @@ AsksWord text b = AsksLiteral text b ⊎ EndsNumber text b ⊎ AsksOperator text
 
 -- after the `:` before literals that are given
 abbrev pub AsksShown : List ℕ → ℕ → Type 0
-AsksShown text b = (claim : List ℕ) × (shown : List ℕ) × (text ≡ claim ++ 58 ∷ shown) × AsksLiteral shown b
+AsksShown text b = (concluding : List ℕ) × (shown : List ℕ) × (text ≡ concluding ++ 58 ∷ shown) × AsksLiteral shown b
 
-abbrev pub AsksClaim : Conclusion → List ℕ → ℕ → Type 0
-AsksClaim (Sat (Some literals)) text b = AsksShown text b
-AsksClaim (Bounds lower id upper (Some literals)) text b = AsksShown text b
-AsksClaim _ text b = ⊥
+abbrev pub AsksConclusion : Conclusion → List ℕ → ℕ → Type 0
+AsksConclusion (Sat (Some literals)) text b = AsksShown text b
+AsksConclusion (Bounds lower id upper (Some literals)) text b = AsksShown text b
+AsksConclusion _ text b = ⊥
 
 -- after the first word of a statement
-abbrev pub AsksBehind : Statement → List ℕ → ℕ → Type 0
-AsksBehind (Pol ws) text b = AsksWord text b
-AsksBehind (Rup c) text b = AsksLiteral text b
-AsksBehind (Soli literals) text b = AsksLiteral text b
-AsksBehind (Solx literals) text b = AsksLiteral text b
-AsksBehind (Delete ids) text b = EndsNumber text b
-AsksBehind (Conclude c) text b = AsksClaim c text b
-AsksBehind _ text b = ⊥
+abbrev pub AsksAfter : Statement → List ℕ → ℕ → Type 0
+AsksAfter (Pol ws) text b = AsksWord text b
+AsksAfter (Rup c) text b = AsksLiteral text b
+AsksAfter (Soli literals) text b = AsksLiteral text b
+AsksAfter (Solx literals) text b = AsksLiteral text b
+AsksAfter (Delete ids) text b = EndsNumber text b
+AsksAfter (Conclude c) text b = AsksConclusion c text b
+AsksAfter _ text b = ⊥
 
 -- the first word of a statement that may allocate
 abbrev pub FirstWord : Statement → Language
@@ -52,4 +52,4 @@ FirstWord (Conclude c) = Bytes conclusion_word
 FirstWord _ = λ t. ⊥
 
 abbrev pub Asks : Statement → List ℕ → ℕ → Type 0
-Asks s text b = (word : List Letter) × (more : List ℕ) × FirstWord s word × (text ≡ bytes word ++ more) × AsksBehind s more b
+Asks s text b = (word : List Letter) × (more : List ℕ) × FirstWord s word × (text ≡ bytes word ++ more) × AsksAfter s more b

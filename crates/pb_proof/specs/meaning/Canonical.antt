@@ -47,11 +47,11 @@ abbrev pub shown_bytes : Option (List Literal) → List ℕ
 shown_bytes None = []
 shown_bytes (Some ls) = 32 ∷ 58 ∷ listed_bytes literal_line ls
 
-abbrev pub claim_bytes : Conclusion → List ℕ
-claim_bytes NoClaim = none_word
-claim_bytes (Unsat id) = unsat_word ++ id_shown_bytes id
-claim_bytes (Sat shown) = sat_word ++ shown_bytes shown
-claim_bytes (Bounds lower id upper shown) =
+abbrev pub conclusion_bytes : Conclusion → List ℕ
+conclusion_bytes NoClaim = none_word
+conclusion_bytes (Unsat id) = unsat_word ++ id_shown_bytes id
+conclusion_bytes (Sat shown) = sat_word ++ shown_bytes shown
+conclusion_bytes (Bounds lower id upper shown) =
     bounds_word ++ (32 ∷ (bound_bytes lower ++ (id_shown_bytes id ++ (32 ∷ (bound_bytes upper ++ shown_bytes shown)))))
 
 -- the number after `f`, if there is one
@@ -69,7 +69,7 @@ statement_bytes (Soli ls) = soli_word ++ listed_bytes literal_line ls
 statement_bytes (Solx ls) = solx_word ++ listed_bytes literal_line ls
 statement_bytes (Delete ids) = del_word ++ (32 ∷ (id_word ++ listed_bytes signed_decimal ids))
 statement_bytes Output = output_word ++ (32 ∷ none_word)
-statement_bytes (Conclude c) = conclusion_word ++ (32 ∷ claim_bytes c)
+statement_bytes (Conclude c) = conclusion_word ++ (32 ∷ conclusion_bytes c)
 statement_bytes End = end_word ++ (32 ∷ (pseudo_word ++ (32 ∷ proof_word)))
 
 -- lines with a line feed between consecutive ones

@@ -155,8 +155,8 @@ module _ (limit top : ℕ) where
   abbrev pub SpellsIds : List ℤ → Language
   SpellsIds ids = λ t. (0 < length ids) × (Listed (SpellsId top) ids ⋅ LineEnd) t
 
-  abbrev pub SpellsClaim : Conclusion → Language
-  SpellsClaim c = Blanks1 ⋅ SpellsConclusion c ⋅ LineEnd
+  abbrev pub SpellsConclusionLine : Conclusion → Language
+  SpellsConclusionLine c = Blanks1 ⋅ SpellsConclusion c ⋅ LineEnd
 
   -- A statement from its first word through its line feed. The closing words have no line feed.
   abbrev pub SpellsStatement : Statement → Language
@@ -169,5 +169,5 @@ module _ (limit top : ℕ) where
   SpellsStatement (Solx ls) = Bytes solx_word ⋅ SpellsLiterals ls
   SpellsStatement (Delete ids) = Bytes del_word ⋅ Blanks1 ⋅ Bytes id_word ⋅ SpellsIds ids
   SpellsStatement Output = Bytes output_word ⋅ Blanks1 ⋅ Bytes none_word ⋅ LineEnd
-  SpellsStatement (Conclude c) = Bytes conclusion_word ⋅ SpellsClaim c
+  SpellsStatement (Conclude c) = Bytes conclusion_word ⋅ SpellsConclusionLine c
   SpellsStatement End = Bytes end_word ⋅ Blanks1 ⋅ Bytes pseudo_word ⋅ Blanks1 ⋅ Bytes proof_word

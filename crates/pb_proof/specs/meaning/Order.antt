@@ -4,7 +4,7 @@ use Rattle.pb_text.specs.meaning.Spelling.{Item}
 use Rattle.pb_proof.specs.meaning.Lines.{SpellsStatement}
 use Rattle.pb_proof.specs.meaning.Proofs.{IsGap}
 use Rattle.pb_proof.specs.declared.machine.phase.Stage.{Stage}
-use Rattle.pb_proof.specs.declared.machine.phase.Stage.TheVariants.{Opening, Formula, Steps, Claim, Closing, Complete}
+use Rattle.pb_proof.specs.declared.machine.phase.Stage.TheVariants.{Opening, Formula, Steps, Concluding, Closing, Complete}
 use Rattle.pb_proof.specs.declared.statement.Statement.{Statement}
 use Rattle.pb_proof.specs.declared.statement.Statement as statement
 
@@ -12,13 +12,13 @@ use Rattle.pb_proof.specs.declared.statement.Statement as statement
 abbrev pub stage_of : Statement → Stage
 stage_of statement.TheVariants.Header = Opening
 stage_of (statement.TheVariants.F count) = Formula
-stage_of (statement.TheVariants.Conclude c) = Claim
+stage_of (statement.TheVariants.Conclude c) = Concluding
 stage_of statement.TheVariants.End = Closing
 stage_of _ = Steps
 
 abbrev pub stage_after : Statement → Stage
 stage_after statement.TheVariants.Header = Formula
-stage_after statement.TheVariants.Output = Claim
+stage_after statement.TheVariants.Output = Concluding
 stage_after (statement.TheVariants.Conclude c) = Closing
 stage_after statement.TheVariants.End = Complete
 stage_after _ = Steps

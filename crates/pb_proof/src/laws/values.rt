@@ -1,6 +1,6 @@
 //! The laws of proofs and their values.
 
-ghost use Rattle.pb_proof.specs.contract.Leaving.{WordsTell, WordsLeaveOne};
+ghost use Rattle.pb_proof.specs.contract.Leaving.{WordsReport, WordsLeaveOne};
 ghost use Rattle.pb_proof.specs.contract.ValueLaws.{CanonicalProof, StatementValues, ProofValues, ReadStatements, OneValue, ReadsBack};
 
 /// The canonical text of a proof that meets the rules is a text of that proof.
@@ -23,7 +23,7 @@ pub fn reads_are_of_proofs()
 /// The postfix words of an expression determine it. Words form one expression if and only if each finds as many
 /// finished expressions as it takes, and one is left after the last.
 pub fn postfix_words()
-    ensures tell { WordsTell }
+    ensures report { WordsReport }
     ensures leave { WordsLeaveOne }
 {}
 

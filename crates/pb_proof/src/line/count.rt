@@ -3,13 +3,13 @@
 ghost use Rattle.std.specs.Prelude.{◌≡◌, ◌<◌, ◌≤◌, ◌^◌};
 ghost use Rattle.pb_text.specs.meaning.Limits.{top_of};
 ghost use Rattle.pb_proof.specs.engine.Line.ByteKind.{NumberByteFits};
-ghost use Rattle.pb_proof.specs.engine.Line.Count.{digits, behind, plan, counting, is_done, PhaseFits, MoveFits};
+ghost use Rattle.pb_proof.specs.engine.Line.Count.{digits, next_action, plan, counting, is_done, PhaseFits, ActionFits};
 
 mod phase;
 
 use crate::line::byte_kind::NumberByte;
 use crate::line::classes::number_byte;
-use crate::line::count::phase::{CountMove, CountPhase};
+use crate::line::count::phase::{CountAction, CountPhase};
 use pb_text::bytes::is_digit;
 use pb_text::decimal::next_digit_u64;
 use pb_text::{Limits, Machine, Push};
@@ -34,49 +34,49 @@ impl Model for CountMachine {
 }
 
 /// The action for the next digit of a count.
-fn digits(top: u64, value: u64, digit: u8) -> CountMove
+fn digits(top: u64, value: u64, digit: u8) -> CountAction
     requires top { top < 2 ^ 63 }
     requires value { value ≤ top }
     requires digit { digit < 10 }
     ensures plan { result ≡ digits top value digit }
-    ensures fits { MoveFits top result }
+    ensures fits { ActionFits top result }
 {
     match next_digit_u64(top, value, digit) {
-        None => CountMove::Stop,
-        Some(next) => CountMove::To(CountPhase::Digits(next)),
+        None => CountAction::Stop,
+        Some(next) => CountAction::To(CountPhase::Digits(next)),
     }
 }
 
 /// The action for a byte at which the line may end, with a count or none.
-fn behind(count: Option<u64>, gap: CountPhase, kind: NumberByte) -> CountMove
-    ensures { result ≡ behind count gap kind }
+fn next_action(count: Option<u64>, gap: CountPhase, kind: NumberByte) -> CountAction
+    ensures { result ≡ next_action count gap kind }
 {
     match kind {
-        NumberByte::Blank => CountMove::To(gap),
-        NumberByte::Semicolon => CountMove::To(CountPhase::Closing(count)),
-        NumberByte::Feed => CountMove::End(count),
-        _ => CountMove::Stop,
+        NumberByte::Blank => CountAction::To(gap),
+        NumberByte::Semicolon => CountAction::To(CountPhase::Closing(count)),
+        NumberByte::Feed => CountAction::End(count),
+        _ => CountAction::Stop,
     }
 }
 
 /// What the machine does with a byte.
-fn plan(top: u64, phase: CountPhase, kind: NumberByte) -> CountMove
+fn plan(top: u64, phase: CountPhase, kind: NumberByte) -> CountAction
     requires top { top < 2 ^ 63 }
     requires phase { PhaseFits top phase }
     requires kind { NumberByteFits kind }
     ensures plan { result ≡ plan top phase kind }
-    ensures fits { MoveFits top result }
+    ensures fits { ActionFits top result }
 {
     match (phase, kind) {
         (CountPhase::Gap, NumberByte::Digit(digit)) => digits(top, 0, digit),
         (CountPhase::Digits(value), NumberByte::Digit(digit)) => digits(top, value, digit),
-        (CountPhase::Start | CountPhase::Gap, _) => behind(None, CountPhase::Gap, kind),
+        (CountPhase::Start | CountPhase::Gap, _) => next_action(None, CountPhase::Gap, kind),
         (CountPhase::Digits(value) | CountPhase::Tail(value), _) => {
-            behind(Some(value), CountPhase::Tail(value), kind)
+            next_action(Some(value), CountPhase::Tail(value), kind)
         }
-        (CountPhase::Closing(_), NumberByte::Blank) => CountMove::To(phase),
-        (CountPhase::Closing(count), NumberByte::Feed) => CountMove::End(count),
-        _ => CountMove::Stop,
+        (CountPhase::Closing(_), NumberByte::Blank) => CountAction::To(phase),
+        (CountPhase::Closing(count), NumberByte::Feed) => CountAction::End(count),
+        _ => CountAction::Stop,
     }
 }
 
@@ -109,15 +109,15 @@ impl Machine for CountMachine {
 
     fn push(&mut self, byte: u8) -> Push<Option<u64>> {
         match plan(self.top, self.phase, number_byte(byte)) {
-            CountMove::To(phase) => {
+            CountAction::To(phase) => {
                 self.phase = phase;
                 Push::Go
             }
-            CountMove::End(count) => {
+            CountAction::End(count) => {
                 self.phase = CountPhase::Done;
                 Push::Event(count)
             }
-            CountMove::Stop => {
+            CountAction::Stop => {
                 if matches!(self.phase, CountPhase::Digits(_)) && is_digit(byte) {
                     Push::Large
                 } else {
@@ -137,7 +137,7 @@ impl Machine for CountMachine {
         }
         !matches!(
             plan(self.top, self.phase, number_byte(byte)),
-            CountMove::Stop
+            CountAction::Stop
         )
     }
 

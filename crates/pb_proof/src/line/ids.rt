@@ -3,14 +3,14 @@
 ghost use Rattle.std.specs.Prelude.{◌≡◌, ◌<◌, ◌≤◌, ◌^◌, ℕ};
 ghost use Rattle.pb_text.specs.meaning.Limits.{top_of};
 ghost use Rattle.pb_proof.specs.engine.Line.ByteKind.{NumberByteFits};
-ghost use Rattle.pb_proof.specs.engine.Line.Ids.{digits, before, behind, plan, ids_first, begins_id, is_done, PhaseFits, MoveFits};
+ghost use Rattle.pb_proof.specs.engine.Line.Ids.{digits, before, next_action, plan, ids_first, begins_id, is_done, PhaseFits, ActionFits};
 
 mod end;
 mod phase;
 
 use crate::line::byte_kind::NumberByte;
 use crate::line::classes::number_byte;
-use crate::line::ids::phase::{IdsMove, IdsPhase};
+use crate::line::ids::phase::{IdsAction, IdsPhase};
 use pb_text::bytes::is_digit;
 use pb_text::decimal::{next_digit_u64, signed_i64};
 use pb_text::digits::number_prefix;
@@ -40,70 +40,70 @@ impl Model for IdsMachine {
 }
 
 /// The action for the next digit of an id.
-fn digits(top: u64, negative: bool, value: u64, digit: u8) -> IdsMove
+fn digits(top: u64, negative: bool, value: u64, digit: u8) -> IdsAction
     requires top { top < 2 ^ 63 }
     requires value { value ≤ top }
     requires digit { digit < 10 }
     ensures plan { result ≡ digits top negative value digit }
-    ensures fits { MoveFits top result }
+    ensures fits { ActionFits top result }
 {
     match next_digit_u64(top, value, digit) {
-        None => IdsMove::Stop,
-        Some(next) => IdsMove::To(IdsPhase::Digits(negative, next)),
+        None => IdsAction::Stop,
+        Some(next) => IdsAction::To(IdsPhase::Digits(negative, next)),
     }
 }
 
 /// The action for a byte at which an id may begin.
-fn before(top: u64, kind: NumberByte) -> IdsMove
+fn before(top: u64, kind: NumberByte) -> IdsAction
     requires top { top < 2 ^ 63 }
     requires kind { NumberByteFits kind }
     ensures plan { result ≡ before top kind }
-    ensures fits { MoveFits top result }
+    ensures fits { ActionFits top result }
 {
     match kind {
-        NumberByte::Minus => IdsMove::To(IdsPhase::Minus),
+        NumberByte::Minus => IdsAction::To(IdsPhase::Minus),
         NumberByte::Digit(digit) => digits(top, false, 0, digit),
-        _ => IdsMove::Stop,
+        _ => IdsAction::Stop,
     }
 }
 
 /// The action for a byte at which an id may end.
-fn behind(id: i64, kind: NumberByte) -> IdsMove
-    ensures plan { result ≡ behind id kind }
-    ensures fits { (top : ℕ) → MoveFits top result }
+fn next_action(id: i64, kind: NumberByte) -> IdsAction
+    ensures plan { result ≡ next_action id kind }
+    ensures fits { (top : ℕ) → ActionFits top result }
 {
     match kind {
-        NumberByte::Blank => IdsMove::Keep(IdsPhase::Between, id),
-        NumberByte::Semicolon => IdsMove::Keep(IdsPhase::Closing, id),
-        NumberByte::Feed => IdsMove::EndWith(id),
-        _ => IdsMove::Stop,
+        NumberByte::Blank => IdsAction::Keep(IdsPhase::Between, id),
+        NumberByte::Semicolon => IdsAction::Keep(IdsPhase::Closing, id),
+        NumberByte::Feed => IdsAction::EndWith(id),
+        _ => IdsAction::Stop,
     }
 }
 
 /// What the machine does with a byte. This does not allocate.
 #[inline(always)]
-fn plan(top: u64, phase: IdsPhase, kind: NumberByte) -> IdsMove
+fn plan(top: u64, phase: IdsPhase, kind: NumberByte) -> IdsAction
     requires top { top < 2 ^ 63 }
     requires phase { PhaseFits top phase }
     requires kind { NumberByteFits kind }
     ensures plan { result ≡ plan top phase kind }
-    ensures fits { MoveFits top result }
+    ensures fits { ActionFits top result }
 {
     match (phase, kind) {
-        (IdsPhase::Start | IdsPhase::Gap, NumberByte::Blank) => IdsMove::To(IdsPhase::Gap),
-        (IdsPhase::Between, NumberByte::Blank) => IdsMove::To(IdsPhase::Between),
-        (IdsPhase::Between, NumberByte::Semicolon) => IdsMove::To(IdsPhase::Closing),
-        (IdsPhase::Between, NumberByte::Feed) => IdsMove::End,
+        (IdsPhase::Start | IdsPhase::Gap, NumberByte::Blank) => IdsAction::To(IdsPhase::Gap),
+        (IdsPhase::Between, NumberByte::Blank) => IdsAction::To(IdsPhase::Between),
+        (IdsPhase::Between, NumberByte::Semicolon) => IdsAction::To(IdsPhase::Closing),
+        (IdsPhase::Between, NumberByte::Feed) => IdsAction::End,
         (IdsPhase::Gap | IdsPhase::Between, _) => before(top, kind),
         (IdsPhase::Minus, NumberByte::Digit(digit)) => digits(top, true, 0, digit),
         (IdsPhase::Digits(negative, value), NumberByte::Digit(digit)) => {
             digits(top, negative, value, digit)
         }
-        (IdsPhase::Digits(_, 0), _) => IdsMove::Stop,
-        (IdsPhase::Digits(negative, value), _) => behind(signed_i64(negative, value), kind),
-        (IdsPhase::Closing, NumberByte::Blank) => IdsMove::To(phase),
-        (IdsPhase::Closing, NumberByte::Feed) => IdsMove::End,
-        _ => IdsMove::Stop,
+        (IdsPhase::Digits(_, 0), _) => IdsAction::Stop,
+        (IdsPhase::Digits(negative, value), _) => next_action(signed_i64(negative, value), kind),
+        (IdsPhase::Closing, NumberByte::Blank) => IdsAction::To(phase),
+        (IdsPhase::Closing, NumberByte::Feed) => IdsAction::End,
+        _ => IdsAction::Stop,
     }
 }
 
@@ -170,11 +170,11 @@ impl Machine for IdsMachine {
 
     fn goes(&mut self, byte: u8) -> bool {
         match plan(self.top, self.phase, number_byte(byte)) {
-            IdsMove::To(next) => {
+            IdsAction::To(next) => {
                 self.phase = next;
                 true
             }
-            IdsMove::Keep(next, id) => {
+            IdsAction::Keep(next, id) => {
                 if self.ids.push(id).is_err() {
                     return false;
                 }
@@ -189,7 +189,7 @@ impl Machine for IdsMachine {
         self.end(byte)
     }
 
-    fn take_front(&mut self, piece: &[u8]) -> usize {
+    fn take_prefix(&mut self, piece: &[u8]) -> usize {
         let length = self.take_digits(piece);
         if length > 0 {
             return length;
@@ -199,29 +199,29 @@ impl Machine for IdsMachine {
 
     fn push(&mut self, byte: u8) -> Push<Sequence<i64>> {
         match plan(self.top, self.phase, number_byte(byte)) {
-            IdsMove::To(phase) => {
+            IdsAction::To(phase) => {
                 self.phase = phase;
                 Push::Go
             }
-            IdsMove::Keep(phase, id) => {
+            IdsAction::Keep(phase, id) => {
                 if self.ids.push(id).is_err() {
                     return Push::Memory;
                 }
                 self.phase = phase;
                 Push::Go
             }
-            IdsMove::End => {
+            IdsAction::End => {
                 self.phase = IdsPhase::Done;
                 Push::Event(mem::replace(&mut self.ids, Sequence::new(self.alloc)))
             }
-            IdsMove::EndWith(id) => {
+            IdsAction::EndWith(id) => {
                 if self.ids.push(id).is_err() {
                     return Push::Memory;
                 }
                 self.phase = IdsPhase::Done;
                 Push::Event(mem::replace(&mut self.ids, Sequence::new(self.alloc)))
             }
-            IdsMove::Stop => {
+            IdsAction::Stop => {
                 if matches!(self.phase, IdsPhase::Digits(_, _)) && is_digit(byte) {
                     Push::Large
                 } else {
@@ -239,7 +239,10 @@ impl Machine for IdsMachine {
         if !matches!(self.phase, IdsPhase::Start) {
             return false;
         }
-        !matches!(plan(self.top, self.phase, number_byte(byte)), IdsMove::Stop)
+        !matches!(
+            plan(self.top, self.phase, number_byte(byte)),
+            IdsAction::Stop
+        )
     }
 
     fn held(&self) -> usize {

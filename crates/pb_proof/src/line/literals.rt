@@ -2,13 +2,13 @@
 
 ghost use Rattle.std.specs.Prelude.{true, ◌≡◌, ℕ, ◌-◌, ◌^◌, ◌<◌, List, [], IfOk, OnOk, OnErr, min};
 ghost use Rattle.pb_proof.specs.engine.Line.ByteKind.{NameByteFits};
-ghost use Rattle.pb_proof.specs.engine.Line.Literals.{behind, before, plan, flushed, is_more, is_done, in_hand, units, MoveFits};
+ghost use Rattle.pb_proof.specs.engine.Line.Literals.{next_action, before, plan, flushed, is_more, is_done, in_hand, units, ActionFits};
 
 mod phase;
 
 use crate::line::byte_kind::NameByte;
 use crate::line::classes::name_byte;
-use crate::line::literals::phase::{LiteralsMove, LiteralsPhase};
+use crate::line::literals::phase::{LiteralsAction, LiteralsPhase};
 use pb_sums::{Literal, Name};
 use pb_text::{Machine, Push, Sequence};
 use std::alloc::{AllocError, Global};
@@ -37,52 +37,58 @@ impl Model for LiteralsMachine {
 }
 
 /// The action for a byte at which the line may end.
-fn behind(kind: NameByte) -> LiteralsMove
-    ensures plan { result ≡ behind kind }
-    ensures fits { MoveFits result }
+fn next_action(kind: NameByte) -> LiteralsAction
+    ensures plan { result ≡ next_action kind }
+    ensures fits { ActionFits result }
 {
     match kind {
-        NameByte::Blank => LiteralsMove::To(LiteralsPhase::Gap),
-        NameByte::Semicolon => LiteralsMove::To(LiteralsPhase::Closing),
-        NameByte::Feed => LiteralsMove::End,
-        _ => LiteralsMove::Stop,
+        NameByte::Blank => LiteralsAction::To(LiteralsPhase::Gap),
+        NameByte::Semicolon => LiteralsAction::To(LiteralsPhase::Closing),
+        NameByte::Feed => LiteralsAction::End,
+        _ => LiteralsAction::Stop,
     }
 }
 
 /// The action for a byte at which a literal may begin, or the line may end.
-fn before(kind: NameByte) -> LiteralsMove
+fn before(kind: NameByte) -> LiteralsAction
     requires { NameByteFits kind }
     ensures plan { result ≡ before kind }
-    ensures fits { MoveFits result }
+    ensures fits { ActionFits result }
 {
     match kind {
-        NameByte::Tilde => LiteralsMove::To(LiteralsPhase::Negation),
-        NameByte::Letter(byte) => LiteralsMove::Begin(LiteralsPhase::First(false), byte),
-        _ => behind(kind),
+        NameByte::Tilde => LiteralsAction::To(LiteralsPhase::Negation),
+        NameByte::Letter(byte) => LiteralsAction::Begin(LiteralsPhase::First(false), byte),
+        _ => next_action(kind),
     }
 }
 
 /// What the machine does with a byte. This does not allocate.
 #[inline(always)]
-fn plan(joined: bool, phase: LiteralsPhase, kind: NameByte) -> LiteralsMove
+fn plan(joined: bool, phase: LiteralsPhase, kind: NameByte) -> LiteralsAction
     requires { NameByteFits kind }
     ensures plan { result ≡ plan joined phase kind }
-    ensures fits { MoveFits result }
+    ensures fits { ActionFits result }
 {
     match (phase, kind) {
-        (LiteralsPhase::Start, _) => { if joined { before(kind) } else { behind(kind) } }
+        (LiteralsPhase::Start, _) => {
+            if joined {
+                before(kind)
+            } else {
+                next_action(kind)
+            }
+        }
         (LiteralsPhase::Gap, _) => before(kind),
         (LiteralsPhase::Negation, NameByte::Letter(byte)) => {
-            LiteralsMove::Begin(LiteralsPhase::First(true), byte)
+            LiteralsAction::Begin(LiteralsPhase::First(true), byte)
         }
         (
             LiteralsPhase::First(negated) | LiteralsPhase::More(negated),
             NameByte::Letter(byte) | NameByte::Inner(byte),
-        ) => LiteralsMove::Add(LiteralsPhase::More(negated), byte),
-        (LiteralsPhase::More(_), _) => behind(kind),
-        (LiteralsPhase::Closing, NameByte::Blank) => LiteralsMove::To(phase),
-        (LiteralsPhase::Closing, NameByte::Feed) => LiteralsMove::End,
-        _ => LiteralsMove::Stop,
+        ) => LiteralsAction::Add(LiteralsPhase::More(negated), byte),
+        (LiteralsPhase::More(_), _) => next_action(kind),
+        (LiteralsPhase::Closing, NameByte::Blank) => LiteralsAction::To(phase),
+        (LiteralsPhase::Closing, NameByte::Feed) => LiteralsAction::End,
+        _ => LiteralsAction::Stop,
     }
 }
 
@@ -182,7 +188,7 @@ impl Machine for LiteralsMachine {
 
     fn goes(&mut self, byte: u8) -> bool {
         match plan(self.joined, self.phase, name_byte(byte)) {
-            LiteralsMove::Begin(phase, first) => {
+            LiteralsAction::Begin(phase, first) => {
                 let mut name = Name::new(self.alloc);
                 if name.push(first).is_err() {
                     return false;
@@ -191,28 +197,28 @@ impl Machine for LiteralsMachine {
                 self.phase = phase;
                 true
             }
-            LiteralsMove::Add(phase, next) => {
+            LiteralsAction::Add(phase, next) => {
                 if self.name.push(next).is_err() {
                     return false;
                 }
                 self.phase = phase;
                 true
             }
-            LiteralsMove::To(phase) => {
+            LiteralsAction::To(phase) => {
                 if flush(self.alloc, &mut self.literals, &mut self.name, self.phase).is_err() {
                     return false;
                 }
                 self.phase = phase;
                 true
             }
-            LiteralsMove::End | LiteralsMove::Stop => false,
+            LiteralsAction::End | LiteralsAction::Stop => false,
         }
     }
 
     fn push(&mut self, byte: u8) -> Push<Sequence<Literal>> {
         match plan(self.joined, self.phase, name_byte(byte)) {
-            LiteralsMove::Stop => Push::No,
-            LiteralsMove::Begin(phase, first) => {
+            LiteralsAction::Stop => Push::No,
+            LiteralsAction::Begin(phase, first) => {
                 let mut name = Name::new(self.alloc);
                 if name.push(first).is_err() {
                     return Push::Memory;
@@ -221,21 +227,21 @@ impl Machine for LiteralsMachine {
                 self.phase = phase;
                 Push::Go
             }
-            LiteralsMove::Add(phase, next) => {
+            LiteralsAction::Add(phase, next) => {
                 if self.name.push(next).is_err() {
                     return Push::Memory;
                 }
                 self.phase = phase;
                 Push::Go
             }
-            LiteralsMove::To(phase) => {
+            LiteralsAction::To(phase) => {
                 if flush(self.alloc, &mut self.literals, &mut self.name, self.phase).is_err() {
                     return Push::Memory;
                 }
                 self.phase = phase;
                 Push::Go
             }
-            LiteralsMove::End => {
+            LiteralsAction::End => {
                 let Ok(literals) = finish(
                     self.alloc,
                     &mut self.literals,
@@ -259,7 +265,7 @@ impl Machine for LiteralsMachine {
         }
         !matches!(
             plan(self.joined, self.phase, name_byte(byte)),
-            LiteralsMove::Stop
+            LiteralsAction::Stop
         )
     }
 

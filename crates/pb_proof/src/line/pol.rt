@@ -8,7 +8,7 @@ ghost use Rattle.pb_proof.specs.engine.Line.Pol.{is_in_number};
 
 mod close;
 mod end;
-mod front;
+mod fast;
 mod kind;
 mod phase;
 mod transition;
@@ -16,9 +16,9 @@ mod words;
 
 use crate::line::id_prefix::id_prefix;
 use crate::line::pol::close::held_number;
-use crate::line::pol::front::{held_before, operator};
+use crate::line::pol::fast::{held_before, operator};
 use crate::line::pol::kind::kind_of;
-use crate::line::pol::phase::{Change, Held, Kind, Move, Phase, Role};
+use crate::line::pol::phase::{Action, Change, Held, Kind, Phase, Role};
 use crate::line::pol::transition::{in_hand, is_done, is_in_number, plan};
 use crate::line::pol::words::{count_units, finish, make_room, turn};
 use crate::word::PolWord;
@@ -208,11 +208,11 @@ impl Machine for PolMachine {
 
     fn goes(&mut self, byte: u8) -> bool {
         match plan(self.limit, self.top, self.depth, self.phase, kind_of(byte)) {
-            Move::To(phase) => {
+            Action::To(phase) => {
                 self.phase = phase;
                 true
             }
-            Move::Begin(phase) => {
+            Action::Begin(phase) => {
                 let mut name = Name::new(self.alloc);
                 if name.push(byte).is_err() {
                     return false;
@@ -221,14 +221,14 @@ impl Machine for PolMachine {
                 self.phase = phase;
                 true
             }
-            Move::Add(phase) => {
+            Action::Add(phase) => {
                 if self.name.push(byte).is_err() {
                     return false;
                 }
                 self.phase = phase;
                 true
             }
-            Move::Turn(change, phase) => {
+            Action::Turn(change, phase) => {
                 if turn(
                     self.alloc,
                     &mut self.words,
@@ -243,7 +243,7 @@ impl Machine for PolMachine {
                 self.phase = phase;
                 true
             }
-            Move::End(_) | Move::Stop => false,
+            Action::End(_) | Action::Stop => false,
         }
     }
 
@@ -251,7 +251,7 @@ impl Machine for PolMachine {
         self.end(byte)
     }
 
-    fn take_front(&mut self, piece: &[u8]) -> usize {
+    fn take_prefix(&mut self, piece: &[u8]) -> usize {
         let length = self.take_word(piece);
         // A line feed takes no word with it, and ends the line.
         if length > 0 || piece[0] == b'\n' {
@@ -262,12 +262,12 @@ impl Machine for PolMachine {
 
     fn push(&mut self, byte: u8) -> Push<Sequence<PolWord>> {
         match plan(self.limit, self.top, self.depth, self.phase, kind_of(byte)) {
-            Move::Stop => refusal(self.phase, byte),
-            Move::To(phase) => {
+            Action::Stop => refusal(self.phase, byte),
+            Action::To(phase) => {
                 self.phase = phase;
                 Push::Go
             }
-            Move::Begin(phase) => {
+            Action::Begin(phase) => {
                 let mut name = Name::new(self.alloc);
                 if name.push(byte).is_err() {
                     return Push::Memory;
@@ -276,14 +276,14 @@ impl Machine for PolMachine {
                 self.phase = phase;
                 Push::Go
             }
-            Move::Add(phase) => {
+            Action::Add(phase) => {
                 if self.name.push(byte).is_err() {
                     return Push::Memory;
                 }
                 self.phase = phase;
                 Push::Go
             }
-            Move::Turn(change, phase) => {
+            Action::Turn(change, phase) => {
                 if turn(
                     self.alloc,
                     &mut self.words,
@@ -298,7 +298,7 @@ impl Machine for PolMachine {
                 self.phase = phase;
                 Push::Go
             }
-            Move::End(change) => {
+            Action::End(change) => {
                 let Ok(words) = finish(
                     self.alloc,
                     &mut self.words,
@@ -329,7 +329,7 @@ impl Machine for PolMachine {
             Phase::Start,
             kind_of(byte),
         );
-        !matches!(planned, Move::Stop)
+        !matches!(planned, Action::Stop)
     }
 
     fn held(&self) -> usize {

@@ -5,7 +5,7 @@ ghost use Rattle.pb_text.specs.meaning.Limits.{largest, top_of};
 ghost use Rattle.pb_proof.specs.engine.Line.Machine.{line_first, IsCarried, IsEnded};
 
 use crate::line::LineMachine;
-use crate::line::claim::ClaimMachine;
+use crate::line::conclusion::ConclusionMachine;
 use crate::line::count::CountMachine;
 use crate::line::ids::IdsMachine;
 use crate::line::literals::LiteralsMachine;
@@ -68,7 +68,7 @@ pub fn line_first(alloc: Global, limits: Limits, kind: LineKind) -> LineMachine
         LineKind::Soli => LineMachine::Soli(LiteralsMachine::new(alloc, false)),
         LineKind::Solx => LineMachine::Solx(LiteralsMachine::new(alloc, false)),
         LineKind::Delete => LineMachine::Delete(IdsMachine::new(alloc, limits)),
-        LineKind::Conclusion => LineMachine::Conclusion(ClaimMachine::new(alloc, limits)),
+        LineKind::Conclusion => LineMachine::Conclusion(ConclusionMachine::new(alloc, limits)),
     }
 }
 

@@ -7,7 +7,7 @@ ghost use Rattle.pb_proof.specs.engine.Line.Rup.{rup_plan, rup_done, linear_of, 
 mod end;
 mod phase;
 
-use crate::line::rup::phase::{RupMove, RupPhase};
+use crate::line::rup::phase::{RupAction, RupPhase};
 use pb_sums::{Linear, Part, Relation, Spaces, SumEvent, SumMachine, count_units};
 use pb_text::bytes::is_blank;
 use pb_text::{Limits, Machine, Push};
@@ -35,16 +35,16 @@ impl Model for RupMachine {
 }
 
 /// What the machine does with a byte.
-fn rup_plan(phase: RupPhase, byte: u8) -> RupMove
+fn rup_plan(phase: RupPhase, byte: u8) -> RupAction
     ensures { result ≡ rup_plan phase byte }
 {
     match phase {
-        RupPhase::Start | RupPhase::Gap if is_blank(byte) => RupMove::To(RupPhase::Gap),
-        RupPhase::Start => RupMove::Stop,
-        RupPhase::Gap | RupPhase::Inside => RupMove::Give,
-        RupPhase::Tail if is_blank(byte) => RupMove::To(RupPhase::Tail),
-        RupPhase::Tail if byte == b'\n' => RupMove::Finish,
-        RupPhase::Tail | RupPhase::Done => RupMove::Stop,
+        RupPhase::Start | RupPhase::Gap if is_blank(byte) => RupAction::To(RupPhase::Gap),
+        RupPhase::Start => RupAction::Stop,
+        RupPhase::Gap | RupPhase::Inside => RupAction::Give,
+        RupPhase::Tail if is_blank(byte) => RupAction::To(RupPhase::Tail),
+        RupPhase::Tail if byte == b'\n' => RupAction::Finish,
+        RupPhase::Tail | RupPhase::Done => RupAction::Stop,
     }
 }
 
@@ -99,19 +99,19 @@ impl RupMachine {
         ensures { Pushes rup_automaton self.old byte result self.new }
     {
         match rup_plan(self.phase, byte) {
-            RupMove::To(phase) => {
+            RupAction::To(phase) => {
                 self.phase = phase;
                 Push::Go
             }
-            RupMove::Give => self.give(byte),
-            RupMove::Finish => self.finish(),
-            RupMove::Stop => Push::No,
+            RupAction::Give => self.give(byte),
+            RupAction::Finish => self.finish(),
+            RupAction::Stop => Push::No,
         }
     }
 
     /// Gives a byte to the machine for sums.
     fn give(&mut self, byte: u8) -> Push<Linear>
-        requires { rup_plan self.old.phase byte ≡ RupMove.Give }
+        requires { rup_plan self.old.phase byte ≡ RupAction.Give }
         ensures { Pushes rup_automaton self.old byte result self.new }
     {
         match self.sums.push(byte) {
@@ -132,7 +132,7 @@ impl RupMachine {
 
     /// Ends the line.
     fn finish(&mut self) -> Push<Linear>
-        requires { rup_plan self.old.phase 10 ≡ RupMove.Finish }
+        requires { rup_plan self.old.phase 10 ≡ RupAction.Finish }
         ensures { Pushes rup_automaton self.old 10 result self.new }
     {
         match mem::replace(&mut self.linear, None) {
@@ -152,7 +152,7 @@ impl RupMachine {
 
     /// Gives a byte to the machine for sums. Returns whether the byte was taken.
     fn gives(&mut self, byte: u8) -> bool
-        requires { rup_plan self.old.phase byte ≡ RupMove.Give }
+        requires { rup_plan self.old.phase byte ≡ RupAction.Give }
         ensures { Goes rup_automaton self.old byte result self.new }
     {
         match self.give(byte) {
@@ -162,7 +162,7 @@ impl RupMachine {
     }
 
     /// Gives the first bytes of a constraint to the machine for sums. Returns how many it took.
-    fn begin_front(&mut self, text: &[u8]) -> usize
+    fn begin_prefix(&mut self, text: &[u8]) -> usize
         requires { self.old.phase ≡ RupPhase.Gap }
         ensures bound { result ≤ length text.now }
         ensures runs { Runs rup_automaton self.old (take result text.now) self.new }
@@ -183,14 +183,14 @@ impl RupMachine {
 
     /// Gives bytes at the start of a text to the machine for sums, if a constraint has begun or may begin. Returns how many
     /// it took.
-    fn give_front(&mut self, text: &[u8]) -> usize
+    fn give_prefix(&mut self, text: &[u8]) -> usize
         ensures bound { result ≤ length text.now }
         ensures runs { Runs rup_automaton self.old (take result text.now) self.new }
         ensures state { IsState rup_automaton self.new }
     {
         let taken = match self.phase {
             RupPhase::Inside => self.sums.run(text),
-            RupPhase::Gap => self.begin_front(text),
+            RupPhase::Gap => self.begin_prefix(text),
             _ => 0,
         };
         let _ = self.is_done();
@@ -224,7 +224,7 @@ impl RupMachine {
         ensures runs { Runs rup_automaton self.old (take result text.now) self.new }
         ensures state { IsState rup_automaton self.new }
     {
-        let taken = self.give_front(text);
+        let taken = self.give_prefix(text);
         if taken == 0 || taken == text.len() {
             return taken;
         }
@@ -244,11 +244,11 @@ impl Machine for RupMachine {
 
     fn goes(&mut self, byte: u8) -> bool {
         let gone = match rup_plan(self.phase, byte) {
-            RupMove::To(phase) => {
+            RupAction::To(phase) => {
                 self.phase = phase;
                 true
             }
-            RupMove::Give => self.gives(byte),
+            RupAction::Give => self.gives(byte),
             _ => false,
         };
         let _ = self.is_done();
@@ -261,7 +261,7 @@ impl Machine for RupMachine {
         linear
     }
 
-    fn take_front(&mut self, piece: &[u8]) -> usize {
+    fn take_prefix(&mut self, piece: &[u8]) -> usize {
         let length = self.take_linear(piece);
         if length > 0 {
             return length;

@@ -5,7 +5,7 @@ ghost use Rattle.pb_text.specs.contract.Automaton.{Closes, IsState};
 ghost use Rattle.pb_proof.specs.engine.Machine.State.{proofs};
 
 use crate::machine::phase::Phase;
-use crate::machine::transition::stage_behind;
+use crate::machine::transition::next_stage;
 use crate::machine::{ProofMachine, clear};
 use crate::statement::Statement;
 use pb_text::Machine;
@@ -27,7 +27,7 @@ impl ProofMachine {
         };
         if statement.is_some() {
             clear(&mut self.line);
-            self.phase = Phase::Between(stage_behind(kind));
+            self.phase = Phase::Between(next_stage(kind));
         }
         let _ = self.is_done();
         statement

@@ -10,7 +10,7 @@ pub enum Stage {
     /// A step, or the output.
     Steps,
     /// The conclusion.
-    Claim,
+    Concluding,
     /// The closing words.
     Closing,
     /// Nothing: the proof is complete.
@@ -72,7 +72,7 @@ pub enum Phase {
 
 /// What the machine does with a byte.
 #[derive(Clone, Copy, Drop)]
-pub enum Move {
+pub enum Action {
     /// Continues in this phase.
     To(Phase),
     /// Starts the line machine.

@@ -1,11 +1,11 @@
 //! What the machine for proofs does with a byte, given what it has read last.
 
 ghost use Rattle.std.specs.Prelude.{◌≡◌, ◌<◌, ◌≤◌, IfSome, None, length, take};
-ghost use Rattle.pb_proof.specs.engine.Machine.Transition.{words_of, behind, meets, spell, step_keyword, enter, pass, between, plan};
-ghost use Rattle.pb_proof.specs.engine.Machine.State.{is_within, is_complete, is_done, stage_behind, PhaseFits};
+ghost use Rattle.pb_proof.specs.engine.Machine.Transition.{words_of, next_action, meets, spell, step_keyword, enter, pass, between, plan};
+ghost use Rattle.pb_proof.specs.engine.Machine.State.{is_within, is_complete, is_done, next_stage, PhaseFits};
 ghost use Rattle.pb_proof.specs.engine.Machine.Words.{IsRest, LacksRest};
 
-use crate::machine::phase::{Keyword, LineKind, Move, Phase, Stage};
+use crate::machine::phase::{Action, Keyword, LineKind, Phase, Stage};
 use pb_text::bytes::{is_blank, is_white};
 
 /// The words that a statement begins with. A space in them is for one or more blanks.
@@ -26,19 +26,19 @@ fn words_of(keyword: Keyword) -> &'static [u8]
 }
 
 /// What the machine does after the words.
-fn behind(keyword: Keyword) -> Move
-    ensures { result ≡ behind keyword }
+fn next_action(keyword: Keyword) -> Action
+    ensures { result ≡ next_action keyword }
 {
     match keyword {
-        Keyword::Header => Move::To(Phase::HeaderEnd),
-        Keyword::Formula => Move::Begin(LineKind::Count),
-        Keyword::Pol => Move::Begin(LineKind::Pol),
-        Keyword::Rup => Move::Begin(LineKind::Rup),
-        Keyword::Solution => Move::To(Phase::Solution),
-        Keyword::Delete => Move::Begin(LineKind::Delete),
-        Keyword::Output => Move::To(Phase::OutputEnd(true)),
-        Keyword::Conclusion => Move::Begin(LineKind::Conclusion),
-        Keyword::End => Move::EndProof,
+        Keyword::Header => Action::To(Phase::HeaderEnd),
+        Keyword::Formula => Action::Begin(LineKind::Count),
+        Keyword::Pol => Action::Begin(LineKind::Pol),
+        Keyword::Rup => Action::Begin(LineKind::Rup),
+        Keyword::Solution => Action::To(Phase::Solution),
+        Keyword::Delete => Action::Begin(LineKind::Delete),
+        Keyword::Output => Action::To(Phase::OutputEnd(true)),
+        Keyword::Conclusion => Action::Begin(LineKind::Conclusion),
+        Keyword::End => Action::EndProof,
     }
 }
 
@@ -54,7 +54,7 @@ fn meets(expected: u8, byte: u8) -> bool
 }
 
 /// The action for the next byte of the words, after `read` bytes of them. For any other byte it is `other`.
-fn spell(keyword: Keyword, read: usize, byte: u8, other: Move) -> Move
+fn spell(keyword: Keyword, read: usize, byte: u8, other: Action) -> Action
     requires { read < length (words_of keyword) }
     ensures { result ≡ spell keyword read byte other }
 {
@@ -63,9 +63,9 @@ fn spell(keyword: Keyword, read: usize, byte: u8, other: Move) -> Move
         return other;
     }
     if read + 1 == words.len() {
-        behind(keyword)
+        next_action(keyword)
     } else {
-        Move::To(Phase::Spelling(keyword, read + 1))
+        Action::To(Phase::Spelling(keyword, read + 1))
     }
 }
 
@@ -83,52 +83,52 @@ fn step_keyword(byte: u8) -> Keyword
 }
 
 /// The action for the first byte of a statement.
-fn enter(stage: Stage, byte: u8) -> Move
+fn enter(stage: Stage, byte: u8) -> Action
     ensures { result ≡ enter stage byte }
 {
     match stage {
-        Stage::Opening => spell(Keyword::Header, 0, byte, Move::Stop),
-        Stage::Formula => spell(Keyword::Formula, 0, byte, Move::Stop),
-        Stage::Steps => spell(step_keyword(byte), 0, byte, Move::Stop),
-        Stage::Claim => spell(Keyword::Conclusion, 0, byte, Move::Stop),
-        Stage::Closing => spell(Keyword::End, 0, byte, Move::Stop),
-        Stage::Complete => Move::Stop,
+        Stage::Opening => spell(Keyword::Header, 0, byte, Action::Stop),
+        Stage::Formula => spell(Keyword::Formula, 0, byte, Action::Stop),
+        Stage::Steps => spell(step_keyword(byte), 0, byte, Action::Stop),
+        Stage::Concluding => spell(Keyword::Conclusion, 0, byte, Action::Stop),
+        Stage::Closing => spell(Keyword::End, 0, byte, Action::Stop),
+        Stage::Complete => Action::Stop,
     }
 }
 
 /// The action for white space, the start of a comment, or the first byte of a statement.
-fn pass(stage: Stage, byte: u8) -> Move
+fn pass(stage: Stage, byte: u8) -> Action
     ensures { result ≡ pass stage byte }
 {
     if is_white(byte) {
-        Move::To(Phase::Between(stage))
+        Action::To(Phase::Between(stage))
     } else if byte == b'*' {
-        Move::To(Phase::Comment(stage))
+        Action::To(Phase::Comment(stage))
     } else {
         enter(stage, byte)
     }
 }
 
 /// The action for a byte between two statements.
-fn between(stage: Stage, byte: u8) -> Move
+fn between(stage: Stage, byte: u8) -> Action
     ensures { result ≡ between stage byte }
 {
     match stage {
         Stage::Opening => enter(stage, byte),
-        Stage::Complete => Move::Stop,
+        Stage::Complete => Action::Stop,
         _ => pass(stage, byte),
     }
 }
 
 /// The action for a byte within the words.
-fn within(keyword: Keyword, read: usize, byte: u8) -> Move
+fn within(keyword: Keyword, read: usize, byte: u8) -> Action
     requires { PhaseFits (Phase.Spelling keyword read) }
     ensures { result ≡ plan (Phase.Spelling keyword read) byte }
 {
     let other = if is_blank(byte) && words_of(keyword)[read - 1] == b' ' {
-        Move::To(Phase::Spelling(keyword, read))
+        Action::To(Phase::Spelling(keyword, read))
     } else {
-        Move::Stop
+        Action::Stop
     };
     spell(keyword, read, byte, other)
 }
@@ -136,7 +136,7 @@ fn within(keyword: Keyword, read: usize, byte: u8) -> Move
 /// The rest of the words that have begun, if the text begins with it and has one space for blanks. Returns its length
 /// in bytes, and what the machine does after it.
 #[inline(always)]
-pub fn words_prefix(phase: Phase, text: &[u8]) -> Option<(usize, Move)>
+pub fn words_prefix(phase: Phase, text: &[u8]) -> Option<(usize, Action)>
     requires { PhaseFits phase }
     ensures bound { IfSome result (λ r. r.0 ≤ length text.now) }
     ensures rest { IfSome result (λ r. IsRest phase (take r.0 text.now) r.1) }
@@ -149,28 +149,28 @@ pub fn words_prefix(phase: Phase, text: &[u8]) -> Option<(usize, Move)>
     if !text.starts_with(rest) {
         return None;
     }
-    Some((rest.len(), behind(keyword)))
+    Some((rest.len(), next_action(keyword)))
 }
 
 /// What the machine does with a byte.
 #[inline(always)]
-pub fn plan(phase: Phase, byte: u8) -> Move
+pub fn plan(phase: Phase, byte: u8) -> Action
     requires { PhaseFits phase }
     ensures { result ≡ plan phase byte }
 {
     match phase {
         Phase::Between(stage) => between(stage, byte),
-        Phase::Comment(stage) if byte == b'\n' => Move::To(Phase::Between(stage)),
-        Phase::Comment(_) => Move::To(phase),
+        Phase::Comment(stage) if byte == b'\n' => Action::To(Phase::Between(stage)),
+        Phase::Comment(_) => Action::To(phase),
         Phase::Spelling(keyword, read) => within(keyword, read, byte),
-        Phase::Solution if byte == b'i' => Move::Begin(LineKind::Soli),
-        Phase::Solution if byte == b'x' => Move::Begin(LineKind::Solx),
-        Phase::HeaderEnd | Phase::OutputEnd(_) if is_blank(byte) => Move::To(phase),
-        Phase::HeaderEnd if byte == b'\n' => Move::EndHeader,
-        Phase::OutputEnd(_) if byte == b'\n' => Move::EndOutput,
-        Phase::OutputEnd(true) if byte == b';' => Move::To(Phase::OutputEnd(false)),
-        Phase::Solution | Phase::HeaderEnd | Phase::OutputEnd(_) => Move::Stop,
-        Phase::Inside(kind) => Move::Give(kind),
+        Phase::Solution if byte == b'i' => Action::Begin(LineKind::Soli),
+        Phase::Solution if byte == b'x' => Action::Begin(LineKind::Solx),
+        Phase::HeaderEnd | Phase::OutputEnd(_) if is_blank(byte) => Action::To(phase),
+        Phase::HeaderEnd if byte == b'\n' => Action::EndHeader,
+        Phase::OutputEnd(_) if byte == b'\n' => Action::EndOutput,
+        Phase::OutputEnd(true) if byte == b';' => Action::To(Phase::OutputEnd(false)),
+        Phase::Solution | Phase::HeaderEnd | Phase::OutputEnd(_) => Action::Stop,
+        Phase::Inside(kind) => Action::Give(kind),
     }
 }
 
@@ -189,8 +189,8 @@ pub fn is_done(phase: Phase) -> bool
 }
 
 /// The stage after a statement.
-pub fn stage_behind(kind: LineKind) -> Stage
-    ensures { result ≡ stage_behind kind }
+pub fn next_stage(kind: LineKind) -> Stage
+    ensures { result ≡ next_stage kind }
 {
     match kind {
         LineKind::Conclusion => Stage::Closing,

@@ -181,9 +181,9 @@ fn write_further<S: Sink>(words: &[PolWord], out: &mut S) -> Result<(), Failed>
 {
     let mut rest = words;
     while !rest.is_empty() {
-        let (batch, behind) = rest.split_at(rest.len().min(BATCH));
+        let (batch, following) = rest.split_at(rest.len().min(BATCH));
         write_batch(b"", batch, out)?;
-        rest = behind;
+        rest = following;
     }
     Ok(())
 }

@@ -6,7 +6,7 @@ pub mod Derivations
 pub mod Ends
 pub mod Laws
 pub mod Literals
-pub mod Looks
+pub mod VisitSteps
 pub mod Propagated
 pub mod Puts
 pub mod Rested

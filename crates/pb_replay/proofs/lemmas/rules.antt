@@ -5,7 +5,7 @@ pub mod Evaluation
 pub mod Insides
 pub mod Linked
 pub mod Living
-pub mod Looked
+pub mod VisitCounts
 pub mod Made
 pub mod Pols
 pub mod Ready

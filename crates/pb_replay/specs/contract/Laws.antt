@@ -17,7 +17,7 @@ use Rattle.pb_replay.specs.meaning.Answer.{Answer}
 use Rattle.pb_replay.specs.meaning.Problem.{Problem, Opened, Solves}
 use Rattle.pb_replay.specs.meaning.Propagation.{on, Derivation, MeetsConflict, IsCompletion}
 use Rattle.pb_replay.specs.meaning.Replay.{State, first_state}
-use Rattle.pb_replay.specs.contract.Kept.{verdict_at}
+use Rattle.pb_replay.specs.contract.ReplayModel.{verdict_at}
 use Rattle.pb_replay.specs.meaning.Statements.{Outcome, Accepts, MayWantAt}
 use Rattle.pb_replay.specs.meaning.Meaning.{Means, MeansWritten, AccountedWritten, IsProblem, IsSound}
 
@@ -90,13 +90,13 @@ UnvaluedMayWant = (limit top : ℕ) (v : Problem) (s : State) (st : Statement) (
     Outcome limit top v s st (Err (NotTotal n)) → MayWantAt limit top v s.next st
 
 -- after a conclusion there is a verdict; this holds from any state before the header
-abbrev pub HasClaim : Stage → Option Verdict → Type 0
-HasClaim Closing concluded = IsSome concluded
-HasClaim Complete concluded = IsSome concluded
-HasClaim _ concluded = Unit {0}
+abbrev pub HasConclusion : Stage → Option Verdict → Type 0
+HasConclusion Closing concluded = IsSome concluded
+HasConclusion Complete concluded = IsSome concluded
+HasConclusion _ concluded = Unit {0}
 
 abbrev pub VerdictsAreThere : Type 0
-VerdictsAreThere = (limit top : ℕ) (v : Problem) (sts : List Statement) (s t : State) → s.next ≡ Opening → Accepts limit top v s sts t → HasClaim t.next t.concluded
+VerdictsAreThere = (limit top : ℕ) (v : Problem) (sts : List Statement) (s t : State) → s.next ≡ Opening → Accepts limit top v s sts t → HasConclusion t.next t.concluded
 
 -- If all statements of a proof are accepted, from whatever state, there is a verdict.
 abbrev pub WholeProofsConclude : Type 0

@@ -30,7 +30,7 @@ CoversCompletion live goal visits =
     (list : List NumberedLiteral) × IsCompletion (With (Live live) (negation_of goal)) [] list × (length list ≤ visits)
 
 -- the visits of a `rup` whose names are numbered, whatever its result
-pub record Looks (live : List (Option Form)) (names : List (List ℕ)) (linear : Linear) (result : Result Unit Fault) (visits : ℕ) : Type 0 where
+pub record RupVisits (live : List (Option Form)) (names : List (List ℕ)) (linear : Linear) (result : Result Unit Fault) (visits : ℕ) : Type 0 where
   pub few : (goal : Form) → IsSideOf names least linear goal → IsFew live goal visits
   pub conflict : (result ≡ Ok tt) ⊎ (result ≡ Err IdsSpent) → (goal : Form) → IsSideOf names least linear goal → CoversConflict live goal visits
   pub completion : result ≡ Err NotImplied → (goal : Form) → IsSideOf names least linear goal → CoversCompletion live goal visits
@@ -38,9 +38,9 @@ pub record Looks (live : List (Option Form)) (names : List (List ℕ)) (linear :
   pub refused : (result ≡ Err Order) ⊎ (result ≡ Err Overflow) → visits ≡ 0
 
 -- those of any statement: the others leave the number unchanged
-abbrev pub LooksOf : List (Option Form) → List (List ℕ) → Statement → Result Unit Fault → ℕ → ℕ → Type 0
-LooksOf live names (Rup linear) result before after = Looks live (with_names names (names_of linear.terms)) linear result after
-LooksOf live names _ result before after = after ≡ before
+abbrev pub StepVisits : List (Option Form) → List (List ℕ) → Statement → Result Unit Fault → ℕ → ℕ → Type 0
+StepVisits live names (Rup linear) result before after = RupVisits live (with_names names (names_of linear.terms)) linear result after
+StepVisits live names _ result before after = after ≡ before
 
 -- the number from which visits are counted
 abbrev pub counted_from : Statement → ℕ → ℕ

@@ -16,7 +16,7 @@ use Rattle.pb_replay.specs.meaning.Answer.{Answer, gives, need, found}
 use Rattle.pb_replay.specs.meaning.Problem.{Problem}
 use Rattle.pb_replay.specs.meaning.Replay.{Logged, IsLive, Shown, normal_form, added}
 use Rattle.pb_replay.specs.meaning.Conclusions.{IsShownBy, lower_bound, objective_with}
-use Rattle.pb_replay.specs.contract.Kept.{IsBest, problem_of, state_of}
+use Rattle.pb_replay.specs.contract.ReplayModel.{IsBest, problem_of, state_of}
 
 -- the form of one side of the objective, compared with a degree
 abbrev pub HasObjective : ℕ → List (List ℕ) → Option (List Term) → Side → ℤ → Answer Form

@@ -60,13 +60,13 @@ pub data AccountedWritten (i : Instance) (names : List (List ℕ)) (s : State) (
   allowed_still : HoldAll (by_number s.names a) (Live s.live) → AccountedWritten i names s a
 
 -- the first names are a prefix of the second
-abbrev pub IsFront : List (List ℕ) → List (List ℕ) → Type 0
-IsFront names all = (more : List (List ℕ)) × (all ≡ names ++ more)
+abbrev pub IsNamePrefix : List (List ℕ) → List (List ℕ) → Type 0
+IsNamePrefix names all = (more : List (List ℕ)) × (all ≡ names ++ more)
 
 -- what is true of every state of a replay
 pub record IsSound (v : Problem) (s : State) : Type 0 where
   pub stands : Stands v s
-  pub names : IsFront v.names s.names
+  pub names : IsNamePrefix v.names s.names
   pub distinct : AreDistinct s.names
   pub solutions : (g : Logged) → Contains s.logged g → IsSolution v (assignment g.values)
   pub values : (g : Logged) → Contains s.logged g → g.value ≡ value v (assignment g.values)

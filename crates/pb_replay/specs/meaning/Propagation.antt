@@ -14,7 +14,7 @@ abbrev pub opened : List NumberedLiteral → ℕ → Bool → Bool
 opened list v n = not (on list v (not n))
 
 -- the literal may be propagated
-pub record MayPut (F : Form → Type 0) (list : List NumberedLiteral) (l : NumberedLiteral) : Type 0 where
+pub record MayPropagate (F : Form → Type 0) (list : List NumberedLiteral) (l : NumberedLiteral) : Type 0 where
   pub absent : on list l.variable l.negated ≡ false
   pub not_falsified : on list l.variable (not l.negated) ≡ false
   pub form : Form
@@ -25,7 +25,7 @@ pub record MayPut (F : Form → Type 0) (list : List NumberedLiteral) (l : Numbe
 -- each literal added to the given ones was propagated
 pub data Derivation (F : Form → Type 0) (given : List NumberedLiteral) : List NumberedLiteral → Type 0 where
   begin : Derivation F given given
-  put : {list : List NumberedLiteral} (l : NumberedLiteral) → Derivation F given list → MayPut F list l → Derivation F given (l ∷ list)
+  put : {list : List NumberedLiteral} (l : NumberedLiteral) → Derivation F given list → MayPropagate F list l → Derivation F given (l ∷ list)
 
 -- the list holds a literal and its negation, or a form has negative slack
 pub data HasConflict (F : Form → Type 0) (list : List NumberedLiteral) : Type 0 where
@@ -39,7 +39,7 @@ pub record MeetsConflict (F : Form → Type 0) (given : List NumberedLiteral) : 
 
 pub record IsCompletion (F : Form → Type 0) (given list : List NumberedLiteral) : Type 0 where
   pub derived : Derivation F given list
-  pub closed : (l : NumberedLiteral) → MayPut F list l → ⊥
+  pub closed : (l : NumberedLiteral) → MayPropagate F list l → ⊥
 
 -- the set with one more form
 abbrev pub With : (Form → Type 0) → Form → Form → Type 0

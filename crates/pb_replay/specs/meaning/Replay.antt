@@ -66,15 +66,16 @@ abbrev pub limited : ℕ → Form → Answer Form
 limited limit r = need (IsWithin limit r) Overflow (gives r)
 
 -- the form of an expression; the fault is that of its first word whose own expression has no form
-abbrev pub TreeForm : ℕ → List (List ℕ) → List (Option Form) → Tree → Answer Form
-TreeForm limit names live (Constraint id) = found (IsLive live id) (NoSuchId id) (λ f. gives f)
-TreeForm limit names live (True l) = gives (axiom_on (number_in names l.name) l.negated)
-TreeForm limit names live (Sum a b) =
-    after (TreeForm limit names live a) (λ f. after (TreeForm limit names live b) (λ g. some (IsSum f g) (limited limit)))
-TreeForm limit names live (Times a k) = after (TreeForm limit names live a) (λ f. limited limit (multiplied (unsigned_abs k) f))
-TreeForm limit names live (Divided a k) = after (TreeForm limit names live a) (λ f. gives (divided (unsigned_abs k) f))
-TreeForm limit names live (Saturated a) = after (TreeForm limit names live a) (λ f. gives (saturated f))
-TreeForm limit names live (Weakened a name) = after (TreeForm limit names live a) (λ f. gives (weakened (number_in names name) f))
+abbrev pub FormOfExpression : ℕ → List (List ℕ) → List (Option Form) → Tree → Answer Form
+FormOfExpression limit names live (Constraint id) = found (IsLive live id) (NoSuchId id) (λ f. gives f)
+FormOfExpression limit names live (True l) = gives (axiom_on (number_in names l.name) l.negated)
+FormOfExpression limit names live (Sum a b) =
+    after (FormOfExpression limit names live a) (λ f. after (FormOfExpression limit names live b) (λ g. some (IsSum f g) (limited limit)))
+FormOfExpression limit names live (Times a k) = after (FormOfExpression limit names live a) (λ f. limited limit (multiplied (unsigned_abs k) f))
+FormOfExpression limit names live (Divided a k) =
+    after (FormOfExpression limit names live a) (λ f. gives (divided (unsigned_abs k) f))
+FormOfExpression limit names live (Saturated a) = after (FormOfExpression limit names live a) (λ f. gives (saturated f))
+FormOfExpression limit names live (Weakened a name) = after (FormOfExpression limit names live a) (λ f. gives (weakened (number_in names name) f))
 
 -- continues with the form of one side of a written constraint
 abbrev pub normal_form : {A : Type 0} → ℕ → List (List ℕ) → Side → Linear → (Form → Answer A) → Answer A

@@ -7,7 +7,7 @@ use Rattle.pb_proof.specs.declared.PolWord.TheVariants.{Axiom, Weaken}
 use Rattle.pb_proof.specs.declared.Conclusion.{Conclusion}
 use Rattle.pb_proof.specs.declared.Conclusion.TheVariants.{NoClaim, Unsat, Sat, Bounds}
 use Rattle.pb_proof.specs.declared.Stage.{Stage}
-use Rattle.pb_proof.specs.declared.Stage.TheVariants.{Formula, Steps, Claim, Closing, Complete}
+use Rattle.pb_proof.specs.declared.Stage.TheVariants.{Formula, Steps, Concluding, Closing, Complete}
 use Rattle.pb_proof.specs.declared.Statement.{Statement}
 use Rattle.pb_proof.specs.declared.Statement.TheVariants.{Header, F, Pol, Rup, Soli, Solx, Delete, Output, Conclude, End}
 use Rattle.pb_proof.specs.meaning.Order.{stage_of}
@@ -20,7 +20,7 @@ use Rattle.pb_replay.specs.declared.fault.Fault.TheVariants.{FormulaCount, NotIm
 use Rattle.pb_replay.specs.meaning.Answer.{Answer, gives, need, found, some, after}
 use Rattle.pb_replay.specs.meaning.Problem.{Problem}
 use Rattle.pb_replay.specs.meaning.Propagation.{IsRup}
-use Rattle.pb_replay.specs.meaning.Replay.{State, Live, TreeForm, normal_form, numbered, Completed, IsClause, Deleted, added}
+use Rattle.pb_replay.specs.meaning.Replay.{State, Live, FormOfExpression, normal_form, numbered, Completed, IsClause, Deleted, added}
 use Rattle.pb_replay.specs.meaning.Conclusions.{Concludes, objective_with, verdict_of}
 
 -- the names in literals, words and conclusions, as often as they are written
@@ -88,7 +88,7 @@ module _ (limit top : ℕ) (v : Problem) where
       (gives (record s { live = map (λ f. Some f) v.loaded; next = Steps })))
   Does s (Pol ws) =
       some (λ tree. ws ≡ words tree) (λ tree.
-      after (TreeForm limit s.names s.live tree) (added top s s.logged))
+      after (FormOfExpression limit s.names s.live tree) (added top s s.logged))
   Does s (Rup linear) =
       normal_form limit s.names least linear (λ r.
       need (IsRup (Live s.live) r) NotImplied (added top s s.logged r))
@@ -100,7 +100,7 @@ module _ (limit top : ℕ) (v : Problem) where
       after (Completed v (Live s.live) (length s.names) (numbered s.names given)) (λ g.
       some (IsClause (numbered s.names given)) (added top s (s.logged ++ (g ∷ []))))
   Does s (Delete ids) = after (Deleted s.live ids) (λ live. gives (record s { live = live }))
-  Does s Output = gives (record s { next = Claim })
+  Does s Output = gives (record s { next = Concluding })
   Does s (Conclude c) = Concludes limit v s c (gives (record s { next = Closing; concluded = Some (verdict_of c) }))
   Does s End = gives (record s { next = Complete })
 

@@ -178,7 +178,7 @@ pub fn try_put(
 
 /// Visits a form until its candidate requires nothing. Returns whether it or another form is falsified. Waiting forms are
 /// visited later.
-fn look(
+fn visit_form(
     store: &Store,
     rests: &Rests,
     run: &mut Run,
@@ -298,7 +298,7 @@ pub fn propagate(
         if run.next < run.work.len() {
             let form = run.work[run.next];
             run.next += 1;
-            if look(store, rests, run, form, &waiting[taken..])? {
+            if visit_form(store, rests, run, form, &waiting[taken..])? {
                 return Ok(true);
             }
         } else if walked < run.assignment.list.len() {

@@ -2,7 +2,7 @@
 
 ghost use Rattle.std.specs.Prelude.{◌≡◌, ◌<◌, All, IfOk, OnOk, length};
 ghost use Rattle.pb_normal.specs.meaning.Names.{HasNames, with_names};
-ghost use Rattle.pb_replay.specs.meaning.Meaning.{IsFront};
+ghost use Rattle.pb_replay.specs.meaning.Meaning.{IsNamePrefix};
 ghost use Rattle.pb_replay.specs.meaning.Replay.{numbered};
 ghost use Rattle.pb_replay.specs.meaning.Statements.{literal_names};
 
@@ -15,7 +15,7 @@ use std::alloc::{AllocError, AllocFailed, Global};
 /// Numbers the names of the literals in order.
 pub(crate) fn number_names(names: &mut Names, given: &[Literal]) -> Result<(), AllocError>
     ensures names { OnOk result (names.new ≡ with_names names.old (literal_names given.now)) }
-    ensures front { IsFront names.old names.new }
+    ensures prefix { IsNamePrefix names.old names.new }
 {
     for literal in given {
         let _ = names.number(literal.name.as_str())?;

@@ -2,7 +2,7 @@
 
 ghost use Rattle.std.specs.Prelude.{◌≡◌, ◌≤◌, Contains, IfOk, IfErr, OnOk, length, map, Some, false, []};
 ghost use Rattle.pb_normal.specs.meaning.Form.{Form};
-ghost use Rattle.pb_replay.specs.contract.Kept.{Keeps, Adding, IsLinked, IsInside};
+ghost use Rattle.pb_replay.specs.contract.ReplayModel.{Keeps, Adding, IsLinked, IsInside};
 
 use crate::fault::Fault;
 use crate::propagate::engine::Engine;

@@ -6,7 +6,7 @@ ghost use Rattle.pb_normal.specs.meaning.Constraints.{Fits};
 ghost use Rattle.pb_normal.specs.meaning.Names.{with_names};
 ghost use Rattle.pb_normal.specs.meaning.Written.{names_of, magnitude};
 ghost use Rattle.pb_replay.specs.meaning.Problem.{FitsAll, Opened, objective_of};
-ghost use Rattle.pb_replay.specs.contract.Kept.{IsFirst, problem_of};
+ghost use Rattle.pb_replay.specs.contract.ReplayModel.{IsFirst, problem_of};
 
 use crate::fault::Fault;
 use crate::shared::share_each;

@@ -3,7 +3,7 @@
 ghost use Rattle.std.specs.Prelude.{◌≡◌, ◌⊎◌, IfOk, IfErr, OnOk, Ok, Err, Some, length};
 ghost use Rattle.pb_text.specs.meaning.Limits.{largest};
 ghost use Rattle.pb_replay.specs.engine.Bounds.{HasObjective};
-ghost use Rattle.pb_replay.specs.contract.Kept.{IsInside, IsProper, Keeps, problem_of};
+ghost use Rattle.pb_replay.specs.contract.ReplayModel.{IsInside, IsProper, Keeps, problem_of};
 
 use crate::fault::Fault;
 use crate::state::Running;

@@ -5,7 +5,7 @@ ghost use Rattle.pb_normal.specs.meaning.Form.{Form};
 ghost use Rattle.pb_replay.specs.engine.Bounds.{IsBelow, IsNamed, IsReached, Lower, ObjectiveShown, Refutes, ShownAs, ShownReaches, Upper};
 ghost use Rattle.pb_replay.specs.meaning.Conclusions.{IsShownBy};
 ghost use Rattle.pb_replay.specs.meaning.Replay.{IsLive};
-ghost use Rattle.pb_replay.specs.contract.Kept.{IsInside, IsLinked, IsProper, Keeps, HasNamed, problem_of};
+ghost use Rattle.pb_replay.specs.contract.ReplayModel.{IsInside, IsLinked, IsProper, Keeps, HasNamed, problem_of};
 
 use crate::fault::Fault;
 use crate::numbered::NumberedLiteral;

@@ -4,7 +4,7 @@ ghost use Rattle.std.specs.Prelude.{◌≡◌, ◌<◌, All, Err, IfSome, IsSome
 ghost use Rattle.pb_sums.specs.declared.values.Literal.{Literal as Written};
 ghost use Rattle.pb_replay.specs.engine.Bounds.{Both};
 ghost use Rattle.pb_replay.specs.meaning.Replay.{numbered};
-ghost use Rattle.pb_replay.specs.contract.Kept.{Keeps, Goes, GoesAt, HasNamed, IsLinked, IsProper, IsReady, problem_of};
+ghost use Rattle.pb_replay.specs.contract.ReplayModel.{Keeps, Goes, GoesAt, HasNamed, IsLinked, IsProper, IsReady, problem_of};
 ghost use Rattle.pb_text.specs.meaning.Limits.{largest, top_of};
 ghost use Rattle.pb_replay.specs.meaning.Statements.{MayWant, PassesFirst};
 
@@ -40,7 +40,7 @@ fn unsat(running: &mut Running, id: Option<i64>) -> Result<(), Fault>
 }
 
 /// `SAT` by these literals, once their names have numbers.
-fn claim_sat(running: &mut Running, given: &[NumberedLiteral]) -> Result<(), Fault>
+fn conclude_sat(running: &mut Running, given: &[NumberedLiteral]) -> Result<(), Fault>
     requires proper { IsProper running.old }
     requires linked { IsLinked running.old }
     requires inside { All (λ l. l.variable < length running.old.names) given.now }
@@ -68,7 +68,7 @@ fn sat_shown(running: &mut Running, given: &Sequence<Literal>) -> Result<(), Fau
     ensures visits { running.new.visits ≡ running.old.visits }
 {
     let numbers = take_literals(running, given.as_slice())?;
-    claim_sat(running, numbers.as_slice())
+    conclude_sat(running, numbers.as_slice())
 }
 
 /// `SAT` by a logged solution.
@@ -127,7 +127,7 @@ fn are_shown(
 }
 
 /// `BOUNDS`, once the names of its literals have numbers.
-fn claim_bounds(
+fn conclude_bounds(
     running: &mut Running,
     lower: Bound,
     id: Option<i64>,
@@ -173,11 +173,11 @@ fn bounds(
         return Err(Fault::NoObjective);
     }
     let numbers = take_shown(running, shown)?;
-    claim_bounds(running, lower, id, upper, &numbers)
+    conclude_bounds(running, lower, id, upper, &numbers)
 }
 
 /// `NONE`.
-fn no_claim(running: &mut Running) -> Result<(), Fault>
+fn no_conclusion(running: &mut Running) -> Result<(), Fault>
     requires { IsReady running.old }
     ensures goes { Goes running.old (Statement.Conclude Conclusion.NoClaim) result running.new }
     ensures linked { OnOk result (IsLinked running.new) }
@@ -201,7 +201,7 @@ pub(crate) fn conclude(running: &mut Running, conclusion: &Conclusion) -> Result
         × PassesFirst (largest running.old.limits) (top_of running.old.limits) (problem_of running.old) (Statement.Conclude conclusion.now) }
 {
     match conclusion {
-        Conclusion::NoClaim => no_claim(running),
+        Conclusion::NoClaim => no_conclusion(running),
         Conclusion::Unsat(id) => unsat(running, *id),
         Conclusion::Sat(shown) => sat(running, shown),
         Conclusion::Bounds {

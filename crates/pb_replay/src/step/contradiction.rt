@@ -6,7 +6,7 @@ ghost use Rattle.pb_normal.specs.meaning.Rules.{IsContradiction};
 ghost use Rattle.pb_replay.specs.meaning.Conclusions.{has_contradiction, none_left};
 ghost use Rattle.pb_replay.specs.meaning.Answer.{gives};
 ghost use Rattle.pb_replay.specs.meaning.Replay.{Logged};
-ghost use Rattle.pb_replay.specs.contract.Kept.{IsBest, state_of};
+ghost use Rattle.pb_replay.specs.contract.ReplayModel.{IsBest, state_of};
 
 use crate::fault::Fault;
 use crate::propagate::engine::Engine;

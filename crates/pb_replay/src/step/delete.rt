@@ -2,7 +2,7 @@
 
 ghost use Rattle.std.specs.Prelude.{◌≡◌, false, OnOk, IfErr, Ok, Err};
 ghost use Rattle.pb_replay.specs.meaning.Replay.{Deleted};
-ghost use Rattle.pb_replay.specs.contract.Kept.{Keeps, Goes, IsLinked, IsReady};
+ghost use Rattle.pb_replay.specs.contract.ReplayModel.{Keeps, Goes, IsLinked, IsReady};
 
 use crate::fault::Fault;
 use crate::propagate::engine::Engine;

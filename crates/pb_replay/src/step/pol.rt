@@ -8,9 +8,9 @@ ghost use Rattle.pb_proof.specs.contract.Values.{IsStatementValue, IsWord};
 ghost use Rattle.pb_normal.specs.meaning.Names.{HasNames, with_names};
 ghost use Rattle.pb_normal.specs.meaning.Rules.{IsSum, divided, multiplied, saturated, weakened};
 ghost use Rattle.pb_replay.specs.meaning.Answer.{some};
-ghost use Rattle.pb_replay.specs.meaning.Meaning.{IsFront};
-ghost use Rattle.pb_replay.specs.meaning.Replay.{IsLive, TreeForm, limited};
-ghost use Rattle.pb_replay.specs.contract.Kept.{Keeps, Goes, IsLinked, IsReady};
+ghost use Rattle.pb_replay.specs.meaning.Meaning.{IsNamePrefix};
+ghost use Rattle.pb_replay.specs.meaning.Replay.{IsLive, FormOfExpression, limited};
+ghost use Rattle.pb_replay.specs.contract.ReplayModel.{Keeps, Goes, IsLinked, IsReady};
 ghost use Rattle.pb_replay.specs.engine.Stack.{Word};
 ghost use Rattle.pb_proof.specs.contract.Leaving.{takes};
 ghost use Rattle.pb_replay.specs.meaning.Statements.{word_names};
@@ -176,7 +176,7 @@ fn number_word(names: &mut Names, word: &PolWord) -> Result<(), AllocError>
 /// Numbers the names of the words in order.
 fn number_words(names: &mut Names, words: &[PolWord]) -> Result<(), AllocError>
     ensures names { OnOk result (names.new ≡ with_names names.old (word_names words.now)) }
-    ensures front { IsFront names.old names.new }
+    ensures prefix { IsNamePrefix names.old names.new }
 {
     for word in words {
         number_word(names, word)?;
@@ -195,8 +195,8 @@ fn evaluated(
     requires postfix { IsPostfix words.now }
     requires values { All (IsWord (largest limits) (top_of limits)) words.now }
     requires named { HasNames names.now (word_names words.now) }
-    ensures ok { IfOk result (λ r. some (λ tree. words.now ≡ words_of tree) (TreeForm (largest limits) names.now engine.now.forms) (Ok r)) }
-    ensures err { IfErr result (λ e. (e ≡ Fault.Memory) ⊎ some (λ tree. words.now ≡ words_of tree) (TreeForm (largest limits) names.now engine.now.forms) (Err e)) }
+    ensures ok { IfOk result (λ r. some (λ tree. words.now ≡ words_of tree) (FormOfExpression (largest limits) names.now engine.now.forms) (Ok r)) }
+    ensures err { IfErr result (λ e. (e ≡ Fault.Memory) ⊎ some (λ tree. words.now ≡ words_of tree) (FormOfExpression (largest limits) names.now engine.now.forms) (Err e)) }
 {
     let mut stack = Vec::new(alloc);
     for word in words {
@@ -236,8 +236,8 @@ fn expressed(
     requires postfix { IsPostfix words.now }
     requires values { All (IsWord (largest limits) (top_of limits)) words.now }
     requires named { HasNames names.now (word_names words.now) }
-    ensures ok { IfOk result (λ r. some (λ tree. words.now ≡ words_of tree) (TreeForm (largest limits) names.now engine.now.forms) (Ok r)) }
-    ensures err { IfErr result (λ e. (e ≡ Fault.Memory) ⊎ some (λ tree. words.now ≡ words_of tree) (TreeForm (largest limits) names.now engine.now.forms) (Err e)) }
+    ensures ok { IfOk result (λ r. some (λ tree. words.now ≡ words_of tree) (FormOfExpression (largest limits) names.now engine.now.forms) (Ok r)) }
+    ensures err { IfErr result (λ e. (e ≡ Fault.Memory) ⊎ some (λ tree. words.now ≡ words_of tree) (FormOfExpression (largest limits) names.now engine.now.forms) (Err e)) }
 {
     if let Some(form) = repeated(engine, words)? {
         return Ok(form);

@@ -9,8 +9,8 @@ ghost use Rattle.pb_normal.specs.meaning.Written.{names_of, IsSideOf};
 ghost use Rattle.pb_replay.specs.declared.numbered.NumberedLiteral.{NumberedLiteral};
 ghost use Rattle.pb_replay.specs.engine.Engine.Live.{Live};
 ghost use Rattle.pb_replay.specs.meaning.Propagation.{IsCompletion, IsRup, MeetsConflict, With};
-ghost use Rattle.pb_replay.specs.contract.Kept.{Adding, Keeps, Goes, HasNamed, IsInside, IsLinked, IsReady};
-ghost use Rattle.pb_replay.specs.contract.Visits.{IsFew, Looks};
+ghost use Rattle.pb_replay.specs.contract.ReplayModel.{Adding, Keeps, Goes, HasNamed, IsInside, IsLinked, IsReady};
+ghost use Rattle.pb_replay.specs.contract.Visits.{IsFew, RupVisits};
 
 use crate::fault::Fault;
 use crate::state::Running;
@@ -90,7 +90,7 @@ pub(crate) fn rup(running: &mut Running, linear: &Linear) -> Result<(), Fault>
     ensures goes { Goes running.old (Statement.Rup linear.now) result running.new }
     ensures linked { OnOk result (IsLinked running.new) }
     ensures kept { Keeps running.old running.new }
-    ensures looks { Looks running.old.engine.forms (with_names running.old.names (names_of linear.now.terms)) linear.now result running.new.visits }
+    ensures visits_made { RupVisits running.old.engine.forms (with_names running.old.names (names_of linear.now.terms)) linear.now result running.new.visits }
     ensures memory { result ≡ Err Fault.Memory → Fits (largest running.old.limits) linear.now }
 {
     let form = entered(running, linear)?;

@@ -3,7 +3,7 @@
 ghost use Rattle.std.specs.Prelude.{◌≡◌, ◌<◌, ◌⊎◌, All, Contains, IfOk, IfErr, IfSome, OnOk, Ok, Err, Some, false, length, map, option_map};
 ghost use Rattle.pb_replay.specs.meaning.Statements.{shown_names};
 ghost use Rattle.pb_replay.specs.meaning.Replay.{Completed, Logged, Shown, numbered};
-ghost use Rattle.pb_replay.specs.contract.Kept.{Keeps, HasNamed, IsLinked, IsProper, problem_of};
+ghost use Rattle.pb_replay.specs.contract.ReplayModel.{Keeps, HasNamed, IsLinked, IsProper, problem_of};
 
 use crate::fault::Fault;
 use crate::numbered::NumberedLiteral;

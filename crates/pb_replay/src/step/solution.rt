@@ -4,7 +4,7 @@ ghost use Rattle.std.specs.Prelude.{◌≡◌, ◌<◌, ◌^◌, ◌⊎◌, All,
 ghost use Rattle.pb_replay.specs.engine.Engine.Live.{Live, Gives};
 ghost use Rattle.pb_replay.specs.meaning.Propagation.{MeetsConflict, IsCompletion, on};
 ghost use Rattle.pb_replay.specs.meaning.Replay.{Completed, IsClause, Logged, numbered};
-ghost use Rattle.pb_replay.specs.contract.Kept.{Keeps, Goes, GoesAt, Logs, HasNamed, IsBetter, IsInside, IsLinked, IsProper, IsReady, problem_of};
+ghost use Rattle.pb_replay.specs.contract.ReplayModel.{Keeps, Goes, GoesAt, Logs, HasNamed, IsBetter, IsInside, IsLinked, IsProper, IsReady, problem_of};
 ghost use Rattle.pb_text.specs.meaning.Limits.{largest, top_of};
 ghost use Rattle.pb_replay.specs.meaning.Statements.{PassesFirst, literal_names};
 ghost use Rattle.pb_sums.specs.declared.values.Literal.{Literal as Written};

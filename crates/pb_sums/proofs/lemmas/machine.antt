@@ -1,13 +1,13 @@
 -- Lemmas of the machine of sums.
 pub mod Asked
-pub mod Behind
+pub mod AfterSpace
 pub mod Complete
 pub mod Counts
 pub mod Flags
-pub mod Fronts
+pub mod Prefixes
 pub mod LetterKinds
 pub mod Links
-pub mod LiteralFronts
+pub mod LiteralPrefixes
 pub mod Pushes
 pub mod Sound
 pub mod States

@@ -16,8 +16,8 @@ use Rattle.pb_sums.specs.declared.phase.Kind.{Kind}
 use Rattle.pb_sums.specs.declared.phase.Kind.TheVariants.{Space, Digit, Start, Inner, Tilde, Plus, Minus, Greater, Equals, Semicolon, Other}
 use Rattle.pb_sums.specs.declared.phase.Phase.{Phase}
 use Rattle.pb_sums.specs.declared.phase.Phase as phase
-use Rattle.pb_sums.specs.declared.phase.Move.{Move}
-use Rattle.pb_sums.specs.declared.phase.Move.TheVariants.{To, Begin, Add, EndSum, EndLinear, Stop}
+use Rattle.pb_sums.specs.declared.phase.Action.{Action}
+use Rattle.pb_sums.specs.declared.phase.Action.TheVariants.{To, Begin, Add, EndSum, EndLinear, Stop}
 
 abbrev pub symbol : ℕ → Kind
 symbol b =
@@ -92,29 +92,29 @@ abbrev pub to : List Term → Phase → Outcome
 to xs p = at_name xs p []
 
 -- The action for a phase and a kind.
-abbrev pub digits : ℕ → Option Relation → Bool → ℕ → ℕ → Move
+abbrev pub digits : ℕ → Option Relation → Bool → ℕ → ℕ → Action
 digits limit role negative n d = cond (nat_le (10 * n + d) limit) (To (phase.TheVariants.Digits role negative (10 * n + d))) Stop
 
 -- the first letter of a number
-abbrev pub number : ℕ → Option Relation → Kind → Move
+abbrev pub number : ℕ → Option Relation → Kind → Action
 number limit role Plus = To (phase.TheVariants.Signed role false)
 number limit role Minus = To (phase.TheVariants.Signed role true)
 number limit role (Digit d) = digits limit role false 0 d
 number limit role _ = Stop
 
 -- what may follow the terms
-abbrev pub behind : Part → Kind → Move
-behind want Greater = cond (allows want AtLeast) (To phase.TheVariants.Greater) Stop
-behind want Equals = cond (allows want Equal) (To (phase.TheVariants.Operator Equal)) Stop
-behind want Semicolon = cond (reads_sums want) EndSum Stop
-behind want _ = Stop
+abbrev pub next_action : Part → Kind → Action
+next_action want Greater = cond (allows want AtLeast) (To phase.TheVariants.Greater) Stop
+next_action want Equals = cond (allows want Equal) (To (phase.TheVariants.Operator Equal)) Stop
+next_action want Semicolon = cond (reads_sums want) EndSum Stop
+next_action want _ = Stop
 
-abbrev pub plan : Part → ℕ → Phase → Kind → Move
+abbrev pub plan : Part → ℕ → Phase → Kind → Action
 plan want limit phase.TheVariants.Start Space = cond (reads_sums want) (To phase.TheVariants.Empty) Stop
 plan want limit phase.TheVariants.Start Plus = number limit None Plus
 plan want limit phase.TheVariants.Start Minus = number limit None Minus
 plan want limit phase.TheVariants.Start (Digit d) = number limit None (Digit d)
-plan want limit phase.TheVariants.Start k = behind want k
+plan want limit phase.TheVariants.Start k = next_action want k
 plan want limit (phase.TheVariants.Signed role negative) (Digit d) = digits limit role negative 0 d
 plan want limit (phase.TheVariants.Digits role negative n) (Digit d) = digits limit role negative n d
 plan want limit (phase.TheVariants.Digits None negative n) Space = To (phase.TheVariants.Gap (signed negative n))
@@ -129,12 +129,12 @@ plan want limit (phase.TheVariants.First z negated) (Inner b) = Add (phase.TheVa
 plan want limit (phase.TheVariants.More z negated) (Start b) = Add (phase.TheVariants.More z negated) b
 plan want limit (phase.TheVariants.More z negated) (Inner b) = Add (phase.TheVariants.More z negated) b
 plan want limit (phase.TheVariants.More z negated) Space = To phase.TheVariants.Between
-plan want limit (phase.TheVariants.More z negated) k = behind want k
+plan want limit (phase.TheVariants.More z negated) k = next_action want k
 plan want limit phase.TheVariants.Between Space = To phase.TheVariants.Between
 plan want limit phase.TheVariants.Between Plus = number limit None Plus
 plan want limit phase.TheVariants.Between Minus = number limit None Minus
 plan want limit phase.TheVariants.Between (Digit d) = number limit None (Digit d)
-plan want limit phase.TheVariants.Between k = behind want k
+plan want limit phase.TheVariants.Between k = next_action want k
 plan want limit phase.TheVariants.Greater Equals = To (phase.TheVariants.Operator AtLeast)
 plan want limit (phase.TheVariants.Operator r) Space = To (phase.TheVariants.Operator r)
 plan want limit (phase.TheVariants.Operator r) k = number limit (Some r) k
@@ -145,7 +145,7 @@ plan want limit phase.TheVariants.Empty Semicolon = EndSum
 plan _ _ _ _ = Stop
 
 -- What it does: xs are the terms so far, ys those with the one that ends here.
-abbrev pub act : List Term → List Term → List ℕ → Move → Outcome
+abbrev pub act : List Term → List Term → List ℕ → Action → Outcome
 act ys xs name (To p) = to ys p
 act ys xs name (Begin p b) = at_name xs p (b ∷ [])
 act ys xs name (Add p b) = at_name xs p (name ++ b ∷ [])
@@ -158,11 +158,11 @@ abbrev pub flushed : Phase → List Term → List ℕ → List Term
 flushed (phase.TheVariants.More z negated) xs name = xs ++ term z negated name ∷ []
 flushed _ xs name = xs
 
-abbrev pub move : Part → ℕ → List Term → List ℕ → Phase → Kind → Outcome
-move want limit xs name p k = act (flushed p xs name) xs name (plan want limit p k)
+abbrev pub action : Part → ℕ → List Term → List ℕ → Phase → Kind → Outcome
+action want limit xs name p k = act (flushed p xs name) xs name (plan want limit p k)
 
 abbrev pub step : Spaces → Part → ℕ → Work → ℕ → Outcome
-step spaces want limit w b = move want limit w.terms w.name w.phase (kind spaces (letter_at (is_numeric w.phase) b))
+step spaces want limit w b = action want limit w.terms w.name w.phase (kind spaces (letter_at (is_numeric w.phase) b))
 
 -- The invariants of every machine for its numbers and the bytes of its names.
 abbrev pub KindFits : Kind → Type 0
@@ -175,18 +175,18 @@ abbrev pub PhaseFits : ℕ → Phase → Type 0
 PhaseFits limit (phase.TheVariants.Digits role negative n) = n ≤ limit
 PhaseFits limit _ = Unit {0}
 
-abbrev pub MoveFits : ℕ → Move → Type 0
-MoveFits limit (To p) = PhaseFits limit p × (is_midway p ≡ true)
-MoveFits limit (Begin p b) = PhaseFits limit p × (is_midway p ≡ true) × (b < 128)
-MoveFits limit (Add p b) = PhaseFits limit p × (is_midway p ≡ true) × (b < 128)
-MoveFits limit _ = Unit {0}
+abbrev pub ActionFits : ℕ → Action → Type 0
+ActionFits limit (To p) = PhaseFits limit p × (is_midway p ≡ true)
+ActionFits limit (Begin p b) = PhaseFits limit p × (is_midway p ≡ true) × (b < 128)
+ActionFits limit (Add p b) = PhaseFits limit p × (is_midway p ≡ true) × (b < 128)
+ActionFits limit _ = Unit {0}
 
 -- whether a byte may allocate: one of a name, or one that ends a literal
 abbrev pub is_more : Phase → Bool
 is_more (phase.TheVariants.More z negated) = true
 is_more _ = false
 
-abbrev pub adds : Move → Bool
+abbrev pub adds : Action → Bool
 adds (Begin p b) = true
 adds (Add p b) = true
 adds _ = false

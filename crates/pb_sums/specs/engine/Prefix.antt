@@ -36,9 +36,9 @@ sign_read (phase.TheVariants.Signed r negative) = Some negative
 sign_read _ = None
 
 -- the state after a number and space
-abbrev pub behind_number : Option Relation → ℤ → Phase
-behind_number None z = phase.TheVariants.Gap z
-behind_number (Some r) z = phase.TheVariants.Tail r z
+abbrev pub after_number : Option Relation → ℤ → Phase
+after_number None z = phase.TheVariants.Gap z
+after_number (Some r) z = phase.TheVariants.Tail r z
 
 -- a relation may follow terms and space
 abbrev pub begins_relation : Phase → Bool
@@ -50,25 +50,25 @@ abbrev pub LacksRelation : Part → List ℕ → Type 0
 LacksRelation part text = (r : Relation) → allows part r ≡ true → take (length (operator_bytes r)) text ≢ operator_bytes r
 
 -- the state after a name, if one may begin
-abbrev pub behind_name : Phase → Option Phase
-behind_name (phase.TheVariants.Gap z) = Some (phase.TheVariants.More z false)
-behind_name (phase.TheVariants.Tilde z) = Some (phase.TheVariants.More z true)
-behind_name _ = None
+abbrev pub after_name : Phase → Option Phase
+after_name (phase.TheVariants.Gap z) = Some (phase.TheVariants.More z false)
+after_name (phase.TheVariants.Tilde z) = Some (phase.TheVariants.More z true)
+after_name _ = None
 
 -- the state after a space, in the states where one is common
-abbrev pub behind_space : Phase → Option Phase
-behind_space (phase.TheVariants.Digits None negative n) = Some (phase.TheVariants.Gap (signed negative n))
-behind_space (phase.TheVariants.Digits (Some r) negative n) = Some (phase.TheVariants.Tail r (signed negative n))
-behind_space (phase.TheVariants.Gap z) = Some (phase.TheVariants.Gap z)
-behind_space (phase.TheVariants.More z negated) = Some phase.TheVariants.Between
-behind_space phase.TheVariants.Between = Some phase.TheVariants.Between
-behind_space (phase.TheVariants.Operator r) = Some (phase.TheVariants.Operator r)
-behind_space (phase.TheVariants.Tail r z) = Some (phase.TheVariants.Tail r z)
-behind_space _ = None
+abbrev pub after_space : Phase → Option Phase
+after_space (phase.TheVariants.Digits None negative n) = Some (phase.TheVariants.Gap (signed negative n))
+after_space (phase.TheVariants.Digits (Some r) negative n) = Some (phase.TheVariants.Tail r (signed negative n))
+after_space (phase.TheVariants.Gap z) = Some (phase.TheVariants.Gap z)
+after_space (phase.TheVariants.More z negated) = Some phase.TheVariants.Between
+after_space phase.TheVariants.Between = Some phase.TheVariants.Between
+after_space (phase.TheVariants.Operator r) = Some (phase.TheVariants.Operator r)
+after_space (phase.TheVariants.Tail r z) = Some (phase.TheVariants.Tail r z)
+after_space _ = None
 
 -- the rest of a text, as a slice of it
-abbrev pub behind : ℕ → List ℕ → List ℕ
-behind i text = take (length text - i) (drop i text)
+abbrev pub text_after : ℕ → List ℕ → List ℕ
+text_after i text = take (length text - i) (drop i text)
 
 -- The sign at the start of the text has exactly n bytes: none if it was already read.
 abbrev pub HasSign : Option Bool → List ℕ → ℕ → Bool → Type 0
@@ -77,7 +77,7 @@ HasSign None text n negative = IsSign negative (take n text) × (n ≡ 0 → 0 <
 
 -- The text does not begin with a number and a space after it, or the number is large.
 abbrev pub LacksNumber : ℕ → Option Bool → List ℕ → Type 0
-LacksNumber limit read text = (i : ℕ) × (negative : Bool) × HasSign read text i negative × (n : ℕ) × (value : ℕ) × HasDigits (behind i text) n value
+LacksNumber limit read text = (i : ℕ) × (negative : Bool) × HasSign read text i negative × (n : ℕ) × (value : ℕ) × HasDigits (text_after i text) n value
     × ((n ≡ 0) ⊎ (limit < value) ⊎ (length text ≤ i + n) ⊎ (get_or text (i + n) 0 ≢ 32))
 
 -- The text begins with exactly n name bytes.
@@ -87,4 +87,5 @@ HasNameBytes text n = (n ≤ length text) × Each (λ b. IsTrue (is_name_byte b)
 -- The text does not begin with a literal whose name has at least two bytes, or that name is long.
 abbrev pub LacksLiteral : List ℕ → Type 0
 LacksLiteral text = (i : ℕ) × (i ≤ 1) × (i ≡ 0 → 0 < length text → get_or text 0 0 ≢ 126) × (i ≡ 1 → get_or text 0 0 ≡ 126)
-    × (n : ℕ) × HasNameBytes (behind i text) n × ((n < 2) ⊎ (is_letter (get_or (behind i text) 0 0) ≡ false) ⊎ (22 < n))
+    × (n : ℕ) × HasNameBytes (text_after i text) n × ((n < 2) ⊎ (is_letter (get_or (text_after i text) 0 0) ≡ false) ⊎
+    (22 < n))

@@ -1,7 +1,7 @@
 -- Parts of a term at the start of a text, and what a machine does with them, whatever it reads.
 use Rattle.std.specs.Prelude.{◌≡◌, ℕ, ℤ, Bool, true, false, List, [], ◌∷◌, None}
 use Rattle.pb_text.specs.contract.Automaton.{Runs}
-use Rattle.pb_sums.specs.engine.Prefix.{role, behind_number}
+use Rattle.pb_sums.specs.engine.Prefix.{role, after_number}
 use Rattle.pb_sums.specs.engine.State.{SumState, sums}
 use Rattle.pb_sums.specs.declared.values.Literal.{Literal}
 use Rattle.pb_sums.specs.declared.values.Term.{Term}
@@ -28,7 +28,7 @@ standing spaces part limit xs name p = record { spaces = spaces; part = part; li
 -- a number and a space after it, from this state
 abbrev pub IsSpacedNumber : ℕ → Phase → List ℕ → ℤ → Type 0
 IsSpacedNumber limit p text z = (spaces : Spaces) (part : Part) (xs : List Term) →
-    Runs sums (standing spaces part limit xs [] p) text (standing spaces part limit xs [] (behind_number (role p) z))
+    Runs sums (standing spaces part limit xs [] p) text (standing spaces part limit xs [] (after_number (role p) z))
 
 -- a literal after a coefficient
 abbrev pub IsLiteral : List ℕ → Literal → Type 0

@@ -9,13 +9,13 @@ abbrev pub EndsIn : List ℕ → List ℕ → Type 0
 EndsIn text end = (before : List ℕ) × (text ≡ before ++ end)
 
 -- a letter followed by name bytes
-abbrev pub IsNameFront : List ℕ → Type 0
-IsNameFront [] = ⊥
-IsNameFront (b ∷ bs) = IsTrue (is_letter b) × Each (λ e. IsTrue (is_name_byte e)) bs
+abbrev pub IsNameStart : List ℕ → Type 0
+IsNameStart [] = ⊥
+IsNameStart (b ∷ bs) = IsTrue (is_letter b) × Each (λ e. IsTrue (is_name_byte e)) bs
 
 -- The next byte is in a name: a letter, or a name byte after a letter and name bytes.
 abbrev pub InName : List ℕ → ℕ → Type 0
-InName text b = (name : List ℕ) × EndsIn text name × IsNameFront (name ++ b ∷ [])
+InName text b = (name : List ℕ) × EndsIn text name × IsNameStart (name ++ b ∷ [])
 
 -- The next byte ends a literal: it comes after a name, and is not a name byte.
 abbrev pub EndsLiteral : List ℕ → ℕ → Type 0

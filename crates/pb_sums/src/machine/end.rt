@@ -6,7 +6,7 @@ ghost use Rattle.pb_text.specs.contract.Staying.{MayStay};
 ghost use Rattle.pb_sums.specs.engine.State.{sums};
 
 use crate::machine::{SumMachine, finish};
-use crate::phase::{Kind, Move};
+use crate::phase::{Action, Kind};
 use crate::transition::plan;
 use crate::values::{Linear, SumEvent};
 use pb_text::Machine;
@@ -22,14 +22,14 @@ impl SumMachine {
     {
         let _ = self.is_done();
         match plan(self.part, self.limit, self.phase, Kind::Semicolon) {
-            Move::EndSum => {
+            Action::EndSum => {
                 let Ok(terms) = finish(self.alloc, &mut self.terms, &mut self.name, &mut self.phase)
                 else {
                     return None;
                 };
                 Some(SumEvent::Sum(terms))
             }
-            Move::EndLinear(relation, degree) => {
+            Action::EndLinear(relation, degree) => {
                 let Ok(terms) = finish(self.alloc, &mut self.terms, &mut self.name, &mut self.phase)
                 else {
                     return None;
@@ -40,7 +40,7 @@ impl SumMachine {
                     degree,
                 }))
             }
-            Move::To(_) | Move::Begin(_, _) | Move::Add(_, _) | Move::Stop => None,
+            Action::To(_) | Action::Begin(_, _) | Action::Add(_, _) | Action::Stop => None,
         }
     }
 }

@@ -5,4 +5,4 @@ pub mod Cutting
 pub mod FeederParts
 pub mod Follows
 pub mod Steps
-pub mod Told
+pub mod Reported

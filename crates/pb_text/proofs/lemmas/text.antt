@@ -4,7 +4,7 @@ pub mod Booleans
 pub mod ByteTests
 pub mod Deterministic
 pub mod FirstBytes
-pub mod FixedMarks
+pub mod FixedSpans
 pub mod Formats
 pub mod Languages
 pub mod Letters

@@ -94,15 +94,15 @@ module _ {S E : Type 0} (m : Automaton S E) where
   Runs old (b ∷ text) new = (mid : S) × (m.step old b ≡ Go mid) × IsState mid × Runs mid text new
 
   -- The state after a byte that is taken.
-  abbrev pub behind : Next S E → Option S
-  behind (Go s) = Some s
-  behind (End e s) = Some s
-  behind Refuse = None
+  abbrev pub state_after : Next S E → Option S
+  state_after (Go s) = Some s
+  state_after (End e s) = Some s
+  state_after Refuse = None
 
   -- Bytes lead from old to new: each is taken.
   abbrev pub Leads : S → List ℕ → S → Type 0
   Leads old [] new = new ≡ old
-  Leads old (b ∷ text) new = (mid : S) × (behind (m.step old b) ≡ Some mid) × Leads mid text new
+  Leads old (b ∷ text) new = (mid : S) × (state_after (m.step old b) ≡ Some mid) × Leads mid text new
 
   -- After these bytes, the next one may allocate.
   abbrev pub MayAsk : S → List ℕ → ℕ → Type 0

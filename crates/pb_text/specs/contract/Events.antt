@@ -36,13 +36,13 @@ IsUnmoved old new = (feeder_of new ≡ feeder_of old) × (source_of new ≡ sour
 pub record Gives {S M E : Type 0} {g : Ghosts M E} (left : S → Option (List ℕ)) (shown : S → Option ℕ) (ended : S → Bool) (history : S → List ℕ) (faults : S → ℕ) (old : Events S M E g) (item : Option (Result (Spanned E) Stop)) (new : Events S M E g) : Type 0 where
   pub stopped : (stop : Stop) → halt_of (feeder_of old) ≡ Some stop → (item ≡ None) × IsUnmoved old new
   pub done : is_complete (feeder_of old) ≡ true → (item ≡ None) × IsUnmoved old new
-  pub pulls : (longest : ℕ) (start : M) (input : List ℕ) (marks : List (Spanned E))
+  pub pulls : (longest : ℕ) (start : M) (input : List ℕ) (spans : List (Spanned E))
       → halt_of (feeder_of old) ≡ None
-      → StandsAt longest start input marks (feeder_of old)
-      → Pulls longest start input marks (feeder_of old) (left (source_of old)) (option_transpose item) (feeder_of new) (left (source_of new)) (history (source_of old)) (history (source_of new))
-  pub row : (longest : ℕ) (start : M) (before : Option (List ℕ)) (marks : List (Spanned E))
-      → HasPulled longest start before marks (feeder_of old) (left (source_of old))
-      → PullsOn longest start before marks (option_transpose item) (feeder_of new) (left (source_of new))
+      → StandsAt longest start input spans (feeder_of old)
+      → Pulls longest start input spans (feeder_of old) (left (source_of old)) (option_transpose item) (feeder_of new) (left (source_of new)) (history (source_of old)) (history (source_of new))
+  pub row : (longest : ℕ) (start : M) (before : Option (List ℕ)) (spans : List (Spanned E))
+      → HasPulled longest start before spans (feeder_of old) (left (source_of old))
+      → PullsOn longest start before spans (option_transpose item) (feeder_of new) (left (source_of new))
   pub stop : halt_of (feeder_of old) ≡ None → halt_of (feeder_of new) ≡ stop_of (option_transpose item)
   pub last : halt_of (feeder_of old) ≡ None → item ≡ None → is_complete (feeder_of new) ≡ true
   pub onward : (event : Spanned E) → item ≡ Some (Ok event) → (place_of (feeder_of old)).offset < (place_of (feeder_of new)).offset

@@ -2,7 +2,7 @@
 use Rattle.std.specs.Prelude.{◌≡◌, ℕ, ◌+◌, ◌≤◌, List, [], ◌∷◌, ◌++◌, take, Bool, IsTrue, Option, Some, None, Result, Ok, Err}
 use Rattle.pb_text.specs.meaning.Spelling.{place_after}
 use Rattle.pb_text.specs.contract.Automaton.{Accepts}
-use Rattle.pb_text.specs.meaning.Reading.{IsFront, HasOpen}
+use Rattle.pb_text.specs.meaning.Reading.{IsPrefix, HasOpen}
 use Rattle.pb_text.specs.contract.Standing.{Stands, IsOpen, IsUnread}
 use Rattle.pb_text.specs.declared.place.Place.{Place}
 use Rattle.pb_text.specs.declared.place.Spanned.{Spanned}
@@ -31,26 +31,26 @@ is_complete {g} f = g.automaton.done f.machine
 -- The feeder began with this machine and limits statements to longest bytes. It was fed this input and has returned
 -- these spans.
 abbrev pub StandsAt : {M E : Type 0} {g : Ghosts M E} → ℕ → M → List ℕ → List (Spanned E) → Feeder M E g → Type 0
-StandsAt {g} longest start input marks f =
-    (f.longest ≡ longest) × Stands g.automaton longest start input marks f.machine f.place f.first f.stop
+StandsAt {g} longest start input spans f =
+    (f.longest ≡ longest) × Stands g.automaton longest start input spans f.machine f.place f.first f.stop
 
-abbrev pub marks_in : {E : Type 0} → Option (Spanned E) → List (Spanned E)
-marks_in (Some m) = m ∷ []
-marks_in None = []
+abbrev pub spans_in : {E : Type 0} → Option (Spanned E) → List (Spanned E)
+spans_in (Some m) = m ∷ []
+spans_in None = []
 
 abbrev pub stop_of : {A : Type 0} → Result A Stop → Option Stop
 stop_of (Ok x) = None
 stop_of (Err s) = Some s
 
 -- the spans that a byte or a pull returned
-abbrev pub marks_taken : {E : Type 0} → Result (Option (Spanned E)) Stop → List (Spanned E)
-marks_taken (Ok m) = marks_in m
-marks_taken (Err s) = []
+abbrev pub spans_taken : {E : Type 0} → Result (Option (Spanned E)) Stop → List (Spanned E)
+spans_taken (Ok m) = spans_in m
+spans_taken (Err s) = []
 
 -- the spans that a feed returned
-abbrev pub marks_fed : {E : Type 0} → Result (Fed E) Stop → List (Spanned E)
-marks_fed (Ok fed) = marks_in fed.event
-marks_fed (Err s) = []
+abbrev pub spans_fed : {E : Type 0} → Result (Fed E) Stop → List (Spanned E)
+spans_fed (Ok fed) = spans_in fed.event
+spans_fed (Err s) = []
 
 abbrev pub bytes_with : {E : Type 0} → Option (Spanned E) → ℕ → List ℕ → List ℕ
 bytes_with (Some m) used piece = take used piece
@@ -69,10 +69,10 @@ IsFurther old (Err s) new = Unit {0}
 -- what one feed says about the feeder
 abbrev pub FeedsOnce : {M E : Type 0} {g : Ghosts M E} → Feeder M E g → List ℕ → Result (Fed E) Stop → Feeder M E g → Type 0
 FeedsOnce {M} {E} {g} old piece result new =
-    ((longest : ℕ) (start : M) (input : List ℕ) (marks : List (Spanned E))
+    ((longest : ℕ) (start : M) (input : List ℕ) (spans : List (Spanned E))
     → IsOpen old.stop
-    → StandsAt longest start input marks old
-    → StandsAt longest start (input ++ bytes_fed result piece) (marks ++ marks_fed result) new)
+    → StandsAt longest start input spans old
+    → StandsAt longest start (input ++ bytes_fed result piece) (spans ++ spans_fed result) new)
     × (IsOpen old.stop → IsOpen new.stop)
     × (IsUnread old.stop → IsUnread new.stop)
     × IsFurther old result new
@@ -87,9 +87,9 @@ abbrev pub input_fed : {E : Type 0} → List (List ℕ × Result (Fed E) Stop) �
 input_fed [] = []
 input_fed (f ∷ feeds) = bytes_fed f.1 f.0 ++ input_fed feeds
 
-abbrev pub marks_answered : {E : Type 0} → List (List ℕ × Result (Fed E) Stop) → List (Spanned E)
-marks_answered [] = []
-marks_answered (f ∷ feeds) = marks_fed f.1 ++ marks_answered feeds
+abbrev pub spans_answered : {E : Type 0} → List (List ℕ × Result (Fed E) Stop) → List (Spanned E)
+spans_answered [] = []
+spans_answered (f ∷ feeds) = spans_fed f.1 ++ spans_answered feeds
 
 -- how many bytes the feeds used, and that none of them stopped
 abbrev pub used_in : {E : Type 0} → Result (Fed E) Stop → ℕ
@@ -111,4 +111,4 @@ WantsMemory {g} stop f b = stop.why ≡ Memory → IsTrue (g.automaton.asks f.ma
 -- at most as much is held as the bytes used have bytes of a statement that they do not end
 abbrev pub HoldsFew : {M E : Type 0} {g : Ghosts M E} → M → List ℕ → Feeder M E g → ℕ → Type 0
 HoldsFew {g} start input f held =
-    (used : List ℕ) × (n : ℕ) × IsFront used input × (f.place ≡ place_after used) × HasOpen (Accepts g.automaton start) used n × (held ≤ n)
+    (used : List ℕ) × (n : ℕ) × IsPrefix used input × (f.place ≡ place_after used) × HasOpen (Accepts g.automaton start) used n × (held ≤ n)

@@ -1,6 +1,6 @@
 -- The laws of a format whose numbers have limits: a largest coefficient and a largest count.
 use Rattle.std.specs.Prelude.{◌≡◌, ℕ, ◌≤◌, List, [], ◌++◌}
-use Rattle.pb_text.specs.meaning.Reading.{HasFixedMarks}
+use Rattle.pb_text.specs.meaning.Reading.{HasFixedSpans}
 use Rattle.pb_text.specs.meaning.Spelling.{Item, bytes_of}
 
 module _ {E : Type 0} (format : ℕ → ℕ → List (Item E) → Type 0) where
@@ -10,12 +10,12 @@ module _ {E : Type 0} (format : ℕ → ℕ → List (Item E) → Type 0) where
       format limit top items → format limit top items' → bytes_of items ≡ bytes_of items' → items ≡ items'
 
   -- In all texts that begin with the same prefix, the spans that end within it are the same.
-  abbrev pub FixesMarks : Type 0
-  FixesMarks = (limit top : ℕ) → HasFixedMarks (format limit top)
+  abbrev pub FixesSpans : Type 0
+  FixesSpans = (limit top : ℕ) → HasFixedSpans (format limit top)
 
   -- No text of the format is a proper prefix of another.
-  abbrev pub HasNoFront : Type 0
-  HasNoFront = (limit top : ℕ) (items items' : List (Item E)) (more : List ℕ) →
+  abbrev pub IsPrefixFree : Type 0
+  IsPrefixFree = (limit top : ℕ) (items items' : List (Item E)) (more : List ℕ) →
       format limit top items → format limit top items' → bytes_of items' ≡ bytes_of items ++ more → more ≡ []
 
   -- A text of the format remains one under larger limits.

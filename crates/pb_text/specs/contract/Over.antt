@@ -5,11 +5,11 @@ use Rattle.pb_text.specs.contract.Source.{StartWith, HaveEnded}
 use Rattle.pb_text.specs.declared.source.Failed.{Failed}
 
 -- The bytes that the reader reports as left. A reader that has shown a byte and does not let it be taken reports none.
-abbrev pub told : Option (List ℕ) → Option ℕ → Option ℕ → Option (List ℕ)
-told left limit None = left
-told left None (Some b) = left
-told left (Some zero) (Some b) = None
-told left (Some (suc n)) (Some b) = left
+abbrev pub reported : Option (List ℕ) → Option ℕ → Option ℕ → Option (List ℕ)
+reported left limit None = left
+reported left None (Some b) = left
+reported left (Some zero) (Some b) = None
+reported left (Some (suc n)) (Some b) = left
 
 -- a reader that reports its bytes lets one be taken
 abbrev pub LetsOne : Option (List ℕ) → Option ℕ → Type 0

@@ -1,7 +1,7 @@
 -- What is poured from a source into a feeder.
 use Rattle.std.specs.Prelude.{◌≡◌, ◌+◌, ◌<◌, ℕ, List, ◌++◌, length, Option, Some, None, Result, Ok, Err}
 use Rattle.pb_text.specs.contract.Source.{Lost}
-use Rattle.pb_text.specs.contract.Feeding.{StandsAt, marks_in, place_of}
+use Rattle.pb_text.specs.contract.Feeding.{StandsAt, spans_in, place_of}
 use Rattle.pb_text.specs.declared.place.Spanned.{Spanned}
 use Rattle.pb_text.specs.declared.feeder.Feeder.{Feeder}
 use Rattle.pb_text.specs.declared.machine.Machine.{Ghosts}
@@ -18,6 +18,6 @@ pub record Pours {M E : Type 0} {g : Ghosts M E} (old : Feeder M E g) (before : 
   pub lost : Lost before taken after
   pub given_are : given' ≡ given ++ taken
   pub offset_is : (place_of new).offset ≡ (place_of old).offset + length taken
-  pub stands : (longest : ℕ) (start : M) (input : List ℕ) (marks : List (Spanned E)) → StandsAt longest start input marks old → StandsAt longest start (input ++ taken) (marks ++ marks_in event) new
+  pub stands : (longest : ℕ) (start : M) (input : List ℕ) (spans : List (Spanned E)) → StandsAt longest start input spans old → StandsAt longest start (input ++ taken) (spans ++ spans_in event) new
   pub some : (e : Spanned E) → event ≡ Some e → 0 < length taken
   pub past : (e : Spanned E) → event ≡ Some e → e.past ≡ place_of new

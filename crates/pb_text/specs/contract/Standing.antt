@@ -1,7 +1,7 @@
 -- How the state of a machine relates to the text that it has taken.
 use Rattle.std.specs.Prelude.{◌≡◌, ◌≢◌, ◌⊎◌, ℕ, ◌≤◌, ◌<◌, List, [], ◌∷◌, ◌++◌, length, take, Bool, true, false, IsTrue, Option, None, Some, is_some}
-use Rattle.pb_text.specs.meaning.Spelling.{Letter, Item, bytes, letters_of, bytes_of, marks_since, marks_of, place_after}
-use Rattle.pb_text.specs.meaning.Reading.{IsFront, last_numeral, AreShort}
+use Rattle.pb_text.specs.meaning.Spelling.{Letter, Item, bytes, letters_of, bytes_of, spans_since, spans_of, place_after}
+use Rattle.pb_text.specs.meaning.Reading.{IsPrefix, last_numeral, AreShort}
 use Rattle.pb_text.specs.contract.Automaton.{Automaton, Refuse, Accepts, Admits, Leads, IsState, is_large}
 use Rattle.pb_text.specs.engine.SpentBytes.{end_of, SpentSince}
 use Rattle.pb_text.specs.declared.place.Place.{Place}
@@ -11,22 +11,22 @@ use Rattle.pb_text.specs.declared.place.Why.{Why}
 use Rattle.pb_text.specs.declared.place.Why.TheVariants.{Byte, TooLarge, Ended, TooLong, Read, Memory}
 
 -- the items are the letters and spans so far, followed by the later items
-pub record IsJoined {E : Type 0} (letters : List Letter) (marks : List (Spanned E)) (first : Option Place) (later items : List (Item E)) : Type 0 where
+pub record IsJoined {E : Type 0} (letters : List Letter) (spans : List (Spanned E)) (first : Option Place) (later items : List (Item E)) : Type 0 where
   pub letters_are : letters_of items ≡ letters ++ letters_of later
-  pub marks_are : marks_of items ≡ marks ++ marks_since first (bytes letters) later
+  pub spans_are : spans_of items ≡ spans ++ spans_since first (bytes letters) later
 
 abbrev pub EndBy : {E : Type 0} → ℕ → List (Spanned E) → Type 0
 EndBy n [] = Unit {0}
-EndBy n (m ∷ marks) = (m.past.offset ≤ n) × EndBy n marks
+EndBy n (m ∷ spans) = (m.past.offset ≤ n) × EndBy n spans
 
 -- `rest` accepts exactly what may follow these letters in the format. Every text that begins with these bytes has these
 -- letters and these spans. If a statement has begun, it began at position `first`.
-pub record Follows {E : Type 0} (format rest : List (Item E) → Type 0) (letters : List Letter) (marks : List (Spanned E)) (first : Option Place) : Type 0 where
-  pub into : (later : List (Item E)) → rest later → (items : List (Item E)) × format items × IsJoined letters marks first later items
-  pub onto : (items : List (Item E)) → format items → IsFront (bytes letters) (bytes_of items) → (later : List (Item E)) × rest later × IsJoined letters marks first later items
+pub record Follows {E : Type 0} (format rest : List (Item E) → Type 0) (letters : List Letter) (spans : List (Spanned E)) (first : Option Place) : Type 0 where
+  pub into : (later : List (Item E)) → rest later → (items : List (Item E)) × format items × IsJoined letters spans first later items
+  pub onto : (items : List (Item E)) → format items → IsPrefix (bytes letters) (bytes_of items) → (later : List (Item E)) × rest later × IsJoined letters spans first later items
   -- no shorter prefix is a text of the format
   pub alone : (n : ℕ) → n < length letters → (items : List (Item E)) → format items → bytes_of items ≡ take n (bytes letters) → ⊥
-  pub ended : EndBy (length letters) marks
+  pub ended : EndBy (length letters) spans
 
 module _ {S E : Type 0} (m : Automaton S E) where
   -- why a state stopped after these letters, if these bytes are left and a byte at offset end is past the limit
@@ -46,11 +46,11 @@ module _ {S E : Type 0} (m : Automaton S E) where
   Waits state end letters left place (Some s) = (m.done state ≡ false) × (s.place ≡ place) × Halts state end letters left s.why
 
   -- A machine began at start and was fed the input. It has returned these spans and is now in this state.
-  pub record Stands (longest : ℕ) (start : S) (input : List ℕ) (marks : List (Spanned E)) (state : S) (place : Place) (first : Option Place) (stop : Option Stop) : Type 0 where
+  pub record Stands (longest : ℕ) (start : S) (input : List ℕ) (spans : List (Spanned E)) (state : S) (place : Place) (first : Option Place) (stop : Option Stop) : Type 0 where
     pub letters : List Letter
     pub left : List ℕ
     pub input_is : input ≡ bytes letters ++ left
-    pub follows : Follows (Accepts m start) (Accepts m state) letters marks first
+    pub follows : Follows (Accepts m start) (Accepts m state) letters spans first
     pub leads : Leads m start (bytes letters) state
     pub is_state : IsState m state
     pub place_is : place ≡ place_after (bytes letters)
@@ -59,7 +59,7 @@ module _ {S E : Type 0} (m : Automaton S E) where
     pub number_is : m.in_number state ≡ last_numeral letters
     pub some : 0 < longest
     pub within : length letters ≤ end_of longest first
-    pub short : AreShort longest (length letters) marks
+    pub short : AreShort longest (length letters) spans
     pub spent : SpentSince (length letters) first (m.spent state)
     pub waits : Waits state (end_of longest first) letters left place stop
 

@@ -1,7 +1,7 @@
 -- What a pull takes from a source.
 use Rattle.std.specs.Prelude.{◌≡◌, ◌+◌, ℕ, List, ◌++◌, length, Option, Some, None, Result, Ok, Err}
 use Rattle.pb_text.specs.meaning.Writing.{one_more}
-use Rattle.pb_text.specs.contract.Feeding.{StandsAt, marks_taken}
+use Rattle.pb_text.specs.contract.Feeding.{StandsAt, spans_taken}
 use Rattle.pb_text.specs.declared.place.Spanned.{Spanned}
 use Rattle.pb_text.specs.declared.place.Stop.{Stop}
 use Rattle.pb_text.specs.declared.place.Why.{Why}
@@ -26,13 +26,13 @@ abbrev pub OfGiven : (Option (List ℕ) → Option (List ℕ) → Type 0) → Li
 OfGiven Owed before after = (given : List ℕ) × (seen : List ℕ) × (after ≡ before ++ given) × Owed (Some (given ++ seen)) (Some seen)
 
 -- The pull took these bytes from the source, and its calls have given them. The feeder was fed the input with them.
-pub record Pulls {M E : Type 0} {g : Ghosts M E} (longest : ℕ) (start : M) (input : List ℕ) (marks : List (Spanned E)) (old : Feeder M E g) (before : Option (List ℕ)) (result : Result (Option (Spanned E)) Stop) (new : Feeder M E g) (after : Option (List ℕ)) (given given' : List ℕ) : Type 0 where
+pub record Pulls {M E : Type 0} {g : Ghosts M E} (longest : ℕ) (start : M) (input : List ℕ) (spans : List (Spanned E)) (old : Feeder M E g) (before : Option (List ℕ)) (result : Result (Option (Spanned E)) Stop) (new : Feeder M E g) (after : Option (List ℕ)) (given given' : List ℕ) : Type 0 where
   pub taken : List ℕ
   pub seen : List ℕ
   pub took : Took before taken seen after
   pub given_are : given' ≡ given ++ taken
   pub offset_is : new.place.offset ≡ old.place.offset + length taken
-  pub stands : StandsAt longest start (input ++ input_pulled result taken seen) (marks ++ marks_taken result) new
+  pub stands : StandsAt longest start (input ++ input_pulled result taken seen) (spans ++ spans_taken result) new
 
 -- the input that a part of a pull has processed: what it took, and if it stopped also what it saw
 abbrev pub input_drawn : {E : Type 0} → Result (Option (Spanned E)) Stop → List ℕ → List ℕ → List ℕ
@@ -46,7 +46,7 @@ pub record Draws {M E : Type 0} {g : Ghosts M E} (old : Feeder M E g) (before : 
   pub took : Took before taken seen after
   pub given_are : given' ≡ given ++ taken
   pub offset_is : new.place.offset ≡ old.place.offset + length taken
-  pub stands : (longest : ℕ) (start : M) (input : List ℕ) (marks : List (Spanned E)) → StandsAt longest start input marks old → StandsAt longest start (input ++ input_drawn result taken seen) (marks ++ marks_taken result) new
+  pub stands : (longest : ℕ) (start : M) (input : List ℕ) (spans : List (Spanned E)) → StandsAt longest start input spans old → StandsAt longest start (input ++ input_drawn result taken seen) (spans ++ spans_taken result) new
 
 -- how many times a reader has failed after a call that stopped for this reason
 abbrev pub faults_with : Why → ℕ → ℕ

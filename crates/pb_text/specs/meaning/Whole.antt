@@ -19,15 +19,15 @@ events_of items = map (λ i. i.event) items
 
 -- the events of spans, without their positions
 abbrev pub events_at : {E : Type 0} → List (Spanned E) → List E
-events_at marks = map (λ m. m.event) marks
+events_at spans = map (λ m. m.event) spans
 
 -- The relation `IsValue` says which value events have.
 module _ {E : Type 0} (format : List (Item E) → Type 0) (longest : ℕ) where
   module _ {V : Type 0} (IsValue : List E → V → Type 0) where
     -- The used bytes are a text of the format, and the value is one of its events.
     pub record IsRead (used : List ℕ) (m : Spanned V) : Type 0 where
-      pub marks : List (Spanned E)
-      pub spelled : IsSpelled format longest used marks
+      pub spans : List (Spanned E)
+      pub spelled : IsSpelled format longest used spans
       pub value : IsValue (events_of spelled.items) m.event
       pub first : m.first ≡ place_after []
       pub past : m.past ≡ place_after used
@@ -37,8 +37,8 @@ module _ {E : Type 0} (format : List (Item E) → Type 0) (longest : ℕ) where
     -- The used bytes are a prefix of a text, and the stop says why no more were taken. If out of memory, the next byte may
     -- allocate, or the used bytes end with an event, and storing that may allocate.
     pub data StopsIn (used seen : List ℕ) (s : Stop) : Type 0 where
-      Reading : (marks : List (Spanned E)) → Reads format longest (used ++ seen) used marks s.place false (Some s) → IsAsking MayAsk used seen s.why → StopsIn used seen s
-      Keeping : (marks : List (Spanned E)) (last : Spanned E) (done : Bool) → Reads format longest used used (marks ++ last ∷ []) last.past done None → MayKeep (events_at marks) last.event
+      Reading : (spans : List (Spanned E)) → Reads format longest (used ++ seen) used spans s.place false (Some s) → IsAsking MayAsk used seen s.why → StopsIn used seen s
+      Keeping : (spans : List (Spanned E)) (last : Spanned E) (done : Bool) → Reads format longest used used (spans ++ last ∷ []) last.past done None → MayKeep (events_at spans) last.event
           → s ≡ record { place = last.past; why = Memory } → StopsIn used seen s
 
     -- what was read from a source with these bytes before and those after, if it reports them

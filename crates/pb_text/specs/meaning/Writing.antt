@@ -20,10 +20,10 @@ module _ {S : Type 0} (contents : S → Option (List ℕ)) (faults : S → ℕ) 
     pub faults_are : faults new ≡ faults old
 
   pub record Broke (old : S) (text : List ℕ) (new : S) : Type 0 where
-    pub front : List ℕ
+    pub prefix : List ℕ
     pub rest : List ℕ
-    pub text_is : text ≡ front ++ rest
-    pub appends : Appends (contents old) (contents new) front
+    pub text_is : text ≡ prefix ++ rest
+    pub appends : Appends (contents old) (contents new) prefix
     pub faults_are : faults new ≡ one_more (faults old)
 
   abbrev pub Writes : S → List ℕ → Result Unit Failed → S → Type 0

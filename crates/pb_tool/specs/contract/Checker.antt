@@ -11,8 +11,8 @@ use Rattle.pb_proof.specs.engine.Machine.State.{ProofState, begin, proofs}
 use Rattle.pb_proof.specs.declared.Statement.{Statement}
 use Rattle.pb_replay.specs.meaning.Problem.{Problem}
 use Rattle.pb_replay.specs.meaning.Replay.{State}
-use Rattle.pb_replay.specs.contract.Kept.{Replaying}
-use Rattle.pb_replay.specs.contract.Kept.{StandsFor}
+use Rattle.pb_replay.specs.contract.ReplayModel.{Replaying}
+use Rattle.pb_replay.specs.contract.ReplayModel.{StandsFor}
 use Rattle.pb_replay.specs.declared.fault.Fault.{Fault}
 use Rattle.pb_text.specs.meaning.Whole.{events_at}
 use Rattle.pb_tool.specs.contract.Checks.{Checks, IsRefusedAt, KeepsNamesOf, LeadsTo, StepsTo, Rejects}
@@ -42,14 +42,14 @@ StepsFrom limits v now m (Err f) new = (e : Fault) × (f ≡ Step m.first e) × 
 module _ (limits : Limits) (longest : ℕ) (v : Problem) (first : Result State Fault) (input : List ℕ) where
   -- Every statement so far was accepted, and the text may continue.
   pub record IsAccepting (f : ProofFeeder) (r : Replaying) : Type 0 where
-    pub marks : List (Spanned Statement)
-    pub stands : StandsAt longest (begin (largest limits) (top_of limits)) input marks f
+    pub spans : List (Spanned Statement)
+    pub stands : StandsAt longest (begin (largest limits) (top_of limits)) input spans f
     pub running : halt_of f ≡ None
     pub limits_are : r.limits ≡ limits
     pub problem : r.problem ≡ v
     pub now : Result State Fault
     pub at : IsAt r now
-    pub accepted : LeadsTo limits v first (events_at marks) now
+    pub accepted : LeadsTo limits v first (events_at spans) now
 
   -- The feeder and the replay of a checker were fed the input. If a statement was rejected, the names from before it
   -- are still there.
@@ -67,6 +67,6 @@ IsSomewhere f r e =
 
 -- If `StandsAt` holds of a feeder of proofs and an input, the feeder has read that input.
 abbrev pub TextsAreRead : Type 0
-TextsAreRead = (limit top longest : ℕ) (input : List ℕ) (marks : List (Spanned Statement)) (f : ProofFeeder) →
-    StandsAt longest (begin limit top) input marks f →
-    (used : List ℕ) × Reads (IsProof limit top) longest input used marks (place_of f) (is_complete f) (halt_of f)
+TextsAreRead = (limit top longest : ℕ) (input : List ℕ) (spans : List (Spanned Statement)) (f : ProofFeeder) →
+    StandsAt longest (begin limit top) input spans f →
+    (used : List ℕ) × Reads (IsProof limit top) longest input used spans (place_of f) (is_complete f) (halt_of f)

@@ -10,9 +10,9 @@ use Rattle.pb_text.specs.declared.Stop.{Stop}
 use Rattle.pb_proof.specs.meaning.Proofs.{IsProof}
 use Rattle.pb_proof.specs.declared.Statement.{Statement}
 use Rattle.pb_replay.specs.meaning.Problem.{Problem}
-use Rattle.pb_replay.specs.meaning.Meaning.{IsFront}
+use Rattle.pb_replay.specs.meaning.Meaning.{IsNamePrefix}
 use Rattle.pb_replay.specs.meaning.Replay.{State}
-use Rattle.pb_replay.specs.contract.Kept.{verdict_at}
+use Rattle.pb_replay.specs.contract.ReplayModel.{verdict_at}
 use Rattle.pb_replay.specs.meaning.Statements.{Outcome, Accepts, MayWantAt}
 use Rattle.pb_replay.specs.declared.fault.Fault.{Fault}
 use Rattle.pb_replay.specs.declared.fault.Fault.TheVariants as fault
@@ -22,7 +22,7 @@ use Rattle.pb_tool.specs.declared.commands.check.checker.CheckFault.TheVariants.
 
 -- The old names are a prefix of the new ones. A name that the fault gives by its number is among the old ones.
 abbrev pub KeepsNames : List (List ℕ) → List (List ℕ) → Fault → Type 0
-KeepsNames old new e = IsFront old new × ((n : ℕ) → e ≡ fault.NotTotal n → n < length old)
+KeepsNames old new e = IsNamePrefix old new × ((n : ℕ) → e ≡ fault.NotTotal n → n < length old)
 
 -- the same for the names of a state; nothing for a replay that was spent before
 abbrev pub KeepsNamesOf : Result State Fault → List (List ℕ) → Fault → Type 0
@@ -54,23 +54,23 @@ module _ (limits : Limits) (longest : ℕ) (v : Problem) (first : Result State F
   -- The text was read so far, and every statement in it was accepted.
   pub record IsReplayed (input : List ℕ) (place : Place) (done : Bool) (stop : Option Stop) (now : Result State Fault) : Type 0 where
     pub used : List ℕ
-    pub marks : List (Spanned Statement)
-    pub reads : Reads (IsProof (largest limits) (top_of limits)) longest input used marks place done stop
-    pub accepted : LeadsTo limits v first (events_at marks) now
+    pub spans : List (Spanned Statement)
+    pub reads : Reads (IsProof (largest limits) (top_of limits)) longest input used spans place done stop
+    pub accepted : LeadsTo limits v first (events_at spans) now
 
   -- Every statement but the last was accepted. The last one, which began at `begins`, was rejected. Nothing after it
   -- was read.
   pub record IsRefusedAt (input : List ℕ) (place begins : Place) (e : Fault) : Type 0 where
     pub used : List ℕ
     pub left : List ℕ
-    pub marks : List (Spanned Statement)
+    pub spans : List (Spanned Statement)
     pub last : Spanned Statement
     pub before : Result State Fault
     pub done : Bool
     pub input_is : input ≡ used ++ left
-    pub reads : Reads (IsProof (largest limits) (top_of limits)) longest used used (marks ++ last ∷ []) place done None
+    pub reads : Reads (IsProof (largest limits) (top_of limits)) longest used used (spans ++ last ∷ []) place done None
     pub begins_is : begins ≡ last.first
-    pub accepted : LeadsTo limits v first (events_at marks) before
+    pub accepted : LeadsTo limits v first (events_at spans) before
     pub refused : Rejects limits v before last.event e
 
   -- how far it came, or which fault comes first

@@ -4,7 +4,7 @@ use Rattle.std.specs.List.{flat_map}
 use Rattle.pb_text.specs.contract.Automaton.{MayAsk}
 use Rattle.pb_text.specs.contract.Feeding.{place_of, is_complete}
 use Rattle.pb_text.specs.meaning.Limits.{largest, top_of}
-use Rattle.pb_text.specs.meaning.Reading.{HasOpen, IsFront}
+use Rattle.pb_text.specs.meaning.Reading.{HasOpen, IsPrefix}
 use Rattle.pb_text.specs.meaning.Spelling.{Item, bytes_of, place_after}
 use Rattle.pb_text.specs.contract.Standing.{Counts}
 use Rattle.pb_text.specs.declared.Limits.{Limits}
@@ -75,7 +75,7 @@ AnyCutting = (limits : Limits) (longest : ℕ) (v : Problem) (first : Result Sta
 -- of an unfinished statement: nothing between two statements.
 abbrev pub HoldsOpen : Limits → List ℕ → Place → ℕ → Type 0
 HoldsOpen limits input place held =
-    (used : List ℕ) × (n : ℕ) × IsFront used input × (place ≡ place_after used)
+    (used : List ℕ) × (n : ℕ) × IsPrefix used input × (place ≡ place_after used)
     × HasOpen (IsProof (largest limits) (top_of limits)) used n × (held ≤ n)
 
 -- The input ends with the last byte of a statement: it is the text of the first statements of a proof.

@@ -11,12 +11,12 @@ use Rattle.pb_proof.specs.declared.Proof.{Proof}
 use Rattle.pb_proof.specs.declared.Statement.{Statement}
 use Rattle.pb_replay.specs.meaning.Problem.{FitsAll, Problem, Opened}
 use Rattle.pb_replay.specs.meaning.Replay.{State, first_state}
-use Rattle.pb_replay.specs.contract.Kept.{Replaying}
+use Rattle.pb_replay.specs.contract.ReplayModel.{Replaying}
 use Rattle.pb_replay.specs.meaning.Statements.{Outcome, Accepts, MayWantAt}
 use Rattle.pb_replay.specs.declared.fault.Fault.{Fault}
 use Rattle.pb_replay.specs.declared.fault.Fault.TheVariants.{Memory as no_memory, Overflow as over, NotTotal}
 use Rattle.pb_replay.specs.declared.verdict.Verdict.{Verdict}
-use Rattle.pb_replay.specs.contract.Kept.{StandsFor}
+use Rattle.pb_replay.specs.contract.ReplayModel.{StandsFor}
 use Rattle.pb_tool.specs.contract.Checks.{KeepsNames}
 use Rattle.pb_tool.specs.meaning.Files.{AsksInProofText, IsProofFile}
 use Rattle.pb_tool.specs.meaning.Tidy.{IsInstanceFile, IsNoInstanceFile}

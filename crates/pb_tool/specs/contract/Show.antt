@@ -36,29 +36,29 @@ EndsAt place before (Err _) after = ⊥
 
 module _ {E : Type 0} (format : List (Item E) → Type 0) (longest : ℕ) where
   -- The input was a text of the format with these spans and a blank rest, and ended there.
-  pub record IsSpelling (before after : Option (List ℕ)) (marks : List (Spanned E)) : Type 0 where
+  pub record IsSpelling (before after : Option (List ℕ)) (spans : List (Spanned E)) : Type 0 where
     pub used : List ℕ
     pub rest : List ℕ
     pub took : Took before (used ++ rest) [] after
-    pub spelled : IsSpelled format longest used marks
+    pub spelled : IsSpelled format longest used spans
     pub blank : IsBlank rest
     pub within : length (used ++ rest) ≤ byte_limit
 
   -- The input was rejected after these spans: in the text, or in the rest after a whole text. In the text, memory runs
   -- out only at a byte that may allocate.
-  pub data IsRefusedAfter (MayAsk : List ℕ → ℕ → Type 0) (before after : Option (List ℕ)) (marks : List (Spanned E)) (s : Stop) : Type 0 where
-    InText : (all : TookAll format longest before after marks s.place false (Some s)) → IsAsking MayAsk all.used all.seen s.why → IsRefusedAfter MayAsk before after marks s
-    InRest : (used seen : List ℕ) (mid : Option (List ℕ)) → Took before used seen mid → IsSpelled format longest used marks → ReadsBlank (place_after used) mid (Err s) after → IsRefusedAfter MayAsk before after marks s
+  pub data IsRefusedAfter (MayAsk : List ℕ → ℕ → Type 0) (before after : Option (List ℕ)) (spans : List (Spanned E)) (s : Stop) : Type 0 where
+    InText : (all : TookAll format longest before after spans s.place false (Some s)) → IsAsking MayAsk all.used all.seen s.why → IsRefusedAfter MayAsk before after spans s
+    InRest : (used seen : List ℕ) (mid : Option (List ℕ)) → Took before used seen mid → IsSpelled format longest used spans → ReadsBlank (place_after used) mid (Err s) after → IsRefusedAfter MayAsk before after spans s
 
   module _ (MayAsk : List ℕ → ℕ → Type 0) (text : E → List ℕ) {W : Type 0} (contents : W → Option (List ℕ)) (faults : W → ℕ) where
     -- What was read of the source, and what was written: the line of each statement that was read. After a write fault,
     -- the lines of all statements read but the last were written, and a prefix of the last line.
     abbrev pub ShowsLines : Option (List ℕ) → W → Result Unit ToolFault → Option (List ℕ) → W → Type 0
-    ShowsLines before old (Ok u) after new = (marks : List (Spanned E)) × IsSpelling before after marks × Wrote contents faults old (shown text marks) new
-    ShowsLines before old (Err (Text File s)) after new = (marks : List (Spanned E)) × IsRefusedAfter MayAsk before after marks s × Wrote contents faults old (shown text marks) new
+    ShowsLines before old (Ok u) after new = (spans : List (Spanned E)) × IsSpelling before after spans × Wrote contents faults old (shown text spans) new
+    ShowsLines before old (Err (Text File s)) after new = (spans : List (Spanned E)) × IsRefusedAfter MayAsk before after spans s × Wrote contents faults old (shown text spans) new
     ShowsLines before old (Err Write) after new =
-        (marks : List (Spanned E)) × (last : Spanned E) × (mid : W) × TookSoFar format longest before after (marks ++ last ∷ []) last.past
-        × Wrote contents faults old (shown text marks) mid × Broke contents faults mid (shown_line text last) new
+        (spans : List (Spanned E)) × (last : Spanned E) × (mid : W) × TookSoFar format longest before after (spans ++ last ∷ []) last.past
+        × Wrote contents faults old (shown text spans) mid × Broke contents faults mid (shown_line text last) new
     ShowsLines before old (Err (Text Instance s)) after new = ⊥
     ShowsLines before old (Err (Text Proof s)) after new = ⊥
     ShowsLines before old (Err (Open i)) after new = ⊥

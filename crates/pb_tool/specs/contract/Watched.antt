@@ -9,7 +9,7 @@ use Rattle.pb_text.specs.declared.Spanned.{Spanned}
 use Rattle.pb_text.specs.declared.Stop.{Stop}
 use Rattle.pb_opb.specs.declared.Instance.{Instance}
 use Rattle.pb_proof.specs.declared.Statement.{Statement}
-use Rattle.pb_replay.specs.contract.Kept.{Replaying, StandsFor}
+use Rattle.pb_replay.specs.contract.ReplayModel.{Replaying, StandsFor}
 use Rattle.pb_replay.specs.meaning.Problem.{Problem, Opened}
 use Rattle.pb_replay.specs.meaning.Replay.{State, first_state}
 use Rattle.pb_replay.specs.meaning.Statements.{Outcome}
@@ -45,11 +45,11 @@ GotEach {V} got old (call ∷ calls) new = (mid : V) × got old call mid × GotE
 module _ (limits : Limits) (v : Problem) where
   abbrev pub ShowsEach : State → List (Spanned Statement) → List Call → State → Type 0
   ShowsEach s [] [] t = s ≡ t
-  ShowsEach s (m ∷ marks) (Accepted n r ∷ calls) t =
-      (n ≡ m) × (u : State) × Outcome (largest limits) (top_of limits) v s m.event (Ok u) × StandsFor r u × (r.fault ≡ None) × ShowsEach u marks calls t
+  ShowsEach s (m ∷ spans) (Accepted n r ∷ calls) t =
+      (n ≡ m) × (u : State) × Outcome (largest limits) (top_of limits) v s m.event (Ok u) × StandsFor r u × (r.fault ≡ None) × ShowsEach u spans calls t
   ShowsEach s [] (call ∷ calls) t = ⊥
-  ShowsEach s (m ∷ marks) [] t = ⊥
-  ShowsEach s (m ∷ marks) (Rejected n r f ∷ calls) t = ⊥
+  ShowsEach s (m ∷ spans) [] t = ⊥
+  ShowsEach s (m ∷ spans) (Rejected n r f ∷ calls) t = ⊥
 
 -- The relation `got` says what a call does to a watch.
 module _ (limits : Limits) (longest : ℕ) {V : Type 0} (got : V → Call → V → Type 0) where
@@ -57,23 +57,23 @@ module _ (limits : Limits) (longest : ℕ) {V : Type 0} (got : V → Call → V 
     -- The text of a proof was read this far in a source. The watch got a call for each statement in it, and no other
     -- call.
     pub record HasSeen (after : Option (List ℕ)) (place : Place) (done : Bool) (stop : Option Stop) (new : V) : Type 0 where
-      pub marks : List (Spanned Statement)
-      pub took : TookAll (IsProofText limits) longest before after marks place done stop
+      pub spans : List (Spanned Statement)
+      pub took : TookAll (IsProofText limits) longest before after spans place done stop
       pub calls : List Call
       pub last : State
-      pub shows : ShowsEach limits v first marks calls last
+      pub shows : ShowsEach limits v first spans calls last
       pub got_are : GotEach got old calls new
 
     -- The statement that begins at the position was rejected, and nothing after it was taken. The watch got a call for
     -- each statement before it, then one for the rejection, and no other call. The replay still has the names.
     pub record HasSeenUpTo (after : Option (List ℕ)) (begins : Place) (e : Fault) (new : V) : Type 0 where
-      pub marks : List (Spanned Statement)
+      pub spans : List (Spanned Statement)
       pub rejected : Spanned Statement
-      pub took : TookSoFar (IsProofText limits) longest before after (marks ++ rejected ∷ []) rejected.past
+      pub took : TookSoFar (IsProofText limits) longest before after (spans ++ rejected ∷ []) rejected.past
       pub begins_is : begins ≡ rejected.first
       pub calls : List Call
       pub last : State
-      pub shows : ShowsEach limits v first marks calls last
+      pub shows : ShowsEach limits v first spans calls last
       pub replay : Replaying
       pub names : KeepsNames last.names replay.names e
       pub got_are : GotEach got old (calls ++ Rejected rejected replay (check.Step begins e) ∷ []) new
@@ -95,7 +95,7 @@ module _ (limits : Limits) (longest : ℕ) {V : Type 0} (got : V → Call → V 
     ShowsProof (Err Write) after new = HasSeenWhole new
     ShowsProof (Err (Text of_proof s)) after new = HasSeen after s.place false (Some s) new ⊎ HasSeenWhole new
     ShowsProof (Err (Step begins e name)) after new =
-        (told : Fault) × ((e ≡ told) ⊎ ((e ≡ no_memory) × (n : ℕ) × (told ≡ NotTotal n))) × HasSeenUpTo after begins told new
+        (reported : Fault) × ((e ≡ reported) ⊎ ((e ≡ no_memory) × (n : ℕ) × (reported ≡ NotTotal n))) × HasSeenUpTo after begins reported new
     ShowsProof (Err _) after new = ⊥
 
   -- For the result of a check of two sources. If the instance is rejected, the watch got no call.

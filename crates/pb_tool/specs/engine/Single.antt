@@ -8,10 +8,10 @@ use Rattle.pb_replay.specs.contract.Laws.{OpeningsAreSingle, OutcomesAreSingle}
 -- are the same in each proof that it begins. A proof has one value. A replay opens and continues in one way.
 pub record AllSingle : Type 0 where
   pub one_instance : opb_laws.OneInstance
-  pub instance_front : opb_laws.NoFront
+  pub instance_prefix : opb_laws.PrefixFree
   pub one_proof : veri_laws.OneProof
-  pub proof_front : veri_laws.NoFront
-  pub fixed : veri_laws.FixedMarks
+  pub proof_prefix : veri_laws.PrefixFree
+  pub fixed : veri_laws.FixedSpans
   pub value : OneValue
   pub openings : OpeningsAreSingle
   pub outcomes : OutcomesAreSingle

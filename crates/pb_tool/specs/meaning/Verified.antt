@@ -52,19 +52,19 @@ module _ (limits : Limits) where
   module _ (longest : ℕ) (v : Problem) (first : State) (before : Option (List ℕ)) where
     -- The text of a proof was read this far in a source, and its statements lead from the first state to the last.
     pub record IsAccepted (after : Option (List ℕ)) (place : Place) (done : Bool) (stop : Option Stop) (last : State) : Type 0 where
-      pub marks : List (Spanned Statement)
-      pub took : TookAll (IsProofText limits) longest before after marks place done stop
-      pub accepted : Accepts (largest limits) (top_of limits) v first (events_at marks) last
+      pub spans : List (Spanned Statement)
+      pub took : TookAll (IsProofText limits) longest before after spans place done stop
+      pub accepted : Accepts (largest limits) (top_of limits) v first (events_at spans) last
 
     -- All statements before this one, which begins at the position, were accepted and lead to the state. Nothing after
     -- it was taken.
     pub record ComesTo (after : Option (List ℕ)) (begins : Place) (st : Statement) (state : State) : Type 0 where
-      pub marks : List (Spanned Statement)
+      pub spans : List (Spanned Statement)
       pub last : Spanned Statement
-      pub took : TookSoFar (IsProofText limits) longest before after (marks ++ last ∷ []) last.past
+      pub took : TookSoFar (IsProofText limits) longest before after (spans ++ last ∷ []) last.past
       pub begins_is : begins ≡ last.first
       pub statement : last.event ≡ st
-      pub accepted : Accepts (largest limits) (top_of limits) v first (events_at marks) state
+      pub accepted : Accepts (largest limits) (top_of limits) v first (events_at spans) state
 
     -- The statement that begins at the position is the first one that is rejected. Its rules reject it, or memory ran
     -- out where it may allocate.

@@ -71,10 +71,10 @@ fn all_is_single()
     ensures { AllSingle }
 {
     pb_opb::laws::one_instance();
-    pb_opb::laws::no_front();
+    pb_opb::laws::prefix_free();
     pb_proof::laws::one_proof();
-    pb_proof::laws::no_front();
-    pb_proof::laws::fixed_marks();
+    pb_proof::laws::prefix_free();
+    pb_proof::laws::fixed_spans();
     one_value();
     outcomes_are_single();
 }

@@ -59,7 +59,7 @@ is_true answer e = cc
 pub returns-clause-unsat : goal.returns-clause-unsat
 returns-clause-unsat c e =
     true_of c.statements_are_sound.ensures.statements c.verdicts_are_true.ensures.forms c.reads_are_of_proofs.ensures c.args.replay (joined c.args.pieces.now) Unsat
-    (subst (λ (v : Verdict). Verifies c.args.replay (joined c.args.pieces.now) v) ((whether c).0 (is_true c.match-matches.matches e)) (verified c)) c.tell_sound.ensures.problem c.tell_sound.ensures.sound
+    (subst (λ (v : Verdict). Verifies c.args.replay (joined c.args.pieces.now) v) ((whether c).0 (is_true c.match-matches.matches e)) (verified c)) c.report_sound.ensures.problem c.report_sound.ensures.sound
 
 pub returns-clause-exact : goal.returns-clause-exact
 returns-clause-exact c = (c.in_ok-verdict.verdict, verified c, whether c)

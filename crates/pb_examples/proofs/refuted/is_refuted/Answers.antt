@@ -1,6 +1,6 @@
 use Rattle.std.proofs.Common.{◌≡◌, ◌∙◌, ◌↔◌, None, Result, ℕ, List, Option, Some, Ok, Bor, Bool, IsTrue, ap, subst}
-use Rattle.pb_text.specs.contract.Kept.{inner_of, shown_of}
-use Rattle.pb_text.specs.contract.Over.{told}
+use Rattle.pb_text.specs.contract.OverState.{inner_of, shown_of}
+use Rattle.pb_text.specs.contract.Over.{reported}
 use Rattle.pb_text.specs.meaning.Reading.{byte_limit}
 use Rattle.pb_text.specs.declared.Limits.{Limits}
 use Rattle.pb_text.specs.declared.over.Over.{Over}
@@ -42,8 +42,8 @@ answered contents faults exact limits i p left right i' p' old new w one other c
     (λ yes. accepted.0 (ap Ok (is.0 yes)), λ v. is.1 (same (accepted.1 v)))
 
 -- a source over a slice tells its bytes
-whole : (o : Over (Bor (List ℕ))) (s : Bor (List ℕ)) → inner_of o ≡ s → shown_of o ≡ None → told (Some o.inner.now) None o.shown ≡ Some s.now
-whole o s is none = ap (λ (x : Option ℕ). told (Some o.inner.now) None x) none ∙ ap (λ (x : Bor (List ℕ)). Some x.now) is
+whole : (o : Over (Bor (List ℕ))) (s : Bor (List ℕ)) → inner_of o ≡ s → shown_of o ≡ None → reported (Some o.inner.now) None o.shown ≡ Some s.now
+whole o s is none = ap (λ (x : Option ℕ). reported (Some o.inner.now) None x) none ∙ ap (λ (x : Bor (List ℕ)). Some x.now) is
 
 -- the answer says whether the verdict is UNSAT
 whether : (c : goal.After-drop-out-2) → IsTrue c.match-matches.matches ↔ (c.in_ok-verdict.verdict ≡ Unsat)

@@ -1,7 +1,7 @@
 use Rattle.std.proofs.Common.{arith, ◌≡◌, ◌∙◌, None, ℕ, ◌-◌, ◌^◌, ◌<◌, List, [], ◌++◌, sym, Vec, Option, Some, Ok, Bor, ap, subst}
 use Rattle.std.specs.declared.alloc.Global.{Global}
-use Rattle.pb_text.specs.contract.Kept.{inner_of, shown_of}
-use Rattle.pb_text.specs.contract.Over.{told}
+use Rattle.pb_text.specs.contract.OverState.{inner_of, shown_of}
+use Rattle.pb_text.specs.contract.Over.{reported}
 use Rattle.pb_text.specs.meaning.Reading.{byte_limit}
 use Rattle.pb_text.specs.meaning.Spelling.{Item, bytes_of}
 use Rattle.pb_text.specs.meaning.Whole.{events_of}
@@ -10,7 +10,7 @@ use Rattle.pb_text.specs.declared.over.Over.{Over}
 use Rattle.pb_opb.specs.contract.Canonical.{instance_bytes}
 use Rattle.pb_opb.specs.meaning.Instances.{IsInstance}
 use Rattle.pb_opb.specs.meaning.Reading.{ReadsInstance}
-use Rattle.pb_opb.specs.contract.Statements.{CanonicalInstance, InstanceValues}
+use Rattle.pb_opb.specs.contract.Laws.{CanonicalInstance, InstanceValues}
 use Rattle.pb_opb.specs.meaning.Values.{IsValueOf}
 use Rattle.pb_opb.specs.declared.Instance.{Instance}
 use Rattle.pb_opb.specs.declared.OpbEvent.{OpbEvent}
@@ -18,8 +18,8 @@ use Rattle.pb_examples.specs.Rewritten.{IsRewritten, IsTextOf}
 use Rattle.pb_examples.proofs.rewritten.canonical.Goals as goal
 
 -- a source over a slice tells its bytes
-whole : (o : Over (Bor (List ℕ))) (s : Bor (List ℕ)) → inner_of o ≡ s → shown_of o ≡ None → told (Some o.inner.now) None o.shown ≡ Some s.now
-whole o s is none = ap (λ (x : Option ℕ). told (Some o.inner.now) None x) none ∙ ap (λ (x : Bor (List ℕ)). Some x.now) is
+whole : (o : Over (Bor (List ℕ))) (s : Bor (List ℕ)) → inner_of o ≡ s → shown_of o ≡ None → reported (Some o.inner.now) None o.shown ≡ Some s.now
+whole o s is none = ap (λ (x : Option ℕ). reported (Some o.inner.now) None x) none ∙ ap (λ (x : Bor (List ℕ)). Some x.now) is
 
 -- what a sink that was empty has after a write is what was written
 filled : (before after bytes text : List ℕ) → after ≡ before ++ text → before ≡ [] → bytes ≡ after → bytes ≡ text

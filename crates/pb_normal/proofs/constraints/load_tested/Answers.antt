@@ -10,7 +10,7 @@ loop-constraint-init c = rw c.in_ok-forms.ensures.items (loaded_none c.args.name
 
 pub loop-constraint-preserved : goal.loop-constraint-preserved
 loop-constraint-preserved c =
-    loaded_at c.args.names.now c.loop-constraint.names c.add.new.names c.args.constraints.now c.loop-constraint.constraint-index c.constraint-item.result _ _ (omega arith) c.constraint-item.is c.tell_distinct.ensures
+    loaded_at c.args.names.now c.loop-constraint.names c.add.new.names c.args.constraints.now c.loop-constraint.constraint-index c.constraint-item.result _ _ (omega arith) c.constraint-item.is c.report_distinct.ensures
     c.loop-constraint.invariant c.in-Ok.ensures.names c.in-Ok.ensures.forms
 
 pub returns-in-Err-clause-err : goal.returns-in-Err-clause-err

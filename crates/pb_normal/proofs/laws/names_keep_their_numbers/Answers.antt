@@ -1,8 +1,8 @@
-use Rattle.pb_normal.proofs.lemmas.names.Appearing.{front, named, distinct, present, in_turn}
+use Rattle.pb_normal.proofs.lemmas.names.Appearing.{prefix, named, distinct, present, in_turn}
 use Rattle.pb_normal.proofs.laws.names_keep_their_numbers.Goals as goal
 
-pub returns-clause-front : goal.returns-clause-front
-returns-clause-front c = front
+pub returns-clause-prefix : goal.returns-clause-prefix
+returns-clause-prefix c = prefix
 
 pub returns-clause-named : goal.returns-clause-named
 returns-clause-named c = named

@@ -16,18 +16,18 @@ in_turn names [] further = refl
 in_turn names (n ∷ others) further = in_turn (with_name names n) others further
 
 -- the names before are a prefix
-one_front : (names : List (List ℕ)) (name : List ℕ) → (more : List (List ℕ)) × (with_name names name ≡ names ++ more)
-one_front names name = by_test (has_name names name)
+only_prefix : (names : List (List ℕ)) (name : List ℕ) → (more : List (List ℕ)) × (with_name names name ≡ names ++ more)
+only_prefix names name = by_test (has_name names name)
   where
     by_test : (b : Bool) → (more : List (List ℕ)) × (cond b names (names ++ name ∷ []) ≡ names ++ more)
     by_test true = ([], sym (append-nil names))
     by_test false = (name ∷ [], refl)
 
-pub front : (names others : List (List ℕ)) → (more : List (List ℕ)) × (with_names names others ≡ names ++ more)
-front names [] = ([], sym (append-nil names))
-front names (n ∷ others) =
-    let one = one_front names n in
-    let rest = front (with_name names n) others in
+pub prefix : (names others : List (List ℕ)) → (more : List (List ℕ)) × (with_names names others ≡ names ++ more)
+prefix names [] = ([], sym (append-nil names))
+prefix names (n ∷ others) =
+    let one = only_prefix names n in
+    let rest = prefix (with_name names n) others in
     (one.0 ++ rest.0, rest.1 ∙ ap (λ (ks : List (List ℕ)). ks ++ rest.0) one.1 ∙ append_assoc names one.0 rest.0)
 
 pub distinct : (names others : List (List ℕ)) → AreDistinct names → AreDistinct (with_names names others)
@@ -36,7 +36,7 @@ distinct names (n ∷ others) d = distinct (with_name names n) others (AreDistin
 
 stays_named : (names others : List (List ℕ)) (name : List ℕ) → has_name names name ≡ true → has_name (with_names names others) name ≡ true
 stays_named names others name has =
-    let more = front names others in
+    let more = prefix names others in
     subst (λ (ks : List (List ℕ)). has_name ks name ≡ true) (sym more.1) (has_name-append names more.0 name has)
 
 pub named : (names others : List (List ℕ)) → HasNames (with_names names others) others

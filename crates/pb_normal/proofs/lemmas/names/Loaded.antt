@@ -11,9 +11,9 @@ use Rattle.pb_normal.specs.declared.side.Side.{Side}
 use Rattle.pb_normal.specs.declared.side.Side.TheVariants.{AtLeast as least, AtMost as most}
 use Rattle.pb_normal.specs.meaning.Constraints.{AreFormsOf, constraint_names, sides_in, with_sides}
 use Rattle.pb_normal.specs.meaning.Form.{Form}
-use Rattle.pb_normal.specs.meaning.Names.{AfterFront, AreDistinct, HasNames, with_names}
+use Rattle.pb_normal.specs.meaning.Names.{AfterPrefix, AreDistinct, HasNames, with_names}
 use Rattle.pb_normal.specs.meaning.Written.{names_of}
-use Rattle.pb_normal.proofs.lemmas.names.Appearing.{front, named, names_split, distinct, present, in_turn}
+use Rattle.pb_normal.proofs.lemmas.names.Appearing.{prefix, named, names_split, distinct, present, in_turn}
 use Rattle.pb_text.proofs.lemmas.text.Lists.{take_read}
 use Rattle.pb_normal.proofs.lemmas.names.WrittenForms.{IsSideOf-append}
 
@@ -91,7 +91,7 @@ loaded_none old = record { names = refl; loaded = tt }
 pub loaded_next : (old names new : List (List ℕ)) (cs : List Linear) (c : Linear) (ls added : List Form) → AreDistinct old → LoadedFrom old names cs ls → new ≡ with_names names (names_of c.terms)
     → AreFormsOf new (with_sides c.relation c) added → LoadedFrom old new (cs ++ c ∷ []) (ls ++ added)
 loaded_next old names new cs c ls added d before e one =
-    let more = front names (names_of c.terms) in
+    let more = prefix names (names_of c.terms) in
     let grown : new ≡ names ++ more.0 = e ∙ more.1 in
     let apart_names : AreDistinct names = subst AreDistinct (sym before.names) (distinct old (constraint_names cs) d) in
     let apart : AreDistinct (names ++ more.0) = subst AreDistinct more.1 (distinct names (names_of c.terms) apart_names) in
@@ -112,39 +112,40 @@ loaded_at old names new cs i c ls after lt e d before k (added, one, is) =
     rw (take_read cs i c c lt e, is) (loaded_next old names new (take i cs) c ls added d before k one)
 
 -- ---- a prefix of the names
-front_longer : (xs ys : List (List ℕ)) (k : ℕ) → (m : ℕ) × (take m (xs ++ ys) ≡ take k xs)
-front_longer xs ys zero = (0, refl)
-front_longer [] ys (suc k) = (0, refl)
-front_longer (x ∷ xs) ys (suc k) = let rest = front_longer xs ys k in (suc rest.0, ap (λ (ns : List (List ℕ)). x ∷ ns) rest.1)
+prefix_longer : (xs ys : List (List ℕ)) (k : ℕ) → (m : ℕ) × (take m (xs ++ ys) ≡ take k xs)
+prefix_longer xs ys zero = (0, refl)
+prefix_longer [] ys (suc k) = (0, refl)
+prefix_longer (x ∷ xs) ys (suc k) = let rest = prefix_longer xs ys k in (suc rest.0, ap (λ (ns : List (List ℕ)). x ∷ ns) rest.1)
 
-front_behind : (xs ys : List (List ℕ)) (k : ℕ) → (m : ℕ) × (take m (xs ++ ys) ≡ xs ++ take k ys)
-front_behind [] ys k = (k, refl)
-front_behind (x ∷ xs) ys k = let rest = front_behind xs ys k in (suc rest.0, ap (λ (ns : List (List ℕ)). x ∷ ns) rest.1)
+prefix_beyond : (xs ys : List (List ℕ)) (k : ℕ) → (m : ℕ) × (take m (xs ++ ys) ≡ xs ++ take k ys)
+prefix_beyond [] ys k = (k, refl)
+prefix_beyond (x ∷ xs) ys k =
+    let rest = prefix_beyond xs ys k in (suc rest.0, ap (λ (ns : List (List ℕ)). x ∷ ns) rest.1)
 
 whole : (xs : List (List ℕ)) → (m : ℕ) × (take m xs ≡ xs)
 whole [] = (0, refl)
 whole (x ∷ xs) = let rest = whole xs in (suc rest.0, ap (λ (ns : List (List ℕ)). x ∷ ns) rest.1)
 
-front_named : (names ns : List (List ℕ)) (k : ℕ) → HasNames names ns → HasNames names (take k ns)
-front_named names ns zero h = tt
-front_named names [] (suc k) h = tt
-front_named names (n ∷ ns) (suc k) h = (h.0, front_named names ns k h.1)
+prefix_named : (names ns : List (List ℕ)) (k : ℕ) → HasNames names ns → HasNames names (take k ns)
+prefix_named names ns zero h = tt
+prefix_named names [] (suc k) h = tt
+prefix_named names (n ∷ ns) (suc k) h = (h.0, prefix_named names ns k h.1)
 
-pub after_all : (old new ns : List (List ℕ)) → new ≡ with_names old ns → AfterFront old ns new
+pub after_all : (old new ns : List (List ℕ)) → new ≡ with_names old ns → AfterPrefix old ns new
 after_all old new ns e = let all = whole ns in (all.0, e ∙ ap (with_names old) (sym all.1))
 
 -- the names of the second side have numbers already
-after_again : (old names new ns : List (List ℕ)) → names ≡ with_names old ns → HasNames names ns → AfterFront names ns new → AfterFront old ns new
-after_again old names new ns e h (k, is) = after_all old new ns (is ∙ present names (take k ns) (front_named names ns k h) ∙ e)
+after_again : (old names new ns : List (List ℕ)) → names ≡ with_names old ns → HasNames names ns → AfterPrefix names ns new → AfterPrefix old ns new
+after_again old names new ns e h (k, is) = after_all old new ns (is ∙ present names (take k ns) (prefix_named names ns k h) ∙ e)
 
-pub second_after : {E : Type 0} (result : Result Unit E) (old names new ns : List (List ℕ)) → names ≡ with_names old ns → HasNames names ns → OnErr result (AfterFront names ns new) → OnErr result (AfterFront old ns new)
+pub second_after : {E : Type 0} (result : Result Unit E) (old names new ns : List (List ℕ)) → names ≡ with_names old ns → HasNames names ns → OnErr result (AfterPrefix names ns new) → OnErr result (AfterPrefix old ns new)
 second_after (Ok u) old names new ns e h k = tt
 second_after (Err f) old names new ns e h k = after_again old names new ns e h k
 
-after_others : (old names new before own more : List (List ℕ)) → names ≡ with_names old before → AfterFront names own new → AfterFront old (before ++ (own ++ more)) new
+after_others : (old names new before own more : List (List ℕ)) → names ≡ with_names old before → AfterPrefix names own new → AfterPrefix old (before ++ (own ++ more)) new
 after_others old names new before own more e (k, is) =
-    let inner = front_longer own more k in
-    let outer = front_behind before (own ++ more) inner.0 in
+    let inner = prefix_longer own more k in
+    let outer = prefix_beyond before (own ++ more) inner.0 in
     let to : before ++ take k own ≡ take outer.0 (before ++ (own ++ more)) = sym (outer.1 ∙ ap (λ (ns : List (List ℕ)). before ++ ns) inner.1) in
     (outer.0, is ∙ ap (λ (ks : List (List ℕ)). with_names ks (take k own)) e ∙ sym (in_turn old before (take k own)) ∙ ap (with_names old) to)
 
@@ -156,8 +157,8 @@ names_at (x ∷ cs) (suc i) c lt e =
     let rest = names_at cs i c (omega (arith, lt)) e in
     (rest.0, ap (λ (ns : List (List ℕ)). names_of x.terms ++ ns) rest.1 ∙ sym (append_assoc (names_of x.terms) (constraint_names (take i cs)) (names_of c.terms ++ rest.0)))
 
-pub after_at : (old names new : List (List ℕ)) (cs : List Linear) (i : ℕ) (c : Linear) → i < length cs → c ≡ get_or cs i c → names ≡ with_names old (constraint_names (take i cs)) → AfterFront names (names_of c.terms) new
-    → AfterFront old (constraint_names cs) new
+pub after_at : (old names new : List (List ℕ)) (cs : List Linear) (i : ℕ) (c : Linear) → i < length cs → c ≡ get_or cs i c → names ≡ with_names old (constraint_names (take i cs)) → AfterPrefix names (names_of c.terms) new
+    → AfterPrefix old (constraint_names cs) new
 after_at old names new cs i c lt e k a =
     let at = names_at cs i c lt e in
-    subst (λ (ns : List (List ℕ)). AfterFront old ns new) (sym at.1) (after_others old names new (constraint_names (take i cs)) (names_of c.terms) at.0 k a)
+    subst (λ (ns : List (List ℕ)). AfterPrefix old ns new) (sym at.1) (after_others old names new (constraint_names (take i cs)) (names_of c.terms) at.0 k a)

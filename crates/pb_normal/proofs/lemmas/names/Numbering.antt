@@ -10,7 +10,7 @@ use Rattle.std.proofs.lemmas.Slice.Eq.{bytes_eq-Decides}
 use Rattle.std.proofs.lemmas.Option.{slice_get_within}
 use Rattle.pb_sums.specs.declared.values.Term.{Term}
 use Rattle.pb_normal.specs.declared.side.Side.{Side}
-use Rattle.pb_normal.specs.meaning.Names.{has_name, AreDistinct, with_name, with_names, number_in, HasNames, AfterFront}
+use Rattle.pb_normal.specs.meaning.Names.{has_name, AreDistinct, with_name, with_names, number_in, HasNames, AfterPrefix}
 use Rattle.pb_normal.specs.engine.Raw.{raw_of, entry_of}
 use Rattle.pb_normal.specs.meaning.Written.{names_of, side_terms, side_number}
 use Rattle.pb_normal.specs.declared.entry.Entry.{Entry}
@@ -130,13 +130,13 @@ AreDistinct-push (n ∷ names) k d e =
     let parts = or_parts (bytes_eq k n) (has_name names k) e in
     (none_pushed names k n d.0 (other_way (bytes_eq n k) k n refl parts.0), AreDistinct-push names k d.1 parts.1)
 
-absent_front : (b : Bool) (names more : List (List ℕ)) (n : List ℕ) → has_name names n ≡ b → has_name (names ++ more) n ≡ false → b ≡ false
-absent_front true names more n t d = let twice = has_name-append names more n t in absurd cc
-absent_front false names more n t d = refl
+absent_prefix : (b : Bool) (names more : List (List ℕ)) (n : List ℕ) → has_name names n ≡ b → has_name (names ++ more) n ≡ false → b ≡ false
+absent_prefix true names more n t d = let twice = has_name-append names more n t in absurd cc
+absent_prefix false names more n t d = refl
 
-pub AreDistinct-front : (names more : List (List ℕ)) → AreDistinct (names ++ more) → AreDistinct names
-AreDistinct-front [] more d = tt
-AreDistinct-front (n ∷ names) more d = (absent_front (has_name names n) names more n refl d.0, AreDistinct-front names more d.1)
+pub AreDistinct-prefix : (names more : List (List ℕ)) → AreDistinct (names ++ more) → AreDistinct names
+AreDistinct-prefix [] more d = tt
+AreDistinct-prefix (n ∷ names) more d = (absent_prefix (has_name names n) names more n refl d.0, AreDistinct-prefix names more d.1)
 
 pub AreDistinct-with : (names : List (List ℕ)) (k : List ℕ) → AreDistinct names → AreDistinct (with_name names k)
 AreDistinct-with names k d = by_test (has_name names k) refl
@@ -193,5 +193,5 @@ OnErr-always (Err _) P p = p
 take_names : (ts : List Term) (i : ℕ) → names_of (take i ts) ≡ take i (names_of ts)
 take_names ts i = sym (take-map (λ (t : Term). t.literal.name) i ts)
 
-pub AfterFront-from : (side : Side) (old new : List (List ℕ)) (ts : List Term) (i : ℕ) (out : List Entry) → Numbering side old new (take i ts) out → AfterFront old (names_of ts) new
-AfterFront-from side old new ts i out h = (i, h.names ∙ ap (with_names old) (take_names ts i))
+pub AfterPrefix-from : (side : Side) (old new : List (List ℕ)) (ts : List Term) (i : ℕ) (out : List Entry) → Numbering side old new (take i ts) out → AfterPrefix old (names_of ts) new
+AfterPrefix-from side old new ts i out h = (i, h.names ∙ ap (with_names old) (take_names ts i))

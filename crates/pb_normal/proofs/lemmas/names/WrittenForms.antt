@@ -29,7 +29,7 @@ use Rattle.pb_normal.proofs.lemmas.rules.Sums.{at_least_0-is, flip_plain}
 use Rattle.pb_normal.proofs.lemmas.rules.Unique.{Balanced, IsRising-same, same_form}
 use Rattle.pb_normal.proofs.lemmas.terms.Balance.{total-balanced, total-past, All-below}
 use Rattle.pb_text.proofs.lemmas.text.Lists.{drop_read}
-use Rattle.pb_normal.proofs.lemmas.names.Numbering.{slice_get-number, number_in-below, number_in-get, number_in-append, has_name-append, AreDistinct-front}
+use Rattle.pb_normal.proofs.lemmas.names.Numbering.{slice_get-number, number_in-below, number_in-get, number_in-append, has_name-append, AreDistinct-prefix}
 
 pub total-raw : (names : List (List ℕ)) (ts : List Term) → total each (map (raw_of names) ts) ≡ magnitude ts
 total-raw names [] = refl
@@ -228,7 +228,7 @@ HasNames-append names more (n ∷ ns) h = (has_name-append names more n h.0, Has
 -- a form remains the form of its terms if more names appear
 pub IsFormOf-append : (names more : List (List ℕ)) (ts : List Term) (d : ℤ) (r : Form) → AreDistinct (names ++ more) → HasNames names (names_of ts) → IsFormOf names ts d r → IsFormOf (names ++ more) ts d r
 IsFormOf-append names more ts d r distinct has f =
-    let balanced = Balanced-raw names ts d r (AreDistinct-front names more distinct) has f in
+    let balanced = Balanced-raw names ts d r (AreDistinct-prefix names more distinct) has f in
     record {
       ordered = f.ordered;
       named = λ i t lt. omega (arith, f.named i t lt, length-append names more);

@@ -43,8 +43,8 @@ given_counts (l ∷ ls) x n = step (only x n l.0 l.1) (only l.0 l.1 x n) _ _ (on
     step a false c k e h = rw e (λ f. omega (arith, h.0 f), λ f. omega (arith, h.1 f))
 
 -- the terms after the first one have no coefficient on its variable
-nothing_behind : (x : ℕ) (n : Bool) (t : Entry) (ts : List Entry) → IsRising (t.variable + 1) ts → t.variable ≡ x → total (only x n) ts ≡ 0
-nothing_behind x n t ts h e = none_below (λ m. cond n m (not m)) x (t.variable + 1) ts h (omega (arith, e))
+nothing_after : (x : ℕ) (n : Bool) (t : Entry) (ts : List Entry) → IsRising (t.variable + 1) ts → t.variable ≡ x → total (only x n) ts ≡ 0
+nothing_after x n t ts h e = none_below (λ m. cond n m (not m)) x (t.variable + 1) ts h (omega (arith, e))
 
 at_variable : (x : ℕ) (n : Bool) (t : Entry) → only x n t.variable t.negated ≡ true → t.variable ≡ x
 at_variable x n t e =
@@ -58,7 +58,7 @@ once k x n (t ∷ ts) h = by_test (only x n t.variable t.negated) refl (once (t.
     by_test : (b : Bool) → only x n t.variable t.negated ≡ b → (0 < total (only x n) ts → total (only x n) (ones ts) ≡ 1) × (total (only x n) ts ≡ 0 → total (only x n) (ones ts) ≡ 0) →
         (0 < cond b t.coefficient 0 + total (only x n) ts → cond b 1 0 + total (only x n) (ones ts) ≡ 1) × (cond b t.coefficient 0 + total (only x n) ts ≡ 0 → cond b 1 0 + total (only x n) (ones ts) ≡ 0)
     by_test true e rest =
-        let none = nothing_behind x n t ts h.2 (at_variable x n t e) in
+        let none = nothing_after x n t ts h.2 (at_variable x n t e) in
         (λ f. omega (arith, rest.1 none), λ f. absurd (omega (arith, f, h.1)))
     by_test false e rest = (λ f. omega (arith, rest.0 (omega (arith, f))), λ f. omega (arith, rest.1 (omega (arith, f))))
 
@@ -78,9 +78,9 @@ apart k x n (t ∷ ts) h e = by_test (only x n t.variable t.negated) (only x (no
         (0 < total (only x n) ts → total (only x (not n)) ts ≡ 0) → cond b t.coefficient 0 + total (only x (not n)) ts ≡ 0
     by_test true b ea eb e rest =
         let other : b ≡ false = sym eb ∙ opposite (eqb t.variable x) n t.negated ea in
-        let rest = nothing_behind x (not n) t ts h.2 (at_variable x n t ea) in
+        let rest = nothing_after x (not n) t ts h.2 (at_variable x n t ea) in
         rw other (omega (arith, rest))
-    by_test false true ea eb e rest = absurd (omega (arith, e, nothing_behind x n t ts h.2 (at_variable x (not n) t eb)))
+    by_test false true ea eb e rest = absurd (omega (arith, e, nothing_after x n t ts h.2 (at_variable x (not n) t eb)))
     by_test false false ea eb e rest = omega (arith, rest (omega (arith, e)))
 
 flipped : (x : ℕ) (n : Bool) (ts : List Entry) → total (flip (only x n)) ts ≡ total (only x (not n)) ts

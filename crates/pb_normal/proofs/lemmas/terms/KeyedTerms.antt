@@ -54,7 +54,7 @@ IsKeyed-insert_at m n k t h same p e = rw e (All-insert k t m.entries (same, p) 
 pub IsKeyed-remove : (m n : BTreeMap ℕ Entry) (k : ℕ) → IsKeyed m → n.entries ≡ remove_entry (is_at (nat_cmp k)) m.entries → IsKeyed n
 IsKeyed-remove m n k h e = rw e (All-remove (is_at (nat_cmp k)) m.entries h)
 
--- what a look-up finds is at its key
+-- what a lookup finds is at its key
 found_step : (o : Ordering) (k : ℕ) (e : ℕ × Entry) (rest : Option Entry) (x : Entry) → o ≡ nat_cmp k e.0 → IsAtItsKey e → (rest ≡ Some x → (k ≡ x.variable) × (0 < x.coefficient)) → cond (is_eq o) (Some e.1) rest ≡ Some x → (k ≡ x.variable) × (0 < x.coefficient)
 found_step Less k e rest x is here next h = next h
 found_step Equal k e rest x is here next h =
@@ -129,7 +129,7 @@ Adds-then xs ts ys zs t c g h k = record {
   lows = simp total-append (omega (arith, h.lows, k.lows));
 }
 
--- the look-up and the change, by what was found
+-- the lookup and the change, by what was found
 pub Adds-absent : (m n : BTreeMap ℕ Entry) (t : Entry) (o : Option Entry) → IsOrdered nat_cmp m → o ≡ get nat_cmp m t.variable → o ≡ None → n.entries ≡ insert_entry nat_cmp m.entries t.variable t → Adds (values m) (t ∷ []) (values n) 0
 Adds-absent m n t o sorted found none e =
     let nothing : get nat_cmp m t.variable ≡ None = sym found ∙ none in
@@ -149,21 +149,21 @@ get-le-total m k x found =
     omega (arith, here, total-sum each (values m))
 
 -- a list is added term by term
-total-front : (list : List Entry) (i : ℕ) (d x : Entry) → i < length list → x ≡ get_or list i d → total each (take i list) + x.coefficient ≤ total each list
-total-front list i d x lt e =
+total-prefix : (list : List Entry) (i : ℕ) (d x : Entry) → i < length list → x ≡ get_or list i d → total each (take i list) + x.coefficient ≤ total each list
+total-prefix list i d x lt e =
     let s = total-append each (take i list) (drop i list) in
     let t = rw (take-append-drop, drop_read list i d x lt e) at s in
     omega arith
 
 pub Putting-fits : (xs list ys : List Entry) (i c n : ℕ) (d x : Entry) → Adds xs (take i list) ys c → i < length list → x ≡ get_or list i d → total each xs + total each list < n → total each ys + x.coefficient < n
-Putting-fits xs list ys i c n d x h lt e fits = omega (arith, size-Adds xs (take i list) ys c h, total-front list i d x lt e)
+Putting-fits xs list ys i c n d x h lt e fits = omega (arith, size-Adds xs (take i list) ys c h, total-prefix list i d x lt e)
 
 pub Putting-next : (xs list ys zs : List Entry) (i c g : ℕ) (d x : Entry) → Adds xs (take i list) ys c → i < length list → x ≡ get_or list i d → Adds ys (x ∷ []) zs g → Adds xs (take (i + 1) list) zs (c + g)
 Putting-next xs list ys zs i c g d x h lt e k = rw (take_read list i d x lt e) (Adds-then xs (take i list) ys zs x c g h k)
 
 pub Putting-cancels : (xs list ys zs : List Entry) (i c g n : ℕ) (d x : Entry) → Adds xs (take i list) ys c → i < length list → x ≡ get_or list i d → Adds ys (x ∷ []) zs g → total each xs + total each list < n → c + g < n
 Putting-cancels xs list ys zs i c g n d x h lt e k fits =
-    omega (arith, size-Adds xs (take i list) ys c h, size-Adds ys (x ∷ []) zs g k, total-front list i d x lt e)
+    omega (arith, size-Adds xs (take i list) ys c h, size-Adds ys (x ∷ []) zs g k, total-prefix list i d x lt e)
 
 -- what is added to nothing is the list
 pub Adds-from_none : (ys rs : List Entry) (c : ℕ) → IsRising 0 ys → IsRising 0 rs → Adds [] ys rs c → rs ≡ ys

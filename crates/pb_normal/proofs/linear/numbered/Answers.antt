@@ -1,17 +1,17 @@
 use Rattle.std.proofs.Common.{arith, ◌≡◌, ◌∙◌, FitsSigned, to_z, of_z, rules}
 use Rattle.std.specs.Int.{w128}
 use Rattle.std.proofs.lemmas.Int.{to_z-of_z}
-use Rattle.pb_normal.specs.meaning.Names.{AfterFront}
+use Rattle.pb_normal.specs.meaning.Names.{AfterPrefix}
 use Rattle.pb_normal.specs.meaning.Written.{names_of}
-use Rattle.pb_normal.proofs.lemmas.names.Numbering.{Numbering-push, AfterFront-from, OnErr-always}
+use Rattle.pb_normal.proofs.lemmas.names.Numbering.{Numbering-push, AfterPrefix-from, OnErr-always}
 use Rattle.pb_text.proofs.lemmas.text.Lists.{take_read}
 use Rattle.pb_normal.proofs.lemmas.names.WrittenForms.{magnitude-read}
 use Rattle.pb_normal.proofs.linear.numbered.Goals as goal
 
 pub returns-in_err-variable-clause-err : goal.returns-in_err-variable-clause-err
 returns-in_err-variable-clause-err c =
-    let before = AfterFront-from c.args.side c.args.names.now c.loop-t.names c.args.terms.now c.loop-t.t-index c.loop-t.out.items c.loop-t.invariant in
-    let after : AfterFront c.args.names.now (names_of c.args.terms.now) c.number.new.self = (before.0, c.in_err-variable.ensures.err ∙ before.1) in
+    let before = AfterPrefix-from c.args.side c.args.names.now c.loop-t.names c.args.terms.now c.loop-t.t-index c.loop-t.out.items c.loop-t.invariant in
+    let after : AfterPrefix c.args.names.now (names_of c.args.terms.now) c.number.new.self = (before.0, c.in_err-variable.ensures.err ∙ before.1) in
     OnErr-always _ _ after
 
 pub signed-coefficient-requires : goal.signed-coefficient-requires
@@ -26,7 +26,7 @@ returns-in_err-push-clause-err c =
     let t = c.t-item.result in
     let step = Numbering-push c.args.side _ _ _ _ t _ _ c.loop-t.invariant (rw c.as_str.ensures at c.in_ok-variable.ensures.names) (rw c.as_str.ensures at c.in_ok-variable.ensures.number) in
     let whole = rw (← take_read c.args.terms.now c.loop-t.t-index t t (omega arith) c.t-item.is) at step in
-    OnErr-always _ _ (AfterFront-from _ _ _ c.args.terms.now _ _ whole)
+    OnErr-always _ _ (AfterPrefix-from _ _ _ c.args.terms.now _ _ whole)
 
 pub loop-t-preserved : goal.loop-t-preserved
 loop-t-preserved c =

@@ -6,14 +6,14 @@ use Rattle.pb_sums.specs.declared.values.Term.{Term}
 use Rattle.pb_sums.specs.declared.values.Linear.{Linear}
 use Rattle.pb_opb.specs.meaning.Values.{IsValueOf, IsObjective, AreLinears, AreComments, is_one, statements}
 use Rattle.pb_opb.specs.contract.Canonical.{header_bytes, lines, objective_events, constraint_events, in_order, body_events, instance_bytes}
-use Rattle.pb_opb.specs.contract.Statements.{CanonicalInstance}
+use Rattle.pb_opb.specs.contract.Laws.{CanonicalInstance}
 use Rattle.pb_opb.specs.declared.event.OpbEvent.{OpbEvent}
 use Rattle.pb_opb.specs.declared.event.OpbEvent.TheVariants.{Header}
 use Rattle.pb_opb.specs.declared.instance.Instance.{Instance}
 use Rattle.pb_opb.specs.declared.instance.Comment.{Comment}
 use Rattle.pb_opb.proofs.lemmas.instances.Counted.{IsCounted, body_of}
 use Rattle.pb_opb.proofs.lemmas.instances.Spelled.{AreMain, AreInLines, spelled, header_text, header-spelled, header-bytes, item-bytes, body-bytes, constraints-body, objective-body}
-use Rattle.pb_opb.proofs.lemmas.instances.Told.{spelled-events, order_variables, order_tail, order_objective, order_constraints, order_comments, in_lines}
+use Rattle.pb_opb.proofs.lemmas.instances.Reported.{spelled-events, order_variables, order_tail, order_objective, order_constraints, order_comments, in_lines}
 
 constraints_main : (ls : List Linear) → AreMain (constraint_events ls)
 constraints_main [] = tt
@@ -50,8 +50,8 @@ instance-bytes v =
     (body-bytes (objective_events v.objective ++ constraint_events v.constraints) (all_main v.objective v.constraints) 0 v.comments false)
     ∙ append_assoc (header_bytes v.variables (length v.constraints) v.tail) (10 ∷ []) (lines (body_events v))))
 
-instance-told : (v : Instance) → AreComments 0 (statements v) v.comments → IsValueOf (Header v.variables (length v.constraints) v.tail ∷ body_events v) v
-instance-told v h = record {
+instance-reported : (v : Instance) → AreComments 0 (statements v) v.comments → IsValueOf (Header v.variables (length v.constraints) v.tail ∷ body_events v) v
+instance-reported v h = record {
   variables = sym (order_variables v.comments v.objective v.constraints v.variables);
   tail = sym (order_tail v.comments v.objective v.constraints v.tail);
   objective = sym (order_objective v.comments v.objective v.constraints);
@@ -60,7 +60,7 @@ instance-told v h = record {
 }
 
 instance-value : (v : Instance) (events : List OpbEvent) → events ≡ body_events v → AreComments 0 (statements v) v.comments → IsValueOf (Header v.variables (length v.constraints) v.tail ∷ events) v
-instance-value v events e h = rw e (instance-told v h)
+instance-value v events e h = rw e (instance-reported v h)
 
 pub canonical_instance : CanonicalInstance
 canonical_instance limit top v l t h = (

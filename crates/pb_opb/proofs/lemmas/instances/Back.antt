@@ -4,7 +4,7 @@ use Rattle.pb_text.specs.meaning.Spelling.{Item}
 use Rattle.pb_text.specs.meaning.Whole.{events_of}
 use Rattle.pb_text.proofs.lemmas.text.Deterministic.{one_spelling}
 use Rattle.pb_opb.specs.engine.State.{opb, begin}
-use Rattle.pb_opb.specs.contract.Statements.{ReadsBack}
+use Rattle.pb_opb.specs.contract.Laws.{ReadsBack}
 use Rattle.pb_opb.specs.meaning.Values.{IsValueOf}
 use Rattle.pb_opb.specs.declared.event.OpbEvent.{OpbEvent}
 use Rattle.pb_opb.proofs.lemmas.instances.Again.{canonical_instance}

@@ -39,9 +39,9 @@ no_more : (may : Bool) → MayHave may []
 no_more true = tt
 no_more false = tt
 
-behind_comment : (may : Bool) (bytes : List ℕ) (events : List OpbEvent) → MayHave may events → MayHave may (Comment bytes ∷ events)
-behind_comment true bytes events h = h
-behind_comment false bytes events h = h
+comment_then : (may : Bool) (bytes : List ℕ) (events : List OpbEvent) → MayHave may events → MayHave may (Comment bytes ∷ events)
+comment_then true bytes events h = h
+comment_then false bytes events h = h
 
 after_comment : (may : Bool) (bytes : List ℕ) (events : List OpbEvent) → MayHave may (Comment bytes ∷ events) → MayHave may events
 after_comment true bytes events h = h
@@ -54,12 +54,12 @@ ends_more (Comment bytes) (f ∷ events) n c h = h
 ends_more (Objective terms) (f ∷ events) n c h = h
 ends_more (Constraint linear) (f ∷ events) n c h = h
 
-ends_behind : (e : OpbEvent) (events : List OpbEvent) → EndsInConstraint (e ∷ events) → EndsInConstraint events
-ends_behind e [] h = tt
-ends_behind (Header variables constraints tail) (f ∷ events) h = h
-ends_behind (Comment bytes) (f ∷ events) h = h
-ends_behind (Objective terms) (f ∷ events) h = h
-ends_behind (Constraint linear) (f ∷ events) h = h
+ends_after : (e : OpbEvent) (events : List OpbEvent) → EndsInConstraint (e ∷ events) → EndsInConstraint events
+ends_after e [] h = tt
+ends_after (Header variables constraints tail) (f ∷ events) h = h
+ends_after (Comment bytes) (f ∷ events) h = h
+ends_after (Objective terms) (f ∷ events) h = h
+ends_after (Constraint linear) (f ∷ events) h = h
 
 -- a list that ends in a constraint has one
 ends_some : (events : List OpbEvent) (e : OpbEvent) → EndsInConstraint (e ∷ events) → constraint_count (e ∷ events) ≡ 0 → ⊥
@@ -91,17 +91,17 @@ module _ (limit : ℕ) where
   entry_parts may n gap text rest g f (Header variables constraints tail) h = absurd h
   entry_parts may n gap text rest g f (Comment bytes) h =
       let p = f may (suc n) h.2 in
-      record { spelled = (g, (h.0, h.1), p.spelled); count = p.count; objective = behind_comment may bytes (events_of rest) p.objective; last = ends_more (Comment bytes) (events_of rest) n p.count p.last }
+      record { spelled = (g, (h.0, h.1), p.spelled); count = p.count; objective = comment_then may bytes (events_of rest) p.objective; last = ends_more (Comment bytes) (events_of rest) n p.count p.last }
   entry_parts may n gap text rest g f (Objective terms) h =
       let p = f false (suc n) h.2 in
       record { spelled = (g, h.1, p.spelled); count = p.count; objective = subst (λ (m : Bool). MayHave m (Objective terms ∷ events_of rest)) (sym h.0) p.objective; last = ends_more (Objective terms) (events_of rest) n p.count p.last }
   entry_parts may n gap text rest g f (Constraint linear) h =
       let p = f false n h.1 in
-      record { spelled = (g, h.0, p.spelled); count = ap suc p.count; objective = behind may (events_of rest) p.objective; last = at_end (events_of rest) p.last }
+      record { spelled = (g, h.0, p.spelled); count = ap suc p.count; objective = following may (events_of rest) p.objective; last = at_end (events_of rest) p.last }
     where
-      behind : (m : Bool) (events : List OpbEvent) → HasNoObjective events → MayHave m (Constraint linear ∷ events)
-      behind true events k = k
-      behind false events k = k
+      following : (m : Bool) (events : List OpbEvent) → HasNoObjective events → MayHave m (Constraint linear ∷ events)
+      following true events k = k
+      following false events k = k
 
       at_end : (events : List OpbEvent) → EndsInConstraint events → EndsInConstraint (Constraint linear ∷ events)
       at_end [] k = tt
@@ -122,11 +122,11 @@ module _ (limit : ℕ) where
       → IsEntry limit may n text (λ m k. IsCounted limit m k rest) e
   entry_counted may n text rest r f (Header variables constraints tail) s c o l = absurd s
   entry_counted may n text rest r f (Comment bytes) s c o l =
-      (s.0, s.1, f may (suc n) c (after_comment may bytes (events_of rest) o) (ends_behind (Comment bytes) (events_of rest) l))
-  entry_counted true n text rest r f (Objective terms) s c o l = (refl, s, f false (suc n) c o (ends_behind (Objective terms) (events_of rest) l))
+      (s.0, s.1, f may (suc n) c (after_comment may bytes (events_of rest) o) (ends_after (Comment bytes) (events_of rest) l))
+  entry_counted true n text rest r f (Objective terms) s c o l = (refl, s, f false (suc n) c o (ends_after (Objective terms) (events_of rest) l))
   entry_counted false n text rest r f (Objective terms) s c o l = absurd o
   entry_counted may n text rest r f (Constraint linear) s c o l =
-      (s, f false n (omega (arith, c)) (none may o) (ends_behind (Constraint linear) (events_of rest) l))
+      (s, f false n (omega (arith, c)) (none may o) (ends_after (Constraint linear) (events_of rest) l))
     where
       none : (m : Bool) → MayHave m (Constraint linear ∷ events_of rest) → HasNoObjective (events_of rest)
       none true k = k

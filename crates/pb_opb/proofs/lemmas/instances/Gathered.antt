@@ -61,7 +61,7 @@ value_of events b v i n e =
 module _ (format : List (Item OpbEvent) → Type 0) (longest : ℕ) (b : InstanceSoFar) (i : b.instance ≡ nothing) (n : b.ended ≡ 0) (used : List ℕ) where
   pub is_read : (m : Spanned InstanceSoFar) → IsWhole format longest one_more b used m → (let r : Spanned Instance = record { event = m.event.instance; first = m.first; past = m.past } in IsRead format longest IsValueOf used r)
   is_read m w = record {
-    marks = w.marks;
+    spans = w.spans;
     spelled = w.spelled;
     value = value_of (events_of w.spelled.items) b m.event i n w.value;
     first = w.first;

@@ -11,7 +11,7 @@ use Rattle.pb_sums.specs.declared.grammar.Spaces.TheVariants.{White}
 use Rattle.pb_sums.proofs.lemmas.values.Within.{sum-within, linear-within}
 use Rattle.pb_opb.specs.meaning.Instances.{IsTail, SpellsHeader, SpellsObjective, IsBegun}
 use Rattle.pb_opb.specs.meaning.Values.{last_or, variables_in, tails_in, objectives_in, constraints_in, comments_in, IsValueOf, IsInstanceValue, IsObjective, AreLinears, AreComments, is_one}
-use Rattle.pb_opb.specs.contract.Statements.{InstanceValues, IsOneHeader}
+use Rattle.pb_opb.specs.contract.Laws.{InstanceValues, IsOneHeader}
 use Rattle.pb_opb.specs.declared.event.OpbEvent.{OpbEvent}
 use Rattle.pb_opb.specs.declared.event.OpbEvent.TheVariants.{Header, Comment, Objective, Constraint}
 use Rattle.pb_opb.specs.declared.instance.Comment as comment
@@ -38,7 +38,7 @@ module _ (limit : ℕ) where
   Objectives may n (Some terms ∷ x ∷ rest) = ⊥
 
   -- statements after a header, of which n are constraints
-  pub record IsTold (may : Bool) (n : ℕ) (events : List OpbEvent) : Type 0 where
+  pub record WasReported (may : Bool) (n : ℕ) (events : List OpbEvent) : Type 0 where
     pub variables : variables_in events ≡ []
     pub tails : tails_in events ≡ []
     pub count : length (constraints_in events) ≡ n
@@ -55,12 +55,12 @@ module _ (limit : ℕ) where
   objectives-more : (may : Bool) (n : ℕ) (os : List (Option (List Term))) → Objectives false n os → Objectives may (suc n) os
   objectives-more may n os h = subst (Objectives may (suc n)) (sym (no_objective n os h)) tt
 
-  told-entry : (may : Bool) (n : ℕ) (text : List Letter) (e : OpbEvent) (rest : List (Item OpbEvent))
-      → ((m : Bool) (k : ℕ) → IsCounted limit m k rest → IsTold m k (events_of rest))
-      → IsEntry limit may n text (λ m k. IsCounted limit m k rest) e → IsTold may (suc n) (e ∷ events_of rest)
-  told-entry may n text (Header a b t) rest ih h = absurd h
-  told-entry may n text (Comment t) rest ih h =
-      let r : IsTold may (suc n) (events_of rest) = ih may (suc n) h.2 in
+  reported-entry : (may : Bool) (n : ℕ) (text : List Letter) (e : OpbEvent) (rest : List (Item OpbEvent))
+      → ((m : Bool) (k : ℕ) → IsCounted limit m k rest → WasReported m k (events_of rest))
+      → IsEntry limit may n text (λ m k. IsCounted limit m k rest) e → WasReported may (suc n) (e ∷ events_of rest)
+  reported-entry may n text (Header a b t) rest ih h = absurd h
+  reported-entry may n text (Comment t) rest ih h =
+      let r : WasReported may (suc n) (events_of rest) = ih may (suc n) h.2 in
       record {
         variables = r.variables;
         tails = r.tails;
@@ -69,8 +69,8 @@ module _ (limit : ℕ) where
         objectives = r.objectives;
         comments = λ k. (omega arith, omega arith, h.0, r.comments k);
       }
-  told-entry may n text (Objective t) rest ih h =
-      let r : IsTold false (suc n) (events_of rest) = ih false (suc n) h.2 in
+  reported-entry may n text (Objective t) rest ih h =
+      let r : WasReported false (suc n) (events_of rest) = ih false (suc n) h.2 in
       let none : objectives_in (events_of rest) ≡ [] = no_objective (suc n) (objectives_in (events_of rest)) r.objectives in
       record {
         variables = r.variables;
@@ -83,8 +83,8 @@ module _ (limit : ℕ) where
             comments_fall k (k + 1) (k + (suc n + suc (length (objectives_in (events_of rest))))) (comments_in (k + 1) (events_of rest)) (omega arith)
             (subst (λ (a : ℕ). AreComments (k + 1) a (comments_in (k + 1) (events_of rest))) e (r.comments (k + 1)));
       }
-  told-entry may n text (Constraint l) rest ih h =
-      let r : IsTold false n (events_of rest) = ih false n h.1 in
+  reported-entry may n text (Constraint l) rest ih h =
+      let r : WasReported false n (events_of rest) = ih false n h.1 in
       record {
         variables = r.variables;
         tails = r.tails;
@@ -97,11 +97,11 @@ module _ (limit : ℕ) where
             (subst (λ (a : ℕ). AreComments (k + 1) a (comments_in (k + 1) (events_of rest))) e (r.comments (k + 1)));
       }
 
-  pub told : (may : Bool) (n : ℕ) (items : List (Item OpbEvent)) → IsCounted limit may n items → IsTold may n (events_of items)
-  told may zero [] h = record { variables = refl; tails = refl; count = refl; constraints = tt; objectives = tt; comments = λ k. tt }
-  told may zero (i ∷ rest) h = absurd h
-  told may (suc n) [] h = absurd h
-  told may (suc n) (i ∷ rest) h = told-entry may n i.text i.event rest (λ m k b. told m k rest b) h.1
+  pub reported : (may : Bool) (n : ℕ) (items : List (Item OpbEvent)) → IsCounted limit may n items → WasReported may n (events_of items)
+  reported may zero [] h = record { variables = refl; tails = refl; count = refl; constraints = tt; objectives = tt; comments = λ k. tt }
+  reported may zero (i ∷ rest) h = absurd h
+  reported may (suc n) [] h = absurd h
+  reported may (suc n) (i ∷ rest) h = reported-entry may n i.text i.event rest (λ m k b. reported m k rest b) h.1
 
   objective-value : (n : ℕ) (os : List (Option (List Term))) (cs : List Linear) → length cs ≡ n → Objectives true n os → IsObjective limit cs (last_or None os)
   objective-value n [] cs e h = tt
@@ -122,7 +122,7 @@ begun limit top i rest (Objective t) v h k = absurd h
 begun limit top i rest (Constraint l) v h k = absurd h
 begun limit top i rest (Header n m tail) v h k =
     let events : List OpbEvent = events_of rest in
-    let r = told limit true m rest (counted limit m rest h.3) in
+    let r = reported limit true m rest (counted limit m rest h.3) in
     let c = counts-within top n m tail i.text h.2 in
     let os : List (Option (List Term)) = objectives_in events in
     let o = objectives-count limit m os r.objectives in
@@ -140,7 +140,7 @@ begun limit top i rest (Header n m tail) v h k =
         constraints = subst (AreLinears limit) (sym k.constraints) r.constraints;
       },
       record {
-        behind = events;
+        following = events;
         header = rw (variables_is, count_is, tail_is) refl;
         no_other = r.variables;
         one_objective = o.1;

@@ -3,7 +3,7 @@ use Rattle.std.proofs.Common.{ℕ, zero, suc, ◌≤◌, Bool, true, false, List
 use Rattle.pb_text.specs.meaning.Languages.{Language, ◌⋅◌, Byte, Bytes, Blanks0, Blanks1}
 use Rattle.pb_text.specs.meaning.Numbers.{Count}
 use Rattle.pb_text.specs.meaning.Spelling.{Item, Letter}
-use Rattle.pb_text.proofs.lemmas.text.Languages.{inside, behind_it}
+use Rattle.pb_text.proofs.lemmas.text.Languages.{inside, after_it}
 use Rattle.pb_sums.specs.meaning.Sums.{Spells}
 use Rattle.pb_sums.specs.declared.grammar.Part as part
 use Rattle.pb_sums.specs.declared.grammar.Spaces.TheVariants.{White}
@@ -14,7 +14,7 @@ use Rattle.pb_opb.specs.meaning.Instances.{variable_word, constraint_word, Spell
 use Rattle.pb_opb.specs.declared.event.OpbEvent.{OpbEvent}
 use Rattle.pb_opb.specs.declared.event.OpbEvent.TheVariants.{Header, Comment, Objective, Constraint}
 use Rattle.pb_opb.proofs.lemmas.instances.Counted.{IsEntry, IsCounted, counted, body_of}
-use Rattle.pb_opb.proofs.lemmas.machine.Objectives.{MinFront, objective_of, objective_parts}
+use Rattle.pb_opb.proofs.lemmas.machine.Objectives.{MinPrefix, objective_of, objective_parts}
 
 module _ (top top' : ℕ) (h : top ≤ top') where
   abbrev Grows : (ℕ → Language) → Type 0
@@ -26,7 +26,7 @@ module _ (top top' : ℕ) (h : top ≤ top') where
 
   then_count : (P : ℕ → Language) (n : ℕ) → Grows P → Grows (λ m. P m ⋅ Count m n)
   then_count P n f t k =
-      behind_it (P top') (Count top n) (Count top' n) t (λ q r. (omega (arith, r.0), r.1)) (inside (P top) (P top') (Count top n) t f k)
+      after_it (P top') (Count top n) (Count top' n) t (λ q r. (omega (arith, r.0), r.1)) (inside (P top) (P top') (Count top n) t f k)
 
   header_grows : (v n : ℕ) (tail : List ℕ) → Grows (λ m. SpellsHeader m v n tail)
   header_grows v n tail =
@@ -45,7 +45,7 @@ module _ (limit limit' : ℕ) (h : limit ≤ limit') where
   objective_grows : (xs : List Term) (t : List Letter) → SpellsObjective limit xs t → SpellsObjective limit' xs t
   objective_grows xs t k =
       objective_of limit' xs t
-      (behind_it MinFront (Spells White limit part.TheVariants.Sum (sum.TheVariants.Sum xs)) (Spells White limit' part.TheVariants.Sum (sum.TheVariants.Sum xs)) t
+      (after_it MinPrefix (Spells White limit part.TheVariants.Sum (sum.TheVariants.Sum xs)) (Spells White limit' part.TheVariants.Sum (sum.TheVariants.Sum xs)) t
       (λ q r. spells_larger White limit limit' h part.TheVariants.Sum q (sum.TheVariants.Sum xs) r) (objective_parts limit xs t k))
 
   entry_grows : (may : Bool) (n : ℕ) (text : List Letter) (P Q : Bool → ℕ → Type 0) → ((m : Bool) (k : ℕ) → P m k → Q m k) → (e : OpbEvent)

@@ -37,12 +37,12 @@ abbrev comment_text : List ℕ → List Letter
 comment_text text = star ++ plain text ++ feed
 
 -- the space after a sum
-abbrev behind : List Term → List Letter
-behind [] = []
-behind (x ∷ xs) = space
+abbrev following : List Term → List Letter
+following [] = []
+following (x ∷ xs) = space
 
 abbrev objective_text : List Term → List Letter
-objective_text terms = plain min_word ++ space ++ sum_text terms ++ behind terms ++ (unmarked 59 ∷ [])
+objective_text terms = plain min_word ++ space ++ sum_text terms ++ following terms ++ (unmarked 59 ∷ [])
 
 abbrev text_of : OpbEvent → List Letter
 text_of (Header n m tail) = header_text n m tail
@@ -157,15 +157,15 @@ comment-bytes text =
 regrouped5 : (a b c d e : List Letter) → a ++ b ++ c ++ d ++ e ≡ a ++ (b ++ ((c ++ d) ++ e))
 regrouped5 a b c d e = simp append_assoc
 
-head-bytes : (terms : List Term) → bytes (sum_text terms ++ behind terms) ≡ head_bytes terms
+head-bytes : (terms : List Term) → bytes (sum_text terms ++ following terms) ≡ head_bytes terms
 head-bytes [] = refl
 head-bytes (x ∷ xs) = bytes-append (sum_text (x ∷ xs)) space ∙ ap (λ y. y ++ (32 ∷ [])) (bytes-sum (x ∷ xs))
 
 objective-bytes : (terms : List Term) → bytes (objective_text terms) ≡ objective_bytes terms
 objective-bytes terms =
     let E : List Letter = unmarked 59 ∷ [] in
-    ap bytes (regrouped5 (plain min_word) space (sum_text terms) (behind terms) E)
-    ∙ ap (λ y. min_word ++ (32 ∷ y)) (bytes-append (sum_text terms ++ behind terms) E ∙ ap (λ y. y ++ (59 ∷ [])) (head-bytes terms))
+    ap bytes (regrouped5 (plain min_word) space (sum_text terms) (following terms) E)
+    ∙ ap (λ y. min_word ++ (32 ∷ y)) (bytes-append (sum_text terms ++ following terms) E ∙ ap (λ y. y ++ (59 ∷ [])) (head-bytes terms))
 
 -- Statements with white space before them: a line feed, unless the statement before ended with one.
 abbrev gap_of : Bool → List ℕ

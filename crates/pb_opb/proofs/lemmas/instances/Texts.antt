@@ -57,12 +57,12 @@ pub in_order_parts : (n : ℕ) (cs : List Comment) (e : OpbEvent) (events : List
 in_order_parts n cs e events = led-append (comment_events (take (due n cs) cs)) (e ∷ in_order (n + 1) (drop (due n cs) cs) events)
 
 -- One constraint of the rest, with the comments before it.
-pub constraint_turn : (whole front : List ℕ) (n i k : ℕ) (rest before later : List Comment) (cs : List Linear) (x : Linear) → i < length cs
+pub constraint_turn : (whole prefix : List ℕ) (n i k : ℕ) (rest before later : List Comment) (cs : List Linear) (x : Linear) → i < length cs
     → k ≡ due (n + i) rest → before ≡ take k rest → later ≡ drop k rest → x ≡ get_or cs i x
-    → whole ≡ front ++ led_lines (in_order (n + i) rest (constraint_events (drop i cs)))
-    → whole ≡ front ++ (led_lines (comment_events before)
+    → whole ≡ prefix ++ led_lines (in_order (n + i) rest (constraint_events (drop i cs)))
+    → whole ≡ prefix ++ (led_lines (comment_events before)
     ++ ((10 ∷ linear_bytes x) ++ led_lines (in_order (n + (i + 1)) later (constraint_events (drop (i + 1) cs)))))
-constraint_turn whole front n i k rest before later cs x h q b l f e =
+constraint_turn whole prefix n i k rest before later cs x h q b l f e =
     let one : suc i ≡ i + 1 = omega arith in
     let next : n + i + 1 ≡ n + (i + 1) = omega arith in
     let now : take (due (n + i) rest) rest ≡ before = ap (λ (m : ℕ). take m rest) (sym q) ∙ sym b in
@@ -70,7 +70,7 @@ constraint_turn whole front n i k rest before later cs x h q b l f e =
     let T : List Comment → Linear → ℕ → List Comment → ℕ → List ℕ =
     λ c y j r m. led_lines (comment_events c) ++ ((10 ∷ linear_bytes y) ++ led_lines (in_order j r (constraint_events (drop m cs)))) in
     e
-    ∙ ap (λ (z : List ℕ). front ++ z)
+    ∙ ap (λ (z : List ℕ). prefix ++ z)
     (ap (λ (z : List Linear). led_lines (in_order (n + i) rest (constraint_events z))) (drop-cons cs i x h)
     ∙ (in_order_parts (n + i) rest (Constraint (get_or cs i x)) (constraint_events (drop (suc i) cs))
     ∙ (ap₂ (λ (c r : List Comment). T c (get_or cs i x) (n + i + 1) r (suc i)) now then
@@ -78,15 +78,15 @@ constraint_turn whole front n i k rest before later cs x h q b l f e =
     ∙ ap₂ (λ (j m : ℕ). T before x j later m) next one))))
 
 -- the same, with all that was written before
-pub constraint_done : (whole front a b rest : List ℕ) → whole ≡ front ++ (a ++ (b ++ rest)) → whole ≡ (front ++ (a ++ b)) ++ rest
-constraint_done whole front a b rest e =
-    e ∙ (ap (λ (z : List ℕ). front ++ z) (sym (append_assoc a b rest)) ∙ sym (append_assoc front (a ++ b) rest))
+pub constraint_done : (whole prefix a b rest : List ℕ) → whole ≡ prefix ++ (a ++ (b ++ rest)) → whole ≡ (prefix ++ (a ++ b)) ++ rest
+constraint_done whole prefix a b rest e =
+    e ∙ (ap (λ (z : List ℕ). prefix ++ z) (sym (append_assoc a b rest)) ∙ sym (append_assoc prefix (a ++ b) rest))
 
 -- no constraint is left
-pub constraints_end : (whole front : List ℕ) (n i : ℕ) (rest : List Comment) (cs : List Linear) → length cs ≤ i
-    → whole ≡ front ++ led_lines (in_order (n + i) rest (constraint_events (drop i cs))) → front ≡ whole
-constraints_end whole front n i rest cs h e =
-    sym (e ∙ (ap (λ (z : List Linear). front ++ led_lines (in_order (n + i) rest (constraint_events z))) (drop_all i cs h) ∙ append-nil front))
+pub constraints_end : (whole prefix : List ℕ) (n i : ℕ) (rest : List Comment) (cs : List Linear) → length cs ≤ i
+    → whole ≡ prefix ++ led_lines (in_order (n + i) rest (constraint_events (drop i cs))) → prefix ≡ whole
+constraints_end whole prefix n i rest cs h e =
+    sym (e ∙ (ap (λ (z : List Linear). prefix ++ led_lines (in_order (n + i) rest (constraint_events z))) (drop_all i cs h) ∙ append-nil prefix))
 
 -- the same for the objective
 pub objective_turn : (k : ℕ) (terms : List Term) (cs before later : List Comment) (events : List OpbEvent) → k ≡ due 0 cs → before ≡ take k cs → later ≡ drop k cs

@@ -20,7 +20,7 @@ use Rattle.pb_opb.specs.declared.phase.Field.{Field}
 use Rattle.pb_opb.specs.declared.phase.Field.TheVariants.{Variables, Constraints}
 use Rattle.pb_opb.specs.declared.phase.Phase.{Phase}
 use Rattle.pb_opb.specs.declared.phase.Phase as phase
-use Rattle.pb_opb.specs.declared.phase.Move.TheVariants.{To, Stop}
+use Rattle.pb_opb.specs.declared.phase.Action.TheVariants.{To, Stop}
 use Rattle.pb_opb.proofs.lemmas.machine.GivenBytes.{Gives, gives_objective, gives_constraint, within_reads}
 use Rattle.pb_opb.proofs.lemmas.machine.Stands.{stands}
 

@@ -13,7 +13,7 @@ use Rattle.pb_text.specs.meaning.Spelling.{Letter, bytes}
 use Rattle.pb_text.proofs.lemmas.machine.Asked as asked
 use Rattle.pb_text.proofs.lemmas.text.Languages.{bytes-plain, bytes-append}
 use Rattle.pb_text.proofs.lemmas.text.Booleans.{never}
-use Rattle.pb_text.proofs.lemmas.machine.Walking.{Walks, reads_behind, fronts}
+use Rattle.pb_text.proofs.lemmas.machine.Walking.{Walks, reads_after, prefixes_of}
 use Rattle.pb_sums.specs.engine.State.{SumState, sums}
 use Rattle.pb_sums.specs.meaning.Sums.{Spells}
 use Rattle.pb_sums.specs.declared.grammar.Part as part
@@ -33,17 +33,17 @@ use Rattle.pb_opb.specs.declared.phase.Field.{Field}
 use Rattle.pb_opb.specs.declared.phase.Field.TheVariants.{Variables, Constraints}
 use Rattle.pb_opb.specs.declared.phase.Phase.{Phase}
 use Rattle.pb_opb.specs.declared.phase.Phase as phase
-use Rattle.pb_opb.specs.declared.phase.Move.{Move}
-use Rattle.pb_opb.specs.declared.phase.Move.TheVariants.{Keep, EndComment}
+use Rattle.pb_opb.specs.declared.phase.Action.{Action}
+use Rattle.pb_opb.specs.declared.phase.Action.TheVariants.{Keep, EndComment}
 use Rattle.pb_opb.proofs.lemmas.machine.Bodies.{InGap, gap_given, nothing_read, instance_each}
-use Rattle.pb_opb.proofs.lemmas.machine.EntryFront as entry
-use Rattle.pb_opb.proofs.lemmas.machine.Fronts.{line_grown, tail_grown}
-use Rattle.pb_opb.proofs.lemmas.machine.HeaderFront as header
+use Rattle.pb_opb.proofs.lemmas.machine.EntryPrefix as entry
+use Rattle.pb_opb.proofs.lemmas.machine.Prefixes.{line_grown, tail_grown}
+use Rattle.pb_opb.proofs.lemmas.machine.HeaderPrefix as header
 use Rattle.pb_opb.proofs.lemmas.machine.GivenBytes.{Gives, gives_objective, gives_constraint, given_step}
 use Rattle.pb_opb.proofs.lemmas.machine.Stands.{idle}
 
 -- no byte may allocate if its moves do not
-silent : {A : Type 0} (s : OpbState) (b : ℕ) (m : Move) → asks s b m ≡ false → asks s b m ≡ true → A
+silent : {A : Type 0} (s : OpbState) (b : ℕ) (m : Action) → asks s b m ≡ false → asks s b m ≡ true → A
 silent s b m e h = absurd (false≢true (sym e ∙ h))
 
 module _ (limit top : ℕ) where
@@ -61,7 +61,7 @@ module _ (limit top : ℕ) where
   gap_idle v may zero b = tt
   gap_idle v may (suc n) b =
       let s : OpbState = idle limit top v may (suc n) in
-      let P : Move → Type 0 = λ m. Quiet (act s b m) (asks s b m) in
+      let P : Action → Type 0 = λ m. Quiet (act s b m) (asks s b m) in
       cond_both (is_white b) _ _ P (λ e o. (inr (v, may, suc n, refl), refl))
       (λ _. cond_both (nat_eq b 42) _ _ P (λ _ o. never true refl o)
       (λ _. cond_both (nat_eq b 109 && may) _ _ P (λ _ o. never true refl o)
@@ -75,22 +75,22 @@ module _ (limit top : ℕ) where
   gaps s next b i g o = (subst (λ x. Quiet x (opb.asks s b)) g (gap_of s b i)) o
 
   -- after a statement
-  behind_header : (e : OpbEvent) (next : OpbState) (t : List Letter) → header.IsHeader limit top e next t → Idle next
-  behind_header (Header v n tail) next t h = inr (v, true, n, h.2)
-  behind_header (Comment line) next t h = absurd h
-  behind_header (Objective terms) next t h = absurd h
-  behind_header (Constraint linear) next t h = absurd h
+  after_header : (e : OpbEvent) (next : OpbState) (t : List Letter) → header.IsHeader limit top e next t → Idle next
+  after_header (Header v n tail) next t h = inr (v, true, n, h.2)
+  after_header (Comment line) next t h = absurd h
+  after_header (Objective terms) next t h = absurd h
+  after_header (Constraint linear) next t h = absurd h
 
-  behind_entry : (v n : ℕ) (may : Bool) (e : OpbEvent) (next : OpbState) (t : List Letter) → entry.IsStatement limit top v n may e next t → Idle next
-  behind_entry v n may (Header w k tail) next t h = absurd h
-  behind_entry v n may (Comment line) next t h = inr (v, may, suc n, h.2)
-  behind_entry v n may (Objective terms) next t h = inr (v, false, suc n, h.2)
-  behind_entry v n may (Constraint linear) next t h = inr (v, false, n, h.1)
+  after_entry : (v n : ℕ) (may : Bool) (e : OpbEvent) (next : OpbState) (t : List Letter) → entry.IsStatement limit top v n may e next t → Idle next
+  after_entry v n may (Header w k tail) next t h = absurd h
+  after_entry v n may (Comment line) next t h = inr (v, may, suc n, h.2)
+  after_entry v n may (Objective terms) next t h = inr (v, false, suc n, h.2)
+  after_entry v n may (Constraint linear) next t h = inr (v, false, n, h.1)
 
   ends : (s next : OpbState) (t : List Letter) (e : OpbEvent) → Idle s → Reads opb s t e next → Idle next
-  ends s next t e (inl f) r = behind_header e next t (header.header_only limit top t e next (subst (λ x. Reads opb x t e next) f r))
+  ends s next t e (inl f) r = after_header e next t (header.header_only limit top t e next (subst (λ x. Reads opb x t e next) f r))
   ends s next t e (inr (v, may, zero, f)) r = absurd (nothing_read limit top v may [] t e (idle limit top v may zero) next refl (subst (λ x. Reads opb x t e next) f r))
-  ends s next t e (inr (v, may, suc n, f)) r = behind_entry v n may e next t (entry.entry_only limit top v n may t e next (subst (λ x. Reads opb x t e next) f r))
+  ends s next t e (inr (v, may, suc n, f)) r = after_entry v n may e next t (entry.entry_only limit top v n may t e next (subst (λ x. Reads opb x t e next) f r))
 
   -- the header
   abbrev AsksHeader : ℕ → List ℕ → ℕ → Type 0
@@ -106,16 +106,16 @@ module _ (limit top : ℕ) where
 
   module _ (s : OpbState) (p : List Letter) (b : ℕ) where
     -- what follows if a move may allocate
-    abbrev Then : Type 0 → Move → Type 0
+    abbrev Then : Type 0 → Action → Type 0
     Then A m = asks s b m ≡ true → A
 
-    quiet : (A : Type 0) (m : Move) → asks s b m ≡ false → Then A m
+    quiet : (A : Type 0) (m : Action) → asks s b m ≡ false → Then A m
     quiet A m e = λ h. silent s b m e h
 
     count_quiet : (A : Type 0) (f : Field) (n : ℕ) → Then A (count s.top f n b)
     count_quiet A f n = cond_both (is_digit b && nat_le (10 * n + (b - 48)) s.top) _ _ (Then A) (λ _ h. absurd (false≢true h)) (λ _ h. absurd (false≢true h))
 
-    header_asks : (q : Phase) → header.front s q p → Then (AsksHeader s.top (bytes p) b) (plan s.top q b)
+    header_asks : (q : Phase) → header.prefix s q p → Then (AsksHeader s.top (bytes p) b) (plan s.top q b)
     header_asks phase.TheVariants.Start h = cond_both (nat_eq b 42) _ _ (Then (AsksHeader s.top (bytes p) b)) (λ _ k. absurd (false≢true k)) (λ _ k. absurd (false≢true k))
     header_asks (phase.TheVariants.BeforeWord f) h =
         cond_both (is_blank b) _ _ (Then (AsksHeader s.top (bytes p) b)) (λ _ k. absurd (false≢true k))
@@ -200,7 +200,7 @@ module _ (limit top : ℕ) where
   in_objective : (s new : OpbState) (inner : SumState) (a c rest : List Letter) (l : Letter) (f : SumEvent) → MinLead a → Walks sums (objectives s.limit) c s.sums → Reads sums s.sums (l ∷ rest) f inner
       → sums.asks s.sums l.byte ≡ true → Asks top (statement_of f) (bytes (a ++ c)) l.byte
   in_objective s new inner a c rest l f lead w r h =
-      by_event f ((reads_grammar White part.TheVariants.Sum s.limit (c ++ l ∷ rest) f inner).0 (reads_behind sums c (l ∷ rest) (objectives s.limit) s.sums inner f w r)).0
+      by_event f ((reads_grammar White part.TheVariants.Sum s.limit (c ++ l ∷ rest) f inner).0 (reads_after sums c (l ∷ rest) (objectives s.limit) s.sums inner f w r)).0
     where
       by_event : (g : SumEvent) → Spells White s.limit part.TheVariants.Sum g (c ++ l ∷ rest) → Asks top (statement_of g) (bytes (a ++ c)) l.byte
       by_event (sum.TheVariants.Sum xs) k =
@@ -210,16 +210,16 @@ module _ (limit top : ℕ) where
   in_constraint : (s : OpbState) (inner : SumState) (p rest : List Letter) (l : Letter) (f : SumEvent) → Walks sums (linears s.limit) p s.sums → Reads sums s.sums (l ∷ rest) f inner
       → sums.asks s.sums l.byte ≡ true → Asks top (statement_of f) (bytes p) l.byte
   in_constraint s inner p rest l f w r h =
-      by_event f ((reads_grammar White part.TheVariants.Linear s.limit (p ++ l ∷ rest) f inner).0 (reads_behind sums p (l ∷ rest) (linears s.limit) s.sums inner f w r)).0
+      by_event f ((reads_grammar White part.TheVariants.Linear s.limit (p ++ l ∷ rest) f inner).0 (reads_after sums p (l ∷ rest) (linears s.limit) s.sums inner f w r)).0
     where
       by_event : (g : SumEvent) → Spells White s.limit part.TheVariants.Linear g (p ++ l ∷ rest) → Asks top (statement_of g) (bytes p) l.byte
       by_event (sum.TheVariants.Sum xs) k = never false k.0 refl
       by_event (sum.TheVariants.Linear d) k = sums_asked White part.TheVariants.Linear s.limit p s.sums l.byte w h
 
   module _ (v n : ℕ) (may : Bool) (s next : OpbState) (p rest : List Letter) (l : Letter) (e : OpbEvent) where
-    entry_asks : (q : Phase) → s.phase ≡ q → entry.front limit top v n may s q p → Reads opb s (l ∷ rest) e next → Then s p l.byte (Asks top e (bytes p) l.byte) (plan s.top q l.byte)
+    entry_asks : (q : Phase) → s.phase ≡ q → entry.prefix limit top v n may s q p → Reads opb s (l ∷ rest) e next → Then s p l.byte (Asks top e (bytes p) l.byte) (plan s.top q l.byte)
     entry_asks (phase.TheVariants.Between m) at (same, none, kept, inner) r =
-        let T : Move → Type 0 = Then s p l.byte (Asks top e (bytes p) l.byte) in
+        let T : Action → Type 0 = Then s p l.byte (Asks top e (bytes p) l.byte) in
         cond_both (is_white l.byte) _ _ T (λ _ k. absurd (false≢true k))
         (λ _. cond_both (nat_eq l.byte 42) _ _ T (λ _ k. absurd (false≢true k))
         (λ _. cond_both (nat_eq l.byte 109 && m) _ _ T (λ _ k. absurd (false≢true k))
@@ -248,21 +248,21 @@ module _ (limit top : ℕ) where
     entry_asks phase.TheVariants.Tail at h r = absurd h
     entry_asks phase.TheVariants.Done at h r = absurd h
 
-  texts : (at s next : OpbState) (front rest : List Letter) (l : Letter) (e : OpbEvent) → Idle at → Walks opb at front s → Reads opb s (l ∷ rest) e next
-      → IsTrue (opb.asks s l.byte) → Asks top e (bytes front) l.byte
-  texts at s next front rest l e (inl f) w r a =
-      let walk : Walks opb (begin limit top) front s = subst (λ x. Walks opb x front s) f w in
-      let k : header.Front limit top s front = fronts opb (header.Front limit top) (header.Told limit top) (header.keeps limit top) front (begin limit top) [] s walk ((refl, refl), refl) in
-      let h : header.IsHeader limit top e next (front ++ l ∷ rest) = header.header_only limit top (front ++ l ∷ rest) e next (reads_behind opb front (l ∷ rest) (begin limit top) s next e walk r) in
-      at_header e next (front ++ l ∷ rest) (bytes front) l.byte h (subst (λ x. AsksHeader x (bytes front) l.byte) k.0.1 (header_asks s front l.byte s.phase k.1 a))
-  texts at s next front rest l e (inr (v, may, zero, f)) w r a =
-      let walk : Walks opb (idle limit top v may zero) front s = subst (λ x. Walks opb x front s) f w in
-      absurd (nothing_read limit top v may [] (front ++ l ∷ rest) e (idle limit top v may zero) next refl (reads_behind opb front (l ∷ rest) (idle limit top v may zero) s next e walk r))
-  texts at s next front rest l e (inr (v, may, suc n, f)) w r a =
+  texts : (at s next : OpbState) (prefix rest : List Letter) (l : Letter) (e : OpbEvent) → Idle at → Walks opb at prefix s → Reads opb s (l ∷ rest) e next
+      → IsTrue (opb.asks s l.byte) → Asks top e (bytes prefix) l.byte
+  texts at s next prefix rest l e (inl f) w r a =
+      let walk : Walks opb (begin limit top) prefix s = subst (λ x. Walks opb x prefix s) f w in
+      let k : header.Prefix limit top s prefix = prefixes_of opb (header.Prefix limit top) (header.Reported limit top) (header.keeps limit top) prefix (begin limit top) [] s walk ((refl, refl), refl) in
+      let h : header.IsHeader limit top e next (prefix ++ l ∷ rest) = header.header_only limit top (prefix ++ l ∷ rest) e next (reads_after opb prefix (l ∷ rest) (begin limit top) s next e walk r) in
+      at_header e next (prefix ++ l ∷ rest) (bytes prefix) l.byte h (subst (λ x. AsksHeader x (bytes prefix) l.byte) k.0.1 (header_asks s prefix l.byte s.phase k.1 a))
+  texts at s next prefix rest l e (inr (v, may, zero, f)) w r a =
+      let walk : Walks opb (idle limit top v may zero) prefix s = subst (λ x. Walks opb x prefix s) f w in
+      absurd (nothing_read limit top v may [] (prefix ++ l ∷ rest) e (idle limit top v may zero) next refl (reads_after opb prefix (l ∷ rest) (idle limit top v may zero) s next e walk r))
+  texts at s next prefix rest l e (inr (v, may, suc n, f)) w r a =
       let start : OpbState = idle limit top v may (suc n) in
-      let walk : Walks opb start front s = subst (λ x. Walks opb x front s) f w in
-      let k : entry.Front limit top v n may s front = fronts opb (entry.Front limit top v n may) (entry.IsStatement limit top v n may) (entry.keeps limit top v n may) front start [] s walk ((refl, refl, refl, refl), (refl, refl, refl, refl)) in
-      entry_asks v n may s next front rest l e s.phase refl k.1 r a
+      let walk : Walks opb start prefix s = subst (λ x. Walks opb x prefix s) f w in
+      let k : entry.Prefix limit top v n may s prefix = prefixes_of opb (entry.Prefix limit top v n may) (entry.IsStatement limit top v n may) (entry.keeps limit top v n may) prefix start [] s walk ((refl, refl, refl, refl), (refl, refl, refl, refl)) in
+      entry_asks v n may s next prefix rest l e s.phase refl k.1 r a
 
   -- after these bytes of an instance
   pub asks_only : (used : List ℕ) (b : ℕ) → MayAsk opb (begin limit top) used b → AsksOnly (IsInstance limit top) (Asks top) used b

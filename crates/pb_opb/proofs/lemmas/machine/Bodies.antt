@@ -16,11 +16,11 @@ use Rattle.pb_opb.specs.declared.event.OpbEvent.{OpbEvent}
 use Rattle.pb_opb.specs.declared.event.OpbEvent.TheVariants.{Header, Comment, Objective, Constraint}
 use Rattle.pb_opb.specs.declared.phase.Phase.{Phase}
 use Rattle.pb_opb.specs.declared.phase.Phase as phase
-use Rattle.pb_opb.specs.declared.phase.Move.{Move}
+use Rattle.pb_opb.specs.declared.phase.Action.{Action}
 use Rattle.pb_opb.proofs.lemmas.instances.Counted.{IsEntry, IsCounted, counted, body_of}
-use Rattle.pb_opb.proofs.lemmas.machine.EntryFront.{entry_only}
+use Rattle.pb_opb.proofs.lemmas.machine.EntryPrefix.{entry_only}
 use Rattle.pb_opb.proofs.lemmas.machine.EntryWalk.{entry_reads}
-use Rattle.pb_opb.proofs.lemmas.machine.HeaderFront.{IsHeader, header_only}
+use Rattle.pb_opb.proofs.lemmas.machine.HeaderPrefix.{IsHeader, header_only}
 use Rattle.pb_opb.proofs.lemmas.machine.HeaderWalk.{header_reads}
 use Rattle.pb_opb.proofs.lemmas.machine.Stands.{idle}
 use Rattle.pb_opb.proofs.lemmas.machine.States.{done_stops}
@@ -43,7 +43,7 @@ module _ (limit top : ℕ) where
   start_gap [] at h = (refl, h)
   start_gap (b ∷ gap) at (mid, g, o, h) = absurd (on o)
     where
-      P : Move → Type 0
+      P : Action → Type 0
       P m = InGap (λ s. ⊥) (act (begin limit top) b m)
 
       on : opb.begun mid ≡ false → ⊥
@@ -63,7 +63,7 @@ module _ (limit top : ℕ) where
         (λ _ o. never true refl o)
         (λ _. gap_given (λ mid. (is_white b ≡ true) × (mid ≡ at_idle may (suc n))) (at_idle may (suc n)) (sums.step (linears limit) b))))
       where
-        Q : Move → Type 0
+        Q : Action → Type 0
         Q m = InGap (λ mid. (is_white b ≡ true) × (mid ≡ at_idle may (suc n))) (act (at_idle may (suc n)) b m)
 
     gap_only : (may : Bool) (n : ℕ) (gap : List ℕ) (at : OpbState) → Skips opb (at_idle may (suc n)) gap at

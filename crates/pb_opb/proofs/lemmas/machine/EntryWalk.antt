@@ -6,7 +6,7 @@ use Rattle.pb_text.specs.contract.Automaton.{Go, Reads}
 use Rattle.pb_text.specs.meaning.Classes.{is_white}
 use Rattle.pb_text.specs.meaning.Languages.{unmarked, ◌⋅◌, Byte, Bytes}
 use Rattle.pb_text.specs.meaning.Spelling.{Letter, plain}
-use Rattle.pb_text.proofs.lemmas.machine.Walking.{Walks, Leads, leads_then, longer, reads_behind}
+use Rattle.pb_text.proofs.lemmas.machine.Walking.{Walks, Leads, leads_then, longer, reads_after}
 use Rattle.pb_sums.specs.engine.State.{SumState, sums, last}
 use Rattle.pb_sums.specs.meaning.Sums.{Spaces0, SpellsSum, SpellsLinear, Spells}
 use Rattle.pb_sums.specs.declared.grammar.Part as part
@@ -23,11 +23,11 @@ use Rattle.pb_opb.specs.declared.event.OpbEvent.{OpbEvent}
 use Rattle.pb_opb.specs.declared.event.OpbEvent.TheVariants.{Header, Comment, Objective, Constraint}
 use Rattle.pb_opb.specs.declared.phase.Phase.{Phase}
 use Rattle.pb_opb.specs.declared.phase.Phase as phase
-use Rattle.pb_opb.specs.declared.phase.Move.TheVariants.{To, Give}
+use Rattle.pb_opb.specs.declared.phase.Action.TheVariants.{To, Give}
 use Rattle.pb_opb.proofs.lemmas.instances.Counted.{IsEntry}
 use Rattle.pb_opb.proofs.lemmas.machine.FirstLetters.{spaces_white, IsDark, sum-dark, linear_first}
 use Rattle.pb_opb.proofs.lemmas.machine.GivenBytes.{gives_objective, gives_constraint, given_reads}
-use Rattle.pb_opb.proofs.lemmas.machine.Objectives.{MinFront, objective_parts}
+use Rattle.pb_opb.proofs.lemmas.machine.Objectives.{MinPrefix, objective_parts}
 use Rattle.pb_opb.proofs.lemmas.machine.Stands.{stands, idle, stays, stays_many, Keeps, line_reads}
 
 given_between : (top b : ℕ) (may : Bool) → is_white b ≡ false → nat_eq b 42 ≡ false → nat_eq b 109 ≡ false
@@ -90,7 +90,7 @@ module _ (limit top v n : ℕ) where
   sum_reads [] u (ab, c, e, (a, b, f, none, (bs, spaces, g)), stop) =
       let parts : u ≡ plain bs ++ unmarked 59 ∷ [] = e ∙ (ap (λ x. x ++ c) (f ∙ (ap (λ x. x ++ b) none ∙ g)) ∙ ap (λ x. plain bs ++ x) stop) in
       subst (λ x. Reads opb after_min x (Objective []) (idle limit top v false (suc n))) (sym parts)
-      (reads_behind opb (plain bs) (unmarked 59 ∷ []) after_min after_min (idle limit top v false (suc n)) (Objective [])
+      (reads_after opb (plain bs) (unmarked 59 ∷ []) after_min after_min (idle limit top v false (suc n)) (Objective [])
       (stays (λ b. IsTrue (is_white b)) after_min whites_stay refl refl bs (spaces_white bs spaces)) (refl, refl))
   sum_reads (x ∷ xs) u h =
       let f : IsDark u = sum-dark limit x xs (Spaces0 White limit) (Byte 59) u h in
@@ -104,12 +104,12 @@ module _ (limit top v n : ℕ) where
       → Reads opb (between may) t (Objective xs) (idle limit top v false (suc n))
   objective_reads may xs t m h = by_parts (objective_parts limit xs t h)
     where
-      by_parts : (MinFront ⋅ Spells White limit part.TheVariants.Sum (sum.TheVariants.Sum xs)) t
+      by_parts : (MinPrefix ⋅ Spells White limit part.TheVariants.Sum (sum.TheVariants.Sum xs)) t
           → Reads opb (between may) t (Objective xs) (idle limit top v false (suc n))
-      by_parts (a, u, e, front, k) =
+      by_parts (a, u, e, prefix, k) =
           subst (λ x. Reads opb (between may) x (Objective xs) (idle limit top v false (suc n))) (sym e)
-          (reads_behind opb a u (between may) after_min (idle limit top v false (suc n)) (Objective xs)
-          (leads_then opb (Bytes min_word) Whites0 (between may) after_min after_min (min_leads may m) (stays_many (λ b. IsTrue (is_white b)) after_min whites_stay refl refl) a front)
+          (reads_after opb a u (between may) after_min (idle limit top v false (suc n)) (Objective xs)
+          (leads_then opb (Bytes min_word) Whites0 (between may) after_min after_min (min_leads may m) (stays_many (λ b. IsTrue (is_white b)) after_min whites_stay refl refl) a prefix)
           (sum_reads xs u k.1))
 
   -- constraints

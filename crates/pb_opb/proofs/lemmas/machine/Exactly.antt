@@ -26,13 +26,13 @@ module _ (limit top longest : ℕ) where
   abbrev spelled : List (Item OpbEvent) → Type 0
   spelled = IsInstance limit top
 
-  pub reads_exactly : (input used : List ℕ) (marks : List (Spanned OpbEvent)) (place : Place) (done : Bool) (stop : Option Stop) → Reads accepted longest input used marks place done stop → Reads spelled longest input used marks place done stop
+  pub reads_exactly : (input used : List ℕ) (spans : List (Spanned OpbEvent)) (place : Place) (done : Bool) (stop : Option Stop) → Reads accepted longest input used spans place done stop → Reads spelled longest input used spans place done stop
   reads_exactly = formats.reads accepted spelled (instance_only limit top) (instance_each limit top) longest
 
   pub read_exactly : (used : List ℕ) (m : Spanned Instance) → IsRead accepted longest IsValueOf used m → IsRead spelled longest IsValueOf used m
   read_exactly used m r = record {
-    marks = r.marks;
-    spelled = formats.is_spelled accepted spelled (instance_only limit top) (instance_each limit top) longest used r.marks r.spelled;
+    spans = r.spans;
+    spelled = formats.is_spelled accepted spelled (instance_only limit top) (instance_each limit top) longest used r.spans r.spelled;
     value = r.value;
     first = r.first;
     past = r.past;

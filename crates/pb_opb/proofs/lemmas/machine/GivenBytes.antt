@@ -10,7 +10,7 @@ use Rattle.pb_opb.specs.engine.Order.{PhaseFits, Holds}
 use Rattle.pb_opb.specs.engine.State.{OpbState, opb, act, over, giving, after, statement_of, is_within, is_in_number}
 use Rattle.pb_opb.specs.declared.phase.Phase.{Phase}
 use Rattle.pb_opb.specs.declared.phase.Phase as phase
-use Rattle.pb_opb.specs.declared.phase.Move.TheVariants.{Give}
+use Rattle.pb_opb.specs.declared.phase.Action.TheVariants.{Give}
 
 -- a phase in which bytes are given to the machine of sums
 pub record Gives (p : Phase) : Type 0 where

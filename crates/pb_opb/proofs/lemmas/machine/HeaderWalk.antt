@@ -11,22 +11,22 @@ use Rattle.pb_text.specs.meaning.Numbers.{Count}
 use Rattle.pb_text.specs.meaning.Spelling.{Letter, plain}
 use Rattle.pb_text.proofs.lemmas.text.ByteTests.{blank_each, digit_byte, digit_blank}
 use Rattle.pb_text.proofs.lemmas.numbers.DigitWalks.{TakesDigits, digits_lead}
-use Rattle.pb_text.proofs.lemmas.machine.Walking.{Walks, Leads, leads_then, longer, reads_behind}
+use Rattle.pb_text.proofs.lemmas.machine.Walking.{Walks, Leads, leads_then, longer, reads_after}
 use Rattle.pb_opb.specs.meaning.Instances.{variable_word, constraint_word, IsTail, SpellsHeader}
-use Rattle.pb_opb.specs.engine.Machine.{word_of, spell, count, behind_count, plan}
+use Rattle.pb_opb.specs.engine.Machine.{word_of, spell, count, after_count, plan}
 use Rattle.pb_opb.specs.engine.State.{OpbState, opb, begin, act}
 use Rattle.pb_opb.specs.declared.event.OpbEvent.TheVariants.{Header}
 use Rattle.pb_opb.specs.declared.phase.Field.{Field}
 use Rattle.pb_opb.specs.declared.phase.Field.TheVariants.{Variables, Constraints}
 use Rattle.pb_opb.specs.declared.phase.Phase.{Phase}
 use Rattle.pb_opb.specs.declared.phase.Phase as phase
-use Rattle.pb_opb.specs.declared.phase.Move.TheVariants.{To}
+use Rattle.pb_opb.specs.declared.phase.Action.TheVariants.{To}
 use Rattle.pb_opb.proofs.lemmas.machine.Stands.{stands, idle, stays_many, Keeps, line_reads}
 
-spell_next : (w front left : List ℕ) (b : ℕ) (more whole : Phase) (x : Bool) → w ≡ front ++ b ∷ left → nat_eq (length front + 1) (length w) ≡ x
-    → spell w (length front) b more whole ≡ To (cond x whole more)
-spell_next w front left b more whole x e f =
-    let g : slice_index w (length front) ≡ b = ap (λ y. slice_index y (length front)) e ∙ get_or-append_seam front b left 0 in
+spell_next : (w prefix left : List ℕ) (b : ℕ) (more whole : Phase) (x : Bool) → w ≡ prefix ++ b ∷ left → nat_eq (length prefix + 1) (length w) ≡ x
+    → spell w (length prefix) b more whole ≡ To (cond x whole more)
+spell_next w prefix left b more whole x e f =
+    let g : slice_index w (length prefix) ≡ b = ap (λ y. slice_index y (length prefix)) e ∙ get_or-append_seam prefix b left 0 in
     rw (g, eq-eqb b b refl, f) refl
 
 count_next : (top : ℕ) (f : Field) (m d : ℕ) → d < 10 → 10 * m + d ≤ top → count top f m (48 + d) ≡ To (phase.TheVariants.Count f (10 * m + d))
@@ -40,7 +40,7 @@ first_digit top f d h l =
     rw (digit_blank d h) (count_next top f 0 d h (omega arith) ∙ ap (λ n. To (phase.TheVariants.Count f n)) same)
 
 next_digit : (top : ℕ) (f : Field) (m d : ℕ) → d < 10 → 10 * m + d ≤ top → plan top (phase.TheVariants.Count f m) (48 + d) ≡ To (phase.TheVariants.Count f (10 * m + d))
-next_digit top f m d h l = ap (λ x. cond x (count top f m (48 + d)) (behind_count f m (48 + d))) (digit_byte d h) ∙ count_next top f m d h l
+next_digit top f m d h l = ap (λ x. cond x (count top f m (48 + d)) (after_count f m (48 + d))) (digit_byte d h) ∙ count_next top f m d h l
 
 module _ (limit top : ℕ) where
   -- before the tail of a header
@@ -57,25 +57,25 @@ module _ (limit top : ℕ) where
   blanks_before_count f v = stays_many IsBlank (head v (phase.TheVariants.BeforeCount f)) (λ b h. rw h refl) refl refl
 
   -- the remaining bytes of a word
-  spelled : (f : Field) (v : ℕ) (front left : List ℕ) (b : ℕ) → word_of f ≡ front ++ b ∷ left
-      → Walks opb (head v (phase.TheVariants.Word f (length front))) (plain (b ∷ left)) (head v (phase.TheVariants.BeforeCount f))
-  spelled f v front [] b e =
-      let n : nat_eq (length front + 1) (length (word_of f)) ≡ true = ap (λ x. nat_eq (length front + 1) (length x)) e ∙ ap (λ x. nat_eq (length front + 1) x) (length-append front (b ∷ [])) ∙ eq-eqb (length front + 1) (length front + 1) refl in (
+  spelled : (f : Field) (v : ℕ) (prefix left : List ℕ) (b : ℕ) → word_of f ≡ prefix ++ b ∷ left
+      → Walks opb (head v (phase.TheVariants.Word f (length prefix))) (plain (b ∷ left)) (head v (phase.TheVariants.BeforeCount f))
+  spelled f v prefix [] b e =
+      let n : nat_eq (length prefix + 1) (length (word_of f)) ≡ true = ap (λ x. nat_eq (length prefix + 1) (length x)) e ∙ ap (λ x. nat_eq (length prefix + 1) x) (length-append prefix (b ∷ [])) ∙ eq-eqb (length prefix + 1) (length prefix + 1) refl in (
         head v (phase.TheVariants.BeforeCount f),
-        ap (λ x. act (head v (phase.TheVariants.Word f (length front))) b x) (spell_next (word_of f) front [] b (phase.TheVariants.Word f (length front + 1)) (phase.TheVariants.BeforeCount f) true e n),
+        ap (λ x. act (head v (phase.TheVariants.Word f (length prefix))) b x) (spell_next (word_of f) prefix [] b (phase.TheVariants.Word f (length prefix + 1)) (phase.TheVariants.BeforeCount f) true e n),
         refl,
         refl,
         refl,
       )
-  spelled f v front (c ∷ left) b e =
-      let m : length (word_of f) ≡ length front + (2 + length left) = ap length e ∙ (length-append front (b ∷ c ∷ left) ∙ omega arith) in
-      let n : nat_eq (length front + 1) (length (word_of f)) ≡ false = rw m (grind (arith, nat_tests)) in (
-        head v (phase.TheVariants.Word f (length front + 1)),
-        ap (λ x. act (head v (phase.TheVariants.Word f (length front))) b x) (spell_next (word_of f) front (c ∷ left) b (phase.TheVariants.Word f (length front + 1)) (phase.TheVariants.BeforeCount f) false e n),
+  spelled f v prefix (c ∷ left) b e =
+      let m : length (word_of f) ≡ length prefix + (2 + length left) = ap length e ∙ (length-append prefix (b ∷ c ∷ left) ∙ omega arith) in
+      let n : nat_eq (length prefix + 1) (length (word_of f)) ≡ false = rw m (grind (arith, nat_tests)) in (
+        head v (phase.TheVariants.Word f (length prefix + 1)),
+        ap (λ x. act (head v (phase.TheVariants.Word f (length prefix))) b x) (spell_next (word_of f) prefix (c ∷ left) b (phase.TheVariants.Word f (length prefix + 1)) (phase.TheVariants.BeforeCount f) false e n),
         refl,
         refl,
-        subst (λ k. Walks opb (head v (phase.TheVariants.Word f k)) (plain (c ∷ left)) (head v (phase.TheVariants.BeforeCount f))) (length-append front (b ∷ []))
-            (spelled f v (front ++ b ∷ []) left c (e ∙ sym (append_assoc front (b ∷ []) (c ∷ left)))),
+        subst (λ k. Walks opb (head v (phase.TheVariants.Word f k)) (plain (c ∷ left)) (head v (phase.TheVariants.BeforeCount f))) (length-append prefix (b ∷ []))
+            (spelled f v (prefix ++ b ∷ []) left c (e ∙ sym (append_assoc prefix (b ∷ []) (c ∷ left)))),
       )
 
   begins_word : (f : Field) (v : ℕ) (left : List ℕ) (b : ℕ) → word_of f ≡ 35 ∷ b ∷ left
@@ -161,5 +161,5 @@ module _ (limit top : ℕ) where
       let parts : t ≡ a ++ (plain tail ++ unmarked 10 ∷ []) =
       e ∙ (ap (λ x. x ++ c) (f ∙ ap (λ x. a ++ x) g) ∙ (ap (λ x. (a ++ plain tail) ++ x) k ∙ append_assoc a (plain tail) (unmarked 10 ∷ []))) in
       subst (λ x. Reads opb (begin limit top) x (Header v n tail) (idle limit top v true n)) (sym parts)
-      (reads_behind opb a (plain tail ++ unmarked 10 ∷ []) (begin limit top) (head v (phase.TheVariants.Count Constraints n)) (idle limit top v true n) (Header v n tail)
+      (reads_after opb a (plain tail ++ unmarked 10 ∷ []) (begin limit top) (head v (phase.TheVariants.Count Constraints n)) (idle limit top v true n) (Header v n tail)
       (counts_lead v n a counts) (tail_reads v n tail h))

@@ -10,7 +10,7 @@ use Rattle.pb_opb.specs.engine.Order.{Holds, IsInOrder}
 use Rattle.pb_opb.specs.engine.State.{OpbState, opb, act, keeps_line}
 use Rattle.pb_opb.specs.declared.phase.Phase.{Phase}
 use Rattle.pb_opb.specs.declared.phase.Phase as phase
-use Rattle.pb_opb.specs.declared.phase.Move.TheVariants.{Keep}
+use Rattle.pb_opb.specs.declared.phase.Action.TheVariants.{Keep}
 use Rattle.pb_opb.proofs.lemmas.machine.States.{is_state}
 
 -- no byte of the prefix is a line feed

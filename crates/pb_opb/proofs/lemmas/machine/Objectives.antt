@@ -2,7 +2,7 @@
 use Rattle.std.proofs.Common.{ℕ, List, refl}
 use Rattle.pb_text.specs.meaning.Languages.{Language, ◌⋅◌, Byte, Bytes}
 use Rattle.pb_text.specs.meaning.Spelling.{Letter}
-use Rattle.pb_text.proofs.lemmas.text.Languages.{inside, behind_it, regroup3, regroup⁻¹}
+use Rattle.pb_text.proofs.lemmas.text.Languages.{inside, after_it, regroup3, regroup⁻¹}
 use Rattle.pb_sums.specs.meaning.Sums.{Spaces0, SpellsSum, Spells}
 use Rattle.pb_sums.specs.declared.grammar.Part as part
 use Rattle.pb_sums.specs.declared.grammar.Spaces.TheVariants.{White}
@@ -12,8 +12,8 @@ use Rattle.pb_opb.specs.meaning.Instances.{min_word, Whites0, SpellsObjective}
 use Rattle.pb_opb.proofs.lemmas.machine.FirstLetters.{spaces_white, whites_space}
 
 -- `min:` and white space
-abbrev pub MinFront : Language
-MinFront = Bytes min_word ⋅ Whites0
+abbrev pub MinPrefix : Language
+MinPrefix = Bytes min_word ⋅ Whites0
 
 module _ (limit : ℕ) where
   whites_many : (t : List Letter) → Spaces0 White limit t → Whites0 t
@@ -29,15 +29,15 @@ module _ (limit : ℕ) where
     abbrev Rest : Language
     Rest = Spells White limit part.TheVariants.Sum (sum.TheVariants.Sum xs)
 
-    pub objective_of : (MinFront ⋅ Rest) t → SpellsObjective limit xs t
+    pub objective_of : (MinPrefix ⋅ Rest) t → SpellsObjective limit xs t
     objective_of h =
-        inside (MinFront ⋅ (S ⋅ Whites0)) (MinFront ⋅ S ⋅ Whites0) (Byte 59) t (regroup⁻¹ MinFront S Whites0)
-        (regroup⁻¹ MinFront (S ⋅ Whites0) (Byte 59) t
-        (behind_it MinFront Rest (S ⋅ Whites0 ⋅ Byte 59) t
-        (λ q r. inside (S ⋅ Spaces0 White limit) (S ⋅ Whites0) (Byte 59) q (λ u. behind_it S (Spaces0 White limit) Whites0 u whites_many) r.1) h))
+        inside (MinPrefix ⋅ (S ⋅ Whites0)) (MinPrefix ⋅ S ⋅ Whites0) (Byte 59) t (regroup⁻¹ MinPrefix S Whites0)
+        (regroup⁻¹ MinPrefix (S ⋅ Whites0) (Byte 59) t
+        (after_it MinPrefix Rest (S ⋅ Whites0 ⋅ Byte 59) t
+        (λ q r. inside (S ⋅ Spaces0 White limit) (S ⋅ Whites0) (Byte 59) q (λ u. after_it S (Spaces0 White limit) Whites0 u whites_many) r.1) h))
 
-    pub objective_parts : SpellsObjective limit xs t → (MinFront ⋅ Rest) t
+    pub objective_parts : SpellsObjective limit xs t → (MinPrefix ⋅ Rest) t
     objective_parts h =
-        behind_it MinFront (S ⋅ Whites0 ⋅ Byte 59) Rest t
-        (λ q r. (refl, inside (S ⋅ Whites0) (S ⋅ Spaces0 White limit) (Byte 59) q (λ u. behind_it S Whites0 (Spaces0 White limit) u spaces_many) r))
-        (regroup3 MinFront S Whites0 (Byte 59) t h)
+        after_it MinPrefix (S ⋅ Whites0 ⋅ Byte 59) Rest t
+        (λ q r. (refl, inside (S ⋅ Whites0) (S ⋅ Spaces0 White limit) (Byte 59) q (λ u. after_it S Whites0 (Spaces0 White limit) u spaces_many) r))
+        (regroup3 MinPrefix S Whites0 (Byte 59) t h)

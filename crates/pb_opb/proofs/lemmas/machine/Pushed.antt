@@ -12,15 +12,15 @@ use Rattle.pb_sums.specs.declared.SumEvent.{SumEvent}
 use Rattle.pb_sums.proofs.lemmas.machine.States.{goes, goes-midway, ended-last}
 use Rattle.pb_sums.proofs.lemmas.machine.Links.{midway-not-done}
 use Rattle.pb_opb.specs.meaning.Instances.{min_word}
-use Rattle.pb_opb.specs.engine.Machine.{plan, count, behind_count, word_of}
+use Rattle.pb_opb.specs.engine.Machine.{plan, count, after_count, word_of}
 use Rattle.pb_opb.specs.engine.State.{OpbState, opb, at, asks, after, owed_after, phase_owing, statement_of, giving, linears, act, over, is_within, is_done, is_in_number}
 use Rattle.pb_opb.specs.engine.Order.{PhaseFits, Holds, IsIdle, IsInOrder}
 use Rattle.pb_opb.specs.declared.phase.Field.{Field}
 use Rattle.pb_opb.specs.declared.phase.Field.TheVariants.{Variables, Constraints}
 use Rattle.pb_opb.specs.declared.phase.Phase.{Phase}
 use Rattle.pb_opb.specs.declared.phase.Phase as phase
-use Rattle.pb_opb.specs.declared.phase.Move.{Move}
-use Rattle.pb_opb.specs.declared.phase.Move.TheVariants.{To, Declare, BeginTail, Keep, EndHeader, EndTail, EndComment, BeginSum, Give, Stop}
+use Rattle.pb_opb.specs.declared.phase.Action.{Action}
+use Rattle.pb_opb.specs.declared.phase.Action.TheVariants.{To, Declare, BeginTail, Keep, EndHeader, EndTail, EndComment, BeginSum, Give, Stop}
 use Rattle.pb_opb.proofs.lemmas.machine.Alive.{giving_alive, owed_read}
 use Rattle.pb_text.proofs.lemmas.machine.Living.{admits_before, admits_final}
 use Rattle.pb_opb.proofs.lemmas.machine.GivenBytes.{Gives, IsGiving, gives_at, gives_objective, gives_constraint}
@@ -34,7 +34,7 @@ pub record IsGiven (s : OpbState) (q p : Phase) : Type 0 where
   pub number : is_in_number s q ≡ sums.in_number s.sums
 
 -- what a plan needs of the state
-abbrev Knows : OpbState → Phase → Move → Type 0
+abbrev Knows : OpbState → Phase → Action → Type 0
 Knows s q (To p) = Holds s p
 Knows s q (BeginTail n c) = IsIdle s
 Knows s q (Keep c) = (s.sums ≡ linears s.limit) × (is_within q ≡ true) × ((text : List ℕ) → Holds (record s { text = text }) q)
@@ -44,9 +44,9 @@ Knows s q _ = Unit {0}
 knows_count : (s : OpbState) (q : Phase) (top : ℕ) (f : Field) (n b : ℕ) → IsIdle s → Knows s q (count top f n b)
 knows_count s q top f n b h = either_way (Knows s q) (is_digit b && nat_le (10 * n + (b - 48)) top) _ Stop h tt
 
-knows_behind : (s : OpbState) (q : Phase) (f : Field) (n b : ℕ) → IsIdle s → Knows s q (behind_count f n b)
-knows_behind s q Variables n b h = either_way (Knows s q) (is_blank b) (Declare n) Stop tt tt
-knows_behind s q Constraints n b h = either_way (Knows s q) (nat_eq b 10) (EndHeader n) _ tt (either_way (Knows s q) (is_blank b) (BeginTail n b) Stop h tt)
+knows_after : (s : OpbState) (q : Phase) (f : Field) (n b : ℕ) → IsIdle s → Knows s q (after_count f n b)
+knows_after s q Variables n b h = either_way (Knows s q) (is_blank b) (Declare n) Stop tt tt
+knows_after s q Constraints n b h = either_way (Knows s q) (nat_eq b 10) (EndHeader n) _ tt (either_way (Knows s q) (is_blank b) (BeginTail n b) Stop h tt)
 
 pub knows : (s : OpbState) (q : Phase) → Holds s q → (b : ℕ) → Knows s q (plan s.top q b)
 knows s phase.TheVariants.Start h b = either_way (Knows s phase.TheVariants.Start) (nat_eq b 42) (To (phase.TheVariants.BeforeWord Variables)) Stop h tt
@@ -59,7 +59,7 @@ knows s (phase.TheVariants.Word f k) h b =
 knows s (phase.TheVariants.BeforeCount f) h b =
     either_way (Knows s (phase.TheVariants.BeforeCount f)) (is_blank b) (To (phase.TheVariants.BeforeCount f)) _ h (knows_count s (phase.TheVariants.BeforeCount f) s.top f 0 b h)
 knows s (phase.TheVariants.Count f n) h b =
-    either_way (Knows s (phase.TheVariants.Count f n)) (is_digit b) _ _ (knows_count s (phase.TheVariants.Count f n) s.top f n b h) (knows_behind s (phase.TheVariants.Count f n) f n b h)
+    either_way (Knows s (phase.TheVariants.Count f n)) (is_digit b) _ _ (knows_count s (phase.TheVariants.Count f n) s.top f n b h) (knows_after s (phase.TheVariants.Count f n) f n b h)
 knows s phase.TheVariants.Tail h b = either_way (Knows s phase.TheVariants.Tail) (nat_eq b 10) EndTail (Keep b) tt (h, refl, λ text. h)
 knows s (phase.TheVariants.Between may) h b =
     either_way (Knows s (phase.TheVariants.Between may)) (is_white b) (To (phase.TheVariants.Between may)) _ h
@@ -77,11 +77,11 @@ knows s phase.TheVariants.Objective h b = record { gives = gives_objective; owed
 knows s phase.TheVariants.Constraint h b = record { gives = gives_constraint; owed = h.0; text = h.1; number = refl }
 knows s phase.TheVariants.Done h b = tt
 
-known : (s : OpbState) → IsInOrder s → (b : ℕ) (m : Move) → plan s.top s.phase b ≡ m → Knows s s.phase m
+known : (s : OpbState) → IsInOrder s → (b : ℕ) (m : Action) → plan s.top s.phase b ≡ m → Knows s s.phase m
 known s h b m e = subst (Knows s s.phase) e (knows s s.phase h.holds b)
 
 -- the plan for a number that equals the top
-pub planned_at : (n top : ℕ) (p : Phase) (b : ℕ) (m : Move) → n ≡ top → m ≡ plan n p b → plan top p b ≡ m
+pub planned_at : (n top : ℕ) (p : Phase) (b : ℕ) (m : Action) → n ≡ top → m ≡ plan n p b → plan top p b ≡ m
 planned_at n top p b m e h = ap (λ (k : ℕ). plan k p b) (sym e) ∙ sym h
 
 -- the state if the machine continues
@@ -184,7 +184,7 @@ module _ (s : OpbState) (h : IsInOrder s) (b : ℕ) (p : Phase) (planned : plan 
   by_step Refuse e a = absurd (refuses sums s.sums s.sums b e a.0 a.1 (a.2, a.3))
 
   pub give_admits : IsTrue (sums.asks s.sums b) → Admits sums s.sums b → IsTrue (opb.asks s b) × Admits opb s b
-  give_admits asking a = (subst (λ (m : Move). IsTrue (asks s b m)) (sym planned) asking, by_step (sums.step s.sums b) refl a)
+  give_admits asking a = (subst (λ (m : Action). IsTrue (asks s b m)) (sym planned) asking, by_step (sums.step s.sums b) refl a)
 
 -- a byte of a tail or a comment
 pub tail_admits : (s : OpbState) → IsInOrder s → (b n c : ℕ) → plan s.top s.phase b ≡ BeginTail n c → IsTrue (opb.asks s b) × Admits opb s b
@@ -192,7 +192,7 @@ tail_admits s h b n c planned =
     let next = record s { owed = n; phase = phase.TheVariants.Tail; text = c ∷ [] } in
     let idle = known s h b (BeginTail n c) planned in
     let order : IsInOrder next = record { limit = h.limit; top = h.top; fits = tt; holds = idle.1; spaces = h.spaces; limits = h.limits; state = h.state } in
-    (subst (λ (m : Move). IsTrue (asks s b m)) (sym planned) refl, admits_within opb s next b (ap (act s b) planned) refl refl (is_state next order))
+    (subst (λ (m : Action). IsTrue (asks s b m)) (sym planned) refl, admits_within opb s next b (ap (act s b) planned) refl refl (is_state next order))
 
 not_done : (p : Phase) → is_within p ≡ true → is_done p ≡ false
 not_done phase.TheVariants.Start h = refl
@@ -214,7 +214,7 @@ keep_admits s h b c planned =
     let next = record s { text = s.text ++ c ∷ [] } in
     let k = known s h b (Keep c) planned in
     let order : IsInOrder next = record { limit = h.limit; top = h.top; fits = h.fits; holds = k.2 (s.text ++ c ∷ []); spaces = h.spaces; limits = h.limits; state = h.state } in
-    (subst (λ (m : Move). IsTrue (asks s b m)) (sym planned) refl, admits_within opb s next b (ap (act s b) planned) k.1 (not_done s.phase k.1) (is_state next order))
+    (subst (λ (m : Action). IsTrue (asks s b m)) (sym planned) refl, admits_within opb s next b (ap (act s b) planned) k.1 (not_done s.phase k.1) (is_state next order))
 
 -- a byte that begins a sum or a linear text begins a statement
 module _ (s : OpbState) (h : IsInOrder s) (b : ℕ) (p : Phase) (planned : plan s.top s.phase b ≡ Give p) (out : is_within s.phase ≡ false) where

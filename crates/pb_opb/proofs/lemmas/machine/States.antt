@@ -7,7 +7,7 @@ use Rattle.pb_text.specs.contract.Automaton.{Next, Go, End, Refuse, IsState}
 use Rattle.pb_sums.specs.engine.State.{SumState, sums}
 use Rattle.pb_sums.specs.declared.SumEvent.{SumEvent}
 use Rattle.pb_opb.specs.meaning.Instances.{min_word}
-use Rattle.pb_opb.specs.engine.Machine.{plan, count, behind_count, word_of}
+use Rattle.pb_opb.specs.engine.Machine.{plan, count, after_count, word_of}
 use Rattle.pb_opb.specs.engine.State.{OpbState, opb, owed_after, phase_owing, act, over, is_within, is_done, is_in_number}
 use Rattle.pb_opb.specs.engine.Order.{Holds, IsIdle, IsInOrder}
 use Rattle.pb_opb.specs.declared.event.OpbEvent.{OpbEvent}
@@ -15,8 +15,8 @@ use Rattle.pb_opb.specs.declared.phase.Field.{Field}
 use Rattle.pb_opb.specs.declared.phase.Field.TheVariants.{Variables, Constraints}
 use Rattle.pb_opb.specs.declared.phase.Phase.{Phase}
 use Rattle.pb_opb.specs.declared.phase.Phase as phase
-use Rattle.pb_opb.specs.declared.phase.Move.{Move}
-use Rattle.pb_opb.specs.declared.phase.Move.TheVariants.{To, Declare, BeginTail, Keep, EndHeader, EndTail, EndComment, BeginSum, Give, Stop}
+use Rattle.pb_opb.specs.declared.phase.Action.{Action}
+use Rattle.pb_opb.specs.declared.phase.Action.TheVariants.{To, Declare, BeginTail, Keep, EndHeader, EndTail, EndComment, BeginSum, Give, Stop}
 use Rattle.pb_opb.proofs.lemmas.machine.Alive.{live}
 
 abbrev N : Type 0
@@ -38,48 +38,50 @@ at_end P Q n e next i h = subst (On P Q) i h
 abbrev GoesOn : Phase → Phase → Type 0
 GoesOn p q = (is_done q ≡ false) × (is_within p ≡ true → is_within q ≡ true)
 
-abbrev OnMove : Phase → Move → Type 0
-OnMove p (To q) = GoesOn p q
-OnMove p (Give q) = GoesOn p q
-OnMove p (Keep b) = is_done p ≡ false
-OnMove p _ = Unit {0}
+abbrev OnAction : Phase → Action → Type 0
+OnAction p (To q) = GoesOn p q
+OnAction p (Give q) = GoesOn p q
+OnAction p (Keep b) = is_done p ≡ false
+OnAction p _ = Unit {0}
 
 -- what holds in both cases
 pub either_way : {A : Type 0} (P : A → Type 0) (c : Bool) (x y : A) → P x → P y → P (cond c x y)
 either_way P true x y h k = h
 either_way P false x y h k = k
 
-on_count : (p : Phase) (top : ℕ) (f : Field) (n b : ℕ) → OnMove p (count top f n b)
-on_count p top f n b = either_way (OnMove p) (is_digit b && nat_le (10 * n + (b - 48)) top) _ Stop (refl, λ h. refl) tt
+on_count : (p : Phase) (top : ℕ) (f : Field) (n b : ℕ) → OnAction p (count top f n b)
+on_count p top f n b =
+    either_way (OnAction p) (is_digit b && nat_le (10 * n + (b - 48)) top) _ Stop (refl, λ h. refl) tt
 
-on_behind : (p : Phase) (f : Field) (n b : ℕ) → OnMove p (behind_count f n b)
-on_behind p Variables n b = either_way (OnMove p) (is_blank b) (Declare n) Stop tt tt
-on_behind p Constraints n b = either_way (OnMove p) (nat_eq b 10) (EndHeader n) _ tt (either_way (OnMove p) (is_blank b) (BeginTail n b) Stop tt tt)
+on_after : (p : Phase) (f : Field) (n b : ℕ) → OnAction p (after_count f n b)
+on_after p Variables n b = either_way (OnAction p) (is_blank b) (Declare n) Stop tt tt
+on_after p Constraints n b = either_way (OnAction p) (nat_eq b 10) (EndHeader n) _ tt (either_way (OnAction p) (is_blank b) (BeginTail n b) Stop tt tt)
 
 -- the plan of each phase
-on_plan : (top : ℕ) (p : Phase) (b : ℕ) → OnMove p (plan top p b)
-on_plan top phase.TheVariants.Start b = either_way (OnMove phase.TheVariants.Start) (nat_eq b 42) (To (phase.TheVariants.BeforeWord Variables)) Stop (refl, λ h. refl) tt
+on_plan : (top : ℕ) (p : Phase) (b : ℕ) → OnAction p (plan top p b)
+on_plan top phase.TheVariants.Start b = either_way (OnAction phase.TheVariants.Start) (nat_eq b 42) (To (phase.TheVariants.BeforeWord Variables)) Stop (refl, λ h. refl) tt
 on_plan top (phase.TheVariants.BeforeWord f) b =
-    either_way (OnMove (phase.TheVariants.BeforeWord f)) (is_blank b) (To (phase.TheVariants.BeforeWord f)) _ (refl, λ h. refl)
-    (either_way (OnMove (phase.TheVariants.BeforeWord f)) (nat_eq b 35) (To (phase.TheVariants.Word f 1)) Stop (refl, λ h. refl) tt)
+    either_way (OnAction (phase.TheVariants.BeforeWord f)) (is_blank b) (To (phase.TheVariants.BeforeWord f)) _ (refl, λ h. refl)
+    (either_way (OnAction (phase.TheVariants.BeforeWord f)) (nat_eq b 35) (To (phase.TheVariants.Word f 1)) Stop (refl, λ h. refl) tt)
 on_plan top (phase.TheVariants.Word f k) b =
-    either_way (OnMove (phase.TheVariants.Word f k)) (nat_eq b (slice_index (word_of f) k)) _ Stop
+    either_way (OnAction (phase.TheVariants.Word f k)) (nat_eq b (slice_index (word_of f) k)) _ Stop
     (either_way (GoesOn (phase.TheVariants.Word f k)) (nat_eq (k + 1) (length (word_of f))) (phase.TheVariants.BeforeCount f) (phase.TheVariants.Word f (k + 1)) (refl, λ h. refl) (refl, λ h. refl)) tt
 on_plan top (phase.TheVariants.BeforeCount f) b =
-    either_way (OnMove (phase.TheVariants.BeforeCount f)) (is_blank b) (To (phase.TheVariants.BeforeCount f)) _ (refl, λ h. refl) (on_count (phase.TheVariants.BeforeCount f) top f 0 b)
+    either_way (OnAction (phase.TheVariants.BeforeCount f)) (is_blank b) (To (phase.TheVariants.BeforeCount f)) _ (refl, λ h. refl) (on_count (phase.TheVariants.BeforeCount f) top f 0 b)
 on_plan top (phase.TheVariants.Count f n) b =
-    either_way (OnMove (phase.TheVariants.Count f n)) (is_digit b) _ _ (on_count (phase.TheVariants.Count f n) top f n b) (on_behind (phase.TheVariants.Count f n) f n b)
-on_plan top phase.TheVariants.Tail b = either_way (OnMove phase.TheVariants.Tail) (nat_eq b 10) EndTail (Keep b) tt refl
+    either_way (OnAction (phase.TheVariants.Count f n)) (is_digit b) _ _ (on_count (phase.TheVariants.Count f n) top f n b) (on_after (phase.TheVariants.Count f n) f n b)
+on_plan top phase.TheVariants.Tail b =
+    either_way (OnAction phase.TheVariants.Tail) (nat_eq b 10) EndTail (Keep b) tt refl
 on_plan top (phase.TheVariants.Between may) b =
-    either_way (OnMove (phase.TheVariants.Between may)) (is_white b) (To (phase.TheVariants.Between may)) _ (refl, λ h. h)
-    (either_way (OnMove (phase.TheVariants.Between may)) (nat_eq b 42) (To (phase.TheVariants.Comment may)) _ (refl, λ h. refl)
-    (either_way (OnMove (phase.TheVariants.Between may)) (nat_eq b 109 && may) (To (phase.TheVariants.Min 1)) (Give phase.TheVariants.Constraint) (refl, λ h. refl) (refl, λ h. refl)))
-on_plan top (phase.TheVariants.Comment may) b = either_way (OnMove (phase.TheVariants.Comment may)) (nat_eq b 10) (EndComment may) (Keep b) tt refl
+    either_way (OnAction (phase.TheVariants.Between may)) (is_white b) (To (phase.TheVariants.Between may)) _ (refl, λ h. h)
+    (either_way (OnAction (phase.TheVariants.Between may)) (nat_eq b 42) (To (phase.TheVariants.Comment may)) _ (refl, λ h. refl)
+    (either_way (OnAction (phase.TheVariants.Between may)) (nat_eq b 109 && may) (To (phase.TheVariants.Min 1)) (Give phase.TheVariants.Constraint) (refl, λ h. refl) (refl, λ h. refl)))
+on_plan top (phase.TheVariants.Comment may) b = either_way (OnAction (phase.TheVariants.Comment may)) (nat_eq b 10) (EndComment may) (Keep b) tt refl
 on_plan top (phase.TheVariants.Min k) b =
-    either_way (OnMove (phase.TheVariants.Min k)) (nat_eq b (slice_index min_word k)) _ Stop
-    (either_way (OnMove (phase.TheVariants.Min k)) (nat_eq (k + 1) (length min_word)) BeginSum (To (phase.TheVariants.Min (k + 1))) tt (refl, λ h. refl)) tt
+    either_way (OnAction (phase.TheVariants.Min k)) (nat_eq b (slice_index min_word k)) _ Stop
+    (either_way (OnAction (phase.TheVariants.Min k)) (nat_eq (k + 1) (length min_word)) BeginSum (To (phase.TheVariants.Min (k + 1))) tt (refl, λ h. refl)) tt
 on_plan top phase.TheVariants.AfterMin b =
-    either_way (OnMove phase.TheVariants.AfterMin) (is_white b) (To phase.TheVariants.AfterMin) (Give phase.TheVariants.Objective) (refl, λ h. refl) (refl, λ h. refl)
+    either_way (OnAction phase.TheVariants.AfterMin) (is_white b) (To phase.TheVariants.AfterMin) (Give phase.TheVariants.Objective) (refl, λ h. refl) (refl, λ h. refl)
 on_plan top phase.TheVariants.Objective b = (refl, λ h. refl)
 on_plan top phase.TheVariants.Constraint b = (refl, λ h. refl)
 on_plan top phase.TheVariants.Done b = tt
@@ -99,7 +101,7 @@ sum_grows s p state g b (Go inner) e = record { owes = g.0; stays = g.1; grows =
 sum_grows s p state g b (End f inner) e = owing false (owed_after p s.owed)
 sum_grows s p state g b Refuse e = tt
 
-on_act : (s : OpbState) → IsState sums s.sums → (b : ℕ) (m : Move) → OnMove s.phase m → On (λ next. Goes s next) (λ next. opb.begun next ≡ false) (act s b m)
+on_act : (s : OpbState) → IsState sums s.sums → (b : ℕ) (m : Action) → OnAction s.phase m → On (λ next. Goes s next) (λ next. opb.begun next ≡ false) (act s b m)
 on_act s state b (To p) h = record { owes = h.0; stays = h.1; grows = omega arith }
 on_act s state b (Declare n) h = record { owes = refl; stays = λ i. refl; grows = omega arith }
 on_act s state b (BeginTail n c) h = record { owes = refl; stays = λ i. refl; grows = omega arith }

@@ -7,7 +7,7 @@ use Rattle.pb_text.specs.meaning.Classes.{is_blank}
 use Rattle.pb_text.specs.meaning.Languages.{Blanks1}
 use Rattle.pb_text.specs.meaning.Numbers.{Count}
 use Rattle.pb_text.specs.meaning.Spelling.{Letter}
-use Rattle.pb_text.proofs.lemmas.machine.Walking.{Leads, leads_then, reads_behind}
+use Rattle.pb_text.proofs.lemmas.machine.Walking.{Leads, leads_then, reads_after}
 use Rattle.pb_proof.specs.meaning.Lines.{SpellsCount}
 use Rattle.pb_proof.specs.engine.Line.Count.{at, count_automaton, counting, count_last, act, plan, digits}
 use Rattle.pb_proof.specs.declared.line.byte_kind.NumberByte.TheVariants.{Blank, Digit}
@@ -77,7 +77,7 @@ module _ (limit top : ℕ) where
   reads_each None t h = line_reads count_automaton (counting top) (at top Gap) (at top (Closing None)) (count_last top) None none_ends t h
   reads_each (Some n) t (a, b, e, h, k) =
       subst (λ x. Reads count_automaton (counting top) x (Some n) (count_last top)) (sym e)
-      (reads_behind count_automaton a b (counting top) (at top (Digits n)) (count_last top) (Some n)
+      (reads_after count_automaton a b (counting top) (at top (Digits n)) (count_last top) (Some n)
       (leads_then count_automaton Blanks1 (Count top n) (counting top) (at top Gap) (at top (Digits n))
       (blanks1_lead count_automaton (counting top) (at top Gap) in_gap) (count_leads n) a h)
       (line_reads count_automaton (at top (Digits n)) (at top (Tail n)) (at top (Closing (Some n))) (count_last top) (Some n) (some_ends n) b k))

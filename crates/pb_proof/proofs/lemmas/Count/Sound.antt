@@ -2,7 +2,7 @@
 use Rattle.std.proofs.Common.{◌≡◌, ℕ, ◌+◌, ◌*◌, ◌≤◌, true, false, List, [], ◌∷◌, ◌++◌, refl, ◌∙◌}
 use Rattle.std.proofs.lemmas.Bool.{leb-true, cond_both}
 use Rattle.std.specs.Prelude.{IsTrue, nat_le, Option, Some, None}
-use Rattle.pb_text.proofs.lemmas.text.Languages.{grown, next, behind_it, nil_first}
+use Rattle.pb_text.proofs.lemmas.text.Languages.{grown, next, after_it, nil_first}
 use Rattle.pb_text.proofs.lemmas.numbers.Numbers.{digits-grown, digits-one}
 use Rattle.pb_text.specs.contract.Automaton.{Next}
 use Rattle.pb_text.specs.meaning.Classes.{is_blank}
@@ -12,13 +12,13 @@ use Rattle.pb_text.specs.meaning.Spelling.{Letter}
 use Rattle.pb_text.proofs.lemmas.machine.Walking.{On, Keeps}
 use Rattle.pb_text.proofs.lemmas.text.Letters.{as_digit}
 use Rattle.pb_proof.specs.meaning.Lines.{LineEnd, SpellsCount}
-use Rattle.pb_proof.specs.engine.Line.Count.{CountState, count_automaton, act, plan, digits, behind, is_in_number}
+use Rattle.pb_proof.specs.engine.Line.Count.{CountState, count_automaton, act, plan, digits, next_action, is_in_number}
 use Rattle.pb_proof.specs.engine.Line.ByteKind.{number_byte}
 use Rattle.pb_proof.specs.declared.line.byte_kind.NumberByte.{NumberByte}
 use Rattle.pb_proof.specs.declared.line.byte_kind.NumberByte.TheVariants.{Blank, Digit, Semicolon, Feed}
 use Rattle.pb_proof.specs.declared.line.count.phase.CountPhase.{CountPhase}
 use Rattle.pb_proof.specs.declared.line.count.phase.CountPhase.TheVariants.{Start, Gap, Digits, Tail, Closing, Done}
-use Rattle.pb_proof.specs.declared.line.count.phase.CountMove.TheVariants.{To, Stop}
+use Rattle.pb_proof.specs.declared.line.count.phase.CountAction.TheVariants.{To, Stop}
 use Rattle.pb_proof.proofs.lemmas.Line.ByteKinds.{NumberMeans, number_means}
 use Rattle.pb_proof.proofs.lemmas.Line.Ends as ends
 
@@ -28,23 +28,23 @@ module _ (top : ℕ) where
   body None = Empty
   body (Some n) = Blanks1 ⋅ Count top n
 
-  abbrev pub front : CountPhase → Language
-  front Start = Empty
-  front Gap = Blanks1
-  front (Digits n) = λ t. (n ≤ top) × (Blanks1 ⋅ DigitsOf n) t
-  front (Tail n) = ends.Gapped (body (Some n))
-  front (Closing count) = ends.Closing (body count)
-  front Done = λ t. ⊥
+  abbrev pub prefix : CountPhase → Language
+  prefix Start = Empty
+  prefix Gap = Blanks1
+  prefix (Digits n) = λ t. (n ≤ top) × (Blanks1 ⋅ DigitsOf n) t
+  prefix (Tail n) = ends.Gapped (body (Some n))
+  prefix (Closing count) = ends.Closing (body count)
+  prefix Done = λ t. ⊥
 
-abbrev pub Front : CountState → Language
-Front s = front s.top s.phase
+abbrev pub Prefix : CountState → Language
+Prefix s = prefix s.top s.phase
 
 abbrev pub Whole : ℕ → Option ℕ → CountState → Language
 Whole limit e s = SpellsCount limit s.top e
 
 module _ (limit top : ℕ) where
   abbrev OnNext : Next CountState (Option ℕ) → Letter → Language
-  OnNext = On count_automaton Front (Whole limit)
+  OnNext = On count_automaton Prefix (Whole limit)
 
   whole : (count : Option ℕ) (q : List Letter) → (body top count ⋅ LineEnd) q → SpellsCount limit top count q
   whole None q h = nil_first LineEnd q h
@@ -54,35 +54,35 @@ module _ (limit top : ℕ) where
   digits_sound n d l q h =
       cond_both (nat_le (10 * n + d) top) (To (Digits (10 * n + d))) Stop (λ m. OnNext (act top m) l q) (λ e _ i. (leb-true (10 * n + d) top e, h i)) (λ _. tt)
 
-  behind_sound : (count : Option ℕ) (gap : CountPhase) (k : NumberByte) (l : Letter) (p : List Letter) → is_in_number gap ≡ false → NumberMeans k l.byte
-      → ends.Gapped (body top count) p → (IsTrue (is_blank l.byte) → l.numeral ≡ false → front top gap (p ++ l ∷ [])) → OnNext (act top (behind count gap k)) l (p ++ l ∷ [])
-  behind_sound count gap Blank l p i m h f = λ _ n. f m (n ∙ i)
-  behind_sound count gap Semicolon l p i m h f = λ _ n. ends.semicolon_behind_blanks (body top count) l p m n h
-  behind_sound count gap Feed l p i m h f = λ n. whole count (p ++ l ∷ []) (ends.line_behind_blanks (body top count) l p m n h)
-  behind_sound count gap _ l p i m h f = tt
+  after_sound : (count : Option ℕ) (gap : CountPhase) (k : NumberByte) (l : Letter) (p : List Letter) → is_in_number gap ≡ false → NumberMeans k l.byte
+      → ends.Gapped (body top count) p → (IsTrue (is_blank l.byte) → l.numeral ≡ false → prefix top gap (p ++ l ∷ [])) → OnNext (act top (next_action count gap k)) l (p ++ l ∷ [])
+  after_sound count gap Blank l p i m h f = λ _ n. f m (n ∙ i)
+  after_sound count gap Semicolon l p i m h f = λ _ n. ends.semicolon_after_blanks (body top count) l p m n h
+  after_sound count gap Feed l p i m h f = λ n. whole count (p ++ l ∷ []) (ends.line_after_blanks (body top count) l p m n h)
+  after_sound count gap _ l p i m h f = tt
 
   -- complete digits
   counted : (n : ℕ) (p : List Letter) → n ≤ top → (Blanks1 ⋅ DigitsOf n) p → body top (Some n) p
-  counted n p l h = behind_it Blanks1 (DigitsOf n) (Count top n) p (λ q k. (l, k)) h
+  counted n p l h = after_it Blanks1 (DigitsOf n) (Count top n) p (λ q k. (l, k)) h
 
-  sound : (ph : CountPhase) (k : NumberByte) (l : Letter) (p : List Letter) → NumberMeans k l.byte → front top ph p → OnNext (act top (plan top ph k)) l (p ++ l ∷ [])
+  sound : (ph : CountPhase) (k : NumberByte) (l : Letter) (p : List Letter) → NumberMeans k l.byte → prefix top ph p → OnNext (act top (plan top ph k)) l (p ++ l ∷ [])
   sound Start k l p m h =
-      behind_sound None Gap k l p refl m (ends.gapped Empty p h)
+      after_sound None Gap k l p refl m (ends.gapped Empty p h)
       (λ b n. ends.first_blank l p b n h)
   sound Gap (Digit d) l p m h =
       digits_sound 0 d l (p ++ l ∷ []) (λ n. next Blanks1 (DigitsOf (10 * 0 + d)) p l h (digits-one d l (as_digit l d m.0 n) m.1))
   sound Gap k l p m h =
-      behind_sound None Gap k l p refl m (ends.gapped_some Empty p ([], p, refl, refl, h))
+      after_sound None Gap k l p refl m (ends.gapped_some Empty p ([], p, refl, refl, h))
       (λ b n. ends.further_blank l p b n h)
   sound (Digits n) (Digit d) l p m h =
       digits_sound n d l (p ++ l ∷ []) (λ i. grown Blanks1 (DigitsOf n) (DigitsOf (10 * n + d)) p l (digits-grown n d l (as_digit l d m.0 i) m.1) h.1)
   sound (Digits n) k l p m h =
-      behind_sound (Some n) (Tail n) k l p refl m (ends.gapped (body top (Some n)) p (counted n p h.0 h.1))
-      (λ b i. ends.blank_behind (body top (Some n)) l p b i (counted n p h.0 h.1))
-  sound (Tail n) k l p m h = behind_sound (Some n) (Tail n) k l p refl m h (λ b i. ends.blank_more (body top (Some n)) l p b i h)
+      after_sound (Some n) (Tail n) k l p refl m (ends.gapped (body top (Some n)) p (counted n p h.0 h.1))
+      (λ b i. ends.blank_after (body top (Some n)) l p b i (counted n p h.0 h.1))
+  sound (Tail n) k l p m h = after_sound (Some n) (Tail n) k l p refl m h (λ b i. ends.blank_more (body top (Some n)) l p b i h)
   sound (Closing count) Blank l p m h = λ _ n. ends.blank_closing (body top count) l p m n h
   sound (Closing count) Feed l p m h = λ n. whole count (p ++ l ∷ []) (ends.line_closing (body top count) l p m n h)
   sound _ k l p m h = tt
 
-pub keeps_front : (limit : ℕ) → Keeps count_automaton Front (Whole limit)
-keeps_front limit s l p h = sound limit s.top s.phase (number_byte l.byte) l p (number_means l.byte) h
+pub keeps_prefix : (limit : ℕ) → Keeps count_automaton Prefix (Whole limit)
+keeps_prefix limit s l p h = sound limit s.top s.phase (number_byte l.byte) l p (number_means l.byte) h

@@ -5,19 +5,19 @@ use Rattle.std.specs.Prelude.{nat_le, Option, Some, None}
 use Rattle.pb_text.specs.contract.Automaton.{Next, Go, End, Refuse, Reads, IsState}
 use Rattle.pb_text.specs.meaning.Languages.{unmarked}
 use Rattle.pb_text.specs.meaning.Spelling.{Letter}
-use Rattle.pb_text.proofs.lemmas.machine.Walking.{told}
+use Rattle.pb_text.proofs.lemmas.machine.Walking.{reported}
 use Rattle.pb_text.proofs.lemmas.machine.Outcomes.{one_state}
 use Rattle.pb_proof.specs.meaning.Lines.{SpellsCount}
-use Rattle.pb_proof.specs.engine.Line.Count.{CountState, at, count_automaton, counting, count_last, act, plan, digits, behind, is_midway, is_done, PhaseFits, MoveFits, IsCountInOrder}
+use Rattle.pb_proof.specs.engine.Line.Count.{CountState, at, count_automaton, counting, count_last, act, plan, digits, next_action, is_midway, is_done, PhaseFits, ActionFits, IsCountInOrder}
 use Rattle.pb_proof.specs.engine.Line.ByteKind.{number_byte}
 use Rattle.pb_proof.specs.declared.line.byte_kind.NumberByte.{NumberByte}
 use Rattle.pb_proof.specs.declared.line.byte_kind.NumberByte.TheVariants.{Blank, Digit, Semicolon, Feed}
 use Rattle.pb_proof.specs.declared.line.count.phase.CountPhase.{CountPhase}
 use Rattle.pb_proof.specs.declared.line.count.phase.CountPhase.TheVariants.{Start, Gap, Digits, Tail, Closing, Done}
-use Rattle.pb_proof.specs.declared.line.count.phase.CountMove.{CountMove}
-use Rattle.pb_proof.specs.declared.line.count.phase.CountMove as move
+use Rattle.pb_proof.specs.declared.line.count.phase.CountAction.{CountAction}
+use Rattle.pb_proof.specs.declared.line.count.phase.CountAction as action
 use Rattle.pb_proof.proofs.lemmas.Count.Complete.{reads_each}
-use Rattle.pb_proof.proofs.lemmas.Count.Sound.{Front, Whole, keeps_front}
+use Rattle.pb_proof.proofs.lemmas.Count.Sound.{Prefix, Whole, keeps_prefix}
 use Rattle.pb_text.proofs.lemmas.machine.OneText.{IsOfOne, reads_last, is_state}
 use Rattle.pb_text.proofs.lemmas.machine.Living.{ReadsOn}
 
@@ -25,21 +25,21 @@ abbrev N : Type 0
 N = Next CountState (Option ℕ)
 
 -- The phase that `plan` leads to is midway, and a count that is being read is at most top.
-digits_fit : (top n d : ℕ) → MoveFits top (digits top n d)
-digits_fit top n d = cond_both (nat_le (10 * n + d) top) _ _ (MoveFits top) (λ e. (leb-true (10 * n + d) top e, refl)) (λ _. tt)
+digits_fit : (top n d : ℕ) → ActionFits top (digits top n d)
+digits_fit top n d = cond_both (nat_le (10 * n + d) top) _ _ (ActionFits top) (λ e. (leb-true (10 * n + d) top e, refl)) (λ _. tt)
 
-behind_fits : (top : ℕ) (count : Option ℕ) (gap : CountPhase) (k : NumberByte) → PhaseFits top gap → is_midway gap ≡ true → MoveFits top (behind count gap k)
-behind_fits top count gap Blank f h = (f, h)
-behind_fits top count gap Semicolon f h = (tt, refl)
-behind_fits top count gap _ f h = tt
+after_fits : (top : ℕ) (count : Option ℕ) (gap : CountPhase) (k : NumberByte) → PhaseFits top gap → is_midway gap ≡ true → ActionFits top (next_action count gap k)
+after_fits top count gap Blank f h = (f, h)
+after_fits top count gap Semicolon f h = (tt, refl)
+after_fits top count gap _ f h = tt
 
-plan_fits : (top : ℕ) (ph : CountPhase) (k : NumberByte) → MoveFits top (plan top ph k)
-plan_fits top Start k = behind_fits top None Gap k tt refl
+plan_fits : (top : ℕ) (ph : CountPhase) (k : NumberByte) → ActionFits top (plan top ph k)
+plan_fits top Start k = after_fits top None Gap k tt refl
 plan_fits top Gap (Digit d) = digits_fit top 0 d
-plan_fits top Gap k = behind_fits top None Gap k tt refl
+plan_fits top Gap k = after_fits top None Gap k tt refl
 plan_fits top (Digits n) (Digit d) = digits_fit top n d
-plan_fits top (Digits n) k = behind_fits top (Some n) (Tail n) k tt refl
-plan_fits top (Tail n) k = behind_fits top (Some n) (Tail n) k tt refl
+plan_fits top (Digits n) k = after_fits top (Some n) (Tail n) k tt refl
+plan_fits top (Tail n) k = after_fits top (Some n) (Tail n) k tt refl
 plan_fits top (Closing count) Blank = (tt, refl)
 plan_fits top (Closing count) Feed = tt
 plan_fits _ _ _ = tt
@@ -50,11 +50,11 @@ record Steps (top : ℕ) (next : CountState) : Type 0 where
   fits : PhaseFits top next.phase
   midway : is_midway next.phase ≡ true
 
-acted : (top : ℕ) (m : CountMove) (next : CountState) → MoveFits top m → act top m ≡ Go next → Steps top next
-acted top (move.TheVariants.To p) next h e =
+acted : (top : ℕ) (m : CountAction) (next : CountState) → ActionFits top m → act top m ≡ Go next → Steps top next
+acted top (action.TheVariants.To p) next h e =
     subst (λ x. Steps top x) (one_state (at top p) next e) (record { same_top = refl; fits = h.0; midway = h.1 })
-acted top (move.TheVariants.End count) next h e = cc
-acted top move.TheVariants.Stop next h e = cc
+acted top (action.TheVariants.End count) next h e = cc
+acted top action.TheVariants.Stop next h e = cc
 
 goes : (s next : CountState) (b : ℕ) → count_automaton.step s b ≡ Go next → Steps s.top next
 goes s next b e = acted s.top (plan s.top s.phase (number_byte b)) next (plan_fits s.top s.phase (number_byte b)) e
@@ -64,10 +64,10 @@ in_order s next b h e =
     let g : Steps s.top next = goes s next b e in
     (subst (λ x. x < 2 ^ 63) (sym g.same_top) h.0, subst (λ x. PhaseFits x next.phase) (sym g.same_top) g.fits)
 
-ended : (top : ℕ) (m : CountMove) (next : CountState) (count : Option ℕ) → act top m ≡ End count next → next ≡ count_last top
-ended top (move.TheVariants.To p) next count e = cc
-ended top (move.TheVariants.End c) next count e = cc
-ended top move.TheVariants.Stop next count e = cc
+ended : (top : ℕ) (m : CountAction) (next : CountState) (count : Option ℕ) → act top m ≡ End count next → next ≡ count_last top
+ended top (action.TheVariants.To p) next count e = cc
+ended top (action.TheVariants.End c) next count e = cc
+ended top action.TheVariants.Stop next count e = cc
 
 abbrev last : CountState → CountState
 last s = count_last s.top
@@ -117,7 +117,7 @@ pub count_reads : (limit top : ℕ) (text : List Letter) (e : Option ℕ) (after
     Reads count_automaton (counting top) text e after ↔ (SpellsCount limit top e text × (after ≡ count_last top))
 count_reads limit top text e after = (
   (λ r. let i : after ≡ count_last top = count_ends (counting top) after text e r in
-      (subst (λ x. Whole limit e x text) i (told count_automaton Front (Whole limit) (keeps_front limit) text (counting top) [] e after r refl), i)),
+      (subst (λ x. Whole limit e x text) i (reported count_automaton Prefix (Whole limit) (keeps_prefix limit) text (counting top) [] e after r refl), i)),
   (λ h. subst (λ x. Reads count_automaton (counting top) text e x) (sym h.1) (reads_each limit top e text h.0)),
 )
 

@@ -10,7 +10,7 @@ use Rattle.pb_proof.specs.engine.Line.Ids.{ids_automaton, ids_at, act, plan, dig
 use Rattle.pb_proof.specs.declared.line.byte_kind.NumberByte.TheVariants as kind
 use Rattle.pb_proof.specs.declared.line.ids.phase.IdsPhase.{IdsPhase}
 use Rattle.pb_proof.specs.declared.line.ids.phase.IdsPhase.TheVariants.{Gap, Between, Digits}
-use Rattle.pb_proof.specs.declared.line.ids.phase.IdsMove.TheVariants as move
+use Rattle.pb_proof.specs.declared.line.ids.phase.IdsAction.TheVariants as action
 use Rattle.pb_proof.proofs.lemmas.Ids.Pushes.{midway_state}
 use Rattle.pb_proof.proofs.lemmas.Line.ByteKinds.{number_of_digit}
 
@@ -22,7 +22,7 @@ module _ (top : ℕ) (ids : List ℤ) (l : top < 2 ^ 63) (some : 0 < top) where
   digit_on : (p : IdsPhase) (n b : ℕ) → TakesDigits p n → IsTrue (is_digit b) → 10 * n + (b - 48) ≤ top
       → ids_automaton.step (ids_at top ids p) b ≡ Go (ids_at top ids (Digits false (10 * n + (b - 48))))
   digit_on p n b s e h =
-      let f : digits top false n (b - 48) ≡ move.To (Digits false (10 * n + (b - 48))) = rw (le-leb (10 * n + (b - 48)) top h) refl in
+      let f : digits top false n (b - 48) ≡ action.To (Digits false (10 * n + (b - 48))) = rw (le-leb (10 * n + (b - 48)) top h) refl in
       ap (act top ids) (ap (plan top p) (number_of_digit b e) ∙ (s (b - 48) ∙ f))
 
   digits_run : (p : IdsPhase) (n b : ℕ) (text : List ℕ) → TakesDigits p n → AreDigits (b ∷ text) → value_from n (b ∷ text) ≤ top

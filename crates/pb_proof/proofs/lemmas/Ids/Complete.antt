@@ -7,16 +7,16 @@ use Rattle.pb_text.specs.meaning.Classes.{is_blank}
 use Rattle.pb_text.specs.meaning.Languages.{◌⋅◌, Blanks1}
 use Rattle.pb_text.specs.meaning.Numbers.{signed, Digits as DigitsOf}
 use Rattle.pb_text.specs.meaning.Spelling.{Letter}
-use Rattle.pb_text.proofs.lemmas.machine.Walking.{Walks, walks_then, reads_behind}
+use Rattle.pb_text.proofs.lemmas.machine.Walking.{Walks, walks_then, reads_after}
 use Rattle.pb_proof.specs.meaning.Lines.{LineEnd, Listed, SpellsId, SpellsIds, Minus as Sign}
-use Rattle.pb_proof.specs.engine.Line.Ids.{IdsState, ids_automaton, ids_at, ids_first, ids_last, step, act, digits, behind}
+use Rattle.pb_proof.specs.engine.Line.Ids.{IdsState, ids_automaton, ids_at, ids_first, ids_last, step, act, digits, next_action}
 use Rattle.pb_proof.specs.engine.Line.ByteKind.{number_byte}
 use Rattle.pb_proof.specs.declared.line.byte_kind.NumberByte.{NumberByte}
 use Rattle.pb_proof.specs.declared.line.byte_kind.NumberByte.TheVariants as kind
 use Rattle.pb_proof.specs.declared.line.ids.phase.IdsPhase.{IdsPhase}
 use Rattle.pb_proof.specs.declared.line.ids.phase.IdsPhase.TheVariants.{Gap, Between, Minus, Digits, Closing}
-use Rattle.pb_proof.specs.declared.line.ids.phase.IdsMove.{IdsMove}
-use Rattle.pb_proof.specs.declared.line.ids.phase.IdsMove.TheVariants as move
+use Rattle.pb_proof.specs.declared.line.ids.phase.IdsAction.{IdsAction}
+use Rattle.pb_proof.specs.declared.line.ids.phase.IdsAction.TheVariants as action
 use Rattle.pb_text.proofs.lemmas.numbers.DigitWalks.{TakesDigits, digits_lead}
 use Rattle.pb_proof.proofs.lemmas.Line.ByteKinds.{number_blank, number_digit}
 use Rattle.pb_proof.proofs.lemmas.Line.Ends.{TakesBlanks, MayEnd, blanks1_lead, line_reads, listed_walks}
@@ -42,26 +42,26 @@ module _ (limit top : ℕ) where
   by_digit s d h = by_kind s (48 + d) (kind.Digit d) (number_digit d h)
 
   -- The line may end here with these ids, or a further one may come.
-  pub record IsBehind (ids : List ℤ) (s : S) : Type 0 where
+  pub record IsAfter (ids : List ℤ) (s : S) : Type 0 where
     pub blank : (b : ℕ) → IsTrue (is_blank b) → ids_automaton.step s b ≡ Go (at ids Between)
     pub semicolon : ids_automaton.step s 59 ≡ Go (at ids Closing)
     pub feed : ids_automaton.step s 10 ≡ End ids last
 
-  whole_id : (ids : List ℤ) (negative : Bool) (n : ℕ) (k : NumberByte) (m : IdsMove) → 0 < n → m ≡ cond (nat_eq n 0) move.Stop (behind (signed negative n) k)
-      → act top ids m ≡ act top ids (behind (signed negative n) k)
-  whole_id ids negative n k m h e = ap (λ x. act top ids x) (e ∙ ap (λ b. cond b move.Stop (behind (signed negative n) k)) (not_zero n h))
+  whole_id : (ids : List ℤ) (negative : Bool) (n : ℕ) (k : NumberByte) (m : IdsAction) → 0 < n → m ≡ cond (nat_eq n 0) action.Stop (next_action (signed negative n) k)
+      → act top ids m ≡ act top ids (next_action (signed negative n) k)
+  whole_id ids negative n k m h e = ap (λ x. act top ids x) (e ∙ ap (λ b. cond b action.Stop (next_action (signed negative n) k)) (not_zero n h))
 
-  pub digits_behind : (ids : List ℤ) (negative : Bool) (n : ℕ) → 0 < n → IsBehind (ids ++ signed negative n ∷ []) (at ids (Digits negative n))
-  digits_behind ids negative n h = record {
+  pub digits_after : (ids : List ℤ) (negative : Bool) (n : ℕ) → 0 < n → IsAfter (ids ++ signed negative n ∷ []) (at ids (Digits negative n))
+  digits_after ids negative n h = record {
     blank = λ b i. by_blank (at ids (Digits negative n)) b i ∙ whole_id ids negative n kind.Blank _ h refl;
     semicolon = whole_id ids negative n kind.Semicolon _ h refl;
     feed = whole_id ids negative n kind.Feed _ h refl;
   }
 
-  takes_blanks : (ids : List ℤ) (s : S) → IsBehind ids s → TakesBlanks ids_automaton s (at ids Between)
+  takes_blanks : (ids : List ℤ) (s : S) → IsAfter ids s → TakesBlanks ids_automaton s (at ids Between)
   takes_blanks ids s h = record { enters = h.blank; stays = λ b i. by_blank (at ids Between) b i; begun = refl; plain = refl }
 
-  may_end : (ids : List ℤ) (s : S) → IsBehind ids s → MayEnd ids_automaton s (at ids Between) (at ids Closing) ids last
+  may_end : (ids : List ℤ) (s : S) → IsAfter ids s → MayEnd ids_automaton s (at ids Between) (at ids Closing) ids last
   may_end ids s h = record {
     feeds = record { blanks = takes_blanks ids s h; ends = h.feed; ends_gap = refl };
     closes = h.semicolon;
@@ -113,13 +113,13 @@ module _ (limit top : ℕ) where
 
   -- an id leads to a state after which a further one may come
   abbrev Led : S → List ℤ → List Letter → Type 0
-  Led s ids t = (after : S) × Walks ids_automaton s t after × IsBehind ids after
+  Led s ids t = (after : S) × Walks ids_automaton s t after × IsAfter ids after
 
   id_walks : (ids : List ℤ) (id : ℤ) (s : S) (t : List Letter) → Opens ids s → SpellsId top id t → Led s (ids ++ id ∷ []) t
   id_walks ids id s t o (negative, n, z, l, e, h) = (
     at ids (Digits negative n),
     number_walks ids s negative n t o l h,
-    subst (λ x. IsBehind (ids ++ x ∷ []) (at ids (Digits negative n))) (sym e) (digits_behind ids negative n z),
+    subst (λ x. IsAfter (ids ++ x ∷ []) (at ids (Digits negative n))) (sym e) (digits_after ids negative n z),
   )
 
   -- with blanks before it
@@ -131,15 +131,15 @@ module _ (limit top : ℕ) where
         g,
       )
 
-  one_more : (ids : List ℤ) (id : ℤ) (s : S) (t : List Letter) → IsBehind ids s → (Blanks1 ⋅ SpellsId top id) t → Led s (ids ++ id ∷ []) t
+  one_more : (ids : List ℤ) (id : ℤ) (s : S) (t : List Letter) → IsAfter ids s → (Blanks1 ⋅ SpellsId top id) t → Led s (ids ++ id ∷ []) t
   one_more ids id s t h k = blank_walks ids id s (at ids Between) t (takes_blanks ids s h) (between_opens ids) k
 
   -- further ids, and the end of the line
-  row_reads : (ids more : List ℤ) (s : S) (t : List Letter) → IsBehind ids s → (Listed (SpellsId top) more ⋅ LineEnd) t → Reads ids_automaton s t (ids ++ more) last
+  row_reads : (ids more : List ℤ) (s : S) (t : List Letter) → IsAfter ids s → (Listed (SpellsId top) more ⋅ LineEnd) t → Reads ids_automaton s t (ids ++ more) last
   row_reads ids more s t h (a, b, e, i, k) =
-      let (mid, w, g) = listed_walks (SpellsId top) ids_automaton IsBehind one_more ids more s a h i in
+      let (mid, w, g) = listed_walks (SpellsId top) ids_automaton IsAfter one_more ids more s a h i in
       subst (λ x. Reads ids_automaton s x (ids ++ more) last) (sym e)
-      (reads_behind ids_automaton a b s mid last (ids ++ more) w
+      (reads_after ids_automaton a b s mid last (ids ++ more) w
       (line_reads ids_automaton mid (at (ids ++ more) Between) (at (ids ++ more) Closing) last (ids ++ more) (may_end (ids ++ more) mid g) b k))
 
   in_gap : TakesBlanks ids_automaton (ids_first top) (at [] Gap)
@@ -151,4 +151,4 @@ module _ (limit top : ℕ) where
       let g : t ≡ ab ++ (c ++ d) = e ∙ (ap (λ x. x ++ d) f ∙ append_assoc ab c d) in
       let (mid, w, j) = blank_walks [] id (ids_first top) (at [] Gap) ab in_gap (gap_opens []) h in
       subst (λ x. Reads ids_automaton (ids_first top) x (id ∷ ids) last) (sym g)
-      (reads_behind ids_automaton ab (c ++ d) (ids_first top) mid last (id ∷ ids) w (row_reads (id ∷ []) ids mid (c ++ d) j (c, d, refl, i, k)))
+      (reads_after ids_automaton ab (c ++ d) (ids_first top) mid last (id ∷ ids) w (row_reads (id ∷ []) ids mid (c ++ d) j (c, d, refl, i, k)))

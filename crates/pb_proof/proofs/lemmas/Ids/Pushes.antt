@@ -8,23 +8,23 @@ use Rattle.pb_proof.specs.engine.Line.Ids.{ids_automaton, ids_at, act, plan, kee
 use Rattle.pb_proof.specs.engine.Line.ByteKind.{number_byte}
 use Rattle.pb_proof.specs.declared.line.byte_kind.NumberByte.{NumberByte}
 use Rattle.pb_proof.specs.declared.line.ids.phase.IdsPhase.{IdsPhase}
-use Rattle.pb_proof.specs.declared.line.ids.phase.IdsMove.{IdsMove}
-use Rattle.pb_proof.specs.declared.line.ids.phase.IdsMove.TheVariants as move
+use Rattle.pb_proof.specs.declared.line.ids.phase.IdsAction.{IdsAction}
+use Rattle.pb_proof.specs.declared.line.ids.phase.IdsAction.TheVariants as action
 use Rattle.pb_proof.proofs.lemmas.Ids.Theorems.{ids_of_one, ids_is_state}
 use Rattle.pb_text.proofs.lemmas.machine.OneText.{admits}
 
-kept_acts : (top : ℕ) (ids : List ℤ) (m : IdsMove) → keeps m ≡ true → act top ids m ≡ Refuse → ⊥
-kept_acts top ids (move.Keep p id) h e = go_or_refuse _ e
-kept_acts top ids (move.EndWith id) h e = end_or_refuse _ _ e
-kept_acts top ids (move.To p) h e = cc
-kept_acts top ids move.End h e = cc
-kept_acts top ids move.Stop h e = cc
+kept_acts : (top : ℕ) (ids : List ℤ) (m : IdsAction) → keeps m ≡ true → act top ids m ≡ Refuse → ⊥
+kept_acts top ids (action.Keep p id) h e = go_or_refuse _ e
+kept_acts top ids (action.EndWith id) h e = end_or_refuse _ _ e
+kept_acts top ids (action.To p) h e = cc
+kept_acts top ids action.End h e = cc
+kept_acts top ids action.Stop h e = cc
 
-pub moved : (top : ℕ) (ids : List ℤ) (p : IdsPhase) (b : ℕ) (k : NumberByte) (m : IdsMove) → k ≡ number_byte b → m ≡ plan top p k → ids_automaton.step (ids_at top ids p) b ≡ act top ids m
+pub moved : (top : ℕ) (ids : List ℤ) (p : IdsPhase) (b : ℕ) (k : NumberByte) (m : IdsAction) → k ≡ number_byte b → m ≡ plan top p k → ids_automaton.step (ids_at top ids p) b ≡ act top ids m
 moved top ids p b k m f g = ap (λ x. act top ids x) (ap (λ x. plan top p x) (sym f) ∙ sym g)
 
 -- a push may allocate at a byte that ends an id, and only if the byte is taken
-pub wants : (top : ℕ) (ids : List ℤ) (p : IdsPhase) (b : ℕ) (k : NumberByte) (m : IdsMove) → IsIdsInOrder (ids_at top ids p) → k ≡ number_byte b → m ≡ plan top p k → keeps m ≡ true
+pub wants : (top : ℕ) (ids : List ℤ) (p : IdsPhase) (b : ℕ) (k : NumberByte) (m : IdsAction) → IsIdsInOrder (ids_at top ids p) → k ≡ number_byte b → m ≡ plan top p k → keeps m ≡ true
     → IsTrue (ids_automaton.asks (ids_at top ids p) b) × Admits ids_automaton (ids_at top ids p) b
 wants top ids p b k m o f g h =
     let i : plan top p (number_byte b) ≡ m = ap (λ x. plan top p x) (sym f) ∙ sym g in (

@@ -3,7 +3,7 @@ use Rattle.std.proofs.Common.{◌≡◌, ℕ, ◌+◌, ◌*◌, ◌<◌, ◌≤�
 use Rattle.std.proofs.lemmas.Bool.{leb-true, cond_both}
 use Rattle.std.proofs.lemmas.List.{length-append}
 use Rattle.std.specs.Prelude.{ℤ, nat_le, nat_eq}
-use Rattle.pb_text.proofs.lemmas.text.Languages.{grown, next, regroup, none_yet, behind_it}
+use Rattle.pb_text.proofs.lemmas.text.Languages.{grown, next, regroup, none_yet, after_it}
 use Rattle.pb_text.proofs.lemmas.numbers.Numbers.{digits-grown, digits-one}
 use Rattle.pb_text.specs.contract.Automaton.{Next}
 use Rattle.pb_text.specs.meaning.Languages.{Language, ◌⋅◌, Empty, Blanks1}
@@ -12,13 +12,13 @@ use Rattle.pb_text.specs.meaning.Spelling.{Letter}
 use Rattle.pb_text.proofs.lemmas.machine.Walking.{On, Keeps}
 use Rattle.pb_text.proofs.lemmas.text.Letters.{as_unmarked, as_digit}
 use Rattle.pb_proof.specs.meaning.Lines.{Listed, SpellsId, SpellsIds, Minus as Sign}
-use Rattle.pb_proof.specs.engine.Line.Ids.{IdsState, ids_automaton, act, plan, digits, before, behind}
+use Rattle.pb_proof.specs.engine.Line.Ids.{IdsState, ids_automaton, act, plan, digits, before, next_action}
 use Rattle.pb_proof.specs.engine.Line.ByteKind.{number_byte}
 use Rattle.pb_proof.specs.declared.line.byte_kind.NumberByte.{NumberByte}
 use Rattle.pb_proof.specs.declared.line.byte_kind.NumberByte.TheVariants as kind
 use Rattle.pb_proof.specs.declared.line.ids.phase.IdsPhase.{IdsPhase}
 use Rattle.pb_proof.specs.declared.line.ids.phase.IdsPhase.TheVariants.{Start, Gap, Between, Minus, Digits, Closing, Done}
-use Rattle.pb_proof.specs.declared.line.ids.phase.IdsMove.TheVariants as move
+use Rattle.pb_proof.specs.declared.line.ids.phase.IdsAction.TheVariants as action
 use Rattle.pb_proof.proofs.lemmas.Line.ByteKinds.{NumberMeans, number_means}
 use Rattle.pb_proof.proofs.lemmas.Line.Ends as ends
 use Rattle.pb_proof.proofs.lemmas.NumberTests.{positive}
@@ -31,47 +31,48 @@ module _ (top : ℕ) where
   abbrev Before : List ℤ → Language
   Before ids = Row ids ⋅ Blanks1
 
-  abbrev pub front : IdsPhase → List ℤ → Language
-  front Start ids = λ t. (ids ≡ []) × Empty t
-  front Gap ids = λ t. (ids ≡ []) × Blanks1 t
-  front Between ids = λ t. (0 < length ids) × Before ids t
-  front Minus ids = Before ids ⋅ Sign true
-  front (Digits negative n) ids = λ t. (n ≤ top) × (Before ids ⋅ Sign negative ⋅ DigitsOf n) t
-  front Closing ids = λ t. (0 < length ids) × ends.Closing (Row ids) t
-  front Done ids = λ t. ⊥
+  abbrev pub prefix : IdsPhase → List ℤ → Language
+  prefix Start ids = λ t. (ids ≡ []) × Empty t
+  prefix Gap ids = λ t. (ids ≡ []) × Blanks1 t
+  prefix Between ids = λ t. (0 < length ids) × Before ids t
+  prefix Minus ids = Before ids ⋅ Sign true
+  prefix (Digits negative n) ids = λ t. (n ≤ top) × (Before ids ⋅ Sign negative ⋅ DigitsOf n) t
+  prefix Closing ids = λ t. (0 < length ids) × ends.Closing (Row ids) t
+  prefix Done ids = λ t. ⊥
 
-abbrev pub Front : IdsState → Language
-Front s = front s.top s.phase s.ids
+abbrev pub Prefix : IdsState → Language
+Prefix s = prefix s.top s.phase s.ids
 
 abbrev pub Whole : ℕ → List ℤ → IdsState → Language
 Whole limit e s = SpellsIds limit s.top e
 
 module _ (limit top : ℕ) where
   abbrev OnNext : Next IdsState (List ℤ) → Letter → Language
-  OnNext = On ids_automaton Front (Whole limit)
+  OnNext = On ids_automaton Prefix (Whole limit)
 
   digits_sound : (ids : List ℤ) (negative : Bool) (n d : ℕ) (l : Letter) (q : List Letter)
       → (l.numeral ≡ true → (Before top ids ⋅ Sign negative ⋅ DigitsOf (10 * n + d)) q) → OnNext (act top ids (digits top negative n d)) l q
   digits_sound ids negative n d l q h =
-      cond_both (nat_le (10 * n + d) top) (move.To (Digits negative (10 * n + d))) move.Stop (λ m. OnNext (act top ids m) l q) (λ e _ i. (leb-true (10 * n + d) top e, h i)) (λ _. tt)
+      cond_both (nat_le (10 * n + d) top) (action.To (Digits negative (10 * n + d))) action.Stop (λ m. OnNext (act top ids m) l q) (λ e _ i. (leb-true (10 * n + d) top e, h i)) (λ _. tt)
 
   -- an id is complete
   id_ends : (ids : List ℤ) (negative : Bool) (n : ℕ) (p : List Letter) → 0 < n → n ≤ top → (Before top ids ⋅ Sign negative ⋅ DigitsOf n) p
       → Row top (ids ++ signed negative n ∷ []) p
   id_ends ids negative n p z i h =
       ends.listed_append (SpellsId top) ids (signed negative n) p
-      (behind_it (Before top ids) (Sign negative ⋅ DigitsOf n) (SpellsId top (signed negative n)) p (λ q k. (negative, n, z, i, refl, k))
+      (after_it (Before top ids) (Sign negative ⋅ DigitsOf n) (SpellsId top (signed negative n)) p (λ q k. (negative, n, z, i, refl, k))
       (regroup (Before top ids) (Sign negative) (DigitsOf n) p h))
 
   some_ids : (ids : List ℤ) (id : ℤ) → 0 < length (ids ++ id ∷ [])
   some_ids ids id = omega (arith, length-append ids (id ∷ []))
 
-  behind_sound : (ids : List ℤ) (id : ℤ) (k : NumberByte) (l : Letter) (p : List Letter) → NumberMeans k l.byte → Row top (ids ++ id ∷ []) p → OnNext (act top ids (behind id k)) l (p ++ l ∷ [])
-  behind_sound ids id kind.Blank l p m h =
+  after_sound : (ids : List ℤ) (id : ℤ) (k : NumberByte) (l : Letter) (p : List Letter) → NumberMeans k l.byte → Row top (ids ++ id ∷ []) p → OnNext (act top ids (next_action id k)) l (p ++ l ∷ [])
+  after_sound ids id kind.Blank l p m h =
       λ _ n. (some_ids ids id, ends.blanks_begin (Row top (ids ++ id ∷ [])) l p m n h)
-  behind_sound ids id kind.Semicolon l p m h = λ _ n. (some_ids ids id, ends.semicolon_behind (Row top (ids ++ id ∷ [])) l p m n h)
-  behind_sound ids id kind.Feed l p m h = λ n. (some_ids ids id, ends.line_behind (Row top (ids ++ id ∷ [])) l p m n h)
-  behind_sound ids id _ l p m h = tt
+  after_sound ids id kind.Semicolon l p m h = λ _ n. (some_ids ids id, ends.semicolon_after (Row top (ids ++ id ∷ [])) l p m n h)
+  after_sound ids id kind.Feed l p m h =
+      λ n. (some_ids ids id, ends.line_end_after (Row top (ids ++ id ∷ [])) l p m n h)
+  after_sound ids id _ l p m h = tt
 
   before_sound : (ids : List ℤ) (k : NumberByte) (l : Letter) (p : List Letter) → NumberMeans k l.byte → Before top ids p → OnNext (act top ids (before top k)) l (p ++ l ∷ [])
   before_sound ids kind.Minus l p m h = λ _ n. next (Before top ids) (Sign true) p l h (ap (λ x. x ∷ []) (as_unmarked l 45 n m))
@@ -84,15 +85,15 @@ module _ (limit top : ℕ) where
   first_before : (ids : List ℤ) (p : List Letter) → ids ≡ [] → Blanks1 p → Before top ids p
   first_before ids p e h = subst (λ y. Before top y p) (sym e) ([], p, refl, refl, h)
 
-  sound : (ph : IdsPhase) (ids : List ℤ) (k : NumberByte) (l : Letter) (p : List Letter) → NumberMeans k l.byte → front top ph ids p → OnNext (act top ids (plan top ph k)) l (p ++ l ∷ [])
+  sound : (ph : IdsPhase) (ids : List ℤ) (k : NumberByte) (l : Letter) (p : List Letter) → NumberMeans k l.byte → prefix top ph ids p → OnNext (act top ids (plan top ph k)) l (p ++ l ∷ [])
   sound Start ids kind.Blank l p m h =
       λ _ n. (h.0, ends.first_blank l p m n h.1)
   sound Gap ids kind.Blank l p m h = λ _ n. (h.0, ends.further_blank l p m n h.1)
   sound Gap ids k l p m h = before_sound ids k l p m (first_before ids p h.0 h.1)
   sound Between ids kind.Blank l p m h =
       λ _ n. (h.0, ends.blanks_go_on (Row top ids) l p m n h.1)
-  sound Between ids kind.Semicolon l p m h = λ _ n. (h.0, ends.semicolon_behind_blanks (Row top ids) l p m n (ends.gapped_some (Row top ids) p h.1))
-  sound Between ids kind.Feed l p m h = λ n. (h.0, ends.line_behind_blanks (Row top ids) l p m n (ends.gapped_some (Row top ids) p h.1))
+  sound Between ids kind.Semicolon l p m h = λ _ n. (h.0, ends.semicolon_after_blanks (Row top ids) l p m n (ends.gapped_some (Row top ids) p h.1))
+  sound Between ids kind.Feed l p m h = λ n. (h.0, ends.line_after_blanks (Row top ids) l p m n (ends.gapped_some (Row top ids) p h.1))
   sound Between ids k l p m h = before_sound ids k l p m h.1
   sound Minus ids (kind.Digit d) l p m h =
       digits_sound ids true 0 d l (p ++ l ∷ []) (λ n. next (Before top ids ⋅ Sign true) (DigitsOf (10 * 0 + d)) p l h (digits-one d l (as_digit l d m.0 n) m.1))
@@ -100,11 +101,11 @@ module _ (limit top : ℕ) where
       digits_sound ids negative n d l (p ++ l ∷ [])
       (λ i. grown (Before top ids ⋅ Sign negative) (DigitsOf n) (DigitsOf (10 * n + d)) p l (digits-grown n d l (as_digit l d m.0 i) m.1) h.1)
   sound (Digits negative n) ids k l p m h =
-      cond_both (nat_eq n 0) move.Stop (behind (signed negative n) k) (λ m. OnNext (act top ids m) l (p ++ l ∷ [])) (λ _. tt)
-      (λ e. behind_sound ids (signed negative n) k l p m (id_ends ids negative n p (positive n e) h.0 h.1))
+      cond_both (nat_eq n 0) action.Stop (next_action (signed negative n) k) (λ m. OnNext (act top ids m) l (p ++ l ∷ [])) (λ _. tt)
+      (λ e. after_sound ids (signed negative n) k l p m (id_ends ids negative n p (positive n e) h.0 h.1))
   sound Closing ids kind.Blank l p m h = λ _ n. (h.0, ends.blank_closing (Row top ids) l p m n h.1)
   sound Closing ids kind.Feed l p m h = λ n. (h.0, ends.line_closing (Row top ids) l p m n h.1)
   sound _ ids k l p m h = tt
 
-pub keeps_front : (limit : ℕ) → Keeps ids_automaton Front (Whole limit)
-keeps_front limit s l p h = sound limit s.top s.phase s.ids (number_byte l.byte) l p (number_means l.byte) h
+pub keeps_prefix : (limit : ℕ) → Keeps ids_automaton Prefix (Whole limit)
+keeps_prefix limit s l p h = sound limit s.top s.phase s.ids (number_byte l.byte) l p (number_means l.byte) h

@@ -8,20 +8,20 @@ use Rattle.pb_text.specs.contract.Automaton.{Next, Go, End, Refuse, Reads, IsSta
 use Rattle.pb_text.specs.meaning.Languages.{unmarked, digit}
 use Rattle.pb_text.specs.meaning.Numbers.{signed}
 use Rattle.pb_text.specs.meaning.Spelling.{Letter}
-use Rattle.pb_text.proofs.lemmas.machine.Walking.{told}
+use Rattle.pb_text.proofs.lemmas.machine.Walking.{reported}
 use Rattle.pb_text.proofs.lemmas.machine.Outcomes.{one_state}
 use Rattle.pb_text.proofs.lemmas.text.Booleans.{never}
 use Rattle.pb_proof.specs.meaning.Lines.{SpellsIds}
-use Rattle.pb_proof.specs.engine.Line.Ids.{IdsState, ids_automaton, ids_at, ids_first, ids_last, act, plan, digits, before, behind, is_midway, is_done, is_in_number, MoveFits, PhaseFits, IsIdsInOrder}
+use Rattle.pb_proof.specs.engine.Line.Ids.{IdsState, ids_automaton, ids_at, ids_first, ids_last, act, plan, digits, before, next_action, is_midway, is_done, is_in_number, ActionFits, PhaseFits, IsIdsInOrder}
 use Rattle.pb_proof.specs.engine.Line.ByteKind.{number_byte}
 use Rattle.pb_proof.specs.declared.line.byte_kind.NumberByte.{NumberByte}
 use Rattle.pb_proof.specs.declared.line.byte_kind.NumberByte.TheVariants as kind
 use Rattle.pb_proof.specs.declared.line.ids.phase.IdsPhase.{IdsPhase}
 use Rattle.pb_proof.specs.declared.line.ids.phase.IdsPhase.TheVariants.{Start, Gap, Between, Minus, Digits, Closing, Done}
-use Rattle.pb_proof.specs.declared.line.ids.phase.IdsMove.{IdsMove}
-use Rattle.pb_proof.specs.declared.line.ids.phase.IdsMove.TheVariants as move
-use Rattle.pb_proof.proofs.lemmas.Ids.Complete.{digits_behind, reads_each}
-use Rattle.pb_proof.proofs.lemmas.Ids.Sound.{Front, Whole, keeps_front}
+use Rattle.pb_proof.specs.declared.line.ids.phase.IdsAction.{IdsAction}
+use Rattle.pb_proof.specs.declared.line.ids.phase.IdsAction.TheVariants as action
+use Rattle.pb_proof.proofs.lemmas.Ids.Complete.{digits_after, reads_each}
+use Rattle.pb_proof.proofs.lemmas.Ids.Sound.{Prefix, Whole, keeps_prefix}
 use Rattle.pb_text.proofs.lemmas.machine.OneText.{IsOfOne, reads_last, is_state}
 use Rattle.pb_text.proofs.lemmas.machine.Living.{ReadsOn}
 
@@ -29,20 +29,20 @@ abbrev N : Type 0
 N = Next IdsState (List ℤ)
 
 -- The phase that `plan` leads to is midway, and an id that is being read is at most top.
-digits_fit : (top : ℕ) (negative : Bool) (n d : ℕ) → MoveFits top (digits top negative n d)
-digits_fit top negative n d = cond_both (nat_le (10 * n + d) top) _ _ (MoveFits top) (λ e. (leb-true (10 * n + d) top e, refl)) (λ _. tt)
+digits_fit : (top : ℕ) (negative : Bool) (n d : ℕ) → ActionFits top (digits top negative n d)
+digits_fit top negative n d = cond_both (nat_le (10 * n + d) top) _ _ (ActionFits top) (λ e. (leb-true (10 * n + d) top e, refl)) (λ _. tt)
 
-before_fits : (top : ℕ) (k : NumberByte) → MoveFits top (before top k)
+before_fits : (top : ℕ) (k : NumberByte) → ActionFits top (before top k)
 before_fits top kind.Minus = (tt, refl)
 before_fits top (kind.Digit d) = digits_fit top false 0 d
 before_fits top _ = tt
 
-behind_fits : (top : ℕ) (id : ℤ) (k : NumberByte) → MoveFits top (behind id k)
-behind_fits top id kind.Blank = (tt, refl)
-behind_fits top id kind.Semicolon = (tt, refl)
-behind_fits top id _ = tt
+after_fits : (top : ℕ) (id : ℤ) (k : NumberByte) → ActionFits top (next_action id k)
+after_fits top id kind.Blank = (tt, refl)
+after_fits top id kind.Semicolon = (tt, refl)
+after_fits top id _ = tt
 
-plan_fits : (top : ℕ) (ph : IdsPhase) (k : NumberByte) → MoveFits top (plan top ph k)
+plan_fits : (top : ℕ) (ph : IdsPhase) (k : NumberByte) → ActionFits top (plan top ph k)
 plan_fits top Start kind.Blank = (tt, refl)
 plan_fits top Gap kind.Blank = (tt, refl)
 plan_fits top Gap k = before_fits top k
@@ -52,7 +52,7 @@ plan_fits top Between kind.Feed = tt
 plan_fits top Between k = before_fits top k
 plan_fits top Minus (kind.Digit d) = digits_fit top true 0 d
 plan_fits top (Digits negative n) (kind.Digit d) = digits_fit top negative n d
-plan_fits top (Digits negative n) k = cond_both (nat_eq n 0) _ _ (MoveFits top) (λ _. tt) (λ _. behind_fits top (signed negative n) k)
+plan_fits top (Digits negative n) k = cond_both (nat_eq n 0) _ _ (ActionFits top) (λ _. tt) (λ _. after_fits top (signed negative n) k)
 plan_fits top Closing kind.Blank = (tt, refl)
 plan_fits top Closing kind.Feed = tt
 plan_fits _ _ _ = tt
@@ -64,25 +64,25 @@ record Steps (top : ℕ) (ids : List ℤ) (next : IdsState) : Type 0 where
   midway : is_midway next.phase ≡ true
   grows : length next.ids ≤ length ids + 1
 
-acted : (top : ℕ) (ids : List ℤ) (m : IdsMove) (next : IdsState) → MoveFits top m → act top ids m ≡ Go next → Steps top ids next
-acted top ids (move.To p) next h e =
+acted : (top : ℕ) (ids : List ℤ) (m : IdsAction) (next : IdsState) → ActionFits top m → act top ids m ≡ Go next → Steps top ids next
+acted top ids (action.To p) next h e =
     subst (λ x. Steps top ids x) (one_state (ids_at top ids p) next e) (record { same_top = refl; fits = h.0; midway = h.1; grows = omega arith })
-acted top ids (move.Keep p id) next h e =
+acted top ids (action.Keep p id) next h e =
     subst (λ x. Steps top ids x) (one_state (ids_at top (ids ++ id ∷ []) p) next e)
     (record { same_top = refl; fits = h.0; midway = h.1; grows = omega (arith, length-append ids (id ∷ [])) })
-acted top ids move.End next h e = cc
-acted top ids (move.EndWith id) next h e = cc
-acted top ids move.Stop next h e = cc
+acted top ids action.End next h e = cc
+acted top ids (action.EndWith id) next h e = cc
+acted top ids action.Stop next h e = cc
 
 goes : (s next : IdsState) (b : ℕ) → ids_automaton.step s b ≡ Go next → Steps s.top s.ids next
 goes s next b e = acted s.top s.ids (plan s.top s.phase (number_byte b)) next (plan_fits s.top s.phase (number_byte b)) e
 
-ended : (top : ℕ) (ids : List ℤ) (m : IdsMove) (next : IdsState) (e : List ℤ) → act top ids m ≡ End e next → next ≡ ids_last top
-ended top ids (move.To p) next e i = cc
-ended top ids (move.Keep p id) next e i = cc
-ended top ids move.End next e i = cc
-ended top ids (move.EndWith id) next e i = cc
-ended top ids move.Stop next e i = cc
+ended : (top : ℕ) (ids : List ℤ) (m : IdsAction) (next : IdsState) (e : List ℤ) → act top ids m ≡ End e next → next ≡ ids_last top
+ended top ids (action.To p) next e i = cc
+ended top ids (action.Keep p id) next e i = cc
+ended top ids action.End next e i = cc
+ended top ids (action.EndWith id) next e i = cc
+ended top ids action.Stop next e i = cc
 
 abbrev last : IdsState → IdsState
 last s = ids_last s.top
@@ -127,7 +127,7 @@ module _ (top : ℕ) (some : 0 < top) (ids : List ℤ) where
     unmarked 10 ∷ [],
     ids ++ signed negative (suc n) ∷ [],
     ids_last top,
-    ((digits_behind 0 top ids negative (suc n) (omega arith)).feed, refl),
+    ((digits_after 0 top ids negative (suc n) (omega arith)).feed, refl),
   )
 
   some_one : (p : IdsPhase) (negative : Bool) → ids_automaton.step (ids_at top ids p) 49 ≡ Go (ids_at top ids (Digits negative 1)) → Some p
@@ -176,7 +176,7 @@ pub ids_reads : (limit top : ℕ) (text : List Letter) (e : List ℤ) (after : I
     Reads ids_automaton (ids_first top) text e after ↔ (SpellsIds limit top e text × (after ≡ ids_last top))
 ids_reads limit top text e after = (
   (λ r. let i : after ≡ ids_last top = ids_ends (ids_first top) after text e r in
-      (subst (λ x. Whole limit e x text) i (told ids_automaton Front (Whole limit) (keeps_front limit) text (ids_first top) [] e after r (refl, refl)), i)),
+      (subst (λ x. Whole limit e x text) i (reported ids_automaton Prefix (Whole limit) (keeps_prefix limit) text (ids_first top) [] e after r (refl, refl)), i)),
   (λ h. subst (λ x. Reads ids_automaton (ids_first top) text e x) (sym h.1) (reads_each limit top e text h.0)),
 )
 

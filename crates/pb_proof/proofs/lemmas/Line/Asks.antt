@@ -8,7 +8,7 @@ use Rattle.pb_text.specs.meaning.Languages.{digit, Language, ◌⋅◌, Bytes, E
 use Rattle.pb_text.specs.meaning.Numbers.{Digits as DigitsOf}
 use Rattle.pb_text.specs.meaning.Spelling.{Letter, bytes}
 use Rattle.pb_text.proofs.lemmas.text.Languages.{bytes-plain, bytes-append}
-use Rattle.pb_text.proofs.lemmas.machine.Walking.{Walks, fronts}
+use Rattle.pb_text.proofs.lemmas.machine.Walking.{Walks, prefixes_of}
 use Rattle.pb_text.proofs.lemmas.text.ByteTests.{digit_byte, blank_digit, letter_name}
 use Rattle.pb_sums.specs.meaning.Asking.{EndsIn, AsksLiteral}
 use Rattle.pb_sums.specs.engine.State.{SumState, sums}
@@ -16,8 +16,8 @@ use Rattle.pb_sums.specs.meaning.Sums.{literal_bytes}
 use Rattle.pb_sums.specs.declared.Literal.{Literal}
 use Rattle.pb_sums.specs.declared.Part as part
 use Rattle.pb_sums.specs.declared.Spaces.TheVariants.{Blank as BlankSpaces}
-use Rattle.pb_sums.proofs.lemmas.machine.Asked.{ends_nothing, ends_behind, asks_behind, at_name, sums_asked, first_asks_nothing, first_further}
-use Rattle.pb_sums.proofs.lemmas.machine.LiteralFronts.{IsFirst}
+use Rattle.pb_sums.proofs.lemmas.machine.Asked.{ends_nothing, ends_after, asks_after, at_name, sums_asked, first_asks_nothing, first_further}
+use Rattle.pb_sums.proofs.lemmas.machine.LiteralPrefixes.{IsFirst}
 use Rattle.pb_proof.specs.meaning.Asking.{EndsNumber}
 use Rattle.pb_proof.specs.engine.Line.Rup.{RupState, rup_automaton, rup_first, rup_asks, rup_plan}
 use Rattle.pb_proof.specs.engine.Line.Ids.{IdsState, ids_automaton, ids_first, plan, digits, before, keeps}
@@ -42,12 +42,12 @@ use Rattle.pb_proof.proofs.lemmas.Line.ByteKinds.{NameMeans, name_means}
 -- ---- ends of texts
 pub joined_end : (a c t : List Letter) (end : List ℕ) → t ≡ a ++ c → EndsIn (bytes c) end → EndsIn (bytes t) end
 joined_end a c t end e h =
-    subst (λ (x : List ℕ). EndsIn x end) (sym (ap bytes e ∙ bytes-append a c)) (ends_behind (bytes a) (bytes c) end h)
+    subst (λ (x : List ℕ). EndsIn x end) (sym (ap bytes e ∙ bytes-append a c)) (ends_after (bytes a) (bytes c) end h)
 
 digits_last : (d : ℕ) (ds : List ℕ) → Each (λ e. e < 10) (d ∷ ds) → (c : ℕ) × EndsIn (bytes (map digit (d ∷ ds))) (c ∷ []) × IsTrue (is_digit c)
 digits_last d [] h = (48 + d, ([], refl), digit_byte d h.0)
 digits_last d (e ∷ ds) h =
-    let (c, f, k) = digits_last e ds h.1 in (c, ends_behind ((48 + d) ∷ []) (bytes (map digit (e ∷ ds))) (c ∷ []) f, k)
+    let (c, f, k) = digits_last e ds h.1 in (c, ends_after ((48 + d) ∷ []) (bytes (map digit (e ∷ ds))) (c ∷ []) f, k)
 
 -- digits end in a digit
 pub digits_end : (n : ℕ) (t : List Letter) → DigitsOf n t → (c : ℕ) × EndsIn (bytes t) (c ∷ []) × IsTrue (is_digit c)
@@ -88,7 +88,7 @@ module _ (limit : ℕ) where
           → keeps (plan top (Digits negative n) (cond x number.Minus (cond y number.Semicolon (cond z number.Feed number.Other)))) ≡ true → is_digit b ≡ false
       dark e x y z h = e
 
-  ids_at : (ph : IdsPhase) (top : ℕ) (held : List ℤ) (t : List Letter) (b : ℕ) → ids.front top ph held t → keeps (plan top ph (number_byte b)) ≡ true → EndsNumber (bytes t) b
+  ids_at : (ph : IdsPhase) (top : ℕ) (held : List ℤ) (t : List Letter) (b : ℕ) → ids.prefix top ph held t → keeps (plan top ph (number_byte b)) ≡ true → EndsNumber (bytes t) b
   ids_at Start top held t b h k = absurd (false≢true (sym (start (number_byte b)) ∙ k))
     where
       start : (m : NumberByte) → keeps (plan top Start m) ≡ false
@@ -122,18 +122,18 @@ module _ (limit : ℕ) where
 
   pub ids_asked : (top : ℕ) (t : List Letter) (s : IdsState) (b : ℕ) → Walks ids_automaton (ids_first top) t s → ids_automaton.asks s b ≡ true → EndsNumber (bytes t) b
   ids_asked top t s b w h =
-      ids_at s.phase s.top s.ids t b (fronts ids_automaton ids.Front (ids.Whole limit) (ids.keeps_front limit) t (ids_first top) [] s w (refl, refl)) h
+      ids_at s.phase s.top s.ids t b (prefixes_of ids_automaton ids.Prefix (ids.Whole limit) (ids.keeps_prefix limit) t (ids_first top) [] s w (refl, refl)) h
 
 -- ---- literals
 letter_begins : (text : List ℕ) (b : ℕ) → IsTrue (is_letter b) → AsksLiteral text b
 letter_begins text b h = inl ([], ends_nothing text, (h, tt))
 
 module _ (b : ℕ) (text : List ℕ) where
-  behind_quiet : (k : NameByte) → adds (literals.behind k) ≡ false
-  behind_quiet name.Blank = refl
-  behind_quiet name.Semicolon = refl
-  behind_quiet name.Feed = refl
-  behind_quiet _ = refl
+  after_quiet : (k : NameByte) → adds (literals.next_action k) ≡ false
+  after_quiet name.Blank = refl
+  after_quiet name.Semicolon = refl
+  after_quiet name.Feed = refl
+  after_quiet _ = refl
 
   begins_at : (k : NameByte) → NameMeans k b → adds (literals.before k) ≡ true → AsksLiteral text b
   begins_at name.Tilde m h = absurd (false≢true h)
@@ -146,7 +146,7 @@ module _ (b : ℕ) (text : List ℕ) where
 
   start_at : (joined : Bool) (k : NameByte) → NameMeans k b → (adds (literals.plan joined at.Start k) || false) ≡ true → AsksLiteral text b
   start_at true k m h = begins_at k m (sym (or-false (adds (literals.before k))) ∙ h)
-  start_at false k m h = absurd (false≢true (sym (ap (λ x. x || false) (behind_quiet k)) ∙ h))
+  start_at false k m h = absurd (false≢true (sym (ap (λ x. x || false) (after_quiet k)) ∙ h))
 
   gap_at : (joined : Bool) (k : NameByte) → NameMeans k b → (adds (literals.plan joined at.Gap k) || false) ≡ true → AsksLiteral text b
   gap_at joined k m h = begins_at k m (sym (or-false (adds (literals.before k))) ∙ h)
@@ -178,7 +178,7 @@ module _ (b : ℕ) (text : List ℕ) where
   closing_at joined (name.Inner c) h = absurd (false≢true h)
   closing_at joined name.Other h = absurd (false≢true h)
 
-literals_at : (ph : LiteralsPhase) (joined : Bool) (ls : List Literal) (bs : List ℕ) (t : List Letter) (b : ℕ) → sound.front joined ph ls bs t
+literals_at : (ph : LiteralsPhase) (joined : Bool) (ls : List Literal) (bs : List ℕ) (t : List Letter) (b : ℕ) → sound.prefix joined ph ls bs t
     → (adds (literals.plan joined ph (name_byte b)) || is_more ph) ≡ true → AsksLiteral (bytes t) b
 literals_at at.Start joined ls bs t b h k = start_at b (bytes t) joined (name_byte b) (name_means b) k
 literals_at at.Gap joined ls bs t b h k = gap_at b (bytes t) joined (name_byte b) (name_means b) k
@@ -191,18 +191,18 @@ literals_at at.Done joined ls bs t b h k = absurd h
 
 pub literals_asked : (joined : Bool) (t : List Letter) (s : LiteralsState) (b : ℕ) → Walks literals_automaton (literals_first joined) t s → literals_automaton.asks s b ≡ true → AsksLiteral (bytes t) b
 literals_asked joined t s b w h =
-    literals_at s.phase s.joined s.literals s.name t b (fronts literals_automaton sound.Front sound.Whole sound.keeps_front t (literals_first joined) [] s w (refl, refl)) h
+    literals_at s.phase s.joined s.literals s.name t b (prefixes_of literals_automaton sound.Prefix sound.Whole sound.keeps_prefix t (literals_first joined) [] s w (refl, refl)) h
 
 -- ---- linear texts
 module _ (limit top : ℕ) where
-  rup_at : (s : RupState) (ph : RupPhase) (t : List Letter) (b : ℕ) → reads.front limit top s ph t → rup_asks s b (rup_plan ph b) ≡ true → AsksLiteral (bytes t) b
+  rup_at : (s : RupState) (ph : RupPhase) (t : List Letter) (b : ℕ) → reads.prefix limit top s ph t → rup_asks s b (rup_plan ph b) ≡ true → AsksLiteral (bytes t) b
   rup_at s rup.Start t b h = cond_both (is_blank b) _ _ (λ m. rup_asks s b m ≡ true → AsksLiteral (bytes t) b) (λ _ k. absurd (false≢true k)) (λ _ k. absurd (false≢true k))
   rup_at s rup.Gap t b (h, inner, linear) =
       cond_both (is_blank b) _ _ (λ m. rup_asks s b m ≡ true → AsksLiteral (bytes t) b) (λ _ k. absurd (false≢true k))
       (λ _ k. absurd (false≢true (sym (ap (λ (x : SumState). sums.asks x b) inner ∙ first_asks_nothing BlankSpaces part.TheVariants.AtLeast limit b) ∙ k)))
   rup_at s rup.Inside t b (linear, (a, c, e, h, w)) = λ k.
       subst (λ (x : List ℕ). AsksLiteral x b) (sym (ap bytes e ∙ bytes-append a c))
-      (asks_behind (bytes a) (bytes c) b (sums_asked BlankSpaces part.TheVariants.AtLeast limit c s.sums b w k))
+      (asks_after (bytes a) (bytes c) b (sums_asked BlankSpaces part.TheVariants.AtLeast limit c s.sums b w k))
   rup_at s rup.Tail t b h =
       cond_both (is_blank b) _ _ (λ m. rup_asks s b m ≡ true → AsksLiteral (bytes t) b) (λ _ k. absurd (false≢true k))
       (λ _. cond_both (nat_eq b 10) _ _ (λ m. rup_asks s b m ≡ true → AsksLiteral (bytes t) b) (λ _ k. absurd (false≢true k)) (λ _ k. absurd (false≢true k)))
@@ -210,4 +210,4 @@ module _ (limit top : ℕ) where
 
   pub rup_asked : (t : List Letter) (s : RupState) (b : ℕ) → Walks rup_automaton (rup_first limit) t s → rup_automaton.asks s b ≡ true → AsksLiteral (bytes t) b
   rup_asked t s b w h =
-      rup_at s s.phase t b (fronts rup_automaton (reads.Front limit top) (reads.Whole limit top) (reads.keeps limit top) t (rup_first limit) [] s w (refl, refl, refl)) h
+      rup_at s s.phase t b (prefixes_of rup_automaton (reads.Prefix limit top) (reads.Whole limit top) (reads.keeps limit top) t (rup_first limit) [] s w (refl, refl, refl)) h

@@ -2,12 +2,12 @@
 use Rattle.std.proofs.Common.{◌≡◌, ℕ, true, false, List, [], ◌∷◌, ◌++◌, refl, ap, subst, inl, inr, sym, ◌∙◌, append_assoc}
 use Rattle.std.proofs.lemmas.List.{append-nil}
 use Rattle.std.specs.Prelude.{IsTrue}
-use Rattle.pb_text.proofs.lemmas.text.Languages.{grown, next, none_yet, regroup, regroup3, behind_it, many-grown, some-one, some-grown, some-many}
+use Rattle.pb_text.proofs.lemmas.text.Languages.{grown, next, none_yet, regroup, regroup3, after_it, many-grown, some-one, some-grown, some-many}
 use Rattle.pb_text.specs.contract.Automaton.{Automaton, Go, End, Reads}
 use Rattle.pb_text.specs.meaning.Classes.{is_blank}
 use Rattle.pb_text.specs.meaning.Languages.{unmarked, Language, ◌⋅◌, Empty, Byte, Bytes, Each, Blanks0, Blanks1}
 use Rattle.pb_text.specs.meaning.Spelling.{Letter}
-use Rattle.pb_text.proofs.lemmas.machine.Walking.{Walks, Leads, walks_then, reads_behind, longer}
+use Rattle.pb_text.proofs.lemmas.machine.Walking.{Walks, Leads, walks_then, reads_after, longer}
 use Rattle.pb_text.proofs.lemmas.text.Letters.{as_unmarked}
 use Rattle.pb_proof.specs.meaning.Lines.{Feed, LineEnd, Listed}
 
@@ -40,15 +40,15 @@ module _ {S E : Type 0} (m : Automaton S E) where
     pub ends_gap : m.step gap 10 ≡ End e after
 
   -- blank*, and the text after it, which either state reads
-  pub behind_blanks : (s gap after : S) (e : E) (t u : List Letter) → TakesBlanks s gap → Blanks0 t → Reads m s u e after → Reads m gap u e after → Reads m s (t ++ u) e after
-  behind_blanks s gap after e t u h ([], i, f) r q = subst (λ x. Reads m s (x ++ u) e after) (sym f) r
-  behind_blanks s gap after e t u h (b ∷ bs, i, f) r q =
-      reads_behind m t u s gap after e (blanks1_lead s gap h t (b, bs, i.0, i.1, f)) q
+  pub after_blanks : (s gap after : S) (e : E) (t u : List Letter) → TakesBlanks s gap → Blanks0 t → Reads m s u e after → Reads m gap u e after → Reads m s (t ++ u) e after
+  after_blanks s gap after e t u h ([], i, f) r q = subst (λ x. Reads m s (x ++ u) e after) (sym f) r
+  after_blanks s gap after e t u h (b ∷ bs, i, f) r q =
+      reads_after m t u s gap after e (blanks1_lead s gap h t (b, bs, i.0, i.1, f)) q
 
   pub feed_reads : (s gap after : S) (e : E) → Feeds s gap e after → (t : List Letter) → Feed t → Reads m s t e after
   feed_reads s gap after e h t (a, b, f, i, g) =
       subst (λ x. Reads m s x e after) (sym (f ∙ ap (λ x. a ++ x) g))
-      (behind_blanks s gap after e a (unmarked 10 ∷ []) h.blanks i (h.ends, refl) (h.ends_gap, refl))
+      (after_blanks s gap after e a (unmarked 10 ∷ []) h.blanks i (h.ends, refl) (h.ends_gap, refl))
 
   -- A line may end: at a line feed, or at a `;` that leads to the last state. Blanks may come before either.
   pub record MayEnd (s gap closing : S) (e : E) (after : S) : Type 0 where
@@ -71,7 +71,7 @@ module _ {S E : Type 0} (m : Automaton S E) where
       let (a, b, g, i, (c, d, j, p, q)) = f in
       let r : Reads m closing d e after = feed_reads closing closing after e h.last d q in
       subst (λ x. Reads m s x e after) (sym (g ∙ ap (λ x. a ++ x) j))
-      (behind_blanks s gap after e a (c ++ d) h.feeds.blanks i
+      (after_blanks s gap after e a (c ++ d) h.feeds.blanks i
       (semicolon_reads s closing after e c d h.closes h.begun h.plain p r)
       (semicolon_reads gap closing after e c d h.closes_gap h.begun h.plain p r))
 
@@ -98,7 +98,7 @@ pub gapped : (P : Language) (p : List Letter) → P p → Gapped P p
 gapped P p h = none_yet P Blanks0 p ([], tt, refl) h
 
 pub gapped_some : (P : Language) (p : List Letter) → (P ⋅ Blanks1) p → Gapped P p
-gapped_some P p h = behind_it P Blanks1 Blanks0 p (some-many (λ b. IsTrue (is_blank b))) h
+gapped_some P p h = after_it P Blanks1 Blanks0 p (some-many (λ b. IsTrue (is_blank b))) h
 
 -- the first blank, and a further one
 module _ (l : Letter) (p : List Letter) where
@@ -118,8 +118,8 @@ module _ (P : Language) (l : Letter) (p : List Letter) where
   blank0 : IsTrue (is_blank l.byte) → l.numeral ≡ false → (q : List Letter) → Blanks0 q → Blanks0 (q ++ l ∷ [])
   blank0 h n q k = many-grown (λ b. IsTrue (is_blank b)) l.byte l (as_unmarked l l.byte n refl) h q k
 
-  pub blank_behind : IsTrue (is_blank l.byte) → l.numeral ≡ false → P p → Gapped P (p ++ l ∷ [])
-  blank_behind h n k = next P Blanks0 p l k (blank0 h n [] ([], tt, refl))
+  pub blank_after : IsTrue (is_blank l.byte) → l.numeral ≡ false → P p → Gapped P (p ++ l ∷ [])
+  blank_after h n k = next P Blanks0 p l k (blank0 h n [] ([], tt, refl))
 
   pub blank_more : IsTrue (is_blank l.byte) → l.numeral ≡ false → Gapped P p → Gapped P (p ++ l ∷ [])
   blank_more h n k = grown P Blanks0 Blanks0 p l (blank0 h n) k
@@ -129,11 +129,11 @@ module _ (P : Language) (l : Letter) (p : List Letter) where
       gapped (Blanks0 ⋅ Byte 59) (q ++ l ∷ [])
       (next Blanks0 (Byte 59) q l k (ap (λ x. x ∷ []) (as_unmarked l 59 n h)))
 
-  pub semicolon_behind_blanks : l.byte ≡ 59 → l.numeral ≡ false → Gapped P p → Closing P (p ++ l ∷ [])
-  semicolon_behind_blanks h n k = grown P Blanks0 (Blanks0 ⋅ Byte 59 ⋅ Blanks0) p l (semicolon h n) k
+  pub semicolon_after_blanks : l.byte ≡ 59 → l.numeral ≡ false → Gapped P p → Closing P (p ++ l ∷ [])
+  semicolon_after_blanks h n k = grown P Blanks0 (Blanks0 ⋅ Byte 59 ⋅ Blanks0) p l (semicolon h n) k
 
-  pub semicolon_behind : l.byte ≡ 59 → l.numeral ≡ false → P p → Closing P (p ++ l ∷ [])
-  semicolon_behind h n k = semicolon_behind_blanks h n (gapped P p k)
+  pub semicolon_after : l.byte ≡ 59 → l.numeral ≡ false → P p → Closing P (p ++ l ∷ [])
+  semicolon_after h n k = semicolon_after_blanks h n (gapped P p k)
 
   pub blank_closing : IsTrue (is_blank l.byte) → l.numeral ≡ false → Closing P p → Closing P (p ++ l ∷ [])
   blank_closing h n k =
@@ -143,14 +143,14 @@ module _ (P : Language) (l : Letter) (p : List Letter) where
   feed : l.byte ≡ 10 → l.numeral ≡ false → (q : List Letter) → Blanks0 q → Feed (q ++ l ∷ [])
   feed h n q k = next Blanks0 (Byte 10) q l k (ap (λ x. x ∷ []) (as_unmarked l 10 n h))
 
-  pub feed_behind_blanks : l.byte ≡ 10 → l.numeral ≡ false → Gapped P p → (P ⋅ Feed) (p ++ l ∷ [])
-  feed_behind_blanks h n k = grown P Blanks0 Feed p l (feed h n) k
+  pub feed_after_blanks : l.byte ≡ 10 → l.numeral ≡ false → Gapped P p → (P ⋅ Feed) (p ++ l ∷ [])
+  feed_after_blanks h n k = grown P Blanks0 Feed p l (feed h n) k
 
-  pub line_behind_blanks : l.byte ≡ 10 → l.numeral ≡ false → Gapped P p → (P ⋅ LineEnd) (p ++ l ∷ [])
-  line_behind_blanks h n k = behind_it P Feed LineEnd (p ++ l ∷ []) (λ q i. inl i) (feed_behind_blanks h n k)
+  pub line_after_blanks : l.byte ≡ 10 → l.numeral ≡ false → Gapped P p → (P ⋅ LineEnd) (p ++ l ∷ [])
+  line_after_blanks h n k = after_it P Feed LineEnd (p ++ l ∷ []) (λ q i. inl i) (feed_after_blanks h n k)
 
-  pub line_behind : l.byte ≡ 10 → l.numeral ≡ false → P p → (P ⋅ LineEnd) (p ++ l ∷ [])
-  line_behind h n k = line_behind_blanks h n (gapped P p k)
+  pub line_end_after : l.byte ≡ 10 → l.numeral ≡ false → P p → (P ⋅ LineEnd) (p ++ l ∷ [])
+  line_end_after h n k = line_after_blanks h n (gapped P p k)
 
   pub line_closing : l.byte ≡ 10 → l.numeral ≡ false → Closing P p → (P ⋅ LineEnd) (p ++ l ∷ [])
   line_closing h n k =
@@ -165,7 +165,7 @@ module _ {A : Type 0} (P : A → Language) where
   listed_append (y ∷ xs) x p h =
       let B : Language = Blanks1 ⋅ P y in
       let L : Language = Listed P xs in
-      behind_it B (L ⋅ Blanks1 ⋅ P x) (Listed P (xs ++ x ∷ [])) p (listed_append xs x) (regroup3 B L Blanks1 (P x) p h)
+      after_it B (L ⋅ Blanks1 ⋅ P x) (Listed P (xs ++ x ∷ [])) p (listed_append xs x) (regroup3 B L Blanks1 (P x) p h)
 
   -- If each further item leads on, a state after a part of a list leads to a state after the whole list.
   pub listed_walks : {S E : Type 0} (m : Automaton S E) (At : List A → S → Type 0)

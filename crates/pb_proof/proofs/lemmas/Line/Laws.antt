@@ -11,7 +11,7 @@ use Rattle.pb_proof.specs.engine.Line.PolState.{pol_automaton, pol_first, pol_la
 use Rattle.pb_proof.specs.engine.Line.Rup.{rup_automaton, rup_first, rup_last}
 use Rattle.pb_proof.specs.engine.Line.Literals.{literals_automaton, literals_first, literals_last}
 use Rattle.pb_proof.specs.engine.Line.Ids.{ids_automaton, ids_first, ids_last}
-use Rattle.pb_proof.specs.engine.Line.ClaimState.{claim_automaton, claim_first, claim_last}
+use Rattle.pb_proof.specs.engine.Line.ConclusionState.{conclusion_automaton, conclusion_first, conclusion_last}
 use Rattle.pb_proof.specs.declared.line.LineMachine.{LineMachine}
 use Rattle.pb_proof.specs.declared.line.LineMachine as line
 use Rattle.pb_proof.specs.declared.machine.phase.LineKind.{LineKind}
@@ -26,7 +26,7 @@ use Rattle.pb_proof.proofs.lemmas.Pol.Theorems.{pol_reads, pol_is_state, pol_fir
 use Rattle.pb_proof.proofs.lemmas.Pol.States.{of_one}
 use Rattle.pb_proof.proofs.lemmas.Literals.Theorems.{literals_of_one, literals_reads, literals_is_state}
 use Rattle.pb_proof.proofs.lemmas.Ids.Theorems.{ids_of_one, ids_reads, ids_is_state}
-use Rattle.pb_proof.proofs.lemmas.Claim.Theorems.{claim_of_one, claim_reads, claim_is_state}
+use Rattle.pb_proof.proofs.lemmas.Conclusion.Theorems.{conclusion_of_one, conclusion_reads, conclusion_is_state}
 use Rattle.pb_text.proofs.lemmas.machine.Living.{BeginsAtOnce}
 
 pub count_carries : Carries count_automaton line_automaton line.TheVariants.Count statement.TheVariants.F
@@ -47,7 +47,7 @@ solx_carries = record { step = λ s b. refl; done = λ s. refl; begun = λ s. re
 pub delete_carries : Carries ids_automaton line_automaton line.TheVariants.Delete statement.TheVariants.Delete
 delete_carries = record { step = λ s b. refl; done = λ s. refl; begun = λ s. refl; in_number = λ s. refl; asks = λ s b. refl; kept = λ s. refl; spent = λ s. refl }
 
-pub conclusion_carries : Carries claim_automaton line_automaton line.TheVariants.Conclusion statement.TheVariants.Conclude
+pub conclusion_carries : Carries conclusion_automaton line_automaton line.TheVariants.Conclusion statement.TheVariants.Conclude
 conclusion_carries = record { step = λ s b. refl; done = λ s. refl; begun = λ s. refl; in_number = λ s. refl; asks = λ s b. refl; kept = λ s. refl; spent = λ s. refl }
 
 -- Each begins its text with the first byte.
@@ -58,7 +58,7 @@ line_begins (line.TheVariants.Rup s) next b e = begins_in _ _ _ _ rup_carries ru
 line_begins (line.TheVariants.Soli s) next b e = begins_in _ _ _ _ soli_carries literals_of_one.begins s next b e
 line_begins (line.TheVariants.Solx s) next b e = begins_in _ _ _ _ solx_carries literals_of_one.begins s next b e
 line_begins (line.TheVariants.Delete s) next b e = begins_in _ _ _ _ delete_carries ids_of_one.begins s next b e
-line_begins (line.TheVariants.Conclusion s) next b e = begins_in _ _ _ _ conclusion_carries claim_of_one.begins s next b e
+line_begins (line.TheVariants.Conclusion s) next b e = begins_in _ _ _ _ conclusion_carries conclusion_of_one.begins s next b e
 
 module _ (limit top : ℕ) where
   -- What a new one reads is the text after the first word.
@@ -82,8 +82,8 @@ module _ (limit top : ℕ) where
       let (c, last, f, k) = reads_out _ _ _ _ delete_carries t (ids_first top) e after h in
       subst (λ x. SpellsRest limit top Delete x t) (sym f) ((ids_reads limit top t c last).0 k).0
   line_only Conclusion t e after h =
-      let (c, last, f, k) = reads_out _ _ _ _ conclusion_carries t (claim_first limit top) e after h in
-      subst (λ x. SpellsRest limit top Conclusion x t) (sym f) ((claim_reads limit top t c last).0 k).0
+      let (c, last, f, k) = reads_out _ _ _ _ conclusion_carries t (conclusion_first limit top) e after h in
+      subst (λ x. SpellsRest limit top Conclusion x t) (sym f) ((conclusion_reads limit top t c last).0 k).0
 
   pub line_each : (r : LineKind) (t : List Letter) (e : Statement) → SpellsRest limit top r e t → (after : LineMachine) × Reads line_automaton (line_first limit top r) t e after
   line_each Count t (statement.TheVariants.F c) h = (line.TheVariants.Count (count_last top), reads_in _ _ _ _ count_carries t (counting top) c (count_last top) ((count_reads limit top t c (count_last top)).1 (h, refl)))
@@ -98,7 +98,7 @@ module _ (limit top : ℕ) where
   line_each Solx t _ h = absurd h
   line_each Delete t (statement.TheVariants.Delete c) h = (line.TheVariants.Delete (ids_last top), reads_in _ _ _ _ delete_carries t (ids_first top) c (ids_last top) ((ids_reads limit top t c (ids_last top)).1 (h, refl)))
   line_each Delete t _ h = absurd h
-  line_each Conclusion t (statement.TheVariants.Conclude c) h = (line.TheVariants.Conclusion (claim_last limit top), reads_in _ _ _ _ conclusion_carries t (claim_first limit top) c (claim_last limit top) ((claim_reads limit top t c (claim_last limit top)).1 (h, refl)))
+  line_each Conclusion t (statement.TheVariants.Conclude c) h = (line.TheVariants.Conclusion (conclusion_last limit top), reads_in _ _ _ _ conclusion_carries t (conclusion_first limit top) c (conclusion_last limit top) ((conclusion_reads limit top t c (conclusion_last limit top)).1 (h, refl)))
   line_each Conclusion t _ h = absurd h
 
   -- A new one has not begun, has not ended, and reads no number.
@@ -119,4 +119,4 @@ module _ (limit top : ℕ) where
   line_first_state l t some Soli = state_in _ _ _ _ soli_carries (literals_first false) (literals_is_state (literals_first false) (λ i. (refl, refl)))
   line_first_state l t some Solx = state_in _ _ _ _ solx_carries (literals_first false) (literals_is_state (literals_first false) (λ i. (refl, refl)))
   line_first_state l t some Delete = state_in _ _ _ _ delete_carries (ids_first top) (ids_is_state (ids_first top) (t, some, tt, λ i. refl))
-  line_first_state l t some Conclusion = state_in _ _ _ _ conclusion_carries (claim_first limit top) (claim_is_state (claim_first limit top) (record { limit = l; top = t; some = some; fits = tt; holds = refl; literals = λ i. (refl, refl) }))
+  line_first_state l t some Conclusion = state_in _ _ _ _ conclusion_carries (conclusion_first limit top) (conclusion_is_state (conclusion_first limit top) (record { limit = l; top = t; some = some; fits = tt; holds = refl; literals = λ i. (refl, refl) }))

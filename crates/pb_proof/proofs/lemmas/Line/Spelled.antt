@@ -12,7 +12,7 @@ use Rattle.pb_sums.specs.meaning.Sums.{IsName, SpellsLiteral, SpellsLinear}
 use Rattle.pb_sums.specs.declared.values.Literal.{Literal}
 use Rattle.pb_sums.specs.declared.grammar.Spaces.TheVariants.{Blank}
 use Rattle.pb_sums.proofs.lemmas.values.CanonicalLaws.{linear-spelled, degree}
-use Rattle.pb_proof.specs.meaning.Lines.{pseudo_word, proof_word, version_word, two_word, f_word, pol_word, rup_word, soli_word, solx_word, del_word, id_word, output_word, conclusion_word, end_word, none_word, unsat_word, sat_word, bounds_word, Feed, LineEnd, Listed, SpellsId, Factor, SpellsBound, SpellsShown, Shown, IdShown, SpellsWord, SpellsConclusion, SpellsCount, SpellsWords, SpellsRup, SpellsLiterals, SpellsIds, SpellsClaim, SpellsStatement}
+use Rattle.pb_proof.specs.meaning.Lines.{pseudo_word, proof_word, version_word, two_word, f_word, pol_word, rup_word, soli_word, solx_word, del_word, id_word, output_word, conclusion_word, end_word, none_word, unsat_word, sat_word, bounds_word, Feed, LineEnd, Listed, SpellsId, Factor, SpellsBound, SpellsShown, Shown, IdShown, SpellsWord, SpellsConclusion, SpellsCount, SpellsWords, SpellsRup, SpellsLiterals, SpellsIds, SpellsConclusionLine, SpellsStatement}
 use Rattle.pb_proof.specs.contract.Values.{IfGiven, IsId, IsFactor, AreLiterals, IsBound, IsWord, IsConclusion, IsStatementValue}
 use Rattle.pb_proof.specs.declared.word.PolWord.{PolWord}
 use Rattle.pb_proof.specs.declared.word.PolWord.TheVariants.{Id, Axiom, Add, Multiply, Divide, Saturate, Weaken}
@@ -22,7 +22,7 @@ use Rattle.pb_proof.specs.declared.conclusion.Conclusion.{Conclusion}
 use Rattle.pb_proof.specs.declared.conclusion.Conclusion.TheVariants.{NoClaim, Unsat, Sat, Bounds}
 use Rattle.pb_proof.specs.declared.statement.Statement.{Statement}
 use Rattle.pb_proof.specs.declared.statement.Statement.TheVariants.{Header, F, Pol, Rup, Soli, Solx, Delete, Output, Conclude, End}
-use Rattle.pb_proof.proofs.lemmas.Line.Texts.{one, feed, word_text, listed_text, bound_text, id_shown_text, list_text, shown_text, claim_text, count_text, line_text}
+use Rattle.pb_proof.proofs.lemmas.Line.Texts.{one, feed, word_text, listed_text, bound_text, id_shown_text, list_text, shown_text, conclusion_text, count_text, line_text}
 use Rattle.pb_proof.proofs.lemmas.Line.Ends.{fed, ended}
 
 -- one text and then another
@@ -89,11 +89,11 @@ module _ (limit : ℕ) (small : limit < 2 ^ 127) where
     word_spelled Saturate h = refl
     word_spelled (Weaken name) h = (h, both (Bytes name ⋅ Blanks1) (Byte 119) (plain name ++ space) (one 119) (both (Bytes name) Blanks1 (plain name) space refl space1) refl)
 
-    claim_spelled : (c : Conclusion) → IsConclusion limit top c → SpellsConclusion limit top c (claim_text c)
-    claim_spelled NoClaim h = refl
-    claim_spelled (Unsat id) h = both (Bytes unsat_word) (IdShown limit top id) (plain unsat_word) (id_shown_text id) refl (id_shown_spelled id h)
-    claim_spelled (Sat shown) h = both (Bytes sat_word) (Shown shown) (plain sat_word) (shown_text shown) refl (shown_spelled shown h)
-    claim_spelled (Bounds lower id upper shown) h =
+    conclusion_spelled : (c : Conclusion) → IsConclusion limit top c → SpellsConclusion limit top c (conclusion_text c)
+    conclusion_spelled NoClaim h = refl
+    conclusion_spelled (Unsat id) h = both (Bytes unsat_word) (IdShown limit top id) (plain unsat_word) (id_shown_text id) refl (id_shown_spelled id h)
+    conclusion_spelled (Sat shown) h = both (Bytes sat_word) (Shown shown) (plain sat_word) (shown_text shown) refl (shown_spelled shown h)
+    conclusion_spelled (Bounds lower id upper shown) h =
         let W : Language = Bytes bounds_word in
         let L : Language = SpellsBound limit lower in
         let I : Language = IdShown limit top id in
@@ -144,8 +144,8 @@ module _ (limit : ℕ) (small : limit < 2 ^ 127) where
         both (Bytes output_word ⋅ Blanks1 ⋅ Bytes none_word) LineEnd (plain output_word ++ space ++ plain none_word) feed
         (both (Bytes output_word ⋅ Blanks1) (Bytes none_word) (plain output_word ++ space) (plain none_word) (both (Bytes output_word) Blanks1 (plain output_word) space refl space1) refl) ended
     line_spelled (Conclude c) h =
-        both (Bytes conclusion_word) (SpellsClaim limit top c) (plain conclusion_word) (space ++ claim_text c ++ feed) refl
-        (both (Blanks1 ⋅ SpellsConclusion limit top c) LineEnd (space ++ claim_text c) feed (both Blanks1 (SpellsConclusion limit top c) space (claim_text c) space1 (claim_spelled c h)) ended)
+        both (Bytes conclusion_word) (SpellsConclusionLine limit top c) (plain conclusion_word) (space ++ conclusion_text c ++ feed) refl
+        (both (Blanks1 ⋅ SpellsConclusion limit top c) LineEnd (space ++ conclusion_text c) feed (both Blanks1 (SpellsConclusion limit top c) space (conclusion_text c) space1 (conclusion_spelled c h)) ended)
     line_spelled End h =
         let A : Language = Bytes end_word ⋅ Blanks1 in
         let a : List Letter = plain end_word ++ space in

@@ -10,7 +10,7 @@ use Rattle.pb_sums.specs.meaning.Sums.{literal_bytes}
 use Rattle.pb_sums.specs.declared.values.Literal.{Literal}
 use Rattle.pb_sums.proofs.lemmas.values.CanonicalLaws.{bytes-linear, bytes-degree}
 use Rattle.pb_proof.specs.meaning.Lines.{pseudo_word, proof_word, version_word, two_word, f_word, pol_word, rup_word, soli_word, solx_word, del_word, id_word, output_word, conclusion_word, end_word, none_word, unsat_word, sat_word, bounds_word, inf_word}
-use Rattle.pb_proof.specs.meaning.Canonical.{literal_line, word_bytes, listed_bytes, bound_bytes, id_shown_bytes, shown_bytes, claim_bytes, statement_bytes}
+use Rattle.pb_proof.specs.meaning.Canonical.{literal_line, word_bytes, listed_bytes, bound_bytes, id_shown_bytes, shown_bytes, conclusion_bytes, statement_bytes}
 use Rattle.pb_proof.specs.declared.word.PolWord.{PolWord}
 use Rattle.pb_proof.specs.declared.word.PolWord.TheVariants.{Id, Axiom, Add, Multiply, Divide, Saturate, Weaken}
 use Rattle.pb_proof.specs.declared.conclusion.Bound.{Bound}
@@ -57,11 +57,11 @@ abbrev pub shown_text : Option (List Literal) → List Letter
 shown_text None = []
 shown_text (Some ls) = space ++ list_text ls
 
-abbrev pub claim_text : Conclusion → List Letter
-claim_text NoClaim = plain none_word
-claim_text (Unsat id) = plain unsat_word ++ id_shown_text id
-claim_text (Sat shown) = plain sat_word ++ shown_text shown
-claim_text (Bounds lower id upper shown) =
+abbrev pub conclusion_text : Conclusion → List Letter
+conclusion_text NoClaim = plain none_word
+conclusion_text (Unsat id) = plain unsat_word ++ id_shown_text id
+conclusion_text (Sat shown) = plain sat_word ++ shown_text shown
+conclusion_text (Bounds lower id upper shown) =
     plain bounds_word ++ space ++ bound_text lower ++ id_shown_text id ++ space ++ bound_text upper ++ shown_text shown
 
 -- the text after `f`
@@ -79,7 +79,7 @@ line_text (Soli ls) = plain soli_word ++ (listed_text literal_text ls ++ feed)
 line_text (Solx ls) = plain solx_word ++ (listed_text literal_text ls ++ feed)
 line_text (Delete ids) = plain del_word ++ space ++ plain id_word ++ (listed_text degree_text ids ++ feed)
 line_text Output = plain output_word ++ space ++ plain none_word ++ feed
-line_text (Conclude c) = plain conclusion_word ++ (space ++ claim_text c ++ feed)
+line_text (Conclude c) = plain conclusion_word ++ (space ++ conclusion_text c ++ feed)
 line_text End = plain end_word ++ space ++ plain pseudo_word ++ space ++ plain proof_word
 
 abbrev pub line_bytes : Statement → List ℕ
@@ -94,17 +94,17 @@ bytes-literal : (l : Literal) → bytes (literal_text l) ≡ literal_line l
 bytes-literal l = bytes-plain (literal_bytes l.negated l.name)
 
 -- with a space and one byte after it
-behind : (a : List Letter) (x : List ℕ) (b : ℕ) → bytes a ≡ x → bytes (a ++ space ++ one b) ≡ x ++ (32 ∷ b ∷ [])
-behind a x b h = join (a ++ space) (one b) (x ++ (32 ∷ [])) (b ∷ []) (join a space x (32 ∷ []) h refl) refl ∙ append_assoc x (32 ∷ []) (b ∷ [])
+following : (a : List Letter) (x : List ℕ) (b : ℕ) → bytes a ≡ x → bytes (a ++ space ++ one b) ≡ x ++ (32 ∷ b ∷ [])
+following a x b h = join (a ++ space) (one b) (x ++ (32 ∷ [])) (b ∷ []) (join a space x (32 ∷ []) h refl) refl ∙ append_assoc x (32 ∷ []) (b ∷ [])
 
 bytes-word : (w : PolWord) → bytes (word_text w) ≡ word_bytes w
 bytes-word (Id id) = bytes-degree id
 bytes-word (Axiom l) = bytes-literal l
 bytes-word Add = refl
-bytes-word (Multiply k) = behind (degree_text k) (signed_decimal k) 42 (bytes-degree k)
-bytes-word (Divide k) = behind (degree_text k) (signed_decimal k) 100 (bytes-degree k)
+bytes-word (Multiply k) = following (degree_text k) (signed_decimal k) 42 (bytes-degree k)
+bytes-word (Divide k) = following (degree_text k) (signed_decimal k) 100 (bytes-degree k)
 bytes-word Saturate = refl
-bytes-word (Weaken name) = behind (plain name) name 119 (bytes-plain name)
+bytes-word (Weaken name) = following (plain name) name 119 (bytes-plain name)
 
 bytes-listed : {A : Type 0} (text : A → List Letter) (line : A → List ℕ) → ((x : A) → bytes (text x) ≡ line x) → (xs : List A) → bytes (listed_text text xs) ≡ listed_bytes line xs
 bytes-listed text line f [] = sym (listed_none line)
@@ -130,18 +130,20 @@ bytes-shown (Some ls) = ap (λ y. 32 ∷ y) (bytes-list ls)
 bounds_grouped : (w l i u s : List ℕ) → w ++ (32 ∷ []) ++ l ++ i ++ (32 ∷ []) ++ u ++ s ≡ w ++ (32 ∷ (l ++ (i ++ (32 ∷ (u ++ s)))))
 bounds_grouped w l i u s = simp append_assoc
 
-bytes-claim : (c : Conclusion) → bytes (claim_text c) ≡ claim_bytes c
-bytes-claim NoClaim = refl
-bytes-claim (Unsat id) = join (plain unsat_word) (id_shown_text id) unsat_word (id_shown_bytes id) refl (bytes-id id)
-bytes-claim (Sat shown) = join (plain sat_word) (shown_text shown) sat_word (shown_bytes shown) refl (bytes-shown shown)
-bytes-claim (Bounds lower id upper shown) =
+bytes-conclusion : (c : Conclusion) → bytes (conclusion_text c) ≡ conclusion_bytes c
+bytes-conclusion NoClaim = refl
+bytes-conclusion (Unsat id) =
+    join (plain unsat_word) (id_shown_text id) unsat_word (id_shown_bytes id) refl (bytes-id id)
+bytes-conclusion (Sat shown) =
+    join (plain sat_word) (shown_text shown) sat_word (shown_bytes shown) refl (bytes-shown shown)
+bytes-conclusion (Bounds lower id upper shown) =
     let l : List Letter = bound_text lower in
     let i : List Letter = id_shown_text id in
     let u : List Letter = bound_text upper in
     let s : List Letter = shown_text shown in
     let w : List Letter = plain bounds_word in
-    let front : bytes (w ++ space ++ l) ≡ bounds_word ++ (32 ∷ []) ++ bound_bytes lower = join (w ++ space) l (bounds_word ++ (32 ∷ [])) (bound_bytes lower) refl (bytes-bound lower) in
-    let mid : bytes (w ++ space ++ l ++ i) ≡ bounds_word ++ (32 ∷ []) ++ bound_bytes lower ++ id_shown_bytes id = join (w ++ space ++ l) i _ (id_shown_bytes id) front (bytes-id id) in
+    let prefix : bytes (w ++ space ++ l) ≡ bounds_word ++ (32 ∷ []) ++ bound_bytes lower = join (w ++ space) l (bounds_word ++ (32 ∷ [])) (bound_bytes lower) refl (bytes-bound lower) in
+    let mid : bytes (w ++ space ++ l ++ i) ≡ bounds_word ++ (32 ∷ []) ++ bound_bytes lower ++ id_shown_bytes id = join (w ++ space ++ l) i _ (id_shown_bytes id) prefix (bytes-id id) in
     let late : bytes (w ++ space ++ l ++ i ++ space) ≡ bounds_word ++ (32 ∷ []) ++ bound_bytes lower ++ id_shown_bytes id ++ (32 ∷ []) = join (w ++ space ++ l ++ i) space _ (32 ∷ []) mid refl in
     let most : bytes (w ++ space ++ l ++ i ++ space ++ u) ≡ bounds_word ++ (32 ∷ []) ++ bound_bytes lower ++ id_shown_bytes id ++ (32 ∷ []) ++ bound_bytes upper = join (w ++ space ++ l ++ i ++ space) u _ (bound_bytes upper) late (bytes-bound upper) in
     join (w ++ space ++ l ++ i ++ space ++ u) s _ (shown_bytes shown) most (bytes-shown shown)
@@ -165,5 +167,5 @@ bytes-line (Solx ls) = fed solx_word (listed_text literal_text ls) (listed_bytes
 bytes-line (Delete ids) =
     fed (del_word ++ (32 ∷ []) ++ id_word) (listed_text degree_text ids) (listed_bytes signed_decimal ids) (bytes-listed degree_text signed_decimal bytes-degree ids)
 bytes-line Output = refl
-bytes-line (Conclude c) = fed conclusion_word (space ++ claim_text c) (32 ∷ claim_bytes c) (ap (λ y. 32 ∷ y) (bytes-claim c))
+bytes-line (Conclude c) = fed conclusion_word (space ++ conclusion_text c) (32 ∷ conclusion_bytes c) (ap (λ y. 32 ∷ y) (bytes-conclusion c))
 bytes-line End = refl

@@ -6,7 +6,7 @@ use Rattle.pb_text.specs.contract.Automaton.{Go, End, Reads}
 use Rattle.pb_text.specs.meaning.Classes.{is_blank, is_letter, is_name_byte}
 use Rattle.pb_text.specs.meaning.Languages.{unmarked, ◌⋅◌, Each, Blanks0, Blanks1}
 use Rattle.pb_text.specs.meaning.Spelling.{Letter}
-use Rattle.pb_text.proofs.lemmas.machine.Walking.{Walks, walks_then, reads_behind}
+use Rattle.pb_text.proofs.lemmas.machine.Walking.{Walks, walks_then, reads_after}
 use Rattle.pb_sums.specs.meaning.Sums.{SpellsLiteral}
 use Rattle.pb_sums.specs.declared.Literal.{Literal}
 use Rattle.pb_proof.specs.meaning.Lines.{LineEnd, Listed}
@@ -35,25 +35,25 @@ module _ (joined : Bool) where
   by_kind s b k e = ap (λ x. step s x) e
 
   -- The line may end here with these literals, or a further one may come.
-  pub record IsBehind (ls : List Literal) (s : S) : Type 0 where
+  pub record IsAfter (ls : List Literal) (s : S) : Type 0 where
     pub blank : (b : ℕ) → IsTrue (is_blank b) → literals_automaton.step s b ≡ Go (at_gap ls)
     pub semicolon : literals_automaton.step s 59 ≡ Go (at_closing ls)
     pub feed : literals_automaton.step s 10 ≡ End ls (literals_last joined)
 
-  gap_behind : (ls : List Literal) → IsBehind ls (at_gap ls)
-  gap_behind ls = record { blank = λ b h. by_kind (at_gap ls) b kind.Blank (name_blank b h); semicolon = refl; feed = refl }
+  gap_after : (ls : List Literal) → IsAfter ls (at_gap ls)
+  gap_after ls = record { blank = λ b h. by_kind (at_gap ls) b kind.Blank (name_blank b h); semicolon = refl; feed = refl }
 
-  more_behind : (ls : List Literal) (negated : Bool) (name : List ℕ) → IsBehind (ls ++ literal negated name ∷ []) (at_more ls negated name)
-  more_behind ls negated name = record {
+  more_after : (ls : List Literal) (negated : Bool) (name : List ℕ) → IsAfter (ls ++ literal negated name ∷ []) (at_more ls negated name)
+  more_after ls negated name = record {
     blank = λ b h. by_kind (at_more ls negated name) b kind.Blank (name_blank b h);
     semicolon = refl;
     feed = refl;
   }
 
-  takes_blanks : (ls : List Literal) (s : S) → IsBehind ls s → TakesBlanks literals_automaton s (at_gap ls)
-  takes_blanks ls s h = record { enters = h.blank; stays = (gap_behind ls).blank; begun = refl; plain = refl }
+  takes_blanks : (ls : List Literal) (s : S) → IsAfter ls s → TakesBlanks literals_automaton s (at_gap ls)
+  takes_blanks ls s h = record { enters = h.blank; stays = (gap_after ls).blank; begun = refl; plain = refl }
 
-  may_end : (ls : List Literal) (s : S) → IsBehind ls s → MayEnd literals_automaton s (at_gap ls) (at_closing ls) ls (literals_last joined)
+  may_end : (ls : List Literal) (s : S) → IsAfter ls s → MayEnd literals_automaton s (at_gap ls) (at_closing ls) ls (literals_last joined)
   may_end ls s h = record {
     feeds = record { blanks = takes_blanks ls s h; ends = h.feed; ends_gap = refl };
     closes = h.semicolon;
@@ -136,7 +136,7 @@ module _ (joined : Bool) where
       (literals_at joined ls (a ∷ []) (First false), o.letter a h.0.0, refl, refl, first_walks ls false a b bs h.0.1)
 
   -- a further literal
-  further_walks : (ls : List Literal) (l : Literal) (s : S) (t : List Letter) → IsBehind ls s → (Blanks1 ⋅ SpellsLiteral l) t
+  further_walks : (ls : List Literal) (l : Literal) (s : S) (t : List Letter) → IsAfter ls s → (Blanks1 ⋅ SpellsLiteral l) t
       → Walks literals_automaton s t (at_more ls l.negated l.name)
   further_walks ls l s t h (a, b, e, i, k) =
       subst (λ x. Walks literals_automaton s x (at_more ls l.negated l.name)) (sym e)
@@ -144,21 +144,21 @@ module _ (joined : Bool) where
       (blanks1_lead literals_automaton s (at_gap ls) (takes_blanks ls s h) a i)
       (literal_walks ls (at_gap ls) l.negated l.name b (gap_opens ls) k))
 
-  one_more : (ls : List Literal) (l : Literal) (s : S) (t : List Letter) → IsBehind ls s → (Blanks1 ⋅ SpellsLiteral l) t
-      → (after : S) × Walks literals_automaton s t after × IsBehind (ls ++ l ∷ []) after
-  one_more ls l s t h k = (at_more ls l.negated l.name, further_walks ls l s t h k, more_behind ls l.negated l.name)
+  one_more : (ls : List Literal) (l : Literal) (s : S) (t : List Letter) → IsAfter ls s → (Blanks1 ⋅ SpellsLiteral l) t
+      → (after : S) × Walks literals_automaton s t after × IsAfter (ls ++ l ∷ []) after
+  one_more ls l s t h k = (at_more ls l.negated l.name, further_walks ls l s t h k, more_after ls l.negated l.name)
 
   -- literals with blanks before each, and the end of the line
-  row_reads : (ls ms : List Literal) (s : S) (t : List Letter) → IsBehind ls s → (Listed SpellsLiteral ms ⋅ LineEnd) t → Reads literals_automaton s t (ls ++ ms) (literals_last joined)
+  row_reads : (ls ms : List Literal) (s : S) (t : List Letter) → IsAfter ls s → (Listed SpellsLiteral ms ⋅ LineEnd) t → Reads literals_automaton s t (ls ++ ms) (literals_last joined)
   row_reads ls ms s t h (a, b, e, i, k) =
-      let (mid, w, g) = listed_walks SpellsLiteral literals_automaton IsBehind one_more ls ms s a h i in
+      let (mid, w, g) = listed_walks SpellsLiteral literals_automaton IsAfter one_more ls ms s a h i in
       subst (λ x. Reads literals_automaton s x (ls ++ ms) (literals_last joined)) (sym e)
-      (reads_behind literals_automaton a b s mid (literals_last joined) (ls ++ ms) w
+      (reads_after literals_automaton a b s mid (literals_last joined) (ls ++ ms) w
       (line_reads literals_automaton mid (at_gap (ls ++ ms)) (at_closing (ls ++ ms)) (literals_last joined) (ls ++ ms) (may_end (ls ++ ms) mid g) b k))
 
-first_behind : (joined : Bool) → IsBehind joined [] (literals_first joined)
-first_behind true = record { blank = λ b h. by_kind true (literals_first true) b kind.Blank (name_blank b h); semicolon = refl; feed = refl }
-first_behind false = record { blank = λ b h. by_kind false (literals_first false) b kind.Blank (name_blank b h); semicolon = refl; feed = refl }
+first_after : (joined : Bool) → IsAfter joined [] (literals_first joined)
+first_after true = record { blank = λ b h. by_kind true (literals_first true) b kind.Blank (name_blank b h); semicolon = refl; feed = refl }
+first_after false = record { blank = λ b h. by_kind false (literals_first false) b kind.Blank (name_blank b h); semicolon = refl; feed = refl }
 
 first_opens : Opens true [] (literals_first true)
 first_opens = record { tilde = refl; letter = λ b h. by_kind true (literals_first true) b (kind.Letter b) (name_letter b h) }
@@ -170,15 +170,15 @@ first_joined l t (a, b, e, ([], i, f), k) =
     subst (λ x. Walks literals_automaton (literals_first true) x (at_more true [] l.negated l.name)) (sym g)
     (literal_walks true [] (literals_first true) l.negated l.name b first_opens k)
 first_joined l t (a, b, e, (c ∷ cs, i, f), k) =
-    further_walks true [] l (literals_first true) t (first_behind true) (a, b, e, (c, cs, i.0, i.1, f), k)
+    further_walks true [] l (literals_first true) t (first_after true) (a, b, e, (c, cs, i.0, i.1, f), k)
 
 pub reads_each : (joined : Bool) (e : List Literal) (t : List Letter) → SpellsJoined joined e t → Reads literals_automaton (literals_first joined) t e (literals_last joined)
-reads_each false e t h = row_reads false [] e (literals_first false) t (first_behind false) h
+reads_each false e t h = row_reads false [] e (literals_first false) t (first_after false) h
 reads_each true [] t h =
-    line_reads literals_automaton (literals_first true) (at_gap true []) (at_closing true []) (literals_last true) [] (may_end true [] (literals_first true) (first_behind true)) t h
+    line_reads literals_automaton (literals_first true) (at_gap true []) (at_closing true []) (literals_last true) [] (may_end true [] (literals_first true) (first_after true)) t h
 reads_each true (l ∷ ls) t (abc, d, e, (ab, c, f, h, i), k) =
     let g : t ≡ ab ++ (c ++ d) = e ∙ (ap (λ x. x ++ d) f ∙ append_assoc ab c d) in
     subst (λ x. Reads literals_automaton (literals_first true) x (l ∷ ls) (literals_last true)) (sym g)
-    (reads_behind literals_automaton ab (c ++ d) (literals_first true) (at_more true [] l.negated l.name) (literals_last true) (l ∷ ls)
+    (reads_after literals_automaton ab (c ++ d) (literals_first true) (at_more true [] l.negated l.name) (literals_last true) (l ∷ ls)
     (first_joined l ab h)
-    (row_reads true (l ∷ []) ls (at_more true [] l.negated l.name) (c ++ d) (more_behind true [] l.negated l.name) (c, d, refl, i, k)))
+    (row_reads true (l ∷ []) ls (at_more true [] l.negated l.name) (c ++ d) (more_after true [] l.negated l.name) (c, d, refl, i, k)))

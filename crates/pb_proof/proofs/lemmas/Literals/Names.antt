@@ -5,7 +5,7 @@ use Rattle.pb_text.proofs.lemmas.text.Languages.{grown}
 use Rattle.pb_text.specs.meaning.Classes.{is_name_byte}
 use Rattle.pb_text.specs.meaning.Languages.{unmarked, Language, ◌⋅◌}
 use Rattle.pb_text.specs.meaning.Spelling.{Letter}
-use Rattle.pb_sums.proofs.lemmas.machine.LiteralFronts.{name-append, first-append, FirstOf, LiteralOf, name-bytes}
+use Rattle.pb_sums.proofs.lemmas.machine.LiteralPrefixes.{name-append, first-append, FirstOf, LiteralOf, name-bytes}
 
 -- a second byte, and more of them
 pub first_grown : (P : Language) (negated : Bool) (name : List ℕ) (b : ℕ) (l : Letter) (p : List Letter) → l ≡ unmarked b → IsTrue (is_name_byte b) →

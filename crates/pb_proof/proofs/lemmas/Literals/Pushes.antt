@@ -11,32 +11,32 @@ use Rattle.pb_proof.specs.engine.Line.Literals.{literals_automaton, literals_at,
 use Rattle.pb_proof.specs.engine.Line.ByteKind.{name_byte}
 use Rattle.pb_proof.specs.declared.line.byte_kind.NameByte.{NameByte}
 use Rattle.pb_proof.specs.declared.line.literals.phase.LiteralsPhase.{LiteralsPhase}
-use Rattle.pb_proof.specs.declared.line.literals.phase.LiteralsMove.{LiteralsMove}
-use Rattle.pb_proof.specs.declared.line.literals.phase.LiteralsMove.TheVariants as move
+use Rattle.pb_proof.specs.declared.line.literals.phase.LiteralsAction.{LiteralsAction}
+use Rattle.pb_proof.specs.declared.line.literals.phase.LiteralsAction.TheVariants as action
 use Rattle.pb_proof.proofs.lemmas.Literals.Theorems.{literals_of_one, literals_is_state, units_append}
 use Rattle.pb_text.proofs.lemmas.machine.OneText.{admits}
 
-abbrev IsTaken : LiteralsMove → Type 0
-IsTaken move.Stop = ⊥
+abbrev IsTaken : LiteralsAction → Type 0
+IsTaken action.Stop = ⊥
 IsTaken _ = Unit {0}
 
-taken_acts : (joined : Bool) (ms ls : List Literal) (name : List ℕ) (m : LiteralsMove) → IsTaken m → act joined ms ls name m ≡ Refuse → ⊥
-taken_acts joined ms ls name (move.To q) h e = go_or_refuse _ e
-taken_acts joined ms ls name (move.Begin q b) h e = go_or_refuse _ e
-taken_acts joined ms ls name (move.Add q b) h e = go_or_refuse _ e
-taken_acts joined ms ls name move.End h e = end_or_refuse _ _ e
-taken_acts joined ms ls name move.Stop h e = h
+taken_acts : (joined : Bool) (ms ls : List Literal) (name : List ℕ) (m : LiteralsAction) → IsTaken m → act joined ms ls name m ≡ Refuse → ⊥
+taken_acts joined ms ls name (action.To q) h e = go_or_refuse _ e
+taken_acts joined ms ls name (action.Begin q b) h e = go_or_refuse _ e
+taken_acts joined ms ls name (action.Add q b) h e = go_or_refuse _ e
+taken_acts joined ms ls name action.End h e = end_or_refuse _ _ e
+taken_acts joined ms ls name action.Stop h e = h
 
 module _ (joined : Bool) (ls : List Literal) (name : List ℕ) (p : LiteralsPhase) (b : ℕ) (k : NameByte) where
-  planned : (m : LiteralsMove) → k ≡ name_byte b → m ≡ plan joined p k → plan joined p (name_byte b) ≡ m
+  planned : (m : LiteralsAction) → k ≡ name_byte b → m ≡ plan joined p k → plan joined p (name_byte b) ≡ m
   planned m f g = ap (λ x. plan joined p x) (sym f) ∙ sym g
 
-  moved : (m : LiteralsMove) → k ≡ name_byte b → m ≡ plan joined p k
+  moved : (m : LiteralsAction) → k ≡ name_byte b → m ≡ plan joined p k
       → literals_automaton.step (literals_at joined ls name p) b ≡ act joined (flushed p ls name) ls name m
   moved m f g = ap (λ x. act joined (flushed p ls name) ls name x) (planned m f g)
 
   -- a push may allocate at a byte of a name or one that ends a literal, and only if the byte is taken
-  pub wants : (m : LiteralsMove) → IsLiteralsInOrder (literals_at joined ls name p) → k ≡ name_byte b → m ≡ plan joined p k → IsTaken m
+  pub wants : (m : LiteralsAction) → IsLiteralsInOrder (literals_at joined ls name p) → k ≡ name_byte b → m ≡ plan joined p k → IsTaken m
       → (adds m || is_more p) ≡ true → IsTrue (literals_automaton.asks (literals_at joined ls name p) b) × Admits literals_automaton (literals_at joined ls name p) b
   wants m o f g t a = (
     ap (λ x. adds x || is_more p) (planned m f g) ∙ a,
@@ -44,10 +44,10 @@ module _ (joined : Bool) (ls : List Literal) (name : List ℕ) (p : LiteralsPhas
         (taken_acts joined (flushed p ls name) ls name m t),
   )
 
-  pub goes_to : (ms : List Literal) (new : List ℕ) (q : LiteralsPhase) → new ≡ [] → k ≡ name_byte b → move.To q ≡ plan joined p k → ms ≡ flushed p ls name
+  pub goes_to : (ms : List Literal) (new : List ℕ) (q : LiteralsPhase) → new ≡ [] → k ≡ name_byte b → action.To q ≡ plan joined p k → ms ≡ flushed p ls name
       → literals_automaton.step (literals_at joined ls name p) b ≡ Go (literals_at joined ms new q)
   goes_to ms new q z f g i =
-      moved (move.To q) f g ∙ (ap (λ x. act joined x ls name (move.To q)) (sym i) ∙ ap (λ x. Go (literals_at joined ms x q)) (sym z))
+      moved (action.To q) f g ∙ (ap (λ x. act joined x ls name (action.To q)) (sym i) ∙ ap (λ x. Go (literals_at joined ms x q)) (sym z))
 
 pub same_state : (joined : Bool) (ls ms : List Literal) (m n : List ℕ) (p q : LiteralsPhase) → ls ≡ ms → m ≡ n → p ≡ q → literals_at joined ls m p ≡ literals_at joined ms n q
 same_state joined ls ms m n p q e f g = cc

@@ -1,7 +1,7 @@
 -- What the literals machine has read in each of its states.
 use Rattle.std.proofs.Common.{◌≡◌, ℕ, Bool, true, false, cond, List, [], ◌∷◌, ◌++◌, refl, sym, ap, subst, ◌∙◌}
 use Rattle.std.specs.Prelude.{IsTrue}
-use Rattle.pb_text.proofs.lemmas.text.Languages.{grown, next, regroup3, none_yet, behind_it, nil_first}
+use Rattle.pb_text.proofs.lemmas.text.Languages.{grown, next, regroup3, none_yet, after_it, nil_first}
 use Rattle.pb_text.specs.contract.Automaton.{Next}
 use Rattle.pb_text.specs.meaning.Classes.{is_blank}
 use Rattle.pb_text.specs.meaning.Languages.{unmarked, Language, ◌⋅◌, Empty, Byte, Blanks0, Blanks1}
@@ -11,9 +11,9 @@ use Rattle.pb_text.proofs.lemmas.text.Letters.{as_unmarked}
 use Rattle.pb_text.proofs.lemmas.text.ByteTests.{letter_name}
 use Rattle.pb_sums.specs.meaning.Sums.{SpellsLiteral}
 use Rattle.pb_sums.specs.declared.Literal.{Literal}
-use Rattle.pb_sums.proofs.lemmas.machine.LiteralFronts.{FirstOf, LiteralOf}
+use Rattle.pb_sums.proofs.lemmas.machine.LiteralPrefixes.{FirstOf, LiteralOf}
 use Rattle.pb_proof.specs.meaning.Lines.{LineEnd, Listed}
-use Rattle.pb_proof.specs.engine.Line.Literals.{LiteralsState, SpellsJoined, literals_automaton, literal, flushed, act, plan, behind, before}
+use Rattle.pb_proof.specs.engine.Line.Literals.{LiteralsState, SpellsJoined, literals_automaton, literal, flushed, act, plan, next_action, before}
 use Rattle.pb_proof.specs.engine.Line.ByteKind.{name_byte}
 use Rattle.pb_proof.specs.declared.line.byte_kind.NameByte.{NameByte}
 use Rattle.pb_proof.specs.declared.line.byte_kind.NameByte.TheVariants as kind
@@ -45,7 +45,7 @@ row_append true [] l p h = none_yet (Blanks0 ⋅ SpellsLiteral l) Empty p refl h
 row_append true (x ∷ ls) l p h =
     let A : Language = Blanks0 ⋅ SpellsLiteral x in
     let L : Language = Listed SpellsLiteral ls in
-    behind_it A (L ⋅ Blanks1 ⋅ SpellsLiteral l) (Listed SpellsLiteral (ls ++ l ∷ [])) p (ends.listed_append SpellsLiteral ls l)
+    after_it A (L ⋅ Blanks1 ⋅ SpellsLiteral l) (Listed SpellsLiteral (ls ++ l ∷ [])) p (ends.listed_append SpellsLiteral ls l)
     (regroup3 A L Blanks1 (SpellsLiteral l) p h)
 
 before_of : (joined : Bool) (ls : List Literal) (p : List Letter) → (Row joined ls ⋅ Blanks1) p → Before joined ls p
@@ -58,52 +58,52 @@ whole false ls q h = h
 whole true [] q h = nil_first LineEnd q h
 whole true (l ∷ ls) q h = h
 
-abbrev pub front : Bool → LiteralsPhase → List Literal → List ℕ → Language
-front joined Start ls name = λ t. (ls ≡ []) × Empty t
-front joined Gap ls name = Row joined ls ⋅ Blanks1
-front joined Negation ls name = Before joined ls ⋅ Byte 126
-front joined (First negated) ls name = Before joined ls ⋅ FirstOf negated name
-front joined (More negated) ls name = Before joined ls ⋅ LiteralOf negated name
-front joined Closing ls name = ends.Closing (Row joined ls)
-front joined Done ls name = λ t. ⊥
+abbrev pub prefix : Bool → LiteralsPhase → List Literal → List ℕ → Language
+prefix joined Start ls name = λ t. (ls ≡ []) × Empty t
+prefix joined Gap ls name = Row joined ls ⋅ Blanks1
+prefix joined Negation ls name = Before joined ls ⋅ Byte 126
+prefix joined (First negated) ls name = Before joined ls ⋅ FirstOf negated name
+prefix joined (More negated) ls name = Before joined ls ⋅ LiteralOf negated name
+prefix joined Closing ls name = ends.Closing (Row joined ls)
+prefix joined Done ls name = λ t. ⊥
 
-abbrev pub Front : LiteralsState → Language
-Front s = front s.joined s.phase s.literals s.name
+abbrev pub Prefix : LiteralsState → Language
+Prefix s = prefix s.joined s.phase s.literals s.name
 
 abbrev pub Whole : List Literal → LiteralsState → Language
 Whole e s = SpellsJoined s.joined e
 
 abbrev OnNext : Next LiteralsState (List Literal) → Letter → Language
-OnNext = On literals_automaton Front Whole
+OnNext = On literals_automaton Prefix Whole
 
 module _ (joined : Bool) where
-  behind_sound : (ms ls : List Literal) (name : List ℕ) (k : NameByte) (l : Letter) (p : List Letter) → NameMeans k l.byte → ends.Gapped (Row joined ms) p
-      → (IsTrue (is_blank l.byte) → l.numeral ≡ false → (Row joined ms ⋅ Blanks1) (p ++ l ∷ [])) → OnNext (act joined ms ls name (behind k)) l (p ++ l ∷ [])
-  behind_sound ms ls name kind.Blank l p m h f = λ _ n. f m n
-  behind_sound ms ls name kind.Semicolon l p m h f = λ _ n. ends.semicolon_behind_blanks (Row joined ms) l p m n h
-  behind_sound ms ls name kind.Feed l p m h f = λ n. whole joined ms (p ++ l ∷ []) (ends.line_behind_blanks (Row joined ms) l p m n h)
-  behind_sound ms ls name _ l p m h f = tt
+  after_sound : (ms ls : List Literal) (name : List ℕ) (k : NameByte) (l : Letter) (p : List Letter) → NameMeans k l.byte → ends.Gapped (Row joined ms) p
+      → (IsTrue (is_blank l.byte) → l.numeral ≡ false → (Row joined ms ⋅ Blanks1) (p ++ l ∷ [])) → OnNext (act joined ms ls name (next_action k)) l (p ++ l ∷ [])
+  after_sound ms ls name kind.Blank l p m h f = λ _ n. f m n
+  after_sound ms ls name kind.Semicolon l p m h f = λ _ n. ends.semicolon_after_blanks (Row joined ms) l p m n h
+  after_sound ms ls name kind.Feed l p m h f = λ n. whole joined ms (p ++ l ∷ []) (ends.line_after_blanks (Row joined ms) l p m n h)
+  after_sound ms ls name _ l p m h f = tt
 
   before_sound : (ls : List Literal) (name : List ℕ) (k : NameByte) (l : Letter) (p : List Letter) → NameMeans k l.byte → Before joined ls p → ends.Gapped (Row joined ls) p
       → (IsTrue (is_blank l.byte) → l.numeral ≡ false → (Row joined ls ⋅ Blanks1) (p ++ l ∷ [])) → OnNext (act joined ls ls name (before k)) l (p ++ l ∷ [])
   before_sound ls name kind.Tilde l p m b h f = λ _ n. next (Before joined ls) (Byte 126) p l b (ap (λ x. x ∷ []) (as_unmarked l 126 n m))
   before_sound ls name (kind.Letter c) l p m b h f =
       λ _ n. next (Before joined ls) (FirstOf false (c ∷ [])) p l b (m.1, ap (λ x. x ∷ []) (as_unmarked l c n m.0))
-  before_sound ls name k l p m b h f = behind_sound ls ls name k l p m h f
+  before_sound ls name k l p m b h f = after_sound ls ls name k l p m h f
 
   start_row : (ls : List Literal) (p : List Letter) → ls ≡ [] → Empty p → Row joined ls p
   start_row ls p e h = subst (λ y. Row joined y p) (sym e) (row_empty joined p h)
 
 start_sound : (joined : Bool) (ls : List Literal) (name : List ℕ) (k : NameByte) (l : Letter) (p : List Letter) → NameMeans k l.byte → ls ≡ [] → Empty p
-    → OnNext (act joined ls ls name (cond joined (before k) (behind k))) l (p ++ l ∷ [])
+    → OnNext (act joined ls ls name (cond joined (before k) (next_action k))) l (p ++ l ∷ [])
 start_sound true ls name k l p m e h =
     before_sound true ls name k l p m (subst (λ y. Before true y p) (sym e) ([], tt, h)) (ends.gapped (Row true ls) p (start_row true ls p e h))
     (λ b n. ends.blanks_begin (Row true ls) l p b n (start_row true ls p e h))
 start_sound false ls name k l p m e h =
-    behind_sound false ls ls name k l p m (ends.gapped (Row false ls) p (start_row false ls p e h)) (λ b n. ends.blanks_begin (Row false ls) l p b n (start_row false ls p e h))
+    after_sound false ls ls name k l p m (ends.gapped (Row false ls) p (start_row false ls p e h)) (λ b n. ends.blanks_begin (Row false ls) l p b n (start_row false ls p e h))
 
 module _ (joined : Bool) where
-  sound : (ph : LiteralsPhase) (ls : List Literal) (name : List ℕ) (k : NameByte) (l : Letter) (p : List Letter) → NameMeans k l.byte → front joined ph ls name p
+  sound : (ph : LiteralsPhase) (ls : List Literal) (name : List ℕ) (k : NameByte) (l : Letter) (p : List Letter) → NameMeans k l.byte → prefix joined ph ls name p
       → OnNext (act joined (flushed ph ls name) ls name (plan joined ph k)) l (p ++ l ∷ [])
   sound Start ls name k l p m h = start_sound joined ls name k l p m h.0 h.1
   sound Gap ls name k l p m h =
@@ -120,10 +120,10 @@ module _ (joined : Bool) where
   sound (More negated) ls name k l p m h =
       let ms : List Literal = ls ++ literal negated name ∷ [] in
       let r : Row joined ms p = row_append joined ls (literal negated name) p h in
-      behind_sound joined ms ls name k l p m (ends.gapped (Row joined ms) p r) (λ b n. ends.blanks_begin (Row joined ms) l p b n r)
+      after_sound joined ms ls name k l p m (ends.gapped (Row joined ms) p r) (λ b n. ends.blanks_begin (Row joined ms) l p b n r)
   sound Closing ls name kind.Blank l p m h = λ _ n. ends.blank_closing (Row joined ls) l p m n h
   sound Closing ls name kind.Feed l p m h = λ n. whole joined ls (p ++ l ∷ []) (ends.line_closing (Row joined ls) l p m n h)
   sound _ ls name k l p m h = tt
 
-pub keeps_front : Keeps literals_automaton Front Whole
-keeps_front s l p h = sound s.joined s.phase s.literals s.name (name_byte l.byte) l p (name_means l.byte) h
+pub keeps_prefix : Keeps literals_automaton Prefix Whole
+keeps_prefix s l p h = sound s.joined s.phase s.literals s.name (name_byte l.byte) l p (name_means l.byte) h

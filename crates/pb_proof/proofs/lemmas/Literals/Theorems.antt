@@ -5,21 +5,21 @@ use Rattle.std.proofs.lemmas.List.{length-append}
 use Rattle.pb_text.specs.contract.Automaton.{Next, Go, End, Refuse, Reads, IsState}
 use Rattle.pb_text.specs.meaning.Languages.{unmarked}
 use Rattle.pb_text.specs.meaning.Spelling.{Letter}
-use Rattle.pb_text.proofs.lemmas.machine.Walking.{told}
+use Rattle.pb_text.proofs.lemmas.machine.Walking.{reported}
 use Rattle.pb_text.proofs.lemmas.machine.Outcomes.{one_state}
 use Rattle.pb_text.proofs.lemmas.text.Booleans.{never}
 use Rattle.pb_sums.specs.declared.Literal.{Literal}
 use Rattle.pb_sums.proofs.lemmas.machine.Counts.{to-grows, begin-grows, add-grows}
-use Rattle.pb_proof.specs.engine.Line.Literals.{LiteralsState, SpellsJoined, literals_automaton, literals_at, literals_first, literals_last, literal, flushed, act, plan, behind, before, is_midway, is_begun, is_done, units, in_hand, ready, all_units, IsLiteralsInOrder}
+use Rattle.pb_proof.specs.engine.Line.Literals.{LiteralsState, SpellsJoined, literals_automaton, literals_at, literals_first, literals_last, literal, flushed, act, plan, next_action, before, is_midway, is_begun, is_done, units, in_hand, ready, all_units, IsLiteralsInOrder}
 use Rattle.pb_proof.specs.engine.Line.ByteKind.{name_byte}
 use Rattle.pb_proof.specs.declared.line.byte_kind.NameByte.{NameByte}
 use Rattle.pb_proof.specs.declared.line.byte_kind.NameByte.TheVariants as kind
 use Rattle.pb_proof.specs.declared.line.literals.phase.LiteralsPhase.{LiteralsPhase}
 use Rattle.pb_proof.specs.declared.line.literals.phase.LiteralsPhase.TheVariants.{Start, Gap, Negation, First, More, Closing, Done}
-use Rattle.pb_proof.specs.declared.line.literals.phase.LiteralsMove.{LiteralsMove}
-use Rattle.pb_proof.specs.declared.line.literals.phase.LiteralsMove as move
+use Rattle.pb_proof.specs.declared.line.literals.phase.LiteralsAction.{LiteralsAction}
+use Rattle.pb_proof.specs.declared.line.literals.phase.LiteralsAction as action
 use Rattle.pb_proof.proofs.lemmas.Literals.Complete.{reads_each}
-use Rattle.pb_proof.proofs.lemmas.Literals.Sound.{Front, Whole, keeps_front}
+use Rattle.pb_proof.proofs.lemmas.Literals.Sound.{Prefix, Whole, keeps_prefix}
 use Rattle.pb_text.proofs.lemmas.machine.OneText.{IsOfOne, reads_last, is_state}
 use Rattle.pb_text.proofs.lemmas.machine.Living.{ReadsOn}
 
@@ -27,25 +27,26 @@ abbrev N : Type 0
 N = Next LiteralsState (List Literal)
 
 -- The phase that a move leads to is midway, and a literal is being read if a name has begun.
-abbrev IsSane : Bool → LiteralsPhase → LiteralsMove → Type 0
-IsSane joined ph (move.TheVariants.To q) = (is_midway q ≡ true) × (in_hand q ≡ 0)
-IsSane joined ph (move.TheVariants.Begin q b) = (is_midway q ≡ true) × (in_hand q + ready joined q ≡ 1) × (ready joined ph ≡ 1)
-IsSane joined ph (move.TheVariants.Add q b) = (is_midway q ≡ true) × (in_hand q + ready joined q ≡ 1) × (in_hand ph ≡ 1)
+abbrev IsSane : Bool → LiteralsPhase → LiteralsAction → Type 0
+IsSane joined ph (action.TheVariants.To q) = (is_midway q ≡ true) × (in_hand q ≡ 0)
+IsSane joined ph (action.TheVariants.Begin q b) = (is_midway q ≡ true) × (in_hand q + ready joined q ≡ 1) × (ready joined ph ≡ 1)
+IsSane joined ph (action.TheVariants.Add q b) =
+    (is_midway q ≡ true) × (in_hand q + ready joined q ≡ 1) × (in_hand ph ≡ 1)
 IsSane joined ph _ = Unit {0}
 
-behind_sane : (joined : Bool) (ph : LiteralsPhase) (k : NameByte) → IsSane joined ph (behind k)
-behind_sane joined ph kind.Blank = (refl, refl)
-behind_sane joined ph kind.Semicolon = (refl, refl)
-behind_sane joined ph _ = tt
+after_sane : (joined : Bool) (ph : LiteralsPhase) (k : NameByte) → IsSane joined ph (next_action k)
+after_sane joined ph kind.Blank = (refl, refl)
+after_sane joined ph kind.Semicolon = (refl, refl)
+after_sane joined ph _ = tt
 
 before_sane : (joined : Bool) (ph : LiteralsPhase) (k : NameByte) → ready joined ph ≡ 1 → IsSane joined ph (before k)
 before_sane joined ph kind.Tilde h = (refl, refl)
 before_sane joined ph (kind.Letter b) h = (refl, refl, h)
-before_sane joined ph k h = behind_sane joined ph k
+before_sane joined ph k h = after_sane joined ph k
 
-start_sane : (joined : Bool) (k : NameByte) → IsSane joined Start (cond joined (before k) (behind k))
+start_sane : (joined : Bool) (k : NameByte) → IsSane joined Start (cond joined (before k) (next_action k))
 start_sane true k = before_sane true Start k refl
-start_sane false k = behind_sane false Start k
+start_sane false k = after_sane false Start k
 
 plan_sane : (joined : Bool) (ph : LiteralsPhase) (k : NameByte) → IsSane joined ph (plan joined ph k)
 plan_sane joined Start k = start_sane joined k
@@ -55,7 +56,7 @@ plan_sane joined (First negated) (kind.Letter b) = (refl, refl, refl)
 plan_sane joined (First negated) (kind.Inner b) = (refl, refl, refl)
 plan_sane joined (More negated) (kind.Letter b) = (refl, refl, refl)
 plan_sane joined (More negated) (kind.Inner b) = (refl, refl, refl)
-plan_sane joined (More negated) k = behind_sane joined (More negated) k
+plan_sane joined (More negated) k = after_sane joined (More negated) k
 plan_sane joined Closing kind.Blank = (refl, refl)
 plan_sane _ _ _ = tt
 
@@ -114,19 +115,20 @@ module _ (joined : Bool) (ls : List Literal) (name : List ℕ) (ph : LiteralsPha
     grows = add-grows (units ls) (in_hand ph) (length name) (ready joined ph) (in_hand q) (ready joined q) (length (name ++ b ∷ [])) h r (length-append name (b ∷ []));
   }
 
-  acted : (m : LiteralsMove) (next : LiteralsState) → IsSane joined ph m → act joined (flushed ph ls name) ls name m ≡ Go next → Steps here next
-  acted (move.TheVariants.To q) next h e = subst (λ x. Steps here x) (one_state _ next e) (to_steps q h.0 h.1)
-  acted (move.TheVariants.Begin q b) next h e = subst (λ x. Steps here x) (one_state _ next e) (begin_steps q b h.0 h.1 h.2)
-  acted (move.TheVariants.Add q b) next h e = subst (λ x. Steps here x) (one_state _ next e) (add_steps q b h.0 h.1 h.2)
-  acted move.TheVariants.End next h e = cc
-  acted move.TheVariants.Stop next h e = cc
+  acted : (m : LiteralsAction) (next : LiteralsState) → IsSane joined ph m → act joined (flushed ph ls name) ls name m ≡ Go next → Steps here next
+  acted (action.TheVariants.To q) next h e = subst (λ x. Steps here x) (one_state _ next e) (to_steps q h.0 h.1)
+  acted (action.TheVariants.Begin q b) next h e = subst (λ x. Steps here x) (one_state _ next e) (begin_steps q b h.0 h.1 h.2)
+  acted (action.TheVariants.Add q b) next h e =
+      subst (λ x. Steps here x) (one_state _ next e) (add_steps q b h.0 h.1 h.2)
+  acted action.TheVariants.End next h e = cc
+  acted action.TheVariants.Stop next h e = cc
 
-  ended : (m : LiteralsMove) (next : LiteralsState) (e : List Literal) → act joined (flushed ph ls name) ls name m ≡ End e next → next ≡ literals_last joined
-  ended (move.TheVariants.To q) next e i = cc
-  ended (move.TheVariants.Begin q b) next e i = cc
-  ended (move.TheVariants.Add q b) next e i = cc
-  ended move.TheVariants.End next e i = cc
-  ended move.TheVariants.Stop next e i = cc
+  ended : (m : LiteralsAction) (next : LiteralsState) (e : List Literal) → act joined (flushed ph ls name) ls name m ≡ End e next → next ≡ literals_last joined
+  ended (action.TheVariants.To q) next e i = cc
+  ended (action.TheVariants.Begin q b) next e i = cc
+  ended (action.TheVariants.Add q b) next e i = cc
+  ended action.TheVariants.End next e i = cc
+  ended action.TheVariants.Stop next e i = cc
 
 goes : (s next : LiteralsState) (b : ℕ) → literals_automaton.step s b ≡ Go next → Steps s next
 goes s next b e = acted s.joined s.literals s.name s.phase (plan s.joined s.phase (name_byte b)) next (plan_sane s.joined s.phase (name_byte b)) e
@@ -188,7 +190,7 @@ pub literals_reads : (joined : Bool) (text : List Letter) (e : List Literal) (af
     Reads literals_automaton (literals_first joined) text e after ↔ (SpellsJoined joined e text × (after ≡ literals_last joined))
 literals_reads joined text e after = (
   (λ r. let i : after ≡ literals_last joined = literals_ends (literals_first joined) after text e r in
-      (subst (λ x. Whole e x text) i (told literals_automaton Front Whole keeps_front text (literals_first joined) [] e after r (refl, refl)), i)),
+      (subst (λ x. Whole e x text) i (reported literals_automaton Prefix Whole keeps_prefix text (literals_first joined) [] e after r (refl, refl)), i)),
   (λ h. subst (λ x. Reads literals_automaton (literals_first joined) text e x) (sym h.1) (reads_each joined e text h.0)),
 )
 

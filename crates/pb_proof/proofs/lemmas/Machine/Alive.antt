@@ -9,15 +9,15 @@ use Rattle.pb_text.specs.meaning.Languages.{unmarked, Blanks1, Byte}
 use Rattle.pb_text.specs.meaning.Spelling.{Letter, Item, plain}
 use Rattle.pb_proof.specs.engine.Line.Machine.{line_automaton, line_first}
 use Rattle.pb_proof.specs.meaning.Lines.{none_word, conclusion_word, f_word}
-use Rattle.pb_proof.specs.engine.Machine.Transition.{words_of, behind}
+use Rattle.pb_proof.specs.engine.Machine.Transition.{words_of, next_action}
 use Rattle.pb_proof.specs.meaning.Order.{IsOrdered}
-use Rattle.pb_proof.specs.engine.Machine.State.{ProofState, proofs, at, idle, giving, stage_behind, act, PhaseFits, HasGaps, Holds, IsInOrder}
+use Rattle.pb_proof.specs.engine.Machine.State.{ProofState, proofs, at, idle, giving, next_stage, act, PhaseFits, HasGaps, Holds, IsInOrder}
 use Rattle.pb_proof.specs.declared.conclusion.Conclusion.TheVariants.{NoClaim}
 use Rattle.pb_proof.specs.declared.line.LineMachine.{LineMachine}
 use Rattle.pb_proof.specs.declared.machine.phase.Keyword.{Keyword}
 use Rattle.pb_proof.specs.declared.machine.phase.Keyword.TheVariants as keyword
 use Rattle.pb_proof.specs.declared.machine.phase.Stage.{Stage}
-use Rattle.pb_proof.specs.declared.machine.phase.Stage.TheVariants.{Opening, Formula, Steps, Claim, Closing, Complete}
+use Rattle.pb_proof.specs.declared.machine.phase.Stage.TheVariants.{Opening, Formula, Steps, Concluding, Closing, Complete}
 use Rattle.pb_proof.specs.declared.machine.phase.LineKind.{LineKind}
 use Rattle.pb_proof.specs.declared.machine.phase.LineKind.TheVariants as kind
 use Rattle.pb_proof.specs.declared.machine.phase.Phase.{Phase}
@@ -54,11 +54,11 @@ item text e = record { gap = []; text = text; event = e }
 abbrev closing_lines : List (Item Statement)
 closing_lines = item (plain (words_of keyword.End)) statement.TheVariants.End ∷ []
 
-abbrev claim_lines : List (Item Statement)
-claim_lines = item (plain conclusion_word ++ (plain (32 ∷ none_word) ++ unmarked 10 ∷ [])) (statement.TheVariants.Conclude NoClaim) ∷ closing_lines
+abbrev conclusion_lines : List (Item Statement)
+conclusion_lines = item (plain conclusion_word ++ (plain (32 ∷ none_word) ++ unmarked 10 ∷ [])) (statement.TheVariants.Conclude NoClaim) ∷ closing_lines
 
 abbrev step_lines : List (Item Statement)
-step_lines = item (plain (words_of keyword.Output) ++ unmarked 10 ∷ []) statement.TheVariants.Output ∷ claim_lines
+step_lines = item (plain (words_of keyword.Output) ++ unmarked 10 ∷ []) statement.TheVariants.Output ∷ conclusion_lines
 
 abbrev formula_lines : List (Item Statement)
 formula_lines = item (plain f_word ++ unmarked 10 ∷ []) (statement.TheVariants.F None) ∷ step_lines
@@ -66,7 +66,7 @@ formula_lines = item (plain f_word ++ unmarked 10 ∷ []) (statement.TheVariants
 abbrev pub example : Stage → List (Item Statement)
 example Complete = []
 example Closing = closing_lines
-example Claim = claim_lines
+example Concluding = conclusion_lines
 example Steps = step_lines
 example Formula = formula_lines
 example Opening = item (plain (words_of keyword.Header) ++ unmarked 10 ∷ []) statement.TheVariants.Header ∷ formula_lines
@@ -75,8 +75,8 @@ module _ (limit top : ℕ) where
   closing_ordered : IsOrdered limit top Closing closing_lines
   closing_ordered = (no_gap, refl, written keyword.End, refl)
 
-  claim_ordered : IsOrdered limit top Claim claim_lines
-  claim_ordered = (
+  conclusion_ordered : IsOrdered limit top Concluding conclusion_lines
+  conclusion_ordered = (
     no_gap,
     refl,
     (
@@ -90,7 +90,7 @@ module _ (limit top : ℕ) where
   )
 
   steps_ordered : IsOrdered limit top Steps step_lines
-  steps_ordered = (no_gap, refl, (plain (words_of keyword.Output), unmarked 10 ∷ [], refl, written keyword.Output, ended), claim_ordered)
+  steps_ordered = (no_gap, refl, (plain (words_of keyword.Output), unmarked 10 ∷ [], refl, written keyword.Output, ended), conclusion_ordered)
 
   formula_ordered : IsOrdered limit top Formula formula_lines
   formula_ordered = (no_gap, refl, (plain f_word, unmarked 10 ∷ [], refl, refl, ended), steps_ordered)
@@ -98,7 +98,7 @@ module _ (limit top : ℕ) where
   example_ordered : (s : Stage) → IsOrdered limit top s (example s)
   example_ordered Complete = refl
   example_ordered Closing = closing_ordered
-  example_ordered Claim = claim_ordered
+  example_ordered Concluding = conclusion_ordered
   example_ordered Steps = steps_ordered
   example_ordered Formula = formula_ordered
   example_ordered Opening = (refl, refl, (plain (words_of keyword.Header), unmarked 10 ∷ [], refl, written keyword.Header, fed), formula_ordered)
@@ -110,16 +110,16 @@ module _ (limit top : ℕ) where
   header_end_alive = final proofs (header_end limit top) (idle limit top Formula) 10 statement.TheVariants.Header refl (example Formula) (stage_accepts Formula)
 
   pub output_end_alive : (may : Bool) → IsAlive proofs (output_end limit top may)
-  output_end_alive may = final proofs (output_end limit top may) (idle limit top Claim) 10 statement.TheVariants.Output refl (example Claim) (stage_accepts Claim)
+  output_end_alive may = final proofs (output_end limit top may) (idle limit top Concluding) 10 statement.TheVariants.Output refl (example Concluding) (stage_accepts Concluding)
 
   pub reading_alive : (r : LineKind) (i : LineMachine) → ReadsOn line_automaton i → IsAlive proofs (giving limit top r i)
   reading_alive r i (text, e, last, h) = record {
     text = text;
     event = e;
-    after = idle limit top (stage_behind r);
+    after = idle limit top (next_stage r);
     reads = given_reads limit top r text i last e h;
-    rest = example (stage_behind r);
-    accepts = stage_accepts (stage_behind r);
+    rest = example (next_stage r);
+    accepts = stage_accepts (next_stage r);
   }
 
   pub inside_alive : (r : LineKind) (i : LineMachine) → IsState line_automaton i → line_automaton.done i ≡ false → IsAlive proofs (giving limit top r i)
@@ -132,19 +132,19 @@ module _ (limit top : ℕ) where
     pub solution_alive : IsAlive proofs (at limit top phase.Solution)
     solution_alive = before proofs (at limit top phase.Solution) (giving limit top kind.Soli (line_first limit top kind.Soli)) 105 refl refl (first_alive kind.Soli)
 
-    behind_alive : (f : Keyword) (k c : ℕ) → proofs.step (spelt limit top f k) c ≡ act (spelt limit top f k) c (behind f) → IsAlive proofs (spelt limit top f k)
-    behind_alive keyword.Header k c e = before proofs (spelt limit top keyword.Header k) (header_end limit top) c e refl header_end_alive
-    behind_alive keyword.Formula k c e = before proofs (spelt limit top keyword.Formula k) (giving limit top kind.Count (line_first limit top kind.Count)) c e refl (first_alive kind.Count)
-    behind_alive keyword.Pol k c e = before proofs (spelt limit top keyword.Pol k) (giving limit top kind.Pol (line_first limit top kind.Pol)) c e refl (first_alive kind.Pol)
-    behind_alive keyword.Rup k c e = before proofs (spelt limit top keyword.Rup k) (giving limit top kind.Rup (line_first limit top kind.Rup)) c e refl (first_alive kind.Rup)
-    behind_alive keyword.Solution k c e = before proofs (spelt limit top keyword.Solution k) (at limit top phase.Solution) c e refl solution_alive
-    behind_alive keyword.Delete k c e = before proofs (spelt limit top keyword.Delete k) (giving limit top kind.Delete (line_first limit top kind.Delete)) c e refl (first_alive kind.Delete)
-    behind_alive keyword.Output k c e = before proofs (spelt limit top keyword.Output k) (output_end limit top true) c e refl (output_end_alive true)
-    behind_alive keyword.Conclusion k c e = before proofs (spelt limit top keyword.Conclusion k) (giving limit top kind.Conclusion (line_first limit top kind.Conclusion)) c e refl (first_alive kind.Conclusion)
-    behind_alive keyword.End k c e = final proofs (spelt limit top keyword.End k) (idle limit top Complete) c statement.TheVariants.End e [] refl
+    after_alive : (f : Keyword) (k c : ℕ) → proofs.step (spelt limit top f k) c ≡ act (spelt limit top f k) c (next_action f) → IsAlive proofs (spelt limit top f k)
+    after_alive keyword.Header k c e = before proofs (spelt limit top keyword.Header k) (header_end limit top) c e refl header_end_alive
+    after_alive keyword.Formula k c e = before proofs (spelt limit top keyword.Formula k) (giving limit top kind.Count (line_first limit top kind.Count)) c e refl (first_alive kind.Count)
+    after_alive keyword.Pol k c e = before proofs (spelt limit top keyword.Pol k) (giving limit top kind.Pol (line_first limit top kind.Pol)) c e refl (first_alive kind.Pol)
+    after_alive keyword.Rup k c e = before proofs (spelt limit top keyword.Rup k) (giving limit top kind.Rup (line_first limit top kind.Rup)) c e refl (first_alive kind.Rup)
+    after_alive keyword.Solution k c e = before proofs (spelt limit top keyword.Solution k) (at limit top phase.Solution) c e refl solution_alive
+    after_alive keyword.Delete k c e = before proofs (spelt limit top keyword.Delete k) (giving limit top kind.Delete (line_first limit top kind.Delete)) c e refl (first_alive kind.Delete)
+    after_alive keyword.Output k c e = before proofs (spelt limit top keyword.Output k) (output_end limit top true) c e refl (output_end_alive true)
+    after_alive keyword.Conclusion k c e = before proofs (spelt limit top keyword.Conclusion k) (giving limit top kind.Conclusion (line_first limit top kind.Conclusion)) c e refl (first_alive kind.Conclusion)
+    after_alive keyword.End k c e = final proofs (spelt limit top keyword.End k) (idle limit top Complete) c statement.TheVariants.End e [] refl
 
     spelling_on : (f : Keyword) (before_it left : List ℕ) (c : ℕ) → words_of f ≡ before_it ++ c ∷ left → IsAlive proofs (spelt limit top f (length before_it))
-    spelling_on f before_it [] c e = behind_alive f (length before_it) c (step_last limit top f before_it c c e (meets_any c))
+    spelling_on f before_it [] c e = after_alive f (length before_it) c (step_last limit top f before_it c c e (meets_any c))
     spelling_on f before_it (d ∷ left) c e =
         before proofs (spelt limit top f (length before_it)) (spelt limit top f (length before_it + 1)) c (step_on limit top f before_it left c d c e (meets_any c)) refl
         (subst (λ k. IsAlive proofs (spelt limit top f k)) (length-append before_it (c ∷ []))
@@ -173,7 +173,7 @@ comment_accepts limit top s h [] a = absurd (none s h a)
     none Complete h a = h
     none Formula h a = cc
     none Steps h a = cc
-    none Claim h a = cc
+    none Concluding h a = cc
     none Closing h a = cc
 comment_accepts limit top s h (i ∷ items) (mid, after, g, r, a) =
     (record { gap = 10 ∷ i.gap; text = i.text; event = i.event } ∷ items, (mid, after, (idle limit top s, refl, refl, g), r, a))

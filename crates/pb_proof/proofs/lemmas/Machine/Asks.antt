@@ -7,10 +7,10 @@ use Rattle.pb_text.specs.contract.Automaton.{Next, Go, End, Refuse, Reads, MayAs
 use Rattle.pb_text.specs.meaning.Spelling.{Letter, bytes}
 use Rattle.pb_text.proofs.lemmas.machine.Asked as asked
 use Rattle.pb_text.proofs.lemmas.text.Languages.{bytes-append}
-use Rattle.pb_text.proofs.lemmas.machine.Walking.{Walks, reads_behind, fronts}
+use Rattle.pb_text.proofs.lemmas.machine.Walking.{Walks, reads_after, prefixes_of}
 use Rattle.pb_text.proofs.lemmas.text.Booleans.{never}
-use Rattle.pb_proof.specs.meaning.Asking.{AsksBehind, FirstWord, Asks}
-use Rattle.pb_proof.specs.engine.Line.ClaimState.{claim_first}
+use Rattle.pb_proof.specs.meaning.Asking.{AsksAfter, FirstWord, Asks}
+use Rattle.pb_proof.specs.engine.Line.ConclusionState.{conclusion_first}
 use Rattle.pb_proof.specs.engine.Line.Count.{counting}
 use Rattle.pb_proof.specs.engine.Line.Rup.{rup_first}
 use Rattle.pb_proof.specs.engine.Line.Ids.{ids_first}
@@ -23,8 +23,8 @@ use Rattle.pb_proof.specs.meaning.Proofs.{IsProof}
 use Rattle.pb_proof.specs.engine.Machine.State as state
 use Rattle.pb_proof.specs.engine.Machine.State.{ProofState, proofs, begin, at, idle, giving, act, over, step_line, asks, is_within}
 use Rattle.pb_proof.specs.declared.line.LineMachine.{LineMachine}
-use Rattle.pb_proof.specs.declared.machine.phase.Move.{Move}
-use Rattle.pb_proof.specs.declared.machine.phase.Move.TheVariants.{To, Begin, Give, EndHeader, EndOutput, EndProof, Stop}
+use Rattle.pb_proof.specs.declared.machine.phase.Action.{Action}
+use Rattle.pb_proof.specs.declared.machine.phase.Action.TheVariants.{To, Begin, Give, EndHeader, EndOutput, EndProof, Stop}
 use Rattle.pb_proof.specs.declared.machine.phase.Phase.{Phase}
 use Rattle.pb_proof.specs.declared.machine.phase.Phase.TheVariants as phase
 use Rattle.pb_proof.specs.declared.machine.phase.LineKind.{LineKind}
@@ -34,7 +34,7 @@ use Rattle.pb_proof.specs.declared.machine.phase.Stage.TheVariants.{Opening}
 use Rattle.pb_proof.specs.declared.statement.Statement.{Statement}
 use Rattle.pb_proof.specs.declared.statement.Statement.TheVariants as statement
 use Rattle.pb_proof.proofs.lemmas.Carried.{walks_out, reads_out}
-use Rattle.pb_proof.proofs.lemmas.Claim.Asks.{claim_asked}
+use Rattle.pb_proof.proofs.lemmas.Conclusion.Asks.{conclusion_asked}
 use Rattle.pb_proof.proofs.lemmas.Line.Laws.{count_carries, pol_carries, rup_carries, soli_carries, solx_carries, delete_carries, conclusion_carries, line_begins, line_only}
 use Rattle.pb_proof.proofs.lemmas.Line.Asks.{ids_asked, literals_asked, rup_asked}
 use Rattle.pb_proof.proofs.lemmas.Pol.Asks.{pol_asked}
@@ -44,37 +44,37 @@ use Rattle.pb_proof.proofs.lemmas.Machine.Sound as sound
 module _ (limit top : ℕ) where
   -- after the first word
   line_asks : (r : LineKind) (q more : List Letter) (l : Letter) (i last : LineMachine) (e : Statement) → Walks line_automaton (line_first limit top r) q i → Reads line_automaton i (l ∷ more) e last
-      → line_automaton.asks i l.byte ≡ true → AsksBehind e (bytes q) l.byte
+      → line_automaton.asks i l.byte ≡ true → AsksAfter e (bytes q) l.byte
   line_asks kind.Count q more l i last e w r h =
       let (s, is, k) = walks_out _ _ _ _ count_carries q (counting top) i w in
       absurd (false≢true (subst (λ x. line_automaton.asks x l.byte ≡ true) is h))
   line_asks kind.Pol q more l i last e w r h =
       let (s, is, k) = walks_out _ _ _ _ pol_carries q (pol_first limit top) i w in
       let (v, after, same, j) = reads_out _ _ _ _ pol_carries (l ∷ more) s e last (subst (λ x. Reads line_automaton x (l ∷ more) e last) is r) in
-      subst (λ y. AsksBehind y (bytes q) l.byte) (sym same) (pol_asked limit top q s l.byte k (subst (λ x. line_automaton.asks x l.byte ≡ true) is h))
+      subst (λ y. AsksAfter y (bytes q) l.byte) (sym same) (pol_asked limit top q s l.byte k (subst (λ x. line_automaton.asks x l.byte ≡ true) is h))
   line_asks kind.Rup q more l i last e w r h =
       let (s, is, k) = walks_out _ _ _ _ rup_carries q (rup_first limit) i w in
       let (v, after, same, j) = reads_out _ _ _ _ rup_carries (l ∷ more) s e last (subst (λ x. Reads line_automaton x (l ∷ more) e last) is r) in
-      subst (λ y. AsksBehind y (bytes q) l.byte) (sym same) (rup_asked limit top q s l.byte k (subst (λ x. line_automaton.asks x l.byte ≡ true) is h))
+      subst (λ y. AsksAfter y (bytes q) l.byte) (sym same) (rup_asked limit top q s l.byte k (subst (λ x. line_automaton.asks x l.byte ≡ true) is h))
   line_asks kind.Soli q more l i last e w r h =
       let (s, is, k) = walks_out _ _ _ _ soli_carries q (literals_first false) i w in
       let (v, after, same, j) = reads_out _ _ _ _ soli_carries (l ∷ more) s e last (subst (λ x. Reads line_automaton x (l ∷ more) e last) is r) in
-      subst (λ y. AsksBehind y (bytes q) l.byte) (sym same) (literals_asked false q s l.byte k (subst (λ x. line_automaton.asks x l.byte ≡ true) is h))
+      subst (λ y. AsksAfter y (bytes q) l.byte) (sym same) (literals_asked false q s l.byte k (subst (λ x. line_automaton.asks x l.byte ≡ true) is h))
   line_asks kind.Solx q more l i last e w r h =
       let (s, is, k) = walks_out _ _ _ _ solx_carries q (literals_first false) i w in
       let (v, after, same, j) = reads_out _ _ _ _ solx_carries (l ∷ more) s e last (subst (λ x. Reads line_automaton x (l ∷ more) e last) is r) in
-      subst (λ y. AsksBehind y (bytes q) l.byte) (sym same) (literals_asked false q s l.byte k (subst (λ x. line_automaton.asks x l.byte ≡ true) is h))
+      subst (λ y. AsksAfter y (bytes q) l.byte) (sym same) (literals_asked false q s l.byte k (subst (λ x. line_automaton.asks x l.byte ≡ true) is h))
   line_asks kind.Delete q more l i last e w r h =
       let (s, is, k) = walks_out _ _ _ _ delete_carries q (ids_first top) i w in
       let (v, after, same, j) = reads_out _ _ _ _ delete_carries (l ∷ more) s e last (subst (λ x. Reads line_automaton x (l ∷ more) e last) is r) in
-      subst (λ y. AsksBehind y (bytes q) l.byte) (sym same) (ids_asked limit top q s l.byte k (subst (λ x. line_automaton.asks x l.byte ≡ true) is h))
+      subst (λ y. AsksAfter y (bytes q) l.byte) (sym same) (ids_asked limit top q s l.byte k (subst (λ x. line_automaton.asks x l.byte ≡ true) is h))
   line_asks kind.Conclusion q more l i last e w r h =
-      let (s, is, k) = walks_out _ _ _ _ conclusion_carries q (claim_first limit top) i w in
+      let (s, is, k) = walks_out _ _ _ _ conclusion_carries q (conclusion_first limit top) i w in
       let (v, after, same, j) = reads_out _ _ _ _ conclusion_carries (l ∷ more) s e last (subst (λ x. Reads line_automaton x (l ∷ more) e last) is r) in
-      subst (λ y. AsksBehind y (bytes q) l.byte) (sym same) (claim_asked limit top q more l s after v k j (subst (λ x. line_automaton.asks x l.byte ≡ true) is h))
+      subst (λ y. AsksAfter y (bytes q) l.byte) (sym same) (conclusion_asked limit top q more l s after v k j (subst (λ x. line_automaton.asks x l.byte ≡ true) is h))
 
   -- the first word of a statement that may allocate
-  first_word : (r : LineKind) (e : Statement) (t word : List Letter) (text : List ℕ) (b : ℕ) → SpellsRest limit top r e t → sound.Before r word → AsksBehind e text b → FirstWord e word
+  first_word : (r : LineKind) (e : Statement) (t word : List Letter) (text : List ℕ) (b : ℕ) → SpellsRest limit top r e t → sound.Before r word → AsksAfter e text b → FirstWord e word
   first_word kind.Count (statement.F c) t word text b h k a = absurd a
   first_word kind.Count _ t word text b h k a = absurd h
   first_word kind.Pol (statement.Pol c) t word text b h k a = k
@@ -123,18 +123,18 @@ module _ (limit top : ℕ) where
   InGap (End e next) x = Unit {0}
   InGap Refuse x = Unit {0}
 
-  gap_move : (p : Phase) (b : ℕ) (m : Move) → InGap (act (at limit top p) b m) (asks (at limit top p) b m)
-  gap_move p b (To q) = λ o. ((q, refl, o), refl)
-  gap_move p b (Begin r) = λ o. never true refl o
-  gap_move p b (Give r) = tt
-  gap_move p b EndHeader = tt
-  gap_move p b EndOutput = tt
-  gap_move p b EndProof = tt
-  gap_move p b Stop = tt
+  gap_action : (p : Phase) (b : ℕ) (m : Action) → InGap (act (at limit top p) b m) (asks (at limit top p) b m)
+  gap_action p b (To q) = λ o. ((q, refl, o), refl)
+  gap_action p b (Begin r) = λ o. never true refl o
+  gap_action p b (Give r) = tt
+  gap_action p b EndHeader = tt
+  gap_action p b EndOutput = tt
+  gap_action p b EndProof = tt
+  gap_action p b Stop = tt
 
   gaps : (s next : ProofState) (b : ℕ) → Idle s → proofs.step s b ≡ Go next → proofs.begun next ≡ false → Idle next × (proofs.asks s b ≡ false)
   gaps s next b (p, e, i) g o =
-      let k : InGap (proofs.step s b) (proofs.asks s b) = subst (λ x. InGap (proofs.step x b) (proofs.asks x b)) (sym e) (gap_move p b (plan p b)) in
+      let k : InGap (proofs.step s b) (proofs.asks s b) = subst (λ x. InGap (proofs.step x b) (proofs.asks x b)) (sym e) (gap_action p b (plan p b)) in
       (subst (λ x. InGap x (proofs.asks s b)) g k) o
 
   -- no statement begins in a comment
@@ -167,7 +167,7 @@ module _ (limit top : ℕ) where
       (λ st is. (phase.Between (stage_after e), (sound.statement_only limit top st t e next (subst (λ q. Reads proofs (at limit top q) t e next) is h)).2, refl))
 
   -- without a line machine, no byte may allocate
-  quiet : (s : ProofState) (b : ℕ) (m : Move) → s.line ≡ None → asks s b m ≡ false
+  quiet : (s : ProofState) (b : ℕ) (m : Action) → s.line ≡ None → asks s b m ≡ false
   quiet s b (To p) e = refl
   quiet s b (Begin r) e = refl
   quiet s b (Give r) e = ap (state.asked false (λ i. line_automaton.asks i b)) e
@@ -180,7 +180,7 @@ module _ (limit top : ℕ) where
     silent : {A : Type 0} (q : Phase) → s.line ≡ None → asks s l.byte (plan q l.byte) ≡ true → A
     silent q o h = absurd (false≢true (sym (quiet s l.byte (plan q l.byte) o) ∙ h))
 
-    by_phase : (q : Phase) → s.phase ≡ q → sound.front_of limit top st s q p → asks s l.byte (plan q l.byte) ≡ true → Asks e (bytes p) l.byte
+    by_phase : (q : Phase) → s.phase ≡ q → sound.prefix_in limit top st s q p → asks s l.byte (plan q l.byte) ≡ true → Asks e (bytes p) l.byte
     by_phase (phase.Between x) f k h = silent (phase.Between x) k.2 h
     by_phase (phase.Comment x) f k h = absurd k
     by_phase (phase.Spelling w j) f k h = silent (phase.Spelling w j) k.4 h
@@ -191,19 +191,19 @@ module _ (limit top : ℕ) where
     by_phase (phase.Inside x) f (same, (i, o, (word, c, is, before, w))) h =
         let (last, v) = inside_reads (l ∷ more) s x i e next f o r in
         let a : line_automaton.asks i l.byte ≡ true = sym (ap (state.asked false (λ j. line_automaton.asks j l.byte)) o) ∙ h in
-        let b : AsksBehind e (bytes c) l.byte = line_asks x c more l i last e w v a in
-        let spelled : SpellsRest limit top x e (c ++ l ∷ more) = line_only limit top x (c ++ l ∷ more) e last (reads_behind line_automaton c (l ∷ more) (line_first limit top x) i last e w v) in
+        let b : AsksAfter e (bytes c) l.byte = line_asks x c more l i last e w v a in
+        let spelled : SpellsRest limit top x e (c ++ l ∷ more) = line_only limit top x (c ++ l ∷ more) e last (reads_after line_automaton c (l ∷ more) (line_first limit top x) i last e w v) in
         (word, bytes c, first_word x e (c ++ l ∷ more) word (bytes c) l.byte spelled before b, ap bytes is ∙ bytes-append word c, b)
 
-  texts : (start s next : ProofState) (front more : List Letter) (l : Letter) (e : Statement) → Idle start → Walks proofs start front s → Reads proofs s (l ∷ more) e next
-      → IsTrue (proofs.asks s l.byte) → Asks e (bytes front) l.byte
-  texts start s next front more l e (p, same, i) w r a =
-      let walk : Walks proofs (at limit top p) front s = subst (λ x. Walks proofs x front s) same w in
-      from_idle (Asks e (bytes front) l.byte) p (front ++ l ∷ more) e next i (reads_behind proofs front (l ∷ more) (at limit top p) s next e walk r)
+  texts : (start s next : ProofState) (prefix more : List Letter) (l : Letter) (e : Statement) → Idle start → Walks proofs start prefix s → Reads proofs s (l ∷ more) e next
+      → IsTrue (proofs.asks s l.byte) → Asks e (bytes prefix) l.byte
+  texts start s next prefix more l e (p, same, i) w r a =
+      let walk : Walks proofs (at limit top p) prefix s = subst (λ x. Walks proofs x prefix s) same w in
+      from_idle (Asks e (bytes prefix) l.byte) p (prefix ++ l ∷ more) e next i (reads_after proofs prefix (l ∷ more) (at limit top p) s next e walk r)
       (λ st is.
-      let k : sound.Read limit top st s front = fronts proofs (sound.Read limit top st) (sound.IsStatement limit top st) (sound.keeps limit top st) front (idle limit top st) [] s
-      (subst (λ q. Walks proofs (at limit top q) front s) is walk) ((refl, refl), (refl, refl, refl)) in
-      by_phase st s next front more l e r s.phase refl k.1 a)
+      let k : sound.Read limit top st s prefix = prefixes_of proofs (sound.Read limit top st) (sound.IsStatement limit top st) (sound.keeps limit top st) prefix (idle limit top st) [] s
+      (subst (λ q. Walks proofs (at limit top q) prefix s) is walk) ((refl, refl), (refl, refl, refl)) in
+      by_phase st s next prefix more l e r s.phase refl k.1 a)
 
   -- after these bytes of a proof
   pub asks_only : (used : List ℕ) (b : ℕ) → MayAsk proofs (begin limit top) used b → AsksOnly (IsProof limit top) Asks used b

@@ -9,22 +9,22 @@ use Rattle.pb_text.specs.contract.Automaton.{Go, Reads}
 use Rattle.pb_text.specs.meaning.Classes.{is_blank}
 use Rattle.pb_text.specs.meaning.Languages.{unmarked, Language, ◌⋅◌, Byte, Each, Blanks1}
 use Rattle.pb_text.specs.meaning.Spelling.{Letter, plain}
-use Rattle.pb_text.proofs.lemmas.machine.Walking.{Walks, walks_then, walks_more, ends_walk, reads_behind, same_first, longer}
+use Rattle.pb_text.proofs.lemmas.machine.Walking.{Walks, walks_then, walks_more, ends_walk, reads_after, same_first, longer}
 use Rattle.pb_text.proofs.lemmas.text.Booleans.{never}
 use Rattle.pb_proof.specs.engine.Line.Machine.{line_automaton, line_first, SpellsRest}
 use Rattle.pb_proof.specs.meaning.Lines.{Feed, LineEnd, SpellsStatement}
-use Rattle.pb_proof.specs.engine.Machine.Transition.{words_of, sol_word, behind, meets, spell, plan}
+use Rattle.pb_proof.specs.engine.Machine.Transition.{words_of, sol_word, next_action, meets, spell, plan}
 use Rattle.pb_proof.specs.meaning.Order.{stage_of, stage_after}
-use Rattle.pb_proof.specs.engine.Machine.State.{ProofState, proofs, at, idle, giving, stage_behind, over, act}
+use Rattle.pb_proof.specs.engine.Machine.State.{ProofState, proofs, at, idle, giving, next_stage, over, act}
 use Rattle.pb_proof.specs.declared.line.LineMachine.{LineMachine}
 use Rattle.pb_proof.specs.declared.machine.phase.Keyword.{Keyword}
 use Rattle.pb_proof.specs.declared.machine.phase.Keyword.TheVariants as keyword
-use Rattle.pb_proof.specs.declared.machine.phase.Stage.TheVariants.{Opening, Formula, Steps, Claim, Closing, Complete}
+use Rattle.pb_proof.specs.declared.machine.phase.Stage.TheVariants.{Opening, Formula, Steps, Concluding, Closing, Complete}
 use Rattle.pb_proof.specs.declared.machine.phase.LineKind.{LineKind}
 use Rattle.pb_proof.specs.declared.machine.phase.LineKind.TheVariants as kind
 use Rattle.pb_proof.specs.declared.machine.phase.Phase.TheVariants as phase
-use Rattle.pb_proof.specs.declared.machine.phase.Move.{Move}
-use Rattle.pb_proof.specs.declared.machine.phase.Move.TheVariants as move
+use Rattle.pb_proof.specs.declared.machine.phase.Action.{Action}
+use Rattle.pb_proof.specs.declared.machine.phase.Action.TheVariants as action
 use Rattle.pb_proof.specs.declared.statement.Statement.{Statement}
 use Rattle.pb_proof.specs.declared.statement.Statement as statement
 use Rattle.pb_proof.proofs.lemmas.Line.Laws.{line_each, line_fresh}
@@ -52,9 +52,9 @@ words_laid keyword.Output = refl
 words_laid keyword.Conclusion = refl
 words_laid keyword.End = refl
 
-laid_later : (front more : List ℕ) → is_laid (front ++ more) ≡ true → is_laid more ≡ true
+laid_later : (prefix more : List ℕ) → is_laid (prefix ++ more) ≡ true → is_laid more ≡ true
 laid_later [] more h = h
-laid_later (c ∷ front) more h = laid_later front more (and_parts (not (nat_eq c 32) || dark_first (front ++ more)) (is_laid (front ++ more)) h).1
+laid_later (c ∷ prefix) more h = laid_later prefix more (and_parts (not (nat_eq c 32) || dark_first (prefix ++ more)) (is_laid (prefix ++ more)) h).1
 
 laid_dark : (x : ℕ) (more : List ℕ) → is_laid (32 ∷ x ∷ more) ≡ true → is_blank x ≡ false
 laid_dark x more h = not-true (is_blank x) (and_parts (not (is_blank x)) (is_laid (x ∷ more)) h).0
@@ -88,83 +88,88 @@ module _ (limit top : ℕ) where
   abbrev pub spelt : Keyword → ℕ → ProofState
   spelt f k = at limit top (phase.Spelling f k)
 
-  at_seam : (f : Keyword) (front left : List ℕ) (c : ℕ) → words_of f ≡ front ++ c ∷ left → slice_index (words_of f) (length front) ≡ c
-  at_seam f front left c e = ap (λ y. slice_index y (length front)) e ∙ get_or-append_seam front c left 0
+  at_seam : (f : Keyword) (prefix left : List ℕ) (c : ℕ) → words_of f ≡ prefix ++ c ∷ left → slice_index (words_of f) (length prefix) ≡ c
+  at_seam f prefix left c e = ap (λ y. slice_index y (length prefix)) e ∙ get_or-append_seam prefix c left 0
 
   -- the next byte matches; `x` says whether it is the last
-  spell_next : (f : Keyword) (front left : List ℕ) (c b : ℕ) (x : Bool) (other : Move) → words_of f ≡ front ++ c ∷ left → meets c b ≡ true → nat_eq (length front + 1) (length (words_of f)) ≡ x
-      → spell f (length front) b other ≡ cond x (behind f) (move.To (phase.Spelling f (length front + 1)))
-  spell_next f front left c b x other e m n =
-      ap (λ y. cond (meets y b) (cond (nat_eq (length front + 1) (length (words_of f))) (behind f) (move.To (phase.Spelling f (length front + 1)))) other) (at_seam f front left c e)
-      ∙ (ap (λ y. cond y (cond (nat_eq (length front + 1) (length (words_of f))) (behind f) (move.To (phase.Spelling f (length front + 1)))) other) m
-      ∙ ap (λ y. cond y (behind f) (move.To (phase.Spelling f (length front + 1)))) n)
+  spell_next : (f : Keyword) (prefix left : List ℕ) (c b : ℕ) (x : Bool) (other : Action) → words_of f ≡ prefix ++ c ∷ left → meets c b ≡ true → nat_eq (length prefix + 1) (length (words_of f)) ≡ x
+      → spell f (length prefix) b other ≡ cond x (next_action f) (action.To (phase.Spelling f (length prefix + 1)))
+  spell_next f prefix left c b x other e m n =
+      ap (λ y. cond (meets y b) (cond (nat_eq (length prefix + 1) (length (words_of f))) (next_action f) (action.To (phase.Spelling f (length prefix + 1)))) other) (at_seam f prefix left c e)
+      ∙ (ap (λ y. cond y (cond (nat_eq (length prefix + 1) (length (words_of f))) (next_action f) (action.To (phase.Spelling f (length prefix + 1)))) other) m
+      ∙ ap (λ y. cond y (next_action f) (action.To (phase.Spelling f (length prefix + 1)))) n)
 
-  more_left : (f : Keyword) (front left : List ℕ) (c d : ℕ) → words_of f ≡ front ++ c ∷ d ∷ left → nat_eq (length front + 1) (length (words_of f)) ≡ false
-  more_left f front left c d e =
-      let m : length (words_of f) ≡ length front + (2 + length left) = ap length e ∙ (length-append front (c ∷ d ∷ left) ∙ omega arith) in
+  more_left : (f : Keyword) (prefix left : List ℕ) (c d : ℕ) → words_of f ≡ prefix ++ c ∷ d ∷ left → nat_eq (length prefix + 1) (length (words_of f)) ≡ false
+  more_left f prefix left c d e =
+      let m : length (words_of f) ≡ length prefix + (2 + length left) = ap length e ∙ (length-append prefix (c ∷ d ∷ left) ∙ omega arith) in
       rw m (grind (arith, nat_tests))
 
-  pub last_left : (f : Keyword) (front : List ℕ) (c : ℕ) → words_of f ≡ front ++ c ∷ [] → nat_eq (length front + 1) (length (words_of f)) ≡ true
-  last_left f front c e =
-      let m : length (words_of f) ≡ length front + 1 = ap length e ∙ length-append front (c ∷ []) in
-      rw m (eq-eqb (length front + 1) (length front + 1) refl)
+  pub last_left : (f : Keyword) (prefix : List ℕ) (c : ℕ) → words_of f ≡ prefix ++ c ∷ [] → nat_eq (length prefix + 1) (length (words_of f)) ≡ true
+  last_left f prefix c e =
+      let m : length (words_of f) ≡ length prefix + 1 = ap length e ∙ length-append prefix (c ∷ []) in
+      rw m (eq-eqb (length prefix + 1) (length prefix + 1) refl)
 
-  pub step_on : (f : Keyword) (front left : List ℕ) (c d b : ℕ) → words_of f ≡ front ++ c ∷ d ∷ left → meets c b ≡ true → proofs.step (spelt f (length front)) b ≡ Go (spelt f (length front + 1))
-  step_on f front left c d b e m = ap (act (spelt f (length front)) b) (spell_next f front (d ∷ left) c b false _ e m (more_left f front left c d e))
+  pub step_on : (f : Keyword) (prefix left : List ℕ) (c d b : ℕ) → words_of f ≡ prefix ++ c ∷ d ∷ left → meets c b ≡ true → proofs.step (spelt f (length prefix)) b ≡ Go (spelt f (length prefix + 1))
+  step_on f prefix left c d b e m = ap (act (spelt f (length prefix)) b) (spell_next f prefix (d ∷ left) c b false _ e m (more_left f prefix left c d e))
 
-  pub step_last : (f : Keyword) (front : List ℕ) (c b : ℕ) → words_of f ≡ front ++ c ∷ [] → meets c b ≡ true → proofs.step (spelt f (length front)) b ≡ act (spelt f (length front)) b (behind f)
-  step_last f front c b e m = ap (act (spelt f (length front)) b) (spell_next f front [] c b true _ e m (last_left f front c e))
+  pub step_last : (f : Keyword) (prefix : List ℕ) (c b : ℕ) → words_of f ≡ prefix ++ c ∷ [] → meets c b ≡ true → proofs.step (spelt f (length prefix)) b ≡ act (spelt f (length prefix)) b (next_action f)
+  step_last f prefix c b e m = ap (act (spelt f (length prefix)) b) (spell_next f prefix [] c b true _ e m (last_left f prefix c e))
 
   -- more blanks after a space
-  blank_stays : (f : Keyword) (front left : List ℕ) (d b : ℕ) → words_of f ≡ front ++ 32 ∷ d ∷ left → is_blank b ≡ true → proofs.step (spelt f (length front + 1)) b ≡ Go (spelt f (length front + 1))
-  blank_stays f front left d b e h =
-      let j : length front + 1 ≡ length (front ++ 32 ∷ []) = sym (length-append front (32 ∷ [])) in
-      let g : words_of f ≡ (front ++ 32 ∷ []) ++ d ∷ left = e ∙ sym (append_assoc front (32 ∷ []) (d ∷ left)) in
-      let here : slice_index (words_of f) (length front + 1) ≡ d = ap (λ k. slice_index (words_of f) k) j ∙ at_seam f (front ++ 32 ∷ []) left d g in
-      let behind_it : slice_index (words_of f) (length front + 1 - 1) ≡ 32 = ap (λ k. slice_index (words_of f) k) (let q : length front + 1 - 1 ≡ length front = omega arith in q) ∙ at_seam f front (d ∷ left) 32 e in
-      let dark : is_blank d ≡ false = laid_dark d left (laid_later front (32 ∷ d ∷ left) (subst (λ x. is_laid x ≡ true) e (words_laid f))) in
-      let away : meets (slice_index (words_of f) (length front + 1)) b ≡ false = ap (λ x. meets x b) here ∙ dark_blank d b dark h in
-      ap (λ x. act (spelt f (length front + 1)) b (cond x (cond (nat_eq (length front + 1 + 1) (length (words_of f))) (behind f) (move.To (phase.Spelling f (length front + 1 + 1)))) (cond (is_blank b && nat_eq (slice_index (words_of f) (length front + 1 - 1)) 32) (move.To (phase.Spelling f (length front + 1))) move.Stop))) away
-      ∙ ap (λ x. act (spelt f (length front + 1)) b (cond x (move.To (phase.Spelling f (length front + 1))) move.Stop)) (ap₂ (λ x y. x && nat_eq y 32) h behind_it)
+  blank_stays : (f : Keyword) (prefix left : List ℕ) (d b : ℕ) → words_of f ≡ prefix ++ 32 ∷ d ∷ left → is_blank b ≡ true → proofs.step (spelt f (length prefix + 1)) b ≡ Go (spelt f (length prefix + 1))
+  blank_stays f prefix left d b e h =
+      let j : length prefix + 1 ≡ length (prefix ++ 32 ∷ []) = sym (length-append prefix (32 ∷ [])) in
+      let g : words_of f ≡ (prefix ++ 32 ∷ []) ++ d ∷ left = e ∙ sym (append_assoc prefix (32 ∷ []) (d ∷ left)) in
+      let here : slice_index (words_of f) (length prefix + 1) ≡ d = ap (λ k. slice_index (words_of f) k) j ∙ at_seam f (prefix ++ 32 ∷ []) left d g in
+      let after_it : slice_index (words_of f) (length prefix + 1 - 1) ≡ 32 = ap (λ k. slice_index (words_of f) k) (let q : length prefix + 1 - 1 ≡ length prefix = omega arith in q) ∙ at_seam f prefix (d ∷ left) 32 e in
+      let dark : is_blank d ≡ false = laid_dark d left (laid_later prefix (32 ∷ d ∷ left) (subst (λ x. is_laid x ≡ true) e (words_laid f))) in
+      let away : meets (slice_index (words_of f) (length prefix + 1)) b ≡ false = ap (λ x. meets x b) here ∙ dark_blank d b dark h in
+      ap (λ x. act (spelt f (length prefix + 1)) b (cond x (cond (nat_eq (length prefix + 1 + 1) (length (words_of f))) (next_action f) (action.To (phase.Spelling f (length prefix + 1 + 1)))) (cond (is_blank b && nat_eq (slice_index (words_of f) (length prefix + 1 - 1)) 32) (action.To (phase.Spelling f (length prefix + 1))) action.Stop))) away
+      ∙ ap (λ x. act (spelt f (length prefix + 1)) b (cond x (action.To (phase.Spelling f (length prefix + 1))) action.Stop)) (ap₂ (λ x y. x && nat_eq y 32) h after_it)
 
-  blanks_stay : (f : Keyword) (front left : List ℕ) (d : ℕ) → words_of f ≡ front ++ 32 ∷ d ∷ left → (bs : List ℕ) → Each (λ b. IsTrue (is_blank b)) bs
-      → Walks proofs (spelt f (length front + 1)) (plain bs) (spelt f (length front + 1))
-  blanks_stay f front left d e [] h = refl
-  blanks_stay f front left d e (b ∷ bs) h =
-      (spelt f (length front + 1), blank_stays f front left d b e h.0, refl, refl, blanks_stay f front left d e bs h.1)
+  blanks_stay : (f : Keyword) (prefix left : List ℕ) (d : ℕ) → words_of f ≡ prefix ++ 32 ∷ d ∷ left → (bs : List ℕ) → Each (λ b. IsTrue (is_blank b)) bs
+      → Walks proofs (spelt f (length prefix + 1)) (plain bs) (spelt f (length prefix + 1))
+  blanks_stay f prefix left d e [] h = refl
+  blanks_stay f prefix left d e (b ∷ bs) h = (
+    spelt f (length prefix + 1),
+    blank_stays f prefix left d b e h.0,
+    refl,
+    refl,
+    blanks_stay f prefix left d e bs h.1,
+  )
 
   -- one byte of the words, or blanks
-  one_walks : (f : Keyword) (front left : List ℕ) (c d : ℕ) (t : List Letter) → words_of f ≡ front ++ c ∷ d ∷ left → One c t → Walks proofs (spelt f (length front)) t (spelt f (length front + 1))
-  one_walks f front left c d t e h = by_test (nat_eq c 32) refl h
+  one_walks : (f : Keyword) (prefix left : List ℕ) (c d : ℕ) (t : List Letter) → words_of f ≡ prefix ++ c ∷ d ∷ left → One c t → Walks proofs (spelt f (length prefix)) t (spelt f (length prefix + 1))
+  one_walks f prefix left c d t e h = by_test (nat_eq c 32) refl h
     where
-      by_test : (x : Bool) → nat_eq c 32 ≡ x → chooses x Blanks1 (Byte c) t → Walks proofs (spelt f (length front)) t (spelt f (length front + 1))
+      by_test : (x : Bool) → nat_eq c 32 ≡ x → chooses x Blanks1 (Byte c) t → Walks proofs (spelt f (length prefix)) t (spelt f (length prefix + 1))
       by_test true s (b, bs, i, j, g) =
           let is : c ≡ 32 = eqb-true c 32 s in
-          subst (λ x. Walks proofs (spelt f (length front)) x (spelt f (length front + 1))) (sym g) (
-            spelt f (length front + 1),
-            step_on f front left c d b e (meets_blank c b s i),
+          subst (λ x. Walks proofs (spelt f (length prefix)) x (spelt f (length prefix + 1))) (sym g) (
+            spelt f (length prefix + 1),
+            step_on f prefix left c d b e (meets_blank c b s i),
             refl,
             refl,
-            blanks_stay f front left d (e ∙ ap (λ x. front ++ x ∷ d ∷ left) is) bs j,
+            blanks_stay f prefix left d (e ∙ ap (λ x. prefix ++ x ∷ d ∷ left) is) bs j,
           )
       by_test false s g =
-          subst (λ x. Walks proofs (spelt f (length front)) x (spelt f (length front + 1))) (sym g)
-          (spelt f (length front + 1), step_on f front left c d c e (meets_self c s), refl, refl, refl)
+          subst (λ x. Walks proofs (spelt f (length prefix)) x (spelt f (length prefix + 1))) (sym g)
+          (spelt f (length prefix + 1), step_on f prefix left c d c e (meets_self c s), refl, refl, refl)
 
   -- The words without their last byte, which is not a space.
-  record Split (f : Keyword) (front : List ℕ) (c : ℕ) (left : List ℕ) (t : List Letter) : Type 0 where
+  record Split (f : Keyword) (prefix : List ℕ) (c : ℕ) (left : List ℕ) (t : List Letter) : Type 0 where
     pub init : List ℕ
     pub final : ℕ
     pub is : words_of f ≡ init ++ final ∷ []
     pub text : List Letter
     pub letter : List Letter
     pub text_is : t ≡ text ++ letter
-    pub walks : Walks proofs (spelt f (length front)) text (spelt f (length init))
+    pub walks : Walks proofs (spelt f (length prefix)) text (spelt f (length init))
     pub last : One final letter
 
-  splits : (f : Keyword) (front left : List ℕ) (c : ℕ) (t : List Letter) → words_of f ≡ front ++ c ∷ left → Spaced (c ∷ left) t → Split f front c left t
-  splits f front [] c t e (a, b, g, h, i) = record {
-    init = front;
+  splits : (f : Keyword) (prefix left : List ℕ) (c : ℕ) (t : List Letter) → words_of f ≡ prefix ++ c ∷ left → Spaced (c ∷ left) t → Split f prefix c left t
+  splits f prefix [] c t e (a, b, g, h, i) = record {
+    init = prefix;
     final = c;
     is = e;
     text = [];
@@ -173,9 +178,9 @@ module _ (limit top : ℕ) where
     walks = refl;
     last = h;
   }
-  splits f front (d ∷ left) c t e (a, b, g, h, i) =
-      let size : length (front ++ c ∷ []) ≡ length front + 1 = length-append front (c ∷ []) in
-      let s : Split f (front ++ c ∷ []) d left b = splits f (front ++ c ∷ []) left d b (e ∙ sym (append_assoc front (c ∷ []) (d ∷ left))) i in
+  splits f prefix (d ∷ left) c t e (a, b, g, h, i) =
+      let size : length (prefix ++ c ∷ []) ≡ length prefix + 1 = length-append prefix (c ∷ []) in
+      let s : Split f (prefix ++ c ∷ []) d left b = splits f (prefix ++ c ∷ []) left d b (e ∙ sym (append_assoc prefix (c ∷ []) (d ∷ left))) i in
       record {
         init = s.init;
         final = s.final;
@@ -183,7 +188,7 @@ module _ (limit top : ℕ) where
         text = a ++ s.text;
         letter = s.letter;
         text_is = g ∙ (ap (λ x. a ++ x) s.text_is ∙ sym (append_assoc a s.text s.letter));
-        walks = walks_then proofs a s.text (spelt f (length front)) (spelt f (length front + 1)) (spelt f (length s.init)) (one_walks f front left c d a e h)
+        walks = walks_then proofs a s.text (spelt f (length prefix)) (spelt f (length prefix + 1)) (spelt f (length s.init)) (one_walks f prefix left c d a e h)
             (subst (λ k. Walks proofs (spelt f k) s.text (spelt f (length s.init))) size s.walks);
         last = s.last;
       }
@@ -206,7 +211,7 @@ module _ (limit top : ℕ) where
     pub final : ℕ
     pub text_is : t ≡ text ++ unmarked final ∷ []
     pub walks : Walks proofs (spelt f 0) text (spelt f count)
-    pub last : proofs.step (spelt f count) final ≡ act (spelt f count) final (behind f)
+    pub last : proofs.step (spelt f count) final ≡ act (spelt f count) final (next_action f)
 
   to_spelled : (f : Keyword) (c : ℕ) (left : List ℕ) (t : List Letter) → words_of f ≡ c ∷ left → Split f [] c left t → Spelled f t
   to_spelled f c left t e s =
@@ -267,13 +272,13 @@ module _ (limit top : ℕ) where
       (same_first proofs (unmarked (first_byte f)) (v ++ u) (idle limit top (stage_keyword f)) (spelt f 0) after e (enters f)
       (subst (λ x. Reads proofs (spelt f 0) (x ++ u) e after) g r))
 
-  words_then : (f : Keyword) (next : ProofState) → ((k b : ℕ) → act (spelt f k) b (behind f) ≡ Go next) → proofs.begun next ≡ true → proofs.in_number next ≡ false
+  words_then : (f : Keyword) (next : ProofState) → ((k b : ℕ) → act (spelt f k) b (next_action f) ≡ Go next) → proofs.begun next ≡ true → proofs.in_number next ≡ false
       → (t u : List Letter) (e : Statement) (after : ProofState) → KeywordWords f t → Reads proofs next u e after → Reads proofs (idle limit top (stage_keyword f)) (t ++ u) e after
   words_then f next g w n t u e after h r =
       let spaced : Spaced (words_of f) t = keyword_each f t h in
       let s : Spelled f t = spelled_words f t spaced in
       entered f t u e after spaced
-      (reads_behind proofs t u (spelt f 0) next after e
+      (reads_after proofs t u (spelt f 0) next after e
       (subst (λ x. Walks proofs (spelt f 0) x next) (sym s.text_is)
       (walks_more proofs s.text (unmarked s.final) (spelt f 0) (spelt f s.count) next s.walks (s.last ∙ g s.count s.final) w (sym n))) r)
 
@@ -302,14 +307,14 @@ module _ (limit top : ℕ) where
     ends_gap = refl;
   }
 
-  output_feeds : (may : Bool) → Feeds proofs (output_end may) (output_end may) statement.TheVariants.Output (idle limit top Claim)
+  output_feeds : (may : Bool) → Feeds proofs (output_end may) (output_end may) statement.TheVariants.Output (idle limit top Concluding)
   output_feeds may = record {
     blanks = record { enters = λ b h. rw h refl; stays = λ b h. rw h refl; begun = refl; plain = refl };
     ends = refl;
     ends_gap = refl;
   }
 
-  output_may : MayEnd proofs (output_end true) (output_end true) (output_end false) statement.TheVariants.Output (idle limit top Claim)
+  output_may : MayEnd proofs (output_end true) (output_end true) (output_end false) statement.TheVariants.Output (idle limit top Concluding)
   output_may = record {
     feeds = output_feeds true;
     closes = refl;
@@ -320,13 +325,13 @@ module _ (limit top : ℕ) where
   }
 
   -- what the line machine reads, the proof machine reads
-  pub given_reads : (r : LineKind) (t : List Letter) (i last : LineMachine) (e : Statement) → Reads line_automaton i t e last → Reads proofs (giving limit top r i) t e (idle limit top (stage_behind r))
+  pub given_reads : (r : LineKind) (t : List Letter) (i last : LineMachine) (e : Statement) → Reads line_automaton i t e last → Reads proofs (giving limit top r i) t e (idle limit top (next_stage r))
   given_reads r [] i last e h = absurd h
   given_reads r (l ∷ []) i last e (g, n) = (ap (over (giving limit top r i) r) g, n)
   given_reads r (l ∷ k ∷ t) i last e (mid, g, w, n, h) =
       (giving limit top r mid, ap (over (giving limit top r i) r) g, refl, n, given_reads r (k ∷ t) mid last e h)
 
-  rest_reads : (r : LineKind) (t : List Letter) (e : Statement) → SpellsRest limit top r e t → Reads proofs (giving limit top r (line_first limit top r)) t e (idle limit top (stage_behind r))
+  rest_reads : (r : LineKind) (t : List Letter) (e : Statement) → SpellsRest limit top r e t → Reads proofs (giving limit top r (line_first limit top r)) t e (idle limit top (next_stage r))
   rest_reads r t e h = let (last, k) = line_each limit top r t e h in given_reads r t (line_first limit top r) last e k
 
   plain_first : (r : LineKind) → proofs.in_number (giving limit top r (line_first limit top r)) ≡ false
@@ -336,7 +341,7 @@ module _ (limit top : ℕ) where
   begun_rest r = giving limit top r (line_first limit top r)
 
   -- after `soli` and `solx`
-  solution_then : (b : ℕ) (r : LineKind) (t u : List Letter) (e : Statement) (after : ProofState) → plan phase.Solution b ≡ move.Begin r → t ≡ plain sol_word ++ unmarked b ∷ []
+  solution_then : (b : ℕ) (r : LineKind) (t u : List Letter) (e : Statement) (after : ProofState) → plan phase.Solution b ≡ action.Begin r → t ≡ plain sol_word ++ unmarked b ∷ []
       → Reads proofs (begun_rest r) u e after → Reads proofs (idle limit top Steps) (t ++ u) e after
   solution_then b r t u e after g f h =
       subst (λ x. Reads proofs (idle limit top Steps) x e after) (sym (ap (λ x. x ++ u) f ∙ append_assoc (plain sol_word) (unmarked b ∷ []) u))
@@ -371,10 +376,10 @@ module _ (limit top : ℕ) where
       by_parts (KeywordWords keyword.Delete) (SpellsRest limit top kind.Delete (statement.TheVariants.Delete c)) t (statement.TheVariants.Delete c) (idle limit top Steps) (idle limit top Steps)
       (λ a b i k. words_then keyword.Delete (begun_rest kind.Delete) (λ j d. refl) refl (plain_first kind.Delete) a b (statement.TheVariants.Delete c) (idle limit top Steps) i (rest_reads kind.Delete b (statement.TheVariants.Delete c) k)) h
   statement_each t statement.TheVariants.Output h =
-      by_parts (KeywordWords keyword.Output) LineEnd t statement.TheVariants.Output (idle limit top Steps) (idle limit top Claim)
-      (λ a b i k. words_then keyword.Output (output_end true) (λ j d. refl) refl refl a b statement.TheVariants.Output (idle limit top Claim) i
-      (line_reads proofs (output_end true) (output_end true) (output_end false) (idle limit top Claim) statement.TheVariants.Output output_may b k)) h
+      by_parts (KeywordWords keyword.Output) LineEnd t statement.TheVariants.Output (idle limit top Steps) (idle limit top Concluding)
+      (λ a b i k. words_then keyword.Output (output_end true) (λ j d. refl) refl refl a b statement.TheVariants.Output (idle limit top Concluding) i
+      (line_reads proofs (output_end true) (output_end true) (output_end false) (idle limit top Concluding) statement.TheVariants.Output output_may b k)) h
   statement_each t (statement.TheVariants.Conclude c) h =
-      by_parts (KeywordWords keyword.Conclusion) (SpellsRest limit top kind.Conclusion (statement.TheVariants.Conclude c)) t (statement.TheVariants.Conclude c) (idle limit top Claim) (idle limit top Closing)
+      by_parts (KeywordWords keyword.Conclusion) (SpellsRest limit top kind.Conclusion (statement.TheVariants.Conclude c)) t (statement.TheVariants.Conclude c) (idle limit top Concluding) (idle limit top Closing)
       (λ a b i k. words_then keyword.Conclusion (begun_rest kind.Conclusion) (λ j d. refl) refl (plain_first kind.Conclusion) a b (statement.TheVariants.Conclude c) (idle limit top Closing) i (rest_reads kind.Conclusion b (statement.TheVariants.Conclude c) k)) h
   statement_each t statement.TheVariants.End h = words_end t h

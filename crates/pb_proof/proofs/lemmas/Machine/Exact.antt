@@ -17,7 +17,7 @@ use Rattle.pb_proof.specs.engine.Machine.State.{ProofState, proofs, begin, act, 
 use Rattle.pb_proof.specs.declared.conclusion.Conclusion.{Conclusion}
 use Rattle.pb_proof.specs.declared.proof.Proof.{Proof}
 use Rattle.pb_proof.specs.declared.machine.phase.Stage.{Stage}
-use Rattle.pb_proof.specs.declared.machine.phase.Stage.TheVariants.{Opening, Formula, Steps, Claim, Closing, Complete}
+use Rattle.pb_proof.specs.declared.machine.phase.Stage.TheVariants.{Opening, Formula, Steps, Concluding, Closing, Complete}
 use Rattle.pb_proof.specs.declared.machine.phase.Phase.{Phase}
 use Rattle.pb_proof.specs.declared.machine.phase.Phase.TheVariants as phase
 use Rattle.pb_proof.specs.declared.statement.Statement.{Statement}
@@ -62,25 +62,25 @@ at_closing (Delete ids ∷ es) h = cc
 at_closing (Output ∷ es) h = cc
 at_closing (Conclude c ∷ es) h = cc
 
-at_claim : (es : List Statement) → InOrder Claim es → (c : Conclusion) × (es ≡ Conclude c ∷ End ∷ [])
-at_claim [] h = cc
-at_claim (Conclude c ∷ es) h = (c, ap (λ x. Conclude c ∷ x) (at_closing es h.1))
-at_claim (End ∷ es) h = cc
-at_claim (Header ∷ es) h = cc
-at_claim (F n ∷ es) h = cc
-at_claim (Pol ws ∷ es) h = cc
-at_claim (Rup c ∷ es) h = cc
-at_claim (Soli ls ∷ es) h = cc
-at_claim (Solx ls ∷ es) h = cc
-at_claim (Delete ids ∷ es) h = cc
-at_claim (Output ∷ es) h = cc
+at_conclusion : (es : List Statement) → InOrder Concluding es → (c : Conclusion) × (es ≡ Conclude c ∷ End ∷ [])
+at_conclusion [] h = cc
+at_conclusion (Conclude c ∷ es) h = (c, ap (λ x. Conclude c ∷ x) (at_closing es h.1))
+at_conclusion (End ∷ es) h = cc
+at_conclusion (Header ∷ es) h = cc
+at_conclusion (F n ∷ es) h = cc
+at_conclusion (Pol ws ∷ es) h = cc
+at_conclusion (Rup c ∷ es) h = cc
+at_conclusion (Soli ls ∷ es) h = cc
+at_conclusion (Solx ls ∷ es) h = cc
+at_conclusion (Delete ids ∷ es) h = cc
+at_conclusion (Output ∷ es) h = cc
 
 step_then : (e : Statement) (es : List Statement) → IsStep e → Ends es → Ends (e ∷ es)
 step_then e es h (steps, c, k, g) = (e ∷ steps, c, All-cons IsStep e steps h k, ap (λ x. e ∷ x) g)
 
 at_steps : (es : List Statement) → InOrder Steps es → Ends es
 at_steps [] h = cc
-at_steps (Output ∷ es) h = let (c, e) = at_claim es h.1 in ([], c, All-nil IsStep, ap (λ x. Output ∷ x) e)
+at_steps (Output ∷ es) h = let (c, e) = at_conclusion es h.1 in ([], c, All-nil IsStep, ap (λ x. Output ∷ x) e)
 at_steps (Pol ws ∷ es) h = step_then (Pol ws) es tt (at_steps es h.1)
 at_steps (Rup c ∷ es) h = step_then (Rup c) es tt (at_steps es h.1)
 at_steps (Soli ls ∷ es) h = step_then (Soli ls) es tt (at_steps es h.1)
@@ -155,7 +155,7 @@ module _ (limit top : ℕ) where
   gap_is Opening gap h = subst IsGap (sym h) no_gap
   gap_is Formula gap h = h
   gap_is Steps gap h = h
-  gap_is Claim gap h = h
+  gap_is Concluding gap h = h
   gap_is Closing gap h = h
   gap_is Complete gap h = h
 
@@ -214,7 +214,7 @@ done_stops s (phase.Between Complete) b h = refl
 done_stops s (phase.Between Opening) b h = never false h refl
 done_stops s (phase.Between Formula) b h = never false h refl
 done_stops s (phase.Between Steps) b h = never false h refl
-done_stops s (phase.Between Claim) b h = never false h refl
+done_stops s (phase.Between Concluding) b h = never false h refl
 done_stops s (phase.Between Closing) b h = never false h refl
 done_stops s (phase.Comment at) b h = never false h refl
 done_stops s (phase.Spelling f k) b h = never false h refl

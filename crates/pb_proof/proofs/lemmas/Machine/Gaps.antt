@@ -11,16 +11,16 @@ use Rattle.pb_text.specs.meaning.Spelling.{Letter}
 use Rattle.pb_text.proofs.lemmas.text.Blanks.{blank_passes, in_comment-snoc, IsBlank-snoc, passes_at}
 use Rattle.pb_text.proofs.lemmas.text.Booleans.{never}
 use Rattle.pb_text.proofs.lemmas.text.ByteTests.{white_each}
-use Rattle.pb_proof.specs.engine.Machine.Transition.{enter, between, pass, spell, meets, words_of, behind, step_keyword}
+use Rattle.pb_proof.specs.engine.Machine.Transition.{enter, between, pass, spell, meets, words_of, next_action, step_keyword}
 use Rattle.pb_proof.specs.meaning.Proofs.{IsGap}
 use Rattle.pb_proof.specs.engine.Machine.State.{ProofState, proofs, at, idle, act, is_within, HasGaps}
 use Rattle.pb_proof.specs.declared.machine.phase.Keyword.{Keyword}
 use Rattle.pb_proof.specs.declared.machine.phase.Keyword.TheVariants as keyword
 use Rattle.pb_proof.specs.declared.machine.phase.Stage.{Stage}
-use Rattle.pb_proof.specs.declared.machine.phase.Stage.TheVariants.{Opening, Formula, Steps, Claim, Closing, Complete}
+use Rattle.pb_proof.specs.declared.machine.phase.Stage.TheVariants.{Opening, Formula, Steps, Concluding, Closing, Complete}
 use Rattle.pb_proof.specs.declared.machine.phase.Phase.TheVariants as phase
-use Rattle.pb_proof.specs.declared.machine.phase.Move.{Move}
-use Rattle.pb_proof.specs.declared.machine.phase.Move.TheVariants as move
+use Rattle.pb_proof.specs.declared.machine.phase.Action.{Action}
+use Rattle.pb_proof.specs.declared.machine.phase.Action.TheVariants as action
 use Rattle.pb_proof.specs.declared.statement.Statement.{Statement}
 
 passing : (s : Stage) (b : ℕ) → HasGaps s → between s b ≡ pass s b
@@ -28,34 +28,34 @@ passing Opening b h = absurd h
 passing Complete b h = absurd h
 passing Formula b h = refl
 passing Steps b h = refl
-passing Claim b h = refl
+passing Concluding b h = refl
 passing Closing b h = refl
 
-abbrev pub Inside : Move → Type 0
-Inside (move.To p) = is_within p ≡ true
+abbrev pub Inside : Action → Type 0
+Inside (action.To p) = is_within p ≡ true
 Inside _ = Unit {0}
 
-behind_inside : (f : Keyword) → Inside (behind f)
-behind_inside keyword.Header = refl
-behind_inside keyword.Formula = tt
-behind_inside keyword.Pol = tt
-behind_inside keyword.Rup = tt
-behind_inside keyword.Solution = refl
-behind_inside keyword.Delete = tt
-behind_inside keyword.Output = refl
-behind_inside keyword.Conclusion = tt
-behind_inside keyword.End = tt
+after_inside : (f : Keyword) → Inside (next_action f)
+after_inside keyword.Header = refl
+after_inside keyword.Formula = tt
+after_inside keyword.Pol = tt
+after_inside keyword.Rup = tt
+after_inside keyword.Solution = refl
+after_inside keyword.Delete = tt
+after_inside keyword.Output = refl
+after_inside keyword.Conclusion = tt
+after_inside keyword.End = tt
 
-pub spell_inside : (f : Keyword) (k b : ℕ) (other : Move) → Inside other → Inside (spell f k b other)
+pub spell_inside : (f : Keyword) (k b : ℕ) (other : Action) → Inside other → Inside (spell f k b other)
 spell_inside f k b other h = cond_both (meets (slice_index (words_of f) k) b) _ _ Inside
-    (λ _. cond_both (nat_eq (k + 1) (length (words_of f))) _ _ Inside (λ _. behind_inside f) (λ _. refl)) (λ _. h)
+    (λ _. cond_both (nat_eq (k + 1) (length (words_of f))) _ _ Inside (λ _. after_inside f) (λ _. refl)) (λ _. h)
 
 pub enter_inside : (s : Stage) (b : ℕ) → Inside (enter s b)
-enter_inside Opening b = spell_inside keyword.Header 0 b move.Stop tt
-enter_inside Formula b = spell_inside keyword.Formula 0 b move.Stop tt
-enter_inside Steps b = spell_inside (step_keyword b) 0 b move.Stop tt
-enter_inside Claim b = spell_inside keyword.Conclusion 0 b move.Stop tt
-enter_inside Closing b = spell_inside keyword.End 0 b move.Stop tt
+enter_inside Opening b = spell_inside keyword.Header 0 b action.Stop tt
+enter_inside Formula b = spell_inside keyword.Formula 0 b action.Stop tt
+enter_inside Steps b = spell_inside (step_keyword b) 0 b action.Stop tt
+enter_inside Concluding b = spell_inside keyword.Conclusion 0 b action.Stop tt
+enter_inside Closing b = spell_inside keyword.End 0 b action.Stop tt
 enter_inside Complete b = tt
 
 module _ (limit top : ℕ) (s : Stage) (gaps : HasGaps s) where
@@ -69,14 +69,14 @@ module _ (limit top : ℕ) (s : Stage) (gaps : HasGaps s) where
   InGap P (End e after) = Unit {0}
   InGap P Refuse = Unit {0}
 
-  entered : (P : ProofState → Type 0) (b : ℕ) (m : Move) → Inside m → InGap P (act (idle limit top s) b m)
-  entered P b (move.To p) h = λ o. never (is_within p) h o
-  entered P b (move.Begin r) h = λ o. never true refl o
-  entered P b (move.Give r) h = tt
-  entered P b move.EndHeader h = tt
-  entered P b move.EndOutput h = tt
-  entered P b move.EndProof h = tt
-  entered P b move.Stop h = tt
+  entered : (P : ProofState → Type 0) (b : ℕ) (m : Action) → Inside m → InGap P (act (idle limit top s) b m)
+  entered P b (action.To p) h = λ o. never (is_within p) h o
+  entered P b (action.Begin r) h = λ o. never true refl o
+  entered P b (action.Give r) h = tt
+  entered P b action.EndHeader h = tt
+  entered P b action.EndOutput h = tt
+  entered P b action.EndProof h = tt
+  entered P b action.Stop h = tt
 
   abbrev next_mode : ℕ → Bool → Bool
   next_mode b commented = not (nat_eq b 10) && (nat_eq b 42 || commented)
@@ -96,7 +96,7 @@ module _ (limit top : ℕ) (s : Stage) (gaps : HasGaps s) where
   gap_byte : (commented : Bool) (b : ℕ) → InGap (Leads b commented) (proofs.step (gap_state commented) b)
   gap_byte true b = by_feed (nat_eq b 10) refl
     where
-      by_feed : (x : Bool) → nat_eq b 10 ≡ x → InGap (Leads b true) (act (gap_state true) b (move.To (cond x (phase.Between s) (phase.Comment s))))
+      by_feed : (x : Bool) → nat_eq b 10 ≡ x → InGap (Leads b true) (act (gap_state true) b (action.To (cond x (phase.Between s) (phase.Comment s))))
       by_feed true e = λ o. (or-true (is_white b || nat_eq b 42), ap gap_state (sym (ap (λ y. not y && (nat_eq b 42 || true)) e)))
       by_feed false e = λ o. (or-true (is_white b || nat_eq b 42), ap gap_state (sym (ap (λ y. not y && (nat_eq b 42 || true)) e ∙ or-true (nat_eq b 42))))
   gap_byte false b =
@@ -107,7 +107,7 @@ module _ (limit top : ℕ) (s : Stage) (gaps : HasGaps s) where
       (λ e o. (ap₂ (λ x y. x || y || false) f e, ap gap_state (sym (star_mode b e))))
       (λ _. entered (Leads b false) b (enter s b) (enter_inside s b))))
     where
-      Q : Move → Type 0
+      Q : Action → Type 0
       Q m = InGap (Leads b false) (act (gap_state false) b m)
 
   mode_after : (before : List ℕ) (b : ℕ) → next_mode b (in_comment before) ≡ in_comment (before ++ b ∷ [])
@@ -133,7 +133,7 @@ module _ (limit top : ℕ) (s : Stage) (gaps : HasGaps s) where
   gap_step : (commented : Bool) (b : ℕ) → passed b commented ≡ true → proofs.step (gap_state commented) b ≡ Go (gap_state (next_mode b commented))
   gap_step true b h = by_feed (nat_eq b 10) refl
     where
-      by_feed : (x : Bool) → nat_eq b 10 ≡ x → act (gap_state true) b (move.To (cond x (phase.Between s) (phase.Comment s))) ≡ Go (gap_state (next_mode b true))
+      by_feed : (x : Bool) → nat_eq b 10 ≡ x → act (gap_state true) b (action.To (cond x (phase.Between s) (phase.Comment s))) ≡ Go (gap_state (next_mode b true))
       by_feed true e = ap (λ y. Go (gap_state y)) (sym (ap (λ y. not y && (nat_eq b 42 || true)) e))
       by_feed false e = ap (λ y. Go (gap_state y)) (sym (ap (λ y. not y && (nat_eq b 42 || true)) e ∙ or-true (nat_eq b 42)))
   gap_step false b h =
@@ -141,12 +141,12 @@ module _ (limit top : ℕ) (s : Stage) (gaps : HasGaps s) where
       ∙ by_white (is_white b) refl
     where
       by_star : is_white b ≡ false → (x : Bool) → nat_eq b 42 ≡ x
-          → act (gap_state false) b (cond x (move.To (phase.Comment s)) (enter s b)) ≡ Go (gap_state (next_mode b false))
+          → act (gap_state false) b (cond x (action.To (phase.Comment s)) (enter s b)) ≡ Go (gap_state (next_mode b false))
       by_star w true e = ap (λ y. Go (gap_state y)) (sym (star_mode b e))
       by_star w false e = never false (sym (ap₂ (λ y z. y || z || false) w e) ∙ h) refl
 
       by_white : (x : Bool) → is_white b ≡ x
-          → act (gap_state false) b (cond x (move.To (phase.Between s)) (cond (nat_eq b 42) (move.To (phase.Comment s)) (enter s b))) ≡ Go (gap_state (next_mode b false))
+          → act (gap_state false) b (cond x (action.To (phase.Between s)) (cond (nat_eq b 42) (action.To (phase.Comment s)) (enter s b))) ≡ Go (gap_state (next_mode b false))
       by_white true e = ap (λ y. Go (gap_state y)) (sym (white_mode b e))
       by_white false e = by_star e (nat_eq b 42) refl
 
@@ -168,11 +168,11 @@ module _ (limit top : ℕ) (s : Stage) (gaps : HasGaps s) where
   comment_reads [] e after r = r
   comment_reads (l ∷ []) e after (g, n) = no_end g
     where
-      no_end : act (gap_state true) l.byte (move.To (cond (nat_eq l.byte 10) (phase.Between s) (phase.Comment s))) ≡ End e after → ⊥
+      no_end : act (gap_state true) l.byte (action.To (cond (nat_eq l.byte 10) (phase.Between s) (phase.Comment s))) ≡ End e after → ⊥
       no_end g = cc
   comment_reads (l ∷ k ∷ t) e after (mid, g, i, n, r) = stays (nat_eq l.byte 10) g
     where
-      stays : (x : Bool) → act (gap_state true) l.byte (move.To (cond x (phase.Between s) (phase.Comment s))) ≡ Go mid → ⊥
+      stays : (x : Bool) → act (gap_state true) l.byte (action.To (cond x (phase.Between s) (phase.Comment s))) ≡ Go mid → ⊥
       stays true g = let f : idle limit top s ≡ mid = cc in never (proofs.begun mid) i (ap proofs.begun (sym f))
       stays false g = let f : at limit top (phase.Comment s) ≡ mid = cc in never (proofs.begun mid) i (ap proofs.begun (sym f))
 

@@ -8,9 +8,9 @@ use Rattle.pb_proof.specs.engine.Machine.Transition.{enter}
 use Rattle.pb_proof.specs.meaning.Order.{stage_of, stage_after, GapAt, IsOrdered}
 use Rattle.pb_proof.specs.engine.Machine.State.{ProofState, proofs, idle, act, is_complete}
 use Rattle.pb_proof.specs.declared.machine.phase.Stage.{Stage}
-use Rattle.pb_proof.specs.declared.machine.phase.Stage.TheVariants.{Opening, Formula, Steps, Claim, Closing, Complete}
-use Rattle.pb_proof.specs.declared.machine.phase.Move.{Move}
-use Rattle.pb_proof.specs.declared.machine.phase.Move.TheVariants as move
+use Rattle.pb_proof.specs.declared.machine.phase.Stage.TheVariants.{Opening, Formula, Steps, Concluding, Closing, Complete}
+use Rattle.pb_proof.specs.declared.machine.phase.Action.{Action}
+use Rattle.pb_proof.specs.declared.machine.phase.Action.TheVariants as action
 use Rattle.pb_proof.specs.declared.statement.Statement.{Statement}
 use Rattle.pb_proof.specs.declared.statement.Statement as statement
 use Rattle.pb_proof.proofs.lemmas.Machine.Complete.{statement_each}
@@ -22,7 +22,7 @@ complete Complete h = refl
 complete Opening h = never false h refl
 complete Formula h = never false h refl
 complete Steps h = never false h refl
-complete Claim h = never false h refl
+complete Concluding h = never false h refl
 complete Closing h = never false h refl
 
 module _ (limit top : ℕ) where
@@ -32,14 +32,14 @@ module _ (limit top : ℕ) where
   OnGo (End e next) = Unit {0}
   OnGo Refuse = Unit {0}
 
-  went_inside : (b : ℕ) (m : Move) → Inside m → OnGo (act (idle limit top Opening) b m)
-  went_inside b (move.To p) h = h
-  went_inside b (move.Begin r) h = refl
-  went_inside b (move.Give r) h = tt
-  went_inside b move.EndHeader h = tt
-  went_inside b move.EndOutput h = tt
-  went_inside b move.EndProof h = tt
-  went_inside b move.Stop h = tt
+  went_inside : (b : ℕ) (m : Action) → Inside m → OnGo (act (idle limit top Opening) b m)
+  went_inside b (action.To p) h = h
+  went_inside b (action.Begin r) h = refl
+  went_inside b (action.Give r) h = tt
+  went_inside b action.EndHeader h = tt
+  went_inside b action.EndOutput h = tt
+  went_inside b action.EndProof h = tt
+  went_inside b action.Stop h = tt
 
   opening_gap : (gap : List ℕ) (mid : ProofState) → Skips proofs (idle limit top Opening) gap mid → (gap ≡ []) × (mid ≡ idle limit top Opening)
   opening_gap [] mid h = (refl, h)
@@ -57,7 +57,7 @@ module _ (limit top : ℕ) where
   gap_at Complete gap mid after t e h r = absurd (complete_reads gap mid after t e h r)
   gap_at Formula gap mid after t e h r = gap_before limit top Formula tt gap mid after t e h r
   gap_at Steps gap mid after t e h r = gap_before limit top Steps tt gap mid after t e h r
-  gap_at Claim gap mid after t e h r = gap_before limit top Claim tt gap mid after t e h r
+  gap_at Concluding gap mid after t e h r = gap_before limit top Concluding tt gap mid after t e h r
   gap_at Closing gap mid after t e h r = gap_before limit top Closing tt gap mid after t e h r
 
   pub ordered_only : (items : List (Item Statement)) (at : Stage) → Accepts proofs (idle limit top at) items → IsOrdered limit top at items
@@ -80,7 +80,7 @@ module _ (limit top : ℕ) where
   skips_at Complete gap n h = absurd (n refl)
   skips_at Formula gap n h = gap_skips limit top Formula tt gap h
   skips_at Steps gap n h = gap_skips limit top Steps tt gap h
-  skips_at Claim gap n h = gap_skips limit top Claim tt gap h
+  skips_at Concluding gap n h = gap_skips limit top Concluding tt gap h
   skips_at Closing gap n h = gap_skips limit top Closing tt gap h
 
   pub ordered_each : (items : List (Item Statement)) (at : Stage) → IsOrdered limit top at items → Accepts proofs (idle limit top at) items

@@ -9,42 +9,42 @@ use Rattle.pb_text.specs.meaning.Classes.{is_blank, is_white}
 use Rattle.pb_text.specs.meaning.Languages.{Language, ◌⋅◌, Bytes}
 use Rattle.pb_text.specs.meaning.Spelling.{Letter, plain}
 use Rattle.pb_text.proofs.lemmas.text.Languages.{grown, none_yet}
-use Rattle.pb_text.proofs.lemmas.machine.Walking.{Walks, walks_more, ends_walk, On, Keeps, told}
+use Rattle.pb_text.proofs.lemmas.machine.Walking.{Walks, walks_more, ends_walk, On, Keeps, reported}
 use Rattle.pb_text.proofs.lemmas.text.Booleans.{never}
 use Rattle.pb_text.proofs.lemmas.text.Letters.{as_unmarked, further}
 use Rattle.pb_proof.specs.engine.Line.Machine.{line_automaton, line_first, SpellsRest}
 use Rattle.pb_proof.specs.meaning.Lines.{f_word, pol_word, rup_word, soli_word, solx_word, conclusion_word, SpellsStatement}
-use Rattle.pb_proof.specs.engine.Machine.Transition.{words_of, sol_word, behind, meets, spell, step_keyword, enter, pass, between, plan}
+use Rattle.pb_proof.specs.engine.Machine.Transition.{words_of, sol_word, next_action, meets, spell, step_keyword, enter, pass, between, plan}
 use Rattle.pb_proof.specs.meaning.Order.{stage_of, stage_after}
-use Rattle.pb_proof.specs.engine.Machine.State.{ProofState, proofs, idle, stage_behind, over, step_line, act, asked}
+use Rattle.pb_proof.specs.engine.Machine.State.{ProofState, proofs, idle, next_stage, over, step_line, act, asked}
 use Rattle.pb_proof.specs.declared.line.LineMachine.{LineMachine}
 use Rattle.pb_proof.specs.declared.machine.phase.Keyword.{Keyword}
 use Rattle.pb_proof.specs.declared.machine.phase.Keyword.TheVariants as keyword
 use Rattle.pb_proof.specs.declared.machine.phase.Stage.{Stage}
-use Rattle.pb_proof.specs.declared.machine.phase.Stage.TheVariants.{Opening, Formula, Steps, Claim, Closing, Complete}
+use Rattle.pb_proof.specs.declared.machine.phase.Stage.TheVariants.{Opening, Formula, Steps, Concluding, Closing, Complete}
 use Rattle.pb_proof.specs.declared.machine.phase.LineKind.{LineKind}
 use Rattle.pb_proof.specs.declared.machine.phase.LineKind.TheVariants as kind
 use Rattle.pb_proof.specs.declared.machine.phase.Phase.{Phase}
 use Rattle.pb_proof.specs.declared.machine.phase.Phase.TheVariants as phase
-use Rattle.pb_proof.specs.declared.machine.phase.Move.{Move}
-use Rattle.pb_proof.specs.declared.machine.phase.Move.TheVariants as move
+use Rattle.pb_proof.specs.declared.machine.phase.Action.{Action}
+use Rattle.pb_proof.specs.declared.machine.phase.Action.TheVariants as action
 use Rattle.pb_proof.specs.declared.statement.Statement.{Statement}
 use Rattle.pb_proof.specs.declared.statement.Statement as statement
 use Rattle.pb_proof.proofs.lemmas.Line.Laws.{line_only, line_begins, line_fresh}
-use Rattle.pb_proof.proofs.lemmas.Line.Ends.{Gapped, Closing as Closed, blank_more, semicolon_behind_blanks, blank_closing, line_behind_blanks, line_closing, feed_behind_blanks, gapped}
+use Rattle.pb_proof.proofs.lemmas.Line.Ends.{Gapped, Closing as Closed, blank_more, semicolon_after_blanks, blank_closing, line_after_blanks, line_closing, feed_after_blanks, gapped}
 use Rattle.pb_proof.proofs.lemmas.Spaced.{Spaced, one_met, spaced_more, spaced_blank, KeywordWords, keyword_only, some_byte}
 
 -- the stage of a statement, by its first words and by the kind of its line
 abbrev pub stage_keyword : Keyword → Stage
 stage_keyword keyword.Header = Opening
 stage_keyword keyword.Formula = Formula
-stage_keyword keyword.Conclusion = Claim
+stage_keyword keyword.Conclusion = Concluding
 stage_keyword keyword.End = Closing
 stage_keyword _ = Steps
 
 abbrev pub stage_rest : LineKind → Stage
 stage_rest kind.Count = Formula
-stage_rest kind.Conclusion = Claim
+stage_rest kind.Conclusion = Concluding
 stage_rest _ = Steps
 
 -- the words before the text that a line machine reads
@@ -75,21 +75,21 @@ word_blank w k l p some h e b n s =
 
 module _ (limit top : ℕ) (here : Stage) where
   -- What has been read, by phase.
-  abbrev pub front_of : ProofState → Phase → Language
-  front_of s (phase.Between at) = λ p. (at ≡ here) × (p ≡ []) × (s.line ≡ None)
-  front_of s (phase.Comment at) = λ p. ⊥
-  front_of s (phase.Spelling f k) = λ p. (stage_keyword f ≡ here) × (0 < k) × (k < length (words_of f)) × Spaced (take k (words_of f)) p × (s.line ≡ None)
-  front_of s phase.Solution = λ p. (Steps ≡ here) × Bytes sol_word p × (s.line ≡ None)
-  front_of s phase.HeaderEnd = λ p. (Opening ≡ here) × Gapped (KeywordWords keyword.Header) p × (s.line ≡ None)
-  front_of s (phase.OutputEnd true) = λ p. (Steps ≡ here) × Gapped (KeywordWords keyword.Output) p × (s.line ≡ None)
-  front_of s (phase.OutputEnd false) = λ p. (Steps ≡ here) × Closed (KeywordWords keyword.Output) p × (s.line ≡ None)
-  front_of s (phase.Inside r) = λ p. (stage_rest r ≡ here) × ((i : LineMachine) × (s.line ≡ Some i) × (Before r ⋅ (λ q. Walks line_automaton (line_first limit top r) q i)) p)
+  abbrev pub prefix_in : ProofState → Phase → Language
+  prefix_in s (phase.Between at) = λ p. (at ≡ here) × (p ≡ []) × (s.line ≡ None)
+  prefix_in s (phase.Comment at) = λ p. ⊥
+  prefix_in s (phase.Spelling f k) = λ p. (stage_keyword f ≡ here) × (0 < k) × (k < length (words_of f)) × Spaced (take k (words_of f)) p × (s.line ≡ None)
+  prefix_in s phase.Solution = λ p. (Steps ≡ here) × Bytes sol_word p × (s.line ≡ None)
+  prefix_in s phase.HeaderEnd = λ p. (Opening ≡ here) × Gapped (KeywordWords keyword.Header) p × (s.line ≡ None)
+  prefix_in s (phase.OutputEnd true) = λ p. (Steps ≡ here) × Gapped (KeywordWords keyword.Output) p × (s.line ≡ None)
+  prefix_in s (phase.OutputEnd false) = λ p. (Steps ≡ here) × Closed (KeywordWords keyword.Output) p × (s.line ≡ None)
+  prefix_in s (phase.Inside r) = λ p. (stage_rest r ≡ here) × ((i : LineMachine) × (s.line ≡ Some i) × (Before r ⋅ (λ q. Walks line_automaton (line_first limit top r) q i)) p)
 
   abbrev pub Known : ProofState → Type 0
   Known s = (s.limit ≡ limit) × (s.top ≡ top)
 
   abbrev pub Read : ProofState → Language
-  Read s = λ p. Known s × front_of s s.phase p
+  Read s = λ p. Known s × prefix_in s s.phase p
 
   -- a statement of the stage, and the state after it
   abbrev pub IsStatement : Statement → ProofState → Language
@@ -100,7 +100,7 @@ module _ (limit top : ℕ) (here : Stage) where
 
   -- The words and the rest of the line make a statement.
   rest_statement : (r : LineKind) (e : Statement) (t : List Letter) → (Before r ⋅ SpellsRest limit top r e) t
-      → (stage_of e ≡ stage_rest r) × SpellsStatement limit top e t × (stage_behind r ≡ stage_after e)
+      → (stage_of e ≡ stage_rest r) × SpellsStatement limit top e t × (next_stage r ≡ stage_after e)
   rest_statement kind.Count (statement.TheVariants.F c) t h = (refl, h, refl)
   rest_statement kind.Count _ t h = absurd h.4
   rest_statement kind.Pol (statement.TheVariants.Pol c) t h = (refl, h, refl)
@@ -121,14 +121,15 @@ module _ (limit top : ℕ) (here : Stage) where
     abbrev Leaves : Next ProofState Statement → Type 0
     Leaves x = On proofs Read IsStatement x l (p ++ l ∷ [])
 
-    abbrev After : Move → Type 0
+    abbrev After : Action → Type 0
     After m = Leaves (act s l.byte m)
 
     plain_letter : s.line ≡ None → l.numeral ≡ asked false line_automaton.in_number s.line → l.numeral ≡ false
     plain_letter e n = n ∙ ap (asked false line_automaton.in_number) e
 
     -- a line machine begins
-    begins : (r : LineKind) → stage_rest r ≡ here → (l.numeral ≡ false → Before r (p ++ l ∷ [])) → After (move.Begin r)
+    begins : (r : LineKind) → stage_rest r ≡ here → (l.numeral ≡ false → Before r (p ++ l ∷ []))
+        → After (action.Begin r)
     begins r at h = λ w n.
         let plain : l.numeral ≡ false = n ∙ (line_fresh s.limit s.top r).2 in (
           k,
@@ -144,7 +145,7 @@ module _ (limit top : ℕ) (here : Stage) where
         )
 
     -- all words have been read
-    whole : s.line ≡ None → (f : Keyword) → stage_keyword f ≡ here → (l.numeral ≡ false → KeywordWords f (p ++ l ∷ [])) → After (behind f)
+    whole : s.line ≡ None → (f : Keyword) → stage_keyword f ≡ here → (l.numeral ≡ false → KeywordWords f (p ++ l ∷ [])) → After (next_action f)
     whole o keyword.Header at h = λ w n. (k, (at, gapped (KeywordWords keyword.Header) (p ++ l ∷ []) (h (plain_letter o n)), o))
     whole o keyword.Formula at h = begins kind.Count at h
     whole o keyword.Pol at h = begins kind.Pol at h
@@ -156,7 +157,7 @@ module _ (limit top : ℕ) (here : Stage) where
     whole o keyword.End at h = λ n. (at, h n, same_idle s.limit s.top Complete Complete k.0 k.1 refl)
 
     -- the next byte of the words
-    spells : s.line ≡ None → (f : Keyword) → stage_keyword f ≡ here → (j : ℕ) → j < length (words_of f) → Spaced (take j (words_of f)) p → (other : Move) → After other
+    spells : s.line ≡ None → (f : Keyword) → stage_keyword f ≡ here → (j : ℕ) → j < length (words_of f) → Spaced (take j (words_of f)) p → (other : Action) → After other
         → After (spell f j l.byte other)
     spells o f at j h q other else = cond_both (meets (slice_index (words_of f) j) l.byte) _ _ After
         (λ e. cond_both (nat_eq (j + 1) (length (words_of f))) _ _ After
@@ -174,8 +175,8 @@ module _ (limit top : ℕ) (here : Stage) where
         (k, (at, some, h, word_blank (words_of f) j l p some h g.1 g.0 (plain_letter o n) q, o)))
         (λ _. tt))
 
-    first : s.line ≡ None → p ≡ [] → (f : Keyword) → stage_keyword f ≡ here → After (spell f 0 l.byte move.Stop)
-    first o e f at = spells o f at 0 (some_byte f) e move.Stop tt
+    first : s.line ≡ None → p ≡ [] → (f : Keyword) → stage_keyword f ≡ here → After (spell f 0 l.byte action.Stop)
+    first o e f at = spells o f at 0 (some_byte f) e action.Stop tt
 
     step_stage : (b : ℕ) → stage_keyword (step_keyword b) ≡ Steps
     step_stage b = cond_both (nat_eq b 112) _ _ P (λ _. refl) (λ _. cond_both (nat_eq b 114) _ _ P (λ _. refl) (λ _. cond_both (nat_eq b 115) _ _ P (λ _. refl) (λ _. cond_both (nat_eq b 100) _ _ P (λ _. refl) (λ _. refl))))
@@ -187,7 +188,7 @@ module _ (limit top : ℕ) (here : Stage) where
     enters Opening at e o = first o e keyword.Header at
     enters Formula at e o = first o e keyword.Formula at
     enters Steps at e o = first o e (step_keyword l.byte) (step_stage l.byte ∙ at)
-    enters Claim at e o = first o e keyword.Conclusion at
+    enters Concluding at e o = first o e keyword.Conclusion at
     enters Closing at e o = first o e keyword.End at
     enters Complete at e o = tt
 
@@ -200,7 +201,7 @@ module _ (limit top : ℕ) (here : Stage) where
     between_two Opening at e o = enters Opening at e o
     between_two Formula at e o = passes Formula at e o
     between_two Steps at e o = passes Steps at e o
-    between_two Claim at e o = passes Claim at e o
+    between_two Concluding at e o = passes Concluding at e o
     between_two Closing at e o = passes Closing at e o
     between_two Complete at e o = tt
 
@@ -216,21 +217,21 @@ module _ (limit top : ℕ) (here : Stage) where
     header_ends at h o = cond_both (is_blank l.byte) _ _ After
         (λ e w n. (k, (at, blank_more (KeywordWords keyword.Header) l p e (plain_letter o n) h, o)))
         (λ _. cond_both (nat_eq l.byte 10) _ _ After
-        (λ e n. (at, feed_behind_blanks (KeywordWords keyword.Header) l p (eqb-true l.byte 10 e) n h, same_idle s.limit s.top Formula Formula k.0 k.1 refl))
+        (λ e n. (at, feed_after_blanks (KeywordWords keyword.Header) l p (eqb-true l.byte 10 e) n h, same_idle s.limit s.top Formula Formula k.0 k.1 refl))
         (λ _. tt))
 
-    output_ends : (may : Bool) → front_of s (phase.OutputEnd may) p → After (plan (phase.OutputEnd may) l.byte)
+    output_ends : (may : Bool) → prefix_in s (phase.OutputEnd may) p → After (plan (phase.OutputEnd may) l.byte)
     output_ends true (at, h, o) = cond_both (is_blank l.byte) _ _ After
         (λ e w n. (k, (at, blank_more (KeywordWords keyword.Output) l p e (plain_letter o n) h, o)))
         (λ _. cond_both (nat_eq l.byte 10) _ _ After
-        (λ e n. (at, line_behind_blanks (KeywordWords keyword.Output) l p (eqb-true l.byte 10 e) n h, same_idle s.limit s.top Claim Claim k.0 k.1 refl))
+        (λ e n. (at, line_after_blanks (KeywordWords keyword.Output) l p (eqb-true l.byte 10 e) n h, same_idle s.limit s.top Concluding Concluding k.0 k.1 refl))
         (λ _. cond_both (nat_eq l.byte 59 && true) _ _ After
-        (λ e w n. (k, (at, semicolon_behind_blanks (KeywordWords keyword.Output) l p (eqb-true l.byte 59 (and_parts (nat_eq l.byte 59) true e).0) (plain_letter o n) h, o)))
+        (λ e w n. (k, (at, semicolon_after_blanks (KeywordWords keyword.Output) l p (eqb-true l.byte 59 (and_parts (nat_eq l.byte 59) true e).0) (plain_letter o n) h, o)))
         (λ _. tt)))
     output_ends false (at, h, o) = cond_both (is_blank l.byte) _ _ After
         (λ e w n. (k, (at, blank_closing (KeywordWords keyword.Output) l p e (plain_letter o n) h, o)))
         (λ _. cond_both (nat_eq l.byte 10) _ _ After
-        (λ e n. (at, line_closing (KeywordWords keyword.Output) l p (eqb-true l.byte 10 e) n h, same_idle s.limit s.top Claim Claim k.0 k.1 refl))
+        (λ e n. (at, line_closing (KeywordWords keyword.Output) l p (eqb-true l.byte 10 e) n h, same_idle s.limit s.top Concluding Concluding k.0 k.1 refl))
         (λ _. cond_both (nat_eq l.byte 59 && false) _ _ After
         (λ e. never false (and_parts (nat_eq l.byte 59) false e).1 refl)
         (λ _. tt)))
@@ -255,14 +256,14 @@ module _ (limit top : ℕ) (here : Stage) where
         grown (Before r) (λ q. Walks line_automaton (line_first limit top r) q i) (SpellsRest limit top r e) p l
         (λ q g. line_only limit top r (q ++ l ∷ []) e last (ends_walk line_automaton q l (line_first limit top r) i last e g f n)) h in
         let z = rest_statement r e (p ++ l ∷ []) t in
-        (z.0 ∙ at, z.1, same_idle s.limit s.top (stage_behind r) (stage_after e) k.0 k.1 z.2)
+        (z.0 ∙ at, z.1, same_idle s.limit s.top (next_stage r) (stage_after e) k.0 k.1 z.2)
     given r at i h Refuse e = tt
 
     inside : (r : LineKind) → stage_rest r ≡ here → (i : LineMachine) → s.line ≡ Some i → (Before r ⋅ (λ q. Walks line_automaton (line_first limit top r) q i)) p → After (plan (phase.Inside r) l.byte)
     inside r at i e h =
         subst (λ x. Leaves (over s r (step_line x l.byte))) (sym e) (given r at i h (line_automaton.step i l.byte) refl)
 
-    sound : (q : Phase) → front_of s q p → After (plan q l.byte)
+    sound : (q : Phase) → prefix_in s q p → After (plan q l.byte)
     sound (phase.Between at) h = between_two at h.0 h.1 h.2
     sound (phase.Comment at) h = absurd h
     sound (phase.Spelling f j) h = spelling f j h.0 h.1 h.2 h.3 h.4
@@ -276,4 +277,4 @@ module _ (limit top : ℕ) (here : Stage) where
 
   pub statement_only : (t : List Letter) (e : Statement) (after : ProofState) → Reads proofs (idle limit top here) t e after → IsStatement e after t
   statement_only t e after r =
-      told proofs Read IsStatement keeps t (idle limit top here) [] e after r ((refl, refl), (refl, refl, refl))
+      reported proofs Read IsStatement keeps t (idle limit top here) [] e after r ((refl, refl), (refl, refl, refl))

@@ -8,18 +8,18 @@ use Rattle.pb_text.specs.meaning.Classes.{is_blank, is_white}
 use Rattle.pb_text.proofs.lemmas.machine.Residual.{refuses}
 use Rattle.pb_text.proofs.lemmas.text.Booleans.{never}
 use Rattle.pb_proof.specs.engine.Line.Machine.{line_automaton, line_first}
-use Rattle.pb_proof.specs.engine.Machine.Transition.{words_of, behind, meets, spell, step_keyword, enter, pass, between, plan}
-use Rattle.pb_proof.specs.engine.Machine.State.{ProofState, proofs, at, idle, giving, stage_behind, over, step_line, act, asked, asks, is_within, is_done, is_complete, HasGaps, PhaseFits, Holds, IsInOrder}
+use Rattle.pb_proof.specs.engine.Machine.Transition.{words_of, next_action, meets, spell, step_keyword, enter, pass, between, plan}
+use Rattle.pb_proof.specs.engine.Machine.State.{ProofState, proofs, at, idle, giving, next_stage, over, step_line, act, asked, asks, is_within, is_done, is_complete, HasGaps, PhaseFits, Holds, IsInOrder}
 use Rattle.pb_proof.specs.declared.line.LineMachine.{LineMachine}
 use Rattle.pb_proof.specs.declared.machine.phase.Keyword.{Keyword}
 use Rattle.pb_proof.specs.declared.machine.phase.Keyword.TheVariants as keyword
 use Rattle.pb_proof.specs.declared.machine.phase.Stage.{Stage}
-use Rattle.pb_proof.specs.declared.machine.phase.Stage.TheVariants.{Opening, Formula, Steps, Claim, Closing, Complete}
+use Rattle.pb_proof.specs.declared.machine.phase.Stage.TheVariants.{Opening, Formula, Steps, Concluding, Closing, Complete}
 use Rattle.pb_proof.specs.declared.machine.phase.LineKind.{LineKind}
 use Rattle.pb_proof.specs.declared.machine.phase.Phase.{Phase}
 use Rattle.pb_proof.specs.declared.machine.phase.Phase.TheVariants as phase
-use Rattle.pb_proof.specs.declared.machine.phase.Move.{Move}
-use Rattle.pb_proof.specs.declared.machine.phase.Move.TheVariants as move
+use Rattle.pb_proof.specs.declared.machine.phase.Action.{Action}
+use Rattle.pb_proof.specs.declared.machine.phase.Action.TheVariants as action
 use Rattle.pb_proof.specs.declared.statement.Statement.{Statement}
 use Rattle.pb_proof.proofs.lemmas.Line.Laws.{line_begins, line_fresh, line_first_state}
 use Rattle.pb_text.proofs.lemmas.text.Letters.{further}
@@ -41,38 +41,38 @@ pub record GoesOn (p q : Phase) : Type 0 where
   pub plain : IsPlain q
 
 -- What holds of a move from a phase.
-abbrev pub OnMove : Phase → Move → Type 0
-OnMove p (move.To q) = IsPlain p × GoesOn p q
-OnMove p (move.Give r) = p ≡ phase.Inside r
-OnMove p _ = IsPlain p
+abbrev pub OnAction : Phase → Action → Type 0
+OnAction p (action.To q) = IsPlain p × GoesOn p q
+OnAction p (action.Give r) = p ≡ phase.Inside r
+OnAction p _ = IsPlain p
 
-within_on : (p q : Phase) → IsPlain p → is_done q ≡ false → is_within q ≡ true → PhaseFits q → IsPlain q → OnMove p (move.To q)
+within_on : (p q : Phase) → IsPlain p → is_done q ≡ false → is_within q ≡ true → PhaseFits q → IsPlain q → OnAction p (action.To q)
 within_on p q o d w f n = (o, record { owes = d; stays = λ _. w; fits = f; plain = n })
 
-pub on_behind : (p : Phase) → IsPlain p → (f : Keyword) → OnMove p (behind f)
-on_behind p o keyword.Header = within_on p phase.HeaderEnd o refl refl tt tt
-on_behind p o keyword.Formula = o
-on_behind p o keyword.Pol = o
-on_behind p o keyword.Rup = o
-on_behind p o keyword.Solution = within_on p phase.Solution o refl refl tt tt
-on_behind p o keyword.Delete = o
-on_behind p o keyword.Output = within_on p (phase.OutputEnd true) o refl refl tt tt
-on_behind p o keyword.Conclusion = o
-on_behind p o keyword.End = o
+pub on_after : (p : Phase) → IsPlain p → (f : Keyword) → OnAction p (next_action f)
+on_after p o keyword.Header = within_on p phase.HeaderEnd o refl refl tt tt
+on_after p o keyword.Formula = o
+on_after p o keyword.Pol = o
+on_after p o keyword.Rup = o
+on_after p o keyword.Solution = within_on p phase.Solution o refl refl tt tt
+on_after p o keyword.Delete = o
+on_after p o keyword.Output = within_on p (phase.OutputEnd true) o refl refl tt tt
+on_after p o keyword.Conclusion = o
+on_after p o keyword.End = o
 
-on_spell : (p : Phase) → IsPlain p → (f : Keyword) (k b : ℕ) (other : Move) → k < length (words_of f) → OnMove p other → OnMove p (spell f k b other)
-on_spell p o f k b other h i = cond_both (meets (slice_index (words_of f) k) b) _ _ (OnMove p)
-    (λ _. cond_both (nat_eq (k + 1) (length (words_of f))) _ _ (OnMove p)
-    (λ _. on_behind p o f)
+on_spell : (p : Phase) → IsPlain p → (f : Keyword) (k b : ℕ) (other : Action) → k < length (words_of f) → OnAction p other → OnAction p (spell f k b other)
+on_spell p o f k b other h i = cond_both (meets (slice_index (words_of f) k) b) _ _ (OnAction p)
+    (λ _. cond_both (nat_eq (k + 1) (length (words_of f))) _ _ (OnAction p)
+    (λ _. on_after p o f)
     (λ e. within_on p (phase.Spelling f (k + 1)) o refl refl (omega arith, further k (length (words_of f)) h e) tt))
     (λ _. i)
 
-on_enter : (p : Phase) → IsPlain p → (s : Stage) (b : ℕ) → OnMove p (enter s b)
-on_enter p o Opening b = on_spell p o keyword.Header 0 b move.Stop (some_byte keyword.Header) o
-on_enter p o Formula b = on_spell p o keyword.Formula 0 b move.Stop (some_byte keyword.Formula) o
-on_enter p o Steps b = on_spell p o (step_keyword b) 0 b move.Stop (some_byte (step_keyword b)) o
-on_enter p o Claim b = on_spell p o keyword.Conclusion 0 b move.Stop (some_byte keyword.Conclusion) o
-on_enter p o Closing b = on_spell p o keyword.End 0 b move.Stop (some_byte keyword.End) o
+on_enter : (p : Phase) → IsPlain p → (s : Stage) (b : ℕ) → OnAction p (enter s b)
+on_enter p o Opening b = on_spell p o keyword.Header 0 b action.Stop (some_byte keyword.Header) o
+on_enter p o Formula b = on_spell p o keyword.Formula 0 b action.Stop (some_byte keyword.Formula) o
+on_enter p o Steps b = on_spell p o (step_keyword b) 0 b action.Stop (some_byte (step_keyword b)) o
+on_enter p o Concluding b = on_spell p o keyword.Conclusion 0 b action.Stop (some_byte keyword.Conclusion) o
+on_enter p o Closing b = on_spell p o keyword.End 0 b action.Stop (some_byte keyword.End) o
 on_enter p o Complete b = o
 
 gaps_incomplete : (s : Stage) → HasGaps s → is_complete s ≡ false
@@ -80,41 +80,41 @@ gaps_incomplete Opening h = absurd h
 gaps_incomplete Complete h = absurd h
 gaps_incomplete Formula h = refl
 gaps_incomplete Steps h = refl
-gaps_incomplete Claim h = refl
+gaps_incomplete Concluding h = refl
 gaps_incomplete Closing h = refl
 
-on_pass : (s : Stage) (b : ℕ) → HasGaps s → OnMove (phase.Between s) (pass s b)
-on_pass s b h = cond_both (is_white b) _ _ (OnMove (phase.Between s))
+on_pass : (s : Stage) (b : ℕ) → HasGaps s → OnAction (phase.Between s) (pass s b)
+on_pass s b h = cond_both (is_white b) _ _ (OnAction (phase.Between s))
     (λ _. (tt, record { owes = gaps_incomplete s h; stays = λ w. w; fits = tt; plain = tt }))
-    (λ _. cond_both (nat_eq b 42) _ _ (OnMove (phase.Between s))
+    (λ _. cond_both (nat_eq b 42) _ _ (OnAction (phase.Between s))
     (λ _. (tt, record { owes = refl; stays = λ w. w; fits = h; plain = tt }))
     (λ _. on_enter (phase.Between s) tt s b))
 
-on_between : (s : Stage) (b : ℕ) → OnMove (phase.Between s) (between s b)
+on_between : (s : Stage) (b : ℕ) → OnAction (phase.Between s) (between s b)
 on_between Opening b = on_enter (phase.Between Opening) tt Opening b
 on_between Complete b = tt
 on_between Formula b = on_pass Formula b tt
 on_between Steps b = on_pass Steps b tt
-on_between Claim b = on_pass Claim b tt
+on_between Concluding b = on_pass Concluding b tt
 on_between Closing b = on_pass Closing b tt
 
 -- the transitions of each phase
-pub on_plan : (p : Phase) (b : ℕ) → PhaseFits p → OnMove p (plan p b)
+pub on_plan : (p : Phase) (b : ℕ) → PhaseFits p → OnAction p (plan p b)
 on_plan (phase.Between s) b h = on_between s b
-on_plan (phase.Comment s) b h = cond_both (nat_eq b 10) (phase.Between s) (phase.Comment s) (λ q. OnMove (phase.Comment s) (move.To q))
+on_plan (phase.Comment s) b h = cond_both (nat_eq b 10) (phase.Between s) (phase.Comment s) (λ q. OnAction (phase.Comment s) (action.To q))
     (λ _. (tt, record { owes = gaps_incomplete s h; stays = λ w. w; fits = tt; plain = tt }))
     (λ _. (tt, record { owes = refl; stays = λ w. w; fits = h; plain = tt }))
 on_plan (phase.Spelling f k) b h = on_spell (phase.Spelling f k) tt f k b _ h.1
-    (cond_both (is_blank b && nat_eq (slice_index (words_of f) (k - 1)) 32) _ _ (OnMove (phase.Spelling f k))
+    (cond_both (is_blank b && nat_eq (slice_index (words_of f) (k - 1)) 32) _ _ (OnAction (phase.Spelling f k))
     (λ _. within_on (phase.Spelling f k) (phase.Spelling f k) tt refl refl h tt) (λ _. tt))
-on_plan phase.Solution b h = cond_both (nat_eq b 105) _ _ (OnMove phase.Solution) (λ _. tt) (λ _. cond_both (nat_eq b 120) _ _ (OnMove phase.Solution) (λ _. tt) (λ _. tt))
-on_plan phase.HeaderEnd b h = cond_both (is_blank b) _ _ (OnMove phase.HeaderEnd)
+on_plan phase.Solution b h = cond_both (nat_eq b 105) _ _ (OnAction phase.Solution) (λ _. tt) (λ _. cond_both (nat_eq b 120) _ _ (OnAction phase.Solution) (λ _. tt) (λ _. tt))
+on_plan phase.HeaderEnd b h = cond_both (is_blank b) _ _ (OnAction phase.HeaderEnd)
     (λ _. within_on phase.HeaderEnd phase.HeaderEnd tt refl refl tt tt)
-    (λ _. cond_both (nat_eq b 10) _ _ (OnMove phase.HeaderEnd) (λ _. tt) (λ _. tt))
-on_plan (phase.OutputEnd may) b h = cond_both (is_blank b) _ _ (OnMove (phase.OutputEnd may))
+    (λ _. cond_both (nat_eq b 10) _ _ (OnAction phase.HeaderEnd) (λ _. tt) (λ _. tt))
+on_plan (phase.OutputEnd may) b h = cond_both (is_blank b) _ _ (OnAction (phase.OutputEnd may))
     (λ _. within_on (phase.OutputEnd may) (phase.OutputEnd may) tt refl refl tt tt)
-    (λ _. cond_both (nat_eq b 10) _ _ (OnMove (phase.OutputEnd may)) (λ _. tt)
-    (λ _. cond_both (nat_eq b 59 && may) _ _ (OnMove (phase.OutputEnd may))
+    (λ _. cond_both (nat_eq b 10) _ _ (OnAction (phase.OutputEnd may)) (λ _. tt)
+    (λ _. cond_both (nat_eq b 59 && may) _ _ (OnAction (phase.OutputEnd may))
     (λ _. within_on (phase.OutputEnd may) (phase.OutputEnd false) tt refl refl tt tt) (λ _. tt)))
 on_plan (phase.Inside r) b h = refl
 
@@ -169,16 +169,16 @@ on_given s r b i h state Refuse e = tt
 pub inside_of : (s : ProofState) (p : Phase) (r : LineKind) → p ≡ phase.Inside r → Holds s p → (i : LineMachine) × (s.line ≡ Some i) × (line_automaton.done i ≡ false) × IsState line_automaton i
 inside_of s p r e h = subst (Holds s) e h
 
-on_act : (s : ProofState) → IsInOrder s → (b : ℕ) (m : Move) → OnMove s.phase m → On s (act s b m)
-on_act s h b (move.To q) k = record { owes = k.1.owes; stays = k.1.stays; grows = omega arith }
-on_act s h b (move.Begin r) k = record { owes = refl; stays = λ w. refl; grows = omega (arith, first_spent s h r) }
-on_act s h b (move.Give r) k =
+on_act : (s : ProofState) → IsInOrder s → (b : ℕ) (m : Action) → OnAction s.phase m → On s (act s b m)
+on_act s h b (action.To q) k = record { owes = k.1.owes; stays = k.1.stays; grows = omega arith }
+on_act s h b (action.Begin r) k = record { owes = refl; stays = λ w. refl; grows = omega (arith, first_spent s h r) }
+on_act s h b (action.Give r) k =
     let (i, e, d, state) = inside_of s s.phase r k h.holds in
     subst (λ x. On s (over s r (step_line x b))) (sym e) (on_given s r b i e state (line_automaton.step i b) refl)
-on_act s h b move.EndHeader k = refl
-on_act s h b move.EndOutput k = refl
-on_act s h b move.EndProof k = refl
-on_act s h b move.Stop k = tt
+on_act s h b action.EndHeader k = refl
+on_act s h b action.EndOutput k = refl
+on_act s h b action.EndProof k = refl
+on_act s h b action.Stop k = tt
 
 steps : (s : ProofState) → IsInOrder s → (b : ℕ) → On s (proofs.step s b)
 steps s h b = on_act s h b (plan s.phase b) (on_plan s.phase b h.fits)
@@ -210,16 +210,16 @@ is_state s h = record {
 
 -- What holds of the machine after a byte.
 module _ (s : ProofState) (h : IsInOrder s) (b : ℕ) where
-  pub known : (m : Move) → plan s.phase b ≡ m → OnMove s.phase m
-  known m e = subst (OnMove s.phase) e (on_plan s.phase b h.fits)
+  pub known : (m : Action) → plan s.phase b ≡ m → OnAction s.phase m
+  known m e = subst (OnAction s.phase) e (on_plan s.phase b h.fits)
 
   -- without a line machine
   pub at_order : (p : Phase) → IsPlain p → PhaseFits p → (i : Option LineMachine) → i ≡ None → IsInOrder (record { limit = s.limit; top = s.top; phase = p; line = i })
   at_order p o f i e = record { limit = h.limit; top = h.top; some = h.some; fits = f; holds = holds_plain (record { limit = s.limit; top = s.top; phase = p; line = i }) p o e }
 
-  pub to_order : (p : Phase) → plan s.phase b ≡ move.To p → IsInOrder (record s { phase = p })
+  pub to_order : (p : Phase) → plan s.phase b ≡ action.To p → IsInOrder (record s { phase = p })
   to_order p e =
-      let k = known (move.To p) e in
+      let k = known (action.To p) e in
       at_order p k.1.plain k.1.fits s.line (plain_holds s s.phase k.0 h.holds)
 
   pub begin_order : (r : LineKind) → IsInOrder (giving s.limit s.top r (line_first s.limit s.top r))
@@ -231,9 +231,9 @@ module _ (s : ProofState) (h : IsInOrder s) (b : ℕ) where
     holds = (line_first s.limit s.top r, refl, (line_fresh s.limit s.top r).0, line_first_state s.limit s.top h.limit h.top h.some r);
   }
 
-  module _ (r : LineKind) (planned : plan s.phase b ≡ move.Give r) where
+  module _ (r : LineKind) (planned : plan s.phase b ≡ action.Give r) where
     pub given : (i : LineMachine) × (s.line ≡ Some i) × (line_automaton.done i ≡ false) × IsState line_automaton i
-    given = inside_of s s.phase r (known (move.Give r) planned) h.holds
+    given = inside_of s s.phase r (known (action.Give r) planned) h.holds
 
     pub give_order : (i line : LineMachine) → s.line ≡ Some i → line_automaton.step i b ≡ Go line → IsState line_automaton line → IsInOrder (giving s.limit s.top r line)
     give_order i line e g state =
@@ -254,7 +254,7 @@ module _ (s : ProofState) (h : IsInOrder s) (b : ℕ) where
     by_step i e old (Go line) g a =
         admits_before proofs s (giving s.limit s.top r line) b (stepped i e (Go line) g) refl
         (reading_alive s.limit s.top r line (admitted_on line_automaton line_begins i line b g a))
-    by_step i e old (End x last) g a = admits_final proofs s (idle s.limit s.top (stage_behind r)) b x (stepped i e (End x last) g) (example (stage_behind r)) (stage_accepts s.limit s.top (stage_behind r))
+    by_step i e old (End x last) g a = admits_final proofs s (idle s.limit s.top (next_stage r)) b x (stepped i e (End x last) g) (example (next_stage r)) (stage_accepts s.limit s.top (next_stage r))
     by_step i e old Refuse g a = absurd (refuses line_automaton i i b g a.0 a.1 (a.2, a.3))
 
     pub give_admits : (i : LineMachine) → s.line ≡ Some i → IsTrue (line_automaton.asks i b) → Admits line_automaton i b → IsTrue (proofs.asks s b) × Admits proofs s b

@@ -12,7 +12,7 @@ use Rattle.pb_proof.specs.engine.Line.Rup.{RupState, rup_automaton, rup_plan, ru
 use Rattle.pb_proof.specs.engine.Line.Machine.{line_automaton}
 use Rattle.pb_proof.specs.engine.Machine.State.{ProofState, proofs, giving, over, Holds, IsInOrder}
 use Rattle.pb_proof.specs.declared.line.rup.phase.RupPhase.TheVariants.{Gap as GapRup, Inside as InsideRup}
-use Rattle.pb_proof.specs.declared.line.rup.phase.RupMove.TheVariants.{Give}
+use Rattle.pb_proof.specs.declared.line.rup.phase.RupAction.TheVariants.{Give}
 use Rattle.pb_proof.specs.declared.line.LineMachine.{LineMachine}
 use Rattle.pb_proof.specs.declared.machine.phase.LineKind.{LineKind}
 use Rattle.pb_proof.specs.declared.machine.phase.Phase.{Phase}

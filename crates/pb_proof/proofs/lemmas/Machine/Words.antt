@@ -6,25 +6,25 @@ use Rattle.std.specs.Cmp.Lexicographic.{pointwise, bytes_decides}
 use Rattle.pb_text.specs.contract.Automaton.{Go, IsState, Runs}
 use Rattle.pb_text.proofs.lemmas.text.Booleans.{never}
 use Rattle.pb_proof.specs.engine.Line.Machine.{line_first}
-use Rattle.pb_proof.specs.engine.Machine.Transition.{words_of, behind}
+use Rattle.pb_proof.specs.engine.Machine.Transition.{words_of, next_action}
 use Rattle.pb_proof.specs.engine.Machine.State.{ProofState, proofs, at, giving, act, PhaseFits, Holds, IsInOrder}
 use Rattle.pb_proof.specs.engine.Machine.Words.{IsRest, LacksRest}
 use Rattle.pb_proof.specs.declared.machine.phase.Keyword.{Keyword}
 use Rattle.pb_proof.specs.declared.machine.phase.LineKind.{LineKind}
 use Rattle.pb_proof.specs.declared.machine.phase.Phase.{Phase}
 use Rattle.pb_proof.specs.declared.machine.phase.Phase.TheVariants as phase
-use Rattle.pb_proof.specs.declared.machine.phase.Move.TheVariants as move
+use Rattle.pb_proof.specs.declared.machine.phase.Action.TheVariants as action
 use Rattle.pb_proof.specs.declared.line.LineMachine.{LineMachine}
 use Rattle.pb_proof.proofs.lemmas.Machine.Complete.{meets_any, spelt, step_on, step_last}
-use Rattle.pb_proof.proofs.lemmas.Machine.States.{OnMove, on_behind, plain_holds, at_order, begin_order, is_state}
+use Rattle.pb_proof.proofs.lemmas.Machine.States.{OnAction, on_after, plain_holds, at_order, begin_order, is_state}
 
 -- the rest of a slice
 pub rest_is : (f : Keyword) (k : ℕ) (words : List ℕ) → words ≡ words_of f → take (length words - k) (drop k words) ≡ drop k (words_of f)
 rest_is f k words e = ap (λ n. take n (drop k words)) (sym (length-drop k words)) ∙ (take-length (drop k words) ∙ ap (drop k) e)
 
 -- what a comparison found
-abbrev pub LacksFront : List ℕ → List ℕ → Type 0
-LacksFront text rest = pointwise ◌==◌ rest (take (length rest) text) ≡ false
+abbrev pub LacksPrefix : List ℕ → List ℕ → Type 0
+LacksPrefix text rest = pointwise ◌==◌ rest (take (length rest) text) ≡ false
 
 keyword_same : (f g : Keyword) (k n : ℕ) → ◌≡◌ {A = Phase} (phase.Spelling f k) (phase.Spelling g n) → f ≡ g
 keyword_same f g k n e = cc
@@ -32,7 +32,7 @@ keyword_same f g k n e = cc
 read_same : (f g : Keyword) (k n : ℕ) → ◌≡◌ {A = Phase} (phase.Spelling f k) (phase.Spelling g n) → k ≡ n
 read_same f g k n e = cc
 
-pub lacks_rest : (p : Phase) (f : Keyword) (k : ℕ) (text : List ℕ) → p ≡ phase.Spelling f k → LacksFront text (drop k (words_of f)) → LacksRest p text
+pub lacks_rest : (p : Phase) (f : Keyword) (k : ℕ) (text : List ℕ) → p ≡ phase.Spelling f k → LacksPrefix text (drop k (words_of f)) → LacksRest p text
 lacks_rest p f k text is lacks g n at met =
     let same : drop n (words_of g) ≡ drop k (words_of f) =
     rw (keyword_same f g k n (sym is ∙ at), read_same f g k n (sym is ∙ at)) refl in
@@ -47,30 +47,30 @@ module _ (s : ProofState) (h : IsInOrder s) where
   spelling_state f k i j = is_state (spelling f k) (record { limit = h.limit; top = h.top; some = h.some; fits = (i, j); holds = refl })
 
   -- a run over remaining bytes, from the first of them
-  left_run : (f : Keyword) (next : ProofState) → IsState proofs next → ((k b : ℕ) → act (spelling f k) b (behind f) ≡ Go next)
-      → (left front : List ℕ) (c : ℕ) → words_of f ≡ front ++ c ∷ left → Runs proofs (spelling f (length front)) (c ∷ left) next
-  left_run f next state acts [] front c e = (next, step_last s.limit s.top f front c c e (meets_any c) ∙ acts (length front) c, state, refl)
-  left_run f next state acts (d ∷ left) front c e =
-      let more : length (words_of f) ≡ length front + (2 + length left) = ap length e ∙ (length-append front (c ∷ d ∷ left) ∙ omega arith) in
-      let grown : length (front ++ c ∷ []) ≡ length front + 1 = length-append front (c ∷ []) in
-      let rest = left_run f next state acts left (front ++ c ∷ []) d (e ∙ sym (append_assoc front (c ∷ []) (d ∷ left))) in (
-        spelling f (length front + 1),
-        step_on s.limit s.top f front left c d c e (meets_any c),
-        spelling_state f (length front + 1) (omega arith) (omega arith),
+  left_run : (f : Keyword) (next : ProofState) → IsState proofs next → ((k b : ℕ) → act (spelling f k) b (next_action f) ≡ Go next)
+      → (left prefix : List ℕ) (c : ℕ) → words_of f ≡ prefix ++ c ∷ left → Runs proofs (spelling f (length prefix)) (c ∷ left) next
+  left_run f next state acts [] prefix c e = (next, step_last s.limit s.top f prefix c c e (meets_any c) ∙ acts (length prefix) c, state, refl)
+  left_run f next state acts (d ∷ left) prefix c e =
+      let more : length (words_of f) ≡ length prefix + (2 + length left) = ap length e ∙ (length-append prefix (c ∷ d ∷ left) ∙ omega arith) in
+      let grown : length (prefix ++ c ∷ []) ≡ length prefix + 1 = length-append prefix (c ∷ []) in
+      let rest = left_run f next state acts left (prefix ++ c ∷ []) d (e ∙ sym (append_assoc prefix (c ∷ []) (d ∷ left))) in (
+        spelling f (length prefix + 1),
+        step_on s.limit s.top f prefix left c d c e (meets_any c),
+        spelling_state f (length prefix + 1) (omega arith) (omega arith),
         subst (λ (k : ℕ). Runs proofs (spelling f k) (d ∷ left) next) grown rest,
       )
 
   -- a run over the rest of the words
-  words_run : (f : Keyword) (k : ℕ) (next : ProofState) → k < length (words_of f) → IsState proofs next → ((k b : ℕ) → act (spelling f k) b (behind f) ≡ Go next)
+  words_run : (f : Keyword) (k : ℕ) (next : ProofState) → k < length (words_of f) → IsState proofs next → ((k b : ℕ) → act (spelling f k) b (next_action f) ≡ Go next)
       → Runs proofs (spelling f k) (drop k (words_of f)) next
   words_run f k next i state acts =
       let cut : drop k (words_of f) ≡ get_or (words_of f) k 0 ∷ drop (suc k) (words_of f) = drop-cons (words_of f) k 0 i in
       let whole : words_of f ≡ take k (words_of f) ++ get_or (words_of f) k 0 ∷ drop (suc k) (words_of f) =
       sym (take-append-drop k (words_of f)) ∙ ap (λ (x : List ℕ). take k (words_of f) ++ x) cut in
-      let front : length (take k (words_of f)) ≡ k = length-take-le k (words_of f) (omega arith) in
+      let prefix : length (take k (words_of f)) ≡ k = length-take-le k (words_of f) (omega arith) in
       let runs = left_run f next state acts (drop (suc k) (words_of f)) (take k (words_of f)) (get_or (words_of f) k 0) whole in
       subst (λ (x : List ℕ). Runs proofs (spelling f k) x next) (sym cut)
-      (subst (λ (n : ℕ). Runs proofs (spelling f n) (get_or (words_of f) k 0 ∷ drop (suc k) (words_of f)) next) front runs)
+      (subst (λ (n : ℕ). Runs proofs (spelling f n) (get_or (words_of f) k 0 ∷ drop (suc k) (words_of f)) next) prefix runs)
 
   abbrev put : Phase → Option LineMachine → ProofState
   put p i = record { limit = s.limit; top = s.top; phase = p; line = i }
@@ -86,9 +86,9 @@ module _ (s : ProofState) (h : IsInOrder s) where
     same = ap₂ put is none
 
   -- if a phase follows the words
-  pub words_to : (text : List ℕ) (q : Phase) → IsRest s.phase text (move.To q) → Runs proofs s text (record s { phase = q }) × IsInOrder (record s { phase = q })
+  pub words_to : (text : List ℕ) (q : Phase) → IsRest s.phase text (action.To q) → Runs proofs s text (record s { phase = q }) × IsInOrder (record s { phase = q })
   words_to text q (f, k, is, e, g) =
-      let on : OnMove (phase.Spelling f k) (move.To q) = subst (OnMove (phase.Spelling f k)) (sym g) (on_behind (phase.Spelling f k) tt f) in
+      let on : OnAction (phase.Spelling f k) (action.To q) = subst (OnAction (phase.Spelling f k)) (sym g) (on_after (phase.Spelling f k) tt f) in
       let order : IsInOrder (record s { phase = q }) = at_order s h 0 q on.1.plain on.1.fits s.line (none f k is) in
       let there : (let x : ProofState = record s { phase = q } in x) ≡ at s.limit s.top q = ap (put q) (none f k is) in
       let state : IsState proofs (at s.limit s.top q) = is_state (at s.limit s.top q) (subst IsInOrder there order) in
@@ -98,7 +98,7 @@ module _ (s : ProofState) (h : IsInOrder s) where
       )
 
   -- if a line machine begins after the words
-  pub words_begin : (text : List ℕ) (r : LineKind) → IsRest s.phase text (move.Begin r)
+  pub words_begin : (text : List ℕ) (r : LineKind) → IsRest s.phase text (action.Begin r)
       → Runs proofs s text (giving s.limit s.top r (line_first s.limit s.top r)) × IsInOrder (giving s.limit s.top r (line_first s.limit s.top r))
   words_begin text r (f, k, is, e, g) =
       let next : ProofState = giving s.limit s.top r (line_first s.limit s.top r) in

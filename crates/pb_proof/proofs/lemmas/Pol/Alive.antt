@@ -15,9 +15,9 @@ use Rattle.pb_proof.specs.declared.line.pol.phase.Phase.{Phase}
 use Rattle.pb_proof.specs.declared.line.pol.phase.Phase.TheVariants as phase
 use Rattle.pb_proof.specs.declared.line.pol.phase.Change.{Change}
 use Rattle.pb_proof.specs.declared.line.pol.phase.Change.TheVariants as change
-use Rattle.pb_proof.specs.declared.line.pol.phase.Move.TheVariants as move
+use Rattle.pb_proof.specs.declared.line.pol.phase.Action.TheVariants as action
 use Rattle.pb_proof.proofs.lemmas.Pol.Covers.{state, as_gap}
-use Rattle.pb_proof.proofs.lemmas.Pol.Fronts.{NotLarge, bound_of_id}
+use Rattle.pb_proof.proofs.lemmas.Pol.Prefixes.{NotLarge, bound_of_id}
 use Rattle.pb_proof.proofs.lemmas.Pol.Walks.{takes_blanks}
 use Rattle.pb_text.proofs.lemmas.machine.Living.{ReadsOn, reads_before}
 use Rattle.pb_proof.proofs.lemmas.NumberTests.{not_zero}
@@ -50,7 +50,7 @@ module _ (limit top : ℕ) where
       let to : PolState = st (ws ++ word.Add ∷ []) (suc (suc d) - 1) [] phase.After in
       let test : nat_le 2 (suc (suc d)) ≡ true = le-leb 2 (suc (suc d)) (omega arith) in
       let less : suc (suc d) - 1 ≡ suc d = omega arith in
-      reads_before pol_automaton s to 43 (ap (λ x. over s (act s.work 43 (cond x (move.Turn change.Sum phase.After) move.Stop))) test) refl
+      reads_before pol_automaton s to 43 (ap (λ x. over s (act s.work 43 (cond x (action.Turn change.Sum phase.After) action.Stop))) test) refl
       (subst (λ x. Alive (st (ws ++ word.Add ∷ []) x [] phase.After)) (sym less)
       (alive_after (ws ++ word.Add ∷ []) (suc d) (alive_gap (suc d) (ws ++ word.Add ∷ []))))
 
@@ -86,18 +86,18 @@ module _ (limit top : ℕ) where
 
   -- the digit 1
   signed_one : (ws : List PolWord) (d : ℕ) (name : List ℕ) (s : PolState) → 0 < top
-      → pol_automaton.step s 49 ≡ over (st ws d name phase.Minus) (act (st ws d name phase.Minus).work 49 (cond (nat_le (10 * 0 + 1) top) (move.To (phase.Signed (10 * 0 + 1))) move.Stop))
+      → pol_automaton.step s 49 ≡ over (st ws d name phase.Minus) (act (st ws d name phase.Minus).work 49 (cond (nat_le (10 * 0 + 1) top) (action.To (phase.Signed (10 * 0 + 1))) action.Stop))
       → Alive s
   signed_one ws d name s h e =
       reads_before pol_automaton s (st ws d name (phase.Signed (10 * 0 + 1))) 49
-      (e ∙ ap (λ x. over (st ws d name phase.Minus) (act (st ws d name phase.Minus).work 49 (cond x (move.To (phase.Signed (10 * 0 + 1))) move.Stop))) (le-leb (10 * 0 + 1) top (omega arith)))
+      (e ∙ ap (λ x. over (st ws d name phase.Minus) (act (st ws d name phase.Minus).work 49 (cond x (action.To (phase.Signed (10 * 0 + 1))) action.Stop))) (le-leb (10 * 0 + 1) top (omega arith)))
       refl (alive_signed ws d name (10 * 0 + 1) (omega arith))
 
   alive_zero : (ws : List PolWord) (d : ℕ) (name : List ℕ) → 0 < top → Alive (st ws d name (phase.Number 0))
   alive_zero ws d name h =
       let s : PolState = st ws d name (phase.Number 0) in
       reads_before pol_automaton s (st ws d name (phase.Number (10 * 0 + 1))) 49
-      (ap (λ x. over s (act s.work 49 (cond x (move.To (phase.Number (10 * 0 + 1))) move.Stop))) (le-leb (10 * 0 + 1) (bound limit top d) (bound_of_id limit top d (10 * 0 + 1) (omega arith))))
+      (ap (λ x. over s (act s.work 49 (cond x (action.To (phase.Number (10 * 0 + 1))) action.Stop))) (le-leb (10 * 0 + 1) (bound limit top d) (bound_of_id limit top d (10 * 0 + 1) (omega arith))))
       refl (alive_number ws d name (10 * 0 + 1) (omega arith))
 
   -- the letter `a`

@@ -6,10 +6,10 @@ use Rattle.std.specs.Prelude.{IsTrue, nat_eq, nat_le}
 use Rattle.pb_text.specs.meaning.Classes.{is_blank, is_digit, is_letter, is_name_byte}
 use Rattle.pb_text.specs.meaning.Languages.{Language, ◌⋅◌, Blanks1}
 use Rattle.pb_text.specs.meaning.Spelling.{Letter, bytes}
-use Rattle.pb_text.proofs.lemmas.machine.Walking.{Walks, fronts}
+use Rattle.pb_text.proofs.lemmas.machine.Walking.{Walks, prefixes_of}
 use Rattle.pb_sums.specs.meaning.Asking.{EndsIn}
 use Rattle.pb_sums.proofs.lemmas.machine.Asked.{ends_nothing, at_name, name_further, first_further}
-use Rattle.pb_sums.proofs.lemmas.machine.LiteralFronts.{FirstOf, LiteralOf}
+use Rattle.pb_sums.proofs.lemmas.machine.LiteralPrefixes.{FirstOf, LiteralOf}
 use Rattle.pb_proof.specs.meaning.Asking.{AsksWord}
 use Rattle.pb_proof.specs.engine.Line.Pol.{plan, read, next, next_word, next_large, star, late, blank, semicolon, feed, close, number, signed, role_of, bound, kind_of, is_letter_kind, is_name_kind, may_be_name, counted, adds, wants, Closing}
 use Rattle.pb_proof.specs.engine.Line.PolState.{PolState, pol_automaton, pol_first}
@@ -23,10 +23,10 @@ use Rattle.pb_proof.specs.declared.line.pol.phase.Phase.{Phase}
 use Rattle.pb_proof.specs.declared.line.pol.phase.Phase.TheVariants as phase
 use Rattle.pb_proof.specs.declared.line.pol.phase.Change.{Change}
 use Rattle.pb_proof.specs.declared.line.pol.phase.Change.TheVariants as change
-use Rattle.pb_proof.specs.declared.line.pol.phase.Move.{Move}
-use Rattle.pb_proof.specs.declared.line.pol.phase.Move.TheVariants as move
+use Rattle.pb_proof.specs.declared.line.pol.phase.Action.{Action}
+use Rattle.pb_proof.specs.declared.line.pol.phase.Action.TheVariants as action
 use Rattle.pb_proof.proofs.lemmas.Line.Asks.{number_end, literal_end}
-use Rattle.pb_proof.proofs.lemmas.Pol.Fronts.{Settled, Before, front, Front, Whole}
+use Rattle.pb_proof.proofs.lemmas.Pol.Prefixes.{Settled, Before, prefix, Prefix, Whole}
 use Rattle.pb_proof.proofs.lemmas.Pol.Kinds.{Says, kind_says, letter_kind, name_kind}
 use Rattle.pb_proof.proofs.lemmas.Pol.Sound as sound
 
@@ -44,7 +44,7 @@ is_there (Some x) = true
 
 module _ (limit top depth b : ℕ) (t : List Letter) where
   -- what follows if a move may allocate
-  abbrev Then : Move → Type 0
+  abbrev Then : Action → Type 0
   Then m = wants m ≡ true → AsksWord (bytes t) b
 
   letter_begins : IsTrue (is_letter b) → AsksWord (bytes t) b
@@ -57,7 +57,7 @@ module _ (limit top depth b : ℕ) (t : List Letter) where
   number_quiet n d = cond_both (nat_le (10 * n + d) (bound limit top depth)) _ _ Then (λ _ h. absurd (false≢true h)) (λ _ h. absurd (false≢true h))
 
   -- a word that ends here, at a byte that is not part of a word
-  closes : (ws : List PolWord) (name : List ℕ) (ph : Phase) → front limit top ph ws depth name t → is_digit b ≡ false → is_name_byte b ≡ false
+  closes : (ws : List PolWord) (name : List ℕ) (ph : Phase) → prefix limit top ph ws depth name t → is_digit b ≡ false → is_name_byte b ≡ false
       → (c : Change) (h : Held) → close limit top depth ph ≡ Some (c, h) → adds c ≡ true → AsksWord (bytes t) b
   closes ws name phase.Start f dark plain c h e k = absurd (false≢true (ap adds (ap change_of e) ∙ k))
   closes ws name phase.After f dark plain c h e k = absurd (false≢true (ap adds (ap change_of e) ∙ k))
@@ -102,7 +102,7 @@ module _ (limit top depth b : ℕ) (t : List Letter) where
   star_quiet held.Large = λ k. absurd (false≢true k)
   star_quiet held.Name = λ k. absurd (false≢true k)
 
-  letters : (h : Held) (k : Kind) → Says k b → Then (cond (is_letter_kind k) (move.Begin (phase.Lone (role_of depth h k))) move.Stop)
+  letters : (h : Held) (k : Kind) → Says k b → Then (cond (is_letter_kind k) (action.Begin (phase.Lone (role_of depth h k))) action.Stop)
   letters h k e = cond_both (is_letter_kind k) _ _ Then (λ i _. letter_begins (letter_kind k b e i)) (λ _ j. absurd (false≢true j))
 
   words_next : (h : Held) (k : Kind) → Says k b → Then (next_word limit top depth h k)
@@ -128,7 +128,7 @@ module _ (limit top depth b : ℕ) (t : List Letter) where
   more_of : (P : Language) (negated : Bool) (name : List ℕ) → (P ⋅ FirstOf negated name) t → IsTrue (is_name_byte b) → AsksWord (bytes t) b
   more_of P negated name (x, y, z, u, (v, w)) k = inl (inl (name, literal_end P negated name t (x, y, z, u, w), first_further name b v k))
 
-  reads : (ws : List PolWord) (name : List ℕ) (ph : Phase) → front limit top ph ws depth name t → (k : Kind) → Says k b → Then (read limit top depth ph k)
+  reads : (ws : List PolWord) (name : List ℕ) (ph : Phase) → prefix limit top ph ws depth name t → (k : Kind) → Says k b → Then (read limit top depth ph k)
   reads ws name (phase.Gap h) f k e = gap_next h k e
   reads ws name phase.Minus f (kind.Digit d) e = signed_quiet 0 d
   reads ws name (phase.Signed n) f (kind.Digit d) e = signed_quiet n d
@@ -152,7 +152,7 @@ module _ (limit top depth b : ℕ) (t : List Letter) where
   lates kind.Feed = λ h. absurd (false≢true h)
   lates _ = λ h. absurd (false≢true h)
 
-  plans : (ws : List PolWord) (name : List ℕ) (ph : Phase) → front limit top ph ws depth name t → (k : Kind) → Says k b → Then (plan limit top depth ph k)
+  plans : (ws : List PolWord) (name : List ℕ) (ph : Phase) → prefix limit top ph ws depth name t → (k : Kind) → Says k b → Then (plan limit top depth ph k)
   plans ws name phase.Ending f k e = lates k
   plans ws name ph f kind.Blank e = let d = blank_dark b e in blanks (close limit top depth ph) (closes ws name ph f d.0 d.1) (close limit top depth ph) refl
   plans ws name ph f kind.Semicolon e = semicolons (close limit top depth ph) (closes ws name ph f (rw e refl) (rw e refl)) (close limit top depth ph) refl
@@ -161,4 +161,4 @@ module _ (limit top depth b : ℕ) (t : List Letter) where
 
 pub pol_asked : (limit top : ℕ) (t : List Letter) (s : PolState) (b : ℕ) → Walks pol_automaton (pol_first limit top) t s → pol_automaton.asks s b ≡ true → AsksWord (bytes t) b
 pol_asked limit top t s b w h =
-    plans s.limit s.top s.work.depth b t s.work.words s.work.name s.work.phase (fronts pol_automaton Front Whole sound.keeps t (pol_first limit top) [] s w (refl, refl, refl)) (kind_of b) (kind_says b) h
+    plans s.limit s.top s.work.depth b t s.work.words s.work.name s.work.phase (prefixes_of pol_automaton Prefix Whole sound.keeps t (pol_first limit top) [] s w (refl, refl, refl)) (kind_of b) (kind_says b) h

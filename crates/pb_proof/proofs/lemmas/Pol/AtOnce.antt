@@ -11,7 +11,7 @@ use Rattle.pb_text.proofs.lemmas.numbers.DigitValues.{AreDigits, value-grows}
 use Rattle.pb_text.proofs.lemmas.machine.Running.{runs_more}
 use Rattle.pb_proof.specs.engine.Line.IdPrefix.{IsSpacedId}
 use Rattle.pb_proof.specs.engine.Line.Pol.{plan, number, bound, kind_of, changed, counted, held_number}
-use Rattle.pb_proof.specs.engine.Line.PolFront.{held_before, held_operator, operator}
+use Rattle.pb_proof.specs.engine.Line.PolFast.{held_before, held_operator, operator}
 use Rattle.pb_proof.specs.engine.Line.PolState.{PolState, pol_automaton}
 use Rattle.pb_proof.specs.declared.word.PolWord.{PolWord}
 use Rattle.pb_proof.specs.declared.word.PolWord.TheVariants.{Id}
@@ -25,10 +25,10 @@ use Rattle.pb_proof.specs.declared.line.pol.phase.Role.{Role}
 use Rattle.pb_proof.specs.declared.line.pol.phase.Role.TheVariants as role
 use Rattle.pb_proof.specs.declared.line.pol.phase.Change.{Change}
 use Rattle.pb_proof.specs.declared.line.pol.phase.Change.TheVariants as change
-use Rattle.pb_proof.specs.declared.line.pol.phase.Move.TheVariants as move
+use Rattle.pb_proof.specs.declared.line.pol.phase.Action.TheVariants as action
 use Rattle.pb_proof.proofs.lemmas.Pol.Covers.{state}
 use Rattle.pb_proof.proofs.lemmas.Pol.Pushes.{moved, midway_state}
-use Rattle.pb_proof.proofs.lemmas.Pol.Fronts.{bound_of_id}
+use Rattle.pb_proof.proofs.lemmas.Pol.Prefixes.{bound_of_id}
 use Rattle.pb_proof.proofs.lemmas.NumberTests.{not_zero}
 
 -- the outcomes of a test of a byte, alone and with another test
@@ -70,8 +70,8 @@ module _ (limit top d : ℕ) (ws : List PolWord) (name : List ℕ) (some : 0 < t
       → pol_automaton.step (at p) b ≡ Go (at (phase.Number (10 * n + (b - 48))))
   digit_on p n b s e h =
       let k : kind_of b ≡ kind.Digit (b - 48) = rw e refl in
-      let f : number limit top d n (b - 48) ≡ move.To (phase.Number (10 * n + (b - 48))) = rw (le-leb (10 * n + (b - 48)) (bound limit top d) h) refl in
-      moved limit top ws d name p b (kind.Digit (b - 48)) (move.To (phase.Number (10 * n + (b - 48)))) (sym k) (sym (s (b - 48) ∙ f))
+      let f : number limit top d n (b - 48) ≡ action.To (phase.Number (10 * n + (b - 48))) = rw (le-leb (10 * n + (b - 48)) (bound limit top d) h) refl in
+      moved limit top ws d name p b (kind.Digit (b - 48)) (action.To (phase.Number (10 * n + (b - 48)))) (sym k) (sym (s (b - 48) ∙ f))
 
   numbered : (n : ℕ) → IsState pol_automaton (at (phase.Number n))
   numbered n = midway_state limit top ws d name (phase.Number n) some refl
@@ -105,8 +105,8 @@ module _ (limit top d : ℕ) (ws : List PolWord) (name : List ℕ) (some : 0 < t
   space_on : (v : ℕ) → 0 < v → v ≤ top → pol_automaton.step (at (phase.Number v)) 32 ≡ Go (with_id v)
   space_on v h i =
       let fits : nat_le v top ≡ true = le-leb v top i in
-      let planned : move.Turn (change.Id (pos v)) (phase.Gap (held_number limit d v)) ≡ plan limit top d (phase.Number v) kind.Blank = rw (not_zero v h, fits) refl in
-      moved limit top ws d name (phase.Number v) 32 kind.Blank (move.Turn (change.Id (pos v)) (phase.Gap (held_number limit d v))) refl planned
+      let planned : action.Turn (change.Id (pos v)) (phase.Gap (held_number limit d v)) ≡ plan limit top d (phase.Number v) kind.Blank = rw (not_zero v h, fits) refl in
+      moved limit top ws d name (phase.Number v) 32 kind.Blank (action.Turn (change.Id (pos v)) (phase.Gap (held_number limit d v))) refl planned
 
   -- an id and the space after it
   pub id_runs : (p : Phase) (text : List ℕ) (v : ℕ) → is_some (held_before p) ≡ true → IsSpacedId top text v → Runs pol_automaton (at p) text (with_id v)
@@ -129,41 +129,41 @@ module _ (limit top d : ℕ) (ws : List PolWord) (name : List ℕ) (some : 0 < t
   in_gap c = midway_state limit top (changed c ws name) (counted c d) [] (phase.Gap held.Nothing) some refl
 
   -- an operator that takes effect at its own byte
-  turned_first : (p : Phase) (b : ℕ) (k : Kind) (c : Change) → k ≡ kind_of b → move.Turn c phase.After ≡ plan limit top d p k → RunsTo p b c
+  turned_first : (p : Phase) (b : ℕ) (k : Kind) (c : Change) → k ≡ kind_of b → action.Turn c phase.After ≡ plan limit top d p k → RunsTo p b c
   turned_first p b k c e f = (
     state limit top (changed c ws name) (counted c d) [] phase.After,
-    moved limit top ws d name p b k (move.Turn c phase.After) e f,
+    moved limit top ws d name p b k (action.Turn c phase.After) e f,
     midway_state limit top (changed c ws name) (counted c d) [] phase.After some refl,
     (
       changed_by c,
-      moved limit top (changed c ws name) (counted c d) [] phase.After 32 kind.Blank (move.Turn change.Keep (phase.Gap held.Nothing)) refl refl,
+      moved limit top (changed c ws name) (counted c d) [] phase.After 32 kind.Blank (action.Turn change.Keep (phase.Gap held.Nothing)) refl refl,
       in_gap c,
       refl,
     ),
   )
 
   -- and one that is a letter
-  turned_last : (p : Phase) (b : ℕ) (k : Kind) (r : Role) (c : Change) → k ≡ kind_of b → move.Begin (phase.Lone r) ≡ plan limit top d p k
-      → move.Turn c (phase.Gap held.Nothing) ≡ plan limit top d (phase.Lone r) kind.Blank → changed c ws (b ∷ []) ≡ changed c ws name → RunsTo p b c
+  turned_last : (p : Phase) (b : ℕ) (k : Kind) (r : Role) (c : Change) → k ≡ kind_of b → action.Begin (phase.Lone r) ≡ plan limit top d p k
+      → action.Turn c (phase.Gap held.Nothing) ≡ plan limit top d (phase.Lone r) kind.Blank → changed c ws (b ∷ []) ≡ changed c ws name → RunsTo p b c
   turned_last p b k r c e f g h = (
     state limit top ws d (b ∷ []) (phase.Lone r),
-    moved limit top ws d name p b k (move.Begin (phase.Lone r)) e f,
+    moved limit top ws d name p b k (action.Begin (phase.Lone r)) e f,
     midway_state limit top ws d (b ∷ []) (phase.Lone r) some refl,
     (
       changed_by c,
-      moved limit top ws d (b ∷ []) (phase.Lone r) 32 kind.Blank (move.Turn c (phase.Gap held.Nothing)) refl g ∙ ap (λ x. Go (state limit top x (counted c d) [] (phase.Gap held.Nothing))) h,
+      moved limit top ws d (b ∷ []) (phase.Lone r) 32 kind.Blank (action.Turn c (phase.Gap held.Nothing)) refl g ∙ ap (λ x. Go (state limit top x (counted c d) [] (phase.Gap held.Nothing))) h,
       in_gap c,
       refl,
     ),
   )
 
-  plus_planned : (h : Held) → Some h ≡ held_before (phase.Gap h) → nat_le 2 d ≡ true → move.Turn change.Sum phase.After ≡ plan limit top d (phase.Gap h) kind.Plus
+  plus_planned : (h : Held) → Some h ≡ held_before (phase.Gap h) → nat_le 2 d ≡ true → action.Turn change.Sum phase.After ≡ plan limit top d (phase.Gap h) kind.Plus
   plus_planned held.Nothing e t = rw t refl
   plus_planned held.Number e t = rw t refl
   plus_planned held.Name e t = rw t refl
   plus_planned held.Large e t = cc e
 
-  saturate_planned : (h : Held) → Some h ≡ held_before (phase.Gap h) → nat_le 1 d ≡ true → move.Begin (phase.Lone role.Saturate) ≡ plan limit top d (phase.Gap h) kind.S
+  saturate_planned : (h : Held) → Some h ≡ held_before (phase.Gap h) → nat_le 1 d ≡ true → action.Begin (phase.Lone role.Saturate) ≡ plan limit top d (phase.Gap h) kind.S
   saturate_planned held.Nothing e t = rw t refl
   saturate_planned held.Number e t = rw t refl
   saturate_planned held.Name e t = rw t refl
@@ -188,5 +188,5 @@ module _ (limit top d : ℕ) (ws : List PolWord) (name : List ℕ) (some : 0 < t
       → Runs pol_automaton (at p) (take 2 text) (changed_by c)
   operator_runs p h c text i e l f =
       let gap : p ≡ phase.Gap h = gap_of p h i in
-      let front : take 2 text ≡ get_or text 0 0 ∷ 32 ∷ [] = two_bytes text l ∙ ap (λ b. get_or text 0 0 ∷ b ∷ []) f in
-      rw (front, gap) (at_gap h (get_or text 0 0) c (subst (λ q. Some h ≡ held_before q) gap i) e)
+      let prefix : take 2 text ≡ get_or text 0 0 ∷ 32 ∷ [] = two_bytes text l ∙ ap (λ b. get_or text 0 0 ∷ b ∷ []) f in
+      rw (prefix, gap) (at_gap h (get_or text 0 0) c (subst (λ q. Some h ≡ held_before q) gap i) e)

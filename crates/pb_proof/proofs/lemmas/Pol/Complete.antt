@@ -6,7 +6,7 @@ use Rattle.pb_text.specs.contract.Automaton.{Go, Reads}
 use Rattle.pb_text.specs.meaning.Languages.{unmarked, ◌⋅◌, Byte, Bytes, Blanks1}
 use Rattle.pb_text.specs.meaning.Numbers.{Digits}
 use Rattle.pb_text.specs.meaning.Spelling.{Letter, plain}
-use Rattle.pb_text.proofs.lemmas.machine.Walking.{Walks, walks_then, reads_behind, longer}
+use Rattle.pb_text.proofs.lemmas.machine.Walking.{Walks, walks_then, reads_after, longer}
 use Rattle.pb_sums.specs.meaning.Sums.{IsName, SpellsLiteral}
 use Rattle.pb_proof.specs.meaning.Lines.{LineEnd, Listed, Factor, SpellsId, SpellsWord, SpellsWords}
 use Rattle.pb_proof.specs.engine.Line.Pol.{act, close, held_number, held_name, changed, counted, turned, with_last}
@@ -21,10 +21,10 @@ use Rattle.pb_proof.specs.declared.line.pol.phase.Phase.{Phase}
 use Rattle.pb_proof.specs.declared.line.pol.phase.Phase.TheVariants as phase
 use Rattle.pb_proof.specs.declared.line.pol.phase.Change.{Change}
 use Rattle.pb_proof.specs.declared.line.pol.phase.Change.TheVariants as change
-use Rattle.pb_proof.specs.declared.line.pol.phase.Move.TheVariants as move
+use Rattle.pb_proof.specs.declared.line.pol.phase.Action.TheVariants as action
 use Rattle.pb_proof.proofs.lemmas.Line.Ends.{MayEnd, blanks1_lead, line_reads}
 use Rattle.pb_proof.proofs.lemmas.Pol.Covers.{state, as_after}
-use Rattle.pb_proof.proofs.lemmas.Pol.Fronts.{NotLarge, with_last_append, bound_of_id, bound_of_factor}
+use Rattle.pb_proof.proofs.lemmas.Pol.Prefixes.{NotLarge, with_last_append, bound_of_id, bound_of_factor}
 use Rattle.pb_proof.proofs.lemmas.Pol.Trees.{Counts, postfix_counts}
 use Rattle.pb_proof.proofs.lemmas.Pol.Walks.{unsigned_walk, signed_walk, name_walk, negated_walk, takes_blanks, late_blanks}
 use Rattle.pb_proof.proofs.lemmas.NumberTests.{not_zero}
@@ -62,7 +62,7 @@ module _ (limit top : ℕ) (e : List PolWord) (after : PolState) where
   ends : (ws : List PolWord) (d : ℕ) (name : List ℕ) (ph : Phase) (c : Change) (h : Held) (s : PolState) (t u : List Letter) → NotLarge h → close limit top d ph ≡ Some (c, h)
       → Walks pol_automaton s t (state limit top ws d name ph) → R (done (changed c ws name) (counted c d)) u → R s (t ++ u)
   ends ws d name ph c h s t u i q w r =
-      reads_behind pol_automaton t u s (state limit top ws d name ph) after e w (as_after limit top e after ph c h i ws d name u q r)
+      reads_after pol_automaton t u s (state limit top ws d name ph) after e w (as_after limit top e after ph c h i ws d name u q r)
 
   id_run : (ws : List PolWord) (d : ℕ) (id : ℤ) (t u : List Letter) → SpellsId top id t → R (done (ws ++ word.Id id ∷ []) (suc d)) u → R (gap ws d) (t ++ u)
   id_run ws d id t u (false, n, h, l, f, (a, b, g, i, k)) r =
@@ -92,7 +92,7 @@ module _ (limit top : ℕ) (e : List PolWord) (after : PolState) where
       let less : suc (suc d) - 1 ≡ suc d = omega arith in
       let test : nat_le 2 (suc (suc d)) ≡ true = le-leb 2 (suc (suc d)) (omega arith) in
       let to : PolState = done (ws ++ word.Add ∷ []) (suc (suc d) - 1) in
-      let step : pol_automaton.step (gap ws (suc (suc d))) 43 ≡ Go to = ap (λ x. over (gap ws (suc (suc d))) (act (gap ws (suc (suc d))).work 43 (cond x (move.Turn change.Sum phase.After) move.Stop))) test in
+      let step : pol_automaton.step (gap ws (suc (suc d))) 43 ≡ Go to = ap (λ x. over (gap ws (suc (suc d))) (act (gap ws (suc (suc d))).work 43 (cond x (action.Turn change.Sum phase.After) action.Stop))) test in
       subst (λ x. R (gap ws (suc (suc d))) (x ++ u)) (sym f)
       (longer pol_automaton (unmarked 43) u (gap ws (suc (suc d))) to after e step refl refl (subst (λ x. R (done (ws ++ word.Add ∷ []) x) u) (sym less) r))
 
@@ -101,7 +101,7 @@ module _ (limit top : ℕ) (e : List PolWord) (after : PolState) where
       let test : nat_le 1 (suc d) ≡ true = le-leb 1 (suc d) (omega arith) in
       let s : PolState = gap ws (suc d) in
       let lone : PolState = state limit top ws (suc d) (115 ∷ []) (phase.Lone role.Saturate) in
-      let step : pol_automaton.step s 115 ≡ Go lone = ap (λ x. over s (act s.work 115 (move.Begin (phase.Lone (cond x role.Saturate role.Name))))) test in
+      let step : pol_automaton.step s 115 ≡ Go lone = ap (λ x. over s (act s.work 115 (action.Begin (phase.Lone (cond x role.Saturate role.Name))))) test in
       subst (λ x. R s (x ++ u)) (sym f)
       (ends ws (suc d) (115 ∷ []) (phase.Lone role.Saturate) change.Saturate held.Nothing s (unmarked 115 ∷ []) u tt refl (lone, step, refl, refl, refl) r)
 
@@ -169,7 +169,7 @@ module _ (limit top : ℕ) (e : List PolWord) (after : PolState) where
       let rest : R to u = changes (turned change.Multiply) ws w.last (word.Multiply (pos n)) d u w.multiplied (subst (λ z. R (done (ws ++ word.Multiply z ∷ []) (suc d)) u) f r) in
       let same : t ++ u ≡ ab ++ (unmarked 42 ∷ u) = ap (λ y. y ++ u) (g ∙ ap (λ y. ab ++ y) o) ∙ append_assoc ab (unmarked 42 ∷ []) u in
       subst (λ y. R (gap ws (suc d)) y) (sym same)
-      (reads_behind pol_automaton ab (unmarked 42 ∷ u) (gap ws (suc d)) mid after e w.walk
+      (reads_after pol_automaton ab (unmarked 42 ∷ u) (gap ws (suc d)) mid after e w.walk
       (longer pol_automaton (unmarked 42) u mid to after e (star_step w.holds w.operand vs (suc (suc d))) refl refl rest))
 
   abbrev divide_role : Held → Role
@@ -263,7 +263,7 @@ module _ (limit top : ℕ) where
       let wide : PolState = state limit top vs d [] (phase.Gap held.Nothing) in
       let same : t ++ u ≡ a ++ (b ++ (y ++ u)) = ap (λ p. p ++ u) (g ∙ ap (λ p. p ++ y) i) ∙ (append_assoc (a ++ b) y u ∙ append_assoc a b (y ++ u)) in
       subst (λ p. Reads pol_automaton from p (vs ++ w ∷ ws) (pol_last limit top)) (sym same)
-      (reads_behind pol_automaton a (b ++ (y ++ u)) from wide (pol_last limit top) (vs ++ w ∷ ws)
+      (reads_after pol_automaton a (b ++ (y ++ u)) from wide (pol_last limit top) (vs ++ w ∷ ws)
       (blanks1_lead pol_automaton from wide (takes_blanks limit top vs d [] phase.After change.Keep held.Nothing refl) a s)
       (word_run limit top (vs ++ w ∷ ws) (pol_last limit top) vs d w ws b (y ++ u) c x
       (λ n m. subst (λ p. Reads pol_automaton (state limit top (vs ++ w ∷ []) n [] phase.After) (y ++ u) p (pol_last limit top)) (append_assoc vs (w ∷ []) ws)

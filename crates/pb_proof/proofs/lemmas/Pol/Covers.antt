@@ -16,9 +16,9 @@ use Rattle.pb_proof.specs.declared.line.pol.phase.Phase.{Phase}
 use Rattle.pb_proof.specs.declared.line.pol.phase.Phase.TheVariants as phase
 use Rattle.pb_proof.specs.declared.line.pol.phase.Change.{Change}
 use Rattle.pb_proof.specs.declared.line.pol.phase.Change.TheVariants as change
-use Rattle.pb_proof.specs.declared.line.pol.phase.Move.{Move}
-use Rattle.pb_proof.specs.declared.line.pol.phase.Move.TheVariants as move
-use Rattle.pb_proof.proofs.lemmas.Pol.Fronts.{NotLarge}
+use Rattle.pb_proof.specs.declared.line.pol.phase.Action.{Action}
+use Rattle.pb_proof.specs.declared.line.pol.phase.Action.TheVariants as action
+use Rattle.pb_proof.proofs.lemmas.Pol.Prefixes.{NotLarge}
 
 module _ {S E : Type 0} (m : Automaton S E) (t : List Letter) (e : E) (after : S) where
   -- after a byte, the second outcome reads everything that the first one reads
@@ -52,13 +52,13 @@ module _ (limit top : ℕ) (e : List PolWord) (after : PolState) where
   R s t = Reads pol_automaton s t e after
 
   -- what a move leads to
-  abbrev by : PolState → ℕ → Move → Next PolState (List PolWord)
+  abbrev by : PolState → ℕ → Action → Next PolState (List PolWord)
   by s b m = over s (act s.work b m)
 
   abbrev C : List Letter → Next PolState (List PolWord) → Next PolState (List PolWord) → Type 0
   C t = Covers pol_automaton t e after
 
-  same : (t : List Letter) (s : PolState) (b : ℕ) (m : Move) → C t (by s b m) (by s b m)
+  same : (t : List Letter) (s : PolState) (b : ℕ) (m : Action) → C t (by s b m) (by s b m)
   same t s b m = covers_same pol_automaton t e after (by s b m)
 
   at_kind : (s own : PolState) (l : Letter) (t : List Letter)
@@ -72,9 +72,11 @@ module _ (limit top : ℕ) (e : List PolWord) (after : PolState) where
   as_letter r h ws d name [] x = absurd x
   as_letter r h ws d name (l ∷ t) x = at_kind (st ws d name (phase.Lone role.Name)) (st ws d name (phase.Lone r)) l t go x
     where
-      further : (b : Bool) → C t (by (st ws d name (phase.Lone role.Name)) l.byte (cond b (move.Add (phase.Name false)) move.Stop))
-          (by (st ws d name (phase.Lone r)) l.byte (cond (may_be_name r && b) (move.Add (phase.Name false)) move.Stop))
-      further b = rw h (same t (st ws d name (phase.Lone r)) l.byte (cond b (move.Add (phase.Name false)) move.Stop))
+      further : (b : Bool) → C t (by (st ws d name (phase.Lone role.Name)) l.byte (cond b (action.Add (phase.Name false)) action.Stop))
+          (by (st ws d name (phase.Lone r)) l.byte (cond (may_be_name r && b) (action.Add (phase.Name false))
+          action.Stop))
+      further b =
+          rw h (same t (st ws d name (phase.Lone r)) l.byte (cond b (action.Add (phase.Name false)) action.Stop))
 
       go : (k : Kind) → C t (by (st ws d name (phase.Lone role.Name)) l.byte (plan limit top d (phase.Lone role.Name) k))
           (by (st ws d name (phase.Lone r)) l.byte (plan limit top d (phase.Lone r) k))
@@ -101,33 +103,33 @@ module _ (limit top : ℕ) (e : List PolWord) (after : PolState) where
       go h i more k = same t (st ws d [] (phase.Gap h)) l.byte (plan limit top d (phase.Gap h) k)
 
   -- the state after a word that has ended
-  abbrev pub behind : Change → List PolWord → ℕ → List ℕ → PolState
-  behind c ws d name = st (changed c ws name) (counted c d) [] phase.After
+  abbrev pub following : Change → List PolWord → ℕ → List ℕ → PolState
+  following c ws d name = st (changed c ws name) (counted c d) [] phase.After
 
   -- a state in which a word may end reads what may follow the word, unless an operator has to follow
   pub as_after : (ph : Phase) (c : Change) (h : Held) → NotLarge h → (ws : List PolWord) (d : ℕ) (name : List ℕ) (t : List Letter) → close limit top d ph ≡ Some (c, h)
-      → R (behind c ws d name) t → R (st ws d name ph) t
+      → R (following c ws d name) t → R (st ws d name ph) t
   as_after ph c h i ws d name [] q x = absurd x
-  as_after ph c h i ws d name (l ∷ t) q x = at_kind (behind c ws d name) (st ws d name ph) l t (go ph q) x
+  as_after ph c h i ws d name (l ∷ t) q x = at_kind (following c ws d name) (st ws d name ph) l t (go ph q) x
     where
-      ends : (b : Bool) → C t (by (behind c ws d name) l.byte (cond b (move.Turn change.Keep phase.Ending) move.Stop)) (by (st ws d name phase.Start) l.byte (cond b (move.Turn c phase.Ending) move.Stop))
+      ends : (b : Bool) → C t (by (following c ws d name) l.byte (cond b (action.Turn change.Keep phase.Ending) action.Stop)) (by (st ws d name phase.Start) l.byte (cond b (action.Turn c phase.Ending) action.Stop))
       ends true = (st (changed c ws name) (counted c d) [] phase.Ending, refl, (λ b. b), refl, (λ r. r))
       ends false = tt
 
-      feeds : (b : Bool) → C t (by (behind c ws d name) l.byte (cond b (move.End change.Keep) move.Stop)) (by (st ws d name phase.Start) l.byte (cond b (move.End c) move.Stop))
+      feeds : (b : Bool) → C t (by (following c ws d name) l.byte (cond b (action.End change.Keep) action.Stop)) (by (st ws d name phase.Start) l.byte (cond b (action.End c) action.Stop))
       feeds true = refl
       feeds false = tt
 
       go : (ph : Phase) → close limit top d ph ≡ Some (c, h) → (k : Kind)
-          → C t (by (behind c ws d name) l.byte (plan limit top (counted c d) phase.After k)) (by (st ws d name ph) l.byte (plan limit top d ph k))
+          → C t (by (following c ws d name) l.byte (plan limit top (counted c d) phase.After k)) (by (st ws d name ph) l.byte (plan limit top d ph k))
       go phase.Ending q k = absurd (cc)
       go ph q kind.Blank =
-          subst (λ o. C t (by (behind c ws d name) l.byte (blank (Some (change.Keep, held.Nothing)))) (by (st ws d name phase.Start) l.byte (blank o))) (sym q)
+          subst (λ o. C t (by (following c ws d name) l.byte (blank (Some (change.Keep, held.Nothing)))) (by (st ws d name phase.Start) l.byte (blank o))) (sym q)
           (st (changed c ws name) (counted c d) [] (phase.Gap h), refl, (λ b. b), refl, as_gap h i (changed c ws name) (counted c d) t)
       go ph q kind.Semicolon =
-          subst (λ o. C t (by (behind c ws d name) l.byte (semicolon (counted c d) (Some (change.Keep, held.Nothing)))) (by (st ws d name phase.Start) l.byte (semicolon d o))) (sym q)
+          subst (λ o. C t (by (following c ws d name) l.byte (semicolon (counted c d) (Some (change.Keep, held.Nothing)))) (by (st ws d name phase.Start) l.byte (semicolon d o))) (sym q)
           (ends (nat_eq (counted c d) 1))
       go ph q kind.Feed =
-          subst (λ o. C t (by (behind c ws d name) l.byte (feed (counted c d) (Some (change.Keep, held.Nothing)))) (by (st ws d name phase.Start) l.byte (feed d o))) (sym q)
+          subst (λ o. C t (by (following c ws d name) l.byte (feed (counted c d) (Some (change.Keep, held.Nothing)))) (by (st ws d name phase.Start) l.byte (feed d o))) (sym q)
           (feeds (nat_eq (counted c d) 1))
       go ph q k = tt

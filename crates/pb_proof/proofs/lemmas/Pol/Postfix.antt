@@ -1,6 +1,6 @@
 -- Postfix words determine their expression, and leave one. Offered to other crates.
 use Rattle.std.proofs.Common.{◌≡◌, ℕ, zero, suc, List, [], ◌∷◌, ◌++◌, refl, sym, ap, ◌∙◌, subst, arith}
-use Rattle.pb_proof.specs.contract.Leaving.{Leaves, WordsTell, WordsLeaveOne}
+use Rattle.pb_proof.specs.contract.Leaving.{Leaves, WordsReport, WordsLeaveOne}
 use Rattle.pb_proof.specs.meaning.Postfix.{Tree, Constraint, True, Sum, Times, Divided, Saturated, Weakened, words}
 use Rattle.pb_proof.specs.declared.word.PolWord.{PolWord}
 use Rattle.pb_proof.specs.declared.word.PolWord.TheVariants.{Id, Axiom, Add, Multiply, Divide, Saturate, Weaken}
@@ -43,8 +43,8 @@ built_words (Divided a k) ts = built_then (words a) (Divide k ∷ []) ts ∙ ap 
 built_words (Saturated a) ts = built_then (words a) (Saturate ∷ []) ts ∙ ap (built (Saturate ∷ [])) (built_words a ts)
 built_words (Weakened a name) ts = built_then (words a) (Weaken name ∷ []) ts ∙ ap (built (Weaken name ∷ [])) (built_words a ts)
 
-pub words_tell : WordsTell
-words_tell t u e =
+pub words_report : WordsReport
+words_report t u e =
     let same : t ∷ [] ≡ u ∷ [] = sym (built_words t []) ∙ ap (λ (ws : List PolWord). built ws []) e ∙ built_words u [] in
     cc
 

@@ -13,16 +13,16 @@ use Rattle.pb_proof.specs.declared.word.PolWord.{PolWord}
 use Rattle.pb_proof.specs.declared.line.pol.phase.Kind.{Kind}
 use Rattle.pb_proof.specs.declared.line.pol.phase.Phase.{Phase}
 use Rattle.pb_proof.specs.declared.line.pol.phase.Phase.TheVariants as phase
-use Rattle.pb_proof.specs.declared.line.pol.phase.Move.{Move}
-use Rattle.pb_proof.specs.declared.line.pol.phase.Move.TheVariants.{To, Begin, Add, Turn, End as EndLine, Stop}
+use Rattle.pb_proof.specs.declared.line.pol.phase.Action.{Action}
+use Rattle.pb_proof.specs.declared.line.pol.phase.Action.TheVariants.{To, Begin, Add, Turn, End as EndLine, Stop}
 use Rattle.pb_proof.proofs.lemmas.Pol.Covers.{state}
 use Rattle.pb_proof.proofs.lemmas.Pol.Theorems.{pol_admits, pol_is_state}
 
-abbrev pub IsTaken : Move → Type 0
+abbrev pub IsTaken : Action → Type 0
 IsTaken Stop = ⊥
 IsTaken _ = Unit {0}
 
-taken : (s : PolState) (b : ℕ) (m : Move) → IsTaken m → over s (act s.work b m) ≡ Refuse → ⊥
+taken : (s : PolState) (b : ℕ) (m : Action) → IsTaken m → over s (act s.work b m) ≡ Refuse → ⊥
 taken s b (To q) h e = go_or_refuse _ e
 taken s b (Begin q) h e = go_or_refuse _ e
 taken s b (Add q) h e = go_or_refuse _ e
@@ -30,7 +30,7 @@ taken s b (Turn c q) h e = go_or_refuse _ e
 taken s b (EndLine c) h e = end_or_refuse _ _ e
 taken s b Stop h e = h
 
-module _ (limit top : ℕ) (ws : List PolWord) (d : ℕ) (name : List ℕ) (ph : Phase) (b : ℕ) (k : Kind) (m : Move) where
+module _ (limit top : ℕ) (ws : List PolWord) (d : ℕ) (name : List ℕ) (ph : Phase) (b : ℕ) (k : Kind) (m : Action) where
   abbrev at : PolState
   at = state limit top ws d name ph
 

@@ -18,23 +18,23 @@ use Rattle.pb_proof.specs.declared.line.pol.phase.Phase.{Phase}
 use Rattle.pb_proof.specs.declared.line.pol.phase.Phase.TheVariants as phase
 use Rattle.pb_proof.specs.declared.line.pol.phase.Change.{Change}
 use Rattle.pb_proof.specs.declared.line.pol.phase.Change.TheVariants as change
-use Rattle.pb_proof.specs.declared.line.pol.phase.Move.{Move}
-use Rattle.pb_proof.specs.declared.line.pol.phase.Move.TheVariants as move
+use Rattle.pb_proof.specs.declared.line.pol.phase.Action.{Action}
+use Rattle.pb_proof.specs.declared.line.pol.phase.Action.TheVariants as action
 
 -- The text has begun. A literal is being read if a name has begun.
 -- A word that is added was being read, or there was room for it.
-abbrev pub IsSane : Phase → Move → Type 0
-IsSane ph (move.To q) = (is_midway q ≡ true) × (in_hand q ≡ 0)
-IsSane ph (move.Begin q) = (is_midway q ≡ true) × (in_hand q + ready q ≡ 1) × (ready ph ≡ 1)
-IsSane ph (move.Add q) = (is_midway q ≡ true) × (in_hand q + ready q ≡ 1) × (in_hand ph ≡ 1)
-IsSane ph (move.Turn c q) = (is_midway q ≡ true) × (in_hand q ≡ 0) × (adds c ≡ true → in_hand ph + ready ph ≡ 1)
+abbrev pub IsSane : Phase → Action → Type 0
+IsSane ph (action.To q) = (is_midway q ≡ true) × (in_hand q ≡ 0)
+IsSane ph (action.Begin q) = (is_midway q ≡ true) × (in_hand q + ready q ≡ 1) × (ready ph ≡ 1)
+IsSane ph (action.Add q) = (is_midway q ≡ true) × (in_hand q + ready q ≡ 1) × (in_hand ph ≡ 1)
+IsSane ph (action.Turn c q) = (is_midway q ≡ true) × (in_hand q ≡ 0) × (adds c ≡ true → in_hand ph + ready ph ≡ 1)
 IsSane ph _ = Unit {0}
 
 abbrev IsClosing : Phase → pol.Closing → Type 0
 IsClosing ph None = Unit {0}
 IsClosing ph (Some (c, h)) = adds c ≡ true → in_hand ph + ready ph ≡ 1
 
-test : (ph : Phase) (b : Bool) (m : Move) → IsSane ph m → IsSane ph (cond b m move.Stop)
+test : (ph : Phase) (b : Bool) (m : Action) → IsSane ph m → IsSane ph (cond b m action.Stop)
 test ph true m h = h
 test ph false m h = tt
 
@@ -68,22 +68,22 @@ module _ (limit top d : ℕ) where
 
   semicolon-sane : (ph : Phase) (c : pol.Closing) → IsClosing ph c → IsSane ph (semicolon d c)
   semicolon-sane ph None h = tt
-  semicolon-sane ph (Some (c, x)) h = test ph (nat_eq (counted c d) 1) (move.Turn c phase.Ending) (refl, refl, h)
+  semicolon-sane ph (Some (c, x)) h = test ph (nat_eq (counted c d) 1) (action.Turn c phase.Ending) (refl, refl, h)
 
   number-sane : (ph : Phase) (n k : ℕ) → IsSane ph (number limit top d n k)
-  number-sane ph n k = test ph (nat_le (10 * n + k) (bound limit top d)) (move.To (phase.Number (10 * n + k))) (refl, refl)
+  number-sane ph n k = test ph (nat_le (10 * n + k) (bound limit top d)) (action.To (phase.Number (10 * n + k))) (refl, refl)
 
   signed-sane : (ph : Phase) (n k : ℕ) → IsSane ph (signed top n k)
-  signed-sane ph n k = test ph (nat_le (10 * n + k) top) (move.To (phase.Signed (10 * n + k))) (refl, refl)
+  signed-sane ph n k = test ph (nat_le (10 * n + k) top) (action.To (phase.Signed (10 * n + k))) (refl, refl)
 
   next_word-sane : (h : Held) (k : Kind) → IsSane (phase.Gap h) (next_word limit top d h k)
   next_word-sane h (kind.Digit k) = number-sane (phase.Gap h) 0 k
   next_word-sane h kind.Minus = (refl, refl)
   next_word-sane h kind.Tilde = (refl, refl)
-  next_word-sane h kind.Plus = test (phase.Gap h) (nat_le 2 d) (move.Turn change.Sum phase.After) (refl, refl, λ e. refl)
+  next_word-sane h kind.Plus = test (phase.Gap h) (nat_le 2 d) (action.Turn change.Sum phase.After) (refl, refl, λ e. refl)
   next_word-sane held.Number kind.Star = (refl, refl, λ e. absurd (false≢true e))
   next_word-sane h kind.Star = tt
-  next_word-sane h k = test (phase.Gap h) (is_letter_kind k) (move.Begin (phase.Lone (role_of d h k))) (refl, refl, refl)
+  next_word-sane h k = test (phase.Gap h) (is_letter_kind k) (action.Begin (phase.Lone (role_of d h k))) (refl, refl, refl)
 
   next-sane : (h : Held) (k : Kind) → IsSane (phase.Gap h) (next limit top d h k)
   next-sane held.Large kind.Star = (refl, refl, λ e. absurd (false≢true e))
@@ -98,10 +98,10 @@ module _ (limit top d : ℕ) where
   read-sane phase.Minus (kind.Digit k) = signed-sane phase.Minus 0 k
   read-sane (phase.Signed n) (kind.Digit k) = signed-sane (phase.Signed n) n k
   read-sane (phase.Number n) (kind.Digit k) = number-sane (phase.Number n) n k
-  read-sane phase.Tilde k = test phase.Tilde (is_letter_kind k) (move.Begin phase.First) (refl, refl, refl)
-  read-sane phase.First k = test phase.First (is_name_kind k) (move.Add (phase.Name true)) (refl, refl, refl)
-  read-sane (phase.Lone r) k = test (phase.Lone r) (may_be_name r && is_name_kind k) (move.Add (phase.Name false)) (refl, refl, refl)
-  read-sane (phase.Name negated) k = test (phase.Name negated) (is_name_kind k) (move.Add (phase.Name negated)) (refl, refl, refl)
+  read-sane phase.Tilde k = test phase.Tilde (is_letter_kind k) (action.Begin phase.First) (refl, refl, refl)
+  read-sane phase.First k = test phase.First (is_name_kind k) (action.Add (phase.Name true)) (refl, refl, refl)
+  read-sane (phase.Lone r) k = test (phase.Lone r) (may_be_name r && is_name_kind k) (action.Add (phase.Name false)) (refl, refl, refl)
+  read-sane (phase.Name negated) k = test (phase.Name negated) (is_name_kind k) (action.Add (phase.Name negated)) (refl, refl, refl)
   read-sane _ _ = tt
 
   late-sane : (k : Kind) → IsSane phase.Ending (late k)
@@ -110,7 +110,7 @@ module _ (limit top d : ℕ) where
 
   feed-sane : (ph : Phase) (c : pol.Closing) → IsSane ph (feed d c)
   feed-sane ph None = tt
-  feed-sane ph (Some (c, x)) = test ph (nat_eq (counted c d) 1) (move.End c) tt
+  feed-sane ph (Some (c, x)) = test ph (nat_eq (counted c d) 1) (action.End c) tt
 
 pub plan-sane : (limit top d : ℕ) (ph : Phase) (k : Kind) → IsSane ph (plan limit top d ph k)
 plan-sane limit top d phase.Ending k = late-sane limit top d k
@@ -178,32 +178,32 @@ turn_grows c ws name ph q true e f g = let h = added_units c ws name e in let i 
 abbrev pub IsNext : Work → Work → Type 0
 IsNext w v = (is_midway v.phase ≡ true) × (potential v ≤ potential w + 1)
 
-pub goes : (w v : Work) (b : ℕ) (m : Move) → IsSane w.phase m → act w b m ≡ Go v → IsNext w v
-goes w v b (move.To q) h e =
+pub goes : (w v : Work) (b : ℕ) (m : Action) → IsSane w.phase m → act w b m ≡ Go v → IsNext w v
+goes w v b (action.To q) h e =
     subst (IsNext w) (one_state (work w.words w.depth w.name q) v e)
     (h.0, (let i = ready_once q in let j = h.1 in omega (arith, i, j)))
-goes w v b (move.Begin q) h e =
+goes w v b (action.Begin q) h e =
     subst (IsNext w) (one_state (work w.words w.depth (b ∷ []) q) v e)
     (h.0, (let i = h.1 in let j = h.2 in omega (arith, i, j)))
-goes w v b (move.Add q) h e =
+goes w v b (action.Add q) h e =
     subst (IsNext w) (one_state (work w.words w.depth (w.name ++ b ∷ []) q) v e)
     (h.0, (let i = h.1 in let j = h.2 in omega (arith, i, j, length-append w.name (b ∷ []))))
-goes w v b (move.Turn c q) h e =
+goes w v b (action.Turn c q) h e =
     subst (IsNext w) (one_state (work (changed c w.words w.name) (counted c w.depth) [] q) v e)
     (h.0, turn_grows c w.words w.name w.phase q (adds c) refl h.1 h.2)
-goes w v b (move.End c) h e = end_or_go (changed c w.words w.name) finished v e
-goes w v b move.Stop h e = refuse_or_go v e
+goes w v b (action.End c) h e = end_or_go (changed c w.words w.name) finished v e
+goes w v b action.Stop h e = refuse_or_go v e
 
-pub ends : (w v : Work) (b : ℕ) (m : Move) (e : List PolWord) → act w b m ≡ End e v → v ≡ finished
-ends w v b (move.End c) e h = sym (one_end (changed c w.words w.name) e finished v h).1
-ends w v b (move.To q) e h = go_or_end (work w.words w.depth w.name q) e v h
-ends w v b (move.Begin q) e h = go_or_end (work w.words w.depth (b ∷ []) q) e v h
-ends w v b (move.Add q) e h = go_or_end (work w.words w.depth (w.name ++ b ∷ []) q) e v h
-ends w v b (move.Turn c q) e h = go_or_end (work (changed c w.words w.name) (counted c w.depth) [] q) e v h
-ends w v b move.Stop e h = refuse_or_end e v h
+pub ends : (w v : Work) (b : ℕ) (m : Action) (e : List PolWord) → act w b m ≡ End e v → v ≡ finished
+ends w v b (action.End c) e h = sym (one_end (changed c w.words w.name) e finished v h).1
+ends w v b (action.To q) e h = go_or_end (work w.words w.depth w.name q) e v h
+ends w v b (action.Begin q) e h = go_or_end (work w.words w.depth (b ∷ []) q) e v h
+ends w v b (action.Add q) e h = go_or_end (work w.words w.depth (w.name ++ b ∷ []) q) e v h
+ends w v b (action.Turn c q) e h = go_or_end (work (changed c w.words w.name) (counted c w.depth) [] q) e v h
+ends w v b action.Stop e h = refuse_or_end e v h
 
 -- after the end of the line no byte is taken
-pub stops : (limit top d : ℕ) (ph : Phase) (k : Kind) → is_done ph ≡ true → plan limit top d ph k ≡ move.Stop
+pub stops : (limit top d : ℕ) (ph : Phase) (k : Kind) → is_done ph ≡ true → plan limit top d ph k ≡ action.Stop
 stops limit top d phase.Done kind.Blank h = refl
 stops limit top d phase.Done kind.Semicolon h = refl
 stops limit top d phase.Done kind.Feed h = refl

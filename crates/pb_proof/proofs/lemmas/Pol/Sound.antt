@@ -10,9 +10,9 @@ use Rattle.pb_text.specs.meaning.Numbers.{Digits}
 use Rattle.pb_text.specs.meaning.Spelling.{Letter, plain}
 use Rattle.pb_text.proofs.lemmas.text.Languages.{grown, next as next_part, regroup, regroup3, inside}
 use Rattle.pb_text.proofs.lemmas.numbers.Numbers.{digits-grown, digits-one}
-use Rattle.pb_text.proofs.lemmas.machine.Walking.{On, Keeps, told}
+use Rattle.pb_text.proofs.lemmas.machine.Walking.{On, Keeps, reported}
 use Rattle.pb_text.proofs.lemmas.text.Letters.{as_unmarked, as_digit}
-use Rattle.pb_sums.proofs.lemmas.machine.LiteralFronts.{FirstOf, LiteralOf}
+use Rattle.pb_sums.proofs.lemmas.machine.LiteralPrefixes.{FirstOf, LiteralOf}
 use Rattle.pb_proof.specs.meaning.Lines.{LineEnd, SpellsWord, SpellsWords}
 use Rattle.pb_proof.specs.engine.Line.Pol.{work, act, plan, read, next, next_word, next_large, star, late, blank, semicolon, feed, close, close_number, held_number, close_lone, held_name, number, signed, role_of, bound, kind_of, is_letter_kind, is_name_kind, may_be_name, changed, counted, turned, with_last}
 use Rattle.pb_proof.specs.engine.Line.Pol as pol
@@ -28,12 +28,12 @@ use Rattle.pb_proof.specs.declared.line.pol.phase.Role.TheVariants as role
 use Rattle.pb_proof.specs.declared.line.pol.phase.Phase.{Phase}
 use Rattle.pb_proof.specs.declared.line.pol.phase.Phase.TheVariants as phase
 use Rattle.pb_proof.specs.declared.line.pol.phase.Change.TheVariants as change
-use Rattle.pb_proof.specs.declared.line.pol.phase.Move.{Move}
-use Rattle.pb_proof.specs.declared.line.pol.phase.Move.TheVariants as move
-use Rattle.pb_proof.proofs.lemmas.Line.Ends.{semicolon_behind_blanks, blank_closing, line_behind_blanks, line_closing, gapped, first_blank, further_blank, gapped_some}
+use Rattle.pb_proof.specs.declared.line.pol.phase.Action.{Action}
+use Rattle.pb_proof.specs.declared.line.pol.phase.Action.TheVariants as action
+use Rattle.pb_proof.proofs.lemmas.Line.Ends.{semicolon_after_blanks, blank_closing, line_after_blanks, line_closing, gapped, first_blank, further_blank, gapped_some}
 use Rattle.pb_proof.proofs.lemmas.Pol.Kinds.{Says, kind_says, letter_kind, name_kind}
 use Rattle.pb_proof.proofs.lemmas.Pol.Trees.{Counts, counts_postfix}
-use Rattle.pb_proof.proofs.lemmas.Pol.Fronts.{Words, Settled, settle, Holds, NotLarge, released, whole, takes_number, with_last_append, lead, at, Named, IsRole, Before, front, Front, Whole}
+use Rattle.pb_proof.proofs.lemmas.Pol.Prefixes.{Words, Settled, settle, Holds, NotLarge, released, whole, takes_number, with_last_append, lead, at, Named, IsRole, Before, prefix, Prefix, Whole}
 use Rattle.pb_proof.proofs.lemmas.Literals.Names.{first_grown, more_grown}
 use Rattle.pb_proof.proofs.lemmas.NumberTests.{positive}
 
@@ -58,7 +58,7 @@ saturate_counts (suc d) rest h c = c
 
 module _ (limit top : ℕ) (ws : List PolWord) (d : ℕ) (name : List ℕ) where
   abbrev before : Phase → Language
-  before p = front limit top p ws d name
+  before p = prefix limit top p ws d name
 
   abbrev Has : List PolWord → ℕ → Language
   Has = Settled limit top
@@ -171,70 +171,71 @@ module _ (limit top : ℕ) (ws : List PolWord) (d : ℕ) (name : List ℕ) where
 -- What one byte adds.
 module _ (limit top : ℕ) (ws : List PolWord) (d : ℕ) (name : List ℕ) (l : Letter) (p : List Letter) where
   abbrev Was : Phase → Language
-  Was ph = front limit top ph ws d name
+  Was ph = prefix limit top ph ws d name
 
   abbrev After : Next PolState (List PolWord) → Type 0
-  After n = On pol_automaton Front Whole n l (p ++ l ∷ [])
+  After n = On pol_automaton Prefix Whole n l (p ++ l ∷ [])
 
-  abbrev OnMove : Move → Type 0
-  OnMove m = After (over (pol_first limit top) (act (work ws d name phase.Start) l.byte m))
+  abbrev OnAction : Action → Type 0
+  OnAction m = After (over (pol_first limit top) (act (work ws d name phase.Start) l.byte m))
 
-  test : (b : Bool) (m : Move) → (b ≡ true → OnMove m) → OnMove (cond b m move.Stop)
+  test : (b : Bool) (m : Action) → (b ≡ true → OnAction m) → OnAction (cond b m action.Stop)
   test true m h = h refl
   test false m h = tt
 
   -- digits
-  number_one : (k : ℕ) → l.byte ≡ 48 + k → k < 10 → (Settled limit top ws d ⋅ Blanks1) p → OnMove (number limit top d 0 k)
-  number_one k e h t = test (nat_le (10 * 0 + k) (bound limit top d)) (move.To (phase.Number (10 * 0 + k))) (λ i g f. (
-    leb-true (10 * 0 + k) (bound limit top d) i,
-    next_part (Settled limit top ws d ⋅ Blanks1) (Digits (10 * 0 + k)) p l t (digits-one k l (as_digit l k e f) h),
-  ))
+  number_one : (k : ℕ) → l.byte ≡ 48 + k → k < 10 → (Settled limit top ws d ⋅ Blanks1) p → OnAction (number limit top d 0 k)
+  number_one k e h t =
+      test (nat_le (10 * 0 + k) (bound limit top d)) (action.To (phase.Number (10 * 0 + k))) (λ i g f. (
+        leb-true (10 * 0 + k) (bound limit top d) i,
+        next_part (Settled limit top ws d ⋅ Blanks1) (Digits (10 * 0 + k)) p l t (digits-one k l (as_digit l k e f) h),
+      ))
 
-  number_more : (n k : ℕ) → l.byte ≡ 48 + k → k < 10 → (Settled limit top ws d ⋅ Blanks1 ⋅ Digits n) p → OnMove (number limit top d n k)
-  number_more n k e h t = test (nat_le (10 * n + k) (bound limit top d)) (move.To (phase.Number (10 * n + k))) (λ i g f. (
+  number_more : (n k : ℕ) → l.byte ≡ 48 + k → k < 10 → (Settled limit top ws d ⋅ Blanks1 ⋅ Digits n) p → OnAction (number limit top d n k)
+  number_more n k e h t = test (nat_le (10 * n + k) (bound limit top d)) (action.To (phase.Number (10 * n + k))) (λ i g f. (
     leb-true (10 * n + k) (bound limit top d) i,
     grown (Settled limit top ws d ⋅ Blanks1) (Digits n) (Digits (10 * n + k)) p l (digits-grown n k l (as_digit l k e f) h) t,
   ))
 
-  signed_one : (k : ℕ) → l.byte ≡ 48 + k → k < 10 → (Settled limit top ws d ⋅ Blanks1 ⋅ Byte 45) p → OnMove (signed top 0 k)
-  signed_one k e h t = test (nat_le (10 * 0 + k) top) (move.To (phase.Signed (10 * 0 + k))) (λ i g f. (
+  signed_one : (k : ℕ) → l.byte ≡ 48 + k → k < 10 → (Settled limit top ws d ⋅ Blanks1 ⋅ Byte 45) p → OnAction (signed top 0 k)
+  signed_one k e h t = test (nat_le (10 * 0 + k) top) (action.To (phase.Signed (10 * 0 + k))) (λ i g f. (
     leb-true (10 * 0 + k) top i,
     next_part (Settled limit top ws d ⋅ Blanks1 ⋅ Byte 45) (Digits (10 * 0 + k)) p l t (digits-one k l (as_digit l k e f) h),
   ))
 
-  signed_more : (n k : ℕ) → l.byte ≡ 48 + k → k < 10 → (Settled limit top ws d ⋅ Blanks1 ⋅ Byte 45 ⋅ Digits n) p → OnMove (signed top n k)
-  signed_more n k e h t = test (nat_le (10 * n + k) top) (move.To (phase.Signed (10 * n + k))) (λ i g f. (
+  signed_more : (n k : ℕ) → l.byte ≡ 48 + k → k < 10 → (Settled limit top ws d ⋅ Blanks1 ⋅ Byte 45 ⋅ Digits n) p → OnAction (signed top n k)
+  signed_more n k e h t = test (nat_le (10 * n + k) top) (action.To (phase.Signed (10 * n + k))) (λ i g f. (
     leb-true (10 * n + k) top i,
     grown (Settled limit top ws d ⋅ Blanks1 ⋅ Byte 45) (Digits n) (Digits (10 * n + k)) p l (digits-grown n k l (as_digit l k e f) h) t,
   ))
 
   -- delimiters
-  blanks : (c : pol.Closing) → IsTrue (is_blank l.byte) → Closed limit top ws d name c p → OnMove (blank c)
+  blanks : (c : pol.Closing) → IsTrue (is_blank l.byte) → Closed limit top ws d name c p → OnAction (blank c)
   blanks None e k = tt
   blanks (Some (c, h)) e k = λ g f. grown (Holds limit top h (changed c ws name) (counted c d)) Blanks0 Blanks1 p l (blanks_more l e f) k
 
   settled : (h : Held) (vs : List PolWord) (e : ℕ) → e ≡ 1 → (Holds limit top h vs e ⋅ Blanks0) p → (Settled limit top vs e ⋅ Blanks0) p
   settled h vs e f k = inside (Holds limit top h vs e) (Settled limit top vs e) Blanks0 p (λ q. whole limit top h vs e q f) k
 
-  semicolons : (c : pol.Closing) → l.byte ≡ 59 → Closed limit top ws d name c p → OnMove (semicolon d c)
+  semicolons : (c : pol.Closing) → l.byte ≡ 59 → Closed limit top ws d name c p → OnAction (semicolon d c)
   semicolons None e k = tt
-  semicolons (Some (c, h)) e k = test (nat_eq (counted c d) 1) (move.Turn c phase.Ending) (λ i g f.
+  semicolons (Some (c, h)) e k = test (nat_eq (counted c d) 1) (action.Turn c phase.Ending) (λ i g f.
       let j : counted c d ≡ 1 = eqb-true (counted c d) 1 i in
-      (j, semicolon_behind_blanks (Settled limit top (changed c ws name) (counted c d)) l p e f (settled h (changed c ws name) (counted c d) j k)))
+      (j, semicolon_after_blanks (Settled limit top (changed c ws name) (counted c d)) l p e f (settled h (changed c ws name) (counted c d) j k)))
 
   line : (vs : List PolWord) (e : ℕ) → e ≡ 1 → (Settled limit top vs e ⋅ LineEnd) (p ++ l ∷ []) → SpellsWords limit top vs (p ++ l ∷ [])
   line vs e f (a, b, g, (m, o), k) =
       let c : Counts 0 (vs ++ []) = m [] f in
       (counts_postfix vs (rw append-nil at c), (a, b, g, o, k))
 
-  feeds : (c : pol.Closing) → l.byte ≡ 10 → Closed limit top ws d name c p → OnMove (feed d c)
+  feeds : (c : pol.Closing) → l.byte ≡ 10 → Closed limit top ws d name c p → OnAction (feed d c)
   feeds None e k = tt
-  feeds (Some (c, h)) e k = test (nat_eq (counted c d) 1) (move.End c) (λ i f.
+  feeds (Some (c, h)) e k = test (nat_eq (counted c d) 1) (action.End c) (λ i f.
       let j : counted c d ≡ 1 = eqb-true (counted c d) 1 i in
       line (changed c ws name) (counted c d) j
-      (line_behind_blanks (Settled limit top (changed c ws name) (counted c d)) l p e f (settled h (changed c ws name) (counted c d) j k)))
+      (line_after_blanks (Settled limit top (changed c ws name) (counted c d)) l p e f (settled h (changed c ws name) (counted c d) j k)))
 
-  lates : (k : Kind) → Says k l.byte → Was phase.Ending p → OnMove (late k)
+  lates : (k : Kind) → Says k l.byte → Was phase.Ending p → OnAction (late k)
   lates kind.Blank e (i, t) = λ g f. (i, blank_closing (Settled limit top ws d) l p e f t)
   lates kind.Feed e (i, t) = λ f. line ws d i (line_closing (Settled limit top ws d) l p e f t)
   lates _ e h = tt
@@ -243,8 +244,8 @@ module _ (limit top : ℕ) (ws : List PolWord) (d : ℕ) (name : List ℕ) (l : 
   first_of : (k : Kind) → Says k l.byte → is_letter_kind k ≡ true → l.numeral ≡ false → FirstOf false (l.byte ∷ []) (l ∷ [])
   first_of k e i f = (letter_kind k l.byte e i, one l l.byte refl f)
 
-  tildes : (k : Kind) → Says k l.byte → Was phase.Tilde p → OnMove (cond (is_letter_kind k) (move.Begin phase.First) move.Stop)
-  tildes k e t = test (is_letter_kind k) (move.Begin phase.First) (λ i g f.
+  tildes : (k : Kind) → Says k l.byte → Was phase.Tilde p → OnAction (cond (is_letter_kind k) (action.Begin phase.First) action.Stop)
+  tildes k e t = test (is_letter_kind k) (action.Begin phase.First) (λ i g f.
       grown (Settled limit top ws d ⋅ Blanks1) (Byte 126) (FirstOf true (l.byte ∷ [])) p l
       (λ q r. (letter_kind k l.byte e i, ap (λ x. x ++ l ∷ []) r ∙ ap (λ y. unmarked 126 ∷ y ∷ []) (as_unmarked l l.byte f refl))) t)
 
@@ -253,8 +254,8 @@ module _ (limit top : ℕ) (ws : List PolWord) (d : ℕ) (name : List ℕ) (l : 
   seconds P negated i f t =
       first_grown P negated name l.byte l p (as_unmarked l l.byte f refl) i t
 
-  names : (negated : Bool) (k : Kind) → Says k l.byte → Was (phase.Name negated) p → OnMove (cond (is_name_kind k) (move.Add (phase.Name negated)) move.Stop)
-  names negated k e t = test (is_name_kind k) (move.Add (phase.Name negated)) (λ i g f.
+  names : (negated : Bool) (k : Kind) → Says k l.byte → Was (phase.Name negated) p → OnAction (cond (is_name_kind k) (action.Add (phase.Name negated)) action.Stop)
+  names negated k e t = test (is_name_kind k) (action.Add (phase.Name negated)) (λ i g f.
       more_grown (Settled limit top ws d ⋅ Blanks1) negated name l.byte l p (as_unmarked l l.byte f refl) (name_kind k l.byte e i) t)
 
   as_before : (r : Role) → may_be_name r ≡ true → (q : List Letter) → Before limit top r ws d q → Settled limit top ws d q
@@ -264,8 +265,8 @@ module _ (limit top : ℕ) (ws : List PolWord) (d : ℕ) (name : List ℕ) (l : 
   as_before role.DivideLarge e q h = absurd (false≢true e)
   as_before role.Weaken e q h = released limit top held.Name ws d q tt h
 
-  lones : (r : Role) (k : Kind) → Says k l.byte → Was (phase.Lone r) p → OnMove (cond (may_be_name r && is_name_kind k) (move.Add (phase.Name false)) move.Stop)
-  lones r k e (j, t) = test (may_be_name r && is_name_kind k) (move.Add (phase.Name false)) (λ i g f.
+  lones : (r : Role) (k : Kind) → Says k l.byte → Was (phase.Lone r) p → OnAction (cond (may_be_name r && is_name_kind k) (action.Add (phase.Name false)) action.Stop)
+  lones r k e (j, t) = test (may_be_name r && is_name_kind k) (action.Add (phase.Name false)) (λ i g f.
       let (m, n) = and_parts (may_be_name r) (is_name_kind k) i in
       seconds (Settled limit top ws d ⋅ Blanks1) false (name_kind k l.byte e n) f
       (inside (Before limit top r ws d ⋅ Blanks1) (Settled limit top ws d ⋅ Blanks1) (FirstOf false name) p
@@ -275,7 +276,7 @@ module _ (limit top : ℕ) (ws : List PolWord) (d : ℕ) (name : List ℕ) (l : 
   multiplies : (n : ℕ) (q : List Letter) → 0 < n → n ≤ limit → (Digits n ⋅ Blanks1 ⋅ Byte 42) q → SpellsWord limit top (word.Multiply (pos n)) q
   multiplies n q i j (a, b, g, (u, v, k, o, r), m) = (a, b, g, (u, v, k, (n, i, j, refl, o), r), m)
 
-  nexts_large : (k : Kind) → Says k l.byte → (Holds limit top held.Large ws d ⋅ Blanks1) p → OnMove (next_large k)
+  nexts_large : (k : Kind) → Says k l.byte → (Holds limit top held.Large ws d ⋅ Blanks1) p → OnAction (next_large k)
   nexts_large kind.Star e t = λ g f.
       takes_number limit top (λ n. word.Multiply (pos n)) (λ n. word.Multiply (pos n)) (λ n. Unit {0}) (turned change.Multiply) 42 (λ n. refl)
       multiplies (λ n e rest r. r) ws d (p ++ l ∷ []) (next_part (Holds limit top held.Large ws d ⋅ Blanks1) (Byte 42) p l t (one l 42 e f))
@@ -283,7 +284,7 @@ module _ (limit top : ℕ) (ws : List PolWord) (d : ℕ) (name : List ℕ) (l : 
       (ap (λ x. x ∷ []) e, next_part (Holds limit top held.Large ws d ⋅ Blanks1) (FirstOf false (l.byte ∷ [])) p l t (first_of kind.D e refl f))
   nexts_large _ e t = tt
 
-  stars : (h : Held) → l.byte ≡ 42 → (Holds limit top h ws d ⋅ Blanks1) p → OnMove (star h)
+  stars : (h : Held) → l.byte ≡ 42 → (Holds limit top h ws d ⋅ Blanks1) p → OnAction (star h)
   stars held.Number e t = λ g f.
       takes_number limit top (λ n. word.Id (pos n)) (λ n. word.Multiply (pos n)) (λ n. n ≤ top) (turned change.Multiply) 42 (λ n. refl)
       multiplies (λ n e rest r. r) ws d (p ++ l ∷ []) (next_part (Holds limit top held.Number ws d ⋅ Blanks1) (Byte 42) p l t (one l 42 e f))
@@ -304,49 +305,49 @@ module _ (limit top : ℕ) (ws : List PolWord) (d : ℕ) (name : List ℕ) (l : 
   roles h i k e t = (tt, freed h i t)
 
   letters : (h : Held) → NotLarge h → (k : Kind) → Says k l.byte → (Holds limit top h ws d ⋅ Blanks1) p
-      → OnMove (cond (is_letter_kind k) (move.Begin (phase.Lone (role_of d h k))) move.Stop)
-  letters h i k e t = test (is_letter_kind k) (move.Begin (phase.Lone (role_of d h k))) (λ j g f.
+      → OnAction (cond (is_letter_kind k) (action.Begin (phase.Lone (role_of d h k))) action.Stop)
+  letters h i k e t = test (is_letter_kind k) (action.Begin (phase.Lone (role_of d h k))) (λ j g f.
       let (r, u) = roles h i k e t in
       (r, next_part (Before limit top (role_of d h k) ws d ⋅ Blanks1) (FirstOf false (l.byte ∷ [])) p l u (first_of k e j f)))
 
-  nexts_word : (h : Held) → NotLarge h → (k : Kind) → Says k l.byte → (Holds limit top h ws d ⋅ Blanks1) p → OnMove (next_word limit top d h k)
+  nexts_word : (h : Held) → NotLarge h → (k : Kind) → Says k l.byte → (Holds limit top h ws d ⋅ Blanks1) p → OnAction (next_word limit top d h k)
   nexts_word h i (kind.Digit k) e t = number_one k e.0 e.1 (freed h i t)
   nexts_word h i kind.Minus e t = λ g f. next_part (Settled limit top ws d ⋅ Blanks1) (Byte 45) p l (freed h i t) (one l 45 e f)
   nexts_word h i kind.Tilde e t = λ g f. next_part (Settled limit top ws d ⋅ Blanks1) (Byte 126) p l (freed h i t) (one l 126 e f)
-  nexts_word h i kind.Plus e t = test (nat_le 2 d) (move.Turn change.Sum phase.After) (λ j g f.
+  nexts_word h i kind.Plus e t = test (nat_le 2 d) (action.Turn change.Sum phase.After) (λ j g f.
       settle limit top ws d (d - 1) word.Add (p ++ l ∷ []) (λ rest r. sum_counts d rest (leb-true 2 d j) r)
       (next_part (Settled limit top ws d ⋅ Blanks1) (Byte 43) p l (freed h i t) (one l 43 e f)))
   nexts_word h i kind.Star e t = stars h e t
   nexts_word h i k e t = letters h i k e t
 
-  nexts : (h : Held) (k : Kind) → Says k l.byte → (Holds limit top h ws d ⋅ Blanks1) p → OnMove (next limit top d h k)
+  nexts : (h : Held) (k : Kind) → Says k l.byte → (Holds limit top h ws d ⋅ Blanks1) p → OnAction (next limit top d h k)
   nexts held.Large k e t = nexts_large k e t
   nexts held.Nothing k e t = nexts_word held.Nothing tt k e t
   nexts held.Number k e t = nexts_word held.Number tt k e t
   nexts held.Name k e t = nexts_word held.Name tt k e t
 
-  reads : (ph : Phase) (k : Kind) → Says k l.byte → Was ph p → OnMove (read limit top d ph k)
+  reads : (ph : Phase) (k : Kind) → Says k l.byte → Was ph p → OnAction (read limit top d ph k)
   reads (phase.Gap h) k e t = nexts h k e t
   reads phase.Minus (kind.Digit k) e t = signed_one k e.0 e.1 t
   reads (phase.Signed n) (kind.Digit k) e t = signed_more n k e.0 e.1 t.1
   reads (phase.Number n) (kind.Digit k) e t = number_more n k e.0 e.1 t.1
   reads phase.Tilde k e t = tildes k e t
-  reads phase.First k e t = test (is_name_kind k) (move.Add (phase.Name true)) (λ i g f.
+  reads phase.First k e t = test (is_name_kind k) (action.Add (phase.Name true)) (λ i g f.
       seconds (Settled limit top ws d ⋅ Blanks1) true (name_kind k l.byte e i) f t)
   reads (phase.Lone r) k e t = lones r k e t
   reads (phase.Name negated) k e t = names negated k e t
   reads _ _ e t = tt
 
-  sound : (ph : Phase) (k : Kind) → Says k l.byte → Was ph p → OnMove (plan limit top d ph k)
+  sound : (ph : Phase) (k : Kind) → Says k l.byte → Was ph p → OnAction (plan limit top d ph k)
   sound phase.Ending k e t = lates k e t
   sound ph kind.Blank e t = blanks (close limit top d ph) e (closes limit top ws d name ph p t)
   sound ph kind.Semicolon e t = semicolons (close limit top d ph) e (closes limit top ws d name ph p t)
   sound ph kind.Feed e t = feeds (close limit top d ph) e (closes limit top ws d name ph p t)
   sound ph k e t = reads ph k e t
 
-pub keeps : Keeps pol_automaton Front Whole
+pub keeps : Keeps pol_automaton Prefix Whole
 keeps s l p h = sound s.limit s.top s.work.words s.work.depth s.work.name l p s.work.phase (kind_of l.byte) (kind_says l.byte) h
 
 -- What is read is a line of words.
 pub reads_only : (limit top : ℕ) (text : List Letter) (e : List PolWord) (after : PolState) → Reads pol_automaton (pol_first limit top) text e after → Whole e after text
-reads_only limit top text e after r = told pol_automaton Front Whole keeps text (pol_first limit top) [] e after r (refl, refl, refl)
+reads_only limit top text e after r = reported pol_automaton Prefix Whole keeps text (pol_first limit top) [] e after r (refl, refl, refl)

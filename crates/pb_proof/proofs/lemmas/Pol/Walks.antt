@@ -22,8 +22,8 @@ use Rattle.pb_proof.specs.declared.line.pol.phase.Role.TheVariants as role
 use Rattle.pb_proof.specs.declared.line.pol.phase.Phase.{Phase}
 use Rattle.pb_proof.specs.declared.line.pol.phase.Phase.TheVariants as phase
 use Rattle.pb_proof.specs.declared.line.pol.phase.Change.{Change}
-use Rattle.pb_proof.specs.declared.line.pol.phase.Move.{Move}
-use Rattle.pb_proof.specs.declared.line.pol.phase.Move.TheVariants as move
+use Rattle.pb_proof.specs.declared.line.pol.phase.Action.{Action}
+use Rattle.pb_proof.specs.declared.line.pol.phase.Action.TheVariants as action
 use Rattle.pb_proof.proofs.lemmas.Line.Ends.{TakesBlanks}
 use Rattle.pb_proof.proofs.lemmas.Pol.Covers.{state}
 use Rattle.pb_proof.proofs.lemmas.Pol.Kinds.{of_digit, of_blank, of_letter, of_name}
@@ -32,7 +32,7 @@ use Rattle.pb_proof.proofs.lemmas.Pol.Kinds.{of_digit, of_blank, of_letter, of_n
 pub steps : (s : PolState) (b : ℕ) (k : Kind) → kind_of b ≡ k → pol_automaton.step s b ≡ over s (act s.work b (plan s.limit s.top s.work.depth s.work.phase k))
 steps s b k e = ap (λ x. over s (act s.work b (plan s.limit s.top s.work.depth s.work.phase x))) e
 
-pub moves : (s : PolState) (b : ℕ) (m : Move) → plan s.limit s.top s.work.depth s.work.phase (kind_of b) ≡ m → pol_automaton.step s b ≡ over s (act s.work b m)
+pub moves : (s : PolState) (b : ℕ) (m : Action) → plan s.limit s.top s.work.depth s.work.phase (kind_of b) ≡ m → pol_automaton.step s b ≡ over s (act s.work b m)
 moves s b m e = ap (λ x. over s (act s.work b x)) e
 
 module _ (limit top : ℕ) (ws : List PolWord) (d : ℕ) where
@@ -41,11 +41,11 @@ module _ (limit top : ℕ) (ws : List PolWord) (d : ℕ) where
 
   -- numbers
   tested : (s : PolState) (k most : ℕ) (n : ℕ) (ph : Phase) → kind_of (48 + k) ≡ kind.Digit k
-      → plan s.limit s.top s.work.depth s.work.phase (kind.Digit k) ≡ cond (nat_le n most) (move.To ph) move.Stop → n ≤ most
-      → pol_automaton.step s (48 + k) ≡ over s (act s.work (48 + k) (move.To ph))
+      → plan s.limit s.top s.work.depth s.work.phase (kind.Digit k) ≡ cond (nat_le n most) (action.To ph) action.Stop → n ≤ most
+      → pol_automaton.step s (48 + k) ≡ over s (act s.work (48 + k) (action.To ph))
   tested s k most n ph e f l =
       steps s (48 + k) (kind.Digit k) e
-      ∙ (ap (λ x. over s (act s.work (48 + k) x)) f ∙ ap (λ x. over s (act s.work (48 + k) (cond x (move.To ph) move.Stop))) (le-leb n most l))
+      ∙ (ap (λ x. over s (act s.work (48 + k) x)) f ∙ ap (λ x. over s (act s.work (48 + k) (cond x (action.To ph) action.Stop))) (le-leb n most l))
 
   pub unsigned_walk : (n : ℕ) (t : List Letter) → n ≤ bound limit top d → Digits n t → Walks pol_automaton (st [] (phase.Gap held.Nothing)) t (st [] (phase.Number n))
   unsigned_walk n t l h = digits_lead pol_automaton (λ m. st [] (phase.Number m)) (bound limit top d)
@@ -73,36 +73,36 @@ module _ (limit top : ℕ) (ws : List PolWord) (d : ℕ) where
       n l t h
 
   -- names
-  plan_letter : (k : Kind) → is_letter_kind k ≡ true → plan limit top d (phase.Gap held.Nothing) k ≡ move.Begin (phase.Lone (role_of d held.Nothing k))
+  plan_letter : (k : Kind) → is_letter_kind k ≡ true → plan limit top d (phase.Gap held.Nothing) k ≡ action.Begin (phase.Lone (role_of d held.Nothing k))
   plan_letter kind.D e = refl
   plan_letter kind.S e = refl
   plan_letter kind.W e = refl
   plan_letter kind.Letter e = refl
   plan_letter _ e = absurd (false≢true e)
 
-  plan_name : (negated : Bool) (k : Kind) → is_name_kind k ≡ true → plan limit top d (phase.Name negated) k ≡ move.Add (phase.Name negated)
+  plan_name : (negated : Bool) (k : Kind) → is_name_kind k ≡ true → plan limit top d (phase.Name negated) k ≡ action.Add (phase.Name negated)
   plan_name negated kind.Blank e = absurd (false≢true e)
   plan_name negated kind.Semicolon e = absurd (false≢true e)
   plan_name negated kind.Feed e = absurd (false≢true e)
-  plan_name negated k e = ap (λ x. cond x (move.Add (phase.Name negated)) move.Stop) e
+  plan_name negated k e = ap (λ x. cond x (action.Add (phase.Name negated)) action.Stop) e
 
-  plan_second : (r : Role) → may_be_name r ≡ true → (k : Kind) → is_name_kind k ≡ true → plan limit top d (phase.Lone r) k ≡ move.Add (phase.Name false)
+  plan_second : (r : Role) → may_be_name r ≡ true → (k : Kind) → is_name_kind k ≡ true → plan limit top d (phase.Lone r) k ≡ action.Add (phase.Name false)
   plan_second r h kind.Blank e = absurd (false≢true e)
   plan_second r h kind.Semicolon e = absurd (false≢true e)
   plan_second r h kind.Feed e = absurd (false≢true e)
-  plan_second r h k e = ap (λ x. cond (x && is_name_kind k) (move.Add (phase.Name false)) move.Stop) h ∙ ap (λ x. cond x (move.Add (phase.Name false)) move.Stop) e
+  plan_second r h k e = ap (λ x. cond (x && is_name_kind k) (action.Add (phase.Name false)) action.Stop) h ∙ ap (λ x. cond x (action.Add (phase.Name false)) action.Stop) e
 
-  plan_tilde : (k : Kind) → is_letter_kind k ≡ true → plan limit top d phase.Tilde k ≡ move.Begin phase.First
+  plan_tilde : (k : Kind) → is_letter_kind k ≡ true → plan limit top d phase.Tilde k ≡ action.Begin phase.First
   plan_tilde kind.Blank e = absurd (false≢true e)
   plan_tilde kind.Semicolon e = absurd (false≢true e)
   plan_tilde kind.Feed e = absurd (false≢true e)
-  plan_tilde k e = ap (λ x. cond x (move.Begin phase.First) move.Stop) e
+  plan_tilde k e = ap (λ x. cond x (action.Begin phase.First) action.Stop) e
 
-  plan_first : (k : Kind) → is_name_kind k ≡ true → plan limit top d phase.First k ≡ move.Add (phase.Name true)
+  plan_first : (k : Kind) → is_name_kind k ≡ true → plan limit top d phase.First k ≡ action.Add (phase.Name true)
   plan_first kind.Blank e = absurd (false≢true e)
   plan_first kind.Semicolon e = absurd (false≢true e)
   plan_first kind.Feed e = absurd (false≢true e)
-  plan_first k e = ap (λ x. cond x (move.Add (phase.Name true)) move.Stop) e
+  plan_first k e = ap (λ x. cond x (action.Add (phase.Name true)) action.Stop) e
 
   named_role : (k : Kind) → may_be_name (role_of d held.Nothing k) ≡ true
   named_role kind.S = go (nat_le 1 d)
@@ -117,7 +117,7 @@ module _ (limit top : ℕ) (ws : List PolWord) (d : ℕ) where
   more_walk negated [] name h = ap (λ x. st x (phase.Name negated)) (append-nil name)
   more_walk negated (b ∷ bs) name h = (
     st (name ++ b ∷ []) (phase.Name negated),
-    moves (st name (phase.Name negated)) b (move.Add (phase.Name negated)) (plan_name negated (kind_of b) (of_name b h.0)),
+    moves (st name (phase.Name negated)) b (action.Add (phase.Name negated)) (plan_name negated (kind_of b) (of_name b h.0)),
     refl,
     refl,
     subst (λ x. Walks pol_automaton (st (name ++ b ∷ []) (phase.Name negated)) (plain bs) (st x (phase.Name negated))) (append_assoc name (b ∷ []) bs)
@@ -129,16 +129,16 @@ module _ (limit top : ℕ) (ws : List PolWord) (d : ℕ) where
   name_walk (b ∷ []) h = absurd h
   name_walk (b ∷ c ∷ bs) h =
       let r : Role = role_of d held.Nothing (kind_of b) in
-      let first = moves (st [] (phase.Gap held.Nothing)) b (move.Begin (phase.Lone r)) (plan_letter (kind_of b) (of_letter b h.0)) in
-      let second = moves (st (b ∷ []) (phase.Lone r)) c (move.Add (phase.Name false)) (plan_second r (named_role (kind_of b)) (kind_of c) (of_name c h.1.0)) in
+      let first = moves (st [] (phase.Gap held.Nothing)) b (action.Begin (phase.Lone r)) (plan_letter (kind_of b) (of_letter b h.0)) in
+      let second = moves (st (b ∷ []) (phase.Lone r)) c (action.Add (phase.Name false)) (plan_second r (named_role (kind_of b)) (kind_of c) (of_name c h.1.0)) in
       (st (b ∷ []) (phase.Lone r), first, refl, refl, (st (b ∷ c ∷ []) (phase.Name false), second, refl, refl, more_walk false bs (b ∷ c ∷ []) h.1.1))
 
   pub negated_walk : (name : List ℕ) → IsName name → Walks pol_automaton (st [] (phase.Gap held.Nothing)) (plain (126 ∷ name)) (st name (phase.Name true))
   negated_walk [] h = absurd h
   negated_walk (b ∷ []) h = absurd h
   negated_walk (b ∷ c ∷ bs) h =
-      let first = moves (st [] phase.Tilde) b (move.Begin phase.First) (plan_tilde (kind_of b) (of_letter b h.0)) in
-      let second = moves (st (b ∷ []) phase.First) c (move.Add (phase.Name true)) (plan_first (kind_of c) (of_name c h.1.0)) in (
+      let first = moves (st [] phase.Tilde) b (action.Begin phase.First) (plan_tilde (kind_of b) (of_letter b h.0)) in
+      let second = moves (st (b ∷ []) phase.First) c (action.Add (phase.Name true)) (plan_first (kind_of c) (of_name c h.1.0)) in (
         st [] phase.Tilde,
         refl,
         refl,
@@ -147,7 +147,7 @@ module _ (limit top : ℕ) (ws : List PolWord) (d : ℕ) where
       )
 
   -- blanks
-  plan_blank : (ph : Phase) (c : Change) (h : Held) → close limit top d ph ≡ Some (c, h) → plan limit top d ph kind.Blank ≡ move.Turn c (phase.Gap h)
+  plan_blank : (ph : Phase) (c : Change) (h : Held) → close limit top d ph ≡ Some (c, h) → plan limit top d ph kind.Blank ≡ action.Turn c (phase.Gap h)
   plan_blank phase.Ending c h q = absurd (cc)
   plan_blank ph c h q = ap blank q
 

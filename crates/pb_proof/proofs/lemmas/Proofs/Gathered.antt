@@ -22,27 +22,27 @@ one_more b e = record { proof = with b.proof e }
 abbrev with_steps : Proof → List Statement → Proof
 with_steps v steps = record v { steps = v.steps ++ steps }
 
-step_behind : (v : Proof) (s : Statement) → IsStep s → with v s ≡ with_steps v (s ∷ [])
-step_behind v Header h = absurd h
-step_behind v (F count) h = absurd h
-step_behind v (Pol ws) h = refl
-step_behind v (Rup c) h = refl
-step_behind v (Soli ls) h = refl
-step_behind v (Solx ls) h = refl
-step_behind v (Delete ids) h = refl
-step_behind v Output h = absurd h
-step_behind v (Conclude c) h = absurd h
-step_behind v End h = absurd h
+step_after : (v : Proof) (s : Statement) → IsStep s → with v s ≡ with_steps v (s ∷ [])
+step_after v Header h = absurd h
+step_after v (F count) h = absurd h
+step_after v (Pol ws) h = refl
+step_after v (Rup c) h = refl
+step_after v (Soli ls) h = refl
+step_after v (Solx ls) h = refl
+step_after v (Delete ids) h = refl
+step_after v Output h = absurd h
+step_after v (Conclude c) h = absurd h
+step_after v End h = absurd h
 
-steps_behind : (steps rest : List Statement) (v : Proof) → All IsStep steps → gathered with v (steps ++ rest) ≡ gathered with (with_steps v steps) rest
-steps_behind [] rest v h = ap (λ (xs : List Statement). gathered with (record v { steps = xs }) rest) (sym (append-nil v.steps))
-steps_behind (s ∷ steps) rest v h =
-    ap (λ (x : Proof). gathered with x (steps ++ rest)) (step_behind v s (All-head IsStep s steps h))
-    ∙ (steps_behind steps rest (with_steps v (s ∷ [])) (All-tail IsStep s steps h)
+steps_after : (steps rest : List Statement) (v : Proof) → All IsStep steps → gathered with v (steps ++ rest) ≡ gathered with (with_steps v steps) rest
+steps_after [] rest v h = ap (λ (xs : List Statement). gathered with (record v { steps = xs }) rest) (sym (append-nil v.steps))
+steps_after (s ∷ steps) rest v h =
+    ap (λ (x : Proof). gathered with x (steps ++ rest)) (step_after v s (All-head IsStep s steps h))
+    ∙ (steps_after steps rest (with_steps v (s ∷ [])) (All-tail IsStep s steps h)
     ∙ ap (λ (xs : List Statement). gathered with (record v { steps = xs }) rest) (append_assoc v.steps (s ∷ []) steps))
 
 proof_gathered : (v : Proof) → All IsStep v.steps → gathered with nothing (statements_of v) ≡ v
-proof_gathered v h = steps_behind v.steps (Output ∷ Conclude v.conclusion ∷ End ∷ []) (record nothing { count = v.count }) h
+proof_gathered v h = steps_after v.steps (Output ∷ Conclude v.conclusion ∷ End ∷ []) (record nothing { count = v.count }) h
 
 proof_of : (events : List Statement) (b : ProofSoFar) → (gathered one_more b events).proof ≡ gathered with b.proof events
 proof_of [] b = refl
@@ -65,8 +65,8 @@ module _ (limit top longest : ℕ) (accepted : List (Item Statement) → Type 0)
   pub is_read : (b : ProofSoFar) → b.proof ≡ nothing → (m : Spanned ProofSoFar) → IsWhole accepted longest one_more b used m
       → (let r : Spanned Proof = record { event = m.event.proof; first = m.first; past = m.past } in IsRead (IsProof limit top) longest IsProofOf used r)
   is_read b n m w = record {
-    marks = w.marks;
-    spelled = formats.is_spelled accepted (IsProof limit top) only each longest used w.marks w.spelled;
+    spans = w.spans;
+    spelled = formats.is_spelled accepted (IsProof limit top) only each longest used w.spans w.spelled;
     value = value_of b m.event w.spelled.items n w.value (only w.spelled.items w.spelled.spelled);
     first = w.first;
     past = w.past;

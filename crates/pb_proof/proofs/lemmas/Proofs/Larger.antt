@@ -5,7 +5,7 @@ use Rattle.std.specs.Prelude.{ℤ, Option, Some, None}
 use Rattle.pb_text.specs.meaning.Languages.{Language, ◌⋅◌, Byte, Bytes, Blanks0, Blanks1}
 use Rattle.pb_text.specs.meaning.Numbers.{Count}
 use Rattle.pb_text.specs.meaning.Spelling.{Item, Letter}
-use Rattle.pb_text.proofs.lemmas.text.Languages.{inside, behind_it}
+use Rattle.pb_text.proofs.lemmas.text.Languages.{inside, after_it}
 use Rattle.pb_text.proofs.lemmas.numbers.Numbers.{number-within}
 use Rattle.pb_sums.specs.meaning.Sums.{SpellsLinear}
 use Rattle.pb_sums.specs.declared.Linear.{Linear}
@@ -31,7 +31,7 @@ both_grow : (P P' Q Q' : Language) → Within P P' → Within Q Q' → Within (P
 both_grow P P' Q Q' f g t (a, b, e, h, k) = (a, b, e, f a h, g b k)
 
 last_grows : (P Q Q' : Language) → Within Q Q' → Within (P ⋅ Q) (P ⋅ Q')
-last_grows P Q Q' g t h = behind_it P Q Q' t g h
+last_grows P Q Q' g t h = after_it P Q Q' t g h
 
 first_grows : (P P' Q : Language) → Within P P' → Within (P ⋅ Q) (P' ⋅ Q)
 first_grows P P' Q f t h = inside P P' Q t f h

@@ -5,43 +5,43 @@ use Rattle.std.proofs.lemmas.List.{append-nil}
 use Rattle.std.proofs.lemmas.List.Elements.{All-nil, All-cons, All-head, All-tail}
 use Rattle.std.specs.Prelude.{nat_le}
 use Rattle.pb_text.specs.meaning.Reading.{ended_within, IsUnderWay, IsSpelled}
-use Rattle.pb_text.specs.meaning.Spelling.{Item, bytes, place_after, marks_since, marks_of}
+use Rattle.pb_text.specs.meaning.Spelling.{Item, bytes, place_after, spans_since, spans_of}
 use Rattle.pb_text.specs.meaning.Whole.{events_at, events_of}
 use Rattle.pb_text.specs.declared.Place.{Place}
 use Rattle.pb_text.specs.declared.Spanned.{Spanned}
 use Rattle.pb_text.proofs.lemmas.text.Short.{place_after-offset}
-use Rattle.pb_text.proofs.lemmas.source.Wholes.{marks_events}
+use Rattle.pb_text.proofs.lemmas.source.Wholes.{spans_events}
 use Rattle.pb_proof.specs.meaning.Proofs.{IsProof}
 use Rattle.pb_proof.specs.contract.Values.{IsStatementValue}
 use Rattle.pb_proof.specs.contract.ValueLaws.{BeginProof, ReadStatements}
 use Rattle.pb_proof.specs.declared.statement.Statement.{Statement}
 use Rattle.pb_proof.proofs.lemmas.Proofs.Values.{events_values, proof_values}
 
-abbrev behind : List ℕ → Item Statement → List ℕ
-behind before i = before ++ (i.gap ++ bytes i.text)
+abbrev following : List ℕ → Item Statement → List ℕ
+following before i = before ++ (i.gap ++ bytes i.text)
 
-longer : (before : List ℕ) (i : Item Statement) → length before ≤ length (behind before i)
+longer : (before : List ℕ) (i : Item Statement) → length before ≤ length (following before i)
 longer before i = omega (arith, length-append before (i.gap ++ bytes i.text))
 
 -- statements after more than `n` bytes do not end within `n` bytes
-later : (n : ℕ) (items : List (Item Statement)) (start : Option Place) (before : List ℕ) → n < length before → ended_within n (marks_since start before items) ≡ []
+later : (n : ℕ) (items : List (Item Statement)) (start : Option Place) (before : List ℕ) → n < length before → ended_within n (spans_since start before items) ≡ []
 later n [] start before h = refl
 later n (i ∷ rest) start before h =
-    let more : n < length (behind before i) = omega (arith, h, longer before i) in
-    rw (place_after-offset (behind before i), lt-leb (length (behind before i)) n more) (later n rest None (behind before i) more)
+    let more : n < length (following before i) = omega (arith, h, longer before i) in
+    rw (place_after-offset (following before i), lt-leb (length (following before i)) n more) (later n rest None (following before i) more)
 
 -- statements that end within `n` bytes are the first ones
 first_ones : (n : ℕ) (items : List (Item Statement)) (start : Option Place) (before : List ℕ)
-    → (rest : List Statement) × (events_of items ≡ events_at (ended_within n (marks_since start before items)) ++ rest)
+    → (rest : List Statement) × (events_of items ≡ events_at (ended_within n (spans_since start before items)) ++ rest)
 first_ones n [] start before = ([], refl)
-first_ones n (i ∷ rest) start before = by_test (first_ones n rest None (behind before i)) (nat_le (place_after (behind before i)).offset n) refl
+first_ones n (i ∷ rest) start before = by_test (first_ones n rest None (following before i)) (nat_le (place_after (following before i)).offset n) refl
   where
-    by_test : ((more : List Statement) × (events_of rest ≡ events_at (ended_within n (marks_since None (behind before i) rest)) ++ more)) → (b : Bool) → nat_le (place_after (behind before i)).offset n ≡ b
-        → (more : List Statement) × (events_of (i ∷ rest) ≡ events_at (ended_within n (marks_since start before (i ∷ rest))) ++ more)
+    by_test : ((more : List Statement) × (events_of rest ≡ events_at (ended_within n (spans_since None (following before i) rest)) ++ more)) → (b : Bool) → nat_le (place_after (following before i)).offset n ≡ b
+        → (more : List Statement) × (events_of (i ∷ rest) ≡ events_at (ended_within n (spans_since start before (i ∷ rest))) ++ more)
     by_test r true e = (r.0, rw e (ap (λ (x : List Statement). i.event ∷ x) r.1))
     by_test r false e =
-        let h : n < length (behind before i) = leb-false (length (behind before i)) n (rw (place_after-offset (behind before i)) at e) in
-        (events_of (i ∷ rest), rw (e, later n rest None (behind before i) h) refl)
+        let h : n < length (following before i) = leb-false (length (following before i)) n (rw (place_after-offset (following before i)) at e) in
+        (events_of (i ∷ rest), rw (e, later n rest None (following before i) h) refl)
 
 left : (P : Statement → Type 0) (xs ys : List Statement) → All P (xs ++ ys) → All P xs
 left P [] ys h = All-nil P
@@ -59,19 +59,19 @@ module _ (limit top : ℕ) where
     rules = proof_values limit top items v (v, spelled) spelled.1;
   }
 
-  under_way : (longest : ℕ) (used : List ℕ) (marks : List (Spanned Statement)) → IsUnderWay (IsProof limit top) longest used marks → BeginProof limit top (events_at marks) false
-  under_way longest used marks w =
-      let (items, h, front) = w.viable in
-      let seen : ended_within (length used) (marks_of items) ≡ marks = w.seen items h front in
+  under_way : (longest : ℕ) (used : List ℕ) (spans : List (Spanned Statement)) → IsUnderWay (IsProof limit top) longest used spans → BeginProof limit top (events_at spans) false
+  under_way longest used spans w =
+      let (items, h, prefix) = w.viable in
+      let seen : ended_within (length used) (spans_of items) ≡ spans = w.seen items h prefix in
       let r = first_ones (length used) items None [] in
-      begins items h (events_at marks) r.0 false (r.1 ∙ ap (λ (x : List (Spanned Statement)). events_at x ++ r.0) seen) (λ e. absurd (false≢true e))
+      begins items h (events_at spans) r.0 false (r.1 ∙ ap (λ (x : List (Spanned Statement)). events_at x ++ r.0) seen) (λ e. absurd (false≢true e))
 
-  whole : (longest : ℕ) (used : List ℕ) (marks : List (Spanned Statement)) → IsSpelled (IsProof limit top) longest used marks → BeginProof limit top (events_at marks) true
-  whole longest used marks s =
-      begins s.items s.spelled (events_at marks) [] true
-      (sym (marks_events None [] s.items) ∙ (ap events_at (sym s.marks_are) ∙ sym (append-nil (events_at marks)))) (λ e. refl)
+  whole : (longest : ℕ) (used : List ℕ) (spans : List (Spanned Statement)) → IsSpelled (IsProof limit top) longest used spans → BeginProof limit top (events_at spans) true
+  whole longest used spans s =
+      begins s.items s.spelled (events_at spans) [] true
+      (sym (spans_events None [] s.items) ∙ (ap events_at (sym s.spans_are) ∙ sym (append-nil (events_at spans)))) (λ e. refl)
 
 pub read_statements : ReadStatements
-read_statements limit top longest input used marks place true stop r = whole limit top longest used marks r.answer.0
-read_statements limit top longest input used marks place false None r = under_way limit top longest used marks r.answer.0
-read_statements limit top longest input used marks place false (Some s) r = under_way limit top longest used marks r.answer.0
+read_statements limit top longest input used spans place true stop r = whole limit top longest used spans r.answer.0
+read_statements limit top longest input used spans place false None r = under_way limit top longest used spans r.answer.0
+read_statements limit top longest input used spans place false (Some s) r = under_way limit top longest used spans r.answer.0

@@ -58,7 +58,7 @@ bound_value limit Infinite t h = tt
 module _ (limit top : ℕ) where
   id_shown_value : (id : Option ℤ) (t : List Letter) → IdShown limit top id t → IfGiven (IsId top) id
   id_shown_value None t h = tt
-  id_shown_value (Some id) t (a, b, e, front, h) = id_value top id b h
+  id_shown_value (Some id) t (a, b, e, prefix, h) = id_value top id b h
 
   word_value : (w : PolWord) (t : List Letter) → SpellsWord limit top w t → IsWord limit top w
   word_value (Id id) t h = id_value top id t h
@@ -69,11 +69,11 @@ module _ (limit top : ℕ) where
   word_value Saturate t h = tt
   word_value (Weaken name) t h = h.0
 
-  claim_value : (c : Conclusion) (t : List Letter) → SpellsConclusion limit top c t → IsConclusion limit top c
-  claim_value NoClaim t h = tt
-  claim_value (Unsat id) t (a, b, e, w, h) = id_shown_value id b h
-  claim_value (Sat shown) t (a, b, e, w, h) = shown_value shown b h
-  claim_value (Bounds lower id upper shown) t (p6, l6, e6, (p5, l5, e5, (p4, l4, e4, (p3, l3, e3, (p2, l2, e2, (p1, l1, e1, w, s), l), i), s2), u), x) =
+  conclusion_value : (c : Conclusion) (t : List Letter) → SpellsConclusion limit top c t → IsConclusion limit top c
+  conclusion_value NoClaim t h = tt
+  conclusion_value (Unsat id) t (a, b, e, w, h) = id_shown_value id b h
+  conclusion_value (Sat shown) t (a, b, e, w, h) = shown_value shown b h
+  conclusion_value (Bounds lower id upper shown) t (p6, l6, e6, (p5, l5, e5, (p4, l4, e4, (p3, l3, e3, (p2, l2, e2, (p1, l1, e1, w, s), l), i), s2), u), x) =
       (bound_value limit lower l2 l, id_shown_value id l3 i, bound_value limit upper l5 u, shown_value shown l6 x)
 
   f_value : (count : Option ℕ) (t : List Letter) → SpellsStatement limit top (F count) t → IfGiven (λ n. n ≤ top) count
@@ -89,7 +89,7 @@ module _ (limit top : ℕ) where
   statement_value (Solx ls) t (a, b, e, w, (c, d, f, h, k)) = literals_value ls c h
   statement_value (Delete ids) t (a, b, e, w, (some, (c, d, f, h, k))) = (some, listed_values (SpellsId top) (IsId top) (id_value top) ids c h)
   statement_value Output t h = tt
-  statement_value (Conclude c) t (a, b, e, w, (x, y, f, (p, q, g, s, h), k)) = claim_value c q h
+  statement_value (Conclude c) t (a, b, e, w, (x, y, f, (p, q, g, s, h), k)) = conclusion_value c q h
   statement_value End t h = tt
 
   pub events_values : (items : List (Item Statement)) → All (λ i. IsGap i.gap × SpellsStatement limit top i.event i.text) items → All (IsStatementValue limit top) (events_of items)
@@ -119,15 +119,15 @@ proof count steps conclusion = record { count = count; steps = steps; conclusion
 same_parts : (a b : Option ℕ) (c d : List Statement) (e f : Conclusion) → a ≡ b → c ≡ d → e ≡ f → proof a c e ≡ proof b d f
 same_parts a b c d e f h i j = rw (h, i, j) refl
 
-same_claim : (c d : Conclusion) → Conclude c ≡ Conclude d → c ≡ d
-same_claim c d h = cc
+same_conclusion : (c d : Conclusion) → Conclude c ≡ Conclude d → c ≡ d
+same_conclusion c d h = cc
 
 same_proof : (v w : Proof) → statements_of v ≡ statements_of w → v ≡ w
 same_proof v w h =
     let counts : v.count ≡ w.count = cc in
     let tails : v.steps ++ Output ∷ Conclude v.conclusion ∷ End ∷ [] ≡ w.steps ++ Output ∷ Conclude w.conclusion ∷ End ∷ [] = cc in
     let r = ends_same v.steps w.steps Output (Conclude v.conclusion) End Output (Conclude w.conclusion) End tails in
-    same_parts v.count w.count v.steps w.steps v.conclusion w.conclusion counts r.0 (same_claim v.conclusion w.conclusion r.1)
+    same_parts v.count w.count v.steps w.steps v.conclusion w.conclusion counts r.0 (same_conclusion v.conclusion w.conclusion r.1)
 
 pub one_value : OneValue
 one_value statements v w h k = same_proof v w (sym h ∙ k)
@@ -137,10 +137,10 @@ parts_value : (limit top : ℕ) (v : Proof) → All IsStep v.steps → All (IsSt
 parts_value limit top v steps h =
     let P : Statement → Type 0 = IsStatementValue limit top in
     let rest : List Statement = Output ∷ Conclude v.conclusion ∷ End ∷ [] in
-    let behind : All P (F v.count ∷ (v.steps ++ rest)) = All-tail P Header (F v.count ∷ (v.steps ++ rest)) h in
-    let both : All P v.steps × All P rest = halves v.steps rest (All-tail P (F v.count) (v.steps ++ rest) behind) in
+    let following : All P (F v.count ∷ (v.steps ++ rest)) = All-tail P Header (F v.count ∷ (v.steps ++ rest)) h in
+    let both : All P v.steps × All P rest = halves v.steps rest (All-tail P (F v.count) (v.steps ++ rest) following) in
     record {
-      count = All-head P (F v.count) (v.steps ++ rest) behind;
+      count = All-head P (F v.count) (v.steps ++ rest) following;
       steps = λ k d lt. (steps k d lt, both.0 k d lt);
       conclusion = All-head P (Conclude v.conclusion) (End ∷ []) (All-tail P Output (Conclude v.conclusion ∷ End ∷ []) both.1);
     }

@@ -7,7 +7,7 @@ use Rattle.pb_text.specs.meaning.Classes.{is_blank}
 use Rattle.pb_text.specs.meaning.Languages.{Language, ◌⋅◌, Blanks0, Blanks1}
 use Rattle.pb_text.specs.meaning.Spelling.{Letter}
 use Rattle.pb_text.proofs.lemmas.text.Languages.{grown, none_yet}
-use Rattle.pb_text.proofs.lemmas.machine.Walking.{Walks, walks_then, walks_more, ends_walk, reads_behind, On, Keeps, told}
+use Rattle.pb_text.proofs.lemmas.machine.Walking.{Walks, walks_then, walks_more, ends_walk, reads_after, On, Keeps, reported}
 use Rattle.pb_text.proofs.lemmas.text.Booleans.{never}
 use Rattle.pb_text.proofs.lemmas.text.ByteTests.{blank_each}
 use Rattle.pb_text.proofs.lemmas.machine.Outcomes.{refuse_or_go, refuse_or_end}
@@ -26,9 +26,9 @@ use Rattle.pb_proof.specs.engine.Line.Rup.{RupState, rup_automaton, rup_first, r
 use Rattle.pb_proof.specs.meaning.Lines.{SpellsRup}
 use Rattle.pb_proof.specs.declared.line.rup.phase.RupPhase.{RupPhase}
 use Rattle.pb_proof.specs.declared.line.rup.phase.RupPhase.TheVariants.{Start, Gap, Inside, Tail, Done}
-use Rattle.pb_proof.specs.declared.line.rup.phase.RupMove.{RupMove}
-use Rattle.pb_proof.specs.declared.line.rup.phase.RupMove.TheVariants.{Give}
-use Rattle.pb_proof.proofs.lemmas.Line.Ends.{TakesBlanks, blanks1_lead, Feeds, feed_reads, gapped, first_blank, further_blank, blank_more, feed_behind_blanks}
+use Rattle.pb_proof.specs.declared.line.rup.phase.RupAction.{RupAction}
+use Rattle.pb_proof.specs.declared.line.rup.phase.RupAction.TheVariants.{Give}
+use Rattle.pb_proof.proofs.lemmas.Line.Ends.{TakesBlanks, blanks1_lead, Feeds, feed_reads, gapped, first_blank, further_blank, blank_more, feed_after_blanks}
 
 -- what the sum machine reads
 pub given_walks : (o : Option Linear) (t : List Letter) (inner new : SumState) (e : SumEvent) → Reads sums inner t e new
@@ -40,29 +40,29 @@ given_walks o (l ∷ k ∷ t) inner new e (mid, g, i, n, r) =
     (record { phase = Inside; sums = mid; linear = o }, ap (rup_over (record { phase = Inside; sums = inner; linear = o })) g, refl, n, given_walks o (k ∷ t) mid new e r)
 
 module _ (limit top : ℕ) where
-  abbrev pub SumFront : SumState → Language
-  SumFront inner = λ p. Walks sums (sum_first limit) p inner
+  abbrev pub SumPrefix : SumState → Language
+  SumPrefix inner = λ p. Walks sums (sum_first limit) p inner
 
   abbrev pub Whole : Linear → RupState → Language
   Whole c after = λ t. SpellsRup limit top c t × (after ≡ rup_last limit)
 
   -- What has been read, by phase.
-  abbrev pub front : RupState → RupPhase → Language
-  front s Start = λ p. (p ≡ []) × (s.sums ≡ sum_first limit) × (s.linear ≡ None)
-  front s Gap = λ p. Blanks1 p × (s.sums ≡ sum_first limit) × (s.linear ≡ None)
-  front s Inside = λ p. (s.linear ≡ None) × (Blanks1 ⋅ SumFront s.sums) p
-  front s Tail = λ p. (s.sums ≡ sum_last limit)
+  abbrev pub prefix : RupState → RupPhase → Language
+  prefix s Start = λ p. (p ≡ []) × (s.sums ≡ sum_first limit) × (s.linear ≡ None)
+  prefix s Gap = λ p. Blanks1 p × (s.sums ≡ sum_first limit) × (s.linear ≡ None)
+  prefix s Inside = λ p. (s.linear ≡ None) × (Blanks1 ⋅ SumPrefix s.sums) p
+  prefix s Tail = λ p. (s.sums ≡ sum_last limit)
       × ((c : Linear) × (s.linear ≡ Some c) × (c.relation ≡ AtLeast) × (Blanks1 ⋅ SpellsLinear Blank limit c ⋅ Blanks0) p)
-  front s Done = λ p. ⊥
+  prefix s Done = λ p. ⊥
 
-  abbrev pub Front : RupState → Language
-  Front s = front s s.phase
+  abbrev pub Prefix : RupState → Language
+  Prefix s = prefix s s.phase
 
   module _ (s : RupState) (l : Letter) (p : List Letter) where
     abbrev Leaves : Next RupState Linear → Type 0
-    Leaves x = On rup_automaton Front Whole x l (p ++ l ∷ [])
+    Leaves x = On rup_automaton Prefix Whole x l (p ++ l ∷ [])
 
-    abbrev After : RupMove → Type 0
+    abbrev After : RupAction → Type 0
     After m = Leaves (rup_act s l.byte m)
 
     at_start : p ≡ [] → s.sums ≡ sum_first limit → s.linear ≡ None → After (rup_plan Start l.byte)
@@ -80,10 +80,10 @@ module _ (limit top : ℕ) where
     spelled (sum.TheVariants.Linear c) (a, b, e, h, k) =
         (allowed c.relation k.0, gapped (Blanks1 ⋅ SpellsLinear Blank limit c) (p ++ l ∷ []) (a, b, e, h, k.1))
 
-    given : s.linear ≡ None → (Blanks1 ⋅ SumFront s.sums) p → (x : Next SumState SumEvent) → sums.step s.sums l.byte ≡ x → Leaves (rup_over s x)
+    given : s.linear ≡ None → (Blanks1 ⋅ SumPrefix s.sums) p → (x : Next SumState SumEvent) → sums.step s.sums l.byte ≡ x → Leaves (rup_over s x)
     given n h (Go inner) e = λ w f. (
       n,
-      grown Blanks1 (SumFront s.sums) (SumFront inner) p l
+      grown Blanks1 (SumPrefix s.sums) (SumPrefix inner) p l
           (λ q r. walks_more sums q l (sum_first limit) s.sums inner r e (goes-midway s.sums inner l.byte e) f) h,
     )
     given n h (End e new) i = λ w f.
@@ -97,7 +97,7 @@ module _ (limit top : ℕ) where
     in_gap : Blanks1 p → s.sums ≡ sum_first limit → s.linear ≡ None → After (rup_plan Gap l.byte)
     in_gap h i n = cond_both (is_blank l.byte) _ _ After
         (λ k w f. (further_blank l p k f h, i, n))
-        (λ k. given n (none_yet Blanks1 (SumFront s.sums) p i h) (sums.step s.sums l.byte) refl)
+        (λ k. given n (none_yet Blanks1 (SumPrefix s.sums) p i h) (sums.step s.sums l.byte) refl)
 
     in_tail : s.sums ≡ sum_last limit → (c : Linear) → s.linear ≡ Some c → c.relation ≡ AtLeast → (Blanks1 ⋅ SpellsLinear Blank limit c ⋅ Blanks0) p → After (rup_plan Tail l.byte)
     in_tail i c k r h = cond_both (is_blank l.byte) _ _ After
@@ -111,22 +111,22 @@ module _ (limit top : ℕ) where
         ends g (Some d) e = λ f.
             let same : d ≡ c = cc in
             let whole : SpellsRup limit top c (p ++ l ∷ []) =
-            (r, feed_behind_blanks (Blanks1 ⋅ SpellsLinear Blank limit c) l p (eqb-true l.byte 10 g) f h) in
+            (r, feed_after_blanks (Blanks1 ⋅ SpellsLinear Blank limit c) l p (eqb-true l.byte 10 g) f h) in
             (subst (λ x. SpellsRup limit top x (p ++ l ∷ [])) (sym same) whole, rw i refl)
 
-    sound : (q : RupPhase) → front s q p → After (rup_plan q l.byte)
+    sound : (q : RupPhase) → prefix s q p → After (rup_plan q l.byte)
     sound Start h = at_start h.0 h.1 h.2
     sound Gap h = in_gap h.0 h.1 h.2
     sound Inside h = given h.0 h.1 (sums.step s.sums l.byte) refl
     sound Tail h = in_tail h.0 h.1.0 h.1.1 h.1.2 h.1.3
     sound Done h = absurd h
 
-  pub keeps : Keeps rup_automaton Front Whole
+  pub keeps : Keeps rup_automaton Prefix Whole
   keeps s l p f = sound s l p s.phase f
 
   pub rup_only : (t : List Letter) (c : Linear) (after : RupState) → Reads rup_automaton (rup_first limit) t c after → SpellsRup limit top c t × (after ≡ rup_last limit)
   rup_only t c after r =
-      told rup_automaton Front Whole keeps t (rup_first limit) [] c after r (refl, refl, refl)
+      reported rup_automaton Prefix Whole keeps t (rup_first limit) [] c after r (refl, refl, refl)
 
   -- The converse: each part of a text leads on.
   abbrev in_phase : RupPhase → RupState
@@ -135,8 +135,8 @@ module _ (limit top : ℕ) where
   abbrev inside : SumState → RupState
   inside inner = record { phase = Inside; sums = inner; linear = None }
 
-  abbrev behind : SumEvent → SumState → RupState
-  behind e inner = record { phase = Tail; sums = inner; linear = Some (linear_of e) }
+  abbrev following : SumEvent → SumState → RupState
+  following e inner = record { phase = Tail; sums = inner; linear = Some (linear_of e) }
 
   gap_blanks : TakesBlanks rup_automaton (in_phase Start) (in_phase Gap)
   gap_blanks = record {
@@ -146,7 +146,7 @@ module _ (limit top : ℕ) where
     plain = refl;
   }
 
-  tail_blanks : (e : SumEvent) (inner : SumState) → TakesBlanks rup_automaton (behind e inner) (behind e inner)
+  tail_blanks : (e : SumEvent) (inner : SumState) → TakesBlanks rup_automaton (following e inner) (following e inner)
   tail_blanks e inner = record {
     enters = λ b h. rw h refl;
     stays = λ b h. rw h refl;
@@ -154,7 +154,7 @@ module _ (limit top : ℕ) where
     plain = refl;
   }
 
-  tail_feeds : (e : SumEvent) → Feeds rup_automaton (behind e (sum_last limit)) (behind e (sum_last limit)) (linear_of e) (rup_last limit)
+  tail_feeds : (e : SumEvent) → Feeds rup_automaton (following e (sum_last limit)) (following e (sum_last limit)) (linear_of e) (rup_last limit)
   tail_feeds e = record { blanks = tail_blanks e (sum_last limit); ends = refl; ends_gap = refl }
 
   -- no blank begins a constraint
@@ -165,11 +165,11 @@ module _ (limit top : ℕ) where
   gap_gives l h =
       let e : is_blank l.byte ≡ false = false_from_ne_true (is_blank l.byte) (λ k. h (no_blank l.byte k)) in rw e refl
 
-  linear_walks : (t : List Letter) (new : SumState) (e : SumEvent) → Reads sums (sum_first limit) t e new → Walks rup_automaton (in_phase Gap) t (behind e new)
+  linear_walks : (t : List Letter) (new : SumState) (e : SumEvent) → Reads sums (sum_first limit) t e new → Walks rup_automaton (in_phase Gap) t (following e new)
   linear_walks [] new e r = absurd r
   linear_walks (l ∷ []) new e (g, n) =
       let k = gap_gives l (λ h. refuse_or_end e new (sym h ∙ g)) in
-      (behind e new, ap (rup_act (in_phase Gap) l.byte) k ∙ ap (rup_over (in_phase Gap)) g, refl, n, refl)
+      (following e new, ap (rup_act (in_phase Gap) l.byte) k ∙ ap (rup_over (in_phase Gap)) g, refl, n, refl)
   linear_walks (l ∷ c ∷ t) new e (mid, g, i, n, r) =
       let k = gap_gives l (λ h. refuse_or_go mid (sym h ∙ g)) in
       (inside mid, ap (rup_act (in_phase Gap) l.byte) k ∙ ap (rup_over (in_phase Gap)) g, refl, n, given_walks None (c ∷ t) mid new e r)
@@ -182,12 +182,13 @@ module _ (limit top : ℕ) where
   rup_each t c (r, (ab, f, e, (a, b, g, h, k), i)) =
       let q : Reads sums (sum_first limit) b (sum.TheVariants.Linear c) (sum_last limit) =
       (reads_grammar Blank part.TheVariants.AtLeast limit b (sum.TheVariants.Linear c) (sum_last limit)).1 ((allows_it c.relation r, k), refl) in
-      let w : Walks rup_automaton (rup_first limit) (a ++ b) (behind (sum.TheVariants.Linear c) (sum_last limit)) =
-      walks_then rup_automaton a b (rup_first limit) (in_phase Gap) (behind (sum.TheVariants.Linear c) (sum_last limit))
+      let w : Walks rup_automaton (rup_first limit) (a ++ b) (following (sum.TheVariants.Linear c) (sum_last limit)) =
+      walks_then rup_automaton a b (rup_first limit) (in_phase Gap)
+      (following (sum.TheVariants.Linear c) (sum_last limit))
       (blanks1_lead rup_automaton (in_phase Start) (in_phase Gap) gap_blanks a h) (linear_walks b (sum_last limit) (sum.TheVariants.Linear c) q) in
       subst (λ x. Reads rup_automaton (rup_first limit) x c (rup_last limit)) (ap (λ x. x ++ f) (sym g) ∙ sym e)
-      (reads_behind rup_automaton (a ++ b) f (rup_first limit) (behind (sum.TheVariants.Linear c) (sum_last limit)) (rup_last limit) c w
-      (feed_reads rup_automaton (behind (sum.TheVariants.Linear c) (sum_last limit)) (behind (sum.TheVariants.Linear c) (sum_last limit)) (rup_last limit) c (tail_feeds (sum.TheVariants.Linear c)) f i))
+      (reads_after rup_automaton (a ++ b) f (rup_first limit) (following (sum.TheVariants.Linear c) (sum_last limit)) (rup_last limit) c w
+      (feed_reads rup_automaton (following (sum.TheVariants.Linear c) (sum_last limit)) (following (sum.TheVariants.Linear c) (sum_last limit)) (rup_last limit) c (tail_feeds (sum.TheVariants.Linear c)) f i))
 
   -- What a new machine reads is a constraint, and then it has ended.
   pub rup_reads : (t : List Letter) (c : Linear) (after : RupState) → Reads rup_automaton (rup_first limit) t c after ↔ (SpellsRup limit top c t × (after ≡ rup_last limit))

@@ -6,15 +6,15 @@ use Rattle.pb_text.specs.contract.Automaton.{Next, Go, End, Refuse, Accepts, Adm
 use Rattle.pb_text.specs.meaning.Classes.{is_blank, is_digit}
 use Rattle.pb_text.specs.meaning.Spelling.{Item}
 use Rattle.pb_text.proofs.lemmas.machine.Residual.{refuses}
-use Rattle.pb_text.proofs.lemmas.machine.Walking.{reads_behind}
+use Rattle.pb_text.proofs.lemmas.machine.Walking.{reads_after}
 use Rattle.pb_text.proofs.lemmas.text.Booleans.{never}
 use Rattle.pb_sums.specs.engine.Machine.{Work, Outcome, act, flushed, plan, kind, letter_at, is_numeric}
 use Rattle.pb_sums.specs.engine.State.{SumState, sums, over, units}
 use Rattle.pb_sums.specs.declared.Linear.{Linear}
 use Rattle.pb_sums.specs.declared.values.Term.{Term}
 use Rattle.pb_sums.specs.declared.phase.Phase as sum_phase
-use Rattle.pb_sums.specs.declared.phase.Move.{Move}
-use Rattle.pb_sums.specs.declared.phase.Move.TheVariants as move
+use Rattle.pb_sums.specs.declared.phase.Action.{Action}
+use Rattle.pb_sums.specs.declared.phase.Action.TheVariants as action
 use Rattle.pb_sums.specs.declared.SumEvent.{SumEvent}
 use Rattle.pb_sums.specs.declared.SumEvent as sum
 use Rattle.pb_sums.proofs.lemmas.machine.Counts.{flushed-units}
@@ -23,19 +23,19 @@ use Rattle.pb_sums.proofs.lemmas.machine.States.{goes-midway, ended-last}
 use Rattle.pb_proof.specs.engine.Line.Rup.{RupState, rup_automaton, rup_first, sum_first, rup_plan, rup_act, rup_over, rup_finish, rup_midway, rup_done, rup_in_number, rup_asks, linear_of, RupHolds, IsRupInOrder}
 use Rattle.pb_proof.specs.declared.line.rup.phase.RupPhase.{RupPhase}
 use Rattle.pb_proof.specs.declared.line.rup.phase.RupPhase.TheVariants.{Start, Gap, Inside, Tail, Done}
-use Rattle.pb_proof.specs.declared.line.rup.phase.RupMove.{RupMove}
-use Rattle.pb_proof.specs.declared.line.rup.phase.RupMove.TheVariants.{To, Give, Finish, Stop}
+use Rattle.pb_proof.specs.declared.line.rup.phase.RupAction.{RupAction}
+use Rattle.pb_proof.specs.declared.line.rup.phase.RupAction.TheVariants.{To, Give, Finish, Stop}
 use Rattle.pb_text.proofs.lemmas.machine.Living.{IsAlive, before, final, accepted, admits_before}
 use Rattle.pb_proof.proofs.lemmas.Rup.Reads.{given_walks}
 
 -- The constraint that the sum machine gives has at most as many units as that machine had.
-acted-terms : (ys xs : List Term) (name : List ℕ) (m : Move) (e : SumEvent) (w : Work) → act ys xs name m ≡ End e w → (linear_of e).terms ≡ ys
-acted-terms ys xs name (move.To p) e w h = absurd (let f : ⊥ = cc in f)
-acted-terms ys xs name (move.Begin p b) e w h = absurd (let f : ⊥ = cc in f)
-acted-terms ys xs name (move.Add p b) e w h = absurd (let f : ⊥ = cc in f)
-acted-terms ys xs name move.EndSum e w h = let f : sum.TheVariants.Sum ys ≡ e = cc in ap (λ x. (linear_of x).terms) (sym f)
-acted-terms ys xs name (move.EndLinear r z) e w h = let f : sum.TheVariants.Linear (record { terms = ys; relation = r; degree = z }) ≡ e = cc in ap (λ x. (linear_of x).terms) (sym f)
-acted-terms ys xs name move.Stop e w h = absurd (let f : ⊥ = cc in f)
+acted-terms : (ys xs : List Term) (name : List ℕ) (m : Action) (e : SumEvent) (w : Work) → act ys xs name m ≡ End e w → (linear_of e).terms ≡ ys
+acted-terms ys xs name (action.To p) e w h = absurd (let f : ⊥ = cc in f)
+acted-terms ys xs name (action.Begin p b) e w h = absurd (let f : ⊥ = cc in f)
+acted-terms ys xs name (action.Add p b) e w h = absurd (let f : ⊥ = cc in f)
+acted-terms ys xs name action.EndSum e w h = let f : sum.TheVariants.Sum ys ≡ e = cc in ap (λ x. (linear_of x).terms) (sym f)
+acted-terms ys xs name (action.EndLinear r z) e w h = let f : sum.TheVariants.Linear (record { terms = ys; relation = r; degree = z }) ≡ e = cc in ap (λ x. (linear_of x).terms) (sym f)
+acted-terms ys xs name action.Stop e w h = absurd (let f : ⊥ = cc in f)
 
 over-ends : (s next : SumState) (e : SumEvent) (n : Outcome) → over s n ≡ End e next → (w : Work) × (n ≡ End e w)
 over-ends s next e (Go v) h = absurd (let f : ⊥ = cc in f)
@@ -45,7 +45,7 @@ over-ends s next e Refuse h = absurd (let f : ⊥ = cc in f)
 pub ended_units : (s next : SumState) (b : ℕ) (e : SumEvent) → sums.step s b ≡ End e next → units (linear_of e).terms ≤ sums.spent s
 ended_units s next b e h =
     let p = s.work.phase in
-    let m : Move = plan s.part s.limit p (kind s.spaces (letter_at (is_numeric p) b)) in
+    let m : Action = plan s.part s.limit p (kind s.spaces (letter_at (is_numeric p) b)) in
     let k = over-ends s next e (act (flushed p s.work.terms s.work.name) s.work.terms s.work.name m) h in
     let t : (linear_of e).terms ≡ flushed p s.work.terms s.work.name = acted-terms (flushed p s.work.terms s.work.name) s.work.terms s.work.name m e k.0 k.1 in
     rw t (omega (arith, flushed-units p s.work.terms s.work.name))
@@ -63,15 +63,15 @@ On s (Go next) = Goes s next
 On s (End e next) = (rup_done next.phase ≡ true) × (rup_automaton.spent next ≡ 0)
 On s Refuse = Unit {0}
 
-abbrev OnMove : RupMove → Type 0
-OnMove (To p) = rup_midway p ≡ true
-OnMove _ = Unit {0}
+abbrev OnAction : RupAction → Type 0
+OnAction (To p) = rup_midway p ≡ true
+OnAction _ = Unit {0}
 
-on_plan : (p : RupPhase) (b : ℕ) → OnMove (rup_plan p b)
-on_plan Start b = cond_both (is_blank b) (To Gap) Stop OnMove (λ e. refl) (λ e. tt)
-on_plan Gap b = cond_both (is_blank b) (To Gap) Give OnMove (λ e. refl) (λ e. tt)
+on_plan : (p : RupPhase) (b : ℕ) → OnAction (rup_plan p b)
+on_plan Start b = cond_both (is_blank b) (To Gap) Stop OnAction (λ e. refl) (λ e. tt)
+on_plan Gap b = cond_both (is_blank b) (To Gap) Give OnAction (λ e. refl) (λ e. tt)
 on_plan Inside b = tt
-on_plan Tail b = cond_both (is_blank b) (To Tail) _ OnMove (λ e. refl) (λ e. cond_both (nat_eq b 10) Finish Stop OnMove (λ e. tt) (λ e. tt))
+on_plan Tail b = cond_both (is_blank b) (To Tail) _ OnAction (λ e. refl) (λ e. cond_both (nat_eq b 10) Finish Stop OnAction (λ e. tt) (λ e. tt))
 on_plan Done b = tt
 
 -- where bytes are given to the sum machine, and where the line ends
@@ -111,7 +111,7 @@ on_finish : (s : RupState) → sums.spent s.sums ≡ 0 → (o : Option Linear) �
 on_finish s h None = tt
 on_finish s h (Some c) = (refl, ap (λ (n : ℕ). 0 + n) h)
 
-on_act : (s : RupState) → IsRupInOrder s → (b : ℕ) (m : RupMove) → rup_plan s.phase b ≡ m → OnMove m → On s (rup_act s b m)
+on_act : (s : RupState) → IsRupInOrder s → (b : ℕ) (m : RupAction) → rup_plan s.phase b ≡ m → OnAction m → On s (rup_act s b m)
 on_act s h b (To p) e k = record { begins = k; grows = omega arith }
 on_act s h b Give e k = on_given s h.state (given_none s s.phase b h.holds e) b (sums.step s.sums b) refl
 on_act s h b Finish e k = on_finish s (finish_empty s s.phase b h.holds e) s.linear
@@ -140,7 +140,7 @@ begun_finish : (s : RupState) (o : Option Linear) → OnGo (rup_finish s o)
 begun_finish s None = tt
 begun_finish s (Some c) = tt
 
-begun_act : (s : RupState) (b : ℕ) (m : RupMove) → OnMove m → OnGo (rup_act s b m)
+begun_act : (s : RupState) (b : ℕ) (m : RupAction) → OnAction m → OnGo (rup_act s b m)
 begun_act s b (To p) k = k
 begun_act s b Give k = begun_given s (sums.step s.sums b)
 begun_act s b Finish k = begun_finish s s.linear
@@ -197,7 +197,7 @@ inside_alive s p d =
       text = text ++ tail.text;
       event = tail.event;
       after = tail.after;
-      reads = reads_behind rup_automaton text tail.text (record s { phase = Inside }) (record { phase = Tail; sums = last; linear = Some (linear_of e) }) tail.after tail.event
+      reads = reads_after rup_automaton text tail.text (record s { phase = Inside }) (record { phase = Tail; sums = last; linear = Some (linear_of e) }) tail.after tail.event
           (given_walks s.linear text s.sums last e r) tail.reads;
       rest = tail.rest;
       accepts = tail.accepts;
@@ -252,7 +252,7 @@ rup_first_in_order limit state = record { holds = (refl, refl); state = state }
 pub to_order : (s : RupState) → IsRupInOrder s → (b : ℕ) (p : RupPhase) → rup_plan s.phase b ≡ To p → IsRupInOrder (record s { phase = p })
 to_order s h b p e = record { holds = held s.phase h.holds e; state = h.state }
   where
-    at_gap : (x : Bool) (m : RupMove) → cond x (To Gap) m ≡ To p → (m ≡ To p → p ≡ Gap) → p ≡ Gap
+    at_gap : (x : Bool) (m : RupAction) → cond x (To Gap) m ≡ To p → (m ≡ To p → p ≡ Gap) → p ≡ Gap
     at_gap true m e k = cc
     at_gap false m e k = k e
 
@@ -302,4 +302,4 @@ module _ (s : RupState) (h : IsRupInOrder s) (b : ℕ) (planned : rup_plan s.pha
   by_step Refuse e a = absurd (refuses sums s.sums s.sums b e a.0 a.1 (a.2, a.3))
 
   pub give_admits : IsTrue (sums.asks s.sums b) → Admits sums s.sums b → IsTrue (rup_automaton.asks s b) × Admits rup_automaton s b
-  give_admits asking a = (subst (λ (m : RupMove). IsTrue (rup_asks s b m)) (sym planned) asking, by_step (sums.step s.sums b) refl a)
+  give_admits asking a = (subst (λ (m : RupAction). IsTrue (rup_asks s b m)) (sym planned) asking, by_step (sums.step s.sums b) refl a)

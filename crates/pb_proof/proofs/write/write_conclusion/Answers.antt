@@ -9,4 +9,4 @@ returns-in_err-write_bytes g c =
 pub returns : goal.returns
 returns g c =
     part_then g.S.Sink.contents g.S.Sink.faults _ _ _ _ _ _ _ refl c.in_ok-write_bytes.ensures
-    c.write_claim.ensures
+    c.write_conclusion_text.ensures

@@ -6,8 +6,8 @@ use Rattle.pb_proof.specs.declared.line.byte_kind.NumberByte.{NumberByte}
 use Rattle.pb_proof.specs.declared.line.byte_kind.NumberByte.TheVariants.{Blank, Digit, Semicolon, Feed}
 use Rattle.pb_proof.specs.declared.line.count.phase.CountPhase.{CountPhase}
 use Rattle.pb_proof.specs.declared.line.count.phase.CountPhase.TheVariants.{Start, Gap, Digits, Tail, Closing, Done}
-use Rattle.pb_proof.specs.declared.line.count.phase.CountMove.{CountMove}
-use Rattle.pb_proof.specs.declared.line.count.phase.CountMove as move
+use Rattle.pb_proof.specs.declared.line.count.phase.CountAction.{CountAction}
+use Rattle.pb_proof.specs.declared.line.count.phase.CountAction as action
 
 -- the largest count, and what was read last
 pub record CountState : Type 0 where
@@ -25,31 +25,31 @@ abbrev pub count_last : ℕ → CountState
 count_last top = at top Done
 
 -- the action for the next digit of a count
-abbrev pub digits : ℕ → ℕ → ℕ → CountMove
-digits top n d = cond (nat_le (10 * n + d) top) (move.TheVariants.To (Digits (10 * n + d))) move.TheVariants.Stop
+abbrev pub digits : ℕ → ℕ → ℕ → CountAction
+digits top n d = cond (nat_le (10 * n + d) top) (action.TheVariants.To (Digits (10 * n + d))) action.TheVariants.Stop
 
 -- the action for a byte at which the line may end, with a count or none
-abbrev pub behind : Option ℕ → CountPhase → NumberByte → CountMove
-behind count gap Blank = move.TheVariants.To gap
-behind count gap Semicolon = move.TheVariants.To (Closing count)
-behind count gap Feed = move.TheVariants.End count
-behind count gap _ = move.TheVariants.Stop
+abbrev pub next_action : Option ℕ → CountPhase → NumberByte → CountAction
+next_action count gap Blank = action.TheVariants.To gap
+next_action count gap Semicolon = action.TheVariants.To (Closing count)
+next_action count gap Feed = action.TheVariants.End count
+next_action count gap _ = action.TheVariants.Stop
 
-abbrev pub plan : ℕ → CountPhase → NumberByte → CountMove
-plan top Start k = behind None Gap k
+abbrev pub plan : ℕ → CountPhase → NumberByte → CountAction
+plan top Start k = next_action None Gap k
 plan top Gap (Digit d) = digits top 0 d
-plan top Gap k = behind None Gap k
+plan top Gap k = next_action None Gap k
 plan top (Digits n) (Digit d) = digits top n d
-plan top (Digits n) k = behind (Some n) (Tail n) k
-plan top (Tail n) k = behind (Some n) (Tail n) k
-plan top (Closing count) Blank = move.TheVariants.To (Closing count)
-plan top (Closing count) Feed = move.TheVariants.End count
-plan _ _ _ = move.TheVariants.Stop
+plan top (Digits n) k = next_action (Some n) (Tail n) k
+plan top (Tail n) k = next_action (Some n) (Tail n) k
+plan top (Closing count) Blank = action.TheVariants.To (Closing count)
+plan top (Closing count) Feed = action.TheVariants.End count
+plan _ _ _ = action.TheVariants.Stop
 
-abbrev pub act : ℕ → CountMove → Next CountState (Option ℕ)
-act top (move.TheVariants.To p) = Go (at top p)
-act top (move.TheVariants.End count) = End count (count_last top)
-act top move.TheVariants.Stop = Refuse
+abbrev pub act : ℕ → CountAction → Next CountState (Option ℕ)
+act top (action.TheVariants.To p) = Go (at top p)
+act top (action.TheVariants.End count) = End count (count_last top)
+act top action.TheVariants.Stop = Refuse
 
 abbrev pub is_midway : CountPhase → Bool
 is_midway Start = false
@@ -81,9 +81,9 @@ abbrev pub PhaseFits : ℕ → CountPhase → Type 0
 PhaseFits top (Digits n) = n ≤ top
 PhaseFits top _ = Unit {0}
 
-abbrev pub MoveFits : ℕ → CountMove → Type 0
-MoveFits top (move.TheVariants.To p) = PhaseFits top p × (is_midway p ≡ true)
-MoveFits top _ = Unit {0}
+abbrev pub ActionFits : ℕ → CountAction → Type 0
+ActionFits top (action.TheVariants.To p) = PhaseFits top p × (is_midway p ≡ true)
+ActionFits top _ = Unit {0}
 
 -- the invariant of a machine
 abbrev pub IsCountInOrder : CountState → Type 0

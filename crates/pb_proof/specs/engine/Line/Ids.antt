@@ -7,8 +7,8 @@ use Rattle.pb_proof.specs.declared.line.byte_kind.NumberByte.{NumberByte}
 use Rattle.pb_proof.specs.declared.line.byte_kind.NumberByte.TheVariants as kind
 use Rattle.pb_proof.specs.declared.line.ids.phase.IdsPhase.{IdsPhase}
 use Rattle.pb_proof.specs.declared.line.ids.phase.IdsPhase.TheVariants.{Start, Gap, Between, Minus, Digits, Closing, Done}
-use Rattle.pb_proof.specs.declared.line.ids.phase.IdsMove.{IdsMove}
-use Rattle.pb_proof.specs.declared.line.ids.phase.IdsMove.TheVariants as move
+use Rattle.pb_proof.specs.declared.line.ids.phase.IdsAction.{IdsAction}
+use Rattle.pb_proof.specs.declared.line.ids.phase.IdsAction.TheVariants as action
 
 -- the largest magnitude of an id, the ids that are complete, and what was read last
 pub record IdsState : Type 0 where
@@ -27,43 +27,43 @@ abbrev pub ids_last : ℕ → IdsState
 ids_last top = ids_at top [] Done
 
 -- the action for the next digit of an id
-abbrev pub digits : ℕ → Bool → ℕ → ℕ → IdsMove
-digits top negative n d = cond (nat_le (10 * n + d) top) (move.To (Digits negative (10 * n + d))) move.Stop
+abbrev pub digits : ℕ → Bool → ℕ → ℕ → IdsAction
+digits top negative n d = cond (nat_le (10 * n + d) top) (action.To (Digits negative (10 * n + d))) action.Stop
 
 -- the action for a byte at which an id may begin
-abbrev pub before : ℕ → NumberByte → IdsMove
-before top kind.Minus = move.To Minus
+abbrev pub before : ℕ → NumberByte → IdsAction
+before top kind.Minus = action.To Minus
 before top (kind.Digit d) = digits top false 0 d
-before top _ = move.Stop
+before top _ = action.Stop
 
 -- the action for a byte at which an id may end
-abbrev pub behind : ℤ → NumberByte → IdsMove
-behind id kind.Blank = move.Keep Between id
-behind id kind.Semicolon = move.Keep Closing id
-behind id kind.Feed = move.EndWith id
-behind id _ = move.Stop
+abbrev pub next_action : ℤ → NumberByte → IdsAction
+next_action id kind.Blank = action.Keep Between id
+next_action id kind.Semicolon = action.Keep Closing id
+next_action id kind.Feed = action.EndWith id
+next_action id _ = action.Stop
 
-abbrev pub plan : ℕ → IdsPhase → NumberByte → IdsMove
-plan top Start kind.Blank = move.To Gap
-plan top Gap kind.Blank = move.To Gap
+abbrev pub plan : ℕ → IdsPhase → NumberByte → IdsAction
+plan top Start kind.Blank = action.To Gap
+plan top Gap kind.Blank = action.To Gap
 plan top Gap k = before top k
-plan top Between kind.Blank = move.To Between
-plan top Between kind.Semicolon = move.To Closing
-plan top Between kind.Feed = move.End
+plan top Between kind.Blank = action.To Between
+plan top Between kind.Semicolon = action.To Closing
+plan top Between kind.Feed = action.End
 plan top Between k = before top k
 plan top Minus (kind.Digit d) = digits top true 0 d
 plan top (Digits negative n) (kind.Digit d) = digits top negative n d
-plan top (Digits negative n) k = cond (nat_eq n 0) move.Stop (behind (signed negative n) k)
-plan top Closing kind.Blank = move.To Closing
-plan top Closing kind.Feed = move.End
-plan _ _ _ = move.Stop
+plan top (Digits negative n) k = cond (nat_eq n 0) action.Stop (next_action (signed negative n) k)
+plan top Closing kind.Blank = action.To Closing
+plan top Closing kind.Feed = action.End
+plan _ _ _ = action.Stop
 
-abbrev pub act : ℕ → List ℤ → IdsMove → Next IdsState (List ℤ)
-act top ids (move.To p) = Go (ids_at top ids p)
-act top ids (move.Keep p id) = Go (ids_at top (ids ++ id ∷ []) p)
-act top ids move.End = End ids (ids_last top)
-act top ids (move.EndWith id) = End (ids ++ id ∷ []) (ids_last top)
-act top ids move.Stop = Refuse
+abbrev pub act : ℕ → List ℤ → IdsAction → Next IdsState (List ℤ)
+act top ids (action.To p) = Go (ids_at top ids p)
+act top ids (action.Keep p id) = Go (ids_at top (ids ++ id ∷ []) p)
+act top ids action.End = End ids (ids_last top)
+act top ids (action.EndWith id) = End (ids ++ id ∷ []) (ids_last top)
+act top ids action.Stop = Refuse
 
 abbrev pub step : IdsState → NumberByte → Next IdsState (List ℤ)
 step s k = act s.top s.ids (plan s.top s.phase k)
@@ -88,9 +88,9 @@ begins_id Between = true
 begins_id _ = false
 
 -- whether the machine may allocate: at a byte that ends an id
-abbrev pub keeps : IdsMove → Bool
-keeps (move.Keep p id) = true
-keeps (move.EndWith id) = true
+abbrev pub keeps : IdsAction → Bool
+keeps (action.Keep p id) = true
+keeps (action.EndWith id) = true
 keeps _ = false
 
 -- the automaton: it stores ids, and their count saturates
@@ -110,10 +110,10 @@ abbrev pub PhaseFits : ℕ → IdsPhase → Type 0
 PhaseFits top (Digits negative n) = n ≤ top
 PhaseFits top _ = Unit {0}
 
-abbrev pub MoveFits : ℕ → IdsMove → Type 0
-MoveFits top (move.To p) = PhaseFits top p × (is_midway p ≡ true)
-MoveFits top (move.Keep p id) = PhaseFits top p × (is_midway p ≡ true)
-MoveFits top _ = Unit {0}
+abbrev pub ActionFits : ℕ → IdsAction → Type 0
+ActionFits top (action.To p) = PhaseFits top p × (is_midway p ≡ true)
+ActionFits top (action.Keep p id) = PhaseFits top p × (is_midway p ≡ true)
+ActionFits top _ = Unit {0}
 
 -- The invariant of a machine: some id is within top, and no id is stored before the ids and after them.
 abbrev pub IsIdsInOrder : IdsState → Type 0

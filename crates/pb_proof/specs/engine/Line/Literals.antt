@@ -10,8 +10,8 @@ use Rattle.pb_proof.specs.declared.line.byte_kind.NameByte.{NameByte}
 use Rattle.pb_proof.specs.declared.line.byte_kind.NameByte.TheVariants.{Blank, Letter, Inner, Tilde, Semicolon, Feed}
 use Rattle.pb_proof.specs.declared.line.literals.phase.LiteralsPhase.{LiteralsPhase}
 use Rattle.pb_proof.specs.declared.line.literals.phase.LiteralsPhase.TheVariants.{Start, Gap, Negation, First, More, Closing, Done}
-use Rattle.pb_proof.specs.declared.line.literals.phase.LiteralsMove.{LiteralsMove}
-use Rattle.pb_proof.specs.declared.line.literals.phase.LiteralsMove as move
+use Rattle.pb_proof.specs.declared.line.literals.phase.LiteralsAction.{LiteralsAction}
+use Rattle.pb_proof.specs.declared.line.literals.phase.LiteralsAction as action
 
 -- Literals with blank+ before each, and then the end of the line. If they are joined to what comes before them,
 -- blank* before the first one.
@@ -42,29 +42,29 @@ abbrev pub literal : Bool → List ℕ → Literal
 literal negated name = record { negated = negated; name = name }
 
 -- The action for a byte at which the line may end, and for one at which a literal may begin or the line may end.
-abbrev pub behind : NameByte → LiteralsMove
-behind Blank = move.TheVariants.To Gap
-behind Semicolon = move.TheVariants.To Closing
-behind Feed = move.TheVariants.End
-behind _ = move.TheVariants.Stop
+abbrev pub next_action : NameByte → LiteralsAction
+next_action Blank = action.TheVariants.To Gap
+next_action Semicolon = action.TheVariants.To Closing
+next_action Feed = action.TheVariants.End
+next_action _ = action.TheVariants.Stop
 
-abbrev pub before : NameByte → LiteralsMove
-before Tilde = move.TheVariants.To Negation
-before (Letter b) = move.TheVariants.Begin (First false) b
-before k = behind k
+abbrev pub before : NameByte → LiteralsAction
+before Tilde = action.TheVariants.To Negation
+before (Letter b) = action.TheVariants.Begin (First false) b
+before k = next_action k
 
-abbrev pub plan : Bool → LiteralsPhase → NameByte → LiteralsMove
-plan joined Start k = cond joined (before k) (behind k)
+abbrev pub plan : Bool → LiteralsPhase → NameByte → LiteralsAction
+plan joined Start k = cond joined (before k) (next_action k)
 plan joined Gap k = before k
-plan joined Negation (Letter b) = move.TheVariants.Begin (First true) b
-plan joined (First negated) (Letter b) = move.TheVariants.Add (More negated) b
-plan joined (First negated) (Inner b) = move.TheVariants.Add (More negated) b
-plan joined (More negated) (Letter b) = move.TheVariants.Add (More negated) b
-plan joined (More negated) (Inner b) = move.TheVariants.Add (More negated) b
-plan joined (More negated) k = behind k
-plan joined Closing Blank = move.TheVariants.To Closing
-plan joined Closing Feed = move.TheVariants.End
-plan _ _ _ = move.TheVariants.Stop
+plan joined Negation (Letter b) = action.TheVariants.Begin (First true) b
+plan joined (First negated) (Letter b) = action.TheVariants.Add (More negated) b
+plan joined (First negated) (Inner b) = action.TheVariants.Add (More negated) b
+plan joined (More negated) (Letter b) = action.TheVariants.Add (More negated) b
+plan joined (More negated) (Inner b) = action.TheVariants.Add (More negated) b
+plan joined (More negated) k = next_action k
+plan joined Closing Blank = action.TheVariants.To Closing
+plan joined Closing Feed = action.TheVariants.End
+plan _ _ _ = action.TheVariants.Stop
 
 -- the literals with the one whose name is complete
 abbrev pub flushed : LiteralsPhase → List Literal → List ℕ → List Literal
@@ -72,12 +72,12 @@ flushed (More negated) ls name = ls ++ literal negated name ∷ []
 flushed _ ls name = ls
 
 -- What an action does: ls are the literals so far, and ms are those with the one that ends here.
-abbrev pub act : Bool → List Literal → List Literal → List ℕ → LiteralsMove → Next LiteralsState (List Literal)
-act joined ms ls name (move.TheVariants.To p) = Go (literals_at joined ms [] p)
-act joined ms ls name (move.TheVariants.Begin p b) = Go (literals_at joined ls (b ∷ []) p)
-act joined ms ls name (move.TheVariants.Add p b) = Go (literals_at joined ls (name ++ b ∷ []) p)
-act joined ms ls name move.TheVariants.End = End ms (literals_last joined)
-act joined ms ls name move.TheVariants.Stop = Refuse
+abbrev pub act : Bool → List Literal → List Literal → List ℕ → LiteralsAction → Next LiteralsState (List Literal)
+act joined ms ls name (action.TheVariants.To p) = Go (literals_at joined ms [] p)
+act joined ms ls name (action.TheVariants.Begin p b) = Go (literals_at joined ls (b ∷ []) p)
+act joined ms ls name (action.TheVariants.Add p b) = Go (literals_at joined ls (name ++ b ∷ []) p)
+act joined ms ls name action.TheVariants.End = End ms (literals_last joined)
+act joined ms ls name action.TheVariants.Stop = Refuse
 
 abbrev pub step : LiteralsState → NameByte → Next LiteralsState (List Literal)
 step s k = act s.joined (flushed s.phase s.literals s.name) s.literals s.name (plan s.joined s.phase k)
@@ -101,9 +101,9 @@ abbrev pub is_more : LiteralsPhase → Bool
 is_more (More negated) = true
 is_more _ = false
 
-abbrev pub adds : LiteralsMove → Bool
-adds (move.TheVariants.Begin p b) = true
-adds (move.TheVariants.Add p b) = true
+abbrev pub adds : LiteralsAction → Bool
+adds (action.TheVariants.Begin p b) = true
+adds (action.TheVariants.Add p b) = true
 adds _ = false
 
 -- the number of literals plus the number of bytes of their names
@@ -144,8 +144,8 @@ abbrev pub IsLiteralsInOrder : LiteralsState → Type 0
 IsLiteralsInOrder s = is_midway s.phase ≡ false → (s.literals ≡ []) × (s.name ≡ [])
 
 -- a byte that is added to a name is ASCII, and it leads to a phase that is midway
-abbrev pub MoveFits : LiteralsMove → Type 0
-MoveFits (move.TheVariants.To p) = is_midway p ≡ true
-MoveFits (move.TheVariants.Begin p b) = (is_midway p ≡ true) × (b < 128)
-MoveFits (move.TheVariants.Add p b) = (is_midway p ≡ true) × (b < 128)
-MoveFits _ = Unit {0}
+abbrev pub ActionFits : LiteralsAction → Type 0
+ActionFits (action.TheVariants.To p) = is_midway p ≡ true
+ActionFits (action.TheVariants.Begin p b) = (is_midway p ≡ true) × (b < 128)
+ActionFits (action.TheVariants.Add p b) = (is_midway p ≡ true) × (b < 128)
+ActionFits _ = Unit {0}

@@ -9,8 +9,8 @@ use Rattle.pb_proof.specs.engine.Line.PolState.{pol_automaton, pol_first}
 use Rattle.pb_proof.specs.engine.Line.Rup.{rup_automaton, rup_first}
 use Rattle.pb_proof.specs.engine.Line.Literals.{literals_automaton, literals_first}
 use Rattle.pb_proof.specs.engine.Line.Ids.{ids_automaton, ids_first}
-use Rattle.pb_proof.specs.engine.Line.ClaimState.{claim_automaton, claim_first}
-use Rattle.pb_proof.specs.meaning.Lines.{SpellsCount, SpellsWords, SpellsRup, SpellsLiterals, SpellsIds, SpellsClaim}
+use Rattle.pb_proof.specs.engine.Line.ConclusionState.{conclusion_automaton, conclusion_first}
+use Rattle.pb_proof.specs.meaning.Lines.{SpellsCount, SpellsWords, SpellsRup, SpellsLiterals, SpellsIds, SpellsConclusionLine}
 use Rattle.pb_proof.specs.declared.line.LineMachine.{LineMachine}
 use Rattle.pb_proof.specs.declared.line.LineMachine as line
 use Rattle.pb_proof.specs.declared.machine.phase.LineKind.{LineKind}
@@ -44,7 +44,7 @@ line_step (line.TheVariants.Rup s) b = carried line.TheVariants.Rup statement.Th
 line_step (line.TheVariants.Soli s) b = carried line.TheVariants.Soli statement.TheVariants.Soli (literals_automaton.step s b)
 line_step (line.TheVariants.Solx s) b = carried line.TheVariants.Solx statement.TheVariants.Solx (literals_automaton.step s b)
 line_step (line.TheVariants.Delete s) b = carried line.TheVariants.Delete statement.TheVariants.Delete (ids_automaton.step s b)
-line_step (line.TheVariants.Conclusion s) b = carried line.TheVariants.Conclusion statement.TheVariants.Conclude (claim_automaton.step s b)
+line_step (line.TheVariants.Conclusion s) b = carried line.TheVariants.Conclusion statement.TheVariants.Conclude (conclusion_automaton.step s b)
 
 -- the answer of the machine that reads
 abbrev pub line_asked : {A : Type 0} → ((S E : Type 0) → Automaton S E → S → A) → LineMachine → A
@@ -54,7 +54,7 @@ line_asked ask (line.TheVariants.Rup s) = ask _ _ rup_automaton s
 line_asked ask (line.TheVariants.Soli s) = ask _ _ literals_automaton s
 line_asked ask (line.TheVariants.Solx s) = ask _ _ literals_automaton s
 line_asked ask (line.TheVariants.Delete s) = ask _ _ ids_automaton s
-line_asked ask (line.TheVariants.Conclusion s) = ask _ _ claim_automaton s
+line_asked ask (line.TheVariants.Conclusion s) = ask _ _ conclusion_automaton s
 
 abbrev pub line_automaton : Automaton LineMachine Statement
 line_automaton = record {
@@ -75,7 +75,7 @@ line_first limit top kind.TheVariants.Rup = line.TheVariants.Rup (rup_first limi
 line_first limit top kind.TheVariants.Soli = line.TheVariants.Soli (literals_first false)
 line_first limit top kind.TheVariants.Solx = line.TheVariants.Solx (literals_first false)
 line_first limit top kind.TheVariants.Delete = line.TheVariants.Delete (ids_first top)
-line_first limit top kind.TheVariants.Conclusion = line.TheVariants.Conclusion (claim_first limit top)
+line_first limit top kind.TheVariants.Conclusion = line.TheVariants.Conclusion (conclusion_first limit top)
 
 -- the text after the first word of a statement
 module _ (limit top : ℕ) where
@@ -86,5 +86,5 @@ module _ (limit top : ℕ) where
   SpellsRest kind.TheVariants.Soli (statement.TheVariants.Soli ls) = SpellsLiterals limit top ls
   SpellsRest kind.TheVariants.Solx (statement.TheVariants.Solx ls) = SpellsLiterals limit top ls
   SpellsRest kind.TheVariants.Delete (statement.TheVariants.Delete ids) = SpellsIds limit top ids
-  SpellsRest kind.TheVariants.Conclusion (statement.TheVariants.Conclude c) = SpellsClaim limit top c
+  SpellsRest kind.TheVariants.Conclusion (statement.TheVariants.Conclude c) = SpellsConclusionLine limit top c
   SpellsRest _ _ = λ t. ⊥

@@ -14,8 +14,8 @@ use Rattle.pb_proof.specs.declared.line.pol.phase.Phase.{Phase}
 use Rattle.pb_proof.specs.declared.line.pol.phase.Phase.TheVariants as phase
 use Rattle.pb_proof.specs.declared.line.pol.phase.Change.{Change}
 use Rattle.pb_proof.specs.declared.line.pol.phase.Change.TheVariants as change
-use Rattle.pb_proof.specs.declared.line.pol.phase.Move.{Move}
-use Rattle.pb_proof.specs.declared.line.pol.phase.Move.TheVariants as move
+use Rattle.pb_proof.specs.declared.line.pol.phase.Action.{Action}
+use Rattle.pb_proof.specs.declared.line.pol.phase.Action.TheVariants as action
 
 -- The kinds of bytes.
 -- the kind of a letter
@@ -114,12 +114,12 @@ bound limit top zero = top
 bound limit top (suc depth) = max limit top
 
 -- one more digit after `-`
-abbrev pub signed : ℕ → ℕ → ℕ → Move
-signed top n d = cond (nat_le (10 * n + d) top) (move.To (phase.Signed (10 * n + d))) move.Stop
+abbrev pub signed : ℕ → ℕ → ℕ → Action
+signed top n d = cond (nat_le (10 * n + d) top) (action.To (phase.Signed (10 * n + d))) action.Stop
 
 -- one more digit of a number without a sign
-abbrev pub number : ℕ → ℕ → ℕ → ℕ → ℕ → Move
-number limit top depth n d = cond (nat_le (10 * n + d) (bound limit top depth)) (move.To (phase.Number (10 * n + d))) move.Stop
+abbrev pub number : ℕ → ℕ → ℕ → ℕ → ℕ → Action
+number limit top depth n d = cond (nat_le (10 * n + d) (bound limit top depth)) (action.To (phase.Number (10 * n + d))) action.Stop
 
 -- what the end of a word does and how the word may still change, or none if it may not end
 abbrev pub Closing : Type 0
@@ -159,19 +159,19 @@ close limit top depth (phase.Name negated) = Some (change.Axiom negated, held_na
 close limit top depth _ = None
 
 -- a blank ends a word
-abbrev pub blank : Closing → Move
-blank None = move.Stop
-blank (Some (c, h)) = move.Turn c (phase.Gap h)
+abbrev pub blank : Closing → Action
+blank None = action.Stop
+blank (Some (c, h)) = action.Turn c (phase.Gap h)
 
 -- the words may end with `;` if they are one expression
-abbrev pub semicolon : ℕ → Closing → Move
-semicolon depth None = move.Stop
-semicolon depth (Some (c, h)) = cond (nat_eq (counted c depth) 1) (move.Turn c phase.Ending) move.Stop
+abbrev pub semicolon : ℕ → Closing → Action
+semicolon depth None = action.Stop
+semicolon depth (Some (c, h)) = cond (nat_eq (counted c depth) 1) (action.Turn c phase.Ending) action.Stop
 
 -- likewise, the line feed may end the line if the words are one expression
-abbrev pub feed : ℕ → Closing → Move
-feed depth None = move.Stop
-feed depth (Some (c, h)) = cond (nat_eq (counted c depth) 1) (move.End c) move.Stop
+abbrev pub feed : ℕ → Closing → Action
+feed depth None = action.Stop
+feed depth (Some (c, h)) = cond (nat_eq (counted c depth) 1) (action.End c) action.Stop
 
 -- the role of the first letter of a word
 abbrev pub role_of : ℕ → Held → Kind → Role
@@ -181,27 +181,27 @@ role_of depth h kind.S = cond (nat_le 1 depth) role.Saturate role.Name
 role_of depth h k = role.Name
 
 -- the action after a factor that is too large for an id
-abbrev pub next_large : Kind → Move
-next_large kind.Star = move.Turn change.Multiply phase.After
-next_large kind.D = move.Begin (phase.Lone role.DivideLarge)
-next_large _ = move.Stop
+abbrev pub next_large : Kind → Action
+next_large kind.Star = action.Turn change.Multiply phase.After
+next_large kind.D = action.Begin (phase.Lone role.DivideLarge)
+next_large _ = action.Stop
 
 -- `*` takes the number before it
-abbrev pub star : Held → Move
-star held.Number = move.Turn change.Multiply phase.After
-star _ = move.Stop
+abbrev pub star : Held → Action
+star held.Number = action.Turn change.Multiply phase.After
+star _ = action.Stop
 
 -- the action after another word
-abbrev pub next_word : ℕ → ℕ → ℕ → Held → Kind → Move
+abbrev pub next_word : ℕ → ℕ → ℕ → Held → Kind → Action
 next_word limit top depth h (kind.Digit d) = number limit top depth 0 d
-next_word limit top depth h kind.Minus = move.To phase.Minus
-next_word limit top depth h kind.Tilde = move.To phase.Tilde
-next_word limit top depth h kind.Plus = cond (nat_le 2 depth) (move.Turn change.Sum phase.After) move.Stop
+next_word limit top depth h kind.Minus = action.To phase.Minus
+next_word limit top depth h kind.Tilde = action.To phase.Tilde
+next_word limit top depth h kind.Plus = cond (nat_le 2 depth) (action.Turn change.Sum phase.After) action.Stop
 next_word limit top depth h kind.Star = star h
-next_word limit top depth h k = cond (is_letter_kind k) (move.Begin (phase.Lone (role_of depth h k))) move.Stop
+next_word limit top depth h k = cond (is_letter_kind k) (action.Begin (phase.Lone (role_of depth h k))) action.Stop
 
 -- the action for the first byte of a word
-abbrev pub next : ℕ → ℕ → ℕ → Held → Kind → Move
+abbrev pub next : ℕ → ℕ → ℕ → Held → Kind → Action
 next limit top depth held.Large k = next_large k
 next limit top depth h k = next_word limit top depth h k
 
@@ -211,25 +211,26 @@ may_be_name role.DivideLarge = false
 may_be_name _ = true
 
 -- the action for a further byte of a word
-abbrev pub read : ℕ → ℕ → ℕ → Phase → Kind → Move
+abbrev pub read : ℕ → ℕ → ℕ → Phase → Kind → Action
 read limit top depth (phase.Gap h) k = next limit top depth h k
 read limit top depth phase.Minus (kind.Digit d) = signed top 0 d
 read limit top depth (phase.Signed n) (kind.Digit d) = signed top n d
 read limit top depth (phase.Number n) (kind.Digit d) = number limit top depth n d
-read limit top depth phase.Tilde k = cond (is_letter_kind k) (move.Begin phase.First) move.Stop
-read limit top depth phase.First k = cond (is_name_kind k) (move.Add (phase.Name true)) move.Stop
-read limit top depth (phase.Lone r) k = cond (may_be_name r && is_name_kind k) (move.Add (phase.Name false)) move.Stop
-read limit top depth (phase.Name negated) k = cond (is_name_kind k) (move.Add (phase.Name negated)) move.Stop
-read limit top depth _ _ = move.Stop
+read limit top depth phase.Tilde k = cond (is_letter_kind k) (action.Begin phase.First) action.Stop
+read limit top depth phase.First k = cond (is_name_kind k) (action.Add (phase.Name true)) action.Stop
+read limit top depth (phase.Lone r) k =
+    cond (may_be_name r && is_name_kind k) (action.Add (phase.Name false)) action.Stop
+read limit top depth (phase.Name negated) k = cond (is_name_kind k) (action.Add (phase.Name negated)) action.Stop
+read limit top depth _ _ = action.Stop
 
 -- the action after the `;`
-abbrev pub late : Kind → Move
-late kind.Blank = move.To phase.Ending
-late kind.Feed = move.End change.Keep
-late _ = move.Stop
+abbrev pub late : Kind → Action
+late kind.Blank = action.To phase.Ending
+late kind.Feed = action.End change.Keep
+late _ = action.Stop
 
 -- the whole transition
-abbrev pub plan : ℕ → ℕ → ℕ → Phase → Kind → Move
+abbrev pub plan : ℕ → ℕ → ℕ → Phase → Kind → Action
 plan limit top depth phase.Ending k = late k
 plan limit top depth p kind.Blank = blank (close limit top depth p)
 plan limit top depth p kind.Semicolon = semicolon depth (close limit top depth p)
@@ -261,13 +262,13 @@ abbrev pub Outcome : Type 0
 Outcome = Next Work (List PolWord)
 
 -- what an action does
-abbrev pub act : Work → ℕ → Move → Outcome
-act w b (move.To p) = Go (work w.words w.depth w.name p)
-act w b (move.Begin p) = Go (work w.words w.depth (b ∷ []) p)
-act w b (move.Add p) = Go (work w.words w.depth (w.name ++ b ∷ []) p)
-act w b (move.Turn c p) = Go (work (changed c w.words w.name) (counted c w.depth) [] p)
-act w b (move.End c) = End (changed c w.words w.name) finished
-act w b move.Stop = Refuse
+abbrev pub act : Work → ℕ → Action → Outcome
+act w b (action.To p) = Go (work w.words w.depth w.name p)
+act w b (action.Begin p) = Go (work w.words w.depth (b ∷ []) p)
+act w b (action.Add p) = Go (work w.words w.depth (w.name ++ b ∷ []) p)
+act w b (action.Turn c p) = Go (work (changed c w.words w.name) (counted c w.depth) [] p)
+act w b (action.End c) = End (changed c w.words w.name) finished
+act w b action.Stop = Refuse
 
 -- the step for one byte
 abbrev pub step : ℕ → ℕ → Work → ℕ → Outcome
@@ -283,11 +284,11 @@ adds change.Sum = true
 adds _ = false
 
 -- the actions that may allocate: at a byte of a name, and with a change that adds a word
-abbrev pub wants : Move → Bool
-wants (move.Begin p) = true
-wants (move.Add p) = true
-wants (move.Turn c p) = adds c
-wants (move.End c) = adds c
+abbrev pub wants : Action → Bool
+wants (action.Begin p) = true
+wants (action.Add p) = true
+wants (action.Turn c p) = adds c
+wants (action.End c) = adds c
 wants _ = false
 
 -- Invariants of the numbers, and of the bytes of names.
@@ -303,9 +304,11 @@ PhaseFits limit top depth (phase.Number n) = n ≤ bound limit top depth
 PhaseFits limit top depth _ = Unit {0}
 
 -- what an action leads to
-abbrev pub MoveFits : ℕ → ℕ → ℕ → Kind → Move → Type 0
-MoveFits limit top depth k (move.To p) = PhaseFits limit top depth p × (is_midway p ≡ true)
-MoveFits limit top depth k (move.Begin p) = PhaseFits limit top depth p × (is_midway p ≡ true) × (is_name_kind k ≡ true)
-MoveFits limit top depth k (move.Add p) = PhaseFits limit top depth p × (is_midway p ≡ true) × (is_name_kind k ≡ true)
-MoveFits limit top depth k (move.Turn c p) = PhaseFits limit top (counted c depth) p × (is_midway p ≡ true)
-MoveFits limit top depth k _ = Unit {0}
+abbrev pub ActionFits : ℕ → ℕ → ℕ → Kind → Action → Type 0
+ActionFits limit top depth k (action.To p) = PhaseFits limit top depth p × (is_midway p ≡ true)
+ActionFits limit top depth k (action.Begin p) =
+    PhaseFits limit top depth p × (is_midway p ≡ true) × (is_name_kind k ≡ true)
+ActionFits limit top depth k (action.Add p) =
+    PhaseFits limit top depth p × (is_midway p ≡ true) × (is_name_kind k ≡ true)
+ActionFits limit top depth k (action.Turn c p) = PhaseFits limit top (counted c depth) p × (is_midway p ≡ true)
+ActionFits limit top depth k _ = Unit {0}

@@ -11,8 +11,8 @@ use Rattle.pb_sums.specs.declared.SumEvent.{SumEvent}
 use Rattle.pb_sums.specs.declared.SumEvent as sum
 use Rattle.pb_proof.specs.declared.line.rup.phase.RupPhase.{RupPhase}
 use Rattle.pb_proof.specs.declared.line.rup.phase.RupPhase.TheVariants.{Start, Gap, Inside, Tail, Done}
-use Rattle.pb_proof.specs.declared.line.rup.phase.RupMove.{RupMove}
-use Rattle.pb_proof.specs.declared.line.rup.phase.RupMove.TheVariants.{To, Give, Finish, Stop}
+use Rattle.pb_proof.specs.declared.line.rup.phase.RupAction.{RupAction}
+use Rattle.pb_proof.specs.declared.line.rup.phase.RupAction.TheVariants.{To, Give, Finish, Stop}
 
 -- what was read last, the machine for sums, and the constraint that it has read
 pub record RupState : Type 0 where
@@ -33,7 +33,7 @@ rup_first limit = record { phase = Start; sums = sum_first limit; linear = None 
 abbrev pub rup_last : ℕ → RupState
 rup_last limit = record { phase = Done; sums = sum_last limit; linear = None }
 
-abbrev pub rup_plan : RupPhase → ℕ → RupMove
+abbrev pub rup_plan : RupPhase → ℕ → RupAction
 rup_plan Start b = cond (is_blank b) (To Gap) Stop
 rup_plan Gap b = cond (is_blank b) (To Gap) Give
 rup_plan Inside b = Give
@@ -54,7 +54,7 @@ abbrev pub rup_finish : RupState → Option Linear → Next RupState Linear
 rup_finish s None = Refuse
 rup_finish s (Some c) = End c (record s { phase = Done; linear = None })
 
-abbrev pub rup_act : RupState → ℕ → RupMove → Next RupState Linear
+abbrev pub rup_act : RupState → ℕ → RupAction → Next RupState Linear
 rup_act s b (To p) = Go (record s { phase = p })
 rup_act s b Give = rup_over s (sums.step s.sums b)
 rup_act s b Finish = rup_finish s s.linear
@@ -73,7 +73,7 @@ abbrev pub rup_in_number : RupState → RupPhase → Bool
 rup_in_number s Inside = sums.in_number s.sums
 rup_in_number s _ = false
 
-abbrev pub rup_asks : RupState → ℕ → RupMove → Bool
+abbrev pub rup_asks : RupState → ℕ → RupAction → Bool
 rup_asks s b Give = sums.asks s.sums b
 rup_asks s b _ = false
 

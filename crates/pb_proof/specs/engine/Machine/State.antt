@@ -10,8 +10,8 @@ use Rattle.pb_proof.specs.declared.machine.phase.LineKind.{LineKind}
 use Rattle.pb_proof.specs.declared.machine.phase.LineKind as kind
 use Rattle.pb_proof.specs.declared.machine.phase.Phase.{Phase}
 use Rattle.pb_proof.specs.declared.machine.phase.Phase as phase
-use Rattle.pb_proof.specs.declared.machine.phase.Move.{Move}
-use Rattle.pb_proof.specs.declared.machine.phase.Move.TheVariants.{To, Begin, Give, EndHeader, EndOutput, EndProof, Stop}
+use Rattle.pb_proof.specs.declared.machine.phase.Action.{Action}
+use Rattle.pb_proof.specs.declared.machine.phase.Action.TheVariants.{To, Begin, Give, EndHeader, EndOutput, EndProof, Stop}
 use Rattle.pb_proof.specs.declared.statement.Statement.{Statement}
 use Rattle.pb_proof.specs.declared.statement.Statement as statement
 
@@ -39,25 +39,25 @@ abbrev pub giving : ℕ → ℕ → LineKind → LineMachine → ProofState
 giving limit top r line = record { limit = limit; top = top; phase = phase.TheVariants.Inside r; line = Some line }
 
 -- the stage after a statement
-abbrev pub stage_behind : LineKind → Stage
-stage_behind kind.TheVariants.Conclusion = stage.TheVariants.Closing
-stage_behind _ = stage.TheVariants.Steps
+abbrev pub next_stage : LineKind → Stage
+next_stage kind.TheVariants.Conclusion = stage.TheVariants.Closing
+next_stage _ = stage.TheVariants.Steps
 
 abbrev pub over : ProofState → LineKind → Next LineMachine Statement → Next ProofState Statement
 over s r (Go line) = Go (giving s.limit s.top r line)
-over s r (End e line) = End e (idle s.limit s.top (stage_behind r))
+over s r (End e line) = End e (idle s.limit s.top (next_stage r))
 over s r Refuse = Refuse
 
 abbrev pub step_line : Option LineMachine → ℕ → Next LineMachine Statement
 step_line None b = Refuse
 step_line (Some line) b = line_automaton.step line b
 
-abbrev pub act : ProofState → ℕ → Move → Next ProofState Statement
+abbrev pub act : ProofState → ℕ → Action → Next ProofState Statement
 act s b (To p) = Go (record s { phase = p })
 act s b (Begin r) = Go (giving s.limit s.top r (line_first s.limit s.top r))
 act s b (Give r) = over s r (step_line s.line b)
 act s b EndHeader = End statement.TheVariants.Header (idle s.limit s.top stage.TheVariants.Formula)
-act s b EndOutput = End statement.TheVariants.Output (idle s.limit s.top stage.TheVariants.Claim)
+act s b EndOutput = End statement.TheVariants.Output (idle s.limit s.top stage.TheVariants.Concluding)
 act s b EndProof = End statement.TheVariants.End (idle s.limit s.top stage.TheVariants.Complete)
 act s b Stop = Refuse
 
@@ -81,7 +81,7 @@ asked none ask None = none
 asked none ask (Some line) = ask line
 
 -- only the line machine may allocate
-abbrev pub asks : ProofState → ℕ → Move → Bool
+abbrev pub asks : ProofState → ℕ → Action → Bool
 asks s b (Give r) = asked false (λ i. line_automaton.asks i b) s.line
 asks s b _ = false
 

@@ -9,8 +9,8 @@ use Rattle.pb_proof.specs.declared.machine.phase.Keyword.TheVariants as keyword
 use Rattle.pb_proof.specs.declared.machine.phase.LineKind.TheVariants as kind
 use Rattle.pb_proof.specs.declared.machine.phase.Phase.{Phase}
 use Rattle.pb_proof.specs.declared.machine.phase.Phase as phase
-use Rattle.pb_proof.specs.declared.machine.phase.Move.{Move}
-use Rattle.pb_proof.specs.declared.machine.phase.Move.TheVariants.{To, Begin, Give, EndHeader, EndOutput, EndProof, Stop}
+use Rattle.pb_proof.specs.declared.machine.phase.Action.{Action}
+use Rattle.pb_proof.specs.declared.machine.phase.Action.TheVariants.{To, Begin, Give, EndHeader, EndOutput, EndProof, Stop}
 
 -- `sol`
 abbrev pub sol_word : List ℕ
@@ -29,25 +29,25 @@ words_of keyword.Conclusion = conclusion_word
 words_of keyword.End = end_word ++ 32 ∷ pseudo_word ++ 32 ∷ proof_word
 
 -- the action after the words
-abbrev pub behind : Keyword → Move
-behind keyword.Header = To phase.TheVariants.HeaderEnd
-behind keyword.Formula = Begin kind.Count
-behind keyword.Pol = Begin kind.Pol
-behind keyword.Rup = Begin kind.Rup
-behind keyword.Solution = To phase.TheVariants.Solution
-behind keyword.Delete = Begin kind.Delete
-behind keyword.Output = To (phase.TheVariants.OutputEnd true)
-behind keyword.Conclusion = Begin kind.Conclusion
-behind keyword.End = EndProof
+abbrev pub next_action : Keyword → Action
+next_action keyword.Header = To phase.TheVariants.HeaderEnd
+next_action keyword.Formula = Begin kind.Count
+next_action keyword.Pol = Begin kind.Pol
+next_action keyword.Rup = Begin kind.Rup
+next_action keyword.Solution = To phase.TheVariants.Solution
+next_action keyword.Delete = Begin kind.Delete
+next_action keyword.Output = To (phase.TheVariants.OutputEnd true)
+next_action keyword.Conclusion = Begin kind.Conclusion
+next_action keyword.End = EndProof
 
 -- the byte is the expected byte of the words or, if that is a space, a blank
 abbrev pub meets : ℕ → ℕ → Bool
 meets c b = cond (nat_eq c 32) (is_blank b) (nat_eq b c)
 
 -- the action for the next byte of the words, after k bytes of them, or else another action
-abbrev pub spell : Keyword → ℕ → ℕ → Move → Move
+abbrev pub spell : Keyword → ℕ → ℕ → Action → Action
 spell f k b other =
-    cond (meets (slice_index (words_of f) k) b) (cond (nat_eq (k + 1) (length (words_of f))) (behind f) (To (phase.TheVariants.Spelling f (k + 1)))) other
+    cond (meets (slice_index (words_of f) k) b) (cond (nat_eq (k + 1) (length (words_of f))) (next_action f) (To (phase.TheVariants.Spelling f (k + 1)))) other
 
 -- the words of the step that begins with the byte, or else those of the output
 abbrev pub step_keyword : ℕ → Keyword
@@ -58,26 +58,26 @@ step_keyword b =
     (cond (nat_eq b 100) keyword.Delete keyword.Output)))
 
 -- the action for the first byte of a statement
-abbrev pub enter : Stage → ℕ → Move
+abbrev pub enter : Stage → ℕ → Action
 enter stage.TheVariants.Opening b = spell keyword.Header 0 b Stop
 enter stage.TheVariants.Formula b = spell keyword.Formula 0 b Stop
 enter stage.TheVariants.Steps b = spell (step_keyword b) 0 b Stop
-enter stage.TheVariants.Claim b = spell keyword.Conclusion 0 b Stop
+enter stage.TheVariants.Concluding b = spell keyword.Conclusion 0 b Stop
 enter stage.TheVariants.Closing b = spell keyword.End 0 b Stop
 enter stage.TheVariants.Complete b = Stop
 
 -- the action between two statements
-abbrev pub pass : Stage → ℕ → Move
+abbrev pub pass : Stage → ℕ → Action
 pass at b =
     cond (is_white b) (To (phase.TheVariants.Between at))
     (cond (nat_eq b 42) (To (phase.TheVariants.Comment at)) (enter at b))
 
-abbrev pub between : Stage → ℕ → Move
+abbrev pub between : Stage → ℕ → Action
 between stage.TheVariants.Opening b = enter stage.TheVariants.Opening b
 between stage.TheVariants.Complete b = Stop
 between at b = pass at b
 
-abbrev pub plan : Phase → ℕ → Move
+abbrev pub plan : Phase → ℕ → Action
 plan (phase.TheVariants.Between at) b = between at b
 plan (phase.TheVariants.Comment at) b = To (cond (nat_eq b 10) (phase.TheVariants.Between at) (phase.TheVariants.Comment at))
 plan (phase.TheVariants.Spelling f k) b =

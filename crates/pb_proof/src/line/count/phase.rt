@@ -19,7 +19,7 @@ pub enum CountPhase {
 
 /// What the machine does with a byte.
 #[derive(Clone, Copy, Drop)]
-pub enum CountMove {
+pub enum CountAction {
     /// Continues in this phase.
     To(CountPhase),
     /// Ends the line.

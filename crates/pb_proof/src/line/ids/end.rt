@@ -5,7 +5,7 @@ ghost use Rattle.pb_text.specs.contract.Automaton.{Closes, IsState};
 ghost use Rattle.pb_proof.specs.engine.Line.Ids.{ids_automaton};
 
 use crate::line::classes::number_byte;
-use crate::line::ids::phase::{IdsMove, IdsPhase};
+use crate::line::ids::phase::{IdsAction, IdsPhase};
 use crate::line::ids::{IdsMachine, plan};
 use pb_text::{Machine, Sequence};
 use std::mem;
@@ -19,11 +19,11 @@ impl IdsMachine {
     {
         let _ = self.is_done();
         match plan(self.top, self.phase, number_byte(byte)) {
-            IdsMove::End => {
+            IdsAction::End => {
                 self.phase = IdsPhase::Done;
                 Some(mem::replace(&mut self.ids, Sequence::new(self.alloc)))
             }
-            IdsMove::EndWith(id) => {
+            IdsAction::EndWith(id) => {
                 if self.ids.push(id).is_err() {
                     return None;
                 }

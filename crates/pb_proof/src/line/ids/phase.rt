@@ -21,7 +21,7 @@ pub enum IdsPhase {
 
 /// What the machine does with a byte.
 #[derive(Clone, Copy, Drop)]
-pub enum IdsMove {
+pub enum IdsAction {
     /// Continues in this phase.
     To(IdsPhase),
     /// Stores an id.

@@ -21,7 +21,7 @@ pub enum LiteralsPhase {
 
 /// What the machine does with a byte.
 #[derive(Clone, Copy, Drop)]
-pub enum LiteralsMove {
+pub enum LiteralsAction {
     /// Continues in this phase. A complete name ends its literal.
     To(LiteralsPhase),
     /// Begins a name with a byte.

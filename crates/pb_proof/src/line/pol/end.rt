@@ -6,7 +6,7 @@ ghost use Rattle.pb_proof.specs.engine.Line.PolState.{pol_automaton};
 
 use crate::line::pol::PolMachine;
 use crate::line::pol::kind::kind_of;
-use crate::line::pol::phase::Move;
+use crate::line::pol::phase::Action;
 use crate::line::pol::transition::plan;
 use crate::line::pol::words::finish;
 use crate::word::PolWord;
@@ -21,7 +21,7 @@ impl PolMachine {
     {
         let _ = self.is_done();
         match plan(self.limit, self.top, self.depth, self.phase, kind_of(byte)) {
-            Move::End(change) => {
+            Action::End(change) => {
                 let Ok(words) = finish(
                     self.alloc,
                     &mut self.words,
@@ -34,7 +34,8 @@ impl PolMachine {
                 };
                 Some(words)
             }
-            Move::To(_) | Move::Begin(_) | Move::Add(_) | Move::Turn(_, _) | Move::Stop => None,
+            Action::To(_) | Action::Begin(_) | Action::Add(_) | Action::Turn(_, _) | Action::Stop =>
+                None,
         }
     }
 }

@@ -103,7 +103,7 @@ pub enum Change {
 
 /// What the machine does with a byte.
 #[derive(Clone, Copy)]
-pub enum Move {
+pub enum Action {
     /// Continues in this phase.
     To(Phase),
     /// Begins a name with the byte.

@@ -1,12 +1,12 @@
 //! What the machine for postfix words does with a kind of byte.
 
 ghost use Rattle.std.specs.Prelude.{◌≡◌, ℕ, ◌+◌, ◌*◌, ◌<◌, ◌^◌, nat_le};
-ghost use Rattle.pb_proof.specs.engine.Line.Pol.{is_in_number, is_done, bound, signed, number, blank, semicolon, feed, role_of, next_large, star, next_word, next, may_be_name, read, late, plan, KindFits, PhaseFits, MoveFits};
+ghost use Rattle.pb_proof.specs.engine.Line.Pol.{is_in_number, is_done, bound, signed, number, blank, semicolon, feed, role_of, next_large, star, next_word, next, may_be_name, read, late, plan, KindFits, PhaseFits, ActionFits};
 ghost use Rattle.pb_proof.specs.engine.Line.PolState.{in_hand};
 
 use crate::line::pol::close::{close, counted};
 use crate::line::pol::kind::{is_letter_kind, is_name_kind};
-use crate::line::pol::phase::{Change, Held, Kind, Move, Phase, Role};
+use crate::line::pol::phase::{Action, Change, Held, Kind, Phase, Role};
 use pb_text::decimal::next_digit;
 
 /// Whether the last byte read is a digit of a number.
@@ -50,57 +50,57 @@ fn bound(limit: u128, top: u64, depth: usize) -> u128
     limit
 }
 
-fn signed(top: u64, magnitude: u128, digit: u8) -> Move
+fn signed(top: u64, magnitude: u128, digit: u8) -> Action
     requires digit { digit < 10 }
     ensures plan { result ≡ signed top magnitude digit }
-    ensures fits { (limit depth : ℕ) (kind : Kind) → MoveFits limit top depth kind result }
+    ensures fits { (limit depth : ℕ) (kind : Kind) → ActionFits limit top depth kind result }
 {
     match next_digit(top as u128, magnitude, digit) {
-        None => Move::Stop,
-        Some(next) => Move::To(Phase::Signed(next)),
+        None => Action::Stop,
+        Some(next) => Action::To(Phase::Signed(next)),
     }
 }
 
-fn number(limit: u128, top: u64, depth: usize, magnitude: u128, digit: u8) -> Move
+fn number(limit: u128, top: u64, depth: usize, magnitude: u128, digit: u8) -> Action
     requires digit { digit < 10 }
     ensures plan { result ≡ number limit top depth magnitude digit }
-    ensures fits { (kind : Kind) → MoveFits limit top depth kind result }
+    ensures fits { (kind : Kind) → ActionFits limit top depth kind result }
 {
     match next_digit(bound(limit, top, depth), magnitude, digit) {
-        None => Move::Stop,
-        Some(next) => Move::To(Phase::Number(next)),
+        None => Action::Stop,
+        Some(next) => Action::To(Phase::Number(next)),
     }
 }
 
-fn blank(closing: Option<(Change, Held)>) -> Move
+fn blank(closing: Option<(Change, Held)>) -> Action
     ensures plan { result ≡ blank closing }
-    ensures fits { (limit top depth : ℕ) (kind : Kind) → MoveFits limit top depth kind result }
+    ensures fits { (limit top depth : ℕ) (kind : Kind) → ActionFits limit top depth kind result }
 {
     match closing {
-        None => Move::Stop,
-        Some((change, held)) => Move::Turn(change, Phase::Gap(held)),
+        None => Action::Stop,
+        Some((change, held)) => Action::Turn(change, Phase::Gap(held)),
     }
 }
 
-fn semicolon(depth: usize, closing: Option<(Change, Held)>) -> Move
+fn semicolon(depth: usize, closing: Option<(Change, Held)>) -> Action
     requires { depth < 2 ^ 63 }
     ensures plan { result ≡ semicolon depth closing }
-    ensures fits { (limit top : ℕ) (kind : Kind) → MoveFits limit top depth kind result }
+    ensures fits { (limit top : ℕ) (kind : Kind) → ActionFits limit top depth kind result }
 {
     match closing {
-        Some((change, _)) if counted(change, depth) == 1 => Move::Turn(change, Phase::Ending),
-        _ => Move::Stop,
+        Some((change, _)) if counted(change, depth) == 1 => Action::Turn(change, Phase::Ending),
+        _ => Action::Stop,
     }
 }
 
-fn feed(depth: usize, closing: Option<(Change, Held)>) -> Move
+fn feed(depth: usize, closing: Option<(Change, Held)>) -> Action
     requires { depth < 2 ^ 63 }
     ensures plan { result ≡ feed depth closing }
-    ensures fits { (limit top : ℕ) (kind : Kind) → MoveFits limit top depth kind result }
+    ensures fits { (limit top : ℕ) (kind : Kind) → ActionFits limit top depth kind result }
 {
     match closing {
-        Some((change, _)) if counted(change, depth) == 1 => Move::End(change),
-        _ => Move::Stop,
+        Some((change, _)) if counted(change, depth) == 1 => Action::End(change),
+        _ => Action::Stop,
     }
 }
 
@@ -115,50 +115,50 @@ fn role_of(depth: usize, held: Held, kind: Kind) -> Role
     }
 }
 
-fn next_large(kind: Kind) -> Move
+fn next_large(kind: Kind) -> Action
     ensures plan { result ≡ next_large kind }
-    ensures fits { (limit top depth : ℕ) → MoveFits limit top depth kind result }
+    ensures fits { (limit top depth : ℕ) → ActionFits limit top depth kind result }
 {
     match kind {
-        Kind::Star => Move::Turn(Change::Multiply, Phase::After),
-        Kind::D => Move::Begin(Phase::Lone(Role::DivideLarge)),
-        _ => Move::Stop,
+        Kind::Star => Action::Turn(Change::Multiply, Phase::After),
+        Kind::D => Action::Begin(Phase::Lone(Role::DivideLarge)),
+        _ => Action::Stop,
     }
 }
 
-fn star(held: Held) -> Move
+fn star(held: Held) -> Action
     ensures plan { result ≡ star held }
-    ensures fits { (limit top depth : ℕ) (kind : Kind) → MoveFits limit top depth kind result }
+    ensures fits { (limit top depth : ℕ) (kind : Kind) → ActionFits limit top depth kind result }
 {
     match held {
-        Held::Number => Move::Turn(Change::Multiply, Phase::After),
-        _ => Move::Stop,
+        Held::Number => Action::Turn(Change::Multiply, Phase::After),
+        _ => Action::Stop,
     }
 }
 
-fn next_word(limit: u128, top: u64, depth: usize, held: Held, kind: Kind) -> Move
+fn next_word(limit: u128, top: u64, depth: usize, held: Held, kind: Kind) -> Action
     requires limit { limit < 2 ^ 127 }
     requires kind { KindFits kind }
     ensures plan { result ≡ next_word limit top depth held kind }
-    ensures fits { MoveFits limit top depth kind result }
+    ensures fits { ActionFits limit top depth kind result }
 {
     match kind {
         Kind::Digit(digit) => number(limit, top, depth, 0, digit),
-        Kind::Minus => Move::To(Phase::Minus),
-        Kind::Tilde => Move::To(Phase::Tilde),
-        Kind::Plus if depth >= 2 => Move::Turn(Change::Sum, Phase::After),
+        Kind::Minus => Action::To(Phase::Minus),
+        Kind::Tilde => Action::To(Phase::Tilde),
+        Kind::Plus if depth >= 2 => Action::Turn(Change::Sum, Phase::After),
         Kind::Star => star(held),
-        _ if is_letter_kind(kind) => Move::Begin(Phase::Lone(role_of(depth, held, kind))),
-        _ => Move::Stop,
+        _ if is_letter_kind(kind) => Action::Begin(Phase::Lone(role_of(depth, held, kind))),
+        _ => Action::Stop,
     }
 }
 
 /// The action for the first byte of a word.
-fn next(limit: u128, top: u64, depth: usize, held: Held, kind: Kind) -> Move
+fn next(limit: u128, top: u64, depth: usize, held: Held, kind: Kind) -> Action
     requires limit { limit < 2 ^ 127 }
     requires kind { KindFits kind }
     ensures plan { result ≡ next limit top depth held kind }
-    ensures fits { MoveFits limit top depth kind result }
+    ensures fits { ActionFits limit top depth kind result }
 {
     match held {
         Held::Large => next_large(kind),
@@ -176,50 +176,50 @@ fn may_be_name(role: Role) -> bool
 }
 
 /// The action for a further byte of a word.
-fn read(limit: u128, top: u64, depth: usize, phase: Phase, kind: Kind) -> Move
+fn read(limit: u128, top: u64, depth: usize, phase: Phase, kind: Kind) -> Action
     requires limit { limit < 2 ^ 127 }
     requires phase { PhaseFits limit top depth phase }
     requires kind { KindFits kind }
     ensures plan { result ≡ read limit top depth phase kind }
-    ensures fits { MoveFits limit top depth kind result }
+    ensures fits { ActionFits limit top depth kind result }
 {
     match (phase, kind) {
         (Phase::Gap(held), _) => next(limit, top, depth, held, kind),
         (Phase::Minus, Kind::Digit(digit)) => signed(top, 0, digit),
         (Phase::Signed(n), Kind::Digit(digit)) => signed(top, n, digit),
         (Phase::Number(n), Kind::Digit(digit)) => number(limit, top, depth, n, digit),
-        (Phase::Tilde, _) if is_letter_kind(kind) => Move::Begin(Phase::First),
-        (Phase::First, _) if is_name_kind(kind) => Move::Add(Phase::Name(true)),
+        (Phase::Tilde, _) if is_letter_kind(kind) => Action::Begin(Phase::First),
+        (Phase::First, _) if is_name_kind(kind) => Action::Add(Phase::Name(true)),
         (Phase::Lone(role), _) if may_be_name(role) && is_name_kind(kind) => {
-            Move::Add(Phase::Name(false))
+            Action::Add(Phase::Name(false))
         }
-        (Phase::Name(negated), _) if is_name_kind(kind) => Move::Add(Phase::Name(negated)),
-        _ => Move::Stop,
+        (Phase::Name(negated), _) if is_name_kind(kind) => Action::Add(Phase::Name(negated)),
+        _ => Action::Stop,
     }
 }
 
 /// The action for a byte after the `;`.
-fn late(kind: Kind) -> Move
+fn late(kind: Kind) -> Action
     ensures plan { result ≡ late kind }
-    ensures fits { (limit top depth : ℕ) → MoveFits limit top depth kind result }
+    ensures fits { (limit top depth : ℕ) → ActionFits limit top depth kind result }
 {
     match kind {
-        Kind::Blank => Move::To(Phase::Ending),
-        Kind::Feed => Move::End(Change::Keep),
-        _ => Move::Stop,
+        Kind::Blank => Action::To(Phase::Ending),
+        Kind::Feed => Action::End(Change::Keep),
+        _ => Action::Stop,
     }
 }
 
 /// What the machine does with a kind of byte. This does not allocate.
 #[inline(always)]
-pub fn plan(limit: u128, top: u64, depth: usize, phase: Phase, kind: Kind) -> Move
+pub fn plan(limit: u128, top: u64, depth: usize, phase: Phase, kind: Kind) -> Action
     requires limit { limit < 2 ^ 127 }
     requires top { top < 2 ^ 63 }
     requires depth { depth < 2 ^ 63 }
     requires phase { PhaseFits limit top depth phase }
     requires kind { KindFits kind }
     ensures plan { result ≡ plan limit top depth phase kind }
-    ensures fits { MoveFits limit top depth kind result }
+    ensures fits { ActionFits limit top depth kind result }
 {
     match (phase, kind) {
         (Phase::Ending, _) => late(kind),

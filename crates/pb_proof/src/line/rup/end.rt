@@ -4,7 +4,7 @@ ghost use Rattle.std.specs.Prelude.{◌≡◌};
 ghost use Rattle.pb_text.specs.contract.Automaton.{Closes};
 ghost use Rattle.pb_proof.specs.engine.Line.Rup.{rup_automaton, rup_plan};
 
-use crate::line::rup::phase::{RupMove, RupPhase};
+use crate::line::rup::phase::{RupAction, RupPhase};
 use crate::line::rup::{RupMachine, rup_plan};
 use pb_sums::Linear;
 use std::mem;
@@ -16,7 +16,7 @@ impl RupMachine {
         ensures { Closes rup_automaton self.old byte result self.new }
     {
         match rup_plan(self.phase, byte) {
-            RupMove::Finish => self.give_linear(byte),
+            RupAction::Finish => self.give_linear(byte),
             _ => None,
         }
     }
@@ -24,7 +24,7 @@ impl RupMachine {
     /// Returns the constraint, if there is one.
     #[inline(always)]
     fn give_linear(&mut self, byte: u8) -> Option<Linear>
-        requires { rup_plan self.old.phase byte ≡ RupMove.Finish }
+        requires { rup_plan self.old.phase byte ≡ RupAction.Finish }
         ensures { Closes rup_automaton self.old byte result self.new }
     {
         match mem::replace(&mut self.linear, None) {

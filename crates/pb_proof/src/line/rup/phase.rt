@@ -17,7 +17,7 @@ pub enum RupPhase {
 
 /// What the machine does with a byte.
 #[derive(Clone, Copy, Drop)]
-pub enum RupMove {
+pub enum RupAction {
     /// Continues in this phase.
     To(RupPhase),
     /// Gives the byte to the machine for sums.

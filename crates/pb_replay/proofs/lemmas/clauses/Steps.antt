@@ -33,7 +33,7 @@ pub record HasSearched (values : List (Option Bool)) (xs : List ℕ) (from other
   pub found : place < length xs → (d : ℕ) → (false_at values (get_or xs place d) ≡ false) × (get_or xs place d ≡ other → ⊥)
 
 -- the watch that is visited
-pub record Looking (values : List (Option Bool)) (clauses : List (List ℕ)) (passed : List ℕ) (ws : List Watch) (ls : List (List ℕ)) (l index e other place : ℕ) : Type 0 where
+pub record Visiting (values : List (Option Bool)) (clauses : List (List ℕ)) (passed : List ℕ) (ws : List Watch) (ls : List (List ℕ)) (l index e other place : ℕ) : Type 0 where
   pub stored : AreStored clauses ws ls
   pub passes : ArePassed values clauses passed ws
   pub failed : false_at values l ≡ true
@@ -41,15 +41,15 @@ pub record Looking (values : List (Option Bool)) (clauses : List (List ℕ)) (pa
   pub other_is : other ≡ (watch_at ws (flip e)).literal
   pub searched : HasSearched values (list_at clauses (e / 2)) (get_or passed (e / 2) 0) other place
 
-pub looking-live : (values : List (Option Bool)) (clauses : List (List ℕ)) (passed : List ℕ) (ws : List Watch) (ls : List (List ℕ)) (l index e other place : ℕ) → Looking values clauses passed ws ls l index e other place → (watch_at ws e).live ≡ true
-looking-live values clauses passed ws ls l index e other place g = (g.stored.linked.named e l index g.item).live
+pub visiting-live : (values : List (Option Bool)) (clauses : List (List ℕ)) (passed : List ℕ) (ws : List Watch) (ls : List (List ℕ)) (l index e other place : ℕ) → Visiting values clauses passed ws ls l index e other place → (watch_at ws e).live ≡ true
+visiting-live values clauses passed ws ls l index e other place g = (g.stored.linked.named e l index g.item).live
 
-pub looking-literal : (values : List (Option Bool)) (clauses : List (List ℕ)) (passed : List ℕ) (ws : List Watch) (ls : List (List ℕ)) (l index e other place : ℕ) → Looking values clauses passed ws ls l index e other place → (watch_at ws e).literal ≡ l
-looking-literal values clauses passed ws ls l index e other place g = (g.stored.linked.named e l index g.item).literal
+pub visiting-literal : (values : List (Option Bool)) (clauses : List (List ℕ)) (passed : List ℕ) (ws : List Watch) (ls : List (List ℕ)) (l index e other place : ℕ) → Visiting values clauses passed ws ls l index e other place → (watch_at ws e).literal ≡ l
+visiting-literal values clauses passed ws ls l index e other place g = (g.stored.linked.named e l index g.item).literal
 
-pub looking-slot : (values : List (Option Bool)) (clauses : List (List ℕ)) (passed : List ℕ) (ws : List Watch) (ls : List (List ℕ)) (l index e other place : ℕ) → Looking values clauses passed ws ls l index e other place → e / 2 < length passed
-looking-slot values clauses passed ws ls l index e other place g =
-    omega (arith, slot-within clauses ws ls e g.stored (looking-live values clauses passed ws ls l index e other place g), g.passes.sizes)
+pub visiting-slot : (values : List (Option Bool)) (clauses : List (List ℕ)) (passed : List ℕ) (ws : List Watch) (ls : List (List ℕ)) (l index e other place : ℕ) → Visiting values clauses passed ws ls l index e other place → e / 2 < length passed
+visiting-slot values clauses passed ws ls l index e other place g =
+    omega (arith, slot-within clauses ws ls e g.stored (visiting-live values clauses passed ws ls l index e other place g), g.passes.sizes)
 
 -- the trail
 pub noted-set : (passed moved moved' : List ℕ) (s x : ℕ) → AreNoted passed moved → s < length passed → (moved' ≡ moved ++ (s ∷ [])) ⊎ ((0 < get_or passed s 0) × (moved' ≡ moved)) → AreNoted (set passed s x) moved'
@@ -83,7 +83,7 @@ noted-set passed moved moved' s x old inside how = record {
         ]
 
 -- no literal is left that may be watched
-pub passed-end : (values : List (Option Bool)) (clauses : List (List ℕ)) (passed : List ℕ) (ws : List Watch) (ls : List (List ℕ)) (l index e other place : ℕ) → Looking values clauses passed ws ls l index e other place → length (list_at clauses (e / 2)) ≤ place → ArePassed values clauses (set passed (e / 2) place) ws
+pub passed-end : (values : List (Option Bool)) (clauses : List (List ℕ)) (passed : List ℕ) (ws : List Watch) (ls : List (List ℕ)) (l index e other place : ℕ) → Visiting values clauses passed ws ls l index e other place → length (list_at clauses (e / 2)) ≤ place → ArePassed values clauses (set passed (e / 2) place) ws
 passed-end values clauses passed ws ls l index e other place g end = record {
   sizes = length-set passed (e / 2) place ∙ g.passes.sizes;
   bounded = λ s. bounded-at s (cases_eq s (e / 2));
@@ -91,7 +91,7 @@ passed-end values clauses passed ws ls l index e other place g end = record {
 }
   where
     inside : e / 2 < length passed
-    inside = looking-slot values clauses passed ws ls l index e other place g
+    inside = visiting-slot values clauses passed ws ls l index e other place g
 
     bounded-at : (s : ℕ) → (s ≡ e / 2) ⊎ (s ≡ e / 2 → ⊥) → get_or (set passed (e / 2) place) s 0 ≤ length (list_at clauses s)
     bounded-at s (inl is) = subst (λ t. get_or (set passed (e / 2) place) t 0 ≤ length (list_at clauses t)) (sym is) (omega (arith, get_or-set_same passed (e / 2) place 0 inside, g.searched.within))
@@ -112,13 +112,13 @@ passed-end values clauses passed ws ls l index e other place g end = record {
     each-at s k d h (inr n) q = g.passes.each s k d (omega (arith, h, get_or-set_other passed (e / 2) s place 0 n))
 
 -- all but the other watched literal are falsified
-pub all-but : (values : List (Option Bool)) (clauses : List (List ℕ)) (passed : List ℕ) (ws : List Watch) (ls : List (List ℕ)) (l index e other place : ℕ) → Looking values clauses passed ws ls l index e other place → length (list_at clauses (e / 2)) ≤ place →
+pub all-but : (values : List (Option Bool)) (clauses : List (List ℕ)) (passed : List ℕ) (ws : List Watch) (ls : List (List ℕ)) (l index e other place : ℕ) → Visiting values clauses passed ws ls l index e other place → length (list_at clauses (e / 2)) ≤ place →
     (k d : ℕ) → k < length (list_at clauses (e / 2)) → (false_at values (get_or (list_at clauses (e / 2)) k d) ≡ true) ⊎ (get_or (list_at clauses (e / 2)) k d ≡ other)
 all-but values clauses passed ws ls l index e other place g end k d h = by (cases_lt k (get_or passed (e / 2) 0))
   where
     watched : (w : IsWatched ws (e / 2) (get_or (list_at clauses (e / 2)) k d)) → (w.watch ≡ e) ⊎ (w.watch ≡ e → ⊥) → (false_at values (get_or (list_at clauses (e / 2)) k d) ≡ true) ⊎ (get_or (list_at clauses (e / 2)) k d ≡ other)
     watched w (inl is) =
-        let l-is : get_or (list_at clauses (e / 2)) k d ≡ l = sym w.literal ∙ ap (λ t. (watch_at ws t).literal) is ∙ looking-literal values clauses passed ws ls l index e other place g in
+        let l-is : get_or (list_at clauses (e / 2)) k d ≡ l = sym w.literal ∙ ap (λ t. (watch_at ws t).literal) is ∙ visiting-literal values clauses passed ws ls l index e other place g in
         inl (ap (false_at values) l-is ∙ g.failed)
     watched w (inr n) =
         let flips : w.watch ≡ flip e = same-slot w.watch e w.slot n in
@@ -131,19 +131,19 @@ all-but values clauses passed ws ls l index e other place g end k d h = by (case
     ]
     by (inr after) = g.searched.passed k d after (omega (arith, h, end))
 
-pub broken-of : (values : List (Option Bool)) (clauses : List (List ℕ)) (passed : List ℕ) (ws : List Watch) (ls : List (List ℕ)) (l index e other place : ℕ) → Looking values clauses passed ws ls l index e other place → length (list_at clauses (e / 2)) ≤ place → false_at values other ≡ true → IsBroken values clauses
+pub broken-of : (values : List (Option Bool)) (clauses : List (List ℕ)) (passed : List ℕ) (ws : List Watch) (ls : List (List ℕ)) (l index e other place : ℕ) → Visiting values clauses passed ws ls l index e other place → length (list_at clauses (e / 2)) ≤ place → false_at values other ≡ true → IsBroken values clauses
 broken-of values clauses passed ws ls l index e other place g end failed = record {
   slot = e / 2;
-  some = omega (arith, (g.stored.watched e (looking-live values clauses passed ws ls l index e other place g)).1);
+  some = omega (arith, (g.stored.watched e (visiting-live values clauses passed ws ls l index e other place g)).1);
   all = λ k d h. elim (all-but values clauses passed ws ls l index e other place g end k d h) [
     | inl f ↦ f
     | inr o ↦ ap (false_at values) o ∙ failed
   ];
 }
 
-pub unit-of : (values : List (Option Bool)) (clauses : List (List ℕ)) (passed : List ℕ) (ws : List Watch) (ls : List (List ℕ)) (l index e other place : ℕ) → Looking values clauses passed ws ls l index e other place → length (list_at clauses (e / 2)) ≤ place → true_at values other ≡ false → false_at values other ≡ false → IsUnit values clauses other
+pub unit-of : (values : List (Option Bool)) (clauses : List (List ℕ)) (passed : List ℕ) (ws : List Watch) (ls : List (List ℕ)) (l index e other place : ℕ) → Visiting values clauses passed ws ls l index e other place → length (list_at clauses (e / 2)) ≤ place → true_at values other ≡ false → false_at values other ≡ false → IsUnit values clauses other
 unit-of values clauses passed ws ls l index e other place g end not_true not_false =
-    let live = looking-live values clauses passed ws ls l index e other place g in
+    let live = visiting-live values clauses passed ws ls l index e other place g in
     let at : Contains (list_at clauses (flip e / 2)) (watch_at ws (flip e)).literal = g.stored.watched (flip e) (g.stored.paired e live) in
     let at_slot : Contains (list_at clauses (e / 2)) (watch_at ws (flip e)).literal = subst (λ s. Contains (list_at clauses s) (watch_at ws (flip e)).literal) (flip-half e) at in
     record {
@@ -164,7 +164,7 @@ pub record Shifted (values : List (Option Bool)) (clauses : List (List ℕ)) (ws
   pub watches : length ws' ≡ length ws
   pub lists : length ls' ≡ length ls
 
-pub passed-move : (values : List (Option Bool)) (clauses : List (List ℕ)) (passed : List ℕ) (ws ws' : List Watch) (ls ls' : List (List ℕ)) (l index e other place : ℕ) → Looking values clauses passed ws ls l index e other place → Shifted values clauses ws ws' ls ls' index e place → ArePassed values clauses (set passed (e / 2) (place + 1)) ws'
+pub passed-move : (values : List (Option Bool)) (clauses : List (List ℕ)) (passed : List ℕ) (ws ws' : List Watch) (ls ls' : List (List ℕ)) (l index e other place : ℕ) → Visiting values clauses passed ws ls l index e other place → Shifted values clauses ws ws' ls ls' index e place → ArePassed values clauses (set passed (e / 2) (place + 1)) ws'
 passed-move values clauses passed ws ws' ls ls' l index e other place g m = record {
   sizes = length-set passed (e / 2) (place + 1) ∙ g.passes.sizes;
   bounded = λ s. bounded-at s (cases_eq s (e / 2));
@@ -172,7 +172,7 @@ passed-move values clauses passed ws ws' ls ls' l index e other place g m = reco
 }
   where
     inside : e / 2 < length passed
-    inside = looking-slot values clauses passed ws ls l index e other place g
+    inside = visiting-slot values clauses passed ws ls l index e other place g
 
     bounded-at : (s : ℕ) → (s ≡ e / 2) ⊎ (s ≡ e / 2 → ⊥) → get_or (set passed (e / 2) (place + 1)) s 0 ≤ length (list_at clauses s)
     bounded-at s (inl is) = subst (λ t. get_or (set passed (e / 2) (place + 1)) t 0 ≤ length (list_at clauses t)) (sym is) (omega (arith, get_or-set_same passed (e / 2) (place + 1) 0 inside, m.within))
@@ -180,7 +180,7 @@ passed-move values clauses passed ws ws' ls ls' l index e other place g m = reco
 
     watched : (s x : ℕ) (w : IsWatched ws s x) → (w.watch ≡ e) ⊎ (w.watch ≡ e → ⊥) → (false_at values x ≡ true) ⊎ IsWatched ws' s x
     watched s x w (inl is) =
-        let l-is : x ≡ l = sym w.literal ∙ ap (λ t. (watch_at ws t).literal) is ∙ looking-literal values clauses passed ws ls l index e other place g in
+        let l-is : x ≡ l = sym w.literal ∙ ap (λ t. (watch_at ws t).literal) is ∙ visiting-literal values clauses passed ws ls l index e other place g in
         inl (ap (false_at values) l-is ∙ g.failed)
     watched s x w (inr n) = inr (record { watch = w.watch; slot = w.slot; literal = (m.others w.watch n).literal ∙ w.literal })
 
@@ -208,12 +208,12 @@ passed-move values clauses passed ws ws' ls ls' l index e other place g m = reco
     each-at s k d h (inr n) = old s k d (omega (arith, h, get_or-set_other passed (e / 2) s (place + 1) 0 n))
 
 -- the found literal is open
-found-open : (values : List (Option Bool)) (clauses : List (List ℕ)) (passed : List ℕ) (ws ws' : List Watch) (ls ls' : List (List ℕ)) (l index e other place : ℕ) → Looking values clauses passed ws ls l index e other place → Shifted values clauses ws ws' ls ls' index e place → (false_at values (watch_at ws' e).literal ≡ false) × ((watch_at ws' e).literal ≡ (watch_at ws (flip e)).literal → ⊥)
+found-open : (values : List (Option Bool)) (clauses : List (List ℕ)) (passed : List ℕ) (ws ws' : List Watch) (ls ls' : List (List ℕ)) (l index e other place : ℕ) → Visiting values clauses passed ws ls l index e other place → Shifted values clauses ws ws' ls ls' index e place → (false_at values (watch_at ws' e).literal ≡ false) × ((watch_at ws' e).literal ≡ (watch_at ws (flip e)).literal → ⊥)
 found-open values clauses passed ws ws' ls ls' l index e other place g m =
     let two = g.searched.found m.within 0 in
     (ap (false_at values) m.literal ∙ two.0, λ h. two.1 (sym m.literal ∙ h ∙ sym g.other_is))
 
-pub stored-move : (values : List (Option Bool)) (clauses : List (List ℕ)) (passed : List ℕ) (ws ws' : List Watch) (ls ls' : List (List ℕ)) (l index e other place : ℕ) → Looking values clauses passed ws ls l index e other place → Shifted values clauses ws ws' ls ls' index e place → AreStored clauses ws' ls'
+pub stored-move : (values : List (Option Bool)) (clauses : List (List ℕ)) (passed : List ℕ) (ws ws' : List Watch) (ls ls' : List (List ℕ)) (l index e other place : ℕ) → Visiting values clauses passed ws ls l index e other place → Shifted values clauses ws ws' ls ls' index e place → AreStored clauses ws' ls'
 stored-move values clauses passed ws ws' ls ls' l index e other place g m = record {
   linked = m.linked;
   pairs = m.watches ∙ g.stored.pairs;
@@ -225,7 +225,7 @@ stored-move values clauses passed ws ws' ls ls' l index e other place g m = reco
 }
   where
     live-e : (watch_at ws e).live ≡ true
-    live-e = looking-live values clauses passed ws ls l index e other place g
+    live-e = visiting-live values clauses passed ws ls l index e other place g
 
     was-live : (k : ℕ) → (k ≡ e → ⊥) → (watch_at ws' k).live ≡ true → (watch_at ws k).live ≡ true
     was-live k n live = sym (m.others k n).live ∙ live
@@ -260,7 +260,7 @@ stored-move values clauses passed ws ws' ls ls' l index e other place g m = reco
     full-at s some (inl is) = ap (λ t. (watch_at ws' t).live) is ∙ m.live
     full-at s some (inr n) = (m.others (2 * s) n).live ∙ g.stored.full s some
 
-pub served-move : (values : List (Option Bool)) (clauses : List (List ℕ)) (passed : List ℕ) (ws ws' : List Watch) (ls ls' : List (List ℕ)) (l index e other place : ℕ) (walked : List ℕ) → Looking values clauses passed ws ls l index e other place → Shifted values clauses ws ws' ls ls' index e place → AreServed values ws walked l index → AreServed values ws' walked l index
+pub served-move : (values : List (Option Bool)) (clauses : List (List ℕ)) (passed : List ℕ) (ws ws' : List Watch) (ls ls' : List (List ℕ)) (l index e other place : ℕ) (walked : List ℕ) → Visiting values clauses passed ws ls l index e other place → Shifted values clauses ws ws' ls ls' index e place → AreServed values ws walked l index → AreServed values ws' walked l index
 served-move values clauses passed ws ws' ls ls' l index e other place walked g m old = record {
   failed = old.failed;
   now = old.now;
@@ -277,7 +277,7 @@ served-move values clauses passed ws ws' ls ls' l index e other place walked g m
     -- the watch was on a falsified literal
     not-true : (k : ℕ) → flip k ≡ e → true_at values (watch_at ws (flip k)).literal ≡ true → ⊥
     not-true k is h =
-        not_both values l (ap (true_at values) (sym (looking-literal values clauses passed ws ls l index e other place g)) ∙ ap (λ t. true_at values (watch_at ws t).literal) (sym is) ∙ h) g.failed
+        not_both values l (ap (true_at values) (sym (visiting-literal values clauses passed ws ls l index e other place g)) ∙ ap (λ t. true_at values (watch_at ws t).literal) (sym is) ∙ h) g.failed
 
     done-at : (k : ℕ) → (watch_at ws' k).live ≡ true → Contains walked (watch_at ws' k).literal → (k ≡ e) ⊎ (k ≡ e → ⊥) → (flip k ≡ e) ⊎ (flip k ≡ e → ⊥) → true_at values (watch_at ws' (flip k)).literal ≡ true
     done-at k live h (inl is) q = absurd (both_ways _ (ap (λ t. false_at values (watch_at ws' t).literal) is ∙ open') (old.failed (watch_at ws' k).literal h))
@@ -300,7 +300,7 @@ served-move values clauses passed ws ws' ls ls' l index e other place walked g m
 
 -- how a search is paid for
 -- what was walked under fewer values stays so
-pub walked-move : (base values : List (Option Bool)) (clauses : List (List ℕ)) (passed : List ℕ) (ws ws' : List Watch) (ls ls' : List (List ℕ)) (l index e other place : ℕ) (codes : List ℕ) → Grows base values → Looking values clauses passed ws ls l index e other place → Shifted values clauses ws ws' ls ls' index e place → AreWalked base ws codes → AreWalked base ws' codes
+pub walked-move : (base values : List (Option Bool)) (clauses : List (List ℕ)) (passed : List ℕ) (ws ws' : List Watch) (ls ls' : List (List ℕ)) (l index e other place : ℕ) (codes : List ℕ) → Grows base values → Visiting values clauses passed ws ls l index e other place → Shifted values clauses ws ws' ls ls' index e place → AreWalked base ws codes → AreWalked base ws' codes
 walked-move base values clauses passed ws ws' ls ls' l index e other place codes more g m old = record {
   failed = old.failed;
   done = λ k live h. done-at k live h (cases_eq k e) (cases_eq (flip k) e);
@@ -313,7 +313,7 @@ walked-move base values clauses passed ws ws' ls ls' l index e other place codes
     not-true : (k : ℕ) → flip k ≡ e → true_at base (watch_at ws (flip k)).literal ≡ true → ⊥
     not-true k is h =
         let at : true_at values (watch_at ws e).literal ≡ true = ap (λ t. true_at values (watch_at ws t).literal) (sym is) ∙ more.met (watch_at ws (flip k)).literal h in
-        not_both values l (ap (true_at values) (sym (looking-literal values clauses passed ws ls l index e other place g)) ∙ at) g.failed
+        not_both values l (ap (true_at values) (sym (visiting-literal values clauses passed ws ls l index e other place g)) ∙ at) g.failed
 
     done-at : (k : ℕ) → (watch_at ws' k).live ≡ true → Contains codes (watch_at ws' k).literal → (k ≡ e) ⊎ (k ≡ e → ⊥) → (flip k ≡ e) ⊎ (flip k ≡ e → ⊥) → true_at base (watch_at ws' (flip k)).literal ≡ true
     done-at k live h (inl is) q = absurd (both_ways _ (ap (λ t. false_at values (watch_at ws' t).literal) is ∙ open') (more.failed (watch_at ws' k).literal (old.failed (watch_at ws' k).literal h)))
@@ -391,9 +391,9 @@ resuming-inside c values l index e other from xs run r s =
     λ k d h. let small = run.stored.inside (e / 2) k d (omega (arith, h, ap length those)) in
     omega (arith, small, ap (λ (ys : List ℕ). get_or ys k d) those, lists-length c.lists.items, run.sizes)
 
-pub looking-by : (c : Clauses) (values : List (Option Bool)) (l index e other from place : ℕ) (xs : List ℕ) → IsRunning values c → false_at values l ≡ true → Reading c l index e other → Resuming c (e / 2) from xs → HasSearched values xs from other place →
-    Looking values (lists_of c.literals.items) c.passed.items c.watches.items (lists_of c.lists.items) l index e other place
-looking-by c values l index e other from place xs run failed r s searched =
+pub visiting-by : (c : Clauses) (values : List (Option Bool)) (l index e other from place : ℕ) (xs : List ℕ) → IsRunning values c → false_at values l ≡ true → Reading c l index e other → Resuming c (e / 2) from xs → HasSearched values xs from other place →
+    Visiting values (lists_of c.literals.items) c.passed.items c.watches.items (lists_of c.lists.items) l index e other place
+visiting-by c values l index e other from place xs run failed r s searched =
     let two = reading-slot c values l index e other run r in
     record {
       stored = run.stored;
@@ -411,13 +411,13 @@ pub running-end : (c : Clauses) (values : List (Option Bool)) (l index e other f
     IsRunning values (record { literals = c.literals; passed = passed'; moved = moved_v; watches = c.watches; lists = c.lists })
 running-end c values l index e other from place xs passed' moved_v run failed r s searched end noted now =
     let two = reading-slot c values l index e other run r in
-    let looking = looking-by c values l index e other from place xs run failed r s searched in
+    let in_visit = visiting-by c values l index e other from place xs run failed r s searched in
     let end_at : length (list_at (lists_of c.literals.items) (e / 2)) ≤ place = omega (arith, end, ap length (resuming-xs c (e / 2) from xs two.0 s)) in
     let from_is = resuming-from c (e / 2) from xs two.1 s in
     let noted_at = subst (λ n. (moved_v.items ≡ c.moved.items ++ (e / 2 ∷ [])) ⊎ ((0 < n) × (moved_v.items ≡ c.moved.items))) from_is noted in
     record {
       stored = run.stored;
-      passed = subst (λ p. ArePassed values (lists_of c.literals.items) p c.watches.items) (sym now) (passed-end values (lists_of c.literals.items) c.passed.items c.watches.items (lists_of c.lists.items) l index e other place looking end_at);
+      passed = subst (λ p. ArePassed values (lists_of c.literals.items) p c.watches.items) (sym now) (passed-end values (lists_of c.literals.items) c.passed.items c.watches.items (lists_of c.lists.items) l index e other place in_visit end_at);
       noted = subst (λ p. AreNoted p moved_v.items) (sym now) (noted-set c.passed.items c.moved.items moved_v.items (e / 2) place run.noted two.1 noted_at);
       sizes = run.sizes;
     }
@@ -428,12 +428,12 @@ pub running-move : (c : Clauses) (values : List (Option Bool)) (l index e other 
     IsRunning values (record { literals = c.literals; passed = passed'; moved = moved_v; watches = watches'; lists = lists' })
 running-move c values l index e other from place xs passed' moved_v watches' lists' run failed r s searched noted now sizes m =
     let two = reading-slot c values l index e other run r in
-    let looking = looking-by c values l index e other from place xs run failed r s searched in
+    let in_visit = visiting-by c values l index e other from place xs run failed r s searched in
     let from_is = resuming-from c (e / 2) from xs two.1 s in
     let noted_at = subst (λ n. (moved_v.items ≡ c.moved.items ++ (e / 2 ∷ [])) ⊎ ((0 < n) × (moved_v.items ≡ c.moved.items))) from_is noted in
     record {
-      stored = stored-move values (lists_of c.literals.items) c.passed.items c.watches.items watches'.items (lists_of c.lists.items) (lists_of lists'.items) l index e other place looking m;
-      passed = subst (λ p. ArePassed values (lists_of c.literals.items) p watches'.items) (sym now) (passed-move values (lists_of c.literals.items) c.passed.items c.watches.items watches'.items (lists_of c.lists.items) (lists_of lists'.items) l index e other place looking m);
+      stored = stored-move values (lists_of c.literals.items) c.passed.items c.watches.items watches'.items (lists_of c.lists.items) (lists_of lists'.items) l index e other place in_visit m;
+      passed = subst (λ p. ArePassed values (lists_of c.literals.items) p watches'.items) (sym now) (passed-move values (lists_of c.literals.items) c.passed.items c.watches.items watches'.items (lists_of c.lists.items) (lists_of lists'.items) l index e other place in_visit m);
       noted = subst (λ p. AreNoted p moved_v.items) (sym now) (noted-set c.passed.items c.moved.items moved_v.items (e / 2) (place + 1) run.noted two.1 noted_at);
       sizes = sizes ∙ run.sizes;
     }

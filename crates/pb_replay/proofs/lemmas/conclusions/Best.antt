@@ -4,7 +4,7 @@ use Rattle.std.proofs.Common.{◌≡◌, ◌⊎◌, List, [], ◌∷◌, ◌++�
 use Rattle.std.proofs.lemmas.Int.{ints}
 use Rattle.std.proofs.lemmas.List.Elements.{Contains-push, Contains-append_left, Contains-push_cases}
 use Rattle.pb_replay.specs.meaning.Replay.{Logged}
-use Rattle.pb_replay.specs.contract.Kept.{IsBest, IsBetter}
+use Rattle.pb_replay.specs.contract.ReplayModel.{IsBest, IsBetter}
 use Rattle.std.proofs.lemmas.Option.{none-some}
 use Rattle.pb_replay.proofs.lemmas.store.Gets.{contains-none}
 

@@ -25,7 +25,7 @@ use Rattle.pb_replay.specs.engine.Bounds.{Both, HasObjective, IsBelow, IsNamed, 
 use Rattle.pb_replay.specs.meaning.Conclusions.{IsShownBy, contradicted, contradiction, lower_bound, named, none_left, objective_with, sum, upper_bound}
 use Rattle.pb_replay.specs.meaning.Problem.{Problem}
 use Rattle.pb_replay.specs.meaning.Replay.{IsLive, Logged, State, normal_form, numbered}
-use Rattle.pb_replay.specs.contract.Kept.{GoesAt, HasNamed, IsBest, IsProper, Keeps, problem_of, state_of}
+use Rattle.pb_replay.specs.contract.ReplayModel.{GoesAt, HasNamed, IsBest, IsProper, Keeps, problem_of, state_of}
 use Rattle.pb_text.proofs.lemmas.text.Results.{ok_or_err}
 use Rattle.pb_replay.proofs.lemmas.conclusions.Best.{below}
 use Rattle.pb_replay.proofs.lemmas.store.Gets.{contains-none}

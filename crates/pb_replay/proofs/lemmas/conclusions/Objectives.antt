@@ -10,7 +10,7 @@ use Rattle.pb_normal.specs.meaning.Written.{magnitude, names_of, side_number, si
 use Rattle.pb_normal.proofs.lemmas.names.Appearing.{present}
 use Rattle.pb_replay.specs.declared.state.Running.{Running}
 use Rattle.pb_replay.specs.engine.Bounds.{HasObjective}
-use Rattle.pb_replay.specs.contract.Kept.{IsInside, IsProper, problem_of}
+use Rattle.pb_replay.specs.contract.ReplayModel.{IsInside, IsProper, problem_of}
 use Rattle.pb_replay.proofs.lemmas.solutions.Values.{objective-has}
 
 module _ (r : Running) (linear : Linear) where

@@ -15,7 +15,7 @@ use Rattle.pb_replay.specs.declared.verdict.Verdict.TheVariants as verdict
 use Rattle.pb_replay.specs.meaning.Problem.{Problem}
 use Rattle.pb_replay.specs.meaning.Propagation.{MeetsConflict}
 use Rattle.pb_replay.specs.meaning.Replay.{Completed, Live, Logged, Shown, State, numbered}
-use Rattle.pb_replay.specs.contract.Kept.{GoesAt, IsBest, problem_of, state_of}
+use Rattle.pb_replay.specs.contract.ReplayModel.{GoesAt, IsBest, problem_of, state_of}
 use Rattle.pb_replay.proofs.lemmas.rules.Living.{Live-loaded}
 use Rattle.pb_replay.proofs.lemmas.solutions.Solved.{completed-to, conflicting}
 

@@ -101,5 +101,5 @@ found-least n v n0 v0 e f found small =
       | inr at_top ↦ omega (arith, at_top, small)
     ]
 
-pub most-looks : (v c0 v0 w n0 l c t k f : ℕ) → v + c0 ≤ v0 + (w - n0) + 2 * l + c + 3 * k → v0 ≡ 0 → c ≤ t → l ≡ t → w ≤ f → v ≤ 3 * (t + k) + f
-most-looks v c0 v0 w n0 l c t k f h a b d e = omega (arith, h, a, b, d, e)
+pub most-visits : (v c0 v0 w n0 l c t k f : ℕ) → v + c0 ≤ v0 + (w - n0) + 2 * l + c + 3 * k → v0 ≡ 0 → c ≤ t → l ≡ t → w ≤ f → v ≤ 3 * (t + k) + f
+most-visits v c0 v0 w n0 l c t k f h a b d e = omega (arith, h, a, b, d, e)

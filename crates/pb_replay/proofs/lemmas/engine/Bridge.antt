@@ -14,7 +14,7 @@ use Rattle.pb_replay.specs.declared.numbered.NumberedLiteral.{NumberedLiteral}
 use Rattle.pb_replay.specs.declared.propagate.term.Term.{Term}
 use Rattle.pb_replay.specs.engine.Engine.Forms.{entry_of, IsKeptAs}
 use Rattle.pb_replay.specs.engine.Engine.Lists.{Shape, negation, same, has, open_part, open_sum, IsSettled, Puts, Derives, begin as start, put as more, Conflicts, opposed as both, broken as low}
-use Rattle.pb_replay.specs.meaning.Propagation.{on, opened, MayPut, Derivation, begin, put, HasConflict, opposed, broken}
+use Rattle.pb_replay.specs.meaning.Propagation.{on, opened, MayPropagate, Derivation, begin, put, HasConflict, opposed, broken}
 use Rattle.pb_replay.proofs.lemmas.meaning.Choices.{total-has, rising-positive, only-true, only-self}
 use Rattle.pb_replay.proofs.lemmas.engine.Literals.{literal, same-true, same-refl, has-push, open_part-falsified, open_part-open, literal_ext}
 use Rattle.pb_replay.proofs.lemmas.engine.Derivations.{one_itself}
@@ -107,7 +107,7 @@ entry-contains f x t k (i, inside, is) =
     let mapped : Contains (map entry_of x.terms) (entry_of t) = (i, omega (arith, inside, length-map x.terms entry_of), get_or-map entry_of x.terms i t (entry_of t) inside ∙ ap entry_of is) in
     Contains-permutation (map entry_of x.terms) f.terms (entry_of t) k.terms mapped
 
-pub may-put : (F : Form → Type 0) (shapes : List Shape) (new old : List NumberedLiteral) (l : NumberedLiteral) → AreKept F shapes → Matches new old → Puts shapes old l → MayPut F new l
+pub may-put : (F : Form → Type 0) (shapes : List Shape) (new old : List NumberedLiteral) (l : NumberedLiteral) → AreKept F shapes → Matches new old → Puts shapes old l → MayPropagate F new l
 may-put F shapes new old l a m p =
     elim (a.forth p.form p.among) [
       | inr empty ↦ absurd (no_term p.form.terms empty.0 p.term)
@@ -167,7 +167,7 @@ conflicts F shapes new old a m (low x among less) =
     ]
 
 -- if each stored form is settled, the list is closed and has no conflict
-pub is-closed : (F : Form → Type 0) (shapes : List Shape) (new old : List NumberedLiteral) → AreKept F shapes → Matches new old → ((x : Shape) → Contains shapes x → IsSettled x old) → (l : NumberedLiteral) → MayPut F new l → ⊥
+pub is-closed : (F : Form → Type 0) (shapes : List Shape) (new old : List NumberedLiteral) → AreKept F shapes → Matches new old → ((x : Shape) → Contains shapes x → IsSettled x old) → (l : NumberedLiteral) → MayPropagate F new l → ⊥
 is-closed F shapes new old a m settled l p =
     let found = a.back p.form p.among in
     let x = found.0 in

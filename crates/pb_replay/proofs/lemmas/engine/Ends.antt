@@ -6,7 +6,7 @@ use Rattle.pb_normal.specs.declared.entry.Entry.{Entry}
 use Rattle.pb_normal.specs.meaning.Form.{Form, total}
 use Rattle.pb_normal.specs.meaning.Rules.{only}
 use Rattle.pb_replay.specs.declared.numbered.NumberedLiteral.{NumberedLiteral}
-use Rattle.pb_replay.specs.meaning.Propagation.{on, opened, MayPut, Derivation, begin, put, IsCompletion}
+use Rattle.pb_replay.specs.meaning.Propagation.{on, opened, MayPropagate, Derivation, begin, put, IsCompletion}
 use Rattle.pb_replay.proofs.lemmas.meaning.Choices.{only-true, only-self}
 
 -- a literal that a form forces
@@ -158,7 +158,7 @@ ended fs given (suc n) list few d =
     by_next (inl next) go =
         let l : NumberedLiteral = record { variable = next.variable; negated = next.negated } in
         let r = next.forced in
-        let may : MayPut (Contains fs) list l = record { absent = r.absent; not_falsified = r.not_falsified; form = next.form; among = next.among; stands = r.stands; forced = r.low } in
+        let may : MayPropagate (Contains fs) list l = record { absent = r.absent; not_falsified = r.not_falsified; form = next.form; among = next.among; stands = r.stands; forced = r.low } in
         let less = unsets-lt list l fs next.form next.among (unset-lt list l next.form.terms r.absent r.not_falsified r.stands) in
         go (l ∷ list) (omega (arith, less, few)) (put l d may)
 

@@ -13,7 +13,7 @@ use Rattle.pb_replay.specs.engine.Engine.Counts.{Aside, beside, IsCounted, IsTid
 use Rattle.pb_replay.proofs.lemmas.engine.Derivations.{derivation-then}
 use Rattle.pb_replay.proofs.lemmas.engine.Runs.{Tidy-next, calm-settled, absent-push, absent-new, absent-more, absent-cons}
 use Rattle.pb_replay.proofs.lemmas.engine.Sources.{source}
-use Rattle.pb_replay.proofs.lemmas.engine.Looks.{open-now}
+use Rattle.pb_replay.proofs.lemmas.engine.VisitSteps.{open-now}
 use Rattle.pb_replay.proofs.lemmas.engine.Spent.{spent-le, derivation-single}
 
 -- a propagation between two visits: `extra` is what the visits to clauses may have cost, and `whole` has the constraints of
@@ -84,8 +84,8 @@ Propagating-choose g p waiting forms whole lists n list0 cands0 work0 next0 visi
     one-or-none true y = refl
     one-or-none false y = refl
 
-pub Propagating-look : (aside : Aside) (forms : List Shape) (n : ℕ) (opens cands : List ℕ) (list : List NumberedLiteral) (work trail : List ℕ) (next form : ℕ) → length forms ≡ n → next < length work → form ≡ get_or work next form → IsTidy aside forms opens cands list work trail next n → IsTidy aside forms opens cands list work trail (next + 1) form
-Propagating-look aside forms n opens cands list work trail next form e inside is t =
+pub Propagating-visit : (aside : Aside) (forms : List Shape) (n : ℕ) (opens cands : List ℕ) (list : List NumberedLiteral) (work trail : List ℕ) (next form : ℕ) → length forms ≡ n → next < length work → form ≡ get_or work next form → IsTidy aside forms opens cands list work trail next n → IsTidy aside forms opens cands list work trail (next + 1) form
+Propagating-visit aside forms n opens cands list work trail next form e inside is t =
     let read = get_or_read work next form inside is 0 in
     let busy : IsTidy aside forms opens cands list work trail next (length forms) = rw e t in
     rw read (Tidy-next aside forms opens cands list work trail next busy)
@@ -169,9 +169,9 @@ Propagating-settled g p waiting keep whole lists list0 cands0 work0 next0 visits
     calm-settled f (get_or opens s 0) (get_or cands s 0) list falling now calm passed
 
 -- the number of visits, also if the propagation was abandoned
-pub Propagating-upper : (g : Rests) (p : ℕ → Bool) (waiting : List ℕ) (forms whole : List Shape) (lists : List (List Weighted)) (n : ℕ) (list0 : List NumberedLiteral) (cands0 work0 : List ℕ) (next0 visits0 extra taken : ℕ) (opens cands : List ℕ) (list : List NumberedLiteral) (work trail : List ℕ) (next visits : ℕ) (list' : List NumberedLiteral) (cands' : List ℕ) (visits' extra' looks : ℕ) → spent lists list ≤ spent lists list' → next0 ≤ length work0 → IsPropagating g p waiting forms whole lists n list0 cands0 work0 next0 visits0 extra taken opens cands list work trail next visits → next + looks ≤ length work → visits' + sum cands + spent lists list + extra ≤ visits + looks + sum cands' + spent lists list' + extra' → visits' + sum cands0 ≤ visits0 + ((length work0 + length (filter p waiting)) - next0) + 2 * spent lists list' + sum cands' + extra'
-Propagating-upper g p waiting forms whole lists n list0 cands0 work0 next0 visits0 extra taken opens cands list work trail next visits list' cands' visits' extra' looks more start s room covered =
-    sums visits visits' visits0 next next0 (length work0) (length (filter p waiting)) (length (filter p (take taken waiting))) (length work) (sum cands0) (sum cands) (sum cands') (spent lists list0) (spent lists list) (spent lists list') looks extra extra' s.upper covered (omega (arith, s.works, length-append work0 (filter p (take taken waiting)))) (fewer p waiting taken) more start s.started room
+pub Propagating-upper : (g : Rests) (p : ℕ → Bool) (waiting : List ℕ) (forms whole : List Shape) (lists : List (List Weighted)) (n : ℕ) (list0 : List NumberedLiteral) (cands0 work0 : List ℕ) (next0 visits0 extra taken : ℕ) (opens cands : List ℕ) (list : List NumberedLiteral) (work trail : List ℕ) (next visits : ℕ) (list' : List NumberedLiteral) (cands' : List ℕ) (visits' extra' visits_made : ℕ) → spent lists list ≤ spent lists list' → next0 ≤ length work0 → IsPropagating g p waiting forms whole lists n list0 cands0 work0 next0 visits0 extra taken opens cands list work trail next visits → next + visits_made ≤ length work → visits' + sum cands + spent lists list + extra ≤ visits + visits_made + sum cands' + spent lists list' + extra' → visits' + sum cands0 ≤ visits0 + ((length work0 + length (filter p waiting)) - next0) + 2 * spent lists list' + sum cands' + extra'
+Propagating-upper g p waiting forms whole lists n list0 cands0 work0 next0 visits0 extra taken opens cands list work trail next visits list' cands' visits' extra' visits_made more start s room covered =
+    sums visits visits' visits0 next next0 (length work0) (length (filter p waiting)) (length (filter p (take taken waiting))) (length work) (sum cands0) (sum cands) (sum cands') (spent lists list0) (spent lists list) (spent lists list') visits_made extra extra' s.upper covered (omega (arith, s.works, length-append work0 (filter p (take taken waiting)))) (fewer p waiting taken) more start s.started room
   where
     sums : (v v' v0 m m0 w0 f k w c0 c c' s0 s s' l x x' : ℕ) → v + c0 + s0 ≤ (v0 + x) + (m - m0) + c + s → v' + c + s + x ≤ v + l + c' + s' + x' → w + s0 ≤ w0 + k + s → k ≤ f → s ≤ s' → m0 ≤ w0 → m0 ≤ m → m + l ≤ w → v' + c0 ≤ v0 + ((w0 + f) - m0) + 2 * s' + c' + x'
     sums v v' v0 m m0 w0 f k w c0 c c' s0 s s' l x x' a b d e h i j r = omega arith

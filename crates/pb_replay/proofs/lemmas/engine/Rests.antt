@@ -133,8 +133,8 @@ waits-before [] k s h = absurd (omega (arith, h))
 waits-before (x ∷ xs) k zero h = refl
 waits-before (x ∷ xs) k (suc s) h = waits-before xs k s (omega (arith, h))
 
-absent-front : (xs ys : List ℕ) (s : ℕ) → IsAbsent (xs ++ ys) 0 s → IsAbsent xs 0 s
-absent-front xs ys s gone i from less at = gone i from (omega (arith, less, length-append xs ys)) (get_or_append_left xs ys 0 i less ∙ at)
+absent-prefix : (xs ys : List ℕ) (s : ℕ) → IsAbsent (xs ++ ys) 0 s → IsAbsent xs 0 s
+absent-prefix xs ys s gone i from less at = gone i from (omega (arith, less, length-append xs ys)) (get_or_append_left xs ys 0 i less ∙ at)
 
 pub eager-entered : (keep keep' : List Kept) (k : Kept) (eager eager' : List ℕ) (number : ℕ) → keep' ≡ keep ++ (k ∷ []) → number ≡ length keep → eager' ≡ eager ++ filter (waits keep') (number ∷ []) → IsEager keep eager → IsEager keep' eager'
 eager-entered keep keep' k eager eager' number same at more e = rw more (by_head (waits keep' number) refl)
@@ -152,7 +152,7 @@ eager-entered keep keep' k eager eager' number same at more e = rw more (by_head
         | inr after ↦ rw (last-is eager number d i (omega (arith, after, less, length-append eager (number ∷ [])))) (omega (arith, at, long))
       ];
       aside = λ s less gone. elim (cases_lt s (length keep)) [
-        | inl before ↦ idle_before s before ∙ e.aside s before (absent-front eager (number ∷ []) s gone)
+        | inl before ↦ idle_before s before ∙ e.aside s before (absent-prefix eager (number ∷ []) s gone)
         | inr after ↦
             let here : s ≡ number = omega (arith, after, less, long, at) in
             absurd (gone (length eager) (omega arith) (omega (arith, length-append eager (number ∷ []))) (last-is eager number 0 (length eager) refl ∙ sym here))
@@ -194,21 +194,21 @@ slots-length (o ∷ os) [] a = absurd (let e : true ≡ false = a in cc)
 slots-length (o ∷ os) (y ∷ ys) a = let rest = slots-length os ys a.1 in omega (arith, rest)
 
 -- the last form was removed
-pub front-of : {X : Type 0} (xs ys : List X) (y : X) → xs ≡ ys ++ (y ∷ []) → take (length xs - 1) xs ≡ ys
-front-of xs ys y e = rw e (ap (λ n. take n (ys ++ (y ∷ []))) short ∙ take-append_seam ys (y ∷ []))
+pub prefix-of : {X : Type 0} (xs ys : List X) (y : X) → xs ≡ ys ++ (y ∷ []) → take (length xs - 1) xs ≡ ys
+prefix-of xs ys y e = rw e (ap (λ n. take n (ys ++ (y ∷ []))) short ∙ take-append_seam ys (y ∷ []))
   where
     short : length (ys ++ (y ∷ [])) - 1 ≡ length ys
     short = omega (arith, length-append ys (y ∷ []))
 
 pub rest-left : (f : Form) (keep keep' keep'' : List Kept) (opens opens' cands cands' opens1 opens2 cands1 cands2 : List ℕ) → HasEntered f keep keep' opens opens' cands cands' → AreAtRest keep' opens1 cands1 → keep'' ≡ take (length keep' - 1) keep' → opens2 ≡ take (length opens1 - 1) opens1 → cands2 ≡ take (length cands1 - 1) cands1 → (keep'' ≡ keep) × AreAtRest keep'' opens2 cands2
 rest-left f keep keep' keep'' opens opens' cands cands' opens1 opens2 cands1 cands2 h r k o c =
-    let back : keep'' ≡ keep = k ∙ front-of keep' keep h.kept h.keeps in
+    let back : keep'' ≡ keep = k ∙ prefix-of keep' keep h.kept h.keeps in
     let opened1 : opens1 ≡ map (λ (x : Kept). x.total) keep ++ (h.kept.total ∷ []) = r.opened ∙ ap (map (λ x. x.total)) h.keeps ∙ map-append (λ (x : Kept). x.total) keep (h.kept ∷ []) in
     let passed1 : cands1 ≡ map (λ (x : Kept). 0) keep ++ (0 ∷ []) = r.passed ∙ ap (map (λ x. 0)) h.keeps ∙ map-append (λ (x : Kept). 0) keep (h.kept ∷ []) in (
       back,
       record {
-        opened = o ∙ front-of opens1 (map (λ x. x.total) keep) h.kept.total opened1 ∙ sym (ap (map (λ x. x.total)) back);
-        passed = c ∙ front-of cands1 (map (λ x. 0) keep) 0 passed1 ∙ sym (ap (map (λ x. 0)) back);
+        opened = o ∙ prefix-of opens1 (map (λ x. x.total) keep) h.kept.total opened1 ∙ sym (ap (map (λ x. x.total)) back);
+        passed = c ∙ prefix-of cands1 (map (λ x. 0) keep) 0 passed1 ∙ sym (ap (map (λ x. 0)) back);
       },
     )
 

@@ -6,7 +6,7 @@ use Rattle.pb_replay.specs.declared.propagate.rests.Rests.{Rests}
 use Rattle.pb_replay.specs.engine.Engine.Lists.{Shape, size}
 use Rattle.pb_replay.specs.engine.Engine.Counts.{IsAbsent, IsUndone, rest_open, rest_start}
 use Rattle.pb_replay.specs.engine.Engine.Fields.{shapes_of, kept_shape}
-use Rattle.pb_replay.proofs.lemmas.engine.Looks.{shape-at}
+use Rattle.pb_replay.proofs.lemmas.engine.VisitSteps.{shape-at}
 use Rattle.pb_replay.proofs.lemmas.store.Gets.{lt_of_apart}
 
 pub undo-form : (rests : Rests) (keep : List Kept) (opens cands work : List ℕ) (i form : ℕ) → i < length work → form ≡ get_or work i form → IsUndone rests (shapes_of keep) opens cands work i → form < length keep

@@ -11,7 +11,7 @@ use Rattle.pb_normal.specs.meaning.Written.{IsFormOf, written_on}
 use Rattle.pb_replay.specs.declared.numbered.NumberedLiteral.{NumberedLiteral}
 use Rattle.pb_replay.specs.declared.verdict.Verdict.TheVariants as verdict
 use Rattle.pb_replay.specs.meaning.Problem.{Problem, Opened}
-use Rattle.pb_replay.specs.meaning.Propagation.{MayPut, begin, put, broken, With, IsRup}
+use Rattle.pb_replay.specs.meaning.Propagation.{MayPropagate, begin, put, broken, With, IsRup}
 use Rattle.pb_replay.specs.meaning.Replay.{Live}
 use Rattle.pb_replay.specs.contract.Example.{name_x, unit_on, opposed, short_proof, other_proof, Verifies}
 
@@ -108,8 +108,8 @@ short-accepted = (
 empty_form : IsFormOf (name_x ∷ []) [] (pos 1) none
 empty_form = record { ordered = tt; named = λ k d lt. absurd (omega (arith, lt)); coefficients = λ v name e. refl; degree = refl }
 
-may_put : MayPut (With (Live live) (negation_of none)) [] x
-may_put = record {
+may_propagate : MayPropagate (With (Live live) (negation_of none)) [] x
+may_propagate = record {
   absent = refl;
   not_falsified = refl;
   form = plain_x;
@@ -121,7 +121,7 @@ may_put = record {
 rup : IsRup (Live live) none
 rup = inr (record {
   list = x ∷ [];
-  derived = put x begin may_put;
+  derived = put x begin may_propagate;
   conflict = broken negated_x (inl (1, omega arith, refl)) (omega arith);
 })
 

@@ -8,7 +8,7 @@ use Rattle.pb_normal.specs.meaning.Form.{Form, Holds, total}
 use Rattle.pb_normal.specs.meaning.Rules.{assignment, only}
 use Rattle.pb_replay.specs.declared.numbered.NumberedLiteral.{NumberedLiteral}
 use Rattle.pb_replay.specs.meaning.Problem.{Problem}
-use Rattle.pb_replay.specs.meaning.Propagation.{on, begin, MayPut}
+use Rattle.pb_replay.specs.meaning.Propagation.{on, begin, MayPropagate}
 use Rattle.pb_replay.specs.meaning.Replay.{Live, HasValue, AreValues, IsClause, Completed, logged_of}
 use Rattle.pb_replay.specs.contract.Example.{name_x, name_y}
 use Rattle.pb_replay.proofs.lemmas.meaning.Propagating.{AreTrue, AreTrue-put, conflict-none}
@@ -89,7 +89,7 @@ are-values m n = record { count = refl; each = each m n }
     each m n (suc (suc k)) lt = absurd (omega (arith, lt))
 
 module _ (F : Form → Type 0) (m n : Bool) (all : (f : Form) → F f → IsMet m n f) where
-  closed : (l : NumberedLiteral) → MayPut F (given m n) l → ⊥
+  closed : (l : NumberedLiteral) → MayPropagate F (given m n) l → ⊥
   closed l p = at l.variable l.negated p.absent p.not_falsified p.form (all p.form p.among) p.stands
     where
       at : (x : ℕ) (b : Bool) → on (given m n) x b ≡ false → on (given m n) x (not b) ≡ false → (f : Form) → IsMet m n f → 0 < total (only x b) f.terms → ⊥

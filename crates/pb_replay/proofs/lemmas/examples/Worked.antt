@@ -15,9 +15,9 @@ use Rattle.pb_normal.specs.declared.Side.TheVariants.{AtLeast as least, AtMost a
 use Rattle.pb_replay.specs.declared.fault.Fault.TheVariants.{SolutionLogged, NotBound}
 use Rattle.pb_replay.specs.declared.verdict.Verdict.TheVariants as verdict
 use Rattle.pb_proof.specs.declared.Bound.TheVariants.{Finite}
-use Rattle.pb_proof.specs.declared.Stage.TheVariants.{Claim}
+use Rattle.pb_proof.specs.declared.Stage.TheVariants.{Concluding}
 use Rattle.pb_replay.specs.meaning.Problem.{Problem, Opened}
-use Rattle.pb_replay.specs.meaning.Propagation.{MayPut, begin, put, broken, With, IsRup}
+use Rattle.pb_replay.specs.meaning.Propagation.{MayPropagate, begin, put, broken, With, IsRup}
 use Rattle.pb_replay.specs.meaning.Replay.{Live, State, Logged, first_state, logged_of}
 use Rattle.pb_replay.specs.meaning.Statements.{Accepts}
 use Rattle.pb_replay.specs.meaning.Conclusions.{objective_with, propagated}
@@ -120,10 +120,10 @@ unit_rup = inr (record {
   conflict = broken (pair false true 1) (inl (3, omega arith, refl)) (omega arith);
 })
   where
-    first : MayPut (With (Live live_4) (negation_of unit)) [] (literal 0 true)
+    first : MayPropagate (With (Live live_4) (negation_of unit)) [] (literal 0 true)
     first = record { absent = refl; not_falsified = refl; form = negation_of unit; among = inr refl; stands = omega arith; forced = omega arith }
 
-    second : MayPut (With (Live live_4) (negation_of unit)) (literal 0 true ∷ []) (literal 1 false)
+    second : MayPropagate (With (Live live_4) (negation_of unit)) (literal 0 true ∷ []) (literal 1 false)
     second = record { absent = refl; not_falsified = refl; form = pair false false 1; among = inl (0, omega arith, refl); stands = omega arith; forced = omega arith }
 
 -- with x1 true: then x2 is false, by the second form, and the third is violated
@@ -134,10 +134,10 @@ nothing_rup = inr (record {
   conflict = broken (pair true false 1) (inl (2, omega arith, refl)) (omega arith);
 })
   where
-    first : MayPut (With (Live live_5) (negation_of nothing)) [] (literal 0 false)
+    first : MayPropagate (With (Live live_5) (negation_of nothing)) [] (literal 0 false)
     first = record { absent = refl; not_falsified = refl; form = unit; among = inl (4, omega arith, refl); stands = omega arith; forced = omega arith }
 
-    second : MayPut (With (Live live_5) (negation_of nothing)) (literal 0 false ∷ []) (literal 1 true)
+    second : MayPropagate (With (Live live_5) (negation_of nothing)) (literal 0 false ∷ []) (literal 1 true)
     second = record { absent = refl; not_falsified = refl; form = pair true true 1; among = inl (1, omega arith, refl); stands = omega arith; forced = omega arith }
 
 abbrev logged_1 : Logged
@@ -154,7 +154,7 @@ all_state = record {
   live = Some (pair false false 1) ∷ Some (pair true true 1) ∷ Some (pair true false 1) ∷ Some (pair false true 1) ∷ Some unit ∷ Some nothing ∷ [];
   names = names;
   logged = logged_1 ∷ logged_2 ∷ logged_3 ∷ [];
-  next = Claim;
+  next = Concluding;
   concluded = None;
 }
 
@@ -244,7 +244,7 @@ best_state = record {
   live = Some (pair false false 1) ∷ Some (pair true true 2) ∷ Some nothing ∷ [];
   names = names;
   logged = best ∷ [];
-  next = Claim;
+  next = Concluding;
   concluded = None;
 }
 

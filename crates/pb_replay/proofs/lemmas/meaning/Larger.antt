@@ -19,7 +19,7 @@ use Rattle.pb_replay.specs.meaning.Replay.{Logged}
 use Rattle.pb_replay.specs.meaning.Answer.{Answer, need, found, some, after}
 use Rattle.pb_normal.specs.meaning.Rules.{IsSum}
 use Rattle.pb_replay.specs.meaning.Problem.{Problem}
-use Rattle.pb_replay.specs.meaning.Replay.{State, Live, Completed, TreeForm, limited, normal_form, added, numbered}
+use Rattle.pb_replay.specs.meaning.Replay.{State, Live, Completed, FormOfExpression, limited, normal_form, added, numbered}
 use Rattle.pb_replay.specs.meaning.Conclusions.{named, objective_with, lower_bound, Concludes}
 use Rattle.pb_replay.specs.meaning.Statements.{Does, mentioned}
 use Rattle.pb_replay.specs.contract.Laws.{OpensMore, AcceptsMore}
@@ -51,7 +51,7 @@ module _ (limit more : ℕ) (wider : limit ≤ more) where
   limited-more : (r : Form) → GrowsAt (limited limit r) (limited more r)
   limited-more r = grows-need _ _ _ _ _ (λ w. record { size_in = omega (arith, w.size_in, wider); degree_in = omega (arith, w.degree_in, wider) }) (λ r is h. h)
 
-  tree-more : (names : List (List ℕ)) (live : List (Option Form)) (t : Tree) → GrowsAt (TreeForm limit names live t) (TreeForm more names live t)
+  tree-more : (names : List (List ℕ)) (live : List (Option Form)) (t : Tree) → GrowsAt (FormOfExpression limit names live t) (FormOfExpression more names live t)
   tree-more names live (Constraint i) = λ r is h. h
   tree-more names live (True l) = λ r is h. h
   tree-more names live (Sum a b) =

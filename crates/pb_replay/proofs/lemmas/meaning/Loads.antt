@@ -162,11 +162,11 @@ module _ (i : Instance) (v : Problem) (o : IsOf i v) where
       begins : s.names ≡ v.names ++ more
       begins = (sound.names).1
 
-      on_front : (x : ℕ) → x < length v.names → by_number s.names a x ≡ by_number v.names a x
-      on_front x lt = rw begins (ap a (get_or_append_left v.names more [] x lt))
+      on_prefix : (x : ℕ) → x < length v.names → by_number s.names a x ≡ by_number v.names a x
+      on_prefix x lt = rw begins (ap a (get_or_append_left v.names more [] x lt))
 
       solution : IsSolution v (by_number s.names a)
-      solution r c = Holds-agree (by_number v.names a) (by_number s.names a) (length v.names) r (are_named v.names (sides_in i.constraints) v.loaded o.forms r c) (λ x lt. sym (on_front x lt)) (to_forms a solves r c)
+      solution r c = Holds-agree (by_number v.names a) (by_number s.names a) (length v.names) r (are_named v.names (sides_in i.constraints) v.loaded o.forms r c) (λ x lt. sym (on_prefix x lt)) (to_forms a solves r c)
 
       by_case : Accounted v s (by_number s.names a) → AccountedWritten i v.names s a
       by_case (known g c same) = known_names g c known_name
@@ -178,7 +178,7 @@ module _ (i : Instance) (v : Problem) (o : IsOf i v) where
               let number : number_in s.names q ≡ k = number_in-get s.names k q sound.distinct (slice_get-get_or s.names k [] inside ∙ ap (λ n. let m : Option (List ℕ) = Some n in m) here) in
               ap a (sym here) ∙ same k lt ∙ ap (assignment g.values) (sym number)
       by_case (beaten terms e g c le) =
-          beaten_value terms (sym o.objective ∙ e) g c (rw (value-agree v (by_number s.names a) (by_number v.names a) (proper-of i v o) on_front ∙ value_there a) at le)
+          beaten_value terms (sym o.objective ∙ e) g c (rw (value-agree v (by_number s.names a) (by_number v.names a) (proper-of i v o) on_prefix ∙ value_there a) at le)
       by_case (allowed holds) = allowed_still holds
 
 pub meanings-agree : MeaningsAgree

@@ -5,7 +5,7 @@ use Rattle.std.proofs.lemmas.Bool.{cases_Bool, cases_lt, or_cases, both_ways, no
 use Rattle.pb_replay.specs.declared.numbered.NumberedLiteral.{NumberedLiteral}
 use Rattle.pb_normal.specs.meaning.Form.{Form, Holds, total, true_at}
 use Rattle.pb_normal.specs.meaning.Rules.{negation_of, only}
-use Rattle.pb_replay.specs.meaning.Propagation.{on, opened, MayPut, Derivation, begin, put, HasConflict, opposed, broken, MeetsConflict, With, IsRup, HoldAll}
+use Rattle.pb_replay.specs.meaning.Propagation.{on, opened, MayPropagate, Derivation, begin, put, HasConflict, opposed, broken, MeetsConflict, With, IsRup, HoldAll}
 use Rattle.pb_normal.proofs.lemmas.terms.Maps.{Holds-negation_back}
 use Rattle.pb_replay.proofs.lemmas.meaning.Choices.{total-fits, total-within, only-true}
 
@@ -33,7 +33,7 @@ pub true-opened : (a : ℕ → Bool) (list : List NumberedLiteral) → AreTrue a
 true-opened a list h v n t =
     not_from_false (on list v (not n)) (false_from_ne_true (on list v (not n)) (λ e. both_ways _ (not-true (true_at a v n) (sym (true_at-not a v n) ∙ h v (not n) e)) t))
 
-put-true : (forms : Form → Type 0) (a : ℕ → Bool) (list : List NumberedLiteral) (l : NumberedLiteral) → HoldAll a forms → AreTrue a list → MayPut forms list l → true_at a l.variable l.negated ≡ true
+put-true : (forms : Form → Type 0) (a : ℕ → Bool) (list : List NumberedLiteral) (l : NumberedLiteral) → HoldAll a forms → AreTrue a list → MayPropagate forms list l → true_at a l.variable l.negated ≡ true
 put-true forms a list l holds h m =
     elim (cases_Bool (true_at a l.variable l.negated)) [
       | inl here ↦ here

@@ -28,14 +28,14 @@ use Rattle.pb_normal.proofs.lemmas.rules.Unique.{IsSum-unique, IsRising-same, sa
 use Rattle.pb_normal.proofs.lemmas.names.WrittenForms.{IsFormOf-unique, same_forms}
 use Rattle.pb_replay.specs.meaning.Problem.{Problem, FitsAll, names_in}
 use Rattle.pb_replay.specs.meaning.Propagation.{on}
-use Rattle.pb_replay.specs.meaning.Replay.{State, Live, IsLive, place, TreeForm, normal_form, HasValue, AreValues, Solution, Completed, Shown, logged_of, IsClause, Deleted, added, numbered}
+use Rattle.pb_replay.specs.meaning.Replay.{State, Live, IsLive, place, FormOfExpression, normal_form, HasValue, AreValues, Solution, Completed, Shown, logged_of, IsClause, Deleted, added, numbered}
 use Rattle.pb_replay.specs.meaning.Conclusions.{none_left, named, objective_with, lower_bound, upper_bound, Concludes}
 use Rattle.pb_replay.specs.meaning.Statements.{Does, mentioned}
 use Rattle.pb_replay.specs.contract.Laws.{IsSingle, OpeningsAreSingle, OutcomesAreSingle}
 use Rattle.pb_replay.proofs.lemmas.meaning.Accepting.{ok-same}
 use Rattle.pb_text.proofs.lemmas.text.Results.{ok_or_err, same_err}
 use Rattle.pb_replay.proofs.lemmas.solutions.Completing.{completion-one}
-use Rattle.pb_proof.proofs.lemmas.Pol.Postfix.{words_tell}
+use Rattle.pb_proof.proofs.lemmas.Pol.Postfix.{words_report}
 
 IsClause-unique : (given : List NumberedLiteral) (r s : Form) → IsClause given r → IsClause given s → r ≡ s
 IsClause-unique given r s p q =
@@ -83,17 +83,17 @@ module _ {A : Type 0} where
 IsLive-one : (live : List (Option Form)) (i : ℤ) (f g : Form) → IsLive live i f → IsLive live i g → f ≡ g
 IsLive-one live i f g p q = same_Some _ _ (sym p ∙ q)
 
-single-tree : (limit : ℕ) (names : List (List ℕ)) (live : List (Option Form)) (t : Tree) → IsSingle (TreeForm limit names live t)
+single-tree : (limit : ℕ) (names : List (List ℕ)) (live : List (Option Form)) (t : Tree) → IsSingle (FormOfExpression limit names live t)
 single-tree limit names live (Constraint i) = single-found (IsLive live i) _ _ (IsLive-one live i) (λ f. single-gives f)
 single-tree limit names live (True l) = single-gives _
 single-tree limit names live (Sum a b) =
-    single-after (TreeForm limit names live a) _ (single-tree limit names live a) (λ f.
-    single-after (TreeForm limit names live b) _ (single-tree limit names live b) (λ g.
+    single-after (FormOfExpression limit names live a) _ (single-tree limit names live a) (λ f.
+    single-after (FormOfExpression limit names live b) _ (single-tree limit names live b) (λ g.
     single-some (IsSum f g) _ (IsSum-unique f g) (λ r. single-need _ _ _ (single-gives r))))
-single-tree limit names live (Times a k) = single-after (TreeForm limit names live a) _ (single-tree limit names live a) (λ f. single-need _ _ _ (single-gives (multiplied (unsigned_abs k) f)))
-single-tree limit names live (Divided a k) = single-after (TreeForm limit names live a) _ (single-tree limit names live a) (λ f. single-gives _)
-single-tree limit names live (Saturated a) = single-after (TreeForm limit names live a) _ (single-tree limit names live a) (λ f. single-gives _)
-single-tree limit names live (Weakened a name) = single-after (TreeForm limit names live a) _ (single-tree limit names live a) (λ f. single-gives _)
+single-tree limit names live (Times a k) = single-after (FormOfExpression limit names live a) _ (single-tree limit names live a) (λ f. single-need _ _ _ (single-gives (multiplied (unsigned_abs k) f)))
+single-tree limit names live (Divided a k) = single-after (FormOfExpression limit names live a) _ (single-tree limit names live a) (λ f. single-gives _)
+single-tree limit names live (Saturated a) = single-after (FormOfExpression limit names live a) _ (single-tree limit names live a) (λ f. single-gives _)
+single-tree limit names live (Weakened a name) = single-after (FormOfExpression limit names live a) _ (single-tree limit names live a) (λ f. single-gives _)
 
 AreValues-one : (list : List NumberedLiteral) (names : ℕ) (xs ys : List Bool) → AreValues list names xs → AreValues list names ys → xs ≡ ys
 AreValues-one list names xs ys p q =
@@ -167,8 +167,8 @@ single-does : (limit top : ℕ) (v : Problem) (s : State) (st : Statement) → I
 single-does limit top v s Header = single-gives _
 single-does limit top v s (F count) = single-need _ _ _ (single-need _ _ _ (single-gives _))
 single-does limit top v s (Pol ws) =
-    single-some (λ tree. ws ≡ words tree) _ (λ t u p q. words_tell t u (sym p ∙ q)) (λ tree.
-    single-after (TreeForm limit s.names s.live tree) _ (single-tree limit s.names s.live tree) (λ r. single-added top s s.logged r))
+    single-some (λ tree. ws ≡ words tree) _ (λ t u p q. words_report t u (sym p ∙ q)) (λ tree.
+    single-after (FormOfExpression limit s.names s.live tree) _ (single-tree limit s.names s.live tree) (λ r. single-added top s s.logged r))
 single-does limit top v s (Rup linear) = single-normal limit s.names least linear _ (λ r. single-need _ _ _ (single-added top s s.logged r))
 single-does limit top v s (Solx given) =
     single-after (Completed v (Live s.live) (length s.names) (numbered s.names given)) _ (single-completed v (Live s.live) (length s.names) (numbered s.names given)) (λ g.

@@ -12,7 +12,7 @@ use Rattle.pb_proof.specs.declared.Statement.TheVariants.{Header, F, Pol, Rup, S
 use Rattle.pb_proof.specs.meaning.Postfix.{Tree, Constraint, True, Sum, Times, Divided, Saturated, Weakened, words}
 use Rattle.pb_proof.specs.contract.Values.{IsWord, IsStatementValue}
 use Rattle.pb_proof.specs.declared.Stage.{Stage}
-use Rattle.pb_proof.specs.declared.Stage.TheVariants.{Formula, Steps, Claim, Closing, Complete}
+use Rattle.pb_proof.specs.declared.Stage.TheVariants.{Formula, Steps, Concluding, Closing, Complete}
 use Rattle.pb_normal.specs.declared.Side.TheVariants.{AtMost as most}
 use Rattle.pb_normal.specs.meaning.Form.{Form, total, true_at}
 use Rattle.pb_normal.specs.meaning.Names.{AreDistinct, with_names}
@@ -25,13 +25,13 @@ use Rattle.pb_replay.specs.meaning.Propagation.{HoldAll}
 use Rattle.pb_replay.specs.meaning.Replay.{State, Live, value, by_name, Deleted, place, numbered}
 use Rattle.pb_replay.specs.meaning.Conclusions.{objective_with, verdict_of}
 use Rattle.pb_replay.specs.meaning.Statements.{Does, Accepts, mentioned}
-use Rattle.pb_replay.specs.meaning.Meaning.{IsSolution, Accounted, known, beaten, allowed, IsFront, IsSound, IsProblem}
+use Rattle.pb_replay.specs.meaning.Meaning.{IsSolution, Accounted, known, beaten, allowed, IsNamePrefix, IsSound, IsProblem}
 use Rattle.pb_replay.specs.contract.Laws.{FirstIsSound, StatementsAreSound}
 use Rattle.pb_replay.proofs.lemmas.meaning.Accepting.{needed, followed, ok-same}
 use Rattle.pb_replay.proofs.lemmas.rules.Living.{Live-deleted, Live-loaded, HoldAll-added}
-use Rattle.pb_replay.proofs.lemmas.names.Naming.{IsFront-more, length-front, side-holds, value-over}
+use Rattle.pb_replay.proofs.lemmas.names.Naming.{IsNamePrefix-more, length-prefix, side-holds, value-over}
 use Rattle.pb_replay.proofs.lemmas.meaning.Propagating.{IsRup-holds}
-use Rattle.pb_replay.proofs.lemmas.meaning.Trees.{HasDivisors, TreeForm-holds}
+use Rattle.pb_replay.proofs.lemmas.meaning.Trees.{HasDivisors, FormOfExpression-holds}
 use Rattle.pb_replay.proofs.lemmas.solutions.Solutions.{Completed-taken, taken-known, clause-fails}
 use Rattle.pb_replay.proofs.lemmas.store.Gets.{contains-none}
 use Rattle.pb_replay.proofs.lemmas.conclusions.Concluded.{Concludes-means, objective-numbers}
@@ -69,7 +69,7 @@ proper limit top (Saturated a) h = proper limit top a (all_left (IsWord limit to
 proper limit top (Weakened a name) h = proper limit top a (all_left (IsWord limit top) (words a) _ h)
 
 -- a step that changes only the live forms
-live-sound : (v : Problem) (s : State) (live : List (Option Form)) (names : List (List ℕ)) (next : Stage) → IsSound v s → IsFront v.names names → AreDistinct names → ((a : ℕ → Bool) → IsSolution v a → HoldAll a (Live s.live) → HoldAll a (Live live)) → IsSound v (record { live = live; names = names; logged = s.logged; next = next; concluded = s.concluded })
+live-sound : (v : Problem) (s : State) (live : List (Option Form)) (names : List (List ℕ)) (next : Stage) → IsSound v s → IsNamePrefix v.names names → AreDistinct names → ((a : ℕ → Bool) → IsSolution v a → HoldAll a (Live s.live) → HoldAll a (Live live)) → IsSound v (record { live = live; names = names; logged = s.logged; next = next; concluded = s.concluded })
 live-sound v s live names next sound begins apart kept =
     record {
       stands = λ a solution. stood a solution (sound.stands a solution);
@@ -141,7 +141,7 @@ Does-sound limit top v s t (Pol ws) p q sound h =
     let form = followed h.2 in
     let last = needed form.2 in
     let divisors = proper limit top tree (rw h.1 at (q.1)) in
-    rw (ok-same last.1) (live-sound v s _ s.names s.next sound sound.names sound.distinct (λ a solution holds. HoldAll-added a s.live form.0 holds (TreeForm-holds a limit s.names s.live tree form.0 divisors holds form.1)))
+    rw (ok-same last.1) (live-sound v s _ s.names s.next sound sound.names sound.distinct (λ a solution holds. HoldAll-added a s.live form.0 holds (FormOfExpression-holds a limit s.names s.live tree form.0 divisors holds form.1)))
 Does-sound limit top v s t (Rup linear) p q sound h =
     let normal = (needed h).1 in
     let implied = needed normal.2 in
@@ -155,7 +155,7 @@ Does-sound limit top v s t (Solx given) p q sound h =
     rw (ok-same last.1) (logged-sound v s clause.0 g.0 s.next sound taken.solution taken.value_is
     (λ a solution holds low.
     let true_there = clause-fails (numbered s.names given) clause.0 a clause.1 low in
-    known g.0 (Contains-push s.logged g.0) (λ k lt. taken-known v (Live s.live) (length s.names) (numbered s.names given) g.0 a taken holds true_there k (omega (arith, lt, length-front v.names s.names sound.names)))))
+    known g.0 (Contains-push s.logged g.0) (λ k lt. taken-known v (Live s.live) (length s.names) (numbered s.names given) g.0 a taken holds true_there k (omega (arith, lt, length-prefix v.names s.names sound.names)))))
 Does-sound limit top v s t (Soli given) p q sound h =
     let o = needed h in
     let g = followed o.2 in
@@ -168,7 +168,8 @@ Does-sound limit top v s t (Delete ids) p q sound h =
     let rest = followed h in
     rw (ok-same rest.2) (live-sound v s rest.0 s.names s.next sound sound.names sound.distinct (λ a solution holds f c. holds f (Deleted-live s.live ids rest.0 rest.1 f c)))
 Does-sound limit top v s t Output p q sound h =
-    rw (ok-same h) (live-sound v s s.live s.names Claim sound sound.names sound.distinct (λ a solution holds. holds))
+    rw (ok-same h) (live-sound v s s.live s.names Concluding sound sound.names sound.distinct
+    (λ a solution holds. holds))
 Does-sound limit top v s t (Conclude c) p q sound h =
     let meant = Concludes-means limit v s c _ t p sound h in
     rw (ok-same meant.1) (record {
@@ -192,7 +193,7 @@ statements-sound limit top v s t st p q sound h =
     Does-sound limit top v (record s { names = with_names s.names (mentioned st) }) t st p q more (needed h).1
   where
     more : IsSound v (record s { names = with_names s.names (mentioned st) })
-    more = live-sound v s s.live (with_names s.names (mentioned st)) s.next sound (IsFront-more v.names s.names (mentioned st) sound.names) (distinct s.names (mentioned st) sound.distinct) (λ a solution holds. holds)
+    more = live-sound v s s.live (with_names s.names (mentioned st)) s.next sound (IsNamePrefix-more v.names s.names (mentioned st) sound.names) (distinct s.names (mentioned st) sound.distinct) (λ a solution holds. holds)
 
 pub run-sound : (limit top : ℕ) (v : Problem) (s t : State) (sts : List Statement) → IsProblem v → All (IsStatementValue limit top) sts → IsSound v s → Accepts limit top v s sts t → IsSound v t
 run-sound limit top v s t [] p q sound h = rw (← h) sound

@@ -8,7 +8,7 @@ use Rattle.pb_normal.proofs.lemmas.terms.Maps.{Holds-divided, Holds-weakened}
 use Rattle.pb_normal.proofs.lemmas.rules.Scales.{Holds-multiplied, Holds-saturated}
 use Rattle.pb_normal.proofs.lemmas.rules.Sums.{Holds-sum}
 use Rattle.pb_replay.specs.meaning.Propagation.{HoldAll}
-use Rattle.pb_replay.specs.meaning.Replay.{Live, TreeForm}
+use Rattle.pb_replay.specs.meaning.Replay.{Live, FormOfExpression}
 use Rattle.pb_replay.proofs.lemmas.meaning.Accepting.{needed, followed, ok-same}
 use Rattle.pb_replay.proofs.lemmas.rules.Living.{IsLive-live}
 
@@ -25,28 +25,28 @@ HasDivisors (Weakened a name) = HasDivisors a
 above_0 : (k : ℤ) → pos 1 ≤ℤ k → 0 < unsigned_abs k
 above_0 k h = omega (arith, ints)
 
-pub TreeForm-holds : (a : ℕ → Bool) (limit : ℕ) (names : List (List ℕ)) (live : List (Option Form)) (t : Tree) (r : Form) → HasDivisors t → HoldAll a (Live live) → TreeForm limit names live t (Ok r) → Holds a r
-TreeForm-holds a limit names live (Constraint i) r p h g =
+pub FormOfExpression-holds : (a : ℕ → Bool) (limit : ℕ) (names : List (List ℕ)) (live : List (Option Form)) (t : Tree) (r : Form) → HasDivisors t → HoldAll a (Live live) → FormOfExpression limit names live t (Ok r) → Holds a r
+FormOfExpression-holds a limit names live (Constraint i) r p h g =
     let n = needed g in
     rw (ok-same n.2) (h n.0 (IsLive-live live i n.0 n.1))
-TreeForm-holds a limit names live (True l) r p h g = rw (ok-same g) (omega arith)
-TreeForm-holds a limit names live (Sum b c) r p h g =
+FormOfExpression-holds a limit names live (True l) r p h g = rw (ok-same g) (omega arith)
+FormOfExpression-holds a limit names live (Sum b c) r p h g =
     let left = followed g in
     let right = followed left.2 in
     let sum = right.2 in
     let within = needed sum.2 in
-    let holds = Holds-sum a left.0 right.0 sum.0 sum.1 (TreeForm-holds a limit names live b left.0 p.0 h left.1) (TreeForm-holds a limit names live c right.0 p.1 h right.1) in
+    let holds = Holds-sum a left.0 right.0 sum.0 sum.1 (FormOfExpression-holds a limit names live b left.0 p.0 h left.1) (FormOfExpression-holds a limit names live c right.0 p.1 h right.1) in
     rw (ok-same within.1) holds
-TreeForm-holds a limit names live (Times b k) r p h g =
+FormOfExpression-holds a limit names live (Times b k) r p h g =
     let part = followed g in
     let within = needed part.2 in
-    rw (ok-same within.1) (Holds-multiplied a (unsigned_abs k) part.0 (TreeForm-holds a limit names live b part.0 p h part.1))
-TreeForm-holds a limit names live (Divided b k) r p h g =
+    rw (ok-same within.1) (Holds-multiplied a (unsigned_abs k) part.0 (FormOfExpression-holds a limit names live b part.0 p h part.1))
+FormOfExpression-holds a limit names live (Divided b k) r p h g =
     let part = followed g in
-    rw (ok-same part.2) (Holds-divided a (unsigned_abs k) part.0 (above_0 k p.0) (TreeForm-holds a limit names live b part.0 p.1 h part.1))
-TreeForm-holds a limit names live (Saturated b) r p h g =
+    rw (ok-same part.2) (Holds-divided a (unsigned_abs k) part.0 (above_0 k p.0) (FormOfExpression-holds a limit names live b part.0 p.1 h part.1))
+FormOfExpression-holds a limit names live (Saturated b) r p h g =
     let part = followed g in
-    rw (ok-same part.2) (Holds-saturated a part.0 (TreeForm-holds a limit names live b part.0 p h part.1))
-TreeForm-holds a limit names live (Weakened b name) r p h g =
+    rw (ok-same part.2) (Holds-saturated a part.0 (FormOfExpression-holds a limit names live b part.0 p h part.1))
+FormOfExpression-holds a limit names live (Weakened b name) r p h g =
     let part = followed g in
-    rw (ok-same part.2) (Holds-weakened a _ part.0 (TreeForm-holds a limit names live b part.0 p h part.1))
+    rw (ok-same part.2) (Holds-weakened a _ part.0 (FormOfExpression-holds a limit names live b part.0 p h part.1))

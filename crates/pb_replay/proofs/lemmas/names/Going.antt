@@ -19,7 +19,7 @@ use Rattle.pb_replay.specs.engine.Bounds.{Demands, HasObjective}
 use Rattle.pb_replay.specs.meaning.Conclusions.{objective_with}
 use Rattle.pb_replay.specs.meaning.Problem.{Problem}
 use Rattle.pb_replay.specs.meaning.Replay.{Logged, State, added, normal_form}
-use Rattle.pb_replay.specs.contract.Kept.{Adding, Goes, GoesAt, HasNamed, IsBest, IsBetter, IsProper, Keeps, Logs, problem_of, state_of, with_mentioned}
+use Rattle.pb_replay.specs.contract.ReplayModel.{Adding, Goes, GoesAt, HasNamed, IsBest, IsBetter, IsProper, Keeps, Logs, problem_of, state_of, with_mentioned}
 use Rattle.pb_replay.specs.meaning.Statements.{Does, mentioned}
 use Rattle.pb_replay.proofs.lemmas.conclusions.Best.{best-push}
 use Rattle.pb_replay.proofs.lemmas.rules.Ready.{same_problem}

@@ -10,21 +10,22 @@ use Rattle.pb_normal.specs.declared.Side.{Side}
 use Rattle.pb_normal.specs.meaning.Form.{Form, Holds, total, true_at}
 use Rattle.pb_normal.specs.meaning.Names.{has_name, AreDistinct, HasNames, number_in, with_names}
 use Rattle.pb_normal.specs.meaning.Written.{names_of, true_sum, IsSideOf, MeetsSide, by_number}
-use Rattle.pb_normal.proofs.lemmas.names.Appearing.{front}
+use Rattle.pb_normal.proofs.lemmas.names.Appearing.{prefix}
 use Rattle.pb_normal.proofs.lemmas.names.Numbering.{number_in-append, number_in-below, number_in-get}
 use Rattle.pb_normal.proofs.lemmas.names.WrittenForms.{SameSolutions-side}
 use Rattle.pb_replay.specs.meaning.Problem.{Problem, objective_of}
 use Rattle.pb_replay.specs.meaning.Replay.{by_name, value}
-use Rattle.pb_replay.specs.meaning.Meaning.{IsFront, IsProblem}
+use Rattle.pb_replay.specs.meaning.Meaning.{IsNamePrefix, IsProblem}
 
 -- a prefix of the names stays one when more appear
-pub IsFront-more : (names all others : List (List ℕ)) → IsFront names all → IsFront names (with_names all others)
-IsFront-more names all others (more, e) =
-    let last = front all others in
+pub IsNamePrefix-more : (names all others : List (List ℕ)) → IsNamePrefix names all
+    → IsNamePrefix names (with_names all others)
+IsNamePrefix-more names all others (more, e) =
+    let last = prefix all others in
     (more ++ last.0, last.1 ∙ ap (λ (ns : List (List ℕ)). ns ++ last.0) e ∙ append_assoc names more last.0)
 
-pub length-front : (names all : List (List ℕ)) → IsFront names all → length names ≤ length all
-length-front names all (more, e) = omega (arith, ap length e, length-append names more)
+pub length-prefix : (names all : List (List ℕ)) → IsNamePrefix names all → length names ≤ length all
+length-prefix names all (more, e) = omega (arith, ap length e, length-append names more)
 
 -- a sum is the same at assignments that agree on its names
 same_part : (b c : Bool) (n : Bool) (z : ℤ) → b ≡ c → cond (cond n (not b) b) z (pos 0) ≡ cond (cond n (not c) c) z (pos 0)
@@ -74,7 +75,7 @@ objective-named v o p e =
     let named : P v.objective = p.named in
     rw e at named
 
-pub value-over : (v : Problem) (names : List (List ℕ)) (o : List Term) (a : ℕ → Bool) → IsProblem v → IsFront v.names names → v.objective ≡ Some o → true_sum (by_name names a) o ≡ value v a
+pub value-over : (v : Problem) (names : List (List ℕ)) (o : List Term) (a : ℕ → Bool) → IsProblem v → IsNamePrefix v.names names → v.objective ≡ Some o → true_sum (by_name names a) o ≡ value v a
 value-over v names o a p (more, e) is =
     let same : (q : List ℕ) → has_name v.names q ≡ true → by_name (v.names ++ more) a q ≡ by_name v.names a q = λ q h. ap a (number_in-append v.names more q h) in
     rw e (true_sum-agree (by_name (v.names ++ more) a) (by_name v.names a) v.names o (objective-named v o p is) same ∙ sym (value-is v o a is))

@@ -8,13 +8,13 @@ use Rattle.std.proofs.lemmas.Option.{slice_get-get_or}
 use Rattle.pb_sums.specs.declared.Literal.{Literal}
 use Rattle.pb_normal.specs.meaning.Form.{Form}
 use Rattle.pb_normal.specs.meaning.Names.{has_name, AreDistinct, number_in, with_name, with_names}
-use Rattle.pb_normal.proofs.lemmas.names.Appearing.{front, distinct}
+use Rattle.pb_normal.proofs.lemmas.names.Appearing.{prefix, distinct}
 use Rattle.pb_normal.proofs.lemmas.names.Numbering.{number_in-get}
 use Rattle.pb_replay.specs.declared.fault.Fault.{Fault}
 use Rattle.pb_replay.specs.declared.fault.Fault.TheVariants as fault
 use Rattle.pb_replay.specs.declared.numbered.NumberedLiteral.{NumberedLiteral}
 use Rattle.pb_replay.specs.meaning.Propagation.{on}
-use Rattle.pb_replay.specs.meaning.Replay.{State, Live, IsLive, place, TreeForm, limited, normal_form, HasValue, Completed, Shown, IsClause, Deleted, added, numbered}
+use Rattle.pb_replay.specs.meaning.Replay.{State, Live, IsLive, place, FormOfExpression, limited, normal_form, HasValue, Completed, Shown, IsClause, Deleted, added, numbered}
 use Rattle.pb_replay.specs.meaning.Statements.{Does, MayWant, PassesFirst, literal_names, mentioned}
 use Rattle.pb_sums.specs.declared.Term.{Term}
 use Rattle.pb_sums.specs.declared.Linear.{Linear}
@@ -59,7 +59,7 @@ appeared old (n ∷ ns) k le lt =
     elim (cases_lt k (length (with_name old n))) [
       | inl inside ↦
           let one = one_more old n k le inside in
-          let more = front (with_name old n) ns in
+          let more = prefix (with_name old n) ns in
           let here : get_or (with_names (with_name old n) ns) k [] ≡ n =
           ap (λ (xs : List (List ℕ)). get_or xs k []) more.1
           ∙ get_or_append_left (with_name old n) more.0 [] k inside
@@ -124,16 +124,16 @@ module _ {A : Type 0} where
 never-limited : (limit : ℕ) (r : Form) → Never (limited limit r)
 never-limited limit r = never-need _ _ _ (λ n h. cc) (never-gives r)
 
-never-tree : (limit : ℕ) (names : List (List ℕ)) (live : List (Option Form)) (t : Tree) → Never (TreeForm limit names live t)
+never-tree : (limit : ℕ) (names : List (List ℕ)) (live : List (Option Form)) (t : Tree) → Never (FormOfExpression limit names live t)
 never-tree limit names live (Constraint i) = never-found _ _ _ (λ n h. cc) (λ f. never-gives f)
 never-tree limit names live (True l) = never-gives _
 never-tree limit names live (Sum a b) =
-    never-after (TreeForm limit names live a) _ (never-tree limit names live a) (λ f.
-    never-after (TreeForm limit names live b) _ (never-tree limit names live b) (λ g. never-some (IsSum f g) _ (never-limited limit)))
-never-tree limit names live (Times a k) = never-after (TreeForm limit names live a) _ (never-tree limit names live a) (λ f. never-limited limit _)
-never-tree limit names live (Divided a k) = never-after (TreeForm limit names live a) _ (never-tree limit names live a) (λ f. never-gives _)
-never-tree limit names live (Saturated a) = never-after (TreeForm limit names live a) _ (never-tree limit names live a) (λ f. never-gives _)
-never-tree limit names live (Weakened a name) = never-after (TreeForm limit names live a) _ (never-tree limit names live a) (λ f. never-gives _)
+    never-after (FormOfExpression limit names live a) _ (never-tree limit names live a) (λ f.
+    never-after (FormOfExpression limit names live b) _ (never-tree limit names live b) (λ g. never-some (IsSum f g) _ (never-limited limit)))
+never-tree limit names live (Times a k) = never-after (FormOfExpression limit names live a) _ (never-tree limit names live a) (λ f. never-limited limit _)
+never-tree limit names live (Divided a k) = never-after (FormOfExpression limit names live a) _ (never-tree limit names live a) (λ f. never-gives _)
+never-tree limit names live (Saturated a) = never-after (FormOfExpression limit names live a) _ (never-tree limit names live a) (λ f. never-gives _)
+never-tree limit names live (Weakened a name) = never-after (FormOfExpression limit names live a) _ (never-tree limit names live a) (λ f. never-gives _)
 
 never-normal : {A : Type 0} (limit : ℕ) (names : List (List ℕ)) (side : Side) (linear : Linear) (next : Form → Answer A) → ((r : Form) → Never (next r)) → Never (normal_form limit names side linear next)
 never-normal limit names side linear next h = never-need _ _ _ (λ n h. cc) (never-some _ next h)
@@ -200,7 +200,7 @@ does : (limit top : ℕ) (v : Problem) (s : State) (st : Statement) (n : ℕ) (r
 does limit top v s Header n r d is h = absurd (never-gives _ r n is h)
 does limit top v s (F count) n r d is h = absurd (never-need _ _ _ (λ n h. cc) (never-need _ _ _ (λ n h. cc) (never-gives _)) r n is h)
 does limit top v s (Pol ws) n r d is h =
-    absurd (never-some (λ tree. ws ≡ words tree) _ (λ tree. never-after (TreeForm limit _ s.live tree) _ (never-tree limit _ s.live tree) (λ f. never-added top (record s { names = with_names s.names (mentioned (Pol ws)) }) s.logged f)) r n is h)
+    absurd (never-some (λ tree. ws ≡ words tree) _ (λ tree. never-after (FormOfExpression limit _ s.live tree) _ (never-tree limit _ s.live tree) (λ f. never-added top (record s { names = with_names s.names (mentioned (Pol ws)) }) s.logged f)) r n is h)
 does limit top v s (Rup linear) n r d is h =
     absurd (never-normal limit _ least linear _ (λ f. never-need _ _ _ (λ n h. cc) (never-added top (record s { names = with_names s.names (mentioned (Rup linear)) }) s.logged f)) r n is h)
 does limit top v s (Soli given) n r d is (inl (o, e, h)) =

@@ -48,20 +48,20 @@ killed-within (xs ∷ clauses) a b h =
     let q = sum_by-cons (λ ys. count_by (λ x. has b x) ys) xs clauses in
     omega (arith, rest, one, p, q)
 
-has-front : (a b : List ℕ) (x : ℕ) → has a x ≡ true → has (a ++ b) x ≡ true
-has-front [] b x h = absurd (both_ways _ refl h)
-has-front (y ∷ ys) b x h = by (y == x) (has ys x) h (has-front ys b x)
+has-prefix : (a b : List ℕ) (x : ℕ) → has a x ≡ true → has (a ++ b) x ≡ true
+has-prefix [] b x h = absurd (both_ways _ refl h)
+has-prefix (y ∷ ys) b x h = by (y == x) (has ys x) h (has-prefix ys b x)
   where
     by : (m n : Bool) → (m || n) ≡ true → (n ≡ true → has (ys ++ b) x ≡ true) → (m || has (ys ++ b) x) ≡ true
     by true n h k = refl
     by false n h k = k h
 
-pub killed-front : (clauses : List (List ℕ)) (a b : List ℕ) → killed clauses a ≤ killed clauses (a ++ b)
-killed-front clauses a b = killed-within clauses a (a ++ b) (has-front a b)
+pub killed-prefix : (clauses : List (List ℕ)) (a b : List ℕ) → killed clauses a ≤ killed clauses (a ++ b)
+killed-prefix clauses a b = killed-within clauses a (a ++ b) (has-prefix a b)
 
 pub killed-extends : (clauses : List (List ℕ)) (a b : List NumberedLiteral) (n : ℕ) → Extends a b → killed clauses (walked_codes n a) ≤ killed clauses (map falsified_code b)
 killed-extends clauses a b n (r, e) =
     let codes : map falsified_code b ≡ walked_codes n a ++ map falsified_code (drop n a ++ r) =
     ap (map falsified_code) (e ∙ ap (λ xs. xs ++ r) (sym (take-append-drop n a)) ∙ append_assoc (take n a) (drop n a) r) ∙ map-append falsified_code (take n a) (drop n a ++ r) in
-    let front = killed-front clauses (walked_codes n a) (map falsified_code (drop n a ++ r)) in
-    subst (λ xs. killed clauses (walked_codes n a) ≤ killed clauses xs) (sym codes) front
+    let prefix = killed-prefix clauses (walked_codes n a) (map falsified_code (drop n a ++ r)) in
+    subst (λ xs. killed clauses (walked_codes n a) ≤ killed clauses xs) (sym codes) prefix

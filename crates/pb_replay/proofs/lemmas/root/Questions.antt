@@ -25,7 +25,7 @@ use Rattle.pb_replay.proofs.lemmas.clauses.Killed.{IsOneSided, killed-both}
 use Rattle.pb_replay.proofs.lemmas.clauses.Literals.{Agree, true-listed, false-listed}
 use Rattle.pb_replay.proofs.lemmas.engine.Bounds.{joined-terms}
 use Rattle.pb_replay.proofs.lemmas.root.Admitted.{slot-counted, slot-tidy}
-use Rattle.pb_replay.proofs.lemmas.root.Extends.{killed-front}
+use Rattle.pb_replay.proofs.lemmas.root.Extends.{killed-prefix}
 use Rattle.pb_replay.proofs.lemmas.root.Rooted.{owned, derives-without, root-short, both-le}
 
 -- the root is no longer than the forms have terms
@@ -134,8 +134,8 @@ laid-tidy rests g keep keep' opens opens' cands cands' lowered list work trail n
 -- after a question each form is as it was
 pub undone-same : (rests : Rests) (forms : List Shape) (opens cands : List ℕ) (n : ℕ) → IsUndone rests forms opens cands [] 0 → length forms ≡ n + 1 → length opens ≡ n + 1 → length cands ≡ n + 1 → length rests.opens.items ≡ n → length rests.starts.items ≡ n → (take (length opens - 1) opens ≡ rests.opens.items) × (take (length cands - 1) cands ≡ rests.starts.items)
 undone-same rests forms opens cands n u long o c r s = (
-  same_front opens rests.opens.items n o r (λ i less. (u.clean i none (omega (arith, less, long)) (λ j from short. absurd (omega (arith, short)))).0 ∙ default_at rests.opens.items i less r),
-  same_front cands rests.starts.items n c s (λ i less. (u.clean i none (omega (arith, less, long)) (λ j from short. absurd (omega (arith, short)))).1),
+  same_prefix opens rests.opens.items n o r (λ i less. (u.clean i none (omega (arith, less, long)) (λ j from short. absurd (omega (arith, short)))).0 ∙ default_at rests.opens.items i less r),
+  same_prefix cands rests.starts.items n c s (λ i less. (u.clean i none (omega (arith, less, long)) (λ j from short. absurd (omega (arith, short)))).1),
 )
   where
     none : Shape
@@ -144,16 +144,16 @@ undone-same rests forms opens cands n u long o c r s = (
     default_at : (xs : List ℕ) (i : ℕ) → i < n → length xs ≡ n → get_or xs i (size (get_or forms i none).terms) ≡ get_or xs i 0
     default_at xs i less e = get_or_default xs i (size (get_or forms i none).terms) 0 (omega (arith, less, e))
 
-    front_at : (xs : List ℕ) (m i : ℕ) → i < m → get_or (take m xs) i 0 ≡ get_or xs i 0
-    front_at xs m i less = elim (cases_lt i (length (take m xs))) [
+    prefix_at : (xs : List ℕ) (m i : ℕ) → i < m → get_or (take m xs) i 0 ≡ get_or xs i 0
+    prefix_at xs m i less = elim (cases_lt i (length (take m xs))) [
       | inl inside ↦ sym (get_or_append_left (take m xs) (drop m xs) 0 i inside) ∙ ap (λ zs. get_or zs i 0) (take-append-drop m xs)
       | inr past ↦ get_or_past (take m xs) i 0 past ∙ sym (get_or_past xs i 0 (omega (arith, past, length-take m xs, less)))
     ]
 
-    same_front : (xs ys : List ℕ) (m : ℕ) → length xs ≡ m + 1 → length ys ≡ m → ((i : ℕ) → i < m → get_or xs i 0 ≡ get_or ys i 0) → take (length xs - 1) xs ≡ ys
-    same_front xs ys m e f h =
+    same_prefix : (xs ys : List ℕ) (m : ℕ) → length xs ≡ m + 1 → length ys ≡ m → ((i : ℕ) → i < m → get_or xs i 0 ≡ get_or ys i 0) → take (length xs - 1) xs ≡ ys
+    same_prefix xs ys m e f h =
         let short : length xs - 1 ≡ m = omega (arith, e) in
-        rw short (ext_get_or 0 (take m xs) ys (omega (arith, length-take m xs, e, f)) (λ i less. front_at xs m i (omega (arith, less, length-take m xs, e)) ∙ h i (omega (arith, less, length-take m xs, e))))
+        rw short (ext_get_or 0 (take m xs) ys (omega (arith, length-take m xs, e, f)) (λ i less. prefix_at xs m i (omega (arith, less, length-take m xs, e)) ∙ h i (omega (arith, less, length-take m xs, e))))
 
 -- values of one list have the same watches served
 pub walked-agree : (values values' : List (Option Bool)) (list : List NumberedLiteral) (ws : List Watch) (codes : List ℕ) → Agree values list → Agree values' list → AreWalked values ws codes → AreWalked values' ws codes
@@ -186,5 +186,5 @@ question-most store clauses old new v c0 r w n0 c sound j single one (more, e) d
     let short = root-short shapes (spots_of store.spots.items) lists store.variables clauses old sound d in
     let mine : owned lists old ≤ owned lists new = omega (arith, ap (owned lists) e, sum_by-append (λ l. length (get_or lists (place l) [])) old more) in
     let codes : map place new ≡ map place old ++ map place more = ap (map place) e ∙ map-append place old more in
-    let theirs : killed clauses (map place old) ≤ killed clauses (map place new) = subst (λ xs. killed clauses (map place old) ≤ killed clauses xs) (sym codes) (killed-front clauses (map place old) (map place more)) in
+    let theirs : killed clauses (map place old) ≤ killed clauses (map place new) = subst (λ xs. killed clauses (map place old) ≤ killed clauses xs) (sym codes) (killed-prefix clauses (map place old) (map place more)) in
     omega (arith, upper, is, few, bounded, short, mine, theirs, both-le lists new single one, killed-both clauses new one, sound.whole.totals, joined-terms shapes clauses j)

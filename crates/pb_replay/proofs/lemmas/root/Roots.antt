@@ -18,7 +18,7 @@ use Rattle.pb_replay.specs.engine.Clauses.Runs.{AreWalked}
 use Rattle.pb_replay.specs.engine.Clauses.Shapes.{all_of}
 use Rattle.pb_replay.specs.engine.Clauses.Walked.{walked_codes}
 use Rattle.pb_replay.proofs.lemmas.store.Gets.{lt_of_apart}
-use Rattle.pb_replay.proofs.lemmas.engine.Looks.{open-now}
+use Rattle.pb_replay.proofs.lemmas.engine.VisitSteps.{open-now}
 use Rattle.pb_replay.proofs.lemmas.engine.Rests.{rest-at, rest-lengths, eager-filter, calm-but}
 use Rattle.pb_replay.proofs.lemmas.engine.Rested.{open_sum-empty}
 

@@ -7,12 +7,12 @@ use Rattle.pb_proof.specs.declared.PolWord.TheVariants.{Id, Axiom, Add, Multiply
 use Rattle.pb_proof.specs.meaning.Postfix.{IsPostfix, words}
 use Rattle.pb_normal.specs.meaning.Form.{Form}
 use Rattle.pb_normal.specs.meaning.Names.{HasNames, with_names}
-use Rattle.pb_normal.proofs.lemmas.names.Appearing.{front, in_turn}
+use Rattle.pb_normal.proofs.lemmas.names.Appearing.{prefix, in_turn}
 use Rattle.pb_text.proofs.lemmas.text.Lists.{take_read}
 use Rattle.pb_replay.specs.declared.fault.Fault.{Fault}
 use Rattle.pb_replay.specs.meaning.Answer.{some}
-use Rattle.pb_replay.specs.meaning.Meaning.{IsFront}
-use Rattle.pb_replay.specs.meaning.Replay.{TreeForm}
+use Rattle.pb_replay.specs.meaning.Meaning.{IsNamePrefix}
+use Rattle.pb_replay.specs.meaning.Replay.{FormOfExpression}
 use Rattle.pb_replay.specs.engine.Stack.{Word, Words}
 use Rattle.pb_proof.specs.contract.Leaving.{takes, Leaves}
 use Rattle.pb_replay.specs.meaning.Statements.{word_names}
@@ -36,8 +36,9 @@ next_names old names new ws i w lt e before k =
     ap word_names (take_read ws i w w lt e) ∙ word_names-append (take i ws) (w ∷ []) in
     k ∙ ap (λ (ks : List (List ℕ)). with_names ks (word_names (w ∷ []))) before ∙ sym (in_turn old (word_names (take i ws)) (word_names (w ∷ []))) ∙ ap (with_names old) (sym all)
 
-pub front_of : (old names new others : List (List ℕ)) → names ≡ with_names old others → new ≡ names → IsFront old new
-front_of old names new others e k = let f = front old others in (f.0, k ∙ e ∙ f.1)
+pub prefix_in : (old names new others : List (List ℕ)) → names ≡ with_names old others → new ≡ names
+    → IsNamePrefix old new
+prefix_in old names new others e k = let f = prefix old others in (f.0, k ∙ e ∙ f.1)
 
 -- the state between two words
 pub record Standing (limit top : ℕ) (names : List (List ℕ)) (live : List (Option Form)) (ws : List PolWord) (i : ℕ) (stack : List Form) : Type 0 where
@@ -96,7 +97,7 @@ none_left fs [] f e n = refl
 none_left fs (g ∷ gs) f e n = absurd (omega (arith, ap length e, length-append gs (f ∷ []), n))
 
 pub some_form : (limit top : ℕ) (names : List (List ℕ)) (live : List (Option Form)) (ws : List PolWord) (stack left : List Form) (f : Form) (i : ℕ) → IsPostfix ws → length ws ≤ i → Standing limit top names live ws i stack → stack ≡ left ++ f ∷ []
-    → some (λ tree. ws ≡ words tree) (TreeForm limit names live) (Ok f)
+    → some (λ tree. ws ≡ words tree) (FormOfExpression limit names live) (Ok f)
 some_form limit top names live ws stack left f i postfix le s is =
     let rest : drop i ws ≡ [] = drop_all i ws le in
     let l = s.leaves in
@@ -106,5 +107,5 @@ some_form limit top names live ws stack left f i postfix le s is =
     let turned : reverse stack ≡ f ∷ [] = ap reverse is ∙ last_first left f ∙ ap (λ (fs : List Form). f ∷ reverse fs) none in
     (postfix.0, postfix.1, tree-leaves limit names live postfix.0 ws f postfix.1 (rw turned at all))
 
-pub some_fault : (limit : ℕ) (names : List (List ℕ)) (live : List (Option Form)) (ws : List PolWord) (d : Fault) → IsPostfix ws → Words limit names live ws [] (Err d) → some (λ tree. ws ≡ words tree) (TreeForm limit names live) (Err d)
+pub some_fault : (limit : ℕ) (names : List (List ℕ)) (live : List (Option Form)) (ws : List PolWord) (d : Fault) → IsPostfix ws → Words limit names live ws [] (Err d) → some (λ tree. ws ≡ words tree) (FormOfExpression limit names live) (Err d)
 some_fault limit names live ws d postfix h = (postfix.0, postfix.1, tree-fails limit names live postfix.0 ws d postfix.1 h)

@@ -13,8 +13,8 @@ use Rattle.pb_normal.specs.meaning.Rules.{multiplied, divided, saturated, weaken
 use Rattle.pb_normal.proofs.lemmas.names.Appearing.{names_split}
 use Rattle.pb_normal.proofs.lemmas.rules.Keeps.{IsOver-sum, IsOver-mapped, IsOver-filtered, IsOver-below}
 use Rattle.pb_normal.proofs.lemmas.names.Numbering.{number_in-below}
-use Rattle.pb_replay.specs.meaning.Replay.{Live, TreeForm}
-use Rattle.pb_replay.specs.contract.Kept.{IsInside}
+use Rattle.pb_replay.specs.meaning.Replay.{Live, FormOfExpression}
+use Rattle.pb_replay.specs.contract.ReplayModel.{IsInside}
 use Rattle.pb_replay.specs.meaning.Statements.{word_names}
 use Rattle.pb_replay.proofs.lemmas.meaning.Accepting.{needed, followed, ok-same}
 use Rattle.pb_replay.proofs.lemmas.rules.Evaluation.{word_names-append}
@@ -30,7 +30,7 @@ module _ (limit : ℕ) (names : List (List ℕ)) (live : List (Option Form)) (wi
   split xs ys h =
       names_split names (word_names xs) (word_names ys) (subst (λ (ns : List (List ℕ)). HasNames names ns) (word_names-append xs ys) h)
 
-  pub tree-inside : (t : Tree) (r : Form) → HasNames names (word_names (words t)) → TreeForm limit names live t (Ok r) → IsInside (length names) r
+  pub tree-inside : (t : Tree) (r : Form) → HasNames names (word_names (words t)) → FormOfExpression limit names live t (Ok r) → IsInside (length names) r
   tree-inside (Constraint id) r h k = let f = needed k in subst (λ (x : Form). IsInside (length names) x) (sym (ok-same f.2)) (within f.0 (IsLive-live live id f.0 f.1))
   tree-inside (True l) r h k =
       let n = length names in

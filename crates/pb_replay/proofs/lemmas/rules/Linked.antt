@@ -5,17 +5,17 @@ use Rattle.std.proofs.lemmas.List.Elements.{Contains-push_cases}
 use Rattle.std.proofs.lemmas.Option.{same_Some}
 use Rattle.pb_normal.specs.meaning.Form.{Form}
 use Rattle.pb_normal.specs.meaning.Names.{with_names}
-use Rattle.pb_normal.proofs.lemmas.names.Appearing.{front}
+use Rattle.pb_normal.proofs.lemmas.names.Appearing.{prefix}
 use Rattle.pb_replay.specs.declared.state.Running.{Running}
 use Rattle.pb_replay.specs.meaning.Replay.{Live}
-use Rattle.pb_replay.specs.contract.Kept.{IsInside, IsLinked}
+use Rattle.pb_replay.specs.contract.ReplayModel.{IsInside, IsLinked}
 use Rattle.pb_replay.proofs.lemmas.rules.Living.{Live-loaded}
 
 pub inside-more : (n m : ℕ) (f : Form) → n ≤ m → IsInside n f → IsInside m f
 inside-more n m f le h = λ k d lt. omega (arith, le, h k d lt)
 
 pub grown : (old new others : List (List ℕ)) → new ≡ with_names old others → length old ≤ length new
-grown old new others e = let f = front old others in omega (arith, ap length (e ∙ f.1), length-append old f.0)
+grown old new others e = let f = prefix old others in omega (arith, ap length (e ∙ f.1), length-append old f.0)
 
 pub inside-added : (n : ℕ) (old new : List (Option Form)) (form : Form) → ((f : Form) → Live old f → IsInside n f) → IsInside n form → new ≡ old ++ Some form ∷ [] → (f : Form) → Live new f → IsInside n f
 inside-added n old new form h is e f c =

@@ -11,37 +11,37 @@ use Rattle.pb_normal.specs.meaning.Names.{HasNames, with_names}
 use Rattle.pb_replay.specs.declared.fault.Fault.{Fault}
 use Rattle.pb_replay.specs.declared.state.Running.{Running}
 use Rattle.pb_replay.specs.meaning.Answer.{some}
-use Rattle.pb_replay.specs.meaning.Meaning.{IsFront}
-use Rattle.pb_replay.specs.meaning.Replay.{IsLive, Live, Logged, State, TreeForm, added}
-use Rattle.pb_replay.specs.contract.Kept.{Adding, Goes, IsInside, IsLinked, state_of, with_mentioned}
+use Rattle.pb_replay.specs.meaning.Meaning.{IsNamePrefix}
+use Rattle.pb_replay.specs.meaning.Replay.{IsLive, Live, Logged, State, FormOfExpression, added}
+use Rattle.pb_replay.specs.contract.ReplayModel.{Adding, Goes, IsInside, IsLinked, state_of, with_mentioned}
 use Rattle.pb_replay.specs.meaning.Statements.{word_names}
 use Rattle.pb_replay.proofs.lemmas.rules.Insides.{tree-inside}
 use Rattle.pb_replay.proofs.lemmas.rules.Linked.{inside-more}
-use Rattle.pb_replay.proofs.lemmas.names.Naming.{length-front}
+use Rattle.pb_replay.proofs.lemmas.names.Naming.{length-prefix}
 use Rattle.pb_replay.proofs.lemmas.rules.Rups.{goes-ok, goes-err}
 use Rattle.pb_replay.proofs.lemmas.rules.States.{same-state, added-over}
 
 -- one id is an expression of its constraint
-pub repeated-form : (limit : ℕ) (names : List (List ℕ)) (live : List (Option Form)) (ws : List PolWord) (form : Form) → (id : ℤ) × (ws ≡ Id id ∷ []) × IsLive live id form → some (λ tree. ws ≡ words tree) (TreeForm limit names live) (Ok form)
+pub repeated-form : (limit : ℕ) (names : List (List ℕ)) (live : List (Option Form)) (ws : List PolWord) (form : Form) → (id : ℤ) × (ws ≡ Id id ∷ []) × IsLive live id form → some (λ tree. ws ≡ words tree) (FormOfExpression limit names live) (Ok form)
 repeated-form limit names live ws form (id, is, there) = (Constraint id, is, inl (form, there, refl))
 
-pub pol-inside : (old : Running) (names : List (List ℕ)) (live : List (Option Form)) (limit : ℕ) (ws : List PolWord) (form : Form) → IsLinked old → IsFront old.names names → live ≡ old.engine.forms → HasNames names (word_names ws)
-    → some (λ tree. ws ≡ words tree) (TreeForm limit names live) (Ok form) → IsInside (length names) form
+pub pol-inside : (old : Running) (names : List (List ℕ)) (live : List (Option Form)) (limit : ℕ) (ws : List PolWord) (form : Form) → IsLinked old → IsNamePrefix old.names names → live ≡ old.engine.forms → HasNames names (word_names ws)
+    → some (λ tree. ws ≡ words tree) (FormOfExpression limit names live) (Ok form) → IsInside (length names) form
 pol-inside old names live limit ws form linked begins same named (tree, is, made) =
-    tree-inside limit names live (λ f c. inside-more (length old.names) (length names) f (length-front old.names names begins) (linked.inside f (subst (λ (l : List (Option Form)). Live l f) same c)))
+    tree-inside limit names live (λ f c. inside-more (length old.names) (length names) f (length-prefix old.names names begins) (linked.inside f (subst (λ (l : List (Option Form)). Live l f) same c)))
     tree form (subst (λ (us : List PolWord). HasNames names (word_names us)) is named) made
 
 module _ (old m : Running) (ws vs : List PolWord) (form : Form) where
-  over : (tree : Tree) → m.names ≡ with_names old.names (word_names ws) → m.engine.forms ≡ old.engine.forms → TreeForm (largest old.limits) m.names m.engine.forms tree (Ok form) → TreeForm (largest old.limits) (with_names old.names (word_names ws)) old.engine.forms tree (Ok form)
+  over : (tree : Tree) → m.names ≡ with_names old.names (word_names ws) → m.engine.forms ≡ old.engine.forms → FormOfExpression (largest old.limits) m.names m.engine.forms tree (Ok form) → FormOfExpression (largest old.limits) (with_names old.names (word_names ws)) old.engine.forms tree (Ok form)
   over tree e f made =
-      subst (λ (l : List (Option Form)). TreeForm (largest old.limits) (with_names old.names (word_names ws)) l tree (Ok form)) f (subst (λ (ns : List (List ℕ)). TreeForm (largest old.limits) ns m.engine.forms tree (Ok form)) e made)
+      subst (λ (l : List (Option Form)). FormOfExpression (largest old.limits) (with_names old.names (word_names ws)) l tree (Ok form)) f (subst (λ (ns : List (List ℕ)). FormOfExpression (largest old.limits) ns m.engine.forms tree (Ok form)) e made)
 
   moved : m.names ≡ with_names old.names (word_names ws) → m.engine.forms ≡ old.engine.forms → m.limits ≡ old.limits → m.next ≡ old.next → m.concluded ≡ old.concluded → (logged : List Logged) (r : Result State Fault)
       → added (top_of m.limits) (state_of m logged) logged form r → added (top_of old.limits) (with_mentioned (state_of old logged) (Pol ws)) logged form r
   moved e f l n d logged r = added-over old.limits m.limits l (state_of m logged) (with_mentioned (state_of old logged) (Pol ws)) (same-state f e n d) logged form r
 
   pub pol-goes : (result : Result Unit Fault) (new : Running) → ws ≡ vs → m.names ≡ with_names old.names (word_names ws) → m.engine.forms ≡ old.engine.forms → m.limits ≡ old.limits → m.next ≡ old.next → m.concluded ≡ old.concluded → new.best ≡ old.best
-      → some (λ tree. vs ≡ words tree) (TreeForm (largest old.limits) m.names m.engine.forms) (Ok form) → Adding m form result new → Goes old (Pol ws) result new
+      → some (λ tree. vs ≡ words tree) (FormOfExpression (largest old.limits) m.names m.engine.forms) (Ok form) → Adding m form result new → Goes old (Pol ws) result new
   pol-goes (Ok u) new w e f l n d b (tree, is, made) h =
       goes-ok old new (Pol ws) b (λ logged. (tree, w ∙ is, inl (form, over tree e f made, moved e f l n d logged (Ok (state_of new logged)) (h logged logged))))
   pol-goes (Err x) new w e f l n d b (tree, is, made) (inl memory) = inl memory

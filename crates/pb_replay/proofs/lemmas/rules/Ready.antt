@@ -28,8 +28,8 @@ use Rattle.pb_replay.specs.declared.fault.Fault.TheVariants.{Memory, NotTotal}
 use Rattle.pb_replay.proofs.lemmas.names.Unvalued.{unvalued-old}
 use Rattle.pb_replay.specs.meaning.Statements.{Outcome}
 use Rattle.pb_replay.proofs.lemmas.rules.States.{same-state}
-use Rattle.pb_replay.specs.meaning.Meaning.{IsFront, IsSound, Means, MeansWritten}
-use Rattle.pb_replay.specs.contract.Kept.{Comes, Keeps, IsBest, IsFirst, IsInside, IsKept, IsLinked, IsProper, IsReady, problem_of, state_of}
+use Rattle.pb_replay.specs.meaning.Meaning.{IsNamePrefix, IsSound, Means, MeansWritten}
+use Rattle.pb_replay.specs.contract.ReplayModel.{Comes, Keeps, IsBest, IsFirst, IsInside, IsKept, IsLinked, IsProper, IsReady, problem_of, state_of}
 use Rattle.pb_text.specs.declared.Limits.{Limits}
 use Rattle.pb_replay.proofs.lemmas.store.Gets.{contains-none}
 use Rattle.pb_replay.proofs.lemmas.meaning.Loads.{problems-proper, loaded-inside, meanings-agree}
@@ -37,14 +37,14 @@ use Rattle.pb_replay.proofs.lemmas.meaning.Sound.{first-sound, statements-sound}
 use Rattle.std.proofs.lemmas.List.{length-take-le}
 use Rattle.std.proofs.lemmas.Option.{none-some, same_Some}
 use Rattle.pb_text.proofs.lemmas.text.Results.{same_err}
-use Rattle.pb_replay.proofs.lemmas.names.Naming.{length-front}
+use Rattle.pb_replay.proofs.lemmas.names.Naming.{length-prefix}
 
 pub meant : (v : Problem) (s : State) (o : Option Verdict) → IsSound v s → o ≡ s.concluded → IfSome o (Means v)
 meant v s None sound e = tt
 meant v s (Some w) sound e = sound.meant w (sym e)
 
 -- the names of the instance stay a prefix
-own_names : (own : ℕ) (names new : List (List ℕ)) → own ≤ length names → IsFront names new → take own new ≡ take own names
+own_names : (own : ℕ) (names new : List (List ℕ)) → own ≤ length names → IsNamePrefix names new → take own new ≡ take own names
 own_names own names new le (more, e) = ap (take own) e ∙ take-append-le own names more le
 
 same_fields : (fs gs : List Form) (o p : Option (List Term)) (ns ms : List (List ℕ)) → fs ≡ gs → o ≡ p → ns ≡ ms → (let v : Problem = record { loaded = fs; objective = o; names = ns } in v) ≡ record { loaded = gs; objective = p; names = ms }
@@ -157,11 +157,11 @@ step-unvalued old new st d n ready (inr h) e =
 pub kept-ok : (old new : Running) (st : Statement) (fault : Option Fault) → IsStatementValue (largest old.limits) (top_of old.limits) st → IsKept old fault → Comes old st (Ok tt) new → Keeps old new → IsLinked new → IsKept new fault
 kept-ok old new st fault value is comes k linked = record {
   ready = λ none. ready_after old new st value (is.ready none) comes k linked;
-  told = λ n e. omega (arith, is.told n e, length-front old.names new.names k.names);
+  reported = λ n e. omega (arith, is.reported n e, length-prefix old.names new.names k.names);
 }
 
 pub kept-err : (old new : Running) (st : Statement) (d : Fault) → IsReady old → Comes old st (Err d) new → Keeps old new → IsKept new (Some d)
 kept-err old new st d ready comes k = record {
   ready = λ none. absurd (none-some _ (sym none));
-  told = λ n e. omega (arith, step-unvalued old new st d n ready comes (ap (λ (x : Fault). let r : Result Unit Fault = Err x in r) (same_Some _ _ e)), length-front old.names new.names k.names);
+  reported = λ n e. omega (arith, step-unvalued old new st d n ready comes (ap (λ (x : Fault). let r : Result Unit Fault = Err x in r) (same_Some _ _ e)), length-prefix old.names new.names k.names);
 }

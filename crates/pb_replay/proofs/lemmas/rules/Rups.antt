@@ -15,7 +15,7 @@ use Rattle.pb_normal.specs.meaning.Constraints.{Fits}
 use Rattle.pb_normal.specs.meaning.Form.{Form}
 use Rattle.pb_normal.specs.meaning.Names.{with_names}
 use Rattle.pb_normal.specs.meaning.Written.{names_of, IsSideOf}
-use Rattle.pb_normal.proofs.lemmas.names.Appearing.{front}
+use Rattle.pb_normal.proofs.lemmas.names.Appearing.{prefix}
 use Rattle.pb_replay.specs.declared.fault.Fault.{Fault}
 use Rattle.pb_replay.specs.declared.fault.Fault.TheVariants.{Memory, NotImplied, Overflow}
 use Rattle.std.specs.Prelude.{Option, Some}
@@ -25,9 +25,9 @@ use Rattle.pb_replay.proofs.lemmas.rules.States.{same-state, added-over}
 use Rattle.pb_replay.specs.declared.state.Running.{Running}
 use Rattle.pb_replay.specs.meaning.Propagation.{IsRup}
 use Rattle.pb_replay.specs.meaning.Replay.{Live, Logged, State, added}
-use Rattle.pb_replay.specs.contract.Kept.{Adding, Goes, Comes, Keeps, problem_of, state_of, with_mentioned}
+use Rattle.pb_replay.specs.contract.ReplayModel.{Adding, Goes, Comes, Keeps, problem_of, state_of, with_mentioned}
 use Rattle.pb_replay.specs.meaning.Statements.{Does, IsCount}
-use Rattle.pb_replay.specs.meaning.Meaning.{IsFront}
+use Rattle.pb_replay.specs.meaning.Meaning.{IsNamePrefix}
 
 -- a form was made, so its numbers fit
 pub fits_of : {A : Type 0} (r : Result A NormalFault) (x : A) (limit n : ℕ) → r ≡ Ok x → (r ≡ Err normal.Overflow) ↔ (limit < n) → n ≤ limit
@@ -93,11 +93,11 @@ unmade-fits e result is memory (inl h) = h.1
 unmade-fits e result is memory (inr h) = absurd (let bad : Overflow ≡ Memory = sym h.0 ∙ same_err (sym is ∙ memory) in cc)
 
 -- names that appeared come after the others
-pub front_after : (old new others : List (List ℕ)) → new ≡ with_names old others → IsFront old new
-front_after old new others e = let f = front old others in (f.0, e ∙ f.1)
+pub prefix_after : (old new others : List (List ℕ)) → new ≡ with_names old others → IsNamePrefix old new
+prefix_after old new others e = let f = prefix old others in (f.0, e ∙ f.1)
 
-pub front_then : (a b c : List (List ℕ)) → IsFront a b → IsFront b c → IsFront a c
-front_then a b c (more, e) (last, k) = (more ++ last, k ∙ ap (λ (ns : List (List ℕ)). ns ++ last) e ∙ append_assoc a more last)
+pub prefix_then : (a b c : List (List ℕ)) → IsNamePrefix a b → IsNamePrefix b c → IsNamePrefix a c
+prefix_then a b c (more, e) (last, k) = (more ++ last, k ∙ ap (λ (ns : List (List ℕ)). ns ++ last) e ∙ append_assoc a more last)
 
 pub keeps_then : (a b c : Running) → Keeps a b → Keeps b c → Keeps a c
 keeps_then a b c h k = record {
@@ -105,7 +105,7 @@ keeps_then a b c h k = record {
   own = k.own ∙ h.own;
   loaded = k.loaded ∙ h.loaded;
   objective = k.objective ∙ h.objective;
-  names = front_then a.names b.names c.names h.names k.names;
+  names = prefix_then a.names b.names c.names h.names k.names;
 }
 
 -- a statement at a stage where it may come

@@ -10,7 +10,7 @@ use Rattle.pb_normal.specs.meaning.Rules.{IsSum, multiplied, divided, saturated,
 use Rattle.pb_replay.specs.declared.fault.Fault.{Fault}
 use Rattle.pb_replay.specs.declared.fault.Fault.TheVariants.{NoSuchId}
 use Rattle.pb_replay.specs.meaning.Answer.{Answer, gives, some, after}
-use Rattle.pb_replay.specs.meaning.Replay.{TreeForm, limited}
+use Rattle.pb_replay.specs.meaning.Replay.{FormOfExpression, limited}
 use Rattle.pb_replay.specs.engine.Stack.{Words}
 use Rattle.pb_proof.specs.contract.Leaving.{Leaves}
 
@@ -65,7 +65,7 @@ module _ (limit : ℕ) (names : List (List ℕ)) (live : List (Option Form)) whe
   abbrev Then : List PolWord → List Form → Form → Answer (List Form)
   Then rest fs f = Words limit names live rest (f ∷ fs)
 
-  as_tree : (t : Tree) (rest : List PolWord) (fs : List Form) (r : Result (List Form) Fault) → Words limit names live (words t ++ rest) fs r → after (TreeForm limit names live t) (Then rest fs) r
+  as_tree : (t : Tree) (rest : List PolWord) (fs : List Form) (r : Result (List Form) Fault) → Words limit names live (words t ++ rest) fs r → after (FormOfExpression limit names live t) (Then rest fs) r
   as_tree (Constraint id) rest fs r (inl (gs, inl (f, p, e), h)) = let same : gs ≡ f ∷ fs = cc in inl (f, inl (f, p, refl), rw same at h)
   as_tree (Constraint id) rest fs r (inl (gs, inr (p, bad), h)) = absurd cc
   as_tree (Constraint id) rest fs r (inr (e, inl (f, p, bad), h)) = absurd cc
@@ -73,10 +73,10 @@ module _ (limit : ℕ) (names : List (List ℕ)) (live : List (Option Form)) whe
   as_tree (True l) rest fs r h = inl (axiom_on (number_in names l.name) l.negated, refl, after_given (axiom_on (number_in names l.name) l.negated ∷ fs) (Words limit names live rest) r h)
   as_tree (Sum a b) rest fs r h =
       let split = rw (append_assoc (words a ++ words b) (Add ∷ []) rest, append_assoc (words a) (words b) (Add ∷ rest)) at h in
-      joined (TreeForm limit names live a) (λ f. after {A = Form} (TreeForm limit names live b) (λ g. some (IsSum f g) (limited limit))) (Then rest fs) r
-      (after_like (TreeForm limit names live a) (Then (words b ++ Add ∷ rest) fs) (λ f. after (after {A = Form} (TreeForm limit names live b) (λ g. some (IsSum f g) (limited limit))) (Then rest fs)) r
-      (λ f left. joined (TreeForm limit names live b) (λ g. some (IsSum f g) (limited limit)) (Then rest fs) r
-      (after_like (TreeForm limit names live b) (Then (Add ∷ rest) (f ∷ fs)) (λ g. after (some (IsSum f g) (limited limit)) (Then rest fs)) r
+      joined (FormOfExpression limit names live a) (λ f. after {A = Form} (FormOfExpression limit names live b) (λ g. some (IsSum f g) (limited limit))) (Then rest fs) r
+      (after_like (FormOfExpression limit names live a) (Then (words b ++ Add ∷ rest) fs) (λ f. after (after {A = Form} (FormOfExpression limit names live b) (λ g. some (IsSum f g) (limited limit))) (Then rest fs)) r
+      (λ f left. joined (FormOfExpression limit names live b) (λ g. some (IsSum f g) (limited limit)) (Then rest fs) r
+      (after_like (FormOfExpression limit names live b) (Then (Add ∷ rest) (f ∷ fs)) (λ g. after (some (IsSum f g) (limited limit)) (Then rest fs)) r
       (λ g right. some_joined (IsSum f g) (limited limit) (Then rest fs) r
       (summed f g right))
       (as_tree b (Add ∷ rest) (f ∷ fs) r left)))
@@ -88,40 +88,42 @@ module _ (limit : ℕ) (names : List (List ℕ)) (live : List (Option Form)) whe
           (one.0, one.1, after_gives (limited limit one.0) (λ x. x ∷ fs) (Words limit names live rest) r one.2)
   as_tree (Times a k) rest fs r h =
       let split = rw (append_assoc (words a) (Multiply k ∷ []) rest) at h in
-      joined (TreeForm limit names live a) (λ f. limited limit (multiplied (unsigned_abs k) f)) (Then rest fs) r
-      (after_like (TreeForm limit names live a) (Then (Multiply k ∷ rest) fs) (λ f. after (limited limit (multiplied (unsigned_abs k) f)) (Then rest fs)) r
+      joined (FormOfExpression limit names live a) (λ f. limited limit (multiplied (unsigned_abs k) f)) (Then rest fs) r
+      (after_like (FormOfExpression limit names live a) (Then (Multiply k ∷ rest) fs) (λ f. after (limited limit (multiplied (unsigned_abs k) f)) (Then rest fs)) r
       (λ f w. after_gives (limited limit (multiplied (unsigned_abs k) f)) (λ x. x ∷ fs) (Words limit names live rest) r w)
       (as_tree a (Multiply k ∷ rest) fs r split))
   as_tree (Divided a k) rest fs r h =
       let split = rw (append_assoc (words a) (Divide k ∷ []) rest) at h in
-      joined (TreeForm limit names live a) (λ f. gives (divided (unsigned_abs k) f)) (Then rest fs) r
-      (after_like (TreeForm limit names live a) (Then (Divide k ∷ rest) fs) (λ f. after (gives (divided (unsigned_abs k) f)) (Then rest fs)) r
+      joined (FormOfExpression limit names live a) (λ f. gives (divided (unsigned_abs k) f)) (Then rest fs) r
+      (after_like (FormOfExpression limit names live a) (Then (Divide k ∷ rest) fs) (λ f. after (gives (divided (unsigned_abs k) f)) (Then rest fs)) r
       (λ f w. inl (divided (unsigned_abs k) f, refl, after_given (divided (unsigned_abs k) f ∷ fs) (Words limit names live rest) r w))
       (as_tree a (Divide k ∷ rest) fs r split))
   as_tree (Saturated a) rest fs r h =
       let split = rw (append_assoc (words a) (Saturate ∷ []) rest) at h in
-      joined (TreeForm limit names live a) (λ f. gives (saturated f)) (Then rest fs) r
-      (after_like (TreeForm limit names live a) (Then (Saturate ∷ rest) fs) (λ f. after (gives (saturated f)) (Then rest fs)) r
+      joined (FormOfExpression limit names live a) (λ f. gives (saturated f)) (Then rest fs) r
+      (after_like (FormOfExpression limit names live a) (Then (Saturate ∷ rest) fs) (λ f. after (gives (saturated f)) (Then rest fs)) r
       (λ f w. inl (saturated f, refl, after_given (saturated f ∷ fs) (Words limit names live rest) r w))
       (as_tree a (Saturate ∷ rest) fs r split))
   as_tree (Weakened a name) rest fs r h =
       let split = rw (append_assoc (words a) (Weaken name ∷ []) rest) at h in
-      joined (TreeForm limit names live a) (λ f. gives (weakened (number_in names name) f)) (Then rest fs) r
-      (after_like (TreeForm limit names live a) (Then (Weaken name ∷ rest) fs) (λ f. after (gives (weakened (number_in names name) f)) (Then rest fs)) r
+      joined (FormOfExpression limit names live a) (λ f. gives (weakened (number_in names name) f)) (Then rest fs) r
+      (after_like (FormOfExpression limit names live a) (Then (Weaken name ∷ rest) fs) (λ f. after (gives (weakened (number_in names name) f)) (Then rest fs)) r
       (λ f w. inl (weakened (number_in names name) f, refl, after_given (weakened (number_in names name) f ∷ fs) (Words limit names live rest) r w))
       (as_tree a (Weaken name ∷ rest) fs r split))
 
   -- the form that the words leave is that of their expression, and so is their fault
-  pub tree-leaves : (t : Tree) (ws : List PolWord) (f : Form) → ws ≡ words t → Words limit names live ws [] (Ok (f ∷ [])) → TreeForm limit names live t (Ok f)
+  pub tree-leaves : (t : Tree) (ws : List PolWord) (f : Form) → ws ≡ words t → Words limit names live ws [] (Ok (f ∷ [])) → FormOfExpression limit names live t (Ok f)
   tree-leaves t ws f e h = at (as_tree t [] [] (Ok (f ∷ [])) (rw (append-nil (words t), ← e) h))
     where
-      at : after (TreeForm limit names live t) (Then [] []) (Ok (f ∷ [])) → TreeForm limit names live t (Ok f)
+      at : after (FormOfExpression limit names live t) (Then [] []) (Ok (f ∷ []))
+          → FormOfExpression limit names live t (Ok f)
       at (inl (g, p, is)) = let same : g ≡ f = cc in rw same at p
       at (inr (e, p, bad)) = absurd cc
 
-  pub tree-fails : (t : Tree) (ws : List PolWord) (d : Fault) → ws ≡ words t → Words limit names live ws [] (Err d) → TreeForm limit names live t (Err d)
+  pub tree-fails : (t : Tree) (ws : List PolWord) (d : Fault) → ws ≡ words t → Words limit names live ws [] (Err d) → FormOfExpression limit names live t (Err d)
   tree-fails t ws d e h = at (as_tree t [] [] (Err d) (rw (append-nil (words t), ← e) h))
     where
-      at : after (TreeForm limit names live t) (Then [] []) (Err d) → TreeForm limit names live t (Err d)
+      at : after (FormOfExpression limit names live t) (Then [] []) (Err d)
+          → FormOfExpression limit names live t (Err d)
       at (inl (g, p, bad)) = absurd cc
       at (inr (e, p, is)) = let same : e ≡ d = cc in rw same at p

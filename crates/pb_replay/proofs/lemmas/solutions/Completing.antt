@@ -5,7 +5,7 @@ use Rattle.std.proofs.lemmas.Bool.{cases_Bool, or_cases, or_right, both_ways, no
 use Rattle.pb_replay.specs.declared.numbered.NumberedLiteral.{NumberedLiteral}
 use Rattle.pb_normal.specs.meaning.Form.{Form}
 use Rattle.pb_normal.specs.meaning.Rules.{only}
-use Rattle.pb_replay.specs.meaning.Propagation.{on, opened, MayPut, Derivation, begin, put, HasConflict, opposed, broken, MeetsConflict, IsCompletion}
+use Rattle.pb_replay.specs.meaning.Propagation.{on, opened, MayPropagate, Derivation, begin, put, HasConflict, opposed, broken, MeetsConflict, IsCompletion}
 use Rattle.pb_replay.proofs.lemmas.meaning.Choices.{only-true, total-fits, total-within}
 
 -- each literal of the first list is on the second
@@ -22,10 +22,10 @@ at_literal list l v n e f b h = rw (e, f) h
 -- a literal that may be propagated from a list: on each longer list it is there, may be propagated, or there is a conflict
 pub data Lasting (forms : Form → Type 0) (list : List NumberedLiteral) (l : NumberedLiteral) : Type 0 where
   on_it : on list l.variable l.negated ≡ true → Lasting forms list l
-  still : MayPut forms list l → Lasting forms list l
+  still : MayPropagate forms list l → Lasting forms list l
   conflicting : HasConflict forms list → Lasting forms list l
 
-pub lasting : (forms : Form → Type 0) (a b : List NumberedLiteral) (l : NumberedLiteral) → IsPart a b → MayPut forms a l → Lasting forms b l
+pub lasting : (forms : Form → Type 0) (a b : List NumberedLiteral) (l : NumberedLiteral) → IsPart a b → MayPropagate forms a l → Lasting forms b l
 lasting forms a b l w m =
     elim (cases_Bool (on b l.variable l.negated)) [
       | inl here ↦ on_it here
@@ -62,7 +62,7 @@ derivation-keeps forms given _ begin v n h = h
 derivation-keeps forms given _ (put {list} l d m) v n h = or_right (only l.variable l.negated v n) (on list v n) (derivation-keeps forms given list d v n h)
 
 -- a closed list without a conflict has each derivation's literals
-pub derivation-part : (forms : Form → Type 0) (given closed : List NumberedLiteral) → IsPart given closed → ((l : NumberedLiteral) → MayPut forms closed l → ⊥) → (HasConflict forms closed → ⊥) → (list : List NumberedLiteral) → Derivation forms given list → IsPart list closed
+pub derivation-part : (forms : Form → Type 0) (given closed : List NumberedLiteral) → IsPart given closed → ((l : NumberedLiteral) → MayPropagate forms closed l → ⊥) → (HasConflict forms closed → ⊥) → (list : List NumberedLiteral) → Derivation forms given list → IsPart list closed
 derivation-part forms given closed w c n _ begin = w
 derivation-part forms given closed w c n _ (put {list} l d m) =
     let before = derivation-part forms given closed w c n list d in
@@ -79,7 +79,7 @@ conflict-part forms a b w (broken f among low) =
     broken f among (omega (arith, total-within (opened b) (opened a) (opened-part a b w) f.terms, low))
 
 -- a closed list without a conflict refutes each derivation that would have one
-pub closed-none : (forms : Form → Type 0) (given closed : List NumberedLiteral) → Derivation forms given closed → ((l : NumberedLiteral) → MayPut forms closed l → ⊥) → (HasConflict forms closed → ⊥) → MeetsConflict forms given → ⊥
+pub closed-none : (forms : Form → Type 0) (given closed : List NumberedLiteral) → Derivation forms given closed → ((l : NumberedLiteral) → MayPropagate forms closed l → ⊥) → (HasConflict forms closed → ⊥) → MeetsConflict forms given → ⊥
 closed-none forms given closed d c n m =
     n (conflict-part forms m.list closed (derivation-part forms given closed (derivation-keeps forms given closed d) c n m.list m.derived) m.conflict)
 

@@ -14,7 +14,7 @@ use Rattle.pb_replay.specs.engine.Bounds.{Demands}
 use Rattle.pb_replay.specs.meaning.Problem.{Problem}
 use Rattle.pb_replay.specs.meaning.Propagation.{on, begin, opposed}
 use Rattle.pb_replay.specs.meaning.Replay.{Completed, IsClause, Live, Logged, numbered}
-use Rattle.pb_replay.specs.contract.Kept.{GoesAt, IsInside, Logs, problem_of}
+use Rattle.pb_replay.specs.contract.ReplayModel.{GoesAt, IsInside, Logs, problem_of}
 use Rattle.std.proofs.lemmas.Bool.{or_cases}
 use Rattle.std.proofs.lemmas.List.Elements.{All-head, All-tail, Contains-get_or}
 use Rattle.pb_replay.proofs.lemmas.meaning.Accepting.{needed}

@@ -9,7 +9,7 @@ use Rattle.pb_replay.specs.declared.fault.Fault.TheVariants.{Conflict, Memory, N
 use Rattle.pb_replay.specs.declared.numbered.NumberedLiteral.{NumberedLiteral}
 use Rattle.pb_replay.specs.engine.Engine.Live.{Gives, value_says}
 use Rattle.pb_replay.specs.meaning.Problem.{Problem}
-use Rattle.pb_replay.specs.meaning.Propagation.{on, MayPut, Derivation, begin, put, HasConflict, opposed, broken, MeetsConflict, IsCompletion}
+use Rattle.pb_replay.specs.meaning.Propagation.{on, MayPropagate, Derivation, begin, put, HasConflict, opposed, broken, MeetsConflict, IsCompletion}
 use Rattle.pb_replay.specs.meaning.Replay.{Logged, HasValue, AreValues, Solution, Completed, Shown, no_form, logged_of, value}
 use Rattle.pb_replay.proofs.lemmas.meaning.Accepting.{ok-same}
 use Rattle.pb_text.proofs.lemmas.text.Results.{ok_or_err, same_err}
@@ -79,7 +79,7 @@ module _ (v : Problem) (list : List NumberedLiteral) (given : List (Option Bool)
 
 -- the same over a set of forms
 module _ (F G : Form → Type 0) (to : (f : Form) → F f → G f) where
-  put-to : (list : List NumberedLiteral) (l : NumberedLiteral) → MayPut F list l → MayPut G list l
+  put-to : (list : List NumberedLiteral) (l : NumberedLiteral) → MayPropagate F list l → MayPropagate G list l
   put-to list l m = record {
     absent = m.absent;
     not_falsified = m.not_falsified;

@@ -16,7 +16,7 @@ use Rattle.pb_text.proofs.lemmas.numbers.Numbers.{largest_small}
 use Rattle.pb_replay.specs.declared.state.Running.{Running}
 use Rattle.pb_replay.specs.meaning.Problem.{objective_of}
 use Rattle.pb_replay.specs.meaning.Replay.{by_name, value}
-use Rattle.pb_replay.specs.contract.Kept.{IsProper, problem_of}
+use Rattle.pb_replay.specs.contract.ReplayModel.{IsProper, problem_of}
 use Rattle.pb_normal.proofs.lemmas.names.WrittenForms.{HasNames-append, magnitude-append}
 use Rattle.pb_replay.proofs.lemmas.names.Naming.{objective-named, value-over}
 
@@ -24,8 +24,8 @@ pub true_sum-append : (a : List ℕ → Bool) (xs ys : List Term) → true_sum a
 true_sum-append a [] ys = omega (arith, ints)
 true_sum-append a (x ∷ xs) ys = omega (arith, ints, true_sum-append a xs ys)
 
-pub magnitude-front : (ts : List Term) (k : ℕ) → magnitude (take k ts) ≤ magnitude ts
-magnitude-front ts k = omega (arith, magnitude-append (take k ts) (drop k ts), ap magnitude (take-append-drop k ts))
+pub magnitude-prefix : (ts : List Term) (k : ℕ) → magnitude (take k ts) ≤ magnitude ts
+magnitude-prefix ts k = omega (arith, magnitude-append (take k ts) (drop k ts), ap magnitude (take-append-drop k ts))
 
 -- one more term
 module _ (ts : List Term) (i : ℕ) (t : Term) (lt : i < length ts) (e : t ≡ get_or ts i t) where
@@ -39,7 +39,7 @@ module _ (ts : List Term) (i : ℕ) (t : Term) (lt : i < length ts) (e : t ≡ g
   next-small sum part h k = omega (arith, ints, magnitude-more, h, k)
 
   pub next-fits : (sum part : ℤ) → unsigned_abs sum ≤ magnitude (take i ts) → unsigned_abs part ≤ unsigned_abs t.coefficient → magnitude ts < 2 ^ 127 → FitsSigned w128 (sum +ℤ part)
-  next-fits sum part h k small = fits_signed_from_abs w128 (sum +ℤ part) (omega (arith, next-small sum part h k, magnitude-front ts (i + 1), small))
+  next-fits sum part h k small = fits_signed_from_abs w128 (sum +ℤ part) (omega (arith, next-small sum part h k, magnitude-prefix ts (i + 1), small))
 
   pub has-one : (names : List (List ℕ)) → HasNames names (names_of ts) → has_name names t.literal.name ≡ true
   has-one names h = at ts i t lt e h

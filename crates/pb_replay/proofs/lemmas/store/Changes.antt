@@ -111,29 +111,29 @@ pub left-stored : (keep : List Kept) (sp sp0 : List (Vec ℕ Global)) (occ occ0 
     IsStored (shapes_of (take number keep)) (spots_of (take number sp)) (entries_of (shapes_of (take number keep)) occ) n
 left-stored keep sp sp0 occ occ0 n number count sizes rooms linked old =
     let forms = shapes_of keep in
-    let front = take number forms in
+    let prefix = take number forms in
     let e : Shape = record { terms = []; degree = 0 } in
     let forms_size : length forms ≡ number + 1 = length-map keep kept_shape ∙ count in
     let spots_size : length (spots_of sp) ≡ number + 1 = omega (arith, linked.sizes, cut-length forms number 0, forms_size) in
-    let front_size : length front ≡ number = length-take-le number forms (omega (arith, forms_size)) in
-    let spots_front : length (take number (spots_of sp)) ≡ number = length-take-le number (spots_of sp) (omega (arith, spots_size)) in
+    let prefix_size : length prefix ≡ number = length-take-le number forms (omega (arith, forms_size)) in
+    let spots_prefix : length (take number (spots_of sp)) ≡ number = length-take-le number (spots_of sp) (omega (arith, spots_size)) in
     let forms_split = split-last forms number e forms_size in
     let spots_split = split-last (spots_of sp) number [] spots_size in
-    let split : IsLinked (cut (front ++ (get_or forms number e ∷ [])) number 0) (take number (spots_of sp) ++ (get_or (spots_of sp) number [] ∷ [])) (entries_of forms occ) =
+    let split : IsLinked (cut (prefix ++ (get_or forms number e ∷ [])) number 0) (take number (spots_of sp) ++ (get_or (spots_of sp) number [] ∷ [])) (entries_of forms occ) =
     subst (λ xs. IsLinked (cut xs number 0) (take number (spots_of sp) ++ (get_or (spots_of sp) number [] ∷ [])) (entries_of forms occ)) forms_split (subst (λ ys. IsLinked (cut forms number 0) ys (entries_of forms occ)) spots_split linked) in
-    let at_end : IsLinked (cut (front ++ (get_or forms number e ∷ [])) (length front) 0) (take number (spots_of sp) ++ (get_or (spots_of sp) number [] ∷ [])) (entries_of forms occ) = rw front_size split in
-    let bare : IsLinked front (take number (spots_of sp)) (entries_of forms occ) = link-end front (take number (spots_of sp)) (entries_of forms occ) (get_or forms number e) (get_or (spots_of sp) number []) (omega (arith, front_size, spots_front)) at_end in
-    let same : entries_of front occ ≡ entries_of forms occ = entries-apart forms front occ number (λ k n. terms-taken forms number k forms_size n) (others-named forms (spots_of sp) occ number (omega (arith, forms_size)) linked) in
-    let whole : IsLinked front (take number (spots_of sp)) (entries_of front occ) = subst (IsLinked front (take number (spots_of sp))) (sym same) bare in
-    let forms_less : shapes_of (take number keep) ≡ front = sym (take-map kept_shape number keep) in
+    let at_end : IsLinked (cut (prefix ++ (get_or forms number e ∷ [])) (length prefix) 0) (take number (spots_of sp) ++ (get_or (spots_of sp) number [] ∷ [])) (entries_of forms occ) = rw prefix_size split in
+    let bare : IsLinked prefix (take number (spots_of sp)) (entries_of forms occ) = link-end prefix (take number (spots_of sp)) (entries_of forms occ) (get_or forms number e) (get_or (spots_of sp) number []) (omega (arith, prefix_size, spots_prefix)) at_end in
+    let same : entries_of prefix occ ≡ entries_of forms occ = entries-apart forms prefix occ number (λ k n. terms-taken forms number k forms_size n) (others-named forms (spots_of sp) occ number (omega (arith, forms_size)) linked) in
+    let whole : IsLinked prefix (take number (spots_of sp)) (entries_of prefix occ) = subst (IsLinked prefix (take number (spots_of sp))) (sym same) bare in
+    let forms_less : shapes_of (take number keep) ≡ prefix = sym (take-map kept_shape number keep) in
     let spots_less : spots_of (take number sp) ≡ take number (spots_of sp) = sym (take-map (λ (w : Vec ℕ Global). w.items) number sp) in
     rw (forms_less, spots_less) (record {
       whole = whole;
-      named = linked-named front (take number (spots_of sp)) (entries_of front occ) whole;
-      places = omega (arith, old.places, sizes, entries-length front occ, entries-length forms occ0);
+      named = linked-named prefix (take number (spots_of sp)) (entries_of prefix occ) whole;
+      places = omega (arith, old.places, sizes, entries-length prefix occ, entries-length forms occ0);
       inside = All-take (λ (f : Shape). AreInside n f.terms) number forms old.inside;
       rooms = λ s less.
-          let before : s < number = omega (arith, less, front_size) in
+          let before : s < number = omega (arith, less, prefix_size) in
           ap length (get_or-take number (spots_of sp) s [] before) ∙ rooms s ∙ old.rooms s (omega (arith, before, forms_size)) ∙ sym (ap (λ (f : Shape). length f.terms) (get_or-take number forms s e before));
     })
 

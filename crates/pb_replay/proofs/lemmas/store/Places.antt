@@ -18,7 +18,7 @@ use Rattle.pb_replay.proofs.lemmas.store.Unlinks.{swap-here, swap-length, unlink
 use Rattle.pb_replay.specs.declared.propagate.store.kept.Kept.{Kept}
 use Rattle.pb_replay.specs.engine.Engine.Fields.{shapes_of, kept_shape}
 use Rattle.pb_replay.proofs.lemmas.store.Links.{cut-length}
-use Rattle.pb_replay.proofs.lemmas.engine.Looks.{shape-at, term-inside}
+use Rattle.pb_replay.proofs.lemmas.engine.VisitSteps.{shape-at, term-inside}
 use Rattle.pb_replay.proofs.lemmas.engine.Puts.{lists-at, entries-at, place-inside}
 use Rattle.pb_replay.proofs.lemmas.store.Weights.{entries-size, entry-weighted, entries-taken, item-taken, shifted}
 

@@ -246,10 +246,10 @@ exact-quit keep k list list' seats s inside idle seated out same x = by_head (wa
       few = omega (arith, x.few, change, was false e, one-of k false idle);
     })
     by_head true e =
-        let told = out e in
-        let q = told.0 in
-        let q_in = slice_get_within list q s told.1 in
-        rw told.2 (record {
+        let reported = out e in
+        let q = reported.0 in
+        let q_in = slice_get_within list q s reported.1 in
+        rw reported.2 (record {
           eager = record {
             named = λ i d less.
                 let from = swap-from list q s i (get_or (swap_remove list q s) i d) q_in (slice_get-get_or (swap_remove list q s) i d less) in
@@ -258,14 +258,14 @@ exact-quit keep k list list' seats s inside idle seated out same x = by_head (wa
             aside = λ t less gone. elim (cases_eq t s) [
               | inl at ↦ rw at here
               | inr other ↦ waits-other keep s t k other ∙ x.eager.aside t (omega (arith, less, size)) (get-absent list t (λ j h.
-                  let to = swap-to list q s j t q_in h (λ at. other (some-one (slice_get list j) t s h (ap (slice_get list) at ∙ told.1))) in
+                  let to = swap-to list q s j t q_in h (λ at. other (some-one (slice_get list j) t s h (ap (slice_get list) at ∙ reported.1))) in
                   absent-get (swap_remove list q s) t to.0 gone to.1))
             ];
           };
           exact = λ i t h.
               let from = swap-from list q s i t q_in h in
               let w = x.exact from.0 t from.1 in
-              waits-other keep s t k (λ at. from.2 (some-one (slice_get seats t) from.0 q (seated from.0 t from.1) (ap (slice_get seats) at ∙ seated q s told.1))) ∙ w;
+              waits-other keep s t k (λ at. from.2 (some-one (slice_get seats t) from.0 q (seated from.0 t from.1) (ap (slice_get seats) at ∙ seated q s reported.1))) ∙ w;
           few = omega (arith, x.few, change, was true e, one-of k false idle, swap-length list q s q_in);
         })
 

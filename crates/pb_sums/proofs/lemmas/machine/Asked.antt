@@ -9,10 +9,10 @@ use Rattle.pb_text.specs.meaning.Spelling.{Letter, bytes}
 use Rattle.pb_text.proofs.lemmas.text.ByteTests.{letter_name}
 use Rattle.pb_text.proofs.lemmas.machine.Asked as asked
 use Rattle.pb_text.proofs.lemmas.text.Booleans.{never}
-use Rattle.pb_text.proofs.lemmas.machine.Walking.{Walks, reads_behind}
+use Rattle.pb_text.proofs.lemmas.machine.Walking.{Walks, reads_after}
 use Rattle.pb_text.proofs.lemmas.text.Languages.{each-append}
-use Rattle.pb_sums.specs.meaning.Asking.{EndsIn, IsNameFront, InName, AsksLiteral}
-use Rattle.pb_sums.specs.engine.Machine.{act, plan, digits, number, behind, kind, symbol, letter_at, is_numeric, flushed, adds, is_more}
+use Rattle.pb_sums.specs.meaning.Asking.{EndsIn, IsNameStart, InName, AsksLiteral}
+use Rattle.pb_sums.specs.engine.Machine.{act, plan, digits, number, next_action, kind, symbol, letter_at, is_numeric, flushed, adds, is_more}
 use Rattle.pb_sums.specs.engine.State.{SumState, sums, first, over, asks, IsOneText}
 use Rattle.pb_sums.specs.meaning.Sums.{IsName, is_space, allows, reads_sums}
 use Rattle.pb_sums.specs.declared.grammar.Spaces.{Spaces}
@@ -24,21 +24,21 @@ use Rattle.pb_sums.specs.declared.phase.Kind.{Kind}
 use Rattle.pb_sums.specs.declared.phase.Kind.TheVariants.{Space, Digit, Start, Inner, Tilde, Plus, Minus, Greater, Equals, Semicolon}
 use Rattle.pb_sums.specs.declared.phase.Phase.{Phase}
 use Rattle.pb_sums.specs.declared.phase.Phase as phase
-use Rattle.pb_sums.specs.declared.phase.Move.{Move}
-use Rattle.pb_sums.specs.declared.phase.Move.TheVariants.{To, Begin, Add, EndSum, EndLinear, Stop}
-use Rattle.pb_sums.proofs.lemmas.machine.LiteralFronts.{IsFirst, name-append, first-append}
+use Rattle.pb_sums.specs.declared.phase.Action.{Action}
+use Rattle.pb_sums.specs.declared.phase.Action.TheVariants.{To, Begin, Add, EndSum, EndLinear, Stop}
+use Rattle.pb_sums.proofs.lemmas.machine.LiteralPrefixes.{IsFirst, name-append, first-append}
 use Rattle.pb_sums.proofs.lemmas.machine.States.{accepts_one, ended-last, goes-midway, nothing-after}
 
 abbrev IsNameByte : ℕ → Type 0
 IsNameByte e = IsTrue (is_name_byte e)
 
 -- a name being read, and one more byte
-pub name_further : (name : List ℕ) (b : ℕ) → IsName name → IsTrue (is_name_byte b) → IsNameFront (name ++ b ∷ [])
+pub name_further : (name : List ℕ) (b : ℕ) → IsName name → IsTrue (is_name_byte b) → IsNameStart (name ++ b ∷ [])
 name_further [] b h k = absurd h
 name_further (x ∷ []) b h k = absurd h
 name_further (x ∷ y ∷ bs) b h k = (h.0, each-append IsNameByte (y ∷ bs) b h.1 k)
 
-pub first_further : (name : List ℕ) (b : ℕ) → IsFirst name → IsTrue (is_name_byte b) → IsNameFront (name ++ b ∷ [])
+pub first_further : (name : List ℕ) (b : ℕ) → IsFirst name → IsTrue (is_name_byte b) → IsNameStart (name ++ b ∷ [])
 first_further [] b h k = absurd h
 first_further (x ∷ []) b h k = (h, (k, tt))
 first_further (x ∷ y ∷ bs) b h k = absurd h
@@ -52,13 +52,13 @@ ends_nothing text = (text, sym (append-nil text))
 pub ends_one : (text : List ℕ) (b : ℕ) → EndsIn (text ++ b ∷ []) (b ∷ [])
 ends_one text b = (text, refl)
 
-pub ends_behind : (before text end : List ℕ) → EndsIn text end → EndsIn (before ++ text) end
-ends_behind before text end (front, e) = (before ++ front, ap (λ (x : List ℕ). before ++ x) e ∙ sym (append_assoc before front end))
+pub ends_after : (before text end : List ℕ) → EndsIn text end → EndsIn (before ++ text) end
+ends_after before text end (prefix, e) = (before ++ prefix, ap (λ (x : List ℕ). before ++ x) e ∙ sym (append_assoc before prefix end))
 
 -- what may allocate in a text may allocate after other bytes
-pub asks_behind : (before text : List ℕ) (b : ℕ) → AsksLiteral text b → AsksLiteral (before ++ text) b
-asks_behind before text b (inl (name, e, h)) = inl (name, ends_behind before text name e, h)
-asks_behind before text b (inr (name, e, h, k)) = inr (name, ends_behind before text name e, h, k)
+pub asks_after : (before text : List ℕ) (b : ℕ) → AsksLiteral text b → AsksLiteral (before ++ text) b
+asks_after before text b (inl (name, e, h)) = inl (name, ends_after before text name e, h)
+asks_after before text b (inr (name, e, h, k)) = inr (name, ends_after before text name e, h, k)
 
 -- after a whole name
 pub at_name : (text name : List ℕ) (b : ℕ) → EndsIn text name → IsName name → AsksLiteral text b
@@ -100,7 +100,7 @@ is_naming (phase.TheVariants.More z negated) = true
 is_naming _ = false
 
 -- A name begins with a letter and continues with name bytes. It is being read only then.
-abbrev Fits : Phase → ℕ → Move → Type 0
+abbrev Fits : Phase → ℕ → Action → Type 0
 Fits p b (To q) = is_naming q ≡ false
 Fits p b (Begin (phase.TheVariants.First z negated) c) = (c ≡ b) × IsTrue (is_letter c)
 Fits p b (Begin q c) = ⊥
@@ -118,18 +118,18 @@ module _ (want : Part) (limit b : ℕ) where
   number_fits p role (Digit d) = digits_fit p role false 0 d
   number_fits p role _ = tt
 
-  behind_fits : (p : Phase) (k : Kind) → Fits p b (behind want k)
-  behind_fits p Greater = cond_both (allows want AtLeast) _ _ (Fits p b) (λ _. refl) (λ _. tt)
-  behind_fits p Equals = cond_both (allows want Equal) _ _ (Fits p b) (λ _. refl) (λ _. tt)
-  behind_fits p Semicolon = cond_both (reads_sums want) _ _ (Fits p b) (λ _. tt) (λ _. tt)
-  behind_fits p _ = tt
+  after_fits : (p : Phase) (k : Kind) → Fits p b (next_action want k)
+  after_fits p Greater = cond_both (allows want AtLeast) _ _ (Fits p b) (λ _. refl) (λ _. tt)
+  after_fits p Equals = cond_both (allows want Equal) _ _ (Fits p b) (λ _. refl) (λ _. tt)
+  after_fits p Semicolon = cond_both (reads_sums want) _ _ (Fits p b) (λ _. tt) (λ _. tt)
+  after_fits p _ = tt
 
   plan_fits : (p : Phase) (k : Kind) → Means k b → Fits p b (plan want limit p k)
   plan_fits phase.TheVariants.Start Space m = cond_both (reads_sums want) _ _ (Fits phase.TheVariants.Start b) (λ _. refl) (λ _. tt)
   plan_fits phase.TheVariants.Start Plus m = refl
   plan_fits phase.TheVariants.Start Minus m = refl
   plan_fits phase.TheVariants.Start (Digit d) m = digits_fit phase.TheVariants.Start None false 0 d
-  plan_fits phase.TheVariants.Start k m = behind_fits phase.TheVariants.Start k
+  plan_fits phase.TheVariants.Start k m = after_fits phase.TheVariants.Start k
   plan_fits (phase.TheVariants.Signed role negative) (Digit d) m = digits_fit (phase.TheVariants.Signed role negative) role negative 0 d
   plan_fits (phase.TheVariants.Digits role negative n) (Digit d) m = digits_fit (phase.TheVariants.Digits role negative n) role negative n d
   plan_fits (phase.TheVariants.Digits None negative n) Space m = refl
@@ -145,12 +145,12 @@ module _ (want : Part) (limit b : ℕ) where
   plan_fits (phase.TheVariants.More z negated) (Start c) m = (m.0, letter_name c m.1, refl)
   plan_fits (phase.TheVariants.More z negated) (Inner c) m = (m.0, m.1, refl)
   plan_fits (phase.TheVariants.More z negated) Space m = refl
-  plan_fits (phase.TheVariants.More z negated) k m = behind_fits (phase.TheVariants.More z negated) k
+  plan_fits (phase.TheVariants.More z negated) k m = after_fits (phase.TheVariants.More z negated) k
   plan_fits phase.TheVariants.Between Space m = refl
   plan_fits phase.TheVariants.Between Plus m = refl
   plan_fits phase.TheVariants.Between Minus m = refl
   plan_fits phase.TheVariants.Between (Digit d) m = digits_fit phase.TheVariants.Between None false 0 d
-  plan_fits phase.TheVariants.Between k m = behind_fits phase.TheVariants.Between k
+  plan_fits phase.TheVariants.Between k m = after_fits phase.TheVariants.Between k
   plan_fits phase.TheVariants.Greater Equals m = refl
   plan_fits (phase.TheVariants.Operator r) Space m = refl
   plan_fits (phase.TheVariants.Operator r) k m = number_fits (phase.TheVariants.Operator r) (Some r) k
@@ -174,10 +174,10 @@ name_grown (phase.TheVariants.First z negated) name text b h (e, f) k = (ends_mo
 name_grown (phase.TheVariants.More z negated) name text b h (e, f) k = (ends_more text name b e, name-append name b f k)
 name_grown _ name text b h k l = absurd (false≢true h)
 
-name_front : (p : Phase) (name text : List ℕ) (b : ℕ) → is_naming p ≡ true → Holds p name text → IsTrue (is_name_byte b) → InName text b
-name_front (phase.TheVariants.First z negated) name text b h (e, f) k = (name, e, first_further name b f k)
-name_front (phase.TheVariants.More z negated) name text b h (e, f) k = (name, e, name_further name b f k)
-name_front _ name text b h k l = absurd (false≢true h)
+begun_name : (p : Phase) (name text : List ℕ) (b : ℕ) → is_naming p ≡ true → Holds p name text → IsTrue (is_name_byte b) → InName text b
+begun_name (phase.TheVariants.First z negated) name text b h (e, f) k = (name, e, first_further name b f k)
+begun_name (phase.TheVariants.More z negated) name text b h (e, f) k = (name, e, name_further name b f k)
+begun_name _ name text b h k l = absurd (false≢true h)
 
 abbrev Known : SumState → List ℕ → Type 0
 Known s text = Holds s.work.phase s.work.name text
@@ -187,7 +187,7 @@ Stays (Go s) text = Known s text
 Stays (End e s) text = Unit {0}
 Stays Refuse text = Unit {0}
 
-acts : (s : SumState) (text : List ℕ) (b : ℕ) (m : Move) → Fits s.work.phase b m → Known s text → Stays (over s (act (flushed s.work.phase s.work.terms s.work.name) s.work.terms s.work.name m)) (text ++ b ∷ [])
+acts : (s : SumState) (text : List ℕ) (b : ℕ) (m : Action) → Fits s.work.phase b m → Known s text → Stays (over s (act (flushed s.work.phase s.work.terms s.work.name) s.work.terms s.work.name m)) (text ++ b ∷ [])
 acts s text b (To q) h k = held_no_name q [] (text ++ b ∷ []) h
 acts s text b (Begin (phase.TheVariants.First z negated) c) h k = subst (λ (x : ℕ). EndsIn (text ++ b ∷ []) (x ∷ []) × IsTrue (is_letter x)) (sym h.0) (ends_one text b, subst (λ (x : ℕ). IsTrue (is_letter x)) h.0 h.1)
 acts s text b (Begin q c) h k = absurd h
@@ -212,18 +212,18 @@ walked [] s next text k w = subst (λ (x : List ℕ). Known next x) (sym (append
 walked (l ∷ t) s next text k (mid, g, o, n, w) =
     subst (λ (x : List ℕ). Known next x) (append_assoc text (l.byte ∷ []) (bytes t)) (walked t mid next (text ++ l.byte ∷ []) (stepped s mid l.byte text k g) w)
 
-by_move : (p : Phase) (name text : List ℕ) (b : ℕ) (m : Move) → Fits p b m → adds m ≡ true → Holds p name text → InName text b
-by_move p name text b (Begin (phase.TheVariants.First z negated) c) h e k = ([], ends_nothing text, (subst (λ (x : ℕ). IsTrue (is_letter x)) h.0 h.1, tt))
-by_move p name text b (Begin q c) h e k = absurd h
-by_move p name text b (Add (phase.TheVariants.More z negated) c) h e k = name_front p name text b h.2 k (subst (λ (x : ℕ). IsTrue (is_name_byte x)) h.0 h.1)
-by_move p name text b (Add q c) h e k = absurd h
-by_move p name text b (To q) h e k = absurd (false≢true e)
-by_move p name text b EndSum h e k = absurd (false≢true e)
-by_move p name text b (EndLinear r z) h e k = absurd (false≢true e)
-by_move p name text b Stop h e k = absurd (false≢true e)
+by_action : (p : Phase) (name text : List ℕ) (b : ℕ) (m : Action) → Fits p b m → adds m ≡ true → Holds p name text → InName text b
+by_action p name text b (Begin (phase.TheVariants.First z negated) c) h e k = ([], ends_nothing text, (subst (λ (x : ℕ). IsTrue (is_letter x)) h.0 h.1, tt))
+by_action p name text b (Begin q c) h e k = absurd h
+by_action p name text b (Add (phase.TheVariants.More z negated) c) h e k = begun_name p name text b h.2 k (subst (λ (x : ℕ). IsTrue (is_name_byte x)) h.0 h.1)
+by_action p name text b (Add q c) h e k = absurd h
+by_action p name text b (To q) h e k = absurd (false≢true e)
+by_action p name text b EndSum h e k = absurd (false≢true e)
+by_action p name text b (EndLinear r z) h e k = absurd (false≢true e)
+by_action p name text b Stop h e k = absurd (false≢true e)
 
 -- the machine adds to a name, or a whole name has been read
-by_either : (p : Phase) (name text : List ℕ) (b : ℕ) (m : Move) → Fits p b m → (adds m || is_more p) ≡ true → Holds p name text → AsksLiteral text b
+by_either : (p : Phase) (name text : List ℕ) (b : ℕ) (m : Action) → Fits p b m → (adds m || is_more p) ≡ true → Holds p name text → AsksLiteral text b
 by_either p name text b m f h k = by_adds (adds m) refl h
   where
     more : (q : Phase) → is_more q ≡ true → Holds q name text → AsksLiteral text b
@@ -231,7 +231,7 @@ by_either p name text b m f h k = by_adds (adds m) refl h
     more _ e x = absurd (false≢true e)
 
     by_adds : (x : Bool) → adds m ≡ x → (x || is_more p) ≡ true → AsksLiteral text b
-    by_adds true e g = inl (by_move p name text b m f e k)
+    by_adds true e g = inl (by_action p name text b m f e k)
     by_adds false e g = more p g k
 
 -- Before a text, it does not allocate.
@@ -268,10 +268,10 @@ module _ (spaces : Spaces) (part : Part) (limit : ℕ) where
   abbrev Asks : SumEvent → List ℕ → ℕ → Type 0
   Asks e text b = AsksLiteral text b
 
-  texts : (at s next : SumState) (front rest : List Letter) (l : Letter) (e : SumEvent) → Idle at → Walks sums at front s → Reads sums s (l ∷ rest) e next
-      → IsTrue (sums.asks s l.byte) → Asks e (bytes front) l.byte
-  texts at s next front rest l e (inl f) w r a = sums_asked spaces part limit front s l.byte (subst (λ (x : SumState). Walks sums x front s) f w) a
-  texts at s next front rest l e (inr d) w r a = absurd (nothing-after spaces part limit at (front ++ l ∷ rest) e next d (reads_behind sums front (l ∷ rest) at s next e w r))
+  texts : (at s next : SumState) (prefix rest : List Letter) (l : Letter) (e : SumEvent) → Idle at → Walks sums at prefix s → Reads sums s (l ∷ rest) e next
+      → IsTrue (sums.asks s l.byte) → Asks e (bytes prefix) l.byte
+  texts at s next prefix rest l e (inl f) w r a = sums_asked spaces part limit prefix s l.byte (subst (λ (x : SumState). Walks sums x prefix s) f w) a
+  texts at s next prefix rest l e (inr d) w r a = absurd (nothing-after spaces part limit at (prefix ++ l ∷ rest) e next d (reads_after sums prefix (l ∷ rest) at s next e w r))
 
   pub asks_one : (used : List ℕ) (b : ℕ) → MayAsk sums (first spaces part limit) used b → AsksOnly (IsOneText spaces limit part) Asks used b
   asks_one used b (state, lead, a) items more h e =

@@ -1,11 +1,11 @@
 -- The machine reads each text of the grammar: one lemma for each word of the grammar.
 use Rattle.pb_sums.proofs.lemmas.machine.LetterKinds.{on_letter, kind-digit, kind-space, kind-letter, kind-name}
-use Rattle.pb_sums.specs.engine.Machine.{Work, move, act, kind, to, at_name, digits, behind, fresh, finished}
+use Rattle.pb_sums.specs.engine.Machine.{Work, action, act, kind, to, at_name, digits, next_action, fresh, finished}
 use Rattle.pb_sums.specs.meaning.Sums.{is_space, SpellsLiteral, Spaces0, Spaces1, SpellsTerm, SpellsFurther, SpellsSum, Head, Operator, SpellsLinear, Spells, reads_sums, allows}
 use Rattle.pb_sums.specs.declared.phase.Kind.{Kind}
 use Rattle.pb_sums.specs.declared.phase.Kind.TheVariants.{Space, Digit, Start, Tilde, Plus, Minus, Greater, Equals, Semicolon}
-use Rattle.pb_sums.specs.declared.phase.Move.{Move}
-use Rattle.pb_sums.specs.declared.phase.Move.TheVariants.{To, EndSum, Stop}
+use Rattle.pb_sums.specs.declared.phase.Action.{Action}
+use Rattle.pb_sums.specs.declared.phase.Action.TheVariants.{To, EndSum, Stop}
 use Rattle.pb_sums.specs.declared.grammar.Part.{Part}
 use Rattle.pb_sums.specs.declared.phase.Phase.{Phase}
 use Rattle.pb_sums.specs.declared.grammar.Spaces.{Spaces}
@@ -37,7 +37,7 @@ module _ (spaces : Spaces) (want : Part) (limit : ℕ) where
   go = run (on_letter spaces want limit)
 
   -- a test can be moved outside
-  act-cond : (ys xs : List Term) (name : List ℕ) (b : Bool) (m : Move) → act ys xs name (cond b m Stop) ≡ cond b (act ys xs name m) Refuse
+  act-cond : (ys xs : List Term) (name : List ℕ) (b : Bool) (m : Action) → act ys xs name (cond b m Stop) ≡ cond b (act ys xs name m) Refuse
   act-cond ys xs name true m = refl
   act-cond ys xs name false m = refl
 
@@ -50,11 +50,11 @@ module _ (spaces : Spaces) (want : Part) (limit : ℕ) where
   out_number xs role (Digit d) = out_digits xs role false 0 d
   out_number xs role _ = Refuse
 
-  abbrev out_behind : List Term → Kind → N
-  out_behind xs Greater = cond (allows want AtLeast) (to xs phase.TheVariants.Greater) Refuse
-  out_behind xs Equals = cond (allows want Equal) (to xs (phase.TheVariants.Operator Equal)) Refuse
-  out_behind xs Semicolon = cond (reads_sums want) (End (event.TheVariants.Sum xs) finished) Refuse
-  out_behind xs _ = Refuse
+  abbrev out_after : List Term → Kind → N
+  out_after xs Greater = cond (allows want AtLeast) (to xs phase.TheVariants.Greater) Refuse
+  out_after xs Equals = cond (allows want Equal) (to xs (phase.TheVariants.Operator Equal)) Refuse
+  out_after xs Semicolon = cond (reads_sums want) (End (event.TheVariants.Sum xs) finished) Refuse
+  out_after xs _ = Refuse
 
   abbrev whole : List Term → Relation → ℤ → N
   whole xs r z = End (event.TheVariants.Linear (record { terms = xs; relation = r; degree = z })) finished
@@ -62,21 +62,21 @@ module _ (spaces : Spaces) (want : Part) (limit : ℕ) where
   act-digits : (ys xs : List Term) (name : List ℕ) (role : Option Relation) (negative : Bool) (m d : ℕ) → act ys xs name (digits limit role negative m d) ≡ out_digits ys role negative m d
   act-digits ys xs name role negative m d = act-cond ys xs name (nat_le (10 * m + d) limit) (To (phase.TheVariants.Digits role negative (10 * m + d)))
 
-  abbrev IsOfBehind : Kind → Type 0
-  IsOfBehind Greater = Unit {0}
-  IsOfBehind Equals = Unit {0}
-  IsOfBehind Semicolon = Unit {0}
-  IsOfBehind _ = ⊥
+  abbrev IsOfAfter : Kind → Type 0
+  IsOfAfter Greater = Unit {0}
+  IsOfAfter Equals = Unit {0}
+  IsOfAfter Semicolon = Unit {0}
+  IsOfAfter _ = ⊥
 
-  act-behind : (ys xs : List Term) (name : List ℕ) (k : Kind) → IsOfBehind k → act ys xs name (behind want k) ≡ out_behind ys k
-  act-behind ys xs name Greater h = act-cond ys xs name (allows want AtLeast) (To phase.TheVariants.Greater)
-  act-behind ys xs name Equals h = act-cond ys xs name (allows want Equal) (To (phase.TheVariants.Operator Equal))
-  act-behind ys xs name Semicolon h = act-cond ys xs name (reads_sums want) EndSum
-  act-behind ys xs name _ h = absurd h
+  act-after : (ys xs : List Term) (name : List ℕ) (k : Kind) → IsOfAfter k → act ys xs name (next_action want k) ≡ out_after ys k
+  act-after ys xs name Greater h = act-cond ys xs name (allows want AtLeast) (To phase.TheVariants.Greater)
+  act-after ys xs name Equals h = act-cond ys xs name (allows want Equal) (To (phase.TheVariants.Operator Equal))
+  act-after ys xs name Semicolon h = act-cond ys xs name (reads_sums want) EndSum
+  act-after ys xs name _ h = absurd h
 
   -- what an outcome does with a kind
   abbrev moves : N → Kind → N
-  moves (Go w) k = move want limit w.terms w.name w.phase k
+  moves (Go w) k = action want limit w.terms w.name w.phase k
   moves (End v s) k = Refuse
   moves Refuse k = Refuse
 
@@ -268,31 +268,31 @@ module _ (spaces : Spaces) (want : Part) (limit : ℕ) where
 
   -- what may follow the terms
   abbrev Follows : List Term → N → Type 0
-  Follows xs n = (k : Kind) → IsOfBehind k → moves n k ≡ out_behind xs k
+  Follows xs n = (k : Kind) → IsOfAfter k → moves n k ≡ out_after xs k
 
   follows-between : (zs : List Term) → Follows zs (to zs phase.TheVariants.Between)
-  follows-between zs Greater h = act-behind zs zs [] Greater tt
-  follows-between zs Equals h = act-behind zs zs [] Equals tt
-  follows-between zs Semicolon h = act-behind zs zs [] Semicolon tt
+  follows-between zs Greater h = act-after zs zs [] Greater tt
+  follows-between zs Equals h = act-after zs zs [] Equals tt
+  follows-between zs Semicolon h = act-after zs zs [] Semicolon tt
   follows-between zs _ h = absurd h
 
   follows-start : Follows [] (Go fresh)
-  follows-start Greater h = act-behind [] [] [] Greater tt
-  follows-start Equals h = act-behind [] [] [] Equals tt
-  follows-start Semicolon h = act-behind [] [] [] Semicolon tt
+  follows-start Greater h = act-after [] [] [] Greater tt
+  follows-start Equals h = act-after [] [] [] Equals tt
+  follows-start Semicolon h = act-after [] [] [] Semicolon tt
   follows-start _ h = absurd h
 
   follows-more : (xs : List Term) (x : Term) → Follows (xs ++ x ∷ []) (at_name xs (phase.TheVariants.More x.coefficient x.literal.negated) x.literal.name)
-  follows-more xs x Greater h = act-behind (xs ++ x ∷ []) xs x.literal.name Greater tt
-  follows-more xs x Equals h = act-behind (xs ++ x ∷ []) xs x.literal.name Equals tt
-  follows-more xs x Semicolon h = act-behind (xs ++ x ∷ []) xs x.literal.name Semicolon tt
+  follows-more xs x Greater h = act-after (xs ++ x ∷ []) xs x.literal.name Greater tt
+  follows-more xs x Equals h = act-after (xs ++ x ∷ []) xs x.literal.name Equals tt
+  follows-more xs x Semicolon h = act-after (xs ++ x ∷ []) xs x.literal.name Semicolon tt
   follows-more xs x _ h = absurd h
 
   follows-held : (zs : List Term) (n : N) → Held zs n → Follows zs n
   follows-held zs n (xs, x, e, f) = subst (λ y. Follows y n) (sym e) (subst (λ m. Follows (xs ++ x ∷ []) m) (sym f) (follows-more xs x))
 
-  behind-run : (zs : List Term) → T (Held zs) (Spaces0 spaces limit) (Follows zs)
-  behind-run zs n t h g =
+  after-run : (zs : List Term) → T (Held zs) (Spaces0 spaces limit) (Follows zs)
+  after-run zs n t h g =
       elim (many-run n (to zs phase.TheVariants.Between) (held-space zs n h) refl t g) [
         | inl e ↦ subst (λ m. Follows zs m) (sym e) (follows-held zs n h)
         | inr e ↦ subst (λ m. Follows zs m) (sym e) (follows-between zs)
@@ -302,7 +302,7 @@ module _ (spaces : Spaces) (want : Part) (limit : ℕ) where
   head-run [] n t e h = subst (λ u. Follows [] (go n u)) (sym h) (subst (λ m. Follows [] m) (sym e) follows-start)
   head-run (x ∷ xs) n t e h =
       takes_then (on_letter spaces want limit) (Is (Go fresh)) (Held (x ∷ xs)) (Follows (x ∷ xs)) (SpellsSum spaces limit (x ∷ xs)) (Spaces0 spaces limit)
-      (sum-run x xs) (behind-run (x ∷ xs)) n t e h
+      (sum-run x xs) (after-run (x ∷ xs)) n t e h
 
   -- a sum and `;`
   abbrev Closes : List Term → N → Type 0

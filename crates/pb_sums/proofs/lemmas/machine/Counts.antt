@@ -11,8 +11,8 @@ use Rattle.pb_sums.specs.declared.phase.Phase.{Phase}
 use Rattle.pb_sums.specs.declared.phase.Phase as phase
 use Rattle.pb_sums.specs.declared.grammar.Part.{Part}
 use Rattle.pb_sums.specs.declared.grammar.Spaces.{Spaces}
-use Rattle.pb_sums.specs.declared.phase.Move.{Move}
-use Rattle.pb_sums.specs.declared.phase.Move.TheVariants.{To, Begin, Add, EndSum, EndLinear, Stop}
+use Rattle.pb_sums.specs.declared.phase.Action.{Action}
+use Rattle.pb_sums.specs.declared.phase.Action.TheVariants.{To, Begin, Add, EndSum, EndLinear, Stop}
 use Rattle.pb_sums.proofs.lemmas.machine.Flags.{IsSane, plan-sane}
 use Rattle.pb_text.proofs.lemmas.machine.Outcomes.{one_state, refuse_or_go, end_or_go}
 
@@ -65,7 +65,7 @@ begin-grows x h l r ih ir a b = omega arith
 pub add-grows : (x h l r ih ir m : ℕ) → ih + ir ≡ 1 → h ≡ 1 → m ≡ l + 1 → x + ih + m + ir ≤ x + h + l + r + 1
 add-grows x h l r ih ir m a b c = omega arith
 
-act-grows : (ph : Phase) (k : Kind) (xs : List Term) (name : List ℕ) (m : Move) (w : Work) → IsSane ph k m → act (flushed ph xs name) xs name m ≡ Go w
+act-grows : (ph : Phase) (k : Kind) (xs : List Term) (name : List ℕ) (m : Action) (w : Work) → IsSane ph k m → act (flushed ph xs name) xs name m ≡ Go w
     → potential w ≤ count xs name ph + 1
 act-grows ph k xs name (To q) w h e =
     subst (λ v. potential v ≤ count xs name ph + 1) (one_state (record { terms = flushed ph xs name; name = []; phase = q }) w e)

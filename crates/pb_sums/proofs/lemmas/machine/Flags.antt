@@ -2,12 +2,12 @@
 use Rattle.pb_sums.proofs.lemmas.machine.LetterKinds.{on_letter, Means, kind-means}
 use Rattle.pb_sums.specs.engine.State.{in_hand, ready}
 use Rattle.pb_text.specs.meaning.Languages.{unmarked}
-use Rattle.pb_sums.specs.engine.Machine.{digits, is_midway, Work, plan, act, kind, number, behind, letter_at, is_numeric, is_in_number, kind_of_plain, kind_of_numeral, flushed, finished}
+use Rattle.pb_sums.specs.engine.Machine.{digits, is_midway, Work, plan, act, kind, number, next_action, letter_at, is_numeric, is_in_number, kind_of_plain, kind_of_numeral, flushed, finished}
 use Rattle.pb_sums.specs.meaning.Sums.{is_space, reads_sums, allows}
 use Rattle.pb_sums.specs.declared.phase.Kind.{Kind}
 use Rattle.pb_sums.specs.declared.phase.Kind.TheVariants.{Space, Digit, Start, Inner, Tilde, Plus, Minus, Greater, Equals, Semicolon, Other}
-use Rattle.pb_sums.specs.declared.phase.Move.{Move}
-use Rattle.pb_sums.specs.declared.phase.Move.TheVariants.{To, Begin, Add, EndSum, EndLinear, Stop}
+use Rattle.pb_sums.specs.declared.phase.Action.{Action}
+use Rattle.pb_sums.specs.declared.phase.Action.TheVariants.{To, Begin, Add, EndSum, EndLinear, Stop}
 use Rattle.pb_sums.specs.declared.grammar.Part.{Part}
 use Rattle.pb_sums.specs.declared.phase.Phase.{Phase}
 use Rattle.pb_sums.specs.declared.grammar.Spaces.{Spaces}
@@ -35,7 +35,7 @@ is_digit_kind _ = false
 abbrev pub Flags : Kind → Phase → Type 0
 Flags k q = (is_in_number q ≡ is_digit_kind k) × (is_midway q ≡ true)
 
-abbrev pub IsSane : Phase → Kind → Move → Type 0
+abbrev pub IsSane : Phase → Kind → Action → Type 0
 IsSane ph k (To q) = Flags k q × (in_hand q ≡ 0)
 IsSane ph k (Begin q b) = Flags k q × (in_hand q + ready q ≡ 1) × (ready ph ≡ 1)
 IsSane ph k (Add q b) = Flags k q × (in_hand q + ready q ≡ 1) × (in_hand ph ≡ 1)
@@ -43,7 +43,7 @@ IsSane ph k EndSum = k ≡ Semicolon
 IsSane ph k (EndLinear r z) = k ≡ Semicolon
 IsSane ph k Stop = Unit {0}
 
-sane_test : (ph : Phase) (k : Kind) (b : Bool) (m : Move) → IsSane ph k m → IsSane ph k (cond b m Stop)
+sane_test : (ph : Phase) (k : Kind) (b : Bool) (m : Action) → IsSane ph k m → IsSane ph k (cond b m Stop)
 sane_test ph k true m h = h
 sane_test ph k false m h = tt
 
@@ -58,18 +58,18 @@ module _ (want : Part) (limit : ℕ) where
   number-sane ph role (Digit d) = digits-sane ph role false 0 d
   number-sane ph role _ = tt
 
-  behind-sane : (ph : Phase) (k : Kind) → IsSane ph k (behind want k)
-  behind-sane ph Greater = sane_test ph Greater (allows want AtLeast) (To phase.TheVariants.Greater) ((refl, refl), refl)
-  behind-sane ph Equals = sane_test ph Equals (allows want Equal) (To (phase.TheVariants.Operator Equal)) ((refl, refl), refl)
-  behind-sane ph Semicolon = sane_test ph Semicolon (reads_sums want) EndSum refl
-  behind-sane ph _ = tt
+  after-sane : (ph : Phase) (k : Kind) → IsSane ph k (next_action want k)
+  after-sane ph Greater = sane_test ph Greater (allows want AtLeast) (To phase.TheVariants.Greater) ((refl, refl), refl)
+  after-sane ph Equals = sane_test ph Equals (allows want Equal) (To (phase.TheVariants.Operator Equal)) ((refl, refl), refl)
+  after-sane ph Semicolon = sane_test ph Semicolon (reads_sums want) EndSum refl
+  after-sane ph _ = tt
 
   pub plan-sane : (ph : Phase) (k : Kind) → IsSane ph k (plan want limit ph k)
   plan-sane phase.TheVariants.Start Space = sane_test phase.TheVariants.Start Space (reads_sums want) (To phase.TheVariants.Empty) ((refl, refl), refl)
   plan-sane phase.TheVariants.Start Plus = number-sane phase.TheVariants.Start None Plus
   plan-sane phase.TheVariants.Start Minus = number-sane phase.TheVariants.Start None Minus
   plan-sane phase.TheVariants.Start (Digit d) = number-sane phase.TheVariants.Start None (Digit d)
-  plan-sane phase.TheVariants.Start k = behind-sane phase.TheVariants.Start k
+  plan-sane phase.TheVariants.Start k = after-sane phase.TheVariants.Start k
   plan-sane (phase.TheVariants.Signed role negative) (Digit d) = digits-sane (phase.TheVariants.Signed role negative) role negative 0 d
   plan-sane (phase.TheVariants.Digits role negative n) (Digit d) = digits-sane (phase.TheVariants.Digits role negative n) role negative n d
   plan-sane (phase.TheVariants.Digits None negative n) Space = ((refl, refl), refl)
@@ -84,12 +84,12 @@ module _ (want : Part) (limit : ℕ) where
   plan-sane (phase.TheVariants.More z negated) (Start b) = ((refl, refl), refl, refl)
   plan-sane (phase.TheVariants.More z negated) (Inner b) = ((refl, refl), refl, refl)
   plan-sane (phase.TheVariants.More z negated) Space = ((refl, refl), refl)
-  plan-sane (phase.TheVariants.More z negated) k = behind-sane (phase.TheVariants.More z negated) k
+  plan-sane (phase.TheVariants.More z negated) k = after-sane (phase.TheVariants.More z negated) k
   plan-sane phase.TheVariants.Between Space = ((refl, refl), refl)
   plan-sane phase.TheVariants.Between Plus = number-sane phase.TheVariants.Between None Plus
   plan-sane phase.TheVariants.Between Minus = number-sane phase.TheVariants.Between None Minus
   plan-sane phase.TheVariants.Between (Digit d) = number-sane phase.TheVariants.Between None (Digit d)
-  plan-sane phase.TheVariants.Between k = behind-sane phase.TheVariants.Between k
+  plan-sane phase.TheVariants.Between k = after-sane phase.TheVariants.Between k
   plan-sane phase.TheVariants.Greater Equals = ((refl, refl), refl)
   plan-sane (phase.TheVariants.Operator r) Space = ((refl, refl), refl)
   plan-sane (phase.TheVariants.Operator r) k = number-sane (phase.TheVariants.Operator r) (Some r) k
@@ -171,7 +171,7 @@ module _ (want : Part) (limit : ℕ) where
       ]
       go b false false e = inl (ap (λ n. record { byte = b; numeral = n }) (sym (ap (λ y. is_numeric ph && y) e ∙ and-false (is_numeric ph))))
 
-  go-sane : (ph : Phase) (k : Kind) (ys xs : List Term) (name : List ℕ) (m : Move) (w : Work) → IsSane ph k m → act ys xs name m ≡ Go w → Flags k w.phase
+  go-sane : (ph : Phase) (k : Kind) (ys xs : List Term) (name : List ℕ) (m : Action) (w : Work) → IsSane ph k m → act ys xs name m ≡ Go w → Flags k w.phase
   go-sane ph k ys xs name (To q) w h e = subst (Flags k) (ap (λ x. x.phase) (one_state (record { terms = ys; name = []; phase = q }) w e)) h.0
   go-sane ph k ys xs name (Begin q b) w h e = subst (Flags k) (ap (λ x. x.phase) (one_state (record { terms = xs; name = b ∷ []; phase = q }) w e)) h.0
   go-sane ph k ys xs name (Add q b) w h e = subst (Flags k) (ap (λ x. x.phase) (one_state (record { terms = xs; name = name ++ b ∷ []; phase = q }) w e)) h.0
@@ -197,7 +197,7 @@ module _ (want : Part) (limit : ℕ) where
         | inr g ↦ refuse_or_go w' (sym (ap (λ m. act ys w.terms w.name m) (ap (λ k. plan want limit w.phase k) g ∙ other-stops w.phase)) ∙ e)
       ]
 
-  end-sane : (ph : Phase) (k : Kind) (ys xs : List Term) (name : List ℕ) (m : Move) (v : SumEvent) (w : Work) → IsSane ph k m → act ys xs name m ≡ End v w → (k ≡ Semicolon) × (w ≡ finished)
+  end-sane : (ph : Phase) (k : Kind) (ys xs : List Term) (name : List ℕ) (m : Action) (v : SumEvent) (w : Work) → IsSane ph k m → act ys xs name m ≡ End v w → (k ≡ Semicolon) × (w ≡ finished)
   end-sane ph k ys xs name EndSum v w h e = (h, sym (one_end (event.TheVariants.Sum ys) v finished w e).1)
   end-sane ph k ys xs name (EndLinear r z) v w h e = (h, sym (one_end (event.TheVariants.Linear (record { terms = ys; relation = r; degree = z })) v finished w e).1)
   end-sane ph k ys xs name (To q) v w h e = go_or_end (record { terms = ys; name = []; phase = q }) v w e

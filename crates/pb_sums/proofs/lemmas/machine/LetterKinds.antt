@@ -1,5 +1,5 @@
 -- What the kind of a letter says about the letter, and conversely.
-use Rattle.pb_sums.specs.engine.Machine.{Work, Outcome, move, kind, kind_of_plain, kind_of_numeral, symbol}
+use Rattle.pb_sums.specs.engine.Machine.{Work, Outcome, action, kind, kind_of_plain, kind_of_numeral, symbol}
 use Rattle.pb_sums.specs.declared.grammar.Part.{Part}
 use Rattle.pb_sums.specs.meaning.Sums.{is_space}
 use Rattle.pb_sums.specs.declared.phase.Kind.{Kind}
@@ -79,4 +79,4 @@ kind-name s b e = go (is_letter b) refl
 
 -- what a machine does with a letter
 abbrev pub on_letter : Spaces → Part → ℕ → Work → Letter → Outcome
-on_letter spaces want limit w c = move want limit w.terms w.name w.phase (kind spaces c)
+on_letter spaces want limit w c = action want limit w.terms w.name w.phase (kind spaces c)

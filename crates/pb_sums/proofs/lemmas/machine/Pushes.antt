@@ -16,17 +16,17 @@ use Rattle.pb_sums.specs.declared.grammar.Part.{Part}
 use Rattle.pb_sums.specs.declared.phase.Phase.{Phase}
 use Rattle.pb_sums.specs.declared.phase.Phase as phase
 use Rattle.pb_sums.specs.declared.phase.Kind.{Kind}
-use Rattle.pb_sums.specs.declared.phase.Move.{Move}
-use Rattle.pb_sums.specs.declared.phase.Move.TheVariants.{To, Begin, Add, EndSum, EndLinear, Stop}
+use Rattle.pb_sums.specs.declared.phase.Action.{Action}
+use Rattle.pb_sums.specs.declared.phase.Action.TheVariants.{To, Begin, Add, EndSum, EndLinear, Stop}
 use Rattle.pb_sums.specs.engine.TermParts.{standing}
 use Rattle.pb_text.proofs.lemmas.machine.Outcomes.{go_or_refuse, end_or_refuse}
 use Rattle.pb_sums.proofs.lemmas.machine.States.{admits, is_state}
 
-abbrev pub IsTaken : Move → Type 0
+abbrev pub IsTaken : Action → Type 0
 IsTaken Stop = ⊥
 IsTaken _ = Unit {0}
 
-taken-acts : (s : SumState) (ys xs : List Term) (name : List ℕ) (m : Move) → IsTaken m → over s (act ys xs name m) ≡ Refuse → ⊥
+taken-acts : (s : SumState) (ys xs : List Term) (name : List ℕ) (m : Action) → IsTaken m → over s (act ys xs name m) ≡ Refuse → ⊥
 taken-acts s ys xs name (To q) h e = go_or_refuse _ e
 taken-acts s ys xs name (Begin q b) h e = go_or_refuse _ e
 taken-acts s ys xs name (Add q b) h e = go_or_refuse _ e
@@ -34,7 +34,7 @@ taken-acts s ys xs name EndSum h e = end_or_refuse _ _ e
 taken-acts s ys xs name (EndLinear r z) h e = end_or_refuse _ _ e
 taken-acts s ys xs name Stop h e = h
 
-module _ (s : Spaces) (w : Part) (limit : ℕ) (xs : List Term) (name : List ℕ) (p : Phase) (b : ℕ) (n : Bool) (k : Kind) (m : Move) where
+module _ (s : Spaces) (w : Part) (limit : ℕ) (xs : List Term) (name : List ℕ) (p : Phase) (b : ℕ) (n : Bool) (k : Kind) (m : Action) where
   abbrev state : SumState
   state = record { spaces = s; part = w; limit = limit; work = record { terms = xs; name = name; phase = p } }
 

@@ -1,13 +1,13 @@
 -- A machine has read a prefix of a text of the grammar: one lemma for each step that continues.
-use Rattle.pb_sums.proofs.lemmas.machine.Fronts.{IsCons, cons-append, Before, sum-append}
-use Rattle.pb_sums.proofs.lemmas.machine.LiteralFronts.{first-append, name-append, FirstOf, LiteralOf, name-bytes}
+use Rattle.pb_sums.proofs.lemmas.machine.Prefixes.{IsCons, cons-append, Before, sum-append}
+use Rattle.pb_sums.proofs.lemmas.machine.LiteralPrefixes.{first-append, name-append, FirstOf, LiteralOf, name-bytes}
 use Rattle.pb_sums.proofs.lemmas.machine.LetterKinds.{on_letter, Means, kind-means}
-use Rattle.pb_sums.specs.engine.Machine.{Work, move, act, kind, term, digits, number, behind, fresh, finished}
+use Rattle.pb_sums.specs.engine.Machine.{Work, action, act, kind, term, digits, number, next_action, fresh, finished}
 use Rattle.pb_sums.specs.meaning.Sums.{is_space, Spaces0, Spaces1, SpellsSum, Head, Operator, Spells, reads_sums, allows}
 use Rattle.pb_sums.specs.declared.phase.Kind.{Kind}
 use Rattle.pb_sums.specs.declared.phase.Kind.TheVariants.{Space, Digit, Start, Inner, Tilde, Plus, Minus, Greater, Equals, Semicolon}
-use Rattle.pb_sums.specs.declared.phase.Move.{Move}
-use Rattle.pb_sums.specs.declared.phase.Move.TheVariants.{To, EndSum, Stop}
+use Rattle.pb_sums.specs.declared.phase.Action.{Action}
+use Rattle.pb_sums.specs.declared.phase.Action.TheVariants.{To, EndSum, Stop}
 use Rattle.pb_sums.specs.declared.grammar.Part.{Part}
 use Rattle.pb_sums.specs.declared.phase.Phase.{Phase}
 use Rattle.pb_sums.specs.declared.grammar.Spaces.{Spaces}
@@ -16,9 +16,9 @@ use Rattle.pb_sums.specs.declared.values.Relation.TheVariants.{AtLeast, Equal}
 use Rattle.pb_sums.specs.declared.values.SumEvent.{SumEvent}
 use Rattle.pb_sums.specs.declared.values.Term.{Term}
 use Rattle.pb_text.proofs.lemmas.text.ByteTests.{letter_name}
-use Rattle.pb_text.proofs.lemmas.text.Languages.{grown, next, none_yet, regroup, inside, behind_it, many-grown, some-grown, some-one, some-many}
+use Rattle.pb_text.proofs.lemmas.text.Languages.{grown, next, none_yet, regroup, inside, after_it, many-grown, some-grown, some-one, some-many}
 use Rattle.pb_text.proofs.lemmas.numbers.Numbers.{digits-grown, digits-one}
-use Rattle.pb_text.proofs.lemmas.machine.Runs.{run, OnFront, kept}
+use Rattle.pb_text.proofs.lemmas.machine.Runs.{run, OnPrefix, kept}
 use Rattle.pb_text.specs.contract.Automaton.{Next, Go, End}
 use Rattle.pb_text.specs.meaning.Classes.{is_name_byte}
 use Rattle.pb_text.specs.meaning.Languages.{unmarked, Language, ◌⋅◌, Empty, Byte}
@@ -49,28 +49,28 @@ module _ (spaces : Spaces) (want : Part) (limit : ℕ) where
   Weighted z xs = Before spaces limit xs ⋅ Number limit z ⋅ S1
 
   -- what the machine has read
-  abbrev front : Phase → List Term → List ℕ → Language
-  front phase.TheVariants.Start xs name = λ t. (xs ≡ []) × Empty t
-  front (phase.TheVariants.Signed role negative) xs name = λ t. Permits role × (Lead role xs ⋅ Sign negative) t
-  front (phase.TheVariants.Digits role negative n) xs name = λ t. Permits role × (n ≤ limit) × (Lead role xs ⋅ Sign negative ⋅ Digits n) t
-  front (phase.TheVariants.Gap z) xs name = Weighted z xs
-  front (phase.TheVariants.Tilde z) xs name = Weighted z xs ⋅ Byte 126
-  front (phase.TheVariants.First z negated) xs name = Weighted z xs ⋅ FirstOf negated name
-  front (phase.TheVariants.More z negated) xs name = Weighted z xs ⋅ LiteralOf negated name
-  front phase.TheVariants.Between xs name = λ t. IsCons xs × (SpellsSum spaces limit xs ⋅ S1) t
-  front phase.TheVariants.Greater xs name = λ t. IsTrue (allows want AtLeast) × (Head spaces limit xs ⋅ Byte 62) t
-  front (phase.TheVariants.Operator r) xs name = λ t. IsTrue (allows want r) × (Head spaces limit xs ⋅ Operator spaces limit r ⋅ S0) t
-  front (phase.TheVariants.Tail r z) xs name = λ t. IsTrue (allows want r) × (Head spaces limit xs ⋅ Operator spaces limit r ⋅ S0 ⋅ Number limit z ⋅ S0) t
-  front phase.TheVariants.Empty xs name = λ t. (xs ≡ []) × IsTrue (reads_sums want) × S0 t
-  front phase.TheVariants.Done xs name = λ t. ⊥
+  abbrev prefix : Phase → List Term → List ℕ → Language
+  prefix phase.TheVariants.Start xs name = λ t. (xs ≡ []) × Empty t
+  prefix (phase.TheVariants.Signed role negative) xs name = λ t. Permits role × (Lead role xs ⋅ Sign negative) t
+  prefix (phase.TheVariants.Digits role negative n) xs name = λ t. Permits role × (n ≤ limit) × (Lead role xs ⋅ Sign negative ⋅ Digits n) t
+  prefix (phase.TheVariants.Gap z) xs name = Weighted z xs
+  prefix (phase.TheVariants.Tilde z) xs name = Weighted z xs ⋅ Byte 126
+  prefix (phase.TheVariants.First z negated) xs name = Weighted z xs ⋅ FirstOf negated name
+  prefix (phase.TheVariants.More z negated) xs name = Weighted z xs ⋅ LiteralOf negated name
+  prefix phase.TheVariants.Between xs name = λ t. IsCons xs × (SpellsSum spaces limit xs ⋅ S1) t
+  prefix phase.TheVariants.Greater xs name = λ t. IsTrue (allows want AtLeast) × (Head spaces limit xs ⋅ Byte 62) t
+  prefix (phase.TheVariants.Operator r) xs name = λ t. IsTrue (allows want r) × (Head spaces limit xs ⋅ Operator spaces limit r ⋅ S0) t
+  prefix (phase.TheVariants.Tail r z) xs name = λ t. IsTrue (allows want r) × (Head spaces limit xs ⋅ Operator spaces limit r ⋅ S0 ⋅ Number limit z ⋅ S0) t
+  prefix phase.TheVariants.Empty xs name = λ t. (xs ≡ []) × IsTrue (reads_sums want) × S0 t
+  prefix phase.TheVariants.Done xs name = λ t. ⊥
 
-  abbrev Front : Work → Language
-  Front w = front w.phase w.terms w.name
+  abbrev Prefix : Work → Language
+  Prefix w = prefix w.phase w.terms w.name
 
   abbrev On : Next Work SumEvent → Language
-  On = OnFront Front (Spells spaces limit want)
+  On = OnPrefix Prefix (Spells spaces limit want)
 
-  on_test : (ys xs : List Term) (name : List ℕ) (b : Bool) (m : Move) (p : List Letter) → (b ≡ true → On (act ys xs name m) p) → On (act ys xs name (cond b m Stop)) p
+  on_test : (ys xs : List Term) (name : List ℕ) (b : Bool) (m : Action) (p : List Letter) → (b ≡ true → On (act ys xs name m) p) → On (act ys xs name (cond b m Stop)) p
   on_test ys xs name true m p h = h refl
   on_test ys xs name false m p h = tt
 
@@ -89,22 +89,22 @@ module _ (spaces : Spaces) (want : Part) (limit : ℕ) where
       (next (Lead role ys ⋅ Sign false) (Digits (10 * 0 + d)) p c (none_yet (Lead role ys) (Sign false) p (inl refl) h) (digits-one d c m.0 m.1))
   number-sound role ys xs name _ c p m ok h = tt
 
-  behind-sound : (ys xs : List Term) (name : List ℕ) (k : Kind) (c : Letter) (p : List Letter) → Means spaces k c → Head spaces limit ys p → (SpellsSum spaces limit ys ⋅ S0) p →
-      On (act ys xs name (behind want k)) (p ++ c ∷ [])
-  behind-sound ys xs name Greater c p m h i =
+  after-sound : (ys xs : List Term) (name : List ℕ) (k : Kind) (c : Letter) (p : List Letter) → Means spaces k c → Head spaces limit ys p → (SpellsSum spaces limit ys ⋅ S0) p →
+      On (act ys xs name (next_action want k)) (p ++ c ∷ [])
+  after-sound ys xs name Greater c p m h i =
       on_test ys xs name (allows want AtLeast) (To phase.TheVariants.Greater) (p ++ c ∷ [])
       (λ e. (e, next (Head spaces limit ys) (Byte 62) p c h (ap (λ x. x ∷ []) m)))
-  behind-sound ys xs name Equals c p m h i =
+  after-sound ys xs name Equals c p m h i =
       on_test ys xs name (allows want Equal) (To (phase.TheVariants.Operator Equal)) (p ++ c ∷ [])
       (λ e. (
         e,
         none_yet (Head spaces limit ys ⋅ Operator spaces limit Equal) S0 (p ++ c ∷ []) ([], tt, refl)
             (next (Head spaces limit ys) (Operator spaces limit Equal) p c h (ap (λ x. x ∷ []) m)),
       ))
-  behind-sound ys xs name Semicolon c p m h i =
+  after-sound ys xs name Semicolon c p m h i =
       on_test ys xs name (reads_sums want) EndSum (p ++ c ∷ [])
       (λ e. (e, next (SpellsSum spaces limit ys ⋅ S0) (Byte 59) p c i (ap (λ x. x ∷ []) m)))
-  behind-sound ys xs name _ c p m h i = tt
+  after-sound ys xs name _ c p m h i = tt
 
   -- a literal that is complete ends its term
   term-ends : (z : ℤ) (negated : Bool) (name : List ℕ) (xs : List Term) (p : List Letter) → (Weighted z xs ⋅ LiteralOf negated name) p →
@@ -139,23 +139,23 @@ module _ (spaces : Spaces) (want : Part) (limit : ℕ) where
   number-of : (role : Option Relation) (negative : Bool) (n : ℕ) (xs : List Term) (p : List Letter) → n ≤ limit → (Lead role xs ⋅ Sign negative ⋅ Digits n) p →
       (Lead role xs ⋅ Number limit (signed negative n)) p
   number-of role negative n xs p i h =
-      behind_it (Lead role xs) (Sign negative ⋅ Digits n) (Number limit (signed negative n)) p (λ q r. (negative, n, i, refl, r))
+      after_it (Lead role xs) (Sign negative ⋅ Digits n) (Number limit (signed negative n)) p (λ q r. (negative, n, i, refl, r))
       (regroup (Lead role xs) (Sign negative) (Digits n) p h)
 
   abbrev IsSpace : ℕ → Type 0
   IsSpace = λ b. IsTrue (is_space spaces b)
 
-  start-before : (xs : List Term) (p : List Letter) → front phase.TheVariants.Start xs [] p → Before spaces limit xs p
+  start-before : (xs : List Term) (p : List Letter) → prefix phase.TheVariants.Start xs [] p → Before spaces limit xs p
   start-before xs p h = subst (λ y. Before spaces limit y p) (sym h.0) h.1
 
-  start-head : (xs : List Term) (p : List Letter) → front phase.TheVariants.Start xs [] p → Head spaces limit xs p
+  start-head : (xs : List Term) (p : List Letter) → prefix phase.TheVariants.Start xs [] p → Head spaces limit xs p
   start-head xs p h = subst (λ y. Head spaces limit y p) (sym h.0) h.1
 
-  start-sum : (xs : List Term) (p : List Letter) → front phase.TheVariants.Start xs [] p → (SpellsSum spaces limit xs ⋅ S0) p
+  start-sum : (xs : List Term) (p : List Letter) → prefix phase.TheVariants.Start xs [] p → (SpellsSum spaces limit xs ⋅ S0) p
   start-sum xs p h = subst (λ y. (SpellsSum spaces limit y ⋅ S0) p) (sym h.0) (none_yet Empty S0 p ([], tt, refl) h.1)
 
   between-sum : (xs : List Term) (p : List Letter) → (SpellsSum spaces limit xs ⋅ S1) p → (SpellsSum spaces limit xs ⋅ S0) p
-  between-sum xs p h = behind_it (SpellsSum spaces limit xs) S1 S0 p (some-many IsSpace) h
+  between-sum xs p h = after_it (SpellsSum spaces limit xs) S1 S0 p (some-many IsSpace) h
 
   -- space continues, and begins
   s0-grown : (P : Language) (c : Letter) (p : List Letter) → Means spaces Space c → (P ⋅ S0) p → (P ⋅ S0) (p ++ c ∷ [])
@@ -173,15 +173,15 @@ module _ (spaces : Spaces) (want : Part) (limit : ℕ) where
   s0-none : (P : Language) (p : List Letter) → P p → (P ⋅ S0) p
   s0-none P p h = none_yet P S0 p ([], tt, refl) h
 
-  sound : (ph : Phase) (xs : List Term) (name : List ℕ) (k : Kind) (c : Letter) (p : List Letter) → Means spaces k c → front ph xs name p →
-      On (move want limit xs name ph k) (p ++ c ∷ [])
+  sound : (ph : Phase) (xs : List Term) (name : List ℕ) (k : Kind) (c : Letter) (p : List Letter) → Means spaces k c → prefix ph xs name p →
+      On (action want limit xs name ph k) (p ++ c ∷ [])
   sound phase.TheVariants.Start xs name Space c p m h =
       on_test xs xs name (reads_sums want) (To phase.TheVariants.Empty) (p ++ c ∷ [])
       (λ e. (h.0, e, many-grown IsSpace c.byte c m.0 m.1 p ([], tt, h.1)))
   sound phase.TheVariants.Start xs name Plus c p m h = number-sound None xs xs name Plus c p m tt (start-before xs p h)
   sound phase.TheVariants.Start xs name Minus c p m h = number-sound None xs xs name Minus c p m tt (start-before xs p h)
   sound phase.TheVariants.Start xs name (Digit d) c p m h = number-sound None xs xs name (Digit d) c p m tt (start-before xs p h)
-  sound phase.TheVariants.Start xs name k c p m h = behind-sound xs xs name k c p m (start-head xs p h) (start-sum xs p h)
+  sound phase.TheVariants.Start xs name k c p m h = after-sound xs xs name k c p m (start-head xs p h) (start-sum xs p h)
   sound (phase.TheVariants.Signed role negative) xs name (Digit d) c p m h =
       digits-sound role negative xs xs name 0 d c p h.0 (next (Lead role xs ⋅ Sign negative) (Digits (10 * 0 + d)) p c h.1 (digits-one d c m.0 m.1))
   sound (phase.TheVariants.Digits role negative n) xs name (Digit d) c p m h =
@@ -209,13 +209,13 @@ module _ (spaces : Spaces) (want : Part) (limit : ℕ) where
   sound (phase.TheVariants.More z negated) xs name k c p m h =
       let ys : List Term = xs ++ term z negated name ∷ [] in
       let i : (SpellsSum spaces limit ys ⋅ S0) p = s0-none (SpellsSum spaces limit ys) p (term-ends z negated name xs p h) in
-      behind-sound ys xs name k c p m (head-of ys p (cons-append xs (term z negated name)) i) i
+      after-sound ys xs name k c p m (head-of ys p (cons-append xs (term z negated name)) i) i
   sound phase.TheVariants.Between xs name Space c p m h = (h.0, s1-grown (SpellsSum spaces limit xs) c p m h.1)
   sound phase.TheVariants.Between xs name Plus c p m h = number-sound None xs xs name Plus c p m tt (before-of xs p h.0 h.1)
   sound phase.TheVariants.Between xs name Minus c p m h = number-sound None xs xs name Minus c p m tt (before-of xs p h.0 h.1)
   sound phase.TheVariants.Between xs name (Digit d) c p m h = number-sound None xs xs name (Digit d) c p m tt (before-of xs p h.0 h.1)
   sound phase.TheVariants.Between xs name k c p m h =
-      behind-sound xs xs name k c p m (head-of xs p h.0 (between-sum xs p h.1)) (between-sum xs p h.1)
+      after-sound xs xs name k c p m (head-of xs p h.0 (between-sum xs p h.1)) (between-sum xs p h.1)
   sound phase.TheVariants.Greater xs name Equals c p m h = (
     h.0,
     s0-none (Head spaces limit xs ⋅ Operator spaces limit AtLeast) (p ++ c ∷ [])
@@ -236,5 +236,5 @@ module _ (spaces : Spaces) (want : Part) (limit : ℕ) where
   pub reads_only : (t : List Letter) (e : SumEvent) → run (on_letter spaces want limit) (Go fresh) t ≡ End e finished → Spells spaces limit want e t
   reads_only t e h =
       subst (λ n. On n t) h
-      (kept Front (Spells spaces limit want) (on_letter spaces want limit)
+      (kept Prefix (Spells spaces limit want) (on_letter spaces want limit)
       (λ w c p f. sound w.phase w.terms w.name (kind spaces c) c p (kind-means spaces c) f) (Go fresh) t [] (refl, refl))

@@ -12,7 +12,7 @@ use Rattle.pb_sums.specs.declared.phase.Phase.{Phase}
 use Rattle.pb_sums.specs.declared.phase.Phase as phase
 use Rattle.pb_sums.specs.declared.grammar.Spaces.{Spaces}
 use Rattle.pb_sums.specs.declared.grammar.Part.{Part}
-use Rattle.pb_sums.specs.declared.phase.Move.TheVariants.{Stop}
+use Rattle.pb_sums.specs.declared.phase.Action.TheVariants.{Stop}
 use Rattle.pb_text.proofs.lemmas.machine.Outcomes.{one_state, one_end, go_or_end, refuse_or_go, refuse_or_end, end_or_go}
 use Rattle.pb_text.proofs.lemmas.machine.OneText.{IsOfOne, is_state as of_one_state, admits as of_one_admits}
 use Rattle.pb_text.proofs.lemmas.text.Booleans.{never}

@@ -2,10 +2,10 @@
 use Rattle.pb_sums.proofs.lemmas.machine.Complete.{reads_each}
 use Rattle.pb_sums.proofs.lemmas.machine.LetterKinds.{on_letter}
 use Rattle.pb_sums.proofs.lemmas.machine.Sound.{reads_only}
-use Rattle.pb_sums.specs.engine.Machine.{is_done, Work, act, term, to, at_name, digits, behind, fresh, finished}
+use Rattle.pb_sums.specs.engine.Machine.{is_done, Work, act, term, to, at_name, digits, next_action, fresh, finished}
 use Rattle.pb_sums.specs.meaning.Sums.{Spells}
 use Rattle.pb_sums.specs.declared.phase.Kind.TheVariants.{Greater, Semicolon}
-use Rattle.pb_sums.specs.declared.phase.Move.TheVariants.{To, Stop}
+use Rattle.pb_sums.specs.declared.phase.Action.TheVariants.{To, Stop}
 use Rattle.pb_sums.specs.declared.grammar.Part.{Part}
 use Rattle.pb_sums.specs.declared.phase.Phase.{Phase}
 use Rattle.pb_sums.specs.declared.grammar.Spaces.{Spaces}
@@ -47,9 +47,9 @@ module _ (spaces : Spaces) (want : Part) (limit : ℕ) where
   one_value t e f g h = end-same e f finished finished (sym (reads_each spaces want limit t e g) ∙ reads_each spaces want limit t f h)
 
   -- No text of a value is a proper prefix of another.
-  pub no_front : (t u : List Letter) (e f : SumEvent) → G e t → G f (t ++ u) → u ≡ []
-  no_front t [] e f g h = refl
-  no_front t (c ∷ u) e f g h =
+  pub prefix_free : (t u : List Letter) (e f : SumEvent) → G e t → G f (t ++ u) → u ≡ []
+  prefix_free t [] e f g h = refl
+  prefix_free t (c ∷ u) e f g h =
       let i : go (go (Go fresh) t) (c ∷ u) ≡ End f finished = sym (run-append (on_letter spaces want limit) (Go fresh) t (c ∷ u)) ∙ reads_each spaces want limit (t ++ c ∷ u) f h in
       let j : ◌≡◌ {A = N} Refuse (End f finished) = ap (λ n. go n (c ∷ u)) (sym (reads_each spaces want limit t e g)) ∙ i in
       cc
@@ -80,14 +80,14 @@ module _ (spaces : Spaces) (want : Part) (limit : ℕ) where
   alive-greater xs = before (to xs phase.TheVariants.Greater) (to xs (phase.TheVariants.Operator AtLeast)) (unmarked 61 ∷ []) refl (alive-operator xs AtLeast)
 
   -- what may follow terms can be completed
-  alive-behind : (xs : List Term) (n : N) (w : Part) (zs : List Term) (name : List ℕ) → go n (unmarked 59 ∷ []) ≡ act xs zs name (behind w Semicolon) → go n (unmarked 62 ∷ []) ≡ act xs zs name (behind w Greater) → Alive n
-  alive-behind xs n part.TheVariants.Sum zs name h i = (unmarked 59 ∷ [], event.TheVariants.Sum xs, h)
-  alive-behind xs n part.TheVariants.Linear zs name h i = before n (to xs phase.TheVariants.Greater) (unmarked 62 ∷ []) i (alive-greater xs)
-  alive-behind xs n part.TheVariants.AtLeast zs name h i = before n (to xs phase.TheVariants.Greater) (unmarked 62 ∷ []) i (alive-greater xs)
+  alive-after : (xs : List Term) (n : N) (w : Part) (zs : List Term) (name : List ℕ) → go n (unmarked 59 ∷ []) ≡ act xs zs name (next_action w Semicolon) → go n (unmarked 62 ∷ []) ≡ act xs zs name (next_action w Greater) → Alive n
+  alive-after xs n part.TheVariants.Sum zs name h i = (unmarked 59 ∷ [], event.TheVariants.Sum xs, h)
+  alive-after xs n part.TheVariants.Linear zs name h i = before n (to xs phase.TheVariants.Greater) (unmarked 62 ∷ []) i (alive-greater xs)
+  alive-after xs n part.TheVariants.AtLeast zs name h i = before n (to xs phase.TheVariants.Greater) (unmarked 62 ∷ []) i (alive-greater xs)
 
   alive-more : (xs : List Term) (name : List ℕ) (z : ℤ) (negated : Bool) → Alive (at_name xs (phase.TheVariants.More z negated) name)
   alive-more xs name z negated =
-      alive-behind (xs ++ term z negated name ∷ []) (at_name xs (phase.TheVariants.More z negated) name) want xs name refl refl
+      alive-after (xs ++ term z negated name ∷ []) (at_name xs (phase.TheVariants.More z negated) name) want xs name refl refl
 
   alive-gap : (xs : List Term) (name : List ℕ) (z : ℤ) → Alive (at_name xs (phase.TheVariants.Gap z) name)
   alive-gap xs name z = before (at_name xs (phase.TheVariants.Gap z) name) (at_name xs (phase.TheVariants.More z false) (97 ∷ 97 ∷ [])) (unmarked 97 ∷ unmarked 97 ∷ []) refl (alive-more xs (97 ∷ 97 ∷ []) z false)
@@ -98,7 +98,7 @@ module _ (spaces : Spaces) (want : Part) (limit : ℕ) where
   alive-digits (Some r) xs name negative n = (unmarked 59 ∷ [], event.TheVariants.Linear (record { terms = xs; relation = r; degree = signed negative n }), refl)
 
   pub alive : (ph : Phase) (xs : List Term) (name : List ℕ) → is_done ph ≡ false → Alive (at_name xs ph name)
-  alive phase.TheVariants.Start xs name h = alive-behind xs (at_name xs phase.TheVariants.Start name) want xs name refl refl
+  alive phase.TheVariants.Start xs name h = alive-after xs (at_name xs phase.TheVariants.Start name) want xs name refl refl
   alive (phase.TheVariants.Signed role negative) xs name h =
       before (at_name xs (phase.TheVariants.Signed role negative) name) (to xs (phase.TheVariants.Digits role negative 0)) (digit 0 ∷ [])
       (zero_fits xs name role negative) (alive-digits role xs [] negative 0)
@@ -109,7 +109,7 @@ module _ (spaces : Spaces) (want : Part) (limit : ℕ) where
   alive (phase.TheVariants.First z negated) xs name h =
       before (at_name xs (phase.TheVariants.First z negated) name) (at_name xs (phase.TheVariants.More z negated) (name ++ 97 ∷ [])) (unmarked 97 ∷ []) refl (alive-more xs (name ++ 97 ∷ []) z negated)
   alive (phase.TheVariants.More z negated) xs name h = alive-more xs name z negated
-  alive phase.TheVariants.Between xs name h = alive-behind xs (at_name xs phase.TheVariants.Between name) want xs name refl refl
+  alive phase.TheVariants.Between xs name h = alive-after xs (at_name xs phase.TheVariants.Between name) want xs name refl refl
   alive phase.TheVariants.Greater xs name h =
       before (at_name xs phase.TheVariants.Greater name) (to xs (phase.TheVariants.Operator AtLeast)) (unmarked 61 ∷ []) refl (alive-operator xs AtLeast)
   alive (phase.TheVariants.Operator r) xs name h =

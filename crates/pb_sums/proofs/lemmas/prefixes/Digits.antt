@@ -16,11 +16,11 @@ use Rattle.pb_sums.specs.declared.grammar.Spaces.{Spaces}
 use Rattle.pb_sums.specs.declared.grammar.Part.{Part}
 use Rattle.pb_sums.specs.declared.phase.Kind.{Kind}
 use Rattle.pb_sums.specs.declared.phase.Kind.TheVariants.{Digit, Plus, Minus}
-use Rattle.pb_sums.specs.declared.phase.Move.TheVariants.{To}
+use Rattle.pb_sums.specs.declared.phase.Action.TheVariants.{To}
 use Rattle.pb_sums.specs.declared.phase.Phase.{Phase}
 use Rattle.pb_sums.specs.declared.phase.Phase as phase
 use Rattle.pb_sums.proofs.lemmas.machine.Pushes.{goes_to}
-use Rattle.pb_text.proofs.lemmas.text.Spans.{front_parts}
+use Rattle.pb_text.proofs.lemmas.text.Spans.{prefix_parts}
 use Rattle.pb_sums.proofs.lemmas.machine.States.{midway_state}
 
 pub none_there : (name : List ℕ) → (length name == 0) ≡ true → name ≡ []
@@ -118,15 +118,15 @@ module _ (spaces : Spaces) (part : Part) (limit : ℕ) (xs : List Term) where
   signed-run p negative (b ∷ c ∷ sign) text e s h i l = absurd s
 
   -- the same, or the digits after a sign that was read
-  digits-behind : (p : Phase) (negative : Bool) (text : List ℕ) (i : ℕ) (digits : List ℕ) → begins_number p ≡ true → HasSign (sign_read p) text i negative → AreDigits digits
+  digits-after : (p : Phase) (negative : Bool) (text : List ℕ) (i : ℕ) (digits : List ℕ) → begins_number p ≡ true → HasSign (sign_read p) text i negative → AreDigits digits
       → 0 < length digits → value_from 0 digits ≤ limit
       → Runs sums (at p) (take i text ++ digits) (at (phase.TheVariants.Digits (role p) negative (value_from 0 digits)))
-  digits-behind (phase.TheVariants.Signed r read) negative text i digits e s h k l =
+  digits-after (phase.TheVariants.Signed r read) negative text i digits e s h k l =
       rw (s.0, s.1) (number-run (phase.TheVariants.Signed r read) r read digits (record { numeric = refl; same = refl; on_digit = λ d. refl }) h k l)
-  digits-behind phase.TheVariants.Start negative text i digits e s h k l = signed-run phase.TheVariants.Start negative (take i text) digits refl s.0 h k l
-  digits-behind phase.TheVariants.Between negative text i digits e s h k l = signed-run phase.TheVariants.Between negative (take i text) digits refl s.0 h k l
-  digits-behind (phase.TheVariants.Operator r) negative text i digits e s h k l = signed-run (phase.TheVariants.Operator r) negative (take i text) digits refl s.0 h k l
-  digits-behind _ negative text i digits e s h k l = cc e
+  digits-after phase.TheVariants.Start negative text i digits e s h k l = signed-run phase.TheVariants.Start negative (take i text) digits refl s.0 h k l
+  digits-after phase.TheVariants.Between negative text i digits e s h k l = signed-run phase.TheVariants.Between negative (take i text) digits refl s.0 h k l
+  digits-after (phase.TheVariants.Operator r) negative text i digits e s h k l = signed-run (phase.TheVariants.Operator r) negative (take i text) digits refl s.0 h k l
+  digits-after _ negative text i digits e s h k l = cc e
 
 -- a number, if one may begin, or its digits
 pub number_runs : (spaces : Spaces) (part : Part) (limit : ℕ) (xs : List Term) (name : List ℕ) (p : Phase) (r : Option Relation) (negative : Bool) (text : List ℕ) (i j v : ℕ)
@@ -137,4 +137,4 @@ pub number_runs : (spaces : Spaces) (part : Part) (limit : ℕ) (xs : List Term)
 number_runs spaces part limit xs name p r negative text i j v b e f s h g l n m =
     let some : 0 < length (take j (take (length text - i) (drop i text))) = rw (length-take-le j (take (length text - i) (drop i text)) l) (omega arith) in
     let fits : value_from 0 (take j (take (length text - i) (drop i text))) ≤ limit = subst (λ (x : ℕ). x ≤ limit) g m in
-    rw (e, f, g, front_parts text i j) (digits-behind spaces part limit xs p negative text i (take j (take (length text - i) (drop i text))) b s h some fits)
+    rw (e, f, g, prefix_parts text i j) (digits-after spaces part limit xs p negative text i (take j (take (length text - i) (drop i text))) b s h some fits)

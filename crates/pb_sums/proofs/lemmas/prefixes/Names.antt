@@ -4,8 +4,8 @@ use Rattle.std.specs.Prelude.{IsTrue}
 use Rattle.pb_text.specs.contract.Automaton.{Go, IsState, Runs}
 use Rattle.pb_text.specs.meaning.Classes.{is_letter, is_name_byte}
 use Rattle.pb_text.specs.meaning.Languages.{Each, unmarked}
-use Rattle.pb_sums.specs.engine.Machine.{move, kind, is_more}
-use Rattle.pb_sums.specs.engine.Prefix.{behind_name}
+use Rattle.pb_sums.specs.engine.Machine.{action, kind, is_more}
+use Rattle.pb_sums.specs.engine.Prefix.{after_name}
 use Rattle.pb_sums.specs.engine.State.{SumState, sums, over}
 use Rattle.pb_sums.specs.declared.values.Term.{Term}
 use Rattle.pb_sums.specs.declared.grammar.Spaces.{Spaces}
@@ -23,9 +23,9 @@ module _ (spaces : Spaces) (part : Part) (limit : ℕ) (xs : List Term) where
 
   -- a byte of a name after its first two
   more-on : (name : List ℕ) (z : ℤ) (negated : Bool) (b : ℕ) (k : Kind) → (k ≡ Start b) ⊎ (k ≡ Inner b)
-      → over (at name (phase.TheVariants.More z negated)) (move part limit xs name (phase.TheVariants.More z negated) k) ≡ Go (at (name ++ b ∷ []) (phase.TheVariants.More z negated))
-  more-on name z negated b k (inl e) = ap (λ x. over (at name (phase.TheVariants.More z negated)) (move part limit xs name (phase.TheVariants.More z negated) x)) e
-  more-on name z negated b k (inr e) = ap (λ x. over (at name (phase.TheVariants.More z negated)) (move part limit xs name (phase.TheVariants.More z negated) x)) e
+      → over (at name (phase.TheVariants.More z negated)) (action part limit xs name (phase.TheVariants.More z negated) k) ≡ Go (at (name ++ b ∷ []) (phase.TheVariants.More z negated))
+  more-on name z negated b k (inl e) = ap (λ x. over (at name (phase.TheVariants.More z negated)) (action part limit xs name (phase.TheVariants.More z negated) x)) e
+  more-on name z negated b k (inr e) = ap (λ x. over (at name (phase.TheVariants.More z negated)) (action part limit xs name (phase.TheVariants.More z negated) x)) e
 
   more-run : (name : List ℕ) (z : ℤ) (negated : Bool) (text : List ℕ) → Each (λ b. IsTrue (is_name_byte b)) text
       → Runs sums (at name (phase.TheVariants.More z negated)) text (at (name ++ text) (phase.TheVariants.More z negated))
@@ -52,9 +52,9 @@ module _ (spaces : Spaces) (part : Part) (limit : ℕ) (xs : List Term) where
 
   -- the second byte of a name
   first-on : (b c : ℕ) (z : ℤ) (negated : Bool) (k : Kind) → (k ≡ Start c) ⊎ (k ≡ Inner c)
-      → over (at (b ∷ []) (phase.TheVariants.First z negated)) (move part limit xs (b ∷ []) (phase.TheVariants.First z negated) k) ≡ Go (at (b ∷ c ∷ []) (phase.TheVariants.More z negated))
-  first-on b c z negated k (inl e) = ap (λ x. over (at (b ∷ []) (phase.TheVariants.First z negated)) (move part limit xs (b ∷ []) (phase.TheVariants.First z negated) x)) e
-  first-on b c z negated k (inr e) = ap (λ x. over (at (b ∷ []) (phase.TheVariants.First z negated)) (move part limit xs (b ∷ []) (phase.TheVariants.First z negated) x)) e
+      → over (at (b ∷ []) (phase.TheVariants.First z negated)) (action part limit xs (b ∷ []) (phase.TheVariants.First z negated) k) ≡ Go (at (b ∷ c ∷ []) (phase.TheVariants.More z negated))
+  first-on b c z negated k (inl e) = ap (λ x. over (at (b ∷ []) (phase.TheVariants.First z negated)) (action part limit xs (b ∷ []) (phase.TheVariants.First z negated) x)) e
+  first-on b c z negated k (inr e) = ap (λ x. over (at (b ∷ []) (phase.TheVariants.First z negated)) (action part limit xs (b ∷ []) (phase.TheVariants.First z negated) x)) e
 
   name-run : (name : List ℕ) (p : Phase) (z : ℤ) (negated : Bool) (b c : ℕ) (text : List ℕ) → sums.step (at name p) b ≡ Go (at (b ∷ []) (phase.TheVariants.First z negated))
       → IsTrue (is_name_byte c) → Each (λ d. IsTrue (is_name_byte d)) text → Runs sums (at name p) (b ∷ c ∷ text) (at (b ∷ c ∷ text) (phase.TheVariants.More z negated))
@@ -73,33 +73,33 @@ module _ (spaces : Spaces) (part : Part) (limit : ℕ) (xs : List Term) where
   abbrev Spells : List ℕ → Type 0
   Spells text = (2 ≤ length text) × IsTrue (is_letter (get_or text 0 0)) × Each (λ b. IsTrue (is_name_byte b)) text
 
-  from-literal : (name : List ℕ) (p q : Phase) (text : List ℕ) → behind_name p ≡ Some q → Spells text → Runs sums (at name p) text (at text q)
+  from-literal : (name : List ℕ) (p q : Phase) (text : List ℕ) → after_name p ≡ Some q → Spells text → Runs sums (at name p) text (at text q)
   from-literal name p q [] e h = absurd (omega (arith, h.0))
   from-literal name p q (b ∷ []) e h = absurd (omega (arith, h.0))
   from-literal name (phase.TheVariants.Gap z) q (b ∷ c ∷ text) e h =
       let f : phase.TheVariants.More z false ≡ q = cc in
       let g : sums.step (at name (phase.TheVariants.Gap z)) b ≡ Go (at (b ∷ []) (phase.TheVariants.First z false)) =
-      ap (λ k. over (at name (phase.TheVariants.Gap z)) (move part limit xs name (phase.TheVariants.Gap z) k)) (kind-letter spaces b h.1) in
+      ap (λ k. over (at name (phase.TheVariants.Gap z)) (action part limit xs name (phase.TheVariants.Gap z) k)) (kind-letter spaces b h.1) in
       subst (λ (r : Phase). Runs sums (at name (phase.TheVariants.Gap z)) (b ∷ c ∷ text) (at (b ∷ c ∷ text) r)) f
       (name-run name (phase.TheVariants.Gap z) z false b c text g h.2.1.0 h.2.1.1)
   from-literal name (phase.TheVariants.Tilde z) q (b ∷ c ∷ text) e h =
       let f : phase.TheVariants.More z true ≡ q = cc in
       let g : sums.step (at name (phase.TheVariants.Tilde z)) b ≡ Go (at (b ∷ []) (phase.TheVariants.First z true)) =
-      ap (λ k. over (at name (phase.TheVariants.Tilde z)) (move part limit xs name (phase.TheVariants.Tilde z) k)) (kind-letter spaces b h.1) in
+      ap (λ k. over (at name (phase.TheVariants.Tilde z)) (action part limit xs name (phase.TheVariants.Tilde z) k)) (kind-letter spaces b h.1) in
       subst (λ (r : Phase). Runs sums (at name (phase.TheVariants.Tilde z)) (b ∷ c ∷ text) (at (b ∷ c ∷ text) r)) f
       (name-run name (phase.TheVariants.Tilde z) z true b c text g h.2.1.0 h.2.1.1)
   from-literal name _ q (b ∷ c ∷ text) e h = cc e
 
   -- a whole name
-  pub name_runs : (name new : List ℕ) (p q : Phase) (text : List ℕ) → Some q ≡ behind_name p → 2 ≤ length text → IsTrue (is_letter (get_or text 0 0))
+  pub name_runs : (name new : List ℕ) (p q : Phase) (text : List ℕ) → Some q ≡ after_name p → 2 ≤ length text → IsTrue (is_letter (get_or text 0 0))
       → Each (λ b. IsTrue (is_name_byte b)) text → new ≡ text → Runs sums (at name p) text (at new q)
   name_runs name new p q text e l i h f = subst (λ (n : List ℕ). Runs sums (at name p) text (at n q)) (sym f) (from-literal name p q text (sym e) (l, i, h))
 
-  pub behind_state : (name : List ℕ) (p q : Phase) → Some q ≡ behind_name p → IsState sums (at name q)
-  behind_state name (phase.TheVariants.Gap z) q e =
+  pub after_state : (name : List ℕ) (p q : Phase) → Some q ≡ after_name p → IsState sums (at name q)
+  after_state name (phase.TheVariants.Gap z) q e =
       let f : phase.TheVariants.More z false ≡ q = cc in
       subst (λ (r : Phase). IsState sums (at name r)) f (midway_state spaces part limit xs name (phase.TheVariants.More z false) tt refl)
-  behind_state name (phase.TheVariants.Tilde z) q e =
+  after_state name (phase.TheVariants.Tilde z) q e =
       let f : phase.TheVariants.More z true ≡ q = cc in
       subst (λ (r : Phase). IsState sums (at name r)) f (midway_state spaces part limit xs name (phase.TheVariants.More z true) tt refl)
-  behind_state name _ q e = cc e
+  after_state name _ q e = cc e

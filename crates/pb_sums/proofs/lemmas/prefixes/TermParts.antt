@@ -7,7 +7,7 @@ use Rattle.pb_text.specs.contract.Digits.{value_from}
 use Rattle.pb_text.specs.meaning.Languages.{Each}
 use Rattle.pb_text.specs.meaning.Numbers.{signed}
 use Rattle.pb_text.proofs.lemmas.machine.Running.{runs_on}
-use Rattle.pb_sums.specs.engine.Prefix.{HasSign, begins_number, begins_relation, role, sign_read, behind_name, behind_number, behind}
+use Rattle.pb_sums.specs.engine.Prefix.{HasSign, begins_number, begins_relation, role, sign_read, after_name, after_number, text_after}
 use Rattle.pb_sums.specs.engine.State.{SumState, sums}
 use Rattle.pb_sums.specs.engine.TermParts.{begins_term, IsTilde, standing, IsSpacedNumber, IsLiteral}
 use Rattle.pb_sums.specs.contract.Canonical.{operator_bytes}
@@ -42,31 +42,31 @@ no-role phase.TheVariants.Between e = refl
 no-role _ e = cc
 
 space-on : (spaces : Spaces) (part : Part) (limit : ℕ) (xs : List Term) (r : Option Relation) (negative : Bool) (v : ℕ)
-    → sums.step (standing spaces part limit xs [] (phase.TheVariants.Digits r negative v)) 32 ≡ Go (standing spaces part limit xs [] (behind_number r (signed negative v)))
+    → sums.step (standing spaces part limit xs [] (phase.TheVariants.Digits r negative v)) 32 ≡ Go (standing spaces part limit xs [] (after_number r (signed negative v)))
 space-on spaces part limit xs None negative v = refl
 space-on spaces part limit xs (Some r) negative v = refl
 
-pub number_state : (spaces : Spaces) (part : Part) (limit : ℕ) (xs : List Term) (r : Option Relation) (z : ℤ) → IsState sums (standing spaces part limit xs [] (behind_number r z))
+pub number_state : (spaces : Spaces) (part : Part) (limit : ℕ) (xs : List Term) (r : Option Relation) (z : ℤ) → IsState sums (standing spaces part limit xs [] (after_number r z))
 number_state spaces part limit xs None z = midway_state spaces part limit xs [] (phase.TheVariants.Gap z) tt refl
 number_state spaces part limit xs (Some r) z = midway_state spaces part limit xs [] (phase.TheVariants.Tail r z) tt refl
 
 pub spaced_number_runs : (limit : ℕ) (p : Phase) (text : List ℕ) (i j v : ℕ) (negative : Bool) → begins_number p ≡ true → HasSign (sign_read p) text i negative
-    → Each (λ b. IsTrue (is_digit b)) (take j (behind i text)) → v ≡ value_from 0 (take j (behind i text)) → j ≤ length (behind i text) → (j ≡ 0 → ⊥) → v ≤ limit
+    → Each (λ b. IsTrue (is_digit b)) (take j (text_after i text)) → v ≡ value_from 0 (take j (text_after i text)) → j ≤ length (text_after i text) → (j ≡ 0 → ⊥) → v ≤ limit
     → i + j < length text → get_or text (i + j) 0 ≡ 32 → IsSpacedNumber limit p (take (i + j + 1) text) (signed negative v)
 spaced_number_runs limit p text i j v negative b s h g l n m within e spaces part xs =
     let digits : SumState = standing spaces part limit xs [] (phase.TheVariants.Digits (role p) negative v) in
-    let next : SumState = standing spaces part limit xs [] (behind_number (role p) (signed negative v)) in
+    let next : SumState = standing spaces part limit xs [] (after_number (role p) (signed negative v)) in
     runs_on sums (standing spaces part limit xs [] p) text (i + j) digits next within
     (number_runs spaces part limit xs [] p (role p) negative text i j v b refl refl s h g l n m)
     (subst (λ (x : ℕ). sums.step digits x ≡ Go next) (sym e) (space-on spaces part limit xs (role p) negative v))
     (number_state spaces part limit xs (role p) (signed negative v))
 
-abbrev behind-tilde : Bool → ℤ → Phase
-behind-tilde false z = phase.TheVariants.Gap z
-behind-tilde true z = phase.TheVariants.Tilde z
+abbrev after-tilde : Bool → ℤ → Phase
+after-tilde false z = phase.TheVariants.Gap z
+after-tilde true z = phase.TheVariants.Tilde z
 
 tilde-runs : (spaces : Spaces) (part : Part) (limit : ℕ) (xs : List Term) (z : ℤ) (negated : Bool) (text : List ℕ) → IsTilde negated text
-    → Runs sums (standing spaces part limit xs [] (phase.TheVariants.Gap z)) text (standing spaces part limit xs [] (behind-tilde negated z))
+    → Runs sums (standing spaces part limit xs [] (phase.TheVariants.Gap z)) text (standing spaces part limit xs [] (after-tilde negated z))
 tilde-runs spaces part limit xs z false text e =
     subst (λ (t : List ℕ). Runs sums (standing spaces part limit xs [] (phase.TheVariants.Gap z)) t (standing spaces part limit xs [] (phase.TheVariants.Gap z))) (sym e) refl
 tilde-runs spaces part limit xs z true text e =
@@ -77,35 +77,35 @@ tilde-runs spaces part limit xs z true text e =
       refl,
     )
 
-behind-both : (negated : Bool) (z : ℤ) → Some (phase.TheVariants.More z negated) ≡ behind_name (behind-tilde negated z)
-behind-both false z = refl
-behind-both true z = refl
+after-both : (negated : Bool) (z : ℤ) → Some (phase.TheVariants.More z negated) ≡ after_name (after-tilde negated z)
+after-both false z = refl
+after-both true z = refl
 
-pub literal_runs : (text : List ℕ) (i j : ℕ) (negated : Bool) (name : List ℕ) → IsTilde negated (take i text) → 2 ≤ length (take j (behind i text))
-    → IsTrue (is_letter (get_or (take j (behind i text)) 0 0)) → Each (λ b. IsTrue (is_name_byte b)) (take j (behind i text)) → name ≡ take j (behind i text)
+pub literal_runs : (text : List ℕ) (i j : ℕ) (negated : Bool) (name : List ℕ) → IsTilde negated (take i text) → 2 ≤ length (take j (text_after i text))
+    → IsTrue (is_letter (get_or (take j (text_after i text)) 0 0)) → Each (λ b. IsTrue (is_name_byte b)) (take j (text_after i text)) → name ≡ take j (text_after i text)
     → IsLiteral (take (i + j) text) (record { name = name; negated = negated })
 literal_runs text i j negated name s l h g e spaces part limit xs z =
-    runs_further sums (standing spaces part limit xs [] (phase.TheVariants.Gap z)) text i j (standing spaces part limit xs [] (behind-tilde negated z))
+    runs_further sums (standing spaces part limit xs [] (phase.TheVariants.Gap z)) text i j (standing spaces part limit xs [] (after-tilde negated z))
     (standing spaces part limit xs name (phase.TheVariants.More z negated)) (tilde-runs spaces part limit xs z negated (take i text) s)
-    (name_runs spaces part limit xs [] name (behind-tilde negated z) (phase.TheVariants.More z negated) (take j (behind i text)) (behind-both negated z) l h g e)
+    (name_runs spaces part limit xs [] name (after-tilde negated z) (phase.TheVariants.More z negated) (take j (text_after i text)) (after-both negated z) l h g e)
 
 -- a coefficient, a space, a literal and a space
 pub term_runs : (spaces : Spaces) (part : Part) (limit : ℕ) (xs ys : List Term) (old new : List ℕ) (p : Phase) (text : List ℕ) (i j : ℕ) (z : ℤ) (l : Literal)
-    → begins_term p ≡ true → old ≡ [] → new ≡ [] → IsSpacedNumber limit p (take i text) z → IsLiteral (take j (behind i text)) l → j < length (behind i text) → get_or (behind i text) j 0 ≡ 32
+    → begins_term p ≡ true → old ≡ [] → new ≡ [] → IsSpacedNumber limit p (take i text) z → IsLiteral (take j (text_after i text)) l → j < length (text_after i text) → get_or (text_after i text) j 0 ≡ 32
     → ys ≡ xs ++ (record { coefficient = z; literal = l }) ∷ []
     → Runs sums (standing spaces part limit xs old p) (take (i + j + 1) text) (standing spaces part limit ys new phase.TheVariants.Between)
-term_runs spaces part limit xs ys old new p text i j z l b e f front literal within g h =
+term_runs spaces part limit xs ys old new p text i j z l b e f prefix literal within g h =
     let gap : SumState = standing spaces part limit xs [] (phase.TheVariants.Gap z) in
     let more : SumState = standing spaces part limit xs l.name (phase.TheVariants.More z l.negated) in
     let more-terms : List Term = xs ++ (record { coefficient = z; literal = l }) ∷ [] in
     let last : SumState = standing spaces part limit more-terms [] phase.TheVariants.Between in
     let same : i + (j + 1) ≡ i + j + 1 = omega arith in
-    let literal-run : Runs sums gap (take (j + 1) (behind i text)) last =
-    runs_on sums gap (behind i text) j more last within (literal spaces part limit xs z)
+    let literal-run : Runs sums gap (take (j + 1) (text_after i text)) last =
+    runs_on sums gap (text_after i text) j more last within (literal spaces part limit xs z)
     (subst (λ (x : ℕ). sums.step more x ≡ Go last) (sym g) refl)
     (midway_state spaces part limit more-terms [] phase.TheVariants.Between tt refl) in
     let first : Runs sums (standing spaces part limit xs [] p) (take i text) gap =
-    subst (λ (r : Option Relation). Runs sums (standing spaces part limit xs [] p) (take i text) (standing spaces part limit xs [] (behind_number r z))) (no-role p b) (front spaces part xs) in
+    subst (λ (r : Option Relation). Runs sums (standing spaces part limit xs [] p) (take i text) (standing spaces part limit xs [] (after_number r z))) (no-role p b) (prefix spaces part xs) in
     rw (e, f, h) (subst (λ (n : ℕ). Runs sums (standing spaces part limit xs [] p) (take n text) last) same
     (runs_further sums (standing spaces part limit xs [] p) text i (j + 1) gap last first literal-run))
 

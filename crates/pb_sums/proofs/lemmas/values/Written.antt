@@ -55,9 +55,9 @@ sum_parts [] d h = absurd (omega arith)
 sum_parts (x ∷ xs) d h = refl
 
 -- what follows a sum
-pub head_front : (xs : List Term) (t : List ℕ) → (y : List ℕ) × (head_bytes xs ++ t ≡ sum_bytes xs ++ y)
-head_front [] t = (t, refl)
-head_front (x ∷ xs) t = (32 ∷ t, append_assoc (sum_bytes (x ∷ xs)) (32 ∷ []) t)
+pub head_prefix : (xs : List Term) (t : List ℕ) → (y : List ℕ) × (head_bytes xs ++ t ≡ sum_bytes xs ++ y)
+head_prefix [] t = (t, refl)
+head_prefix (x ∷ xs) t = (32 ∷ t, append_assoc (sum_bytes (x ∷ xs)) (32 ∷ []) t)
 
 pub head_none : (xs : List Term) (t : List ℕ) → length xs ≡ 0 → head_bytes xs ++ t ≡ sum_bytes xs ++ t
 head_none [] t h = refl

@@ -2,19 +2,19 @@ use Rattle.std.proofs.Common.{◌≡◌, ◌≤◌, length, take, get_or, sym, a
 use Rattle.std.proofs.lemmas.List.{length-take-le, get_or-take}
 use Rattle.pb_text.specs.meaning.Classes.{is_letter}
 use Rattle.pb_sums.proofs.lemmas.values.Shorts.{name_utf8}
-use Rattle.pb_sums.specs.engine.Prefix.{behind}
+use Rattle.pb_sums.specs.engine.Prefix.{text_after}
 use Rattle.pb_sums.proofs.lemmas.prefixes.TermParts.{literal_runs}
 use Rattle.pb_sums.proofs.term_prefix.literal_prefix.Goals as goal
 
-pub short_front-name-requires-clause-text : goal.short_front-name-requires-clause-text
-short_front-name-requires-clause-text c = name_utf8 _ c.name_prefix-length.ensures.name
+pub short_prefix-name-requires-clause-text : goal.short_prefix-name-requires-clause-text
+short_prefix-name-requires-clause-text c = name_utf8 _ c.name_prefix-length.ensures.name
 
 pub returns-clause-runs : goal.returns-clause-runs
 returns-clause-runs c =
-    let rest = behind c.tilde_prefix-tilde.result.0 c.args.text.now in
+    let rest = text_after c.tilde_prefix-tilde.result.0 c.args.text.now in
     let n = c.name_prefix-length.result in
     let whole : length (take n rest) ≡ n = length-take-le n rest c.name_prefix-length.ensures.bound in
     let long : 2 ≤ length (take n rest) = omega arith in
-    let front : get_or (take n rest) 0 0 ≡ get_or rest 0 0 = get_or-take n rest 0 0 (omega arith) in
-    literal_runs c.args.text.now c.tilde_prefix-tilde.result.0 n c.tilde_prefix-tilde.result.1 c.short_front-name.result c.tilde_prefix-tilde.ensures.tilde long
-    (ap is_letter front ∙ (sym c.is_letter.ensures ∙ c.if-not-is_letter.false)) c.name_prefix-length.ensures.name c.short_front-name.ensures.name
+    let prefix : get_or (take n rest) 0 0 ≡ get_or rest 0 0 = get_or-take n rest 0 0 (omega arith) in
+    literal_runs c.args.text.now c.tilde_prefix-tilde.result.0 n c.tilde_prefix-tilde.result.1 c.short_prefix-name.result c.tilde_prefix-tilde.ensures.tilde long
+    (ap is_letter prefix ∙ (sym c.is_letter.ensures ∙ c.if-not-is_letter.false)) c.name_prefix-length.ensures.name c.short_prefix-name.ensures.name

@@ -16,19 +16,19 @@ loop-rest-init g c = (
 
 pub returns-in_err-write_batch : goal.returns-in_err-write_batch
 returns-in_err-write_batch g c =
-    let front = c.loop-rest.invariant.0 in
+    let prefix = c.loop-rest.invariant.0 in
     let batch = c.split_at.result.0.now in
-    let behind = c.split_at.result.1.now in
-    let rest : further_bytes c.loop-rest.rest.now ≡ further_bytes batch ++ further_bytes behind = ap further_bytes c.split_at.ensures.by_index.0 ∙ further-append batch behind in
-    part_then g.S.Sink.contents g.S.Sink.faults _ _ _ _ _ _ _ (ap further_bytes c.loop-rest.invariant.1 ∙ further-append front c.loop-rest.rest.now) c.loop-rest.invariant.2
+    let following = c.split_at.result.1.now in
+    let rest : further_bytes c.loop-rest.rest.now ≡ further_bytes batch ++ further_bytes following = ap further_bytes c.split_at.ensures.by_index.0 ∙ further-append batch following in
+    part_then g.S.Sink.contents g.S.Sink.faults _ _ _ _ _ _ _ (ap further_bytes c.loop-rest.invariant.1 ∙ further-append prefix c.loop-rest.rest.now) c.loop-rest.invariant.2
     (part_broke g.S.Sink.contents g.S.Sink.faults _ _ _ _ _ _ rest c.from_residual.ensures.0 c.in_err-write_batch.ensures)
 
 pub loop-rest-preserved : goal.loop-rest-preserved
 loop-rest-preserved g c =
-    let front = c.loop-rest.invariant.0 in
+    let prefix = c.loop-rest.invariant.0 in
     let batch = c.split_at.result.0.now in
-    let behind = c.split_at.result.1.now in (
-      front ++ batch,
-      c.loop-rest.invariant.1 ∙ (ap (λ (z : List Term). front ++ z) c.split_at.ensures.by_index.0 ∙ sym (append_assoc front batch behind)),
-      part_wrote g.S.Sink.contents g.S.Sink.faults _ _ _ _ _ _ (further-append front batch) c.loop-rest.invariant.2 c.in_ok-write_batch.ensures,
+    let following = c.split_at.result.1.now in (
+      prefix ++ batch,
+      c.loop-rest.invariant.1 ∙ (ap (λ (z : List Term). prefix ++ z) c.split_at.ensures.by_index.0 ∙ sym (append_assoc prefix batch following)),
+      part_wrote g.S.Sink.contents g.S.Sink.faults _ _ _ _ _ _ (further-append prefix batch) c.loop-rest.invariant.2 c.in_ok-write_batch.ensures,
     )

@@ -4,13 +4,13 @@ use Rattle.std.specs.Int.{w128}
 use Rattle.std.proofs.lemmas.Int.{ints, to_z-of_z}
 use Rattle.pb_text.proofs.lemmas.text.Parts.{part_then, part_broke}
 use Rattle.pb_sums.specs.contract.Canonical.{sum_bytes, linear_bytes}
-use Rattle.pb_sums.proofs.lemmas.values.Written.{head_front, head_none, head_some}
+use Rattle.pb_sums.proofs.lemmas.values.Written.{head_prefix, head_none, head_some}
 use Rattle.pb_sums.proofs.write.write_linear.Goals as goal
 use Rattle.pb_sums.proofs.write.write_linear.Goals.{then-not-is_empty, else-not-is_empty}
 
 pub returns-in_err-write_sum : goal.returns-in_err-write_sum
 returns-in_err-write_sum g c =
-    part_broke g.S.Sink.contents g.S.Sink.faults _ _ _ _ _ _ (head_front c.args.linear.now.terms _).1 c.from_residual.ensures.0 (rw c.as_slice-terms.ensures at c.in_err-write_sum.ensures)
+    part_broke g.S.Sink.contents g.S.Sink.faults _ _ _ _ _ _ (head_prefix c.args.linear.now.terms _).1 c.from_residual.ensures.0 (rw c.as_slice-terms.ensures at c.in_err-write_sum.ensures)
 
 pub returns : goal.returns
 returns g c =

@@ -1,9 +1,9 @@
 use Rattle.std.specs.Prelude.{refl}
 use Rattle.pb_text.specs.contract.Feeding.{is_complete}
 use Rattle.pb_text.specs.meaning.Spelling.{bytes}
-use Rattle.pb_text.proofs.lemmas.feeder.Told.{stands_reads}
+use Rattle.pb_text.proofs.lemmas.feeder.Reported.{stands_reads}
 use Rattle.pb_text.proofs.laws.standing_is_reading.Goals as goal
 
 pub returns : goal.returns
-returns g c longest start input marks f s =
-    (bytes s.1.letters, stands_reads g.M.Machine.automaton longest start input marks f.machine f.place f.first f.stop s.1 (is_complete f) refl)
+returns g c longest start input spans f s =
+    (bytes s.1.letters, stands_reads g.M.Machine.automaton longest start input spans f.machine f.place f.first f.stop s.1 (is_complete f) refl)

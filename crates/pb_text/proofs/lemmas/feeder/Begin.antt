@@ -19,8 +19,8 @@ module _ {S E : Type 0} (m : Automaton S E) (longest : ℕ) (start : S) where
     left = [];
     input_is = refl;
     follows = record {
-      into = λ later r. (later, r, record { letters_are = refl; marks_are = refl });
-      onto = λ items f front. (items, f, record { letters_are = refl; marks_are = refl });
+      into = λ later r. (later, r, record { letters_are = refl; spans_are = refl });
+      onto = λ items f prefix. (items, f, record { letters_are = refl; spans_are = refl });
       alone = λ n h items f e. absurd (omega arith);
       ended = tt;
     };
@@ -50,10 +50,10 @@ module _ {S E : Type 0} (m : Automaton S E) (longest : ℕ) (start : S) where
   halts_more state end letters left more Memory c h = (h.0, h.1 ++ more, ap (λ (x : List ℕ). x ++ more) h.2, h.3, h.4, h.5)
 
   -- `Stands` with another rest and another stop
-  moved : (old : S) (input input' : List ℕ) (marks : List (Spanned E)) (place : Place) (first : Option Place) (stop stop' : Option Stop) (left : List ℕ)
-      → (s : Stands m longest start input marks old place first stop) → input' ≡ bytes s.letters ++ left → Waits m old (end_of longest first) s.letters left place stop'
-      → Stands m longest start input' marks old place first stop'
-  moved old input input' marks place first stop stop' left s is waits = record {
+  moved : (old : S) (input input' : List ℕ) (spans : List (Spanned E)) (place : Place) (first : Option Place) (stop stop' : Option Stop) (left : List ℕ)
+      → (s : Stands m longest start input spans old place first stop) → input' ≡ bytes s.letters ++ left → Waits m old (end_of longest first) s.letters left place stop'
+      → Stands m longest start input' spans old place first stop'
+  moved old input input' spans place first stop stop' left s is waits = record {
     letters = s.letters;
     left = left;
     input_is = is;
@@ -71,29 +71,29 @@ module _ {S E : Type 0} (m : Automaton S E) (longest : ℕ) (start : S) where
     waits = waits;
   }
 
-  module _ (old : S) (input : List ℕ) (marks : List (Spanned E)) (place : Place) (first : Option Place) where
+  module _ (old : S) (input : List ℕ) (spans : List (Spanned E)) (place : Place) (first : Option Place) where
     waits_more : (end : ℕ) (letters : List Letter) (left more : List ℕ) (stop : Option Stop) → IsOpen stop → (stop ≡ None → m.done old ≡ true) → Waits m old end letters left place stop → Waits m old end letters (left ++ more) place stop
     waits_more end letters left more None c done w = inl (done refl)
     waits_more end letters left more (Some s) c done w = (w.0, w.1, halts_more old end letters left more s.why c w.2)
 
-    longer : (stop : Option Stop) (s : Stands m longest start input marks old place first stop) (more : List ℕ) → input ++ more ≡ bytes s.letters ++ (s.left ++ more)
+    longer : (stop : Option Stop) (s : Stands m longest start input spans old place first stop) (more : List ℕ) → input ++ more ≡ bytes s.letters ++ (s.left ++ more)
     longer stop s more = ap (λ (x : List ℕ). x ++ more) s.input_is ∙ append_assoc (bytes s.letters) s.left more
 
     -- more input changes nothing if the machine is complete or stopped
-    pub stands_more : (more : List ℕ) (stop : Option Stop) → IsOpen stop → (stop ≡ None → m.done old ≡ true) → Stands m longest start input marks old place first stop → Stands m longest start (input ++ more) marks old place first stop
+    pub stands_more : (more : List ℕ) (stop : Option Stop) → IsOpen stop → (stop ≡ None → m.done old ≡ true) → Stands m longest start input spans old place first stop → Stands m longest start (input ++ more) spans old place first stop
     stands_more more stop c done s =
-        moved old input (input ++ more) marks place first stop stop (s.left ++ more) s (longer stop s more) (waits_more (end_of longest first) s.letters s.left more stop c done s.waits)
+        moved old input (input ++ more) spans place first stop stop (s.left ++ more) s (longer stop s more) (waits_more (end_of longest first) s.letters s.left more stop c done s.waits)
 
     nothing_left : (left : List ℕ) → m.done old ≡ false → (m.done old ≡ true) ⊎ (left ≡ []) → left ≡ []
     nothing_left left unfinished (inl d) = absurd (false≢true (sym unfinished ∙ d))
     nothing_left left unfinished (inr e) = e
 
     -- the input has ended before its text did
-    pub stands_ended : m.done old ≡ false → Stands m longest start input marks old place first None → Stands m longest start input marks old place first (Some (record { place = place; why = Ended }))
+    pub stands_ended : m.done old ≡ false → Stands m longest start input spans old place first None → Stands m longest start input spans old place first (Some (record { place = place; why = Ended }))
     stands_ended unfinished s =
-        moved old input input marks place first None (Some (record { place = place; why = Ended })) s.left s s.input_is (unfinished, refl, nothing_left s.left unfinished s.waits)
+        moved old input input spans place first None (Some (record { place = place; why = Ended })) s.left s s.input_is (unfinished, refl, nothing_left s.left unfinished s.waits)
 
     -- the reader failed
-    pub stands_failed : (more : List ℕ) → m.done old ≡ false → Stands m longest start input marks old place first None → Stands m longest start (input ++ more) marks old place first (Some (record { place = place; why = Read }))
+    pub stands_failed : (more : List ℕ) → m.done old ≡ false → Stands m longest start input spans old place first None → Stands m longest start (input ++ more) spans old place first (Some (record { place = place; why = Read }))
     stands_failed more unfinished s =
-        moved old input (input ++ more) marks place first None (Some (record { place = place; why = Read })) (s.left ++ more) s (longer None s more) (unfinished, refl, tt)
+        moved old input (input ++ more) spans place first None (Some (record { place = place; why = Read })) (s.left ++ more) s (longer None s more) (unfinished, refl, tt)

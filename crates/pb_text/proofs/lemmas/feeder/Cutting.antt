@@ -4,7 +4,7 @@ use Rattle.pb_text.specs.contract.Automaton.{Accepts}
 use Rattle.pb_text.specs.meaning.Spelling.{bytes}
 use Rattle.pb_text.specs.meaning.Reading.{Reads}
 use Rattle.pb_text.specs.contract.Standing.{IsOpen, IsUnread}
-use Rattle.pb_text.specs.contract.Feeding.{StandsAt, Feeds, NoneStopped, used_by, input_fed, marks_answered, bytes_fed, marks_fed, is_complete}
+use Rattle.pb_text.specs.contract.Feeding.{StandsAt, Feeds, NoneStopped, used_by, input_fed, spans_answered, bytes_fed, spans_fed, is_complete}
 use Rattle.pb_text.specs.declared.place.Place.{Place}
 use Rattle.pb_text.specs.declared.place.Spanned.{Spanned}
 use Rattle.pb_text.specs.declared.place.Stop.{Stop}
@@ -12,22 +12,22 @@ use Rattle.pb_text.specs.declared.feeder.Fed.{Fed}
 use Rattle.pb_text.specs.declared.feeder.Feeder.{Feeder}
 use Rattle.pb_text.specs.declared.machine.Machine.{Ghosts}
 use Rattle.pb_text.proofs.lemmas.text.Short.{place_after-offset}
-use Rattle.pb_text.proofs.lemmas.feeder.Told.{stands_reads}
+use Rattle.pb_text.proofs.lemmas.feeder.Reported.{stands_reads}
 
 nothing_fed : (a b : List ℕ) → a ++ b ≡ [] → a ≡ []
 nothing_fed [] b e = refl
 nothing_fed (x ∷ a) b e = absurd (cc e)
 
 module _ {M E : Type 0} {g : Ghosts M E} (longest : ℕ) (start : M) (after : Feeder M E g) where
-  feeds_stand : (feeds : List (List ℕ × Result (Fed E) Stop)) (before : Feeder M E g) (input : List ℕ) (marks : List (Spanned E))
-      → StandsAt longest start input marks before → IsOpen before.stop → Feeds before feeds after
-      → StandsAt longest start (input ++ input_fed feeds) (marks ++ marks_answered feeds) after
-  feeds_stand [] before input marks s counts e =
-      subst (λ (f : Feeder M E g). StandsAt longest start (input ++ []) (marks ++ []) f) e (rw (append-nil input, append-nil marks) s)
-  feeds_stand (f ∷ feeds) before input marks s counts h =
-      let k = h.1.0 longest start input marks counts s in
-      let m = feeds_stand feeds h.0 (input ++ bytes_fed f.1 f.0) (marks ++ marks_fed f.1) k (h.1.1 counts) h.2 in
-      subst₂ (λ (x : List ℕ) (y : List (Spanned E)). StandsAt longest start x y after) (append_assoc input (bytes_fed f.1 f.0) (input_fed feeds)) (append_assoc marks (marks_fed f.1) (marks_answered feeds)) m
+  feeds_stand : (feeds : List (List ℕ × Result (Fed E) Stop)) (before : Feeder M E g) (input : List ℕ) (spans : List (Spanned E))
+      → StandsAt longest start input spans before → IsOpen before.stop → Feeds before feeds after
+      → StandsAt longest start (input ++ input_fed feeds) (spans ++ spans_answered feeds) after
+  feeds_stand [] before input spans s counts e =
+      subst (λ (f : Feeder M E g). StandsAt longest start (input ++ []) (spans ++ []) f) e (rw (append-nil input, append-nil spans) s)
+  feeds_stand (f ∷ feeds) before input spans s counts h =
+      let k = h.1.0 longest start input spans counts s in
+      let m = feeds_stand feeds h.0 (input ++ bytes_fed f.1 f.0) (spans ++ spans_fed f.1) k (h.1.1 counts) h.2 in
+      subst₂ (λ (x : List ℕ) (y : List (Spanned E)). StandsAt longest start x y after) (append_assoc input (bytes_fed f.1 f.0) (input_fed feeds)) (append_assoc spans (spans_fed f.1) (spans_answered feeds)) m
 
   feeds_further : (feeds : List (List ℕ × Result (Fed E) Stop)) (before : Feeder M E g) → Feeds before feeds after → NoneStopped feeds → after.place.offset ≡ before.place.offset + used_by feeds
   feeds_further [] before e all = omega (arith, ap (λ (f : Feeder M E g). f.place.offset) e)
@@ -37,12 +37,12 @@ module _ {M E : Type 0} {g : Ghosts M E} (longest : ℕ) (start : M) (after : Fe
   feeds_further ((piece, Err s) ∷ feeds) before h all = absurd (let bad = all.0 in cc bad)
 
   pub any_cutting : (feeds : List (List ℕ × Result (Fed E) Stop)) (before : Feeder M E g) → StandsAt longest start [] [] before → IsOpen before.stop → Feeds before feeds after
-      → (used : List ℕ) × Reads (Accepts g.automaton start) longest (input_fed feeds) used (marks_answered feeds) after.place (is_complete after) after.stop × (NoneStopped feeds → length used ≡ used_by feeds)
+      → (used : List ℕ) × Reads (Accepts g.automaton start) longest (input_fed feeds) used (spans_answered feeds) after.place (is_complete after) after.stop × (NoneStopped feeds → length used ≡ used_by feeds)
   any_cutting feeds before s counts h =
       let k = feeds_stand feeds before [] [] s counts h in
       let none : bytes s.1.letters ≡ [] = nothing_fed (bytes s.1.letters) s.1.left (sym s.1.input_is) in (
         bytes k.1.letters,
-        stands_reads g.automaton longest start (input_fed feeds) (marks_answered feeds) after.machine after.place after.first after.stop k.1 (is_complete after) refl,
+        stands_reads g.automaton longest start (input_fed feeds) (spans_answered feeds) after.machine after.place after.first after.stop k.1 (is_complete after) refl,
         λ all.
             let further = feeds_further feeds before h all in
             let begins : before.place.offset ≡ 0 = ap (λ (p : Place). p.offset) s.1.place_is ∙ (place_after-offset (bytes s.1.letters) ∙ ap (λ (x : List ℕ). length x) none) in

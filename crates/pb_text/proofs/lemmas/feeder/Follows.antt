@@ -2,7 +2,7 @@
 use Rattle.std.proofs.Common.{◌≡◌, ℕ, ◌<◌, ◌≤◌, List, [], ◌∷◌, ◌++◌, length, take, Option, refl, sym, ap, ◌∙◌, append_assoc, arith, length-append, subst, ◌⊎◌, inl, inr, eq-or-lt_of_le}
 use Rattle.std.proofs.Math.Seq.{take-length}
 use Rattle.std.proofs.lemmas.List.{append_cancel_left, append-nil, take-append-le}
-use Rattle.pb_text.specs.meaning.Spelling.{Letter, Item, plain, bytes, letters_of, bytes_of, marks_since}
+use Rattle.pb_text.specs.meaning.Spelling.{Letter, Item, plain, bytes, letters_of, bytes_of, spans_since}
 use Rattle.pb_text.specs.contract.Standing.{EndBy, Follows, IsJoined}
 use Rattle.pb_text.proofs.lemmas.machine.Residual.{Takes, IsResidual}
 use Rattle.pb_text.specs.declared.place.Place.{Place}
@@ -24,15 +24,15 @@ no_letters rest state (i ∷ items) r e =
     no_text [] r g e = refl
     no_text (x ∷ t) r g e = absurd (omega (arith, length-append g (x ∷ (t ++ r))))
 
-module _ {E : Type 0} (format old new : List (Item E) → Type 0) (put : List (Item E) → List (Item E) → Type 0) (letters : List Letter) (marks : List (Spanned E)) (first : Option Place) (l : Letter) (more : List (Spanned E)) (first' : Option Place)
-    (follows : Follows format old letters marks first) (takes : Takes old put l.byte new) (moves : Advances put l (bytes letters) first more first') (state : IsResidual old) (next : IsResidual new) where
+module _ {E : Type 0} (format old new : List (Item E) → Type 0) (put : List (Item E) → List (Item E) → Type 0) (letters : List Letter) (spans : List (Spanned E)) (first : Option Place) (l : Letter) (more : List (Spanned E)) (first' : Option Place)
+    (follows : Follows format old letters spans first) (takes : Takes old put l.byte new) (moves : Advances put l (bytes letters) first more first') (state : IsResidual old) (next : IsResidual new) where
   bytes_snoc : bytes (letters ++ l ∷ []) ≡ bytes letters ++ l.byte ∷ []
   bytes_snoc = bytes-append letters (l ∷ [])
 
-  joined : (later mid items : List (Item E)) → put later mid → IsJoined letters marks first mid items → IsJoined (letters ++ l ∷ []) (marks ++ more) first' later items
+  joined : (later mid items : List (Item E)) → put later mid → IsJoined letters spans first mid items → IsJoined (letters ++ l ∷ []) (spans ++ more) first' later items
   joined later mid items p j = record {
     letters_are = j.letters_are ∙ (ap (λ (x : List Letter). letters ++ x) (moves.letters_are later mid p) ∙ sym (append_assoc letters (l ∷ []) (letters_of later)));
-    marks_are = j.marks_are ∙ (ap (λ (x : List (Spanned E)). marks ++ x) (moves.marks_are later mid p) ∙ (sym (append_assoc marks more _) ∙ ap (λ (b : List ℕ). (marks ++ more) ++ marks_since first' b later) (sym bytes_snoc)));
+    spans_are = j.spans_are ∙ (ap (λ (x : List (Spanned E)). spans ++ x) (moves.spans_are later mid p) ∙ (sym (append_assoc spans more _) ∙ ap (λ (b : List ℕ). (spans ++ more) ++ spans_since first' b later) (sym bytes_snoc)));
   }
 
   -- nothing is complete before a byte that is taken
@@ -55,21 +55,21 @@ module _ {E : Type 0} (format old new : List (Item E) → Type 0) (put : List (I
   ends_sooner n (inl e) items f b = not_spelled items f (b ∙ (ap (λ (k : ℕ). take k (bytes letters)) (e ∙ sym (length-bytes letters)) ∙ take-length (bytes letters)))
   ends_sooner n (inr h) items f b = follows.alone n h items f b
 
-  pub step : EndBy (length (letters ++ l ∷ [])) more → Follows format new (letters ++ l ∷ []) (marks ++ more) first'
+  pub step : EndBy (length (letters ++ l ∷ [])) more → Follows format new (letters ++ l ∷ []) (spans ++ more) first'
   step ended = record {
     into = λ later r.
         let back = takes.into later r in
         let past = follows.into back.0 back.2 in
         (past.0, past.1, joined later back.0 past.0 back.1 past.2);
-    onto = λ items f front.
-        let e : bytes_of items ≡ bytes letters ++ (l.byte ∷ front.0) = front.1 ∙ (ap (λ (x : List ℕ). x ++ front.0) bytes_snoc ∙ append_assoc (bytes letters) (l.byte ∷ []) front.0) in
-        let o = follows.onto items f (l.byte ∷ front.0, e) in
-        let begins : bytes_of o.0 ≡ l.byte ∷ front.0 = append_cancel_left (bytes letters) (bytes_of o.0) (l.byte ∷ front.0) (sym (ap bytes o.2.letters_are ∙ bytes-append letters (letters_of o.0)) ∙ e) in
-        let t = takes.onto o.0 o.1 (front.0, begins) in
+    onto = λ items f prefix.
+        let e : bytes_of items ≡ bytes letters ++ (l.byte ∷ prefix.0) = prefix.1 ∙ (ap (λ (x : List ℕ). x ++ prefix.0) bytes_snoc ∙ append_assoc (bytes letters) (l.byte ∷ []) prefix.0) in
+        let o = follows.onto items f (l.byte ∷ prefix.0, e) in
+        let begins : bytes_of o.0 ≡ l.byte ∷ prefix.0 = append_cancel_left (bytes letters) (bytes_of o.0) (l.byte ∷ prefix.0) (sym (ap bytes o.2.letters_are ∙ bytes-append letters (letters_of o.0)) ∙ e) in
+        let t = takes.onto o.0 o.1 (prefix.0, begins) in
         (t.0, t.2, joined t.0 o.0 items t.1 o.2);
     alone = λ n h items f e.
         let le : n ≤ length letters = omega (arith, length-append letters (l ∷ [])) in
         let short : n ≤ length (bytes letters) = omega (arith, length-bytes letters) in
         ends_sooner n (eq-or-lt_of_le le) items f (e ∙ (ap (λ (x : List ℕ). take n x) bytes_snoc ∙ take-append-le n (bytes letters) (l.byte ∷ []) short));
-    ended = EndBy-append (length letters) (length (letters ++ l ∷ [])) marks more follows.ended (omega (arith, length-append letters (l ∷ []))) ended;
+    ended = EndBy-append (length letters) (length (letters ++ l ∷ [])) spans more follows.ended (omega (arith, length-append letters (l ∷ []))) ended;
   }

@@ -4,7 +4,7 @@ use Rattle.std.proofs.lemmas.List.{append-nil}
 use Rattle.std.proofs.lemmas.Bool.{false≢true}
 use Rattle.pb_text.specs.meaning.Spelling.{Letter, bytes, place_after, place_next, place_or}
 use Rattle.pb_text.specs.meaning.Reading.{last_numeral, byte_limit, AreShort}
-use Rattle.pb_text.specs.contract.Automaton.{Automaton, Go, End, Refuse, Accepts, Admits, Leads, behind, IsState, is_large, begins, begins_with}
+use Rattle.pb_text.specs.contract.Automaton.{Automaton, Go, End, Refuse, Accepts, Admits, Leads, state_after, IsState, is_large, begins, begins_with}
 use Rattle.pb_text.specs.engine.SpentBytes.{end_of, SpentSince}
 use Rattle.pb_text.specs.contract.Standing.{EndBy, Follows, Stands, Waits, Halts, opened}
 use Rattle.pb_text.specs.declared.place.Place.{Place}
@@ -29,12 +29,13 @@ before_end longest longest' end offset first e is le ne = omega (arith, is ∙ a
 
 module _ {S E : Type 0} (m : Automaton S E) where
   -- one more byte
-  leads_more : (start : S) (text : List ℕ) (old : S) (b : ℕ) (new : S) → Leads m start text old → behind m (m.step old b) ≡ Some new → Leads m start (text ++ b ∷ []) new
-  leads_more start [] old b new same taken = (new, subst (λ (x : S). behind m (m.step x b) ≡ Some new) same taken, refl)
+  leads_more : (start : S) (text : List ℕ) (old : S) (b : ℕ) (new : S) → Leads m start text old → state_after m (m.step old b) ≡ Some new → Leads m start (text ++ b ∷ []) new
+  leads_more start [] old b new same taken =
+      (new, subst (λ (x : S). state_after m (m.step x b) ≡ Some new) same taken, refl)
   leads_more start (c ∷ text) old b new (mid, first, rest) taken = (mid, first, leads_more mid text old b new rest taken)
 
-module _ {S E : Type 0} (m : Automaton S E) (longest : ℕ) (start old new : S) (input : List ℕ) (marks : List (Spanned E)) (place : Place) (first : Option Place)
-    (s : Stands m longest start input marks old place first None) (unfinished : m.done old ≡ false) (b : ℕ) where
+module _ {S E : Type 0} (m : Automaton S E) (longest : ℕ) (start old new : S) (input : List ℕ) (spans : List (Spanned E)) (place : Place) (first : Option Place)
+    (s : Stands m longest start input spans old place first None) (unfinished : m.done old ≡ false) (b : ℕ) where
   -- all the input was taken
   all_taken : Waits m old (end_of longest first) s.letters s.left place None → s.left ≡ []
   all_taken (inl d) = absurd (false≢true (sym unfinished ∙ d))
@@ -56,14 +57,14 @@ module _ {S E : Type 0} (m : Automaton S E) (longest : ℕ) (start old new : S) 
   longer = length-append s.letters (letter ∷ [])
 
   -- with one byte taken
-  moved : behind m (m.step old b) ≡ Some new → (more : List (Spanned E)) (first' : Option Place) → Follows (Accepts m start) (Accepts m new) (s.letters ++ letter ∷ []) (marks ++ more) first' → IsState m new → is_some first' ≡ m.begun new
+  moved : state_after m (m.step old b) ≡ Some new → (more : List (Spanned E)) (first' : Option Place) → Follows (Accepts m start) (Accepts m new) (s.letters ++ letter ∷ []) (spans ++ more) first' → IsState m new → is_some first' ≡ m.begun new
       → (is_some first' ≡ true → m.done new ≡ false) → length s.letters + 1 ≤ end_of longest first' → AreShort longest (length s.letters + 1) more → SpentSince (length s.letters + 1) first' (m.spent new)
-      → Stands m longest start (input ++ b ∷ []) (marks ++ more) new (place_next place b) first' None
+      → Stands m longest start (input ++ b ∷ []) (spans ++ more) new (place_next place b) first' None
   moved taken more first' follows state begins owed within short spent =
       let text : bytes (s.letters ++ letter ∷ []) ≡ bytes s.letters ++ b ∷ [] = bytes-append s.letters (letter ∷ []) in
       let le : length s.letters ≤ length s.letters + 1 = omega arith in
-      let all : AreShort longest (length s.letters + 1) (marks ++ more) =
-      AreShort-append longest (length s.letters + 1) marks more (AreShort-grown longest (length s.letters) (length s.letters + 1) marks s.follows.ended le s.short) short in
+      let all : AreShort longest (length s.letters + 1) (spans ++ more) =
+      AreShort-append longest (length s.letters + 1) spans more (AreShort-grown longest (length s.letters) (length s.letters + 1) spans s.follows.ended le s.short) short in
       record {
         letters = s.letters ++ letter ∷ [];
         left = [];
@@ -77,14 +78,14 @@ module _ {S E : Type 0} (m : Automaton S E) (longest : ℕ) (start old new : S) 
         number_is = sym (last_numeral-snoc s.letters letter);
         some = s.some;
         within = omega (arith, longer, within);
-        short = subst (λ (n : ℕ). AreShort longest n (marks ++ more)) (sym longer) all;
+        short = subst (λ (n : ℕ). AreShort longest n (spans ++ more)) (sym longer) all;
         spent = subst (λ (n : ℕ). SpentSince n first' (m.spent new)) (sym longer) spent;
         waits = inr refl;
       }
 
   module _ (goes : m.step old b ≡ Go new) (state : IsState m new) (lt : place.offset < end_of longest first) where
-    taken : behind m (m.step old b) ≡ Some new
-    taken = ap (behind m) goes
+    taken : state_after m (m.step old b) ≡ Some new
+    taken = ap (state_after m) goes
 
     owes : m.done new ≡ false
     owes = s.is_state.owes b new goes
@@ -98,37 +99,37 @@ module _ {S E : Type 0} (m : Automaton S E) (longest : ℕ) (start old new : S) 
     after : Option Place → Bool → Option Place
     after q starts = opened q starts (place_after (bytes s.letters))
 
-    from_started : (p : Place) → Some p ≡ first → (starts : Bool) → Stands m longest start (input ++ b ∷ []) (marks ++ []) new (place_next place b) (opened (Some p) starts place) None
+    from_started : (p : Place) → Some p ≡ first → (starts : Bool) → Stands m longest start (input ++ b ∷ []) (spans ++ []) new (place_next place b) (opened (Some p) starts place) None
     from_started p same starts =
         let begun : m.begun old ≡ true = sym s.begun_is ∙ ap is_some (sym same) in
         let inside : m.begun new ≡ true = s.is_state.stays begun b new goes in
-        let follows : Follows (Accepts m start) (Accepts m old) s.letters marks (Some p) = subst (λ (q : Option Place). Follows (Accepts m start) (Accepts m old) s.letters marks q) (sym same) s.follows in
+        let follows : Follows (Accepts m start) (Accepts m old) s.letters spans (Some p) = subst (λ (q : Option Place). Follows (Accepts m start) (Accepts m old) s.letters spans q) (sym same) s.follows in
         let spent : SpentSince (length s.letters) (Some p) (m.spent old) = subst (λ (q : Option Place). SpentSince (length s.letters) q (m.spent old)) (sym same) s.spent in
         let less : place.offset < end_of longest (Some p) = subst (λ (q : Option Place). place.offset < end_of longest q) (sym same) lt in
         moved taken [] (Some p)
-        (step (Accepts m start) (Accepts m old) (Accepts m new) (Put true letter) s.letters marks (Some p) letter [] (Some p) follows (takes_within m old new b goes inside owes state) (letter_advances letter (bytes s.letters) (Some p)) (residual m old s.is_state) (residual m new state) tt)
+        (step (Accepts m start) (Accepts m old) (Accepts m new) (Put true letter) s.letters spans (Some p) letter [] (Some p) follows (takes_within m old new b goes inside owes state) (letter_advances letter (bytes s.letters) (Some p)) (residual m old s.is_state) (residual m new state) tt)
         state (sym inside) (λ e. owes) (omega (arith, less, offset_is)) tt (omega (arith, spent, spends))
 
     spent_nothing : m.begun old ≡ false → m.spent old ≡ 0
     spent_nothing e = s.is_state.empties e
 
-    from_begun : None ≡ first → m.begun old ≡ false → m.begun new ≡ true → Stands m longest start (input ++ b ∷ []) (marks ++ []) new (place_next place b) (Some place) None
+    from_begun : None ≡ first → m.begun old ≡ false → m.begun new ≡ true → Stands m longest start (input ++ b ∷ []) (spans ++ []) new (place_next place b) (Some place) None
     from_begun same out inside =
-        let follows : Follows (Accepts m start) (Accepts m old) s.letters marks None = subst (λ (q : Option Place). Follows (Accepts m start) (Accepts m old) s.letters marks q) (sym same) s.follows in
+        let follows : Follows (Accepts m start) (Accepts m old) s.letters spans None = subst (λ (q : Option Place). Follows (Accepts m start) (Accepts m old) s.letters spans q) (sym same) s.follows in
         let less : place.offset < byte_limit = subst (λ (q : Option Place). place.offset < end_of longest q) (sym same) lt in
-        let k = step (Accepts m start) (Accepts m old) (Accepts m new) (Put true letter) s.letters marks None letter [] (Some (place_after (bytes s.letters))) follows (takes_within m old new b goes inside owes state) (letter_advances letter (bytes s.letters) None) (residual m old s.is_state) (residual m new state) tt in
-        moved taken [] (Some place) (subst (λ (p : Place). Follows (Accepts m start) (Accepts m new) (s.letters ++ letter ∷ []) (marks ++ []) (Some p)) (sym s.place_is) k)
+        let k = step (Accepts m start) (Accepts m old) (Accepts m new) (Put true letter) s.letters spans None letter [] (Some (place_after (bytes s.letters))) follows (takes_within m old new b goes inside owes state) (letter_advances letter (bytes s.letters) None) (residual m old s.is_state) (residual m new state) tt in
+        moved taken [] (Some place) (subst (λ (p : Place). Follows (Accepts m start) (Accepts m new) (s.letters ++ letter ∷ []) (spans ++ []) (Some p)) (sym s.place_is) k)
         state (sym inside) (λ e. owes) (omega (arith, less, offset_is, s.some)) tt (omega (arith, offset_is, spends, spent_nothing out))
 
-    from_between : None ≡ first → m.begun old ≡ false → m.begun new ≡ false → Stands m longest start (input ++ b ∷ []) (marks ++ []) new (place_next place b) None None
+    from_between : None ≡ first → m.begun old ≡ false → m.begun new ≡ false → Stands m longest start (input ++ b ∷ []) (spans ++ []) new (place_next place b) None None
     from_between same before out =
-        let follows : Follows (Accepts m start) (Accepts m old) s.letters marks None = subst (λ (q : Option Place). Follows (Accepts m start) (Accepts m old) s.letters marks q) (sym same) s.follows in
+        let follows : Follows (Accepts m start) (Accepts m old) s.letters spans None = subst (λ (q : Option Place). Follows (Accepts m start) (Accepts m old) s.letters spans q) (sym same) s.follows in
         let less : place.offset < byte_limit = subst (λ (q : Option Place). place.offset < end_of longest q) (sym same) lt in
         moved taken [] None
-        (step (Accepts m start) (Accepts m old) (Accepts m new) (Put false letter) s.letters marks None letter [] None follows (takes_between m old new b goes out owes state) (gap_advances letter (bytes s.letters) None) (residual m old s.is_state) (residual m new state) tt)
+        (step (Accepts m start) (Accepts m old) (Accepts m new) (Put false letter) s.letters spans None letter [] None follows (takes_between m old new b goes out owes state) (gap_advances letter (bytes s.letters) None) (residual m old s.is_state) (residual m new state) tt)
         state (sym out) (λ e. absurd (false≢true e)) (omega (arith, less, offset_is)) tt (state.empties out)
 
-    from_nothing : None ≡ first → m.begun old ≡ false → (here : Bool) → m.begun new ≡ here → Stands m longest start (input ++ b ∷ []) (marks ++ []) new (place_next place b) (opened None here place) None
+    from_nothing : None ≡ first → m.begun old ≡ false → (here : Bool) → m.begun new ≡ here → Stands m longest start (input ++ b ∷ []) (spans ++ []) new (place_next place b) (opened None here place) None
     from_nothing same out true inside = from_begun same out inside
     from_nothing same out false between = from_between same out between
 
@@ -138,19 +139,19 @@ module _ {S E : Type 0} (m : Automaton S E) (longest : ℕ) (start old new : S) 
     begins_here : m.begun old ≡ false → m.begun new ≡ begins m old b
     begins_here out = sym (begins_is ∙ ap (λ (t : Bool). begins_with m t (Go new)) out)
 
-    by_first : (q : Option Place) → q ≡ first → Stands m longest start (input ++ b ∷ []) (marks ++ []) new (place_next place b) (opened q (begins m old b) place) None
+    by_first : (q : Option Place) → q ≡ first → Stands m longest start (input ++ b ∷ []) (spans ++ []) new (place_next place b) (opened q (begins m old b) place) None
     by_first (Some p) same = from_started p same (begins m old b)
     by_first None same = from_nothing same (none_begun same) (begins m old b) (begins_here (none_begun same))
 
-    pub stands_go : Stands m longest start (input ++ b ∷ []) (marks ++ []) new (place_next place b) (opened first (begins m old b) place) None
+    pub stands_go : Stands m longest start (input ++ b ∷ []) (spans ++ []) new (place_next place b) (opened first (begins m old b) place) None
     stands_go = by_first first refl
 
-  mark_fits : (q : Option Place) (e : E) (past : Place) → past.offset ≡ length s.letters + 1 → place.offset < end_of longest q → (let n : Spanned E = record { event = e; first = place_or q place; past = past } in AreShort longest (length s.letters + 1) (n ∷ []))
-  mark_fits None e past at lt = (omega (arith, offset_is, s.some), tt)
-  mark_fits (Some p) e past at lt = (omega (arith, offset_is), tt)
+  span_fits : (q : Option Place) (e : E) (past : Place) → past.offset ≡ length s.letters + 1 → place.offset < end_of longest q → (let n : Spanned E = record { event = e; first = place_or q place; past = past } in AreShort longest (length s.letters + 1) (n ∷ []))
+  span_fits None e past at lt = (omega (arith, offset_is, s.some), tt)
+  span_fits (Some p) e past at lt = (omega (arith, offset_is), tt)
 
   pub stands_event : (e : E) → m.step old b ≡ End e new → IsState m new → place.offset < end_of longest first
-      → Stands m longest start (input ++ b ∷ []) (marks ++ record { event = e; first = place_or first place; past = place_next place b } ∷ []) new (place_next place b) None None
+      → Stands m longest start (input ++ b ∷ []) (spans ++ record { event = e; first = place_or first place; past = place_next place b } ∷ []) new (place_next place b) None None
   stands_event e ends state lt =
       let here : List ℕ = bytes s.letters in
       let out : m.begun new ≡ false = s.is_state.closes b e new ends in
@@ -160,19 +161,19 @@ module _ {S E : Type 0} (m : Automaton S E) (longest : ℕ) (start old new : S) 
       let past_offset : (place_next place b).offset ≡ length s.letters + 1 = ap (λ (x : Place). x.offset) next_place ∙ omega (arith, place_after-offset (here ++ b ∷ []), length-append here (b ∷ []), length-bytes s.letters) in
       let ended : EndBy (length (s.letters ++ letter ∷ [])) (q ∷ []) =
       (omega (arith, place_after-offset (here ++ b ∷ []), length-append here (b ∷ []), length-bytes s.letters, longer), tt) in
-      let k = step (Accepts m start) (Accepts m old) (Accepts m new) (PutLast letter e) s.letters marks first letter (q ∷ []) None s.follows (takes_last m old new b e ends out state) (last_advances letter e here first) (residual m old s.is_state) (residual m new state) ended in
-      moved (ap (behind m) ends) (n ∷ []) None (subst (λ (r : Spanned E). Follows (Accepts m start) (Accepts m new) (s.letters ++ letter ∷ []) (marks ++ r ∷ []) None) same k)
-      state (sym out) (λ h. absurd (false≢true h)) (omega (arith, end_limit longest first, lt, offset_is)) (mark_fits first e (place_next place b) past_offset lt) (state.empties out)
+      let k = step (Accepts m start) (Accepts m old) (Accepts m new) (PutLast letter e) s.letters spans first letter (q ∷ []) None s.follows (takes_last m old new b e ends out state) (last_advances letter e here first) (residual m old s.is_state) (residual m new state) ended in
+      moved (ap (state_after m) ends) (n ∷ []) None (subst (λ (r : Spanned E). Follows (Accepts m start) (Accepts m new) (s.letters ++ letter ∷ []) (spans ++ r ∷ []) None) same k)
+      state (sym out) (λ h. absurd (false≢true h)) (omega (arith, end_limit longest first, lt, offset_is)) (span_fits first e (place_next place b) past_offset lt) (state.empties out)
 
   -- a stop at the byte, with the machine unchanged
   stopped : (stop : Stop) → stop.place ≡ place → Halts m old (end_of longest first) s.letters (b ∷ []) stop.why → new ≡ old
-      → Stands m longest start (input ++ b ∷ []) (marks ++ []) new place first (Some stop)
+      → Stands m longest start (input ++ b ∷ []) (spans ++ []) new place first (Some stop)
   stopped stop at halts same =
-      let k : Stands m longest start (input ++ b ∷ []) (marks ++ []) old place first (Some stop) = record {
+      let k : Stands m longest start (input ++ b ∷ []) (spans ++ []) old place first (Some stop) = record {
         letters = s.letters;
         left = b ∷ [];
         input_is = ap (λ (x : List ℕ). x ++ b ∷ []) input_taken;
-        follows = subst (λ (x : List (Spanned E)). Follows (Accepts m start) (Accepts m old) s.letters x first) (sym (append-nil marks)) s.follows;
+        follows = subst (λ (x : List (Spanned E)). Follows (Accepts m start) (Accepts m old) s.letters x first) (sym (append-nil spans)) s.follows;
         leads = s.leads;
         is_state = s.is_state;
         place_is = s.place_is;
@@ -181,26 +182,26 @@ module _ {S E : Type 0} (m : Automaton S E) (longest : ℕ) (start old new : S) 
         number_is = s.number_is;
         some = s.some;
         within = s.within;
-        short = subst (λ (x : List (Spanned E)). AreShort longest (length s.letters) x) (sym (append-nil marks)) s.short;
+        short = subst (λ (x : List (Spanned E)). AreShort longest (length s.letters) x) (sym (append-nil spans)) s.short;
         spent = s.spent;
         waits = (unfinished, at, halts);
-      } in subst (λ (x : S). Stands m longest start (input ++ b ∷ []) (marks ++ []) x place first (Some stop)) (sym same) k
+      } in subst (λ (x : S). Stands m longest start (input ++ b ∷ []) (spans ++ []) x place first (Some stop)) (sym same) k
 
   shorter : place.offset < end_of longest first → length s.letters < end_of longest first
   shorter lt = omega (arith, offset_is)
 
   pub stands_no : place.offset < end_of longest first → m.step old b ≡ Refuse → is_large m old b ≡ false → new ≡ old
-      → Stands m longest start (input ++ b ∷ []) (marks ++ []) new place first (Some (record { place = place; why = Byte b }))
+      → Stands m longest start (input ++ b ∷ []) (spans ++ []) new place first (Some (record { place = place; why = Byte b }))
   stands_no lt refused small same = stopped (record { place = place; why = Byte b }) refl ([], refl, refused, small, shorter lt) same
 
   pub stands_large : place.offset < end_of longest first → m.step old b ≡ Refuse → is_large m old b ≡ true → new ≡ old
-      → Stands m longest start (input ++ b ∷ []) (marks ++ []) new place first (Some (record { place = place; why = TooLarge }))
+      → Stands m longest start (input ++ b ∷ []) (spans ++ []) new place first (Some (record { place = place; why = TooLarge }))
   stands_large lt refused large same = stopped (record { place = place; why = TooLarge }) refl (b, [], refl, refused, large, shorter lt) same
 
   pub stands_lacks : place.offset < end_of longest first → IsTrue (m.asks old b) → Admits m old b → new ≡ old
-      → Stands m longest start (input ++ b ∷ []) (marks ++ []) new place first (Some (record { place = place; why = Memory }))
+      → Stands m longest start (input ++ b ∷ []) (spans ++ []) new place first (Some (record { place = place; why = Memory }))
   stands_lacks lt asks admits same = stopped (record { place = place; why = Memory }) refl (b, [], refl, admits, asks, shorter lt) same
 
   pub stands_long : place.offset ≡ end_of longest first → new ≡ old
-      → Stands m longest start (input ++ b ∷ []) (marks ++ []) new place first (Some (record { place = place; why = TooLong }))
+      → Stands m longest start (input ++ b ∷ []) (spans ++ []) new place first (Some (record { place = place; why = TooLong }))
   stands_long e same = stopped (record { place = place; why = TooLong }) refl ((λ h. cc), omega (arith, offset_is)) same

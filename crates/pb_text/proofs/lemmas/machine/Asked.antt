@@ -2,7 +2,7 @@
 -- other crates.
 use Rattle.std.proofs.Common.{◌≡◌, ℕ, List, [], ◌∷◌, ◌++◌, true, false, IsTrue, Some, refl, sym, ap, ap₂, ◌∙◌, subst, append_assoc, append-nil, ◌⊎◌, inl, inr}
 use Rattle.std.proofs.lemmas.Bool.{false≢true}
-use Rattle.pb_text.specs.contract.Automaton.{Automaton, Next, Go, End, Skips, Reads, Accepts, behind, Leads}
+use Rattle.pb_text.specs.contract.Automaton.{Automaton, Next, Go, End, Skips, Reads, Accepts, state_after, Leads}
 use Rattle.pb_text.specs.meaning.Asking.{IsWithin}
 use Rattle.pb_text.specs.meaning.Spelling.{Letter, Item, plain, bytes, letters_of, bytes_of}
 use Rattle.pb_text.proofs.lemmas.text.FirstBytes.{head, tail}
@@ -22,80 +22,81 @@ item_bytes i rest =
     ∙ ap₂ (λ (x y : List ℕ). x ++ y) (bytes-plain i.gap) (bytes-append i.text (letters_of rest))
 
 module _ {S E : Type 0} (m : Automaton S E) where
-  taken : (x : Next S E) (mid new : S) → behind m x ≡ Some mid → x ≡ Go new → mid ≡ new
-  taken x mid new e f = let k : behind m (Go new) ≡ Some mid = subst (λ (y : Next S E). behind m y ≡ Some mid) f e in cc
+  taken : (x : Next S E) (mid new : S) → state_after m x ≡ Some mid → x ≡ Go new → mid ≡ new
+  taken x mid new e f =
+      let k : state_after m (Go new) ≡ Some mid = subst (λ (y : Next S E). state_after m y ≡ Some mid) f e in cc
 
-  ended : (x : Next S E) (e : E) (mid new : S) → behind m x ≡ Some mid → x ≡ End e new → mid ≡ new
-  ended x e mid new h f = let k : behind m (End e new) ≡ Some mid = subst (λ (y : Next S E). behind m y ≡ Some mid) f h in cc
+  ended : (x : Next S E) (e : E) (mid new : S) → state_after m x ≡ Some mid → x ≡ End e new → mid ≡ new
+  ended x e mid new h f = let k : state_after m (End e new) ≡ Some mid = subst (λ (y : Next S E). state_after m y ≡ Some mid) f h in cc
 
   -- What must be known of the automaton: of the states between statements, and of those within one.
   module _ (Idle : S → Type 0) (Asks : E → List ℕ → ℕ → Type 0) where
     pub record IsAsked : Type 0 where
       pub gaps : (s next : S) (b : ℕ) → Idle s → m.step s b ≡ Go next → m.begun next ≡ false → Idle next × (m.asks s b ≡ false)
       pub ends : (s next : S) (t : List Letter) (e : E) → Idle s → Reads m s t e next → Idle next
-      pub texts : (at s next : S) (front rest : List Letter) (l : Letter) (e : E) → Idle at → Walks m at front s → Reads m s (l ∷ rest) e next
-          → IsTrue (m.asks s l.byte) → Asks e (bytes front) l.byte
+      pub texts : (at s next : S) (prefix rest : List Letter) (l : Letter) (e : E) → Idle at → Walks m at prefix s → Reads m s (l ∷ rest) e next
+          → IsTrue (m.asks s l.byte) → Asks e (bytes prefix) l.byte
 
     module _ (known : IsAsked) (state : S) (b : ℕ) (more : List ℕ) (asks : IsTrue (m.asks state b)) where
-      in_gap : (gap : List ℕ) (s at : S) (behind_it used : List ℕ) → Idle s → Skips m s gap at → Leads m s used state → gap ++ behind_it ≡ used ++ b ∷ more
-          → (left : List ℕ) × (used ≡ gap ++ left) × Leads m at left state × Idle at × (behind_it ≡ left ++ b ∷ more)
-      in_gap [] s at behind_it used i k l e = (used, refl, subst (λ (x : S). Leads m x used state) (sym k) l, subst Idle (sym k) i, e)
-      in_gap (c ∷ gap) s at behind_it [] i (mid, g, o, k) l e =
+      in_gap : (gap : List ℕ) (s at : S) (after_it used : List ℕ) → Idle s → Skips m s gap at → Leads m s used state → gap ++ after_it ≡ used ++ b ∷ more
+          → (left : List ℕ) × (used ≡ gap ++ left) × Leads m at left state × Idle at × (after_it ≡ left ++ b ∷ more)
+      in_gap [] s at after_it used i k l e = (used, refl, subst (λ (x : S). Leads m x used state) (sym k) l, subst Idle (sym k) i, e)
+      in_gap (c ∷ gap) s at after_it [] i (mid, g, o, k) l e =
           let no : m.asks s c ≡ false = (known.gaps s mid c i g o).1 in
-          let yes : m.asks s c ≡ true = subst (λ (x : ℕ). m.asks s x ≡ true) (sym (head c b (gap ++ behind_it) more e)) (subst (λ (x : S). m.asks x b ≡ true) l asks) in
+          let yes : m.asks s c ≡ true = subst (λ (x : ℕ). m.asks s x ≡ true) (sym (head c b (gap ++ after_it) more e)) (subst (λ (x : S). m.asks x b ≡ true) l asks) in
           absurd (false≢true (sym no ∙ yes))
-      in_gap (c ∷ gap) s at behind_it (d ∷ used) i (mid, g, o, k) (next, f, l) e =
-          let same : d ≡ c = sym (head c d (gap ++ behind_it) (used ++ b ∷ more) e) in
+      in_gap (c ∷ gap) s at after_it (d ∷ used) i (mid, g, o, k) (next, f, l) e =
+          let same : d ≡ c = sym (head c d (gap ++ after_it) (used ++ b ∷ more) e) in
           let one : next ≡ mid = taken (m.step s d) next mid f (ap (m.step s) same ∙ g) in
-          let r = in_gap gap mid at behind_it used (known.gaps s mid c i g o).0 k (subst (λ (x : S). Leads m x used state) one l) (tail c d (gap ++ behind_it) (used ++ b ∷ more) e) in
+          let r = in_gap gap mid at after_it used (known.gaps s mid c i g o).0 k (subst (λ (x : S). Leads m x used state) one l) (tail c d (gap ++ after_it) (used ++ b ∷ more) e) in
           (r.0, put d c used (gap ++ r.0) same r.1, r.2, r.3, r.4)
 
       -- the byte is in the text, or comes after it
       abbrev InText : List Letter → List ℕ → List ℕ → E → S → List ℕ → Type 0
-      InText t before used e after behind_it =
+      InText t before used e after after_it =
           ((later : List ℕ) × (bytes t ≡ used ++ b ∷ later) × Asks e (before ++ used) b)
-          ⊎ ((left : List ℕ) × (used ≡ bytes t ++ left) × Leads m after left state × (behind_it ≡ left ++ b ∷ more))
+          ⊎ ((left : List ℕ) × (used ≡ bytes t ++ left) × Leads m after left state × (after_it ≡ left ++ b ∷ more))
 
-      here : (at cur after : S) (front rest : List Letter) (l : Letter) (e : E) → Idle at → Walks m at front cur → Reads m cur (l ∷ rest) e after → state ≡ cur → l.byte ≡ b
-          → Asks e (bytes front ++ []) b
-      here at cur after front rest l e i w r same byte =
+      here : (at cur after : S) (prefix rest : List Letter) (l : Letter) (e : E) → Idle at → Walks m at prefix cur → Reads m cur (l ∷ rest) e after → state ≡ cur → l.byte ≡ b
+          → Asks e (bytes prefix ++ []) b
+      here at cur after prefix rest l e i w r same byte =
           let a : IsTrue (m.asks cur l.byte) = subst (λ (x : ℕ). m.asks cur x ≡ true) (sym byte) (subst (λ (x : S). m.asks x b ≡ true) same asks) in
-          subst (λ (x : List ℕ). Asks e x b) (sym (append-nil (bytes front))) (subst (λ (x : ℕ). Asks e (bytes front) x) byte (known.texts at cur after front rest l e i w r a))
+          subst (λ (x : List ℕ). Asks e x b) (sym (append-nil (bytes prefix))) (subst (λ (x : ℕ). Asks e (bytes prefix) x) byte (known.texts at cur after prefix rest l e i w r a))
 
-      moved : (t front : List Letter) (l : Letter) (d : ℕ) (used : List ℕ) (e : E) (after : S) (behind_it : List ℕ) → d ≡ l.byte → InText t (bytes (front ++ l ∷ [])) used e after behind_it
-          → InText (l ∷ t) (bytes front) (d ∷ used) e after behind_it
-      moved t front l d used e after behind_it same (inl (later, h, a)) =
-          let front_is : bytes (front ++ l ∷ []) ++ used ≡ bytes front ++ d ∷ used =
-          ap (λ (x : List ℕ). x ++ used) (bytes-append front (l ∷ [])) ∙ (append_assoc (bytes front) (l.byte ∷ []) used ∙ ap (λ (x : ℕ). bytes front ++ x ∷ used) (sym same)) in
-          inl (later, put l.byte d (bytes t) (used ++ b ∷ later) (sym same) h, subst (λ (x : List ℕ). Asks e x b) front_is a)
-      moved t front l d used e after behind_it same (inr (left, h, k, j)) = inr (left, put d l.byte used (bytes t ++ left) same h, k, j)
+      moved : (t prefix : List Letter) (l : Letter) (d : ℕ) (used : List ℕ) (e : E) (after : S) (after_it : List ℕ) → d ≡ l.byte → InText t (bytes (prefix ++ l ∷ [])) used e after after_it
+          → InText (l ∷ t) (bytes prefix) (d ∷ used) e after after_it
+      moved t prefix l d used e after after_it same (inl (later, h, a)) =
+          let prefix_is : bytes (prefix ++ l ∷ []) ++ used ≡ bytes prefix ++ d ∷ used =
+          ap (λ (x : List ℕ). x ++ used) (bytes-append prefix (l ∷ [])) ∙ (append_assoc (bytes prefix) (l.byte ∷ []) used ∙ ap (λ (x : ℕ). bytes prefix ++ x ∷ used) (sym same)) in
+          inl (later, put l.byte d (bytes t) (used ++ b ∷ later) (sym same) h, subst (λ (x : List ℕ). Asks e x b) prefix_is a)
+      moved t prefix l d used e after after_it same (inr (left, h, k, j)) = inr (left, put d l.byte used (bytes t ++ left) same h, k, j)
 
-      in_text : (t front : List Letter) (at cur after : S) (e : E) (behind_it used : List ℕ) → Idle at → Walks m at front cur → Reads m cur t e after → Leads m cur used state
-          → bytes t ++ behind_it ≡ used ++ b ∷ more → InText t (bytes front) used e after behind_it
-      in_text [] front at cur after e behind_it used i w r l q = absurd r
-      in_text (l ∷ []) front at cur after e behind_it [] i w r lead q =
-          let byte : l.byte ≡ b = head l.byte b behind_it more q in
-          inl ([], ap (λ (x : ℕ). x ∷ []) byte, here at cur after front [] l e i w r lead byte)
-      in_text (l ∷ []) front at cur after e behind_it (d ∷ used) i w (g, n) (next, f, lead) q =
-          let same : d ≡ l.byte = sym (head l.byte d behind_it (used ++ b ∷ more) q) in
+      in_text : (t prefix : List Letter) (at cur after : S) (e : E) (after_it used : List ℕ) → Idle at → Walks m at prefix cur → Reads m cur t e after → Leads m cur used state
+          → bytes t ++ after_it ≡ used ++ b ∷ more → InText t (bytes prefix) used e after after_it
+      in_text [] prefix at cur after e after_it used i w r l q = absurd r
+      in_text (l ∷ []) prefix at cur after e after_it [] i w r lead q =
+          let byte : l.byte ≡ b = head l.byte b after_it more q in
+          inl ([], ap (λ (x : ℕ). x ∷ []) byte, here at cur after prefix [] l e i w r lead byte)
+      in_text (l ∷ []) prefix at cur after e after_it (d ∷ used) i w (g, n) (next, f, lead) q =
+          let same : d ≡ l.byte = sym (head l.byte d after_it (used ++ b ∷ more) q) in
           let one : next ≡ after = ended (m.step cur d) e next after f (ap (m.step cur) same ∙ g) in
-          inr (used, put d l.byte used used same refl, subst (λ (x : S). Leads m x used state) one lead, tail l.byte d behind_it (used ++ b ∷ more) q)
-      in_text (l ∷ k ∷ t) front at cur after e behind_it [] i w r lead q =
-          let byte : l.byte ≡ b = head l.byte b (bytes (k ∷ t) ++ behind_it) more q in
-          inl (bytes (k ∷ t), put l.byte b (bytes (k ∷ t)) (bytes (k ∷ t)) byte refl, here at cur after front (k ∷ t) l e i w r lead byte)
-      in_text (l ∷ k ∷ t) front at cur after e behind_it (d ∷ used) i w (mid, g, o, n, r) (next, f, lead) q =
-          let same : d ≡ l.byte = sym (head l.byte d (bytes (k ∷ t) ++ behind_it) (used ++ b ∷ more) q) in
+          inr (used, put d l.byte used used same refl, subst (λ (x : S). Leads m x used state) one lead, tail l.byte d after_it (used ++ b ∷ more) q)
+      in_text (l ∷ k ∷ t) prefix at cur after e after_it [] i w r lead q =
+          let byte : l.byte ≡ b = head l.byte b (bytes (k ∷ t) ++ after_it) more q in
+          inl (bytes (k ∷ t), put l.byte b (bytes (k ∷ t)) (bytes (k ∷ t)) byte refl, here at cur after prefix (k ∷ t) l e i w r lead byte)
+      in_text (l ∷ k ∷ t) prefix at cur after e after_it (d ∷ used) i w (mid, g, o, n, r) (next, f, lead) q =
+          let same : d ≡ l.byte = sym (head l.byte d (bytes (k ∷ t) ++ after_it) (used ++ b ∷ more) q) in
           let one : next ≡ mid = taken (m.step cur d) next mid f (ap (m.step cur) same ∙ g) in
-          moved (k ∷ t) front l d used e after behind_it same
-          (in_text (k ∷ t) (front ++ l ∷ []) at mid after e behind_it used i (walks_more m front l at cur mid w g o n) r (subst (λ (x : S). Leads m x used state) one lead)
-          (tail l.byte d (bytes (k ∷ t) ++ behind_it) (used ++ b ∷ more) q))
+          moved (k ∷ t) prefix l d used e after after_it same
+          (in_text (k ∷ t) (prefix ++ l ∷ []) at mid after e after_it used i (walks_more m prefix l at cur mid w g o n) r (subst (λ (x : S). Leads m x used state) one lead)
+          (tail l.byte d (bytes (k ∷ t) ++ after_it) (used ++ b ∷ more) q))
 
       first_item : (i : Item E) (rest : List (Item E)) (used left : List ℕ) (after : S) → used ≡ i.gap ++ left → InText i.text [] left i.event after (bytes_of rest)
-          → ((behind_it : List ℕ) → Leads m after behind_it state → bytes_of rest ≡ behind_it ++ b ∷ more → IsWithin Asks rest behind_it b) → IsWithin Asks (i ∷ rest) used b
+          → ((after_it : List ℕ) → Leads m after after_it state → bytes_of rest ≡ after_it ++ b ∷ more → IsWithin Asks rest after_it b) → IsWithin Asks (i ∷ rest) used b
       first_item i rest used left after e (inl (later, h, a)) further =
           record { done = []; item = i; rest = rest; text = left; more = later; items_are = refl; used_are = e; text_is = h; asks = a }
-      first_item i rest used left after e (inr (behind_it, h, k, j)) further =
-          let w = further behind_it k j in
+      first_item i rest used left after e (inr (after_it, h, k, j)) further =
+          let w = further after_it k j in
           record {
             done = i ∷ w.done;
             item = w.item;
@@ -116,7 +117,7 @@ module _ {S E : Type 0} (m : Automaton S E) where
       asked (j ∷ rest) s used i (at, after, k, r, a) l e =
           let g = in_gap j.gap s at (bytes j.text ++ bytes_of rest) used i k l (sym (item_bytes j rest) ∙ e) in
           let t = in_text j.text [] at at after j.event (bytes_of rest) g.0 g.3 refl r g.2 g.4 in
-          first_item j rest used g.0 after g.1 t (λ behind_it x y. asked rest after behind_it (known.ends at after j.text j.event g.3 r) a x y)
+          first_item j rest used g.0 after g.1 t (λ after_it x y. asked rest after after_it (known.ends at after j.text j.event g.3 r) a x y)
 
     -- after these bytes of what a state accepts
     pub asks_within : IsAsked → (start : S) (used : List ℕ) (b : ℕ) → Idle start → (state : S) → Leads m start used state → IsTrue (m.asks state b)

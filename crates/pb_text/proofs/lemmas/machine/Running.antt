@@ -83,24 +83,24 @@ module _ {S E : Type 0} (m : Automaton S E) where
   runs_unfinished old [] new state unfinished same = subst (λ (x : S). m.done x ≡ false) (sym same) unfinished
   runs_unfinished old (b ∷ text) new state unfinished (mid, goes, is, rest) = runs_unfinished mid text new is (state.owes b mid goes) rest
 
-module _ {S E : Type 0} (m : Automaton S E) (longest : ℕ) (start : S) (marks : List (Spanned E)) where
+module _ {S E : Type 0} (m : Automaton S E) (longest : ℕ) (start : S) (spans : List (Spanned E)) where
   -- a statement that was open stays open, with the same beginning
   pub stays_open : (first : Option Place) (starts : Bool) (place : Place) → is_some first ≡ true → opened first starts place ≡ first
   stays_open (Some p) starts place e = refl
   stays_open None starts place e = cc e
 
   -- bytes of the statement that has begun preserve `Stands`, for the input extended by them
-  pub stands_run : (old : S) (text : List ℕ) (new : S) (input : List ℕ) (place : Place) (first : Option Place) → Stands m longest start input marks old place first None
+  pub stands_run : (old : S) (text : List ℕ) (new : S) (input : List ℕ) (place : Place) (first : Option Place) → Stands m longest start input spans old place first None
       → m.done old ≡ false → is_some first ≡ true → place.offset + length text ≤ end_of longest first → Runs m old text new
-      → Stands m longest start (input ++ text) marks new (place_past place text) first None × (m.done new ≡ false)
+      → Stands m longest start (input ++ text) spans new (place_past place text) first None × (m.done new ≡ false)
   stands_run old [] new input place first s unfinished begun fits same = (
-    rw append-nil (subst (λ (x : S). Stands m longest start input marks x place first None) (sym same) s),
+    rw append-nil (subst (λ (x : S). Stands m longest start input spans x place first None) (sym same) s),
     subst (λ (x : S). m.done x ≡ false) (sym same) unfinished,
   )
   stands_run old (b ∷ text) new input place first s unfinished begun fits (mid, goes, state, rest) =
       let lt : place.offset < end_of longest first = omega (arith, fits) in
-      let k = stands_go m longest start old mid input marks place first s unfinished b goes state lt in
-      let k' : Stands m longest start (input ++ b ∷ []) marks mid (place_next place b) first None = rw (append-nil, stays_open first (begins m old b) place begun) at k in
+      let k = stands_go m longest start old mid input spans place first s unfinished b goes state lt in
+      let k' : Stands m longest start (input ++ b ∷ []) spans mid (place_next place b) first None = rw (append-nil, stays_open first (begins m old b) place begun) at k in
       let fits' : (place_next place b).offset + length text ≤ end_of longest first = omega (arith, next_offset place b, fits) in
       let r = stands_run mid text new (input ++ b ∷ []) (place_next place b) first k' (s.is_state.owes b mid goes) begun fits' rest in
-      (subst (λ (x : List ℕ). Stands m longest start x marks new (place_past place (b ∷ text)) first None) (append_assoc input (b ∷ []) text) r.0, r.1)
+      (subst (λ (x : List ℕ). Stands m longest start x spans new (place_past place (b ∷ text)) first None) (append_assoc input (b ∷ []) text) r.0, r.1)

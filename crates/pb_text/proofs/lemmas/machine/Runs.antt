@@ -32,23 +32,23 @@ module _ {S E : Type 0} (step : S → Letter → Next S E) where
   takes_then A B C P Q f g n t h (a, b, e, p, q) =
       rw (e, run-append n a b) (g (run step n a) b (f n a h p) q)
 
-module _ {S E : Type 0} (Front : S → Language) (Spec : E → Language) where
+module _ {S E : Type 0} (Prefix : S → Language) (Spec : E → Language) where
   -- what is known of the text before an outcome
-  abbrev pub OnFront : Next S E → Language
-  OnFront (Go s) = Front s
-  OnFront (End v s) = Spec v
-  OnFront Refuse = λ t. Unit {0}
+  abbrev pub OnPrefix : Next S E → Language
+  OnPrefix (Go s) = Prefix s
+  OnPrefix (End v s) = Spec v
+  OnPrefix Refuse = λ t. Unit {0}
 
-  pub on_cond : (b : Bool) (n : Next S E) (p : List Letter) → (b ≡ true → OnFront n p) → OnFront (cond b n Refuse) p
+  pub on_cond : (b : Bool) (n : Next S E) (p : List Letter) → (b ≡ true → OnPrefix n p) → OnPrefix (cond b n Refuse) p
   on_cond true n p h = h refl
   on_cond false n p h = tt
 
   abbrev pub Keeps : (S → Letter → Next S E) → Type 0
-  Keeps step = (s : S) (c : Letter) (p : List Letter) → Front s p → OnFront (step s c) (p ++ c ∷ [])
+  Keeps step = (s : S) (c : Letter) (p : List Letter) → Prefix s p → OnPrefix (step s c) (p ++ c ∷ [])
 
-  pub kept : (step : S → Letter → Next S E) → Keeps step → (n : Next S E) (t p : List Letter) → OnFront n p → OnFront (run step n t) (p ++ t)
+  pub kept : (step : S → Letter → Next S E) → Keeps step → (n : Next S E) (t p : List Letter) → OnPrefix n p → OnPrefix (run step n t) (p ++ t)
   kept step k n [] p h = rw append-nil h
   kept step k (Go s) (c ∷ t) p h =
-      subst (λ x. OnFront (run step (step s c) t) x) (append_assoc p (c ∷ []) t) (kept step k (step s c) t (p ++ c ∷ []) (k s c p h))
+      subst (λ x. OnPrefix (run step (step s c) t) x) (append_assoc p (c ∷ []) t) (kept step k (step s c) t (p ++ c ∷ []) (k s c p h))
   kept step k (End v s) (c ∷ t) p h = tt
   kept step k Refuse (c ∷ t) p h = tt

@@ -26,13 +26,13 @@ module _ {S E : Type 0} (m : Automaton S E) where
   longer l [] s mid after e g i n r = absurd r
   longer l (k ∷ t) s mid after e g i n r = (mid, g, i, n, r)
 
-  pub reads_behind : (a b : List Letter) (s mid after : S) (e : E) → Walks s a mid → Reads m mid b e after → Reads m s (a ++ b) e after
-  reads_behind [] b s mid after e h r = subst (λ x. Reads m x b e after) h r
-  reads_behind (l ∷ a) b s mid after e (next, g, i, n, w) r = longer l (a ++ b) s next after e g i n (reads_behind a b next mid after e w r)
+  pub reads_after : (a b : List Letter) (s mid after : S) (e : E) → Walks s a mid → Reads m mid b e after → Reads m s (a ++ b) e after
+  reads_after [] b s mid after e h r = subst (λ x. Reads m x b e after) h r
+  reads_after (l ∷ a) b s mid after e (next, g, i, n, w) r = longer l (a ++ b) s next after e g i n (reads_after a b next mid after e w r)
 
   pub ends_walk : (a : List Letter) (l : Letter) (s mid after : S) (e : E) → Walks s a mid → m.step mid l.byte ≡ End e after → l.numeral ≡ false
       → Reads m s (a ++ l ∷ []) e after
-  ends_walk a l s mid after e w h n = reads_behind a (l ∷ []) s mid after e w (h, n)
+  ends_walk a l s mid after e w h n = reads_after a (l ∷ []) s mid after e w (h, n)
 
   -- the first letter leads to the same outcome from two states
   pub same_first : (l : Letter) (t : List Letter) (s s' after : S) (e : E) → m.step s l.byte ≡ m.step s' l.byte → Reads m s' (l ∷ t) e after → Reads m s (l ∷ t) e after
@@ -46,30 +46,30 @@ module _ {S E : Type 0} (m : Automaton S E) where
   pub leads_then : (P Q : Language) (s mid new : S) → Leads s P mid → Leads mid Q new → Leads s (P ⋅ Q) new
   leads_then P Q s mid new f g t (a, b, e, h, k) = subst (λ x. Walks s x new) (sym e) (walks_then a b s mid new (f a h) (g b k))
 
-  -- What is known of the text before a state, if a text of `Front` leads to it, and of a whole text.
-  module _ (Front : S → Language) (Whole : E → S → Language) where
+  -- What is known of the text before a state, if a text of `Prefix` leads to it, and of a whole text.
+  module _ (Prefix : S → Language) (Whole : E → S → Language) where
     abbrev pub On : Next S E → Letter → Language
-    On (Go s) l p = m.begun s ≡ true → l.numeral ≡ m.in_number s → Front s p
+    On (Go s) l p = m.begun s ≡ true → l.numeral ≡ m.in_number s → Prefix s p
     On (End e s) l p = l.numeral ≡ false → Whole e s p
     On Refuse l p = Unit {0}
 
     abbrev pub Keeps : Type 0
-    Keeps = (s : S) (l : Letter) (p : List Letter) → Front s p → On (m.step s l.byte) l (p ++ l ∷ [])
+    Keeps = (s : S) (l : Letter) (p : List Letter) → Prefix s p → On (m.step s l.byte) l (p ++ l ∷ [])
 
-    pub told : Keeps → (t : List Letter) (s : S) (p : List Letter) (e : E) (after : S) → Reads m s t e after → Front s p → Whole e after (p ++ t)
-    told k [] s p e after r f = absurd r
-    told k (l ∷ []) s p e after (h, n) f =
+    pub reported : Keeps → (t : List Letter) (s : S) (p : List Letter) (e : E) (after : S) → Reads m s t e after → Prefix s p → Whole e after (p ++ t)
+    reported k [] s p e after r f = absurd r
+    reported k (l ∷ []) s p e after (h, n) f =
         let on : On (End e after) l (p ++ l ∷ []) = subst (λ x. On x l (p ++ l ∷ [])) h (k s l p f) in on n
-    told k (l ∷ d ∷ t) s p e after (mid, h, b, n, r) f =
+    reported k (l ∷ d ∷ t) s p e after (mid, h, b, n, r) f =
         let on : On (Go mid) l (p ++ l ∷ []) = subst (λ x. On x l (p ++ l ∷ [])) h (k s l p f) in
-        subst (λ x. Whole e after x) (append (d ∷ t)) (told k (d ∷ t) mid (p ++ l ∷ []) e after r (on b n))
+        subst (λ x. Whole e after x) (append (d ∷ t)) (reported k (d ∷ t) mid (p ++ l ∷ []) e after r (on b n))
       where
         append : (u : List Letter) → (p ++ l ∷ []) ++ u ≡ p ++ l ∷ u
         append u = append_assoc p (l ∷ []) u
 
     -- what is known on the way
-    pub fronts : Keeps → (t : List Letter) (s : S) (p : List Letter) (new : S) → Walks s t new → Front s p → Front new (p ++ t)
-    fronts k [] s p new w f = subst (λ (x : List Letter). Front new x) (sym (append-nil p)) (subst (λ (x : S). Front x p) (sym w) f)
-    fronts k (l ∷ t) s p new (mid, h, b, n, w) f =
+    pub prefixes_of : Keeps → (t : List Letter) (s : S) (p : List Letter) (new : S) → Walks s t new → Prefix s p → Prefix new (p ++ t)
+    prefixes_of k [] s p new w f = subst (λ (x : List Letter). Prefix new x) (sym (append-nil p)) (subst (λ (x : S). Prefix x p) (sym w) f)
+    prefixes_of k (l ∷ t) s p new (mid, h, b, n, w) f =
         let on : On (Go mid) l (p ++ l ∷ []) = subst (λ x. On x l (p ++ l ∷ [])) h (k s l p f) in
-        subst (λ (x : List Letter). Front new x) (append_assoc p (l ∷ []) t) (fronts k t mid (p ++ l ∷ []) new w (on b n))
+        subst (λ (x : List Letter). Prefix new x) (append_assoc p (l ∷ []) t) (prefixes_of k t mid (p ++ l ∷ []) new w (on b n))

@@ -1,6 +1,6 @@
 -- The consecutive parts of a pull.
 use Rattle.std.proofs.Common.{◌≡◌, ℕ, List, [], ◌++◌, Option, Some, None, Result, Ok, Err, sym, ap, ◌∙◌, subst, length-append, append-nil, append_assoc, arith}
-use Rattle.pb_text.specs.contract.Feeding.{marks_taken, StandsAt}
+use Rattle.pb_text.specs.contract.Feeding.{spans_taken, StandsAt}
 use Rattle.pb_text.specs.contract.Pouring.{Pours}
 use Rattle.pb_text.specs.meaning.Pulling.{Pulls, Draws, input_drawn}
 use Rattle.pb_text.specs.declared.feeder.Feeder.{Feeder}
@@ -25,7 +25,7 @@ module _ {M E : Type 0} {g : Ghosts M E} where
         took = seen.1;
         given_are = sym (append-nil given);
         offset_is = omega arith;
-        stands = λ longest start input marks s. rw (append-nil, append-nil) s;
+        stands = λ longest start input spans s. rw (append-nil, append-nil) s;
       }
 
   -- what was poured
@@ -44,16 +44,16 @@ module _ {M E : Type 0} {g : Ghosts M E} where
     took = took_join before now after d.taken e.taken d.seen e.seen d.took e.took;
     given_are = e.given_are ∙ (ap (λ (x : List ℕ). x ++ e.taken) d.given_are ∙ append_assoc given d.taken e.taken);
     offset_is = omega (arith, d.offset_is, e.offset_is, length-append d.taken e.taken);
-    stands = λ longest start input marks s.
-        let k : StandsAt longest start ((input ++ d.taken) ++ input_drawn result e.taken e.seen) (marks ++ marks_taken result) new = e.stands longest start (input ++ d.taken) marks (rw append-nil at (d.stands longest start input marks s)) in
-        subst (λ (x : List ℕ). StandsAt longest start x (marks ++ marks_taken result) new) (joined result input d.taken e.taken e.seen) k;
+    stands = λ longest start input spans s.
+        let k : StandsAt longest start ((input ++ d.taken) ++ input_drawn result e.taken e.seen) (spans ++ spans_taken result) new = e.stands longest start (input ++ d.taken) spans (rw append-nil at (d.stands longest start input spans s)) in
+        subst (λ (x : List ℕ). StandsAt longest start x (spans ++ spans_taken result) new) (joined result input d.taken e.taken e.seen) k;
   }
 
-  module _ (longest : ℕ) (start : M) (input : List ℕ) (marks : List (Spanned E)) (old new : Feeder M E g) (before after : Option (List ℕ)) (given given' : List ℕ) (s : StandsAt longest start input marks old) where
+  module _ (longest : ℕ) (start : M) (input : List ℕ) (spans : List (Spanned E)) (old new : Feeder M E g) (before after : Option (List ℕ)) (given given' : List ℕ) (s : StandsAt longest start input spans old) where
     -- it ends with an event
-    pub pulls_event : (m : Spanned E) → Draws old before given (Ok (Some m)) new after given' → Pulls longest start input marks old before (Ok (Some m)) new after given given'
-    pulls_event m d = record { taken = d.taken; seen = d.seen; took = d.took; given_are = d.given_are; offset_is = d.offset_is; stands = d.stands longest start input marks s }
+    pub pulls_event : (m : Spanned E) → Draws old before given (Ok (Some m)) new after given' → Pulls longest start input spans old before (Ok (Some m)) new after given given'
+    pulls_event m d = record { taken = d.taken; seen = d.seen; took = d.took; given_are = d.given_are; offset_is = d.offset_is; stands = d.stands longest start input spans s }
 
     -- or with a stop
-    pub pulls_stop : (stop : Stop) → Draws old before given (Err stop) new after given' → Pulls longest start input marks old before (Err stop) new after given given'
-    pulls_stop stop d = record { taken = d.taken; seen = d.seen; took = d.took; given_are = d.given_are; offset_is = d.offset_is; stands = d.stands longest start input marks s }
+    pub pulls_stop : (stop : Stop) → Draws old before given (Err stop) new after given' → Pulls longest start input spans old before (Err stop) new after given given'
+    pulls_stop stop d = record { taken = d.taken; seen = d.seen; took = d.took; given_are = d.given_are; offset_is = d.offset_is; stands = d.stands longest start input spans s }

@@ -8,7 +8,7 @@ use Rattle.pb_text.specs.meaning.Spelling.{bytes}
 use Rattle.pb_text.specs.declared.place.Place.{Place}
 use Rattle.pb_text.proofs.lemmas.feeder.Begin.{stands_new, stands_failed}
 use Rattle.pb_text.proofs.lemmas.text.Short.{place_after-offset}
-use Rattle.pb_text.proofs.lemmas.feeder.Told.{stands_reads}
+use Rattle.pb_text.proofs.lemmas.feeder.Reported.{stands_reads}
 
 pub reads_nothing : {S E : Type 0} (m : Automaton S E) (start : S) → IsState m start → m.begun start ≡ false → m.done start ≡ false → (longest : ℕ) → 0 < longest → ReadsNothing (Accepts m start) longest
 reads_nothing m start state out owed longest some text =

@@ -9,40 +9,42 @@ use Rattle.pb_text.specs.declared.place.Spanned.{Spanned}
 use Rattle.pb_text.specs.declared.place.Stop.{Stop}
 use Rattle.pb_text.specs.contract.Source.{StartWith, HaveEnded, Peeks}
 use Rattle.pb_text.specs.declared.over.Over.{Over}
-use Rattle.pb_text.specs.contract.Over.{told, LetsOne, Shows}
+use Rattle.pb_text.specs.contract.Over.{reported, LetsOne, Shows}
 
-told_begins : (rest : Option (List ℕ)) (limit shown : Option ℕ) (b : ℕ) → StartWith rest b → StartWith (told rest limit shown) b
-told_begins rest limit None b h = h
-told_begins rest None (Some c) b h = h
-told_begins rest (Some zero) (Some c) b h = tt
-told_begins rest (Some (suc n)) (Some c) b h = h
+reported_begins : (rest : Option (List ℕ)) (limit shown : Option ℕ) (b : ℕ) → StartWith rest b → StartWith (reported rest limit shown) b
+reported_begins rest limit None b h = h
+reported_begins rest None (Some c) b h = h
+reported_begins rest (Some zero) (Some c) b h = tt
+reported_begins rest (Some (suc n)) (Some c) b h = h
 
-told_ended : (rest : Option (List ℕ)) (limit shown : Option ℕ) → HaveEnded rest → HaveEnded (told rest limit shown)
-told_ended rest limit None h = h
-told_ended rest None (Some c) h = h
-told_ended rest (Some zero) (Some c) h = tt
-told_ended rest (Some (suc n)) (Some c) h = h
+reported_ended : (rest : Option (List ℕ)) (limit shown : Option ℕ) → HaveEnded rest
+    → HaveEnded (reported rest limit shown)
+reported_ended rest limit None h = h
+reported_ended rest None (Some c) h = h
+reported_ended rest (Some zero) (Some c) h = tt
+reported_ended rest (Some (suc n)) (Some c) h = h
 
-told_kept : (rest now : Option (List ℕ)) (limit shown : Option ℕ) → Keeps rest now → Keeps (told rest limit shown) now
-told_kept rest now limit None h = h
-told_kept rest now None (Some c) h = h
-told_kept rest now (Some zero) (Some c) h = tt
-told_kept rest now (Some (suc n)) (Some c) h = h
+reported_kept : (rest now : Option (List ℕ)) (limit shown : Option ℕ) → Keeps rest now
+    → Keeps (reported rest limit shown) now
+reported_kept rest now limit None h = h
+reported_kept rest now None (Some c) h = h
+reported_kept rest now (Some zero) (Some c) h = tt
+reported_kept rest now (Some (suc n)) (Some c) h = h
 
 -- a byte that is shown and may be taken does not change what is reported
-shown_kept : (rest now : Option (List ℕ)) (limit : Option ℕ) (b : ℕ) → Keeps rest now → LetsOne rest limit → Keeps rest (told now limit (Some b))
+shown_kept : (rest now : Option (List ℕ)) (limit : Option ℕ) (b : ℕ) → Keeps rest now → LetsOne rest limit → Keeps rest (reported now limit (Some b))
 shown_kept None now limit b k l = tt
 shown_kept (Some x) now None b k l = k
 shown_kept (Some x) now (Some zero) b k l = absurd (omega (arith, l))
 shown_kept (Some x) now (Some (suc n)) b k l = k
 
 shows_begins : (rest now : Option (List ℕ)) (limit limit' shown : Option ℕ) (b : ℕ) → Shows rest (Ok (Some b)) now limit'
-    → StartWith (told rest limit shown) b × Keeps (told rest limit shown) (told now limit' (Some b))
-shows_begins rest now limit limit' shown b h = (told_begins rest limit shown b h.0, told_kept rest (told now limit' (Some b)) limit shown (shown_kept rest now limit' b h.1 h.2))
+    → StartWith (reported rest limit shown) b × Keeps (reported rest limit shown) (reported now limit' (Some b))
+shows_begins rest now limit limit' shown b h = (reported_begins rest limit shown b h.0, reported_kept rest (reported now limit' (Some b)) limit shown (shown_kept rest now limit' b h.1 h.2))
 
 shows_end : (rest now : Option (List ℕ)) (limit limit' shown : Option ℕ) → Shows rest (Ok None) now limit'
-    → HaveEnded (told rest limit shown) × Keeps (told rest limit shown) now
-shows_end rest now limit limit' shown h = (told_ended rest limit shown h.0, told_kept rest now limit shown h.1)
+    → HaveEnded (reported rest limit shown) × Keeps (reported rest limit shown) now
+shows_end rest now limit limit' shown h = (reported_ended rest limit shown h.0, reported_kept rest now limit shown h.1)
 
 none_is : (shown : Option ℕ) (none : Bool) → is_some shown ≡ not none → none ≡ is_none shown
 none_is None true e = refl
@@ -52,24 +54,24 @@ none_is (Some b) false e = refl
 
 -- what the reader has shown is a peek at the source
 pub peeks : {T : Type 0} (remaining : T → Option (List ℕ)) (limit : T → Option ℕ) (old : Over T) (inner : T) (shown : Option ℕ) (none : Bool) → is_some shown ≡ not none → Shows (remaining old.inner) (Ok shown) (remaining inner) (limit inner)
-    → Peeks (λ o. told (remaining o.inner) (limit o.inner) o.shown) (λ o. o.shown) (λ o. o.ended) (λ o. o.history.bytes) (λ o. o.failures) old (Ok shown) (record { inner = inner; shown = shown; ended = none; failures = old.failures; history = old.history })
+    → Peeks (λ o. reported (remaining o.inner) (limit o.inner) o.shown) (λ o. o.shown) (λ o. o.ended) (λ o. o.history.bytes) (λ o. o.failures) old (Ok shown) (record { inner = inner; shown = shown; ended = none; failures = old.failures; history = old.history })
 peeks remaining limit old inner None none is h =
     let e = shows_end (remaining old.inner) (remaining inner) (limit old.inner) (limit inner) old.shown h in (e.0, e.1, refl, refl, none_is None none is)
 peeks remaining limit old inner (Some b) none is h =
     let e = shows_begins (remaining old.inner) (remaining inner) (limit old.inner) (limit inner) old.shown b h in (e.0, e.1, refl, refl, refl, none_is (Some b) none is)
 
-told_some : (left : Option (List ℕ)) (limit shown : Option ℕ) (rest : List ℕ) → told left limit shown ≡ Some rest → left ≡ Some rest
-told_some left limit None rest h = h
-told_some left None (Some b) rest h = h
-told_some left (Some zero) (Some b) rest h = cc
-told_some left (Some (suc n)) (Some b) rest h = h
+reported_some : (left : Option (List ℕ)) (limit shown : Option ℕ) (rest : List ℕ) → reported left limit shown ≡ Some rest → left ≡ Some rest
+reported_some left limit None rest h = h
+reported_some left None (Some b) rest h = h
+reported_some left (Some zero) (Some b) rest h = cc
+reported_some left (Some (suc n)) (Some b) rest h = h
 
 -- what is left in a reader is what is left in the source over it
-took_told : (before left : Option (List ℕ)) (limit shown : Option ℕ) (used seen : List ℕ) → Took before used seen (told left limit shown) → Took before used seen left
-took_told None left limit shown used seen h = tt
-took_told (Some bytes) left limit shown used seen h = (h.0, told_some left limit shown seen h.1)
+took_reported : (before left : Option (List ℕ)) (limit shown : Option ℕ) (used seen : List ℕ) → Took before used seen (reported left limit shown) → Took before used seen left
+took_reported None left limit shown used seen h = tt
+took_reported (Some bytes) left limit shown used seen h = (h.0, reported_some left limit shown seen h.1)
 
-pub reads_told : {V E : Type 0} (format : List (Item E) → Type 0) (longest : ℕ) (with : V → E → V) (empty : V) (MayAsk : List ℕ → ℕ → Type 0) (asks : V → E → Bool) (before : Option (List ℕ)) (result : Result (Spanned V) Stop) (left : Option (List ℕ)) (limit shown : Option ℕ)
-    → ReadsWhole format longest with empty MayAsk asks before result (told left limit shown) → ReadsWhole format longest with empty MayAsk asks before result left
-reads_told format longest with empty MayAsk asks before (Ok m) left limit shown r = (r.0, r.1, took_told before left limit shown r.0 r.1 r.2, r.3)
-reads_told format longest with empty MayAsk asks before (Err e) left limit shown r = (r.0, r.1, took_told before left limit shown r.0 r.1 r.2, r.3)
+pub reads_reported : {V E : Type 0} (format : List (Item E) → Type 0) (longest : ℕ) (with : V → E → V) (empty : V) (MayAsk : List ℕ → ℕ → Type 0) (asks : V → E → Bool) (before : Option (List ℕ)) (result : Result (Spanned V) Stop) (left : Option (List ℕ)) (limit shown : Option ℕ)
+    → ReadsWhole format longest with empty MayAsk asks before result (reported left limit shown) → ReadsWhole format longest with empty MayAsk asks before result left
+reads_reported format longest with empty MayAsk asks before (Ok m) left limit shown r = (r.0, r.1, took_reported before left limit shown r.0 r.1 r.2, r.3)
+reads_reported format longest with empty MayAsk asks before (Err e) left limit shown r = (r.0, r.1, took_reported before left limit shown r.0 r.1 r.2, r.3)

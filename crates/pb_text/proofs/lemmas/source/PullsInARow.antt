@@ -14,9 +14,9 @@ use Rattle.pb_text.specs.declared.place.Stop.{Stop}
 use Rattle.pb_text.specs.declared.feeder.Feeder.{Feeder}
 use Rattle.pb_text.specs.declared.machine.Machine.{Ghosts}
 use Rattle.pb_text.proofs.lemmas.text.Short.{place_after-offset}
-use Rattle.pb_text.proofs.lemmas.feeder.Told.{stands_reads}
+use Rattle.pb_text.proofs.lemmas.feeder.Reported.{stands_reads}
 use Rattle.std.proofs.lemmas.List.{append_cancel_left}
-use Rattle.pb_text.proofs.lemmas.source.Wholes.{asking, same_front, halted}
+use Rattle.pb_text.proofs.lemmas.source.Wholes.{asking, same_prefix, halted}
 
 -- what was taken before, and what was taken now
 pub took_join : (a b c : Option (List ℕ)) (x y s t : List ℕ) → Took a x s b → Took b y t c → Took a (x ++ y) t c
@@ -25,8 +25,8 @@ took_join (Some all) b c x y s t h k =
     let now : Took (Some s) y t c = subst (λ (z : Option (List ℕ)). Took z y t c) h.1 k in
     (h.0 ∙ ap (λ (z : List ℕ). x ++ z) now.0 ∙ sym (append_assoc x y t), now.1)
 
-module _ {M E : Type 0} {g : Ghosts M E} {given given' : List ℕ} (longest : ℕ) (start : M) (before now after : Option (List ℕ)) (marks : List (Spanned E)) (old new : Feeder M E g) (h : HasPulled longest start before marks old now) where
-  module _ (result : Result (Option (Spanned E)) Stop) (p : Pulls longest start h.used marks old now result new after given given') where
+module _ {M E : Type 0} {g : Ghosts M E} {given given' : List ℕ} (longest : ℕ) (start : M) (before now after : Option (List ℕ)) (spans : List (Spanned E)) (old new : Feeder M E g) (h : HasPulled longest start before spans old now) where
+  module _ (result : Result (Option (Spanned E)) Stop) (p : Pulls longest start h.used spans old now result new after given given') where
     abbrev all : List ℕ
     all = h.used ++ p.taken
 
@@ -37,42 +37,42 @@ module _ {M E : Type 0} {g : Ghosts M E} {given given' : List ℕ} (longest : �
     offset_is = omega (arith, p.offset_is, h.offset_is, length-append h.used p.taken)
 
     -- what the machine has taken is what was taken from the source
-    letters_are : (input left : List ℕ) (after_marks : List (Spanned E)) (s : Stands g.automaton longest start input after_marks new.machine new.place new.first new.stop) → input ≡ all ++ left → bytes s.letters ≡ all
-    letters_are input left after_marks s e =
-        same_front (bytes s.letters) all s.left left (sym s.input_is ∙ e)
+    letters_are : (input left : List ℕ) (after_spans : List (Spanned E)) (s : Stands g.automaton longest start input after_spans new.machine new.place new.first new.stop) → input ≡ all ++ left → bytes s.letters ≡ all
+    letters_are input left after_spans s e =
+        same_prefix (bytes s.letters) all s.left left (sym s.input_is ∙ e)
         (sym (place_after-offset (bytes s.letters)) ∙ (sym (ap (λ (q : Place). q.offset) s.place_is) ∙ offset_is))
 
-  row_event : (m : Spanned E) (p : Pulls longest start h.used marks old now (Ok (Some m)) new after given given') → new.stop ≡ None → m.past ≡ new.place → PullsOn longest start before marks (Ok (Some m)) new after
+  row_event : (m : Spanned E) (p : Pulls longest start h.used spans old now (Ok (Some m)) new after given given') → new.stop ≡ None → m.past ≡ new.place → PullsOn longest start before spans (Ok (Some m)) new after
   row_event m p running past =
       let s = p.stands.1 in
-      let used = letters_are (Ok (Some m)) p (h.used ++ p.taken) [] (marks ++ m ∷ []) s (sym (append-nil (h.used ++ p.taken))) in
-      let r = stands_reads g.automaton longest start (h.used ++ p.taken) (marks ++ m ∷ []) new.machine new.place new.first new.stop s (is_complete new) refl in
-      let r' : Reads (Accepts g.automaton start) longest (h.used ++ p.taken) (h.used ++ p.taken) (marks ++ m ∷ []) m.past (is_complete new) None =
-      subst₂ (λ (q : Place) (o : Option Stop). Reads (Accepts g.automaton start) longest (h.used ++ p.taken) (h.used ++ p.taken) (marks ++ m ∷ []) q (is_complete new) o) (sym past) running
-      (subst (λ (x : List ℕ). Reads (Accepts g.automaton start) longest (h.used ++ p.taken) x (marks ++ m ∷ []) new.place (is_complete new) new.stop) used r) in (
+      let used = letters_are (Ok (Some m)) p (h.used ++ p.taken) [] (spans ++ m ∷ []) s (sym (append-nil (h.used ++ p.taken))) in
+      let r = stands_reads g.automaton longest start (h.used ++ p.taken) (spans ++ m ∷ []) new.machine new.place new.first new.stop s (is_complete new) refl in
+      let r' : Reads (Accepts g.automaton start) longest (h.used ++ p.taken) (h.used ++ p.taken) (spans ++ m ∷ []) m.past (is_complete new) None =
+      subst₂ (λ (q : Place) (o : Option Stop). Reads (Accepts g.automaton start) longest (h.used ++ p.taken) (h.used ++ p.taken) (spans ++ m ∷ []) q (is_complete new) o) (sym past) running
+      (subst (λ (x : List ℕ). Reads (Accepts g.automaton start) longest (h.used ++ p.taken) x (spans ++ m ∷ []) new.place (is_complete new) new.stop) used r) in (
         record { used = h.used ++ p.taken; seen = p.seen; took = took (Ok (Some m)) p; offset_is = offset_is (Ok (Some m)) p; stands = p.stands; running = running },
         record { used = h.used ++ p.taken; seen = p.seen; took = took (Ok (Some m)) p; done = is_complete new; reads = r' },
       )
 
-  row_done : (p : Pulls longest start h.used marks old now (Ok None) new after given given') → new.stop ≡ None → is_complete new ≡ true → PullsOn longest start before marks (Ok None) new after
+  row_done : (p : Pulls longest start h.used spans old now (Ok None) new after given given') → new.stop ≡ None → is_complete new ≡ true → PullsOn longest start before spans (Ok None) new after
   row_done p running done =
-      let s : Stands g.automaton longest start (h.used ++ (p.taken ++ p.seen)) marks new.machine new.place new.first new.stop = rw append-nil at p.stands.1 in
-      let used = letters_are (Ok None) p (h.used ++ (p.taken ++ p.seen)) p.seen marks s (sym (append_assoc h.used p.taken p.seen)) in
-      let r = stands_reads g.automaton longest start (h.used ++ (p.taken ++ p.seen)) marks new.machine new.place new.first new.stop s true (sym done) in
-      let r' : Reads (Accepts g.automaton start) longest ((h.used ++ p.taken) ++ p.seen) (h.used ++ p.taken) marks new.place true None =
-      subst₂ (λ (x y : List ℕ). Reads (Accepts g.automaton start) longest x y marks new.place true None) (sym (append_assoc h.used p.taken p.seen)) used
-      (subst (λ (o : Option Stop). Reads (Accepts g.automaton start) longest (h.used ++ (p.taken ++ p.seen)) (bytes s.letters) marks new.place true o) running r) in
+      let s : Stands g.automaton longest start (h.used ++ (p.taken ++ p.seen)) spans new.machine new.place new.first new.stop = rw append-nil at p.stands.1 in
+      let used = letters_are (Ok None) p (h.used ++ (p.taken ++ p.seen)) p.seen spans s (sym (append_assoc h.used p.taken p.seen)) in
+      let r = stands_reads g.automaton longest start (h.used ++ (p.taken ++ p.seen)) spans new.machine new.place new.first new.stop s true (sym done) in
+      let r' : Reads (Accepts g.automaton start) longest ((h.used ++ p.taken) ++ p.seen) (h.used ++ p.taken) spans new.place true None =
+      subst₂ (λ (x y : List ℕ). Reads (Accepts g.automaton start) longest x y spans new.place true None) (sym (append_assoc h.used p.taken p.seen)) used
+      (subst (λ (o : Option Stop). Reads (Accepts g.automaton start) longest (h.used ++ (p.taken ++ p.seen)) (bytes s.letters) spans new.place true o) running r) in
       record { used = h.used ++ p.taken; seen = p.seen; took = took (Ok None) p; reads = r' }
 
-  row_stopped : (stop : Stop) (p : Pulls longest start h.used marks old now (Err stop) new after given given') → new.stop ≡ Some stop → PullsOn longest start before marks (Err stop) new after
+  row_stopped : (stop : Stop) (p : Pulls longest start h.used spans old now (Err stop) new after given given') → new.stop ≡ Some stop → PullsOn longest start before spans (Err stop) new after
   row_stopped stop p halts =
-      let s : Stands g.automaton longest start (h.used ++ (p.taken ++ p.seen)) marks new.machine new.place new.first new.stop = rw append-nil at p.stands.1 in
-      let used = letters_are (Err stop) p (h.used ++ (p.taken ++ p.seen)) p.seen marks s (sym (append_assoc h.used p.taken p.seen)) in
+      let s : Stands g.automaton longest start (h.used ++ (p.taken ++ p.seen)) spans new.machine new.place new.first new.stop = rw append-nil at p.stands.1 in
+      let used = letters_are (Err stop) p (h.used ++ (p.taken ++ p.seen)) p.seen spans s (sym (append_assoc h.used p.taken p.seen)) in
       let w = halted g.automaton new.machine (end_of longest new.first) s.letters s.left new.place new.stop stop halts s.waits in
-      let r = stands_reads g.automaton longest start (h.used ++ (p.taken ++ p.seen)) marks new.machine new.place new.first new.stop s false (sym w.0) in
-      let r' : Reads (Accepts g.automaton start) longest ((h.used ++ p.taken) ++ p.seen) (h.used ++ p.taken) marks stop.place false (Some stop) =
-      subst₂ (λ (x y : List ℕ). Reads (Accepts g.automaton start) longest x y marks stop.place false (Some stop)) (sym (append_assoc h.used p.taken p.seen)) used
-      (subst₂ (λ (q : Place) (o : Option Stop). Reads (Accepts g.automaton start) longest (h.used ++ (p.taken ++ p.seen)) (bytes s.letters) marks q false o) (sym w.1) halts r) in
+      let r = stands_reads g.automaton longest start (h.used ++ (p.taken ++ p.seen)) spans new.machine new.place new.first new.stop s false (sym w.0) in
+      let r' : Reads (Accepts g.automaton start) longest ((h.used ++ p.taken) ++ p.seen) (h.used ++ p.taken) spans stop.place false (Some stop) =
+      subst₂ (λ (x y : List ℕ). Reads (Accepts g.automaton start) longest x y spans stop.place false (Some stop)) (sym (append_assoc h.used p.taken p.seen)) used
+      (subst₂ (λ (q : Place) (o : Option Stop). Reads (Accepts g.automaton start) longest (h.used ++ (p.taken ++ p.seen)) (bytes s.letters) spans q false o) (sym w.1) halts r) in
       let left : s.left ≡ p.seen = append_cancel_left (h.used ++ p.taken) s.left p.seen (ap (λ (x : List ℕ). x ++ s.left) (sym used) ∙ (sym s.input_is ∙ sym (append_assoc h.used p.taken p.seen))) in
       let may : (b : ℕ) → IsTrue (g.automaton.asks new.machine b) → MayAsk g.automaton start (h.used ++ p.taken) b =
       (λ b k. (new.machine, subst (λ (x : List ℕ). Leads g.automaton start x new.machine) used s.leads, k)) in (
@@ -81,8 +81,8 @@ module _ {M E : Type 0} {g : Ghosts M E} {given given' : List ℕ} (longest : �
       )
 
   -- the result of one more pull
-  pub row : (result : Result (Option (Spanned E)) Stop) → Pulls longest start h.used marks old now result new after given given' → new.stop ≡ stop_of result → (result ≡ Ok None → is_complete new ≡ true)
-      → ((m : Spanned E) → result ≡ Ok (Some m) → m.past ≡ new.place) → PullsOn longest start before marks result new after
+  pub row : (result : Result (Option (Spanned E)) Stop) → Pulls longest start h.used spans old now result new after given given' → new.stop ≡ stop_of result → (result ≡ Ok None → is_complete new ≡ true)
+      → ((m : Spanned E) → result ≡ Ok (Some m) → m.past ≡ new.place) → PullsOn longest start before spans result new after
   row (Ok (Some m)) p stop last past = row_event m p stop (past m refl)
   row (Ok None) p stop last past = row_done p stop (last refl)
   row (Err s) p stop last past = row_stopped s p stop

@@ -3,7 +3,7 @@ use Rattle.std.proofs.Common.{◌≡◌, ℕ, List, [], ◌∷◌, ◌++◌, len
 use Rattle.std.proofs.Math.Seq.{take-append_seam}
 use Rattle.std.proofs.lemmas.List.{append_cancel_left}
 use Rattle.pb_text.specs.contract.Automaton.{Automaton, Accepts, Leads, MayAsk}
-use Rattle.pb_text.specs.meaning.Spelling.{Letter, Item, bytes, marks_since, place_after}
+use Rattle.pb_text.specs.meaning.Spelling.{Letter, Item, bytes, spans_since, place_after}
 use Rattle.pb_text.specs.meaning.Reading.{Reads, IsSpelled}
 use Rattle.pb_text.specs.engine.SpentBytes.{end_of}
 use Rattle.pb_text.specs.contract.Standing.{Stands, Waits, Halts}
@@ -20,10 +20,10 @@ use Rattle.pb_text.specs.declared.feeder.Feeder.{Feeder}
 use Rattle.pb_text.specs.declared.machine.Machine.{Ghosts}
 use Rattle.pb_text.specs.contract.Source.{Lost}
 use Rattle.pb_text.proofs.lemmas.text.Short.{place_after-offset}
-use Rattle.pb_text.proofs.lemmas.feeder.Told.{stands_reads}
+use Rattle.pb_text.proofs.lemmas.feeder.Reported.{stands_reads}
 
-pub same_front : (a b x y : List ℕ) → a ++ x ≡ b ++ y → length a ≡ length b → a ≡ b
-same_front a b x y e n = sym (take-append_seam a x) ∙ (ap₂ (λ (k : ℕ) (z : List ℕ). take k z) n e ∙ take-append_seam b y)
+pub same_prefix : (a b x y : List ℕ) → a ++ x ≡ b ++ y → length a ≡ length b → a ≡ b
+same_prefix a b x y e n = sym (take-append_seam a x) ∙ (ap₂ (λ (k : ℕ) (z : List ℕ). take k z) n e ∙ take-append_seam b y)
 
 -- what was removed before, and what was taken now
 pub took_all : (before now after : Option (List ℕ)) (taken more seen : List ℕ) → Lost before taken now → Took now more seen after → Took before (taken ++ more) seen after
@@ -56,14 +56,14 @@ asking m may_ask state end letters used seen left Read e may h = tt
 asking m may_ask state end letters used seen left Memory e may h = (h.0, h.1, sym e ∙ h.2, may h.0 h.4)
 
 -- the events of spans
-pub marks_events : {E : Type 0} (first : Option Place) (before : List ℕ) (items : List (Item E)) → events_at (marks_since first before items) ≡ events_of items
-marks_events first before [] = refl
-marks_events first before (i ∷ items) = ap (λ (x : List _). i.event ∷ x) (marks_events None (before ++ (i.gap ++ bytes i.text)) items)
+pub spans_events : {E : Type 0} (first : Option Place) (before : List ℕ) (items : List (Item E)) → events_at (spans_since first before items) ≡ events_of items
+spans_events first before [] = refl
+spans_events first before (i ∷ items) = ap (λ (x : List _). i.event ∷ x) (spans_events None (before ++ (i.gap ++ bytes i.text)) items)
 
 -- the value with one more event
-pub gathered_more : {V E : Type 0} (with : V → E → V) (empty value next : V) (marks : List (Spanned E)) (m : Spanned E) → value ≡ gathered with empty (events_at marks) → next ≡ with value m.event → next ≡ gathered with empty (map (λ n. n.event) (marks ++ m ∷ []))
+pub gathered_more : {V E : Type 0} (with : V → E → V) (empty value next : V) (spans : List (Spanned E)) (m : Spanned E) → value ≡ gathered with empty (events_at spans) → next ≡ with value m.event → next ≡ gathered with empty (map (λ n. n.event) (spans ++ m ∷ []))
 gathered_more with empty value next [] m e h = h ∙ ap (λ (v : _). with v m.event) e
-gathered_more with empty value next (n ∷ marks) m e h = gathered_more with (with empty n.event) value next marks m e h
+gathered_more with empty value next (n ∷ spans) m e h = gathered_more with (with empty n.event) value next spans m e h
 
 -- The bytes that a whole read used are from the source, and are those that its calls have given.
 abbrev pub Used : Option (List ℕ) → Option (List ℕ) → List ℕ → List ℕ → (List ℕ → List ℕ → Type 0) → Type 0
@@ -78,46 +78,46 @@ used_so before after given given' Rest used seen took are rest = ((used, seen, t
 pub given_both : (first given last taken more : List ℕ) → given ≡ first ++ taken → last ≡ given ++ more → last ≡ first ++ (taken ++ more)
 given_both first given last taken more h k = k ∙ (ap (λ (x : List ℕ). x ++ more) h ∙ append_assoc first taken more)
 
-module _ {M E : Type 0} {g : Ghosts M E} (longest : ℕ) (start : M) (marks : List (Spanned E)) (old new : Feeder M E g) (before now after : Option (List ℕ)) (taken : List ℕ) (lost : Lost before taken now) (offset_is : old.place.offset ≡ length taken) where
-  module _ {given given' : List ℕ} (result : Result (Option (Spanned E)) Stop) (p : Pulls longest start taken marks old now result new after given given') where
-    letters_are : (input : List ℕ) → (s : Stands g.automaton longest start input marks new.machine new.place new.first new.stop) → (left : List ℕ) → input ≡ (taken ++ p.taken) ++ left → bytes s.letters ≡ taken ++ p.taken
+module _ {M E : Type 0} {g : Ghosts M E} (longest : ℕ) (start : M) (spans : List (Spanned E)) (old new : Feeder M E g) (before now after : Option (List ℕ)) (taken : List ℕ) (lost : Lost before taken now) (offset_is : old.place.offset ≡ length taken) where
+  module _ {given given' : List ℕ} (result : Result (Option (Spanned E)) Stop) (p : Pulls longest start taken spans old now result new after given given') where
+    letters_are : (input : List ℕ) → (s : Stands g.automaton longest start input spans new.machine new.place new.first new.stop) → (left : List ℕ) → input ≡ (taken ++ p.taken) ++ left → bytes s.letters ≡ taken ++ p.taken
     letters_are input s left e =
-        same_front (bytes s.letters) (taken ++ p.taken) s.left left (sym s.input_is ∙ e)
+        same_prefix (bytes s.letters) (taken ++ p.taken) s.left left (sym s.input_is ∙ e)
         (sym (place_after-offset (bytes s.letters)) ∙ (sym (ap (λ (q : Place). q.offset) s.place_is) ∙ omega (arith, p.offset_is, length-append taken p.taken)))
 
-  module _ {V : Type 0} (with : V → E → V) (empty value : V) (value_is : value ≡ gathered with empty (map (λ m. m.event) marks)) where
-    pub whole_done : (first given given' : List ℕ) → given ≡ first ++ taken → (p : Pulls longest start taken marks old now (Ok None) new after given given') → new.stop ≡ None → is_complete new ≡ true
+  module _ {V : Type 0} (with : V → E → V) (empty value : V) (value_is : value ≡ gathered with empty (map (λ m. m.event) spans)) where
+    pub whole_done : (first given given' : List ℕ) → given ≡ first ++ taken → (p : Pulls longest start taken spans old now (Ok None) new after given given') → new.stop ≡ None → is_complete new ≡ true
         → Used before after first given' (λ used seen. IsWhole (Accepts g.automaton start) longest with empty used (record { event = value; first = record { line = 1; column = 1; offset = 0 }; past = new.place }))
     unfolding place_after
     whole_done first given given' are p running done =
-        let s : Stands g.automaton longest start (taken ++ (p.taken ++ p.seen)) marks new.machine new.place new.first new.stop = rw append-nil at p.stands.1 in
+        let s : Stands g.automaton longest start (taken ++ (p.taken ++ p.seen)) spans new.machine new.place new.first new.stop = rw append-nil at p.stands.1 in
         let used : bytes s.letters ≡ taken ++ p.taken = letters_are (Ok None) p (taken ++ (p.taken ++ p.seen)) s p.seen (sym (append_assoc taken p.taken p.seen)) in
-        let r = stands_reads g.automaton longest start (taken ++ (p.taken ++ p.seen)) marks new.machine new.place new.first new.stop s true (sym done) in
-        let spelled : IsSpelled (Accepts g.automaton start) longest (bytes s.letters) marks = r.answer.0 in
-        let spelled' : IsSpelled (Accepts g.automaton start) longest (taken ++ p.taken) marks = subst (λ (x : List ℕ). IsSpelled (Accepts g.automaton start) longest x marks) used spelled in
+        let r = stands_reads g.automaton longest start (taken ++ (p.taken ++ p.seen)) spans new.machine new.place new.first new.stop s true (sym done) in
+        let spelled : IsSpelled (Accepts g.automaton start) longest (bytes s.letters) spans = r.answer.0 in
+        let spelled' : IsSpelled (Accepts g.automaton start) longest (taken ++ p.taken) spans = subst (λ (x : List ℕ). IsSpelled (Accepts g.automaton start) longest x spans) used spelled in
         used_so before after first given'
         (λ used seen. IsWhole (Accepts g.automaton start) longest with empty used (record { event = value; first = record { line = 1; column = 1; offset = 0 }; past = new.place }))
         (taken ++ p.taken) p.seen
         (took_all before now after taken p.taken p.seen lost p.took)
         (given_both first given given' taken p.taken are p.given_are)
         (record {
-          marks = marks;
+          spans = spans;
           spelled = spelled';
-          value = value_is ∙ ap (gathered with empty) (ap events_at spelled'.marks_are ∙ marks_events None [] spelled'.items);
+          value = value_is ∙ ap (gathered with empty) (ap events_at spelled'.spans_are ∙ spans_events None [] spelled'.items);
           first = refl;
           past = s.place_is ∙ ap place_after used;
         })
 
-  pub whole_stopped : {V : Type 0} (with : V → E → V) (empty : V) (asks : V → E → Bool) (stop : Stop) (first given given' : List ℕ) → given ≡ first ++ taken → (p : Pulls longest start taken marks old now (Err stop) new after given given') → new.stop ≡ Some stop
+  pub whole_stopped : {V : Type 0} (with : V → E → V) (empty : V) (asks : V → E → Bool) (stop : Stop) (first given given' : List ℕ) → given ≡ first ++ taken → (p : Pulls longest start taken spans old now (Err stop) new after given given') → new.stop ≡ Some stop
       → Used before after first given' (λ used seen. StopsIn (Accepts g.automaton start) longest (MayAsk g.automaton start) (MayHold with empty asks) used seen stop)
   whole_stopped with empty asks stop first given given' are p halts =
-      let s : Stands g.automaton longest start (taken ++ (p.taken ++ p.seen)) marks new.machine new.place new.first new.stop = rw append-nil at p.stands.1 in
+      let s : Stands g.automaton longest start (taken ++ (p.taken ++ p.seen)) spans new.machine new.place new.first new.stop = rw append-nil at p.stands.1 in
       let used : bytes s.letters ≡ taken ++ p.taken = letters_are (Err stop) p (taken ++ (p.taken ++ p.seen)) s p.seen (sym (append_assoc taken p.taken p.seen)) in
       let w = halted g.automaton new.machine (end_of longest new.first) s.letters s.left new.place new.stop stop halts s.waits in
-      let r = stands_reads g.automaton longest start (taken ++ (p.taken ++ p.seen)) marks new.machine new.place new.first new.stop s false (sym w.0) in
-      let r' : Reads (Accepts g.automaton start) longest ((taken ++ p.taken) ++ p.seen) (taken ++ p.taken) marks stop.place false (Some stop) =
-      subst₂ (λ (x y : List ℕ). Reads (Accepts g.automaton start) longest x y marks stop.place false (Some stop)) (sym (append_assoc taken p.taken p.seen)) used
-      (subst₂ (λ (q : Place) (o : Option Stop). Reads (Accepts g.automaton start) longest (taken ++ (p.taken ++ p.seen)) (bytes s.letters) marks q false o) (sym w.1) halts r) in
+      let r = stands_reads g.automaton longest start (taken ++ (p.taken ++ p.seen)) spans new.machine new.place new.first new.stop s false (sym w.0) in
+      let r' : Reads (Accepts g.automaton start) longest ((taken ++ p.taken) ++ p.seen) (taken ++ p.taken) spans stop.place false (Some stop) =
+      subst₂ (λ (x y : List ℕ). Reads (Accepts g.automaton start) longest x y spans stop.place false (Some stop)) (sym (append_assoc taken p.taken p.seen)) used
+      (subst₂ (λ (q : Place) (o : Option Stop). Reads (Accepts g.automaton start) longest (taken ++ (p.taken ++ p.seen)) (bytes s.letters) spans q false o) (sym w.1) halts r) in
       let left : s.left ≡ p.seen = append_cancel_left (taken ++ p.taken) s.left p.seen (ap (λ (x : List ℕ). x ++ s.left) (sym used) ∙ (sym s.input_is ∙ sym (append_assoc taken p.taken p.seen))) in
       let may : (b : ℕ) → IsTrue (g.automaton.asks new.machine b) → MayAsk g.automaton start (taken ++ p.taken) b =
       (λ b h. (new.machine, subst (λ (x : List ℕ). Leads g.automaton start x new.machine) used s.leads, h)) in
@@ -127,28 +127,28 @@ module _ {M E : Type 0} {g : Ghosts M E} (longest : ℕ) (start : M) (marks : Li
       (taken ++ p.taken) p.seen
       (took_all before now after taken p.taken p.seen lost p.took)
       (given_both first given given' taken p.taken are p.given_are)
-      (Reading marks r' a)
+      (Reading spans r' a)
 
   -- after an event
-  pub whole_event : (m : Spanned E) (first given given' : List ℕ) → given ≡ first ++ taken → (p : Pulls longest start taken marks old now (Ok (Some m)) new after given given')
-      → Lost before (taken ++ p.taken) after × (new.place.offset ≡ length (taken ++ p.taken)) × StandsAt longest start (taken ++ p.taken) (marks ++ m ∷ []) new × (given' ≡ first ++ (taken ++ p.taken))
+  pub whole_event : (m : Spanned E) (first given given' : List ℕ) → given ≡ first ++ taken → (p : Pulls longest start taken spans old now (Ok (Some m)) new after given given')
+      → Lost before (taken ++ p.taken) after × (new.place.offset ≡ length (taken ++ p.taken)) × StandsAt longest start (taken ++ p.taken) (spans ++ m ∷ []) new × (given' ≡ first ++ (taken ++ p.taken))
   whole_event m first given given' are p = (lost_all before after (taken ++ p.taken) p.seen (took_all before now after taken p.taken p.seen lost p.took), omega (arith, p.offset_is, length-append taken p.taken), p.stands, given_both first given given' taken p.taken are p.given_are)
 
   -- if an event could not be stored
-  pub whole_unkept : {V : Type 0} (with : V → E → V) (empty : V) (asks : V → E → Bool) (m : Spanned E) (first given given' : List ℕ) → given ≡ first ++ taken → (p : Pulls longest start taken marks old now (Ok (Some m)) new after given given') → new.stop ≡ None → m.past ≡ new.place
-      → IsTrue (asks (gathered with empty (events_at marks)) m.event)
+  pub whole_unkept : {V : Type 0} (with : V → E → V) (empty : V) (asks : V → E → Bool) (m : Spanned E) (first given given' : List ℕ) → given ≡ first ++ taken → (p : Pulls longest start taken spans old now (Ok (Some m)) new after given given') → new.stop ≡ None → m.past ≡ new.place
+      → IsTrue (asks (gathered with empty (events_at spans)) m.event)
       → Used before after first given' (λ used seen. StopsIn (Accepts g.automaton start) longest (MayAsk g.automaton start) (MayHold with empty asks) used seen (record { place = new.place; why = Memory }))
   whole_unkept with empty asks m first given given' are p running past h =
       let s = p.stands.1 in
-      let used : bytes s.letters ≡ taken ++ p.taken = same_front (bytes s.letters) (taken ++ p.taken) s.left [] (sym s.input_is ∙ sym (append-nil (taken ++ p.taken)))
+      let used : bytes s.letters ≡ taken ++ p.taken = same_prefix (bytes s.letters) (taken ++ p.taken) s.left [] (sym s.input_is ∙ sym (append-nil (taken ++ p.taken)))
       (sym (place_after-offset (bytes s.letters)) ∙ (sym (ap (λ (q : Place). q.offset) s.place_is) ∙ omega (arith, p.offset_is, length-append taken p.taken))) in
-      let r = stands_reads g.automaton longest start (taken ++ p.taken) (marks ++ m ∷ []) new.machine new.place new.first new.stop s (is_complete new) refl in
-      let r' : Reads (Accepts g.automaton start) longest (taken ++ p.taken) (taken ++ p.taken) (marks ++ m ∷ []) m.past (is_complete new) None =
-      subst₂ (λ (q : Place) (o : Option Stop). Reads (Accepts g.automaton start) longest (taken ++ p.taken) (taken ++ p.taken) (marks ++ m ∷ []) q (is_complete new) o) (sym past) running
-      (subst (λ (x : List ℕ). Reads (Accepts g.automaton start) longest (taken ++ p.taken) x (marks ++ m ∷ []) new.place (is_complete new) new.stop) used r) in
+      let r = stands_reads g.automaton longest start (taken ++ p.taken) (spans ++ m ∷ []) new.machine new.place new.first new.stop s (is_complete new) refl in
+      let r' : Reads (Accepts g.automaton start) longest (taken ++ p.taken) (taken ++ p.taken) (spans ++ m ∷ []) m.past (is_complete new) None =
+      subst₂ (λ (q : Place) (o : Option Stop). Reads (Accepts g.automaton start) longest (taken ++ p.taken) (taken ++ p.taken) (spans ++ m ∷ []) q (is_complete new) o) (sym past) running
+      (subst (λ (x : List ℕ). Reads (Accepts g.automaton start) longest (taken ++ p.taken) x (spans ++ m ∷ []) new.place (is_complete new) new.stop) used r) in
       used_so before after first given'
       (λ used seen. StopsIn (Accepts g.automaton start) longest (MayAsk g.automaton start) (MayHold with empty asks) used seen (record { place = new.place; why = Memory }))
       (taken ++ p.taken) p.seen
       (took_all before now after taken p.taken p.seen lost p.took)
       (given_both first given given' taken p.taken are p.given_are)
-      (Keeping marks m (is_complete new) r' h (ap (λ (q : Place). let t : Stop = record { place = q; why = Memory } in t) (sym past)))
+      (Keeping spans m (is_complete new) r' h (ap (λ (q : Place). let t : Stop = record { place = q; why = Memory } in t) (sym past)))

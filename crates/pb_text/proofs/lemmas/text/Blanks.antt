@@ -86,7 +86,7 @@ IsEither text =
     ((before : List ℕ) → in_comment before ≡ false → PassesFrom before text → IsBlank text)
     × ((before : List ℕ) → in_comment before ≡ true → PassesFrom before text → EndsComment text)
 
-module _ (b : ℕ) (rest : List ℕ) (behind : IsEither rest) (before : List ℕ) where
+module _ (b : ℕ) (rest : List ℕ) (following : IsEither rest) (before : List ℕ) where
   commented : EndsComment rest → b ≡ 42 → IsBlank (b ∷ rest)
   commented (inl l) e = subst (λ (x : ℕ). IsBlank (x ∷ rest)) (sym e) (OpenComment rest l)
   commented (inr (line, more, is, l, h)) e =
@@ -103,7 +103,7 @@ module _ (b : ℕ) (rest : List ℕ) (behind : IsEither rest) (before : List ℕ
       by_star w true e =
           let is : b ≡ 42 = eqb-true b 42 e in
           let starred : in_comment (before ++ b ∷ []) ≡ true = subst (λ (x : ℕ). in_comment (before ++ x ∷ []) ≡ true) (sym is) (in_comment-snoc before 42) in
-          commented (behind.1 (before ++ b ∷ []) starred h) is
+          commented (following.1 (before ++ b ∷ []) starred h) is
       by_star w false e = absurd (not_passed (is_white b) (nat_eq b 42) (in_comment before) w e c p)
         where
           not_passed : (x y z : Bool) → x ≡ false → y ≡ false → z ≡ false → ((x || y) || z) ≡ true → ⊥
@@ -112,7 +112,7 @@ module _ (b : ℕ) (rest : List ℕ) (behind : IsEither rest) (before : List ℕ
           not_passed false false z u v w k = cc
 
       by_white : (x : Bool) → is_white b ≡ x → IsBlank (b ∷ rest)
-      by_white true w = White b rest w (behind.0 (before ++ b ∷ []) (after_white w) h)
+      by_white true w = White b rest w (following.0 (before ++ b ∷ []) (after_white w) h)
       by_white false w = by_star w (nat_eq b 42) refl
 
   inside : in_comment before ≡ true → PassesFrom (before ++ b ∷ []) rest → EndsComment (b ∷ rest)
@@ -125,16 +125,16 @@ module _ (b : ℕ) (rest : List ℕ) (behind : IsEither rest) (before : List ℕ
       by_feed : (x : Bool) → nat_eq b 10 ≡ x → EndsComment (b ∷ rest)
       by_feed true e =
           let fed : in_comment (before ++ b ∷ []) ≡ false = in_comment-snoc before b ∙ ap (λ x. not x && (nat_eq b 42 || in_comment before)) e in
-          inr ([], rest, ap (λ (x : ℕ). x ∷ rest) (eqb-true b 10 e), tt, behind.0 (before ++ b ∷ []) fed h)
+          inr ([], rest, ap (λ (x : ℕ). x ∷ rest) (eqb-true b 10 e), tt, following.0 (before ++ b ∷ []) fed h)
       by_feed false e =
           let n : IsTrue (not (nat_eq b 10)) = ap not e in
-          with_byte n (behind.1 (before ++ b ∷ []) (stays before b n c) h)
+          with_byte n (following.1 (before ++ b ∷ []) (stays before b n c) h)
 
 either_way : (text : List ℕ) → IsEither text
 either_way [] = ((λ before c h. Nothing), (λ before c h. inl tt))
 either_way (b ∷ rest) =
-    let behind = either_way rest in
-    ((λ before c h. outside b rest behind before c h.0 h.1), (λ before c h. inside b rest behind before c h.1))
+    let following = either_way rest in
+    ((λ before c h. outside b rest following before c h.0 h.1), (λ before c h. inside b rest following before c h.1))
 
 pub passes_blank : (text : List ℕ) → PassesAll text → IsBlank text
 passes_blank text h = (either_way text).0 [] refl (each_from text [] h)

@@ -129,14 +129,14 @@ module _ {S E : Type 0} (m : Automaton S E) where
     nothing_read s _ items' more (AtLast l x rest next h n a) k e g = not_empty l.byte _ e
 
     -- If one accepted text is a prefix of another, both are the same statements.
-    pub one_front : (bs : List ℕ) → Known bs
-    one_front [] s items items' more h k e g = nothing_read s items items' more (first_of m s items h) (first_of m s items' k) e g
-    one_front (b ∷ bs) s items items' more h k e g =
-        by_first s b bs more (one_front bs) items items' (first_of m s items h) (first_of m s items' k) e g
+    pub only_prefix : (bs : List ℕ) → Known bs
+    only_prefix [] s items items' more h k e g = nothing_read s items items' more (first_of m s items h) (first_of m s items' k) e g
+    only_prefix (b ∷ bs) s items items' more h k e g =
+        by_first s b bs more (only_prefix bs) items items' (first_of m s items h) (first_of m s items' k) e g
 
     pub one_spelling : (s : S) (items items' : List (Item E)) → Accepts m s items → Accepts m s items' → bytes_of items ≡ bytes_of items' → items ≡ items'
     one_spelling s items items' h k e =
-        (one_front (bytes_of items) s items items' [] h k refl (sym e ∙ sym (append-nil (bytes_of items)))).0
+        (only_prefix (bytes_of items) s items items' [] h k refl (sym e ∙ sym (append-nil (bytes_of items)))).0
 
-    pub no_front : (s : S) (items items' : List (Item E)) (more : List ℕ) → Accepts m s items → Accepts m s items' → bytes_of items' ≡ bytes_of items ++ more → more ≡ []
-    no_front s items items' more h k e = (one_front (bytes_of items) s items items' more h k refl e).1
+    pub prefix_free : (s : S) (items items' : List (Item E)) (more : List ℕ) → Accepts m s items → Accepts m s items' → bytes_of items' ≡ bytes_of items ++ more → more ≡ []
+    prefix_free s items items' more h k e = (only_prefix (bytes_of items) s items items' more h k refl e).1

@@ -9,22 +9,22 @@ use Rattle.pb_text.specs.declared.place.Why.{Why}
 use Rattle.pb_text.specs.declared.place.Why.TheVariants.{Byte, TooLarge, Ended, TooLong, Read, Memory}
 
 module _ {E : Type 0} (one other : List (Item E) → Type 0) (to : (items : List (Item E)) → one items → other items) (from : (items : List (Item E)) → other items → one items) (longest : ℕ) where
-  pub viable : (front : List ℕ) → Viable one front → Viable other front
-  viable front (items, h, k) = (items, to items h, k)
+  pub viable : (prefix : List ℕ) → Viable one prefix → Viable other prefix
+  viable prefix (items, h, k) = (items, to items h, k)
 
-  is_full : (front : List ℕ) → IsFull one longest front → IsFull other longest front
-  is_full front (inl e) = inl e
-  is_full front (inr h) = inr (λ items k. h items (from items k))
+  is_full : (prefix : List ℕ) → IsFull one longest prefix → IsFull other longest prefix
+  is_full prefix (inl e) = inl e
+  is_full prefix (inr h) = inr (λ items k. h items (from items k))
 
-  full_back : (front : List ℕ) → IsFull other longest front → IsFull one longest front
-  full_back front (inl e) = inl e
-  full_back front (inr h) = inr (λ items k. h items (to items k))
+  full_back : (prefix : List ℕ) → IsFull other longest prefix → IsFull one longest prefix
+  full_back prefix (inl e) = inl e
+  full_back prefix (inr h) = inr (λ items k. h items (to items k))
 
-  viable_back : (front : List ℕ) → Viable other front → Viable one front
-  viable_back front (items, h, k) = (items, from items h, k)
+  viable_back : (prefix : List ℕ) → Viable other prefix → Viable one prefix
+  viable_back prefix (items, h, k) = (items, from items h, k)
 
-  is_under_way : (used : List ℕ) (marks : List (Spanned E)) → IsUnderWay one longest used marks → IsUnderWay other longest used marks
-  is_under_way used marks u = record {
+  is_under_way : (used : List ℕ) (spans : List (Spanned E)) → IsUnderWay one longest used spans → IsUnderWay other longest used spans
+  is_under_way used spans u = record {
     viable = viable used u.viable;
     seen = λ items h. u.seen items (from items h);
     unfinished = λ items h. u.unfinished items (from items h);
@@ -43,13 +43,13 @@ module _ {E : Type 0} (one other : List (Item E) → Type 0) (to : (items : List
   explains used left Read h = tt
   explains used left Memory (b, more, e, v, room) = (b, more, e, viable (used ++ b ∷ []) v, λ f. room (full_back used f))
 
-  abbrev pub is_spelled : (used : List ℕ) (marks : List (Spanned E)) → IsSpelled one longest used marks → IsSpelled other longest used marks
-  is_spelled used marks s = record { items = s.items; spelled = to s.items s.spelled; used_are = s.used_are; marks_are = s.marks_are; within = s.within; short = s.short }
+  abbrev pub is_spelled : (used : List ℕ) (spans : List (Spanned E)) → IsSpelled one longest used spans → IsSpelled other longest used spans
+  is_spelled used spans s = record { items = s.items; spelled = to s.items s.spelled; used_are = s.used_are; spans_are = s.spans_are; within = s.within; short = s.short }
 
-  answers : (used left : List ℕ) (marks : List (Spanned E)) (place : Place) (done : Bool) (stop : Option Stop) → Answers one longest used left marks place done stop → Answers other longest used left marks place done stop
-  answers used left marks place true stop (h, e) = (is_spelled used marks h, e)
-  answers used left marks place false None (h, e) = (is_under_way used marks h, e)
-  answers used left marks place false (Some s) (h, e, k) = (is_under_way used marks h, e, explains used left s.why k)
+  answers : (used left : List ℕ) (spans : List (Spanned E)) (place : Place) (done : Bool) (stop : Option Stop) → Answers one longest used left spans place done stop → Answers other longest used left spans place done stop
+  answers used left spans place true stop (h, e) = (is_spelled used spans h, e)
+  answers used left spans place false None (h, e) = (is_under_way used spans h, e)
+  answers used left spans place false (Some s) (h, e, k) = (is_under_way used spans h, e, explains used left s.why k)
 
-  pub reads : (input used : List ℕ) (marks : List (Spanned E)) (place : Place) (done : Bool) (stop : Option Stop) → Reads one longest input used marks place done stop → Reads other longest input used marks place done stop
-  reads input used marks place done stop r = record { left = r.left; input_is = r.input_is; place_is = r.place_is; answer = answers used r.left marks place done stop r.answer }
+  pub reads : (input used : List ℕ) (spans : List (Spanned E)) (place : Place) (done : Bool) (stop : Option Stop) → Reads one longest input used spans place done stop → Reads other longest input used spans place done stop
+  reads input used spans place done stop r = record { left = r.left; input_is = r.input_is; place_is = r.place_is; answer = answers used r.left spans place done stop r.answer }

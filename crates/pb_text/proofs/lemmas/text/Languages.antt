@@ -25,8 +25,8 @@ regroup⁻¹ P Q R p (a, bc, e, h, (b, c, f, i, k)) =
 pub inside : (P P' Q : Language) (p : List Letter) → ((q : List Letter) → P q → P' q) → (P ⋅ Q) p → (P' ⋅ Q) p
 inside P P' Q p f (a, b, e, h, k) = (a, b, e, f a h, k)
 
-pub behind_it : (P Q Q' : Language) (p : List Letter) → ((q : List Letter) → Q q → Q' q) → (P ⋅ Q) p → (P ⋅ Q') p
-behind_it P Q Q' p f (a, b, e, h, k) = (a, b, e, h, f b k)
+pub after_it : (P Q Q' : Language) (p : List Letter) → ((q : List Letter) → Q q → Q' q) → (P ⋅ Q) p → (P ⋅ Q') p
+after_it P Q Q' p f (a, b, e, h, k) = (a, b, e, h, f b k)
 
 pub map-append : (f : ℕ → Letter) (xs : List ℕ) (x : ℕ) → map f xs ++ f x ∷ [] ≡ map f (xs ++ x ∷ [])
 map-append f [] x = refl

@@ -1,6 +1,6 @@
 -- The bytes of a text that belong to statements. Offered to other crates.
 use Rattle.std.proofs.Common.{◌≡◌, ℕ, ◌-◌, ◌<◌, ◌≤◌, List, [], ◌∷◌, ◌++◌, length, Bool, cond, Option, Some, None, refl, ap, ◌∙◌, arith, length-append, inl, inr, le-leb}
-use Rattle.pb_text.specs.meaning.Spelling.{Item, bytes, place_after, marks_since}
+use Rattle.pb_text.specs.meaning.Spelling.{Item, bytes, place_after, spans_since}
 use Rattle.pb_text.specs.meaning.Reading.{AreShort, Overruns, open_bytes, byte_limit}
 use Rattle.pb_text.specs.contract.Standing.{EndBy}
 use Rattle.pb_text.specs.engine.SpentBytes.{end_of}
@@ -24,15 +24,15 @@ module _ {E : Type 0} (longest : ℕ) where
   AreShort-append n (m ∷ a) b h k = (h.0, AreShort-append n a b h.1 k)
 
   -- statements that have ended have none of the bytes that follow
-  pub AreShort-grown : (n k : ℕ) (marks : List (Spanned E)) → EndBy n marks → n ≤ k → AreShort longest n marks → AreShort longest k marks
+  pub AreShort-grown : (n k : ℕ) (spans : List (Spanned E)) → EndBy n spans → n ≤ k → AreShort longest n spans → AreShort longest k spans
   AreShort-grown n k [] e le h = tt
-  AreShort-grown n k (m ∷ marks) e le h = (omega (arith, e.0, h.0), AreShort-grown n k marks e.1 le h.1)
+  AreShort-grown n k (m ∷ spans) e le h = (omega (arith, e.0, h.0), AreShort-grown n k spans e.1 le h.1)
 
-  later_short : (n : ℕ) (before : List ℕ) (later : List (Item E)) → n ≤ length before → AreShort longest n (marks_since None before later)
+  later_short : (n : ℕ) (before : List ℕ) (later : List (Item E)) → n ≤ length before → AreShort longest n (spans_since None before later)
   later_short n before [] le = tt
   later_short n before (i ∷ rest) le = (omega (arith, gap_longer before i.gap), later_short n (before ++ (i.gap ++ bytes i.text)) rest (omega (arith, length-append before (i.gap ++ bytes i.text))))
 
-  pub since_short : (first : Option Place) (before : List ℕ) (later : List (Item E)) → length before ≤ end_of longest first → AreShort longest (length before) (marks_since first before later)
+  pub since_short : (first : Option Place) (before : List ℕ) (later : List (Item E)) → length before ≤ end_of longest first → AreShort longest (length before) (spans_since first before later)
   since_short None before later le = later_short (length before) before later (omega arith)
   since_short (Some p) before [] le = tt
   since_short (Some p) before (i ∷ rest) le = (omega arith, later_short (length before) (before ++ (i.gap ++ bytes i.text)) rest (omega (arith, length-append before (i.gap ++ bytes i.text))))
@@ -46,12 +46,12 @@ module _ {E : Type 0} (longest : ℕ) where
   Overruns-split n (m ∷ a) b e (inl h) = absurd (omega (arith, e.0, h.1))
   Overruns-split n (m ∷ a) b e (inr h) = Overruns-split n a b e.1 h
 
-  later_fits : 0 < longest → (n : ℕ) (before : List ℕ) (later : List (Item E)) → n ≤ length before → Overruns longest n (marks_since None before later) → ⊥
+  later_fits : 0 < longest → (n : ℕ) (before : List ℕ) (later : List (Item E)) → n ≤ length before → Overruns longest n (spans_since None before later) → ⊥
   later_fits some n before [] le h = h
   later_fits some n before (i ∷ rest) le (inl h) = omega (arith, gap_longer before i.gap, h.0)
   later_fits some n before (i ∷ rest) le (inr h) = later_fits some n (before ++ (i.gap ++ bytes i.text)) rest (omega (arith, length-append before (i.gap ++ bytes i.text))) h
 
-  pub since_fits : 0 < longest → (first : Option Place) (before : List ℕ) (later : List (Item E)) → length before < end_of longest first → Overruns longest (length before) (marks_since first before later) → ⊥
+  pub since_fits : 0 < longest → (first : Option Place) (before : List ℕ) (later : List (Item E)) → length before < end_of longest first → Overruns longest (length before) (spans_since first before later) → ⊥
   since_fits some None before later lt h = later_fits some (length before) before later (omega arith) h
   since_fits some (Some p) before [] lt h = h
   since_fits some (Some p) before (i ∷ rest) lt (inl h) = omega (arith, h.0)

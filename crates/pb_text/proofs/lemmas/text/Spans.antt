@@ -9,8 +9,8 @@ pub all_rest : (piece : List ℕ) (i : ℕ) → take (length piece - i) (drop i 
 all_rest piece i = ap (λ n. take n (drop i piece)) (sym (length-drop i piece)) ∙ take-length (drop i piece)
 
 -- a prefix of a piece, followed by a prefix of the rest
-pub front_parts : (piece : List ℕ) (i j : ℕ) → take (i + j) piece ≡ take i piece ++ take j (take (length piece - i) (drop i piece))
-front_parts piece i j = take-add i j piece ∙ ap (λ (xs : List ℕ). take i piece ++ take j xs) (sym (all_rest piece i))
+pub prefix_parts : (piece : List ℕ) (i j : ℕ) → take (i + j) piece ≡ take i piece ++ take j (take (length piece - i) (drop i piece))
+prefix_parts piece i j = take-add i j piece ∙ ap (λ (xs : List ℕ). take i piece ++ take j xs) (sym (all_rest piece i))
 
 -- the bytes of a piece so far, and the next one
 pub one_further : (input piece : List ℕ) (i : ℕ) → i < length piece → (input ++ take i piece) ++ get_or piece i 0 ∷ [] ≡ input ++ take (i + 1) piece
@@ -26,4 +26,4 @@ module _ {S E : Type 0} (m : Automaton S E) where
   pub runs_further : (old : S) (piece : List ℕ) (i j : ℕ) (mid new : S) → Runs m old (take i piece) mid → Runs m mid (take j (take (length piece - i) (drop i piece))) new
       → Runs m old (take (i + j) piece) new
   runs_further old piece i j mid new first rest =
-      subst (λ (xs : List ℕ). Runs m old xs new) (sym (front_parts piece i j)) (runs_join old (take i piece) mid (take j (take (length piece - i) (drop i piece))) new first rest)
+      subst (λ (xs : List ℕ). Runs m old xs new) (sym (prefix_parts piece i j)) (runs_join old (take i piece) mid (take j (take (length piece - i) (drop i piece))) new first rest)

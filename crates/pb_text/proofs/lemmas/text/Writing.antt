@@ -31,40 +31,40 @@ module _ {S : Type 0} (contents : S → Option (List ℕ)) (faults : S → ℕ) 
     faults_are = k.faults_are ∙ h.faults_are;
   }
   writes_then a b c x y (Err e) h k = record {
-    front = x ++ k.front;
+    prefix = x ++ k.prefix;
     rest = k.rest;
-    text_is = ap (λ (z : List ℕ). x ++ z) k.text_is ∙ sym (append_assoc x k.front k.rest);
-    appends = Appends-append (contents a) (contents b) (contents c) x k.front h.appends k.appends;
+    text_is = ap (λ (z : List ℕ). x ++ z) k.text_is ∙ sym (append_assoc x k.prefix k.rest);
+    appends = Appends-append (contents a) (contents b) (contents c) x k.prefix h.appends k.appends;
     faults_are = k.faults_are ∙ ap one_more h.faults_are;
   }
 
   -- more of the text after a fault
   pub broke_more : (a b : S) (x y : List ℕ) → Broke contents faults a x b → Broke contents faults a (x ++ y) b
   broke_more a b x y h = record {
-    front = h.front;
+    prefix = h.prefix;
     rest = h.rest ++ y;
-    text_is = ap (λ (z : List ℕ). z ++ y) h.text_is ∙ append_assoc h.front h.rest y;
+    text_is = ap (λ (z : List ℕ). z ++ y) h.text_is ∙ append_assoc h.prefix h.rest y;
     appends = h.appends;
     faults_are = h.faults_are;
   }
 
   -- one more piece at the start of the rest
-  pub piece_taken : (a b c : S) (text front rest : List ℕ) (n : ℕ) → text ≡ front ++ rest → Wrote contents faults a front b → Takes contents faults b rest (Ok n) c
+  pub piece_taken : (a b c : S) (text prefix rest : List ℕ) (n : ℕ) → text ≡ prefix ++ rest → Wrote contents faults a prefix b → Takes contents faults b rest (Ok n) c
       → (x : List ℕ) × (text ≡ x ++ take (length rest - n) (drop n rest)) × Wrote contents faults a x c
-  piece_taken a b c text front rest n e h k = (
-    front ++ take n rest,
-    e ∙ (ap (λ (z : List ℕ). front ++ z) (sym (take-append-drop n rest) ∙ ap (λ (z : List ℕ). take n rest ++ z) (sym (take_rest rest n))) ∙ sym (append_assoc front (take n rest) (take (length rest - n) (drop n rest)))),
-    record { appends = Appends-append (contents a) (contents b) (contents c) front (take n rest) h.appends k.2; faults_are = k.3 ∙ h.faults_are },
+  piece_taken a b c text prefix rest n e h k = (
+    prefix ++ take n rest,
+    e ∙ (ap (λ (z : List ℕ). prefix ++ z) (sym (take-append-drop n rest) ∙ ap (λ (z : List ℕ). take n rest ++ z) (sym (take_rest rest n))) ∙ sym (append_assoc prefix (take n rest) (take (length rest - n) (drop n rest)))),
+    record { appends = Appends-append (contents a) (contents b) (contents c) prefix (take n rest) h.appends k.2; faults_are = k.3 ∙ h.faults_are },
   )
 
-  pub piece_broke : (a b c : S) (text front rest : List ℕ) (e : Failed) → text ≡ front ++ rest → Wrote contents faults a front b → Takes contents faults b rest (Err e) c → Broke contents faults a text c
-  piece_broke a b c text front rest e h w k = record {
-    front = front;
+  pub piece_broke : (a b c : S) (text prefix rest : List ℕ) (e : Failed) → text ≡ prefix ++ rest → Wrote contents faults a prefix b → Takes contents faults b rest (Err e) c → Broke contents faults a text c
+  piece_broke a b c text prefix rest e h w k = record {
+    prefix = prefix;
     rest = rest;
     text_is = h;
-    appends = subst (λ (z : List ℕ). Appends (contents a) (contents c) z) (append-nil front) (Appends-append (contents a) (contents b) (contents c) front [] w.appends (Keeps-appends (contents b) (contents c) k.0));
+    appends = subst (λ (z : List ℕ). Appends (contents a) (contents c) z) (append-nil prefix) (Appends-append (contents a) (contents b) (contents c) prefix [] w.appends (Keeps-appends (contents b) (contents c) k.0));
     faults_are = k.1 ∙ ap one_more w.faults_are;
   }
 
-  pub all_written : (a b : S) (text front rest : List ℕ) → text ≡ front ++ rest → rest ≡ [] → Wrote contents faults a front b → Wrote contents faults a text b
-  all_written a b text front rest e none w = subst (λ (z : List ℕ). Wrote contents faults a z b) (sym (e ∙ (ap (λ (z : List ℕ). front ++ z) none ∙ append-nil front))) w
+  pub all_written : (a b : S) (text prefix rest : List ℕ) → text ≡ prefix ++ rest → rest ≡ [] → Wrote contents faults a prefix b → Wrote contents faults a text b
+  all_written a b text prefix rest e none w = subst (λ (z : List ℕ). Wrote contents faults a z b) (sym (e ∙ (ap (λ (z : List ℕ). prefix ++ z) none ∙ append-nil prefix))) w

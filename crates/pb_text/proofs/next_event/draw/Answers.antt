@@ -34,10 +34,10 @@ returns-in-Err-clause-draws g c =
       took = seen.1;
       given_are = d.given_are;
       offset_is = ap (λ (q : Place). q.offset) c.halt.ensures.place ∙ d.offset_is;
-      stands = λ longest start input marks s.
-          let t = rw append-nil at (d.stands longest start input marks s) in
-          let k : Stands g.M.Machine.automaton longest start (input ++ d.taken) marks f.machine f.place f.first None =
-          subst (λ (o : Option Stop). Stands g.M.Machine.automaton longest start (input ++ d.taken) marks f.machine f.place f.first o) p.running t.1 in
-          let e = stands_failed g.M.Machine.automaton longest start f.machine (input ++ d.taken) marks f.place f.first seen.0 (p.unfinished refl) k in
+      stands = λ longest start input spans s.
+          let t = rw append-nil at (d.stands longest start input spans s) in
+          let k : Stands g.M.Machine.automaton longest start (input ++ d.taken) spans f.machine f.place f.first None =
+          subst (λ (o : Option Stop). Stands g.M.Machine.automaton longest start (input ++ d.taken) spans f.machine f.place f.first o) p.running t.1 in
+          let e = stands_failed g.M.Machine.automaton longest start f.machine (input ++ d.taken) spans f.place f.first seen.0 (p.unfinished refl) k in
           (c.halt.ensures.longest ∙ t.0, rw (append-nil, ← append_assoc input d.taken seen.0, c.halt.ensures.stop, c.halt.ensures.result, c.halt.ensures.machine, c.halt.ensures.place, c.halt.ensures.first) e);
     }

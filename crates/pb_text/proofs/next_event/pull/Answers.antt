@@ -6,7 +6,7 @@ use Rattle.pb_text.proofs.lemmas.source.PullsInARow.{row}
 use Rattle.pb_text.proofs.next_event.pull.Goals as goal
 
 pub returns-in-Some-clause-pulls : goal.returns-in-Some-clause-pulls
-returns-in-Some-clause-pulls g c longest start input marks counts s =
+returns-in-Some-clause-pulls g c longest start input spans counts s =
     let f = c.args.feeder.now in
     let before = g.S.Source.left c.args.source.now in
     let seen = seen_after before [] before (lost_nothing before) in
@@ -17,11 +17,11 @@ returns-in-Some-clause-pulls g c longest start input marks counts s =
       took = seen.1;
       given_are = sym (append-nil (g.S.Source.history c.args.source.now));
       offset_is = omega arith;
-      stands = (s.0, rw append-nil (stands_more g.M.Machine.automaton longest start f.machine input marks f.place f.first seen.0 f.stop counts (λ e. cc) s.1));
+      stands = (s.0, rw append-nil (stands_more g.M.Machine.automaton longest start f.machine input spans f.place f.first seen.0 f.stop counts (λ e. cc) s.1));
     }
 
 pub returns-then-is_done-clause-pulls : goal.returns-then-is_done-clause-pulls
-returns-then-is_done-clause-pulls g c longest start input marks counts s =
+returns-then-is_done-clause-pulls g c longest start input spans counts s =
     let f = c.args.feeder.now in
     let before = g.S.Source.left c.args.source.now in
     let seen = seen_after before [] before (lost_nothing before) in
@@ -32,7 +32,7 @@ returns-then-is_done-clause-pulls g c longest start input marks counts s =
       took = seen.1;
       given_are = sym (append-nil (g.S.Source.history c.args.source.now));
       offset_is = omega arith;
-      stands = (s.0, rw append-nil (stands_more g.M.Machine.automaton longest start f.machine input marks f.place f.first seen.0 f.stop counts (λ e. done) s.1));
+      stands = (s.0, rw append-nil (stands_more g.M.Machine.automaton longest start f.machine input spans f.place f.first seen.0 f.stop counts (λ e. done) s.1));
     }
 
 pub loop-event-init : goal.loop-event-init
@@ -60,39 +60,39 @@ loop-event-preserved g c =
     }
 
 pub returns-in-Ok-Some-clause-pulls : goal.returns-in-Ok-Some-clause-pulls
-returns-in-Ok-Some-clause-pulls g c longest start input marks counts s =
+returns-in-Ok-Some-clause-pulls g c longest start input spans counts s =
     let d = rw (c.in-Ok-Some.is, c.in-Ok-Some.field-0-is) at c.draw.ensures in
     let before = g.S.Source.left c.args.source.now in
     let after = g.S.Source.left c.draw.new.source in
     let given = g.S.Source.history c.args.source.now in
     let given' = g.S.Source.history c.draw.new.source in
-    pulls_event longest start input marks c.args.feeder.now c.draw.new.feeder before after given given' s c.in-Ok-Some.event
+    pulls_event longest start input spans c.args.feeder.now c.draw.new.feeder before after given given' s c.in-Ok-Some.event
     (draws_join c.args.feeder.now c.loop-event.feeder c.draw.new.feeder before (g.S.Source.left c.loop-event.source) after given (g.S.Source.history c.loop-event.source) given' (Ok (Some c.in-Ok-Some.event)) c.loop-event.invariant.drawn d.draws)
 
 pub returns-in-Err-clause-pulls : goal.returns-in-Err-clause-pulls
-returns-in-Err-clause-pulls g c longest start input marks counts s =
+returns-in-Err-clause-pulls g c longest start input spans counts s =
     let d = rw c.in-Err.is at c.draw.ensures in
     let before = g.S.Source.left c.args.source.now in
     let after = g.S.Source.left c.draw.new.source in
     let given = g.S.Source.history c.args.source.now in
     let given' = g.S.Source.history c.draw.new.source in
-    pulls_stop longest start input marks c.args.feeder.now c.draw.new.feeder before after given given' s c.in-Err.stop
+    pulls_stop longest start input spans c.args.feeder.now c.draw.new.feeder before after given given' s c.in-Err.stop
     (draws_join c.args.feeder.now c.loop-event.feeder c.draw.new.feeder before (g.S.Source.left c.loop-event.source) after given (g.S.Source.history c.loop-event.source) given' (Err c.in-Err.stop) c.loop-event.invariant.drawn d.draws)
 
 pub returns-then-is_done-clause-row : goal.returns-then-is_done-clause-row
-returns-then-is_done-clause-row g c longest start before marks h =
+returns-then-is_done-clause-row g c longest start before spans h =
     let f = c.args.feeder.now in
     let now = g.S.Source.left c.args.source.now in
-    row {g = g.M.Machine} longest start before now now marks f f h (Ok None) (returns-then-is_done-clause-pulls g c longest start h.used marks (rw h.running tt) h.stands) h.running (λ e. sym c.if-is_done.ensures.done) (λ m e. cc e)
+    row {g = g.M.Machine} longest start before now now spans f f h (Ok None) (returns-then-is_done-clause-pulls g c longest start h.used spans (rw h.running tt) h.stands) h.running (λ e. sym c.if-is_done.ensures.done) (λ m e. cc e)
 
 pub returns-in-Ok-Some-clause-row : goal.returns-in-Ok-Some-clause-row
-returns-in-Ok-Some-clause-row g c longest start before marks h =
+returns-in-Ok-Some-clause-row g c longest start before spans h =
     let f = c.args.feeder.now in
     let d = rw (c.in-Ok-Some.is, c.in-Ok-Some.field-0-is) at c.draw.ensures in
-    row {g = g.M.Machine} longest start before (g.S.Source.left c.args.source.now) (g.S.Source.left c.draw.new.source) marks f c.draw.new.feeder h (Ok (Some c.in-Ok-Some.event)) (returns-in-Ok-Some-clause-pulls g c longest start h.used marks (rw h.running tt) h.stands) d.stop (λ e. cc e) d.past
+    row {g = g.M.Machine} longest start before (g.S.Source.left c.args.source.now) (g.S.Source.left c.draw.new.source) spans f c.draw.new.feeder h (Ok (Some c.in-Ok-Some.event)) (returns-in-Ok-Some-clause-pulls g c longest start h.used spans (rw h.running tt) h.stands) d.stop (λ e. cc e) d.past
 
 pub returns-in-Err-clause-row : goal.returns-in-Err-clause-row
-returns-in-Err-clause-row g c longest start before marks h =
+returns-in-Err-clause-row g c longest start before spans h =
     let f = c.args.feeder.now in
     let d = rw c.in-Err.is at c.draw.ensures in
-    row {g = g.M.Machine} longest start before (g.S.Source.left c.args.source.now) (g.S.Source.left c.draw.new.source) marks f c.draw.new.feeder h (Err c.in-Err.stop) (returns-in-Err-clause-pulls g c longest start h.used marks (rw h.running tt) h.stands) d.stop (λ e. cc e) (λ m e. cc e)
+    row {g = g.M.Machine} longest start before (g.S.Source.left c.args.source.now) (g.S.Source.left c.draw.new.source) spans f c.draw.new.feeder h (Err c.in-Err.stop) (returns-in-Err-clause-pulls g c longest start h.used spans (rw h.running tt) h.stands) d.stop (λ e. cc e) (λ m e. cc e)

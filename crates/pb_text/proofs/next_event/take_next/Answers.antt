@@ -17,9 +17,9 @@ returns-in-Ok-None-clause-draws g c =
       took = seen_end before [] before (g.S.Source.left c.peek.new.self) (lost_nothing before) p.0 p.1;
       given_are = p.3 ∙ sym (append-nil (g.S.Source.history c.args.source.now));
       offset_is = ap (λ (q : Place). q.offset) c.halt.ensures.place ∙ omega arith;
-      stands = λ longest start input marks s.
-          let k : Stands g.M.Machine.automaton longest start input marks f.machine f.place f.first None = subst (λ (o : Option Stop). Stands g.M.Machine.automaton longest start input marks f.machine f.place f.first o) c.requires.running s.1 in
-          let e = stands_ended g.M.Machine.automaton longest start f.machine input marks f.place f.first c.requires.unfinished k in
+      stands = λ longest start input spans s.
+          let k : Stands g.M.Machine.automaton longest start input spans f.machine f.place f.first None = subst (λ (o : Option Stop). Stands g.M.Machine.automaton longest start input spans f.machine f.place f.first o) c.requires.running s.1 in
+          let e = stands_ended g.M.Machine.automaton longest start f.machine input spans f.place f.first c.requires.unfinished k in
           (c.halt.ensures.longest ∙ s.0, rw (append-nil, append-nil, c.halt.ensures.stop, c.halt.ensures.result, c.halt.ensures.machine, c.halt.ensures.place, c.halt.ensures.first) e);
     }
 
@@ -35,9 +35,9 @@ returns-in-Err-clause-draws g c =
       took = seen.1;
       given_are = p.2 ∙ sym (append-nil (g.S.Source.history c.args.source.now));
       offset_is = ap (λ (q : Place). q.offset) c.halt-in-Err.ensures.place ∙ omega arith;
-      stands = λ longest start input marks s.
-          let k : Stands g.M.Machine.automaton longest start input marks f.machine f.place f.first None = subst (λ (o : Option Stop). Stands g.M.Machine.automaton longest start input marks f.machine f.place f.first o) c.requires.running s.1 in
-          let e = stands_failed g.M.Machine.automaton longest start f.machine input marks f.place f.first seen.0 c.requires.unfinished k in
+      stands = λ longest start input spans s.
+          let k : Stands g.M.Machine.automaton longest start input spans f.machine f.place f.first None = subst (λ (o : Option Stop). Stands g.M.Machine.automaton longest start input spans f.machine f.place f.first o) c.requires.running s.1 in
+          let e = stands_failed g.M.Machine.automaton longest start f.machine input spans f.place f.first seen.0 c.requires.unfinished k in
           (c.halt-in-Err.ensures.longest ∙ s.0, rw (append-nil, c.halt-in-Err.ensures.stop, c.halt-in-Err.ensures.result, c.halt-in-Err.ensures.machine, c.halt-in-Err.ensures.place, c.halt-in-Err.ensures.first) e);
     }
 
@@ -55,10 +55,10 @@ returns-in-Err-take-clause-draws g c =
       took = seen.1;
       given_are = p.4 ∙ sym (append-nil (g.S.Source.history c.args.source.now));
       offset_is = t.still ∙ omega arith;
-      stands = λ longest start input marks s.
-          let k = t.stands longest start input marks s in
-          let m = stands_more g.M.Machine.automaton longest start n.machine (input ++ b ∷ []) (marks ++ []) n.place n.first seen.0 n.stop t.counted (λ e. cc t.stop) k.1 in
-          (k.0, subst (λ (x : List ℕ). Stands g.M.Machine.automaton longest start x (marks ++ []) n.machine n.place n.first n.stop) (append_assoc input (b ∷ []) seen.0) m);
+      stands = λ longest start input spans s.
+          let k = t.stands longest start input spans s in
+          let m = stands_more g.M.Machine.automaton longest start n.machine (input ++ b ∷ []) (spans ++ []) n.place n.first seen.0 n.stop t.counted (λ e. cc t.stop) k.1 in
+          (k.0, subst (λ (x : List ℕ). Stands g.M.Machine.automaton longest start x (spans ++ []) n.machine n.place n.first n.stop) (append_assoc input (b ∷ []) seen.0) m);
     }
 
 pub returns-in-Ok-clause-draws : goal.returns-in-Ok-clause-draws

@@ -31,7 +31,7 @@ returns-in-Err-clause-pours g c =
       given_are = sym (append-nil c.args.history.now.bytes);
       lost = lost_kept (g.T.Read.remaining c.args.reader.now) (g.T.Read.remaining rested) c.fill_buf.follows.holds-at-none.0;
       offset_is = omega arith;
-      stands = λ longest start input marks s. rw (append-nil, append-nil) s;
+      stands = λ longest start input spans s. rw (append-nil, append-nil) s;
       some = λ e h. cc h;
       past = λ e h. cc h;
     }

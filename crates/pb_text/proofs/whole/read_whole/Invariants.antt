@@ -10,8 +10,8 @@ abbrev pub invariant-loop-spanned : goal.invariant-loop-spanned
 invariant-loop-spanned g l = record {
   running : l.feeder.stop ≡ None;
   faults : g.S.Source.faults l.source ≡ g.S.Source.faults l.fn.source;
-  stands : (taken : List ℕ) × (marks : List (Spanned _)) × Lost (g.S.Source.left l.fn.source) taken (g.S.Source.left l.source) × (l.feeder.place.offset ≡ length taken)
-      × (l.value ≡ gathered g.G.Gather.with l.fn.empty (map (λ m. m.event) marks)) × StandsAt l.fn.longest l.fn.machine taken marks l.feeder
+  stands : (taken : List ℕ) × (spans : List (Spanned _)) × Lost (g.S.Source.left l.fn.source) taken (g.S.Source.left l.source) × (l.feeder.place.offset ≡ length taken)
+      × (l.value ≡ gathered g.G.Gather.with l.fn.empty (map (λ m. m.event) spans)) × StandsAt l.fn.longest l.fn.machine taken spans l.feeder
       × (g.S.Source.history l.source ≡ g.S.Source.history l.fn.source ++ taken);
 }
 

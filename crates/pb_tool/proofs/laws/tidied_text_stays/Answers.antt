@@ -12,27 +12,27 @@ use Rattle.pb_tool.proofs.laws.tidied_text_stays.Goals as goal
 starred : (v : Instance) → (more : List ℕ) × (instance_bytes v ≡ 42 ∷ more)
 starred v = (_, refl)
 
-no_p : (text begun rest more behind : List ℕ) → text ≡ begun ++ rest → begun ≡ 42 ∷ more → text ≡ 112 ∷ behind → ⊥
-no_p text begun rest more behind is star e =
+no_p : (text begun rest more following : List ℕ) → text ≡ begun ++ rest → begun ≡ 42 ∷ more → text ≡ 112 ∷ following → ⊥
+no_p text begun rest more following is star e =
     let whole : 42 ∷ (more ++ rest) ≡ text = sym (is ∙ ap (λ (x : List ℕ). x ++ rest) star) in
-    let first : 42 ∷ (more ++ rest) ≡ 112 ∷ behind = whole ∙ e in
+    let first : 42 ∷ (more ++ rest) ≡ 112 ∷ following = whole ∙ e in
     cc
 
 pub returns-clause-taken : goal.returns-clause-taken
-returns-clause-taken c v (behind, e) =
+returns-clause-taken c v (following, e) =
     let (rest, is, feed) = written v in
     let (more, star) = starred v in
-    no_p (tidied v) (instance_bytes v) rest more behind is star e
+    no_p (tidied v) (instance_bytes v) rest more following is star e
 
 pub returns-clause-same : goal.returns-clause-same
 returns-clause-same c limits longest v w after rules file =
     let (own, spells, bytes, value) = c.canonical_instance_spells.ensures (largest limits) (top_of limits) v (largest_small limits) limits.most_top rules in
     let (rest, is, feed) = written v in
     sym file.value ∙ c.written_instance_reads_back.ensures (largest limits) (top_of limits) longest v file.read (largest_small limits) limits.most_top rules
-    (read_alone (IsInstanceText limits) (instance_bytes v) own spells bytes (c.no_front.ensures (largest limits) (top_of limits)) IsValueOf (tidied v) rest is feed after longest w file)
+    (read_alone (IsInstanceText limits) (instance_bytes v) own spells bytes (c.prefix_free.ensures (largest limits) (top_of limits)) IsValueOf (tidied v) rest is feed after longest w file)
 
 pub returns-clause-faultless : goal.returns-clause-faultless
 returns-clause-faultless c limits v s after rules refused =
     let (own, spells, bytes, value) = c.canonical_instance_spells.ensures (largest limits) (top_of limits) v (largest_small limits) limits.most_top rules in
     let (rest, is, feed) = written v in
-    faultless (IsInstanceText limits) (instance_bytes v) own spells bytes (c.no_front.ensures (largest limits) (top_of limits)) IsValueOf (tidied v) rest is feed after _ _ s refused
+    faultless (IsInstanceText limits) (instance_bytes v) own spells bytes (c.prefix_free.ensures (largest limits) (top_of limits)) IsValueOf (tidied v) rest is feed after _ _ s refused

@@ -17,7 +17,7 @@ use Rattle.pb_text.specs.declared.Stop.{Stop}
 use Rattle.pb_text.specs.declared.place.Why.{Why}
 use Rattle.pb_text.specs.declared.place.Why.TheVariants as reason
 use Rattle.pb_text.proofs.lemmas.text.Formats as formats
-use Rattle.pb_text.proofs.lemmas.text.Spans.{all_rest, front_parts}
+use Rattle.pb_text.proofs.lemmas.text.Spans.{all_rest, prefix_parts}
 use Rattle.pb_proof.specs.contract.Formats.{ReadsProofs}
 use Rattle.pb_proof.specs.meaning.Proofs.{IsProof}
 use Rattle.pb_proof.specs.engine.Machine.State.{ProofState, begin, proofs}
@@ -29,15 +29,15 @@ use Rattle.pb_proof.specs.declared.Statement.TheVariants.{Header, F, Output, Con
 use Rattle.pb_proof.specs.declared.Stage.{Stage}
 use Rattle.pb_replay.specs.contract.Laws.{WholeProofsConclude}
 use Rattle.pb_replay.specs.meaning.Problem.{Problem}
-use Rattle.pb_replay.specs.meaning.Meaning.{IsFront, IsSound}
+use Rattle.pb_replay.specs.meaning.Meaning.{IsNamePrefix, IsSound}
 use Rattle.pb_replay.specs.meaning.Replay.{State}
-use Rattle.pb_replay.specs.contract.Kept.{Replaying, StandsFor, StepsAs, verdict_at, verdict_in}
+use Rattle.pb_replay.specs.contract.ReplayModel.{Replaying, StandsFor, StepsAs, verdict_at, verdict_in}
 use Rattle.pb_replay.specs.meaning.Statements.{Outcome, Accepts, MayWantAt}
 use Rattle.pb_replay.specs.declared.fault.Fault.{Fault}
 use Rattle.pb_replay.specs.declared.fault.Fault.TheVariants.{Memory, NotTotal}
 use Rattle.pb_replay.specs.declared.verdict.Verdict.{Verdict}
 use Rattle.std.specs.Prelude.{IsSome, not, is_some}
-use Rattle.pb_text.proofs.lemmas.source.Wholes.{marks_events}
+use Rattle.pb_text.proofs.lemmas.source.Wholes.{spans_events}
 use Rattle.pb_tool.specs.contract.Checker.{Checking, ProofFeeder, IsAt, IsAccepting, ChecksSoFar, StepsFrom, TextsAreRead}
 use Rattle.pb_tool.specs.contract.Checks.{Checks, IsReplayed, KeepsNames, KeepsNamesOf, LeadsTo, StepsTo, Rejects}
 use Rattle.pb_tool.specs.contract.Pieces.{AnyCutting, bytes_to, ChecksAt, ChecksOnce, MayGoOn, IsNoReadFault, FeedsInTurn, AllocatesAt, joined, fault_of, is_whole, place_in}
@@ -49,27 +49,27 @@ abbrev pub failed : CheckFault → Result Unit CheckFault
 failed x = Err x
 
 -- a name that the fault gives by its number is one from before
-abbrev pub TellsOld : Replaying → CheckFault → Type 0
-TellsOld old x = (at : Place) (n : ℕ) → failed x ≡ failed (Step at (NotTotal n)) → n < length old.names
+abbrev pub ReportsOld : Replaying → CheckFault → Type 0
+ReportsOld old x = (at : Place) (n : ℕ) → failed x ≡ failed (Step at (NotTotal n)) → n < length old.names
 
 -- a prefix of a prefix of a list of names is a prefix of it
-pub prefix_on : (a b c : List (List ℕ)) → IsFront a b → IsFront b c → IsFront a c
+pub prefix_on : (a b c : List (List ℕ)) → IsNamePrefix a b → IsNamePrefix b c → IsNamePrefix a c
 prefix_on a b c (m, e) (n, f) = (m ++ n, f ∙ (ap (λ (x : List (List ℕ)). x ++ n) e ∙ append_assoc a m n))
 
-pub prefix_all : (a : List (List ℕ)) → IsFront a a
+pub prefix_all : (a : List (List ℕ)) → IsNamePrefix a a
 prefix_all a = ([], sym (append-nil a))
 
 -- ---- one statement more
 module _ (limit top : ℕ) (v : Problem) where
-  pub accepts_more : (marks : List (Spanned Statement)) (m : Spanned Statement) (s u t : State) → Accepts limit top v s (events_at marks) u → Outcome limit top v u m.event (Ok t) → Accepts limit top v s (events_at (marks ++ m ∷ [])) t
+  pub accepts_more : (spans : List (Spanned Statement)) (m : Spanned Statement) (s u t : State) → Accepts limit top v s (events_at spans) u → Outcome limit top v u m.event (Ok t) → Accepts limit top v s (events_at (spans ++ m ∷ [])) t
   accepts_more [] m s u t h k = (t, subst (λ (x : State). Outcome limit top v x m.event (Ok t)) (sym h) k, refl)
-  accepts_more (n ∷ marks) m s u t h k = (h.0, h.1, accepts_more marks m h.0 u t h.2 k)
+  accepts_more (n ∷ spans) m s u t h k = (h.0, h.1, accepts_more spans m h.0 u t h.2 k)
 
 module _ (limits : Limits) (v : Problem) where
-  leads_more : (first : Result State Fault) (marks : List (Spanned Statement)) (m : Spanned Statement) (now : Result State Fault) (t : State) → LeadsTo limits v first (events_at marks) now → StepsTo limits v now m.event t → LeadsTo limits v first (events_at (marks ++ m ∷ [])) (Ok t)
-  leads_more (Ok s) marks m now t (u, is, h) k =
-      (t, refl, accepts_more (largest limits) (top_of limits) v marks m s u t h (subst (λ (x : Result State Fault). StepsTo limits v x m.event t) is k))
-  leads_more (Err e) marks m now t (none, is) k = absurd (subst (λ (x : Result State Fault). StepsTo limits v x m.event t) is k)
+  leads_more : (first : Result State Fault) (spans : List (Spanned Statement)) (m : Spanned Statement) (now : Result State Fault) (t : State) → LeadsTo limits v first (events_at spans) now → StepsTo limits v now m.event t → LeadsTo limits v first (events_at (spans ++ m ∷ [])) (Ok t)
+  leads_more (Ok s) spans m now t (u, is, h) k =
+      (t, refl, accepts_more (largest limits) (top_of limits) v spans m s u t h (subst (λ (x : Result State Fault). StepsTo limits v x m.event t) is k))
+  leads_more (Err e) spans m now t (none, is) k = absurd (subst (λ (x : Result State Fault). StepsTo limits v x m.event t) is k)
 
 -- ---- a step
 module _ (limits : Limits) (v : Problem) where
@@ -93,49 +93,49 @@ stepped_err old new m e x is steps wants again (Ok s) at = (e, is, by (steps at.
 stepped_err old new m e x is steps wants again (Err d) at = (e, is, again d at)
 
 -- ---- a statement that was read meets the rules of a value
-last_of : (P : Statement → Type 0) (marks : List (Spanned Statement)) (m : Spanned Statement) → All P (events_at (marks ++ m ∷ [])) → P m.event
+last_of : (P : Statement → Type 0) (spans : List (Spanned Statement)) (m : Spanned Statement) → All P (events_at (spans ++ m ∷ [])) → P m.event
 last_of P [] m h = All-head P m.event [] h
-last_of P (n ∷ marks) m h = last_of P marks m (All-tail P n.event (events_at (marks ++ m ∷ [])) h)
+last_of P (n ∷ spans) m h = last_of P spans m (All-tail P n.event (events_at (spans ++ m ∷ [])) h)
 
-pub last_is_value : ReadStatements → (limit top longest : ℕ) (input used : List ℕ) (marks : List (Spanned Statement)) (m : Spanned Statement) (place : Place) (done : Bool) → Reads (IsProof limit top) longest input used (marks ++ m ∷ []) place done None → IsStatementValue limit top m.event
-last_is_value values limit top longest input used marks m place done r =
-    last_of (IsStatementValue limit top) marks m (values limit top longest input used (marks ++ m ∷ []) place done None r).each
+pub last_is_value : ReadStatements → (limit top longest : ℕ) (input used : List ℕ) (spans : List (Spanned Statement)) (m : Spanned Statement) (place : Place) (done : Bool) → Reads (IsProof limit top) longest input used (spans ++ m ∷ []) place done None → IsStatementValue limit top m.event
+last_is_value values limit top longest input used spans m place done r =
+    last_of (IsStatementValue limit top) spans m (values limit top longest input used (spans ++ m ∷ []) place done None r).each
 
 -- ---- what a read without a stop says of the used bytes alone
 module _ (limit top longest : ℕ) where
-  used_alone : (input used : List ℕ) (marks : List (Spanned Statement)) (place : Place) (done : Bool) → Reads (IsProof limit top) longest input used marks place done None → Reads (IsProof limit top) longest used used marks place done None
-  used_alone input used marks place true r = record { left = []; input_is = sym (append-nil used); place_is = r.place_is; answer = (r.answer.0, refl) }
-  used_alone input used marks place false r = record { left = []; input_is = sym (append-nil used); place_is = r.place_is; answer = (r.answer.0, refl) }
+  used_alone : (input used : List ℕ) (spans : List (Spanned Statement)) (place : Place) (done : Bool) → Reads (IsProof limit top) longest input used spans place done None → Reads (IsProof limit top) longest used used spans place done None
+  used_alone input used spans place true r = record { left = []; input_is = sym (append-nil used); place_is = r.place_is; answer = (r.answer.0, refl) }
+  used_alone input used spans place false r = record { left = []; input_is = sym (append-nil used); place_is = r.place_is; answer = (r.answer.0, refl) }
 
-  stopped : (input used : List ℕ) (marks : List (Spanned Statement)) (place : Place) (done : Bool) (s : Stop) → Reads (IsProof limit top) longest input used marks place done (Some s) → Reads (IsProof limit top) longest input used marks place false (Some s)
-  stopped input used marks place true s r = absurd (let e = r.answer.1 in cc e)
-  stopped input used marks place false s r = r
+  stopped : (input used : List ℕ) (spans : List (Spanned Statement)) (place : Place) (done : Bool) (s : Stop) → Reads (IsProof limit top) longest input used spans place done (Some s) → Reads (IsProof limit top) longest input used spans place false (Some s)
+  stopped input used spans place true s r = absurd (let e = r.answer.1 in cc e)
+  stopped input used spans place false s r = r
 
 -- ---- a feeder of the machine of proofs
 abbrev StandingIsReading : Type 0
-StandingIsReading = (longest : ℕ) (start : ProofState) (input : List ℕ) (marks : List (Spanned Statement)) (f : ProofFeeder) → StandsAt longest start input marks f → (used : List ℕ) × Reads (AcceptsBytes proofs start) longest input used marks (place_of f) (is_complete f) (halt_of f)
+StandingIsReading = (longest : ℕ) (start : ProofState) (input : List ℕ) (spans : List (Spanned Statement)) (f : ProofFeeder) → StandsAt longest start input spans f → (used : List ℕ) × Reads (AcceptsBytes proofs start) longest input used spans (place_of f) (is_complete f) (halt_of f)
 
 -- what the machine of proofs reads is read of a proof
-pub proofs_read : ReadsProofs → (limit top longest : ℕ) (input used : List ℕ) (marks : List (Spanned Statement)) (place : Place) (done : Bool) (stop : Option Stop) → Reads (AcceptsBytes proofs (begin limit top)) longest input used marks place done stop
-    → Reads (IsProof limit top) longest input used marks place done stop
+pub proofs_read : ReadsProofs → (limit top longest : ℕ) (input used : List ℕ) (spans : List (Spanned Statement)) (place : Place) (done : Bool) (stop : Option Stop) → Reads (AcceptsBytes proofs (begin limit top)) longest input used spans place done stop
+    → Reads (IsProof limit top) longest input used spans place done stop
 proofs_read exact limit top = formats.reads (AcceptsBytes proofs (begin limit top)) (IsProof limit top) (λ items h. (exact limit top items).0 h) (λ items h. (exact limit top items).1 h)
 
 pub texts_read : ReadsProofs → StandingIsReading → TextsAreRead
-texts_read exact reads limit top longest input marks f stands =
-    let (used, r) = reads longest (begin limit top) input marks f stands in
-    (used, proofs_read exact limit top longest input used marks (place_of f) (is_complete f) (halt_of f) r)
+texts_read exact reads limit top longest input spans f stands =
+    let (used, r) = reads longest (begin limit top) input spans f stands in
+    (used, proofs_read exact limit top longest input used spans (place_of f) (is_complete f) (halt_of f) r)
 
 -- ---- a feeder has read its input
 module _ (read : TextsAreRead) (limits : Limits) (longest : ℕ) where
-  text_read : (input : List ℕ) (marks : List (Spanned Statement)) (f : ProofFeeder) (stop : Option Stop) → StandsAt longest (begin (largest limits) (top_of limits)) input marks f → halt_of f ≡ stop
-      → (used : List ℕ) × Reads (IsProof (largest limits) (top_of limits)) longest input used marks (place_of f) (is_complete f) stop
-  text_read input marks f stop stands halts =
-      let (used, reads) = read (largest limits) (top_of limits) longest input marks f stands in
-      (used, subst (λ (x : Option Stop). Reads (IsProof (largest limits) (top_of limits)) longest input used marks (place_of f) (is_complete f) x) halts reads)
+  text_read : (input : List ℕ) (spans : List (Spanned Statement)) (f : ProofFeeder) (stop : Option Stop) → StandsAt longest (begin (largest limits) (top_of limits)) input spans f → halt_of f ≡ stop
+      → (used : List ℕ) × Reads (IsProof (largest limits) (top_of limits)) longest input used spans (place_of f) (is_complete f) stop
+  text_read input spans f stop stands halts =
+      let (used, reads) = read (largest limits) (top_of limits) longest input spans f stands in
+      (used, subst (λ (x : Option Stop). Reads (IsProof (largest limits) (top_of limits)) longest input used spans (place_of f) (is_complete f) x) halts reads)
 
 -- the statements of a text are those of its spans
-pub spelled_events : (format : List (Item Statement) → Type 0) (longest : ℕ) (used : List ℕ) (marks : List (Spanned Statement)) (s : IsSpelled format longest used marks) → events_at marks ≡ events_of s.items
-spelled_events format longest used marks s = ap (λ (x : List (Spanned Statement)). events_at x) s.marks_are ∙ marks_events None [] s.items
+pub spelled_events : (format : List (Item Statement) → Type 0) (longest : ℕ) (used : List ℕ) (spans : List (Spanned Statement)) (s : IsSpelled format longest used spans) → events_at spans ≡ events_of s.items
+spelled_events format longest used spans s = ap (λ (x : List (Spanned Statement)). events_at x) s.spans_are ∙ spans_events None [] s.items
 
 -- ---- the end of the text
 given : (o : Option Verdict) → IsSome o → o ≡ None → ⊥
@@ -144,11 +144,11 @@ given (Some x) i e = absurd (cc e)
 
 module _ (whole : WholeProofsConclude) (limits : Limits) (longest : ℕ) (v : Problem) (first : Result State Fault) where
   -- the replay was in a state, and is in one
-  pub there : (input used : List ℕ) (marks : List (Spanned Statement)) (place : Place) (now : Result State Fault) → Reads (IsProof (largest limits) (top_of limits)) longest input used marks place true None → LeadsTo limits v first (events_at marks) now → (t : State) × (now ≡ Ok t) × (verdict_at t.next t.concluded ≡ None → ⊥)
-  there input used marks place now r leads =
+  pub there : (input used : List ℕ) (spans : List (Spanned Statement)) (place : Place) (now : Result State Fault) → Reads (IsProof (largest limits) (top_of limits)) longest input used spans place true None → LeadsTo limits v first (events_at spans) now → (t : State) × (now ≡ Ok t) × (verdict_at t.next t.concluded ≡ None → ⊥)
+  there input used spans place now r leads =
       let s = r.answer.0 in
       let (pf, spells) = s.spelled in
-      let same = spelled_events (IsProof (largest limits) (top_of limits)) longest used marks s ∙ spells.1 in
+      let same = spelled_events (IsProof (largest limits) (top_of limits)) longest used spans s ∙ spells.1 in
       by first pf (subst (λ (x : List Statement). LeadsTo limits v first x now) same leads)
     where
       by : (first : Result State Fault) (pf : Proof) → LeadsTo limits v first (Header ∷ F pf.count ∷ (pf.steps ++ Output ∷ Conclude pf.conclusion ∷ End ∷ [])) now → (t : State) × (now ≡ Ok t) × (verdict_at t.next t.concluded ≡ None → ⊥)
@@ -181,24 +181,24 @@ module _ (read : TextsAreRead) (limits : Limits) (longest : ℕ) (v : Problem) (
 
   -- ---- the end of the text
   abbrev IsReported : (used : List ℕ) → Bool → Type 0
-  IsReported used done = Reads (IsProof (largest limits) (top_of limits)) longest input used now.marks (place_of f) done None
+  IsReported used done = Reads (IsProof (largest limits) (top_of limits)) longest input used now.spans (place_of f) done None
 
-  pub told : (used : List ℕ) × IsReported used (is_complete f)
-  told = text_read read limits longest input now.marks f None now.stands now.running
+  pub reported : (used : List ℕ) × IsReported used (is_complete f)
+  reported = text_read read limits longest input now.spans f None now.stands now.running
 
   pub replayed : IsReplayed limits longest v first input (place_of f) (is_complete f) None now.now
-  replayed = record { used = told.0; marks = now.marks; reads = told.1; accepted = now.accepted }
+  replayed = record { used = reported.0; spans = now.spans; reads = reported.1; accepted = now.accepted }
 
   whole_text : is_complete f ≡ true → IsReplayed limits longest v first input (place_of f) true None now.now
   whole_text done = subst (λ (b : Bool). IsReplayed limits longest v first input (place_of f) b None now.now) done replayed
 
   pub cut_text : is_complete f ≡ false → Checks limits longest v first input (place_of f) false (Some (Text (record { place = place_of f; why = reason.Ended })))
   cut_text done =
-      let reads = subst (λ (b : Bool). IsReported told.0 b) done told.1 in (
+      let reads = subst (λ (b : Bool). IsReported reported.0 b) done reported.1 in (
         now.now,
         record {
-          used = told.0;
-          marks = now.marks;
+          used = reported.0;
+          spans = now.spans;
           reads = record { left = reads.left; input_is = reads.input_is; place_is = reads.place_is; answer = (reads.answer.0, refl, reads.answer.1) };
           accepted = now.accepted;
         },
@@ -207,13 +207,13 @@ module _ (read : TextsAreRead) (limits : Limits) (longest : ℕ) (v : Problem) (
   pub verdict_here : WholeProofsConclude → is_complete f ≡ true → (w : Verdict) → Some w ≡ verdict_in r → (t : State) × IsReplayed limits longest v first input (place_of f) true None (Ok t) × (verdict_at t.next t.concluded ≡ Some w)
   verdict_here whole done w is =
       let text = whole_text done in
-      let (t, same, some) = there whole limits longest v first input text.used text.marks (place_of f) now.now text.reads text.accepted in
+      let (t, same, some) = there whole limits longest v first input text.used text.spans (place_of f) now.now text.reads text.accepted in
       (t, subst (λ (x : Result State Fault). IsReplayed limits longest v first input (place_of f) true None x) same text, sym (shown_at r t (subst (λ (x : Result State Fault). IsAt r x) same now.at)) ∙ sym is)
 
   pub no_verdict : WholeProofsConclude → is_complete f ≡ true → None ≡ verdict_in r → ⊥
   no_verdict whole done is =
       let text = whole_text done in
-      let (t, same, some) = there whole limits longest v first input text.used text.marks (place_of f) now.now text.reads text.accepted in
+      let (t, same, some) = there whole limits longest v first input text.used text.spans (place_of f) now.now text.reads text.accepted in
       some (sym (shown_at r t (subst (λ (x : Result State Fault). IsAt r x) same now.at)) ∙ sym is)
 
   -- ---- a feed and a step
@@ -225,8 +225,8 @@ module _ (read : TextsAreRead) (limits : Limits) (longest : ℕ) (v : Problem) (
     quiet fed event feeds running =
         let feeds : FeedsOnce f piece (Ok (record { used = fed.used; event = None })) n = subst (λ (x : Fed Statement). FeedsOnce f piece (Ok x) n) (fed_with fed None event) feeds in
         stands_at limits longest v first (input ++ piece) n r e none (record {
-          marks = now.marks;
-          stands = rw append-nil at (feeds.0 longest (begin (largest limits) (top_of limits)) input now.marks owed now.stands);
+          spans = now.spans;
+          stands = rw append-nil at (feeds.0 longest (begin (largest limits) (top_of limits)) input now.spans owed now.stands);
           running = running;
           limits_are = now.limits_are;
           problem = now.problem;
@@ -235,17 +235,17 @@ module _ (read : TextsAreRead) (limits : Limits) (longest : ℕ) (v : Problem) (
           accepted = now.accepted;
         })
 
-    stands_stopped : (s : Stop) → FeedsOnce f piece (Err s) n → StandsAt longest (begin (largest limits) (top_of limits)) (input ++ piece) now.marks n
-    stands_stopped s feeds = rw append-nil at (feeds.0 longest (begin (largest limits) (top_of limits)) input now.marks owed now.stands)
+    stands_stopped : (s : Stop) → FeedsOnce f piece (Err s) n → StandsAt longest (begin (largest limits) (top_of limits)) (input ++ piece) now.spans n
+    stands_stopped s feeds = rw append-nil at (feeds.0 longest (begin (largest limits) (top_of limits)) input now.spans owed now.stands)
 
     pub halted : (s : Stop) → FeedsOnce f piece (Err s) n → halt_of n ≡ Some s → Checks limits longest v first (input ++ piece) (place_of n) false (Some (Text s))
     halted s feeds halts =
-        let (used, reads) = text_read read limits longest (input ++ piece) now.marks n (Some s) (stands_stopped s feeds) halts in (
+        let (used, reads) = text_read read limits longest (input ++ piece) now.spans n (Some s) (stands_stopped s feeds) halts in (
           now.now,
           record {
             used = used;
-            marks = now.marks;
-            reads = stopped (largest limits) (top_of limits) longest (input ++ piece) used now.marks (place_of n) (is_complete n) s reads;
+            spans = now.spans;
+            reads = stopped (largest limits) (top_of limits) longest (input ++ piece) used now.spans (place_of n) (is_complete n) s reads;
             accepted = now.accepted;
           },
         )
@@ -263,60 +263,60 @@ module _ (read : TextsAreRead) (limits : Limits) (longest : ℕ) (v : Problem) (
       feeds : FeedsOnce f piece (Ok (record { used = fed.used; event = Some m })) n
       feeds = subst (λ (x : Fed Statement). FeedsOnce f piece (Ok x) n) (fed_with fed (Some m) event) fs
 
-      stands : StandsAt longest (begin (largest limits) (top_of limits)) (input ++ take fed.used piece) (now.marks ++ m ∷ []) n
-      stands = feeds.0 longest (begin (largest limits) (top_of limits)) input now.marks owed now.stands
+      stands : StandsAt longest (begin (largest limits) (top_of limits)) (input ++ take fed.used piece) (now.spans ++ m ∷ []) n
+      stands = feeds.0 longest (begin (largest limits) (top_of limits)) input now.spans owed now.stands
 
-      said : (u : List ℕ) × Reads (IsProof (largest limits) (top_of limits)) longest (input ++ take fed.used piece) u (now.marks ++ m ∷ []) (place_of n) (is_complete n) None
-      said = text_read read limits longest (input ++ take fed.used piece) (now.marks ++ m ∷ []) n None stands running
+      said : (u : List ℕ) × Reads (IsProof (largest limits) (top_of limits)) longest (input ++ take fed.used piece) u (now.spans ++ m ∷ []) (place_of n) (is_complete n) None
+      said = text_read read limits longest (input ++ take fed.used piece) (now.spans ++ m ∷ []) n None stands running
 
       pub is_value : ReadStatements → IsStatementValue (largest r.limits) (top_of r.limits) m.event
-      is_value values = subst (λ (x : Limits). IsStatementValue (largest x) (top_of x) m.event) (sym now.limits_are) (last_is_value values (largest limits) (top_of limits) longest (input ++ take fed.used piece) said.0 now.marks m (place_of n) (is_complete n) said.1)
+      is_value values = subst (λ (x : Limits). IsStatementValue (largest x) (top_of x) m.event) (sym now.limits_are) (last_is_value values (largest limits) (top_of limits) longest (input ++ take fed.used piece) said.0 now.spans m (place_of n) (is_complete n) said.1)
 
       running_on : (t : Replaying) → StepsFrom r.limits r.problem now.now m (Ok tt) t → t.limits ≡ r.limits → t.problem ≡ r.problem → IsAccepting limits longest v first (input ++ take fed.used piece) n t
       running_on t (s, at, takes) limited problem = record {
-        marks = now.marks ++ m ∷ [];
+        spans = now.spans ++ m ∷ [];
         stands = stands;
         running = running;
         limits_are = limited ∙ now.limits_are;
         problem = problem ∙ now.problem;
         now = Ok s;
         at = at;
-        accepted = leads_more limits v first now.marks m now.now s now.accepted (subst (λ (x : Problem). StepsTo limits x now.now m.event s) now.problem (subst (λ (x : Limits). StepsTo x r.problem now.now m.event s) now.limits_are takes));
+        accepted = leads_more limits v first now.spans m now.now s now.accepted (subst (λ (x : Problem). StepsTo limits x now.now m.event s) now.problem (subst (λ (x : Limits). StepsTo x r.problem now.now m.event s) now.limits_are takes));
       }
 
       pub stepped : (t : Replaying) → ((before : Result State Fault) → IsAt r before → StepsFrom r.limits r.problem before m (Ok tt) t) → t.limits ≡ r.limits → t.problem ≡ r.problem → ChecksSoFar limits longest v first (input ++ take fed.used piece) n t e
       stepped t steps limited problem = stands_at limits longest v first (input ++ take fed.used piece) n t e none (running_on t (steps now.now now.at) limited problem)
 
-      kept_by : (t : Replaying) (why : Fault) → IsFront r.names t.names → ((n : ℕ) → why ≡ NotTotal n → n < length r.names) → (x : Result State Fault) → IsAt r x → KeepsNamesOf x t.names why
-      kept_by t why front old (Ok s) at = subst (λ (y : List (List ℕ)). KeepsNames y t.names why) (sym at.1.names) (front, old)
-      kept_by t why front old (Err e) at = tt
+      kept_by : (t : Replaying) (why : Fault) → IsNamePrefix r.names t.names → ((n : ℕ) → why ≡ NotTotal n → n < length r.names) → (x : Result State Fault) → IsAt r x → KeepsNamesOf x t.names why
+      kept_by t why prefix old (Ok s) at = subst (λ (y : List (List ℕ)). KeepsNames y t.names why) (sym at.1.names) (prefix, old)
+      kept_by t why prefix old (Err e) at = tt
 
-      refused_by : (t : Replaying) (why : Fault) → Rejects r.limits r.problem now.now m.event why → IsFront r.names t.names → ((n : ℕ) → why ≡ NotTotal n → n < length r.names) → ChecksSoFar limits longest v first (input ++ piece) n t (Some (Step m.first why))
-      refused_by t why refuses front old = (
+      refused_by : (t : Replaying) (why : Fault) → Rejects r.limits r.problem now.now m.event why → IsNamePrefix r.names t.names → ((n : ℕ) → why ≡ NotTotal n → n < length r.names) → ChecksSoFar limits longest v first (input ++ piece) n t (Some (Step m.first why))
+      refused_by t why refuses prefix old = (
         record {
           used = said.0;
           left = said.1.left ++ drop fed.used piece;
-          marks = now.marks;
+          spans = now.spans;
           last = m;
           before = now.now;
           done = is_complete n;
           input_is = ap (λ (x : List ℕ). input ++ x) (sym (take-append-drop fed.used piece)) ∙ (sym (append_assoc input (take fed.used piece) (drop fed.used piece)) ∙ (ap (λ (x : List ℕ). x ++ drop fed.used piece) said.1.input_is ∙ append_assoc said.0 said.1.left (drop fed.used piece)));
-          reads = used_alone (largest limits) (top_of limits) longest (input ++ take fed.used piece) said.0 (now.marks ++ m ∷ []) (place_of n) (is_complete n) said.1;
+          reads = used_alone (largest limits) (top_of limits) longest (input ++ take fed.used piece) said.0 (now.spans ++ m ∷ []) (place_of n) (is_complete n) said.1;
           begins_is = refl;
           accepted = now.accepted;
           refused = subst (λ (x : Problem). Rejects limits x now.now m.event why) now.problem (subst (λ (x : Limits). Rejects x r.problem now.now m.event why) now.limits_are refuses);
         },
-        kept_by t why front old now.now now.at,
+        kept_by t why prefix old now.now now.at,
       )
 
       abbrev Refusing : Replaying → CheckFault → Type 0
       Refusing t x = (before : Result State Fault) → IsAt r before → StepsFrom r.limits r.problem before m (Err x) t
 
-      pub refused : (t : Replaying) (x : CheckFault) → Refusing t x → IsFront r.names t.names → TellsOld r x → ChecksSoFar limits longest v first (input ++ piece) n t (Some x)
-      refused t x steps front old =
+      pub refused : (t : Replaying) (x : CheckFault) → Refusing t x → IsNamePrefix r.names t.names → ReportsOld r x → ChecksSoFar limits longest v first (input ++ piece) n t (Some x)
+      refused t x steps prefix old =
           let (why, is, refuses) = steps now.now now.at in
           subst (λ (y : CheckFault). ChecksSoFar limits longest v first (input ++ piece) n t (Some y)) (sym is)
-          (refused_by t why refuses front (λ k h. old m.first k (ap (λ (y : CheckFault). failed y) (is ∙ ap (λ (z : Fault). Step m.first z) h))))
+          (refused_by t why refuses prefix (λ k h. old m.first k (ap (λ (y : CheckFault). failed y) (is ∙ ap (λ (z : Fault). Step m.first z) h))))
 
       pub unread_step : (t : Replaying) (x : CheckFault) → Refusing t x → IsNoReadFault x
       unread_step t x steps = let (why, is, refuses) = steps now.now now.at in subst IsNoReadFault (sym is) tt
@@ -339,7 +339,7 @@ later limits longest v first input piece f r (Text s) counts (now, h) = (
   now,
   record {
     used = h.used;
-    marks = h.marks;
+    spans = h.spans;
     reads = record {
       left = h.reads.left ++ piece;
       input_is = ap (λ (x : List ℕ). x ++ piece) h.reads.input_is ∙ append_assoc h.used h.reads.left piece;
@@ -353,7 +353,7 @@ later limits longest v first input piece f r (Step begins e) counts (h, kept) = 
   record {
     used = h.used;
     left = h.left ++ piece;
-    marks = h.marks;
+    spans = h.spans;
     last = h.last;
     before = h.before;
     done = h.done;
@@ -376,7 +376,7 @@ stays c piece e is = (λ limits longest v first input owed h. by limits longest 
 
 -- one part of a piece after another
 pub onward_by : (input piece : List ℕ) (i n : ℕ) → (input ++ take i piece) ++ take n (take (length piece - i) (drop i piece)) ≡ input ++ take (i + n) piece
-onward_by input piece i n = append_assoc input (take i piece) (take n (take (length piece - i) (drop i piece))) ∙ ap (λ (x : List ℕ). input ++ x) (sym (front_parts piece i n))
+onward_by input piece i n = append_assoc input (take i piece) (take n (take (length piece - i) (drop i piece))) ∙ ap (λ (x : List ℕ). input ++ x) (sym (prefix_parts piece i n))
 
 pub to_end : (input piece : List ℕ) (i : ℕ) → (input ++ take i piece) ++ take (length piece - i) (drop i piece) ≡ input ++ piece
 to_end input piece i =

@@ -5,26 +5,26 @@ use Rattle.std.proofs.lemmas.List.{length-map}
 use Rattle.pb_text.specs.meaning.Limits.{largest, top_of}
 use Rattle.pb_text.specs.contract.Feeding.{StandsAt, HoldsFew, place_of, is_complete}
 use Rattle.pb_text.specs.meaning.Reading.{Answers, open_bytes}
-use Rattle.pb_text.specs.meaning.Spelling.{Letter, Item, bytes, bytes_of, letters_of, marks_since, place_after, plain}
+use Rattle.pb_text.specs.meaning.Spelling.{Letter, Item, bytes, bytes_of, letters_of, spans_since, place_after, plain}
 use Rattle.pb_text.specs.declared.Limits.{Limits}
 use Rattle.pb_text.specs.declared.Place.{Place}
 use Rattle.pb_text.specs.declared.Spanned.{Spanned}
 use Rattle.pb_text.proofs.lemmas.text.Languages.{bytes-append}
 use Rattle.pb_text.proofs.lemmas.text.Lists.{length-bytes}
 use Rattle.pb_text.proofs.lemmas.text.Short.{place_after-offset}
-use Rattle.pb_text.proofs.lemmas.source.Wholes.{same_front}
-use Rattle.pb_proof.specs.contract.Formats.{NoFront, ReadsProofs}
+use Rattle.pb_text.proofs.lemmas.source.Wholes.{same_prefix}
+use Rattle.pb_proof.specs.contract.Formats.{PrefixFree, ReadsProofs}
 use Rattle.pb_proof.specs.meaning.Proofs.{IsProof}
 use Rattle.pb_proof.specs.engine.Machine.State.{ProofState, begin}
 use Rattle.pb_proof.specs.declared.Statement.{Statement}
 use Rattle.pb_replay.specs.meaning.Problem.{Problem}
 use Rattle.pb_replay.specs.meaning.Replay.{State}
-use Rattle.pb_replay.specs.contract.Kept.{Replaying}
+use Rattle.pb_replay.specs.contract.ReplayModel.{Replaying}
 use Rattle.pb_replay.specs.declared.fault.Fault.{Fault}
 use Rattle.pb_tool.specs.contract.Checker.{ProofFeeder, ChecksSoFar, TextsAreRead}
 use Rattle.pb_tool.specs.contract.Pieces.{EndsStatement, HoldsOpen}
 use Rattle.pb_tool.specs.declared.commands.check.checker.CheckFault.{CheckFault}
-use Rattle.pb_tool.proofs.lemmas.check.CheckerSteps.{running_at, told as so_far}
+use Rattle.pb_tool.proofs.lemmas.check.CheckerSteps.{running_at, reported as so_far}
 use Rattle.pb_tool.proofs.lemmas.check.Prefixes.{no_prefix}
 
 -- ---- after whole statements none is unfinished
@@ -47,55 +47,55 @@ module _ {E : Type 0} where
   length_item before i = omega (arith, length-append before (i.gap ++ bytes i.text), length-append i.gap (bytes i.text), length-bytes i.text)
 
   -- statements that begin after the first n bytes have none of these
-  past_all : (n : ℕ) (before : List ℕ) (items : List (Item E)) → n ≤ length before → open_bytes n (marks_since None before items) ≡ 0
+  past_all : (n : ℕ) (before : List ℕ) (items : List (Item E)) → n ≤ length before → open_bytes n (spans_since None before items) ≡ 0
   past_all n before [] h = refl
   past_all n before (i ∷ items) h =
       cond_both (nat_le (place_after (before ++ (i.gap ++ bytes i.text))).offset n)
-      (open_bytes n (marks_since None (before ++ (i.gap ++ bytes i.text)) items))
+      (open_bytes n (spans_since None (before ++ (i.gap ++ bytes i.text)) items))
       (n - (place_after (before ++ i.gap)).offset)
       (λ (k : ℕ). k ≡ 0)
       (λ _. past_all n (before ++ (i.gap ++ bytes i.text)) items (omega (arith, h, length_item before i)))
       (λ _. omega (arith, h, place_after-offset (before ++ i.gap), length-append before i.gap))
 
-  none_open : (n : ℕ) (before : List ℕ) (begun rest : List (Item E)) → n ≡ length before + length (letters_of begun) → open_bytes n (marks_since None before (begun ++ rest)) ≡ 0
+  none_open : (n : ℕ) (before : List ℕ) (begun rest : List (Item E)) → n ≡ length before + length (letters_of begun) → open_bytes n (spans_since None before (begun ++ rest)) ≡ 0
   none_open n before [] rest h = let all : n ≡ length before + 0 = h in past_all n before rest (omega (arith, all))
   none_open n before (i ∷ begun) rest h =
       let joined : length (letters_of (i ∷ begun)) ≡ length (plain i.gap) + length (i.text ++ letters_of begun) = length-append (plain i.gap) (i.text ++ letters_of begun) in
       let all : length (letters_of (i ∷ begun)) ≡ length i.gap + (length i.text + length (letters_of begun)) = omega (arith, joined, length-append i.text (letters_of begun), length_plain i.gap) in
       cond-true (nat_le (place_after (before ++ (i.gap ++ bytes i.text))).offset n)
-      (open_bytes n (marks_since None (before ++ (i.gap ++ bytes i.text)) (begun ++ rest)))
+      (open_bytes n (spans_since None (before ++ (i.gap ++ bytes i.text)) (begun ++ rest)))
       (n - (place_after (before ++ i.gap)).offset)
       (le-leb (place_after (before ++ (i.gap ++ bytes i.text))).offset n (omega (arith, h, all, place_after-offset (before ++ (i.gap ++ bytes i.text)), length_item before i)))
       ∙ none_open n (before ++ (i.gap ++ bytes i.text)) begun rest (omega (arith, h, all, length_item before i))
 
 -- ---- all of the input was read
-module _ (apart : NoFront) (limit top longest : ℕ) (used left : List ℕ) (marks : List (Spanned Statement)) (place : Place) (begun rest : List (Item Statement)) (whole : IsProof limit top (begun ++ rest)) (is : used ++ left ≡ bytes_of begun) where
-  nothing_left : (done : Bool) → Answers (IsProof limit top) longest used left marks place done None → left ≡ []
+module _ (apart : PrefixFree) (limit top longest : ℕ) (used left : List ℕ) (spans : List (Spanned Statement)) (place : Place) (begun rest : List (Item Statement)) (whole : IsProof limit top (begun ++ rest)) (is : used ++ left ≡ bytes_of begun) where
+  nothing_left : (done : Bool) → Answers (IsProof limit top) longest used left spans place done None → left ≡ []
   nothing_left false (under, none) = none
   nothing_left true (s, none) =
       no_prefix left (bytes_of rest) (apart limit top s.items (begun ++ rest) (left ++ bytes_of rest) s.spelled whole
       (bytes_joined begun rest ∙ (ap (λ (x : List ℕ). x ++ bytes_of rest) (sym is) ∙ (append_assoc used left (bytes_of rest) ∙ ap (λ (x : List ℕ). x ++ (left ++ bytes_of rest)) (sym s.used_are)))))
 
 module _ (exact : ReadsProofs) (limits : Limits) (longest : ℕ) (v : Problem) (first : Result State Fault) (input : List ℕ) (f : ProofFeeder) (r : Replaying) (e : Option CheckFault) (none : e ≡ None) (h : ChecksSoFar limits longest v first input f r e) (held : ℕ)
-    (few : (longest : ℕ) (start : ProofState) (input : List ℕ) (marks : List (Spanned Statement)) → StandsAt longest start input marks f → HoldsFew start input f held) where
+    (few : (longest : ℕ) (start : ProofState) (input : List ℕ) (spans : List (Spanned Statement)) → StandsAt longest start input spans f → HoldsFew start input f held) where
   pub open_at : HoldsOpen limits input (place_of f) held
   open_at =
       let now = running_at limits longest v first input f r e none h in
-      let (used, n, front, place, opens, bound) = few longest (begin (largest limits) (top_of limits)) input now.marks now.stands in
-      (used, n, front, place, λ items k at. opens items ((exact (largest limits) (top_of limits) items).1 k) at, bound)
+      let (used, n, prefix, place, opens, bound) = few longest (begin (largest limits) (top_of limits)) input now.spans now.stands in
+      (used, n, prefix, place, λ items k at. opens items ((exact (largest limits) (top_of limits) items).1 k) at, bound)
 
-  pub none_at : NoFront → TextsAreRead → EndsStatement limits input → held ≡ 0
+  pub none_at : PrefixFree → TextsAreRead → EndsStatement limits input → held ≡ 0
   none_at apart read (begun, rest, whole, is) =
       let now = running_at limits longest v first input f r e none h in
-      let (taken, told) = so_far read limits longest v first input f r e none h in
-      let left = nothing_left apart (largest limits) (top_of limits) longest taken told.left now.marks (place_of f) begun rest whole (sym told.input_is ∙ is) (is_complete f) told.answer in
-      let (used, n, front, place, opens, bound) = open_at in
-      let as_long : length used ≡ length taken = sym (place_after-offset used) ∙ (ap (λ (x : Place). x.offset) (sym place ∙ told.place_is) ∙ place_after-offset taken) in
-      let nothing : length told.left ≡ 0 = ap length left in
-      let all_taken : length input ≡ length taken = omega (arith, ap length told.input_is, length-append taken told.left, nothing) in
-      let same : used ≡ input = same_front used input front.0 [] (sym front.1 ∙ sym (append-nil input)) (as_long ∙ sym all_taken) in
+      let (taken, reported) = so_far read limits longest v first input f r e none h in
+      let left = nothing_left apart (largest limits) (top_of limits) longest taken reported.left now.spans (place_of f) begun rest whole (sym reported.input_is ∙ is) (is_complete f) reported.answer in
+      let (used, n, prefix, place, opens, bound) = open_at in
+      let as_long : length used ≡ length taken = sym (place_after-offset used) ∙ (ap (λ (x : Place). x.offset) (sym place ∙ reported.place_is) ∙ place_after-offset taken) in
+      let nothing : length reported.left ≡ 0 = ap length left in
+      let all_taken : length input ≡ length taken = omega (arith, ap length reported.input_is, length-append taken reported.left, nothing) in
+      let same : used ≡ input = same_prefix used input prefix.0 [] (sym prefix.1 ∙ sym (append-nil input)) (as_long ∙ sym all_taken) in
       let long : length used ≡ length (letters_of begun) = ap length (same ∙ is) ∙ length-bytes (letters_of begun) in
-      let long_behind : length used ≡ length {A = ℕ} [] + length (letters_of begun) = omega (arith, long) in
+      let long_after : length used ≡ length {A = ℕ} [] + length (letters_of begun) = omega (arith, long) in
       let text : bytes_of (begun ++ rest) ≡ used ++ bytes_of rest = bytes_joined begun rest ∙ ap (λ (x : List ℕ). x ++ bytes_of rest) (sym (same ∙ is)) in
-      let closed : n ≡ 0 = sym (opens (begun ++ rest) whole (bytes_of rest, text)) ∙ none_open (length used) [] begun rest long_behind in
+      let closed : n ≡ 0 = sym (opens (begun ++ rest) whole (bytes_of rest, text)) ∙ none_open (length used) [] begun rest long_after in
       omega (arith, bound, closed)

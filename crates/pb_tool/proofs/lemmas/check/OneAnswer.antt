@@ -4,7 +4,7 @@ use Rattle.std.proofs.lemmas.Option.{same_Some}
 use Rattle.std.specs.Prelude.{String, string_bytes}
 use Rattle.std.specs.declared.alloc.Global.{Global}
 use Rattle.pb_text.specs.meaning.Limits.{largest, top_of}
-use Rattle.pb_text.specs.meaning.Reading.{HasFixedMarks, IsSpelled}
+use Rattle.pb_text.specs.meaning.Reading.{HasFixedSpans, IsSpelled}
 use Rattle.pb_text.specs.meaning.Spelling.{Item}
 use Rattle.pb_text.specs.meaning.Whole.{events_at, events_of}
 use Rattle.pb_text.specs.declared.Limits.{Limits}
@@ -37,7 +37,7 @@ use Rattle.pb_tool.specs.declared.fault.Input.TheVariants.{File, Instance as of_
 use Rattle.pb_tool.proofs.lemmas.check.OneOutcome.{Passed, no_step, one_state, one_step}
 use Rattle.pb_text.proofs.lemmas.text.Results.{ok_or_err, same_ok}
 use Rattle.pb_tool.proofs.lemmas.check.CheckerSteps.{spelled_events}
-use Rattle.pb_tool.proofs.lemmas.check.OneRead.{OneSpelling, NoneGoesOn, marks_begin, one_spelled, reached_before, so_far_before, so_far_reached, spelling_reached, way_reached}
+use Rattle.pb_tool.proofs.lemmas.check.OneRead.{OneSpelling, NoneGoesOn, spans_begin, one_spelled, reached_before, so_far_before, so_far_reached, spelling_reached, way_reached}
 use Rattle.pb_tool.proofs.lemmas.check.OneRejection.{Refusal, AtStop, all_taken, at_rest, no_refusal, one_refusal}
 
 -- ---- an input, in one way of reading
@@ -47,14 +47,14 @@ module _ {V E : Type 0} (format : List (Item E) → Type 0) (IsValue : List E �
   Has after v = IsFile (IsRead format longest IsValue) (Some input) after v
 
   one_file : OneSpelling format → NoneGoesOn format → ((events : List E) (v w : V) → IsValue events v → IsValue events w → v ≡ w) → (after other : Option (List ℕ)) (v w : V) → Has after v → Has other w → v ≡ w
-  one_file one front value after other v w f g =
+  one_file one prefix value after other v w f g =
       let both : f.used ++ f.rest ≡ g.used ++ g.rest = sym (all_taken input (f.used ++ f.rest) f.took.0) ∙ all_taken input (g.used ++ g.rest) g.took.0 in
       let s = f.spelled.spelled in
       let t = g.spelled.spelled in
-      let items : s.items ≡ t.items = (one_spelled format longest one front f.used f.rest g.used g.rest f.spelled.marks g.spelled.marks both s t).1 in
+      let items : s.items ≡ t.items = (one_spelled format longest one prefix f.used f.rest g.used g.rest f.spelled.spans g.spelled.spans both s t).1 in
       sym f.value ∙ (value (events_of t.items) f.read.event g.read.event (subst (λ (x : List (Item E)). IsValue (events_of x) f.read.event) items f.spelled.value) g.spelled.value ∙ g.value)
 
-  whole_of : (after : Option (List ℕ)) (v : V) (f : Has after v) → IsSpelling format longest (Some input) after f.spelled.marks
+  whole_of : (after : Option (List ℕ)) (v : V) (f : Has after v) → IsSpelling format longest (Some input) after f.spelled.spans
   whole_of after v f = record { used = f.used; rest = f.rest; took = f.took; spelled = f.spelled.spelled; blank = f.blank; within = f.within }
 
   -- a file that was accepted leaves nothing
@@ -68,9 +68,9 @@ module _ (laws : AllSingle) (limits : Limits) (longest : ℕ) (p : List ℕ) whe
   one_proof_text items items' h k e = laws.one_proof (largest limits) (top_of limits) items items' h k e
 
   prefix_of_proof : NoneGoesOn (IsProofText limits)
-  prefix_of_proof items items' more h k e = laws.proof_front (largest limits) (top_of limits) items items' more h k e
+  prefix_of_proof items items' more h k e = laws.proof_prefix (largest limits) (top_of limits) items items' more h k e
 
-  fixed_veri : HasFixedMarks (IsProofText limits)
+  fixed_veri : HasFixedSpans (IsProofText limits)
   fixed_veri = laws.fixed (largest limits) (top_of limits)
 
   one_proof : (p' p'' : Option (List ℕ)) (q r : Proof) → IsProofFile limits longest (Some p) p' q → IsProofFile limits longest (Some p) p'' r → q ≡ r
@@ -78,44 +78,44 @@ module _ (laws : AllSingle) (limits : Limits) (longest : ℕ) (p : List ℕ) whe
 
   module _ (v : Problem) (first : State) where
     proof_refusal : (p' : Option (List ℕ)) (s : Stop) → IsRefusedText limits longest v first (Some p) p' s → Refusal (IsProofText limits) longest p s
-    proof_refusal p' s (InProof last a w) = let r = a.took.reads in AtStop a.took.used r.left a.marks (a.took.took.0 ∙ r.input_is) r.answer.0 r.place_is r.answer.2
+    proof_refusal p' s (InProof last a w) = let r = a.took.reads in AtStop a.took.used r.left a.spans (a.took.took.0 ∙ r.input_is) r.answer.0 r.place_is r.answer.2
     proof_refusal p' s (AfterProof mid place last w a claimed rest) =
-        at_rest (IsProofText limits) longest p a.took.used a.took.seen mid p' a.marks place s a.took.took a.took.reads.answer.0 a.took.reads.place_is rest
+        at_rest (IsProofText limits) longest p a.took.used a.took.seen mid p' a.spans place s a.took.took a.took.reads.answer.0 a.took.reads.place_is rest
 
     abbrev HasPassed : Type 0
     HasPassed = Passed laws.outcomes limits v fixed_veri longest first p
 
     -- the statements of a text of the format, accepted
-    spelled_passed : (used left : List ℕ) (marks : List (Spanned Statement)) (last : State) → p ≡ used ++ left → IsSpelled (IsProofText limits) longest used marks → Accepts (largest limits) (top_of limits) v first (events_at marks) last → HasPassed
-    spelled_passed used left marks last is s accepted = record {
-      marks = marks;
+    spelled_passed : (used left : List ℕ) (spans : List (Spanned Statement)) (last : State) → p ≡ used ++ left → IsSpelled (IsProofText limits) longest used spans → Accepts (largest limits) (top_of limits) v first (events_at spans) last → HasPassed
+    spelled_passed used left spans last is s accepted = record {
+      spans = spans;
       last = last;
       accepted = accepted;
       begins = λ own more others place done e r.
-          let (m, beyond) = so_far_before (IsProofText limits) longest one_proof_text prefix_of_proof own more used left others marks own place done (sym e ∙ is) r s in
-          marks_begin (IsProofText limits) longest fixed_veri own used m others marks beyond (so_far_reached (IsProofText limits) longest own own others place done r) (spelling_reached (IsProofText limits) longest used marks s);
+          let (m, beyond) = so_far_before (IsProofText limits) longest one_proof_text prefix_of_proof own more used left others spans own place done (sym e ∙ is) r s in
+          spans_begin (IsProofText limits) longest fixed_veri own used m others spans beyond (so_far_reached (IsProofText limits) longest own own others place done r) (spelling_reached (IsProofText limits) longest used spans s);
     }
 
     -- those of a text that is rejected
     refused_passed : (p' : Option (List ℕ)) (s : Stop) → IsRefusedText limits longest v first (Some p) p' s → IsOfText s.why → HasPassed
-    refused_passed p' s (AfterProof mid place last w a claimed rest) d = spelled_passed a.took.used a.took.seen a.marks last a.took.took.0 a.took.reads.answer.0 a.accepted
+    refused_passed p' s (AfterProof mid place last w a claimed rest) d = spelled_passed a.took.used a.took.seen a.spans last a.took.took.0 a.took.reads.answer.0 a.accepted
     refused_passed p' s (InProof last a w) d =
         let t = a.took.reads in record {
-          marks = a.marks;
+          spans = a.spans;
           last = last;
           accepted = a.accepted;
           begins = λ own more others place done e r.
               let reached = so_far_reached (IsProofText limits) longest own own others place done r in
               let (m, beyond) = reached_before (IsProofText limits) longest a.took.used t.left own more others (sym t.input_is ∙ (sym a.took.took.0 ∙ e)) reached s.why d t.answer.2 in
-              marks_begin (IsProofText limits) longest fixed_veri own a.took.used m others a.marks beyond reached (way_reached (IsProofText limits) longest a.took.used a.marks t.answer.0);
+              spans_begin (IsProofText limits) longest fixed_veri own a.took.used m others a.spans beyond reached (way_reached (IsProofText limits) longest a.took.used a.spans t.answer.0);
         }
 
     -- those of a whole proof
     proof_passed : (p' : Option (List ℕ)) (q : Proof) (last : State) → IsProofFile limits longest (Some p) p' q → Accepts (largest limits) (top_of limits) v first (statements_of q) last → HasPassed
     proof_passed p' q last f accepted =
         let s = f.spelled.spelled in
-        let same = spelled_events (IsProofText limits) longest f.used f.spelled.marks s ∙ (f.spelled.value ∙ ap (λ (x : Proof). statements_of x) f.value) in
-        spelled_passed f.used f.rest f.spelled.marks last (all_taken p (f.used ++ f.rest) f.took.0) s (subst (λ (x : List Statement). Accepts (largest limits) (top_of limits) v first x last) (sym same) accepted)
+        let same = spelled_events (IsProofText limits) longest f.used f.spelled.spans s ∙ (f.spelled.value ∙ ap (λ (x : Proof). statements_of x) f.value) in
+        spelled_passed f.used f.rest f.spelled.spans last (all_taken p (f.used ++ f.rest) f.took.0) s (subst (λ (x : List Statement). Accepts (largest limits) (top_of limits) v first x last) (sym same) accepted)
 
 -- ---- the instance
 
@@ -124,18 +124,18 @@ module _ (laws : AllSingle) (limits : Limits) (longest : ℕ) (i : List ℕ) whe
   one_instance_text items items' h k e = laws.one_instance (largest limits) (top_of limits) items items' h k e
 
   prefix_of_instance : NoneGoesOn (IsInstanceText limits)
-  prefix_of_instance items items' more h k e = laws.instance_front (largest limits) (top_of limits) items items' more h k e
+  prefix_of_instance items items' more h k e = laws.instance_prefix (largest limits) (top_of limits) items items' more h k e
 
   one_instance : (i' i'' : Option (List ℕ)) (v w : Instance) → IsInstanceFile limits longest (Some i) i' v → IsInstanceFile limits longest (Some i) i'' w → v ≡ w
   one_instance = one_file (IsInstanceText limits) IsValueOf longest i one_instance_text prefix_of_instance same_value
 
   instance_refusal : (i' : Option (List ℕ)) (s : Stop) → IsNoInstanceFile limits longest (Some i) i' s → IsOfText s.why → Refusal (IsInstanceText limits) longest i s
-  instance_refusal i' s (InText (used, seen, took, Reading marks r w)) d = AtStop used r.left marks (took.0 ∙ r.input_is) r.answer.0 r.place_is r.answer.2
-  instance_refusal i' s (InText (used, seen, took, Keeping marks last done r k is)) d = absurd (subst (λ (x : Stop). IsOfText x.why) is d)
-  instance_refusal i' s (InRest m mid (used, seen, took, read) rest) d = at_rest (IsInstanceText limits) longest i used seen mid i' read.marks m.past s took read.spelled read.past rest
+  instance_refusal i' s (InText (used, seen, took, Reading spans r w)) d = AtStop used r.left spans (took.0 ∙ r.input_is) r.answer.0 r.place_is r.answer.2
+  instance_refusal i' s (InText (used, seen, took, Keeping spans last done r k is)) d = absurd (subst (λ (x : Stop). IsOfText x.why) is d)
+  instance_refusal i' s (InRest m mid (used, seen, took, read) rest) d = at_rest (IsInstanceText limits) longest i used seen mid i' read.spans m.past s took read.spelled read.past rest
 
   no_instance : (i' i'' : Option (List ℕ)) (v : Instance) (s : Stop) → IsInstanceFile limits longest (Some i) i' v → IsNoInstanceFile limits longest (Some i) i'' s → IsOfText s.why → ⊥
-  no_instance i' i'' v s f r d = no_refusal (IsInstanceText limits) longest one_instance_text prefix_of_instance i s i' f.spelled.marks (whole_of (IsInstanceText limits) IsValueOf longest i i' v f) (instance_refusal i'' s r d) d
+  no_instance i' i'' v s f r d = no_refusal (IsInstanceText limits) longest one_instance_text prefix_of_instance i s i' f.spelled.spans (whole_of (IsInstanceText limits) IsValueOf longest i i' v f) (instance_refusal i'' s r d) d
 
   one_stop_of_instance : (i' i'' : Option (List ℕ)) (s t : Stop) → IsNoInstanceFile limits longest (Some i) i' s → IsOfText s.why → IsNoInstanceFile limits longest (Some i) i'' t → IsOfText t.why → t ≡ s
   one_stop_of_instance i' i'' s t h d k d' = sym (one_refusal (IsInstanceText limits) longest one_instance_text prefix_of_instance i s t (instance_refusal i' s h d) (instance_refusal i'' t k d') d d')
@@ -175,7 +175,7 @@ module _ (laws : AllSingle) (limits : Limits) (longest : ℕ) (i : List ℕ) whe
           let went : Went problem = subst Went same (proof_passed laws limits longest p h.problem (first_state h.problem) p1 q h.last g h.accepted) in
           absurd (no_step laws.outcomes limits problem (fixed_veri laws limits longest p) longest (first_state problem) p p' place e (string_bytes name) went r d)
       settled i1 p1 v q w f g h (Err (Text of_proof s)) old new i' p' (v', f', problem, opened, r, x) d =
-          absurd (no_refusal (IsProofText limits) longest (one_proof_text laws limits longest p) (prefix_of_proof laws limits longest p) p s p1 g.spelled.marks
+          absurd (no_refusal (IsProofText limits) longest (one_proof_text laws limits longest p) (prefix_of_proof laws limits longest p) p s p1 g.spelled.spans
           (whole_of (IsProofText limits) IsProofOf longest p p1 q g) (proof_refusal laws limits longest p problem (first_state problem) p' s r) d)
       settled i1 p1 v q w f g h (Err (Text File s)) old new i' p' a d = absurd a
       settled i1 p1 v q w f g h (Err (Overflow File)) old new i' p' a d = absurd a

@@ -16,12 +16,12 @@ use Rattle.pb_proof.specs.contract.ValueLaws.{ReadStatements}
 use Rattle.pb_proof.specs.contract.Values.{IsStatementValue}
 use Rattle.pb_proof.specs.declared.Statement.{Statement}
 use Rattle.pb_proof.specs.declared.Stage.{Stage}
-use Rattle.pb_proof.specs.declared.Stage.TheVariants.{Opening, Formula, Steps, Claim, Closing, Complete}
+use Rattle.pb_proof.specs.declared.Stage.TheVariants.{Opening, Formula, Steps, Concluding, Closing, Complete}
 use Rattle.pb_replay.specs.contract.Laws.{WholeProofsConclude}
 use Rattle.pb_replay.specs.meaning.Problem.{Problem}
-use Rattle.pb_replay.specs.meaning.Meaning.{IsFront, IsSound}
+use Rattle.pb_replay.specs.meaning.Meaning.{IsNamePrefix, IsSound}
 use Rattle.pb_replay.specs.meaning.Replay.{State}
-use Rattle.pb_replay.specs.contract.Kept.{Replaying, verdict_at, verdict_in}
+use Rattle.pb_replay.specs.contract.ReplayModel.{Replaying, verdict_at, verdict_in}
 use Rattle.pb_replay.specs.meaning.Statements.{Outcome, Accepts, MayWantAt}
 use Rattle.pb_replay.specs.declared.fault.Fault.{Fault}
 use Rattle.pb_replay.specs.declared.fault.Fault.TheVariants as fault
@@ -29,7 +29,7 @@ use Rattle.pb_replay.specs.declared.verdict.Verdict.{Verdict}
 use Rattle.pb_tool.specs.contract.Checker.{IsAt, StepsFrom}
 use Rattle.pb_text.specs.meaning.Whole.{events_at}
 use Rattle.pb_tool.specs.contract.Checks.{KeepsNames, Rejects, StepsTo}
-use Rattle.pb_replay.specs.contract.Kept.{StandsFor}
+use Rattle.pb_replay.specs.contract.ReplayModel.{StandsFor}
 use Rattle.pb_tool.specs.meaning.Files.{AsksInProofText, IsProofText}
 use Rattle.pb_tool.specs.contract.Runs.{RunsProof, faults_of_text}
 use Rattle.pb_tool.specs.contract.Seen.{SawText}
@@ -37,7 +37,7 @@ use Rattle.pb_tool.specs.meaning.Verified.{IsAccepted}
 use Rattle.pb_tool.specs.declared.commands.check.checker.CheckFault.{CheckFault}
 use Rattle.pb_tool.specs.declared.commands.check.checker.CheckFault.TheVariants as check
 use Rattle.pb_text.proofs.lemmas.source.Unkept.{asking_to}
-use Rattle.pb_tool.proofs.lemmas.check.CheckerSteps.{TellsOld, accepts_more, failed, last_is_value, proofs_read, shown_at, there}
+use Rattle.pb_tool.proofs.lemmas.check.CheckerSteps.{ReportsOld, accepts_more, failed, last_is_value, proofs_read, shown_at, there}
 use Rattle.pb_tool.proofs.lemmas.show.ShownStatements.{all_to, so_far_to}
 
 -- the result of a step, from any state of the replay
@@ -67,7 +67,7 @@ claimed Complete c w h = h
 claimed Opening c w h = absurd (cc h)
 claimed Formula c w h = absurd (cc h)
 claimed Steps c w h = absurd (cc h)
-claimed Claim c w h = absurd (cc h)
+claimed Concluding c w h = absurd (cc h)
 claimed Closing c w h = absurd (cc h)
 
 -- what the machine of proofs accepts
@@ -81,7 +81,7 @@ module _ (exact : ReadsProofs) (limits : Limits) (longest : ℕ) where
   abbrev IsRead : List ℕ → List ℕ → List (Spanned Statement) → Place → Bool → Option Stop → Type 0
   IsRead = Reads (Taken limits) longest
 
-  pub to_proof : (input used : List ℕ) (marks : List (Spanned Statement)) (place : Place) (done : Bool) (stop : Option Stop) → IsRead input used marks place done stop → Reads (IsProofText limits) longest input used marks place done stop
+  pub to_proof : (input used : List ℕ) (spans : List (Spanned Statement)) (place : Place) (done : Bool) (stop : Option Stop) → IsRead input used spans place done stop → Reads (IsProofText limits) longest input used spans place done stop
   to_proof = proofs_read exact (largest limits) (top_of limits) longest
 
   module _ (before after : Option (List ℕ)) where
@@ -91,56 +91,56 @@ module _ (exact : ReadsProofs) (limits : Limits) (longest : ℕ) where
     abbrev HasSoFar : List (Spanned Statement) → Place → Type 0
     HasSoFar = TookSoFar (Taken limits) longest before after
 
-    abbrev read_all : (marks : List (Spanned Statement)) (place : Place) (done : Bool) (stop : Option Stop) → HasAll marks place done stop → TookAll (IsProofText limits) longest before after marks place done stop
+    abbrev read_all : (spans : List (Spanned Statement)) (place : Place) (done : Bool) (stop : Option Stop) → HasAll spans place done stop → TookAll (IsProofText limits) longest before after spans place done stop
     read_all = all_to (Taken limits) (IsProofText limits) longest to_proof before after
 
-    read_so_far : (marks : List (Spanned Statement)) (place : Place) → HasSoFar marks place → TookSoFar (IsProofText limits) longest before after marks place
+    read_so_far : (spans : List (Spanned Statement)) (place : Place) → HasSoFar spans place → TookSoFar (IsProofText limits) longest before after spans place
     read_so_far = so_far_to (Taken limits) (IsProofText limits) longest to_proof before after
 
-    pub value_pulled : ReadStatements → (current : Limits) → current ≡ limits → (marks : List (Spanned Statement)) (m : Spanned Statement) (place : Place) → HasSoFar (marks ++ m ∷ []) place → IsStatementValue (largest current) (top_of current) m.event
-    value_pulled values current same marks m place t =
-        let all = read_so_far (marks ++ m ∷ []) place t in
-        subst (λ (x : Limits). IsStatementValue (largest x) (top_of x) m.event) (sym same) (last_is_value values (largest limits) (top_of limits) longest all.used all.used marks m place all.done all.reads)
+    pub value_pulled : ReadStatements → (current : Limits) → current ≡ limits → (spans : List (Spanned Statement)) (m : Spanned Statement) (place : Place) → HasSoFar (spans ++ m ∷ []) place → IsStatementValue (largest current) (top_of current) m.event
+    value_pulled values current same spans m place t =
+        let all = read_so_far (spans ++ m ∷ []) place t in
+        subst (λ (x : Limits). IsStatementValue (largest x) (top_of x) m.event) (sym same) (last_is_value values (largest limits) (top_of limits) longest all.used all.used spans m place all.done all.reads)
 
-    module _ (v : Problem) (first : State) (r : Replaying) (marks : List (Spanned Statement)) (led : (t : State) × StandsFor r t × Accepts (largest limits) (top_of limits) v first (events_at marks) t) where
-      abbrev pub accepted : (place : Place) (done : Bool) (stop : Option Stop) → HasAll marks place done stop → IsAccepted limits longest v first before after place done stop led.0
-      accepted place done stop all = record { marks = marks; took = read_all marks place done stop all; accepted = led.2 }
+    module _ (v : Problem) (first : State) (r : Replaying) (spans : List (Spanned Statement)) (led : (t : State) × StandsFor r t × Accepts (largest limits) (top_of limits) v first (events_at spans) t) where
+      abbrev pub accepted : (place : Place) (done : Bool) (stop : Option Stop) → HasAll spans place done stop → IsAccepted limits longest v first before after place done stop led.0
+      accepted place done stop all = record { spans = spans; took = read_all spans place done stop all; accepted = led.2 }
 
-      pub stopped : ((used : List ℕ) (b : ℕ) → MayTake limits used b → AsksInProofText limits used b) → (s : Stop) → (all : HasAll marks s.place false (Some s)) × IsAsking (MayTake limits) all.used all.seen s.why
+      pub stopped : ((used : List ℕ) (b : ℕ) → MayTake limits used b → AsksInProofText limits used b) → (s : Stop) → (all : HasAll spans s.place false (Some s)) × IsAsking (MayTake limits) all.used all.seen s.why
           → (t : State) × (a : IsAccepted limits longest v first before after s.place false (Some s) t) × IsAsking (AsksInProofText limits) a.took.used a.took.seen s.why
       stopped asks s (all, asking) = (led.0, accepted s.place false (Some s) all, asking_to (MayTake limits) (AsksInProofText limits) all.used all.seen (asks all.used) s.why asking)
 
       module _ (none : r.fault ≡ None) where
-        pub ended : (place : Place) (w : Verdict) → HasAll marks place true None → Some w ≡ verdict_in r → (t : State) × IsAccepted limits longest v first before after place true None t × (t.concluded ≡ Some w)
+        pub ended : (place : Place) (w : Verdict) → HasAll spans place true None → Some w ≡ verdict_in r → (t : State) × IsAccepted limits longest v first before after place true None t × (t.concluded ≡ Some w)
         ended place w all is = (led.0, accepted place true None all, claimed led.0.next led.0.concluded w (sym (shown_at r led.0 (none, led.1)) ∙ sym is))
 
-        pub no_end : WholeProofsConclude → (place : Place) → HasAll marks place true None → None ≡ verdict_in r → ⊥
+        pub no_end : WholeProofsConclude → (place : Place) → HasAll spans place true None → None ≡ verdict_in r → ⊥
         no_end whole place all is =
-            let t = read_all marks place true None all in
-            let (u, same, some) = there whole limits longest v (Ok first) (t.used ++ t.seen) t.used marks place (Ok led.0) t.reads (led.0, refl, led.2) in
+            let t = read_all spans place true None all in
+            let (u, same, some) = there whole limits longest v (Ok first) (t.used ++ t.seen) t.used spans place (Ok led.0) t.reads (led.0, refl, led.2) in
             some (sym (shown_at r u (subst (λ (x : Result State Fault). IsAt r x) same (none, led.1))) ∙ sym is)
 
         module _ (new : Replaying) (m : Spanned Statement) (limited : r.limits ≡ limits) (problem : r.problem ≡ v) where
-          pub led_more : Answers r m (Ok tt) new → (t : State) × StandsFor new t × Accepts (largest limits) (top_of limits) v first (events_at (marks ++ m ∷ [])) t
+          pub led_more : Answers r m (Ok tt) new → (t : State) × StandsFor new t × Accepts (largest limits) (top_of limits) v first (events_at (spans ++ m ∷ [])) t
           led_more steps =
               let (s, at, takes) = steps (Ok led.0) (none, led.1) in (
                 s,
                 at.1,
-                accepts_more (largest limits) (top_of limits) v marks m first led.0 s led.2 (subst (λ (x : Problem). StepsTo limits x (Ok led.0) m.event s) problem (subst (λ (x : Limits). StepsTo x r.problem (Ok led.0) m.event s) limited takes)),
+                accepts_more (largest limits) (top_of limits) v spans m first led.0 s led.2 (subst (λ (x : Problem). StepsTo limits x (Ok led.0) m.event s) problem (subst (λ (x : Limits). StepsTo x r.problem (Ok led.0) m.event s) limited takes)),
               )
 
-          told : (e : Fault) → KeepsNames led.0.names new.names e → Rejects limits v (Ok led.0) m.event e
+          reported : (e : Fault) → KeepsNames led.0.names new.names e → Rejects limits v (Ok led.0) m.event e
               → ((e ≡ fault.Memory) × MayWantAt (largest limits) (top_of limits) v led.0.next m.event) ⊎ (Outcome (largest limits) (top_of limits) v led.0 m.event (Err e) × KeepsNames led.0.names new.names e)
-          told e names (inl h) = inl h
-          told e names (inr h) = inr (h, names)
+          reported e names (inl h) = inl h
+          reported e names (inr h) = inr (h, names)
 
-          pub refused_run : (x : CheckFault) → Answers r m (Err x) new → IsFront r.names new.names → TellsOld r x → HasSoFar (marks ++ m ∷ []) m.past → RunsProof limits longest v first before (Err x) after new
+          pub refused_run : (x : CheckFault) → Answers r m (Err x) new → IsNamePrefix r.names new.names → ReportsOld r x → HasSoFar (spans ++ m ∷ []) m.past → RunsProof limits longest v first before (Err x) after new
           refused_run x steps names old t =
               let (e, is, refuses) = steps (Ok led.0) (none, led.1) in
               let here = subst (λ (y : Problem). Rejects limits y (Ok led.0) m.event e) problem (subst (λ (y : Limits). Rejects y r.problem (Ok led.0) m.event e) limited refuses) in
               subst (λ (y : CheckFault). RunsProof limits longest v first before (Err y) after new) (sym is) (
                 m.event,
                 led.0,
-                record { marks = marks; last = m; took = read_so_far (marks ++ m ∷ []) m.past t; begins_is = refl; statement = refl; accepted = led.2 },
-                told e (subst (λ (y : List (List ℕ)). KeepsNames y new.names e) (sym led.1.names) (names, λ n h. old m.first n (ap (λ (y : CheckFault). failed y) (is ∙ ap (λ (f : Fault). check.Step m.first f) h)))) here,
+                record { spans = spans; last = m; took = read_so_far (spans ++ m ∷ []) m.past t; begins_is = refl; statement = refl; accepted = led.2 },
+                reported e (subst (λ (y : List (List ℕ)). KeepsNames y new.names e) (sym led.1.names) (names, λ n h. old m.first n (ap (λ (y : CheckFault). failed y) (is ∙ ap (λ (f : Fault). check.Step m.first f) h)))) here,
               )

@@ -15,7 +15,7 @@ use Rattle.pb_proof.specs.declared.Statement.{Statement}
 use Rattle.pb_proof.specs.meaning.Proofs.{IsProofOf, statements_of}
 use Rattle.pb_replay.specs.meaning.Problem.{Problem}
 use Rattle.pb_replay.specs.meaning.Replay.{State, first_state}
-use Rattle.pb_replay.specs.contract.Kept.{Replaying}
+use Rattle.pb_replay.specs.contract.ReplayModel.{Replaying}
 use Rattle.pb_replay.specs.contract.Laws.{UnvaluedMayWant}
 use Rattle.pb_replay.specs.meaning.Statements.{Outcome, Accepts, MayWantAt}
 use Rattle.pb_replay.specs.declared.fault.Fault.{Fault}
@@ -61,10 +61,10 @@ module _ (limits : Limits) (longest : ℕ) (v : Problem) (first : State) (before
       let s = a.took.reads.answer.0 in
       let (q, spells) = s.spelled in
       let used = a.took.used in
-      let same = spelled_events (IsProofText limits) longest used a.marks s ∙ spells.1 in
+      let same = spelled_events (IsProofText limits) longest used a.spans s ∙ spells.1 in
       let read : Spanned Proof = record { event = q; first = place_after []; past = place_after used } in (
         q,
-        file_then_blank (IsRead (IsProofText limits) longest IsProofOf) read before mid after used a.took.seen a.took.took (record { marks = a.marks; spelled = s; value = spells.1; first = refl; past = refl }) refl
+        file_then_blank (IsRead (IsProofText limits) longest IsProofOf) read before mid after used a.took.seen a.took.took (record { spans = a.spans; spelled = s; value = spells.1; first = refl; past = refl }) refl
             (subst (λ (p : Place). ReadsBlank p mid (Ok tt) after) a.took.reads.place_is blank),
         t,
         subst (λ (x : List Statement). Accepts (largest limits) (top_of limits) v first x t) same a.accepted,
@@ -73,26 +73,26 @@ module _ (limits : Limits) (longest : ℕ) (v : Problem) (first : State) (before
 
   -- a rejected statement, with the name that the fault gives
   pub step_report : UnvaluedMayWant → (after : Option (List ℕ)) (new : Replaying) (place : Place) (e : Fault) (f : ToolFault) → RunsProof limits longest v first before (Err (check.Step place e)) after new → IsReportedAs new.names place e f → Replays limits longest v first before (Err f) after
-  step_report law after new place e (Step at x name) (st, state, comes, why) (is, told) = (
+  step_report law after new place e (Step at x name) (st, state, comes, why) (is, reported) = (
     st,
     state,
-    record { marks = comes.marks; last = comes.last; took = comes.took; begins_is = is ∙ comes.begins_is; statement = comes.statement; accepted = comes.accepted },
-    reason told why,
+    record { spans = comes.spans; last = comes.last; took = comes.took; begins_is = is ∙ comes.begins_is; statement = comes.statement; accepted = comes.accepted },
+    reason reported why,
   )
     where
       reason : ((x ≡ no_memory) × ((n : ℕ) × (e ≡ NotTotal n))) ⊎ ((x ≡ e) × IsReported new.names e (string_bytes name))
           → ((e ≡ no_memory) × MayWantAt (largest limits) (top_of limits) v state.next st) ⊎ (Outcome (largest limits) (top_of limits) v state st (Err e) × KeepsNames state.names new.names e)
           → ((x ≡ no_memory) × MayWantAt (largest limits) (top_of limits) v state.next st) ⊎ (Outcome (largest limits) (top_of limits) v state st (Err x) × IsReported state.names x (string_bytes name))
-      reason (inl (h, told)) (inl m) = inl (h, m.1)
+      reason (inl (h, reported)) (inl m) = inl (h, m.1)
       reason (inl (h, (n, is))) (inr (out, kept)) = inl (h, law (largest limits) (top_of limits) v state st n (subst (λ (y : Fault). Outcome (largest limits) (top_of limits) v state st (Err y)) is out))
       reason (inr (same, h)) (inl m) = inl (same ∙ m.0, m.1)
       reason (inr (same, h)) (inr (out, kept)) =
           inr (subst (λ (y : Fault). Outcome (largest limits) (top_of limits) v state st (Err y) × IsReported state.names y (string_bytes name)) (sym same) (out, reported_before state.names new.names e (string_bytes name) kept h))
-  step_report law after new place e (Text i s) h told = absurd told
-  step_report law after new place e (Open i) h told = absurd told
-  step_report law after new place e (Overflow i) h told = absurd told
-  step_report law after new place e (Memory i) h told = absurd told
-  step_report law after new place e Write h told = absurd told
+  step_report law after new place e (Text i s) h reported = absurd reported
+  step_report law after new place e (Open i) h reported = absurd reported
+  step_report law after new place e (Overflow i) h reported = absurd reported
+  step_report law after new place e (Memory i) h reported = absurd reported
+  step_report law after new place e Write h reported = absurd reported
 
 module _ (limits : Limits) (longest n : ℕ) (is : longest ≡ n) {W : Type 0} (contents : W → Option (List ℕ)) (faults : W → ℕ) (i i' p p' : Option (List ℕ)) (old new : W) where
   abbrev Checks : Result Verdict ToolFault → Type 0

@@ -11,8 +11,8 @@ use Rattle.pb_text.specs.declared.Stop.{Stop}
 use Rattle.pb_text.proofs.lemmas.source.Wholes.{given_both}
 use Rattle.pb_proof.specs.contract.Formats.{ReadsProofs}
 use Rattle.pb_proof.specs.declared.Statement.{Statement}
-use Rattle.pb_replay.specs.contract.Kept.{Replaying, StandsFor}
-use Rattle.pb_replay.specs.meaning.Meaning.{IsFront}
+use Rattle.pb_replay.specs.contract.ReplayModel.{Replaying, StandsFor}
+use Rattle.pb_replay.specs.meaning.Meaning.{IsNamePrefix}
 use Rattle.pb_replay.specs.meaning.Problem.{Problem}
 use Rattle.pb_replay.specs.meaning.Replay.{State, first_state}
 use Rattle.pb_replay.specs.meaning.Statements.{Outcome}
@@ -30,7 +30,7 @@ use Rattle.pb_tool.specs.declared.commands.check.checker.CheckFault.TheVariants 
 use Rattle.pb_tool.specs.declared.fault.ToolFault.{ToolFault}
 use Rattle.pb_tool.specs.declared.fault.ToolFault.TheVariants.{Text, Open, Overflow, Memory, Write, Step}
 use Rattle.pb_tool.specs.declared.fault.Input.TheVariants.{File, Instance as of_instance, Proof as of_proof}
-use Rattle.pb_tool.proofs.lemmas.check.CheckerSteps.{TellsOld, failed}
+use Rattle.pb_tool.proofs.lemmas.check.CheckerSteps.{ReportsOld, failed}
 use Rattle.pb_tool.proofs.lemmas.show.GivenStatements.{all_of}
 use Rattle.pb_tool.proofs.lemmas.check.ReplayRuns.{MayTake, Taken, to_proof}
 use Rattle.pb_tool.proofs.lemmas.show.ShownStatements.{all_to, so_far_to}
@@ -47,91 +47,91 @@ module _ {V : Type 0} (got : V → Call → V → Type 0) where
 
 module _ (limits : Limits) (v : Problem) where
   -- one statement more
-  pub shows_more : (s : State) (marks : List (Spanned Statement)) (calls : List Call) (t : State) (m : Spanned Statement) (r : Replaying) (u : State)
-      → ShowsEach limits v s marks calls t → Outcome (largest limits) (top_of limits) v t m.event (Ok u) → StandsFor r u → r.fault ≡ None
-      → ShowsEach limits v s (marks ++ m ∷ []) (calls ++ Accepted m r ∷ []) u
+  pub shows_more : (s : State) (spans : List (Spanned Statement)) (calls : List Call) (t : State) (m : Spanned Statement) (r : Replaying) (u : State)
+      → ShowsEach limits v s spans calls t → Outcome (largest limits) (top_of limits) v t m.event (Ok u) → StandsFor r u → r.fault ≡ None
+      → ShowsEach limits v s (spans ++ m ∷ []) (calls ++ Accepted m r ∷ []) u
   shows_more s [] [] t m r u h out at none = (refl, u, subst (λ (x : State). Outcome (largest limits) (top_of limits) v x m.event (Ok u)) (sym h) out, at, none, refl)
   shows_more s [] (c ∷ calls) t m r u h out at none = absurd h
-  shows_more s (n ∷ marks) [] t m r u h out at none = absurd h
-  shows_more s (n ∷ marks) (Rejected k q f ∷ calls) t m r u h out at none = absurd h
-  shows_more s (n ∷ marks) (Accepted k q ∷ calls) t m r u (same, a, does, is, runs, rest) out at none =
-      (same, a, does, is, runs, shows_more a marks calls t m r u rest out at none)
+  shows_more s (n ∷ spans) [] t m r u h out at none = absurd h
+  shows_more s (n ∷ spans) (Rejected k q f ∷ calls) t m r u h out at none = absurd h
+  shows_more s (n ∷ spans) (Accepted k q ∷ calls) t m r u (same, a, does, is, runs, rest) out at none =
+      (same, a, does, is, runs, shows_more a spans calls t m r u rest out at none)
 
 -- The watch got a call for each statement so far.
 abbrev pub HasShown : {V : Type 0} → (V → Call → V → Type 0) → V → Replaying → List (Spanned Statement) → V → Replaying → Type 0
-HasShown got old began marks new r =
+HasShown got old began spans new r =
     (calls : List Call) × GotEach got old calls new
-    × ((first : State) → StandsFor began first → (t : State) × StandsFor r t × ShowsEach began.limits began.problem first marks calls t)
+    × ((first : State) → StandsFor began first → (t : State) × StandsFor r t × ShowsEach began.limits began.problem first spans calls t)
 
 module _ {V : Type 0} (got : V → Call → V → Type 0) (old : V) (began : Replaying) where
   pub shown_first : HasShown got old began [] old began
   shown_first = ([], refl, λ first at. (first, at, refl))
 
-  module _ (marks : List (Spanned Statement)) (mid : V) (r : Replaying) (h : HasShown got old began marks mid r) (m : Spanned Statement) (new : Replaying) (after : V) (none : r.fault ≡ None) (limited : r.limits ≡ began.limits) (problem : r.problem ≡ began.problem) where
+  module _ (spans : List (Spanned Statement)) (mid : V) (r : Replaying) (h : HasShown got old began spans mid r) (m : Spanned Statement) (new : Replaying) (after : V) (none : r.fault ≡ None) (limited : r.limits ≡ began.limits) (problem : r.problem ≡ began.problem) where
     -- the state after an accepted statement
-    next_shown : Answers r m (Ok tt) new → (first : State) → StandsFor began first → (t : State) × StandsFor new t × ShowsEach began.limits began.problem first (marks ++ m ∷ []) (h.0 ++ Accepted m new ∷ []) t
+    next_shown : Answers r m (Ok tt) new → (first : State) → StandsFor began first → (t : State) × StandsFor new t × ShowsEach began.limits began.problem first (spans ++ m ∷ []) (h.0 ++ Accepted m new ∷ []) t
     next_shown steps first at =
         let (t, stands, shows) = h.2 first at in
         let (u, now, takes) = steps (Ok t) (none, stands) in
         let here = subst (λ (x : Problem). StepsTo began.limits x (Ok t) m.event u) problem (subst (λ (x : Limits). StepsTo x r.problem (Ok t) m.event u) limited takes) in
-        (u, now.1, shows_more began.limits began.problem first marks h.0 t m new u shows here now.1 now.0)
+        (u, now.1, shows_more began.limits began.problem first spans h.0 t m new u shows here now.1 now.0)
 
-    pub shown_next : Answers r m (Ok tt) new → got mid (Accepted m new) after → HasShown got old began (marks ++ m ∷ []) after new
+    pub shown_next : Answers r m (Ok tt) new → got mid (Accepted m new) after → HasShown got old began (spans ++ m ∷ []) after new
     shown_next steps call = (h.0 ++ Accepted m new ∷ [], got_more got old h.0 mid (Accepted m new) after h.1 call, next_shown steps)
 
     module _ (exact : ReadsProofs) (longest : ℕ) (first : State) (at : StandsFor began first) (x : CheckFault) where
       -- a rejected statement
-      pub shown_rejected : (before rest : Option (List ℕ)) → Answers r m (Err x) new → IsFront r.names new.names → TellsOld r x → got mid (Rejected m new x) after
-          → TookSoFar (Taken began.limits) longest before rest (marks ++ m ∷ []) m.past → ShowsRun began.limits longest got began.problem first before old (Err x) rest after
-      shown_rejected before rest steps names tells call t =
+      pub shown_rejected : (before rest : Option (List ℕ)) → Answers r m (Err x) new → IsNamePrefix r.names new.names → ReportsOld r x → got mid (Rejected m new x) after
+          → TookSoFar (Taken began.limits) longest before rest (spans ++ m ∷ []) m.past → ShowsRun began.limits longest got began.problem first before old (Err x) rest after
+      shown_rejected before rest steps names reports call t =
           let (last, stands, shows) = h.2 first at in
           let (e, is, refuses) = steps (Ok last) (none, stands) in
           subst (λ (y : CheckFault). ShowsRun began.limits longest got began.problem first before old (Err y) rest after) (sym is) (record {
-            marks = marks;
+            spans = spans;
             rejected = m;
-            took = so_far_to (Taken began.limits) (IsProofText began.limits) longest (to_proof exact began.limits longest) before rest (marks ++ m ∷ []) m.past t;
+            took = so_far_to (Taken began.limits) (IsProofText began.limits) longest (to_proof exact began.limits longest) before rest (spans ++ m ∷ []) m.past t;
             begins_is = refl;
             calls = h.0;
             last = last;
             shows = shows;
             replay = new;
-            names = subst (λ (y : List (List ℕ)). KeepsNames y new.names e) (sym stands.names) (names, λ n k. tells m.first n (ap (λ (y : CheckFault). failed y) (is ∙ ap (λ (f : Fault). check.Step m.first f) k)));
+            names = subst (λ (y : List (List ℕ)). KeepsNames y new.names e) (sym stands.names) (names, λ n k. reports m.first n (ap (λ (y : CheckFault). failed y) (is ∙ ap (λ (f : Fault). check.Step m.first f) k)));
             got_are = subst (λ (y : CheckFault). GotEach got old (h.0 ++ Rejected m new y ∷ []) after) is (got_more got old h.0 mid (Rejected m new x) after h.1 call);
           })
 
-      pub shown_rejected_given : (before rest : List ℕ) → Answers r m (Err x) new → IsFront r.names new.names → TellsOld r x → got mid (Rejected m new x) after
-          → OfGiven (λ left others. TookSoFar (Taken began.limits) longest left others (marks ++ m ∷ []) m.past) before rest
+      pub shown_rejected_given : (before rest : List ℕ) → Answers r m (Err x) new → IsNamePrefix r.names new.names → ReportsOld r x → got mid (Rejected m new x) after
+          → OfGiven (λ left others. TookSoFar (Taken began.limits) longest left others (spans ++ m ∷ []) m.past) before rest
           → OfGiven (λ left others. ShowsRun began.limits longest got began.problem first left old (Err x) others after) before rest
-      shown_rejected_given before rest steps names tells call (given, seen, e, t) = (given, seen, e, shown_rejected (Some (given ++ seen)) (Some seen) steps names tells call t)
+      shown_rejected_given before rest steps names reports call (given, seen, e, t) = (given, seen, e, shown_rejected (Some (given ++ seen)) (Some seen) steps names reports call t)
 
-  module _ (exact : ReadsProofs) (longest : ℕ) (first : State) (at : StandsFor began first) (marks : List (Spanned Statement)) (new : V) (r : Replaying) (h : HasShown got old began marks new r) where
+  module _ (exact : ReadsProofs) (longest : ℕ) (first : State) (at : StandsFor began first) (spans : List (Spanned Statement)) (new : V) (r : Replaying) (h : HasShown got old began spans new r) where
     -- all that was read
-    shown_all : (before rest : Option (List ℕ)) (place : Place) (done : Bool) (stop : Option Stop) → TookAll (Taken began.limits) longest before rest marks place done stop → HasSeen began.limits longest got began.problem first before old rest place done stop new
+    shown_all : (before rest : Option (List ℕ)) (place : Place) (done : Bool) (stop : Option Stop) → TookAll (Taken began.limits) longest before rest spans place done stop → HasSeen began.limits longest got began.problem first before old rest place done stop new
     shown_all before rest place done stop t =
         let (last, stands, shows) = h.2 first at in
         record {
-          marks = marks;
-          took = all_to (Taken began.limits) (IsProofText began.limits) longest (to_proof exact began.limits longest) before rest marks place done stop t;
+          spans = spans;
+          took = all_to (Taken began.limits) (IsProofText began.limits) longest (to_proof exact began.limits longest) before rest spans place done stop t;
           calls = h.0;
           last = last;
           shows = shows;
           got_are = h.1;
         }
 
-    pub shown_stopped : (before rest : Option (List ℕ)) (s : Stop) → (all : TookAll (Taken began.limits) longest before rest marks s.place false (Some s)) × IsAsking (MayTake began.limits) all.used all.seen s.why
+    pub shown_stopped : (before rest : Option (List ℕ)) (s : Stop) → (all : TookAll (Taken began.limits) longest before rest spans s.place false (Some s)) × IsAsking (MayTake began.limits) all.used all.seen s.why
         → ShowsRun began.limits longest got began.problem first before old (Err (check.Text s)) rest new
     shown_stopped before rest s (all, asking) = shown_all before rest s.place false (Some s) all
 
     pub shown_stopped_given : (before rest : List ℕ) (s : Stop)
-        → OfGiven (λ left others. (all : TookAll (Taken began.limits) longest left others marks s.place false (Some s)) × IsAsking (MayTake began.limits) all.used all.seen s.why) before rest
+        → OfGiven (λ left others. (all : TookAll (Taken began.limits) longest left others spans s.place false (Some s)) × IsAsking (MayTake began.limits) all.used all.seen s.why) before rest
         → OfGiven (λ left others. ShowsRun began.limits longest got began.problem first left old (Err (check.Text s)) others new) before rest
     shown_stopped_given before rest s (given, seen, e, all) = (given, seen, e, shown_stopped (Some (given ++ seen)) (Some seen) s all)
 
-    pub shown_ended : (before rest : Option (List ℕ)) (place at : Place) (w : Verdict) → place ≡ at → TookAll (Taken began.limits) longest before rest marks place true None
+    pub shown_ended : (before rest : Option (List ℕ)) (place at : Place) (w : Verdict) → place ≡ at → TookAll (Taken began.limits) longest before rest spans place true None
         → ShowsRun began.limits longest got began.problem first before old (Ok (w, at)) rest new
     shown_ended before rest place at w same all = subst (λ (p : Place). HasSeen began.limits longest got began.problem first before old rest p true None new) same (shown_all before rest place true None all)
 
-    pub shown_ended_given : (before rest : List ℕ) (place at : Place) (w : Verdict) → place ≡ at → OfGiven (λ left others. TookAll (Taken began.limits) longest left others marks place true None) before rest
+    pub shown_ended_given : (before rest : List ℕ) (place at : Place) (w : Verdict) → place ≡ at → OfGiven (λ left others. TookAll (Taken began.limits) longest left others spans place true None) before rest
         → OfGiven (λ left others. ShowsRun began.limits longest got began.problem first left old (Ok (w, at)) others new) before rest
     shown_ended_given before rest place at w same (given, seen, e, all) = (given, seen, e, shown_ended (Some (given ++ seen)) (Some seen) place at w same all)
 
@@ -154,13 +154,13 @@ module _ (limits : Limits) (longest : ℕ) {V : Type 0} (got : V → Call → V 
       (e, by why, subst (λ (p : Place). HasSeenUpTo limits longest got v first before old after p e new) (sym same) h)
     where
       by : ((x ≡ no_memory) × ((n : ℕ) × (e ≡ NotTotal n))) ⊎ ((x ≡ e) × IsReported names e (string_bytes name)) → (x ≡ e) ⊎ ((x ≡ no_memory) × (n : ℕ) × (e ≡ NotTotal n))
-      by (inl (k, (n, told))) = inr (k, n, told)
-      by (inr (k, told)) = inl k
-  proof_rejected before after names place e (Text i s) told h = absurd told
-  proof_rejected before after names place e (Open i) told h = absurd told
-  proof_rejected before after names place e (Overflow i) told h = absurd told
-  proof_rejected before after names place e (Memory i) told h = absurd told
-  proof_rejected before after names place e Write told h = absurd told
+      by (inl (k, (n, reported))) = inr (k, n, reported)
+      by (inr (k, reported)) = inl k
+  proof_rejected before after names place e (Text i s) reported h = absurd reported
+  proof_rejected before after names place e (Open i) reported h = absurd reported
+  proof_rejected before after names place e (Overflow i) reported h = absurd reported
+  proof_rejected before after names place e (Memory i) reported h = absurd reported
+  proof_rejected before after names place e Write reported h = absurd reported
 
   -- a whole proof; a blank rest follows, or one that is not blank
   pub proof_ended : (before mid after : Option (List ℕ)) (ended : Verdict × Place) → Run (Ok ended) before mid → Whole (Ok ended.0) before after
@@ -182,12 +182,12 @@ module _ (limits : Limits) (longest : ℕ) {V : Type 0} (got : V → Call → V 
   given_proof_stopped before after s f is (given, seen, e, h) = (given, seen, e, proof_stopped limits longest got v first old new (Some (given ++ seen)) (Some seen) s f is h)
 
   pub given_proof_rejected : (before after : List ℕ) (names : List (List ℕ)) (place : Place) (e : Fault) (f : ToolFault) → IsReportedAs names place e f → RunGiven (Err (check.Step place e)) before after → WholeGiven (Err f) before after
-  given_proof_rejected before after names place e f told (given, seen, is, h) = (given, seen, is, proof_rejected limits longest got v first old new (Some (given ++ seen)) (Some seen) names place e f told h)
+  given_proof_rejected before after names place e f reported (given, seen, is, h) = (given, seen, is, proof_rejected limits longest got v first old new (Some (given ++ seen)) (Some seen) names place e f reported h)
 
   -- the whole proof, with another rest
   whole_of : (used seen other : List ℕ) (place : Place) → HasSeen limits longest got v first (Some (used ++ seen)) old (Some seen) place true None new → HasSeen limits longest got v first (Some (used ++ other)) old (Some other) place true None new
   whole_of used seen other place h =
-      record { marks = h.marks; took = all_of (IsProofText limits) longest used seen other h.marks place h.took; calls = h.calls; last = h.last; shows = h.shows; got_are = h.got_are }
+      record { spans = h.spans; took = all_of (IsProofText limits) longest used seen other h.spans place h.took; calls = h.calls; last = h.last; shows = h.shows; got_are = h.got_are }
 
   -- with all bytes that follow it
   whole_with : (used seen rest end : List ℕ) (place : Place) → HasSeen limits longest got v first (Some (used ++ seen)) old (Some seen) place true None new → HasSeenWhole limits longest got v first (Some ((used ++ rest) ++ end)) old new

@@ -53,25 +53,25 @@ took_nothing before after k = let (seen, took) = took_none after in (seen, took_
 -- ---- what is shown
 
 module _ {E : Type 0} (format : List (Item E) → Type 0) (longest : ℕ) (before mid : Option (List ℕ)) (k : Keeps before mid) where
-  abbrev all_before : (after : Option (List ℕ)) (marks : List (Spanned E)) (place : Place) (done : Bool) (stop : Option Stop) → TookAll format longest mid after marks place done stop → TookAll format longest before after marks place done stop
-  all_before after marks place done stop t = record { used = t.used; seen = t.seen; took = took_before before mid after t.used t.seen k t.took; reads = t.reads }
+  abbrev all_before : (after : Option (List ℕ)) (spans : List (Spanned E)) (place : Place) (done : Bool) (stop : Option Stop) → TookAll format longest mid after spans place done stop → TookAll format longest before after spans place done stop
+  all_before after spans place done stop t = record { used = t.used; seen = t.seen; took = took_before before mid after t.used t.seen k t.took; reads = t.reads }
 
-  so_far_before : (after : Option (List ℕ)) (marks : List (Spanned E)) (place : Place) → TookSoFar format longest mid after marks place → TookSoFar format longest before after marks place
-  so_far_before after marks place t = record { used = t.used; seen = t.seen; took = took_before before mid after t.used t.seen k t.took; done = t.done; reads = t.reads }
+  so_far_before : (after : Option (List ℕ)) (spans : List (Spanned E)) (place : Place) → TookSoFar format longest mid after spans place → TookSoFar format longest before after spans place
+  so_far_before after spans place t = record { used = t.used; seen = t.seen; took = took_before before mid after t.used t.seen k t.took; done = t.done; reads = t.reads }
 
-  spelling_before : (after : Option (List ℕ)) (marks : List (Spanned E)) → IsSpelling format longest mid after marks → IsSpelling format longest before after marks
-  spelling_before after marks i =
+  spelling_before : (after : Option (List ℕ)) (spans : List (Spanned E)) → IsSpelling format longest mid after spans → IsSpelling format longest before after spans
+  spelling_before after spans i =
       record { used = i.used; rest = i.rest; took = took_before before mid after (i.used ++ i.rest) [] k i.took; spelled = i.spelled; blank = i.blank; within = i.within }
 
-  refused_before : (May : List ℕ → ℕ → Type 0) (after : Option (List ℕ)) (marks : List (Spanned E)) (s : Stop) → IsRefusedAfter format longest May mid after marks s → IsRefusedAfter format longest May before after marks s
-  refused_before May after marks s (InText t a) = InText (all_before after marks s.place false (Some s) t) a
-  refused_before May after marks s (InRest used seen next took spelled r) = InRest used seen next (took_before before mid next used seen k took) spelled r
+  refused_before : (May : List ℕ → ℕ → Type 0) (after : Option (List ℕ)) (spans : List (Spanned E)) (s : Stop) → IsRefusedAfter format longest May mid after spans s → IsRefusedAfter format longest May before after spans s
+  refused_before May after spans s (InText t a) = InText (all_before after spans s.place false (Some s) t) a
+  refused_before May after spans s (InRest used seen next took spelled r) = InRest used seen next (took_before before mid next used seen k took) spelled r
 
   module _ (May : List ℕ → ℕ → Type 0) (text : E → List ℕ) {W : Type 0} (contents : W → Option (List ℕ)) (faults : W → ℕ) where
     pub shows_before : (old : W) (result : Result Unit ToolFault) (after : Option (List ℕ)) (new : W) → ShowsLines format longest May text contents faults mid old result after new → ShowsLines format longest May text contents faults before old result after new
-    shows_before old (Ok u) after new (marks, i, w) = (marks, spelling_before after marks i, w)
-    shows_before old (Err (Text File s)) after new (marks, i, w) = (marks, refused_before May after marks s i, w)
-    shows_before old (Err Write) after new (marks, last, between, t, w, b) = (marks, last, between, so_far_before after (marks ++ last ∷ []) last.past t, w, b)
+    shows_before old (Ok u) after new (spans, i, w) = (spans, spelling_before after spans i, w)
+    shows_before old (Err (Text File s)) after new (spans, i, w) = (spans, refused_before May after spans s i, w)
+    shows_before old (Err Write) after new (spans, last, between, t, w, b) = (spans, last, between, so_far_before after (spans ++ last ∷ []) last.past t, w, b)
     shows_before old (Err (Text input.Instance s)) after new h = h
     shows_before old (Err (Text input.Proof s)) after new h = h
     shows_before old (Err (Open i)) after new h = h

@@ -57,7 +57,7 @@ pub given_file : {V : Type 0} (IsReadOf : List ℕ → Spanned V → Type 0) (re
     → OfGiven (λ left end. IsFile IsReadOf left end read.event) before after
 given_file IsReadOf read past before mid after (given, left, e, (used, seen, took, is)) (more, end, f, (rest, all, blank, bound)) =
     let same : given ≡ used = given_used given left used seen took in
-    let behind : more ≡ rest = given_used more end rest [] all in (
+    let following : more ≡ rest = given_used more end rest [] all in (
       given ++ more,
       [],
       given_both before mid after given more e f,
@@ -67,8 +67,8 @@ given_file IsReadOf read past before mid after (given, left, e, (used, seen, too
         took = (refl, refl);
         read = read;
         spelled = subst (λ (x : List ℕ). IsReadOf x read) (sym same) is;
-        blank = subst IsBlank (sym behind) blank;
-        within = rest_within given more read.past (past used is ∙ ap place_after (sym same)) (subst (λ (x : List ℕ). read.past.offset + length x ≤ byte_limit) (sym behind) bound);
+        blank = subst IsBlank (sym following) blank;
+        within = rest_within given more read.past (past used is ∙ ap place_after (sym same)) (subst (λ (x : List ℕ). read.past.offset + length x ≤ byte_limit) (sym following) bound);
         value = refl;
       },
     )

@@ -33,8 +33,8 @@ pub fewer : (a b : ℕ) → b ≤ 2 ^ 40 → a < b → 2 ^ 40 + 1 - b < 2 ^ 40 +
 fewer a b reach onward = omega arith
 
 -- one more line
-pub shown_more : {E : Type 0} (text : E → List ℕ) (marks : List (Spanned E)) (m : Spanned E) → shown text (marks ++ m ∷ []) ≡ shown text marks ++ shown_line text m
-shown_more text marks m = flat_map-append (shown_line text) marks (m ∷ []) ∙ ap (λ (x : List ℕ). shown text marks ++ x) (append-nil (shown_line text m))
+pub shown_more : {E : Type 0} (text : E → List ℕ) (spans : List (Spanned E)) (m : Spanned E) → shown text (spans ++ m ∷ []) ≡ shown text spans ++ shown_line text m
+shown_more text spans m = flat_map-append (shown_line text) spans (m ∷ []) ∙ ap (λ (x : List ℕ). shown text spans ++ x) (append-nil (shown_line text m))
 
 -- nothing was taken of a source yet
 pub took_none : (before : Option (List ℕ)) → (seen : List ℕ) × Took before [] seen before
@@ -48,14 +48,14 @@ first_pull longest start before f stands running offset =
 
 module _ {E : Type 0} (format : List (Item E) → Type 0) (longest : ℕ) where
   -- what was taken is no longer than an input may be
-  pub so_far_within : (before after : Option (List ℕ)) (marks : List (Spanned E)) (place : Place) → TookSoFar format longest before after marks place → place.offset ≤ byte_limit
-  so_far_within before after marks place t =
+  pub so_far_within : (before after : Option (List ℕ)) (spans : List (Spanned E)) (place : Place) → TookSoFar format longest before after spans place → place.offset ≤ byte_limit
+  so_far_within before after spans place t =
       let offset = ap (λ (p : Place). p.offset) t.reads.place_is ∙ place_after-offset t.used in
-      omega (arith, offset, (so_far_reached format longest t.used t.used marks place t.done t.reads).within)
+      omega (arith, offset, (so_far_reached format longest t.used t.used spans place t.done t.reads).within)
 
   -- a text of the format, and then a blank rest
-  pub spelling : (before mid after : Option (List ℕ)) (marks : List (Spanned E)) (place : Place) → TookAll format longest before mid marks place true None → ReadsBlank place mid (Ok tt) after → IsSpelling format longest before after marks
-  spelling before mid after marks place t (rest, more, blank, bound) = record {
+  pub spelling : (before mid after : Option (List ℕ)) (spans : List (Spanned E)) (place : Place) → TookAll format longest before mid spans place true None → ReadsBlank place mid (Ok tt) after → IsSpelling format longest before after spans
+  spelling before mid after spans place t (rest, more, blank, bound) = record {
     used = t.used;
     rest = rest;
     took = took_join before mid after t.used rest t.seen [] t.took more;
@@ -65,48 +65,48 @@ module _ {E : Type 0} (format : List (Item E) → Type 0) (longest : ℕ) where
   }
 
   -- a text of the format, and then a rest that is not blank
-  pub stray : (May : List ℕ → ℕ → Type 0) (before mid after : Option (List ℕ)) (marks : List (Spanned E)) (place : Place) (s : Stop) → TookAll format longest before mid marks place true None → ReadsBlank place mid (Err s) after → IsRefusedAfter format longest May before after marks s
-  stray May before mid after marks place s t r =
+  pub stray : (May : List ℕ → ℕ → Type 0) (before mid after : Option (List ℕ)) (spans : List (Spanned E)) (place : Place) (s : Stop) → TookAll format longest before mid spans place true None → ReadsBlank place mid (Err s) after → IsRefusedAfter format longest May before after spans s
+  stray May before mid after spans place s t r =
       InRest t.used t.seen mid t.took t.reads.answer.0 (subst (λ (p : Place). ReadsBlank p mid (Err s) after) t.reads.place_is r)
 
   -- what was shown of a text of the format, and then the rest
   module _ (May : List ℕ → ℕ → Type 0) (text : E → List ℕ) {W : Type 0} (contents : W → Option (List ℕ)) (faults : W → ℕ) where
-    pub shows_end : (before mid after : Option (List ℕ)) (marks : List (Spanned E)) (place : Place) (old new : W) (result : Result Unit ToolFault) → TookAll format longest before mid marks place true None
-        → EndsAt place mid result after → Wrote contents faults old (shown text marks) new → ShowsLines format longest May text contents faults before old result after new
-    shows_end before mid after marks place old new (Ok u) t e w = (marks, spelling before mid after marks place t e, w)
-    shows_end before mid after marks place old new (Err (Text File s)) t e w = (marks, stray May before mid after marks place s t e, w)
-    shows_end before mid after marks place old new (Err (Text Instance s)) t e w = e
-    shows_end before mid after marks place old new (Err (Text Proof s)) t e w = e
-    shows_end before mid after marks place old new (Err (Open i)) t e w = e
-    shows_end before mid after marks place old new (Err (Overflow i)) t e w = e
-    shows_end before mid after marks place old new (Err (Memory i)) t e w = e
-    shows_end before mid after marks place old new (Err Write) t e w = absurd e
-    shows_end before mid after marks place old new (Err (Step begins fault name)) t e w = absurd e
+    pub shows_end : (before mid after : Option (List ℕ)) (spans : List (Spanned E)) (place : Place) (old new : W) (result : Result Unit ToolFault) → TookAll format longest before mid spans place true None
+        → EndsAt place mid result after → Wrote contents faults old (shown text spans) new → ShowsLines format longest May text contents faults before old result after new
+    shows_end before mid after spans place old new (Ok u) t e w = (spans, spelling before mid after spans place t e, w)
+    shows_end before mid after spans place old new (Err (Text File s)) t e w = (spans, stray May before mid after spans place s t e, w)
+    shows_end before mid after spans place old new (Err (Text Instance s)) t e w = e
+    shows_end before mid after spans place old new (Err (Text Proof s)) t e w = e
+    shows_end before mid after spans place old new (Err (Open i)) t e w = e
+    shows_end before mid after spans place old new (Err (Overflow i)) t e w = e
+    shows_end before mid after spans place old new (Err (Memory i)) t e w = e
+    shows_end before mid after spans place old new (Err Write) t e w = absurd e
+    shows_end before mid after spans place old new (Err (Step begins fault name)) t e w = absurd e
 
 -- what is shown for a format, if each read under it is one under another format
 module _ {E : Type 0} (one other : List (Item E) → Type 0) (longest : ℕ)
-    (to : (input used : List ℕ) (marks : List (Spanned E)) (place : Place) (done : Bool) (stop : Option Stop) → Reads one longest input used marks place done stop → Reads other longest input used marks place done stop) where
-  abbrev pub all_to : (before after : Option (List ℕ)) (marks : List (Spanned E)) (place : Place) (done : Bool) (stop : Option Stop) → TookAll one longest before after marks place done stop → TookAll other longest before after marks place done stop
-  all_to before after marks place done stop t = record { used = t.used; seen = t.seen; took = t.took; reads = to (t.used ++ t.seen) t.used marks place done stop t.reads }
+    (to : (input used : List ℕ) (spans : List (Spanned E)) (place : Place) (done : Bool) (stop : Option Stop) → Reads one longest input used spans place done stop → Reads other longest input used spans place done stop) where
+  abbrev pub all_to : (before after : Option (List ℕ)) (spans : List (Spanned E)) (place : Place) (done : Bool) (stop : Option Stop) → TookAll one longest before after spans place done stop → TookAll other longest before after spans place done stop
+  all_to before after spans place done stop t = record { used = t.used; seen = t.seen; took = t.took; reads = to (t.used ++ t.seen) t.used spans place done stop t.reads }
 
-  pub so_far_to : (before after : Option (List ℕ)) (marks : List (Spanned E)) (place : Place) → TookSoFar one longest before after marks place → TookSoFar other longest before after marks place
-  so_far_to before after marks place t = record { used = t.used; seen = t.seen; took = t.took; done = t.done; reads = to t.used t.used marks place t.done None t.reads }
+  pub so_far_to : (before after : Option (List ℕ)) (spans : List (Spanned E)) (place : Place) → TookSoFar one longest before after spans place → TookSoFar other longest before after spans place
+  so_far_to before after spans place t = record { used = t.used; seen = t.seen; took = t.took; done = t.done; reads = to t.used t.used spans place t.done None t.reads }
 
-  spelt_to : (used : List ℕ) (marks : List (Spanned E)) → IsSpelled one longest used marks → IsSpelled other longest used marks
-  spelt_to used marks s = (to used used marks (place_after used) true None (record { left = []; input_is = sym (append-nil used); place_is = refl; answer = (s, refl) })).answer.0
+  spelt_to : (used : List ℕ) (spans : List (Spanned E)) → IsSpelled one longest used spans → IsSpelled other longest used spans
+  spelt_to used spans s = (to used used spans (place_after used) true None (record { left = []; input_is = sym (append-nil used); place_is = refl; answer = (s, refl) })).answer.0
 
-  spelling_to : (before after : Option (List ℕ)) (marks : List (Spanned E)) → IsSpelling one longest before after marks → IsSpelling other longest before after marks
-  spelling_to before after marks i = record { used = i.used; rest = i.rest; took = i.took; spelled = spelt_to i.used marks i.spelled; blank = i.blank; within = i.within }
+  spelling_to : (before after : Option (List ℕ)) (spans : List (Spanned E)) → IsSpelling one longest before after spans → IsSpelling other longest before after spans
+  spelling_to before after spans i = record { used = i.used; rest = i.rest; took = i.took; spelled = spelt_to i.used spans i.spelled; blank = i.blank; within = i.within }
 
-  refused_to : (May Other : List ℕ → ℕ → Type 0) (asks : (used : List ℕ) (b : ℕ) → May used b → Other used b) (before after : Option (List ℕ)) (marks : List (Spanned E)) (s : Stop) → IsRefusedAfter one longest May before after marks s → IsRefusedAfter other longest Other before after marks s
-  refused_to May Other asks before after marks s (InText t a) = InText (all_to before after marks s.place false (Some s) t) (asking_to May Other t.used t.seen (asks t.used) s.why a)
-  refused_to May Other asks before after marks s (InRest used seen mid took spelled r) = InRest used seen mid took (spelt_to used marks spelled) r
+  refused_to : (May Other : List ℕ → ℕ → Type 0) (asks : (used : List ℕ) (b : ℕ) → May used b → Other used b) (before after : Option (List ℕ)) (spans : List (Spanned E)) (s : Stop) → IsRefusedAfter one longest May before after spans s → IsRefusedAfter other longest Other before after spans s
+  refused_to May Other asks before after spans s (InText t a) = InText (all_to before after spans s.place false (Some s) t) (asking_to May Other t.used t.seen (asks t.used) s.why a)
+  refused_to May Other asks before after spans s (InRest used seen mid took spelled r) = InRest used seen mid took (spelt_to used spans spelled) r
 
   module _ (May Other : List ℕ → ℕ → Type 0) (asks : (used : List ℕ) (b : ℕ) → May used b → Other used b) (text : E → List ℕ) {W : Type 0} (contents : W → Option (List ℕ)) (faults : W → ℕ) where
     pub shows_to : (before : Option (List ℕ)) (old : W) (result : Result Unit ToolFault) (after : Option (List ℕ)) (new : W) → ShowsLines one longest May text contents faults before old result after new → ShowsLines other longest Other text contents faults before old result after new
-    shows_to before old (Ok u) after new (marks, i, w) = (marks, spelling_to before after marks i, w)
-    shows_to before old (Err (Text File s)) after new (marks, i, w) = (marks, refused_to May Other asks before after marks s i, w)
-    shows_to before old (Err Write) after new (marks, last, mid, t, w, b) = (marks, last, mid, so_far_to before after (marks ++ last ∷ []) last.past t, w, b)
+    shows_to before old (Ok u) after new (spans, i, w) = (spans, spelling_to before after spans i, w)
+    shows_to before old (Err (Text File s)) after new (spans, i, w) = (spans, refused_to May Other asks before after spans s i, w)
+    shows_to before old (Err Write) after new (spans, last, mid, t, w, b) = (spans, last, mid, so_far_to before after (spans ++ last ∷ []) last.past t, w, b)
     shows_to before old (Err (Text Instance s)) after new h = h
     shows_to before old (Err (Text Proof s)) after new h = h
     shows_to before old (Err (Open i)) after new h = h

@@ -11,7 +11,7 @@ use Rattle.pb_normal.specs.meaning.Constraints.{AreFormsOf, Fits, constraint_nam
 use Rattle.pb_normal.specs.meaning.Form.{Form}
 use Rattle.pb_normal.specs.meaning.Names.{AreDistinct, HasNames, with_name, with_names}
 use Rattle.pb_normal.specs.meaning.Written.{linear_of, names_of}
-use Rattle.pb_normal.proofs.lemmas.names.Appearing.{front, named, distinct, in_turn, written_alike}
+use Rattle.pb_normal.proofs.lemmas.names.Appearing.{prefix, named, distinct, in_turn, written_alike}
 use Rattle.pb_normal.proofs.lemmas.names.Loaded.{are_named, forms_more, forms_then}
 use Rattle.pb_text.proofs.lemmas.text.Lists.{take_read}
 use Rattle.pb_normal.proofs.lemmas.names.WrittenForms.{HasNames-append}
@@ -46,10 +46,10 @@ module _ (seen : List (List ℕ)) (cs : List Linear) (others : List (List ℕ)) 
   all_names = e ∙ (ap (λ (ks : List (List ℕ)). with_names ks others) h.names ∙ sym (in_turn [] seen others))
 
   abbrev more : List (List ℕ)
-  more = (front old.names others).0
+  more = (prefix old.names others).0
 
   is_more : new ≡ old.names ++ more
-  is_more = e ∙ (front old.names others).1
+  is_more = e ∙ (prefix old.names others).1
 
   apart : AreDistinct (old.names ++ more)
   apart = subst AreDistinct (sym all_names ∙ is_more) (distinct [] (seen ++ others) tt)

@@ -26,7 +26,7 @@ module _ {E T V : Type 0} (accepted format : List (Item E) → Type 0) (same : (
   read_as : (used : List ℕ) (m : Spanned T) → IsWhole accepted longest with empty used m → (v : V) × IsRead format longest IsValue used (valued v m) × Has m.event v
   read_as used m w =
       let (v, is, has) = has_value w.spelled.items (only w.spelled.items w.spelled.spelled) in
-      (v, record { marks = w.marks; spelled = formats.is_spelled accepted format only each longest used w.marks w.spelled; value = is; first = w.first; past = w.past }, subst (λ (t : T). Has t v) (sym w.value) has)
+      (v, record { spans = w.spans; spelled = formats.is_spelled accepted format only each longest used w.spans w.spelled; value = is; first = w.first; past = w.past }, subst (λ (t : T). Has t v) (sym w.value) has)
 
   pub file_as : (before after : Option (List ℕ)) (t : T) → IsFile (IsWhole accepted longest with empty) before after t → (v : V) × IsFile (IsRead format longest IsValue) before after v × Has t v
   file_as before after t f =

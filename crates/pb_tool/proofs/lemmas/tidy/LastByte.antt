@@ -14,18 +14,18 @@ use Rattle.pb_tool.specs.meaning.Tidy.{ends_in_feed, is_bare, tidied}
 
 -- the text ends with this byte
 abbrev EndsWith : ℕ → List ℕ → Type 0
-EndsWith b text = (front : List ℕ) × (text ≡ front ++ b ∷ [])
+EndsWith b text = (prefix : List ℕ) × (text ≡ prefix ++ b ∷ [])
 
-at_end : (b : ℕ) (front : List ℕ) → ends_in_feed (front ++ b ∷ []) ≡ (b == 10)
+at_end : (b : ℕ) (prefix : List ℕ) → ends_in_feed (prefix ++ b ∷ []) ≡ (b == 10)
 at_end b [] = refl
 at_end b (c ∷ []) = refl
-at_end b (c ∷ d ∷ front) = at_end b (d ∷ front)
+at_end b (c ∷ d ∷ prefix) = at_end b (d ∷ prefix)
 
 ends_longer : (b : ℕ) (a text : List ℕ) → EndsWith b text → EndsWith b (a ++ text)
-ends_longer b a text (front, e) = (a ++ front, ap (λ (x : List ℕ). a ++ x) e ∙ sym (append_assoc a front (b ∷ [])))
+ends_longer b a text (prefix, e) = (a ++ prefix, ap (λ (x : List ℕ). a ++ x) e ∙ sym (append_assoc a prefix (b ∷ [])))
 
 ends_more : (b c : ℕ) (text : List ℕ) → EndsWith b text → EndsWith b (c ∷ text)
-ends_more b c text (front, e) = (c ∷ front, ap (λ (x : List ℕ). c ∷ x) e)
+ends_more b c text (prefix, e) = (c ∷ prefix, ap (λ (x : List ℕ). c ∷ x) e)
 
 -- an objective and a constraint end with `;`
 linear_ends : (linear : Linear) → EndsWith 59 (event_bytes (Constraint linear))
@@ -39,9 +39,9 @@ abbrev AllEnd : List OpbEvent → Type 0
 AllEnd = AllByRecursion (λ e. EndsWith 59 (event_bytes e))
 
 -- one statement before others
-one_prefix : (e : OpbEvent) (front : List OpbEvent) (f : OpbEvent) (rest : List OpbEvent) → EndsWith 59 (lines (front ++ f ∷ rest)) → EndsWith 59 (lines (e ∷ (front ++ f ∷ rest)))
+one_prefix : (e : OpbEvent) (prefix : List OpbEvent) (f : OpbEvent) (rest : List OpbEvent) → EndsWith 59 (lines (prefix ++ f ∷ rest)) → EndsWith 59 (lines (e ∷ (prefix ++ f ∷ rest)))
 one_prefix e [] f rest k = ends_longer 59 (event_bytes e) (10 ∷ lines (f ∷ rest)) (ends_more 59 10 (lines (f ∷ rest)) k)
-one_prefix e (g ∷ front) f rest k = ends_longer 59 (event_bytes e) (10 ∷ lines ((g ∷ front) ++ f ∷ rest)) (ends_more 59 10 (lines ((g ∷ front) ++ f ∷ rest)) k)
+one_prefix e (g ∷ prefix) f rest k = ends_longer 59 (event_bytes e) (10 ∷ lines ((g ∷ prefix) ++ f ∷ rest)) (ends_more 59 10 (lines ((g ∷ prefix) ++ f ∷ rest)) k)
 
 -- lines end as the last of them does
 lines_end : (first : List OpbEvent) (e : OpbEvent) (rest : List OpbEvent) → EndsWith 59 (lines (e ∷ rest)) → EndsWith 59 (lines (first ++ e ∷ rest))
@@ -53,9 +53,9 @@ after_ends : (n : ℕ) (comments : List comment.Comment) (e : OpbEvent) (events 
 after_ends n comments e [] h k = h
 after_ends n comments e (f ∷ events) h k =
     let later = in_order (n + 1) (drop (due n comments) comments) events in
-    let front = comment_events (take (due n comments) comments) in
-    let behind : EndsWith 59 (lines (f ∷ later)) = after_ends (n + 1) (drop (due n comments) comments) f events k.0 k.1 in
-    one_prefix e front f later (lines_end front f later behind)
+    let prefix = comment_events (take (due n comments) comments) in
+    let following : EndsWith 59 (lines (f ∷ later)) = after_ends (n + 1) (drop (due n comments) comments) f events k.0 k.1 in
+    one_prefix e prefix f later (lines_end prefix f later following)
 
 in_order_ends : (n : ℕ) (comments : List comment.Comment) (e : OpbEvent) (events : List OpbEvent) → AllEnd (e ∷ events) → EndsWith 59 (lines (in_order n comments (e ∷ events)))
 in_order_ends n comments e events h =
@@ -66,7 +66,7 @@ all_constraints [] = tt
 all_constraints (c ∷ constraints) = (linear_ends c, all_constraints constraints)
 
 not_feed : (text : List ℕ) → EndsWith 59 text → ends_in_feed text ≡ false
-not_feed text (front, e) = ap ends_in_feed e ∙ at_end 59 front
+not_feed text (prefix, e) = ap ends_in_feed e ∙ at_end 59 prefix
 
 ends_by_parts : (v : Instance) (objective : Option (List Term)) (constraints : List Linear) → v.objective ≡ objective → v.constraints ≡ constraints → ends_in_feed (instance_bytes v) ≡ is_bare objective constraints
 ends_by_parts v None [] o c =

@@ -65,9 +65,9 @@ plain_text n None (c ∷ cs) = full_text n None (c ∷ cs) (Constraint c) (const
 plain_text n (Some terms) cs = full_text n (Some terms) cs (Objective terms) (constraint_events cs) refl refl
 
 -- what was stored is the normal form of the instance
-module _ (events : List OpbEvent) (n : ℕ) (o : Option OpbEvent) (t : Forms) (h : IsNoted events n o t) (x : Limits × List OpbEvent) (view : (t.limits, events) ≡ x) (kept : t.standing ≡ Stored) (v : Instance) (told : NamesInOrder x.1 v) where
+module _ (events : List OpbEvent) (n : ℕ) (o : Option OpbEvent) (t : Forms) (h : IsNoted events n o t) (x : Limits × List OpbEvent) (view : (t.limits, events) ≡ x) (kept : t.standing ≡ Stored) (v : Instance) (reported : NamesInOrder x.1 v) where
   order : NamesInOrder events v
-  order = subst (λ (y : Limits × List OpbEvent). NamesInOrder y.1 v) (sym view) told
+  order = subst (λ (y : Limits × List OpbEvent). NamesInOrder y.1 v) (sym view) reported
 
   abbrev made : AreLines (names_on events) (constraints_in events) t.lines × ¬ SomePasses (largest t.limits) (constraints_in events)
   made = rw kept at h.made
@@ -174,8 +174,8 @@ module _ (limits : Limits) where
       unnoted s r = refused_as accepted (IsInstanceText limits) same longest noted empty IsValueOf (IsNotedOf limits) has_value may_ask (AsksInInstanceText limits) to (λ t e. false) MayKeep never before after s r
 
     module _ {W : Type 0} (contents : W → Option (List ℕ)) (faults : W → ℕ) (t : Limits × List OpbEvent) (f : IsGathered accepted longest noted empty before after t) (old : W) where
-      abbrev Told : Result (Unit {0}) ToolFault → W → Type 0
-      Told result new = (v : Instance) → NamesInOrder t.1 v → WritesText (HasNormalForm (largest t.0) v) (LacksNormalForm (largest t.0) v) tidied contents faults old result new
+      abbrev Reported : Result (Unit {0}) ToolFault → W → Type 0
+      Reported result new = (v : Instance) → NamesInOrder t.1 v → WritesText (HasNormalForm (largest t.0) v) (LacksNormalForm (largest t.0) v) tidied contents faults old result new
 
       by_fault : (v : Instance) → IsInstanceFile limits longest before after v → (e : ToolFault) → LacksNormalForm (largest limits) v e → IsNoNormalFile limits longest before after e
       by_fault v file (Overflow File) d = (v, file, d)
@@ -201,10 +201,10 @@ module _ (limits : Limits) where
       by_result v file (Err (Step place fault name)) new (d, e) = absurd d
 
       -- what was written is what the file requires
-      pub told_file : (result : Result (Unit {0}) ToolFault) (new : W) → Told result new → WritesText (IsNormalFile limits longest before after) (IsNoNormalFile limits longest before after) tidied contents faults old result new
-      told_file result new told =
+      pub reported_file : (result : Result (Unit {0}) ToolFault) (new : W) → Reported result new → WritesText (IsNormalFile limits longest before after) (IsNoNormalFile limits longest before after) tidied contents faults old result new
+      reported_file result new reported =
           let (v, file, (under, order)) = noted_file t f in
-          by_result v file result new (subst (λ (l : Limits). WritesText (HasNormalForm (largest l) v) (LacksNormalForm (largest l) v) tidied contents faults old result new) under (told v order))
+          by_result v file result new (subst (λ (l : Limits). WritesText (HasNormalForm (largest l) v) (LacksNormalForm (largest l) v) tidied contents faults old result new) under (reported v order))
 
       by_seen : (shown : Option ℕ) (ended : Bool) → ended ≡ true → (v : Instance) (result : Result (Unit {0}) ToolFault) (new : W) → WritesText (HasNormalForm (largest t.0) v) (LacksNormalForm (largest t.0) v) tidied contents faults old result new → SawFile shown ended result
       by_seen shown ended end v (Ok u) new h = end
@@ -216,8 +216,8 @@ module _ (limits : Limits) where
       by_seen shown ended end v (Err (Step place fault name)) new h = end
 
       -- the text did not stop its reader
-      pub told_on : (shown : Option ℕ) (ended : Bool) → ended ≡ true → (result : Result (Unit {0}) ToolFault) (new : W) → Told result new → SawFile shown ended result
-      told_on shown ended end result new told = let (v, file, (under, order)) = noted_file t f in by_seen shown ended end v result new (told v order)
+      pub reported_on : (shown : Option ℕ) (ended : Bool) → ended ≡ true → (result : Result (Unit {0}) ToolFault) (new : W) → Reported result new → SawFile shown ended result
+      reported_on shown ended end result new reported = let (v, file, (under, order)) = noted_file t f in by_seen shown ended end v result new (reported v order)
 
       by_count : (v : Instance) (result : Result (Unit {0}) ToolFault) (new : W) (n : ℕ) → WritesText (HasNormalForm (largest t.0) v) (LacksNormalForm (largest t.0) v) tidied contents faults old result new → n ≡ faults_reported result n
       by_count v (Ok u) new n h = refl
@@ -228,5 +228,5 @@ module _ (limits : Limits) where
       by_count v (Err (Memory i)) new n h = refl
       by_count v (Err (Step place fault name)) new n h = refl
 
-      pub told_faults : (result : Result (Unit {0}) ToolFault) (new : W) (n : ℕ) → Told result new → n ≡ faults_reported result n
-      told_faults result new n told = let (v, file, (under, order)) = noted_file t f in by_count v result new n (told v order)
+      pub reported_faults : (result : Result (Unit {0}) ToolFault) (new : W) (n : ℕ) → Reported result new → n ≡ faults_reported result n
+      reported_faults result new n reported = let (v, file, (under, order)) = noted_file t f in by_count v result new n (reported v order)

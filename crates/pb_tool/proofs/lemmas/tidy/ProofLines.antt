@@ -51,14 +51,14 @@ steps_added (s ∷ steps) rest t h =
 
 proof_text : (empty : ProofText) → empty.steps.text ≡ [] → (v : Proof) → All IsStep v.steps → text_of (gathered with empty (statements_of v)) ≡ tidied_proof v
 proof_text empty n v h =
-    let behind : List Statement = Output ∷ Conclude v.conclusion ∷ End ∷ [] in
+    let following : List Statement = Output ∷ Conclude v.conclusion ∷ End ∷ [] in
     let back : List ℕ = line Output ++ (line (Conclude v.conclusion) ++ line End) in
-    let back_is : flat_map line behind ≡ back = ap (λ (x : List ℕ). line Output ++ (line (Conclude v.conclusion) ++ x)) (append-nil (line End)) in
-    ap text_of (steps_added v.steps behind (record empty { count = v.count }) h)
+    let back_is : flat_map line following ≡ back = ap (λ (x : List ℕ). line Output ++ (line (Conclude v.conclusion) ++ x)) (append-nil (line End)) in
+    ap text_of (steps_added v.steps following (record empty { count = v.count }) h)
     ∙ (ap (λ (x : List ℕ). (line Header ++ line (F v.count)) ++ ((x ++ flat_map line v.steps) ++ back)) n
     ∙ (append_assoc (line Header) (line (F v.count)) (flat_map line v.steps ++ back)
-    ∙ (ap (λ (x : List ℕ). line Header ++ (line (F v.count) ++ x)) (ap (λ (x : List ℕ). flat_map line v.steps ++ x) (sym back_is) ∙ sym (flat_map-append line v.steps behind))
-    ∙ sym (ended Header (F v.count ∷ (v.steps ++ behind))))))
+    ∙ (ap (λ (x : List ℕ). line Header ++ (line (F v.count) ++ x)) (ap (λ (x : List ℕ). flat_map line v.steps ++ x) (sym back_is) ∙ sym (flat_map-append line v.steps following))
+    ∙ sym (ended Header (F v.count ∷ (v.steps ++ following))))))
 
 -- ---- what is written for a proof
 

@@ -3,7 +3,7 @@ use Rattle.std.proofs.Common.{◌≡◌, ◌≢◌, ◌⊎◌, inl, inr, ℕ, �
 use Rattle.pb_text.specs.meaning.Blank.{ReadsBlank, IsStray, passes}
 use Rattle.pb_text.specs.meaning.Pulling.{Took}
 use Rattle.pb_text.specs.meaning.Reading.{Explains, IsBad, IsFull, IsUnderWay, Overruns, Reads, byte_limit}
-use Rattle.pb_text.specs.meaning.Spelling.{Item, bytes_of, marks_of, place_after}
+use Rattle.pb_text.specs.meaning.Spelling.{Item, bytes_of, spans_of, place_after}
 use Rattle.pb_text.specs.meaning.Whole.{IsRead, ReadsValue, Reading, Keeping}
 use Rattle.pb_text.specs.declared.Place.{Place}
 use Rattle.pb_text.specs.declared.Spanned.{Spanned}
@@ -46,10 +46,10 @@ passes_feed rest (u ∷ w ∷ used) more b (inr f) e p = cc
 longer : (used rest : List ℕ) → rest ≢ [] → byte_limit ≤ length used → byte_limit < length (used ++ rest)
 longer used rest h k = omega (arith, k, some_left rest h, length-append used rest)
 
-overrun : {E : Type 0} (longest n : ℕ) (marks : List (Spanned E)) → Overruns longest n marks → longest ≤ n
+overrun : {E : Type 0} (longest n : ℕ) (spans : List (Spanned E)) → Overruns longest n spans → longest ≤ n
 overrun longest n [] h = absurd h
-overrun longest n (m ∷ marks) (inl (e, k)) = omega (arith, e)
-overrun longest n (m ∷ marks) (inr h) = overrun longest n marks h
+overrun longest n (m ∷ spans) (inl (e, k)) = omega (arith, e)
+overrun longest n (m ∷ spans) (inr h) = overrun longest n spans h
 
 strays : (used more left rest : List ℕ) (place : Place) (why : Why) → IsFeed rest → rest ≡ more ++ left → place.offset ≡ length used → IsStray place more left why → IsOutside (length (used ++ (more ++ left))) why
 strays used more left rest place (Byte b) feed e o (next, is, p, bound) = passes_feed rest more next b feed (e ∙ ap (λ (x : List ℕ). more ++ x) is) p
@@ -63,14 +63,14 @@ strays used more left rest place Memory feed e o h = tt
 
 -- a format, and one text of it; no text of the format is a prefix of another
 module _ {E : Type 0} (format : List (Item E) → Type 0) (text : List ℕ) (own : List (Item E)) (spells : format own) (bytes : bytes_of own ≡ text)
-    (front : NoneGoesOn format) where
+    (prefix : NoneGoesOn format) where
   -- a text of the format that begins this text, or that it begins, is this text
   same_used : (used seen rest : List ℕ) (items : List (Item E)) → format items → bytes_of items ≡ used → used ++ seen ≡ text ++ rest → used ≡ text
-  same_used used seen rest items h e k = one_spelt format front used seen text rest items own k h spells e bytes
+  same_used used seen rest items h e k = one_spelt format prefix used seen text rest items own k h spells e bytes
 
   -- a text that is unfinished there is a shorter prefix of this text
-  shorter : (used left rest : List ℕ) (marks : List (Spanned E)) → IsUnderWay format (2 ^ 40) used marks → used ++ left ≡ text ++ rest → (x : ℕ) × (m : List ℕ) × (text ≡ used ++ x ∷ m)
-  shorter used left rest marks u k = by_length (two_prefixes text rest used left (sym k))
+  shorter : (used left rest : List ℕ) (spans : List (Spanned E)) → IsUnderWay format (2 ^ 40) used spans → used ++ left ≡ text ++ rest → (x : ℕ) × (m : List ℕ) × (text ≡ used ++ x ∷ m)
+  shorter used left rest spans u k = by_length (two_prefixes text rest used left (sym k))
     where
       by_length : Compared text used → (x : ℕ) × (m : List ℕ) × (text ≡ used ++ x ∷ m)
       by_length (inl (m, p)) = absurd (u.unfinished own spells (m, p ∙ ap (λ (x : List ℕ). x ++ m) (sym bytes)))
@@ -79,50 +79,50 @@ module _ {E : Type 0} (format : List (Item E) → Type 0) (text : List ℕ) (own
   next_is : (used left rest m : List ℕ) (x : ℕ) → used ++ left ≡ text ++ rest → text ≡ used ++ x ∷ m → left ≡ x ∷ (m ++ rest)
   next_is used left rest m x k p = after_prefix used left text rest k (x ∷ m) p
 
-  not_bad : (used more rest : List ℕ) (b : ℕ) (marks : List (Spanned E)) → IsUnderWay format (2 ^ 40) used marks → IsBad format (2 ^ 40) used b → used ++ b ∷ more ≡ text ++ rest → ⊥
-  not_bad used more rest b marks u bad k =
-      let (x, m, p) = shorter used (b ∷ more) rest marks u k in
+  not_bad : (used more rest : List ℕ) (b : ℕ) (spans : List (Spanned E)) → IsUnderWay format (2 ^ 40) used spans → IsBad format (2 ^ 40) used b → used ++ b ∷ more ≡ text ++ rest → ⊥
+  not_bad used more rest b spans u bad k =
+      let (x, m, p) = shorter used (b ∷ more) rest spans u k in
       let next : b ∷ more ≡ x ∷ (m ++ rest) = next_is used (b ∷ more) rest m x k p in
       let same : b ≡ x = cc in
       bad.refused (own, spells, (m, bytes ∙ (p ∙ (ap (λ (y : ℕ). used ++ y ∷ m) (sym same) ∙ sym (append_assoc used (b ∷ []) m)))))
 
-  not_ended : (used rest : List ℕ) (marks : List (Spanned E)) → IsUnderWay format (2 ^ 40) used marks → used ++ [] ≡ text ++ rest → ⊥
-  not_ended used rest marks u k =
-      let (x, m, p) = shorter used [] rest marks u k in
+  not_ended : (used rest : List ℕ) (spans : List (Spanned E)) → IsUnderWay format (2 ^ 40) used spans → used ++ [] ≡ text ++ rest → ⊥
+  not_ended used rest spans u k =
+      let (x, m, p) = shorter used [] rest spans u k in
       let next : [] ≡ x ∷ (m ++ rest) = next_is used [] rest m x k p in
       cc
 
-  full : (used left rest : List ℕ) (marks : List (Spanned E)) → IsUnderWay format (2 ^ 40) used marks → IsFull format (2 ^ 40) used → used ++ left ≡ text ++ rest → byte_limit ≤ length used
-  full used left rest marks u (inl e) k = omega (arith, e)
-  full used left rest marks u (inr over) k =
-      let (x, m, p) = shorter used left rest marks u k in
-      overrun (2 ^ 40) (length used) (marks_of own) (over own spells (x ∷ m, bytes ∙ p))
+  full : (used left rest : List ℕ) (spans : List (Spanned E)) → IsUnderWay format (2 ^ 40) used spans → IsFull format (2 ^ 40) used → used ++ left ≡ text ++ rest → byte_limit ≤ length used
+  full used left rest spans u (inl e) k = omega (arith, e)
+  full used left rest spans u (inr over) k =
+      let (x, m, p) = shorter used left rest spans u k in
+      overrun (2 ^ 40) (length used) (spans_of own) (over own spells (x ∷ m, bytes ∙ p))
 
-  explained : (used left rest : List ℕ) (marks : List (Spanned E)) (why : Why) → IsUnderWay format (2 ^ 40) used marks → Explains format (2 ^ 40) used left why → used ++ left ≡ text ++ rest
+  explained : (used left rest : List ℕ) (spans : List (Spanned E)) (why : Why) → IsUnderWay format (2 ^ 40) used spans → Explains format (2 ^ 40) used left why → used ++ left ≡ text ++ rest
       → IsOutside (length (used ++ left)) why
-  explained used left rest marks (Byte b) u (more, e, bad, number) k = not_bad used more rest b marks u bad (ap (λ (x : List ℕ). used ++ x) (sym e) ∙ k)
-  explained used left rest marks TooLarge u (b, more, e, bad, digit, number) k = not_bad used more rest b marks u bad (ap (λ (x : List ℕ). used ++ x) (sym e) ∙ k)
-  explained used left rest marks TooLong u (some, h) k = longer used left some (full used left rest marks u h k)
-  explained used left rest marks Ended u e k = not_ended used rest marks u (ap (λ (x : List ℕ). used ++ x) (sym e) ∙ k)
-  explained used left rest marks Read u h k = tt
-  explained used left rest marks Memory u h k = tt
+  explained used left rest spans (Byte b) u (more, e, bad, number) k = not_bad used more rest b spans u bad (ap (λ (x : List ℕ). used ++ x) (sym e) ∙ k)
+  explained used left rest spans TooLarge u (b, more, e, bad, digit, number) k = not_bad used more rest b spans u bad (ap (λ (x : List ℕ). used ++ x) (sym e) ∙ k)
+  explained used left rest spans TooLong u (some, h) k = longer used left some (full used left rest spans u h k)
+  explained used left rest spans Ended u e k = not_ended used rest spans u (ap (λ (x : List ℕ). used ++ x) (sym e) ∙ k)
+  explained used left rest spans Read u h k = tt
+  explained used left rest spans Memory u h k = tt
 
   -- a stop in the text is not a fault of the text itself
-  in_text : (used seen rest : List ℕ) (marks : List (Spanned E)) (s : Stop) → Reads format (2 ^ 40) (used ++ seen) used marks s.place false (Some s) → used ++ seen ≡ text ++ rest
+  in_text : (used seen rest : List ℕ) (spans : List (Spanned E)) (s : Stop) → Reads format (2 ^ 40) (used ++ seen) used spans s.place false (Some s) → used ++ seen ≡ text ++ rest
       → IsOutside (length (used ++ seen)) s.why
-  in_text used seen rest marks s r k =
+  in_text used seen rest spans s r k =
       let (under, place, why) = r.answer in
-      subst (λ (t : List ℕ). IsOutside (length t) s.why) (sym r.input_is) (explained used r.left rest marks s.why under why (sym r.input_is ∙ k))
+      subst (λ (t : List ℕ). IsOutside (length t) s.why) (sym r.input_is) (explained used r.left rest spans s.why under why (sym r.input_is ∙ k))
 
   -- nor is one after it a fault of the line feed
   in_rest : (used seen rest : List ℕ) (items : List (Item E)) (past : Place) (mid after : Option (List ℕ)) (s : Stop) → format items → bytes_of items ≡ used → past ≡ place_after used
       → used ++ seen ≡ text ++ rest → IsFeed rest → mid ≡ Some seen → ReadsBlank past mid (Err s) after → IsOutside (length (used ++ seen)) s.why
   in_rest used seen rest items past mid after s h e at k feed is (more, left, took, blank, place, stray) =
       let same : used ≡ text = same_used used seen rest items h e k in
-      let behind : seen ≡ rest = same_rest used seen text rest k same in
+      let following : seen ≡ rest = same_rest used seen text rest k same in
       let now : Took (Some seen) more left after = subst (λ (z : Option (List ℕ)). Took z more left after) is took in
       let offset : past.offset ≡ length used = ap (λ (p : Place). p.offset) at ∙ place_after-offset used in
-      subst (λ (t : List ℕ). IsOutside (length (used ++ t)) s.why) (sym now.0) (strays used more left rest past s.why feed (sym behind ∙ now.0) offset stray)
+      subst (λ (t : List ℕ). IsOutside (length (used ++ t)) s.why) (sym now.0) (strays used more left rest past s.why feed (sym following ∙ now.0) offset stray)
 
   -- the text with nothing after it, or a line feed
   module _ {V : Type 0} (IsValue : List E → V → Type 0) (whole rest : List ℕ) (is : whole ≡ text ++ rest) (feed : IsFeed rest) (after : Option (List ℕ)) where
@@ -133,8 +133,8 @@ module _ {E : Type 0} (format : List (Item E) → Type 0) (text : List ℕ) (own
         subst (λ (u : List ℕ). IsRead format longest IsValue u file.read) same file.spelled
 
     pub faultless : (May : List ℕ → ℕ → Type 0) (Keep : List E → E → Type 0) (s : Stop) → IsRefused (ReadsValue format (2 ^ 40) May Keep IsValue) (Some whole) after s → IsOutside (length whole) s.why
-    faultless May Keep s (InText (used, seen, took, Reading marks r w)) = subst (λ (t : List ℕ). IsOutside (length t) s.why) (sym took.0) (in_text used seen rest marks s r (sym took.0 ∙ is))
-    faultless May Keep s (InText (used, seen, took, Keeping marks last done r k e)) = rw e tt
+    faultless May Keep s (InText (used, seen, took, Reading spans r w)) = subst (λ (t : List ℕ). IsOutside (length t) s.why) (sym took.0) (in_text used seen rest spans s r (sym took.0 ∙ is))
+    faultless May Keep s (InText (used, seen, took, Keeping spans last done r k e)) = rw e tt
     faultless May Keep s (InRest m mid (used, seen, took, read) blank) =
         subst (λ (t : List ℕ). IsOutside (length t) s.why) (sym took.0)
         (in_rest used seen rest read.spelled.items m.past mid after s read.spelled.spelled read.spelled.used_are read.past (sym took.0 ∙ is) feed took.1 blank)

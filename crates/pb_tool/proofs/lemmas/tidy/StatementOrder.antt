@@ -6,7 +6,7 @@ use Rattle.pb_text.specs.meaning.Spelling.{Item, Letter}
 use Rattle.pb_text.specs.meaning.Whole.{gathered, events_of}
 use Rattle.pb_sums.specs.declared.Term.{Term}
 use Rattle.pb_sums.specs.declared.Linear.{Linear}
-use Rattle.pb_opb.proofs.lemmas.instances.Kept.{told}
+use Rattle.pb_opb.proofs.lemmas.instances.Kept.{reported}
 use Rattle.pb_opb.specs.contract.Canonical.{header_bytes, event_bytes, lines, objective_events, constraint_events, comment_events, due, in_order, body_events, instance_bytes}
 use Rattle.pb_opb.specs.meaning.Values.{IsValueOf, last_or, objectives_in, constraints_in, comments_in, comment_at}
 use Rattle.pb_opb.specs.declared.Instance.{Instance}
@@ -139,7 +139,7 @@ value_of n tail events = record { variables = n; tail = tail; objective = last_o
 
 pub is_value : (n m : ℕ) (tail : List ℕ) (limit : ℕ) (items : List (Item OpbEvent)) → IsCounted limit true m items → IsValueOf (Header n m tail ∷ events_of items) (value_of n tail (events_of items))
 is_value n m tail limit items h =
-    let r = told limit true m items h in
+    let r = reported limit true m items h in
     record { variables = ap (last_or n) (sym r.variables); tail = ap (last_or tail) (sym r.tails); objective = refl; comments = refl; constraints = refl }
 
 module _ (limit top : ℕ) where
@@ -159,5 +159,5 @@ module _ (limit top : ℕ) where
       let (l, ls, some) = (r.some (omega arith)).0 in
       let full : is_bare v.objective v.constraints ≡ false = ap (is_bare v.objective) some ∙ bare_not v.objective l ls in
       let head : List ℕ = header_bytes n (suc m) tail in
-      let bytes : instance_bytes v ≡ head ++ (10 ∷ lines events) = ap₂ (λ (x : ℕ) (y : List OpbEvent). header_bytes n x tail ++ (10 ∷ lines y)) (told limit true (suc m) (i ∷ rest) h).count body in
+      let bytes : instance_bytes v ≡ head ++ (10 ∷ lines events) = ap₂ (λ (x : ℕ) (y : List OpbEvent). header_bytes n x tail ++ (10 ∷ lines y)) (reported limit true (suc m) (i ∷ rest) h).count body in
       ended events (head ++ 10 ∷ []) ∙ headed v head i.event (events_of rest) bytes full

@@ -9,7 +9,7 @@ use Rattle.pb_text.specs.declared.Stop.{Stop}
 use Rattle.pb_text.specs.declared.Why.{Why}
 use Rattle.pb_text.specs.meaning.Whole.{IsRead}
 use Rattle.pb_opb.specs.meaning.Reading.{ReadsInstance}
-use Rattle.pb_opb.specs.contract.Statements.{InstanceValues}
+use Rattle.pb_opb.specs.contract.Laws.{InstanceValues}
 use Rattle.pb_opb.specs.meaning.Values.{IsValueOf}
 use Rattle.pb_opb.specs.declared.Instance.{Instance}
 use Rattle.pb_proof.specs.meaning.Proofs.{IsProofOf}

@@ -3,7 +3,7 @@
 ghost use Rattle.std.specs.Prelude.{◌≡◌, ◌<◌, ℕ, Err, Result, Some, length};
 ghost use Rattle.pb_replay.specs.meaning.Replay.{State};
 ghost use Rattle.pb_replay.specs.declared.fault.Fault.{Fault as AFault};
-ghost use Rattle.pb_replay.specs.meaning.Meaning.{IsFront};
+ghost use Rattle.pb_replay.specs.meaning.Meaning.{IsNamePrefix};
 ghost use Rattle.pb_tool.specs.contract.Checker.{IsAt, TextsAreRead};
 ghost use Rattle.pb_tool.specs.contract.Faults.{check_fault_text};
 
@@ -11,7 +11,7 @@ use crate::commands::check::step::step_watched;
 use crate::commands::check::watch::Unwatched;
 use pb_proof::ProofMachine;
 use pb_proof::laws::values::reads_are_of_proofs;
-use pb_proof::laws::{no_front, proofs_are_exact};
+use pb_proof::laws::{prefix_free, proofs_are_exact};
 use pb_replay::laws::whole_proofs_conclude;
 use pb_replay::{Fault, Replay, Verdict};
 use pb_text::laws::standing_is_reading;
@@ -95,7 +95,7 @@ impl Checker {
         ensures place { place_in result ≡ Place.START }
         ensures replay { result.replay ≡ replay }
     {
-        replay.tell_sound();
+        replay.report_sound();
         let machine = ProofMachine::new(alloc, replay.limits());
         Checker {
             feeder: Feeder::within(machine, longest.unwrap_or(BYTE_LIMIT)),
@@ -134,7 +134,7 @@ impl Checker {
             → result ≡ 0 }
     {
         proofs_are_exact();
-        no_front();
+        prefix_free();
         texts_are_read();
         self.feeder.held()
     }
@@ -149,8 +149,8 @@ impl Checker {
         ensures used { IfOk result (λ n. ((place_in self.new).offset ≡ (place_in self.old).offset + n) × (n ≤ length piece.now)) }
         ensures again { (e : ACheckFault) → fault_of self.old ≡ Some e → (result ≡ Err e) × (self.new ≡ self.old) }
         // No name is forgotten, whatever the result is. A name that a rejection gives by its number is there.
-        ensures names { IsFront self.old.replay.names self.new.replay.names }
-        ensures told { (at : Place) (n : ℕ) → fault_of self.old ≡ None → result ≡ Err (ACheckFault.Step at (AFault.NotTotal n)) → n < length self.new.replay.names }
+        ensures names { IsNamePrefix self.old.replay.names self.new.replay.names }
+        ensures reported { (at : Place) (n : ℕ) → fault_of self.old ≡ None → result ≡ Err (ACheckFault.Step at (AFault.NotTotal n)) → n < length self.new.replay.names }
         // There is no reader that could fail.
         ensures unread { fault_of self.old ≡ None → IfErr result IsNoReadFault }
         // Memory for the text runs out only at a byte that may allocate.
@@ -183,8 +183,8 @@ impl Checker {
             → ChecksAt limits longest v first input self.old
             → ChecksAt limits longest v first (input ++ bytes_gone result piece.now) self.new }
         ensures open { MayGoOn (fault_of self.new) }
-        ensures names { IsFront self.old.replay.names self.new.replay.names }
-        ensures told { (at : Place) (n : ℕ) → result ≡ Err (ACheckFault.Step at (AFault.NotTotal n)) → n < length self.new.replay.names }
+        ensures names { IsNamePrefix self.old.replay.names self.new.replay.names }
+        ensures reported { (at : Place) (n : ℕ) → result ≡ Err (ACheckFault.Step at (AFault.NotTotal n)) → n < length self.new.replay.names }
         ensures fault { fault_of self.new ≡ fault_in result }
         ensures used { IfOk result (λ w. ((place_in self.new).offset ≡ (place_in self.old).offset + w.used) × (w.used ≤ length piece.now)) }
         ensures onward { IfOk result (λ w. w.more ≡ true → 0 < w.used) }

@@ -4,7 +4,7 @@ ghost use Rattle.std.specs.Prelude.{◌≡◌, ◌<◌, Err, None, Result, strin
 ghost use Rattle.pb_text.specs.meaning.Blank.{IsInReach};
 ghost use Rattle.pb_text.specs.meaning.Pulling.{OfGiven};
 ghost use Rattle.pb_replay.specs.meaning.Replay.{State};
-ghost use Rattle.pb_replay.specs.contract.Kept.{StandsFor};
+ghost use Rattle.pb_replay.specs.contract.ReplayModel.{StandsFor};
 ghost use Rattle.pb_tool.specs.contract.Runs.{IsReportedAs, Replays, RunsProof, faults_of_proof, faults_of_text};
 ghost use Rattle.pb_tool.specs.contract.Seen.{SawProof, SawText};
 ghost use Rattle.pb_tool.specs.meaning.Verified.{IsReported};
@@ -71,7 +71,7 @@ fn rejection(alloc: Global, replay: &Replay, place: Place, fault: Fault) -> Tool
 
 /// The name that a fault gives by its number, and an empty one for other faults.
 fn reported_name(alloc: Global, replay: &Replay, fault: Fault) -> Result<String, AllocError>
-    ensures told { IfOk result (λ name. IsReported replay.now.names fault (string_bytes name)) }
+    ensures reported { IfOk result (λ name. IsReported replay.now.names fault (string_bytes name)) }
     ensures err { OnErr result ((n : ℕ) × (fault ≡ Fault.NotTotal n)) }
 {
     match fault {
@@ -114,13 +114,13 @@ fn check_statements<S: Source, V: Watch>(
 {
     proofs_are_exact();
     reads_are_of_proofs();
-    replay.tell_sound();
+    replay.report_sound();
     whole_proofs_conclude();
     let mut feeder = Feeder::within(ProofMachine::new(alloc, replay.limits()), longest);
     loop {
         match pull(input, &mut feeder) {
             Ok(Some(read)) => {
-                replay.tell_sound();
+                replay.report_sound();
                 match step_watched(replay, read, watch) {
                     Ok(()) => {}
                     Err(fault) => return Err(fault),

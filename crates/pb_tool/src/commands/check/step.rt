@@ -5,7 +5,7 @@ ghost use Rattle.pb_text.specs.meaning.Limits.{largest, top_of};
 ghost use Rattle.pb_proof.specs.contract.Values.{IsStatementValue};
 ghost use Rattle.pb_replay.specs.meaning.Replay.{State};
 ghost use Rattle.pb_replay.specs.declared.fault.Fault.{Fault as AFault};
-ghost use Rattle.pb_replay.specs.meaning.Meaning.{IsFront};
+ghost use Rattle.pb_replay.specs.meaning.Meaning.{IsNamePrefix};
 ghost use Rattle.pb_tool.specs.contract.Checker.{IsAt, StepsFrom};
 ghost use Rattle.pb_tool.specs.contract.Watched.{call_for};
 
@@ -24,7 +24,7 @@ pub(crate) fn step_watched<V: Watch>(
     requires { IsStatementValue (largest replay.old.limits) (top_of replay.old.limits) read.event }
     ensures steps { (now : Result State AFault) → IsAt replay.old now
         → StepsFrom replay.old.limits replay.old.problem now read result replay.new }
-    ensures names { IsFront replay.old.names replay.new.names }
+    ensures names { IsNamePrefix replay.old.names replay.new.names }
     ensures unvalued { (at : Place) (n : ℕ) → result ≡ Err (CheckFault.Step at (Fault.NotTotal n)) → n < length replay.old.names }
     ensures limits { replay.new.limits ≡ replay.old.limits }
     ensures problem { replay.new.problem ≡ replay.old.problem }
@@ -43,7 +43,7 @@ fn step_through(replay: &mut Replay, read: &Spanned<Statement>) -> Result<(), Ch
     requires { IsStatementValue (largest replay.old.limits) (top_of replay.old.limits) read.now.event }
     ensures steps { (now : Result State AFault) → IsAt replay.old now
         → StepsFrom replay.old.limits replay.old.problem now read.now result replay.new }
-    ensures names { IsFront replay.old.names replay.new.names }
+    ensures names { IsNamePrefix replay.old.names replay.new.names }
     ensures unvalued { (at : Place) (n : ℕ) → result ≡ Err (CheckFault.Step at (Fault.NotTotal n)) → n < length replay.old.names }
     ensures limits { replay.new.limits ≡ replay.old.limits }
     ensures problem { replay.new.problem ≡ replay.old.problem }

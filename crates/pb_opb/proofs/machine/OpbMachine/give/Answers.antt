@@ -4,7 +4,7 @@ use Rattle.pb_sums.specs.engine.State.{SumState}
 use Rattle.pb_opb.specs.engine.Machine.{plan}
 use Rattle.pb_opb.specs.engine.State.{OpbState, opb}
 use Rattle.pb_opb.specs.contracts.machine.OpbMachine.{the_view}
-use Rattle.pb_opb.specs.declared.phase.Move.TheVariants.{Give}
+use Rattle.pb_opb.specs.declared.phase.Action.TheVariants.{Give}
 use Rattle.pb_opb.proofs.lemmas.machine.Pushed.{give_order, end_order, end_step, give_refused, give_admits}
 use Rattle.pb_opb.proofs.machine.OpbMachine.give.Goals as goal
 

@@ -4,7 +4,7 @@ use Rattle.pb_proof.specs.engine.Machine.Transition.{plan}
 use Rattle.pb_proof.specs.engine.Machine.State.{ProofState, IsInOrder, proofs}
 use Rattle.pb_proof.specs.contracts.machine.ProofMachine.{the_view}
 use Rattle.pb_proof.specs.declared.line.LineMachine.{LineMachine}
-use Rattle.pb_proof.specs.declared.machine.phase.Move.TheVariants.{Give}
+use Rattle.pb_proof.specs.declared.machine.phase.Action.TheVariants.{Give}
 use Rattle.pb_proof.proofs.lemmas.Machine.States.{give_order, give_admits, known}
 use Rattle.pb_proof.proofs.machine.ProofMachine.give.Goals as goal
 

@@ -11,27 +11,28 @@ use Rattle.pb_proof.proofs.machine.ProofMachine.take_words.Goals.{in-To, in-Begi
 pub invariant_of-self : goal.invariant_of-self
 invariant_of-self c =
     let s : ProofState = the_view c.self.inside in
-    let front = take c.in-Some.length c.args.text.now in
-    (words_to s c.self.invariant front c.in-To.phase (subst (IsRest s.phase front) c.in-To.is c.in-Some.ensures.rest)).1
+    let prefix = take c.in-Some.length c.args.text.now in
+    (words_to s c.self.invariant prefix c.in-To.phase (subst (IsRest s.phase prefix) c.in-To.is
+    c.in-Some.ensures.rest)).1
 
 pub invariant_of-self-in-Begin : goal.invariant_of-self-in-Begin
 invariant_of-self-in-Begin c =
     let s : ProofState = the_view c.self.inside in
-    let front = take c.in-Some.length c.args.text.now in
+    let prefix = take c.in-Some.length c.args.text.now in
     let line = sym c.start_line.ensures in
     subst (λ x. IsInOrder (record { limit = s.limit; top = s.top; phase = Inside c.in-Begin.kind; line = x })) line
-    (words_begin s c.self.invariant front c.in-Begin.kind (subst (IsRest s.phase front) c.in-Begin.is c.in-Some.ensures.rest)).1
+    (words_begin s c.self.invariant prefix c.in-Begin.kind (subst (IsRest s.phase prefix) c.in-Begin.is c.in-Some.ensures.rest)).1
 
 pub returns-clause-runs : goal.returns-clause-runs
 returns-clause-runs c =
     let s : ProofState = the_view c.self.inside in
-    let front = take c.in-Some.length c.args.text.now in
+    let prefix = take c.in-Some.length c.args.text.now in
     elim c.match-next.branch [
       | in-To w ↦ rw (w.self-is, ← c.self.view_is)
-          (words_to s c.self.invariant front w.in-To.phase (subst (IsRest s.phase front) w.in-To.is c.in-Some.ensures.rest)).0
+          (words_to s c.self.invariant prefix w.in-To.phase (subst (IsRest s.phase prefix) w.in-To.is c.in-Some.ensures.rest)).0
       | in-Begin w ↦ rw (w.self-is, ← c.self.view_is) (
           let line = sym w.start_line.ensures in
-          subst (λ x. Runs proofs s front (record { limit = s.limit; top = s.top; phase = Inside w.in-Begin.kind; line = x })) line
-          (words_begin s c.self.invariant front w.in-Begin.kind (subst (IsRest s.phase front) w.in-Begin.is c.in-Some.ensures.rest)).0
+          subst (λ x. Runs proofs s prefix (record { limit = s.limit; top = s.top; phase = Inside w.in-Begin.kind; line = x })) line
+          (words_begin s c.self.invariant prefix w.in-Begin.kind (subst (IsRest s.phase prefix) w.in-Begin.is c.in-Some.ensures.rest)).0
           )
     ]

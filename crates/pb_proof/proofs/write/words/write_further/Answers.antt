@@ -16,19 +16,19 @@ loop-rest-init g c = (
 
 pub returns-in_err-write_batch : goal.returns-in_err-write_batch
 returns-in_err-write_batch g c =
-    let front = c.loop-rest.invariant.0 in
+    let prefix = c.loop-rest.invariant.0 in
     let batch = c.split_at.result.0.now in
-    let behind = c.split_at.result.1.now in
-    let rest : listed_bytes word_bytes c.loop-rest.rest.now ≡ listed_bytes word_bytes batch ++ listed_bytes word_bytes behind = ap (listed_bytes word_bytes) c.split_at.ensures.by_index.0 ∙ listed-append word_bytes batch behind in
-    part_then g.S.Sink.contents g.S.Sink.faults _ _ _ _ _ _ _ (ap (listed_bytes word_bytes) c.loop-rest.invariant.1 ∙ listed-append word_bytes front c.loop-rest.rest.now) c.loop-rest.invariant.2
+    let following = c.split_at.result.1.now in
+    let rest : listed_bytes word_bytes c.loop-rest.rest.now ≡ listed_bytes word_bytes batch ++ listed_bytes word_bytes following = ap (listed_bytes word_bytes) c.split_at.ensures.by_index.0 ∙ listed-append word_bytes batch following in
+    part_then g.S.Sink.contents g.S.Sink.faults _ _ _ _ _ _ _ (ap (listed_bytes word_bytes) c.loop-rest.invariant.1 ∙ listed-append word_bytes prefix c.loop-rest.rest.now) c.loop-rest.invariant.2
     (part_broke g.S.Sink.contents g.S.Sink.faults _ _ _ _ _ _ rest c.from_residual.ensures.0 c.in_err-write_batch.ensures)
 
 pub loop-rest-preserved : goal.loop-rest-preserved
 loop-rest-preserved g c =
-    let front = c.loop-rest.invariant.0 in
+    let prefix = c.loop-rest.invariant.0 in
     let batch = c.split_at.result.0.now in
-    let behind = c.split_at.result.1.now in (
-      front ++ batch,
-      c.loop-rest.invariant.1 ∙ (ap (λ (z : List PolWord). front ++ z) c.split_at.ensures.by_index.0 ∙ sym (append_assoc front batch behind)),
-      part_wrote g.S.Sink.contents g.S.Sink.faults _ _ _ _ _ _ (listed-append word_bytes front batch) c.loop-rest.invariant.2 c.in_ok-write_batch.ensures,
+    let following = c.split_at.result.1.now in (
+      prefix ++ batch,
+      c.loop-rest.invariant.1 ∙ (ap (λ (z : List PolWord). prefix ++ z) c.split_at.ensures.by_index.0 ∙ sym (append_assoc prefix batch following)),
+      part_wrote g.S.Sink.contents g.S.Sink.faults _ _ _ _ _ _ (listed-append word_bytes prefix batch) c.loop-rest.invariant.2 c.in_ok-write_batch.ensures,
     )

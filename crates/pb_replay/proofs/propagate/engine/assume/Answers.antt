@@ -35,17 +35,17 @@ given-preserved c =
     let l = get_or c.args.given.now c.given.i d in
     let free : has c.given.run.assignment.list.items (negation l) ≡ false = cc (c.contains.ensures, c.if-contains.false, c.negation.ensures) in
     let i = c.given.invariant in
-    let told = c.in_ok-try_put.ensures in
-    let a = assumed-next c.args.given.now c.given.run.assignment.list.items c.try_put.new.run.assignment.list.items c.given.i d c.given-test.true free told.adopted (record { within = i.within; covers = i.covers; single = i.single }) in
+    let reported = c.in_ok-try_put.ensures in
+    let a = assumed-next c.args.given.now c.given.run.assignment.list.items c.try_put.new.run.assignment.list.items c.given.i d c.given-test.true free reported.adopted (record { within = i.within; covers = i.covers; single = i.single }) in
     record {
-      values = told.values ∙ i.values;
-      opens = told.opens ∙ i.opens;
-      candidates = told.candidates ∙ i.candidates;
-      next = told.next ∙ i.next;
-      longer = omega (arith, i.longer, told.longer_work);
+      values = reported.values ∙ i.values;
+      opens = reported.opens ∙ i.opens;
+      candidates = reported.candidates ∙ i.candidates;
+      next = reported.next ∙ i.next;
+      longer = omega (arith, i.longer, reported.longer_work);
       single = a.single;
-      counted = told.counted c.if-branch.false;
-      tidy = λ aside busy t. told.tidy aside busy (i.tidy aside busy t);
+      counted = reported.counted c.if-branch.false;
+      tidy = λ aside busy t. reported.tidy aside busy (i.tidy aside busy t);
       within = a.within;
       covers = a.covers;
     }

@@ -3,7 +3,7 @@ use Rattle.std.proofs.lemmas.List.{get_or_read, get_or-set_same}
 use Rattle.pb_replay.specs.engine.Engine.Lists.{Shape}
 use Rattle.pb_replay.specs.engine.Engine.Counts.{IsCalm}
 use Rattle.pb_replay.specs.engine.Engine.Fields.{shapes_of}
-use Rattle.pb_replay.proofs.lemmas.engine.Looks.{grown-by, idle-at, changed-at, shape-at, weight-read}
+use Rattle.pb_replay.proofs.lemmas.engine.VisitSteps.{grown-by, idle-at, changed-at, shape-at, weight-read}
 use Rattle.pb_replay.proofs.propagate.run.lower.Goals as goal
 
 pub weight_of-requires : goal.weight_of-requires

@@ -10,7 +10,7 @@ use Rattle.pb_replay.specs.engine.Clauses.Links.{lists_of, list_at}
 use Rattle.pb_replay.specs.engine.Clauses.Runs.{AreServed, AreWalked}
 use Rattle.pb_replay.specs.engine.Clauses.Shapes.{all_of, clauses_of, joined}
 use Rattle.pb_replay.proofs.lemmas.engine.Derivations.{derivation-then, derivation-keeps}
-use Rattle.pb_replay.proofs.lemmas.engine.Propagated.{Propagating-start, Propagating-look, Propagating-next, Propagating-walk, Propagating-bound, Propagating-choose, Propagating-settled, Propagating-upper}
+use Rattle.pb_replay.proofs.lemmas.engine.Propagated.{Propagating-start, Propagating-visit, Propagating-next, Propagating-walk, Propagating-bound, Propagating-choose, Propagating-settled, Propagating-upper}
 use Rattle.pb_replay.proofs.lemmas.root.Extends.{extends-none, extends-then, derives-extends, spent-extends, killed-extends}
 use Rattle.pb_replay.specs.engine.Clauses.Walked.{killed, walked_codes}
 use Rattle.pb_replay.proofs.lemmas.engine.Spent.{sum-bounded, derivation-single}
@@ -192,41 +192,41 @@ work-preserved-then-walked-len c =
     let covered = subst (λ t. done.visits + sum c.work.clauses.passed.items + spent (entries_of (shapes_of c.args.store.now.kept.items) c.args.store.now.occurrences.items) c.work.run.assignment.list.items ≤ c.work.run.visits + 2 * length (list_at (lists_of c.work.clauses.lists.items) t) + sum c.walk.new.clauses.passed.items + spent (entries_of (shapes_of c.args.store.now.kept.items) c.args.store.now.occurrences.items) c.walk.new.run.assignment.list.items) read c.walk.ensures.covered in
     let same = ap (λ (v : Vec ℕ Global). sum v.items) c.walk.ensures.candidates in
     let derived = subst (λ ls. Derives (joined (shapes_of c.args.store.now.kept.items) (lists_of ls.items)) c.work.run.assignment.list.items c.walk.new.run.assignment.list.items) w.literals c.in_ok-walk.ensures.derived in
-    let told = c.in_ok-walk.ensures in
+    let reported = c.in_ok-walk.ensures in
     let after = derived-take (all_of store c.args.clauses.now) run.assignment.list.items done.assignment.list.items (c.work.walked + 1) (omega (arith, inside)) derived in
     let paid = cost-next c.args.clauses.now c.work.clauses c.walk.new.clauses run.assignment.values.items run.assignment.list.items done.assignment.list.items c.work.walked run.visits done.visits (spent lists run.assignment.list.items) (spent lists done.assignment.list.items) l single inside c.index-literal.ensures after covered w in
-    let walked = subst (λ t. (xs : List ℕ) → AreServed c.work.run.assignment.values.items c.work.clauses.watches.items xs t 0 → AreWalked c.walk.new.run.assignment.values.items c.walk.new.clauses.watches.items (xs ++ (t ∷ []))) read (told.walked c.if-branch-2.false) in
+    let walked = subst (λ t. (xs : List ℕ) → AreServed c.work.run.assignment.values.items c.work.clauses.watches.items xs t 0 → AreWalked c.walk.new.run.assignment.values.items c.walk.new.clauses.watches.items (xs ++ (t ∷ []))) read (reported.walked c.if-branch-2.false) in
     record {
-      values = told.values ∙ c.work.invariant.values;
-      grows = grows-trans start.assignment.values.items run.assignment.values.items done.assignment.values.items c.work.invariant.grows told.grows;
+      values = reported.values ∙ c.work.invariant.values;
+      grows = grows-trans start.assignment.values.items run.assignment.values.items done.assignment.values.items c.work.invariant.grows reported.grows;
       kept = λ base codes more old. c.in_ok-walk.ensures.kept base codes (grows-trans base c.args.run.now.assignment.values.items c.work.run.assignment.values.items more c.work.invariant.grows) (c.work.invariant.kept base codes more old);
       taken = c.work.invariant.taken;
-      watching = watching-next (all_of store c.args.clauses.now) c.args.clauses.now c.work.clauses c.walk.new.clauses run.assignment.values.items done.assignment.values.items run.assignment.list.items done.assignment.list.items c.work.walked l inside c.index-literal.ensures next.failed told.literals told.running derived walked w;
+      watching = watching-next (all_of store c.args.clauses.now) c.args.clauses.now c.work.clauses c.walk.new.clauses run.assignment.values.items done.assignment.values.items run.assignment.list.items done.assignment.list.items c.work.walked l inside c.index-literal.ensures next.failed reported.literals reported.running derived walked w;
       state = Propagating-walk c.args.rests.now (waits store.kept.items) c.args.waiting.now (shapes_of store.kept.items) (all_of store c.args.clauses.now) (entries_of (shapes_of store.kept.items) store.occurrences.items) (length store.kept.items) start.assignment.list.items start.candidates.items start.work.items start.next start.visits (cost c.args.clauses.now c.work.clauses c.work.walked run.assignment.list.items) (cost c.args.clauses.now c.walk.new.clauses (c.work.walked + 1) done.assignment.list.items) c.work.taken run.opens.items run.candidates.items run.assignment.list.items run.work.items run.trail.items run.next run.visits done.opens.items done.candidates.items done.assignment.list.items done.work.items done.trail.items done.next done.visits
-          told.next (ap (λ (v : Vec ℕ Global). v.items) told.candidates) derived (told.counted c.if-branch-2.false) (told.tidy (filter (waits store.kept.items) (drop c.work.taken c.args.waiting.now)) (length store.kept.items) state.tidy) paid told.work told.rising told.found told.opens told.longer_work state;
+          reported.next (ap (λ (v : Vec ℕ Global). v.items) reported.candidates) derived (reported.counted c.if-branch-2.false) (reported.tidy (filter (waits store.kept.items) (drop c.work.taken c.args.waiting.now)) (length store.kept.items) state.tidy) paid reported.work reported.rising reported.found reported.opens reported.longer_work state;
     }
 
-pub look-requires-clause-tidy : goal.look-requires-clause-tidy
-look-requires-clause-tidy c =
+pub visit_form-requires-clause-tidy : goal.visit_form-requires-clause-tidy
+visit_form-requires-clause-tidy c =
     let keep = c.args.store.now.kept.items in
     let run = c.work.run in
     let inside : run.next < length run.work.items = omega (arith, c.if-run-len.true, c.len.ensures, run.work.ok.0) in
     let p = waits keep in
     let all = take_rest c.args.waiting.now c.work.taken in
-    rw all (Propagating-look (beside c.args.rests.now (filter p (drop c.work.taken c.args.waiting.now))) (shapes_of keep) (length keep) run.opens.items run.candidates.items run.assignment.list.items run.work.items run.trail.items run.next c.index-form.result.now (length-map keep kept_shape) inside c.index-form.ensures c.work.invariant.state.tidy)
+    rw all (Propagating-visit (beside c.args.rests.now (filter p (drop c.work.taken c.args.waiting.now))) (shapes_of keep) (length keep) run.opens.items run.candidates.items run.assignment.list.items run.work.items run.trail.items run.next c.index-form.result.now (length-map keep kept_shape) inside c.index-form.ensures c.work.invariant.state.tidy)
 
-pub returns-in_err-look-clause-upper : goal.returns-in_err-look-clause-upper
-returns-in_err-look-clause-upper c =
+pub returns-in_err-visit_form-clause-upper : goal.returns-in_err-visit_form-clause-upper
+returns-in_err-visit_form-clause-upper c =
     let store = c.args.store.now in
     let start = c.args.run.now in
     let run = c.work.run in
     let state = c.work.invariant.state in
     let w = c.work.invariant.watching in
-    let done = c.look.new.run in
+    let done = c.visit_form.new.run in
     let inside : run.next + 1 ≤ length run.work.items = omega (arith, c.if-run-len.true, c.len.ensures, run.work.ok.0) in
     let most = cost-most c.args.clauses.now c.work.clauses run.assignment.values.items run.assignment.list.items c.work.walked w in
-    let upper = Propagating-upper c.args.rests.now (waits store.kept.items) c.args.waiting.now (shapes_of store.kept.items) (all_of store c.args.clauses.now) (entries_of (shapes_of store.kept.items) store.occurrences.items) (length store.kept.items) start.assignment.list.items start.candidates.items start.work.items start.next start.visits (cost c.args.clauses.now c.work.clauses c.work.walked run.assignment.list.items) c.work.taken run.opens.items run.candidates.items run.assignment.list.items run.work.items run.trail.items run.next run.visits done.assignment.list.items done.candidates.items done.visits (cost c.args.clauses.now c.work.clauses c.work.walked run.assignment.list.items) 1 (spent-extends (entries_of (shapes_of store.kept.items) store.occurrences.items) run.assignment.list.items done.assignment.list.items c.look.ensures.extends) c.requires.next state inside (omega (arith, c.look.ensures.covered)) in
-    omega (arith, upper, most, killed-extends (clauses_of c.args.clauses.now) run.assignment.list.items done.assignment.list.items c.work.walked c.look.ensures.extends)
+    let upper = Propagating-upper c.args.rests.now (waits store.kept.items) c.args.waiting.now (shapes_of store.kept.items) (all_of store c.args.clauses.now) (entries_of (shapes_of store.kept.items) store.occurrences.items) (length store.kept.items) start.assignment.list.items start.candidates.items start.work.items start.next start.visits (cost c.args.clauses.now c.work.clauses c.work.walked run.assignment.list.items) c.work.taken run.opens.items run.candidates.items run.assignment.list.items run.work.items run.trail.items run.next run.visits done.assignment.list.items done.candidates.items done.visits (cost c.args.clauses.now c.work.clauses c.work.walked run.assignment.list.items) 1 (spent-extends (entries_of (shapes_of store.kept.items) store.occurrences.items) run.assignment.list.items done.assignment.list.items c.visit_form.ensures.extends) c.requires.next state inside (omega (arith, c.visit_form.ensures.covered)) in
+    omega (arith, upper, most, killed-extends (clauses_of c.args.clauses.now) run.assignment.list.items done.assignment.list.items c.work.walked c.visit_form.ensures.extends)
 
 pub returns-then-branch-clause-upper : goal.returns-then-branch-clause-upper
 returns-then-branch-clause-upper c =
@@ -235,11 +235,11 @@ returns-then-branch-clause-upper c =
     let run = c.work.run in
     let state = c.work.invariant.state in
     let w = c.work.invariant.watching in
-    let done = c.look.new.run in
+    let done = c.visit_form.new.run in
     let inside : run.next + 1 ≤ length run.work.items = omega (arith, c.if-run-len.true, c.len.ensures, run.work.ok.0) in
     let most = cost-most c.args.clauses.now c.work.clauses run.assignment.values.items run.assignment.list.items c.work.walked w in
-    let upper = Propagating-upper c.args.rests.now (waits store.kept.items) c.args.waiting.now (shapes_of store.kept.items) (all_of store c.args.clauses.now) (entries_of (shapes_of store.kept.items) store.occurrences.items) (length store.kept.items) start.assignment.list.items start.candidates.items start.work.items start.next start.visits (cost c.args.clauses.now c.work.clauses c.work.walked run.assignment.list.items) c.work.taken run.opens.items run.candidates.items run.assignment.list.items run.work.items run.trail.items run.next run.visits done.assignment.list.items done.candidates.items done.visits (cost c.args.clauses.now c.work.clauses c.work.walked run.assignment.list.items) 1 (spent-extends (entries_of (shapes_of store.kept.items) store.occurrences.items) run.assignment.list.items done.assignment.list.items c.look.ensures.extends) c.requires.next state inside (omega (arith, c.look.ensures.covered)) in
-    omega (arith, upper, most, killed-extends (clauses_of c.args.clauses.now) run.assignment.list.items done.assignment.list.items c.work.walked c.look.ensures.extends)
+    let upper = Propagating-upper c.args.rests.now (waits store.kept.items) c.args.waiting.now (shapes_of store.kept.items) (all_of store c.args.clauses.now) (entries_of (shapes_of store.kept.items) store.occurrences.items) (length store.kept.items) start.assignment.list.items start.candidates.items start.work.items start.next start.visits (cost c.args.clauses.now c.work.clauses c.work.walked run.assignment.list.items) c.work.taken run.opens.items run.candidates.items run.assignment.list.items run.work.items run.trail.items run.next run.visits done.assignment.list.items done.candidates.items done.visits (cost c.args.clauses.now c.work.clauses c.work.walked run.assignment.list.items) 1 (spent-extends (entries_of (shapes_of store.kept.items) store.occurrences.items) run.assignment.list.items done.assignment.list.items c.visit_form.ensures.extends) c.requires.next state inside (omega (arith, c.visit_form.ensures.covered)) in
+    omega (arith, upper, most, killed-extends (clauses_of c.args.clauses.now) run.assignment.list.items done.assignment.list.items c.work.walked c.visit_form.ensures.extends)
 
 pub returns-then-branch-clause-running : goal.returns-then-branch-clause-running
 returns-then-branch-clause-running c =
@@ -248,10 +248,10 @@ returns-then-branch-clause-running c =
     let run = c.work.run in
     let state = c.work.invariant.state in
     let w = c.work.invariant.watching in
-    let done = c.look.new.run in
+    let done = c.visit_form.new.run in
     let inside : run.next + 1 ≤ length run.work.items = omega (arith, c.if-run-len.true, c.len.ensures, run.work.ok.0) in
-    let derived = derives-joined (shapes_of store.kept.items) (clauses_of c.args.clauses.now) run.assignment.list.items done.assignment.list.items c.requires.joined c.in_ok-look.ensures.derived in
-    let grows = grows-listed run.assignment.values.items done.assignment.values.items run.assignment.list.items done.assignment.list.items c.in_ok-look.ensures.values run.assignment.agrees done.assignment.agrees (derivation-keeps (all_of store c.args.clauses.now) run.assignment.list.items done.assignment.list.items derived) in
+    let derived = derives-joined (shapes_of store.kept.items) (clauses_of c.args.clauses.now) run.assignment.list.items done.assignment.list.items c.requires.joined c.in_ok-visit_form.ensures.derived in
+    let grows = grows-listed run.assignment.values.items done.assignment.values.items run.assignment.list.items done.assignment.list.items c.in_ok-visit_form.ensures.values run.assignment.agrees done.assignment.agrees (derivation-keeps (all_of store c.args.clauses.now) run.assignment.list.items done.assignment.list.items derived) in
     running-grow c.work.clauses run.assignment.values.items done.assignment.values.items grows w.running
 
 pub returns-then-branch-clause-derived : goal.returns-then-branch-clause-derived
@@ -261,10 +261,10 @@ returns-then-branch-clause-derived c =
     let run = c.work.run in
     let state = c.work.invariant.state in
     let w = c.work.invariant.watching in
-    let done = c.look.new.run in
+    let done = c.visit_form.new.run in
     let inside : run.next + 1 ≤ length run.work.items = omega (arith, c.if-run-len.true, c.len.ensures, run.work.ok.0) in
-    let derived = derives-joined (shapes_of store.kept.items) (clauses_of c.args.clauses.now) run.assignment.list.items done.assignment.list.items c.requires.joined c.in_ok-look.ensures.derived in
-    let grows = grows-listed run.assignment.values.items done.assignment.values.items run.assignment.list.items done.assignment.list.items c.in_ok-look.ensures.values run.assignment.agrees done.assignment.agrees (derivation-keeps (all_of store c.args.clauses.now) run.assignment.list.items done.assignment.list.items derived) in
+    let derived = derives-joined (shapes_of store.kept.items) (clauses_of c.args.clauses.now) run.assignment.list.items done.assignment.list.items c.requires.joined c.in_ok-visit_form.ensures.derived in
+    let grows = grows-listed run.assignment.values.items done.assignment.values.items run.assignment.list.items done.assignment.list.items c.in_ok-visit_form.ensures.values run.assignment.agrees done.assignment.agrees (derivation-keeps (all_of store c.args.clauses.now) run.assignment.list.items done.assignment.list.items derived) in
     derivation-then (all_of store c.args.clauses.now) start.assignment.list.items run.assignment.list.items done.assignment.list.items state.derived derived
 
 pub returns-then-branch-clause-conflict : goal.returns-then-branch-clause-conflict
@@ -274,7 +274,7 @@ returns-then-branch-clause-conflict c =
     let run = c.work.run in
     let state = c.work.invariant.state in
     let w = c.work.invariant.watching in
-    λ found. conflicts-joined (shapes_of store.kept.items) (clauses_of c.args.clauses.now) c.look.new.run.assignment.list.items c.requires.joined (c.in_ok-look.ensures.conflict c.if-branch.true)
+    λ found. conflicts-joined (shapes_of store.kept.items) (clauses_of c.args.clauses.now) c.visit_form.new.run.assignment.list.items c.requires.joined (c.in_ok-visit_form.ensures.conflict c.if-branch.true)
 
 pub work-smaller-else-branch : goal.work-smaller-else-branch
 work-smaller-else-branch c =
@@ -283,10 +283,10 @@ work-smaller-else-branch c =
     let run = c.work.run in
     let state = c.work.invariant.state in
     let w = c.work.invariant.watching in
-    let done = c.look.new.run in
+    let done = c.visit_form.new.run in
     let inside : run.next + 1 ≤ length run.work.items = omega (arith, c.if-run-len.true, c.len.ensures, run.work.ok.0) in
     let bound = Propagating-bound c.args.rests.now (waits store.kept.items) c.args.waiting.now (shapes_of store.kept.items) (all_of store c.args.clauses.now) (entries_of (shapes_of store.kept.items) store.occurrences.items) (length store.kept.items) start.assignment.list.items start.candidates.items start.work.items start.next start.visits (cost c.args.clauses.now c.work.clauses c.work.walked run.assignment.list.items) c.work.taken run.opens.items run.candidates.items run.assignment.list.items run.work.items run.trail.items run.next run.visits c.requires.single state in
-    omega (arith, bound, c.in_ok-look.ensures.next, inside, c.work.invariant.taken, c.work.invariant.values, run.assignment.room, w.within)
+    omega (arith, bound, c.in_ok-visit_form.ensures.next, inside, c.work.invariant.taken, c.work.invariant.values, run.assignment.room, w.within)
 
 pub work-preserved-else-branch : goal.work-preserved-else-branch
 work-preserved-else-branch c =
@@ -295,20 +295,20 @@ work-preserved-else-branch c =
     let run = c.work.run in
     let state = c.work.invariant.state in
     let w = c.work.invariant.watching in
-    let done = c.look.new.run in
+    let done = c.visit_form.new.run in
     let inside : run.next + 1 ≤ length run.work.items = omega (arith, c.if-run-len.true, c.len.ensures, run.work.ok.0) in
-    let derived = derives-joined (shapes_of store.kept.items) (clauses_of c.args.clauses.now) run.assignment.list.items done.assignment.list.items c.requires.joined c.in_ok-look.ensures.derived in
-    let grows = grows-listed run.assignment.values.items done.assignment.values.items run.assignment.list.items done.assignment.list.items c.in_ok-look.ensures.values run.assignment.agrees done.assignment.agrees (derivation-keeps (all_of store c.args.clauses.now) run.assignment.list.items done.assignment.list.items derived) in
-    let told = c.in_ok-look.ensures in
-    let tidy = rw (take_rest c.args.waiting.now c.work.taken) at (told.tidy c.if-branch.false) in
+    let derived = derives-joined (shapes_of store.kept.items) (clauses_of c.args.clauses.now) run.assignment.list.items done.assignment.list.items c.requires.joined c.in_ok-visit_form.ensures.derived in
+    let grows = grows-listed run.assignment.values.items done.assignment.values.items run.assignment.list.items done.assignment.list.items c.in_ok-visit_form.ensures.values run.assignment.agrees done.assignment.agrees (derivation-keeps (all_of store c.args.clauses.now) run.assignment.list.items done.assignment.list.items derived) in
+    let reported = c.in_ok-visit_form.ensures in
+    let tidy = rw (take_rest c.args.waiting.now c.work.taken) at (reported.tidy c.if-branch.false) in
     record {
-      values = told.values ∙ c.work.invariant.values;
+      values = reported.values ∙ c.work.invariant.values;
       grows = grows-trans start.assignment.values.items run.assignment.values.items done.assignment.values.items c.work.invariant.grows grows;
       kept = c.work.invariant.kept;
       taken = c.work.invariant.taken;
       watching = watching-grow (all_of store c.args.clauses.now) c.args.clauses.now c.work.clauses run.assignment.values.items done.assignment.values.items run.assignment.list.items done.assignment.list.items c.work.walked grows derived w;
       state = Propagating-next c.args.rests.now (waits store.kept.items) c.args.waiting.now (shapes_of store.kept.items) (all_of store c.args.clauses.now) (entries_of (shapes_of store.kept.items) store.occurrences.items) (length store.kept.items) start.assignment.list.items start.candidates.items start.work.items start.next start.visits (cost c.args.clauses.now c.work.clauses c.work.walked run.assignment.list.items) c.work.taken run.opens.items run.candidates.items run.assignment.list.items run.work.items run.trail.items run.next run.visits done.opens.items done.candidates.items done.assignment.list.items done.work.items done.trail.items done.next done.visits (cost c.args.clauses.now c.work.clauses c.work.walked done.assignment.list.items)
-          (cost-grow (all_of store c.args.clauses.now) c.args.clauses.now c.work.clauses run.assignment.list.items done.assignment.list.items c.work.walked w.within derived) told.next derived (told.counted c.if-branch.false) tidy told.paid told.found told.opens told.candidates told.within state;
+          (cost-grow (all_of store c.args.clauses.now) c.args.clauses.now c.work.clauses run.assignment.list.items done.assignment.list.items c.work.walked w.within derived) reported.next derived (reported.counted c.if-branch.false) tidy reported.paid reported.found reported.opens reported.candidates reported.within state;
     }
 
 pub returns-in_err-choose-clause-bounded : goal.returns-in_err-choose-clause-bounded
@@ -415,11 +415,11 @@ returns-else-taken-waiting-clause-settled c =
       | inr clause ↦ subst (λ g. IsSettled g c.work.run.assignment.list.items) clause.2 (watching-settled c.args.clauses.now c.work.clauses run.assignment.values.items run.assignment.list.items c.work.walked clause.0 run.assignment.agrees (λ k on. opposite run.assignment.values.items run.assignment.list.items k run.assignment.agrees on) end clause.1 w)
     ]
 
-pub returns-in_err-look-clause-single : goal.returns-in_err-look-clause-single
-returns-in_err-look-clause-single c = c.look.ensures.single (derivation-single (all_of c.args.store.now c.args.clauses.now) c.args.run.now.assignment.list.items c.work.run.assignment.list.items c.requires.single c.work.invariant.state.derived)
+pub returns-in_err-visit_form-clause-single : goal.returns-in_err-visit_form-clause-single
+returns-in_err-visit_form-clause-single c = c.visit_form.ensures.single (derivation-single (all_of c.args.store.now c.args.clauses.now) c.args.run.now.assignment.list.items c.work.run.assignment.list.items c.requires.single c.work.invariant.state.derived)
 
 pub returns-then-branch-clause-single : goal.returns-then-branch-clause-single
-returns-then-branch-clause-single c = c.look.ensures.single (derivation-single (all_of c.args.store.now c.args.clauses.now) c.args.run.now.assignment.list.items c.work.run.assignment.list.items c.requires.single c.work.invariant.state.derived)
+returns-then-branch-clause-single c = c.visit_form.ensures.single (derivation-single (all_of c.args.store.now c.args.clauses.now) c.args.run.now.assignment.list.items c.work.run.assignment.list.items c.requires.single c.work.invariant.state.derived)
 
 pub returns-in_err-walk-clause-single : goal.returns-in_err-walk-clause-single
 returns-in_err-walk-clause-single c = c.walk.ensures.single (derivation-single (all_of c.args.store.now c.args.clauses.now) c.args.run.now.assignment.list.items c.work.run.assignment.list.items c.requires.single c.work.invariant.state.derived)
@@ -443,11 +443,11 @@ returns-else-taken-waiting-clause-walked c = λ found.
     let all : c.work.walked ≡ length run.assignment.list.items = omega (arith, w.within, c.if-walked-len.false, c.len-else-run-len.ensures, run.assignment.list.ok.0) in
     subst (λ n. AreWalked run.assignment.values.items c.work.clauses.watches.items (walked_codes n run.assignment.list.items)) all w.served
 
-pub returns-in_err-look-clause-extends : goal.returns-in_err-look-clause-extends
-returns-in_err-look-clause-extends c = extends-then c.args.run.now.assignment.list.items c.work.run.assignment.list.items c.look.new.run.assignment.list.items (derives-extends (all_of c.args.store.now c.args.clauses.now) c.args.run.now.assignment.list.items c.work.run.assignment.list.items c.work.invariant.state.derived) c.look.ensures.extends
+pub returns-in_err-visit_form-clause-extends : goal.returns-in_err-visit_form-clause-extends
+returns-in_err-visit_form-clause-extends c = extends-then c.args.run.now.assignment.list.items c.work.run.assignment.list.items c.visit_form.new.run.assignment.list.items (derives-extends (all_of c.args.store.now c.args.clauses.now) c.args.run.now.assignment.list.items c.work.run.assignment.list.items c.work.invariant.state.derived) c.visit_form.ensures.extends
 
 pub returns-then-branch-clause-extends : goal.returns-then-branch-clause-extends
-returns-then-branch-clause-extends c = extends-then c.args.run.now.assignment.list.items c.work.run.assignment.list.items c.look.new.run.assignment.list.items (derives-extends (all_of c.args.store.now c.args.clauses.now) c.args.run.now.assignment.list.items c.work.run.assignment.list.items c.work.invariant.state.derived) c.look.ensures.extends
+returns-then-branch-clause-extends c = extends-then c.args.run.now.assignment.list.items c.work.run.assignment.list.items c.visit_form.new.run.assignment.list.items (derives-extends (all_of c.args.store.now c.args.clauses.now) c.args.run.now.assignment.list.items c.work.run.assignment.list.items c.work.invariant.state.derived) c.visit_form.ensures.extends
 
 pub returns-in_err-walk-clause-extends : goal.returns-in_err-walk-clause-extends
 returns-in_err-walk-clause-extends c = extends-then c.args.run.now.assignment.list.items c.work.run.assignment.list.items c.walk.new.run.assignment.list.items (derives-extends (all_of c.args.store.now c.args.clauses.now) c.args.run.now.assignment.list.items c.work.run.assignment.list.items c.work.invariant.state.derived) c.walk.ensures.extends

@@ -36,11 +36,11 @@ seat-requires-clause-absent c =
 
 pub returns-clause-rest : goal.returns-clause-rest
 returns-clause-rest c =
-    let told = c.in_ok-fill.ensures in
-    let h = told.filled in
+    let reported = c.in_ok-fill.ensures in
+    let h = reported.filled in
     let keep = c.args.store.now.kept.items in
     rw (forms-filled keep c.fill.new.store.kept.items h.kept c.args.slot (Some c.args.form) h.keeps h.form)
-    (rest-filled c.args.store.now c.fill.new.store c.args.run.now c.fill.new.run c.args.eager.now c.seat.new.eager c.args.clauses.now (forms_of keep) c.args.form c.args.slot told.sound c.requires.slot h
+    (rest-filled c.args.store.now c.fill.new.store c.args.run.now c.fill.new.run c.args.eager.now c.seat.new.eager c.args.clauses.now (forms_of keep) c.args.form c.args.slot reported.sound c.requires.slot h
     c.fill.ensures.variables c.fill.ensures.trail c.fill.ensures.rest c.in_ok-seat.ensures.list c.seat.ensures.seats c.requires.rest)
 
 pub returns-clause-forms : goal.returns-clause-forms
@@ -52,16 +52,16 @@ pub returns-in_err-fill-clause-refused : goal.returns-in_err-fill-clause-refused
 returns-in_err-fill-clause-refused c =
     let keep = c.args.store.now.kept.items in
     let now = c.fill.new.store.kept.items in
-    let told : (forms_of now ≡ forms_of keep) ⊎ (forms_of now ≡ set (forms_of keep) c.args.slot (Some c.args.form)) = inl (ap forms_of c.in_err-fill.ensures.unchanged) in
-    search (rules, told)
+    let reported : (forms_of now ≡ forms_of keep) ⊎ (forms_of now ≡ set (forms_of keep) c.args.slot (Some c.args.form)) = inl (ap forms_of c.in_err-fill.ensures.unchanged) in
+    search (rules, reported)
 
 pub returns-in_err-seat-clause-refused : goal.returns-in_err-seat-clause-refused
 returns-in_err-seat-clause-refused c =
     let h = c.in_ok-fill.ensures.filled in
     let keep = c.args.store.now.kept.items in
     let now = c.fill.new.store.kept.items in
-    let told : (forms_of now ≡ forms_of keep) ⊎ (forms_of now ≡ set (forms_of keep) c.args.slot (Some c.args.form)) = inr (forms-filled keep now h.kept c.args.slot (Some c.args.form) h.keeps h.form) in
-    search (rules, told)
+    let reported : (forms_of now ≡ forms_of keep) ⊎ (forms_of now ≡ set (forms_of keep) c.args.slot (Some c.args.form)) = inr (forms-filled keep now h.kept c.args.slot (Some c.args.form) h.keeps h.form) in
+    search (rules, reported)
 
 pub watch-requires-clause-slot : goal.watch-requires-clause-slot
 watch-requires-clause-slot c =
@@ -74,13 +74,13 @@ watch-requires-clause-empty c =
 
 pub returns-then-is_clause-clause-rest : goal.returns-then-is_clause-clause-rest
 returns-then-is_clause-clause-rest c =
-    let told = c.in_ok-watch.ensures in
-    let k = told.kept in
+    let reported = c.in_ok-watch.ensures in
+    let k = reported.kept in
     let rest = c.watch.ensures.rest in
     let keep = c.args.store.now.kept.items in
     rw (forms-filled keep c.watch.new.store.kept.items k.0 c.args.slot (Some c.args.form) k.3 k.1)
     (rest-watched c.args.store.now c.watch.new.store c.args.run.now c.args.eager.now c.args.clauses.now c.watch.new.clauses (forms_of keep) c.args.form k.0 c.args.slot c.requires.slot k.2 k.3
-    rest.0 rest.1 rest.2 (rw c.form.ensures at c.is_clause.ensures.normal) (rw c.form.ensures at (c.is_clause.ensures.yes c.if-is_clause.true)) told.ready told.literals told.lists c.requires.rest)
+    rest.0 rest.1 rest.2 (rw c.form.ensures at c.is_clause.ensures.normal) (rw c.form.ensures at (c.is_clause.ensures.yes c.if-is_clause.true)) reported.ready reported.literals reported.lists c.requires.rest)
 
 pub returns-then-is_clause-clause-forms : goal.returns-then-is_clause-clause-forms
 returns-then-is_clause-clause-forms c =
@@ -91,8 +91,8 @@ pub returns-in_err-watch-clause-refused : goal.returns-in_err-watch-clause-refus
 returns-in_err-watch-clause-refused c =
     let keep = c.args.store.now.kept.items in
     let now = c.watch.new.store.kept.items in
-    let told : (forms_of now ≡ forms_of keep) ⊎ (forms_of now ≡ set (forms_of keep) c.args.slot (Some c.args.form)) = inl (ap forms_of c.in_err-watch.ensures.unchanged) in
-    search (rules, told)
+    let reported : (forms_of now ≡ forms_of keep) ⊎ (forms_of now ≡ set (forms_of keep) c.args.slot (Some c.args.form)) = inl (ap forms_of c.in_err-watch.ensures.unchanged) in
+    search (rules, reported)
 
 pub returns-clause-gained : goal.returns-clause-gained
 returns-clause-gained c =
@@ -104,7 +104,7 @@ returns-clause-gained c =
 pub returns-then-is_clause-clause-gained : goal.returns-then-is_clause-clause-gained
 returns-then-is_clause-clause-gained c =
     let store = c.args.store.now in
-    let told = c.in_ok-watch.ensures in
-    let k = told.kept in
+    let reported = c.in_ok-watch.ensures in
+    let k = reported.kept in
     let vacant = slots-vacant (forms_of store.kept.items) (shapes_of store.kept.items) (clauses_of c.args.clauses.now) c.args.slot c.requires.rest.slots c.requires.slot in
-    gained-filled store c.watch.new.store c.args.clauses.now c.watch.new.clauses c.args.slot k.0 c.watch.ensures.rest.2 k.3 (λ s apart. ap (λ (cs : List (List ℕ)). list_at cs s) told.literals ∙ get_or-set_other (clauses_of c.args.clauses.now) c.args.slot s (map code c.args.form.terms) [] apart) told.watches vacant
+    gained-filled store c.watch.new.store c.args.clauses.now c.watch.new.clauses c.args.slot k.0 c.watch.ensures.rest.2 k.3 (λ s apart. ap (λ (cs : List (List ℕ)). list_at cs s) reported.literals ∙ get_or-set_other (clauses_of c.args.clauses.now) c.args.slot s (map code c.args.form.terms) [] apart) reported.watches vacant

@@ -10,11 +10,11 @@ use Rattle.pb_replay.proofs.propagate.slots.vacancy.Goals as goal
 
 pub returns-clause-rest : goal.returns-clause-rest
 returns-clause-rest c =
-    let told = c.in_ok-widen.ensures in
-    let k = told.kept in
+    let reported = c.in_ok-widen.ensures in
+    let k = reported.kept in
     let forms = forms_of c.args.store.now.kept.items in
     rw (forms-widened c.args.store.now.kept.items c.widen.new.store.kept.items k.0 k.2 k.1.form)
-    (rest-widened c.args.store.now c.widen.new.store c.args.run.now c.widen.new.run c.args.eager.now c.widen-2.new.self c.args.clauses.now c.extend.new.self forms k.0 told.sound k.1 k.2 told.opens told.candidates
+    (rest-widened c.args.store.now c.widen.new.store c.args.run.now c.widen.new.run c.args.eager.now c.widen-2.new.self c.args.clauses.now c.extend.new.self forms k.0 reported.sound k.1 k.2 reported.opens reported.candidates
     c.widen.ensures.variables c.widen.ensures.trail c.widen.ensures.rest c.widen-2.ensures.list c.in_ok-widen-2.ensures.seats c.in_ok-extend.ensures.rest c.in_ok-extend.ensures.literals c.extend.ensures.lists c.requires.rest)
 
 pub returns-clause-slot : goal.returns-clause-slot

@@ -106,27 +106,27 @@ watches-preserved c =
     let inside : c.watches.index < length (list_at (lists_of c.watches.clauses.lists.items) c.args.literal) = omega (arith, c.watches-test.true, c.watch_count.ensures) in
     let found = subst (HasFound c.watches.run.assignment.values.items c.watches.clauses c.visit_clause.new.clauses c.args.literal c.watches.index) c.in-Forces.is (subst (λ vs. HasFound vs c.watches.clauses c.visit_clause.new.clauses c.args.literal c.watches.index c.in_ok-visit_clause.field-0) c.as_slice.ensures.value c.in_ok-visit_clause.ensures.found) in
     let i = c.watches.invariant in
-    let told = c.in_ok-put-in-Forces.ensures in
+    let reported = c.in_ok-put-in-Forces.ensures in
     let done = c.put.new.run in
-    let listed = told.list ∙ ap (λ k. c.watches.run.assignment.list.items ++ (k ∷ [])) c.literal_of.ensures in
-    let paid = told.paid in
-    let same = ap (λ (v : Vec ℕ Global). sum v.items) told.candidates in
+    let listed = reported.list ∙ ap (λ k. c.watches.run.assignment.list.items ++ (k ∷ [])) c.literal_of.ensures in
+    let paid = reported.paid in
+    let same = ap (λ (v : Vec ℕ Global). sum v.items) reported.candidates in
     record {
       walking = walking-forces shapes lists c.args.clauses.now c.watches.clauses c.visit_clause.new.clauses c.args.run.now.assignment.values.items values done.assignment.values.items c.args.run.now.assignment.list.items c.watches.run.assignment.list.items done.assignment.list.items c.args.literal c.watches.index c.args.run.now.visits c.watches.run.visits c.visit_clause.new.visits done.visits c.in-Forces.code c.requires.joined
           c.in_ok-visit_clause.ensures.literals c.in_ok-visit_clause.ensures.lists (subst (λ vs. IsRunning vs c.visit_clause.new.clauses) c.as_slice.ensures.value c.in_ok-visit_clause.ensures.running)
           (λ walked s. subst (λ r. AreServed c.watches.run.assignment.values.items c.visit_clause.new.clauses.watches.items walked c.args.literal (index_after c.watches.index r)) c.in-Forces.is (subst (λ vs. (xs : List ℕ) → AreServed vs c.watches.clauses.watches.items xs c.args.literal c.watches.index → AreServed vs c.visit_clause.new.clauses.watches.items xs c.args.literal (index_after c.watches.index c.in_ok-visit_clause.field-0)) c.as_slice.ensures.value c.in_ok-visit_clause.ensures.served walked s))
           inside found.0 found.1 found.2 c.in_ok-visit_clause.ensures.covered c.in_ok-visit_clause.ensures.visited c.in_ok-visit_clause.ensures.rising
-          (omega (arith, paid.upper, same)) paid.rising told.values listed c.watches.run.assignment.agrees done.assignment.agrees w;
-      values = told.values ∙ i.values;
-      opens = told.opens ∙ i.opens;
-      candidates = told.candidates ∙ i.candidates;
-      next = told.next ∙ i.next;
-      longer = omega (arith, i.longer, told.longer_work);
-      single = λ s. told.single (i.single s);
+          (omega (arith, paid.upper, same)) paid.rising reported.values listed c.watches.run.assignment.agrees done.assignment.agrees w;
+      values = reported.values ∙ i.values;
+      opens = reported.opens ∙ i.opens;
+      candidates = reported.candidates ∙ i.candidates;
+      next = reported.next ∙ i.next;
+      longer = omega (arith, i.longer, reported.longer_work);
+      single = λ s. reported.single (i.single s);
       extends = extends-then c.args.run.now.assignment.list.items c.watches.run.assignment.list.items c.put.new.run.assignment.list.items c.watches.invariant.extends c.put.ensures.extends;
       kept = λ base codes more old. (subst (λ vs. (b : List (Option Bool)) (cs : List ℕ) → Grows b vs → AreWalked b c.watches.clauses.watches.items cs → AreWalked b c.visit_clause.new.clauses.watches.items cs) c.as_slice.ensures.value c.in_ok-visit_clause.ensures.kept) base codes (grows-trans base c.args.run.now.assignment.values.items c.watches.run.assignment.values.items more c.watches.invariant.walking.grows) (c.watches.invariant.kept base codes more old);
-      counted = told.counted c.if-branch.false;
-      tidy = λ aside busy t. told.tidy aside busy (i.tidy aside busy t);
+      counted = reported.counted c.if-branch.false;
+      tidy = λ aside busy t. reported.tidy aside busy (i.tidy aside busy t);
       work = omega (arith, i.work, paid.work);
     }
 
@@ -157,16 +157,16 @@ forced c =
     let inside : c.watches.index < length (list_at (lists_of c.watches.clauses.lists.items) c.args.literal) = omega (arith, c.watches-test.true, c.watch_count.ensures) in
     let found = subst (HasFound c.watches.run.assignment.values.items c.watches.clauses c.visit_clause.new.clauses c.args.literal c.watches.index) c.in-Forces.is (subst (λ vs. HasFound vs c.watches.clauses c.visit_clause.new.clauses c.args.literal c.watches.index c.in_ok-visit_clause.field-0) c.as_slice.ensures.value c.in_ok-visit_clause.ensures.found) in
     let i = c.watches.invariant in
-    let told = c.in_ok-put-in-Forces.ensures in
+    let reported = c.in_ok-put-in-Forces.ensures in
     let done = c.put.new.run in
-    let listed = told.list ∙ ap (λ k. c.watches.run.assignment.list.items ++ (k ∷ [])) c.literal_of.ensures in
-    let paid = told.paid in
-    let same = ap (λ (v : Vec ℕ Global). sum v.items) told.candidates in
+    let listed = reported.list ∙ ap (λ k. c.watches.run.assignment.list.items ++ (k ∷ [])) c.literal_of.ensures in
+    let paid = reported.paid in
+    let same = ap (λ (v : Vec ℕ Global). sum v.items) reported.candidates in
     walking-forces shapes lists c.args.clauses.now c.watches.clauses c.visit_clause.new.clauses c.args.run.now.assignment.values.items values done.assignment.values.items c.args.run.now.assignment.list.items c.watches.run.assignment.list.items done.assignment.list.items c.args.literal c.watches.index c.args.run.now.visits c.watches.run.visits c.visit_clause.new.visits done.visits c.in-Forces.code c.requires.joined
     c.in_ok-visit_clause.ensures.literals c.in_ok-visit_clause.ensures.lists (subst (λ vs. IsRunning vs c.visit_clause.new.clauses) c.as_slice.ensures.value c.in_ok-visit_clause.ensures.running)
     (λ walked s. subst (λ r. AreServed c.watches.run.assignment.values.items c.visit_clause.new.clauses.watches.items walked c.args.literal (index_after c.watches.index r)) c.in-Forces.is (subst (λ vs. (xs : List ℕ) → AreServed vs c.watches.clauses.watches.items xs c.args.literal c.watches.index → AreServed vs c.visit_clause.new.clauses.watches.items xs c.args.literal (index_after c.watches.index c.in_ok-visit_clause.field-0)) c.as_slice.ensures.value c.in_ok-visit_clause.ensures.served walked s))
     inside found.0 found.1 found.2 c.in_ok-visit_clause.ensures.covered c.in_ok-visit_clause.ensures.visited c.in_ok-visit_clause.ensures.rising
-    (omega (arith, paid.upper, same)) paid.rising told.values listed c.watches.run.assignment.agrees done.assignment.agrees w
+    (omega (arith, paid.upper, same)) paid.rising reported.values listed c.watches.run.assignment.agrees done.assignment.agrees w
 
 pub returns-then-branch-clause-running : goal.returns-then-branch-clause-running
 returns-then-branch-clause-running c = (forced c).running

@@ -1,6 +1,6 @@
 use Rattle.std.specs.Prelude.{None}
 use Rattle.std.proofs.Common.{◌≡◌, inl, inr, refl, rules}
-use Rattle.pb_replay.specs.contract.Kept.{state_of}
+use Rattle.pb_replay.specs.contract.ReplayModel.{state_of}
 use Rattle.pb_replay.proofs.lemmas.rules.Ready.{kept-ok, kept-err, step-ok, step-err, step-unvalued}
 use Rattle.pb_replay.proofs.replay.Replay.step.Goals as goal
 
@@ -23,8 +23,8 @@ returns-in-Ok-clause-steps c = λ free_before.
       free,
     )
 
-pub returns-in-Ok-clause-looks : goal.returns-in-Ok-clause-looks
-returns-in-Ok-clause-looks c = λ free_before. rw (← c.self.view_is) (rw c.in-Ok.is at c.take.ensures.looks)
+pub returns-in-Ok-clause-visits_made : goal.returns-in-Ok-clause-visits_made
+returns-in-Ok-clause-visits_made c = λ free_before. rw (← c.self.view_is) (rw c.in-Ok.is at c.take.ensures.visits_made)
 
 pub returns-in-Err-clause-steps : goal.returns-in-Err-clause-steps
 returns-in-Err-clause-steps c = λ free_before.

@@ -9,13 +9,13 @@ loop-form-preserved c =
     let i = c.loop-form.invariant in
     let k = c.loop-form.form-index in
     let forms = c.args.forms.now in
-    let told = c.in_ok-insert.ensures in
+    let reported = c.in_ok-insert.ensures in
     let some : Form → Option Form = λ f. Some f in (
-      told.forms ∙ ap (λ (xs : List (Option Form)). xs ++ (Some c.in_ok-shared.shared ∷ [])) i.0
+      reported.forms ∙ ap (λ (xs : List (Option Form)). xs ++ (Some c.in_ok-shared.shared ∷ [])) i.0
           ∙ ap (λ (g : Form). map some (take k forms) ++ (Some g ∷ [])) (c.in_ok-shared.ensures ∙ c.form-item.is)
           ∙ sym (map_more some forms k c.form-item.result c.loop-form-test.true),
-      told.variables ∙ i.1,
-      told.ready,
+      reported.variables ∙ i.1,
+      reported.ready,
     )
 
 pub returns-clause-forms : goal.returns-clause-forms

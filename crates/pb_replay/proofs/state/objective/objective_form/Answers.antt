@@ -5,17 +5,17 @@ use Rattle.std.proofs.lemmas.Int.{to_z-of_z}
 use Rattle.pb_sums.specs.declared.Linear.{Linear}
 use Rattle.pb_normal.specs.meaning.Written.{names_of}
 use Rattle.pb_replay.proofs.lemmas.conclusions.Objectives.{unchanged, objective-made, objective-within}
-use Rattle.pb_replay.proofs.lemmas.rules.Rups.{fits_of, front_after}
+use Rattle.pb_replay.proofs.lemmas.rules.Rups.{fits_of, prefix_after}
 use Rattle.pb_replay.proofs.state.objective.objective_form.Goals as goal
 
 pub returns-in_err-form-clause-kept : goal.returns-in_err-form-clause-kept
 returns-in_err-form-clause-kept c =
     let some = c.in_err-form.ensures.err in
-    record { limits = refl; own = refl; loaded = refl; objective = sym (ap (option_map (λ (x : Linear). x.terms)) c.in-Some.is); names = front_after c.args.running.now.names c.from_linear.new.names (take some.0 (names_of c.in-Some.linear.terms)) some.1 }
+    record { limits = refl; own = refl; loaded = refl; objective = sym (ap (option_map (λ (x : Linear). x.terms)) c.in-Some.is); names = prefix_after c.args.running.now.names c.from_linear.new.names (take some.0 (names_of c.in-Some.linear.terms)) some.1 }
 
 pub returns-clause-kept : goal.returns-clause-kept
 returns-clause-kept c =
-    record { limits = refl; own = refl; loaded = refl; objective = sym (ap (option_map (λ (x : Linear). x.terms)) c.in-Some.is); names = front_after c.args.running.now.names c.from_linear.new.names (names_of c.in-Some.linear.terms) c.in_ok-form.ensures.names }
+    record { limits = refl; own = refl; loaded = refl; objective = sym (ap (option_map (λ (x : Linear). x.terms)) c.in-Some.is); names = prefix_after c.args.running.now.names c.from_linear.new.names (names_of c.in-Some.linear.terms) c.in_ok-form.ensures.names }
 
 pub returns-clause-names : goal.returns-clause-names
 returns-clause-names c = unchanged c.args.running.now c.in-Some.linear c.from_linear.new.names c.requires c.in-Some.is c.in_ok-form.ensures.names

@@ -1,5 +1,5 @@
 use Rattle.std.specs.Int.{w128}
-use Rattle.pb_replay.specs.contract.Kept.{problem_of}
+use Rattle.pb_replay.specs.contract.ReplayModel.{problem_of}
 use Rattle.std.proofs.Common.{inr, ◌∙◌, FitsSigned}
 use Rattle.std.proofs.lemmas.Int.{fits_signed_from_abs, to_z-of_z}
 use Rattle.pb_replay.proofs.lemmas.solutions.Solved.{judged-ok, judged-err}

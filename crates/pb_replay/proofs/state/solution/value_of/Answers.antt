@@ -6,7 +6,7 @@ use Rattle.pb_normal.specs.meaning.Names.{number_in}
 use Rattle.pb_normal.specs.meaning.Rules.{assignment}
 use Rattle.pb_normal.specs.meaning.Written.{true_sum}
 use Rattle.pb_replay.specs.meaning.Replay.{by_name}
-use Rattle.pb_replay.proofs.lemmas.solutions.Values.{has-one, inside-one, next-fits, next-small, sum-more, magnitude-front, magnitude-more}
+use Rattle.pb_replay.proofs.lemmas.solutions.Values.{has-one, inside-one, next-fits, next-small, sum-more, magnitude-prefix, magnitude-more}
 use Rattle.pb_replay.proofs.state.solution.value_of.Goals as goal
 
 pub part_of-sum-requires-clause-named : goal.part_of-sum-requires-clause-named
@@ -19,14 +19,14 @@ pub overflow_add-sum : goal.overflow_add-sum
 overflow_add-sum c =
     let t = c.term-item.result in
     let more = magnitude-more c.args.terms.now c.loop-term.term-index t c.loop-term-test.true c.term-item.is in
-    let part : FitsSigned w128 c.part_of-sum.result = fits_signed_from_abs w128 c.part_of-sum.result (omega (arith, c.part_of-sum.ensures.small, more, magnitude-front c.args.terms.now (c.loop-term.term-index + 1), c.requires.small)) in
+    let part : FitsSigned w128 c.part_of-sum.result = fits_signed_from_abs w128 c.part_of-sum.result (omega (arith, c.part_of-sum.ensures.small, more, magnitude-prefix c.args.terms.now (c.loop-term.term-index + 1), c.requires.small)) in
     rw (to_z-of_z w128 c.part_of-sum.result part) (next-fits c.args.terms.now c.loop-term.term-index t c.loop-term-test.true c.term-item.is (to_z w128 c.loop-term.sum-bits) c.part_of-sum.result (c.loop-term.invariant).1 c.part_of-sum.ensures.small c.requires.small)
 
 pub loop-term-preserved : goal.loop-term-preserved
 loop-term-preserved c =
     let t = c.term-item.result in
     let more = magnitude-more c.args.terms.now c.loop-term.term-index t c.loop-term-test.true c.term-item.is in
-    let part : FitsSigned w128 c.part_of-sum.result = fits_signed_from_abs w128 c.part_of-sum.result (omega (arith, c.part_of-sum.ensures.small, more, magnitude-front c.args.terms.now (c.loop-term.term-index + 1), c.requires.small)) in
+    let part : FitsSigned w128 c.part_of-sum.result = fits_signed_from_abs w128 c.part_of-sum.result (omega (arith, c.part_of-sum.ensures.small, more, magnitude-prefix c.args.terms.now (c.loop-term.term-index + 1), c.requires.small)) in
     let whole = next-fits c.args.terms.now c.loop-term.term-index t c.loop-term-test.true c.term-item.is (to_z w128 c.loop-term.sum-bits) c.part_of-sum.result (c.loop-term.invariant).1 c.part_of-sum.ensures.small c.requires.small in
     rw (to_z-of_z w128 c.part_of-sum.result part, to_z-of_z w128 (to_z w128 c.loop-term.sum-bits +ℤ c.part_of-sum.result) whole) (
       ap (λ (z : ℤ). z +ℤ c.part_of-sum.result) (c.loop-term.invariant).0 ∙ ap (λ (z : ℤ). true_sum (by_name c.args.names.now (assignment c.args.values.now)) (take c.loop-term.term-index c.args.terms.now) +ℤ z) c.part_of-sum.ensures.part

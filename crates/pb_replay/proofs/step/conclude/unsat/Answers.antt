@@ -1,5 +1,5 @@
 use Rattle.std.proofs.Common.{inr, refl}
-use Rattle.pb_replay.specs.contract.Kept.{state_of}
+use Rattle.pb_replay.specs.contract.ReplayModel.{state_of}
 use Rattle.pb_replay.proofs.lemmas.conclusions.Bounding.{left-then, left-stop}
 use Rattle.pb_replay.proofs.step.conclude.unsat.Goals as goal
 

@@ -9,7 +9,7 @@ expressed-made-requires-clause-named c =
 
 pub add_shared-requires-clause-inside : goal.add_shared-requires-clause-inside
 add_shared-requires-clause-inside c =
-    pol-inside c.args.running.now c.number_words.new.names c.widen.new.engine.forms _ c.as_slice-2.result.now c.in-Ok.form c.requires.ready.linked c.in_default.ensures.front c.in_ok-widen.ensures.forms
+    pol-inside c.args.running.now c.number_words.new.names c.widen.new.engine.forms _ c.as_slice-2.result.now c.in-Ok.form c.requires.ready.linked c.in_default.ensures.prefix c.in_ok-widen.ensures.forms
     (words_named _ _ _ _ c.args.words.now c.in_default.ensures.names c.as_slice.ensures c.as_slice-2.ensures) c.in-Ok.ensures.ok
 
 pub returns-in-Ok-clause-goes : goal.returns-in-Ok-clause-goes

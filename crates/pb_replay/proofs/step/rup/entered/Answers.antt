@@ -1,24 +1,24 @@
 use Rattle.std.proofs.Common.{refl, take, arith, ◌∙◌}
 use Rattle.pb_normal.specs.meaning.Written.{names_of}
 use Rattle.pb_replay.proofs.lemmas.rules.Linked.{grown, linked-wider}
-use Rattle.pb_replay.proofs.lemmas.rules.Rups.{fits_of, front_after}
+use Rattle.pb_replay.proofs.lemmas.rules.Rups.{fits_of, prefix_after}
 use Rattle.pb_replay.proofs.step.rup.entered.Goals as goal
 
 pub returns-in_err-form-clause-kept : goal.returns-in_err-form-clause-kept
 returns-in_err-form-clause-kept c =
     let some = c.in_err-form.ensures.err in
-    record { limits = refl; own = refl; loaded = refl; objective = refl; names = front_after c.args.running.now.names c.from_linear.new.names (take some.0 (names_of c.args.linear.now.terms)) some.1 }
+    record { limits = refl; own = refl; loaded = refl; objective = refl; names = prefix_after c.args.running.now.names c.from_linear.new.names (take some.0 (names_of c.args.linear.now.terms)) some.1 }
 
 pub widen-requires-clause-to : goal.widen-requires-clause-to
 widen-requires-clause-to c = omega (arith, c.len-before.ensures.length, c.len.ensures.length, grown c.args.running.now.names c.from_linear.new.names (names_of c.args.linear.now.terms) c.in_ok-form.ensures.names)
 
 pub returns-in_err-widen-clause-kept : goal.returns-in_err-widen-clause-kept
 returns-in_err-widen-clause-kept c =
-    record { limits = refl; own = refl; loaded = refl; objective = refl; names = front_after _ _ (names_of c.args.linear.now.terms) c.in_ok-form.ensures.names }
+    record { limits = refl; own = refl; loaded = refl; objective = refl; names = prefix_after _ _ (names_of c.args.linear.now.terms) c.in_ok-form.ensures.names }
 
 pub returns-clause-kept : goal.returns-clause-kept
 returns-clause-kept c =
-    record { limits = refl; own = refl; loaded = refl; objective = refl; names = front_after _ _ (names_of c.args.linear.now.terms) c.in_ok-form.ensures.names }
+    record { limits = refl; own = refl; loaded = refl; objective = refl; names = prefix_after _ _ (names_of c.args.linear.now.terms) c.in_ok-form.ensures.names }
 
 pub returns-clause-fits : goal.returns-clause-fits
 returns-clause-fits c = fits_of _ _ _ _ c.in_ok-form.was c.from_linear.ensures.overflow

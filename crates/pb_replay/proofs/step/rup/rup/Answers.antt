@@ -1,13 +1,13 @@
 use Rattle.std.proofs.Common.{refl, rules, ◌∙◌}
-use Rattle.pb_replay.proofs.lemmas.rules.Looked.{looks-judged, looks-memory, looks-none}
+use Rattle.pb_replay.proofs.lemmas.rules.VisitCounts.{visits-judged, visits-memory, visits-none}
 use Rattle.pb_replay.proofs.lemmas.rules.Rups.{keeps_then, rup_judged, rup_unmade, unmade, unmade-fits}
 use Rattle.pb_replay.proofs.step.rup.rup.Goals as goal
 
 pub returns-in_err-form-clause-goes : goal.returns-in_err-form-clause-goes
 returns-in_err-form-clause-goes c = rup_unmade c.args.running.now c.args.linear.now _ c.entered.new.running _ (search rules) (unmade _ c.in_err-form.ensures.err)
 
-pub returns-in_err-form-clause-looks : goal.returns-in_err-form-clause-looks
-returns-in_err-form-clause-looks c = looks-none c.args.linear.now _ _ _ _ c.entered.new.running.visits (search rules) (c.entered.ensures.visits ∙ c.requires.visits) (unmade _ c.in_err-form.ensures.err)
+pub returns-in_err-form-clause-visits_made : goal.returns-in_err-form-clause-visits_made
+returns-in_err-form-clause-visits_made c = visits-none c.args.linear.now _ _ _ _ c.entered.new.running.visits (search rules) (c.entered.ensures.visits ∙ c.requires.visits) (unmade _ c.in_err-form.ensures.err)
 
 pub returns-in_err-form-clause-memory : goal.returns-in_err-form-clause-memory
 returns-in_err-form-clause-memory c memory = unmade-fits _ _ (search rules) memory c.in_err-form.ensures.err
@@ -27,21 +27,21 @@ returns-clause-kept c = keeps_then _ _ _ (keeps_then _ _ _ c.entered.ensures.kep
 pub returns-clause-goes : goal.returns-clause-goes
 returns-clause-goes c =
     let named = c.in_ok-form.ensures.named in
-    let told = c.in_ok-implied.ensures in
-    let same = told.same in
+    let reported = c.in_ok-implied.ensures in
+    let same = reported.same in
     rup_judged c.args.running.now c.args.linear.now c.entered.new.running.names c.in_ok-form.form named.names c.in_ok-form.ensures.fits c.in_ok-form.ensures.form
     c.is_implied.new.running c.judge.result c.judge.new.running same.names (same.forms ∙ named.forms) (c.is_implied.ensures.kept.limits ∙ c.entered.ensures.kept.limits) (same.next ∙ named.next) (same.concluded ∙ named.concluded) (c.judge.ensures.best ∙ same.best ∙ named.best)
-    c.in_ok-implied.implied (rw named.forms at told.implied) (rw named.forms at told.not_implied) c.judge.ensures.added c.judge.ensures.refused
+    c.in_ok-implied.implied (rw named.forms at reported.implied) (rw named.forms at reported.not_implied) c.judge.ensures.added c.judge.ensures.refused
 
-pub returns-in_err-implied-clause-looks : goal.returns-in_err-implied-clause-looks
-returns-in_err-implied-clause-looks c =
+pub returns-in_err-implied-clause-visits_made : goal.returns-in_err-implied-clause-visits_made
+returns-in_err-implied-clause-visits_made c =
     let named = c.in_ok-form.ensures.named in
-    looks-memory c.args.linear.now c.entered.new.running.engine.forms c.args.running.now.engine.forms c.args.running.now.names c.entered.new.running.names c.in_ok-form.form c.is_implied.new.running.visits c.is_implied.new.running.visits named.forms named.names
+    visits-memory c.args.linear.now c.entered.new.running.engine.forms c.args.running.now.engine.forms c.args.running.now.names c.entered.new.running.names c.in_ok-form.form c.is_implied.new.running.visits c.is_implied.new.running.visits named.forms named.names
     c.in_ok-form.ensures.form c.is_implied.ensures.few c.is_implied.ensures.unasked refl _ (search rules)
 
-pub returns-clause-looks : goal.returns-clause-looks
-returns-clause-looks c =
+pub returns-clause-visits_made : goal.returns-clause-visits_made
+returns-clause-visits_made c =
     let named = c.in_ok-form.ensures.named in
-    let told = c.in_ok-implied.ensures in
-    looks-judged c.args.linear.now c.entered.new.running.engine.forms c.args.running.now.engine.forms c.args.running.now.names c.entered.new.running.names c.in_ok-form.form c.is_implied.new.running.visits c.judge.new.running.visits named.forms named.names
-    c.in_ok-form.ensures.form c.is_implied.ensures.few c.is_implied.ensures.unasked c.judge.ensures.visits c.is_implied.new.running c.judge.new.running c.judge.result c.in_ok-implied.implied told.conflict told.completion c.judge.ensures.added c.judge.ensures.refused
+    let reported = c.in_ok-implied.ensures in
+    visits-judged c.args.linear.now c.entered.new.running.engine.forms c.args.running.now.engine.forms c.args.running.now.names c.entered.new.running.names c.in_ok-form.form c.is_implied.new.running.visits c.judge.new.running.visits named.forms named.names
+    c.in_ok-form.ensures.form c.is_implied.ensures.few c.is_implied.ensures.unasked c.judge.ensures.visits c.is_implied.new.running c.judge.new.running c.judge.result c.in_ok-implied.implied reported.conflict reported.completion c.judge.ensures.added c.judge.ensures.refused

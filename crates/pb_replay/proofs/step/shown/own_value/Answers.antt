@@ -1,4 +1,4 @@
-use Rattle.pb_replay.specs.contract.Kept.{problem_of}
+use Rattle.pb_replay.specs.contract.ReplayModel.{problem_of}
 use Rattle.pb_replay.specs.meaning.Replay.{Live}
 use Rattle.pb_replay.proofs.lemmas.conclusions.Shows.{own-ok, own-err, own-conflict}
 use Rattle.pb_replay.proofs.lemmas.solutions.Solved.{completed-ok, completed-err}

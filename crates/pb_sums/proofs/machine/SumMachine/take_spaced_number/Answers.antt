@@ -10,11 +10,11 @@ pub returns-clause-runs : goal.returns-clause-runs
 returns-clause-runs c = rw (← c.self.view_is) (
     let none = none_there c.self.inside.name (ap (λ x. length x == 0) (sym c.as_bytes.ensures) ∙ (sym c.is_empty.ensures ∙ c.if-not-is_empty.false)) in
     let fits : SFits w128 c.in-Some.value = record { sfits = omega (arith, ints) } in
-    rw (none, c.behind_number-self-inside.ensures, c.role.ensures, to_z-of_z w128 c.in-Some.value fits)
+    rw (none, c.after_number-self-inside.ensures, c.role.ensures, to_z-of_z w128 c.in-Some.value fits)
     (c.in-Some.ensures.runs c.self.inside.spaces c.self.inside.part c.self.inside.terms)
     )
 
 pub returns-clause-state : goal.returns-clause-state
 returns-clause-state c =
     let none = none_there c.self.inside.name (ap (λ x. length x == 0) (sym c.as_bytes.ensures) ∙ (sym c.is_empty.ensures ∙ c.if-not-is_empty.false)) in
-    rw (none, c.behind_number-self-inside.ensures) (number_state c.self.inside.spaces c.self.inside.part c.self.inside.limit c.self.inside.terms c.role.result _)
+    rw (none, c.after_number-self-inside.ensures) (number_state c.self.inside.spaces c.self.inside.part c.self.inside.limit c.self.inside.terms c.role.result _)

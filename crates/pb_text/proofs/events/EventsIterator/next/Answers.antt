@@ -20,11 +20,11 @@ returns-clause-steps g c =
     record {
       stopped = λ stop e. cc (sym running ∙ e);
       done = λ e. let d = c.pull.ensures.done e running in (c.transpose.ensures ∙ ap result_transpose d.0, (d.1, d.2));
-      pulls = λ longest start input marks e s.
-          subst (λ (r : _). Pulls {g = g.M.Machine} longest start input marks f (g.S.Source.left before) r h (g.S.Source.left after) (g.S.Source.history before) (g.S.Source.history after)) (sym same)
-          (c.pull.ensures.pulls longest start input marks (subst IsOpen (sym running) tt) s);
-      row = λ longest start first marks p.
-          subst (λ (r : _). PullsOn {g = g.M.Machine} longest start first marks r h (g.S.Source.left after)) (sym same) (c.pull.ensures.row longest start first marks p);
+      pulls = λ longest start input spans e s.
+          subst (λ (r : _). Pulls {g = g.M.Machine} longest start input spans f (g.S.Source.left before) r h (g.S.Source.left after) (g.S.Source.history before) (g.S.Source.history after)) (sym same)
+          (c.pull.ensures.pulls longest start input spans (subst IsOpen (sym running) tt) s);
+      row = λ longest start first spans p.
+          subst (λ (r : _). PullsOn {g = g.M.Machine} longest start first spans r h (g.S.Source.left after)) (sym same) (c.pull.ensures.row longest start first spans p);
       stop = λ e. c.pull.ensures.stop ∙ sym (ap stop_of same);
       last = λ e n. c.pull.ensures.last (none_pulled c.pull.result (sym c.transpose.ensures ∙ n));
       onward = λ event e. c.pull.ensures.onward event (event_pulled c.pull.result event (sym c.transpose.ensures ∙ e));

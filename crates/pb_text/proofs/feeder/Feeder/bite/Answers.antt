@@ -4,17 +4,17 @@ use Rattle.pb_text.proofs.lemmas.text.Spans.{one_further}
 use Rattle.pb_text.proofs.feeder.Feeder.bite.Goals as goal
 
 pub returns-then-used-piece-clause-stands : goal.returns-then-used-piece-clause-stands
-returns-then-used-piece-clause-stands g c longest start input marks s = rw append-nil (c.run-used.ensures.stands longest start input marks s)
+returns-then-used-piece-clause-stands g c longest start input spans s = rw append-nil (c.run-used.ensures.stands longest start input spans s)
 
 pub returns-in-Some-clause-stands : goal.returns-in-Some-clause-stands
-returns-in-Some-clause-stands g c longest start input marks s =
+returns-in-Some-clause-stands g c longest start input spans s =
     let piece = c.args.piece.now in
     let i = c.run-used.result in
-    let k = c.in-Some.ensures.stands longest start (input ++ take i piece) marks (c.run-used.ensures.stands longest start input marks s) in
-    rw c.with_event.ensures (subst (λ (x : List ℕ). StandsAt longest start x (marks ++ c.in-Some.event ∷ []) c.closes.new.self) (one_further input piece i (omega (arith, c.run-used.ensures.bound, c.if-used-piece.false))) k)
+    let k = c.in-Some.ensures.stands longest start (input ++ take i piece) spans (c.run-used.ensures.stands longest start input spans s) in
+    rw c.with_event.ensures (subst (λ (x : List ℕ). StandsAt longest start x (spans ++ c.in-Some.event ∷ []) c.closes.new.self) (one_further input piece i (omega (arith, c.run-used.ensures.bound, c.if-used-piece.false))) k)
 
 pub returns-in-None-clause-stands : goal.returns-in-None-clause-stands
-returns-in-None-clause-stands g c longest start input marks s =
+returns-in-None-clause-stands g c longest start input spans s =
     let i = c.run-used.result in
-    let k = c.in-None.ensures.stands longest start (input ++ take i c.args.piece.now) marks (c.run-used.ensures.stands longest start input marks s) in
-    subst (λ (x : List ℕ). StandsAt longest start x (marks ++ []) c.closes.new.self) (append-nil (input ++ take i c.args.piece.now)) k
+    let k = c.in-None.ensures.stands longest start (input ++ take i c.args.piece.now) spans (c.run-used.ensures.stands longest start input spans s) in
+    subst (λ (x : List ℕ). StandsAt longest start x (spans ++ []) c.closes.new.self) (append-nil (input ++ take i c.args.piece.now)) k

@@ -22,9 +22,9 @@ at_place piece old new i is h = let same : new - old ≡ i = omega (arith, is) i
 
 pub returns-in-Some-clause-feeds : goal.returns-in-Some-clause-feeds
 returns-in-Some-clause-feeds g c = (
-  λ longest start input marks counts s.
+  λ longest start input spans counts s.
       let f = c.args.self.now in
-      let k = stands_more g.M.Machine.automaton longest start f.machine input marks f.place f.first c.args.piece.now f.stop counts (λ e. cc) s.1 in
+      let k = stands_more g.M.Machine.automaton longest start f.machine input spans f.place f.first c.args.piece.now f.stop counts (λ e. cc) s.1 in
       (s.0, rw append-nil k),
   λ k. k,
   λ k. k,
@@ -33,13 +33,13 @@ returns-in-Some-clause-feeds g c = (
 
 pub returns-in-Err-clause-feeds : goal.returns-in-Err-clause-feeds
 returns-in-Err-clause-feeds g c = (
-  λ longest start input marks counts s.
+  λ longest start input spans counts s.
       let t = rw c.in-Err.is at c.take.ensures in
       let n = c.take.new.self in
-      let k = t.stands longest start (input ++ take c.loop-used.used c.args.piece.now) marks (c.loop-used.invariant.stands longest start input marks s) in
-      let m = stands_more g.M.Machine.automaton longest start n.machine _ (marks ++ []) n.place n.first (drop (c.loop-used.used + 1) c.args.piece.now) n.stop t.counted (λ e. cc t.stop) k.1 in (
+      let k = t.stands longest start (input ++ take c.loop-used.used c.args.piece.now) spans (c.loop-used.invariant.stands longest start input spans s) in
+      let m = stands_more g.M.Machine.automaton longest start n.machine _ (spans ++ []) n.place n.first (drop (c.loop-used.used + 1) c.args.piece.now) n.stop t.counted (λ e. cc t.stop) k.1 in (
         k.0,
-        subst (λ (x : List ℕ). Stands g.M.Machine.automaton longest start x (marks ++ []) n.machine n.place n.first n.stop)
+        subst (λ (x : List ℕ). Stands g.M.Machine.automaton longest start x (spans ++ []) n.machine n.place n.first n.stop)
             (whole input c.args.piece.now c.loop-used.used c.loop-used-test.true) m,
       ),
   λ k. c.take.ensures.counted,
@@ -59,11 +59,11 @@ returns-in-Err-clause-memory g c running =
 
 pub returns-in-Ok-Some-clause-feeds : goal.returns-in-Ok-Some-clause-feeds
 returns-in-Ok-Some-clause-feeds g c = rw c.with_event.ensures (
-  λ longest start input marks counts s.
+  λ longest start input spans counts s.
       let t = rw (c.in-Ok-Some.is, c.in-Ok-Some.field-0-is) at c.take.ensures in
       let n = c.take.new.self in
-      let k = t.stands longest start (input ++ take c.loop-used.used c.args.piece.now) marks (c.loop-used.invariant.stands longest start input marks s) in
-      subst (λ (x : List ℕ). StandsAt longest start x (marks ++ c.in-Ok-Some.event ∷ []) n)
+      let k = t.stands longest start (input ++ take c.loop-used.used c.args.piece.now) spans (c.loop-used.invariant.stands longest start input spans s) in
+      subst (λ (x : List ℕ). StandsAt longest start x (spans ++ c.in-Ok-Some.event ∷ []) n)
       (one_further input c.args.piece.now c.loop-used.used c.loop-used-test.true) k,
   λ k. c.take.ensures.counted,
   λ k. let t = rw (c.in-Ok-Some.is, c.in-Ok-Some.field-0-is) at c.take.ensures in rw t.stop tt,
@@ -82,13 +82,13 @@ loop-used-preserved g c =
       state = r.ensures.state;
       bound = omega (arith, r.ensures.bound, length-drop (i + 1) piece, c.loop-used-test.true);
       offset = omega (arith, r.ensures.offset, t.offset, c.loop-used.invariant.offset);
-      stands = λ longest start input marks s.
-          let k = t.stands longest start (input ++ take i piece) marks (c.loop-used.invariant.stands longest start input marks s) in
-          let m : StandsAt longest start (input ++ take (i + 1) piece) marks c.take.new.self = subst (λ (x : List ℕ). StandsAt longest start x marks c.take.new.self) (one_further input piece i c.loop-used-test.true) (rw append-nil at k) in
-          let n = r.ensures.stands longest start (input ++ take (i + 1) piece) marks m in
+      stands = λ longest start input spans s.
+          let k = t.stands longest start (input ++ take i piece) spans (c.loop-used.invariant.stands longest start input spans s) in
+          let m : StandsAt longest start (input ++ take (i + 1) piece) spans c.take.new.self = subst (λ (x : List ℕ). StandsAt longest start x spans c.take.new.self) (one_further input piece i c.loop-used-test.true) (rw append-nil at k) in
+          let n = r.ensures.stands longest start (input ++ take (i + 1) piece) spans m in
           let fits : r.result ≤ length piece - (i + 1) = omega (arith, r.ensures.bound, length-take (length piece - (i + 1)) (drop (i + 1) piece)) in
           let all = ap (λ (x : List ℕ). (input ++ take (i + 1) piece) ++ x) (take-take r.result (length piece - (i + 1)) (drop (i + 1) piece) fits) in
-          subst (λ (x : List ℕ). StandsAt longest start x marks r.new.self) (all ∙ further input piece (i + 1) r.result) n;
+          subst (λ (x : List ℕ). StandsAt longest start x spans r.new.self) (all ∙ further input piece (i + 1) r.result) n;
     }
 
 all_of : (piece : List ℕ) (i : ℕ) → i ≡ length piece → take i piece ≡ piece
@@ -96,10 +96,10 @@ all_of piece i e = ap (λ (k : ℕ). take k piece) e ∙ take-length piece
 
 pub returns-clause-feeds : goal.returns-clause-feeds
 returns-clause-feeds g c = (
-  λ longest start input marks counts s.
-      let k = c.loop-used.invariant.stands longest start input marks s in
+  λ longest start input spans counts s.
+      let k = c.loop-used.invariant.stands longest start input spans s in
       let whole : take c.loop-used.used c.args.piece.now ≡ c.args.piece.now = all_of c.args.piece.now c.loop-used.used (omega (arith, c.loop-used.invariant.bound, c.loop-used-test.false)) in
-      rw append-nil (subst (λ (x : List ℕ). StandsAt longest start (input ++ x) marks c.loop-used.self) whole k),
+      rw append-nil (subst (λ (x : List ℕ). StandsAt longest start (input ++ x) spans c.loop-used.self) whole k),
   λ k. rw c.loop-used.invariant.running tt,
   λ k. rw c.loop-used.invariant.running tt,
   c.loop-used.invariant.offset,

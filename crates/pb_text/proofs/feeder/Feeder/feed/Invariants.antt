@@ -12,7 +12,7 @@ invariant-loop-used g l = record {
   state : IsState g.M.Machine.automaton l.self.machine;
   bound : l.used ≤ length l.piece;
   offset : l.self.place.offset ≡ l.fn.self.place.offset + l.used;
-  stands : (longest : ℕ) (start : _) (input : List ℕ) (marks : List (Spanned _)) → StandsAt longest start input marks l.fn.self → StandsAt longest start (input ++ take l.used l.piece) marks l.self;
+  stands : (longest : ℕ) (start : _) (input : List ℕ) (spans : List (Spanned _)) → StandsAt longest start input spans l.fn.self → StandsAt longest start (input ++ take l.used l.piece) spans l.self;
 }
 
 abbrev pub decreases-loop-used : goal.decreases-loop-used

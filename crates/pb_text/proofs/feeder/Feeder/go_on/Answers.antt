@@ -37,16 +37,16 @@ invariant_of-self g c =
     record { some = f.some; end_is = f.end_is; offset_in_range = q.0; line_in_range = q.1; column_in_range = q.2 }
 
 pub returns-clause-stands : goal.returns-clause-stands
-returns-clause-stands g c longest start input marks s =
+returns-clause-stands g c longest start input spans s =
     let f = c.args.self.now in
     let piece = c.args.piece.now in
     let used = c.run-used.result in
     let t = taken_are used (f.end - f.place.offset) piece (rw c.min.ensures at c.run-used.ensures.bound) in
     let text = take used piece in
-    let running : Stands g.M.Machine.automaton longest start input marks f.machine f.place f.first None = subst (λ (o : Option Stop). Stands g.M.Machine.automaton longest start input marks f.machine f.place f.first o) c.requires.running s.1 in
+    let running : Stands g.M.Machine.automaton longest start input spans f.machine f.place f.first None = subst (λ (o : Option Stop). Stands g.M.Machine.automaton longest start input spans f.machine f.place f.first o) c.requires.running s.1 in
     let runs : Runs g.M.Machine.automaton f.machine text c.run-used.new.self = rw (c.min.ensures, t.0) at c.run-used.ensures.runs in
     let fits : f.place.offset + length text ≤ end_of longest f.first = omega (arith, t.1, t.3, f.offset_in_range, f.end_is ∙ ap (λ (l : ℕ). end_of l f.first) s.0) in
-    let k = stands_run g.M.Machine.automaton longest start marks f.machine text c.run-used.new.self input f.place f.first running c.requires.unfinished c.if-is_none.ensures fits runs in
+    let k = stands_run g.M.Machine.automaton longest start spans f.machine text c.run-used.new.self input f.place f.first running c.requires.unfinished c.if-is_none.ensures fits runs in
     let same : place_past f.place text ≡ c.past-self.result = sym (rw (c.min.ensures, t.0) at c.past-self.ensures) in
     (s.0, rw (sym same, c.requires.running) k.0)
 

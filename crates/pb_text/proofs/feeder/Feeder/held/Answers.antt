@@ -1,17 +1,17 @@
 use Rattle.std.proofs.Common.{length, arith}
 use Rattle.pb_text.specs.meaning.Spelling.{bytes}
 use Rattle.pb_text.proofs.lemmas.text.Short.{begun_bytes}
-use Rattle.pb_text.proofs.lemmas.feeder.Told.{stands_open, kept_within}
+use Rattle.pb_text.proofs.lemmas.feeder.Reported.{stands_open, kept_within}
 use Rattle.pb_text.proofs.feeder.Feeder.held.Goals as goal
 
 pub returns-clause-few : goal.returns-clause-few
-returns-clause-few g c longest start input marks s =
+returns-clause-few g c longest start input spans s =
     let f = c.args.self.now in
     let t = s.1 in (
       bytes t.letters,
       begun_bytes (length t.letters) f.first,
       (t.left, t.input_is),
       t.place_is,
-      stands_open g.M.Machine.automaton longest start input marks f.machine f.place f.first f.stop t,
-      omega (arith, c.held.ensures, kept_within g.M.Machine.automaton longest start input marks f.machine f.place f.first f.stop t),
+      stands_open g.M.Machine.automaton longest start input spans f.machine f.place f.first f.stop t,
+      omega (arith, c.held.ensures, kept_within g.M.Machine.automaton longest start input spans f.machine f.place f.first f.stop t),
     )

@@ -8,7 +8,7 @@ returns-clause-pours g c = record {
   given_are = sym (append-nil (g.Self.Source.history c.args.self.now));
   lost = lost_nothing (g.Self.Source.left c.args.self.now);
   offset_is = omega arith;
-  stands = λ longest start input marks s. rw (append-nil, append-nil) s;
+  stands = λ longest start input spans s. rw (append-nil, append-nil) s;
   some = λ e h. cc h;
   past = λ e h. cc h;
 }

@@ -27,77 +27,77 @@ loop-read-init g c = record {
 
 pub loop-read-smaller : goal.loop-read-smaller
 loop-read-smaller g c =
-    let (marks, pulled, wrote) = c.loop-read.invariant.shown in
+    let (spans, pulled, wrote) = c.loop-read.invariant.shown in
     let t = rw (c.in-Ok-Some.is, c.in-Ok-Some.field-0-is) at c.pull.ensures in
-    let (more, sofar) = t.row c.args.longest c.args.machine (g.S.Source.left c.args.input.now) marks pulled in
-    let within = so_far_within (Accepts g.M.Machine.automaton c.args.machine) c.args.longest (g.S.Source.left c.args.input.now) (g.S.Source.left c.pull.new.source) (marks ++ c.in-Ok-Some.read ∷ []) c.in-Ok-Some.read.past sofar in
+    let (more, sofar) = t.row c.args.longest c.args.machine (g.S.Source.left c.args.input.now) spans pulled in
+    let within = so_far_within (Accepts g.M.Machine.automaton c.args.machine) c.args.longest (g.S.Source.left c.args.input.now) (g.S.Source.left c.pull.new.source) (spans ++ c.in-Ok-Some.read ∷ []) c.in-Ok-Some.read.past sofar in
     fewer _ _ (subst (λ (p : Place). p.offset ≤ 2 ^ 40) (t.past c.in-Ok-Some.read refl) within) (t.onward c.in-Ok-Some.read refl)
 
 pub loop-read-preserved : goal.loop-read-preserved
 loop-read-preserved g c =
-    let (marks, pulled, wrote) = c.loop-read.invariant.shown in
-    let (given_marks, has, went) = c.loop-read.invariant.given in
+    let (spans, pulled, wrote) = c.loop-read.invariant.shown in
+    let (given_spans, has, went) = c.loop-read.invariant.given in
     let t = rw (c.in-Ok-Some.is, c.in-Ok-Some.field-0-is) at c.pull.ensures in
-    let (more, sofar) = t.row c.args.longest c.args.machine (g.S.Source.left c.args.input.now) marks pulled in
+    let (more, sofar) = t.row c.args.longest c.args.machine (g.S.Source.left c.args.input.now) spans pulled in
     record {
       faults = rw pulled.running at t.faults ∙ c.loop-read.invariant.faults;
-      shown = (marks ++ c.in-Ok-Some.read ∷ [], more, part_wrote g.W.Sink.contents g.W.Sink.faults _ _ _ _ _ _ (shown_more g.E.Canonical.text marks c.in-Ok-Some.read) wrote c.in-Ok.ensures);
+      shown = (spans ++ c.in-Ok-Some.read ∷ [], more, part_wrote g.W.Sink.contents g.W.Sink.faults _ _ _ _ _ _ (shown_more g.E.Canonical.text spans c.in-Ok-Some.read) wrote c.in-Ok.ensures);
       given = (
-        given_marks ++ c.in-Ok-Some.read ∷ [],
-        given_next {g = g.M.Machine} c.args.longest c.args.machine (g.S.Source.history c.args.input.now) (g.S.Source.history c.loop-read.input) (g.S.Source.history c.pull.new.source) given_marks c.loop-read.feeder c.pull.new.feeder has (g.S.Source.left c.loop-read.input) (g.S.Source.left c.pull.new.source) c.in-Ok-Some.read (t.pulls c.args.longest c.args.machine has.0 given_marks (rw has.4 tt) has.3) t.stop,
-        part_wrote g.W.Sink.contents g.W.Sink.faults _ _ _ _ _ _ (shown_more g.E.Canonical.text given_marks c.in-Ok-Some.read) went c.in-Ok.ensures,
+        given_spans ++ c.in-Ok-Some.read ∷ [],
+        given_next {g = g.M.Machine} c.args.longest c.args.machine (g.S.Source.history c.args.input.now) (g.S.Source.history c.loop-read.input) (g.S.Source.history c.pull.new.source) given_spans c.loop-read.feeder c.pull.new.feeder has (g.S.Source.left c.loop-read.input) (g.S.Source.left c.pull.new.source) c.in-Ok-Some.read (t.pulls c.args.longest c.args.machine has.0 given_spans (rw has.4 tt) has.3) t.stop,
+        part_wrote g.W.Sink.contents g.W.Sink.faults _ _ _ _ _ _ (shown_more g.E.Canonical.text given_spans c.in-Ok-Some.read) went c.in-Ok.ensures,
       );
     }
 
 pub returns-in-Err-show_statement-clause-shows : goal.returns-in-Err-show_statement-clause-shows
 returns-in-Err-show_statement-clause-shows g c =
-    let (marks, pulled, wrote) = c.loop-read.invariant.shown in
+    let (spans, pulled, wrote) = c.loop-read.invariant.shown in
     let t = rw (c.in-Ok-Some.is, c.in-Ok-Some.field-0-is) at c.pull.ensures in
-    let (more, sofar) = t.row c.args.longest c.args.machine (g.S.Source.left c.args.input.now) marks pulled in
-    (marks, c.in-Ok-Some.read, c.loop-read.out, sofar, wrote, c.in-Err-show_statement.ensures)
+    let (more, sofar) = t.row c.args.longest c.args.machine (g.S.Source.left c.args.input.now) spans pulled in
+    (spans, c.in-Ok-Some.read, c.loop-read.out, sofar, wrote, c.in-Err-show_statement.ensures)
 
 pub returns-in-Err-clause-shows : goal.returns-in-Err-clause-shows
 returns-in-Err-clause-shows g c =
-    let (marks, pulled, wrote) = c.loop-read.invariant.shown in
+    let (spans, pulled, wrote) = c.loop-read.invariant.shown in
     let t = rw c.in-Err.is at c.pull.ensures in
-    let (all, asking) = t.row c.args.longest c.args.machine (g.S.Source.left c.args.input.now) marks pulled in
-    rw c.text_fault.ensures (marks, InText all asking, wrote)
+    let (all, asking) = t.row c.args.longest c.args.machine (g.S.Source.left c.args.input.now) spans pulled in
+    rw c.text_fault.ensures (spans, InText all asking, wrote)
 
 pub returns-clause-shows : goal.returns-clause-shows
 returns-clause-shows g c =
-    let (marks, pulled, wrote) = c.loop-read.invariant.shown in
+    let (spans, pulled, wrote) = c.loop-read.invariant.shown in
     let t = rw (c.in-Ok-None.is, c.in-Ok-None.field-0-is) at c.pull.ensures in
-    let all = t.row c.args.longest c.args.machine (g.S.Source.left c.args.input.now) marks pulled in
+    let all = t.row c.args.longest c.args.machine (g.S.Source.left c.args.input.now) spans pulled in
     let ends = subst (λ (p : Place). EndsAt p (g.S.Source.left c.pull.new.source) c.read_blank_rest.result (g.S.Source.left c.read_blank_rest.new.input)) c.place.ensures.place c.read_blank_rest.ensures.ends in
-    shows_end (Accepts g.M.Machine.automaton c.args.machine) c.args.longest (MayAsk g.M.Machine.automaton c.args.machine) g.E.Canonical.text g.W.Sink.contents g.W.Sink.faults (g.S.Source.left c.args.input.now) (g.S.Source.left c.pull.new.source) (g.S.Source.left c.read_blank_rest.new.input) marks _ _ _ c.read_blank_rest.result all ends wrote
+    shows_end (Accepts g.M.Machine.automaton c.args.machine) c.args.longest (MayAsk g.M.Machine.automaton c.args.machine) g.E.Canonical.text g.W.Sink.contents g.W.Sink.faults (g.S.Source.left c.args.input.now) (g.S.Source.left c.pull.new.source) (g.S.Source.left c.read_blank_rest.new.input) spans _ _ _ c.read_blank_rest.result all ends wrote
 
 pub returns-in-Err-show_statement-clause-given : goal.returns-in-Err-show_statement-clause-given
 returns-in-Err-show_statement-clause-given g c =
-    let (marks, has, wrote) = c.loop-read.invariant.given in
+    let (spans, has, wrote) = c.loop-read.invariant.given in
     let t = rw (c.in-Ok-Some.is, c.in-Ok-Some.field-0-is) at c.pull.ensures in
-    given_broken (Accepts g.M.Machine.automaton c.args.machine) c.args.longest (MayAsk g.M.Machine.automaton c.args.machine) g.E.Canonical.text g.W.Sink.contents g.W.Sink.faults (g.S.Source.history c.args.input.now) (g.S.Source.history c.pull.new.source) marks c.in-Ok-Some.read c.args.out.now c.loop-read.out c.show_statement.new.out
-    (given_so_far {g = g.M.Machine} c.args.longest c.args.machine (g.S.Source.history c.args.input.now) (g.S.Source.history c.loop-read.input) (g.S.Source.history c.pull.new.source) marks c.loop-read.feeder c.pull.new.feeder has (g.S.Source.left c.loop-read.input) (g.S.Source.left c.pull.new.source) c.in-Ok-Some.read (given_row {g = g.M.Machine} c.args.longest c.args.machine (g.S.Source.history c.args.input.now) (g.S.Source.history c.loop-read.input) (g.S.Source.history c.pull.new.source) marks c.loop-read.feeder c.pull.new.feeder has (g.S.Source.left c.loop-read.input) (g.S.Source.left c.pull.new.source) (Ok (Some c.in-Ok-Some.read)) (t.pulls c.args.longest c.args.machine has.0 marks (rw has.4 tt) has.3) t.stop t.last t.past))
+    given_broken (Accepts g.M.Machine.automaton c.args.machine) c.args.longest (MayAsk g.M.Machine.automaton c.args.machine) g.E.Canonical.text g.W.Sink.contents g.W.Sink.faults (g.S.Source.history c.args.input.now) (g.S.Source.history c.pull.new.source) spans c.in-Ok-Some.read c.args.out.now c.loop-read.out c.show_statement.new.out
+    (given_so_far {g = g.M.Machine} c.args.longest c.args.machine (g.S.Source.history c.args.input.now) (g.S.Source.history c.loop-read.input) (g.S.Source.history c.pull.new.source) spans c.loop-read.feeder c.pull.new.feeder has (g.S.Source.left c.loop-read.input) (g.S.Source.left c.pull.new.source) c.in-Ok-Some.read (given_row {g = g.M.Machine} c.args.longest c.args.machine (g.S.Source.history c.args.input.now) (g.S.Source.history c.loop-read.input) (g.S.Source.history c.pull.new.source) spans c.loop-read.feeder c.pull.new.feeder has (g.S.Source.left c.loop-read.input) (g.S.Source.left c.pull.new.source) (Ok (Some c.in-Ok-Some.read)) (t.pulls c.args.longest c.args.machine has.0 spans (rw has.4 tt) has.3) t.stop t.last t.past))
     wrote c.in-Err-show_statement.ensures
 
 pub returns-in-Err-clause-given : goal.returns-in-Err-clause-given
 returns-in-Err-clause-given g c =
-    let (marks, has, wrote) = c.loop-read.invariant.given in
+    let (spans, has, wrote) = c.loop-read.invariant.given in
     let t = rw c.in-Err.is at c.pull.ensures in
-    rw c.text_fault.ensures (given_refused (Accepts g.M.Machine.automaton c.args.machine) c.args.longest (MayAsk g.M.Machine.automaton c.args.machine) g.E.Canonical.text g.W.Sink.contents g.W.Sink.faults (g.S.Source.history c.args.input.now) (g.S.Source.history c.pull.new.source) marks c.in-Err.stop c.args.out.now c.loop-read.out
-    (given_row {g = g.M.Machine} c.args.longest c.args.machine (g.S.Source.history c.args.input.now) (g.S.Source.history c.loop-read.input) (g.S.Source.history c.pull.new.source) marks c.loop-read.feeder c.pull.new.feeder has (g.S.Source.left c.loop-read.input) (g.S.Source.left c.pull.new.source) (Err c.in-Err.stop) (t.pulls c.args.longest c.args.machine has.0 marks (rw has.4 tt) has.3) t.stop t.last t.past)
+    rw c.text_fault.ensures (given_refused (Accepts g.M.Machine.automaton c.args.machine) c.args.longest (MayAsk g.M.Machine.automaton c.args.machine) g.E.Canonical.text g.W.Sink.contents g.W.Sink.faults (g.S.Source.history c.args.input.now) (g.S.Source.history c.pull.new.source) spans c.in-Err.stop c.args.out.now c.loop-read.out
+    (given_row {g = g.M.Machine} c.args.longest c.args.machine (g.S.Source.history c.args.input.now) (g.S.Source.history c.loop-read.input) (g.S.Source.history c.pull.new.source) spans c.loop-read.feeder c.pull.new.feeder has (g.S.Source.left c.loop-read.input) (g.S.Source.left c.pull.new.source) (Err c.in-Err.stop) (t.pulls c.args.longest c.args.machine has.0 spans (rw has.4 tt) has.3) t.stop t.last t.past)
     wrote)
 
 pub returns-clause-given : goal.returns-clause-given
 returns-clause-given g c =
-    let (marks, has, wrote) = c.loop-read.invariant.given in
+    let (spans, has, wrote) = c.loop-read.invariant.given in
     let t = rw (c.in-Ok-None.is, c.in-Ok-None.field-0-is) at c.pull.ensures in
     let ends = subst (λ (p : Place). OfGiven (λ left rest. EndsAt p left c.read_blank_rest.result rest) (g.S.Source.history c.pull.new.source) (g.S.Source.history c.read_blank_rest.new.input)) c.place.ensures.place c.read_blank_rest.ensures.given in
-    given_shown (Accepts g.M.Machine.automaton c.args.machine) c.args.longest (MayAsk g.M.Machine.automaton c.args.machine) g.E.Canonical.text g.W.Sink.contents g.W.Sink.faults (g.S.Source.history c.args.input.now) (g.S.Source.history c.pull.new.source) (g.S.Source.history c.read_blank_rest.new.input) marks (place_of c.pull.new.feeder) c.args.out.now c.loop-read.out c.read_blank_rest.result
-    (given_row {g = g.M.Machine} c.args.longest c.args.machine (g.S.Source.history c.args.input.now) (g.S.Source.history c.loop-read.input) (g.S.Source.history c.pull.new.source) marks c.loop-read.feeder c.pull.new.feeder has (g.S.Source.left c.loop-read.input) (g.S.Source.left c.pull.new.source) (Ok None) (t.pulls c.args.longest c.args.machine has.0 marks (rw has.4 tt) has.3) t.stop t.last t.past)
+    given_shown (Accepts g.M.Machine.automaton c.args.machine) c.args.longest (MayAsk g.M.Machine.automaton c.args.machine) g.E.Canonical.text g.W.Sink.contents g.W.Sink.faults (g.S.Source.history c.args.input.now) (g.S.Source.history c.pull.new.source) (g.S.Source.history c.read_blank_rest.new.input) spans (place_of c.pull.new.feeder) c.args.out.now c.loop-read.out c.read_blank_rest.result
+    (given_row {g = g.M.Machine} c.args.longest c.args.machine (g.S.Source.history c.args.input.now) (g.S.Source.history c.loop-read.input) (g.S.Source.history c.pull.new.source) spans c.loop-read.feeder c.pull.new.feeder has (g.S.Source.left c.loop-read.input) (g.S.Source.left c.pull.new.source) (Ok None) (t.pulls c.args.longest c.args.machine has.0 spans (rw has.4 tt) has.3) t.stop t.last t.past)
     ends wrote
 
 pub returns-in-Err-clause-seen : goal.returns-in-Err-clause-seen
 returns-in-Err-clause-seen g c =
-    let (marks, pulled, wrote) = c.loop-read.invariant.shown in
+    let (spans, pulled, wrote) = c.loop-read.invariant.shown in
     let t = rw c.in-Err.is at c.pull.ensures in
     rw c.text_fault.ensures (t.shown pulled.running)

@@ -12,10 +12,10 @@ use Rattle.pb_tool.proofs.commands.show.show_each.Given as goal
 abbrev pub invariant-loop-read : goal.invariant-loop-read
 invariant-loop-read g l = record {
   faults : g.S.Source.faults l.input ≡ g.S.Source.faults l.fn.input;
-  given : (marks : List (Spanned _)) × HasGiven {g = g.M.Machine} l.fn.longest l.fn.machine (g.S.Source.history l.fn.input) marks l.feeder (g.S.Source.history l.input)
-      × Wrote g.W.Sink.contents g.W.Sink.faults l.fn.out (shown g.E.Canonical.text marks) l.out;
-  shown : (marks : List (Spanned _)) × HasPulled {g = g.M.Machine} l.fn.longest l.fn.machine (g.S.Source.left l.fn.input) marks l.feeder (g.S.Source.left l.input)
-      × Wrote g.W.Sink.contents g.W.Sink.faults l.fn.out (shown g.E.Canonical.text marks) l.out;
+  given : (spans : List (Spanned _)) × HasGiven {g = g.M.Machine} l.fn.longest l.fn.machine (g.S.Source.history l.fn.input) spans l.feeder (g.S.Source.history l.input)
+      × Wrote g.W.Sink.contents g.W.Sink.faults l.fn.out (shown g.E.Canonical.text spans) l.out;
+  shown : (spans : List (Spanned _)) × HasPulled {g = g.M.Machine} l.fn.longest l.fn.machine (g.S.Source.left l.fn.input) spans l.feeder (g.S.Source.left l.input)
+      × Wrote g.W.Sink.contents g.W.Sink.faults l.fn.out (shown g.E.Canonical.text spans) l.out;
 }
 
 -- the bytes that may still be read

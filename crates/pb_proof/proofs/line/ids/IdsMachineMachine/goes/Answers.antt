@@ -1,6 +1,6 @@
 use Rattle.std.proofs.Common.{refl, sym}
 use Rattle.pb_text.proofs.lemmas.text.Booleans.{never}
-use Rattle.pb_proof.specs.declared.line.ids.phase.IdsMove.TheVariants as move
+use Rattle.pb_proof.specs.declared.line.ids.phase.IdsAction.TheVariants as action
 use Rattle.pb_proof.proofs.lemmas.Ids.Theorems.{ids_is_state}
 use Rattle.pb_proof.proofs.lemmas.Ids.Pushes.{moved, midway_state}
 use Rattle.pb_text.proofs.lemmas.text.Results.{unchanged}
@@ -40,5 +40,5 @@ invariant_of-self-in-Keep c =
 
 pub returns-in-To-clause-goes : goal.returns-in-To-clause-goes
 returns-in-To-clause-goes c = rw (← c.self.view_is) (
-    moved c.self.inside.top c.self.inside.ids c.self.inside.phase c.args.byte c.number_byte.result (move.To c.in-To.next) c.number_byte.ensures.kind c.in-To.ensures.plan
+    moved c.self.inside.top c.self.inside.ids c.self.inside.phase c.args.byte c.number_byte.result (action.To c.in-To.next) c.number_byte.ensures.kind c.in-To.ensures.plan
     )

@@ -1,6 +1,6 @@
 use Rattle.pb_proof.proofs.lemmas.Pol.Theorems.{pol_is_state}
 use Rattle.pb_proof.proofs.lemmas.Pol.Pushes.{moved, ended_to, same_state, last_state}
-use Rattle.pb_proof.specs.declared.line.pol.phase.Move.TheVariants.{End}
+use Rattle.pb_proof.specs.declared.line.pol.phase.Action.TheVariants.{End}
 use Rattle.pb_proof.proofs.line.pol.PolMachine.end.Goals as goal
 
 pub returns-in-Ok-clause-closes : goal.returns-in-Ok-clause-closes

@@ -1,7 +1,7 @@
 use Rattle.std.proofs.Common.{List, ℕ, ◌∷◌, [], ◌++◌, sym, ap, refl, ◌∙◌}
 use Rattle.pb_text.specs.contract.Automaton.{Go}
 use Rattle.pb_text.proofs.lemmas.text.Booleans.{never}
-use Rattle.pb_proof.specs.declared.line.pol.phase.Move.TheVariants.{To, Begin, Add, Turn}
+use Rattle.pb_proof.specs.declared.line.pol.phase.Action.TheVariants.{To, Begin, Add, Turn}
 use Rattle.pb_proof.proofs.lemmas.Pol.Theorems.{pol_is_state}
 use Rattle.pb_proof.proofs.lemmas.Pol.Pushes.{moved, same_state, midway_state}
 use Rattle.pb_text.proofs.lemmas.text.Results.{grown, when_ok, when_err, unchanged}

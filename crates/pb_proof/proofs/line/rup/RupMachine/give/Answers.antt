@@ -4,7 +4,7 @@ use Rattle.pb_sums.specs.engine.State.{SumState}
 use Rattle.pb_proof.specs.engine.Line.Rup.{RupState, rup_automaton, rup_plan, IsRupInOrder}
 use Rattle.pb_proof.specs.contracts.line.rup.RupMachine.{the_view}
 use Rattle.pb_proof.specs.declared.line.rup.phase.RupPhase.TheVariants.{Tail}
-use Rattle.pb_proof.specs.declared.line.rup.phase.RupMove.TheVariants.{Give}
+use Rattle.pb_proof.specs.declared.line.rup.phase.RupAction.TheVariants.{Give}
 use Rattle.std.specs.Prelude.{Some}
 use Rattle.pb_proof.proofs.lemmas.Rup.States.{give_order, tail_order, give_refused, give_admits}
 use Rattle.pb_proof.proofs.line.rup.RupMachine.give.Goals as goal

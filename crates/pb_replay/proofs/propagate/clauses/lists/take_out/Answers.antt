@@ -7,8 +7,8 @@ use Rattle.pb_replay.specs.engine.Clauses.Links.{lists_of, list_at, watch_at, id
 use Rattle.pb_replay.proofs.lemmas.clauses.Linked.{take-last, take-moved, sits-within, lists-length, moved-apart, dead}
 use Rattle.pb_replay.proofs.propagate.clauses.lists.take_out.Goals as goal
 
-abbrev Told : List (Vec ℕ Global) → ℕ → ℕ → ℕ → Type 0
-Told occ l i t = (i + 1 < length (list_at (lists_of occ) l)) × (slice_get (list_at (lists_of occ) l) (length (list_at (lists_of occ) l) - 1) ≡ Some t)
+abbrev Reported : List (Vec ℕ Global) → ℕ → ℕ → ℕ → Type 0
+Reported occ l i t = (i + 1 < length (list_at (lists_of occ) l)) × (slice_get (list_at (lists_of occ) l) (length (list_at (lists_of occ) l) - 1) ≡ Some t)
 
 pub index_mut-requires : goal.index_mut-requires
 index_mut-requires c =
@@ -18,14 +18,14 @@ index_mut-requires c =
 
 pub index_mut-requires-in-Some : goal.index_mut-requires-in-Some
 index_mut-requires-in-Some c =
-    let told = subst (λ o. IfSome o (Told c.args.lists.now.items c.args.literal c.args.index)) c.in-Some.is c.remove_entry-removed.ensures.some in
+    let reported = subst (λ o. IfSome o (Reported c.args.lists.now.items c.args.literal c.args.index)) c.in-Some.is c.remove_entry-removed.ensures.some in
     let es = list_at (lists_of c.args.lists.now.items) c.args.literal in
-    let h = sits-within c.args.watches.now.items c.in-Some.moved c.args.literal (length es - 1) (c.requires.linked.named c.in-Some.moved c.args.literal (length es - 1) told.1) in
+    let h = sits-within c.args.watches.now.items c.in-Some.moved c.args.literal (length es - 1) (c.requires.linked.named c.in-Some.moved c.args.literal (length es - 1) reported.1) in
     omega (arith, h, c.args.watches.now.ok.0)
 
 pub returns-in-Some-clause-linked : goal.returns-in-Some-clause-linked
 returns-in-Some-clause-linked c =
-    let told = subst (λ o. IfSome o (Told c.args.lists.now.items c.args.literal c.args.index)) c.in-Some.is c.remove_entry-removed.ensures.some in
+    let reported = subst (λ o. IfSome o (Reported c.args.lists.now.items c.args.literal c.args.index)) c.in-Some.is c.remove_entry-removed.ensures.some in
     take-moved c.args.watches.now.items (lists_of c.args.lists.now.items) (lists_of c.remove_entry-removed.new.lists.items) c.args.literal c.args.index c.remove_entry-removed.result.watch c.in-Some.moved c.index_mut.result.now c.index_mut-in-Some.result.now
     (record {
       old = c.requires.linked;
@@ -33,17 +33,17 @@ returns-in-Some-clause-linked c =
       now = c.remove_entry-removed.ensures.lists;
       room = omega (arith, c.requires.literal, lists-length c.args.lists.now.items);
       watch = c.index_mut.ensures.value;
-    }) told.0 told.1 c.index_mut-in-Some.ensures.value
+    }) reported.0 reported.1 c.index_mut-in-Some.ensures.value
 
 pub returns-in-Some-clause-taken : goal.returns-in-Some-clause-taken
 returns-in-Some-clause-taken c = λ e item.
-    let told = subst (λ o. IfSome o (Told c.args.lists.now.items c.args.literal c.args.index)) c.in-Some.is c.remove_entry-removed.ensures.some in
+    let reported = subst (λ o. IfSome o (Reported c.args.lists.now.items c.args.literal c.args.index)) c.in-Some.is c.remove_entry-removed.ensures.some in
     let ws = c.args.watches.now.items in
     let x = c.remove_entry-removed.result.watch in
     let m = c.in-Some.moved in
     let is : e ≡ x = same_Some e x (sym item ∙ c.remove_entry-removed.ensures.watch) in
     let inside = sits-within ws x c.args.literal c.args.index (c.requires.linked.named x c.args.literal c.args.index c.remove_entry-removed.ensures.watch) in
-    let apart = moved-apart ws (lists_of c.args.lists.now.items) c.args.literal c.args.index x m c.requires.linked c.remove_entry-removed.ensures.watch told.0 told.1 in
+    let apart = moved-apart ws (lists_of c.args.lists.now.items) c.args.literal c.args.index x m c.requires.linked c.remove_entry-removed.ensures.watch reported.0 reported.1 in
     let w = c.index_mut-in-Some.result.now in
     ap (λ k. (watch_at (set (set ws x (dead c.index_mut.result.now)) m (record { literal = w.literal; live = w.live; spot = c.args.index })) k).live) is
     ∙ ap (λ (q : Watch). q.live) (get_or-set_other (set ws x (dead c.index_mut.result.now)) m x (record { literal = w.literal; live = w.live; spot = c.args.index }) idle (λ h. apart (sym h)) ∙ get_or-set_same ws x (dead c.index_mut.result.now) idle inside)

@@ -3,7 +3,7 @@ use Rattle.std.proofs.Common.{◌≡◌, ℕ, ◌+◌, ◌<◌, ◌≤◌, List,
 use Rattle.std.proofs.lemmas.Option.{same_Some}
 use Rattle.pb_replay.specs.engine.Clauses.Links.{lists_of, list_at, watch_at}
 use Rattle.pb_replay.specs.engine.Clauses.Truths.{flip}
-use Rattle.pb_replay.proofs.lemmas.clauses.Steps.{live-within, item-live, reading-item, reading-other, reading-small, reading-slot, resuming-within, resuming-inside, looking-by, running-end, running-move, covered-by, broken-of, unit-of, served-move, walked-move, resuming-xs, Reading}
+use Rattle.pb_replay.proofs.lemmas.clauses.Steps.{live-within, item-live, reading-item, reading-other, reading-small, reading-slot, resuming-within, resuming-inside, visiting-by, running-end, running-move, covered-by, broken-of, unit-of, served-move, walked-move, resuming-xs, Reading}
 use Rattle.pb_replay.proofs.lemmas.clauses.Linked.{lists-length}
 use Rattle.pb_replay.proofs.propagate.clauses.visiting.visit_clause.Goals as goal
 
@@ -45,7 +45,7 @@ returns-then-is_false-clause-found c =
     let slots = reading-slot c.args.clauses.now c.args.values.now c.args.literal c.args.index c.visit_entry-watch.result c.visit_watch-other.result c.requires.running (record { lists = c.as_slice.result.now; lists_are = c.as_slice.ensures.value; item = c.visit_entry-watch.ensures.item; watches = c.as_slice-2.result.now; watches_are = c.as_slice-2.ensures.value; other_at = c.opposite.result; flips = c.opposite.ensures; other_is = c.visit_watch-other.ensures.item }) in
     let end : length (list_at (lists_of me.literals.items) (c.visit_entry-watch.result / 2)) ≤ c.search-place.result = omega (arith, c.if-place-literals.true, ap length (resuming-xs me (c.visit_entry-watch.result / 2) c.index-from.result.now c.as_slice-literals.result.now slots.0 (record { from_is = c.index-from.ensures; vec = c.index.result.now; vec_is = c.index.ensures; items = c.as_slice-literals.ensures.value }))) in
     broken-of c.args.values.now (lists_of me.literals.items) me.passed.items me.watches.items (lists_of me.lists.items) c.args.literal c.args.index c.visit_entry-watch.result c.visit_watch-other.result c.search-place.result
-    (looking-by c.args.clauses.now c.args.values.now c.args.literal c.args.index c.visit_entry-watch.result c.visit_watch-other.result c.index-from.result.now c.search-place.result c.as_slice-literals.result.now c.requires.running c.requires.failed
+    (visiting-by c.args.clauses.now c.args.values.now c.args.literal c.args.index c.visit_entry-watch.result c.visit_watch-other.result c.index-from.result.now c.search-place.result c.as_slice-literals.result.now c.requires.running c.requires.failed
     (record { lists = c.as_slice.result.now; lists_are = c.as_slice.ensures.value; item = c.visit_entry-watch.ensures.item; watches = c.as_slice-2.result.now; watches_are = c.as_slice-2.ensures.value; other_at = c.opposite.result; flips = c.opposite.ensures; other_is = c.visit_watch-other.ensures.item })
     (record { from_is = c.index-from.ensures; vec = c.index.result.now; vec_is = c.index.ensures; items = c.as_slice-literals.ensures.value })
     (record { after = c.search-place.ensures.after; within = c.search-place.ensures.within; passed = c.search-place.ensures.passed; found = c.search-place.ensures.found }))
@@ -75,7 +75,7 @@ returns-then-place-literals-clause-found c =
     let end : length (list_at (lists_of me.literals.items) (c.visit_entry-watch.result / 2)) ≤ c.search-place.result = omega (arith, c.if-place-literals.true, ap length (resuming-xs me (c.visit_entry-watch.result / 2) c.index-from.result.now c.as_slice-literals.result.now slots.0 (record { from_is = c.index-from.ensures; vec = c.index.result.now; vec_is = c.index.ensures; items = c.as_slice-literals.ensures.value }))) in (
       refl,
       unit-of c.args.values.now (lists_of me.literals.items) me.passed.items me.watches.items (lists_of me.lists.items) c.args.literal c.args.index c.visit_entry-watch.result c.visit_watch-other.result c.search-place.result
-          (looking-by c.args.clauses.now c.args.values.now c.args.literal c.args.index c.visit_entry-watch.result c.visit_watch-other.result c.index-from.result.now c.search-place.result c.as_slice-literals.result.now c.requires.running c.requires.failed
+          (visiting-by c.args.clauses.now c.args.values.now c.args.literal c.args.index c.visit_entry-watch.result c.visit_watch-other.result c.index-from.result.now c.search-place.result c.as_slice-literals.result.now c.requires.running c.requires.failed
           (record { lists = c.as_slice.result.now; lists_are = c.as_slice.ensures.value; item = c.visit_entry-watch.ensures.item; watches = c.as_slice-2.result.now; watches_are = c.as_slice-2.ensures.value; other_at = c.opposite.result; flips = c.opposite.ensures; other_is = c.visit_watch-other.ensures.item })
           (record { from_is = c.index-from.ensures; vec = c.index.result.now; vec_is = c.index.ensures; items = c.as_slice-literals.ensures.value })
           (record { after = c.search-place.ensures.after; within = c.search-place.ensures.within; passed = c.search-place.ensures.passed; found = c.search-place.ensures.found }))
@@ -131,7 +131,7 @@ returns-clause-served c = λ walked old.
     let those = resuming-xs me (c.visit_entry-watch.result / 2) c.index-from.result.now c.as_slice-literals.result.now slots.0 (record { from_is = c.index-from.ensures; vec = c.index.result.now; vec_is = c.index.ensures; items = c.as_slice-literals.ensures.value }) in
     let within : c.search-place.result < length (list_at (lists_of me.literals.items) (c.visit_entry-watch.result / 2)) = omega (arith, c.if-place-literals.false, ap length those) in
     served-move c.args.values.now (lists_of me.literals.items) me.passed.items me.watches.items c.shift.new.watches.items (lists_of me.lists.items) (lists_of c.shift.new.lists.items) c.args.literal c.args.index c.visit_entry-watch.result c.visit_watch-other.result c.search-place.result walked
-    (looking-by c.args.clauses.now c.args.values.now c.args.literal c.args.index c.visit_entry-watch.result c.visit_watch-other.result c.index-from.result.now c.search-place.result c.as_slice-literals.result.now c.requires.running c.requires.failed
+    (visiting-by c.args.clauses.now c.args.values.now c.args.literal c.args.index c.visit_entry-watch.result c.visit_watch-other.result c.index-from.result.now c.search-place.result c.as_slice-literals.result.now c.requires.running c.requires.failed
     (record { lists = c.as_slice.result.now; lists_are = c.as_slice.ensures.value; item = c.visit_entry-watch.ensures.item; watches = c.as_slice-2.result.now; watches_are = c.as_slice-2.ensures.value; other_at = c.opposite.result; flips = c.opposite.ensures; other_is = c.visit_watch-other.ensures.item })
     (record { from_is = c.index-from.ensures; vec = c.index.result.now; vec_is = c.index.ensures; items = c.as_slice-literals.ensures.value })
     (record { after = c.search-place.ensures.after; within = c.search-place.ensures.within; passed = c.search-place.ensures.passed; found = c.search-place.ensures.found }))
@@ -144,7 +144,7 @@ returns-clause-kept c = λ base codes more old.
     let those = resuming-xs me (c.visit_entry-watch.result / 2) c.index-from.result.now c.as_slice-literals.result.now slots.0 (record { from_is = c.index-from.ensures; vec = c.index.result.now; vec_is = c.index.ensures; items = c.as_slice-literals.ensures.value }) in
     let within : c.search-place.result < length (list_at (lists_of me.literals.items) (c.visit_entry-watch.result / 2)) = omega (arith, c.if-place-literals.false, ap length those) in
     walked-move base c.args.values.now (lists_of me.literals.items) me.passed.items me.watches.items c.shift.new.watches.items (lists_of me.lists.items) (lists_of c.shift.new.lists.items) c.args.literal c.args.index c.visit_entry-watch.result c.visit_watch-other.result c.search-place.result codes more
-    (looking-by c.args.clauses.now c.args.values.now c.args.literal c.args.index c.visit_entry-watch.result c.visit_watch-other.result c.index-from.result.now c.search-place.result c.as_slice-literals.result.now c.requires.running c.requires.failed
+    (visiting-by c.args.clauses.now c.args.values.now c.args.literal c.args.index c.visit_entry-watch.result c.visit_watch-other.result c.index-from.result.now c.search-place.result c.as_slice-literals.result.now c.requires.running c.requires.failed
     (record { lists = c.as_slice.result.now; lists_are = c.as_slice.ensures.value; item = c.visit_entry-watch.ensures.item; watches = c.as_slice-2.result.now; watches_are = c.as_slice-2.ensures.value; other_at = c.opposite.result; flips = c.opposite.ensures; other_is = c.visit_watch-other.ensures.item })
     (record { from_is = c.index-from.ensures; vec = c.index.result.now; vec_is = c.index.ensures; items = c.as_slice-literals.ensures.value })
     (record { after = c.search-place.ensures.after; within = c.search-place.ensures.within; passed = c.search-place.ensures.passed; found = c.search-place.ensures.found }))

@@ -23,7 +23,7 @@ use Rattle.pb_replay.specs.engine.Engine.Slots.{numbered}
 use Rattle.pb_replay.proofs.lemmas.store.Placed.{placed-with, numbered-same, numbered-entered}
 use Rattle.pb_replay.specs.engine.Clauses.Links.{lists_of}
 use Rattle.pb_replay.specs.engine.Clauses.Shapes.{all_of, clauses_of}
-use Rattle.pb_replay.proofs.lemmas.engine.Bounds.{joined-terms, slots-terms, slots-eager, filter-few, found-least, most-looks}
+use Rattle.pb_replay.proofs.lemmas.engine.Bounds.{joined-terms, slots-terms, slots-eager, filter-few, found-least, most-visits}
 use Rattle.pb_replay.proofs.lemmas.engine.Spent.{spent-le}
 use Rattle.pb_replay.proofs.lemmas.clauses.Counts.{killed-most}
 use Rattle.pb_replay.specs.engine.Clauses.Walked.{falsified_code}
@@ -190,13 +190,13 @@ returns-then-found-clause-implied c = λ found.
     let h = c.in_ok-enter.ensures.entered in
     let g = c.in-Ok.negation in
     let forms = forms_of e.store.kept.items in
-    let told = c.in_ok-found.ensures in
+    let reported = c.in_ok-found.ensures in
     let shapes = all_of new.store e.clauses in
     let a = placed-with forms e.places.items g shapes both.1 (with-kept forms g shapes (slots-entered forms g keep new.store.kept.items (clauses_of e.clauses) e.run.opens.items new.run.opens.items e.run.candidates.items new.run.candidates.items r.joined.short h r.slots)) in
     let shown = numbered forms e.places.items in
     let empty = ap (λ (x : Assignment). x.list.items) c.enter.ensures.rest.0 ∙ r.list in
-    let d = derives (With (Live shown) g) shapes [] [] c.propagate.new.run.assignment.list.items a (λ v n. sym (on-none (record { variable = v; negated = n }))) (rw empty at told.derived) in
-    let meets : MeetsConflict (With (Live shown) g) [] = record { list = d.list; derived = d.derived; conflict = conflicts (With (Live shown) g) shapes d.list c.propagate.new.run.assignment.list.items a d.matches (told.conflict c.if-found.true) } in
+    let d = derives (With (Live shown) g) shapes [] [] c.propagate.new.run.assignment.list.items a (λ v n. sym (on-none (record { variable = v; negated = n }))) (rw empty at reported.derived) in
+    let meets : MeetsConflict (With (Live shown) g) [] = record { list = d.list; derived = d.derived; conflict = conflicts (With (Live shown) g) shapes d.list c.propagate.new.run.assignment.list.items a d.matches (reported.conflict c.if-found.true) } in
     rw (← c.self.view_is) (inr (rw c.in-Ok.ensures.negation at meets))
 
 pub returns-clause-not_implied : goal.returns-clause-not_implied
@@ -209,16 +209,16 @@ returns-clause-not_implied c = λ found rup.
     let h = c.in_ok-enter.ensures.entered in
     let g = c.in-Ok.negation in
     let forms = forms_of e.store.kept.items in
-    let told = c.in_ok-found.ensures in
+    let reported = c.in_ok-found.ensures in
     let run = c.propagate.new.run in
     let shapes = all_of new.store e.clauses in
     let a = placed-with forms e.places.items g shapes both.1 (with-kept forms g shapes (slots-entered forms g keep new.store.kept.items (clauses_of e.clauses) e.run.opens.items new.run.opens.items e.run.candidates.items new.run.candidates.items r.joined.short h r.slots)) in
     let shown = numbered forms e.places.items in
     let empty = ap (λ (x : Assignment). x.list.items) c.enter.ensures.rest.0 ∙ r.list in
-    let d = derives (With (Live shown) g) shapes [] [] run.assignment.list.items a (λ v n. sym (on-none (record { variable = v; negated = n }))) (rw empty at told.derived) in
+    let d = derives (With (Live shown) g) shapes [] [] run.assignment.list.items a (λ v n. sym (on-none (record { variable = v; negated = n }))) (rw empty at reported.derived) in
     let free : MeetsConflict (With (Live shown) g) [] → ⊥ = closed-none (With (Live shown) g) [] d.list d.derived
-    (is-closed (With (Live shown) g) shapes d.list run.assignment.list.items a d.matches (told.settled c.if-found.false))
-    (has-none (With (Live shown) g) shapes d.list run.assignment.list.items a d.matches (λ l on. opposite run.assignment.values.items run.assignment.list.items l run.assignment.agrees on) (told.settled c.if-found.false)) in
+    (is-closed (With (Live shown) g) shapes d.list run.assignment.list.items a d.matches (reported.settled c.if-found.false))
+    (has-none (With (Live shown) g) shapes d.list run.assignment.list.items a d.matches (λ l on. opposite run.assignment.values.items run.assignment.list.items l run.assignment.agrees on) (reported.settled c.if-found.false)) in
     let free_goal : MeetsConflict (With (Live shown) (negation_of c.args.goal.now)) [] → ⊥ = rw c.in-Ok.ensures.negation at free in
     let same : shown ≡ c.args.self.now.forms = ap (λ (v : Standing). v.forms) c.self.view_is in
     elim rup [
@@ -251,9 +251,9 @@ returns-then-found-clause-most c =
     let work = ap length c.in_ok-choose-2.ensures ∙ length-append new.run.work.items (filter (waits new.store.kept.items) (number ∷ [])) in
     let waiting = ap (λ (xs : List ℕ). length (filter (waits new.store.kept.items) xs)) c.as_slice.ensures.value in
     let same : numbered forms e.places.items ≡ c.args.self.now.forms = ap (λ (v : Standing). v.forms) c.self.view_is in
-    let looks = most-looks c.propagate.new.run.visits (sum new.run.candidates.items) new.run.visits (length c.choose-2.new.work.items + length (filter (waits new.store.kept.items) c.as_slice.result.now)) new.run.next (sum_by length (entries_of (shapes_of new.store.kept.items) new.store.occurrences.items)) (sum c.propagate.new.run.candidates.items) (sum_by (λ (f : Shape). length f.terms) (shapes_of new.store.kept.items)) (sum_by {X = List ℕ} length (clauses_of e.clauses)) (sum_by one_in forms + 1)
+    let visits_made = most-visits c.propagate.new.run.visits (sum new.run.candidates.items) new.run.visits (length c.choose-2.new.work.items + length (filter (waits new.store.kept.items) c.as_slice.result.now)) new.run.next (sum_by length (entries_of (shapes_of new.store.kept.items) new.store.occurrences.items)) (sum c.propagate.new.run.candidates.items) (sum_by (λ (f : Shape). length f.terms) (shapes_of new.store.kept.items)) (sum_by {X = List ℕ} length (clauses_of e.clauses)) (sum_by one_in forms + 1)
     (omega (arith, c.propagate.ensures.upper, spent-le (entries_of (shapes_of new.store.kept.items) new.store.occurrences.items) c.propagate.new.run.assignment.list.items c.propagate.ensures.single, killed-most (clauses_of e.clauses) (map falsified_code c.propagate.new.run.assignment.list.items))) (c.enter.ensures.rest.3 ∙ c.none-self-inside.ensures) c.propagate.ensures.bounded c.in_ok-enter.ensures.sound.whole.totals (omega (arith, few, r.few, first, stand, work_is, work, waiting)) in
-    rw (← same) (omega (arith, both.1.alike terms_in refl, both.1.alike one_in refl, looks, terms, both_terms, more, goal_terms, c.leave.ensures.rest.3, c.rest.ensures.visits))
+    rw (← same) (omega (arith, both.1.alike terms_in refl, both.1.alike one_in refl, visits_made, terms, both_terms, more, goal_terms, c.leave.ensures.rest.3, c.rest.ensures.visits))
 
 pub returns-clause-most : goal.returns-clause-most
 returns-clause-most c =
@@ -280,9 +280,9 @@ returns-clause-most c =
     let work = ap length c.in_ok-choose-2.ensures ∙ length-append new.run.work.items (filter (waits new.store.kept.items) (number ∷ [])) in
     let waiting = ap (λ (xs : List ℕ). length (filter (waits new.store.kept.items) xs)) c.as_slice.ensures.value in
     let same : numbered forms e.places.items ≡ c.args.self.now.forms = ap (λ (v : Standing). v.forms) c.self.view_is in
-    let looks = most-looks c.propagate.new.run.visits (sum new.run.candidates.items) new.run.visits (length c.choose-2.new.work.items + length (filter (waits new.store.kept.items) c.as_slice.result.now)) new.run.next (sum_by length (entries_of (shapes_of new.store.kept.items) new.store.occurrences.items)) (sum c.propagate.new.run.candidates.items) (sum_by (λ (f : Shape). length f.terms) (shapes_of new.store.kept.items)) (sum_by {X = List ℕ} length (clauses_of e.clauses)) (sum_by one_in forms + 1)
+    let visits_made = most-visits c.propagate.new.run.visits (sum new.run.candidates.items) new.run.visits (length c.choose-2.new.work.items + length (filter (waits new.store.kept.items) c.as_slice.result.now)) new.run.next (sum_by length (entries_of (shapes_of new.store.kept.items) new.store.occurrences.items)) (sum c.propagate.new.run.candidates.items) (sum_by (λ (f : Shape). length f.terms) (shapes_of new.store.kept.items)) (sum_by {X = List ℕ} length (clauses_of e.clauses)) (sum_by one_in forms + 1)
     (omega (arith, c.propagate.ensures.upper, spent-le (entries_of (shapes_of new.store.kept.items) new.store.occurrences.items) c.propagate.new.run.assignment.list.items c.propagate.ensures.single, killed-most (clauses_of e.clauses) (map falsified_code c.propagate.new.run.assignment.list.items))) (c.enter.ensures.rest.3 ∙ c.none-self-inside.ensures) c.propagate.ensures.bounded c.in_ok-enter.ensures.sound.whole.totals (omega (arith, few, r.few, first, stand, work_is, work, waiting)) in
-    rw (← same) (omega (arith, both.1.alike terms_in refl, both.1.alike one_in refl, looks, terms, both_terms, more, goal_terms, c.leave.ensures.rest.3, c.rest.ensures.visits))
+    rw (← same) (omega (arith, both.1.alike terms_in refl, both.1.alike one_in refl, visits_made, terms, both_terms, more, goal_terms, c.leave.ensures.rest.3, c.rest.ensures.visits))
 
 pub returns-in_err-found-clause-most : goal.returns-in_err-found-clause-most
 returns-in_err-found-clause-most c =
@@ -309,9 +309,9 @@ returns-in_err-found-clause-most c =
     let work = ap length c.in_ok-choose-2.ensures ∙ length-append new.run.work.items (filter (waits new.store.kept.items) (number ∷ [])) in
     let waiting = ap (λ (xs : List ℕ). length (filter (waits new.store.kept.items) xs)) c.as_slice.ensures.value in
     let same : numbered forms e.places.items ≡ c.args.self.now.forms = ap (λ (v : Standing). v.forms) c.self.view_is in
-    let looks = most-looks c.propagate.new.run.visits (sum new.run.candidates.items) new.run.visits (length c.choose-2.new.work.items + length (filter (waits new.store.kept.items) c.as_slice.result.now)) new.run.next (sum_by length (entries_of (shapes_of new.store.kept.items) new.store.occurrences.items)) (sum c.propagate.new.run.candidates.items) (sum_by (λ (f : Shape). length f.terms) (shapes_of new.store.kept.items)) (sum_by {X = List ℕ} length (clauses_of e.clauses)) (sum_by one_in forms + 1)
+    let visits_made = most-visits c.propagate.new.run.visits (sum new.run.candidates.items) new.run.visits (length c.choose-2.new.work.items + length (filter (waits new.store.kept.items) c.as_slice.result.now)) new.run.next (sum_by length (entries_of (shapes_of new.store.kept.items) new.store.occurrences.items)) (sum c.propagate.new.run.candidates.items) (sum_by (λ (f : Shape). length f.terms) (shapes_of new.store.kept.items)) (sum_by {X = List ℕ} length (clauses_of e.clauses)) (sum_by one_in forms + 1)
     (omega (arith, c.propagate.ensures.upper, spent-le (entries_of (shapes_of new.store.kept.items) new.store.occurrences.items) c.propagate.new.run.assignment.list.items c.propagate.ensures.single, killed-most (clauses_of e.clauses) (map falsified_code c.propagate.new.run.assignment.list.items))) (c.enter.ensures.rest.3 ∙ c.none-self-inside.ensures) c.propagate.ensures.bounded c.in_ok-enter.ensures.sound.whole.totals (omega (arith, few, r.few, first, stand, work_is, work, waiting)) in
-    rw (← same) (omega (arith, both.1.alike terms_in refl, both.1.alike one_in refl, looks, terms, both_terms, more, goal_terms))
+    rw (← same) (omega (arith, both.1.alike terms_in refl, both.1.alike one_in refl, visits_made, terms, both_terms, more, goal_terms))
 
 pub returns-then-found-clause-conflict : goal.returns-then-found-clause-conflict
 returns-then-found-clause-conflict c = λ found.
@@ -323,16 +323,16 @@ returns-then-found-clause-conflict c = λ found.
     let h = c.in_ok-enter.ensures.entered in
     let g = c.in-Ok.negation in
     let forms = forms_of e.store.kept.items in
-    let told = c.in_ok-found.ensures in
+    let reported = c.in_ok-found.ensures in
     let run = c.propagate.new.run in
     let shapes = all_of new.store e.clauses in
     let a = placed-with forms e.places.items g shapes both.1 (with-kept forms g shapes (slots-entered forms g keep new.store.kept.items (clauses_of e.clauses) e.run.opens.items new.run.opens.items e.run.candidates.items new.run.candidates.items r.joined.short h r.slots)) in
     let shown = numbered forms e.places.items in
     let empty = ap (λ (x : Assignment). x.list.items) c.enter.ensures.rest.0 ∙ r.list in
-    let d = derives (With (Live shown) g) shapes [] [] run.assignment.list.items a (λ v n. sym (on-none (record { variable = v; negated = n }))) (rw empty at told.derived) in
-    let least = found-least (length run.assignment.list.items) run.visits (length new.run.assignment.list.items) new.run.visits (ap length empty) (c.enter.ensures.rest.3 ∙ c.none-self-inside.ensures) told.found (omega (arith, run.assignment.list.ok.0, run.assignment.list.ok.1)) in
+    let d = derives (With (Live shown) g) shapes [] [] run.assignment.list.items a (λ v n. sym (on-none (record { variable = v; negated = n }))) (rw empty at reported.derived) in
+    let least = found-least (length run.assignment.list.items) run.visits (length new.run.assignment.list.items) new.run.visits (ap length empty) (c.enter.ensures.rest.3 ∙ c.none-self-inside.ensures) reported.found (omega (arith, run.assignment.list.ok.0, run.assignment.list.ok.1)) in
     let small : length d.list ≤ c.leave.new.run.visits = omega (arith, least, d.count, c.leave.ensures.rest.3, c.rest.ensures.visits) in
-    let meets : (m : MeetsConflict (With (Live shown) g) []) × (length m.list ≤ c.leave.new.run.visits) = (record { list = d.list; derived = d.derived; conflict = conflicts (With (Live shown) g) shapes d.list run.assignment.list.items a d.matches (told.conflict c.if-found.true) }, small) in
+    let meets : (m : MeetsConflict (With (Live shown) g) []) × (length m.list ≤ c.leave.new.run.visits) = (record { list = d.list; derived = d.derived; conflict = conflicts (With (Live shown) g) shapes d.list run.assignment.list.items a d.matches (reported.conflict c.if-found.true) }, small) in
     rw (← c.self.view_is) (inr (rw c.in-Ok.ensures.negation at meets))
 
 pub returns-clause-completion : goal.returns-clause-completion
@@ -345,16 +345,16 @@ returns-clause-completion c = λ found.
     let h = c.in_ok-enter.ensures.entered in
     let g = c.in-Ok.negation in
     let forms = forms_of e.store.kept.items in
-    let told = c.in_ok-found.ensures in
+    let reported = c.in_ok-found.ensures in
     let run = c.propagate.new.run in
     let shapes = all_of new.store e.clauses in
     let a = placed-with forms e.places.items g shapes both.1 (with-kept forms g shapes (slots-entered forms g keep new.store.kept.items (clauses_of e.clauses) e.run.opens.items new.run.opens.items e.run.candidates.items new.run.candidates.items r.joined.short h r.slots)) in
     let shown = numbered forms e.places.items in
     let empty = ap (λ (x : Assignment). x.list.items) c.enter.ensures.rest.0 ∙ r.list in
-    let d = derives (With (Live shown) g) shapes [] [] run.assignment.list.items a (λ v n. sym (on-none (record { variable = v; negated = n }))) (rw empty at told.derived) in
-    let least = found-least (length run.assignment.list.items) run.visits (length new.run.assignment.list.items) new.run.visits (ap length empty) (c.enter.ensures.rest.3 ∙ c.none-self-inside.ensures) told.found (omega (arith, run.assignment.list.ok.0, run.assignment.list.ok.1)) in
+    let d = derives (With (Live shown) g) shapes [] [] run.assignment.list.items a (λ v n. sym (on-none (record { variable = v; negated = n }))) (rw empty at reported.derived) in
+    let least = found-least (length run.assignment.list.items) run.visits (length new.run.assignment.list.items) new.run.visits (ap length empty) (c.enter.ensures.rest.3 ∙ c.none-self-inside.ensures) reported.found (omega (arith, run.assignment.list.ok.0, run.assignment.list.ok.1)) in
     let small : length d.list ≤ c.leave.new.run.visits = omega (arith, least, d.count, c.leave.ensures.rest.3, c.rest.ensures.visits) in
-    let done : IsCompletion (With (Live shown) g) [] d.list = record { derived = d.derived; closed = is-closed (With (Live shown) g) shapes d.list run.assignment.list.items a d.matches (told.settled c.if-found.false) } in
+    let done : IsCompletion (With (Live shown) g) [] d.list = record { derived = d.derived; closed = is-closed (With (Live shown) g) shapes d.list run.assignment.list.items a d.matches (reported.settled c.if-found.false) } in
     let whole : (list : List NumberedLiteral) × IsCompletion (With (Live shown) g) [] list × (length list ≤ c.leave.new.run.visits) = (d.list, done, small) in
     rw (← c.self.view_is) (rw c.in-Ok.ensures.negation at whole)
 
@@ -517,28 +517,28 @@ invariant_of-self-then-self c = λ ready.
     let e = c.self.inside in
     let both = c.self.invariant (ap (λ (v : Standing). v.spent) c.self.view_is ∙ c.requires.ready) in
     let r = both.0 in
-    let told = c.in_ok-answer.ensures in
+    let reported = c.in_ok-answer.ensures in
     let lit : clauses_of c.ask.new.clauses ≡ clauses_of e.clauses = ap (λ (v : Vec (Vec ℕ Global) Global). lists_of v.items) c.ask.ensures.literals in (
       record {
-        sound = told.sound;
-        slots = rw (told.kept, lit) r.slots;
-        joined = rw (told.kept, lit) r.joined;
-        ready = told.ready;
-        widths = told.lists ∙ r.widths ∙ ap (λ n. 2 * n) (sym c.ask.ensures.variables);
-        known = ap (λ (v : Vec (Vec ℕ Global) Global). length v.items) c.ask.ensures.literals ∙ r.known ∙ sym (ap length told.kept);
-        rest = rw told.kept r.rest;
+        sound = reported.sound;
+        slots = rw (reported.kept, lit) r.slots;
+        joined = rw (reported.kept, lit) r.joined;
+        ready = reported.ready;
+        widths = reported.lists ∙ r.widths ∙ ap (λ n. 2 * n) (sym c.ask.ensures.variables);
+        known = ap (λ (v : Vec (Vec ℕ Global) Global). length v.items) c.ask.ensures.literals ∙ r.known ∙ sym (ap length reported.kept);
+        rest = rw reported.kept r.rest;
         values = r.values ∙ sym c.ask.ensures.variables;
         list = r.list;
         work = r.work;
         trail = r.trail;
         next = r.next;
-        eager = rw told.kept r.eager;
-        exact = rw told.kept r.exact;
-        few = rw told.kept r.few;
-        seats = rw told.kept r.seats;
+        eager = rw reported.kept r.eager;
+        exact = rw reported.kept r.exact;
+        few = rw reported.kept r.few;
+        seats = rw reported.kept r.seats;
       },
-      rw told.kept both.1,
-      λ live. told.rooted,
+      rw reported.kept both.1,
+      λ live. reported.rooted,
     )
 
 pub returns-then-self-clause-forms : goal.returns-then-self-clause-forms
@@ -552,13 +552,13 @@ returns-then-self-clause-implied c = λ found.
     let g = c.in-Ok.negation in
     let forms = forms_of e.store.kept.items in
     let asked = c.in_ok-answer.ensures.asked in
-    let told = asked.2 in
+    let reported = asked.2 in
     let shapes = all_of e.store e.clauses ++ (asked.0 ∷ []) in
     let a = placed-with forms e.places.items g shapes both.1 (with-kept forms g shapes (slots-more forms (all_of e.store e.clauses) (Some g) asked.0 r.slots asked.1)) in
     let shown = numbered forms e.places.items in
-    let d = derives (With (Live shown) g) shapes [] [] told.list a (λ v n. sym (on-none (record { variable = v; negated = n }))) told.derived in
-    let small : length d.list ≤ c.ask.new.visits = omega (arith, told.few, d.count) in
-    let meets : MeetsConflict (With (Live shown) g) [] = record { list = d.list; derived = d.derived; conflict = conflicts (With (Live shown) g) shapes d.list told.list a d.matches (told.conflict found) } in
+    let d = derives (With (Live shown) g) shapes [] [] reported.list a (λ v n. sym (on-none (record { variable = v; negated = n }))) reported.derived in
+    let small : length d.list ≤ c.ask.new.visits = omega (arith, reported.few, d.count) in
+    let meets : MeetsConflict (With (Live shown) g) [] = record { list = d.list; derived = d.derived; conflict = conflicts (With (Live shown) g) shapes d.list reported.list a d.matches (reported.conflict found) } in
     rw (← c.self.view_is) (inr (rw c.in-Ok.ensures.negation at meets))
 
 pub returns-then-self-clause-not_implied : goal.returns-then-self-clause-not_implied
@@ -569,15 +569,16 @@ returns-then-self-clause-not_implied c = λ found rup.
     let g = c.in-Ok.negation in
     let forms = forms_of e.store.kept.items in
     let asked = c.in_ok-answer.ensures.asked in
-    let told = asked.2 in
+    let reported = asked.2 in
     let shapes = all_of e.store e.clauses ++ (asked.0 ∷ []) in
     let a = placed-with forms e.places.items g shapes both.1 (with-kept forms g shapes (slots-more forms (all_of e.store e.clauses) (Some g) asked.0 r.slots asked.1)) in
     let shown = numbered forms e.places.items in
-    let d = derives (With (Live shown) g) shapes [] [] told.list a (λ v n. sym (on-none (record { variable = v; negated = n }))) told.derived in
-    let small : length d.list ≤ c.ask.new.visits = omega (arith, told.few, d.count) in
+    let d = derives (With (Live shown) g) shapes [] [] reported.list a (λ v n. sym (on-none (record { variable = v; negated = n }))) reported.derived in
+    let small : length d.list ≤ c.ask.new.visits = omega (arith, reported.few, d.count) in
     let free : MeetsConflict (With (Live shown) g) [] → ⊥ = closed-none (With (Live shown) g) [] d.list d.derived
-    (is-closed (With (Live shown) g) shapes d.list told.list a d.matches (told.settled found))
-    (has-none (With (Live shown) g) shapes d.list told.list a d.matches told.one_sided (told.settled found)) in
+    (is-closed (With (Live shown) g) shapes d.list reported.list a d.matches (reported.settled found))
+    (has-none (With (Live shown) g) shapes d.list reported.list a d.matches reported.one_sided
+    (reported.settled found)) in
     let free_goal : MeetsConflict (With (Live shown) (negation_of c.args.goal.now)) [] → ⊥ = rw c.in-Ok.ensures.negation at free in
     let same : shown ≡ c.args.self.now.forms = ap (λ (v : Standing). v.forms) c.self.view_is in
     elim rup [
@@ -593,13 +594,13 @@ returns-then-self-clause-conflict c = λ found.
     let g = c.in-Ok.negation in
     let forms = forms_of e.store.kept.items in
     let asked = c.in_ok-answer.ensures.asked in
-    let told = asked.2 in
+    let reported = asked.2 in
     let shapes = all_of e.store e.clauses ++ (asked.0 ∷ []) in
     let a = placed-with forms e.places.items g shapes both.1 (with-kept forms g shapes (slots-more forms (all_of e.store e.clauses) (Some g) asked.0 r.slots asked.1)) in
     let shown = numbered forms e.places.items in
-    let d = derives (With (Live shown) g) shapes [] [] told.list a (λ v n. sym (on-none (record { variable = v; negated = n }))) told.derived in
-    let small : length d.list ≤ c.ask.new.visits = omega (arith, told.few, d.count) in
-    let meets : (m : MeetsConflict (With (Live shown) g) []) × (length m.list ≤ c.ask.new.visits) = (record { list = d.list; derived = d.derived; conflict = conflicts (With (Live shown) g) shapes d.list told.list a d.matches (told.conflict found) }, small) in
+    let d = derives (With (Live shown) g) shapes [] [] reported.list a (λ v n. sym (on-none (record { variable = v; negated = n }))) reported.derived in
+    let small : length d.list ≤ c.ask.new.visits = omega (arith, reported.few, d.count) in
+    let meets : (m : MeetsConflict (With (Live shown) g) []) × (length m.list ≤ c.ask.new.visits) = (record { list = d.list; derived = d.derived; conflict = conflicts (With (Live shown) g) shapes d.list reported.list a d.matches (reported.conflict found) }, small) in
     rw (← c.self.view_is) (inr (rw c.in-Ok.ensures.negation at meets))
 
 pub returns-then-self-clause-completion : goal.returns-then-self-clause-completion
@@ -610,13 +611,13 @@ returns-then-self-clause-completion c = λ found.
     let g = c.in-Ok.negation in
     let forms = forms_of e.store.kept.items in
     let asked = c.in_ok-answer.ensures.asked in
-    let told = asked.2 in
+    let reported = asked.2 in
     let shapes = all_of e.store e.clauses ++ (asked.0 ∷ []) in
     let a = placed-with forms e.places.items g shapes both.1 (with-kept forms g shapes (slots-more forms (all_of e.store e.clauses) (Some g) asked.0 r.slots asked.1)) in
     let shown = numbered forms e.places.items in
-    let d = derives (With (Live shown) g) shapes [] [] told.list a (λ v n. sym (on-none (record { variable = v; negated = n }))) told.derived in
-    let small : length d.list ≤ c.ask.new.visits = omega (arith, told.few, d.count) in
-    let done : IsCompletion (With (Live shown) g) [] d.list = record { derived = d.derived; closed = is-closed (With (Live shown) g) shapes d.list told.list a d.matches (told.settled found) } in
+    let d = derives (With (Live shown) g) shapes [] [] reported.list a (λ v n. sym (on-none (record { variable = v; negated = n }))) reported.derived in
+    let small : length d.list ≤ c.ask.new.visits = omega (arith, reported.few, d.count) in
+    let done : IsCompletion (With (Live shown) g) [] d.list = record { derived = d.derived; closed = is-closed (With (Live shown) g) shapes d.list reported.list a d.matches (reported.settled found) } in
     let whole : (list : List NumberedLiteral) × IsCompletion (With (Live shown) g) [] list × (length list ≤ c.ask.new.visits) = (d.list, done, small) in
     rw (← c.self.view_is) (rw c.in-Ok.ensures.negation at whole)
 

@@ -29,7 +29,7 @@ use Rattle.pb_replay.specs.engine.Clauses.Links.{lists_of}
 use Rattle.pb_replay.specs.engine.Clauses.Shapes.{joined}
 use Rattle.pb_replay.proofs.lemmas.clauses.Slots.{joined-push}
 use Rattle.pb_replay.proofs.lemmas.engine.Derivations.{derivation-then}
-use Rattle.pb_replay.proofs.lemmas.engine.Rests.{front-of}
+use Rattle.pb_replay.proofs.lemmas.engine.Rests.{prefix-of}
 use Rattle.pb_replay.proofs.lemmas.root.Questions.{root-few, entered-shapes, laid-counted, laid-tidy, undone-same, walked-agree, derives-entered, kept-terms, found-after, question-most}
 use Rattle.pb_replay.proofs.propagate.engine.question.ask.Goals as goal
 
@@ -133,14 +133,14 @@ returns-in_err-found-clause-most c =
     ap (λ xs. joined xs clauses) (entered-shapes c.args.form keep new.store.kept.items run.opens.items new.run.opens.items run.candidates.items new.run.candidates.items h) ∙ joined-push (shapes_of keep) clauses (kept_shape h.kept) c.requires.joined.short in
     let start : Derives (all_of new.store c.args.clauses.now) [] run.assignment.list.items = rw whole (derives-entered (all_of c.args.store.now c.args.clauses.now) (kept_shape h.kept) [] run.assignment.list.items r.derived) in
     let done = c.propagate-found.new.run in
-    let told = c.propagate-found.ensures in
-    let extends = rw laid_is at told.extends in
+    let reported = c.propagate-found.ensures in
+    let extends = rw laid_is at reported.extends in
     let work_is = ap (λ (v : Vec ℕ Global). v.items) c.enter.ensures.rest.1 ∙ r.work in
     let few = grown-length c.len-number.result c.enter.new.run.work.items c.lay.new.run.work.items c.in_ok-lay.ensures.work in
     let none_waits : length (filter (waits new.store.kept.items) c.as_slice.result.now) ≡ 0 = ap (λ (xs : List ℕ). length (filter (waits new.store.kept.items) xs)) (c.as_slice.ensures.value ∙ c.new-none.ensures.items) in
     let most = question-most new.store clauses run.assignment.list.items done.assignment.list.items done.visits (sum c.lay.new.run.candidates.items) c.of-root.result (length c.lay.new.run.work.items + length (filter (waits new.store.kept.items) c.as_slice.result.now)) c.lay.new.run.next (sum done.candidates.items)
-    c.in_ok-enter.ensures.sound (joined-entered c.args.form keep new.store.kept.items clauses run.opens.items new.run.opens.items run.candidates.items new.run.candidates.items h c.requires.joined) told.single (λ l on. opposite done.assignment.values.items done.assignment.list.items l done.assignment.agrees on) extends start
-    (omega (arith, c.of-root.ensures, c.len-count.ensures, run.assignment.list.ok.0)) (omega (arith, few.1, ap length work_is, none_waits)) told.bounded told.upper in
+    c.in_ok-enter.ensures.sound (joined-entered c.args.form keep new.store.kept.items clauses run.opens.items new.run.opens.items run.candidates.items new.run.candidates.items h c.requires.joined) reported.single (λ l on. opposite done.assignment.values.items done.assignment.list.items l done.assignment.agrees on) extends start
+    (omega (arith, c.of-root.ensures, c.len-count.ensures, run.assignment.list.ok.0)) (omega (arith, few.1, ap length work_is, none_waits)) reported.bounded reported.upper in
     let more = ap (sum_by (λ (f : Shape). length f.terms)) whole ∙ sum_by_push (λ (f : Shape). length f.terms) (all_of c.args.store.now c.args.clauses.now) (kept_shape h.kept) in
     omega (arith, most, more, kept-terms c.args.form (kept_shape h.kept) h.is, c.replace.ensures.value)
 
@@ -160,14 +160,14 @@ returns-clause-most c =
     ap (λ xs. joined xs clauses) (entered-shapes c.args.form keep new.store.kept.items run.opens.items new.run.opens.items run.candidates.items new.run.candidates.items h) ∙ joined-push (shapes_of keep) clauses (kept_shape h.kept) c.requires.joined.short in
     let start : Derives (all_of new.store c.args.clauses.now) [] run.assignment.list.items = rw whole (derives-entered (all_of c.args.store.now c.args.clauses.now) (kept_shape h.kept) [] run.assignment.list.items r.derived) in
     let done = c.propagate-found.new.run in
-    let told = c.propagate-found.ensures in
-    let extends = rw laid_is at told.extends in
+    let reported = c.propagate-found.ensures in
+    let extends = rw laid_is at reported.extends in
     let work_is = ap (λ (v : Vec ℕ Global). v.items) c.enter.ensures.rest.1 ∙ r.work in
     let few = grown-length c.len-number.result c.enter.new.run.work.items c.lay.new.run.work.items c.in_ok-lay.ensures.work in
     let none_waits : length (filter (waits new.store.kept.items) c.as_slice.result.now) ≡ 0 = ap (λ (xs : List ℕ). length (filter (waits new.store.kept.items) xs)) (c.as_slice.ensures.value ∙ c.new-none.ensures.items) in
     let most = question-most new.store clauses run.assignment.list.items done.assignment.list.items done.visits (sum c.lay.new.run.candidates.items) c.of-root.result (length c.lay.new.run.work.items + length (filter (waits new.store.kept.items) c.as_slice.result.now)) c.lay.new.run.next (sum done.candidates.items)
-    c.in_ok-enter.ensures.sound (joined-entered c.args.form keep new.store.kept.items clauses run.opens.items new.run.opens.items run.candidates.items new.run.candidates.items h c.requires.joined) told.single (λ l on. opposite done.assignment.values.items done.assignment.list.items l done.assignment.agrees on) extends start
-    (omega (arith, c.of-root.ensures, c.len-count.ensures, run.assignment.list.ok.0)) (omega (arith, few.1, ap length work_is, none_waits)) told.bounded told.upper in
+    c.in_ok-enter.ensures.sound (joined-entered c.args.form keep new.store.kept.items clauses run.opens.items new.run.opens.items run.candidates.items new.run.candidates.items h c.requires.joined) reported.single (λ l on. opposite done.assignment.values.items done.assignment.list.items l done.assignment.agrees on) extends start
+    (omega (arith, c.of-root.ensures, c.len-count.ensures, run.assignment.list.ok.0)) (omega (arith, few.1, ap length work_is, none_waits)) reported.bounded reported.upper in
     let more = ap (sum_by (λ (f : Shape). length f.terms)) whole ∙ sum_by_push (λ (f : Shape). length f.terms) (all_of c.args.store.now c.args.clauses.now) (kept_shape h.kept) in
     omega (arith, most, more, kept-terms c.args.form (kept_shape h.kept) h.is, c.replace.ensures.value)
 
@@ -187,18 +187,18 @@ returns-clause-asked c =
     ap (λ xs. joined xs clauses) (entered-shapes c.args.form keep new.store.kept.items run.opens.items new.run.opens.items run.candidates.items new.run.candidates.items h) ∙ joined-push (shapes_of keep) clauses (kept_shape h.kept) c.requires.joined.short in
     let start : Derives (all_of new.store c.args.clauses.now) [] run.assignment.list.items = rw whole (derives-entered (all_of c.args.store.now c.args.clauses.now) (kept_shape h.kept) [] run.assignment.list.items r.derived) in
     let done = c.propagate-found.new.run in
-    let told = c.in_ok-found.ensures in
-    let derived = rw laid_is at told.derived in
+    let reported = c.in_ok-found.ensures in
+    let derived = rw laid_is at reported.derived in
     let all = derivation-then (all_of new.store c.args.clauses.now) [] run.assignment.list.items done.assignment.list.items start derived in (
       kept_shape h.kept,
       h.is,
       record {
         list = done.assignment.list.items;
         derived = rw whole at all;
-        few = omega (arith, found-after (length done.assignment.list.items) done.visits (length run.assignment.list.items) (found_in (length run.assignment.list.items) (length c.lay.new.run.assignment.list.items) (length done.assignment.list.items) c.of-root.result done.visits (ap length laid_is) (omega (arith, c.of-root.ensures, c.len-count.ensures, run.assignment.list.ok.0)) told.found) (omega (arith, done.assignment.list.ok.0, done.assignment.list.ok.1)), c.replace.ensures.value);
+        few = omega (arith, found-after (length done.assignment.list.items) done.visits (length run.assignment.list.items) (found_in (length run.assignment.list.items) (length c.lay.new.run.assignment.list.items) (length done.assignment.list.items) c.of-root.result done.visits (ap length laid_is) (omega (arith, c.of-root.ensures, c.len-count.ensures, run.assignment.list.ok.0)) reported.found) (omega (arith, done.assignment.list.ok.0, done.assignment.list.ok.1)), c.replace.ensures.value);
         one_sided = λ l on. opposite done.assignment.values.items done.assignment.list.items l done.assignment.agrees on;
-        conflict = λ found. subst (λ xs. Conflicts xs done.assignment.list.items) whole (told.conflict found);
-        settled = λ found f has. told.settled found f (subst (λ xs. Contains xs f) (sym whole) has);
+        conflict = λ found. subst (λ xs. Conflicts xs done.assignment.list.items) whole (reported.conflict found);
+        settled = λ found f has. reported.settled found f (subst (λ xs. Contains xs f) (sym whole) has);
       },
     )
   where
@@ -218,14 +218,14 @@ returns-clause-rooted c =
     let laid_is = ap (λ (a : Assignment). a.list.items) (c.lay.ensures.assignment ∙ c.enter.ensures.rest.0) in
     let number_is : c.len-number.result ≡ length keep = omega (arith, c.len-number.ensures, c.args.store.now.kept.ok.0) in
     let done = c.propagate-found.new.run in
-    let told = c.in_ok-found.ensures in
+    let reported = c.in_ok-found.ensures in
     let b = c.back.new in
     let last = c.leave.new in
     let extends = rw laid_is at c.propagate-found.ensures.extends in
     let count_is : c.len-count.result ≡ length run.assignment.list.items = omega (arith, c.len-count.ensures, run.assignment.list.ok.0) in
     let long : length new.store.kept.items ≡ length keep + 1 = omega (arith, ap length h.keeps, length-append keep (h.kept ∷ [])) in
     let same = undone-same rests (shapes_of new.store.kept.items) b.run.opens.items b.run.candidates.items (length keep) c.back.ensures.undone (omega (arith, long, length-map new.store.kept.items kept_shape)) (omega (arith, long, c.back.ensures.opens)) (omega (arith, long, c.back.ensures.candidates)) (omega (arith, ap length r.opens, r.open_sizes)) (omega (arith, ap length r.starts, r.start_sizes)) in
-    let kept_is : last.store.kept.items ≡ keep = c.leave.ensures.kept ∙ front-of new.store.kept.items keep h.kept h.keeps in
+    let kept_is : last.store.kept.items ≡ keep = c.leave.ensures.kept ∙ prefix-of new.store.kept.items keep h.kept h.keeps in
     let opens_is : last.run.opens.items ≡ rests.opens.items = c.leave.ensures.opens ∙ same.0 in
     let starts_is : last.run.candidates.items ≡ rests.starts.items = c.leave.ensures.candidates ∙ same.1 in
     let cut : b.run.assignment.list.items ≡ run.assignment.list.items = c.back.ensures.list ∙ ap (λ xs. take c.len-count.result xs) extends.1 ∙ ap (λ n. take n (run.assignment.list.items ++ extends.0)) count_is ∙ take-append_seam run.assignment.list.items extends.0 in
@@ -233,12 +233,12 @@ returns-clause-rooted c =
     let lit : clauses_of b.clauses ≡ clauses = ap (λ (v : Vec (Vec ℕ Global) Global). lists_of v.items) (c.back.ensures.literals ∙ c.propagate-found.ensures.literals) in
     let values_is = ap (λ (a : Assignment). a.values.items) (c.lay.ensures.assignment ∙ c.enter.ensures.rest.0) in
     let codes = walked_codes (length run.assignment.list.items) run.assignment.list.items in
-    let served = told.kept run.assignment.values.items codes (subst (λ vs. Grows run.assignment.values.items vs) (sym values_is) (grows-refl run.assignment.values.items)) r.walked in
+    let served = reported.kept run.assignment.values.items codes (subst (λ vs. Grows run.assignment.values.items vs) (sym values_is) (grows-refl run.assignment.values.items)) r.walked in
     let watches_is = ap (λ (v : Vec Watch Global). v.items) c.back.ensures.watches in
     let agrees : Agree last.run.assignment.values.items run.assignment.list.items = subst (λ xs. Agree last.run.assignment.values.items xs) end_is last.run.assignment.agrees in
     let walked = walked-agree run.assignment.values.items last.run.assignment.values.items run.assignment.list.items c.propagate-found.new.clauses.watches.items codes run.assignment.agrees agrees served in
     record {
-      values = ap (λ (a : Assignment). length a.values.items) c.leave.ensures.rest.0 ∙ c.back.ensures.values ∙ told.values ∙ ap (λ (a : Assignment). length a.values.items) (c.lay.ensures.assignment ∙ c.enter.ensures.rest.0) ∙ r.values ∙ sym (c.leave.ensures.variables ∙ c.enter.ensures.variables);
+      values = ap (λ (a : Assignment). length a.values.items) c.leave.ensures.rest.0 ∙ c.back.ensures.values ∙ reported.values ∙ ap (λ (a : Assignment). length a.values.items) (c.lay.ensures.assignment ∙ c.enter.ensures.rest.0) ∙ r.values ∙ sym (c.leave.ensures.variables ∙ c.enter.ensures.variables);
       opens = opens_is;
       starts = starts_is;
       open_sizes = ap length (opens_is ∙ sym r.opens) ∙ r.open_sizes ∙ sym (ap length kept_is);

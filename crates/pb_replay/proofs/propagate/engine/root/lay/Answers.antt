@@ -4,7 +4,7 @@ use Rattle.pb_replay.specs.engine.Engine.Lists.{Shape, AreInside, says, open_sum
 use Rattle.pb_replay.specs.engine.Engine.Counts.{IsCalm}
 use Rattle.pb_replay.specs.engine.Engine.Fields.{shapes_of, kept_shape}
 use Rattle.pb_replay.specs.engine.Engine.Terms.{terms_of}
-use Rattle.pb_replay.proofs.lemmas.engine.Looks.{shape-at, grown-by}
+use Rattle.pb_replay.proofs.lemmas.engine.VisitSteps.{shape-at, grown-by}
 use Rattle.pb_replay.proofs.propagate.engine.root.lay.Goals as goal
 
 pub open_under-opened-requires-clause-inside : goal.open_under-opened-requires-clause-inside

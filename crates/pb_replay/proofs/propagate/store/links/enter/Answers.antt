@@ -27,8 +27,8 @@ returns-in_err-fill-clause-unchanged c =
     let k = c.in_ok-widen.ensures.kept in
     let was = c.args.store.now.kept.items in
     let now = c.fill.new.store.kept.items in
-    let told : (s : ℕ) → get_or (forms_of now) s None ≡ get_or (forms_of was) s None = λ s. forms-more was now k.0 s (c.in_err-fill.ensures.unchanged ∙ k.2) k.1.form in
-    search (rules, told)
+    let reported : (s : ℕ) → get_or (forms_of now) s None ≡ get_or (forms_of was) s None = λ s. forms-more was now k.0 s (c.in_err-fill.ensures.unchanged ∙ k.2) k.1.form in
+    search (rules, reported)
 
 pub returns-clause-entered : goal.returns-clause-entered
 returns-clause-entered c =

@@ -47,7 +47,7 @@ loop-read-preserved g c =
     let u = c.in-Ok.ensures in
     record {
       faults = rw i.led.1.running at t.faults ∙ i.faults;
-      unspent = replayed.unspent_after c.loop-read.replay c.step_watched.new.replay c.in-Ok-Some.read (c.tell_sound-in-Ok-Some.ensures.sound i.unspent) i.unspent u.steps;
+      unspent = replayed.unspent_after c.loop-read.replay c.step_watched.new.replay c.in-Ok-Some.read (c.report_sound-in-Ok-Some.ensures.sound i.unspent) i.unspent u.steps;
       limited = u.limits ∙ i.limited;
       problem = u.problem ∙ i.problem;
       led = (
@@ -72,7 +72,7 @@ pub returns-in-Err-step_watched-clause-faults : goal.returns-in-Err-step_watched
 returns-in-Err-step_watched-clause-faults g c =
     let i = c.loop-read.invariant in
     let t = rw (c.in-Ok-Some.is, c.in-Ok-Some.field-0-is) at c.pull.ensures in
-    replayed.refused_faults c.loop-read.replay c.step_watched.new.replay c.in-Ok-Some.read c.in-Err-step_watched.fault (c.tell_sound-in-Ok-Some.ensures.sound i.unspent) i.unspent c.in-Err-step_watched.ensures.steps _ _ (rw i.led.1.running at t.faults ∙ i.faults)
+    replayed.refused_faults c.loop-read.replay c.step_watched.new.replay c.in-Ok-Some.read c.in-Err-step_watched.fault (c.report_sound-in-Ok-Some.ensures.sound i.unspent) i.unspent c.in-Err-step_watched.ensures.steps _ _ (rw i.led.1.running at t.faults ∙ i.faults)
 
 pub returns-in-Err-clause-runs : goal.returns-in-Err-clause-runs
 returns-in-Err-clause-runs g c first at =
@@ -91,7 +91,7 @@ pub unreachable-requires : goal.unreachable-requires
 unreachable-requires g c =
     let i = c.loop-read.invariant in
     let t = rw (c.in-Ok-None.is, c.in-Ok-None.field-0-is) at c.pull.ensures in
-    let (first, at, right) = c.tell_sound.ensures.sound c.requires.running in
+    let (first, at, right) = c.report_sound.ensures.sound c.requires.running in
     replayed.no_end c.proofs_are_exact.ensures c.args.replay.now.limits c.args.longest (g.S.Source.left c.args.input.now) (g.S.Source.left c.pull.new.source) c.args.replay.now.problem first c.loop-read.replay i.led.0 (i.led.2 first at) i.unspent c.whole_proofs_conclude.ensures _ (t.row c.args.longest _ (g.S.Source.left c.args.input.now) i.led.0 i.led.1) (sym c.in-None.is ∙ c.verdict.ensures.verdict)
 
 pub returns-clause-runs : goal.returns-clause-runs
@@ -137,7 +137,7 @@ returns-clause-given g c first at =
 pub returns-in-Err-step_watched-clause-seen : goal.returns-in-Err-step_watched-clause-seen
 returns-in-Err-step_watched-clause-seen g c =
     let i = c.loop-read.invariant in
-    replayed.step_unseen (g.S.Source.shown c.pull.new.source) (g.S.Source.ended c.pull.new.source) c.loop-read.replay c.step_watched.new.replay c.in-Ok-Some.read c.in-Err-step_watched.fault (c.tell_sound-in-Ok-Some.ensures.sound i.unspent) i.unspent c.in-Err-step_watched.ensures.steps
+    replayed.step_unseen (g.S.Source.shown c.pull.new.source) (g.S.Source.ended c.pull.new.source) c.loop-read.replay c.step_watched.new.replay c.in-Ok-Some.read c.in-Err-step_watched.fault (c.report_sound-in-Ok-Some.ensures.sound i.unspent) i.unspent c.in-Err-step_watched.ensures.steps
 
 pub returns-in-Err-clause-seen : goal.returns-in-Err-clause-seen
 returns-in-Err-clause-seen g c =

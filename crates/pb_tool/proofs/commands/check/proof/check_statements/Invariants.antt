@@ -8,7 +8,7 @@ use Rattle.pb_proof.specs.declared.Statement.{Statement}
 use Rattle.pb_replay.specs.meaning.Replay.{State}
 use Rattle.pb_replay.specs.meaning.Statements.{Accepts}
 use Rattle.pb_text.specs.meaning.Whole.{events_at}
-use Rattle.pb_replay.specs.contract.Kept.{StandsFor}
+use Rattle.pb_replay.specs.contract.ReplayModel.{StandsFor}
 use Rattle.pb_tool.proofs.lemmas.show.GivenStatements.{HasGiven}
 use Rattle.pb_tool.proofs.lemmas.check.WatchCalls.{HasShown}
 use Rattle.pb_tool.proofs.commands.check.proof.check_statements.Given as goal
@@ -21,11 +21,11 @@ invariant-loop-read g l = record {
   unspent : l.replay.fault ≡ None;
   limited : l.replay.limits ≡ l.fn.replay.limits;
   problem : l.replay.problem ≡ l.fn.replay.problem;
-  led : (marks : List (Spanned Statement))
-      × HasPulled l.fn.longest (begin (largest l.fn.replay.limits) (top_of l.fn.replay.limits)) (g.S.Source.left l.fn.input) marks l.feeder (g.S.Source.left l.input)
-      × ((first : State) → StandsFor l.fn.replay first → (t : State) × StandsFor l.replay t × Accepts (largest l.fn.replay.limits) (top_of l.fn.replay.limits) l.fn.replay.problem first (events_at marks) t)
-      × HasGiven l.fn.longest (begin (largest l.fn.replay.limits) (top_of l.fn.replay.limits)) (g.S.Source.history l.fn.input) marks l.feeder (g.S.Source.history l.input)
-      × HasShown g.V.Watch.got l.fn.watch l.fn.replay marks l.watch l.replay;
+  led : (spans : List (Spanned Statement))
+      × HasPulled l.fn.longest (begin (largest l.fn.replay.limits) (top_of l.fn.replay.limits)) (g.S.Source.left l.fn.input) spans l.feeder (g.S.Source.left l.input)
+      × ((first : State) → StandsFor l.fn.replay first → (t : State) × StandsFor l.replay t × Accepts (largest l.fn.replay.limits) (top_of l.fn.replay.limits) l.fn.replay.problem first (events_at spans) t)
+      × HasGiven l.fn.longest (begin (largest l.fn.replay.limits) (top_of l.fn.replay.limits)) (g.S.Source.history l.fn.input) spans l.feeder (g.S.Source.history l.input)
+      × HasShown g.V.Watch.got l.fn.watch l.fn.replay spans l.watch l.replay;
 }
 
 -- the bytes that may still be read

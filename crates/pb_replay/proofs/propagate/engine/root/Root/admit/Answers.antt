@@ -189,11 +189,11 @@ returns-clause-rooted c = λ live.
     let walked = served-walked run.assignment.values.items g.1.watches.items c.args.clauses.now.watches.items codes c.args.slot g.3.watched (λ e here live h. absurd (no-watch (clauses_of c.args.clauses.now) c.args.clauses.now.watches.items (lists_of c.args.clauses.now.lists.items) c.args.slot e stored none_there here live)) r.walked in
     let rooted = gained-rooted g.0 store g.1 c.args.clauses.now run c.reach.new.run rests c.reach.new.rests c.args.slot c.requires.slot r g.3 reached walked in
     let done = c.propagate.new.run in
-    let told = c.in_ok-found.ensures in
+    let reported = c.in_ok-found.ensures in
     let end = c.if-found.false in
     let list_is = ap (λ (a : Assignment). a.list.items) c.lay.ensures.assignment in
-    let next = rw list_is at told.derived in
+    let next = rw list_is at reported.derived in
     let derived : Derives (all_of store c.args.clauses.now) [] done.assignment.list.items = derivation-then (all_of store c.args.clauses.now) [] c.reach.new.run.assignment.list.items done.assignment.list.items rooted.derived next in
     let watches = ap (λ (v : Vec Watch Global). v.items) c.rest.ensures.watches in
-    kept-rooted store c.args.clauses.now c.rest.new.self done c.keep.new.run c.reach.new.rests c.keep.new.rests (told.values ∙ ap (λ (a : Assignment). length a.values.items) c.lay.ensures.assignment ∙ rooted.values) told.opens told.candidates (told.counted end) (told.tidy end) (told.done end) derived (rw watches (told.walked end)) (c.rest.ensures.literals ∙ c.propagate.ensures.literals)
+    kept-rooted store c.args.clauses.now c.rest.new.self done c.keep.new.run c.reach.new.rests c.keep.new.rests (reported.values ∙ ap (λ (a : Assignment). length a.values.items) c.lay.ensures.assignment ∙ rooted.values) reported.opens reported.candidates (reported.counted end) (reported.tidy end) (reported.done end) derived (rw watches (reported.walked end)) (c.rest.ensures.literals ∙ c.propagate.ensures.literals)
     c.keep.ensures.opens c.keep.ensures.candidates c.keep.ensures.assignment c.keep.ensures.work c.keep.ensures.trail c.keep.ensures.next c.keep.ensures.rests.0 c.keep.ensures.rests.1

@@ -1,6 +1,6 @@
 use Rattle.std.proofs.Common.{◌≡◌, None, ◌+◌, ◌-◌, ◌≤◌, ◌++◌, ℕ, List, length, take, Result}
 use Rattle.pb_replay.specs.meaning.Problem.{Problem}
-use Rattle.pb_replay.specs.meaning.Meaning.{IsFront}
+use Rattle.pb_replay.specs.meaning.Meaning.{IsNamePrefix}
 use Rattle.pb_replay.specs.meaning.Replay.{State}
 use Rattle.pb_replay.specs.declared.fault.Fault.{Fault}
 use Rattle.pb_text.specs.declared.Limits.{Limits}
@@ -13,7 +13,7 @@ invariant-loop-went l = record {
   running : fault_of l.self ≡ None;
   bound : l.used ≤ length l.piece;
   offset : (place_in l.self).offset ≡ (place_in l.initial.self).offset + l.used;
-  names : IsFront l.initial.self.replay.names l.self.replay.names;
+  names : IsNamePrefix l.initial.self.replay.names l.self.replay.names;
   stands : (limits : Limits) (longest : ℕ) (v : Problem) (first : Result State Fault) (input : List ℕ) → ChecksAt limits longest v first input l.initial.self → ChecksAt limits longest v first (input ++ take l.used l.piece) l.self;
 }
 

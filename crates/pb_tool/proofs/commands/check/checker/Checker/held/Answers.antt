@@ -7,4 +7,4 @@ returns-clause-few c limits longest v first input none given =
 
 pub returns-clause-none : goal.returns-clause-none
 returns-clause-none c limits longest v first input none given ends =
-    none_at c.proofs_are_exact.ensures limits longest v first input c.self.inside.feeder c.self.inside.replay c.self.inside.fault (rw (← c.self.view_is) at none) (rw (← c.self.view_is) at given) c.held.result c.held.ensures.few c.no_front.ensures c.texts_are_read.ensures ends
+    none_at c.proofs_are_exact.ensures limits longest v first input c.self.inside.feeder c.self.inside.replay c.self.inside.fault (rw (← c.self.view_is) at none) (rw (← c.self.view_is) at given) c.held.result c.held.ensures.few c.prefix_free.ensures c.texts_are_read.ensures ends

@@ -4,5 +4,5 @@ use Rattle.pb_tool.proofs.commands.check.checker.Checker.new.Goals as goal
 
 pub invariant_of-result : goal.invariant_of-result
 invariant_of-result c =
-    let (first, at) = somewhere c.args.replay c.tell_sound.ensures.sound in
-    (c.args.replay.limits, _, c.args.replay.problem, first, [], record { marks = []; stands = rw (c.new-machine.ensures.begins, c.limits.ensures) at c.within.ensures.stands; running = c.within.ensures.running; limits_are = refl; problem = refl; now = first; at = at; accepted = leads_none c.args.replay.limits c.args.replay.problem first })
+    let (first, at) = somewhere c.args.replay c.report_sound.ensures.sound in
+    (c.args.replay.limits, _, c.args.replay.problem, first, [], record { spans = []; stands = rw (c.new-machine.ensures.begins, c.limits.ensures) at c.within.ensures.stands; running = c.within.ensures.running; limits_are = refl; problem = refl; now = first; at = at; accepted = leads_none c.args.replay.limits c.args.replay.problem first })

@@ -1,0 +1,274 @@
+-- What a byte preserves in the conclusion machine.
+use Rattle.std.proofs.Common.{◌≡◌, ℕ, ◌+◌, ◌-◌, ◌*◌, ◌^◌, ◌<◌, ◌≤◌, Bool, true, false, cond, ◌&&◌, nat_eq, nat_le, length, refl, sym, ap, subst, arith}
+use Rattle.std.proofs.lemmas.Bool.{leb-true, false≢true, cond_both, and_parts}
+use Rattle.std.specs.Prelude.{ℤ, Some, None, slice_index, List}
+use Rattle.pb_text.specs.contract.Automaton.{Next, Go, End, Refuse}
+use Rattle.pb_text.specs.meaning.Classes.{is_blank, is_digit}
+use Rattle.pb_text.specs.meaning.Numbers.{signed}
+use Rattle.pb_text.proofs.lemmas.text.Letters.{further}
+use Rattle.pb_sums.specs.declared.Literal.{Literal}
+use Rattle.pb_proof.specs.meaning.Lines.{inf_word}
+use Rattle.pb_proof.specs.engine.Line.Conclusion.{word_of, phase_after_word, phase_after_bound, spell, first_word, digits, begin_bound, colon, next_action, between, after_bound, id_digits, after_id, plan, is_within, is_done, PhaseFits}
+use Rattle.pb_proof.specs.engine.Line.ConclusionState.{ConclusionState, conclusion_automaton, conclusion_at, conclusion_last, giving, act, over, is_in_number, spent, Holds, IsConclusionInOrder}
+use Rattle.pb_proof.specs.engine.Line.Literals.{LiteralsState, literals_automaton}
+use Rattle.pb_proof.specs.declared.conclusion.Bound.{Bound}
+use Rattle.pb_proof.specs.declared.conclusion.Bound.TheVariants.{Finite, Infinite}
+use Rattle.pb_proof.specs.declared.conclusion.Conclusion.{Conclusion}
+use Rattle.pb_proof.specs.declared.line.conclusion.phase.Word.{Word}
+use Rattle.pb_proof.specs.declared.line.conclusion.phase.Word.TheVariants as word
+use Rattle.pb_proof.specs.declared.line.conclusion.phase.Owner.{Owner}
+use Rattle.pb_proof.specs.declared.line.conclusion.phase.Owner.TheVariants as owner
+use Rattle.pb_proof.specs.declared.line.conclusion.phase.Side.{Side}
+use Rattle.pb_proof.specs.declared.line.conclusion.phase.Side.TheVariants as side
+use Rattle.pb_proof.specs.declared.line.conclusion.phase.Showing.{Showing}
+use Rattle.pb_proof.specs.declared.line.conclusion.phase.Showing.TheVariants as showing
+use Rattle.pb_proof.specs.declared.line.conclusion.phase.Concluding.{Concluding}
+use Rattle.pb_proof.specs.declared.line.conclusion.phase.Concluding.TheVariants as concluding
+use Rattle.pb_proof.specs.declared.line.conclusion.phase.Phase.{Phase}
+use Rattle.pb_proof.specs.declared.line.conclusion.phase.Phase.TheVariants as phase
+use Rattle.pb_proof.specs.declared.line.conclusion.phase.Action.{Action}
+use Rattle.pb_proof.specs.declared.line.conclusion.phase.Action.TheVariants.{To, Finish, Give, Stop}
+use Rattle.pb_proof.proofs.lemmas.Literals.Theorems.{literals_of_one}
+
+abbrev N : Type 0
+N = Next ConclusionState Conclusion
+
+-- the conclusion continues
+abbrev IsNext : ConclusionState → Phase → Phase → Type 0
+IsNext s p q = (is_within q ≡ true) × (PhaseFits s.limit s.top p → PhaseFits s.limit s.top q)
+
+abbrev OnAction : ConclusionState → Phase → Action → Type 0
+OnAction s p (To q) = IsNext s p q
+OnAction s p (Give shows) = p ≡ phase.Shown shows
+OnAction s p _ = Unit {0}
+
+module _ (s : ConclusionState) (p : Phase) where
+  abbrev On : Action → Type 0
+  On = OnAction s p
+
+  on_cond : (c : Bool) (x y : Action) → On x → On y → On (cond c x y)
+  on_cond true x y h k = h
+  on_cond false x y h k = k
+
+  on_digits : (x : Side) (negative : Bool) (n b : ℕ) → On (digits s.limit x negative n b)
+  on_digits x negative n b = cond_both (is_digit b && nat_le (10 * n + (b - 48)) s.limit) _ Stop On
+      (λ e. (refl, λ f. leb-true (10 * n + (b - 48)) s.limit (and_parts (is_digit b) (nat_le (10 * n + (b - 48)) s.limit) e).1))
+      (λ e. tt)
+
+  on_id_digits : (x : Owner) (negative : Bool) (n b : ℕ) → On (id_digits s.top x negative n b)
+  on_id_digits x negative n b = cond_both (is_digit b && nat_le (10 * n + (b - 48)) s.top) _ Stop On
+      (λ e. (refl, λ f. leb-true (10 * n + (b - 48)) s.top (and_parts (is_digit b) (nat_le (10 * n + (b - 48)) s.top) e).1))
+      (λ e. tt)
+
+  -- a byte of a word
+  on_spell : (w : List ℕ) (k b : ℕ) (more whole : Phase) → IsNext s p whole → (nat_eq (k + 1) (length w) ≡ false → IsNext s p more) → On (spell w k b more whole)
+  on_spell w k b more whole h i =
+      on_cond (nat_eq b (slice_index w k)) _ Stop
+      (cond_both (nat_eq (k + 1) (length w)) whole more (λ q. On (To q)) (λ e. h) i) tt
+
+  on_begin : (x : Side) (b : ℕ) → On (begin_bound s.limit x b)
+  on_begin x b =
+      on_cond (nat_eq b 43) (To (phase.Signed x false)) _ (refl, λ f. tt)
+      (on_cond (nat_eq b 45) (To (phase.Signed x true)) _ (refl, λ f. tt)
+      (on_cond (nat_eq b 73) (To (phase.Infinity x 1)) _ (refl, λ f. omega arith) (on_digits x false 0 b)))
+
+  on_colon : (c : Concluding) → On (colon c)
+  on_colon concluding.NoClaim = tt
+  on_colon (concluding.Unsat None) = (refl, λ f. tt)
+  on_colon (concluding.Unsat (Some id)) = tt
+  on_colon (concluding.Shows shows) = (refl, λ f. tt)
+
+  on_after : (c : Concluding) (b : ℕ) → On (next_action c b)
+  on_after c b =
+      on_cond (is_blank b) (To (phase.AfterValue c)) _ (refl, λ f. tt)
+      (on_cond (nat_eq b 10) (Finish c) _ tt
+      (on_cond (nat_eq b 59) (To (phase.Semicolon c)) _ (refl, λ f. tt)
+      (on_cond (nat_eq b 58) (colon c) Stop (on_colon c) tt)))
+
+  on_between : (x : Bound) (b : ℕ) → On (between x b)
+  on_between x b =
+      on_cond (is_blank b) (To (phase.Spaced x)) _ (refl, λ f. tt)
+      (on_cond (nat_eq b 58) (To (phase.BeforeId (owner.Lower x))) Stop (refl, λ f. tt) tt)
+
+  on_after_bound : (x : Side) (y : Bound) (b : ℕ) → On (after_bound x y b)
+  on_after_bound side.Lower y b = on_between y b
+  on_after_bound (side.Upper lower id) y b = on_after (concluding.Shows (showing.Bounds lower id y)) b
+
+  on_after_id : (x : Owner) (id : ℤ) (b : ℕ) → On (after_id x id b)
+  on_after_id owner.Unsat id b = on_after (concluding.Unsat (Some id)) b
+  on_after_id (owner.Lower x) id b = on_cond (is_blank b) (To (phase.BeforeBound (side.Upper x (Some id)))) Stop (refl, λ f. tt) tt
+
+  on_first : (b : ℕ) → On (first_word b)
+  on_first b =
+      on_cond (nat_eq b 78) (To (phase.Word word.NoClaim 1)) _ (refl, λ f. omega arith)
+      (on_cond (nat_eq b 85) (To (phase.Word word.Unsat 1)) _ (refl, λ f. omega arith)
+      (on_cond (nat_eq b 83) (To (phase.Word word.Sat 1)) _ (refl, λ f. omega arith)
+      (on_cond (nat_eq b 66) (To (phase.Word word.Bounds 1)) Stop (refl, λ f. omega arith) tt)))
+
+-- the transitions of each phase
+module _ (s : ConclusionState) where
+  next_word : (w : Word) (k : ℕ) → IsNext s (phase.Word w k) (phase_after_word w)
+  next_word word.NoClaim k = (refl, λ f. tt)
+  next_word word.Unsat k = (refl, λ f. tt)
+  next_word word.Sat k = (refl, λ f. tt)
+  next_word word.Bounds k = (refl, λ f. tt)
+
+  next_bound : (x : Side) (k : ℕ) → IsNext s (phase.Infinity x k) (phase_after_bound x Infinite)
+  next_bound side.Lower k = (refl, λ f. tt)
+  next_bound (side.Upper lower id) k = (refl, λ f. tt)
+
+  pub on_plan : (p : Phase) (b : ℕ) → OnAction s p (plan s.limit s.top p b)
+  on_plan phase.Start b = on_cond s phase.Start (is_blank b) (To phase.Before) Stop (refl, λ f. tt) tt
+  on_plan phase.Before b = on_cond s phase.Before (is_blank b) (To phase.Before) _ (refl, λ f. tt) (on_first s phase.Before b)
+  on_plan (phase.Word w k) b =
+      on_spell s (phase.Word w k) (word_of w) k b (phase.Word w (k + 1)) (phase_after_word w) (next_word w k)
+      (λ e. (refl, λ f. further k (length (word_of w)) f e))
+  on_plan (phase.AfterValue c) b = on_after s (phase.AfterValue c) c b
+  on_plan (phase.Semicolon c) b =
+      on_cond s (phase.Semicolon c) (is_blank b) (To (phase.Semicolon c)) _ (refl, λ f. tt)
+      (on_cond s (phase.Semicolon c) (nat_eq b 10) (Finish c) Stop tt tt)
+  on_plan phase.Bounded b = on_cond s phase.Bounded (is_blank b) (To (phase.BeforeBound side.Lower)) Stop (refl, λ f. tt) tt
+  on_plan (phase.BeforeBound x) b =
+      on_cond s (phase.BeforeBound x) (is_blank b) (To (phase.BeforeBound x)) _ (refl, λ f. tt) (on_begin s (phase.BeforeBound x) x b)
+  on_plan (phase.Signed x negative) b = on_digits s (phase.Signed x negative) x negative 0 b
+  on_plan (phase.Digits x negative n) b =
+      on_cond s (phase.Digits x negative n) (is_digit b) _ _ (on_digits s (phase.Digits x negative n) x negative n b)
+      (on_after_bound s (phase.Digits x negative n) x (Finite (signed negative n)) b)
+  on_plan (phase.Infinity x k) b =
+      on_spell s (phase.Infinity x k) inf_word k b (phase.Infinity x (k + 1)) (phase_after_bound x Infinite)
+      (next_bound x k)
+      (λ e. (refl, λ f. further k (length inf_word) f e))
+  on_plan (phase.Between x) b = on_between s (phase.Between x) x b
+  on_plan (phase.Spaced x) b =
+      on_cond s (phase.Spaced x) (is_blank b) (To (phase.Spaced x)) _ (refl, λ f. tt)
+      (on_cond s (phase.Spaced x) (nat_eq b 58) (To (phase.BeforeId (owner.Lower x))) _ (refl, λ f. tt) (on_begin s (phase.Spaced x) (side.Upper x None) b))
+  on_plan (phase.BeforeId x) b =
+      on_cond s (phase.BeforeId x) (is_blank b) (To (phase.BeforeId x)) _ (refl, λ f. tt)
+      (on_cond s (phase.BeforeId x) (nat_eq b 45) (To (phase.IdSigned x)) _ (refl, λ f. tt) (on_id_digits s (phase.BeforeId x) x false 0 b))
+  on_plan (phase.IdSigned x) b = on_id_digits s (phase.IdSigned x) x true 0 b
+  on_plan (phase.IdDigits x negative n) b =
+      on_cond s (phase.IdDigits x negative n) (is_digit b) _ _ (on_id_digits s (phase.IdDigits x negative n) x negative n b)
+      (on_cond s (phase.IdDigits x negative n) (nat_eq n 0) Stop _ tt (on_after_id s (phase.IdDigits x negative n) x (signed negative n) b))
+  on_plan (phase.Shown shows) b = refl
+  on_plan phase.Done b = tt
+
+-- what holds after a byte
+pub record Goes (s next : ConclusionState) : Type 0 where
+  pub fits : PhaseFits s.limit s.top s.phase → PhaseFits next.limit next.top next.phase
+  pub within : conclusion_automaton.begun next ≡ true
+  pub limits : conclusion_last next.limit next.top ≡ conclusion_last s.limit s.top
+  pub keeps : IsConclusionInOrder s → IsConclusionInOrder next
+  pub grows : conclusion_automaton.spent next ≤ conclusion_automaton.spent s + 1
+
+abbrev Stepped : ConclusionState → N → Type 0
+Stepped s (Go next) = Goes s next
+Stepped s (End e next) = next ≡ conclusion_last s.limit s.top
+Stepped s Refuse = Unit {0}
+
+-- a byte that the literals machine takes
+module _ (s : ConclusionState) (shows : Showing) (p : s.phase ≡ phase.Shown shows) (b : ℕ) where
+  given_order : (inner : LiteralsState) → literals_automaton.step s.literals b ≡ Go inner → IsConclusionInOrder s → IsConclusionInOrder (giving s inner)
+  given_order inner e h = record {
+    limit = h.limit;
+    top = h.top;
+    some = h.some;
+    fits = h.fits;
+    holds = subst (λ q. Holds (giving s inner) q) (sym p) (literals_of_one.owes inner (literals_of_one.begins s.literals inner b e));
+    literals = literals_of_one.keeps s.literals inner b h.literals e;
+  }
+
+  given_grows : (inner : LiteralsState) → literals_automaton.step s.literals b ≡ Go inner → spent (giving s inner) s.phase ≤ spent s s.phase + 1
+  given_grows inner e = subst (λ q. spent (giving s inner) q ≤ spent s q + 1) (sym p) (literals_of_one.grows s.literals inner b e)
+
+  given : (n : Next LiteralsState (List Literal)) → literals_automaton.step s.literals b ≡ n → Stepped s (over s shows n)
+  given (Go inner) e = record { fits = λ f. f; within = ap is_within p; limits = refl; keeps = given_order inner e; grows = given_grows inner e }
+  given (End literals inner) e = refl
+  given Refuse e = tt
+
+-- nothing is stored if no literal is read
+idle_holds : (limit top : ℕ) (p : Phase) → Holds (conclusion_at limit top p) p
+idle_holds limit top phase.Start = refl
+idle_holds limit top phase.Before = refl
+idle_holds limit top (phase.Word w k) = refl
+idle_holds limit top (phase.AfterValue c) = refl
+idle_holds limit top (phase.Semicolon c) = refl
+idle_holds limit top phase.Bounded = refl
+idle_holds limit top (phase.BeforeBound x) = refl
+idle_holds limit top (phase.Signed x negative) = refl
+idle_holds limit top (phase.Digits x negative n) = refl
+idle_holds limit top (phase.Infinity x k) = refl
+idle_holds limit top (phase.Between x) = refl
+idle_holds limit top (phase.Spaced x) = refl
+idle_holds limit top (phase.BeforeId x) = refl
+idle_holds limit top (phase.IdSigned x) = refl
+idle_holds limit top (phase.IdDigits x negative n) = refl
+idle_holds limit top (phase.Shown x) = refl
+idle_holds limit top phase.Done = refl
+
+idle_spent : (limit top : ℕ) (p : Phase) → spent (conclusion_at limit top p) p ≤ 1
+idle_spent limit top (phase.Shown x) = omega arith
+idle_spent limit top phase.Start = omega arith
+idle_spent limit top phase.Before = omega arith
+idle_spent limit top (phase.Word w k) = omega arith
+idle_spent limit top (phase.AfterValue c) = omega arith
+idle_spent limit top (phase.Semicolon c) = omega arith
+idle_spent limit top phase.Bounded = omega arith
+idle_spent limit top (phase.BeforeBound x) = omega arith
+idle_spent limit top (phase.Signed x negative) = omega arith
+idle_spent limit top (phase.Digits x negative n) = omega arith
+idle_spent limit top (phase.Infinity x k) = omega arith
+idle_spent limit top (phase.Between x) = omega arith
+idle_spent limit top (phase.Spaced x) = omega arith
+idle_spent limit top (phase.BeforeId x) = omega arith
+idle_spent limit top (phase.IdSigned x) = omega arith
+idle_spent limit top (phase.IdDigits x negative n) = omega arith
+idle_spent limit top phase.Done = omega arith
+
+-- a state in which no literal is read
+pub idle_order : (limit top : ℕ) (p : Phase) → limit < 2 ^ 127 → top < 2 ^ 63 → 0 < top → PhaseFits limit top p → IsConclusionInOrder (conclusion_at limit top p)
+idle_order limit top p l t z f = record { limit = l; top = t; some = z; fits = f; holds = idle_holds limit top p; literals = λ i. (refl, refl) }
+
+acted : (s : ConclusionState) (b : ℕ) (m : Action) → OnAction s s.phase m → Stepped s (act s b m)
+acted s b (To p) h = record {
+  fits = h.1;
+  within = h.0;
+  limits = refl;
+  keeps = λ i. idle_order s.limit s.top p i.limit i.top i.some (h.1 i.fits);
+  grows = omega (arith, idle_spent s.limit s.top p);
+}
+acted s b (Finish c) h = refl
+acted s b (Give shows) h = given s shows h b (literals_automaton.step s.literals b) refl
+acted s b Stop h = tt
+
+pub stepped : (s : ConclusionState) (b : ℕ) → Stepped s (conclusion_automaton.step s b)
+stepped s b = acted s b (plan s.limit s.top s.phase b) (on_plan s s.phase b)
+
+pub goes : (s next : ConclusionState) (b : ℕ) → conclusion_automaton.step s b ≡ Go next → Goes s next
+goes s next b e = subst (Stepped s) e (stepped s b)
+
+pub ends : (s next : ConclusionState) (b : ℕ) (c : Conclusion) → conclusion_automaton.step s b ≡ End c next → next ≡ conclusion_last s.limit s.top
+ends s next b c e = subst (Stepped s) e (stepped s b)
+
+-- phases within a conclusion, before it and after it
+pub not_done : (p : Phase) → is_within p ≡ true → is_done p ≡ false
+not_done phase.Start h = absurd (false≢true h)
+not_done phase.Done h = absurd (false≢true h)
+not_done _ h = refl
+
+pub done_stops : (limit top : ℕ) (p : Phase) (b : ℕ) → is_done p ≡ true → plan limit top p b ≡ Stop
+done_stops limit top phase.Done b h = refl
+done_stops limit top _ b h = absurd (false≢true h)
+
+pub no_number : (s : ConclusionState) (p : Phase) → is_within p ≡ false → is_in_number s p ≡ false
+no_number s phase.Start h = refl
+no_number s phase.Done h = refl
+no_number s _ h = absurd (false≢true (sym h))
+
+pub nothing_spent : (s : ConclusionState) (p : Phase) → is_within p ≡ false → spent s p ≡ 0
+nothing_spent s phase.Start h = refl
+nothing_spent s phase.Done h = refl
+nothing_spent s _ h = absurd (false≢true (sym h))
+
+-- bytes are given to the literals machine only where literals are shown
+pub give_phase : (s : ConclusionState) (b : ℕ) (x : Showing) → plan s.limit s.top s.phase b ≡ Give x → s.phase ≡ phase.Shown x
+give_phase s b x e = subst (OnAction s s.phase) e (on_plan s s.phase b)

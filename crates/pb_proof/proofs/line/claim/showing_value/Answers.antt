@@ -1,5 +1,0 @@
-use Rattle.std.proofs.Common.{rules}
-use Rattle.pb_proof.proofs.line.claim.showing_value.Goals as goal
-
-pub returns-in-Bounds : goal.returns-in-Bounds
-returns-in-Bounds c = search rules

@@ -1,0 +1,5 @@
+use Rattle.pb_proof.proofs.lemmas.Conclusion.Pushes.{first_order}
+use Rattle.pb_proof.proofs.line.conclusion.ConclusionMachine.new.Goals as goal
+
+pub invariant_of-result : goal.invariant_of-result
+invariant_of-result c = rw c.new.ensures.begins (first_order c.args.limits)

@@ -1,5 +1,0 @@
-use Rattle.std.proofs.Common.{rules}
-use Rattle.pb_proof.proofs.machine.transition.stage_behind.Goals as goal
-
-pub returns-in-Conclusion : goal.returns-in-Conclusion
-returns-in-Conclusion c = search rules

@@ -1,5 +1,0 @@
-use Rattle.std.proofs.Common.{rules}
-use Rattle.pb_proof.proofs.statement.Statement.stage_behind.Goals as goal
-
-pub returns-in-Output : goal.returns-in-Output
-returns-in-Output c = search rules

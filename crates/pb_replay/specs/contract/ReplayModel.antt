@@ -1,0 +1,163 @@
+-- What a replay stores, as a problem and a state
+use Rattle.std.specs.Prelude.{◌≡◌, ℕ, ℤ, zero, suc, ◌<◌, ◌≤◌, ◌≤ℤ◌, ◌⊎◌, false, if◌then◌else◌, is_some, List, [], ◌∷◌, ◌++◌, All, Contains, length, take, get_or, Option, Some, None, option_map, Result, Ok, Err}
+use Rattle.pb_text.specs.meaning.Limits.{largest, top_of}
+use Rattle.pb_text.specs.declared.Limits.{Limits}
+use Rattle.pb_proof.specs.declared.Statement.{Statement}
+use Rattle.pb_proof.specs.declared.Stage.{Stage}
+use Rattle.pb_proof.specs.declared.Stage.TheVariants.{Complete}
+use Rattle.pb_normal.specs.meaning.Form.{Form}
+use Rattle.pb_normal.specs.meaning.Names.{with_names}
+use Rattle.pb_normal.specs.meaning.Written.{magnitude}
+use Rattle.pb_replay.specs.declared.fault.Fault.{Fault}
+use Rattle.pb_replay.specs.declared.fault.Fault.TheVariants.{Memory, NotTotal}
+use Rattle.pb_replay.specs.declared.verdict.Verdict.{Verdict}
+use Rattle.pb_replay.specs.declared.state.Running.{Running}
+use Rattle.pb_replay.specs.meaning.Problem.{Problem, objective_of}
+use Rattle.pb_replay.specs.meaning.Replay.{State, Logged, Live, added, first_state}
+use Rattle.pb_replay.specs.meaning.Statements.{Does, Outcome, mentioned}
+use Rattle.pb_replay.specs.meaning.Meaning.{IsNamePrefix, IsProblem, IsSound}
+
+-- the least value of those that were logged
+abbrev pub IsBest : List Logged → Option ℤ → Type 0
+IsBest logged None = logged ≡ []
+IsBest logged (Some b) = ((g : Logged) × Contains logged g × (g.value ≡ b)) × ((g : Logged) → Contains logged g → b ≤ℤ g.value)
+
+-- the form's variables are below this number
+abbrev pub IsInside : ℕ → Form → Type 0
+IsInside n f = All (λ t. t.variable < n) f.terms
+
+abbrev pub problem_of : Running → Problem
+problem_of r = record { loaded = r.loaded.items; objective = option_map (λ c. c.terms) r.objective; names = take r.own r.names }
+
+-- the state in which these solutions were logged
+abbrev pub state_of : Running → List Logged → State
+state_of r logged = record { live = r.engine.forms; names = r.names; logged = logged; next = r.next; concluded = r.concluded }
+
+-- the state after a statement's names have appeared
+abbrev pub with_mentioned : State → Statement → State
+with_mentioned s st = record s { names = with_names s.names (mentioned st) }
+
+-- The result of a statement that may come, and of any statement, whatever was logged with this best value. `Memory` is
+-- possible for each.
+abbrev pub Goes : Running → Statement → Result Unit Fault → Running → Type 0
+Goes old st (Ok _) new = (logged : List Logged) → IsBest logged old.best → (more : List Logged) × IsBest more new.best
+    × Does (largest old.limits) (top_of old.limits) (problem_of old) (with_mentioned (state_of old logged) st) st (Ok (state_of new more))
+Goes old st (Err e) new = (e ≡ Memory) ⊎ ((logged : List Logged) → IsBest logged old.best
+    → Does (largest old.limits) (top_of old.limits) (problem_of old) (with_mentioned (state_of old logged) st) st (Err e))
+
+abbrev pub Comes : Running → Statement → Result Unit Fault → Running → Type 0
+Comes old st (Ok _) new = (logged : List Logged) → IsBest logged old.best → (more : List Logged) × IsBest more new.best
+    × Outcome (largest old.limits) (top_of old.limits) (problem_of old) (state_of old logged) st (Ok (state_of new more))
+Comes old st (Err e) new = (e ≡ Memory) ⊎ ((logged : List Logged) → IsBest logged old.best
+    → Outcome (largest old.limits) (top_of old.limits) (problem_of old) (state_of old logged) st (Err e))
+
+-- the same for a statement whose names have appeared already
+abbrev pub GoesAt : Running → Statement → Result Unit Fault → Running → Type 0
+GoesAt old st (Ok _) new = (logged : List Logged) → IsBest logged old.best → (more : List Logged) × IsBest more new.best
+    × Does (largest old.limits) (top_of old.limits) (problem_of old) (state_of old logged) st (Ok (state_of new more))
+GoesAt old st (Err e) new = (e ≡ Memory) ⊎ ((logged : List Logged) → IsBest logged old.best
+    → Does (largest old.limits) (top_of old.limits) (problem_of old) (state_of old logged) st (Err e))
+
+-- the same for one more form
+abbrev pub Adding : Running → Form → Result Unit Fault → Running → Type 0
+Adding old form (Ok _) new = (before after : List Logged) → added (top_of old.limits) (state_of old before) after form (Ok (state_of new after))
+Adding old form (Err e) new = (e ≡ Memory) ⊎ ((before after : List Logged) → added (top_of old.limits) (state_of old before) after form (Err e))
+
+-- the same for one more form, once a solution with this value was logged
+abbrev pub Logs : Running → ℤ → Form → Result Unit Fault → Running → Type 0
+Logs old z form (Ok _) new = (before : List Logged) (g : Logged) → IsBest before old.best → g.value ≡ z
+    → IsBest (before ++ g ∷ []) new.best × added (top_of old.limits) (state_of old before) (before ++ g ∷ []) form (Ok (state_of new (before ++ g ∷ [])))
+Logs old z form (Err e) new = (e ≡ Memory) ⊎ ((before : List Logged) (g : Logged) → added (top_of old.limits) (state_of old before) (before ++ g ∷ []) form (Err e))
+
+-- what stays the same, whatever the result
+pub record Keeps (old new : Running) : Type 0 where
+  pub limits : new.limits ≡ old.limits
+  pub own : new.own ≡ old.own
+  pub loaded : new.loaded.items ≡ old.loaded.items
+  pub objective : option_map (λ c. c.terms) new.objective ≡ option_map (λ c. c.terms) old.objective
+  pub names : IsNamePrefix old.names new.names
+
+-- the engine is not spent, has a variable for each name, and every live form lies within these
+pub record IsLinked (r : Running) : Type 0 where
+  pub ready : r.engine.spent ≡ false
+  pub variables : r.engine.variables ≡ length r.names
+  pub inside : (f : Form) → Live r.engine.forms f → IsInside (length r.names) f
+
+-- what is true of the instance in every state
+pub record IsProper (r : Running) : Type 0 where
+  pub own : r.own ≤ length r.names
+  pub problem : IsProblem (problem_of r)
+  pub fits : magnitude (objective_of (problem_of r).objective) ≤ largest r.limits
+  pub loaded : (f : Form) → Contains r.loaded.items f → IsInside r.own f
+
+-- what is true before each statement
+pub record IsReady (r : Running) : Type 0 where
+  pub proper : IsProper r
+  pub linked : IsLinked r
+  pub sound : (logged : List Logged) × IsBest logged r.best × IsSound (problem_of r) (state_of r logged)
+
+-- what is true between statements: all of this until there is a fault; if a fault reports a name, the name exists
+pub record IsKept (r : Running) (fault : Option Fault) : Type 0 where
+  pub ready : fault ≡ None → IsReady r
+  pub reported : (n : ℕ) → fault ≡ Some (NotTotal n) → n < length r.names
+
+-- other names have appeared, and nothing else has changed
+pub record HasNamed (others : List (List ℕ)) (old new : Running) : Type 0 where
+  pub names : new.names ≡ with_names old.names others
+  pub forms : new.engine.forms ≡ old.engine.forms
+  pub best : new.best ≡ old.best
+  pub next : new.next ≡ old.next
+  pub concluded : new.concluded ≡ old.concluded
+
+-- the lesser of the best value, if there is one, and another
+abbrev pub IsBetter : Option ℤ → ℤ → ℤ → Type 0
+IsBetter None z r = r ≡ z
+IsBetter (Some b) z r = (r ≤ℤ b) × (r ≤ℤ z) × ((r ≡ b) ⊎ (r ≡ z))
+
+-- before the first statement
+pub record IsFirst (given : Limits) (r : Running) : Type 0 where
+  pub limits : r.limits ≡ given
+  pub own : r.own ≡ length r.names
+  pub best : r.best ≡ None
+  pub state : state_of r [] ≡ first_state (problem_of r)
+  pub ready : r.engine.spent ≡ false
+  pub variables : r.engine.variables ≡ length r.names
+  pub visits : r.visits ≡ 0
+
+-- what callers see of a replay; after a fault it is spent
+pub record Replaying : Type 0 where
+  pub limits : Limits
+  pub problem : Problem
+  pub live : List (Option Form)
+  pub names : List (List ℕ)
+  pub best : Option ℤ
+  pub next : Stage
+  pub concluded : Option Verdict
+  pub fault : Option Fault
+  pub visits : ℕ
+
+-- The state that it represents. Of the logged solutions only the best value is seen.
+pub record StandsFor (r : Replaying) (s : State) : Type 0 where
+  pub live : s.live ≡ r.live
+  pub names : s.names ≡ r.names
+  pub logged : IsBest s.logged r.best
+  pub next : s.next ≡ r.next
+  pub concluded : s.concluded ≡ r.concluded
+
+-- the verdict, once the proof has ended
+abbrev pub verdict_at : Stage → Option Verdict → Option Verdict
+verdict_at Complete concluded = concluded
+verdict_at _ concluded = None
+
+abbrev pub verdict_in : Replaying → Option Verdict
+verdict_in r = if is_some r.fault then None else verdict_at r.next r.concluded
+
+-- the live constraint with this id
+abbrev pub constraint_in : List (Option Form) → ℕ → Option Form
+constraint_in live zero = None
+constraint_in live (suc n) = get_or live n None
+
+-- The result of a step of a replay that is not spent, in every state that it represents. Each fault may be out of memory.
+abbrev pub StepsAs : Replaying → Statement → Result Unit Fault → Replaying → Type 0
+StepsAs old st (Ok _) new = ((s : State) → StandsFor old s → (t : State) × StandsFor new t × Outcome (largest old.limits) (top_of old.limits) old.problem s st (Ok t)) × (new.fault ≡ None)
+StepsAs old st (Err e) new = ((e ≡ Memory) ⊎ ((s : State) → StandsFor old s → Outcome (largest old.limits) (top_of old.limits) old.problem s st (Err e))) × (new.fault ≡ Some e)

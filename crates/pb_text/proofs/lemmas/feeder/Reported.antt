@@ -1,0 +1,131 @@
+-- What a state with `Stands` for its text says is what a read of the text must give.
+use Rattle.std.proofs.Common.{◌≡◌, ℕ, ◌≤◌, List, [], ◌∷◌, ◌++◌, length, Bool, true, false, ◌&&◌, IsTrue, Option, Some, None, is_some, refl, sym, ap, ◌∙◌, append_assoc, arith, subst, inl, inr}
+use Rattle.std.proofs.lemmas.List.{append-nil}
+use Rattle.std.proofs.lemmas.Bool.{false≢true}
+use Rattle.pb_text.specs.meaning.Classes.{is_digit}
+use Rattle.pb_text.specs.meaning.Spelling.{bytes}
+use Rattle.pb_text.specs.meaning.Reading.{Reads, Answers, Explains, IsUnderWay, Viable, HasOpen, AreShort, byte_limit}
+use Rattle.pb_text.specs.contract.Automaton.{Automaton, Accepts, Admits}
+use Rattle.pb_text.specs.engine.SpentBytes.{end_of, SpentSince}
+use Rattle.pb_text.specs.contract.Standing.{Stands, Waits, Halts}
+use Rattle.pb_text.specs.declared.place.Place.{Place}
+use Rattle.pb_text.specs.declared.place.Spanned.{Spanned}
+use Rattle.pb_text.specs.declared.place.Stop.{Stop}
+use Rattle.pb_text.specs.declared.place.Why.{Why}
+use Rattle.pb_text.specs.declared.place.Why.TheVariants.{Byte, TooLarge, Ended, TooLong, Read, Memory}
+use Rattle.pb_text.proofs.lemmas.text.Lists.{length-bytes}
+use Rattle.pb_text.proofs.lemmas.machine.Residual.{IsResidual, residual, refuses}
+use Rattle.pb_text.proofs.lemmas.text.Short.{begun_bytes}
+use Rattle.pb_text.proofs.lemmas.feeder.Answer.{bytes_joined, is_under_way, is_refused, is_full, has_room, has_open, ends_in_number, in_number_ends}
+
+both : (a b : Bool) → IsTrue a → IsTrue b → (a && b) ≡ true
+both true b p q = q
+both false b p q = absurd (false≢true p)
+
+first_of_both : (a b : Bool) → (a && b) ≡ true → IsTrue a
+first_of_both true b h = refl
+first_of_both false b h = absurd (false≢true h)
+
+second_of_both : (a b : Bool) → (a && b) ≡ true → IsTrue b
+second_of_both true b h = h
+second_of_both false b h = absurd (false≢true h)
+
+module _ {S E : Type 0} (m : Automaton S E) (longest : ℕ) (start : S) (input : List ℕ) (spans : List (Spanned E)) (state : S) (place : Place) (first : Option Place) (stop : Option Stop)
+    (s : Stands m longest start input spans state place first stop) where
+  rest : IsResidual (Accepts m state)
+  rest = residual m state s.is_state
+
+  unfinished : m.done state ≡ false → Accepts m state [] → ⊥
+  unfinished e d = false≢true (sym e ∙ d)
+
+  under_way : m.done state ≡ false → IsUnderWay (Accepts m start) longest (bytes s.letters) spans
+  under_way e =
+      is_under_way (Accepts m start) (Accepts m state) s.letters spans first s.follows rest longest s.short s.within (unfinished e)
+
+  -- a byte that the state admits may come
+  admitted : (b : ℕ) → Admits m state b → Viable (Accepts m start) (bytes s.letters ++ b ∷ [])
+  admitted b (later, accepts, more, begins) =
+      let past = s.follows.into later accepts in (
+        past.0,
+        past.1,
+        (
+          more,
+          bytes_joined (Accepts m start) (Accepts m state) s.letters spans first s.follows rest later past.0 past.2.letters_are
+              ∙ (ap (λ (x : List ℕ). bytes s.letters ++ x) begins ∙ sym (append_assoc (bytes s.letters) (b ∷ []) more)),
+        ),
+      )
+
+  explains : m.done state ≡ false → (left : List ℕ) (why : Why) → Halts m state (end_of longest first) s.letters left why → Explains (Accepts m start) longest (bytes s.letters) left why
+  explains owed left (Byte b) h = (
+    h.0,
+    h.1,
+    record {
+      refused = is_refused (Accepts m start) (Accepts m state) s.letters spans first s.follows rest b (refuses m state state b h.2);
+      room = has_room (Accepts m start) (Accepts m state) s.letters spans first s.follows rest longest s.some h.4;
+    },
+    λ digit numeral. false≢true (sym h.3 ∙ both (m.in_number state) (is_digit b) (subst IsTrue (sym s.number_is) (in_number_ends (Accepts m start) (Accepts m state) s.letters spans first s.follows rest numeral)) digit),
+  )
+  explains owed left TooLarge h = (
+    h.0,
+    h.1,
+    h.2,
+    record {
+      refused = is_refused (Accepts m start) (Accepts m state) s.letters spans first s.follows rest h.0 (refuses m state state h.0 h.3);
+      room = has_room (Accepts m start) (Accepts m state) s.letters spans first s.follows rest longest s.some h.5;
+    },
+    second_of_both (m.in_number state) (is_digit h.0) h.4,
+    ends_in_number (Accepts m start) (Accepts m state) s.letters spans first s.follows rest (subst IsTrue s.number_is (first_of_both (m.in_number state) (is_digit h.0) h.4)),
+  )
+  explains owed left TooLong h =
+      (h.0, is_full (Accepts m start) (Accepts m state) s.letters spans first s.follows rest longest h.1 (unfinished owed))
+  explains owed left Ended h = h
+  explains owed left Read h = h
+  explains owed left Memory h =
+      (h.0, h.1, h.2, admitted h.0 h.3, has_room (Accepts m start) (Accepts m state) s.letters spans first s.follows rest longest s.some h.5)
+
+  done_answer : m.done state ≡ true → (halt : Option Stop) → Waits m state (end_of longest first) s.letters s.left place halt → Answers (Accepts m start) longest (bytes s.letters) s.left spans place true halt
+  done_answer d None w =
+      let past = s.follows.into [] d in (
+        record {
+          items = past.0;
+          spelled = past.1;
+          used_are = bytes_joined (Accepts m start) (Accepts m state) s.letters spans first s.follows rest [] past.0 past.2.letters_are ∙ append-nil (bytes s.letters);
+          spans_are = sym (past.2.spans_are ∙ append-nil spans);
+          within = omega (arith, length-bytes s.letters, under_limit first s.within);
+          short = subst (λ (n : ℕ). AreShort longest n spans) (sym (length-bytes s.letters)) s.short;
+        },
+        refl,
+      )
+    where
+      under_limit : (q : Option Place) → length s.letters ≤ end_of longest q → length s.letters ≤ byte_limit
+      under_limit None h = h
+      under_limit (Some p) h = omega arith
+  done_answer d (Some h) w = absurd (false≢true (sym w.0 ∙ d))
+
+  open_answer : m.done state ≡ false → (halt : Option Stop) → Waits m state (end_of longest first) s.letters s.left place halt → Answers (Accepts m start) longest (bytes s.letters) s.left spans place false halt
+  open_answer owed None (inl d) = absurd (false≢true (sym owed ∙ d))
+  open_answer owed None (inr e) = (under_way owed, e)
+  open_answer owed (Some h) w = (under_way owed, w.1, explains owed s.left h.why w.2)
+
+  answer : (done : Bool) → done ≡ m.done state → Answers (Accepts m start) longest (bytes s.letters) s.left spans place done stop
+  answer true e = done_answer (sym e) stop s.waits
+  answer false e = open_answer (sym e) stop s.waits
+
+  -- what a read must give
+  pub stands_reads : (done : Bool) → done ≡ m.done state → Reads (Accepts m start) longest input (bytes s.letters) spans place done stop
+  stands_reads done e = record { left = s.left; input_is = s.input_is; place_is = s.place_is; answer = answer done e }
+
+  -- the number of bytes of a statement that has not ended
+  pub stands_open : HasOpen (Accepts m start) (bytes s.letters) (begun_bytes (length s.letters) first)
+  stands_open = has_open (Accepts m start) (Accepts m state) s.letters spans first s.follows rest (λ some d. unfinished (s.owed (by_first first some)) d)
+    where
+      by_first : (q : Option Place) → (q ≡ None → ⊥) → is_some q ≡ true
+      by_first None h = absurd (h refl)
+      by_first (Some p) h = refl
+
+  spent_bytes : (q : Option Place) (n k : ℕ) → SpentSince n q k → k ≤ begun_bytes n q
+  spent_bytes None n k h = omega arith
+  spent_bytes (Some p) n k h = omega arith
+
+  pub kept_within : m.kept state ≤ begun_bytes (length s.letters) first
+  kept_within = omega (arith, s.is_state.bounds, spent_bytes first (length s.letters) (m.spent state) s.spent)
