@@ -4,6 +4,7 @@ pub mod Cuts
 pub mod Extends
 pub mod Follows
 pub mod Gained
+pub mod Lost
 pub mod Opens
 pub mod Questions
 pub mod Rooted

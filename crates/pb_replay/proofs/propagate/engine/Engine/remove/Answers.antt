@@ -4,7 +4,7 @@ use Rattle.pb_replay.specs.engine.Engine.Live.{Standing}
 use Rattle.pb_replay.specs.engine.Engine.Fields.{forms_of}
 use Rattle.pb_replay.proofs.lemmas.store.Changes.{forms-length}
 use Rattle.pb_replay.proofs.lemmas.store.Placed.{numbered-length, numbered-none, numbered-left, placed-left, taken-by}
-use Rattle.pb_replay.proofs.Root.Lost.{lost-rooted}
+use Rattle.pb_replay.proofs.lemmas.root.Lost.{lost-rooted}
 use Rattle.pb_replay.proofs.propagate.engine.Engine.remove.Goals as goal
 
 pub quit-requires-clause-rest : goal.quit-requires-clause-rest

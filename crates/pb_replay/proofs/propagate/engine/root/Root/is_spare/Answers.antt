@@ -9,7 +9,7 @@ use Rattle.pb_replay.specs.engine.Clauses.Links.{list_at}
 use Rattle.pb_replay.specs.engine.Clauses.Shapes.{slot_shape, clauses_of}
 use Rattle.pb_replay.proofs.lemmas.clauses.Shapes.{shape-some}
 use Rattle.pb_replay.proofs.lemmas.engine.VisitSteps.{shape-at}
-use Rattle.pb_replay.proofs.Root.Lost.{open-spare, untrue-spare, slot-is}
+use Rattle.pb_replay.proofs.lemmas.root.Lost.{open-spare, untrue-spare, slot-is}
 use Rattle.pb_replay.proofs.propagate.engine.root.Root.is_spare.Goals as goal
 
 pub returns-then-is_filled : goal.returns-then-is_filled

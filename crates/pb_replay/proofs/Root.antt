@@ -1,2 +1,0 @@
--- Lemmas on the root, which questions continue from.
-pub mod Lost
