@@ -23,12 +23,12 @@ input; the file of that name is ./-.
 
 Exit status:
   0  done, or help or the version was printed
-  1  the file was rejected: standard error has the place and the reason
+  1  the file was rejected: standard error has the position and the reason
   2  usage error
   3  the file could not be opened or read, the output could not be written, or memory ran out";
 
 const CHECK_HELP: &str = "\
-Example: where instance.opb has the lines
+Example: if instance.opb has the lines
   * #variable= 1 #constraint= 2
   +1 x1 >= 1 ;
   +1 ~x1 >= 1 ;
@@ -45,13 +45,13 @@ With --stats it also prints counts on standard error.
 
 Exit status:
   0  the proof was verified
-  1  the instance or the proof was rejected: standard error has the reason, and the place where
-     there is one, and nothing was printed
+  1  the instance or the proof was rejected: standard error has the reason, and the position
+     if there is one, and nothing was printed
   2  usage error
   3  a file could not be opened or read, the output could not be written, or memory ran out";
 
 const TRACE_HELP: &str = "\
-Example: where instance.opb has the lines
+Example: if instance.opb has the lines
   * #variable= 1 #constraint= 2
   +1 x1 >= 1 ;
   +1 ~x1 >= 1 ;
@@ -73,15 +73,15 @@ pb trace instance.opb proof.pbp prints
 
 Exit status:
   0  the proof was verified
-  1  the instance or the proof was rejected: standard error has the reason, and the place where
-     there is one, and the statements before that place were printed. After a rejected statement
-     come lines that say why: the literals that propagation puts, each with the id of the
+  1  the instance or the proof was rejected: standard error has the reason, and the position
+     if there is one, and the statements before that position were printed. After a rejected
+     statement come lines that say why: the literals that are propagated, each with the id of the
      constraint that forces it, and the constraint that is falsified or violated
   2  usage error
   3  a file could not be opened or read, the output could not be written, or memory ran out";
 
 const SHOW_HELP: &str = "\
-Example: where instance.opb has the lines
+Example: if instance.opb has the lines
   * #variable= 2 #constraint= 1
   1 x1   1 x2>=1;
 pb show instance.opb prints
@@ -90,26 +90,26 @@ pb show instance.opb prints
 
 Exit status:
   0  all statements were printed
-  1  the file was rejected: standard error has the place and the reason, and the statements
-     before that place were printed
+  1  the file was rejected: standard error has the position and the reason, and the
+     statements before that position were printed
   2  usage error
   3  the file could not be opened or read, the output could not be written, or memory ran out";
 
 const TIDY_HELP: &str = "\
-Example: where instance.opb has the lines
+Example: if instance.opb has the lines
   * #variable= 2 #constraint= 1
   1 x1   1 x2>=1;
 pb tidy instance.opb prints
   * #variable= 2 #constraint= 1
   +1 x1 +1 x2 >= 1 ;
-and, where its second line is 1 x1 -1 x2 = 0;, pb tidy --normal instance.opb prints
+and, if its second line is 1 x1 -1 x2 = 0;, pb tidy --normal instance.opb prints
   * #variable= 2 #constraint= 2
   +1 x1 +1 ~x2 >= 1 ;
   +1 ~x1 +1 x2 >= 1 ;
 
 Exit status:
   0  the canonical text was printed
-  1  the file was rejected: standard error has the reason, and the place where there is one, and
+  1  the file was rejected: standard error has the reason, and the position if there is one, and
      nothing was printed
   2  usage error
   3  the file could not be opened or read, the output could not be written, or memory ran out";

@@ -14,7 +14,7 @@ use Rattle.pb_tool.specs.declared.fault.ToolFault.{ToolFault}
 use Rattle.pb_examples.proofs.refuted.is_refuted.Goals as goal
 use Rattle.pb_examples.proofs.refuted.is_refuted.Goals.{in-Unsat, in_default}
 
--- A source that tells its text has told all of it.
+-- A source with a known text has given all of it at its end.
 unsat_text : (limits : Limits) → AreWidest limits → (text : List ℕ) (after : Option (List ℕ)) → UnsatOf limits byte_limit (Some text) after → IsUnsatText text
 unsat_text limits widest text after (v, file, none) =
     (limits, widest, (v, subst (λ (x : Option (List ℕ)). IsInstanceFile limits byte_limit (Some text) x v) file.took.1 file, none))
@@ -41,7 +41,7 @@ answered contents faults exact limits i p left right i' p' old new w one other c
     let (accepted, _) = exact limits byte_limit i p i' p' old new (Ok w) second tt in
     (λ yes. accepted.0 (ap Ok (is.0 yes)), λ v. is.1 (same (accepted.1 v)))
 
--- a source over a slice tells its bytes
+-- the text of a source over a slice is the slice
 whole : (o : Over (Bor (List ℕ))) (s : Bor (List ℕ)) → inner_of o ≡ s → shown_of o ≡ None → reported (Some o.inner.now) None o.shown ≡ Some s.now
 whole o s is none = ap (λ (x : Option ℕ). reported (Some o.inner.now) None x) none ∙ ap (λ (x : Bor (List ℕ)). Some x.now) is
 

@@ -17,7 +17,7 @@ use Rattle.pb_opb.specs.declared.OpbEvent.{OpbEvent}
 use Rattle.pb_examples.specs.Rewritten.{IsRewritten, IsTextOf}
 use Rattle.pb_examples.proofs.rewritten.canonical.Goals as goal
 
--- a source over a slice tells its bytes
+-- the text of a source over a slice is the slice
 whole : (o : Over (Bor (List ℕ))) (s : Bor (List ℕ)) → inner_of o ≡ s → shown_of o ≡ None → reported (Some o.inner.now) None o.shown ≡ Some s.now
 whole o s is none = ap (λ (x : Option ℕ). reported (Some o.inner.now) None x) none ∙ ap (λ (x : Bor (List ℕ)). Some x.now) is
 
