@@ -8,18 +8,19 @@ import time
 
 BENCH = os.path.dirname(os.path.abspath(__file__))
 # The script that writes each kind. Those with dear steps have a twentieth of the steps.
-KINDS = {
-    **dict.fromkeys(["chain", "units", "common", "long", "dead", "live"], ("propagation.py", 1)),
-    **dict.fromkeys(["random", "pigeons", "parity"], ("search.py", 20)),
-    "wide": ("propagation.py", 20),
-}
+KINDS = [
+    *[(kind, "propagation.py", 1) for kind in ["chain", "units", "common", "long", "dead", "live"]],
+    *[(kind, "search.py", 20) for kind in ["random", "pigeons", "parity"]],
+    *[(kind, "learn.py", 20) for kind in ["random", "pigeons"]],
+    ("wide", "propagation.py", 20),
+]
 # What a step of a kind leaves in memory: how many things, and their name.
 LEFT = {"dead": (1, "deleted constraint"), "live": (20, "live term")}
 
 
-def files_of(kind, count, folder):
+def files_of(script, kind, count, folder):
     """Writes an instance and its proof; their paths."""
-    subprocess.run([sys.executable, os.path.join(BENCH, KINDS[kind][0]), kind, str(count), folder], check=True)
+    subprocess.run([sys.executable, os.path.join(BENCH, script), kind, str(count), folder], check=True)
     return [os.path.join(folder, f"{kind}.{end}") for end in ["opb", "pbp"]]
 
 
@@ -51,24 +52,25 @@ def visits_of(rows, files):
 
 def main():
     program, rows, folder, most, times = sys.argv[1], sys.argv[2], sys.argv[3], int(sys.argv[4]), int(sys.argv[5])
-    for kind, (_, part) in KINDS.items():
+    for kind, script, part in KINDS:
         peaks, count = [], max(most // part, 1)
+        name = f"{script.removesuffix('.py')} {kind}"
         for size in [count, 10 * count]:
-            words = [program, "check"] + files_of(kind, size, folder)
+            words = [program, "check"] + files_of(script, kind, size, folder)
             runs = [run(words) for _ in range(times)]
             seconds, peak = min(seconds for seconds, _ in runs), max(peak for _, peak in runs)
-            print(f"{kind} {size}: {seconds:.2f} s, {seconds / size * 1e6:.2f} microseconds a step, {peak:.0f} MB", flush=True)
+            print(f"{name} {size}: {seconds:.2f} s, {seconds / size * 1e6:.2f} microseconds a step, {peak:.0f} MB", flush=True)
             peaks.append(peak)
         if kind in LEFT:
-            number, name = LEFT[kind]
-            print(f"{kind}: {(peaks[1] - peaks[0]) * 1e6 / (9 * count * number):.0f} bytes a {name}", flush=True)
+            number, thing = LEFT[kind]
+            print(f"{name}: {(peaks[1] - peaks[0]) * 1e6 / (9 * count * number):.0f} bytes a {thing}", flush=True)
         size = max(count // 10, 1)
-        files = files_of(kind, size, folder)
+        files = files_of(script, kind, size, folder)
         statements, visits = visits_of(rows, files)
-        print(f"{kind} {size}: {visits} visits in {statements} statements, {visits / size:.1f} a step", flush=True)
+        print(f"{name} {size}: {visits} visits in {statements} statements, {visits / size:.1f} a step", flush=True)
         instructions = instructions_of([program, "check"] + files, folder)
         if instructions is not None:
-            print(f"{kind} {size}: {instructions / size:.0f} instructions a step", flush=True)
+            print(f"{name} {size}: {instructions / size:.0f} instructions a step", flush=True)
 
 
 if __name__ == "__main__":

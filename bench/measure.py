@@ -14,6 +14,21 @@ COMMANDS = {
     "rups": ["show", "tidy"],
     "pols": ["show", "tidy"],
 }
+# Instructions a byte: those of a plain Rust program of the same function, where they were counted, and the target.
+YARDSTICKS = {
+    ("usual", "show"): (19, 30),
+    ("usual", "tidy"): (18, 30),
+    ("usual", "tidy --normal"): (64, 110),
+    ("short", "show"): (36, 55),
+    ("short", "tidy"): (29, 55),
+    ("short", "tidy --normal"): (None, 110),
+    ("commented", "show"): (None, 20),
+    ("commented", "tidy"): (None, 20),
+    ("rups", "show"): (40, 75),
+    ("rups", "tidy"): (33, 75),
+    ("pols", "show"): (71, 130),
+    ("pols", "tidy"): (61, 130),
+}
 GENERATOR = os.path.join(os.path.dirname(os.path.abspath(__file__)), "generate.py")
 # Instructions are counted on a file of so many megabytes.
 COUNTED = 5
@@ -68,8 +83,8 @@ def instructions_of(words, path, folder):
 
 def main():
     program, folder, size, times = sys.argv[1], sys.argv[2], int(sys.argv[3]), int(sys.argv[4])
-    print(f"| File | Command | Instructions a byte | {size} MB | MB a second | Memory | At double size |")
-    print("|---|---|---|---|---|---|---|")
+    print(f"| File | Command | Instructions a byte | Target | Yardstick | {size} MB | MB a second | Memory | At double size |")
+    print("|---|---|---|---|---|---|---|---|---|")
     for kind, commands in COMMANDS.items():
         for command in commands:
             words = [program] + command.split()
@@ -77,8 +92,9 @@ def main():
             once, twice = (file_of(kind, number * size, folder) for number in [1, 2])
             seconds, longer = (min(seconds_of(words, path) for _ in range(times)) for path in [once, twice])
             peak = peak_of(words, once)
+            plain, target = YARDSTICKS[kind, command]
             print(
-                f"| {kind} | `{command}` | {instructions} | {seconds:.2f} s | {size / seconds:.0f} | {peak:.0f} MB | {longer / seconds:.2f} times the time |",
+                f"| {kind} | `{command}` | {instructions} | {target} | {plain or '-'} | {seconds:.2f} s | {size / seconds:.0f} | {peak:.0f} MB | {longer / seconds:.2f} times the time |",
                 flush=True,
             )
 
