@@ -3,5 +3,6 @@ pub mod Example
 pub mod Faults
 pub mod Fields
 pub mod ReplayModel
+pub mod Rules
 pub mod Laws
 pub mod Visits

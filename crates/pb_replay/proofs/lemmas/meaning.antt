@@ -5,6 +5,7 @@ pub mod Larger
 pub mod Loads
 pub mod Order
 pub mod Propagating
+pub mod Ruled
 pub mod Single
 pub mod Sound
 pub mod Trees
