@@ -2,7 +2,7 @@
 
 ghost use Rattle.std.specs.Prelude.{◌≡◌, ◌++◌, ◌∷◌, [], List, OnOk, OnErr, IfOk, IfErr, Err, All, Contains};
 ghost use Rattle.pb_text.specs.meaning.Limits.{largest};
-ghost use Rattle.pb_sums.specs.declared.values.Linear.{Linear as Written};
+ghost use Rattle.pb_sums.specs.declared.linear.Linear.{Linear as Written};
 ghost use Rattle.pb_normal.specs.meaning.Constraints.{AreFormsOf, Fits, constraint_names, sides_in, with_sides};
 ghost use Rattle.pb_normal.specs.meaning.Form.{Form};
 ghost use Rattle.pb_normal.specs.meaning.Names.{AfterPrefix, HasNames, with_names};
@@ -117,10 +117,7 @@ fn load_tested(
     names.report_distinct();
     let mut forms = Vec::with_capacity(alloc, constraints.len())?;
     for constraint in constraints {
-        match add(alloc, names, constraint, limits, &mut forms) {
-            Ok(()) => {}
-            Err(fault) => return Err(fault),
-        }
+        add(alloc, names, constraint, limits, &mut forms)?;
     }
     Ok(forms)
 }

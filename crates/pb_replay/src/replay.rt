@@ -85,13 +85,11 @@ impl Replay {
         // Overflow is decided before anything is allocated.
         ensures memory { result ≡ Err Fault.Memory → FitsAll (largest limits) instance.now }
     {
-        match open(alloc, keys, instance, limits) {
-            Ok(running) => Ok(Replay {
-                running,
-                fault: None,
-            }),
-            Err(fault) => Err(fault),
-        }
+        let running = open(alloc, keys, instance, limits)?;
+        Ok(Replay {
+            running,
+            fault: None,
+        })
     }
 
     /// Applies the next statement. After a fault each call returns that fault.

@@ -90,11 +90,10 @@ fn goal_shown(engine: &mut Engine, id: Option<i64>, goal: &Normal) -> Result<(),
     ensures variables { OnOk result (engine.new.variables ≡ engine.old.variables) }
     ensures ready { OnOk result (engine.new.spent ≡ false) }
 {
-    match is_shown(engine, id, goal) {
-        Ok(true) => Ok(()),
-        Ok(false) => Err(Fault::NotBound),
-        Err(fault) => Err(fault),
+    if is_shown(engine, id, goal)? {
+        return Ok(());
     }
+    Err(Fault::NotBound)
 }
 
 /// Whether the objective is shown to be at least the bound.
@@ -107,10 +106,8 @@ fn objective_shown(running: &mut Running, bound: i128, id: Option<i64>) -> Resul
     ensures kept { Keeps running.old running.new }
     ensures visits { running.new.visits ≡ running.old.visits }
 {
-    match objective_form(running, bound, Side::AtLeast) {
-        Ok(goal) => goal_shown(&mut running.engine, id, &goal),
-        Err(fault) => Err(fault),
-    }
+    let goal = objective_form(running, bound, Side::AtLeast)?;
+    goal_shown(&mut running.engine, id, &goal)
 }
 
 /// Whether a finite lower bound is shown.
@@ -126,10 +123,8 @@ fn shows_finite(running: &mut Running, bound: i128, id: Option<i64>) -> Result<(
     if !is_below_best(running.best, bound) {
         return Err(Fault::NotBound);
     }
-    match is_found(&running.engine, id) {
-        Ok(()) => objective_shown(running, bound, id),
-        Err(fault) => Err(fault),
-    }
+    is_found(&running.engine, id)?;
+    objective_shown(running, bound, id)
 }
 
 /// Whether a lower bound is shown.
@@ -170,16 +165,10 @@ fn shown_reaches(running: &Running, bound: i128, given: &[NumberedLiteral]) -> R
     requires inside { All (λ l. l.variable < length running.now.names) given.now }
     ensures { ShownReaches (problem_of running.now) given.now bound result }
 {
-    match shown(running, given) {
-        Ok(value) => {
-            if value <= bound {
-                Ok(())
-            } else {
-                Err(Fault::NotBound)
-            }
-        }
-        Err(fault) => Err(fault),
+    if shown(running, given)? <= bound {
+        return Ok(());
     }
+    Err(Fault::NotBound)
 }
 
 /// Whether an upper bound is shown.

@@ -29,14 +29,10 @@ fn unsat(running: &mut Running, id: Option<i64>) -> Result<(), Fault>
     ensures visits { running.new.visits ≡ running.old.visits }
     ensures memory { result ≡ Err Fault.Memory → ⊥ }
 {
-    match none_is_left(running, id) {
-        Ok(()) => {
-            running.next = Stage::Closing;
-            running.concluded = Some(Verdict::Unsat);
-            Ok(())
-        }
-        Err(fault) => Err(fault),
-    }
+    none_is_left(running, id)?;
+    running.next = Stage::Closing;
+    running.concluded = Some(Verdict::Unsat);
+    Ok(())
 }
 
 /// `SAT` by these literals, once their names have numbers.
@@ -49,14 +45,10 @@ fn conclude_sat(running: &mut Running, given: &[NumberedLiteral]) -> Result<(), 
     ensures kept { Keeps running.old running.new }
     ensures visits { running.new.visits ≡ running.old.visits }
 {
-    match shown(running, given) {
-        Ok(_) => {
-            running.next = Stage::Closing;
-            running.concluded = Some(Verdict::Sat);
-            Ok(())
-        }
-        Err(fault) => Err(fault),
-    }
+    let _ = shown(running, given)?;
+    running.next = Stage::Closing;
+    running.concluded = Some(Verdict::Sat);
+    Ok(())
 }
 
 /// `SAT` by these literals.
@@ -120,10 +112,8 @@ fn are_shown(
     ensures kept { Keeps running.old running.new }
     ensures visits { running.new.visits ≡ running.old.visits }
 {
-    match shows_lower(running, lower, id) {
-        Ok(()) => shows_upper(running, upper, given),
-        Err(fault) => Err(fault),
-    }
+    shows_lower(running, lower, id)?;
+    shows_upper(running, upper, given)
 }
 
 /// `BOUNDS`, once the names of its literals have numbers.
@@ -143,14 +133,10 @@ fn conclude_bounds(
     ensures kept { Keeps running.old running.new }
     ensures visits { running.new.visits ≡ running.old.visits }
 {
-    match are_shown(running, lower, id, upper, given) {
-        Ok(()) => {
-            running.next = Stage::Closing;
-            running.concluded = Some(Verdict::Bounds(lower, upper));
-            Ok(())
-        }
-        Err(fault) => Err(fault),
-    }
+    are_shown(running, lower, id, upper, given)?;
+    running.next = Stage::Closing;
+    running.concluded = Some(Verdict::Bounds(lower, upper));
+    Ok(())
 }
 
 /// `BOUNDS`.

@@ -200,13 +200,8 @@ fn evaluated(
 {
     let mut stack = Vec::new(alloc);
     for word in words {
-        let form = match made(alloc, names, engine, word, &mut stack, limits) {
-            Ok(form) => form,
-            Err(fault) => return Err(fault),
-        };
-        if let Err(fault) = push(&mut stack, form) {
-            return Err(fault);
-        }
+        let form = made(alloc, names, engine, word, &mut stack, limits)?;
+        push(&mut stack, form)?;
     }
     let form = pop(&mut stack).into_normal(alloc)?;
     Ok(form)
@@ -242,13 +237,9 @@ fn expressed(
     if let Some(form) = repeated(engine, words)? {
         return Ok(form);
     }
-    match evaluated(alloc, names, engine, words, limits) {
-        Ok(form) => {
-            let form = Shared::new(alloc, form)?;
-            Ok(form)
-        }
-        Err(fault) => Err(fault),
-    }
+    let form = evaluated(alloc, names, engine, words, limits)?;
+    let form = Shared::new(alloc, form)?;
+    Ok(form)
 }
 
 /// `pol`: the form of an expression is added.
@@ -265,15 +256,12 @@ pub(crate) fn pol(running: &mut Running, words: &Sequence<PolWord>) -> Result<()
         return Err(Fault::Memory);
     }
     widen(&mut running.engine, before, running.names.len())?;
-    let made = expressed(
+    let form = expressed(
         running.alloc,
         &running.names,
         &running.engine,
         words.as_slice(),
         running.limits,
-    );
-    match made {
-        Ok(form) => add_shared(running, form),
-        Err(fault) => Err(fault),
-    }
+    )?;
+    add_shared(running, form)
 }

@@ -38,10 +38,8 @@ fn own_value(running: &Running, given: &[NumberedLiteral]) -> Result<i128, Fault
     ensures err { IfErr result (λ e. (e ≡ Fault.Memory) ⊎ Completed (problem_of running.now) (Contains running.now.loaded.items) running.now.own given.now (Err e)) }
 {
     let mut engine = own_engine(running)?;
-    match completion(&mut engine, given) {
-        Ok(values) => judged(running, values.as_slice(), running.own),
-        Err(fault) => Err(fault),
-    }
+    let values = completion(&mut engine, given)?;
+    judged(running, values.as_slice(), running.own)
 }
 
 /// The value of the solution that the literals show.

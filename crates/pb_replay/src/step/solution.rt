@@ -89,10 +89,8 @@ pub(crate) fn completed(running: &mut Running, given: &[NumberedLiteral]) -> Res
     ensures kept { Keeps running.old running.new }
     ensures visits { running.new.visits ≡ running.old.visits }
 {
-    match completion(&mut running.engine, given) {
-        Ok(values) => judged(running, values.as_slice(), running.names.len()),
-        Err(fault) => Err(fault),
-    }
+    let values = completion(&mut running.engine, given)?;
+    judged(running, values.as_slice(), running.names.len())
 }
 
 /// The negations of the literals, by variable and sign.
@@ -126,13 +124,9 @@ fn log(running: &mut Running, value: i128, form: Normal) -> Result<(), Fault>
     ensures kept { Keeps running.old running.new }
     ensures visits { running.new.visits ≡ running.old.visits }
 {
-    match add(running, form) {
-        Ok(()) => {
-            running.best = Some(better(running.best, value));
-            Ok(())
-        }
-        Err(fault) => Err(fault),
-    }
+    add(running, form)?;
+    running.best = Some(better(running.best, value));
+    Ok(())
 }
 
 /// Logs the solution that the literals complete to, and excludes them.
@@ -145,13 +139,9 @@ fn exclude(running: &mut Running, given: &[NumberedLiteral]) -> Result<(), Fault
     ensures kept { Keeps running.old running.new }
     ensures visits { running.new.visits ≡ running.old.visits }
 {
-    match completed(running, given) {
-        Ok(value) => {
-            let clause = clause_of(running.alloc, given)?;
-            log(running, value, clause)
-        }
-        Err(fault) => Err(fault),
-    }
+    let value = completed(running, given)?;
+    let clause = clause_of(running.alloc, given)?;
+    log(running, value, clause)
 }
 
 /// `solx`: logs a solution and excludes it.
@@ -184,10 +174,8 @@ fn demand_less(running: &mut Running, value: i128) -> Result<(), Fault>
     ensures kept { Keeps running.old running.new }
     ensures visits { running.new.visits ≡ running.old.visits }
 {
-    match objective_form(running, below(value), Side::AtMost) {
-        Ok(demand) => log(running, value, demand),
-        Err(fault) => Err(fault),
-    }
+    let demand = objective_form(running, below(value), Side::AtMost)?;
+    log(running, value, demand)
 }
 
 /// Logs the solution that the literals complete to, and requires a lower value.
@@ -201,10 +189,8 @@ fn improve(running: &mut Running, given: &[NumberedLiteral]) -> Result<(), Fault
     ensures kept { Keeps running.old running.new }
     ensures visits { running.new.visits ≡ running.old.visits }
 {
-    match completed(running, given) {
-        Ok(value) => demand_less(running, value),
-        Err(fault) => Err(fault),
-    }
+    let value = completed(running, given)?;
+    demand_less(running, value)
 }
 
 /// `soli`: logs a solution, and requires a lower value.

@@ -1,6 +1,7 @@
 use Rattle.std.specs.Int.{w128}
 use Rattle.std.proofs.Common.{rules, ◌≡◌, true, false, FitsSigned}
 use Rattle.std.proofs.lemmas.Int.{to_z-of_z}
+use Rattle.std.proofs.lemmas.Result.{err_from_is_err_and}
 use Rattle.pb_replay.specs.engine.Bounds.{IsBelow}
 use Rattle.pb_replay.proofs.lemmas.conclusions.Bounding.{lower-late, lower-missing, lower-found}
 use Rattle.pb_replay.proofs.lemmas.rules.Rups.{is_so, not_so}
@@ -12,17 +13,18 @@ returns-then-not-is_below_best-clause-lower c =
     let late : c.is_below_best.result ≡ false = search rules in
     lower-late c.args.running.now c.args.bound c.args.id (not_so c.is_below_best.result (IsBelow c.args.running.now.best c.args.bound) late (rw (to_z-of_z w128 c.args.bound fits) at c.is_below_best.ensures))
 
-pub returns-in-Ok-clause-lower : goal.returns-in-Ok-clause-lower
-returns-in-Ok-clause-lower c =
+pub returns-clause-lower : goal.returns-clause-lower
+returns-clause-lower c =
     let fits : FitsSigned w128 c.args.bound = search rules in
     let yes : c.is_below_best.result ≡ true = search rules in
     let low = is_so c.is_below_best.result (IsBelow c.args.running.now.best c.args.bound) yes (rw (to_z-of_z w128 c.args.bound fits) at c.is_below_best.ensures) in
-    let f = c.in-Ok.ensures.ok in
+    let f = c.in_ok-is_found.ensures.ok in
     lower-found c.args.running.now c.args.bound c.args.id low f.0 f.1 c.objective_shown.result (rw (to_z-of_z w128 c.args.bound fits) at (c.objective_shown.ensures.shown f.0 f.1))
 
-pub returns-in-Err-clause-lower : goal.returns-in-Err-clause-lower
-returns-in-Err-clause-lower c =
-    let fits : FitsSigned w128 c.args.bound = search rules in
+pub returns-in_err-is_found-clause-lower : goal.returns-in_err-is_found-clause-lower
+returns-in_err-is_found-clause-lower c =
+    let p = err_from_is_err_and c.from_residual.result c.from_residual.ensures.1 in
+    rw (p.1, p.2) (let fits : FitsSigned w128 c.args.bound = search rules in
     let yes : c.is_below_best.result ≡ true = search rules in
     let low = is_so c.is_below_best.result (IsBelow c.args.running.now.best c.args.bound) yes (rw (to_z-of_z w128 c.args.bound fits) at c.is_below_best.ensures) in
-    lower-missing c.args.running.now c.args.bound c.args.id low c.in-Err.fault c.in-Err.ensures.err
+    lower-missing c.args.running.now c.args.bound c.args.id low _ c.in_err-is_found.ensures.err)

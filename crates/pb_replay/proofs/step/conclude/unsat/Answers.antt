@@ -1,11 +1,14 @@
 use Rattle.std.proofs.Common.{inr, refl}
+use Rattle.std.proofs.lemmas.Result.{err_from_is_err_and}
 use Rattle.pb_replay.specs.contract.ReplayModel.{state_of}
 use Rattle.pb_replay.proofs.lemmas.conclusions.Bounding.{left-then, left-stop}
 use Rattle.pb_replay.proofs.step.conclude.unsat.Goals as goal
 
-pub returns-in-Ok-clause-goes : goal.returns-in-Ok-clause-goes
-returns-in-Ok-clause-goes c = λ logged best.
-    (logged, best, left-then (state_of c.args.running.now logged) c.args.id _ _ _ (rw c.in-Ok.is at (c.none_is_left.ensures.left logged best)) refl)
+pub returns-clause-goes : goal.returns-clause-goes
+returns-clause-goes c = λ logged best.
+    (logged, best, left-then (state_of c.args.running.now logged) c.args.id _ _ _ (rw c.in_ok-none_is_left.was at (c.none_is_left.ensures.left logged best)) refl)
 
-pub returns-in-Err-clause-goes : goal.returns-in-Err-clause-goes
-returns-in-Err-clause-goes c = inr (λ logged best. left-stop (state_of c.args.running.now logged) c.args.id _ c.in-Err.fault (rw c.in-Err.is at (c.none_is_left.ensures.left logged best)))
+pub returns-in_err-none_is_left-clause-goes : goal.returns-in_err-none_is_left-clause-goes
+returns-in_err-none_is_left-clause-goes c =
+    let p = err_from_is_err_and c.from_residual.result c.from_residual.ensures.1 in
+    rw (p.1, p.2) (inr (λ logged best. left-stop (state_of c.args.running.now logged) c.args.id _ _ (rw c.in_err-none_is_left.was at (c.none_is_left.ensures.left logged best))))

@@ -3,16 +3,16 @@ use Rattle.pb_replay.proofs.lemmas.names.Named.{words_named}
 use Rattle.pb_replay.proofs.lemmas.rules.Pols.{pol-inside, pol-goes}
 use Rattle.pb_replay.proofs.step.pol.pol.Goals as goal
 
-pub expressed-made-requires-clause-named : goal.expressed-made-requires-clause-named
-expressed-made-requires-clause-named c =
+pub expressed-requires-clause-named : goal.expressed-requires-clause-named
+expressed-requires-clause-named c =
     words_named _ _ _ _ c.args.words.now c.in_default.ensures.names c.as_slice.ensures c.as_slice-2.ensures
 
 pub add_shared-requires-clause-inside : goal.add_shared-requires-clause-inside
 add_shared-requires-clause-inside c =
-    pol-inside c.args.running.now c.number_words.new.names c.widen.new.engine.forms _ c.as_slice-2.result.now c.in-Ok.form c.requires.ready.linked c.in_default.ensures.prefix c.in_ok-widen.ensures.forms
-    (words_named _ _ _ _ c.args.words.now c.in_default.ensures.names c.as_slice.ensures c.as_slice-2.ensures) c.in-Ok.ensures.ok
+    pol-inside c.args.running.now c.number_words.new.names c.widen.new.engine.forms _ c.as_slice-2.result.now c.in_ok-form.form c.requires.ready.linked c.in_default.ensures.prefix c.in_ok-widen.ensures.forms
+    (words_named _ _ _ _ c.args.words.now c.in_default.ensures.names c.as_slice.ensures c.as_slice-2.ensures) c.in_ok-form.ensures.ok
 
-pub returns-in-Ok-clause-goes : goal.returns-in-Ok-clause-goes
-returns-in-Ok-clause-goes c =
-    pol-goes c.args.running.now (record c.args.running.now { names = c.number_words.new.names; engine = c.widen.new.engine }) c.args.words.now c.as_slice-2.result.now c.in-Ok.form c.add_shared.result c.add_shared.new.running (sym c.as_slice-2.ensures) (rw c.as_slice.ensures at c.in_default.ensures.names) c.in_ok-widen.ensures.forms refl refl refl c.add_shared.ensures.best
-    c.in-Ok.ensures.ok c.add_shared.ensures.adding
+pub returns-clause-goes : goal.returns-clause-goes
+returns-clause-goes c =
+    pol-goes c.args.running.now (record c.args.running.now { names = c.number_words.new.names; engine = c.widen.new.engine }) c.args.words.now c.as_slice-2.result.now c.in_ok-form.form c.add_shared.result c.add_shared.new.running (sym c.as_slice-2.ensures) (rw c.as_slice.ensures at c.in_default.ensures.names) c.in_ok-widen.ensures.forms refl refl refl c.add_shared.ensures.best
+    c.in_ok-form.ensures.ok c.add_shared.ensures.adding

@@ -5,12 +5,12 @@ use Rattle.pb_replay.specs.engine.Engine.Live.{Standing}
 use Rattle.pb_replay.proofs.lemmas.names.Going.{demands-ok, logs-from}
 use Rattle.pb_replay.proofs.step.solution.demand_less.Goals as goal
 
-pub returns-in-Ok-clause-demands : goal.returns-in-Ok-clause-demands
-returns-in-Ok-clause-demands c =
+pub returns-clause-demands : goal.returns-clause-demands
+returns-clause-demands c =
     let here : FitsSigned w128 c.args.value = fits_signed_from_abs w128 c.args.value c.requires.small in
     let fits : FitsSigned w128 c.below.result = search rules in
     let less : c.below.result ≡ (c.args.value -ℤ pos 1) = rw (to_z-of_z w128 c.args.value here) at c.below.ensures in
-    demands-ok c.args.running.now c.log.new.running c.args.value c.in-Ok.demand c.log.result (rw (to_z-of_z w128 c.below.result fits, less) at c.in-Ok.ensures.ok)
+    demands-ok c.args.running.now c.log.new.running c.args.value c.in_ok-demand.demand c.log.result (rw (to_z-of_z w128 c.below.result fits, less) at c.in_ok-demand.ensures.ok)
     (logs-from c.args.running.now c.objective_form.new.running
-    (record { names = c.in-Ok.ensures.names; forms = ap (λ (e : Standing). e.forms) c.objective_form.ensures.engine; best = c.objective_form.ensures.best; next = c.objective_form.ensures.next; concluded = c.objective_form.ensures.concluded })
-    c.objective_form.ensures.kept c.args.value c.in-Ok.demand c.log.result c.log.new.running (rw (to_z-of_z w128 c.args.value here) at c.log.ensures.logs))
+    (record { names = c.in_ok-demand.ensures.names; forms = ap (λ (e : Standing). e.forms) c.objective_form.ensures.engine; best = c.objective_form.ensures.best; next = c.objective_form.ensures.next; concluded = c.objective_form.ensures.concluded })
+    c.objective_form.ensures.kept c.args.value c.in_ok-demand.demand c.log.result c.log.new.running (rw (to_z-of_z w128 c.args.value here) at c.log.ensures.logs))

@@ -1,6 +1,7 @@
 use Rattle.std.specs.Int.{w128}
 use Rattle.std.proofs.lemmas.Int.{fits_signed_from_abs, to_z-of_z}
 use Rattle.std.proofs.Common.{length, inl, inr}
+use Rattle.std.proofs.lemmas.Result.{err_from_is_err_and}
 use Rattle.pb_replay.specs.meaning.Replay.{Live}
 use Rattle.pb_replay.specs.contract.ReplayModel.{problem_of}
 use Rattle.pb_replay.proofs.lemmas.solutions.Excluding.{apart, solx-ok, solx-err}
@@ -9,17 +10,19 @@ use Rattle.pb_replay.proofs.step.solution.exclude.Goals as goal
 
 pub clause_of-requires : goal.clause_of-requires
 clause_of-requires c =
-    let done = c.in-Ok.ensures.ok in
+    let done = c.in_ok-value.ensures.ok in
     apart (problem_of c.args.running.now) (Live c.args.running.now.engine.forms) (length c.args.running.now.names) c.args.given.now done.0 done.1
 
-pub returns-in_ok-clause-in-Ok-clause-goes : goal.returns-in_ok-clause-in-Ok-clause-goes
-returns-in_ok-clause-in-Ok-clause-goes c = λ written e.
-    solx-ok c.args.running.now c.args.given.now written e c.in-Ok.value c.in_ok-clause-in-Ok.clause c.log.result c.log.new.running c.in-Ok.ensures.ok c.in_ok-clause-in-Ok.ensures.clause
-    (logs-from c.args.running.now c.completed.new.running c.in-Ok.ensures.same c.completed.ensures.kept c.in-Ok.value c.in_ok-clause-in-Ok.clause c.log.result c.log.new.running (rw (to_z-of_z w128 c.in-Ok.value (fits_signed_from_abs w128 c.in-Ok.value c.in-Ok.ensures.small)) at c.log.ensures.logs))
+pub returns-clause-goes : goal.returns-clause-goes
+returns-clause-goes c = λ written e.
+    solx-ok c.args.running.now c.args.given.now written e c.in_ok-value.value c.in_ok-clause.clause c.log.result c.log.new.running c.in_ok-value.ensures.ok c.in_ok-clause.ensures.clause
+    (logs-from c.args.running.now c.completed.new.running c.in_ok-value.ensures.same c.completed.ensures.kept c.in_ok-value.value c.in_ok-clause.clause c.log.result c.log.new.running (rw (to_z-of_z w128 c.in_ok-value.value (fits_signed_from_abs w128 c.in_ok-value.value c.in_ok-value.ensures.small)) at c.log.ensures.logs))
 
-pub returns-in-Err-clause-goes : goal.returns-in-Err-clause-goes
-returns-in-Err-clause-goes c = λ written e.
-    elim c.in-Err.ensures.err [
+pub returns-in_err-value-clause-goes : goal.returns-in_err-value-clause-goes
+returns-in_err-value-clause-goes c =
+    let p = err_from_is_err_and c.from_residual.result c.from_residual.ensures.1 in
+    rw (p.1, p.2) (λ written e.
+    elim c.in_err-value.ensures.err [
       | inl memory ↦ inl memory
-      | inr bad ↦ solx-err c.args.running.now c.args.given.now written e c.in-Err.fault c.completed.new.running bad
-    ]
+      | inr bad ↦ solx-err c.args.running.now c.args.given.now written e _ c.completed.new.running bad
+    ])
