@@ -2,24 +2,24 @@
 
 ghost use Rattle.std.specs.Prelude.{◌≡◌, ℕ, ◌<◌, ◌^◌, true, false, IfOk, IfErr, map};
 ghost use Rattle.pb_normal.specs.meaning.Form.{IsNormal};
-ghost use Rattle.pb_normal.specs.meaning.Rules.{IsCountOf, among, unit_of, with_coefficient};
+ghost use Rattle.pb_normal.specs.meaning.Rules.{IsCountOf, on, unit_of, with_coefficient};
 
 use crate::collect::collected;
 use crate::entry::Entry;
 use crate::fault::NormalFault;
 use crate::form::Normal;
+use crate::numbered::NumberedLiteral;
 use std::alloc::{AllocError, Global};
 
 impl Normal {
-    /// The constraint that at least `degree` of the literals of a list hold. A literal is a variable, and whether it is
-    /// negated. Each has coefficient 1, however often the list contains it. With degree 1 the form is the clause of the
-    /// literals.
+    /// The constraint that at least `degree` of the literals of a list hold. Each has coefficient 1, however
+    /// often the list contains it. With degree 1 the form is the clause of the literals.
     pub fn from_literals(
         alloc: Global,
-        literals: &[(usize, bool)],
+        literals: &[NumberedLiteral],
         degree: u128,
     ) -> Result<Normal, NormalFault>
-        requires apart { (x : ℕ) → among literals.now x true ≡ true → among literals.now x false ≡ true → ⊥ }
+        requires apart { (x : ℕ) → on literals.now x true ≡ true → on literals.now x false ≡ true → ⊥ }
         requires small { degree < 2 ^ 127 }
         ensures count { IfOk result (λ r. IsCountOf literals.now degree r) }
         ensures normal { IfOk result (λ r. IsNormal r) }
@@ -33,14 +33,14 @@ impl Normal {
 }
 
 // A term of coefficient 1 for each literal.
-fn units(alloc: Global, literals: &[(usize, bool)]) -> Result<Vec<Entry>, AllocError>
+fn units(alloc: Global, literals: &[NumberedLiteral]) -> Result<Vec<Entry>, AllocError>
     ensures { IfOk result (λ v. v.items ≡ map unit_of literals.now) }
 {
     literals
         .iter()
         .map(|l| Entry {
-            variable: l.0,
-            negated: l.1,
+            variable: l.variable,
+            negated: l.negated,
             coefficient: 1,
         })
         .collect(alloc)

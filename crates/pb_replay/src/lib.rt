@@ -3,7 +3,6 @@
 
 mod fault;
 pub mod laws;
-mod numbered;
 mod propagate;
 mod replay;
 mod shared;
@@ -12,6 +11,5 @@ mod step;
 mod verdict;
 
 pub use fault::Fault;
-pub use numbered::NumberedLiteral;
 pub use replay::Replay;
 pub use verdict::Verdict;

@@ -6,7 +6,6 @@ pub mod clauses;
 pub mod eager;
 pub mod engine;
 pub mod laws;
-pub mod literal;
 pub mod rests;
 pub mod run;
 pub mod slots;

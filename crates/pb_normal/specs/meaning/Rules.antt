@@ -2,6 +2,7 @@
 use Rattle.std.specs.Prelude.{◌≡◌, ℕ, ◌+◌, ◌-◌, ◌*◌, ◌<◌, ◌==◌, nat_lt, pos, ◌+ℤ◌, Bool, not, false, ◌&&◌, ◌||◌, if◌then◌else◌, ◌⊎◌, List, [], ◌∷◌, map, filter, min, get_or}
 use Rattle.std.specs.Int.{div_ceil}
 use Rattle.pb_normal.specs.declared.entry.Entry.{Entry}
+use Rattle.pb_normal.specs.declared.numbered.NumberedLiteral.{NumberedLiteral}
 use Rattle.pb_normal.specs.meaning.Form.{Form, total, size, low, bound, coefficient, at_least_0, IsOrdered}
 
 -- The sum of two forms: coefficients and bounds are added, and the degree is bound plus low, at least 0.
@@ -78,17 +79,21 @@ assignment values v = get_or values v false
 abbrev pub only : ℕ → Bool → ℕ → Bool → Bool
 only x n v m = (v == x) && (if n then m else not m)
 
--- the literals of a list: each is a variable, and whether it is negated
-abbrev pub among : List (ℕ × Bool) → ℕ → Bool → Bool
-among [] x n = false
-among (l ∷ ls) x n = only l.0 l.1 x n || among ls x n
+-- the literals of a list
+abbrev pub on : List NumberedLiteral → ℕ → Bool → Bool
+on [] x n = false
+on (l ∷ ls) x n = only l.variable l.negated x n || on ls x n
+
+-- the literal that is true if this one is false
+abbrev pub negation : NumberedLiteral → NumberedLiteral
+negation l = record { variable = l.variable; negated = not l.negated }
 
 -- a literal with coefficient 1
-abbrev pub unit_of : (ℕ × Bool) → Entry
-unit_of l = record { variable = l.0; negated = l.1; coefficient = 1 }
+abbrev pub unit_of : NumberedLiteral → Entry
+unit_of l = record { variable = l.variable; negated = l.negated; coefficient = 1 }
 
 -- each literal of the list with coefficient 1, no other literal, and this degree
-pub record IsCountOf (literals : List (ℕ × Bool)) (degree : ℕ) (r : Form) : Type 0 where
+pub record IsCountOf (literals : List NumberedLiteral) (degree : ℕ) (r : Form) : Type 0 where
   pub ordered : IsOrdered r
-  pub coefficients : (x : ℕ) (n : Bool) → total (only x n) r.terms ≡ (if among literals x n then 1 else 0)
+  pub coefficients : (x : ℕ) (n : Bool) → total (only x n) r.terms ≡ (if on literals x n then 1 else 0)
   pub degree_is : r.degree ≡ degree

@@ -7,15 +7,16 @@ use Rattle.pb_proof.specs.declared.Statement.{Statement}
 use Rattle.pb_proof.specs.contract.Values.{IsStatementValue}
 use Rattle.pb_proof.specs.declared.Stage.{Stage}
 use Rattle.pb_proof.specs.declared.Stage.TheVariants.{Opening, Closing, Complete}
+use Rattle.pb_normal.specs.declared.numbered.NumberedLiteral.{NumberedLiteral}
+use Rattle.pb_normal.specs.meaning.Rules.{on}
 use Rattle.pb_replay.specs.declared.fault.Fault.{Fault}
 use Rattle.pb_normal.specs.meaning.Form.{Form}
 use Rattle.pb_normal.specs.meaning.Names.{AreDistinct}
 use Rattle.pb_replay.specs.declared.fault.Fault.TheVariants.{NotTotal}
-use Rattle.pb_replay.specs.declared.numbered.NumberedLiteral.{NumberedLiteral}
 use Rattle.pb_replay.specs.declared.verdict.Verdict.{Verdict}
 use Rattle.pb_replay.specs.meaning.Answer.{Answer}
 use Rattle.pb_replay.specs.meaning.Problem.{Problem, Opened, Solves}
-use Rattle.pb_replay.specs.meaning.Propagation.{on, Derivation, MeetsConflict, IsCompletion}
+use Rattle.pb_replay.specs.meaning.Propagation.{Derivation, MeetsConflict, IsCompletion}
 use Rattle.pb_replay.specs.meaning.Replay.{State, first_state}
 use Rattle.pb_replay.specs.contract.ReplayModel.{verdict_at}
 use Rattle.pb_replay.specs.meaning.Statements.{Outcome, Accepts, MayWantAt}

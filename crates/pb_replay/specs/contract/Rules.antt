@@ -20,11 +20,11 @@ use Rattle.pb_normal.specs.meaning.Form.{Form, Holds, IsWithin}
 use Rattle.pb_normal.specs.meaning.Names.{number_in, with_names}
 use Rattle.pb_normal.specs.meaning.Rules.{IsSum, IsContradiction, multiplied, divided, saturated, weakened, axiom_on, assignment}
 use Rattle.pb_normal.specs.meaning.Written.{IsSideOf}
-use Rattle.pb_replay.specs.declared.numbered.NumberedLiteral.{NumberedLiteral}
+use Rattle.pb_normal.specs.declared.numbered.NumberedLiteral.{NumberedLiteral}
 use Rattle.pb_replay.specs.meaning.Conclusions.{IsShownBy, objective_with, verdict_of}
 use Rattle.pb_replay.specs.meaning.Problem.{Problem}
 use Rattle.pb_replay.specs.meaning.Propagation.{IsRup, IsCompletion, MeetsConflict}
-use Rattle.pb_replay.specs.meaning.Replay.{State, Logged, Live, IsLive, IsClause, HasValue, AreValues, Shown, no_form, numbered, place, value}
+use Rattle.pb_replay.specs.meaning.Replay.{State, Logged, Live, IsLive, Excludes, HasValue, AreValues, Shown, no_form, numbered, place, value}
 use Rattle.pb_replay.specs.meaning.Statements.{IsCount, Outcome, mentioned}
 
 -- an expression has a form; those of sums and products are within the limit
@@ -97,7 +97,7 @@ pub data Rule (limit top : ℕ) (v : Problem) (s : State) : Statement → State 
   pol : (tree : Tree) (r : Form) → HasForm limit s.names s.live tree r → length s.live < top → Rule limit top v s (Pol (words tree)) (with_form s s.logged r)
   rup : (linear : Linear) (r : Form) → IsFormOfSide limit s.names least linear r → IsRup (Live s.live) r → length s.live < top → Rule limit top v s (Rup linear) (with_form s s.logged r)
   soli : (given : List Literal) (o : List Term) (g : Logged) (r : Form) → v.objective ≡ Some o → IsSolvedBy v s.live (length s.names) (numbered s.names given) g → IsFormOfSide limit s.names most (objective_with o (g.value -ℤ pos 1)) r → length s.live < top → Rule limit top v s (Soli given) (with_form s (s.logged ++ (g ∷ [])) r)
-  solx : (given : List Literal) (g : Logged) (r : Form) → IsSolvedBy v s.live (length s.names) (numbered s.names given) g → IsClause (numbered s.names given) r → length s.live < top → Rule limit top v s (Solx given) (with_form s (s.logged ++ (g ∷ [])) r)
+  solx : (given : List Literal) (g : Logged) (r : Form) → IsSolvedBy v s.live (length s.names) (numbered s.names given) g → Excludes (numbered s.names given) r → length s.live < top → Rule limit top v s (Solx given) (with_form s (s.logged ++ (g ∷ [])) r)
   delete : (ids : List ℤ) (live : List (Option Form)) → Deletes s.live ids live → Rule limit top v s (Delete ids) (record s { live = live })
   output : Rule limit top v s Output (record s { next = Concluding })
   conclude : (c : Conclusion) → IsJustified limit v s c → Rule limit top v s (Conclude c) (record s { next = Closing; concluded = Some (verdict_of c) })

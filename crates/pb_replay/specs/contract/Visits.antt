@@ -3,6 +3,7 @@ use Rattle.std.specs.Prelude.{◌≡◌, ℕ, ◌+◌, ◌*◌, ◌<◌, ◌≤�
 use Rattle.pb_sums.specs.declared.Linear.{Linear}
 use Rattle.pb_proof.specs.declared.Statement.{Statement}
 use Rattle.pb_proof.specs.declared.Statement.TheVariants.{Rup}
+use Rattle.pb_normal.specs.declared.numbered.NumberedLiteral.{NumberedLiteral}
 use Rattle.pb_normal.specs.declared.Side.TheVariants.{AtLeast as least}
 use Rattle.pb_normal.specs.meaning.Form.{Form}
 use Rattle.pb_normal.specs.meaning.Names.{with_names}
@@ -10,7 +11,6 @@ use Rattle.pb_normal.specs.meaning.Rules.{negation_of}
 use Rattle.pb_normal.specs.meaning.Written.{names_of, IsSideOf}
 use Rattle.pb_replay.specs.declared.fault.Fault.{Fault}
 use Rattle.pb_replay.specs.declared.fault.Fault.TheVariants.{IdsSpent, NotImplied, Overflow, Order}
-use Rattle.pb_replay.specs.declared.numbered.NumberedLiteral.{NumberedLiteral}
 use Rattle.pb_replay.specs.meaning.Propagation.{Derivation, HasConflict, IsCompletion, With}
 use Rattle.pb_replay.specs.meaning.Replay.{Live}
 use Rattle.pb_replay.specs.engine.Engine.Live.{terms_in, one_in}

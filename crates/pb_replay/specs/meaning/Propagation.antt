@@ -1,13 +1,8 @@
 -- Propagation over a set of forms. A list of literals has the newest first. Only the set of its literals matters.
-use Rattle.std.specs.Prelude.{◌≡◌, ℕ, ◌+◌, ◌<◌, ◌||◌, Bool, true, false, not, ◌⊎◌, List, [], ◌∷◌}
-use Rattle.pb_replay.specs.declared.numbered.NumberedLiteral.{NumberedLiteral}
+use Rattle.std.specs.Prelude.{◌≡◌, ℕ, ◌+◌, ◌<◌, Bool, true, false, not, ◌⊎◌, List, [], ◌∷◌}
+use Rattle.pb_normal.specs.declared.numbered.NumberedLiteral.{NumberedLiteral}
 use Rattle.pb_normal.specs.meaning.Form.{Form, Holds, total}
-use Rattle.pb_normal.specs.meaning.Rules.{negation_of, only}
-
--- the literals of a list
-abbrev pub on : List NumberedLiteral → ℕ → Bool → Bool
-on [] v n = false
-on (l ∷ ls) v n = only l.variable l.negated v n || on ls v n
+use Rattle.pb_normal.specs.meaning.Rules.{negation_of, on, only}
 
 -- the literals that a list does not falsify
 abbrev pub opened : List NumberedLiteral → ℕ → Bool → Bool

@@ -5,18 +5,18 @@ use Rattle.pb_sums.specs.declared.Linear.{Linear}
 use Rattle.pb_proof.specs.meaning.Postfix.{Tree, Constraint, True, Sum, Times, Divided, Saturated, Weakened}
 use Rattle.pb_proof.specs.declared.Stage.{Stage}
 use Rattle.pb_proof.specs.declared.Stage.TheVariants.{Opening}
+use Rattle.pb_normal.specs.declared.numbered.NumberedLiteral.{NumberedLiteral}
 use Rattle.pb_normal.specs.declared.Side.{Side}
 use Rattle.pb_normal.specs.meaning.Constraints.{Fits}
-use Rattle.pb_normal.specs.meaning.Form.{Form, Holds, IsOrdered, IsWithin, total}
+use Rattle.pb_normal.specs.meaning.Form.{Form, Holds, IsWithin}
 use Rattle.pb_normal.specs.meaning.Names.{number_in}
-use Rattle.pb_normal.specs.meaning.Rules.{IsSum, multiplied, divided, saturated, weakened, axiom_on, assignment, only}
+use Rattle.pb_normal.specs.meaning.Rules.{IsSum, IsCountOf, multiplied, divided, saturated, weakened, axiom_on, assignment, negation, on}
 use Rattle.pb_normal.specs.meaning.Written.{true_sum, IsSideOf}
 use Rattle.pb_replay.specs.declared.fault.Fault.TheVariants.{Overflow, NoSuchId, Conflict, NotTotal, Violates, IdsSpent}
-use Rattle.pb_replay.specs.declared.numbered.NumberedLiteral.{NumberedLiteral}
 use Rattle.pb_replay.specs.declared.verdict.Verdict.{Verdict}
 use Rattle.pb_replay.specs.meaning.Answer.{Answer, gives, need, each_below, found, some, after}
 use Rattle.pb_replay.specs.meaning.Problem.{Problem, objective_of}
-use Rattle.pb_replay.specs.meaning.Propagation.{on, MeetsConflict, IsCompletion}
+use Rattle.pb_replay.specs.meaning.Propagation.{MeetsConflict, IsCompletion}
 
 -- a solution: its values by the numbers of names, and the value of the objective
 pub record Logged : Type 0 where
@@ -114,11 +114,13 @@ Completed v forms names given =
 abbrev pub Shown : Problem → List NumberedLiteral → Logged → Type 0
 Shown v given g = Completed v (Contains v.loaded) (length v.names) given (Ok g)
 
+-- each literal negated
+abbrev pub negations : List NumberedLiteral → List NumberedLiteral
+negations = map negation
+
 -- the clause of the negations of the given literals
-pub record IsClause (given : List NumberedLiteral) (r : Form) : Type 0 where
-  pub ordered : IsOrdered r
-  pub coefficients : (x : ℕ) (n : Bool) → total (only x n) r.terms ≡ (if on given x (not n) then 1 else 0)
-  pub degree : r.degree ≡ 1
+abbrev pub Excludes : List NumberedLiteral → Form → Type 0
+Excludes given = IsCountOf (negations given) 1
 
 -- deletes the ids in order
 abbrev pub Deleted : List (Option Form) → List ℤ → Answer (List (Option Form))

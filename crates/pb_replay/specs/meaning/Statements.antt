@@ -20,7 +20,7 @@ use Rattle.pb_replay.specs.declared.fault.Fault.TheVariants.{FormulaCount, NotIm
 use Rattle.pb_replay.specs.meaning.Answer.{Answer, gives, need, found, some, after}
 use Rattle.pb_replay.specs.meaning.Problem.{Problem}
 use Rattle.pb_replay.specs.meaning.Propagation.{IsRup}
-use Rattle.pb_replay.specs.meaning.Replay.{State, Live, FormOfExpression, normal_form, numbered, Completed, IsClause, Deleted, added}
+use Rattle.pb_replay.specs.meaning.Replay.{State, Live, FormOfExpression, normal_form, numbered, Completed, Excludes, Deleted, added}
 use Rattle.pb_replay.specs.meaning.Conclusions.{Concludes, objective_with, verdict_of}
 
 -- the names in literals, words and conclusions, as often as they are written
@@ -98,7 +98,7 @@ module _ (limit top : ℕ) (v : Problem) where
       normal_form limit s.names most (objective_with o (g.value -ℤ pos 1)) (added top s (s.logged ++ (g ∷ [])))))
   Does s (Solx given) =
       after (Completed v (Live s.live) (length s.names) (numbered s.names given)) (λ g.
-      some (IsClause (numbered s.names given)) (added top s (s.logged ++ (g ∷ []))))
+      some (Excludes (numbered s.names given)) (added top s (s.logged ++ (g ∷ []))))
   Does s (Delete ids) = after (Deleted s.live ids) (λ live. gives (record s { live = live }))
   Does s Output = gives (record s { next = Concluding })
   Does s (Conclude c) = Concludes limit v s c (gives (record s { next = Closing; concluded = Some (verdict_of c) }))

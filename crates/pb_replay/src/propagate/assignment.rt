@@ -1,10 +1,11 @@
 //! The list of assigned literals.
 
 ghost use Rattle.std.specs.Prelude.{◌≡◌, ℕ, ◌+◌, ◌≤◌, ◌<◌, ◌++◌, ◌∷◌, [], Bool, None, true, false, length, take, sum_by, OnOk, OnErr, IfOk, slice_index_or};
-ghost use Rattle.pb_replay.specs.declared.numbered.NumberedLiteral.{NumberedLiteral};
-ghost use Rattle.pb_replay.specs.engine.Engine.Lists.{has, says, vacancy, negation};
+ghost use Rattle.pb_normal.specs.declared.numbered.NumberedLiteral.{NumberedLiteral};
+ghost use Rattle.pb_normal.specs.meaning.Rules.{negation};
+ghost use Rattle.pb_replay.specs.engine.Engine.Lists.{has, says, vacancy};
 
-use crate::numbered::NumberedLiteral;
+use pb_normal::NumberedLiteral;
 use std::alloc::{AllocError, Global};
 
 /// A list of literals, with the value that it gives to each variable.

@@ -1,9 +1,10 @@
 //! Literals are assigned, and the constraints that they touch are visited.
 
 ghost use Rattle.std.specs.Prelude.{◌≡◌, ℕ, ◌≤◌, ◌+◌, ◌-◌, ◌*◌, ◌^◌, ◌<◌, ◌++◌, ◌∷◌, [], true, false, List, Bool, Option, All, filter, map, length, OnOk, IfOk, slice_index, slice_index_or, slice_set, sum, sum_by, Contains};
-ghost use Rattle.pb_replay.specs.declared.numbered.NumberedLiteral.{NumberedLiteral};
+ghost use Rattle.pb_normal.specs.declared.numbered.NumberedLiteral.{NumberedLiteral};
+ghost use Rattle.pb_normal.specs.meaning.Rules.{negation};
 ghost use Rattle.pb_replay.specs.declared.propagate.term.Term.{Term};
-ghost use Rattle.pb_replay.specs.engine.Engine.Lists.{negation, has, size, Extends, Derives, Conflicts, Shape, IsSettled};
+ghost use Rattle.pb_replay.specs.engine.Engine.Lists.{has, size, Extends, Derives, Conflicts, Shape, IsSettled};
 ghost use Rattle.pb_replay.specs.engine.Engine.Counts.{place, Grown, IsCalm, IsCounted, beside, rest_open, IsTidy, IsPaid, IsAbsent, Adopted, AreFound, AreSingle, IsUndone, AreCovered, spent};
 ghost use Rattle.pb_replay.specs.engine.Engine.Rest.{waits};
 ghost use Rattle.pb_replay.specs.engine.Engine.Fields.{shapes_of, entries_of, IsSound};
@@ -13,7 +14,7 @@ ghost use Rattle.pb_replay.specs.engine.Clauses.Runs.{AreReady, IsRunning, AreWa
 ghost use Rattle.pb_replay.specs.engine.Clauses.Walked.{killed, falsified_code, walked_codes};
 ghost use Rattle.pb_replay.specs.engine.Clauses.Shapes.{AreJoined, clauses_of, all_of};
 
-use crate::numbered::NumberedLiteral;
+use pb_normal::NumberedLiteral;
 use crate::propagate::assignment::Assignment;
 use crate::propagate::clauses::Clauses;
 use crate::propagate::engine::visits::Visits;

@@ -2,7 +2,7 @@
 
 ghost use Rattle.std.specs.Prelude.{◌≡◌};
 
-use crate::numbered::NumberedLiteral;
+use pb_normal::NumberedLiteral;
 
 /// A literal with its coefficient.
 #[derive(Clone, Copy)]

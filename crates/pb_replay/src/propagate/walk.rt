@@ -9,7 +9,7 @@ ghost use Rattle.pb_replay.specs.engine.Clauses.Links.{lists_of, list_at};
 ghost use Rattle.pb_replay.specs.engine.Clauses.Runs.{IsRunning, AreServed, AreWalked, Grows};
 ghost use Rattle.pb_replay.specs.engine.Clauses.Shapes.{AreJoined, clauses_of, all_of, literal_at};
 
-use crate::numbered::NumberedLiteral;
+use pb_normal::NumberedLiteral;
 use crate::propagate::clauses::Clauses;
 use crate::propagate::clauses::visiting::{Visit, visit_clause};
 use crate::propagate::rests::Rests;

@@ -6,9 +6,8 @@ ghost use Rattle.pb_replay.specs.meaning.Meaning.{IsNamePrefix};
 ghost use Rattle.pb_replay.specs.meaning.Replay.{numbered};
 ghost use Rattle.pb_replay.specs.meaning.Statements.{literal_names};
 
-use crate::numbered::NumberedLiteral;
 use crate::state::find::number_of;
-use pb_normal::Names;
+use pb_normal::{Names, NumberedLiteral};
 use pb_sums::Literal;
 use std::alloc::{AllocError, AllocFailed, Global};
 

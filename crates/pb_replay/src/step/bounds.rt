@@ -8,14 +8,13 @@ ghost use Rattle.pb_replay.specs.meaning.Replay.{IsLive};
 ghost use Rattle.pb_replay.specs.contract.ReplayModel.{IsInside, IsLinked, IsProper, Keeps, HasNamed, problem_of};
 
 use crate::fault::Fault;
-use crate::numbered::NumberedLiteral;
 use crate::propagate::engine::Engine;
 use crate::state::Running;
 use crate::state::find::find;
 use crate::state::objective::objective_form;
 use crate::step::contradiction::none_is_left;
 use crate::step::shown::shown;
-use pb_normal::{Normal, NormalFault, Side};
+use pb_normal::{Normal, NormalFault, NumberedLiteral, Side};
 use pb_proof::Bound;
 use std::alloc::AllocError;
 

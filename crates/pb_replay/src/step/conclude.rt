@@ -9,7 +9,7 @@ ghost use Rattle.pb_text.specs.meaning.Limits.{largest, top_of};
 ghost use Rattle.pb_replay.specs.meaning.Statements.{MayWant, PassesFirst};
 
 use crate::fault::Fault;
-use crate::numbered::NumberedLiteral;
+use pb_normal::NumberedLiteral;
 use crate::state::Running;
 use crate::step::bounds::{shows_lower, shows_upper};
 use crate::step::contradiction::none_is_left;

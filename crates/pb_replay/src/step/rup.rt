@@ -6,7 +6,7 @@ ghost use Rattle.pb_normal.specs.meaning.Constraints.{Fits};
 ghost use Rattle.pb_normal.specs.meaning.Names.{with_names};
 ghost use Rattle.pb_normal.specs.meaning.Rules.{negation_of};
 ghost use Rattle.pb_normal.specs.meaning.Written.{names_of, IsSideOf};
-ghost use Rattle.pb_replay.specs.declared.numbered.NumberedLiteral.{NumberedLiteral};
+ghost use Rattle.pb_normal.specs.declared.numbered.NumberedLiteral.{NumberedLiteral};
 ghost use Rattle.pb_replay.specs.engine.Engine.Live.{Live};
 ghost use Rattle.pb_replay.specs.meaning.Propagation.{IsCompletion, IsRup, MeetsConflict, With};
 ghost use Rattle.pb_replay.specs.contract.ReplayModel.{Adding, Keeps, Goes, HasNamed, IsInside, IsLinked, IsReady};

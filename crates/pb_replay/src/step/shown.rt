@@ -6,7 +6,7 @@ ghost use Rattle.pb_replay.specs.meaning.Replay.{Completed, Logged, Shown, numbe
 ghost use Rattle.pb_replay.specs.contract.ReplayModel.{Keeps, HasNamed, IsLinked, IsProper, problem_of};
 
 use crate::fault::Fault;
-use crate::numbered::NumberedLiteral;
+use pb_normal::NumberedLiteral;
 use crate::propagate::engine::Engine;
 use crate::state::Running;
 use crate::state::live::engine_of;

@@ -1,25 +1,25 @@
 //! `soli` and `solx`.
 
-ghost use Rattle.std.specs.Prelude.{◌≡◌, ◌<◌, ◌^◌, ◌⊎◌, All, IfOk, IfErr, IsSome, OnOk, Ok, Err, length, true, false, not, map, unsigned_abs, ℕ, pos, ◌-ℤ◌, [], List};
+ghost use Rattle.std.specs.Prelude.{◌≡◌, ◌<◌, ◌^◌, ◌⊎◌, All, IfOk, IfErr, IsSome, OnOk, Ok, Err, length, true, false, unsigned_abs, ℕ, pos, ◌-ℤ◌, [], List};
+ghost use Rattle.pb_normal.specs.declared.numbered.NumberedLiteral.{NumberedLiteral as ANumberedLiteral};
+ghost use Rattle.pb_normal.specs.meaning.Rules.{on};
 ghost use Rattle.pb_replay.specs.engine.Engine.Live.{Live, Gives};
-ghost use Rattle.pb_replay.specs.meaning.Propagation.{MeetsConflict, IsCompletion, on};
-ghost use Rattle.pb_replay.specs.meaning.Replay.{Completed, IsClause, Logged, numbered};
+ghost use Rattle.pb_replay.specs.meaning.Propagation.{MeetsConflict, IsCompletion};
+ghost use Rattle.pb_replay.specs.meaning.Replay.{Completed, Excludes, Logged, negations, numbered};
 ghost use Rattle.pb_replay.specs.contract.ReplayModel.{Keeps, Goes, GoesAt, Logs, HasNamed, IsBetter, IsInside, IsLinked, IsProper, IsReady, problem_of};
 ghost use Rattle.pb_text.specs.meaning.Limits.{largest, top_of};
 ghost use Rattle.pb_replay.specs.meaning.Statements.{PassesFirst, literal_names};
 ghost use Rattle.pb_sums.specs.declared.values.Literal.{Literal as Written};
 ghost use Rattle.pb_replay.specs.engine.Bounds.{Demands};
-ghost use Rattle.pb_replay.specs.declared.numbered.NumberedLiteral.{NumberedLiteral as ANumberedLiteral};
 
 use crate::fault::Fault;
-use crate::numbered::NumberedLiteral;
 use crate::propagate::engine::Engine;
 use crate::state::Running;
 use crate::state::literals::{number_names, numbered_literals};
 use crate::state::live::{add, widen};
 use crate::state::objective::objective_form;
 use crate::state::solution::judged;
-use pb_normal::{Normal, NormalFault, Side};
+use pb_normal::{Normal, NormalFault, NumberedLiteral, Side};
 use pb_proof::Statement;
 use pb_sums::Literal;
 use pb_text::Sequence;
@@ -93,24 +93,21 @@ pub(crate) fn completed(running: &mut Running, given: &[NumberedLiteral]) -> Res
     judged(running, values.as_slice(), running.names.len())
 }
 
-/// The negations of the literals, by variable and sign.
-fn negations(alloc: Global, given: &[NumberedLiteral]) -> Result<Vec<(usize, bool)>, AllocError>
-    ensures { IfOk result (λ v. v.items ≡ map (λ l. (l.variable, not l.negated)) given.now) }
+/// The negations of the literals.
+fn negated(alloc: Global, given: &[NumberedLiteral]) -> Result<Vec<NumberedLiteral>, AllocError>
+    ensures { IfOk result (λ v. v.items ≡ negations given.now) }
 {
-    given
-        .iter()
-        .map(|l| (l.variable, !l.negated))
-        .collect(alloc)
+    given.iter().map(|l| l.negation()).collect(alloc)
 }
 
 /// The clause of the negations of the literals.
 fn clause_of(alloc: Global, given: &[NumberedLiteral]) -> Result<Normal, Fault>
     requires { (x : ℕ) → on given.now x true ≡ true → on given.now x false ≡ true → ⊥ }
-    ensures clause { IfOk result (λ r. IsClause given.now r) }
+    ensures clause { IfOk result (λ r. Excludes given.now r) }
     ensures inside { IfOk result (λ r. (n : ℕ) → All (λ l. l.variable < n) given.now → IsInside n r) }
     ensures err { IfErr result (λ e. e ≡ Fault.Memory) }
 {
-    let literals = negations(alloc, given)?;
+    let literals = negated(alloc, given)?;
     let clause = Normal::from_literals(alloc, literals.as_slice(), 1)?;
     Ok(clause)
 }

@@ -2,7 +2,7 @@
 use Rattle.std.specs.Prelude.{◌≡◌, ◌≢◌, ℕ, ◌+◌, ◌<◌, ◌≤◌, List, [], ◌∷◌, ◌++◌, length, reverse, Bool, false, not, ◌&&◌, ◌||◌, nat_eq, IsTrue, Option, Result, Ok, Err}
 use Rattle.pb_text.specs.meaning.Classes.{is_white}
 use Rattle.pb_text.specs.meaning.Languages.{Each}
-use Rattle.pb_text.specs.meaning.Spelling.{place_next}
+use Rattle.pb_text.specs.meaning.Spelling.{place_past}
 use Rattle.pb_text.specs.meaning.Reading.{byte_limit}
 use Rattle.pb_text.specs.meaning.Pulling.{Took}
 use Rattle.pb_text.specs.declared.place.Place.{Place}
@@ -34,11 +34,6 @@ in_comment text = has_star (reverse text)
 abbrev pub passes : List ℕ → ℕ → Bool
 passes before b = is_white b || nat_eq b 42 || in_comment before
 
--- the position after more bytes
-abbrev pub place_from : Place → List ℕ → Place
-place_from p [] = p
-place_from p (b ∷ bytes) = place_from (place_next p b) bytes
-
 -- a position within the limit on all bytes
 pub record IsInReach (p : Place) : Type 0 where
   pub offset : p.offset ≤ byte_limit
@@ -59,4 +54,4 @@ abbrev pub ReadsBlank : Place → Option (List ℕ) → Result Unit Stop → Opt
 ReadsBlank place before (Ok u) after =
     (used : List ℕ) × Took before used [] after × IsBlank used × (place.offset + length used ≤ byte_limit)
 ReadsBlank place before (Err s) after =
-    (used : List ℕ) × (seen : List ℕ) × Took before used seen after × IsBlank used × (s.place ≡ place_from place used) × IsStray place used seen s.why
+    (used : List ℕ) × (seen : List ℕ) × Took before used seen after × IsBlank used × (s.place ≡ place_past place used) × IsStray place used seen s.why

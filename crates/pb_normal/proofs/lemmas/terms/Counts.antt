@@ -3,8 +3,9 @@ use Rattle.std.proofs.Common.{◌≡◌, ℕ, ◌+◌, ◌<◌, ◌^◌, Bool, t
 use Rattle.std.specs.Cmp.{both_ways}
 use Rattle.std.proofs.lemmas.Bool.{and_parts, eqb-true, eq-eqb, false_from_ne_true}
 use Rattle.pb_normal.specs.declared.entry.Entry.{Entry}
+use Rattle.pb_normal.specs.declared.numbered.NumberedLiteral.{NumberedLiteral}
 use Rattle.pb_normal.specs.meaning.Form.{total, each, IsRising, IsNormal}
-use Rattle.pb_normal.specs.meaning.Rules.{IsCountOf, only, among, unit_of, with_coefficient}
+use Rattle.pb_normal.specs.meaning.Rules.{IsCountOf, only, on, unit_of, with_coefficient}
 use Rattle.pb_normal.specs.engine.Adds.{Adds, flip}
 use Rattle.pb_normal.proofs.lemmas.rules.Unique.{none_below}
 use Rattle.pb_normal.proofs.lemmas.terms.Variables.{total-same}
@@ -12,7 +13,7 @@ use Rattle.pb_normal.proofs.lemmas.terms.Variables.{total-same}
 abbrev pub ones : List Entry → List Entry
 ones ts = map (λ t. with_coefficient t 1) ts
 
-pub total-units : (ls : List (ℕ × Bool)) → total each (map unit_of ls) ≡ length ls
+pub total-units : (ls : List NumberedLiteral) → total each (map unit_of ls) ≡ length ls
 total-units [] = refl
 total-units (l ∷ ls) = omega (arith, total-units ls)
 
@@ -34,9 +35,9 @@ only-turned a x b n = both (eqb a x) (eqb x a) b n (both_ways (eqb a x) (eqb x a
     both d f false false e = ap (λ g. g && true) e
 
 -- a literal has a coefficient among the given ones if and only if it is given
-given_counts : (ls : List (ℕ × Bool)) (x : ℕ) (n : Bool) → (among ls x n ≡ true → 0 < total (only x n) (map unit_of ls)) × (among ls x n ≡ false → total (only x n) (map unit_of ls) ≡ 0)
+given_counts : (ls : List NumberedLiteral) (x : ℕ) (n : Bool) → (on ls x n ≡ true → 0 < total (only x n) (map unit_of ls)) × (on ls x n ≡ false → total (only x n) (map unit_of ls) ≡ 0)
 given_counts [] x n = (λ e. absurd cc, λ e. refl)
-given_counts (l ∷ ls) x n = step (only x n l.0 l.1) (only l.0 l.1 x n) _ _ (only-turned l.0 x l.1 n) (given_counts ls x n)
+given_counts (l ∷ ls) x n = step (only x n l.variable l.negated) (only l.variable l.negated x n) _ _ (only-turned l.variable x l.negated n) (given_counts ls x n)
   where
     step : (a b c : Bool) (k : ℕ) → a ≡ b → (c ≡ true → 0 < k) × (c ≡ false → k ≡ 0) → ((b || c) ≡ true → 0 < cond a 1 0 + k) × ((b || c) ≡ false → cond a 1 0 + k ≡ 0)
     step a true c k e h = rw e (λ f. omega arith, λ f. absurd cc)
@@ -92,7 +93,7 @@ flipped x n ts = total-same _ _ (λ v m. turned (eqb v x) n m) ts
     turned d false false = refl
 
 -- what remains of the literals, each with coefficient 1
-counts : (x : ℕ) (n b : Bool) (ls : List (ℕ × Bool)) (rs : List Entry) (gone : ℕ) → among ls x n ≡ b → (among ls x n ≡ true → among ls x (not n) ≡ false) → IsRising 0 rs → Adds (map unit_of ls) [] rs gone →
+counts : (x : ℕ) (n b : Bool) (ls : List NumberedLiteral) (rs : List Entry) (gone : ℕ) → on ls x n ≡ b → (on ls x n ≡ true → on ls x (not n) ≡ false) → IsRising 0 rs → Adds (map unit_of ls) [] rs gone →
     total (only x n) (ones rs) ≡ cond b 1 0
 counts x n true ls rs gone e other h adds =
     let more = (given_counts ls x n).0 e in
@@ -111,15 +112,15 @@ counts x n false ls rs gone e other h adds =
     cases_zero zero = inl refl
     cases_zero (suc m) = inr (omega arith)
 
-not_both : (ls : List (ℕ × Bool)) → ((x : ℕ) → among ls x true ≡ true → among ls x false ≡ true → ⊥) → (x : ℕ) (n : Bool) → among ls x n ≡ true → among ls x (not n) ≡ false
-not_both ls h x true e = false_from_ne_true (among ls x false) (λ f. h x e f)
-not_both ls h x false e = false_from_ne_true (among ls x true) (λ f. h x f e)
+not_both : (ls : List NumberedLiteral) → ((x : ℕ) → on ls x true ≡ true → on ls x false ≡ true → ⊥) → (x : ℕ) (n : Bool) → on ls x n ≡ true → on ls x (not n) ≡ false
+not_both ls h x true e = false_from_ne_true (on ls x false) (λ f. h x e f)
+not_both ls h x false e = false_from_ne_true (on ls x true) (λ f. h x f e)
 
-pub IsCountOf-ones : (ls : List (ℕ × Bool)) (d gone : ℕ) (rs ts : List Entry) → ((x : ℕ) → among ls x true ≡ true → among ls x false ≡ true → ⊥) → IsRising 0 rs → Adds (map unit_of ls) [] rs gone → ts ≡ ones rs →
+pub IsCountOf-ones : (ls : List NumberedLiteral) (d gone : ℕ) (rs ts : List Entry) → ((x : ℕ) → on ls x true ≡ true → on ls x false ≡ true → ⊥) → IsRising 0 rs → Adds (map unit_of ls) [] rs gone → ts ≡ ones rs →
     IsCountOf ls d record { terms = ts; degree = d }
 IsCountOf-ones ls d gone rs ts apart h adds e = rw e record {
   ordered = IsRising-ones 0 rs h;
-  coefficients = λ x n. counts x n (among ls x n) ls rs gone refl (not_both ls apart x n) h adds;
+  coefficients = λ x n. counts x n (on ls x n) ls rs gone refl (not_both ls apart x n) h adds;
   degree_is = refl;
 }
 

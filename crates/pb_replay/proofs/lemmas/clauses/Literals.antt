@@ -2,8 +2,9 @@
 use Rattle.std.specs.Prelude.{◌==◌, Bool, true, false, not, Option, Some, None, ◌/◌, ◌%◌}
 use Rattle.std.proofs.Common.{◌≡◌, ℕ, ◌+◌, ◌*◌, cond, List, refl, sym, ◌∙◌, ap, arith, get_or}
 use Rattle.std.proofs.lemmas.Bool.Decides.{nat_tests}
-use Rattle.pb_replay.specs.declared.numbered.NumberedLiteral.{NumberedLiteral}
-use Rattle.pb_replay.specs.engine.Engine.Lists.{negation, has, holds, says}
+use Rattle.pb_normal.specs.declared.numbered.NumberedLiteral.{NumberedLiteral}
+use Rattle.pb_normal.specs.meaning.Rules.{negation}
+use Rattle.pb_replay.specs.engine.Engine.Lists.{has, holds, says}
 use Rattle.pb_replay.specs.engine.Engine.Counts.{place}
 use Rattle.pb_replay.specs.engine.Clauses.Truths.{is_met, is_failed, true_at, false_at}
 use Rattle.pb_replay.specs.engine.Clauses.Shapes.{literal_at}

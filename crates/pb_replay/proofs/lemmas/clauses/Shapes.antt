@@ -4,9 +4,10 @@ use Rattle.std.proofs.Common.{◌≡◌, ℕ, zero, suc, ◌+◌, ◌<◌, ◌�
 use Rattle.std.proofs.lemmas.Bool.{cases_Bool, both_ways}
 use Rattle.std.proofs.lemmas.List.{get_or-map, length-map}
 use Rattle.std.proofs.lemmas.List.Sums.{sum_by-cons}
-use Rattle.pb_replay.specs.declared.numbered.NumberedLiteral.{NumberedLiteral}
+use Rattle.pb_normal.specs.declared.numbered.NumberedLiteral.{NumberedLiteral}
+use Rattle.pb_normal.specs.meaning.Rules.{negation}
 use Rattle.pb_replay.specs.declared.propagate.term.Term.{Term}
-use Rattle.pb_replay.specs.engine.Engine.Lists.{Shape, negation, has, open_part, open_sum, Puts, Derives, begin, put, Conflicts, opposed, broken, IsSettled}
+use Rattle.pb_replay.specs.engine.Engine.Lists.{Shape, has, open_part, open_sum, Puts, Derives, begin, put, Conflicts, opposed, broken, IsSettled}
 use Rattle.pb_replay.specs.engine.Engine.Rest.{IsRefuted, opposite, derived}
 use Rattle.pb_replay.specs.engine.Clauses.Truths.{true_at, false_at}
 use Rattle.pb_replay.specs.engine.Clauses.Links.{list_at}

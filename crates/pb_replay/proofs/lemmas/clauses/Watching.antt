@@ -3,10 +3,11 @@ use Rattle.std.specs.Prelude.{Bool, true, false, Option, Contains, map, sum, sum
 use Rattle.std.proofs.Common.{◌≡◌, ℕ, suc, ◌+◌, ◌*◌, ◌<◌, ◌≤◌, ◌++◌, ◌∷◌, [], List, refl, sym, ◌∙◌, ap, subst, arith, inl, inr, length, get_or, take, length-append}
 use Rattle.std.proofs.lemmas.Bool.{cases_eq, cases_lt, both_ways, eqb-true, or_cases, or_left, or_right}
 use Rattle.std.proofs.lemmas.List.{get_or-map, length-map, map-append, take-append-le, take_more, take_all, get_or_append_left}
-use Rattle.pb_replay.specs.declared.numbered.NumberedLiteral.{NumberedLiteral}
+use Rattle.pb_normal.specs.declared.numbered.NumberedLiteral.{NumberedLiteral}
+use Rattle.pb_normal.specs.meaning.Rules.{negation}
 use Rattle.pb_replay.specs.declared.propagate.clauses.lists.Watch.{Watch}
 use Rattle.pb_replay.specs.declared.propagate.clauses.Clauses.{Clauses}
-use Rattle.pb_replay.specs.engine.Engine.Lists.{Shape, negation, same, has, Derives, begin, put, IsSettled}
+use Rattle.pb_replay.specs.engine.Engine.Lists.{Shape, same, has, Derives, begin, put, IsSettled}
 use Rattle.pb_replay.specs.engine.Engine.Counts.{place, AreSingle, none, more}
 use Rattle.pb_replay.specs.engine.Clauses.Truths.{flip, true_at, false_at}
 use Rattle.pb_replay.specs.engine.Clauses.Links.{watch_at, list_at, lists_of}

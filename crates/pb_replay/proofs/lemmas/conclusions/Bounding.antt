@@ -12,12 +12,12 @@ use Rattle.pb_proof.specs.declared.Bound.TheVariants.{Finite, Infinite}
 use Rattle.pb_proof.specs.declared.Conclusion.TheVariants.{Bounds}
 use Rattle.pb_proof.specs.declared.Statement.TheVariants.{Conclude}
 use Rattle.pb_proof.specs.declared.Stage.TheVariants.{Closing}
+use Rattle.pb_normal.specs.declared.numbered.NumberedLiteral.{NumberedLiteral}
 use Rattle.pb_normal.specs.declared.Side.TheVariants.{AtLeast as least}
 use Rattle.pb_normal.specs.meaning.Constraints.{Fits}
 use Rattle.pb_normal.specs.meaning.Form.{Form}
 use Rattle.pb_replay.specs.declared.fault.Fault.{Fault}
 use Rattle.pb_replay.specs.declared.fault.Fault.TheVariants.{Memory, NoSuchId, NotBound}
-use Rattle.pb_replay.specs.declared.numbered.NumberedLiteral.{NumberedLiteral}
 use Rattle.pb_replay.specs.declared.state.Running.{Running}
 use Rattle.pb_replay.specs.declared.verdict.Verdict.TheVariants as verdict
 use Rattle.pb_replay.specs.meaning.Answer.{Answer, gives, need}

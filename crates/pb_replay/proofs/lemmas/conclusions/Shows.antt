@@ -6,10 +6,10 @@ use Rattle.pb_sums.specs.declared.Literal.{Literal}
 use Rattle.pb_proof.specs.declared.Conclusion.TheVariants.{Sat}
 use Rattle.pb_proof.specs.declared.Statement.TheVariants.{Conclude}
 use Rattle.pb_proof.specs.declared.Stage.TheVariants.{Closing}
+use Rattle.pb_normal.specs.declared.numbered.NumberedLiteral.{NumberedLiteral}
 use Rattle.pb_normal.specs.meaning.Form.{Form}
 use Rattle.pb_replay.specs.declared.fault.Fault.{Fault}
 use Rattle.pb_replay.specs.declared.fault.Fault.TheVariants.{Conflict, Memory, NoSolution}
-use Rattle.pb_replay.specs.declared.numbered.NumberedLiteral.{NumberedLiteral}
 use Rattle.pb_replay.specs.declared.state.Running.{Running}
 use Rattle.pb_replay.specs.declared.verdict.Verdict.TheVariants as verdict
 use Rattle.pb_replay.specs.meaning.Problem.{Problem}

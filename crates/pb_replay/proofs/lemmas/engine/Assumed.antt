@@ -5,10 +5,11 @@ use Rattle.std.specs.Cmp.{both_ways as same_answers}
 use Rattle.std.proofs.lemmas.Bool.{both_ways, or_cases}
 use Rattle.std.proofs.lemmas.List.{take_more}
 use Rattle.pb_normal.specs.meaning.Form.{Form}
-use Rattle.pb_replay.specs.declared.numbered.NumberedLiteral.{NumberedLiteral}
-use Rattle.pb_replay.specs.engine.Engine.Lists.{Shape, negation, same, has, says, holds, IsWithin, Conflicts, opposed as both, broken as low, begin as start}
+use Rattle.pb_normal.specs.declared.numbered.NumberedLiteral.{NumberedLiteral}
+use Rattle.pb_normal.specs.meaning.Rules.{on, negation}
+use Rattle.pb_replay.specs.engine.Engine.Lists.{Shape, same, has, says, holds, IsWithin, Conflicts, opposed as both, broken as low, begin as start}
 use Rattle.pb_replay.specs.engine.Engine.Counts.{Adopted, kept, added, AreSingle, more}
-use Rattle.pb_replay.specs.meaning.Propagation.{on, begin, MeetsConflict, IsCompletion}
+use Rattle.pb_replay.specs.meaning.Propagation.{begin, MeetsConflict, IsCompletion}
 use Rattle.pb_replay.specs.engine.Engine.Live.{value_says, Gives}
 use Rattle.pb_replay.specs.engine.Engine.Rest.{IsRefuted, opposite as opposites, derived as from, IsEnded}
 use Rattle.pb_replay.proofs.lemmas.engine.Literals.{literal, open_sum-within, has-none, has-get, has-push_old, has-push_new, push-within}

@@ -9,12 +9,12 @@ use Rattle.std.proofs.lemmas.List.Sums.{sum_by-cons}
 use Rattle.std.proofs.lemmas.List.Sorted.{IsPermutation-sym, sum_by-IsPermutation, Contains-permutation}
 use Rattle.pb_normal.specs.declared.entry.Entry.{Entry}
 use Rattle.pb_normal.specs.meaning.Form.{Form, IsRising, total, counted}
-use Rattle.pb_normal.specs.meaning.Rules.{only}
-use Rattle.pb_replay.specs.declared.numbered.NumberedLiteral.{NumberedLiteral}
+use Rattle.pb_normal.specs.meaning.Rules.{only, on, negation}
+use Rattle.pb_normal.specs.declared.numbered.NumberedLiteral.{NumberedLiteral}
 use Rattle.pb_replay.specs.declared.propagate.term.Term.{Term}
 use Rattle.pb_replay.specs.engine.Engine.Forms.{entry_of, IsKeptAs}
-use Rattle.pb_replay.specs.engine.Engine.Lists.{Shape, negation, same, has, open_part, open_sum, IsSettled, Puts, Derives, begin as start, put as more, Conflicts, opposed as both, broken as low}
-use Rattle.pb_replay.specs.meaning.Propagation.{on, opened, MayPropagate, Derivation, begin, put, HasConflict, opposed, broken}
+use Rattle.pb_replay.specs.engine.Engine.Lists.{Shape, same, has, open_part, open_sum, IsSettled, Puts, Derives, begin as start, put as more, Conflicts, opposed as both, broken as low}
+use Rattle.pb_replay.specs.meaning.Propagation.{opened, MayPropagate, Derivation, begin, put, HasConflict, opposed, broken}
 use Rattle.pb_replay.proofs.lemmas.meaning.Choices.{total-has, rising-positive, only-true, only-self}
 use Rattle.pb_replay.proofs.lemmas.engine.Literals.{literal, same-true, same-refl, has-push, open_part-falsified, open_part-open, literal_ext}
 use Rattle.pb_replay.proofs.lemmas.engine.Derivations.{one_itself}

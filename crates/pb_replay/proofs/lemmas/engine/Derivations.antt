@@ -1,8 +1,9 @@
 use Rattle.std.specs.Prelude.{Contains}
 use Rattle.std.proofs.Common.{◌≡◌, ℕ, zero, suc, ◌+◌, ◌<◌, ◌≤◌, ◌∷◌, [], List, false, refl, arith, length, get_or}
-use Rattle.pb_replay.specs.declared.numbered.NumberedLiteral.{NumberedLiteral}
+use Rattle.pb_normal.specs.declared.numbered.NumberedLiteral.{NumberedLiteral}
+use Rattle.pb_normal.specs.meaning.Rules.{negation}
 use Rattle.pb_replay.specs.declared.propagate.term.Term.{Term}
-use Rattle.pb_replay.specs.engine.Engine.Lists.{negation, has, Shape, open_sum, Puts, Derives, begin, put, IsWithin, IsSettled}
+use Rattle.pb_replay.specs.engine.Engine.Lists.{has, Shape, open_sum, Puts, Derives, begin, put, IsWithin, IsSettled}
 use Rattle.pb_replay.proofs.lemmas.engine.Literals.{has-push_old}
 
 pub derivation-keeps : (forms : List Shape) (a b : List NumberedLiteral) → Derives forms a b → IsWithin a b

@@ -4,9 +4,9 @@ use Rattle.std.proofs.Common.{◌≡◌, ℕ, zero, suc, ◌+◌, ◌<◌, ◌�
 use Rattle.std.proofs.lemmas.Bool.{cases_Bool, cases_lt}
 use Rattle.pb_normal.specs.declared.entry.Entry.{Entry}
 use Rattle.pb_normal.specs.meaning.Form.{Form, total}
-use Rattle.pb_normal.specs.meaning.Rules.{only}
-use Rattle.pb_replay.specs.declared.numbered.NumberedLiteral.{NumberedLiteral}
-use Rattle.pb_replay.specs.meaning.Propagation.{on, opened, MayPropagate, Derivation, begin, put, IsCompletion}
+use Rattle.pb_normal.specs.meaning.Rules.{only, on}
+use Rattle.pb_normal.specs.declared.numbered.NumberedLiteral.{NumberedLiteral}
+use Rattle.pb_replay.specs.meaning.Propagation.{opened, MayPropagate, Derivation, begin, put, IsCompletion}
 use Rattle.pb_replay.proofs.lemmas.meaning.Choices.{only-true, only-self}
 
 -- a literal that a form forces

@@ -1,7 +1,8 @@
 use Rattle.std.proofs.Common.{◌≡◌, List, true, inl, inr, arith}
 use Rattle.std.proofs.lemmas.Bool.{cases_Bool}
-use Rattle.pb_replay.specs.declared.numbered.NumberedLiteral.{NumberedLiteral}
-use Rattle.pb_replay.specs.engine.Engine.Lists.{negation, has, Shape, Puts, Conflicts, broken, IsWithin}
+use Rattle.pb_normal.specs.declared.numbered.NumberedLiteral.{NumberedLiteral}
+use Rattle.pb_normal.specs.meaning.Rules.{negation}
+use Rattle.pb_replay.specs.engine.Engine.Lists.{has, Shape, Puts, Conflicts, broken, IsWithin}
 use Rattle.pb_replay.proofs.lemmas.engine.Literals.{open_sum-within, open_sum-lower}
 
 -- a literal that may be propagated from a list: on each longer list it is there, may be propagated, or there is a conflict

@@ -6,9 +6,10 @@ use Rattle.std.proofs.Math.Bool.{or-false, not-not}
 use Rattle.std.proofs.lemmas.Bool.{cases_Bool, eqb-true, and_parts, or_cases, or_left, or_right, both_ways}
 use Rattle.std.proofs.lemmas.List.Folds.{list_any-append}
 use Rattle.std.proofs.lemmas.List.Sums.{sum_by-le-sum_by, sum_by-cons}
-use Rattle.pb_replay.specs.declared.numbered.NumberedLiteral.{NumberedLiteral}
+use Rattle.pb_normal.specs.declared.numbered.NumberedLiteral.{NumberedLiteral}
+use Rattle.pb_normal.specs.meaning.Rules.{negation}
 use Rattle.pb_replay.specs.declared.propagate.term.Term.{Term}
-use Rattle.pb_replay.specs.engine.Engine.Lists.{negation, same, has, open_part, open_sum, IsWithin}
+use Rattle.pb_replay.specs.engine.Engine.Lists.{same, has, open_part, open_sum, IsWithin}
 
 pub beq-true : (a b : Bool) → beq a b ≡ true → a ≡ b
 beq-true true true h = refl

@@ -3,10 +3,11 @@ use Rattle.std.proofs.Common.{◌≡◌, ℕ, ◌+◌, ◌-◌, ◌*◌, ◌^◌
 use Rattle.std.proofs.lemmas.List.{drop_more, get_or-map, length-map}
 use Rattle.std.proofs.lemmas.List.Elements.{Contains-get_or}
 use Rattle.std.proofs.Math.ListN.{get_or-map as get_or-map-default}
-use Rattle.pb_replay.specs.declared.numbered.NumberedLiteral.{NumberedLiteral}
+use Rattle.pb_normal.specs.declared.numbered.NumberedLiteral.{NumberedLiteral}
+use Rattle.pb_normal.specs.meaning.Rules.{negation}
 use Rattle.pb_replay.specs.declared.propagate.store.Occurrence.{Occurrence}
 use Rattle.pb_replay.specs.declared.propagate.rests.Rests.{Rests}
-use Rattle.pb_replay.specs.engine.Engine.Lists.{Shape, Weighted, negation, Conflicts, broken}
+use Rattle.pb_replay.specs.engine.Engine.Lists.{Shape, Weighted, Conflicts, broken}
 use Rattle.pb_replay.specs.engine.Engine.Counts.{place, beside, rest_open, IsCounted, IsTidy, IsAbsent, IsCalm, Grown}
 use Rattle.pb_replay.specs.engine.Engine.Fields.{entries_of, lists_of}
 use Rattle.pb_replay.specs.engine.Engine.Links.{weighted, coefficient_at}

@@ -3,9 +3,10 @@ use Rattle.std.proofs.Common.{◌≡◌, ℕ, ◌<◌, ◌-◌, ◌++◌, ◌∷
 use Rattle.std.proofs.lemmas.Bool.{cases_lt}
 use Rattle.std.proofs.lemmas.List.{get_or_append_left, get_or-append_right}
 use Rattle.std.proofs.lemmas.List.Sums.{sum_by-cons}
+use Rattle.pb_normal.specs.meaning.Rules.{negation}
 use Rattle.pb_replay.specs.declared.propagate.term.Term.{Term}
 use Rattle.pb_replay.specs.declared.propagate.rests.Rests.{Rests}
-use Rattle.pb_replay.specs.engine.Engine.Lists.{Shape, negation, open_part, open_sum, size}
+use Rattle.pb_replay.specs.engine.Engine.Lists.{Shape, open_part, open_sum, size}
 use Rattle.pb_replay.specs.engine.Engine.Counts.{weight_in, beside, rest_open, IsAbsent, IsCalm, IsCounted, IsTidy, IsUndone}
 use Rattle.pb_replay.proofs.lemmas.engine.Literals.{has-none, open_part-open}
 

@@ -4,9 +4,10 @@ use Rattle.std.proofs.lemmas.Bool.{cases_lt, cases_Bool, cases_eq, both_ways, eq
 use Rattle.std.proofs.lemmas.List.{get_or_append_left, get_or_push, get_or_default}
 use Rattle.std.proofs.lemmas.List.Elements.{All-push}
 use Rattle.std.proofs.lemmas.List.Sums.{sum_by-cons}
-use Rattle.pb_replay.specs.declared.numbered.NumberedLiteral.{NumberedLiteral}
+use Rattle.pb_normal.specs.declared.numbered.NumberedLiteral.{NumberedLiteral}
+use Rattle.pb_normal.specs.meaning.Rules.{negation}
 use Rattle.pb_replay.specs.declared.propagate.term.Term.{Term}
-use Rattle.pb_replay.specs.engine.Engine.Lists.{Shape, negation, same, has, open_part, open_sum, IsSettled, Weighted}
+use Rattle.pb_replay.specs.engine.Engine.Lists.{Shape, same, has, open_part, open_sum, IsSettled, Weighted}
 use Rattle.pb_replay.specs.engine.Engine.Counts.{entry_weight, weight_in, term_weight, weight_on, AreFalling, IsCalm, IsDone, ArePassed, IsAbsent, IsCounted, IsTidy, Aside, rest_open, Grown, pushed, spared}
 use Rattle.pb_replay.proofs.lemmas.engine.Derivations.{settled-of_terms}
 use Rattle.pb_replay.proofs.lemmas.engine.Literals.{negation-negation, has-push, has-push_old, has-push_new, same-true, same-refl, open_part-falsified, open_part-open}

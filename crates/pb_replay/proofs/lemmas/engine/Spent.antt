@@ -3,8 +3,9 @@ use Rattle.std.proofs.Common.{◌≡◌, ℕ, zero, suc, ◌+◌, ◌*◌, ◌<�
 use Rattle.std.proofs.lemmas.Bool.{cases_lt, both_ways, or_left, or_right}
 use Rattle.std.proofs.lemmas.List.{get_or_past, set_past}
 use Rattle.std.proofs.lemmas.List.Sums.{sum_by-set, sum_by_push, sum_by-cons, sum-map}
-use Rattle.pb_replay.specs.declared.numbered.NumberedLiteral.{NumberedLiteral}
-use Rattle.pb_replay.specs.engine.Engine.Lists.{Shape, negation, same, has, Derives, begin, put, Weighted}
+use Rattle.pb_normal.specs.declared.numbered.NumberedLiteral.{NumberedLiteral}
+use Rattle.pb_normal.specs.meaning.Rules.{negation}
+use Rattle.pb_replay.specs.engine.Engine.Lists.{Shape, same, has, Derives, begin, put, Weighted}
 use Rattle.pb_replay.specs.engine.Engine.Counts.{place, spent, AreSingle, none, more}
 use Rattle.pb_replay.proofs.lemmas.engine.Literals.{literal_ext, negation-negation, same-refl}
 

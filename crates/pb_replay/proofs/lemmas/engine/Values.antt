@@ -6,8 +6,9 @@ use Rattle.std.proofs.lemmas.Bool.{cases_lt, cases_eq, ne_eqb, eq-eqb, both_ways
 use Rattle.std.proofs.lemmas.List.Sums.{sum_by-set, sum_by_push, sum_by-cons}
 use Rattle.std.specs.List.{list_any}
 use Rattle.std.proofs.lemmas.List.{length-append, get_or_append_left, get_or-append_right, get_or_past, set_past, drop_more, drop_all}
-use Rattle.pb_replay.specs.declared.numbered.NumberedLiteral.{NumberedLiteral}
-use Rattle.pb_replay.specs.engine.Engine.Lists.{negation, same, has, says, holds, vacancy}
+use Rattle.pb_normal.specs.declared.numbered.NumberedLiteral.{NumberedLiteral}
+use Rattle.pb_normal.specs.meaning.Rules.{negation}
+use Rattle.pb_replay.specs.engine.Engine.Lists.{same, has, says, holds, vacancy}
 use Rattle.pb_replay.proofs.lemmas.engine.Literals.{has-none, has-push, has-get, beq-refl, literal_ext}
 
 -- the values are those that the list gives

@@ -8,7 +8,7 @@ use Rattle.pb_normal.specs.meaning.Constraints.{Fits}
 use Rattle.pb_normal.specs.meaning.Form.{Form, coefficient}
 use Rattle.pb_normal.specs.meaning.Rules.{IsSum, negation_of}
 use Rattle.pb_normal.specs.meaning.Written.{IsFormOf, written_on}
-use Rattle.pb_replay.specs.declared.numbered.NumberedLiteral.{NumberedLiteral}
+use Rattle.pb_normal.specs.declared.numbered.NumberedLiteral.{NumberedLiteral}
 use Rattle.pb_replay.specs.declared.verdict.Verdict.TheVariants as verdict
 use Rattle.pb_replay.specs.meaning.Problem.{Problem, Opened}
 use Rattle.pb_replay.specs.meaning.Propagation.{MayPropagate, begin, put, broken, With, IsRup}

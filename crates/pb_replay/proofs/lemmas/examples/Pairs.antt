@@ -5,13 +5,13 @@ use Rattle.std.proofs.Common.{◌≡◌, ℕ, zero, suc, ◌<◌, Bool, true, fa
 use Rattle.pb_sums.specs.declared.Term.{Term}
 use Rattle.pb_normal.specs.declared.entry.Entry.{Entry}
 use Rattle.pb_normal.specs.meaning.Form.{Form, Holds, total}
-use Rattle.pb_normal.specs.meaning.Rules.{assignment, only}
-use Rattle.pb_replay.specs.declared.numbered.NumberedLiteral.{NumberedLiteral}
+use Rattle.pb_normal.specs.meaning.Rules.{assignment, only, on}
+use Rattle.pb_normal.specs.declared.numbered.NumberedLiteral.{NumberedLiteral}
 use Rattle.pb_replay.specs.meaning.Problem.{Problem}
-use Rattle.pb_replay.specs.meaning.Propagation.{on, begin, MayPropagate}
-use Rattle.pb_replay.specs.meaning.Replay.{Live, HasValue, AreValues, IsClause, Completed, logged_of}
+use Rattle.pb_replay.specs.meaning.Propagation.{begin, MayPropagate}
+use Rattle.pb_replay.specs.meaning.Replay.{Live, HasValue, AreValues, Excludes, Completed, logged_of, negations}
 use Rattle.pb_replay.specs.contract.Example.{name_x, name_y}
-use Rattle.pb_replay.proofs.lemmas.meaning.Propagating.{AreTrue, AreTrue-put, conflict-none}
+use Rattle.pb_replay.proofs.lemmas.meaning.Propagating.{AreTrue, AreTrue-put, on-negations, conflict-none}
 
 abbrev pub entry : ℕ → Bool → Entry
 entry x negated = record { variable = x; negated = negated; coefficient = 1 }
@@ -128,10 +128,10 @@ live-met m n live all f c = each-contains (OfLive (IsMet m n)) live (Some f) all
 pub own-met : (m n : Bool) → Holds (assignment (values m n)) (pair false false 1) → (f : Form) → Contains (pair false false 1 ∷ []) f → IsMet m n f
 own-met m n own f c = each-contains (IsMet m n) (pair false false 1 ∷ []) f (met m n false false 1 own, tt) c
 
-pub clause-of : (m n : Bool) → IsClause (given m n) (pair (not m) (not n) 1)
-clause-of m n = record { ordered = (omega arith, omega arith, (omega arith, omega arith, tt)); coefficients = each m n; degree = refl }
+pub clause-of : (m n : Bool) → Excludes (given m n) (pair (not m) (not n) 1)
+clause-of m n = record { ordered = (omega arith, omega arith, (omega arith, omega arith, tt)); coefficients = each m n; degree_is = refl }
   where
-    each : (m n : Bool) (x : ℕ) (b : Bool) → total (only x b) (pair (not m) (not n) 1).terms ≡ cond (on (given m n) x (not b)) 1 0
+    each : (m n : Bool) (x : ℕ) (b : Bool) → total (only x b) (pair (not m) (not n) 1).terms ≡ cond (on (negations (given m n)) x b) 1 0
     each true n zero true = refl
     each true n zero false = refl
     each false n zero true = refl
@@ -140,4 +140,4 @@ clause-of m n = record { ordered = (omega arith, omega arith, (omega arith, omeg
     each m true (suc zero) false = refl
     each m false (suc zero) true = refl
     each m false (suc zero) false = refl
-    each m n (suc (suc x)) b = far-total (not m) (not n) 1 x b ∙ sym (ap (λ e. cond e 1 0) (far-on m n x (not b)))
+    each m n (suc (suc x)) b = far-total (not m) (not n) 1 x b ∙ sym (ap (λ e. cond e 1 0) (on-negations (given m n) (suc (suc x)) b ∙ far-on m n x (not b)))

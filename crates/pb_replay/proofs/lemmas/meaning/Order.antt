@@ -2,10 +2,10 @@
 use Rattle.std.proofs.Common.{◌≡◌, ◌⊎◌, true, List, ◌∷◌, inl, inr}
 use Rattle.std.proofs.lemmas.Bool.{or_left, or_right}
 use Rattle.pb_normal.specs.meaning.Form.{Form}
-use Rattle.pb_normal.specs.meaning.Rules.{only}
-use Rattle.pb_replay.specs.declared.numbered.NumberedLiteral.{NumberedLiteral}
+use Rattle.pb_normal.specs.meaning.Rules.{only, on}
+use Rattle.pb_normal.specs.declared.numbered.NumberedLiteral.{NumberedLiteral}
 use Rattle.pb_replay.specs.contract.Laws.{InList, OrderIsFree, CompletionIsOne}
-use Rattle.pb_replay.specs.meaning.Propagation.{on, Derivation, begin, put, HasConflict, MeetsConflict}
+use Rattle.pb_replay.specs.meaning.Propagation.{Derivation, begin, put, HasConflict, MeetsConflict}
 use Rattle.pb_replay.proofs.lemmas.solutions.Completing.{IsPart, on_it, still, conflicting, lasting, put-part, derivation-keeps, conflict-part, completion-one}
 use Rattle.pb_replay.proofs.lemmas.meaning.Choices.{only-self}
 

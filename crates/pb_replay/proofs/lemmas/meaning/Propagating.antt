@@ -1,11 +1,12 @@
 -- What propagation adds to a list is true wherever the forms hold and the given literals are true
-use Rattle.std.proofs.Common.{◌≡◌, ℕ, Bool, true, false, not, List, [], ◌∷◌, refl, sym, ◌∙◌, arith, inl, inr}
+use Rattle.std.proofs.Common.{◌≡◌, ℕ, Bool, true, false, not, cond, List, [], ◌∷◌, refl, sym, ◌∙◌, arith, inl, inr}
 use Rattle.std.proofs.Math.Bool.{not-not}
 use Rattle.std.proofs.lemmas.Bool.{cases_Bool, cases_lt, or_cases, both_ways, not-true, false_from_ne_true, not_from_false}
-use Rattle.pb_replay.specs.declared.numbered.NumberedLiteral.{NumberedLiteral}
+use Rattle.pb_normal.specs.declared.numbered.NumberedLiteral.{NumberedLiteral}
 use Rattle.pb_normal.specs.meaning.Form.{Form, Holds, total, true_at}
-use Rattle.pb_normal.specs.meaning.Rules.{negation_of, only}
-use Rattle.pb_replay.specs.meaning.Propagation.{on, opened, MayPropagate, Derivation, begin, put, HasConflict, opposed, broken, MeetsConflict, With, IsRup, HoldAll}
+use Rattle.pb_normal.specs.meaning.Rules.{negation_of, only, on}
+use Rattle.pb_replay.specs.meaning.Replay.{negations}
+use Rattle.pb_replay.specs.meaning.Propagation.{opened, MayPropagate, Derivation, begin, put, HasConflict, opposed, broken, MeetsConflict, With, IsRup, HoldAll}
 use Rattle.pb_normal.proofs.lemmas.terms.Maps.{Holds-negation_back}
 use Rattle.pb_replay.proofs.lemmas.meaning.Choices.{total-fits, total-within, only-true}
 
@@ -13,6 +14,17 @@ use Rattle.pb_replay.proofs.lemmas.meaning.Choices.{total-fits, total-within, on
 pub true_at-not : (a : ℕ → Bool) (v : ℕ) (n : Bool) → true_at a v (not n) ≡ not (true_at a v n)
 true_at-not a v true = sym (not-not (a v))
 true_at-not a v false = refl
+
+not_sign : (n m : Bool) → cond (not n) m (not m) ≡ cond n (not m) (not (not m))
+not_sign true true = refl
+not_sign true false = refl
+not_sign false true = refl
+not_sign false false = refl
+
+-- the negations have the negation of each literal of the list
+pub on-negations : (given : List NumberedLiteral) (x : ℕ) (m : Bool) → on (negations given) x m ≡ on given x (not m)
+on-negations [] x m = refl
+on-negations (l ∷ ls) x m = rw (not_sign l.negated m, on-negations ls x m) refl
 
 -- each literal of the list is true
 abbrev pub AreTrue : (ℕ → Bool) → List NumberedLiteral → Type 0

@@ -17,7 +17,7 @@ use Rattle.pb_normal.specs.meaning.Constraints.{Fits}
 use Rattle.pb_normal.specs.meaning.Form.{Form}
 use Rattle.pb_normal.specs.meaning.Names.{with_names}
 use Rattle.pb_normal.specs.meaning.Written.{IsSideOf}
-use Rattle.pb_replay.specs.declared.numbered.NumberedLiteral.{NumberedLiteral}
+use Rattle.pb_normal.specs.declared.numbered.NumberedLiteral.{NumberedLiteral}
 use Rattle.pb_replay.specs.meaning.Answer.{Answer}
 use Rattle.pb_replay.specs.meaning.Conclusions.{Concludes, lower_bound, upper_bound, contradicted, verdict_of}
 use Rattle.pb_replay.specs.meaning.Problem.{Problem}

@@ -14,6 +14,7 @@ use Rattle.pb_proof.specs.declared.Conclusion.TheVariants.{NoClaim, Unsat, Sat, 
 use Rattle.pb_proof.specs.declared.Statement.{Statement}
 use Rattle.pb_proof.specs.declared.Statement.TheVariants.{Header, F, Pol, Rup, Soli, Solx, Delete, Output, Conclude, End}
 use Rattle.pb_proof.specs.meaning.Postfix.{Tree, Constraint, True, Sum, Times, Divided, Saturated, Weakened, words}
+use Rattle.pb_normal.specs.declared.numbered.NumberedLiteral.{NumberedLiteral}
 use Rattle.pb_normal.specs.declared.Side.{Side}
 use Rattle.pb_normal.specs.declared.Side.TheVariants.{AtLeast as least, AtMost as most}
 use Rattle.pb_normal.specs.meaning.Constraints.{AreFormsOf, sides_in}
@@ -21,14 +22,12 @@ use Rattle.pb_normal.specs.meaning.Form.{Form}
 use Rattle.pb_normal.specs.meaning.Names.{with_names}
 use Rattle.pb_replay.specs.declared.fault.Fault.{Fault}
 use Rattle.pb_replay.specs.meaning.Replay.{Logged}
-use Rattle.pb_replay.specs.declared.numbered.NumberedLiteral.{NumberedLiteral}
 use Rattle.pb_replay.specs.meaning.Answer.{Answer, gives, need, each_below, found, some, after}
-use Rattle.pb_normal.specs.meaning.Rules.{IsSum, multiplied}
+use Rattle.pb_normal.specs.meaning.Rules.{IsSum, multiplied, on}
 use Rattle.pb_normal.proofs.lemmas.rules.Unique.{IsSum-unique, IsRising-same, same_form}
 use Rattle.pb_normal.proofs.lemmas.names.WrittenForms.{IsFormOf-unique, same_forms}
 use Rattle.pb_replay.specs.meaning.Problem.{Problem, FitsAll, names_in}
-use Rattle.pb_replay.specs.meaning.Propagation.{on}
-use Rattle.pb_replay.specs.meaning.Replay.{State, Live, IsLive, place, FormOfExpression, normal_form, HasValue, AreValues, Solution, Completed, Shown, logged_of, IsClause, Deleted, added, numbered}
+use Rattle.pb_replay.specs.meaning.Replay.{State, Live, IsLive, place, FormOfExpression, normal_form, HasValue, AreValues, Solution, Completed, Shown, logged_of, Excludes, Deleted, added, numbered}
 use Rattle.pb_replay.specs.meaning.Conclusions.{none_left, named, objective_with, lower_bound, upper_bound, Concludes}
 use Rattle.pb_replay.specs.meaning.Statements.{Does, mentioned}
 use Rattle.pb_replay.specs.contract.Laws.{IsSingle, OpeningsAreSingle, OutcomesAreSingle}
@@ -37,12 +36,12 @@ use Rattle.pb_text.proofs.lemmas.text.Results.{ok_or_err, same_err}
 use Rattle.pb_replay.proofs.lemmas.solutions.Completing.{completion-one}
 use Rattle.pb_proof.proofs.lemmas.Pol.Postfix.{words_report}
 
-IsClause-unique : (given : List NumberedLiteral) (r s : Form) → IsClause given r → IsClause given s → r ≡ s
-IsClause-unique given r s p q =
+Excludes-unique : (given : List NumberedLiteral) (r s : Form) → Excludes given r → Excludes given s → r ≡ s
+Excludes-unique given r s p q =
     let on_plain = λ (x : ℕ). p.coefficients x false ∙ sym (q.coefficients x false) in
     let on_negated = λ (x : ℕ). p.coefficients x true ∙ sym (q.coefficients x true) in
     let terms = IsRising-same 0 r.terms s.terms p.ordered q.ordered (λ x. omega (arith, on_plain x, on_negated x)) in
-    same_form r.terms s.terms r.degree s.degree terms (p.degree ∙ sym q.degree)
+    same_form r.terms s.terms r.degree s.degree terms (p.degree_is ∙ sym q.degree_is)
 
 module _ {A : Type 0} where
   single-gives : (x : A) → IsSingle (gives x)
@@ -172,7 +171,7 @@ single-does limit top v s (Pol ws) =
 single-does limit top v s (Rup linear) = single-normal limit s.names least linear _ (λ r. single-need _ _ _ (single-added top s s.logged r))
 single-does limit top v s (Solx given) =
     single-after (Completed v (Live s.live) (length s.names) (numbered s.names given)) _ (single-completed v (Live s.live) (length s.names) (numbered s.names given)) (λ g.
-    single-some (IsClause (numbered s.names given)) _ (IsClause-unique (numbered s.names given)) (λ r. single-added top s (s.logged ++ (g ∷ [])) r))
+    single-some (Excludes (numbered s.names given)) _ (Excludes-unique (numbered s.names given)) (λ r. single-added top s (s.logged ++ (g ∷ [])) r))
 single-does limit top v s (Soli given) =
     single-found (λ o. v.objective ≡ Some o) _ _ (objective-one v) (λ o.
     single-after (Completed v (Live s.live) (length s.names) (numbered s.names given)) _ (single-completed v (Live s.live) (length s.names) (numbered s.names given)) (λ g.

@@ -8,7 +8,7 @@ use Rattle.pb_normal.specs.meaning.Names.{has_name, HasNames, number_in, with_na
 use Rattle.pb_normal.proofs.lemmas.names.Appearing.{named, in_turn}
 use Rattle.pb_normal.proofs.lemmas.names.Numbering.{number_in-below}
 use Rattle.pb_text.proofs.lemmas.text.Lists.{take_read}
-use Rattle.pb_replay.specs.declared.numbered.NumberedLiteral.{NumberedLiteral}
+use Rattle.pb_normal.specs.declared.numbered.NumberedLiteral.{NumberedLiteral}
 use Rattle.pb_replay.specs.meaning.Replay.{numbered, numbered_one}
 use Rattle.pb_replay.specs.meaning.Statements.{literal_names, word_names}
 

@@ -6,15 +6,14 @@ use Rattle.std.proofs.Math.Seq.{get_or-append_seam}
 use Rattle.std.proofs.lemmas.List.{get_or_append_left}
 use Rattle.std.proofs.lemmas.Option.{slice_get-get_or}
 use Rattle.pb_sums.specs.declared.Literal.{Literal}
+use Rattle.pb_normal.specs.declared.numbered.NumberedLiteral.{NumberedLiteral}
 use Rattle.pb_normal.specs.meaning.Form.{Form}
 use Rattle.pb_normal.specs.meaning.Names.{has_name, AreDistinct, number_in, with_name, with_names}
 use Rattle.pb_normal.proofs.lemmas.names.Appearing.{prefix, distinct}
 use Rattle.pb_normal.proofs.lemmas.names.Numbering.{number_in-get}
 use Rattle.pb_replay.specs.declared.fault.Fault.{Fault}
 use Rattle.pb_replay.specs.declared.fault.Fault.TheVariants as fault
-use Rattle.pb_replay.specs.declared.numbered.NumberedLiteral.{NumberedLiteral}
-use Rattle.pb_replay.specs.meaning.Propagation.{on}
-use Rattle.pb_replay.specs.meaning.Replay.{State, Live, IsLive, place, FormOfExpression, limited, normal_form, HasValue, Completed, Shown, IsClause, Deleted, added, numbered}
+use Rattle.pb_replay.specs.meaning.Replay.{State, Live, IsLive, place, FormOfExpression, limited, normal_form, HasValue, Completed, Shown, Excludes, Deleted, added, numbered}
 use Rattle.pb_replay.specs.meaning.Statements.{Does, MayWant, PassesFirst, literal_names, mentioned}
 use Rattle.pb_sums.specs.declared.Term.{Term}
 use Rattle.pb_sums.specs.declared.Linear.{Linear}
@@ -27,7 +26,7 @@ use Rattle.pb_proof.specs.declared.Statement.TheVariants.{Header, F, Pol, Rup, S
 use Rattle.pb_proof.specs.meaning.Postfix.{Tree, Constraint, True, Sum, Times, Divided, Saturated, Weakened, words}
 use Rattle.pb_normal.specs.declared.Side.{Side}
 use Rattle.pb_normal.specs.declared.Side.TheVariants.{AtLeast as least, AtMost as most}
-use Rattle.pb_normal.specs.meaning.Rules.{IsSum, only}
+use Rattle.pb_normal.specs.meaning.Rules.{IsSum, only, on}
 use Rattle.pb_replay.specs.meaning.Replay.{Logged}
 use Rattle.pb_replay.specs.meaning.Answer.{Answer, gives, need, found, some, after}
 use Rattle.pb_replay.specs.meaning.Problem.{Problem}
@@ -207,7 +206,7 @@ does limit top v s (Soli given) n r d is (inl (o, e, h)) =
     solved v (Live s.live) s.names given n _ r d (λ g. never-normal limit _ most (objective_with o (g.value -ℤ pos 1)) _ (λ f. never-added top (record s { names = with_names s.names (mentioned (Soli given)) }) (s.logged ++ (g ∷ [])) f)) is h
 does limit top v s (Soli given) n r d is (inr h) = absurd (let o : fault.NoObjective ≡ fault.NotTotal n = err_same r _ _ is h.1 in cc)
 does limit top v s (Solx given) n r d is h =
-    solved v (Live s.live) s.names given n _ r d (λ g. never-some (IsClause _) _ (λ f. never-added top (record s { names = with_names s.names (mentioned (Solx given)) }) (s.logged ++ (g ∷ [])) f)) is h
+    solved v (Live s.live) s.names given n _ r d (λ g. never-some (Excludes _) _ (λ f. never-added top (record s { names = with_names s.names (mentioned (Solx given)) }) (s.logged ++ (g ∷ [])) f)) is h
 does limit top v s (Delete ids) n r d is h = absurd (never-after (Deleted s.live ids) _ (never-deleted s.live ids) (λ live. never-gives _) r n is h)
 does limit top v s Output n r d is h = absurd (never-gives _ r n is h)
 does limit top v s (Conclude c) n r d is h = absurd (never-concludes limit v (record s { names = with_names s.names (mentioned (Conclude c)) }) c _ (never-gives _) r n is h)

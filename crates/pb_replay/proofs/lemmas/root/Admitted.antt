@@ -4,7 +4,7 @@ use Rattle.std.proofs.Common.{Vec, Global, ◌≡◌, ℕ, ◌+◌, ◌*◌, ◌
 use Rattle.std.proofs.lemmas.Bool.{cases_eq, cases_lt, both_ways}
 use Rattle.std.proofs.lemmas.List.{length-map, get_or-map, get_or_append_left, get_or_push, get_or_default}
 use Rattle.std.proofs.lemmas.Option.{get_or_from_slice_get, slice_get-get_or, slice_get_within}
-use Rattle.pb_replay.specs.declared.numbered.NumberedLiteral.{NumberedLiteral}
+use Rattle.pb_normal.specs.declared.numbered.NumberedLiteral.{NumberedLiteral}
 use Rattle.pb_replay.specs.declared.propagate.rests.Rests.{Rests}
 use Rattle.pb_replay.specs.declared.propagate.run.Run.{Run}
 use Rattle.pb_replay.specs.declared.propagate.assignment.Assignment.{Assignment}

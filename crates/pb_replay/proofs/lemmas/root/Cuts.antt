@@ -4,8 +4,9 @@ use Rattle.std.proofs.Common.{◌≡◌, ℕ, zero, suc, ◌+◌, ◌<◌, ◌�
 use Rattle.std.proofs.lemmas.Bool.{cases_Bool, cases_lt, cases_eq, both_ways}
 use Rattle.std.proofs.lemmas.List.{set_past, take_more, take_all, take_min, length-take-le}
 use Rattle.std.proofs.lemmas.List.Sums.{sum_by-set}
-use Rattle.pb_replay.specs.declared.numbered.NumberedLiteral.{NumberedLiteral}
-use Rattle.pb_replay.specs.engine.Engine.Lists.{negation, has, says, holds, vacancy}
+use Rattle.pb_normal.specs.declared.numbered.NumberedLiteral.{NumberedLiteral}
+use Rattle.pb_normal.specs.meaning.Rules.{negation}
+use Rattle.pb_replay.specs.engine.Engine.Lists.{has, says, holds, vacancy}
 use Rattle.pb_replay.proofs.lemmas.engine.Literals.{literal_ext, has-push_old, has-push_new, has-push_cases}
 use Rattle.pb_replay.proofs.lemmas.engine.Values.{Agree, Forgotten, says-none, says-inside, opposite, forget-next, forget-none, vacancy-none}
 

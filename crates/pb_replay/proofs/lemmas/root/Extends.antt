@@ -4,8 +4,9 @@ use Rattle.std.proofs.Common.{◌≡◌, ℕ, ◌≤◌, ◌++◌, ◌∷◌, []
 use Rattle.std.proofs.lemmas.Bool.{both_ways}
 use Rattle.std.proofs.lemmas.List.{append-nil, append_assoc, map-append, take-append-drop}
 use Rattle.std.proofs.lemmas.List.Sums.{sum_by-cons, sum_by-append}
-use Rattle.pb_replay.specs.declared.numbered.NumberedLiteral.{NumberedLiteral}
-use Rattle.pb_replay.specs.engine.Engine.Lists.{Shape, Weighted, negation, Derives, begin, put, Extends}
+use Rattle.pb_normal.specs.declared.numbered.NumberedLiteral.{NumberedLiteral}
+use Rattle.pb_normal.specs.meaning.Rules.{negation}
+use Rattle.pb_replay.specs.engine.Engine.Lists.{Shape, Weighted, Derives, begin, put, Extends}
 use Rattle.pb_replay.specs.engine.Engine.Counts.{place, spent}
 use Rattle.pb_replay.specs.engine.Clauses.Walked.{has, killed, falsified_code, walked_codes}
 

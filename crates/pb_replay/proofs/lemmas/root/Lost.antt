@@ -4,7 +4,8 @@ use Rattle.std.proofs.Common.{Vec, Global, ◌≡◌, ℕ, zero, suc, ◌+◌, �
 use Rattle.std.proofs.lemmas.Bool.{cases_eq, both_ways}
 use Rattle.std.proofs.lemmas.List.{length-map, get_or-map, get_or_default, map-set}
 use Rattle.std.proofs.lemmas.Option.{slice_get-get_or, get_or_from_slice_get}
-use Rattle.pb_replay.specs.declared.numbered.NumberedLiteral.{NumberedLiteral}
+use Rattle.pb_normal.specs.declared.numbered.NumberedLiteral.{NumberedLiteral}
+use Rattle.pb_normal.specs.meaning.Rules.{negation}
 use Rattle.pb_replay.specs.declared.propagate.term.Term.{Term}
 use Rattle.pb_replay.specs.declared.propagate.rests.Rests.{Rests}
 use Rattle.pb_replay.specs.declared.propagate.run.Run.{Run}
@@ -13,7 +14,7 @@ use Rattle.pb_replay.specs.declared.propagate.store.Store.{Store}
 use Rattle.pb_replay.specs.declared.propagate.store.kept.Kept.{Kept}
 use Rattle.pb_replay.specs.declared.propagate.clauses.Clauses.{Clauses}
 use Rattle.pb_replay.specs.declared.propagate.clauses.lists.Watch.{Watch}
-use Rattle.pb_replay.specs.engine.Engine.Lists.{Shape, Puts, negation, has, says, open_sum, size}
+use Rattle.pb_replay.specs.engine.Engine.Lists.{Shape, Puts, has, says, open_sum, size}
 use Rattle.pb_replay.specs.engine.Engine.Counts.{IsTidy, beside}
 use Rattle.pb_replay.specs.engine.Engine.Fields.{shapes_of, kept_shape, IsEmpty}
 use Rattle.pb_replay.specs.engine.Engine.Root.{IsRooted, IsSpare, HasOpen, HasTrue, HasVacated, HasLost, IsSameWatch}

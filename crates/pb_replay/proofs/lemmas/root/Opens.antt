@@ -4,9 +4,10 @@ use Rattle.std.specs.Bool.{beq}
 use Rattle.std.proofs.Common.{◌≡◌, ℕ, ◌+◌, ◌<◌, ◌≤◌, ◌∷◌, [], List, length, get_or, take, refl, sym, ◌∙◌, ap, arith}
 use Rattle.std.proofs.lemmas.List.{take_all}
 use Rattle.std.proofs.lemmas.List.Sums.{sum_by_more, sum_by_more_le}
-use Rattle.pb_replay.specs.declared.numbered.NumberedLiteral.{NumberedLiteral}
+use Rattle.pb_normal.specs.declared.numbered.NumberedLiteral.{NumberedLiteral}
+use Rattle.pb_normal.specs.meaning.Rules.{negation}
 use Rattle.pb_replay.specs.declared.propagate.term.Term.{Term}
-use Rattle.pb_replay.specs.engine.Engine.Lists.{negation, says, open_part, open_sum, size}
+use Rattle.pb_replay.specs.engine.Engine.Lists.{says, open_part, open_sum, size}
 use Rattle.pb_replay.proofs.lemmas.engine.Literals.{open_part-falsified, open_part-open}
 use Rattle.pb_replay.proofs.lemmas.engine.Values.{Agree, says-some}
 

@@ -7,7 +7,7 @@ use Rattle.std.proofs.lemmas.List.Elements.{Contains-append_left}
 use Rattle.std.proofs.lemmas.List.Sums.{sum_by-append}
 use Rattle.std.proofs.lemmas.List.Sorted.{length_permutation}
 use Rattle.pb_normal.specs.meaning.Form.{Form}
-use Rattle.pb_replay.specs.declared.numbered.NumberedLiteral.{NumberedLiteral}
+use Rattle.pb_normal.specs.declared.numbered.NumberedLiteral.{NumberedLiteral}
 use Rattle.pb_replay.specs.declared.propagate.rests.Rests.{Rests}
 use Rattle.pb_replay.specs.declared.propagate.store.kept.Kept.{Kept}
 use Rattle.pb_replay.specs.declared.propagate.store.Store.{Store}

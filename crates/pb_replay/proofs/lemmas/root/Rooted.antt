@@ -5,9 +5,10 @@ use Rattle.std.proofs.lemmas.Bool.{cases_lt, both_ways, or_left, or_right}
 use Rattle.std.proofs.lemmas.List.{get_or_past, set_past, get_or-map, length-map, get_or_default}
 use Rattle.std.proofs.lemmas.List.Sums.{sum_by-set, sum_by_push, sum_by-cons}
 use Rattle.std.proofs.lemmas.Option.{slice_get-get_or, slice_get_past}
-use Rattle.pb_replay.specs.declared.numbered.NumberedLiteral.{NumberedLiteral}
+use Rattle.pb_normal.specs.declared.numbered.NumberedLiteral.{NumberedLiteral}
+use Rattle.pb_normal.specs.meaning.Rules.{negation}
 use Rattle.pb_replay.specs.declared.propagate.term.Term.{Term}
-use Rattle.pb_replay.specs.engine.Engine.Lists.{Shape, Weighted, negation, same, has, Puts, Derives, begin, put}
+use Rattle.pb_replay.specs.engine.Engine.Lists.{Shape, Weighted, same, has, Puts, Derives, begin, put}
 use Rattle.pb_replay.specs.engine.Engine.Counts.{place, spent, AreSingle, none, more}
 use Rattle.pb_replay.specs.engine.Engine.Links.{terms_at, entry_cross, term_cross, entry_at, term_at, IsStored}
 use Rattle.pb_replay.specs.engine.Engine.Root.{IsSpare}

@@ -3,6 +3,7 @@ use Rattle.std.specs.Prelude.{Result, Ok, Err, Option, sum_by}
 use Rattle.std.proofs.Common.{◌≡◌, ◌⊎◌, ℕ, Bool, true, false, ◌+◌, ◌*◌, ◌≤◌, List, [], length, refl, sym, ◌∙◌, ap, arith, inl, inr, subst}
 use Rattle.pb_text.specs.meaning.Limits.{top_of}
 use Rattle.pb_sums.specs.declared.Linear.{Linear}
+use Rattle.pb_normal.specs.declared.numbered.NumberedLiteral.{NumberedLiteral}
 use Rattle.pb_normal.specs.declared.Side.TheVariants.{AtLeast as least}
 use Rattle.pb_normal.specs.meaning.Form.{Form}
 use Rattle.pb_normal.specs.meaning.Names.{with_names}
@@ -11,7 +12,6 @@ use Rattle.pb_normal.specs.meaning.Written.{names_of, IsSideOf}
 use Rattle.pb_normal.proofs.lemmas.names.WrittenForms.{IsFormOf-unique}
 use Rattle.pb_replay.specs.declared.fault.Fault.{Fault}
 use Rattle.pb_replay.specs.declared.fault.Fault.TheVariants.{IdsSpent, Memory, NotImplied, Order, Overflow}
-use Rattle.pb_replay.specs.declared.numbered.NumberedLiteral.{NumberedLiteral}
 use Rattle.pb_replay.specs.declared.state.Running.{Running}
 use Rattle.pb_replay.specs.engine.Engine.Live.{terms_in, one_in}
 use Rattle.pb_replay.specs.meaning.Propagation.{MeetsConflict, IsCompletion, With}

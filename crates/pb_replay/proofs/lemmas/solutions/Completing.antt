@@ -2,10 +2,10 @@
 use Rattle.std.proofs.Common.{◌≡◌, ℕ, Bool, true, false, not, List, ◌∷◌, arith, inl, inr}
 use Rattle.std.specs.Cmp.{both_ways as same_answers}
 use Rattle.std.proofs.lemmas.Bool.{cases_Bool, or_cases, or_right, both_ways, not-true, false_from_ne_true, not_from_false}
-use Rattle.pb_replay.specs.declared.numbered.NumberedLiteral.{NumberedLiteral}
+use Rattle.pb_normal.specs.declared.numbered.NumberedLiteral.{NumberedLiteral}
 use Rattle.pb_normal.specs.meaning.Form.{Form}
-use Rattle.pb_normal.specs.meaning.Rules.{only}
-use Rattle.pb_replay.specs.meaning.Propagation.{on, opened, MayPropagate, Derivation, begin, put, HasConflict, opposed, broken, MeetsConflict, IsCompletion}
+use Rattle.pb_normal.specs.meaning.Rules.{only, on}
+use Rattle.pb_replay.specs.meaning.Propagation.{opened, MayPropagate, Derivation, begin, put, HasConflict, opposed, broken, MeetsConflict, IsCompletion}
 use Rattle.pb_replay.proofs.lemmas.meaning.Choices.{only-true, total-fits, total-within}
 
 -- each literal of the first list is on the second

@@ -1,49 +1,40 @@
 -- What `solx` and `soli` do once their parts are done
 use Rattle.std.specs.Prelude.{Result, Ok, Err, Option, Some, None, ℤ, All, IsSome, option_map}
-use Rattle.std.proofs.Common.{rules, ◌≡◌, ℕ, ◌<◌, get_or, Bool, true, false, not, List, [], ◌∷◌, ◌++◌, length, map, refl, sym, ◌∙◌, ap, arith, inl, inr, subst, cond}
+use Rattle.std.proofs.Common.{rules, ◌≡◌, ℕ, ◌<◌, get_or, Bool, true, false, not, List, [], ◌∷◌, ◌++◌, length, refl, sym, ◌∙◌, arith, inl, inr, subst, cond}
 use Rattle.pb_sums.specs.declared.Literal.{Literal}
 use Rattle.pb_sums.specs.declared.Term.{Term}
 use Rattle.pb_sums.specs.declared.Linear.{Linear}
 use Rattle.pb_proof.specs.declared.Statement.TheVariants.{Soli, Solx}
+use Rattle.pb_normal.specs.declared.numbered.NumberedLiteral.{NumberedLiteral}
 use Rattle.pb_normal.specs.meaning.Form.{Form, total}
-use Rattle.pb_normal.specs.meaning.Rules.{IsCountOf, among, only}
+use Rattle.pb_normal.specs.meaning.Rules.{only, on}
 use Rattle.pb_replay.specs.declared.fault.Fault.{Fault}
-use Rattle.pb_replay.specs.declared.numbered.NumberedLiteral.{NumberedLiteral}
 use Rattle.pb_replay.specs.declared.state.Running.{Running}
 use Rattle.pb_replay.specs.engine.Bounds.{Demands}
 use Rattle.pb_replay.specs.meaning.Problem.{Problem}
-use Rattle.pb_replay.specs.meaning.Propagation.{on, begin, opposed}
-use Rattle.pb_replay.specs.meaning.Replay.{Completed, IsClause, Live, Logged, numbered}
+use Rattle.pb_replay.specs.meaning.Propagation.{begin, opposed}
+use Rattle.pb_replay.specs.meaning.Replay.{Completed, Excludes, Live, Logged, negations, numbered}
 use Rattle.pb_replay.specs.contract.ReplayModel.{GoesAt, IsInside, Logs, problem_of}
 use Rattle.std.proofs.lemmas.Bool.{or_cases}
 use Rattle.std.proofs.lemmas.List.Elements.{All-head, All-tail, Contains-get_or}
 use Rattle.pb_replay.proofs.lemmas.meaning.Accepting.{needed}
+use Rattle.pb_replay.proofs.lemmas.meaning.Propagating.{on-negations}
 use Rattle.pb_replay.proofs.lemmas.meaning.Choices.{only-true, only-self, total-has, rising-positive}
 
 -- literals that complete to something are not opposed
 pub apart : (v : Problem) (F : Form → Type 0) (n : ℕ) (given : List NumberedLiteral) (g : Logged) → Completed v F n given (Ok g) → (x : ℕ) → on given x true ≡ true → on given x false ≡ true → ⊥
 apart v F n given g h x t f = (needed h).0 (record { list = given; derived = begin; conflict = opposed x t f })
 
-not_sign : (n m : Bool) → cond (not n) m (not m) ≡ cond n (not m) (not (not m))
-not_sign true true = refl
-not_sign true false = refl
-not_sign false true = refl
-not_sign false false = refl
-
-pub among-on : (given : List NumberedLiteral) (x : ℕ) (m : Bool) → among (map (λ l. (l.variable, not l.negated)) given) x m ≡ on given x (not m)
-among-on [] x m = refl
-among-on (l ∷ ls) x m = rw (not_sign l.negated m, among-on ls x m) refl
-
 module _ (old : Running) (given : List NumberedLiteral) (written : List Literal) (numbers : given ≡ numbered old.names written) where
   over : (r : Result Logged Fault) → Completed (problem_of old) (Live old.engine.forms) (length old.names) given r → Completed (problem_of old) (Live old.engine.forms) (length old.names) (numbered old.names written) r
   over r c = subst (λ (x : List NumberedLiteral). Completed (problem_of old) (Live old.engine.forms) (length old.names) x r) numbers c
 
-  pub solx-ok : (z : ℤ) (form : Form) (result : Result Unit Fault) (new : Running) → (g : Logged) × Completed (problem_of old) (Live old.engine.forms) (length old.names) given (Ok g) × (g.value ≡ z) → IsClause given form → Logs old z form result new → GoesAt old (Solx written) result new
+  pub solx-ok : (z : ℤ) (form : Form) (result : Result Unit Fault) (new : Running) → (g : Logged) × Completed (problem_of old) (Live old.engine.forms) (length old.names) given (Ok g) × (g.value ≡ z) → Excludes given form → Logs old z form result new → GoesAt old (Solx written) result new
   solx-ok z form (Ok u) new (g, done, value) clause h = λ logged best.
       let k = h logged g best value in
-      (logged ++ g ∷ [], k.0, inl (g, over (Ok g) done, (form, subst (λ (x : List NumberedLiteral). IsClause x form) numbers clause, k.1)))
+      (logged ++ g ∷ [], k.0, inl (g, over (Ok g) done, (form, subst (λ (x : List NumberedLiteral). Excludes x form) numbers clause, k.1)))
   solx-ok z form (Err e) new (g, done, value) clause (inl memory) = inl memory
-  solx-ok z form (Err e) new (g, done, value) clause (inr h) = inr (λ logged best. inl (g, over (Ok g) done, (form, subst (λ (x : List NumberedLiteral). IsClause x form) numbers clause, h logged g)))
+  solx-ok z form (Err e) new (g, done, value) clause (inr h) = inr (λ logged best. inl (g, over (Ok g) done, (form, subst (λ (x : List NumberedLiteral). Excludes x form) numbers clause, h logged g)))
 
   pub solx-err : (e : Fault) (new : Running) → Completed (problem_of old) (Live old.engine.forms) (length old.names) given (Err e) → GoesAt old (Solx written) (Err e) new
   solx-err e new h = inr (λ logged best. inr (e, over (Err e) h, refl))
@@ -58,18 +49,8 @@ module _ (old : Running) (given : List NumberedLiteral) (written : List Literal)
   pub soli-err : (o : List Term) (e : Fault) (new : Running) → (problem_of old).objective ≡ Some o → Completed (problem_of old) (Live old.engine.forms) (length old.names) given (Err e) → GoesAt old (Soli written) (Err e) new
   soli-err o e new has h = inr (λ logged best. inl (o, has, inr (e, over (Err e) h, refl)))
 
-abbrev negations-of : List NumberedLiteral → List (ℕ × Bool)
-negations-of given = map (λ l. (l.variable, not l.negated)) given
-
-pub negations-apart : (given : List NumberedLiteral) → ((x : ℕ) → on given x true ≡ true → on given x false ≡ true → ⊥) → (x : ℕ) → among (negations-of given) x true ≡ true → among (negations-of given) x false ≡ true → ⊥
-negations-apart given h x t f = h x (sym (among-on given x false) ∙ f) (sym (among-on given x true) ∙ t)
-
-pub count-clause : (given : List NumberedLiteral) (r : Form) → IsCountOf (negations-of given) 1 r → IsClause given r
-count-clause given r h = record {
-  ordered = h.ordered;
-  coefficients = λ x n. h.coefficients x n ∙ ap (λ (b : Bool). cond b 1 0) (among-on given x n);
-  degree = h.degree_is;
-}
+pub negations-apart : (given : List NumberedLiteral) → ((x : ℕ) → on given x true ≡ true → on given x false ≡ true → ⊥) → (x : ℕ) → on (negations given) x true ≡ true → on (negations given) x false ≡ true → ⊥
+negations-apart given h x t f = h x (sym (on-negations given x false) ∙ f) (sym (on-negations given x true) ∙ t)
 
 -- a literal of a list of those below a number is below it
 on-below : (given : List NumberedLiteral) (n x : ℕ) (m : Bool) → All (λ l. l.variable < n) given → on given x m ≡ true → x < n
@@ -84,13 +65,13 @@ counts-true : (b : Bool) → 0 < cond b 1 0 → b ≡ true
 counts-true true h = refl
 counts-true false h = absurd (omega (arith, h))
 
-pub count-inside : (given : List NumberedLiteral) (r : Form) (n : ℕ) → IsCountOf (negations-of given) 1 r → All (λ l. l.variable < n) given → IsInside n r
+pub count-inside : (given : List NumberedLiteral) (r : Form) (n : ℕ) → Excludes given r → All (λ l. l.variable < n) given → IsInside n r
 count-inside given r n h below k d lt =
     let t = get_or r.terms k d in
     let there = Contains-get_or r.terms k d lt in
     let some : 0 < total (only t.variable t.negated) r.terms = omega (arith, total-has (only t.variable t.negated) r.terms t there (only-self t.variable t.negated), rising-positive 0 r.terms t h.ordered there) in
-    let here = counts-true (among (negations-of given) t.variable t.negated) (omega (arith, some, h.coefficients t.variable t.negated)) in
-    on-below given n t.variable (not t.negated) below (sym (among-on given t.variable t.negated) ∙ here)
+    let here = counts-true (on (negations given) t.variable t.negated) (omega (arith, some, h.coefficients t.variable t.negated)) in
+    on-below given n t.variable (not t.negated) below (sym (on-negations given t.variable t.negated) ∙ here)
 
 pub some-objective : (r : Running) → IsSome r.objective → (o : List Term) × ((problem_of r).objective ≡ Some o)
 some-objective r h = at r.objective h

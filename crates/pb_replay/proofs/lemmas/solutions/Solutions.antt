@@ -3,17 +3,17 @@ use Rattle.std.specs.Prelude.{Ok}
 use Rattle.std.proofs.Common.{◌≡◌, ℕ, ◌<◌, Bool, true, false, not, List, length, get_or, refl, sym, ◌∙◌, arith, inl, inr}
 use Rattle.std.proofs.lemmas.Bool.{cases_Bool, both_ways, not-true, not_from_false, cond-true}
 use Rattle.std.proofs.lemmas.List.{get_or_default}
+use Rattle.pb_normal.specs.declared.numbered.NumberedLiteral.{NumberedLiteral}
 use Rattle.pb_normal.specs.meaning.Form.{Form, Holds, total, true_at}
-use Rattle.pb_normal.specs.meaning.Rules.{assignment, only}
+use Rattle.pb_normal.specs.meaning.Rules.{assignment, only, on}
 use Rattle.pb_replay.specs.meaning.Replay.{Logged}
-use Rattle.pb_replay.specs.declared.numbered.NumberedLiteral.{NumberedLiteral}
 use Rattle.pb_replay.specs.meaning.Problem.{Problem}
-use Rattle.pb_replay.specs.meaning.Propagation.{on, HoldAll, MeetsConflict, IsCompletion}
-use Rattle.pb_replay.specs.meaning.Replay.{Completed, HasValue, AreValues, IsClause, value, no_form, logged_of}
+use Rattle.pb_replay.specs.meaning.Propagation.{HoldAll, MeetsConflict, IsCompletion}
+use Rattle.pb_replay.specs.meaning.Replay.{Completed, HasValue, AreValues, Excludes, negations, value, no_form, logged_of}
 use Rattle.pb_replay.specs.meaning.Meaning.{IsSolution}
 use Rattle.pb_replay.proofs.lemmas.meaning.Accepting.{needed, eached, ok-same}
 use Rattle.pb_replay.proofs.lemmas.meaning.Choices.{only-true, total-within}
-use Rattle.pb_replay.proofs.lemmas.meaning.Propagating.{AreTrue, derivation-true, true_at-not}
+use Rattle.pb_replay.proofs.lemmas.meaning.Propagating.{AreTrue, on-negations, derivation-true, true_at-not}
 
 -- what an accepted completion has
 pub record IsTaken (v : Problem) (forms : Form → Type 0) (names : ℕ) (given : List NumberedLiteral) (g : Logged) : Type 0 where
@@ -65,14 +65,14 @@ not_off : (given : List NumberedLiteral) (x : ℕ) (n : Bool) → on given x n �
 not_off given x true h = h
 not_off given x false h = h
 
-pub clause-fails : (given : List NumberedLiteral) (r : Form) (a : ℕ → Bool) → IsClause given r → total (true_at a) r.terms < r.degree → AreTrue a given
+pub clause-fails : (given : List NumberedLiteral) (r : Form) (a : ℕ → Bool) → Excludes given r → total (true_at a) r.terms < r.degree → AreTrue a given
 clause-fails given r a c low x n h =
     elim (cases_Bool (true_at a x n)) [
       | inl here ↦ here
       | inr gone ↦
-          let one = c.coefficients x (not n) ∙ cond-true (on given x (not (not n))) 1 0 (not_off given x n h) in
+          let one = c.coefficients x (not n) ∙ cond-true (on (negations given) x (not n)) 1 0 (on-negations given x (not n) ∙ not_off given x n h) in
           let less = total-within (only x (not n)) (true_at a) (λ w m e. let same = only-true x (not n) w m e in at_other w m same.0 same.1 gone) r.terms in
-          absurd (omega (arith, one, less, c.degree))
+          absurd (omega (arith, one, less, c.degree_is))
     ]
   where
     at_other : (w : ℕ) (m : Bool) → w ≡ x → m ≡ not n → true_at a x n ≡ false → true_at a w m ≡ true

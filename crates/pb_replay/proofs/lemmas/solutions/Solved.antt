@@ -2,14 +2,14 @@
 use Rattle.std.specs.Prelude.{Result, Ok, Err, Option, Some, None, Contains, IsSome, IfOk, IfErr, ℤ}
 use Rattle.std.proofs.Common.{rules, ◌≡◌, ◌⊎◌, ℕ, ◌+◌, ◌<◌, Bool, true, false, not, List, length, get_or, refl, sym, ◌∙◌, ap, inl, inr}
 use Rattle.std.proofs.lemmas.Option.{none-some}
+use Rattle.pb_normal.specs.declared.numbered.NumberedLiteral.{NumberedLiteral}
 use Rattle.pb_normal.specs.meaning.Form.{Form, Holds}
-use Rattle.pb_normal.specs.meaning.Rules.{assignment}
+use Rattle.pb_normal.specs.meaning.Rules.{assignment, on}
 use Rattle.pb_replay.specs.declared.fault.Fault.{Fault}
 use Rattle.pb_replay.specs.declared.fault.Fault.TheVariants.{Conflict, Memory, NotTotal, Violates}
-use Rattle.pb_replay.specs.declared.numbered.NumberedLiteral.{NumberedLiteral}
 use Rattle.pb_replay.specs.engine.Engine.Live.{Gives, value_says}
 use Rattle.pb_replay.specs.meaning.Problem.{Problem}
-use Rattle.pb_replay.specs.meaning.Propagation.{on, MayPropagate, Derivation, begin, put, HasConflict, opposed, broken, MeetsConflict, IsCompletion}
+use Rattle.pb_replay.specs.meaning.Propagation.{MayPropagate, Derivation, begin, put, HasConflict, opposed, broken, MeetsConflict, IsCompletion}
 use Rattle.pb_replay.specs.meaning.Replay.{Logged, HasValue, AreValues, Solution, Completed, Shown, no_form, logged_of, value}
 use Rattle.pb_replay.proofs.lemmas.meaning.Accepting.{ok-same}
 use Rattle.pb_text.proofs.lemmas.text.Results.{ok_or_err, same_err}

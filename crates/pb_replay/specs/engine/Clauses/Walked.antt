@@ -1,7 +1,7 @@
 -- The literals that a list falsifies, as codes, and how often clauses contain them.
 use Rattle.std.specs.Prelude.{ℕ, ◌==◌, ◌||◌, false, Bool, [], ◌∷◌, List, map, take, count_by, sum_by}
-use Rattle.pb_replay.specs.declared.numbered.NumberedLiteral.{NumberedLiteral}
-use Rattle.pb_replay.specs.engine.Engine.Lists.{negation}
+use Rattle.pb_normal.specs.declared.numbered.NumberedLiteral.{NumberedLiteral}
+use Rattle.pb_normal.specs.meaning.Rules.{negation}
 use Rattle.pb_replay.specs.engine.Engine.Counts.{place}
 
 -- the code is on the list

@@ -1,8 +1,9 @@
 use Rattle.std.specs.Prelude.{◌≡◌, ℕ, ◌+◌, ◌-◌, ◌*◌, ◌^◌, ◌<◌, ◌≤◌, ◌==◌, ◌||◌, ◌++◌, ◌∷◌, [], true, false, if◌then◌else◌, List, length, sum, sum_by, All, slice_index_or, slice_index}
-use Rattle.pb_replay.specs.declared.numbered.NumberedLiteral.{NumberedLiteral}
+use Rattle.pb_normal.specs.declared.numbered.NumberedLiteral.{NumberedLiteral}
+use Rattle.pb_normal.specs.meaning.Rules.{negation}
 use Rattle.pb_replay.specs.declared.propagate.term.Term.{Term}
 use Rattle.pb_replay.specs.declared.propagate.rests.Rests.{Rests}
-use Rattle.pb_replay.specs.engine.Engine.Lists.{Shape, Weighted, negation, same, has, open_sum, size}
+use Rattle.pb_replay.specs.engine.Engine.Lists.{Shape, Weighted, same, has, open_sum, size}
 
 -- the index of a literal's list among the occurrence lists
 abbrev pub place : NumberedLiteral → ℕ

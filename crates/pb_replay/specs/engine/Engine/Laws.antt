@@ -1,7 +1,7 @@
 -- What propagation over a list of forms always does.
 use Rattle.std.specs.Prelude.{List, Contains}
 use Rattle.pb_normal.specs.meaning.Form.{Form}
-use Rattle.pb_replay.specs.declared.numbered.NumberedLiteral.{NumberedLiteral}
+use Rattle.pb_normal.specs.declared.numbered.NumberedLiteral.{NumberedLiteral}
 use Rattle.pb_replay.specs.meaning.Propagation.{IsCompletion}
 
 -- over a list of forms, some derivation from the given literals cannot be extended

@@ -1,13 +1,14 @@
 -- The engine between two calls.
 use Rattle.std.specs.Prelude.{◌≡◌, ℕ, ◌<◌, ◌≤◌, ◌*◌, List, [], ◌∷◌, map, length, sum_by, All, Contains, Option, Some, None, Bool, slice_get, true, false, if◌then◌else◌}
+use Rattle.pb_normal.specs.declared.numbered.NumberedLiteral.{NumberedLiteral}
 use Rattle.pb_normal.specs.meaning.Form.{Form}
+use Rattle.pb_normal.specs.meaning.Rules.{negation}
 use Rattle.pb_replay.specs.declared.propagate.store.kept.Kept.{Kept}
 use Rattle.pb_replay.specs.declared.propagate.store.Store.{Store}
 use Rattle.pb_replay.specs.declared.propagate.run.Run.{Run}
 use Rattle.pb_replay.specs.declared.propagate.eager.Eager.{Eager}
 use Rattle.pb_replay.specs.engine.Engine.Forms.{IsKeptAs}
-use Rattle.pb_replay.specs.declared.numbered.NumberedLiteral.{NumberedLiteral}
-use Rattle.pb_replay.specs.engine.Engine.Lists.{Shape, negation, has, IsWithin, Derives, Conflicts, IsSettled}
+use Rattle.pb_replay.specs.engine.Engine.Lists.{Shape, has, IsWithin, Derives, Conflicts, IsSettled}
 use Rattle.pb_replay.specs.engine.Engine.Counts.{IsAbsent}
 use Rattle.pb_replay.specs.engine.Engine.Fields.{shapes_of, IsSound}
 use Rattle.pb_replay.specs.declared.propagate.clauses.Clauses.{Clauses}

@@ -1,14 +1,15 @@
 -- The root: a propagation from nothing that has ended without a conflict, to which questions return.
 use Rattle.std.specs.Prelude.{◌≡◌, ℕ, ◌+◌, ◌*◌, ◌/◌, ◌<◌, ◌≤◌, ◌⊎◌, ◌++◌, ◌∷◌, Contains, true, false, List, [], Bool, Option, Some, length, slice_get, slice_set, slice_index, slice_index_or}
+use Rattle.pb_normal.specs.declared.numbered.NumberedLiteral.{NumberedLiteral}
+use Rattle.pb_normal.specs.meaning.Rules.{negation}
 use Rattle.pb_replay.specs.declared.propagate.store.kept.Kept.{Kept}
 use Rattle.pb_replay.specs.declared.propagate.store.Store.{Store}
 use Rattle.pb_replay.specs.declared.propagate.run.Run.{Run}
 use Rattle.pb_replay.specs.declared.propagate.rests.Rests.{Rests}
 use Rattle.pb_replay.specs.declared.propagate.clauses.Clauses.{Clauses}
 use Rattle.pb_replay.specs.declared.propagate.clauses.lists.Watch.{Watch}
-use Rattle.pb_replay.specs.declared.numbered.NumberedLiteral.{NumberedLiteral}
 use Rattle.pb_replay.specs.declared.propagate.term.Term.{Term}
-use Rattle.pb_replay.specs.engine.Engine.Lists.{Shape, Puts, Derives, Conflicts, IsSettled, IsWithin, has, says, negation, open_sum}
+use Rattle.pb_replay.specs.engine.Engine.Lists.{Shape, Puts, Derives, Conflicts, IsSettled, IsWithin, has, says, open_sum}
 use Rattle.pb_replay.specs.engine.Engine.Counts.{IsTidy, beside}
 use Rattle.pb_replay.specs.engine.Engine.Fields.{shapes_of, IsEmpty}
 use Rattle.pb_replay.specs.engine.Clauses.Truths.{true_at, false_at}

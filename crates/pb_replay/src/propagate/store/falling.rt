@@ -4,10 +4,9 @@ ghost use Rattle.std.specs.Prelude.{◌≡◌, ℕ, List, ◌<◌, ◌^◌, true
 ghost use Rattle.pb_replay.specs.engine.Engine.Forms.{entry_of, as_term, entries_in, picked, IsPlaced, AreAll};
 ghost use Rattle.pb_replay.specs.engine.Engine.Counts.{AreFalling};
 
-use crate::numbered::NumberedLiteral;
 use crate::propagate::term::{Rank, Term};
 use crate::shared::Shared;
-use pb_normal::{Entry, Normal};
+use pb_normal::{Entry, Normal, NumberedLiteral};
 use std::alloc::{AllocError, Global};
 
 /// A form or none, and the positions of its terms in order of falling coefficient. Each term is stored once, and the form

@@ -15,7 +15,6 @@ ghost use Rattle.pb_replay.specs.engine.Clauses.Links.{list_at, watch_at};
 ghost use Rattle.pb_replay.specs.engine.Clauses.Runs.{AreReady};
 ghost use Rattle.pb_replay.specs.engine.Clauses.Shapes.{IsClause, clauses_of, code};
 
-use crate::numbered::NumberedLiteral;
 use crate::propagate::clause::codes_of;
 use crate::propagate::clauses::Clauses;
 use crate::propagate::run::{Run, place_of};
@@ -23,7 +22,7 @@ use crate::propagate::store::falling::Falling;
 use crate::propagate::store::kept::{Kept, is_below};
 use crate::propagate::store::{Occurrence, Store};
 use crate::shared::Shared;
-use pb_normal::Normal;
+use pb_normal::{Normal, NumberedLiteral};
 use std::alloc::{AllocError, Global};
 
 // The degree plus the largest coefficient. With an open sum of that size a form propagates nothing and is not falsified.

@@ -1,12 +1,13 @@
 //! A form under the values of some literals, outside of questions. No visit is counted.
 
 ghost use Rattle.std.specs.Prelude.{◌≡◌, ◌≤◌, ◌<◌, ◌^◌, true, false, List, length, sum_by};
-ghost use Rattle.pb_replay.specs.declared.numbered.NumberedLiteral.{NumberedLiteral};
-ghost use Rattle.pb_replay.specs.engine.Engine.Lists.{negation, has, says, open_part, open_sum, AreInside};
+ghost use Rattle.pb_normal.specs.declared.numbered.NumberedLiteral.{NumberedLiteral};
+ghost use Rattle.pb_normal.specs.meaning.Rules.{negation};
+ghost use Rattle.pb_replay.specs.engine.Engine.Lists.{has, says, open_part, open_sum, AreInside};
 ghost use Rattle.pb_replay.specs.engine.Engine.Root.{HasTrue};
 ghost use Rattle.pb_replay.specs.engine.Engine.Terms.{terms_of};
 
-use crate::numbered::NumberedLiteral;
+use pb_normal::NumberedLiteral;
 use crate::propagate::store::falling::Falling;
 use crate::propagate::term::Term;
 

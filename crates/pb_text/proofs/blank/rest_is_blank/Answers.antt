@@ -3,8 +3,9 @@ use Rattle.pb_text.specs.meaning.Classes.{is_white}
 use Rattle.pb_text.specs.meaning.Spelling.{place_next}
 use Rattle.pb_text.specs.meaning.Blank.{Nothing, passes, in_comment}
 use Rattle.pb_text.specs.declared.place.Place.{Place}
+use Rattle.pb_text.proofs.lemmas.machine.Running.{past_more}
 use Rattle.pb_text.proofs.lemmas.source.Pulled.{lost_byte, given_byte, seen_byte}
-use Rattle.pb_text.proofs.lemmas.text.Blanks.{IsBlank-snoc, in_comment-snoc, place_from-snoc, next_within}
+use Rattle.pb_text.proofs.lemmas.text.Blanks.{IsBlank-snoc, in_comment-snoc, next_within}
 use Rattle.pb_text.proofs.blank.rest_is_blank.Goals as goal
 
 pub loop-byte-init : goal.loop-byte-init
@@ -44,7 +45,7 @@ loop-byte-preserved g c =
         i.0 ++ b ∷ [],
         lost_byte (g.S.Source.left c.args.source.now) i.0 (g.S.Source.left c.loop-byte.source) (g.S.Source.left c.peek.new.self) (g.S.Source.left c.skip.new.self) b i.1 p.0 p.1 c.skip.ensures.0,
         IsBlank-snoc i.0 b i.2 (sym (at_comment i.0 b c.loop-byte.in_comment c.passes.result i.5 c.passes.ensures) ∙ c.if-not-passes.false),
-        c.after-at.ensures ∙ (ap (λ (q : Place). place_next q b) i.3 ∙ sym (place_from-snoc c.args.place i.0 b)),
+        c.after-at.ensures ∙ (ap (λ (q : Place). place_next q b) i.3 ∙ sym (past_more c.args.place i.0 b)),
         omega (arith, n.3, i.4, length-append i.0 (b ∷ [])),
         c.stays_in_comment-in_comment.ensures ∙ (ap (λ (x : Bool). not (nat_eq b 10) && (nat_eq b 42 || x)) i.5 ∙ sym (in_comment-snoc i.0 b)),
         given_byte (g.S.Source.history c.args.source.now) i.0 (g.S.Source.history c.loop-byte.source) (g.S.Source.history c.peek.new.self) (g.S.Source.history c.skip.new.self) b i.6 p.4 (c.skip.ensures.2 b p.2),

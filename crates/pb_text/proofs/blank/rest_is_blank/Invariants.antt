@@ -1,5 +1,6 @@
 use Rattle.std.proofs.Common.{◌≡◌, ◌+◌, ◌-◌, ◌^◌, ◌≤◌, ℕ, List, ◌++◌, length}
-use Rattle.pb_text.specs.meaning.Blank.{IsBlank, in_comment, place_from}
+use Rattle.pb_text.specs.meaning.Blank.{IsBlank, in_comment}
+use Rattle.pb_text.specs.meaning.Spelling.{place_past}
 use Rattle.pb_text.specs.contract.Source.{Lost}
 use Rattle.pb_text.proofs.blank.rest_is_blank.Given as goal
 
@@ -10,7 +11,7 @@ invariant-loop-byte g l = record {
   line : l.at.line ≤ l.at.offset + (2 ^ 40 + 1);
   column : l.at.column ≤ l.at.offset + (2 ^ 40 + 1);
   faults : g.S.Source.faults l.source ≡ g.S.Source.faults l.fn.source;
-  blank : (used : List ℕ) × Lost (g.S.Source.left l.fn.source) used (g.S.Source.left l.source) × IsBlank used × (l.at ≡ place_from l.fn.place used) × (l.at.offset ≡ l.fn.place.offset + length used) × (l.in_comment ≡ in_comment used)
+  blank : (used : List ℕ) × Lost (g.S.Source.left l.fn.source) used (g.S.Source.left l.source) × IsBlank used × (l.at ≡ place_past l.fn.place used) × (l.at.offset ≡ l.fn.place.offset + length used) × (l.in_comment ≡ in_comment used)
       × (g.S.Source.history l.source ≡ g.S.Source.history l.fn.source ++ used);
 }
 

@@ -5,7 +5,7 @@ use Rattle.std.proofs.Math.Bool.{or-true}
 use Rattle.std.specs.Prelude.{slice_index}
 use Rattle.std.proofs.lemmas.List.{append-nil, reverse-append, take-append-le, get_or_append_left}
 use Rattle.std.proofs.Math.Seq.{get_or-append_seam, take-append_seam}
-use Rattle.pb_text.specs.meaning.Blank.{has_star, in_comment, passes, IsInLine, IsBlank, Nothing, White, Comment, OpenComment, place_from}
+use Rattle.pb_text.specs.meaning.Blank.{has_star, in_comment, passes, IsInLine, IsBlank, Nothing, White, Comment, OpenComment}
 use Rattle.pb_text.specs.meaning.Classes.{is_white}
 use Rattle.pb_text.specs.meaning.Spelling.{place_next}
 use Rattle.pb_text.specs.declared.place.Place.{Place}
@@ -142,10 +142,6 @@ passes_blank text h = (either_way text).0 [] refl (each_from text [] h)
 -- a blank text with one more byte that passes
 pub IsBlank-snoc : (text : List ℕ) (b : ℕ) → IsBlank text → IsTrue (passes text b) → IsBlank (text ++ b ∷ [])
 IsBlank-snoc text b blank h = passes_blank (text ++ b ∷ []) (PassesAll-snoc text b (blank_passes text blank) h)
-
-pub place_from-snoc : (p : Place) (text : List ℕ) (b : ℕ) → place_from p (text ++ b ∷ []) ≡ place_next (place_from p text) b
-place_from-snoc p [] b = refl
-place_from-snoc p (c ∷ text) b = place_from-snoc (place_next p c) text b
 
 -- the next position stays within the bounds
 pub next_within : (p : Place) (b : ℕ) (q : Place) → q ≡ place_next p b → p.offset ≤ 2 ^ 40 → p.offset ≢ 2 ^ 40 → p.line ≤ p.offset + (2 ^ 40 + 1) → p.column ≤ p.offset + (2 ^ 40 + 1)

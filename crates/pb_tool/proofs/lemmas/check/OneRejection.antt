@@ -1,9 +1,9 @@
 -- A text, with the rest after it, is rejected in one way or not at all.
 use Rattle.std.proofs.Common.{◌≡◌, ℕ, List, [], ◌++◌, length, Option, Some, Err, sym, ap, ◌∙◌, subst, arith, append-nil, length-append}
-use Rattle.pb_text.specs.meaning.Blank.{IsBlank, IsStray, ReadsBlank, place_from}
+use Rattle.pb_text.specs.meaning.Blank.{IsBlank, IsStray, ReadsBlank}
 use Rattle.pb_text.specs.meaning.Pulling.{Took}
 use Rattle.pb_text.specs.meaning.Reading.{Explains, IsSpelled, IsUnderWay}
-use Rattle.pb_text.specs.meaning.Spelling.{Item, place_after}
+use Rattle.pb_text.specs.meaning.Spelling.{Item, place_after, place_past}
 use Rattle.pb_text.specs.declared.Place.{Place}
 use Rattle.pb_text.specs.declared.Spanned.{Spanned}
 use Rattle.pb_text.specs.declared.Stop.{Stop}
@@ -30,14 +30,14 @@ module _ {E : Type 0} (format : List (Item E) → Type 0) (longest : ℕ) where
   -- why the text, or the rest after it, is rejected
   pub data Refusal (input : List ℕ) (s : Stop) : Type 0 where
     AtStop : (used left : List ℕ) (spans : List (Spanned E)) → input ≡ used ++ left → IsUnderWay format longest used spans → s.place ≡ place_after used → Explains format longest used left s.why → Refusal input s
-    AtRest : (used left : List ℕ) (spans : List (Spanned E)) → input ≡ used ++ left → IsSpelled format longest used spans → (rest more : List ℕ) → left ≡ rest ++ more → IsBlank rest → s.place ≡ place_from (place_after used) rest → IsStray (place_after used) rest more s.why → Refusal input s
+    AtRest : (used left : List ℕ) (spans : List (Spanned E)) → input ≡ used ++ left → IsSpelled format longest used spans → (rest more : List ℕ) → left ≡ rest ++ more → IsBlank rest → s.place ≡ place_past (place_after used) rest → IsStray (place_after used) rest more s.why → Refusal input s
 
   -- a whole text, and a rest that is not blank
   pub at_rest : (input used seen : List ℕ) (mid after : Option (List ℕ)) (spans : List (Spanned E)) (place : Place) (s : Stop) → Took (Some input) used seen mid → IsSpelled format longest used spans → place ≡ place_after used
       → ReadsBlank place mid (Err s) after → Refusal input s
   at_rest input used seen mid after spans place s took spelled place_is (rest, more, t, blank, at, stray) =
       let t' : Took (Some seen) rest more after = subst (λ (z : Option (List ℕ)). Took z rest more after) took.1 t in
-      AtRest used seen spans took.0 spelled rest more t'.0 blank (at ∙ ap (λ (x : Place). place_from x rest) place_is) (subst (λ (x : Place). IsStray x rest more s.why) place_is stray)
+      AtRest used seen spans took.0 spelled rest more t'.0 blank (at ∙ ap (λ (x : Place). place_past x rest) place_is) (subst (λ (x : Place). IsStray x rest more s.why) place_is stray)
 
   module _ (one : OneSpelling format) (prefix : NoneGoesOn format) (input : List ℕ) where
     -- not for a whole text and a blank rest
@@ -62,4 +62,4 @@ module _ {E : Type 0} (format : List (Item E) → Type 0) (longest : ℕ) where
         let following : left ≡ left' = same_rest used left used' left' both same in
         let (rests, why) =
         one_stray (place_after used) rest more rest' more' s.why t.why (sym e ∙ (following ∙ e')) blank blank' d d' x (subst (λ (y : List ℕ). IsStray (place_after y) rest' more' t.why) (sym same) x') in
-        same_stop s t (place ∙ (ap (λ (y : List ℕ). place_from (place_after y) rest) same ∙ (ap (λ (y : List ℕ). place_from (place_after used') y) rests ∙ sym place'))) why
+        same_stop s t (place ∙ (ap (λ (y : List ℕ). place_past (place_after y) rest) same ∙ (ap (λ (y : List ℕ). place_past (place_after used') y) rests ∙ sym place'))) why

@@ -1,6 +1,7 @@
 use Rattle.std.proofs.Common.{◌≡◌, ◌+◌, [], get_or, true, false, refl, ◌∙◌, arith}
-use Rattle.pb_replay.specs.declared.numbered.NumberedLiteral.{NumberedLiteral}
-use Rattle.pb_replay.specs.engine.Engine.Lists.{has, negation}
+use Rattle.pb_normal.specs.declared.numbered.NumberedLiteral.{NumberedLiteral}
+use Rattle.pb_normal.specs.meaning.Rules.{negation}
+use Rattle.pb_replay.specs.engine.Engine.Lists.{has}
 use Rattle.pb_replay.specs.engine.Engine.Counts.{none}
 use Rattle.pb_replay.specs.engine.Engine.Fields.{shapes_of}
 use Rattle.pb_replay.specs.engine.Engine.Rest.{opposite}

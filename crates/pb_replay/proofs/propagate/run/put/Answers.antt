@@ -2,9 +2,10 @@ use Rattle.std.specs.Prelude.{All, map, sum}
 use Rattle.std.proofs.Common.{Vec, Global, ℕ, ◌<◌, ◌+◌, [], get_or, length, refl, ap, sym, ◌∙◌, arith}
 use Rattle.std.proofs.lemmas.List.{length-map}
 use Rattle.std.proofs.lemmas.List.Sums.{sum_by_push}
-use Rattle.pb_replay.specs.declared.numbered.NumberedLiteral.{NumberedLiteral}
+use Rattle.pb_normal.specs.declared.numbered.NumberedLiteral.{NumberedLiteral}
+use Rattle.pb_normal.specs.meaning.Rules.{negation}
 use Rattle.pb_replay.specs.declared.propagate.assignment.Assignment.{Assignment}
-use Rattle.pb_replay.specs.engine.Engine.Lists.{Weighted, negation}
+use Rattle.pb_replay.specs.engine.Engine.Lists.{Weighted}
 use Rattle.pb_replay.specs.engine.Engine.Counts.{place, beside, more, spent}
 use Rattle.pb_replay.specs.engine.Engine.Fields.{shapes_of, spots_of, entries_of, kept_shape, entry_at}
 use Rattle.pb_replay.specs.engine.Engine.Links.{weighted}

@@ -1,5 +1,5 @@
 use Rattle.std.proofs.Common.{◌≡◌, [], get_or}
-use Rattle.pb_replay.specs.engine.Engine.Lists.{negation}
+use Rattle.pb_normal.specs.meaning.Rules.{negation}
 use Rattle.pb_replay.specs.engine.Engine.Counts.{place}
 use Rattle.pb_replay.specs.engine.Engine.Fields.{shapes_of, entries_of}
 use Rattle.pb_replay.proofs.lemmas.engine.Puts.{IsPutting}

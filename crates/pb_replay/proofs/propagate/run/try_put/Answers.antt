@@ -1,6 +1,7 @@
 use Rattle.std.proofs.Common.{◌≡◌, true, false}
 use Rattle.std.proofs.lemmas.Bool.{or_left, or_right}
-use Rattle.pb_replay.specs.engine.Engine.Lists.{has, negation}
+use Rattle.pb_normal.specs.meaning.Rules.{negation}
+use Rattle.pb_replay.specs.engine.Engine.Lists.{has}
 use Rattle.pb_replay.specs.engine.Engine.Counts.{kept, added}
 use Rattle.pb_replay.proofs.propagate.run.try_put.Goals as goal
 

@@ -1,7 +1,8 @@
 use Rattle.std.specs.Prelude.{Bool, Option, sum}
 use Rattle.std.proofs.Common.{Vec, Global, ◌<◌, ◌+◌, ◌++◌, ◌∷◌, [], ℕ, List, refl, sym, ◌∙◌, ap, subst, length, arith}
-use Rattle.pb_replay.specs.declared.numbered.NumberedLiteral.{NumberedLiteral}
-use Rattle.pb_replay.specs.engine.Engine.Lists.{has, negation}
+use Rattle.pb_normal.specs.declared.numbered.NumberedLiteral.{NumberedLiteral}
+use Rattle.pb_normal.specs.meaning.Rules.{negation}
+use Rattle.pb_replay.specs.engine.Engine.Lists.{has}
 use Rattle.pb_replay.specs.engine.Engine.Fields.{shapes_of, entries_of}
 use Rattle.pb_replay.specs.engine.Clauses.Links.{lists_of, list_at}
 use Rattle.pb_replay.specs.engine.Clauses.Runs.{AreWalked, Grows, HasFound, AreServed, index_after, IsBroken, IsRunning}

@@ -1,6 +1,6 @@
 use Rattle.std.specs.Prelude.{Option, Bool}
 use Rattle.std.proofs.Common.{arith, ap, length, length-append, length-set}
-use Rattle.pb_replay.specs.declared.numbered.NumberedLiteral.{NumberedLiteral}
+use Rattle.pb_normal.specs.declared.numbered.NumberedLiteral.{NumberedLiteral}
 use Rattle.pb_replay.proofs.lemmas.engine.Values.{Agree-push, vacancy-push}
 use Rattle.pb_replay.proofs.propagate.assignment.Assignment.put.Goals as goal
 

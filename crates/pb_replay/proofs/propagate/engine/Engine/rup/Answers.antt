@@ -2,10 +2,10 @@ use Rattle.std.specs.Prelude.{filter, map, pos, All, Some, sum, sum_by}
 use Rattle.std.proofs.Common.{true, false, of_z, inl, inr, Vec, Global, ℕ, subst, ◌≡◌, ◌≤◌, ◌<◌, ◌+◌, ◌*◌, ◌++◌, ◌∷◌, [], List, refl, sym, ◌∙◌, ap, length, length-append, arith}
 use Rattle.std.specs.Int.{w128}
 use Rattle.std.proofs.lemmas.List.{length-map}
+use Rattle.pb_normal.specs.declared.numbered.NumberedLiteral.{NumberedLiteral}
 use Rattle.pb_normal.specs.meaning.Form.{Form}
 use Rattle.pb_normal.specs.meaning.Rules.{negation_of}
 use Rattle.pb_replay.specs.declared.propagate.assignment.Assignment.{Assignment}
-use Rattle.pb_replay.specs.declared.numbered.NumberedLiteral.{NumberedLiteral}
 use Rattle.pb_replay.specs.engine.Engine.Counts.{none}
 use Rattle.pb_replay.specs.engine.Engine.Live.{Standing, Live, terms_in, one_in}
 use Rattle.pb_replay.specs.meaning.Propagation.{With, MeetsConflict, IsCompletion}

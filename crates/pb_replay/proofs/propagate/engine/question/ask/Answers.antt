@@ -2,8 +2,8 @@ use Rattle.std.specs.Prelude.{filter, sum_by}
 use Rattle.std.proofs.Common.{rules, ◌≡◌, ℕ, ◌+◌, ◌++◌, ◌∷◌, [], List, Vec, Global, ap, subst, sym, ◌∙◌, arith, length, length-append, length-set, get_or, set, take}
 use Rattle.std.proofs.Math.Seq.{take-append_seam}
 use Rattle.std.proofs.lemmas.List.{length-map}
+use Rattle.pb_normal.specs.declared.numbered.NumberedLiteral.{NumberedLiteral}
 use Rattle.pb_replay.specs.declared.propagate.assignment.Assignment.{Assignment}
-use Rattle.pb_replay.specs.declared.numbered.NumberedLiteral.{NumberedLiteral}
 use Rattle.pb_replay.specs.engine.Engine.Lists.{Shape, open_sum}
 use Rattle.pb_replay.specs.engine.Engine.Counts.{none}
 use Rattle.pb_replay.specs.engine.Engine.Fields.{shapes_of, forms_of}

@@ -1,5 +1,5 @@
 use Rattle.std.proofs.Common.{sym}
-use Rattle.pb_replay.specs.engine.Engine.Lists.{negation}
+use Rattle.pb_normal.specs.meaning.Rules.{negation}
 use Rattle.pb_replay.proofs.lemmas.engine.Values.{says-none}
 use Rattle.pb_replay.proofs.lemmas.root.Opens.{falsified-some}
 use Rattle.pb_replay.proofs.propagate.store.opened.is_falsified.Goals as goal
