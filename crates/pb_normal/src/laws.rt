@@ -1,9 +1,9 @@
 //! Laws over the definitions alone. These functions do nothing: what they ensure are the laws.
 
 ghost use Rattle.std.specs.Prelude.{◌≡◌, ◌<◌, ◌≤◌, ◌↔◌, ℕ, ℤ, Bool, List, ◌++◌, All, Some, length, nat_lt, slice_get, true};
-ghost use Rattle.pb_sums.specs.declared.values.Term.{Term};
-ghost use Rattle.pb_sums.specs.declared.values.Linear.{Linear};
-ghost use Rattle.pb_sums.specs.declared.values.Relation.TheVariants.{AtLeast, Equal};
+ghost use Rattle.pb_sums.specs.declared.linear.Term.{Term};
+ghost use Rattle.pb_sums.specs.declared.linear.Linear.{Linear};
+ghost use Rattle.pb_sums.specs.declared.linear.Relation.TheVariants.{AtLeast, Equal};
 ghost use Rattle.pb_normal.specs.declared.side.Side.{Side};
 ghost use Rattle.pb_normal.specs.meaning.Form.{Form, Holds, Follows, FollowsBoth, IsOpposite, IsOrdered, IsOver, AgreeOn, coefficient, size, total};
 ghost use Rattle.pb_normal.specs.meaning.Names.{AreDistinct, HasNames, has_name, number_in, with_names};

@@ -3,20 +3,20 @@
 mod byte_kind;
 pub(crate) mod classes;
 mod conclusion;
-mod count;
+mod delete;
+mod formula;
 mod id_prefix;
-mod ids;
-mod literals;
 mod pol;
 pub(crate) mod push;
 mod rup;
+mod solution;
 
 use crate::line::conclusion::ConclusionMachine;
-use crate::line::count::CountMachine;
-use crate::line::ids::IdsMachine;
-use crate::line::literals::LiteralsMachine;
+use crate::line::delete::IdsMachine;
+use crate::line::formula::CountMachine;
 use crate::line::pol::PolMachine;
 use crate::line::rup::RupMachine;
+use crate::line::solution::LiteralsMachine;
 
 /// A line machine: it reads the rest of a statement after its first word, through the line feed.
 #[derive(Drop)]

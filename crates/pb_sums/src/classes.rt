@@ -4,8 +4,8 @@ ghost use Rattle.std.specs.Prelude.{◌≡◌};
 ghost use Rattle.pb_sums.specs.meaning.Sums.{takes_line_feeds, is_space};
 ghost use Rattle.pb_sums.specs.engine.Machine.{symbol, kind_of_plain, kind, letter_at, KindFits};
 
-use crate::grammar::Spaces;
 use crate::phase::Kind;
+use crate::sum_kind::Spaces;
 use pb_text::bytes::{is_blank, is_digit, is_letter, is_name_byte};
 
 fn takes_line_feeds(spaces: Spaces) -> bool

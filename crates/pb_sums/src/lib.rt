@@ -2,23 +2,23 @@
 #![tactic(auto)]
 
 mod classes;
-mod grammar;
 pub mod laws;
+mod linear;
 mod machine;
 mod name;
 mod phase;
 mod piece;
 mod prefix;
 mod short;
+mod sum_kind;
 mod term_prefix;
 mod transition;
 mod validity;
-mod values;
 mod write;
 
-pub use grammar::{Part, Spaces};
+pub use linear::{Linear, Literal, Relation, SumEvent, Term};
 pub use machine::{SumMachine, count_units};
 pub use name::Name;
+pub use sum_kind::{Part, Spaces};
 pub use validity::{is_name, linear_is_value, sum_is_value};
-pub use values::{Linear, Literal, Relation, SumEvent, Term};
 pub use write::{write_count, write_linear, write_literal, write_number, write_place, write_sum};

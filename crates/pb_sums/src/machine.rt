@@ -11,16 +11,16 @@ ghost use Rattle.pb_sums.specs.engine.State.{units};
 mod end;
 
 use crate::classes::kind;
-use crate::grammar::{Part, Spaces};
+use crate::linear::{Linear, Literal, SumEvent, Term};
 use crate::name::Name;
 use crate::phase::{Action, Phase};
 use crate::prefix::{name_prefix, relation_prefix, sign_prefix};
+use crate::sum_kind::{Part, Spaces};
 use crate::term_prefix::{begins_term, literal_prefix, spaced_number_prefix};
 use crate::transition::{
     after_name, after_number, after_space, begins_number, begins_relation, in_hand, is_done,
     is_in_number, is_more, is_numeric, plan, role, sign_read,
 };
-use crate::values::{Linear, Literal, SumEvent, Term};
 use pb_text::bytes::{is_digit, is_letter, is_name_byte};
 use pb_text::digits::number_prefix;
 use pb_text::{Limits, Machine, Push, Sequence};

@@ -1,6 +1,6 @@
 //! What a machine knows about the text so far, and the kinds of bytes.
 
-use crate::values::Relation;
+use crate::linear::Relation;
 
 /// The kind of a byte in a sum.
 #[derive(Clone, Copy)]

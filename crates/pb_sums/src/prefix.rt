@@ -7,9 +7,9 @@ ghost use Rattle.pb_sums.specs.contract.Canonical.{operator_bytes};
 ghost use Rattle.pb_sums.specs.engine.Prefix.{HasSign, LacksRelation};
 ghost use Rattle.pb_sums.specs.meaning.Sums.{allows};
 
-use crate::grammar::Part;
+use crate::linear::Relation;
+use crate::sum_kind::Part;
 use crate::transition::allows;
-use crate::values::Relation;
 use pb_text::bytes::is_name_byte;
 
 /// The number of name bytes at the start of the text.

@@ -4,12 +4,12 @@ ghost use Rattle.std.specs.Prelude.{◌≡◌, ◌≢◌, ◌≤◌, ◌<◌, �
 ghost use Rattle.pb_sums.specs.engine.Prefix.{LacksLiteral, LacksNumber, begins_number, sign_read};
 ghost use Rattle.pb_sums.specs.engine.TermParts.{begins_term, IsTilde, IsSpacedNumber, IsLiteral};
 
+use crate::linear::Literal;
 use crate::name::Name;
 use crate::phase::Phase;
 use crate::prefix::{name_prefix, sign_prefix};
 use crate::short::SHORT;
 use crate::transition::sign_read;
-use crate::values::Literal;
 use pb_text::bytes::is_letter;
 use pb_text::decimal::signed;
 use pb_text::digits::number_prefix;

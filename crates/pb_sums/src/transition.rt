@@ -6,9 +6,9 @@ ghost use Rattle.pb_sums.specs.engine.Machine.{digits, number, next_action, plan
 ghost use Rattle.pb_sums.specs.engine.Prefix.{begins_number, begins_relation, role, sign_read, after_name, after_number, after_space};
 ghost use Rattle.pb_sums.specs.engine.State.{in_hand};
 
-use crate::grammar::Part;
+use crate::linear::Relation;
 use crate::phase::{Action, Kind, Phase};
-use crate::values::Relation;
+use crate::sum_kind::Part;
 use pb_text::decimal::{next_digit, signed};
 
 /// Whether digits in this phase are digits of a number.

@@ -7,7 +7,7 @@ ghost use Rattle.pb_text.specs.meaning.Limits.{largest};
 ghost use Rattle.pb_sums.specs.contract.Canonical.{IsTerm, AreTerms, IsLinear};
 ghost use Rattle.pb_sums.specs.meaning.Sums.{IsName};
 
-use crate::values::{Linear, Term};
+use crate::linear::{Linear, Term};
 use pb_text::Limits;
 use pb_text::bytes::{is_letter, is_name_byte};
 

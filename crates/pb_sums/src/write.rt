@@ -7,8 +7,8 @@ ghost use Rattle.pb_sums.specs.meaning.Sums.{literal_bytes};
 ghost use Rattle.pb_sums.specs.contract.Canonical.{weight_bytes, term_bytes, further_bytes, sum_bytes, operator_bytes, linear_bytes, place_bytes};
 
 use crate::Name;
+use crate::linear::{Linear, Literal, Relation, Term};
 use crate::piece::{Piece, ROOM};
-use crate::values::{Linear, Literal, Relation, Term};
 use pb_text::{Failed, Place, Sink, write_bytes};
 
 /// The maximum number of bytes of a name that are written in one piece with the text before it.

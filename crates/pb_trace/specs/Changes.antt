@@ -1,8 +1,8 @@
 -- Forms in a trace, and what adds or deletes them.
 use Rattle.std.specs.Prelude.{ℕ, pos, List, ◌++◌, map, get_or, decimal, codes}
-use Rattle.pb_sums.specs.declared.values.Term.{Term}
-use Rattle.pb_sums.specs.declared.values.Linear.{Linear}
-use Rattle.pb_sums.specs.declared.values.Relation.TheVariants.{AtLeast}
+use Rattle.pb_sums.specs.declared.linear.Term.{Term}
+use Rattle.pb_sums.specs.declared.linear.Linear.{Linear}
+use Rattle.pb_sums.specs.declared.linear.Relation.TheVariants.{AtLeast}
 use Rattle.pb_sums.specs.contract.Canonical.{linear_bytes}
 use Rattle.pb_normal.specs.declared.entry.Entry.{Entry}
 use Rattle.pb_normal.specs.meaning.Form.{Form}

@@ -1,9 +1,9 @@
 -- Written constraints as forms: which sides each constraint loads as, the names that appear, and which constraints fit.
 use Rattle.std.specs.Prelude.{ℕ, ◌+◌, ◌≤◌, unsigned_abs, List, [], ◌∷◌, map}
 use Rattle.std.specs.List.{flat_map, AllZip}
-use Rattle.pb_sums.specs.declared.values.Linear.{Linear}
-use Rattle.pb_sums.specs.declared.values.Relation.{Relation}
-use Rattle.pb_sums.specs.declared.values.Relation.TheVariants.{AtLeast, Equal}
+use Rattle.pb_sums.specs.declared.linear.Linear.{Linear}
+use Rattle.pb_sums.specs.declared.linear.Relation.{Relation}
+use Rattle.pb_sums.specs.declared.linear.Relation.TheVariants.{AtLeast, Equal}
 use Rattle.pb_normal.specs.declared.side.Side.{Side}
 use Rattle.pb_normal.specs.declared.side.Side.TheVariants.{AtLeast as least, AtMost as most}
 use Rattle.pb_normal.specs.meaning.Form.{Form}

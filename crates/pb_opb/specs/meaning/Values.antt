@@ -2,8 +2,8 @@
 use Rattle.pb_text.specs.meaning.Blank.{IsInLine}
 use Rattle.std.specs.Prelude.{◌≡◌, ℕ, ◌+◌, ◌<◌, ◌≤◌, List, [], ◌∷◌, length, Option, Some, None}
 use Rattle.pb_sums.specs.contract.Canonical.{AreTerms, IsLinear}
-use Rattle.pb_sums.specs.declared.values.Term.{Term}
-use Rattle.pb_sums.specs.declared.values.Linear.{Linear}
+use Rattle.pb_sums.specs.declared.linear.Term.{Term}
+use Rattle.pb_sums.specs.declared.linear.Linear.{Linear}
 use Rattle.pb_opb.specs.meaning.Instances.{IsTail}
 use Rattle.pb_opb.specs.declared.event.OpbEvent.{OpbEvent}
 use Rattle.pb_opb.specs.declared.event.OpbEvent as event

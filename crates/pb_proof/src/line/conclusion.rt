@@ -10,7 +10,7 @@ mod transition;
 use crate::conclusion::Conclusion;
 use crate::line::conclusion::phase::{Action, Concluding, Phase, Showing};
 use crate::line::conclusion::transition::{is_done, is_in_digits, is_within, plan};
-use crate::line::literals::LiteralsMachine;
+use crate::line::solution::LiteralsMachine;
 use pb_sums::Literal;
 use pb_text::bytes::is_digit;
 use pb_text::{Limits, Machine, Push, Sequence};

@@ -6,11 +6,11 @@ ghost use Rattle.pb_proof.specs.engine.Line.Machine.{line_first, IsCarried, IsEn
 
 use crate::line::LineMachine;
 use crate::line::conclusion::ConclusionMachine;
-use crate::line::count::CountMachine;
-use crate::line::ids::IdsMachine;
-use crate::line::literals::LiteralsMachine;
+use crate::line::delete::IdsMachine;
+use crate::line::formula::CountMachine;
 use crate::line::pol::PolMachine;
 use crate::line::rup::RupMachine;
+use crate::line::solution::LiteralsMachine;
 use crate::machine::phase::LineKind;
 use crate::statement::Statement;
 use pb_text::{Limits, Machine, Push};

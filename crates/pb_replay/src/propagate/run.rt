@@ -14,7 +14,6 @@ ghost use Rattle.pb_replay.specs.engine.Clauses.Runs.{AreReady, IsRunning, AreWa
 ghost use Rattle.pb_replay.specs.engine.Clauses.Walked.{killed, falsified_code, walked_codes};
 ghost use Rattle.pb_replay.specs.engine.Clauses.Shapes.{AreJoined, clauses_of, all_of};
 
-use pb_normal::NumberedLiteral;
 use crate::propagate::assignment::Assignment;
 use crate::propagate::clauses::Clauses;
 use crate::propagate::engine::visits::Visits;
@@ -22,6 +21,7 @@ use crate::propagate::rests::Rests;
 use crate::propagate::store::kept::is_below;
 use crate::propagate::store::{Store, Visited, visit, visit_term, weight_of};
 use crate::propagate::walk::walk;
+use pb_normal::NumberedLiteral;
 use std::alloc::AllocError;
 
 /// A propagation in progress.

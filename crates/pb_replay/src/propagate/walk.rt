@@ -9,12 +9,12 @@ ghost use Rattle.pb_replay.specs.engine.Clauses.Links.{lists_of, list_at};
 ghost use Rattle.pb_replay.specs.engine.Clauses.Runs.{IsRunning, AreServed, AreWalked, Grows};
 ghost use Rattle.pb_replay.specs.engine.Clauses.Shapes.{AreJoined, clauses_of, all_of, literal_at};
 
-use pb_normal::NumberedLiteral;
 use crate::propagate::clauses::Clauses;
 use crate::propagate::clauses::visiting::{Visit, visit_clause};
 use crate::propagate::rests::Rests;
 use crate::propagate::run::{Run, put};
 use crate::propagate::store::Store;
+use pb_normal::NumberedLiteral;
 use std::alloc::AllocError;
 
 // The literal of a code.

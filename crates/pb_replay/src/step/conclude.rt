@@ -1,7 +1,7 @@
 //! Conclusions.
 
 ghost use Rattle.std.specs.Prelude.{◌≡◌, ◌<◌, All, Err, IfSome, IsSome, List, OnOk, Option, Some, [], length, option_map};
-ghost use Rattle.pb_sums.specs.declared.values.Literal.{Literal as Written};
+ghost use Rattle.pb_sums.specs.declared.linear.Literal.{Literal as Written};
 ghost use Rattle.pb_replay.specs.engine.Bounds.{Both};
 ghost use Rattle.pb_replay.specs.meaning.Replay.{numbered};
 ghost use Rattle.pb_replay.specs.contract.ReplayModel.{Keeps, Goes, GoesAt, HasNamed, IsLinked, IsProper, IsReady, problem_of};
@@ -9,13 +9,13 @@ ghost use Rattle.pb_text.specs.meaning.Limits.{largest, top_of};
 ghost use Rattle.pb_replay.specs.meaning.Statements.{MayWant, PassesFirst};
 
 use crate::fault::Fault;
-use pb_normal::NumberedLiteral;
 use crate::state::Running;
 use crate::step::bounds::{shows_lower, shows_upper};
 use crate::step::contradiction::none_is_left;
 use crate::step::shown::{shown, take_shown};
 use crate::step::solution::take_literals;
 use crate::verdict::Verdict;
+use pb_normal::NumberedLiteral;
 use pb_proof::{Bound, Conclusion, Stage, Statement};
 use pb_sums::Literal;
 use pb_text::Sequence;

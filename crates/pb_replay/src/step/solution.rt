@@ -9,7 +9,7 @@ ghost use Rattle.pb_replay.specs.meaning.Replay.{Completed, Excludes, Logged, ne
 ghost use Rattle.pb_replay.specs.contract.ReplayModel.{Keeps, Goes, GoesAt, Logs, HasNamed, IsBetter, IsInside, IsLinked, IsProper, IsReady, problem_of};
 ghost use Rattle.pb_text.specs.meaning.Limits.{largest, top_of};
 ghost use Rattle.pb_replay.specs.meaning.Statements.{PassesFirst, literal_names};
-ghost use Rattle.pb_sums.specs.declared.values.Literal.{Literal as Written};
+ghost use Rattle.pb_sums.specs.declared.linear.Literal.{Literal as Written};
 ghost use Rattle.pb_replay.specs.engine.Bounds.{Demands};
 
 use crate::fault::Fault;

@@ -5,11 +5,11 @@ use Rattle.pb_text.specs.meaning.Spelling.{Letter, plain, digits_of}
 use Rattle.pb_text.specs.meaning.Languages.{unmarked}
 use Rattle.pb_text.specs.declared.Place.{Place}
 use Rattle.pb_sums.specs.meaning.Sums.{IsName, literal_bytes}
-use Rattle.pb_sums.specs.declared.values.Literal.{Literal}
-use Rattle.pb_sums.specs.declared.values.Term.{Term}
-use Rattle.pb_sums.specs.declared.values.Relation.{Relation}
-use Rattle.pb_sums.specs.declared.values.Relation.TheVariants.{AtLeast, Equal}
-use Rattle.pb_sums.specs.declared.values.Linear.{Linear}
+use Rattle.pb_sums.specs.declared.linear.Literal.{Literal}
+use Rattle.pb_sums.specs.declared.linear.Term.{Term}
+use Rattle.pb_sums.specs.declared.linear.Relation.{Relation}
+use Rattle.pb_sums.specs.declared.linear.Relation.TheVariants.{AtLeast, Equal}
+use Rattle.pb_sums.specs.declared.linear.Linear.{Linear}
 
 -- The value rules: magnitudes within the limit, and names of the grammar.
 abbrev pub IsTerm : ℕ → Term → Type 0

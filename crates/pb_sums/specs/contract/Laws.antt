@@ -6,11 +6,11 @@ use Rattle.pb_sums.specs.meaning.Sums.{Spells, SpellsSum, SpellsLinear}
 use Rattle.pb_sums.specs.engine.State.{SumState, sums, first, last, with_work, IsInOrder}
 use Rattle.pb_sums.specs.engine.Machine.{finished}
 use Rattle.pb_sums.specs.contract.Canonical.{AreTerms, IsLinear, sum_bytes, sum_text, linear_bytes, linear_text}
-use Rattle.pb_sums.specs.declared.values.Term.{Term}
-use Rattle.pb_sums.specs.declared.values.Linear.{Linear}
-use Rattle.pb_sums.specs.declared.values.SumEvent.{SumEvent}
-use Rattle.pb_sums.specs.declared.grammar.Spaces.{Spaces}
-use Rattle.pb_sums.specs.declared.grammar.Part.{Part}
+use Rattle.pb_sums.specs.declared.linear.Term.{Term}
+use Rattle.pb_sums.specs.declared.linear.Linear.{Linear}
+use Rattle.pb_sums.specs.declared.linear.SumEvent.{SumEvent}
+use Rattle.pb_sums.specs.declared.sum_kind.Spaces.{Spaces}
+use Rattle.pb_sums.specs.declared.sum_kind.Part.{Part}
 
 -- A new machine reads exactly the grammar, and then it has ended.
 abbrev pub ReadsGrammar : Type 0

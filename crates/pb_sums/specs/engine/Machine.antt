@@ -5,13 +5,13 @@ use Rattle.pb_text.specs.meaning.Classes.{is_digit, is_letter, is_name_byte}
 use Rattle.pb_text.specs.meaning.Numbers.{signed}
 use Rattle.pb_text.specs.meaning.Spelling.{Letter}
 use Rattle.pb_sums.specs.meaning.Sums.{is_space, reads_sums, allows}
-use Rattle.pb_sums.specs.declared.values.Term.{Term}
-use Rattle.pb_sums.specs.declared.values.Relation.{Relation}
-use Rattle.pb_sums.specs.declared.values.Relation.TheVariants.{AtLeast, Equal}
-use Rattle.pb_sums.specs.declared.values.SumEvent.{SumEvent}
-use Rattle.pb_sums.specs.declared.values.SumEvent as event
-use Rattle.pb_sums.specs.declared.grammar.Spaces.{Spaces}
-use Rattle.pb_sums.specs.declared.grammar.Part.{Part}
+use Rattle.pb_sums.specs.declared.linear.Term.{Term}
+use Rattle.pb_sums.specs.declared.linear.Relation.{Relation}
+use Rattle.pb_sums.specs.declared.linear.Relation.TheVariants.{AtLeast, Equal}
+use Rattle.pb_sums.specs.declared.linear.SumEvent.{SumEvent}
+use Rattle.pb_sums.specs.declared.linear.SumEvent as event
+use Rattle.pb_sums.specs.declared.sum_kind.Spaces.{Spaces}
+use Rattle.pb_sums.specs.declared.sum_kind.Part.{Part}
 use Rattle.pb_sums.specs.declared.phase.Kind.{Kind}
 use Rattle.pb_sums.specs.declared.phase.Kind.TheVariants.{Space, Digit, Start, Inner, Tilde, Plus, Minus, Greater, Equals, Semicolon, Other}
 use Rattle.pb_sums.specs.declared.phase.Phase.{Phase}

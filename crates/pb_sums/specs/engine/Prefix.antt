@@ -6,8 +6,8 @@ use Rattle.pb_text.specs.meaning.Languages.{Each}
 use Rattle.pb_text.specs.meaning.Numbers.{signed}
 use Rattle.pb_sums.specs.contract.Canonical.{operator_bytes}
 use Rattle.pb_sums.specs.meaning.Sums.{allows}
-use Rattle.pb_sums.specs.declared.grammar.Part.{Part}
-use Rattle.pb_sums.specs.declared.values.Relation.{Relation}
+use Rattle.pb_sums.specs.declared.sum_kind.Part.{Part}
+use Rattle.pb_sums.specs.declared.linear.Relation.{Relation}
 use Rattle.pb_sums.specs.declared.phase.Phase.{Phase}
 use Rattle.pb_sums.specs.declared.phase.Phase as phase
 

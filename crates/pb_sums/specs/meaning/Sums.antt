@@ -3,15 +3,15 @@ use Rattle.std.specs.Prelude.{ℕ, Bool, true, false, List, [], ◌∷◌, IsTru
 use Rattle.pb_text.specs.meaning.Classes.{is_blank, is_letter, is_name_byte}
 use Rattle.pb_text.specs.meaning.Languages.{Language, ◌⋅◌, Empty, Byte, Bytes, Each, Many, Some}
 use Rattle.pb_text.specs.meaning.Numbers.{Number}
-use Rattle.pb_sums.specs.declared.values.Literal.{Literal}
-use Rattle.pb_sums.specs.declared.values.Term.{Term}
-use Rattle.pb_sums.specs.declared.values.Relation.{Relation}
-use Rattle.pb_sums.specs.declared.values.Relation.TheVariants.{AtLeast, Equal}
-use Rattle.pb_sums.specs.declared.values.Linear.{Linear}
-use Rattle.pb_sums.specs.declared.values.SumEvent as event
-use Rattle.pb_sums.specs.declared.grammar.Spaces.{Spaces}
-use Rattle.pb_sums.specs.declared.grammar.Spaces.TheVariants.{White, Blank}
-use Rattle.pb_sums.specs.declared.grammar.Part as part
+use Rattle.pb_sums.specs.declared.linear.Literal.{Literal}
+use Rattle.pb_sums.specs.declared.linear.Term.{Term}
+use Rattle.pb_sums.specs.declared.linear.Relation.{Relation}
+use Rattle.pb_sums.specs.declared.linear.Relation.TheVariants.{AtLeast, Equal}
+use Rattle.pb_sums.specs.declared.linear.Linear.{Linear}
+use Rattle.pb_sums.specs.declared.linear.SumEvent as event
+use Rattle.pb_sums.specs.declared.sum_kind.Spaces.{Spaces}
+use Rattle.pb_sums.specs.declared.sum_kind.Spaces.TheVariants.{White, Blank}
+use Rattle.pb_sums.specs.declared.sum_kind.Part as part
 
 abbrev pub takes_line_feeds : Spaces → Bool
 takes_line_feeds White = true

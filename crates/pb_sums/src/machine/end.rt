@@ -5,10 +5,10 @@ ghost use Rattle.pb_text.specs.contract.Automaton.{Closes, IsState};
 ghost use Rattle.pb_text.specs.contract.Staying.{MayStay};
 ghost use Rattle.pb_sums.specs.engine.State.{sums};
 
+use crate::linear::{Linear, SumEvent};
 use crate::machine::{SumMachine, finish};
 use crate::phase::{Action, Kind};
 use crate::transition::plan;
-use crate::values::{Linear, SumEvent};
 use pb_text::Machine;
 
 impl SumMachine {

@@ -3,7 +3,7 @@ use Rattle.std.proofs.lemmas.List.{take_all}
 use Rattle.std.proofs.lemmas.List.Elements.{All-nil, All-push}
 use Rattle.pb_text.specs.meaning.Limits.{largest}
 use Rattle.pb_text.proofs.lemmas.text.Lists.{take_read}
-use Rattle.pb_sums.specs.declared.values.Linear.{Linear}
+use Rattle.pb_sums.specs.declared.linear.Linear.{Linear}
 use Rattle.pb_normal.specs.meaning.Constraints.{Fits}
 use Rattle.pb_normal.proofs.constraints.test.Goals as goal
 

@@ -4,9 +4,9 @@ use Rattle.std.specs.List.{All, AllByRecursion}
 use Rattle.pb_normal.specs.declared.fault.NormalFault.{NormalFault}
 use Rattle.pb_normal.specs.declared.fault.NormalFault.TheVariants.{Memory, Overflow}
 use Rattle.std.proofs.lemmas.Grind.{flat_map-append}
-use Rattle.pb_sums.specs.declared.values.Linear.{Linear}
-use Rattle.pb_sums.specs.declared.values.Relation.{Relation}
-use Rattle.pb_sums.specs.declared.values.Relation.TheVariants.{AtLeast, Equal}
+use Rattle.pb_sums.specs.declared.linear.Linear.{Linear}
+use Rattle.pb_sums.specs.declared.linear.Relation.{Relation}
+use Rattle.pb_sums.specs.declared.linear.Relation.TheVariants.{AtLeast, Equal}
 use Rattle.pb_normal.specs.declared.side.Side.{Side}
 use Rattle.pb_normal.specs.declared.side.Side.TheVariants.{AtLeast as least, AtMost as most}
 use Rattle.pb_normal.specs.meaning.Constraints.{AreFormsOf, constraint_names, sides_in, with_sides}

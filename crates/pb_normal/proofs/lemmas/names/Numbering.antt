@@ -8,7 +8,7 @@ use Rattle.std.proofs.lemmas.Bool.{or_left, or_right, or_parts, or_from}
 use Rattle.pb_normal.proofs.lemmas.terms.Positions.{position_or_len-none}
 use Rattle.std.proofs.lemmas.Slice.Eq.{bytes_eq-Decides}
 use Rattle.std.proofs.lemmas.Option.{slice_get_within}
-use Rattle.pb_sums.specs.declared.values.Term.{Term}
+use Rattle.pb_sums.specs.declared.linear.Term.{Term}
 use Rattle.pb_normal.specs.declared.side.Side.{Side}
 use Rattle.pb_normal.specs.meaning.Names.{has_name, AreDistinct, with_name, with_names, number_in, HasNames, AfterPrefix}
 use Rattle.pb_normal.specs.engine.Raw.{raw_of, entry_of}

@@ -2,8 +2,8 @@
 use Rattle.std.proofs.Common.{◌≡◌, ℕ, suc, ◌+◌, ◌<◌, ◌≤◌, ◌^◌, List, [], ◌∷◌, ◌++◌, length, refl, ap, sym, ◌∙◌, append_assoc, arith, false, true, Option, Some, None}
 use Rattle.pb_text.specs.meaning.Spelling.{Item, bytes_of}
 use Rattle.pb_text.specs.meaning.Whole.{events_of}
-use Rattle.pb_sums.specs.declared.values.Term.{Term}
-use Rattle.pb_sums.specs.declared.values.Linear.{Linear}
+use Rattle.pb_sums.specs.declared.linear.Term.{Term}
+use Rattle.pb_sums.specs.declared.linear.Linear.{Linear}
 use Rattle.pb_opb.specs.meaning.Values.{IsValueOf, IsObjective, AreLinears, AreComments, is_one, statements}
 use Rattle.pb_opb.specs.contract.Canonical.{header_bytes, lines, objective_events, constraint_events, in_order, body_events, instance_bytes}
 use Rattle.pb_opb.specs.contract.Laws.{CanonicalInstance}

@@ -5,9 +5,9 @@ use Rattle.std.specs.Prelude.{IsTrue}
 use Rattle.pb_text.specs.meaning.Spelling.{Letter, Item}
 use Rattle.pb_text.specs.meaning.Whole.{events_of}
 use Rattle.pb_sums.specs.contract.Canonical.{AreTerms}
-use Rattle.pb_sums.specs.declared.values.Term.{Term}
-use Rattle.pb_sums.specs.declared.values.Linear.{Linear}
-use Rattle.pb_sums.specs.declared.grammar.Spaces.TheVariants.{White}
+use Rattle.pb_sums.specs.declared.linear.Term.{Term}
+use Rattle.pb_sums.specs.declared.linear.Linear.{Linear}
+use Rattle.pb_sums.specs.declared.sum_kind.Spaces.TheVariants.{White}
 use Rattle.pb_sums.proofs.lemmas.values.Within.{sum-within, linear-within}
 use Rattle.pb_opb.specs.meaning.Instances.{IsTail, SpellsHeader, SpellsObjective, IsBegun}
 use Rattle.pb_opb.specs.meaning.Values.{last_or, variables_in, tails_in, objectives_in, constraints_in, comments_in, IsValueOf, IsInstanceValue, IsObjective, AreLinears, AreComments, is_one}

@@ -5,10 +5,10 @@ use Rattle.pb_text.specs.meaning.Numbers.{Count}
 use Rattle.pb_text.specs.meaning.Spelling.{Item, Letter}
 use Rattle.pb_text.proofs.lemmas.text.Languages.{inside, after_it}
 use Rattle.pb_sums.specs.meaning.Sums.{Spells}
-use Rattle.pb_sums.specs.declared.grammar.Part as part
-use Rattle.pb_sums.specs.declared.grammar.Spaces.TheVariants.{White}
-use Rattle.pb_sums.specs.declared.values.SumEvent as sum
-use Rattle.pb_sums.specs.declared.values.Term.{Term}
+use Rattle.pb_sums.specs.declared.sum_kind.Part as part
+use Rattle.pb_sums.specs.declared.sum_kind.Spaces.TheVariants.{White}
+use Rattle.pb_sums.specs.declared.linear.SumEvent as sum
+use Rattle.pb_sums.specs.declared.linear.Term.{Term}
 use Rattle.pb_sums.proofs.lemmas.values.Larger.{spells_larger}
 use Rattle.pb_opb.specs.meaning.Instances.{variable_word, constraint_word, SpellsHeader, SpellsObjective, IsBegun, IsInstance}
 use Rattle.pb_opb.specs.declared.event.OpbEvent.{OpbEvent}

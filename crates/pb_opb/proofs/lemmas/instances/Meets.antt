@@ -5,7 +5,7 @@ use Rattle.std.specs.Prelude.{IsTrue}
 use Rattle.std.proofs.lemmas.List.{drop_all}
 use Rattle.std.proofs.Math.Seq.{drop-cons}
 use Rattle.pb_sums.specs.contract.Canonical.{IsLinear}
-use Rattle.pb_sums.specs.declared.values.Linear.{Linear}
+use Rattle.pb_sums.specs.declared.linear.Linear.{Linear}
 use Rattle.pb_opb.specs.meaning.Values.{AreLinears, AreComments}
 use Rattle.pb_opb.specs.declared.instance.Comment.{Comment}
 

@@ -2,8 +2,8 @@
 use Rattle.std.proofs.Common.{◌≡◌, ℕ, suc, ◌+◌, ◌≤◌, List, [], ◌∷◌, ◌++◌, length, take, drop, refl, ap, sym, ◌∙◌, arith, Bool, true, false, cond, subst, Option, Some, None, nat_le, take-append-drop}
 use Rattle.std.proofs.lemmas.Bool.{leb-true, leb-false}
 use Rattle.pb_text.specs.meaning.Whole.{events_of}
-use Rattle.pb_sums.specs.declared.values.Term.{Term}
-use Rattle.pb_sums.specs.declared.values.Linear.{Linear}
+use Rattle.pb_sums.specs.declared.linear.Term.{Term}
+use Rattle.pb_sums.specs.declared.linear.Linear.{Linear}
 use Rattle.pb_opb.specs.contract.Canonical.{comment_events, constraint_events, objective_events, due, in_order}
 use Rattle.pb_opb.specs.meaning.Values.{last_or, variables_in, tails_in, objectives_in, constraints_in, comments_in, comment_at, AreComments}
 use Rattle.pb_opb.specs.declared.event.OpbEvent.{OpbEvent}

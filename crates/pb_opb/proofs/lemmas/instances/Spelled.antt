@@ -8,9 +8,9 @@ use Rattle.pb_text.specs.meaning.Spelling.{Letter, Item, plain, digits_of, bytes
 use Rattle.pb_text.proofs.lemmas.text.Languages.{bytes-append, bytes-plain, bytes-digits}
 use Rattle.pb_text.proofs.lemmas.numbers.Numbers.{decimal-digits}
 use Rattle.pb_sums.specs.contract.Canonical.{AreTerms, sum_text, linear_text, head_bytes, linear_bytes, space}
-use Rattle.pb_sums.specs.declared.values.Term.{Term}
-use Rattle.pb_sums.specs.declared.values.Linear.{Linear}
-use Rattle.pb_sums.specs.declared.grammar.Spaces.TheVariants.{White}
+use Rattle.pb_sums.specs.declared.linear.Term.{Term}
+use Rattle.pb_sums.specs.declared.linear.Linear.{Linear}
+use Rattle.pb_sums.specs.declared.sum_kind.Spaces.TheVariants.{White}
 use Rattle.pb_sums.proofs.lemmas.values.CanonicalLaws.{linear-spelled, sum-spelled, bytes-linear, bytes-sum}
 use Rattle.pb_opb.specs.meaning.Instances.{variable_word, constraint_word, min_word, SpellsHeader, SpellsComment, SpellsObjective}
 use Rattle.pb_opb.specs.contract.Canonical.{header_bytes, objective_bytes, event_bytes, lines, comment_events, constraint_events, due, in_order}

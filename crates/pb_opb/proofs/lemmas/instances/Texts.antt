@@ -3,8 +3,8 @@ use Rattle.std.proofs.Common.{◌≡◌, ℕ, zero, suc, ◌+◌, ◌<◌, ◌�
 use Rattle.std.proofs.lemmas.List.{append-nil, take_more, drop_all}
 use Rattle.std.proofs.Math.Seq.{drop-cons}
 use Rattle.pb_sums.specs.contract.Canonical.{sum_bytes, linear_bytes}
-use Rattle.pb_sums.specs.declared.values.Term.{Term}
-use Rattle.pb_sums.specs.declared.values.Linear.{Linear}
+use Rattle.pb_sums.specs.declared.linear.Term.{Term}
+use Rattle.pb_sums.specs.declared.linear.Linear.{Linear}
 use Rattle.pb_opb.specs.meaning.Instances.{min_word}
 use Rattle.pb_opb.specs.contract.Canonical.{event_bytes, objective_bytes, lines, comment_events, constraint_events, objective_events, due, in_order, body_events}
 use Rattle.pb_opb.specs.engine.Led.{led_lines}

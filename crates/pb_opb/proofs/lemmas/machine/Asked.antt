@@ -16,10 +16,10 @@ use Rattle.pb_text.proofs.lemmas.text.Booleans.{never}
 use Rattle.pb_text.proofs.lemmas.machine.Walking.{Walks, reads_after, prefixes_of}
 use Rattle.pb_sums.specs.engine.State.{SumState, sums}
 use Rattle.pb_sums.specs.meaning.Sums.{Spells}
-use Rattle.pb_sums.specs.declared.grammar.Part as part
-use Rattle.pb_sums.specs.declared.grammar.Spaces.TheVariants.{White}
-use Rattle.pb_sums.specs.declared.values.SumEvent.{SumEvent}
-use Rattle.pb_sums.specs.declared.values.SumEvent as sum
+use Rattle.pb_sums.specs.declared.sum_kind.Part as part
+use Rattle.pb_sums.specs.declared.sum_kind.Spaces.TheVariants.{White}
+use Rattle.pb_sums.specs.declared.linear.SumEvent.{SumEvent}
+use Rattle.pb_sums.specs.declared.linear.SumEvent as sum
 use Rattle.pb_sums.proofs.lemmas.machine.Asked.{sums_asked, first_asks_nothing}
 use Rattle.pb_sums.proofs.lemmas.machine.Links.{reads_grammar}
 use Rattle.pb_sums.proofs.lemmas.machine.States.{goes-midway}

@@ -9,7 +9,7 @@ use Rattle.pb_text.specs.meaning.Spelling.{Item, Letter}
 use Rattle.pb_text.proofs.lemmas.machine.Outcomes.{refuse_or_go, refuse_or_end}
 use Rattle.pb_text.proofs.lemmas.text.Booleans.{never}
 use Rattle.pb_sums.specs.engine.State.{SumState, sums}
-use Rattle.pb_sums.specs.declared.values.SumEvent.{SumEvent}
+use Rattle.pb_sums.specs.declared.linear.SumEvent.{SumEvent}
 use Rattle.pb_opb.specs.meaning.Instances.{IsBegun, IsInstance}
 use Rattle.pb_opb.specs.engine.State.{OpbState, opb, begin, act, over, linears}
 use Rattle.pb_opb.specs.declared.event.OpbEvent.{OpbEvent}

@@ -13,10 +13,10 @@ use Rattle.pb_text.proofs.lemmas.text.Booleans.{never}
 use Rattle.pb_text.proofs.lemmas.machine.Walking.{Walks, walks_more, ends_walk, On, Keeps, reported}
 use Rattle.pb_sums.specs.engine.State.{SumState, sums}
 use Rattle.pb_sums.specs.meaning.Sums.{SpellsLinear, Spells}
-use Rattle.pb_sums.specs.declared.grammar.Part as part
-use Rattle.pb_sums.specs.declared.grammar.Spaces.TheVariants.{White}
-use Rattle.pb_sums.specs.declared.values.SumEvent.{SumEvent}
-use Rattle.pb_sums.specs.declared.values.SumEvent as sum
+use Rattle.pb_sums.specs.declared.sum_kind.Part as part
+use Rattle.pb_sums.specs.declared.sum_kind.Spaces.TheVariants.{White}
+use Rattle.pb_sums.specs.declared.linear.SumEvent.{SumEvent}
+use Rattle.pb_sums.specs.declared.linear.SumEvent as sum
 use Rattle.pb_sums.proofs.lemmas.machine.Links.{reads_grammar}
 use Rattle.pb_sums.proofs.lemmas.machine.States.{goes-midway}
 use Rattle.pb_opb.specs.meaning.Instances.{min_word, Whites0, SpellsObjective}

@@ -9,12 +9,12 @@ use Rattle.pb_text.specs.meaning.Spelling.{Letter, plain}
 use Rattle.pb_text.proofs.lemmas.machine.Walking.{Walks, Leads, leads_then, longer, reads_after}
 use Rattle.pb_sums.specs.engine.State.{SumState, sums, last}
 use Rattle.pb_sums.specs.meaning.Sums.{Spaces0, SpellsSum, SpellsLinear, Spells}
-use Rattle.pb_sums.specs.declared.grammar.Part as part
-use Rattle.pb_sums.specs.declared.grammar.Spaces.TheVariants.{White}
-use Rattle.pb_sums.specs.declared.values.Linear.{Linear}
-use Rattle.pb_sums.specs.declared.values.SumEvent.{SumEvent}
-use Rattle.pb_sums.specs.declared.values.SumEvent as sum
-use Rattle.pb_sums.specs.declared.values.Term.{Term}
+use Rattle.pb_sums.specs.declared.sum_kind.Part as part
+use Rattle.pb_sums.specs.declared.sum_kind.Spaces.TheVariants.{White}
+use Rattle.pb_sums.specs.declared.linear.Linear.{Linear}
+use Rattle.pb_sums.specs.declared.linear.SumEvent.{SumEvent}
+use Rattle.pb_sums.specs.declared.linear.SumEvent as sum
+use Rattle.pb_sums.specs.declared.linear.Term.{Term}
 use Rattle.pb_sums.proofs.lemmas.machine.Links.{reads_grammar}
 use Rattle.pb_opb.specs.meaning.Instances.{min_word, Whites0, SpellsComment, SpellsObjective}
 use Rattle.pb_opb.specs.engine.Machine.{plan}

@@ -12,9 +12,9 @@ use Rattle.pb_text.proofs.lemmas.text.ByteTests.{white_each, digit_dark}
 use Rattle.pb_text.proofs.lemmas.machine.Outcomes.{refuse_or_go, refuse_or_end}
 use Rattle.pb_sums.specs.engine.State.{SumState, sums}
 use Rattle.pb_sums.specs.meaning.Sums.{is_space, Spaces1, SpellsLiteral, SpellsTerm, SpellsFurther, SpellsSum}
-use Rattle.pb_sums.specs.declared.grammar.Spaces.TheVariants.{White}
-use Rattle.pb_sums.specs.declared.values.SumEvent.{SumEvent}
-use Rattle.pb_sums.specs.declared.values.Term.{Term}
+use Rattle.pb_sums.specs.declared.sum_kind.Spaces.TheVariants.{White}
+use Rattle.pb_sums.specs.declared.linear.SumEvent.{SumEvent}
+use Rattle.pb_sums.specs.declared.linear.Term.{Term}
 use Rattle.pb_opb.specs.engine.State.{linears}
 
 white-space : (b : ℕ) → is_space White b ≡ is_white b

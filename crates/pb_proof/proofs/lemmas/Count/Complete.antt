@@ -11,8 +11,8 @@ use Rattle.pb_text.proofs.lemmas.machine.Walking.{Leads, leads_then, reads_after
 use Rattle.pb_proof.specs.meaning.Lines.{SpellsCount}
 use Rattle.pb_proof.specs.engine.Line.Count.{at, count_automaton, counting, count_last, act, plan, digits}
 use Rattle.pb_proof.specs.declared.line.byte_kind.NumberByte.TheVariants.{Blank, Digit}
-use Rattle.pb_proof.specs.declared.line.count.phase.CountPhase.{CountPhase}
-use Rattle.pb_proof.specs.declared.line.count.phase.CountPhase.TheVariants.{Start, Gap, Digits, Tail, Closing}
+use Rattle.pb_proof.specs.declared.line.formula.phase.CountPhase.{CountPhase}
+use Rattle.pb_proof.specs.declared.line.formula.phase.CountPhase.TheVariants.{Start, Gap, Digits, Tail, Closing}
 use Rattle.pb_text.proofs.lemmas.numbers.DigitWalks.{TakesDigits, digits_lead}
 use Rattle.pb_proof.proofs.lemmas.Line.ByteKinds.{number_blank, number_digit}
 use Rattle.pb_proof.proofs.lemmas.Line.Ends.{TakesBlanks, Feeds, MayEnd, blanks1_lead, line_reads}

@@ -16,9 +16,9 @@ use Rattle.pb_proof.specs.engine.Line.Count.{CountState, count_automaton, act, p
 use Rattle.pb_proof.specs.engine.Line.ByteKind.{number_byte}
 use Rattle.pb_proof.specs.declared.line.byte_kind.NumberByte.{NumberByte}
 use Rattle.pb_proof.specs.declared.line.byte_kind.NumberByte.TheVariants.{Blank, Digit, Semicolon, Feed}
-use Rattle.pb_proof.specs.declared.line.count.phase.CountPhase.{CountPhase}
-use Rattle.pb_proof.specs.declared.line.count.phase.CountPhase.TheVariants.{Start, Gap, Digits, Tail, Closing, Done}
-use Rattle.pb_proof.specs.declared.line.count.phase.CountAction.TheVariants.{To, Stop}
+use Rattle.pb_proof.specs.declared.line.formula.phase.CountPhase.{CountPhase}
+use Rattle.pb_proof.specs.declared.line.formula.phase.CountPhase.TheVariants.{Start, Gap, Digits, Tail, Closing, Done}
+use Rattle.pb_proof.specs.declared.line.formula.phase.CountAction.TheVariants.{To, Stop}
 use Rattle.pb_proof.proofs.lemmas.Line.ByteKinds.{NumberMeans, number_means}
 use Rattle.pb_proof.proofs.lemmas.Line.Ends as ends
 

@@ -12,10 +12,10 @@ use Rattle.pb_proof.specs.engine.Line.Count.{CountState, at, count_automaton, co
 use Rattle.pb_proof.specs.engine.Line.ByteKind.{number_byte}
 use Rattle.pb_proof.specs.declared.line.byte_kind.NumberByte.{NumberByte}
 use Rattle.pb_proof.specs.declared.line.byte_kind.NumberByte.TheVariants.{Blank, Digit, Semicolon, Feed}
-use Rattle.pb_proof.specs.declared.line.count.phase.CountPhase.{CountPhase}
-use Rattle.pb_proof.specs.declared.line.count.phase.CountPhase.TheVariants.{Start, Gap, Digits, Tail, Closing, Done}
-use Rattle.pb_proof.specs.declared.line.count.phase.CountAction.{CountAction}
-use Rattle.pb_proof.specs.declared.line.count.phase.CountAction as action
+use Rattle.pb_proof.specs.declared.line.formula.phase.CountPhase.{CountPhase}
+use Rattle.pb_proof.specs.declared.line.formula.phase.CountPhase.TheVariants.{Start, Gap, Digits, Tail, Closing, Done}
+use Rattle.pb_proof.specs.declared.line.formula.phase.CountAction.{CountAction}
+use Rattle.pb_proof.specs.declared.line.formula.phase.CountAction as action
 use Rattle.pb_proof.proofs.lemmas.Count.Complete.{reads_each}
 use Rattle.pb_proof.proofs.lemmas.Count.Sound.{Prefix, Whole, keeps_prefix}
 use Rattle.pb_text.proofs.lemmas.machine.OneText.{IsOfOne, reads_last, is_state}

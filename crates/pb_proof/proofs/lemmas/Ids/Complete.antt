@@ -13,10 +13,10 @@ use Rattle.pb_proof.specs.engine.Line.Ids.{IdsState, ids_automaton, ids_at, ids_
 use Rattle.pb_proof.specs.engine.Line.ByteKind.{number_byte}
 use Rattle.pb_proof.specs.declared.line.byte_kind.NumberByte.{NumberByte}
 use Rattle.pb_proof.specs.declared.line.byte_kind.NumberByte.TheVariants as kind
-use Rattle.pb_proof.specs.declared.line.ids.phase.IdsPhase.{IdsPhase}
-use Rattle.pb_proof.specs.declared.line.ids.phase.IdsPhase.TheVariants.{Gap, Between, Minus, Digits, Closing}
-use Rattle.pb_proof.specs.declared.line.ids.phase.IdsAction.{IdsAction}
-use Rattle.pb_proof.specs.declared.line.ids.phase.IdsAction.TheVariants as action
+use Rattle.pb_proof.specs.declared.line.delete.phase.IdsPhase.{IdsPhase}
+use Rattle.pb_proof.specs.declared.line.delete.phase.IdsPhase.TheVariants.{Gap, Between, Minus, Digits, Closing}
+use Rattle.pb_proof.specs.declared.line.delete.phase.IdsAction.{IdsAction}
+use Rattle.pb_proof.specs.declared.line.delete.phase.IdsAction.TheVariants as action
 use Rattle.pb_text.proofs.lemmas.numbers.DigitWalks.{TakesDigits, digits_lead}
 use Rattle.pb_proof.proofs.lemmas.Line.ByteKinds.{number_blank, number_digit}
 use Rattle.pb_proof.proofs.lemmas.Line.Ends.{TakesBlanks, MayEnd, blanks1_lead, line_reads, listed_walks}

@@ -7,9 +7,9 @@ use Rattle.pb_text.proofs.lemmas.text.Booleans.{never}
 use Rattle.pb_proof.specs.engine.Line.Ids.{ids_automaton, ids_at, act, plan, keeps, is_midway, PhaseFits, IsIdsInOrder}
 use Rattle.pb_proof.specs.engine.Line.ByteKind.{number_byte}
 use Rattle.pb_proof.specs.declared.line.byte_kind.NumberByte.{NumberByte}
-use Rattle.pb_proof.specs.declared.line.ids.phase.IdsPhase.{IdsPhase}
-use Rattle.pb_proof.specs.declared.line.ids.phase.IdsAction.{IdsAction}
-use Rattle.pb_proof.specs.declared.line.ids.phase.IdsAction.TheVariants as action
+use Rattle.pb_proof.specs.declared.line.delete.phase.IdsPhase.{IdsPhase}
+use Rattle.pb_proof.specs.declared.line.delete.phase.IdsAction.{IdsAction}
+use Rattle.pb_proof.specs.declared.line.delete.phase.IdsAction.TheVariants as action
 use Rattle.pb_proof.proofs.lemmas.Ids.Theorems.{ids_of_one, ids_is_state}
 use Rattle.pb_text.proofs.lemmas.machine.OneText.{admits}
 

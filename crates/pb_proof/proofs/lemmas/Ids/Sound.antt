@@ -16,9 +16,9 @@ use Rattle.pb_proof.specs.engine.Line.Ids.{IdsState, ids_automaton, act, plan, d
 use Rattle.pb_proof.specs.engine.Line.ByteKind.{number_byte}
 use Rattle.pb_proof.specs.declared.line.byte_kind.NumberByte.{NumberByte}
 use Rattle.pb_proof.specs.declared.line.byte_kind.NumberByte.TheVariants as kind
-use Rattle.pb_proof.specs.declared.line.ids.phase.IdsPhase.{IdsPhase}
-use Rattle.pb_proof.specs.declared.line.ids.phase.IdsPhase.TheVariants.{Start, Gap, Between, Minus, Digits, Closing, Done}
-use Rattle.pb_proof.specs.declared.line.ids.phase.IdsAction.TheVariants as action
+use Rattle.pb_proof.specs.declared.line.delete.phase.IdsPhase.{IdsPhase}
+use Rattle.pb_proof.specs.declared.line.delete.phase.IdsPhase.TheVariants.{Start, Gap, Between, Minus, Digits, Closing, Done}
+use Rattle.pb_proof.specs.declared.line.delete.phase.IdsAction.TheVariants as action
 use Rattle.pb_proof.proofs.lemmas.Line.ByteKinds.{NumberMeans, number_means}
 use Rattle.pb_proof.proofs.lemmas.Line.Ends as ends
 use Rattle.pb_proof.proofs.lemmas.NumberTests.{positive}

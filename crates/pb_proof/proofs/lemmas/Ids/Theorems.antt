@@ -16,10 +16,10 @@ use Rattle.pb_proof.specs.engine.Line.Ids.{IdsState, ids_automaton, ids_at, ids_
 use Rattle.pb_proof.specs.engine.Line.ByteKind.{number_byte}
 use Rattle.pb_proof.specs.declared.line.byte_kind.NumberByte.{NumberByte}
 use Rattle.pb_proof.specs.declared.line.byte_kind.NumberByte.TheVariants as kind
-use Rattle.pb_proof.specs.declared.line.ids.phase.IdsPhase.{IdsPhase}
-use Rattle.pb_proof.specs.declared.line.ids.phase.IdsPhase.TheVariants.{Start, Gap, Between, Minus, Digits, Closing, Done}
-use Rattle.pb_proof.specs.declared.line.ids.phase.IdsAction.{IdsAction}
-use Rattle.pb_proof.specs.declared.line.ids.phase.IdsAction.TheVariants as action
+use Rattle.pb_proof.specs.declared.line.delete.phase.IdsPhase.{IdsPhase}
+use Rattle.pb_proof.specs.declared.line.delete.phase.IdsPhase.TheVariants.{Start, Gap, Between, Minus, Digits, Closing, Done}
+use Rattle.pb_proof.specs.declared.line.delete.phase.IdsAction.{IdsAction}
+use Rattle.pb_proof.specs.declared.line.delete.phase.IdsAction.TheVariants as action
 use Rattle.pb_proof.proofs.lemmas.Ids.Complete.{digits_after, reads_each}
 use Rattle.pb_proof.proofs.lemmas.Ids.Sound.{Prefix, Whole, keeps_prefix}
 use Rattle.pb_text.proofs.lemmas.machine.OneText.{IsOfOne, reads_last, is_state}

@@ -26,10 +26,10 @@ use Rattle.pb_proof.specs.engine.Line.Literals as literals
 use Rattle.pb_proof.specs.engine.Line.ByteKind.{number_byte, name_byte}
 use Rattle.pb_proof.specs.declared.line.rup.phase.RupPhase.{RupPhase}
 use Rattle.pb_proof.specs.declared.line.rup.phase.RupPhase.TheVariants as rup
-use Rattle.pb_proof.specs.declared.line.ids.phase.IdsPhase.{IdsPhase}
-use Rattle.pb_proof.specs.declared.line.ids.phase.IdsPhase.TheVariants.{Start, Gap, Between, Minus, Digits, Closing, Done}
-use Rattle.pb_proof.specs.declared.line.literals.phase.LiteralsPhase.{LiteralsPhase}
-use Rattle.pb_proof.specs.declared.line.literals.phase.LiteralsPhase.TheVariants as at
+use Rattle.pb_proof.specs.declared.line.delete.phase.IdsPhase.{IdsPhase}
+use Rattle.pb_proof.specs.declared.line.delete.phase.IdsPhase.TheVariants.{Start, Gap, Between, Minus, Digits, Closing, Done}
+use Rattle.pb_proof.specs.declared.line.solution.phase.LiteralsPhase.{LiteralsPhase}
+use Rattle.pb_proof.specs.declared.line.solution.phase.LiteralsPhase.TheVariants as at
 use Rattle.pb_proof.specs.declared.line.byte_kind.NumberByte.{NumberByte}
 use Rattle.pb_proof.specs.declared.line.byte_kind.NumberByte.TheVariants as number
 use Rattle.pb_proof.specs.declared.line.byte_kind.NameByte.{NameByte}

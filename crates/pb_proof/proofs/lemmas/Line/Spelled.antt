@@ -9,8 +9,8 @@ use Rattle.pb_text.specs.meaning.Spelling.{Letter, plain, digits_of}
 use Rattle.pb_text.proofs.lemmas.numbers.Numbers.{decimal-digits}
 use Rattle.pb_sums.specs.contract.Canonical.{space, degree_text, literal_text, linear_text}
 use Rattle.pb_sums.specs.meaning.Sums.{IsName, SpellsLiteral, SpellsLinear}
-use Rattle.pb_sums.specs.declared.values.Literal.{Literal}
-use Rattle.pb_sums.specs.declared.grammar.Spaces.TheVariants.{Blank}
+use Rattle.pb_sums.specs.declared.linear.Literal.{Literal}
+use Rattle.pb_sums.specs.declared.sum_kind.Spaces.TheVariants.{Blank}
 use Rattle.pb_sums.proofs.lemmas.values.CanonicalLaws.{linear-spelled, degree}
 use Rattle.pb_proof.specs.meaning.Lines.{pseudo_word, proof_word, version_word, two_word, f_word, pol_word, rup_word, soli_word, solx_word, del_word, id_word, output_word, conclusion_word, end_word, none_word, unsat_word, sat_word, bounds_word, Feed, LineEnd, Listed, SpellsId, Factor, SpellsBound, SpellsShown, Shown, IdShown, SpellsWord, SpellsConclusion, SpellsCount, SpellsWords, SpellsRup, SpellsLiterals, SpellsIds, SpellsConclusionLine, SpellsStatement}
 use Rattle.pb_proof.specs.contract.Values.{IfGiven, IsId, IsFactor, AreLiterals, IsBound, IsWord, IsConclusion, IsStatementValue}

@@ -7,7 +7,7 @@ use Rattle.pb_text.specs.meaning.Spelling.{Letter, plain, digits_of, bytes}
 use Rattle.pb_text.proofs.lemmas.text.Languages.{bytes-append, bytes-plain, bytes-digits}
 use Rattle.pb_sums.specs.contract.Canonical.{space, degree_text, literal_text, linear_text, linear_bytes}
 use Rattle.pb_sums.specs.meaning.Sums.{literal_bytes}
-use Rattle.pb_sums.specs.declared.values.Literal.{Literal}
+use Rattle.pb_sums.specs.declared.linear.Literal.{Literal}
 use Rattle.pb_sums.proofs.lemmas.values.CanonicalLaws.{bytes-linear, bytes-degree}
 use Rattle.pb_proof.specs.meaning.Lines.{pseudo_word, proof_word, version_word, two_word, f_word, pol_word, rup_word, soli_word, solx_word, del_word, id_word, output_word, conclusion_word, end_word, none_word, unsat_word, sat_word, bounds_word, inf_word}
 use Rattle.pb_proof.specs.meaning.Canonical.{literal_line, word_bytes, listed_bytes, bound_bytes, id_shown_bytes, shown_bytes, conclusion_bytes, statement_bytes}

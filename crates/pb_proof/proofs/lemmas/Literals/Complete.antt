@@ -14,7 +14,7 @@ use Rattle.pb_proof.specs.engine.Line.Literals.{LiteralsState, SpellsJoined, lit
 use Rattle.pb_proof.specs.engine.Line.ByteKind.{name_byte}
 use Rattle.pb_proof.specs.declared.line.byte_kind.NameByte.{NameByte}
 use Rattle.pb_proof.specs.declared.line.byte_kind.NameByte.TheVariants as kind
-use Rattle.pb_proof.specs.declared.line.literals.phase.LiteralsPhase.TheVariants.{Gap, Negation, First, More, Closing}
+use Rattle.pb_proof.specs.declared.line.solution.phase.LiteralsPhase.TheVariants.{Gap, Negation, First, More, Closing}
 use Rattle.pb_proof.proofs.lemmas.Line.ByteKinds.{name_blank, name_letter, name_inner}
 use Rattle.pb_proof.proofs.lemmas.Line.Ends.{TakesBlanks, MayEnd, blanks1_lead, line_reads, listed_walks}
 

@@ -10,9 +10,9 @@ use Rattle.pb_sums.proofs.lemmas.machine.Counts.{counted}
 use Rattle.pb_proof.specs.engine.Line.Literals.{literals_automaton, literals_at, flushed, act, plan, adds, is_more, is_midway, units, IsLiteralsInOrder}
 use Rattle.pb_proof.specs.engine.Line.ByteKind.{name_byte}
 use Rattle.pb_proof.specs.declared.line.byte_kind.NameByte.{NameByte}
-use Rattle.pb_proof.specs.declared.line.literals.phase.LiteralsPhase.{LiteralsPhase}
-use Rattle.pb_proof.specs.declared.line.literals.phase.LiteralsAction.{LiteralsAction}
-use Rattle.pb_proof.specs.declared.line.literals.phase.LiteralsAction.TheVariants as action
+use Rattle.pb_proof.specs.declared.line.solution.phase.LiteralsPhase.{LiteralsPhase}
+use Rattle.pb_proof.specs.declared.line.solution.phase.LiteralsAction.{LiteralsAction}
+use Rattle.pb_proof.specs.declared.line.solution.phase.LiteralsAction.TheVariants as action
 use Rattle.pb_proof.proofs.lemmas.Literals.Theorems.{literals_of_one, literals_is_state, units_append}
 use Rattle.pb_text.proofs.lemmas.machine.OneText.{admits}
 

@@ -17,8 +17,8 @@ use Rattle.pb_proof.specs.engine.Line.Literals.{LiteralsState, SpellsJoined, lit
 use Rattle.pb_proof.specs.engine.Line.ByteKind.{name_byte}
 use Rattle.pb_proof.specs.declared.line.byte_kind.NameByte.{NameByte}
 use Rattle.pb_proof.specs.declared.line.byte_kind.NameByte.TheVariants as kind
-use Rattle.pb_proof.specs.declared.line.literals.phase.LiteralsPhase.{LiteralsPhase}
-use Rattle.pb_proof.specs.declared.line.literals.phase.LiteralsPhase.TheVariants.{Start, Gap, Negation, First, More, Closing, Done}
+use Rattle.pb_proof.specs.declared.line.solution.phase.LiteralsPhase.{LiteralsPhase}
+use Rattle.pb_proof.specs.declared.line.solution.phase.LiteralsPhase.TheVariants.{Start, Gap, Negation, First, More, Closing, Done}
 use Rattle.pb_proof.proofs.lemmas.Line.ByteKinds.{NameMeans, name_means}
 use Rattle.pb_proof.proofs.lemmas.Literals.Names.{first_grown, more_grown}
 use Rattle.pb_proof.proofs.lemmas.Line.Ends as ends

@@ -8,8 +8,8 @@ use Rattle.pb_text.specs.meaning.Numbers.{signed}
 use Rattle.pb_text.specs.meaning.Spelling.{Letter, Item}
 use Rattle.pb_text.specs.meaning.Whole.{events_of}
 use Rattle.pb_sums.specs.meaning.Sums.{IsName, SpellsLiteral}
-use Rattle.pb_sums.specs.declared.values.Literal.{Literal}
-use Rattle.pb_sums.specs.declared.grammar.Spaces.TheVariants.{Blank}
+use Rattle.pb_sums.specs.declared.linear.Literal.{Literal}
+use Rattle.pb_sums.specs.declared.sum_kind.Spaces.TheVariants.{Blank}
 use Rattle.pb_sums.proofs.lemmas.values.Within.{number-within, linear-within}
 use Rattle.pb_proof.specs.meaning.Lines.{Listed, SpellsId, Factor, SpellsBound, Shown, IdShown, SpellsWord, SpellsConclusion, SpellsStatement}
 use Rattle.pb_proof.specs.meaning.Proofs.{IsGap, IsStep, statements_of}

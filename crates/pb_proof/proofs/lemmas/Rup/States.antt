@@ -11,7 +11,7 @@ use Rattle.pb_text.proofs.lemmas.text.Booleans.{never}
 use Rattle.pb_sums.specs.engine.Machine.{Work, Outcome, act, flushed, plan, kind, letter_at, is_numeric}
 use Rattle.pb_sums.specs.engine.State.{SumState, sums, over, units}
 use Rattle.pb_sums.specs.declared.Linear.{Linear}
-use Rattle.pb_sums.specs.declared.values.Term.{Term}
+use Rattle.pb_sums.specs.declared.linear.Term.{Term}
 use Rattle.pb_sums.specs.declared.phase.Phase as sum_phase
 use Rattle.pb_sums.specs.declared.phase.Action.{Action}
 use Rattle.pb_sums.specs.declared.phase.Action.TheVariants as action

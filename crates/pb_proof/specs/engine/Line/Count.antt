@@ -4,10 +4,10 @@ use Rattle.pb_text.specs.contract.Automaton.{Automaton, Next, Go, End, Refuse}
 use Rattle.pb_proof.specs.engine.Line.ByteKind.{number_byte}
 use Rattle.pb_proof.specs.declared.line.byte_kind.NumberByte.{NumberByte}
 use Rattle.pb_proof.specs.declared.line.byte_kind.NumberByte.TheVariants.{Blank, Digit, Semicolon, Feed}
-use Rattle.pb_proof.specs.declared.line.count.phase.CountPhase.{CountPhase}
-use Rattle.pb_proof.specs.declared.line.count.phase.CountPhase.TheVariants.{Start, Gap, Digits, Tail, Closing, Done}
-use Rattle.pb_proof.specs.declared.line.count.phase.CountAction.{CountAction}
-use Rattle.pb_proof.specs.declared.line.count.phase.CountAction as action
+use Rattle.pb_proof.specs.declared.line.formula.phase.CountPhase.{CountPhase}
+use Rattle.pb_proof.specs.declared.line.formula.phase.CountPhase.TheVariants.{Start, Gap, Digits, Tail, Closing, Done}
+use Rattle.pb_proof.specs.declared.line.formula.phase.CountAction.{CountAction}
+use Rattle.pb_proof.specs.declared.line.formula.phase.CountAction as action
 
 -- the largest count, and what was read last
 pub record CountState : Type 0 where

@@ -5,9 +5,9 @@ use Rattle.pb_proof.specs.engine.Line.Ids.{IdsState}
 use Rattle.pb_proof.specs.engine.Line.Literals.{LiteralsState}
 use Rattle.pb_proof.specs.engine.Line.Rup.{RupState}
 use Rattle.pb_proof.specs.engine.Line.PolState.{PolState}
-use Rattle.pb_proof.specs.declared.line.count.CountMachine.TheInside.{Inside as CountFields}
-use Rattle.pb_proof.specs.declared.line.ids.IdsMachine.TheInside.{Inside as IdsFields}
-use Rattle.pb_proof.specs.declared.line.literals.LiteralsMachine.TheInside.{Inside as LiteralsFields}
+use Rattle.pb_proof.specs.declared.line.formula.CountMachine.TheInside.{Inside as CountFields}
+use Rattle.pb_proof.specs.declared.line.delete.IdsMachine.TheInside.{Inside as IdsFields}
+use Rattle.pb_proof.specs.declared.line.solution.LiteralsMachine.TheInside.{Inside as LiteralsFields}
 use Rattle.pb_proof.specs.declared.line.rup.RupMachine.TheInside.{Inside as RupFields}
 use Rattle.pb_proof.specs.declared.line.pol.PolMachine.TheInside.{Inside as PolFields}
 

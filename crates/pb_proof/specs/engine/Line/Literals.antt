@@ -8,10 +8,10 @@ use Rattle.pb_proof.specs.meaning.Lines.{LineEnd, Listed}
 use Rattle.pb_proof.specs.engine.Line.ByteKind.{name_byte}
 use Rattle.pb_proof.specs.declared.line.byte_kind.NameByte.{NameByte}
 use Rattle.pb_proof.specs.declared.line.byte_kind.NameByte.TheVariants.{Blank, Letter, Inner, Tilde, Semicolon, Feed}
-use Rattle.pb_proof.specs.declared.line.literals.phase.LiteralsPhase.{LiteralsPhase}
-use Rattle.pb_proof.specs.declared.line.literals.phase.LiteralsPhase.TheVariants.{Start, Gap, Negation, First, More, Closing, Done}
-use Rattle.pb_proof.specs.declared.line.literals.phase.LiteralsAction.{LiteralsAction}
-use Rattle.pb_proof.specs.declared.line.literals.phase.LiteralsAction as action
+use Rattle.pb_proof.specs.declared.line.solution.phase.LiteralsPhase.{LiteralsPhase}
+use Rattle.pb_proof.specs.declared.line.solution.phase.LiteralsPhase.TheVariants.{Start, Gap, Negation, First, More, Closing, Done}
+use Rattle.pb_proof.specs.declared.line.solution.phase.LiteralsAction.{LiteralsAction}
+use Rattle.pb_proof.specs.declared.line.solution.phase.LiteralsAction as action
 
 -- Literals with blank+ before each, and then the end of the line. If they are joined to what comes before them,
 -- blank* before the first one.

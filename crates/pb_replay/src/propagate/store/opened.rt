@@ -7,9 +7,9 @@ ghost use Rattle.pb_replay.specs.engine.Engine.Lists.{has, says, open_part, open
 ghost use Rattle.pb_replay.specs.engine.Engine.Root.{HasTrue};
 ghost use Rattle.pb_replay.specs.engine.Engine.Terms.{terms_of};
 
-use pb_normal::NumberedLiteral;
 use crate::propagate::store::falling::Falling;
 use crate::propagate::term::Term;
+use pb_normal::NumberedLiteral;
 
 // Whether a literal is falsified.
 fn is_falsified(values: &[Option<bool>], literal: NumberedLiteral) -> bool

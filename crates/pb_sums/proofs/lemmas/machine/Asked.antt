@@ -15,11 +15,11 @@ use Rattle.pb_sums.specs.meaning.Asking.{EndsIn, IsNameStart, InName, AsksLitera
 use Rattle.pb_sums.specs.engine.Machine.{act, plan, digits, number, next_action, kind, symbol, letter_at, is_numeric, flushed, adds, is_more}
 use Rattle.pb_sums.specs.engine.State.{SumState, sums, first, over, asks, IsOneText}
 use Rattle.pb_sums.specs.meaning.Sums.{IsName, is_space, allows, reads_sums}
-use Rattle.pb_sums.specs.declared.grammar.Spaces.{Spaces}
-use Rattle.pb_sums.specs.declared.grammar.Part.{Part}
-use Rattle.pb_sums.specs.declared.values.Relation.{Relation}
-use Rattle.pb_sums.specs.declared.values.Relation.TheVariants.{AtLeast, Equal}
-use Rattle.pb_sums.specs.declared.values.SumEvent.{SumEvent}
+use Rattle.pb_sums.specs.declared.sum_kind.Spaces.{Spaces}
+use Rattle.pb_sums.specs.declared.sum_kind.Part.{Part}
+use Rattle.pb_sums.specs.declared.linear.Relation.{Relation}
+use Rattle.pb_sums.specs.declared.linear.Relation.TheVariants.{AtLeast, Equal}
+use Rattle.pb_sums.specs.declared.linear.SumEvent.{SumEvent}
 use Rattle.pb_sums.specs.declared.phase.Kind.{Kind}
 use Rattle.pb_sums.specs.declared.phase.Kind.TheVariants.{Space, Digit, Start, Inner, Tilde, Plus, Minus, Greater, Equals, Semicolon}
 use Rattle.pb_sums.specs.declared.phase.Phase.{Phase}

@@ -6,13 +6,13 @@ use Rattle.pb_sums.specs.declared.phase.Kind.{Kind}
 use Rattle.pb_sums.specs.declared.phase.Kind.TheVariants.{Space, Digit, Start, Tilde, Plus, Minus, Greater, Equals, Semicolon}
 use Rattle.pb_sums.specs.declared.phase.Action.{Action}
 use Rattle.pb_sums.specs.declared.phase.Action.TheVariants.{To, EndSum, Stop}
-use Rattle.pb_sums.specs.declared.grammar.Part.{Part}
+use Rattle.pb_sums.specs.declared.sum_kind.Part.{Part}
 use Rattle.pb_sums.specs.declared.phase.Phase.{Phase}
-use Rattle.pb_sums.specs.declared.grammar.Spaces.{Spaces}
-use Rattle.pb_sums.specs.declared.values.Relation.{Relation}
-use Rattle.pb_sums.specs.declared.values.Relation.TheVariants.{AtLeast, Equal}
-use Rattle.pb_sums.specs.declared.values.SumEvent.{SumEvent}
-use Rattle.pb_sums.specs.declared.values.Term.{Term}
+use Rattle.pb_sums.specs.declared.sum_kind.Spaces.{Spaces}
+use Rattle.pb_sums.specs.declared.linear.Relation.{Relation}
+use Rattle.pb_sums.specs.declared.linear.Relation.TheVariants.{AtLeast, Equal}
+use Rattle.pb_sums.specs.declared.linear.SumEvent.{SumEvent}
+use Rattle.pb_sums.specs.declared.linear.Term.{Term}
 use Rattle.pb_text.proofs.lemmas.numbers.DigitWalks.{ten_pos}
 use Rattle.pb_text.proofs.lemmas.text.Languages.{nil_first}
 use Rattle.pb_text.proofs.lemmas.machine.Runs.{run, Takes, takes_then, run-refuse}
@@ -26,7 +26,7 @@ use Rattle.std.proofs.Math.Nat.{pow-succ', le-mul_of_pos_right}
 use Rattle.std.proofs.lemmas.Bool.{le-leb}
 use Rattle.std.proofs.lemmas.List.{append-nil}
 use Rattle.std.specs.Prelude.{IsTrue, nat_le, ℤ, Option, Some, None}
-use Rattle.pb_sums.specs.declared.values.SumEvent as event
+use Rattle.pb_sums.specs.declared.linear.SumEvent as event
 use Rattle.pb_sums.specs.declared.phase.Phase as phase
 
 module _ (spaces : Spaces) (want : Part) (limit : ℕ) where

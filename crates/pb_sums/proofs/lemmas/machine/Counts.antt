@@ -4,13 +4,13 @@ use Rattle.std.proofs.lemmas.List.{length-append, take_more}
 use Rattle.pb_text.specs.contract.Automaton.{Go}
 use Rattle.pb_sums.specs.engine.Machine.{Work, act, term, flushed, plan, finished}
 use Rattle.pb_sums.specs.engine.State.{units, in_hand, ready, all_units}
-use Rattle.pb_sums.specs.declared.values.SumEvent as event
-use Rattle.pb_sums.specs.declared.values.Term.{Term}
+use Rattle.pb_sums.specs.declared.linear.SumEvent as event
+use Rattle.pb_sums.specs.declared.linear.Term.{Term}
 use Rattle.pb_sums.specs.declared.phase.Kind.{Kind}
 use Rattle.pb_sums.specs.declared.phase.Phase.{Phase}
 use Rattle.pb_sums.specs.declared.phase.Phase as phase
-use Rattle.pb_sums.specs.declared.grammar.Part.{Part}
-use Rattle.pb_sums.specs.declared.grammar.Spaces.{Spaces}
+use Rattle.pb_sums.specs.declared.sum_kind.Part.{Part}
+use Rattle.pb_sums.specs.declared.sum_kind.Spaces.{Spaces}
 use Rattle.pb_sums.specs.declared.phase.Action.{Action}
 use Rattle.pb_sums.specs.declared.phase.Action.TheVariants.{To, Begin, Add, EndSum, EndLinear, Stop}
 use Rattle.pb_sums.proofs.lemmas.machine.Flags.{IsSane, plan-sane}

@@ -1,11 +1,11 @@
 -- What the kind of a letter says about the letter, and conversely.
 use Rattle.pb_sums.specs.engine.Machine.{Work, Outcome, action, kind, kind_of_plain, kind_of_numeral, symbol}
-use Rattle.pb_sums.specs.declared.grammar.Part.{Part}
+use Rattle.pb_sums.specs.declared.sum_kind.Part.{Part}
 use Rattle.pb_sums.specs.meaning.Sums.{is_space}
 use Rattle.pb_sums.specs.declared.phase.Kind.{Kind}
 use Rattle.pb_sums.specs.declared.phase.Kind.TheVariants.{Space, Digit, Start, Inner, Tilde, Plus, Minus, Greater, Equals, Semicolon, Other}
-use Rattle.pb_sums.specs.declared.grammar.Spaces.{Spaces}
-use Rattle.pb_sums.specs.declared.grammar.Spaces.TheVariants.{White, Blank}
+use Rattle.pb_sums.specs.declared.sum_kind.Spaces.{Spaces}
+use Rattle.pb_sums.specs.declared.sum_kind.Spaces.TheVariants.{White, Blank}
 use Rattle.pb_text.specs.meaning.Classes.{is_digit, is_letter, is_name_byte}
 use Rattle.pb_text.specs.meaning.Languages.{unmarked, digit}
 use Rattle.pb_text.specs.meaning.Spelling.{Letter}

@@ -7,11 +7,11 @@ use Rattle.pb_text.specs.meaning.Spelling.{Letter}
 use Rattle.pb_sums.specs.meaning.Sums.{Spells}
 use Rattle.pb_sums.specs.engine.Machine.{Work, Outcome, act, step, letter_at, is_numeric, is_in_number, is_midway, is_done, flushed, fresh, finished}
 use Rattle.pb_sums.specs.engine.State.{SumState, sums, over, first, last}
-use Rattle.pb_sums.specs.declared.values.SumEvent.{SumEvent}
+use Rattle.pb_sums.specs.declared.linear.SumEvent.{SumEvent}
 use Rattle.pb_sums.specs.declared.phase.Phase.{Phase}
 use Rattle.pb_sums.specs.declared.phase.Phase as phase
-use Rattle.pb_sums.specs.declared.grammar.Spaces.{Spaces}
-use Rattle.pb_sums.specs.declared.grammar.Part.{Part}
+use Rattle.pb_sums.specs.declared.sum_kind.Spaces.{Spaces}
+use Rattle.pb_sums.specs.declared.sum_kind.Part.{Part}
 use Rattle.pb_sums.proofs.lemmas.machine.LetterKinds.{on_letter}
 use Rattle.pb_sums.proofs.lemmas.machine.Flags.{flag, gone, ended}
 use Rattle.pb_sums.proofs.lemmas.machine.Theorems.{exact, alive}

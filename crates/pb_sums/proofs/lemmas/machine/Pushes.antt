@@ -7,12 +7,12 @@ use Rattle.pb_text.specs.declared.machine.Push.{Push}
 use Rattle.pb_text.specs.declared.machine.Push.TheVariants as push
 use Rattle.pb_sums.specs.engine.Machine.{act, plan, kind, letter_at, is_numeric, is_in_number, flushed, to, at_name, adds, is_more}
 use Rattle.pb_sums.specs.engine.State.{SumState, sums, over, asks, IsInOrder}
-use Rattle.pb_sums.specs.declared.values.Term.{Term}
-use Rattle.pb_sums.specs.declared.values.Relation.{Relation}
-use Rattle.pb_sums.specs.declared.values.SumEvent.{SumEvent}
-use Rattle.pb_sums.specs.declared.values.SumEvent as event
-use Rattle.pb_sums.specs.declared.grammar.Spaces.{Spaces}
-use Rattle.pb_sums.specs.declared.grammar.Part.{Part}
+use Rattle.pb_sums.specs.declared.linear.Term.{Term}
+use Rattle.pb_sums.specs.declared.linear.Relation.{Relation}
+use Rattle.pb_sums.specs.declared.linear.SumEvent.{SumEvent}
+use Rattle.pb_sums.specs.declared.linear.SumEvent as event
+use Rattle.pb_sums.specs.declared.sum_kind.Spaces.{Spaces}
+use Rattle.pb_sums.specs.declared.sum_kind.Part.{Part}
 use Rattle.pb_sums.specs.declared.phase.Phase.{Phase}
 use Rattle.pb_sums.specs.declared.phase.Phase as phase
 use Rattle.pb_sums.specs.declared.phase.Kind.{Kind}

@@ -3,15 +3,15 @@ use Rattle.std.proofs.Common.{◌≡◌, ℕ, ◌+◌, ◌≤◌, ◌^◌, ◌-�
 use Rattle.std.proofs.Math.Nat.{min-le_left}
 use Rattle.pb_text.specs.contract.Automaton.{Next, Go, End, Refuse, Reads, Skips, Accepts, Admits, IsState}
 use Rattle.pb_text.specs.meaning.Spelling.{Letter, Item}
-use Rattle.pb_sums.specs.declared.values.Term.{Term}
+use Rattle.pb_sums.specs.declared.linear.Term.{Term}
 use Rattle.pb_sums.specs.engine.Machine.{PhaseFits, Work, Outcome, act, step, plan, kind, letter_at, is_numeric, is_in_number, is_midway, is_done, finished, flushed, is_more}
 use Rattle.pb_sums.specs.engine.State.{SumState, sums, over, first, last, with_work, units, in_hand, ready, all_units, IsInOrder, IsOneText}
-use Rattle.pb_sums.specs.declared.values.SumEvent.{SumEvent}
+use Rattle.pb_sums.specs.declared.linear.SumEvent.{SumEvent}
 use Rattle.pb_sums.specs.declared.phase.Kind.{Kind}
 use Rattle.pb_sums.specs.declared.phase.Phase.{Phase}
 use Rattle.pb_sums.specs.declared.phase.Phase as phase
-use Rattle.pb_sums.specs.declared.grammar.Spaces.{Spaces}
-use Rattle.pb_sums.specs.declared.grammar.Part.{Part}
+use Rattle.pb_sums.specs.declared.sum_kind.Spaces.{Spaces}
+use Rattle.pb_sums.specs.declared.sum_kind.Part.{Part}
 use Rattle.pb_sums.specs.declared.phase.Action.TheVariants.{Stop}
 use Rattle.pb_text.proofs.lemmas.machine.Outcomes.{one_state, one_end, go_or_end, refuse_or_go, refuse_or_end, end_or_go}
 use Rattle.pb_text.proofs.lemmas.machine.OneText.{IsOfOne, is_state as of_one_state, admits as of_one_admits}

@@ -6,13 +6,13 @@ use Rattle.pb_sums.specs.engine.Machine.{is_done, Work, act, term, to, at_name, 
 use Rattle.pb_sums.specs.meaning.Sums.{Spells}
 use Rattle.pb_sums.specs.declared.phase.Kind.TheVariants.{Greater, Semicolon}
 use Rattle.pb_sums.specs.declared.phase.Action.TheVariants.{To, Stop}
-use Rattle.pb_sums.specs.declared.grammar.Part.{Part}
+use Rattle.pb_sums.specs.declared.sum_kind.Part.{Part}
 use Rattle.pb_sums.specs.declared.phase.Phase.{Phase}
-use Rattle.pb_sums.specs.declared.grammar.Spaces.{Spaces}
-use Rattle.pb_sums.specs.declared.values.Relation.{Relation}
-use Rattle.pb_sums.specs.declared.values.Relation.TheVariants.{AtLeast}
-use Rattle.pb_sums.specs.declared.values.SumEvent.{SumEvent}
-use Rattle.pb_sums.specs.declared.values.Term.{Term}
+use Rattle.pb_sums.specs.declared.sum_kind.Spaces.{Spaces}
+use Rattle.pb_sums.specs.declared.linear.Relation.{Relation}
+use Rattle.pb_sums.specs.declared.linear.Relation.TheVariants.{AtLeast}
+use Rattle.pb_sums.specs.declared.linear.SumEvent.{SumEvent}
+use Rattle.pb_sums.specs.declared.linear.Term.{Term}
 use Rattle.pb_text.proofs.lemmas.machine.Runs.{run, run-append}
 use Rattle.pb_text.specs.contract.Automaton.{Next, Go, End, Refuse}
 use Rattle.pb_text.specs.meaning.Languages.{unmarked, digit, Language}
@@ -21,8 +21,8 @@ use Rattle.pb_text.specs.meaning.Spelling.{Letter}
 use Rattle.std.proofs.Common.{◌≡◌, ℕ, Bool, true, false, cond, List, [], ◌∷◌, ◌++◌, refl, sym, ap, arith, ◌∙◌, ◌↔◌}
 use Rattle.std.proofs.lemmas.Bool.{le-leb}
 use Rattle.std.specs.Prelude.{ℤ, Option, Some, None}
-use Rattle.pb_sums.specs.declared.grammar.Part as part
-use Rattle.pb_sums.specs.declared.values.SumEvent as event
+use Rattle.pb_sums.specs.declared.sum_kind.Part as part
+use Rattle.pb_sums.specs.declared.linear.SumEvent as event
 use Rattle.pb_sums.specs.declared.phase.Phase as phase
 
 end-same : {S V : Type 0} (v w : V) (s u : S) → ◌≡◌ {A = Next S V} (End v s) (End w u) → v ≡ w

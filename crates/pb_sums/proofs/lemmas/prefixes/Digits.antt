@@ -10,10 +10,10 @@ use Rattle.pb_text.specs.contract.Digits.{value_from}
 use Rattle.pb_sums.specs.engine.Machine.{plan, digits, kind, letter_at, flushed, is_numeric}
 use Rattle.pb_sums.specs.engine.Prefix.{IsSign, HasSign, begins_number, role, sign_read}
 use Rattle.pb_sums.specs.engine.State.{SumState, sums}
-use Rattle.pb_sums.specs.declared.values.Relation.{Relation}
-use Rattle.pb_sums.specs.declared.values.Term.{Term}
-use Rattle.pb_sums.specs.declared.grammar.Spaces.{Spaces}
-use Rattle.pb_sums.specs.declared.grammar.Part.{Part}
+use Rattle.pb_sums.specs.declared.linear.Relation.{Relation}
+use Rattle.pb_sums.specs.declared.linear.Term.{Term}
+use Rattle.pb_sums.specs.declared.sum_kind.Spaces.{Spaces}
+use Rattle.pb_sums.specs.declared.sum_kind.Part.{Part}
 use Rattle.pb_sums.specs.declared.phase.Kind.{Kind}
 use Rattle.pb_sums.specs.declared.phase.Kind.TheVariants.{Digit, Plus, Minus}
 use Rattle.pb_sums.specs.declared.phase.Action.TheVariants.{To}

@@ -7,9 +7,9 @@ use Rattle.pb_text.specs.meaning.Languages.{Each, unmarked}
 use Rattle.pb_sums.specs.engine.Machine.{action, kind, is_more}
 use Rattle.pb_sums.specs.engine.Prefix.{after_name}
 use Rattle.pb_sums.specs.engine.State.{SumState, sums, over}
-use Rattle.pb_sums.specs.declared.values.Term.{Term}
-use Rattle.pb_sums.specs.declared.grammar.Spaces.{Spaces}
-use Rattle.pb_sums.specs.declared.grammar.Part.{Part}
+use Rattle.pb_sums.specs.declared.linear.Term.{Term}
+use Rattle.pb_sums.specs.declared.sum_kind.Spaces.{Spaces}
+use Rattle.pb_sums.specs.declared.sum_kind.Part.{Part}
 use Rattle.pb_sums.specs.declared.phase.Kind.{Kind}
 use Rattle.pb_sums.specs.declared.phase.Kind.TheVariants.{Start, Inner}
 use Rattle.pb_sums.specs.declared.phase.Phase.{Phase}

@@ -9,11 +9,11 @@ use Rattle.pb_text.proofs.lemmas.text.Languages.{bytes-append, bytes-plain, byte
 use Rattle.pb_text.proofs.lemmas.numbers.Numbers.{decimal-digits}
 use Rattle.pb_sums.specs.meaning.Sums.{literal_bytes, Spaces0, Spaces1, SpellsTerm, SpellsFurther, SpellsSum, Head, Operator, SpellsLinear}
 use Rattle.pb_sums.specs.contract.Canonical.{space, degree_text, weight_text, literal_text, term_text, further_text, sum_text, head_text, operator_text, linear_text, IsTerm, AreTerms, IsLinear, weight_bytes, term_bytes, further_bytes, sum_bytes, head_bytes, operator_bytes, linear_bytes}
-use Rattle.pb_sums.specs.declared.values.Term.{Term}
-use Rattle.pb_sums.specs.declared.values.Relation.{Relation}
-use Rattle.pb_sums.specs.declared.values.Relation.TheVariants.{AtLeast, Equal}
-use Rattle.pb_sums.specs.declared.values.Linear.{Linear}
-use Rattle.pb_sums.specs.declared.grammar.Spaces.{Spaces}
+use Rattle.pb_sums.specs.declared.linear.Term.{Term}
+use Rattle.pb_sums.specs.declared.linear.Relation.{Relation}
+use Rattle.pb_sums.specs.declared.linear.Relation.TheVariants.{AtLeast, Equal}
+use Rattle.pb_sums.specs.declared.linear.Linear.{Linear}
+use Rattle.pb_sums.specs.declared.sum_kind.Spaces.{Spaces}
 
 module _ (limit : ℕ) (small : limit < 10 ^ 64) where
   weight : (z : ℤ) → nat_abs z ≤ limit → Number limit z (weight_text z)

@@ -3,7 +3,7 @@ use Rattle.std.proofs.Common.{◌≡◌, ℕ, zero, suc, ◌+◌, ◌<◌, Bool,
 use Rattle.std.specs.Prelude.{IsTrue}
 use Rattle.std.proofs.lemmas.List.{take_more}
 use Rattle.pb_sums.specs.contract.Canonical.{IsTerm, AreTerms}
-use Rattle.pb_sums.specs.declared.values.Term.{Term}
+use Rattle.pb_sums.specs.declared.linear.Term.{Term}
 
 terms-append : (limit : ℕ) (xs : List Term) (x : Term) → AreTerms limit xs → IsTerm limit x → AreTerms limit (xs ++ x ∷ [])
 terms-append limit [] x e f = (f, tt)

@@ -6,12 +6,12 @@ use Rattle.pb_text.specs.meaning.Spelling.{Letter}
 use Rattle.pb_text.proofs.lemmas.text.Languages.{each_side}
 use Rattle.pb_text.proofs.lemmas.numbers.Numbers.{number-within}
 use Rattle.pb_sums.specs.meaning.Sums.{Spaces0, Spaces1, SpellsLiteral, SpellsTerm, SpellsFurther, SpellsSum, Head, Operator, SpellsLinear, Spells}
-use Rattle.pb_sums.specs.declared.values.Term.{Term}
-use Rattle.pb_sums.specs.declared.values.Linear.{Linear}
-use Rattle.pb_sums.specs.declared.values.SumEvent.{SumEvent}
-use Rattle.pb_sums.specs.declared.values.SumEvent as event
-use Rattle.pb_sums.specs.declared.grammar.Spaces.{Spaces}
-use Rattle.pb_sums.specs.declared.grammar.Part.{Part}
+use Rattle.pb_sums.specs.declared.linear.Term.{Term}
+use Rattle.pb_sums.specs.declared.linear.Linear.{Linear}
+use Rattle.pb_sums.specs.declared.linear.SumEvent.{SumEvent}
+use Rattle.pb_sums.specs.declared.linear.SumEvent as event
+use Rattle.pb_sums.specs.declared.sum_kind.Spaces.{Spaces}
+use Rattle.pb_sums.specs.declared.sum_kind.Part.{Part}
 
 module _ (spaces : Spaces) (small large : ℕ) (h : small ≤ large) where
   abbrev Grows : (ℕ → Language) → Type 0

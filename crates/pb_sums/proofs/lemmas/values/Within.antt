@@ -5,9 +5,9 @@ use Rattle.pb_text.specs.meaning.Spelling.{Letter}
 use Rattle.pb_text.specs.meaning.Numbers.{Number, signed}
 use Rattle.pb_sums.specs.meaning.Sums.{SpellsTerm, SpellsFurther, SpellsSum, Head, SpellsLinear}
 use Rattle.pb_sums.specs.contract.Canonical.{IsTerm, AreTerms, IsLinear}
-use Rattle.pb_sums.specs.declared.values.Term.{Term}
-use Rattle.pb_sums.specs.declared.values.Linear.{Linear}
-use Rattle.pb_sums.specs.declared.grammar.Spaces.{Spaces}
+use Rattle.pb_sums.specs.declared.linear.Term.{Term}
+use Rattle.pb_sums.specs.declared.linear.Linear.{Linear}
+use Rattle.pb_sums.specs.declared.sum_kind.Spaces.{Spaces}
 
 signed-within : (limit : ℕ) (negative : Bool) (n : ℕ) → n ≤ limit → nat_abs (signed negative n) ≤ limit
 signed-within limit false n h = h

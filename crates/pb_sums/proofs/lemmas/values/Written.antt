@@ -3,7 +3,7 @@ use Rattle.std.proofs.Common.{◌≡◌, ℕ, suc, ◌+◌, ◌-◌, ◌<◌, �
 use Rattle.std.proofs.lemmas.List.{append-nil, take_more, drop_all}
 use Rattle.std.proofs.Math.Seq.{drop-cons}
 use Rattle.pb_sums.specs.contract.Canonical.{term_bytes, further_bytes, sum_bytes, head_bytes}
-use Rattle.pb_sums.specs.declared.values.Term.{Term}
+use Rattle.pb_sums.specs.declared.linear.Term.{Term}
 
 pub further-append : (xs ys : List Term) → further_bytes (xs ++ ys) ≡ further_bytes xs ++ further_bytes ys
 unfolding further_bytes

@@ -1,6 +1,0 @@
-use Rattle.std.proofs.Common.{◌≡◌, ◌-◌, ◌^◌, min, take}
-use Rattle.pb_proof.specs.engine.Line.Literals.{units}
-use Rattle.pb_proof.proofs.line.literals.count_units.Given as goal
-
-abbrev pub invariant-loop-literal : goal.invariant-loop-literal
-invariant-loop-literal l = l.count ≡ min (units (take l.literal-index l.literals)) (2 ^ 64 - 1)
