@@ -2,14 +2,14 @@
 
 ghost use Rattle.std.specs.Prelude.{◌≡◌, ◌<◌, ◌≤◌, true, false, IfSome, None, get_or, length, take};
 ghost use Rattle.pb_text.specs.meaning.Limits.{largest, top_of};
-ghost use Rattle.pb_opb.specs.engine.State.{phase_owing, owed_after, statement_of};
+ghost use Rattle.pb_opb.specs.engine.State.{phase_owing, remaining_after, statement_of};
 
 mod end;
 
 use crate::event::OpbEvent;
 use crate::line::line_prefix;
 use crate::phase::{Action, Field, Phase};
-use crate::transition::{is_done, is_within, plan};
+use crate::transition::{is_done, is_within, transition};
 use pb_sums::{Part, Spaces, SumEvent, SumMachine};
 use pb_text::bytes::is_digit;
 use pb_text::{Bytes, Limits, Machine, Push};
@@ -24,7 +24,7 @@ pub struct OpbMachine {
     alloc: Global,
     limits: Limits,
     variables: u64,
-    owed: u64,
+    remaining: u64,
     phase: Phase,
     text: Bytes,
     sums: SumMachine,
@@ -46,7 +46,7 @@ impl Model for OpbMachine {
 impl OpbMachine {
     ghost use Rattle.std.specs.Prelude.{ℕ, List, Bool, Option, ◌↔◌};
     ghost use Rattle.pb_text.specs.meaning.Asking.{AsksOnly};
-    ghost use Rattle.pb_text.specs.contract.Automaton.{Accepts, MayAsk};
+    ghost use Rattle.pb_text.specs.contract.Automaton.{AcceptsItems, MayAsk};
     ghost use Rattle.pb_text.specs.meaning.Reading.{Reads};
     ghost use Rattle.pb_text.specs.declared.Place.{Place};
     ghost use Rattle.pb_text.specs.declared.Spanned.{Spanned};
@@ -58,10 +58,10 @@ impl OpbMachine {
 
     /// A machine before an instance, which accepts exactly the instances under the limits. It allocates nothing.
     pub fn new(alloc: Global, limits: Limits) -> Self
-        ensures accepts { (items : List (Item OpbEvent)) → Accepts opb result items ↔ IsInstance (largest limits) (top_of limits) items }
+        ensures accepts { (items : List (Item OpbEvent)) → AcceptsItems opb result items ↔ IsInstance (largest limits) (top_of limits) items }
         // Whatever `Reads` says of this machine, it says of the instances.
         ensures reads { (longest : ℕ) (input used : List ℕ) (spans : List (Spanned OpbEvent)) (place : Place) (done : Bool) (stop : Option Stop)
-            → Reads (Accepts opb result) longest input used spans place done stop
+            → Reads (AcceptsItems opb result) longest input used spans place done stop
             → Reads (IsInstance (largest limits) (top_of limits)) longest input used spans place done stop }
         // It may allocate only at a byte of a tail or a comment, at one of a name, and at one that ends a literal.
         ensures asks { (used : List ℕ) (b : ℕ) → MayAsk opb result used b → AsksOnly (IsInstance (largest limits) (top_of limits)) (Asks (top_of limits)) used b }
@@ -72,7 +72,7 @@ impl OpbMachine {
             alloc,
             limits,
             variables: 0,
-            owed: 0,
+            remaining: 0,
             phase: Phase::Start,
             text: Bytes::new(alloc),
             sums: SumMachine::new(alloc, Spaces::White, Part::Linear, limits),
@@ -83,13 +83,13 @@ impl OpbMachine {
 impl OpbMachine {
     ghost use Rattle.pb_text.specs.contract.Automaton.{Pushes};
     ghost use Rattle.pb_opb.specs.engine.State.{opb};
-    ghost use Rattle.pb_opb.specs.engine.Machine.{plan};
+    ghost use Rattle.pb_opb.specs.engine.Machine.{transition};
 
     /// Takes a byte.
     fn take(&mut self, byte: u8) -> Push<OpbEvent>
         ensures { Pushes opb self.old byte result self.new }
     {
-        match plan(self.limits.top(), self.phase, byte) {
+        match transition(self.limits.top(), self.phase, byte) {
             Action::To(phase) => {
                 self.phase = phase;
                 Push::Go
@@ -103,7 +103,7 @@ impl OpbMachine {
                 if self.text.push(first).is_err() {
                     return Push::Memory;
                 }
-                self.owed = constraints;
+                self.remaining = constraints;
                 self.phase = Phase::Tail;
                 Push::Go
             }
@@ -114,7 +114,7 @@ impl OpbMachine {
                 Push::Go
             }
             Action::EndHeader(constraints) => {
-                self.owed = constraints;
+                self.remaining = constraints;
                 self.phase = phase_owing(true, constraints);
                 Push::Event(OpbEvent::Header {
                     variables: self.variables,
@@ -123,15 +123,15 @@ impl OpbMachine {
                 })
             }
             Action::EndTail => {
-                self.phase = phase_owing(true, self.owed);
+                self.phase = phase_owing(true, self.remaining);
                 Push::Event(OpbEvent::Header {
                     variables: self.variables,
-                    constraints: self.owed,
+                    constraints: self.remaining,
                     tail: mem::replace(&mut self.text, Bytes::new(self.alloc)),
                 })
             }
-            Action::EndComment(may) => {
-                self.phase = phase_owing(may, self.owed);
+            Action::EndComment(objective_allowed) => {
+                self.phase = phase_owing(objective_allowed, self.remaining);
                 Push::Event(OpbEvent::Comment(mem::replace(&mut self.text, Bytes::new(self.alloc))))
             }
             Action::BeginSum => {
@@ -152,7 +152,7 @@ impl OpbMachine {
 
     /// Gives a byte to the machine of sums.
     fn give(&mut self, phase: Phase, byte: u8) -> Push<OpbEvent>
-        requires { plan self.old.top self.old.phase byte ≡ Action.Give phase }
+        requires { transition self.old.top self.old.phase byte ≡ Action.Give phase }
         ensures { Pushes opb self.old byte result self.new }
     {
         match self.sums.push(byte) {
@@ -161,8 +161,8 @@ impl OpbMachine {
                 Push::Go
             }
             Push::Event(event) => {
-                self.owed = owed_after(phase, self.owed);
-                self.phase = phase_owing(false, self.owed);
+                self.remaining = remaining_after(phase, self.remaining);
+                self.phase = phase_owing(false, self.remaining);
                 self.sums.restart(Part::Linear);
                 Push::Event(statement_of(event))
             }
@@ -174,21 +174,21 @@ impl OpbMachine {
 }
 
 impl OpbMachine {
-    ghost use Rattle.pb_text.specs.contract.Automaton.{Goes, IsState, Runs};
+    ghost use Rattle.pb_text.specs.contract.Automaton.{Continues, IsState, Runs};
     ghost use Rattle.pb_opb.specs.engine.State.{opb, keeps_line};
 
     /// Takes a byte that is not stored and ends no statement, as far as this is cheap to decide. Returns whether it
     /// took the byte.
     fn advance(&mut self, byte: u8) -> bool
-        ensures { Goes opb self.old byte result self.new }
+        ensures { Continues opb self.old byte result self.new }
     {
-        match plan(self.limits.top(), self.phase, byte) {
+        match transition(self.limits.top(), self.phase, byte) {
             Action::To(next) => {
                 self.phase = next;
                 true
             }
             Action::Give(next) => {
-                if !self.sums.goes(byte) {
+                if !self.sums.try_continue(byte) {
                     return false;
                 }
                 self.phase = next;
@@ -219,23 +219,23 @@ impl OpbMachine {
 }
 
 /// The phase with this many constraints to come.
-fn phase_owing(may: bool, owed: u64) -> Phase
-    ensures { result ≡ phase_owing may owed }
+fn phase_owing(objective_allowed: bool, remaining: u64) -> Phase
+    ensures { result ≡ phase_owing objective_allowed remaining }
 {
-    if owed == 0 {
+    if remaining == 0 {
         Phase::Done
     } else {
-        Phase::Between(may)
+        Phase::Between(objective_allowed)
     }
 }
 
 /// How many constraints are to come after an objective, and after a constraint.
-fn owed_after(phase: Phase, owed: u64) -> u64
-    ensures { result ≡ owed_after phase owed }
+fn remaining_after(phase: Phase, remaining: u64) -> u64
+    ensures { result ≡ remaining_after phase remaining }
 {
     match phase {
-        Phase::Objective => owed,
-        _ => owed.saturating_sub(1),
+        Phase::Objective => remaining,
+        _ => remaining.saturating_sub(1),
     }
 }
 
@@ -256,22 +256,22 @@ impl Machine for OpbMachine {
 
     ghost automaton = { opb };
 
-    fn goes(&mut self, byte: u8) -> bool {
+    fn try_continue(&mut self, byte: u8) -> bool {
         let went = self.advance(byte);
         let _ = self.is_done();
         went
     }
 
     #[inline(always)]
-    fn closes(&mut self, byte: u8) -> Option<OpbEvent> {
+    fn try_finish(&mut self, byte: u8) -> Option<OpbEvent> {
         let event = self.end(byte);
         let _ = self.is_done();
         event
     }
 
-    fn run(&mut self, piece: &[u8]) -> usize {
+    fn take_run(&mut self, piece: &[u8]) -> usize {
         let taken = match self.phase {
-            Phase::Constraint | Phase::Objective => self.sums.run(piece),
+            Phase::Constraint | Phase::Objective => self.sums.take_run(piece),
             Phase::Tail | Phase::Comment(_) => self.keep_line(piece).unwrap_or(0),
             _ => 0,
         };
@@ -293,7 +293,7 @@ impl Machine for OpbMachine {
         if is_within(self.phase) {
             return false;
         }
-        match plan(self.limits.top(), self.phase, byte) {
+        match transition(self.limits.top(), self.phase, byte) {
             Action::Stop | Action::Keep(_) => false,
             Action::To(next) => is_within(next),
             Action::Give(_) => self.sums.starts(byte),

@@ -1,7 +1,7 @@
 //! What a machine does with a byte, by its phase.
 
 ghost use Rattle.std.specs.Prelude.{◌≡◌, ℕ, ◌+◌, ◌*◌, ◌-◌, ◌<◌, ◌≤◌, ◌^◌, length};
-ghost use Rattle.pb_opb.specs.engine.Machine.{word_of, spell, count, after_count, plan};
+ghost use Rattle.pb_opb.specs.engine.Machine.{word_of, spell, count, after_count, transition};
 ghost use Rattle.pb_opb.specs.engine.State.{is_within, is_done};
 ghost use Rattle.pb_opb.specs.engine.Order.{PhaseFits, ActionFits};
 
@@ -34,7 +34,7 @@ fn spell(word: &[u8], read: usize, byte: u8, more: Phase, whole: Phase) -> Actio
 fn count(top: u64, field: Field, value: u64, byte: u8) -> Action
     requires top { top < 2 ^ 63 }
     requires value { value ≤ top }
-    ensures plan { result ≡ count top field value byte }
+    ensures transition { result ≡ count top field value byte }
     ensures fits { ActionFits top result }
 {
     if !is_digit(byte) {
@@ -49,7 +49,7 @@ fn count(top: u64, field: Field, value: u64, byte: u8) -> Action
 /// The action for a byte after the digits of a count.
 fn after_count(top: u64, field: Field, value: u64, byte: u8) -> Action
     requires value { value ≤ top }
-    ensures plan { result ≡ after_count field value byte }
+    ensures transition { result ≡ after_count field value byte }
     ensures fits { ActionFits top result }
 {
     match field {
@@ -62,10 +62,10 @@ fn after_count(top: u64, field: Field, value: u64, byte: u8) -> Action
 
 /// What a machine does with a byte.
 #[inline(always)]
-pub fn plan(top: u64, phase: Phase, byte: u8) -> Action
+pub fn transition(top: u64, phase: Phase, byte: u8) -> Action
     requires top { top < 2 ^ 63 }
     requires phase { PhaseFits top phase }
-    ensures plan { result ≡ plan top phase byte }
+    ensures transition { result ≡ transition top phase byte }
     ensures fits { ActionFits top result }
 {
     match phase {
@@ -85,10 +85,14 @@ pub fn plan(top: u64, phase: Phase, byte: u8) -> Action
         Phase::Tail if byte == b'\n' => Action::EndTail,
         Phase::Tail => Action::Keep(byte),
         Phase::Between(_) if is_white(byte) => Action::To(phase),
-        Phase::Between(may) if byte == b'*' => Action::To(Phase::Comment(may)),
-        Phase::Between(may) if byte == b'm' && may => Action::To(Phase::Min(1)),
+        Phase::Between(objective_allowed) if byte == b'*' => Action::To(Phase::Comment(
+            objective_allowed,
+        )),
+        Phase::Between(objective_allowed) if byte == b'm' && objective_allowed => Action::To(
+            Phase::Min(1),
+        ),
         Phase::Between(_) => Action::Give(Phase::Constraint),
-        Phase::Comment(may) if byte == b'\n' => Action::EndComment(may),
+        Phase::Comment(objective_allowed) if byte == b'\n' => Action::EndComment(objective_allowed),
         Phase::Comment(_) => Action::Keep(byte),
         Phase::Min(read) => spell_min(read, byte),
         Phase::AfterMin if is_white(byte) => Action::To(phase),
@@ -101,7 +105,7 @@ pub fn plan(top: u64, phase: Phase, byte: u8) -> Action
 /// The action for the next byte of `min:`, of which some bytes were read.
 fn spell_min(read: usize, byte: u8) -> Action
     requires { (0 < read) × (read < 4) }
-    ensures plan { result ≡ plan 0 (Phase.Min read) byte }
+    ensures transition { result ≡ transition 0 (Phase.Min read) byte }
     ensures fits { (top : ℕ) → ActionFits top result }
 {
     let next = match read {

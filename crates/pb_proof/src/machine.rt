@@ -11,7 +11,7 @@ mod transition;
 use crate::line::LineMachine;
 use crate::line::push::line_first;
 use crate::machine::phase::{Action, LineKind, Phase, Stage};
-use crate::machine::transition::{is_done, is_within, next_stage, plan, words_prefix};
+use crate::machine::transition::{is_done, is_within, next_stage, transition, words_prefix};
 use crate::statement::Statement;
 use pb_text::{Limits, Machine, Push};
 use std::alloc::Global;
@@ -54,7 +54,7 @@ fn start_line(line: &mut Option<LineMachine>, alloc: Global, limits: Limits, kin
 impl ProofMachine {
     ghost use Rattle.std.specs.Prelude.{ℕ, List, Bool, ◌↔◌};
     ghost use Rattle.pb_text.specs.meaning.Asking.{AsksOnly};
-    ghost use Rattle.pb_text.specs.contract.Automaton.{Accepts, MayAsk};
+    ghost use Rattle.pb_text.specs.contract.Automaton.{AcceptsItems, MayAsk};
     ghost use Rattle.pb_text.specs.meaning.Reading.{Reads};
     ghost use Rattle.pb_text.specs.declared.Place.{Place};
     ghost use Rattle.pb_text.specs.declared.Spanned.{Spanned};
@@ -67,10 +67,10 @@ impl ProofMachine {
     /// A machine at the start of a proof. It accepts exactly the proofs under the limits.
     /// Creating it does not allocate.
     pub fn new(alloc: Global, limits: Limits) -> Self
-        ensures accepts { (items : List (Item Statement)) → Accepts proofs result items ↔ IsProof (largest limits) (top_of limits) items }
+        ensures accepts { (items : List (Item Statement)) → AcceptsItems proofs result items ↔ IsProof (largest limits) (top_of limits) items }
         // What is read by this machine is read of the format of proofs.
         ensures reads { (longest : ℕ) (input used : List ℕ) (spans : List (Spanned Statement)) (place : Place) (done : Bool) (stop : Option Stop)
-            → Reads (Accepts proofs result) longest input used spans place done stop
+            → Reads (AcceptsItems proofs result) longest input used spans place done stop
             → Reads (IsProof (largest limits) (top_of limits)) longest input used spans place done stop }
         // It may allocate only at a byte of a name or `pol` operator, or at one that ends a literal, id or `pol` word.
         ensures asks { (used : List ℕ) (b : ℕ) → MayAsk proofs result used b → AsksOnly (IsProof (largest limits) (top_of limits)) Asks used b }
@@ -91,13 +91,13 @@ impl ProofMachine {
 impl ProofMachine {
     ghost use Rattle.pb_text.specs.contract.Automaton.{Pushes};
     ghost use Rattle.pb_proof.specs.engine.Machine.State.{proofs};
-    ghost use Rattle.pb_proof.specs.engine.Machine.Transition.{plan};
+    ghost use Rattle.pb_proof.specs.engine.Machine.Transition.{transition};
 
     /// Takes a byte.
     fn take(&mut self, byte: u8) -> Push<Statement>
         ensures { Pushes proofs self.old byte result self.new }
     {
-        match plan(self.phase, byte) {
+        match transition(self.phase, byte) {
             Action::To(phase) => {
                 self.phase = phase;
                 Push::Go
@@ -126,7 +126,7 @@ impl ProofMachine {
 
     /// Gives a byte to the line machine.
     fn give(&mut self, kind: LineKind, byte: u8) -> Push<Statement>
-        requires { plan self.old.phase byte ≡ Action.Give kind }
+        requires { transition self.old.phase byte ≡ Action.Give kind }
         ensures { Pushes proofs self.old byte result self.new }
     {
         let Some(line) = &mut self.line else {
@@ -158,7 +158,7 @@ impl ProofMachine {
         ensures state { IsState proofs self.new }
     {
         let taken = match &mut self.line {
-            Some(line) => line.run(text),
+            Some(line) => line.take_run(text),
             None => 0,
         };
         let _ = self.is_done();
@@ -199,8 +199,8 @@ impl Machine for ProofMachine {
 
     ghost automaton = { proofs };
 
-    fn goes(&mut self, byte: u8) -> bool {
-        let gone = match plan(self.phase, byte) {
+    fn try_continue(&mut self, byte: u8) -> bool {
+        let gone = match transition(self.phase, byte) {
             Action::To(phase) => {
                 self.phase = phase;
                 true
@@ -217,7 +217,7 @@ impl Machine for ProofMachine {
     }
 
     #[inline(always)]
-    fn closes(&mut self, byte: u8) -> Option<Statement> {
+    fn try_finish(&mut self, byte: u8) -> Option<Statement> {
         self.end(byte)
     }
 
@@ -226,11 +226,11 @@ impl Machine for ProofMachine {
         if length > 0 {
             return length;
         }
-        if self.goes(piece[0]) { 1 } else { 0 }
+        if self.try_continue(piece[0]) { 1 } else { 0 }
     }
 
-    /// Within a line it stops where the line machine stops, as `goes` gives that machine nothing.
-    fn run(&mut self, piece: &[u8]) -> usize {
+    /// Within a line it stops where the line machine stops, as `try_continue` gives that machine nothing.
+    fn take_run(&mut self, piece: &[u8]) -> usize {
         let _ = self.is_done();
         let mut taken: usize = 0;
         while taken < piece.len() {
@@ -260,7 +260,7 @@ impl Machine for ProofMachine {
         if is_within(self.phase) {
             return false;
         }
-        match plan(self.phase, byte) {
+        match transition(self.phase, byte) {
             Action::Stop | Action::Give(_) => false,
             Action::To(next) => is_within(next),
             _ => true,

@@ -1,7 +1,7 @@
 //! Reads a whole proof.
 
 ghost use Rattle.std.specs.Prelude.{false, ◌≡◌, ◌<◌, ◌↔◌, ℕ, List, None, IfErr, IfOk};
-ghost use Rattle.pb_text.specs.contract.Automaton.{Accepts, MayAsk};
+ghost use Rattle.pb_text.specs.contract.Automaton.{AcceptsItems, MayAsk};
 ghost use Rattle.pb_text.specs.meaning.Blank.{IsInReach};
 ghost use Rattle.pb_text.specs.meaning.Limits.{largest, top_of};
 ghost use Rattle.pb_text.specs.meaning.Pulling.{OfGiven, faults_after};
@@ -76,7 +76,7 @@ fn read_by<S: Source, M: Machine<Event = Statement> + Drop>(
     longest: u64,
     limits: Limits,
 ) -> Result<Spanned<Proof>, Stop>
-    requires accepts { (items : List (Item Statement)) → Accepts M.automaton machine items ↔ IsProof (largest limits) (top_of limits) items }
+    requires accepts { (items : List (Item Statement)) → AcceptsItems M.automaton machine items ↔ IsProof (largest limits) (top_of limits) items }
     requires asks { (used : List ℕ) (b : ℕ) → MayAsk M.automaton machine used b → AsksInProof (largest limits) (top_of limits) used b }
     requires between { M.automaton.begun machine ≡ false }
     requires some { 0 < longest }

@@ -16,7 +16,7 @@ ghost use Rattle.pb_replay.specs.declared.fault.Fault.{Fault as AFault};
 use crate::fault::Fault;
 use crate::state::Running;
 use crate::state::load::open;
-use crate::step::take;
+use crate::step::apply;
 use crate::verdict::Verdict;
 use pb_normal::{HashKeys, Normal};
 use pb_opb::Instance;
@@ -110,7 +110,7 @@ impl Replay {
         if let Some(fault) = self.fault {
             return Err(fault);
         }
-        match take(&mut self.running, statement) {
+        match apply(&mut self.running, statement) {
             Ok(()) => Ok(()),
             Err(fault) => {
                 self.fault = Some(fault);

@@ -140,7 +140,7 @@ fn carry_out(running: &mut Running, statement: &Statement) -> Result<(), Fault>
 }
 
 /// Applies a statement.
-pub(crate) fn take(running: &mut Running, statement: &Statement) -> Result<(), Fault>
+pub(crate) fn apply(running: &mut Running, statement: &Statement) -> Result<(), Fault>
     requires value { IsStatementValue (largest running.old.limits) (top_of running.old.limits) statement.now }
     requires ready { IsReady running.old }
     ensures comes { Comes running.old statement.now result running.new }

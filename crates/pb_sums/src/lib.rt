@@ -13,12 +13,14 @@ mod short;
 mod sum_kind;
 mod term_prefix;
 mod transition;
+mod units;
 mod validity;
 mod write;
 
 pub use linear::{Linear, Literal, Relation, SumEvent, Term};
-pub use machine::{SumMachine, count_units};
+pub use machine::SumMachine;
 pub use name::Name;
 pub use sum_kind::{Part, Spaces};
+pub use units::count_units;
 pub use validity::{is_name, linear_is_value, sum_is_value};
 pub use write::{write_count, write_linear, write_literal, write_number, write_place, write_sum};

@@ -1,12 +1,11 @@
 //! The machine of sums.
 
-ghost use Rattle.std.specs.Prelude.{true, false, ◌≡◌, ℕ, ◌+◌, ◌-◌, ◌≤◌, ◌^◌, ◌↔◌, ◌&&◌, if◌then◌else◌, Bool, List, [], ◌∷◌, IfOk, OnOk, OnErr, min};
-ghost use Rattle.pb_text.specs.contract.Automaton.{Accepts, IsState};
+ghost use Rattle.std.specs.Prelude.{true, false, ◌≡◌, ℕ, ◌+◌, ◌-◌, ◌≤◌, ◌^◌, ◌↔◌, ◌&&◌, if◌then◌else◌, Bool, List, [], ◌∷◌, IfOk, OnOk, OnErr};
+ghost use Rattle.pb_text.specs.contract.Automaton.{AcceptsItems, IsState};
 ghost use Rattle.pb_text.specs.meaning.Limits.{largest};
 ghost use Rattle.pb_text.specs.meaning.Spelling.{Item};
 ghost use Rattle.pb_text.specs.meaning.Classes.{is_digit};
 ghost use Rattle.pb_sums.specs.engine.Machine.{flushed, is_more, is_in_number};
-ghost use Rattle.pb_sums.specs.engine.State.{units};
 
 mod end;
 
@@ -19,8 +18,9 @@ use crate::sum_kind::{Part, Spaces};
 use crate::term_prefix::{begins_term, literal_prefix, spaced_number_prefix};
 use crate::transition::{
     after_name, after_number, after_space, begins_number, begins_relation, in_hand, is_done,
-    is_in_number, is_more, is_numeric, plan, role, sign_read,
+    is_in_number, is_more, is_numeric, role, sign_read, transition,
 };
+use crate::units::count_units;
 use pb_text::bytes::{is_digit, is_letter, is_name_byte};
 use pb_text::digits::number_prefix;
 use pb_text::{Limits, Machine, Push, Sequence};
@@ -112,18 +112,6 @@ fn refusal(phase: Phase, byte: u8) -> Push<SumEvent>
     }
 }
 
-/// The number of literals plus the number of bytes of their names. The count saturates.
-pub fn count_units(terms: &[Term]) -> usize
-    ensures { result ≡ min (units terms.now) (2 ^ 64 - 1) }
-{
-    let mut count: usize = 0;
-    for term in terms {
-        let more = term.literal.name.as_bytes().len().saturating_add(1);
-        count = count.saturating_add(more);
-    }
-    count
-}
-
 impl SumMachine {
     ghost use Rattle.pb_text.specs.meaning.Asking.{AsksOnly};
     ghost use Rattle.pb_text.specs.contract.Automaton.{MayAsk};
@@ -133,7 +121,7 @@ impl SumMachine {
     /// A machine before its text. It does not allocate.
     pub fn new(alloc: Global, spaces: Spaces, part: Part, limits: Limits) -> Self
         ensures begins { result ≡ first spaces part (largest limits) }
-        ensures format { (items : List (Item SumEvent)) → Accepts sums result items ↔ IsOneText spaces (largest limits) part items }
+        ensures format { (items : List (Item SumEvent)) → AcceptsItems sums result items ↔ IsOneText spaces (largest limits) part items }
         // It may allocate only at a byte of a name, and at one that ends a literal.
         ensures asks { (used : List ℕ) (b : ℕ) → MayAsk sums result used b → AsksOnly (IsOneText spaces (largest limits) part) (λ _ text next. AsksLiteral text next) used b }
         ensures between { sums.begun result ≡ false }
@@ -164,7 +152,7 @@ impl SumMachine {
 
 impl SumMachine {
     ghost use Rattle.std.specs.Prelude.{take, length};
-    ghost use Rattle.pb_text.specs.contract.Automaton.{Goes, Runs};
+    ghost use Rattle.pb_text.specs.contract.Automaton.{Continues, Runs};
     ghost use Rattle.pb_sums.specs.engine.Prefix.{LacksNumber, LacksRelation, begins_number, begins_relation, sign_read};
     ghost use Rattle.pb_sums.specs.engine.State.{sums};
 
@@ -344,7 +332,7 @@ impl SumMachine {
     /// Takes a space, in the phases where one is common.
     #[inline(always)]
     fn take_space(&mut self) -> bool
-        ensures goes { Goes sums self.old 32 result self.new }
+        ensures continues { Continues sums self.old 32 result self.new }
         ensures state { IsState sums self.new }
     {
         let _ = self.is_done();
@@ -384,7 +372,7 @@ impl Machine for SumMachine {
     ghost automaton = { sums };
 
     #[inline(always)]
-    fn goes(&mut self, byte: u8) -> bool {
+    fn try_continue(&mut self, byte: u8) -> bool {
         if is_more(self.phase) && is_name_byte(byte) {
             if self.name.push(byte).is_err() {
                 return false;
@@ -392,7 +380,7 @@ impl Machine for SumMachine {
             return true;
         }
         let kind = kind(self.spaces, is_numeric(self.phase), byte);
-        match plan(self.part, self.limit, self.phase, kind) {
+        match transition(self.part, self.limit, self.phase, kind) {
             Action::Begin(phase, first) => {
                 let mut name = Name::new(self.alloc);
                 if name.push(first).is_err() {
@@ -421,7 +409,7 @@ impl Machine for SumMachine {
     }
 
     #[inline(always)]
-    fn closes(&mut self, byte: u8) -> Option<SumEvent> {
+    fn try_finish(&mut self, byte: u8) -> Option<SumEvent> {
         let _ = self.is_done();
         if byte == b';' { self.end() } else { None }
     }
@@ -436,7 +424,7 @@ impl Machine for SumMachine {
 
     fn push(&mut self, byte: u8) -> Push<SumEvent> {
         let kind = kind(self.spaces, is_numeric(self.phase), byte);
-        match plan(self.part, self.limit, self.phase, kind) {
+        match transition(self.part, self.limit, self.phase, kind) {
             Action::Stop => refusal(self.phase, byte),
             Action::Begin(phase, first) => {
                 let mut name = Name::new(self.alloc);
@@ -492,7 +480,7 @@ impl Machine for SumMachine {
         }
         let kind = kind(self.spaces, true, byte);
         !matches!(
-            plan(self.part, self.limit, Phase::Start, kind),
+            transition(self.part, self.limit, Phase::Start, kind),
             Action::Stop
         )
     }

@@ -2,7 +2,7 @@
 
 ghost use Rattle.std.specs.Prelude.{◌≡◌, ℕ, ◌-◌, ◌<◌, ◌≤◌, ◌^◌, Bool, None};
 ghost use Rattle.pb_sums.specs.meaning.Sums.{reads_sums, allows};
-ghost use Rattle.pb_sums.specs.engine.Machine.{digits, number, next_action, plan, KindFits, PhaseFits, ActionFits, is_numeric, is_in_number, is_more, is_done};
+ghost use Rattle.pb_sums.specs.engine.Machine.{digits, number, next_action, transition, KindFits, PhaseFits, ActionFits, is_numeric, is_in_number, is_more, is_done};
 ghost use Rattle.pb_sums.specs.engine.Prefix.{begins_number, begins_relation, role, sign_read, after_name, after_number, after_space};
 ghost use Rattle.pb_sums.specs.engine.State.{in_hand};
 
@@ -169,7 +169,7 @@ fn digits(limit: u128, role: Option<Relation>, negative: bool, magnitude: u128, 
     requires room { limit < 2 ^ 127 }
     requires fits { magnitude ≤ limit }
     requires digit { digit < 10 }
-    ensures plan { result ≡ digits limit role negative magnitude digit }
+    ensures transition { result ≡ digits limit role negative magnitude digit }
     ensures fits { ActionFits limit result }
 {
     match next_digit(limit, magnitude, digit) {
@@ -182,7 +182,7 @@ fn digits(limit: u128, role: Option<Relation>, negative: bool, magnitude: u128, 
 fn number(limit: u128, role: Option<Relation>, kind: Kind) -> Action
     requires room { limit < 2 ^ 127 }
     requires fits { KindFits kind }
-    ensures plan { result ≡ number limit role kind }
+    ensures transition { result ≡ number limit role kind }
     ensures fits { ActionFits limit result }
 {
     match kind {
@@ -195,7 +195,7 @@ fn number(limit: u128, role: Option<Relation>, kind: Kind) -> Action
 
 #[inline(always)]
 fn next_action(part: Part, kind: Kind) -> Action
-    ensures plan { result ≡ next_action part kind }
+    ensures transition { result ≡ next_action part kind }
     ensures fits { (limit : ℕ) → ActionFits limit result }
 {
     match kind {
@@ -210,11 +210,11 @@ fn next_action(part: Part, kind: Kind) -> Action
 
 /// What a machine does with a kind of byte. It does not allocate.
 #[inline(always)]
-pub fn plan(part: Part, limit: u128, phase: Phase, kind: Kind) -> Action
+pub fn transition(part: Part, limit: u128, phase: Phase, kind: Kind) -> Action
     requires room { limit < 2 ^ 127 }
     requires phase { PhaseFits limit phase }
     requires kind { KindFits kind }
-    ensures plan { result ≡ plan part limit phase kind }
+    ensures transition { result ≡ transition part limit phase kind }
     ensures fits { ActionFits limit result }
 {
     match (phase, kind) {

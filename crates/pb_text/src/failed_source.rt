@@ -1,7 +1,7 @@
 //! A source that fails at once.
 
 ghost use Rattle.std.specs.Prelude.{false, ◌≡◌, ◌<◌, ℕ};
-ghost use Rattle.pb_text.specs.contract.Automaton.{Accepts};
+ghost use Rattle.pb_text.specs.contract.Automaton.{AcceptsItems};
 ghost use Rattle.pb_text.specs.contract.NothingRead.{ReadsNothing, first_fault};
 
 use crate::machine::Machine;
@@ -13,7 +13,7 @@ pub fn unread<M: Machine>(machine: &M) -> Stop
     ensures stop { result ≡ first_fault }
     // It is the result of a read of no bytes, if the machine is not done.
     ensures reads { M.automaton.done machine.now ≡ false → (longest : ℕ) → 0 < longest
-        → ReadsNothing (Accepts M.automaton machine.now) longest }
+        → ReadsNothing (AcceptsItems M.automaton machine.now) longest }
 {
     let _ = machine.is_done();
     Stop {

@@ -51,7 +51,7 @@ impl<M: Machine> Feeder<M> {
     ghost use Rattle.pb_text.specs.declared.place.Spanned.{Spanned};
     ghost use Rattle.pb_text.specs.declared.place.Stop.{Stop};
     ghost use Rattle.pb_text.specs.meaning.Blank.{IsInReach};
-    ghost use Rattle.pb_text.specs.contract.Automaton.{Accepts, IsState};
+    ghost use Rattle.pb_text.specs.contract.Automaton.{AcceptsItems, IsState};
     ghost use Rattle.pb_text.specs.contract.Standing.{IsOpen};
     ghost use Rattle.pb_text.specs.meaning.Reading.{Reads, EndsAs};
     ghost use Rattle.pb_text.specs.contract.Feeding.{StandsAt, FeedsOnce, HoldsFew, WantsMemory, stop_of, spans_in, spans_taken, state_of, place_of, halt_of, is_complete};
@@ -94,7 +94,7 @@ impl<M: Machine> Feeder<M> {
         // The spans that were returned, the position, this result and the stop are those of a read of the input.
         ensures reads { (longest : ℕ) (start : M) (input : List ℕ) (spans : List (Spanned M.Event))
             → StandsAt longest start input spans self.now
-            → (used : List ℕ) × Reads (Accepts M.automaton start) longest input used spans (place_of self.now) result (halt_of self.now) }
+            → (used : List ℕ) × Reads (AcceptsItems M.automaton start) longest input used spans (place_of self.now) result (halt_of self.now) }
     {
         self.machine.is_done()
     }
@@ -122,7 +122,7 @@ impl<M: Machine> Feeder<M> {
         ensures ends { (longest : ℕ) (start : M) (input : List ℕ) (spans : List (Spanned M.Event))
             → halt_of self.old ≡ None
             → StandsAt longest start input spans self.old
-            → (used : List ℕ) × EndsAs (Accepts M.automaton start) longest input used spans (place_of self.new) result }
+            → (used : List ℕ) × EndsAs (AcceptsItems M.automaton start) longest input used spans (place_of self.new) result }
         ensures again { (stop : Stop) → halt_of self.old ≡ Some stop → (result ≡ Err stop) × (self.new ≡ self.old) }
         ensures ok { OnOk result (self.new ≡ self.old) }
         ensures stop { halt_of self.new ≡ stop_of result }
@@ -169,14 +169,14 @@ impl<M: Machine> Feeder<M> {
                 event: None,
             });
         }
-        let mut used = self.run(piece);
+        let mut used = self.feed_fast(piece);
         while used < piece.len() {
             match self.take(piece[used]) {
                 Ok(None) => used += 1,
                 Ok(Some(event)) => return Ok(Fed::with_event(used + 1, event)),
                 Err(stop) => return Err(stop),
             }
-            used += self.run(&piece[used..]);
+            used += self.feed_fast(&piece[used..]);
         }
         Ok(Fed { used, event: None })
     }
@@ -205,7 +205,7 @@ impl<M: Machine> Feeder<M> {
     }
 
     /// Takes a prefix of a piece that is fast to take, at most through the end of a statement.
-    pub(crate) fn bite(&mut self, piece: &[u8]) -> Fed<M::Event>
+    pub(crate) fn feed_statement(&mut self, piece: &[u8]) -> Fed<M::Event>
         requires unfinished { is_complete self.old ≡ false }
         requires running { halt_of self.old ≡ None }
         requires state { IsState M.automaton (state_of self.old) }
@@ -220,18 +220,18 @@ impl<M: Machine> Feeder<M> {
         ensures unfinished { result.event ≡ None → is_complete self.new ≡ false }
         ensures state { IsState M.automaton (state_of self.new) }
     {
-        let used = self.run(piece);
+        let used = self.feed_fast(piece);
         if used == piece.len() {
             return Fed { used, event: None };
         }
-        match self.closes(piece[used]) {
+        match self.try_finish(piece[used]) {
             Some(event) => Fed::with_event(used + 1, event),
             None => Fed { used, event: None },
         }
     }
 
     /// Takes a byte that ends a statement, if that is fast.
-    fn closes(&mut self, byte: u8) -> Option<Spanned<M::Event>>
+    fn try_finish(&mut self, byte: u8) -> Option<Spanned<M::Event>>
         requires unfinished { is_complete self.old ≡ false }
         requires running { halt_of self.old ≡ None }
         requires state { IsState M.automaton (state_of self.old) }
@@ -247,7 +247,7 @@ impl<M: Machine> Feeder<M> {
         if self.place.offset == self.end {
             return None;
         }
-        match self.machine.closes(byte) {
+        match self.machine.try_finish(byte) {
             Some(event) => Some(self.span(event, byte)),
             None => None,
         }
@@ -255,7 +255,7 @@ impl<M: Machine> Feeder<M> {
 
     /// Takes a prefix of a piece that is fast to take and ends no statement. It returns the length of the prefix.
     #[inline(always)]
-    pub(crate) fn run(&mut self, piece: &[u8]) -> usize
+    pub(crate) fn feed_fast(&mut self, piece: &[u8]) -> usize
         requires unfinished { is_complete self.old ≡ false }
         requires running { halt_of self.old ≡ None }
         requires state { IsState M.automaton (state_of self.old) }
@@ -268,13 +268,13 @@ impl<M: Machine> Feeder<M> {
         ensures unfinished { is_complete self.new ≡ false }
         ensures state { IsState M.automaton (state_of self.new) }
     {
-        let entered = self.enter(piece);
-        entered + self.go_on(&piece[entered..])
+        let entered = self.skip_gap(piece);
+        entered + self.feed_body(&piece[entered..])
     }
 
     /// If no statement has begun, takes a prefix of a piece, at most through the first byte of one. It returns the length.
     #[inline(always)]
-    fn enter(&mut self, piece: &[u8]) -> usize
+    fn skip_gap(&mut self, piece: &[u8]) -> usize
         requires unfinished { is_complete self.old ≡ false }
         requires running { halt_of self.old ≡ None }
         requires state { IsState M.automaton (state_of self.old) }
@@ -289,7 +289,7 @@ impl<M: Machine> Feeder<M> {
     {
         let mut used: usize = 0;
         while used < piece.len() {
-            if !self.goes(piece[used]) {
+            if !self.try_continue(piece[used]) {
                 return used;
             }
             used += 1;
@@ -299,7 +299,7 @@ impl<M: Machine> Feeder<M> {
 
     /// Takes a byte between two statements, or the first byte of one, if that is fast. It returns whether it did.
     #[inline(always)]
-    fn goes(&mut self, byte: u8) -> bool
+    fn try_continue(&mut self, byte: u8) -> bool
         requires unfinished { is_complete self.old ≡ false }
         requires running { halt_of self.old ≡ None }
         requires state { IsState M.automaton (state_of self.old) }
@@ -315,7 +315,7 @@ impl<M: Machine> Feeder<M> {
             return false;
         }
         let starts = self.machine.starts(byte);
-        if !self.machine.goes(byte) {
+        if !self.machine.try_continue(byte) {
             return false;
         }
         self.move_on(starts, byte);
@@ -324,7 +324,7 @@ impl<M: Machine> Feeder<M> {
 
     /// Takes a prefix of a piece while the statement that has begun continues. It returns the length of the prefix.
     #[inline(always)]
-    fn go_on(&mut self, piece: &[u8]) -> usize
+    fn feed_body(&mut self, piece: &[u8]) -> usize
         requires unfinished { is_complete self.old ≡ false }
         requires running { halt_of self.old ≡ None }
         requires state { IsState M.automaton (state_of self.old) }
@@ -342,7 +342,7 @@ impl<M: Machine> Feeder<M> {
         }
         let room = (self.end - self.place.offset) as usize;
         let prefix = &piece[..piece.len().min(room)];
-        let used = self.machine.run(prefix);
+        let used = self.machine.take_run(prefix);
         self.place = self.place.past(&prefix[..used]);
         used
     }

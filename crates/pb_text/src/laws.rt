@@ -1,7 +1,7 @@
 //! The theorems on feeders and spans.
 
 ghost use Rattle.std.specs.Prelude.{◌≡◌, ℕ, List, [], Bool, Result, length};
-ghost use Rattle.pb_text.specs.contract.Automaton.{Accepts};
+ghost use Rattle.pb_text.specs.contract.Automaton.{AcceptsItems};
 ghost use Rattle.pb_text.specs.contract.Fields.{BytesKeep, SequenceKeeps};
 ghost use Rattle.pb_text.specs.contract.Parts.{KeepsItsParts};
 ghost use Rattle.pb_text.specs.meaning.Reading.{Reads, HasFixedSpans};
@@ -21,7 +21,7 @@ pub fn any_cutting<M: Machine>()
         → StandsAt longest start [] [] before
         → IsOpen (halt_of before)
         → Feeds before feeds after
-        → (used : List ℕ) × Reads (Accepts M.automaton start) longest (input_fed feeds) used (spans_answered feeds)
+        → (used : List ℕ) × Reads (AcceptsItems M.automaton start) longest (input_fed feeds) used (spans_answered feeds)
         (place_of after) (is_complete after) (halt_of after)
         × (NoneStopped feeds → length used ≡ used_by feeds) }
     // There is no reader that can fail.
@@ -36,14 +36,14 @@ pub fn any_cutting<M: Machine>()
 pub fn standing_is_reading<M: Machine>()
     ensures { (longest : ℕ) (start : M) (input : List ℕ) (spans : List (Spanned M.Event)) (feeder : Feeder M M.Event M.Machine)
         → StandsAt longest start input spans feeder
-        → (used : List ℕ) × Reads (Accepts M.automaton start) longest input used spans
+        → (used : List ℕ) × Reads (AcceptsItems M.automaton start) longest input used spans
         (place_of feeder) (is_complete feeder) (halt_of feeder) }
 {}
 
 /// All texts of a machine that begin with the same prefix have the same statements that end within it, at the same
 /// positions.
 pub fn fixed_spans<M: Machine>()
-    ensures { (start : M) → HasFixedSpans (Accepts M.automaton start) }
+    ensures { (start : M) → HasFixedSpans (AcceptsItems M.automaton start) }
 {}
 
 /// A feeder stores only its machine, the positions of the next byte and of the statement that has begun, its limit and

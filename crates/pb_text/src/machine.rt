@@ -1,7 +1,7 @@
 //! A machine that reads a text byte by byte.
 
 ghost use Rattle.std.specs.Prelude.{◌≡◌, ◌<◌, ◌≤◌, take, length};
-ghost use Rattle.pb_text.specs.contract.Automaton.{Automaton, IsState, Pushes, Goes, Closes, Runs, begins};
+ghost use Rattle.pb_text.specs.contract.Automaton.{Automaton, IsState, Pushes, Continues, Finishes, Runs, begins};
 
 /// The response of a machine to a byte.
 #[derive(Drop)]
@@ -34,8 +34,8 @@ pub trait Machine {
 
     /// Takes a byte that ends no statement, if that is fast and no allocation is refused. Otherwise it leaves the machine
     /// unchanged, and `push` says why.
-    fn goes(&mut self, byte: u8) -> bool
-        ensures goes { Goes automaton self.old byte result self.new }
+    fn try_continue(&mut self, byte: u8) -> bool
+        ensures continues { Continues automaton self.old byte result self.new }
         ensures state { IsState automaton self.new }
     {
         let _ = self.is_done();
@@ -45,8 +45,8 @@ pub trait Machine {
 
     /// Takes a byte that ends a statement, if that is fast and no allocation is refused, and returns the event. Otherwise it
     /// leaves the machine unchanged, and `push` says why.
-    fn closes(&mut self, byte: u8) -> Option<Self::Event>
-        ensures closes { Closes automaton self.old byte result self.new }
+    fn try_finish(&mut self, byte: u8) -> Option<Self::Event>
+        ensures finishes { Finishes automaton self.old byte result self.new }
         ensures state { IsState automaton self.new }
     {
         let _ = self.is_done();
@@ -54,7 +54,7 @@ pub trait Machine {
         None
     }
 
-    /// Takes the first byte of a piece as `goes` does, or a longer prefix that is faster to take at once. Such a prefix may be
+    /// Takes the first byte of a piece as `try_continue` does, or a longer prefix that is faster to take at once. Such a prefix may be
     /// a whole name or number. It returns the number of bytes taken.
     fn take_prefix(&mut self, piece: &[u8]) -> usize
         requires { 0 < length piece.now }
@@ -62,11 +62,11 @@ pub trait Machine {
         ensures runs { Runs automaton self.old (take result piece.now) self.new }
         ensures state { IsState automaton self.new }
     {
-        if self.goes(piece[0]) { 1 } else { 0 }
+        if self.try_continue(piece[0]) { 1 } else { 0 }
     }
 
-    /// Takes a prefix of a piece as `goes` does, and returns its length. It may leave bytes that `goes` would take.
-    fn run(&mut self, piece: &[u8]) -> usize
+    /// Takes a prefix of a piece as `try_continue` does, and returns its length. It may leave bytes that `try_continue` would take.
+    fn take_run(&mut self, piece: &[u8]) -> usize
         ensures bound { result ≤ length piece.now }
         ensures runs { Runs automaton self.old (take result piece.now) self.new }
         ensures state { IsState automaton self.new }

@@ -151,7 +151,7 @@ fn pour_from<T: BufRead, M: Machine>(
 {
     match reader.fill_buf() {
         Ok(bytes) => {
-            let Fed { used, event } = feeder.bite(bytes);
+            let Fed { used, event } = feeder.feed_statement(bytes);
             history.note(&bytes[..used]);
             reader.consume(used);
             Ok(event)

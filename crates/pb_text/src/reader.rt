@@ -1,7 +1,7 @@
 //! Reads one whole text from a reader.
 
 ghost use Rattle.std.specs.Prelude.{None, false, ◌≡◌, ◌<◌};
-ghost use Rattle.pb_text.specs.contract.Automaton.{Accepts, MayAsk};
+ghost use Rattle.pb_text.specs.contract.Automaton.{AcceptsItems, MayAsk};
 ghost use Rattle.pb_text.specs.contract.OverState.{failures_of, inner_of};
 ghost use Rattle.pb_text.specs.meaning.Pulling.{faults_after};
 ghost use Rattle.pb_text.specs.meaning.Whole.{ReadsWhole};
@@ -23,7 +23,7 @@ pub fn read_from<T: BufRead + Drop, M: Machine + Drop, G: Gather<Event = M::Even
 ) -> (Result<Spanned<G>, Stop>, Over<T>)
     requires between { M.automaton.begun machine ≡ false }
     requires some { 0 < longest }
-    ensures reads { ReadsWhole (Accepts M.automaton machine) longest G.with empty (MayAsk M.automaton machine) G.asks (T.remaining reader) result.0 (T.remaining (inner_of result.1)) }
+    ensures reads { ReadsWhole (AcceptsItems M.automaton machine) longest G.with empty (MayAsk M.automaton machine) G.asks (T.remaining reader) result.0 (T.remaining (inner_of result.1)) }
     // `Read` comes only if the reader failed.
     ensures faults { failures_of result.1 ≡ faults_after None result.0 0 }
 {

@@ -2,7 +2,7 @@
 
 ghost use Rattle.std.specs.Prelude.{◌≡◌, ◌<◌, ℕ, false, true, None, IfErr, IfOk, OnOk, OnErr};
 ghost use Rattle.std.specs.Io.KnownBytes.{Keeps};
-ghost use Rattle.pb_text.specs.contract.Automaton.{Accepts, MayAsk};
+ghost use Rattle.pb_text.specs.contract.Automaton.{AcceptsItems, MayAsk};
 ghost use Rattle.pb_text.specs.contract.NothingRead.{ReadsNothing, first_fault};
 ghost use Rattle.pb_text.specs.meaning.Pulling.{OfGiven, faults_after};
 ghost use Rattle.pb_text.specs.meaning.Stopping.{IsShown};
@@ -62,10 +62,10 @@ pub(crate) fn read_file<S: Source, M: Machine + Drop, G: Gather<Event = M::Event
 ) -> Result<G, Stop>
     requires between { M.automaton.begun machine ≡ false }
     requires some { 0 < longest }
-    ensures file { IfOk result (IsGathered (Accepts M.automaton machine) longest G.with empty (S.left input.old) (S.left input.new)) }
-    ensures refused { IfErr result (IsNotGathered (Accepts M.automaton machine) longest G.with empty (MayAsk M.automaton machine) G.asks (S.left input.old) (S.left input.new)) }
-    ensures given { IfOk result (λ v. OfGiven (λ left rest. IsGathered (Accepts M.automaton machine) longest G.with empty left rest v) (S.history input.old) (S.history input.new)) }
-    ensures refused_given { IfErr result (λ s. OfGiven (λ left rest. IsNotGathered (Accepts M.automaton machine) longest G.with empty (MayAsk M.automaton machine) G.asks left rest s) (S.history input.old) (S.history input.new)) }
+    ensures file { IfOk result (IsGathered (AcceptsItems M.automaton machine) longest G.with empty (S.left input.old) (S.left input.new)) }
+    ensures refused { IfErr result (IsNotGathered (AcceptsItems M.automaton machine) longest G.with empty (MayAsk M.automaton machine) G.asks (S.left input.old) (S.left input.new)) }
+    ensures given { IfOk result (λ v. OfGiven (λ left rest. IsGathered (AcceptsItems M.automaton machine) longest G.with empty left rest v) (S.history input.old) (S.history input.new)) }
+    ensures refused_given { IfErr result (λ s. OfGiven (λ left rest. IsNotGathered (AcceptsItems M.automaton machine) longest G.with empty (MayAsk M.automaton machine) G.asks left rest s) (S.history input.old) (S.history input.new)) }
     ensures ended { OnOk result (S.ended input.new ≡ true) }
     ensures shown { IfErr result (λ s. IsShown (S.shown input.new) (S.ended input.new) s.why) }
     ensures faults { S.faults input.new ≡ faults_after None result (S.faults input.old) }

@@ -6,7 +6,7 @@ use Rattle.pb_opb.specs.declared.machine.OpbMachine.TheInside.{Inside}
 
 -- the state that its fields form
 abbrev pub state_of : Inside → OpbState
-state_of m = record { limit = largest m.limits; top = top_of m.limits; variables = m.variables; owed = m.owed; phase = m.phase; text = m.text; sums = m.sums }
+state_of m = record { limit = largest m.limits; top = top_of m.limits; variables = m.variables; remaining = m.remaining; phase = m.phase; text = m.text; sums = m.sums }
 
 -- It stores nothing but its state, its limits and its allocator, as contracts see these.
 abbrev pub KeepsItsState : Type 0

@@ -1,6 +1,6 @@
 -- The laws of the format of instances.
 use Rattle.std.specs.Prelude.{ℕ, List, ◌↔◌}
-use Rattle.pb_text.specs.contract.Automaton.{Accepts}
+use Rattle.pb_text.specs.contract.Automaton.{AcceptsItems}
 use Rattle.pb_text.specs.contract.FormatLaws.{IsOneText, FixesSpans, IsPrefixFree, Widens}
 use Rattle.pb_text.specs.meaning.Spelling.{Item}
 use Rattle.pb_opb.specs.meaning.Instances.{IsInstance}
@@ -9,7 +9,7 @@ use Rattle.pb_opb.specs.declared.event.OpbEvent.{OpbEvent}
 
 -- A new machine accepts the instances, and nothing else.
 abbrev pub ReadsInstances : Type 0
-ReadsInstances = (limit top : ℕ) (items : List (Item OpbEvent)) → Accepts opb (begin limit top) items ↔ IsInstance limit top items
+ReadsInstances = (limit top : ℕ) (items : List (Item OpbEvent)) → AcceptsItems opb (begin limit top) items ↔ IsInstance limit top items
 
 -- A text is the text of one instance only.
 abbrev pub OneInstance : Type 0

@@ -28,22 +28,22 @@ abbrev pub after_count : Field → ℕ → ℕ → Action
 after_count Variables n b = cond (is_blank b) (Declare n) Stop
 after_count Constraints n b = cond (nat_eq b 10) (EndHeader n) (cond (is_blank b) (BeginTail n b) Stop)
 
-abbrev pub plan : ℕ → Phase → ℕ → Action
-plan top phase.TheVariants.Start b = cond (nat_eq b 42) (To (phase.TheVariants.BeforeWord Variables)) Stop
-plan top (phase.TheVariants.BeforeWord f) b =
+abbrev pub transition : ℕ → Phase → ℕ → Action
+transition top phase.TheVariants.Start b = cond (nat_eq b 42) (To (phase.TheVariants.BeforeWord Variables)) Stop
+transition top (phase.TheVariants.BeforeWord f) b =
     cond (is_blank b) (To (phase.TheVariants.BeforeWord f)) (cond (nat_eq b 35) (To (phase.TheVariants.Word f 1)) Stop)
-plan top (phase.TheVariants.Word f k) b = spell (word_of f) k b (phase.TheVariants.Word f (k + 1)) (phase.TheVariants.BeforeCount f)
-plan top (phase.TheVariants.BeforeCount f) b = cond (is_blank b) (To (phase.TheVariants.BeforeCount f)) (count top f 0 b)
-plan top (phase.TheVariants.Count f n) b = cond (is_digit b) (count top f n b) (after_count f n b)
-plan top phase.TheVariants.Tail b = cond (nat_eq b 10) EndTail (Keep b)
-plan top (phase.TheVariants.Between may) b =
-    cond (is_white b) (To (phase.TheVariants.Between may))
-    (cond (nat_eq b 42) (To (phase.TheVariants.Comment may))
-    (cond (nat_eq b 109 && may) (To (phase.TheVariants.Min 1)) (Give phase.TheVariants.Constraint)))
-plan top (phase.TheVariants.Comment may) b = cond (nat_eq b 10) (EndComment may) (Keep b)
-plan top (phase.TheVariants.Min k) b =
+transition top (phase.TheVariants.Word f k) b = spell (word_of f) k b (phase.TheVariants.Word f (k + 1)) (phase.TheVariants.BeforeCount f)
+transition top (phase.TheVariants.BeforeCount f) b = cond (is_blank b) (To (phase.TheVariants.BeforeCount f)) (count top f 0 b)
+transition top (phase.TheVariants.Count f n) b = cond (is_digit b) (count top f n b) (after_count f n b)
+transition top phase.TheVariants.Tail b = cond (nat_eq b 10) EndTail (Keep b)
+transition top (phase.TheVariants.Between objective_allowed) b =
+    cond (is_white b) (To (phase.TheVariants.Between objective_allowed))
+    (cond (nat_eq b 42) (To (phase.TheVariants.Comment objective_allowed))
+    (cond (nat_eq b 109 && objective_allowed) (To (phase.TheVariants.Min 1)) (Give phase.TheVariants.Constraint)))
+transition top (phase.TheVariants.Comment objective_allowed) b = cond (nat_eq b 10) (EndComment objective_allowed) (Keep b)
+transition top (phase.TheVariants.Min k) b =
     cond (nat_eq b (slice_index min_word k)) (cond (nat_eq (k + 1) (length min_word)) BeginSum (To (phase.TheVariants.Min (k + 1)))) Stop
-plan top phase.TheVariants.AfterMin b = cond (is_white b) (To phase.TheVariants.AfterMin) (Give phase.TheVariants.Objective)
-plan top phase.TheVariants.Objective b = Give phase.TheVariants.Objective
-plan top phase.TheVariants.Constraint b = Give phase.TheVariants.Constraint
-plan top phase.TheVariants.Done b = Stop
+transition top phase.TheVariants.AfterMin b = cond (is_white b) (To phase.TheVariants.AfterMin) (Give phase.TheVariants.Objective)
+transition top phase.TheVariants.Objective b = Give phase.TheVariants.Objective
+transition top phase.TheVariants.Constraint b = Give phase.TheVariants.Constraint
+transition top phase.TheVariants.Done b = Stop

@@ -34,12 +34,12 @@ IsIdle s = (s.text ≡ []) × (s.sums ≡ linears s.limit)
 -- what holds with each phase
 abbrev pub Holds : OpbState → Phase → Type 0
 Holds s phase.TheVariants.Tail = s.sums ≡ linears s.limit
-Holds s (phase.TheVariants.Between may) = (0 < s.owed) × IsIdle s
-Holds s (phase.TheVariants.Comment may) = (0 < s.owed) × (s.sums ≡ linears s.limit)
-Holds s (phase.TheVariants.Min k) = (0 < s.owed) × IsIdle s
-Holds s phase.TheVariants.AfterMin = (0 < s.owed) × (s.text ≡ []) × (s.sums ≡ objectives s.limit)
-Holds s phase.TheVariants.Objective = (0 < s.owed) × (s.text ≡ []) × (sums.done s.sums ≡ false)
-Holds s phase.TheVariants.Constraint = (0 < s.owed) × (s.text ≡ []) × (sums.done s.sums ≡ false)
+Holds s (phase.TheVariants.Between objective_allowed) = (0 < s.remaining) × IsIdle s
+Holds s (phase.TheVariants.Comment objective_allowed) = (0 < s.remaining) × (s.sums ≡ linears s.limit)
+Holds s (phase.TheVariants.Min k) = (0 < s.remaining) × IsIdle s
+Holds s phase.TheVariants.AfterMin = (0 < s.remaining) × (s.text ≡ []) × (s.sums ≡ objectives s.limit)
+Holds s phase.TheVariants.Objective = (0 < s.remaining) × (s.text ≡ []) × (sums.done s.sums ≡ false)
+Holds s phase.TheVariants.Constraint = (0 < s.remaining) × (s.text ≡ []) × (sums.done s.sums ≡ false)
 Holds s _ = IsIdle s
 
 pub record IsInOrder (s : OpbState) : Type 0 where

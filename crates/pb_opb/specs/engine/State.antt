@@ -6,7 +6,7 @@ use Rattle.pb_sums.specs.declared.Spaces.TheVariants.{White}
 use Rattle.pb_sums.specs.declared.Part as part
 use Rattle.pb_sums.specs.declared.SumEvent.{SumEvent}
 use Rattle.pb_sums.specs.declared.SumEvent as sum
-use Rattle.pb_opb.specs.engine.Machine.{plan}
+use Rattle.pb_opb.specs.engine.Machine.{transition}
 use Rattle.pb_opb.specs.declared.event.OpbEvent.{OpbEvent}
 use Rattle.pb_opb.specs.declared.event.OpbEvent as event
 use Rattle.pb_opb.specs.declared.phase.Field as field
@@ -22,7 +22,7 @@ pub record OpbState : Type 0 where
   pub top : ℕ
   pub variables : ℕ
   -- constraints that are still to come
-  pub owed : ℕ
+  pub remaining : ℕ
   pub phase : Phase
   pub text : List ℕ
   pub sums : SumState
@@ -39,7 +39,7 @@ begin limit top = record {
   limit = limit;
   top = top;
   variables = 0;
-  owed = 0;
+  remaining = 0;
   phase = phase.TheVariants.Start;
   text = [];
   sums = linears limit;
@@ -47,17 +47,17 @@ begin limit top = record {
 
 -- the phase with this many constraints to come
 abbrev pub phase_owing : Bool → ℕ → Phase
-phase_owing may zero = phase.TheVariants.Done
-phase_owing may (suc n) = phase.TheVariants.Between may
+phase_owing objective_allowed zero = phase.TheVariants.Done
+phase_owing objective_allowed (suc n) = phase.TheVariants.Between objective_allowed
 
 -- between two statements
 abbrev pub between : OpbState → Bool → ℕ → OpbState
-between s may owed = record {
+between s objective_allowed remaining = record {
   limit = s.limit;
   top = s.top;
   variables = s.variables;
-  owed = owed;
-  phase = phase_owing may owed;
+  remaining = remaining;
+  phase = phase_owing objective_allowed remaining;
   text = [];
   sums = linears s.limit;
 }
@@ -77,13 +77,13 @@ statement_of (sum.TheVariants.Sum terms) = event.TheVariants.Objective terms
 statement_of (sum.TheVariants.Linear linear) = event.TheVariants.Constraint linear
 
 -- how many constraints are to come after an objective, and after a constraint
-abbrev pub owed_after : Phase → ℕ → ℕ
-owed_after phase.TheVariants.Objective owed = owed
-owed_after _ owed = owed - 1
+abbrev pub remaining_after : Phase → ℕ → ℕ
+remaining_after phase.TheVariants.Objective remaining = remaining
+remaining_after _ remaining = remaining - 1
 
 -- after an objective or a constraint
 abbrev pub after : OpbState → Phase → OpbState
-after s p = between s false (owed_after p s.owed)
+after s p = between s false (remaining_after p s.remaining)
 
 abbrev pub over : OpbState → Phase → Next SumState SumEvent → Next OpbState OpbEvent
 over s p (Go inner) = Go (giving s p inner)
@@ -93,22 +93,22 @@ over s p Refuse = Refuse
 abbrev pub act : OpbState → ℕ → Action → Next OpbState OpbEvent
 act s b (To p) = Go (at s p)
 act s b (Declare n) = Go (record s { variables = n; phase = phase.TheVariants.BeforeWord field.TheVariants.Constraints })
-act s b (BeginTail n c) = Go (record s { owed = n; phase = phase.TheVariants.Tail; text = c ∷ [] })
+act s b (BeginTail n c) = Go (record s { remaining = n; phase = phase.TheVariants.Tail; text = c ∷ [] })
 act s b (Keep c) = Go (record s { text = s.text ++ c ∷ [] })
 act s b (EndHeader n) = End (event.TheVariants.Header s.variables n []) (between s true n)
-act s b EndTail = End (event.TheVariants.Header s.variables s.owed s.text) (between s true s.owed)
-act s b (EndComment may) = End (event.TheVariants.Comment s.text) (between s may s.owed)
+act s b EndTail = End (event.TheVariants.Header s.variables s.remaining s.text) (between s true s.remaining)
+act s b (EndComment objective_allowed) = End (event.TheVariants.Comment s.text) (between s objective_allowed s.remaining)
 act s b BeginSum = Go (giving s phase.TheVariants.AfterMin (objectives s.limit))
 act s b (Give p) = over s p (sums.step s.sums b)
 act s b Stop = Refuse
 
 abbrev pub step : OpbState → ℕ → Next OpbState OpbEvent
-step s b = act s b (plan s.top s.phase b)
+step s b = act s b (transition s.top s.phase b)
 
 -- a statement has begun and not ended
 abbrev pub is_within : Phase → Bool
 is_within phase.TheVariants.Start = false
-is_within (phase.TheVariants.Between may) = false
+is_within (phase.TheVariants.Between objective_allowed) = false
 is_within phase.TheVariants.Done = false
 is_within _ = true
 
@@ -119,7 +119,7 @@ is_done _ = false
 -- bytes up to a line feed are stored
 abbrev pub keeps_line : Phase → Bool
 keeps_line phase.TheVariants.Tail = true
-keeps_line (phase.TheVariants.Comment may) = true
+keeps_line (phase.TheVariants.Comment objective_allowed) = true
 keeps_line _ = false
 
 abbrev pub is_in_number : OpbState → Phase → Bool
@@ -141,7 +141,7 @@ opb = record {
   done = λ s. is_done s.phase;
   begun = λ s. is_within s.phase;
   in_number = λ s. is_in_number s s.phase;
-  asks = λ s b. asks s b (plan s.top s.phase b);
+  asks = λ s b. asks s b (transition s.top s.phase b);
   kept = λ s. min (length s.text + sums.kept s.sums) (2 ^ 64 - 1);
   spent = λ s. length s.text + sums.spent s.sums;
 }

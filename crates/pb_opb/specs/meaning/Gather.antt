@@ -28,16 +28,16 @@ asks n (Objective terms) = nat_le (2 ^ 64 - 1) n
 asks n (Constraint linear) = true
 
 -- how many objectives and constraints there are among statements
-abbrev pub counted : List OpbEvent → ℕ
-counted [] = 0
-counted (Header variables constraints tail ∷ events) = counted events
-counted (Comment text ∷ events) = counted events
-counted (Objective terms ∷ events) = counted events + 1
-counted (Constraint linear ∷ events) = counted events + 1
+abbrev pub counted_statements : List OpbEvent → ℕ
+counted_statements [] = 0
+counted_statements (Header variables constraints tail ∷ events) = counted_statements events
+counted_statements (Comment text ∷ events) = counted_statements events
+counted_statements (Objective terms ∷ events) = counted_statements events + 1
+counted_statements (Constraint linear ∷ events) = counted_statements events + 1
 
 -- whether storing a statement after others may allocate
 abbrev pub MayKeep : List OpbEvent → OpbEvent → Type 0
-MayKeep events e = IsTrue (asks (counted events) e)
+MayKeep events e = IsTrue (asks (counted_statements events) e)
 
 -- before any statement
 abbrev pub nothing : Instance

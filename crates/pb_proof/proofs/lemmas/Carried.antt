@@ -1,6 +1,6 @@
 -- An automaton within another one.
 use Rattle.std.proofs.Common.{◌≡◌, ℕ, true, List, [], ◌∷◌, refl, sym, ap, subst, ◌∙◌, map, ◌++◌, ◌&&◌, Option, Some, None}
-use Rattle.pb_text.specs.contract.Automaton.{Automaton, Next, Go, End, Refuse, Skips, Reads, Runs, Accepts, Admits, Pushes, Closes, IsState}
+use Rattle.pb_text.specs.contract.Automaton.{Automaton, Next, Go, End, Refuse, SkipsGap, ReadsStatement, Runs, AcceptsItems, Admits, Pushes, Finishes, IsState}
 use Rattle.pb_text.specs.meaning.Classes.{is_digit}
 use Rattle.pb_text.specs.declared.machine.Push.{Push}
 use Rattle.pb_text.specs.declared.machine.Push.TheVariants as push
@@ -23,7 +23,7 @@ module _ {S E R F : Type 0} (m : Automaton S E) (n : Automaton R F) (into : S �
     stepped : (s : S) (b : ℕ) (x : Next S E) → m.step s b ≡ x → n.step (into s) b ≡ carried into event x
     stepped s b x e = h.step s b ∙ ap (carried into event) e
 
-    pub reads_in : (t : List Letter) (s : S) (e : E) (after : S) → Reads m s t e after → Reads n (into s) t (event e) (into after)
+    pub reads_in : (t : List Letter) (s : S) (e : E) (after : S) → ReadsStatement m s t e after → ReadsStatement n (into s) t (event e) (into after)
     reads_in [] s e after r = absurd r
     reads_in (l ∷ []) s e after (g, f) = (stepped s l.byte (End e after) g, f)
     reads_in (l ∷ k ∷ t) s e after (mid, g, i, f, r) =
@@ -46,23 +46,23 @@ module _ {S E R F : Type 0} (m : Automaton S E) (n : Automaton R F) (into : S �
     pub ended_out : (s : S) (b : ℕ) (f : F) (r : R) → n.step (into s) b ≡ End f r → (e : E) × (next : S) × (m.step s b ≡ End e next) × (f ≡ event e) × (r ≡ into next)
     ended_out s b f r e = ended (m.step s b) f r (sym (h.step s b) ∙ e)
 
-    pub reads_out : (t : List Letter) (s : S) (f : F) (r : R) → Reads n (into s) t f r → (e : E) × (after : S) × (f ≡ event e) × Reads m s t e after
+    pub reads_out : (t : List Letter) (s : S) (f : F) (r : R) → ReadsStatement n (into s) t f r → (e : E) × (after : S) × (f ≡ event e) × ReadsStatement m s t e after
     reads_out [] s f r h' = absurd h'
     reads_out (l ∷ []) s f r (g, z) =
         let (e, next, i, j, k) = ended_out s l.byte f r g in (e, next, j, (i, z))
     reads_out (l ∷ k ∷ t) s f r (mid, g, i, z, q) =
         let (next, j, same) = went_out s l.byte mid g in
-        let (e, after, w, rest) = reads_out (k ∷ t) next f r (subst (λ x. Reads n x (k ∷ t) f r) same q) in
+        let (e, after, w, rest) = reads_out (k ∷ t) next f r (subst (λ x. ReadsStatement n x (k ∷ t) f r) same q) in
         (e, after, w, (next, j, sym (h.begun next) ∙ (ap n.begun (sym same) ∙ i), z ∙ (ap n.in_number same ∙ h.in_number next), rest))
 
-    skips_in : (gap : List ℕ) (s at : S) → Skips m s gap at → Skips n (into s) gap (into at)
+    skips_in : (gap : List ℕ) (s at : S) → SkipsGap m s gap at → SkipsGap n (into s) gap (into at)
     skips_in [] s at e = ap into e
     skips_in (b ∷ gap) s at (mid, g, o, k) = (into mid, stepped s b (Go mid) g, h.begun mid ∙ o, skips_in gap mid at k)
 
     abbrev carried_item : Item E → Item F
     carried_item i = record { gap = i.gap; text = i.text; event = event i.event }
 
-    accepts_in : (items : List (Item E)) (s : S) → Accepts m s items → Accepts n (into s) (map carried_item items)
+    accepts_in : (items : List (Item E)) (s : S) → AcceptsItems m s items → AcceptsItems n (into s) (map carried_item items)
     accepts_in [] s d = h.done s ∙ d
     accepts_in (i ∷ rest) s (at, after, g, r, a) =
         (into at, into after, skips_in i.gap s at g, reads_in i.text at i.event after r, accepts_in rest after a)
@@ -77,7 +77,7 @@ module _ {S E R F : Type 0} (m : Automaton S E) (n : Automaton R F) (into : S �
       ends = λ d b. stepped s b Refuse (k.ends (sym (h.done s) ∙ d) b);
       owes = λ b r e. let (next, g, same) = went_out s b r e in ap n.done same ∙ (h.done next ∙ k.owes b next g);
       stays = λ i b r e. let (next, g, same) = went_out s b r e in ap n.begun same ∙ (h.begun next ∙ k.stays (sym (h.begun s) ∙ i) b next g);
-      closes = λ b f r e. let (v, next, g, j, same) = ended_out s b f r e in ap n.begun same ∙ (h.begun next ∙ k.closes b v next g);
+      finishes = λ b f r e. let (v, next, g, j, same) = ended_out s b f r e in ap n.begun same ∙ (h.begun next ∙ k.finishes b v next g);
       plain = λ o. h.in_number s ∙ k.plain (sym (h.begun s) ∙ o);
       grows = λ b r e. let (next, g, same) = went_out s b r e in rw (same, h.spent next, h.spent s) (k.grows b next g);
       bounds = rw (h.kept s, h.spent s) k.bounds;
@@ -102,7 +102,7 @@ module _ {S E R F : Type 0} (m : Automaton S E) (n : Automaton R F) (into : S �
 
     -- what `m` ends, `n` ends
     pub closes_in : (gives : E → F → Type 0) → ((e : E) (f : F) → gives e f → f ≡ event e) → (s new : S) (b : ℕ) (answer : Option E) (r : Option F)
-        → IsEnded gives answer r → Closes m s b answer new → Closes n (into s) b r (into new)
+        → IsEnded gives answer r → Finishes m s b answer new → Finishes n (into s) b r (into new)
     closes_in gives is s new b (Some e) r (f, g, c) p = rw (c, is e f g) (stepped s b (End e new) p)
     closes_in gives is s new b None r c same = rw c (ap into same)
 

@@ -1,6 +1,6 @@
 -- The laws of the format of proofs.
 use Rattle.std.specs.Prelude.{ℕ, List, ◌↔◌}
-use Rattle.pb_text.specs.contract.Automaton.{Accepts}
+use Rattle.pb_text.specs.contract.Automaton.{AcceptsItems}
 use Rattle.pb_text.specs.contract.FormatLaws.{IsOneText, FixesSpans, IsPrefixFree, Widens}
 use Rattle.pb_text.specs.meaning.Spelling.{Item}
 use Rattle.pb_proof.specs.meaning.Proofs.{IsProof}
@@ -9,7 +9,7 @@ use Rattle.pb_proof.specs.declared.statement.Statement.{Statement}
 
 -- A new machine accepts exactly the proofs.
 abbrev pub ReadsProofs : Type 0
-ReadsProofs = (limit top : ℕ) (items : List (Item Statement)) → Accepts proofs (begin limit top) items ↔ IsProof limit top items
+ReadsProofs = (limit top : ℕ) (items : List (Item Statement)) → AcceptsItems proofs (begin limit top) items ↔ IsProof limit top items
 
 -- A text is the text of at most one proof.
 abbrev pub OneProof : Type 0

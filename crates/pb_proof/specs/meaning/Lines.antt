@@ -111,9 +111,9 @@ SpellsShown [] = Byte 58
 SpellsShown (l ∷ ls) = Byte 58 ⋅ Blanks0 ⋅ SpellsLiteral l ⋅ Listed SpellsLiteral ls
 
 -- nothing, or `:` and literals
-abbrev pub Shown : Option (List Literal) → Language
-Shown None = Empty
-Shown (Some ls) = Blanks0 ⋅ SpellsShown ls
+abbrev pub LiteralsShown : Option (List Literal) → Language
+LiteralsShown None = Empty
+LiteralsShown (Some ls) = Blanks0 ⋅ SpellsShown ls
 
 module _ (limit top : ℕ) where
   -- nothing, or `:` and an id
@@ -134,9 +134,9 @@ module _ (limit top : ℕ) where
   abbrev pub SpellsConclusion : Conclusion → Language
   SpellsConclusion NoClaim = Bytes none_word
   SpellsConclusion (Unsat id) = Bytes unsat_word ⋅ IdShown id
-  SpellsConclusion (Sat shown) = Bytes sat_word ⋅ Shown shown
+  SpellsConclusion (Sat shown) = Bytes sat_word ⋅ LiteralsShown shown
   SpellsConclusion (Bounds lower id upper shown) =
-      Bytes bounds_word ⋅ Blanks1 ⋅ SpellsBound limit lower ⋅ IdShown id ⋅ Blanks1 ⋅ SpellsBound limit upper ⋅ Shown shown
+      Bytes bounds_word ⋅ Blanks1 ⋅ SpellsBound limit lower ⋅ IdShown id ⋅ Blanks1 ⋅ SpellsBound limit upper ⋅ LiteralsShown shown
 
   -- The texts after the first word of a statement.
   abbrev pub SpellsCount : Option ℕ → Language

@@ -30,7 +30,7 @@ GapAt _ gap = IsGap gap
 
 module _ (limit top : ℕ) where
   -- the statements from a stage to the end
-  abbrev pub IsOrdered : Stage → List (Item Statement) → Type 0
-  IsOrdered at [] = at ≡ Complete
-  IsOrdered at (i ∷ rest) =
-      GapAt at i.gap × (stage_of i.event ≡ at) × SpellsStatement limit top i.event i.text × IsOrdered (stage_after i.event) rest
+  abbrev pub IsStaged : Stage → List (Item Statement) → Type 0
+  IsStaged at [] = at ≡ Complete
+  IsStaged at (i ∷ rest) =
+      GapAt at i.gap × (stage_of i.event ≡ at) × SpellsStatement limit top i.event i.text × IsStaged (stage_after i.event) rest

@@ -7,22 +7,22 @@ use Rattle.pb_proof.specs.declared.word.PolWord.TheVariants.{Id, Axiom, Add, Mul
 -- a constraint, an axiom, a sum of two expressions, or one expression under a rule
 pub data Tree : Type 0 where
   Constraint : (id : ℤ) → Tree
-  True : (literal : Literal) → Tree
+  LiteralAxiom : (literal : Literal) → Tree
   Sum : (a b : Tree) → Tree
-  Times : (a : Tree) → (factor : ℤ) → Tree
-  Divided : (a : Tree) → (divisor : ℤ) → Tree
-  Saturated : (a : Tree) → Tree
-  Weakened : (a : Tree) → (name : List ℕ) → Tree
+  Product : (a : Tree) → (factor : ℤ) → Tree
+  Quotient : (a : Tree) → (divisor : ℤ) → Tree
+  Saturation : (a : Tree) → Tree
+  Weakening : (a : Tree) → (name : List ℕ) → Tree
 
 -- the postfix words of an expression
 abbrev pub words : Tree → List PolWord
 words (Constraint id) = Id id ∷ []
-words (True literal) = Axiom literal ∷ []
+words (LiteralAxiom literal) = Axiom literal ∷ []
 words (Sum a b) = words a ++ words b ++ (Add ∷ [])
-words (Times a factor) = words a ++ (Multiply factor ∷ [])
-words (Divided a divisor) = words a ++ (Divide divisor ∷ [])
-words (Saturated a) = words a ++ (Saturate ∷ [])
-words (Weakened a name) = words a ++ (Weaken name ∷ [])
+words (Product a factor) = words a ++ (Multiply factor ∷ [])
+words (Quotient a divisor) = words a ++ (Divide divisor ∷ [])
+words (Saturation a) = words a ++ (Saturate ∷ [])
+words (Weakening a name) = words a ++ (Weaken name ∷ [])
 
 -- the words of one expression
 abbrev pub IsPostfix : List PolWord → Type 0

@@ -9,7 +9,7 @@ mod transition;
 
 use crate::conclusion::Conclusion;
 use crate::line::conclusion::phase::{Action, Concluding, Phase, Showing};
-use crate::line::conclusion::transition::{is_done, is_in_digits, is_within, plan};
+use crate::line::conclusion::transition::{is_done, is_in_digits, is_within, transition};
 use crate::line::solution::LiteralsMachine;
 use pb_sums::Literal;
 use pb_text::bytes::is_digit;
@@ -82,13 +82,13 @@ impl ConclusionMachine {
 impl ConclusionMachine {
     ghost use Rattle.pb_text.specs.contract.Automaton.{Pushes};
     ghost use Rattle.pb_proof.specs.engine.Line.ConclusionState.{conclusion_automaton};
-    ghost use Rattle.pb_proof.specs.engine.Line.Conclusion.{plan};
+    ghost use Rattle.pb_proof.specs.engine.Line.Conclusion.{transition};
 
     /// Takes a byte.
     fn take(&mut self, byte: u8) -> Push<Conclusion>
         ensures { Pushes conclusion_automaton self.old byte result self.new }
     {
-        match plan(self.limits.largest(), self.limits.top(), self.phase, byte) {
+        match transition(self.limits.largest(), self.limits.top(), self.phase, byte) {
             Action::To(phase) => {
                 self.phase = phase;
                 Push::Go
@@ -111,7 +111,7 @@ impl ConclusionMachine {
 
     /// Gives a byte to the machine for literals.
     fn give(&mut self, showing: Showing, byte: u8) -> Push<Conclusion>
-        requires { plan self.old.limit self.old.top self.old.phase byte ≡ Action.Give showing }
+        requires { transition self.old.limit self.old.top self.old.phase byte ≡ Action.Give showing }
         ensures { Pushes conclusion_automaton self.old byte result self.new }
     {
         match self.literals.push(byte) {
@@ -150,7 +150,7 @@ impl Machine for ConclusionMachine {
             return false;
         }
         !matches!(
-            plan(self.limits.largest(), self.limits.top(), self.phase, byte),
+            transition(self.limits.largest(), self.limits.top(), self.phase, byte),
             Action::Stop
         )
     }

@@ -3,7 +3,7 @@
 ghost use Rattle.std.specs.Prelude.{◌≡◌, ◌<◌, ◌≤◌, ◌^◌, ℕ};
 ghost use Rattle.pb_text.specs.meaning.Limits.{top_of};
 ghost use Rattle.pb_proof.specs.engine.Line.ByteKind.{NumberByteFits};
-ghost use Rattle.pb_proof.specs.engine.Line.Ids.{digits, before, next_action, plan, ids_first, begins_id, is_done, PhaseFits, ActionFits};
+ghost use Rattle.pb_proof.specs.engine.Line.Ids.{digits, before, next_action, transition, ids_first, begins_id, is_done, PhaseFits, ActionFits};
 
 mod end;
 mod phase;
@@ -44,7 +44,7 @@ fn digits(top: u64, negative: bool, value: u64, digit: u8) -> IdsAction
     requires top { top < 2 ^ 63 }
     requires value { value ≤ top }
     requires digit { digit < 10 }
-    ensures plan { result ≡ digits top negative value digit }
+    ensures transition { result ≡ digits top negative value digit }
     ensures fits { ActionFits top result }
 {
     match next_digit_u64(top, value, digit) {
@@ -57,7 +57,7 @@ fn digits(top: u64, negative: bool, value: u64, digit: u8) -> IdsAction
 fn before(top: u64, kind: NumberByte) -> IdsAction
     requires top { top < 2 ^ 63 }
     requires kind { NumberByteFits kind }
-    ensures plan { result ≡ before top kind }
+    ensures transition { result ≡ before top kind }
     ensures fits { ActionFits top result }
 {
     match kind {
@@ -69,7 +69,7 @@ fn before(top: u64, kind: NumberByte) -> IdsAction
 
 /// The action for a byte at which an id may end.
 fn next_action(id: i64, kind: NumberByte) -> IdsAction
-    ensures plan { result ≡ next_action id kind }
+    ensures transition { result ≡ next_action id kind }
     ensures fits { (top : ℕ) → ActionFits top result }
 {
     match kind {
@@ -82,11 +82,11 @@ fn next_action(id: i64, kind: NumberByte) -> IdsAction
 
 /// What the machine does with a byte. This does not allocate.
 #[inline(always)]
-fn plan(top: u64, phase: IdsPhase, kind: NumberByte) -> IdsAction
+fn transition(top: u64, phase: IdsPhase, kind: NumberByte) -> IdsAction
     requires top { top < 2 ^ 63 }
     requires phase { PhaseFits top phase }
     requires kind { NumberByteFits kind }
-    ensures plan { result ≡ plan top phase kind }
+    ensures transition { result ≡ transition top phase kind }
     ensures fits { ActionFits top result }
 {
     match (phase, kind) {
@@ -168,8 +168,8 @@ impl Machine for IdsMachine {
 
     ghost automaton = { ids_automaton };
 
-    fn goes(&mut self, byte: u8) -> bool {
-        match plan(self.top, self.phase, number_byte(byte)) {
+    fn try_continue(&mut self, byte: u8) -> bool {
+        match transition(self.top, self.phase, number_byte(byte)) {
             IdsAction::To(next) => {
                 self.phase = next;
                 true
@@ -185,7 +185,7 @@ impl Machine for IdsMachine {
         }
     }
 
-    fn closes(&mut self, byte: u8) -> Option<Sequence<i64>> {
+    fn try_finish(&mut self, byte: u8) -> Option<Sequence<i64>> {
         self.end(byte)
     }
 
@@ -194,11 +194,11 @@ impl Machine for IdsMachine {
         if length > 0 {
             return length;
         }
-        if self.goes(piece[0]) { 1 } else { 0 }
+        if self.try_continue(piece[0]) { 1 } else { 0 }
     }
 
     fn push(&mut self, byte: u8) -> Push<Sequence<i64>> {
-        match plan(self.top, self.phase, number_byte(byte)) {
+        match transition(self.top, self.phase, number_byte(byte)) {
             IdsAction::To(phase) => {
                 self.phase = phase;
                 Push::Go
@@ -240,7 +240,7 @@ impl Machine for IdsMachine {
             return false;
         }
         !matches!(
-            plan(self.top, self.phase, number_byte(byte)),
+            transition(self.top, self.phase, number_byte(byte)),
             IdsAction::Stop
         )
     }

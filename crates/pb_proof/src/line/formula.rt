@@ -3,7 +3,7 @@
 ghost use Rattle.std.specs.Prelude.{◌≡◌, ◌<◌, ◌≤◌, ◌^◌};
 ghost use Rattle.pb_text.specs.meaning.Limits.{top_of};
 ghost use Rattle.pb_proof.specs.engine.Line.ByteKind.{NumberByteFits};
-ghost use Rattle.pb_proof.specs.engine.Line.Count.{digits, next_action, plan, counting, is_done, PhaseFits, ActionFits};
+ghost use Rattle.pb_proof.specs.engine.Line.Count.{digits, next_action, transition, counting, is_done, PhaseFits, ActionFits};
 
 mod phase;
 
@@ -38,7 +38,7 @@ fn digits(top: u64, value: u64, digit: u8) -> CountAction
     requires top { top < 2 ^ 63 }
     requires value { value ≤ top }
     requires digit { digit < 10 }
-    ensures plan { result ≡ digits top value digit }
+    ensures transition { result ≡ digits top value digit }
     ensures fits { ActionFits top result }
 {
     match next_digit_u64(top, value, digit) {
@@ -60,11 +60,11 @@ fn next_action(count: Option<u64>, gap: CountPhase, kind: NumberByte) -> CountAc
 }
 
 /// What the machine does with a byte.
-fn plan(top: u64, phase: CountPhase, kind: NumberByte) -> CountAction
+fn transition(top: u64, phase: CountPhase, kind: NumberByte) -> CountAction
     requires top { top < 2 ^ 63 }
     requires phase { PhaseFits top phase }
     requires kind { NumberByteFits kind }
-    ensures plan { result ≡ plan top phase kind }
+    ensures transition { result ≡ transition top phase kind }
     ensures fits { ActionFits top result }
 {
     match (phase, kind) {
@@ -108,7 +108,7 @@ impl Machine for CountMachine {
     ghost automaton = { count_automaton };
 
     fn push(&mut self, byte: u8) -> Push<Option<u64>> {
-        match plan(self.top, self.phase, number_byte(byte)) {
+        match transition(self.top, self.phase, number_byte(byte)) {
             CountAction::To(phase) => {
                 self.phase = phase;
                 Push::Go
@@ -136,7 +136,7 @@ impl Machine for CountMachine {
             return false;
         }
         !matches!(
-            plan(self.top, self.phase, number_byte(byte)),
+            transition(self.top, self.phase, number_byte(byte)),
             CountAction::Stop
         )
     }

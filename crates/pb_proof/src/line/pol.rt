@@ -19,7 +19,7 @@ use crate::line::pol::close::held_number;
 use crate::line::pol::fast::{held_before, operator};
 use crate::line::pol::kind::kind_of;
 use crate::line::pol::phase::{Action, Change, Held, Kind, Phase, Role};
-use crate::line::pol::transition::{in_hand, is_done, is_in_number, plan};
+use crate::line::pol::transition::{in_hand, is_done, is_in_number, transition};
 use crate::line::pol::words::{count_units, finish, make_room, turn};
 use crate::word::PolWord;
 use pb_sums::Name;
@@ -85,7 +85,7 @@ impl PolMachine {
 
 impl PolMachine {
     ghost use Rattle.std.specs.Prelude.{◌≤◌, ◌<◌, take, length};
-    ghost use Rattle.pb_text.specs.contract.Automaton.{Goes, IsState, Runs};
+    ghost use Rattle.pb_text.specs.contract.Automaton.{Continues, IsState, Runs};
     ghost use Rattle.pb_proof.specs.engine.Line.PolState.{pol_automaton};
 
     /// Takes an id and the space after it, if a word may begin here.
@@ -147,7 +147,7 @@ impl PolMachine {
     /// Takes the space before the first word.
     #[inline(always)]
     fn take_space(&mut self, byte: u8) -> bool
-        ensures goes { Goes pol_automaton self.old byte result self.new }
+        ensures continues { Continues pol_automaton self.old byte result self.new }
         ensures state { IsState pol_automaton self.new }
     {
         let _ = self.is_done();
@@ -161,7 +161,7 @@ impl PolMachine {
     /// Takes an `s`, if the operator may come here. A name may begin with it too.
     #[inline(always)]
     fn take_saturate(&mut self, byte: u8) -> bool
-        ensures goes { Goes pol_automaton self.old byte result self.new }
+        ensures continues { Continues pol_automaton self.old byte result self.new }
         ensures state { IsState pol_automaton self.new }
     {
         let _ = self.is_done();
@@ -206,8 +206,8 @@ impl Machine for PolMachine {
 
     ghost automaton = { pol_automaton };
 
-    fn goes(&mut self, byte: u8) -> bool {
-        match plan(self.limit, self.top, self.depth, self.phase, kind_of(byte)) {
+    fn try_continue(&mut self, byte: u8) -> bool {
+        match transition(self.limit, self.top, self.depth, self.phase, kind_of(byte)) {
             Action::To(phase) => {
                 self.phase = phase;
                 true
@@ -247,7 +247,7 @@ impl Machine for PolMachine {
         }
     }
 
-    fn closes(&mut self, byte: u8) -> Option<Sequence<PolWord>> {
+    fn try_finish(&mut self, byte: u8) -> Option<Sequence<PolWord>> {
         self.end(byte)
     }
 
@@ -257,11 +257,11 @@ impl Machine for PolMachine {
         if length > 0 || piece[0] == b'\n' {
             return length;
         }
-        if self.goes(piece[0]) { 1 } else { 0 }
+        if self.try_continue(piece[0]) { 1 } else { 0 }
     }
 
     fn push(&mut self, byte: u8) -> Push<Sequence<PolWord>> {
-        match plan(self.limit, self.top, self.depth, self.phase, kind_of(byte)) {
+        match transition(self.limit, self.top, self.depth, self.phase, kind_of(byte)) {
             Action::Stop => refusal(self.phase, byte),
             Action::To(phase) => {
                 self.phase = phase;
@@ -322,7 +322,7 @@ impl Machine for PolMachine {
         if !matches!(self.phase, Phase::Start) {
             return false;
         }
-        let planned = plan(
+        let planned = transition(
             self.limit,
             self.top,
             self.depth,

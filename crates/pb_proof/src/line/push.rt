@@ -79,19 +79,22 @@ impl Machine for LineMachine {
 
     ghost automaton = { line_automaton };
 
-    fn run(&mut self, piece: &[u8]) -> usize {
-        whichever!(self, machine => machine.run(piece))
+    fn take_run(&mut self, piece: &[u8]) -> usize {
+        whichever!(self, machine => machine.take_run(piece))
     }
 
-    fn closes(&mut self, byte: u8) -> Option<Statement> {
+    fn try_finish(&mut self, byte: u8) -> Option<Statement> {
         match self {
-            LineMachine::Count(machine) => ended(machine.closes(byte), Statement::F),
-            LineMachine::Pol(machine) => ended(machine.closes(byte), Statement::Pol),
-            LineMachine::Rup(machine) => ended(machine.closes(byte), Statement::Rup),
-            LineMachine::Soli(machine) => ended(machine.closes(byte), Statement::Soli),
-            LineMachine::Solx(machine) => ended(machine.closes(byte), Statement::Solx),
-            LineMachine::Delete(machine) => ended(machine.closes(byte), Statement::Delete),
-            LineMachine::Conclusion(machine) => ended(machine.closes(byte), Statement::Conclude),
+            LineMachine::Count(machine) => ended(machine.try_finish(byte), Statement::F),
+            LineMachine::Pol(machine) => ended(machine.try_finish(byte), Statement::Pol),
+            LineMachine::Rup(machine) => ended(machine.try_finish(byte), Statement::Rup),
+            LineMachine::Soli(machine) => ended(machine.try_finish(byte), Statement::Soli),
+            LineMachine::Solx(machine) => ended(machine.try_finish(byte), Statement::Solx),
+            LineMachine::Delete(machine) => ended(machine.try_finish(byte), Statement::Delete),
+            LineMachine::Conclusion(machine) => ended(
+                machine.try_finish(byte),
+                Statement::Conclude,
+            ),
         }
     }
 

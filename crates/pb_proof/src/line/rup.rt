@@ -147,13 +147,13 @@ impl RupMachine {
 
 impl RupMachine {
     ghost use Rattle.std.specs.Prelude.{◌≤◌, take, length};
-    ghost use Rattle.pb_text.specs.contract.Automaton.{Goes, IsState, Runs};
+    ghost use Rattle.pb_text.specs.contract.Automaton.{Continues, IsState, Runs};
     ghost use Rattle.pb_proof.specs.engine.Line.Rup.{rup_automaton, rup_plan};
 
     /// Gives a byte to the machine for sums. Returns whether the byte was taken.
     fn gives(&mut self, byte: u8) -> bool
         requires { rup_plan self.old.phase byte ≡ RupAction.Give }
-        ensures { Goes rup_automaton self.old byte result self.new }
+        ensures { Continues rup_automaton self.old byte result self.new }
     {
         match self.give(byte) {
             Push::Go => true,
@@ -172,7 +172,7 @@ impl RupMachine {
         if text.is_empty() || is_blank(text[0]) {
             return 0;
         }
-        let taken = self.sums.run(text);
+        let taken = self.sums.take_run(text);
         if taken == 0 {
             return 0;
         }
@@ -189,7 +189,7 @@ impl RupMachine {
         ensures state { IsState rup_automaton self.new }
     {
         let taken = match self.phase {
-            RupPhase::Inside => self.sums.run(text),
+            RupPhase::Inside => self.sums.take_run(text),
             RupPhase::Gap => self.begin_prefix(text),
             _ => 0,
         };
@@ -200,14 +200,14 @@ impl RupMachine {
     /// Takes the `;` of a constraint that is complete.
     #[inline(always)]
     fn take_end(&mut self, byte: u8) -> bool
-        ensures goes { Goes rup_automaton self.old byte result self.new }
+        ensures continues { Continues rup_automaton self.old byte result self.new }
         ensures state { IsState rup_automaton self.new }
     {
         let _ = self.is_done();
         let RupPhase::Inside = self.phase else {
             return false;
         };
-        let Some(event) = self.sums.closes(byte) else {
+        let Some(event) = self.sums.try_finish(byte) else {
             let _ = self.is_done();
             return false;
         };
@@ -242,7 +242,7 @@ impl Machine for RupMachine {
 
     ghost automaton = { rup_automaton };
 
-    fn goes(&mut self, byte: u8) -> bool {
+    fn try_continue(&mut self, byte: u8) -> bool {
         let gone = match rup_plan(self.phase, byte) {
             RupAction::To(phase) => {
                 self.phase = phase;
@@ -255,7 +255,7 @@ impl Machine for RupMachine {
         gone
     }
 
-    fn closes(&mut self, byte: u8) -> Option<Linear> {
+    fn try_finish(&mut self, byte: u8) -> Option<Linear> {
         let linear = self.end(byte);
         let _ = self.is_done();
         linear
@@ -266,7 +266,7 @@ impl Machine for RupMachine {
         if length > 0 {
             return length;
         }
-        if self.goes(piece[0]) { 1 } else { 0 }
+        if self.try_continue(piece[0]) { 1 } else { 0 }
     }
 
     fn push(&mut self, byte: u8) -> Push<Linear> {

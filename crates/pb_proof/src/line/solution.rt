@@ -2,7 +2,7 @@
 
 ghost use Rattle.std.specs.Prelude.{true, ◌≡◌, ℕ, ◌-◌, ◌^◌, ◌<◌, List, [], IfOk, OnOk, OnErr, min};
 ghost use Rattle.pb_proof.specs.engine.Line.ByteKind.{NameByteFits};
-ghost use Rattle.pb_proof.specs.engine.Line.Literals.{next_action, before, plan, flushed, is_more, is_done, in_hand, units, ActionFits};
+ghost use Rattle.pb_proof.specs.engine.Line.Literals.{next_action, before, transition, flushed, is_more, is_done, in_hand, units, ActionFits};
 
 mod phase;
 
@@ -38,7 +38,7 @@ impl Model for LiteralsMachine {
 
 /// The action for a byte at which the line may end.
 fn next_action(kind: NameByte) -> LiteralsAction
-    ensures plan { result ≡ next_action kind }
+    ensures transition { result ≡ next_action kind }
     ensures fits { ActionFits result }
 {
     match kind {
@@ -52,7 +52,7 @@ fn next_action(kind: NameByte) -> LiteralsAction
 /// The action for a byte at which a literal may begin, or the line may end.
 fn before(kind: NameByte) -> LiteralsAction
     requires { NameByteFits kind }
-    ensures plan { result ≡ before kind }
+    ensures transition { result ≡ before kind }
     ensures fits { ActionFits result }
 {
     match kind {
@@ -64,9 +64,9 @@ fn before(kind: NameByte) -> LiteralsAction
 
 /// What the machine does with a byte. This does not allocate.
 #[inline(always)]
-fn plan(joined: bool, phase: LiteralsPhase, kind: NameByte) -> LiteralsAction
+fn transition(joined: bool, phase: LiteralsPhase, kind: NameByte) -> LiteralsAction
     requires { NameByteFits kind }
-    ensures plan { result ≡ plan joined phase kind }
+    ensures transition { result ≡ transition joined phase kind }
     ensures fits { ActionFits result }
 {
     match (phase, kind) {
@@ -186,8 +186,8 @@ impl Machine for LiteralsMachine {
 
     ghost automaton = { literals_automaton };
 
-    fn goes(&mut self, byte: u8) -> bool {
-        match plan(self.joined, self.phase, name_byte(byte)) {
+    fn try_continue(&mut self, byte: u8) -> bool {
+        match transition(self.joined, self.phase, name_byte(byte)) {
             LiteralsAction::Begin(phase, first) => {
                 let mut name = Name::new(self.alloc);
                 if name.push(first).is_err() {
@@ -216,7 +216,7 @@ impl Machine for LiteralsMachine {
     }
 
     fn push(&mut self, byte: u8) -> Push<Sequence<Literal>> {
-        match plan(self.joined, self.phase, name_byte(byte)) {
+        match transition(self.joined, self.phase, name_byte(byte)) {
             LiteralsAction::Stop => Push::No,
             LiteralsAction::Begin(phase, first) => {
                 let mut name = Name::new(self.alloc);
@@ -264,7 +264,7 @@ impl Machine for LiteralsMachine {
             return false;
         }
         !matches!(
-            plan(self.joined, self.phase, name_byte(byte)),
+            transition(self.joined, self.phase, name_byte(byte)),
             LiteralsAction::Stop
         )
     }

@@ -1,7 +1,7 @@
 //! Ends a statement in one go.
 
 ghost use Rattle.std.specs.Prelude.{◌≡◌};
-ghost use Rattle.pb_text.specs.contract.Automaton.{Closes, IsState};
+ghost use Rattle.pb_text.specs.contract.Automaton.{Finishes, IsState};
 ghost use Rattle.pb_proof.specs.engine.Machine.State.{proofs};
 
 use crate::machine::phase::Phase;
@@ -14,7 +14,7 @@ impl ProofMachine {
     /// Ends a statement with a byte after its first word, if the statement is complete and no allocation fails.
     #[inline(always)]
     pub(super) fn end(&mut self, byte: u8) -> Option<Statement>
-        ensures closes { Closes proofs self.old byte result self.new }
+        ensures finishes { Finishes proofs self.old byte result self.new }
         ensures state { IsState proofs self.new }
     {
         let Phase::Inside(kind) = self.phase else {
@@ -22,7 +22,7 @@ impl ProofMachine {
             return None;
         };
         let statement = match &mut self.line {
-            Some(line) => line.closes(byte),
+            Some(line) => line.try_finish(byte),
             None => None,
         };
         if statement.is_some() {

@@ -1,7 +1,7 @@
 //! What the machine for proofs does with a byte, given what it has read last.
 
 ghost use Rattle.std.specs.Prelude.{◌≡◌, ◌<◌, ◌≤◌, IfSome, None, length, take};
-ghost use Rattle.pb_proof.specs.engine.Machine.Transition.{words_of, next_action, meets, spell, step_keyword, enter, pass, between, plan};
+ghost use Rattle.pb_proof.specs.engine.Machine.Transition.{words_of, next_action, meets, spell, step_keyword, enter, pass, between, transition};
 ghost use Rattle.pb_proof.specs.engine.Machine.State.{is_within, is_complete, is_done, next_stage, PhaseFits};
 ghost use Rattle.pb_proof.specs.engine.Machine.Words.{IsRest, LacksRest};
 
@@ -123,7 +123,7 @@ fn between(stage: Stage, byte: u8) -> Action
 /// The action for a byte within the words.
 fn within(keyword: Keyword, read: usize, byte: u8) -> Action
     requires { PhaseFits (Phase.Spelling keyword read) }
-    ensures { result ≡ plan (Phase.Spelling keyword read) byte }
+    ensures { result ≡ transition (Phase.Spelling keyword read) byte }
 {
     let other = if is_blank(byte) && words_of(keyword)[read - 1] == b' ' {
         Action::To(Phase::Spelling(keyword, read))
@@ -154,9 +154,9 @@ pub fn words_prefix(phase: Phase, text: &[u8]) -> Option<(usize, Action)>
 
 /// What the machine does with a byte.
 #[inline(always)]
-pub fn plan(phase: Phase, byte: u8) -> Action
+pub fn transition(phase: Phase, byte: u8) -> Action
     requires { PhaseFits phase }
-    ensures { result ≡ plan phase byte }
+    ensures { result ≡ transition phase byte }
 {
     match phase {
         Phase::Between(stage) => between(stage, byte),

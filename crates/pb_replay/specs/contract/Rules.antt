@@ -12,7 +12,7 @@ use Rattle.pb_proof.specs.declared.Stage.TheVariants.{Formula, Steps, Concluding
 use Rattle.pb_proof.specs.declared.Statement.{Statement}
 use Rattle.pb_proof.specs.declared.Statement.TheVariants.{Header, F, Pol, Rup, Soli, Solx, Delete, Output, Conclude, End}
 use Rattle.pb_proof.specs.meaning.Order.{stage_of}
-use Rattle.pb_proof.specs.meaning.Postfix.{Tree, Constraint, True, Sum, Times, Divided, Saturated, Weakened, words}
+use Rattle.pb_proof.specs.meaning.Postfix.{Tree, Constraint, LiteralAxiom, Sum, Product, Quotient, Saturation, Weakening, words}
 use Rattle.pb_normal.specs.declared.Side.{Side}
 use Rattle.pb_normal.specs.declared.Side.TheVariants.{AtLeast as least, AtMost as most}
 use Rattle.pb_normal.specs.meaning.Constraints.{Fits}
@@ -30,12 +30,12 @@ use Rattle.pb_replay.specs.meaning.Statements.{IsCount, Outcome, mentioned}
 -- an expression has a form; those of sums and products are within the limit
 pub data HasForm (limit : ℕ) (names : List (List ℕ)) (live : List (Option Form)) : Tree → Form → Type 0 where
   constraint : (id : ℤ) (f : Form) → IsLive live id f → HasForm limit names live (Constraint id) f
-  literal : (l : Literal) → HasForm limit names live (True l) (axiom_on (number_in names l.name) l.negated)
+  literal : (l : Literal) → HasForm limit names live (LiteralAxiom l) (axiom_on (number_in names l.name) l.negated)
   sum : (a b : Tree) (f g r : Form) → HasForm limit names live a f → HasForm limit names live b g → IsSum f g r → IsWithin limit r → HasForm limit names live (Sum a b) r
-  product : (a : Tree) (k : ℤ) (f : Form) → HasForm limit names live a f → IsWithin limit (multiplied (unsigned_abs k) f) → HasForm limit names live (Times a k) (multiplied (unsigned_abs k) f)
-  quotient : (a : Tree) (k : ℤ) (f : Form) → HasForm limit names live a f → HasForm limit names live (Divided a k) (divided (unsigned_abs k) f)
-  saturation : (a : Tree) (f : Form) → HasForm limit names live a f → HasForm limit names live (Saturated a) (saturated f)
-  weakening : (a : Tree) (name : List ℕ) (f : Form) → HasForm limit names live a f → HasForm limit names live (Weakened a name) (weakened (number_in names name) f)
+  product : (a : Tree) (k : ℤ) (f : Form) → HasForm limit names live a f → IsWithin limit (multiplied (unsigned_abs k) f) → HasForm limit names live (Product a k) (multiplied (unsigned_abs k) f)
+  quotient : (a : Tree) (k : ℤ) (f : Form) → HasForm limit names live a f → HasForm limit names live (Quotient a k) (divided (unsigned_abs k) f)
+  saturation : (a : Tree) (f : Form) → HasForm limit names live a f → HasForm limit names live (Saturation a) (saturated f)
+  weakening : (a : Tree) (name : List ℕ) (f : Form) → HasForm limit names live a f → HasForm limit names live (Weakening a name) (weakened (number_in names name) f)
 
 -- the form of one side of a written constraint
 pub record IsFormOfSide (limit : ℕ) (names : List (List ℕ)) (side : Side) (linear : Linear) (r : Form) : Type 0 where

@@ -50,8 +50,8 @@ pub data Accounted (v : Problem) (s : State) (a : ℕ → Bool) : Type 0 where
   beaten : (o : List Term) → v.objective ≡ Some o → (g : Logged) → Contains s.logged g → g.value ≤ℤ value v a → Accounted v s a
   allowed : HoldAll a (Live s.live) → Accounted v s a
 
-abbrev pub Stands : Problem → State → Type 0
-Stands v s = (a : ℕ → Bool) → IsSolution v a → Accounted v s a
+abbrev pub AllAccounted : Problem → State → Type 0
+AllAccounted v s = (a : ℕ → Bool) → IsSolution v a → Accounted v s a
 
 -- the same for an instance as written
 pub data AccountedWritten (i : Instance) (names : List (List ℕ)) (s : State) (a : List ℕ → Bool) : Type 0 where
@@ -65,7 +65,7 @@ IsNamePrefix names all = (more : List (List ℕ)) × (all ≡ names ++ more)
 
 -- what is true of every state of a replay
 pub record IsSound (v : Problem) (s : State) : Type 0 where
-  pub stands : Stands v s
+  pub stands : AllAccounted v s
   pub names : IsNamePrefix v.names s.names
   pub distinct : AreDistinct s.names
   pub solutions : (g : Logged) → Contains s.logged g → IsSolution v (assignment g.values)

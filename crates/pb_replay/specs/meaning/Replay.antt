@@ -1,8 +1,8 @@
 -- The state of a replay, and parts of what statements do
-use Rattle.std.specs.Prelude.{◌≡◌, ℕ, zero, suc, ◌+◌, ◌-◌, ◌<◌, nat_lt, ℤ, pos, negsuc, unsigned_abs, Bool, true, false, not, ◌⊎◌, if◌then◌else◌, List, [], ◌∷◌, ◌++◌, length, map, get_or, set, Contains, Option, Some, None, Ok}
+use Rattle.std.specs.Prelude.{◌≡◌, ℕ, zero, suc, ◌+◌, ◌-◌, ◌<◌, nat_lt, ℤ, pos, negsuc, unsigned_abs, Bool, true, false, ◌⊎◌, if◌then◌else◌, List, [], ◌∷◌, ◌++◌, length, map, get_or, set, Contains, Option, Some, None, Ok}
 use Rattle.pb_sums.specs.declared.Literal.{Literal}
 use Rattle.pb_sums.specs.declared.Linear.{Linear}
-use Rattle.pb_proof.specs.meaning.Postfix.{Tree, Constraint, True, Sum, Times, Divided, Saturated, Weakened}
+use Rattle.pb_proof.specs.meaning.Postfix.{Tree, Constraint, LiteralAxiom, Sum, Product, Quotient, Saturation, Weakening}
 use Rattle.pb_proof.specs.declared.Stage.{Stage}
 use Rattle.pb_proof.specs.declared.Stage.TheVariants.{Opening}
 use Rattle.pb_normal.specs.declared.numbered.NumberedLiteral.{NumberedLiteral}
@@ -68,14 +68,14 @@ limited limit r = need (IsWithin limit r) Overflow (gives r)
 -- the form of an expression; the fault is that of its first word whose own expression has no form
 abbrev pub FormOfExpression : ℕ → List (List ℕ) → List (Option Form) → Tree → Answer Form
 FormOfExpression limit names live (Constraint id) = found (IsLive live id) (NoSuchId id) (λ f. gives f)
-FormOfExpression limit names live (True l) = gives (axiom_on (number_in names l.name) l.negated)
+FormOfExpression limit names live (LiteralAxiom l) = gives (axiom_on (number_in names l.name) l.negated)
 FormOfExpression limit names live (Sum a b) =
     after (FormOfExpression limit names live a) (λ f. after (FormOfExpression limit names live b) (λ g. some (IsSum f g) (limited limit)))
-FormOfExpression limit names live (Times a k) = after (FormOfExpression limit names live a) (λ f. limited limit (multiplied (unsigned_abs k) f))
-FormOfExpression limit names live (Divided a k) =
+FormOfExpression limit names live (Product a k) = after (FormOfExpression limit names live a) (λ f. limited limit (multiplied (unsigned_abs k) f))
+FormOfExpression limit names live (Quotient a k) =
     after (FormOfExpression limit names live a) (λ f. gives (divided (unsigned_abs k) f))
-FormOfExpression limit names live (Saturated a) = after (FormOfExpression limit names live a) (λ f. gives (saturated f))
-FormOfExpression limit names live (Weakened a name) = after (FormOfExpression limit names live a) (λ f. gives (weakened (number_in names name) f))
+FormOfExpression limit names live (Saturation a) = after (FormOfExpression limit names live a) (λ f. gives (saturated f))
+FormOfExpression limit names live (Weakening a name) = after (FormOfExpression limit names live a) (λ f. gives (weakened (number_in names name) f))
 
 -- continues with the form of one side of a written constraint
 abbrev pub normal_form : {A : Type 0} → ℕ → List (List ℕ) → Side → Linear → (Form → Answer A) → Answer A

@@ -1,6 +1,6 @@
 -- The laws of the grammar and of the machine.
 use Rattle.std.specs.Prelude.{◌≡◌, ℕ, ◌≤◌, ◌<◌, ◌^◌, List, [], ◌++◌, ◌↔◌, false}
-use Rattle.pb_text.specs.contract.Automaton.{Reads, IsState}
+use Rattle.pb_text.specs.contract.Automaton.{ReadsStatement, IsState}
 use Rattle.pb_text.specs.meaning.Spelling.{Letter, bytes}
 use Rattle.pb_sums.specs.meaning.Sums.{Spells, SpellsSum, SpellsLinear}
 use Rattle.pb_sums.specs.engine.State.{SumState, sums, first, last, with_work, IsInOrder}
@@ -15,15 +15,15 @@ use Rattle.pb_sums.specs.declared.sum_kind.Part.{Part}
 -- A new machine reads exactly the grammar, and then it has ended.
 abbrev pub ReadsGrammar : Type 0
 ReadsGrammar = (spaces : Spaces) (part : Part) (limit : ℕ) (text : List Letter) (event : SumEvent) (after : SumState) →
-    Reads sums (first spaces part limit) text event after ↔ (Spells spaces limit part event text × (after ≡ last spaces part limit))
+    ReadsStatement sums (first spaces part limit) text event after ↔ (Spells spaces limit part event text × (after ≡ last spaces part limit))
 
 -- After an event a machine has ended, whatever state it was in.
 abbrev pub EndsLast : Type 0
-EndsLast = (state after : SumState) (text : List Letter) (event : SumEvent) → Reads sums state text event after → after ≡ with_work state finished
+EndsLast = (state after : SumState) (text : List Letter) (event : SumEvent) → ReadsStatement sums state text event after → after ≡ with_work state finished
 
 -- Each state that has not ended reads a text.
 abbrev pub EachReads : Type 0
-EachReads = (state : SumState) → sums.done state ≡ false → (text : List Letter) × (event : SumEvent) × (after : SumState) × Reads sums state text event after
+EachReads = (state : SumState) → sums.done state ≡ false → (text : List Letter) × (event : SumEvent) × (after : SumState) × ReadsStatement sums state text event after
 
 -- A state with `IsInOrder` is a state of a machine.
 abbrev pub EachIsState : Type 0

@@ -109,40 +109,40 @@ next_action want Equals = cond (allows want Equal) (To (phase.TheVariants.Operat
 next_action want Semicolon = cond (reads_sums want) EndSum Stop
 next_action want _ = Stop
 
-abbrev pub plan : Part → ℕ → Phase → Kind → Action
-plan want limit phase.TheVariants.Start Space = cond (reads_sums want) (To phase.TheVariants.Empty) Stop
-plan want limit phase.TheVariants.Start Plus = number limit None Plus
-plan want limit phase.TheVariants.Start Minus = number limit None Minus
-plan want limit phase.TheVariants.Start (Digit d) = number limit None (Digit d)
-plan want limit phase.TheVariants.Start k = next_action want k
-plan want limit (phase.TheVariants.Signed role negative) (Digit d) = digits limit role negative 0 d
-plan want limit (phase.TheVariants.Digits role negative n) (Digit d) = digits limit role negative n d
-plan want limit (phase.TheVariants.Digits None negative n) Space = To (phase.TheVariants.Gap (signed negative n))
-plan want limit (phase.TheVariants.Digits (Some r) negative n) Space = To (phase.TheVariants.Tail r (signed negative n))
-plan want limit (phase.TheVariants.Digits (Some r) negative n) Semicolon = EndLinear r (signed negative n)
-plan want limit (phase.TheVariants.Gap z) Space = To (phase.TheVariants.Gap z)
-plan want limit (phase.TheVariants.Gap z) Tilde = To (phase.TheVariants.Tilde z)
-plan want limit (phase.TheVariants.Gap z) (Start b) = Begin (phase.TheVariants.First z false) b
-plan want limit (phase.TheVariants.Tilde z) (Start b) = Begin (phase.TheVariants.First z true) b
-plan want limit (phase.TheVariants.First z negated) (Start b) = Add (phase.TheVariants.More z negated) b
-plan want limit (phase.TheVariants.First z negated) (Inner b) = Add (phase.TheVariants.More z negated) b
-plan want limit (phase.TheVariants.More z negated) (Start b) = Add (phase.TheVariants.More z negated) b
-plan want limit (phase.TheVariants.More z negated) (Inner b) = Add (phase.TheVariants.More z negated) b
-plan want limit (phase.TheVariants.More z negated) Space = To phase.TheVariants.Between
-plan want limit (phase.TheVariants.More z negated) k = next_action want k
-plan want limit phase.TheVariants.Between Space = To phase.TheVariants.Between
-plan want limit phase.TheVariants.Between Plus = number limit None Plus
-plan want limit phase.TheVariants.Between Minus = number limit None Minus
-plan want limit phase.TheVariants.Between (Digit d) = number limit None (Digit d)
-plan want limit phase.TheVariants.Between k = next_action want k
-plan want limit phase.TheVariants.Greater Equals = To (phase.TheVariants.Operator AtLeast)
-plan want limit (phase.TheVariants.Operator r) Space = To (phase.TheVariants.Operator r)
-plan want limit (phase.TheVariants.Operator r) k = number limit (Some r) k
-plan want limit (phase.TheVariants.Tail r z) Space = To (phase.TheVariants.Tail r z)
-plan want limit (phase.TheVariants.Tail r z) Semicolon = EndLinear r z
-plan want limit phase.TheVariants.Empty Space = To phase.TheVariants.Empty
-plan want limit phase.TheVariants.Empty Semicolon = EndSum
-plan _ _ _ _ = Stop
+abbrev pub transition : Part → ℕ → Phase → Kind → Action
+transition want limit phase.TheVariants.Start Space = cond (reads_sums want) (To phase.TheVariants.Empty) Stop
+transition want limit phase.TheVariants.Start Plus = number limit None Plus
+transition want limit phase.TheVariants.Start Minus = number limit None Minus
+transition want limit phase.TheVariants.Start (Digit d) = number limit None (Digit d)
+transition want limit phase.TheVariants.Start k = next_action want k
+transition want limit (phase.TheVariants.Signed role negative) (Digit d) = digits limit role negative 0 d
+transition want limit (phase.TheVariants.Digits role negative n) (Digit d) = digits limit role negative n d
+transition want limit (phase.TheVariants.Digits None negative n) Space = To (phase.TheVariants.Gap (signed negative n))
+transition want limit (phase.TheVariants.Digits (Some r) negative n) Space = To (phase.TheVariants.Tail r (signed negative n))
+transition want limit (phase.TheVariants.Digits (Some r) negative n) Semicolon = EndLinear r (signed negative n)
+transition want limit (phase.TheVariants.Gap z) Space = To (phase.TheVariants.Gap z)
+transition want limit (phase.TheVariants.Gap z) Tilde = To (phase.TheVariants.Tilde z)
+transition want limit (phase.TheVariants.Gap z) (Start b) = Begin (phase.TheVariants.First z false) b
+transition want limit (phase.TheVariants.Tilde z) (Start b) = Begin (phase.TheVariants.First z true) b
+transition want limit (phase.TheVariants.First z negated) (Start b) = Add (phase.TheVariants.More z negated) b
+transition want limit (phase.TheVariants.First z negated) (Inner b) = Add (phase.TheVariants.More z negated) b
+transition want limit (phase.TheVariants.More z negated) (Start b) = Add (phase.TheVariants.More z negated) b
+transition want limit (phase.TheVariants.More z negated) (Inner b) = Add (phase.TheVariants.More z negated) b
+transition want limit (phase.TheVariants.More z negated) Space = To phase.TheVariants.Between
+transition want limit (phase.TheVariants.More z negated) k = next_action want k
+transition want limit phase.TheVariants.Between Space = To phase.TheVariants.Between
+transition want limit phase.TheVariants.Between Plus = number limit None Plus
+transition want limit phase.TheVariants.Between Minus = number limit None Minus
+transition want limit phase.TheVariants.Between (Digit d) = number limit None (Digit d)
+transition want limit phase.TheVariants.Between k = next_action want k
+transition want limit phase.TheVariants.Greater Equals = To (phase.TheVariants.Operator AtLeast)
+transition want limit (phase.TheVariants.Operator r) Space = To (phase.TheVariants.Operator r)
+transition want limit (phase.TheVariants.Operator r) k = number limit (Some r) k
+transition want limit (phase.TheVariants.Tail r z) Space = To (phase.TheVariants.Tail r z)
+transition want limit (phase.TheVariants.Tail r z) Semicolon = EndLinear r z
+transition want limit phase.TheVariants.Empty Space = To phase.TheVariants.Empty
+transition want limit phase.TheVariants.Empty Semicolon = EndSum
+transition _ _ _ _ = Stop
 
 -- What it does: xs are the terms so far, ys those with the one that ends here.
 abbrev pub act : List Term → List Term → List ℕ → Action → Outcome
@@ -159,7 +159,7 @@ flushed (phase.TheVariants.More z negated) xs name = xs ++ term z negated name �
 flushed _ xs name = xs
 
 abbrev pub action : Part → ℕ → List Term → List ℕ → Phase → Kind → Outcome
-action want limit xs name p k = act (flushed p xs name) xs name (plan want limit p k)
+action want limit xs name p k = act (flushed p xs name) xs name (transition want limit p k)
 
 abbrev pub step : Spaces → Part → ℕ → Work → ℕ → Outcome
 step spaces want limit w b = action want limit w.terms w.name w.phase (kind spaces (letter_at (is_numeric w.phase) b))

@@ -2,7 +2,7 @@
 use Rattle.std.specs.Prelude.{◌≡◌, ℕ, ◌+◌, ◌-◌, ◌^◌, min, Bool, false, ◌||◌, List, [], ◌∷◌, length}
 use Rattle.pb_text.specs.contract.Automaton.{Automaton, Next, Go, End, Refuse}
 use Rattle.pb_text.specs.meaning.Spelling.{Item}
-use Rattle.pb_sums.specs.engine.Machine.{Work, Outcome, fresh, finished, step, plan, kind, letter_at, is_numeric, is_in_number, is_midway, is_done, adds, is_more, PhaseFits}
+use Rattle.pb_sums.specs.engine.Machine.{Work, Outcome, fresh, finished, step, transition, kind, letter_at, is_numeric, is_in_number, is_midway, is_done, adds, is_more, PhaseFits}
 use Rattle.pb_sums.specs.meaning.Sums.{Spells}
 use Rattle.pb_sums.specs.declared.linear.Term.{Term}
 use Rattle.pb_sums.specs.declared.linear.SumEvent.{SumEvent}
@@ -35,7 +35,7 @@ over s Refuse = Refuse
 
 -- whether the byte is in a name, or may end a literal
 abbrev pub asks : SumState → ℕ → Bool
-asks s b = adds (plan s.part s.limit s.work.phase (kind s.spaces (letter_at (is_numeric s.work.phase) b))) || is_more s.work.phase
+asks s b = adds (transition s.part s.limit s.work.phase (kind s.spaces (letter_at (is_numeric s.work.phase) b))) || is_more s.work.phase
 
 -- literals, and the bytes of their names
 abbrev pub units : List Term → ℕ

@@ -28,37 +28,37 @@ pub record Automaton (S E : Type 0) : Type 0 where
 
 module _ {S E : Type 0} (m : Automaton S E) where
   -- bytes between two statements lead from old to new
-  abbrev pub Skips : S → List ℕ → S → Type 0
-  Skips old [] new = new ≡ old
-  Skips old (b ∷ gap) new = (mid : S) × (m.step old b ≡ Go mid) × (m.begun mid ≡ false) × Skips mid gap new
+  abbrev pub SkipsGap : S → List ℕ → S → Type 0
+  SkipsGap old [] new = new ≡ old
+  SkipsGap old (b ∷ gap) new = (mid : S) × (m.step old b ≡ Go mid) × (m.begun mid ≡ false) × SkipsGap mid gap new
 
   -- the letters of one statement lead from old to new, with its event at the last one
-  abbrev pub Reads : S → List Letter → E → S → Type 0
-  Reads old [] e new = ⊥
-  Reads old (l ∷ []) e new = (m.step old l.byte ≡ End e new) × (l.numeral ≡ false)
-  Reads old (l ∷ k ∷ text) e new =
-      (mid : S) × (m.step old l.byte ≡ Go mid) × (m.begun mid ≡ true) × (l.numeral ≡ m.in_number mid) × Reads mid (k ∷ text) e new
+  abbrev pub ReadsStatement : S → List Letter → E → S → Type 0
+  ReadsStatement old [] e new = ⊥
+  ReadsStatement old (l ∷ []) e new = (m.step old l.byte ≡ End e new) × (l.numeral ≡ false)
+  ReadsStatement old (l ∷ k ∷ text) e new =
+      (mid : S) × (m.step old l.byte ≡ Go mid) × (m.begun mid ≡ true) × (l.numeral ≡ m.in_number mid) × ReadsStatement mid (k ∷ text) e new
 
   -- What a state accepts: statements with white space and comments before them, and complete after the last one.
-  abbrev pub Accepts : S → List (Item E) → Type 0
-  Accepts s [] = IsTrue (m.done s)
-  Accepts s (i ∷ rest) = (at : S) × (after : S) × Skips s i.gap at × Reads at i.text i.event after × Accepts after rest
+  abbrev pub AcceptsItems : S → List (Item E) → Type 0
+  AcceptsItems s [] = IsTrue (m.done s)
+  AcceptsItems s (i ∷ rest) = (at : S) × (after : S) × SkipsGap s i.gap at × ReadsStatement at i.text i.event after × AcceptsItems after rest
 
   -- something that the state accepts begins with the byte
   abbrev pub Admits : S → ℕ → Type 0
-  Admits s b = (items : List (Item E)) × Accepts s items × (more : List ℕ) × (bytes_of items ≡ b ∷ more)
+  Admits s b = (items : List (Item E)) × AcceptsItems s items × (more : List ℕ) × (bytes_of items ≡ b ∷ more)
 
   -- What holds of each state.
   pub record IsState (s : S) : Type 0 where
     -- some text may follow
-    pub live : (items : List (Item E)) × Accepts s items
+    pub live : (items : List (Item E)) × AcceptsItems s items
     -- if the text is complete, nothing may follow
     pub ends : IsTrue (m.done s) → (b : ℕ) → m.step s b ≡ Refuse
     -- after each byte that ends no statement, one must still end
     pub owes : (b : ℕ) (next : S) → m.step s b ≡ Go next → m.done next ≡ false
     -- a statement that has begun continues until its event, and then none has begun
     pub stays : m.begun s ≡ true → (b : ℕ) (next : S) → m.step s b ≡ Go next → m.begun next ≡ true
-    pub closes : (b : ℕ) (e : E) (next : S) → m.step s b ≡ End e next → m.begun next ≡ false
+    pub finishes : (b : ℕ) (e : E) (next : S) → m.step s b ≡ End e next → m.begun next ≡ false
     -- a number is part of a statement, and not its end
     pub plain : m.begun s ≡ false → m.in_number s ≡ false
     -- at most one unit is stored for each byte of a statement, and nothing between two statements
@@ -79,14 +79,14 @@ module _ {S E : Type 0} (m : Automaton S E) where
   Pushes old b push.Memory new = IsTrue (m.asks old b) × Admits old b × (new ≡ old)
 
   -- The machine took the byte and continues, or nothing changes.
-  abbrev pub Goes : S → ℕ → Bool → S → Type 0
-  Goes old b true new = m.step old b ≡ Go new
-  Goes old b false new = new ≡ old
+  abbrev pub Continues : S → ℕ → Bool → S → Type 0
+  Continues old b true new = m.step old b ≡ Go new
+  Continues old b false new = new ≡ old
 
   -- The machine ended a statement with the byte, or nothing changes.
-  abbrev pub Closes : S → ℕ → Option E → S → Type 0
-  Closes old b (Some e) new = m.step old b ≡ End e new
-  Closes old b None new = new ≡ old
+  abbrev pub Finishes : S → ℕ → Option E → S → Type 0
+  Finishes old b (Some e) new = m.step old b ≡ End e new
+  Finishes old b None new = new ≡ old
 
   -- Bytes lead from old to new, and the machine continues after each.
   abbrev pub Runs : S → List ℕ → S → Type 0

@@ -1,7 +1,7 @@
 -- What a feed says about the whole input.
 use Rattle.std.specs.Prelude.{◌≡◌, ℕ, ◌+◌, ◌≤◌, List, [], ◌∷◌, ◌++◌, take, Bool, IsTrue, Option, Some, None, Result, Ok, Err}
 use Rattle.pb_text.specs.meaning.Spelling.{place_after}
-use Rattle.pb_text.specs.contract.Automaton.{Accepts}
+use Rattle.pb_text.specs.contract.Automaton.{AcceptsItems}
 use Rattle.pb_text.specs.meaning.Reading.{IsPrefix, HasOpen}
 use Rattle.pb_text.specs.contract.Standing.{Stands, IsOpen, IsUnread}
 use Rattle.pb_text.specs.declared.place.Place.{Place}
@@ -111,4 +111,4 @@ WantsMemory {g} stop f b = stop.why ≡ Memory → IsTrue (g.automaton.asks f.ma
 -- at most as much is held as the bytes used have bytes of a statement that they do not end
 abbrev pub HoldsFew : {M E : Type 0} {g : Ghosts M E} → M → List ℕ → Feeder M E g → ℕ → Type 0
 HoldsFew {g} start input f held =
-    (used : List ℕ) × (n : ℕ) × IsPrefix used input × (f.place ≡ place_after used) × HasOpen (Accepts g.automaton start) used n × (held ≤ n)
+    (used : List ℕ) × (n : ℕ) × IsPrefix used input × (f.place ≡ place_after used) × HasOpen (AcceptsItems g.automaton start) used n × (held ≤ n)

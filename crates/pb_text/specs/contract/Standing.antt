@@ -2,7 +2,7 @@
 use Rattle.std.specs.Prelude.{◌≡◌, ◌≢◌, ◌⊎◌, ℕ, ◌≤◌, ◌<◌, List, [], ◌∷◌, ◌++◌, length, take, Bool, true, false, IsTrue, Option, None, Some, is_some}
 use Rattle.pb_text.specs.meaning.Spelling.{Letter, Item, bytes, letters_of, bytes_of, spans_since, spans_of, place_after}
 use Rattle.pb_text.specs.meaning.Reading.{IsPrefix, last_numeral, AreShort}
-use Rattle.pb_text.specs.contract.Automaton.{Automaton, Refuse, Accepts, Admits, Leads, IsState, is_large}
+use Rattle.pb_text.specs.contract.Automaton.{Automaton, Refuse, AcceptsItems, Admits, Leads, IsState, is_large}
 use Rattle.pb_text.specs.engine.SpentBytes.{end_of, SpentSince}
 use Rattle.pb_text.specs.declared.place.Place.{Place}
 use Rattle.pb_text.specs.declared.place.Spanned.{Spanned}
@@ -50,7 +50,7 @@ module _ {S E : Type 0} (m : Automaton S E) where
     pub letters : List Letter
     pub left : List ℕ
     pub input_is : input ≡ bytes letters ++ left
-    pub follows : Follows (Accepts m start) (Accepts m state) letters spans first
+    pub follows : Follows (AcceptsItems m start) (AcceptsItems m state) letters spans first
     pub leads : Leads m start (bytes letters) state
     pub is_state : IsState m state
     pub place_is : place ≡ place_after (bytes letters)

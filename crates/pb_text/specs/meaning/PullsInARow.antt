@@ -2,7 +2,7 @@
 use Rattle.std.specs.Prelude.{◌≡◌, ℕ, List, [], ◌∷◌, ◌++◌, length, Bool, true, false, Option, Some, None, Result, Ok, Err}
 use Rattle.pb_text.specs.meaning.Spelling.{Item}
 use Rattle.pb_text.specs.meaning.Stopping.{IsAsking}
-use Rattle.pb_text.specs.contract.Automaton.{Accepts, MayAsk}
+use Rattle.pb_text.specs.contract.Automaton.{AcceptsItems, MayAsk}
 use Rattle.pb_text.specs.meaning.Reading.{Reads}
 use Rattle.pb_text.specs.contract.Feeding.{StandsAt, place_of, halt_of}
 use Rattle.pb_text.specs.meaning.Pulling.{Took}
@@ -41,7 +41,7 @@ module _ {E : Type 0} (format : List (Item E) → Type 0) (longest : ℕ) where
 -- what the next of consecutive pulls must give
 abbrev pub PullsOn : {M E : Type 0} {g : Ghosts M E} → ℕ → M → Option (List ℕ) → List (Spanned E) → Result (Option (Spanned E)) Stop → Feeder M E g → Option (List ℕ) → Type 0
 PullsOn {g} longest start before spans (Ok (Some m)) f now =
-    HasPulled longest start before (spans ++ m ∷ []) f now × TookSoFar (Accepts g.automaton start) longest before now (spans ++ m ∷ []) m.past
-PullsOn {g} longest start before spans (Ok None) f now = TookAll (Accepts g.automaton start) longest before now spans (place_of f) true None
+    HasPulled longest start before (spans ++ m ∷ []) f now × TookSoFar (AcceptsItems g.automaton start) longest before now (spans ++ m ∷ []) m.past
+PullsOn {g} longest start before spans (Ok None) f now = TookAll (AcceptsItems g.automaton start) longest before now spans (place_of f) true None
 PullsOn {g} longest start before spans (Err s) f now =
-    (all : TookAll (Accepts g.automaton start) longest before now spans s.place false (Some s)) × IsAsking (MayAsk g.automaton start) all.used all.seen s.why
+    (all : TookAll (AcceptsItems g.automaton start) longest before now spans s.place false (Some s)) × IsAsking (MayAsk g.automaton start) all.used all.seen s.why

@@ -1,7 +1,7 @@
 //! `pb show`: the statements of a text, each with its position.
 
 ghost use Rattle.std.specs.Prelude.{◌≡◌, ◌<◌, ◌^◌, false, unwrap_or, IfSome};
-ghost use Rattle.pb_text.specs.contract.Automaton.{Accepts, MayAsk};
+ghost use Rattle.pb_text.specs.contract.Automaton.{AcceptsItems, MayAsk};
 ghost use Rattle.pb_text.specs.meaning.Blank.{IsInReach};
 ghost use Rattle.pb_text.specs.meaning.Pulling.{OfGiven};
 ghost use Rattle.pb_text.specs.meaning.Writing.{Writes};
@@ -98,8 +98,8 @@ fn show_each<S: Source, W: Sink, E: Canonical + Drop, M: Machine<Event = E> + Dr
 ) -> Result<(), ToolFault>
     requires between { M.automaton.begun machine ≡ false }
     requires some { 0 < longest }
-    ensures shows { ShowsLines (Accepts M.automaton machine) longest (MayAsk M.automaton machine) E.text W.contents W.faults (S.left input.old) out.old result (S.left input.new) out.new }
-    ensures given { OfGiven (λ left rest. ShowsLines (Accepts M.automaton machine) longest (MayAsk M.automaton machine) E.text W.contents W.faults left out.old result rest out.new) (S.history input.old) (S.history input.new) }
+    ensures shows { ShowsLines (AcceptsItems M.automaton machine) longest (MayAsk M.automaton machine) E.text W.contents W.faults (S.left input.old) out.old result (S.left input.new) out.new }
+    ensures given { OfGiven (λ left rest. ShowsLines (AcceptsItems M.automaton machine) longest (MayAsk M.automaton machine) E.text W.contents W.faults left out.old result rest out.new) (S.history input.old) (S.history input.new) }
     ensures seen { SawStatements (S.shown input.new) (S.ended input.new) result }
     ensures faults { S.faults input.new ≡ faults_reported result (S.faults input.old) }
 {

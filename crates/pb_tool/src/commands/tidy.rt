@@ -1,7 +1,7 @@
 //! `pb tidy`: the canonical text of a file.
 
 ghost use Rattle.std.specs.Prelude.{◌≡◌, ◌<◌, ◌^◌, false, true, unwrap_or, IfSome};
-ghost use Rattle.pb_text.specs.contract.Automaton.{Accepts, MayAsk};
+ghost use Rattle.pb_text.specs.contract.Automaton.{AcceptsItems, MayAsk};
 ghost use Rattle.pb_text.specs.meaning.Pulling.{OfGiven};
 ghost use Rattle.pb_tool.specs.contract.Faults.{faults_reported};
 ghost use Rattle.pb_tool.specs.meaning.Files.{TidiesFile, TidiesProof};
@@ -147,8 +147,8 @@ fn tidy_each<S: Source, W: Sink, M: Machine + Drop, G: Gather<Event = M::Event> 
 ) -> Result<(), ToolFault>
     requires between { M.automaton.begun machine ≡ false }
     requires some { 0 < longest }
-    ensures tidies { TidiesEach (Accepts M.automaton machine) longest G.with empty (MayAsk M.automaton machine) G.asks G.text W.contents W.faults (S.left input.old) out.old result (S.left input.new) out.new }
-    ensures given { OfGiven (λ left rest. TidiesEach (Accepts M.automaton machine) longest G.with empty (MayAsk M.automaton machine) G.asks G.text W.contents W.faults left out.old result rest out.new) (S.history input.old) (S.history input.new) }
+    ensures tidies { TidiesEach (AcceptsItems M.automaton machine) longest G.with empty (MayAsk M.automaton machine) G.asks G.text W.contents W.faults (S.left input.old) out.old result (S.left input.new) out.new }
+    ensures given { OfGiven (λ left rest. TidiesEach (AcceptsItems M.automaton machine) longest G.with empty (MayAsk M.automaton machine) G.asks G.text W.contents W.faults left out.old result rest out.new) (S.history input.old) (S.history input.new) }
     ensures seen { SawFile (S.shown input.new) (S.ended input.new) result }
     ensures faults { S.faults input.new ≡ faults_reported result (S.faults input.old) }
 {

@@ -1,7 +1,7 @@
 use Rattle.pb_text.proofs.lemmas.text.Deterministic.{one_spelling}
 use Rattle.pb_opb.specs.engine.State.{opb, begin}
-use Rattle.pb_opb.proofs.lemmas.machine.Bodies.{instance_each, closes}
+use Rattle.pb_opb.proofs.lemmas.machine.Bodies.{instance_each, finishes}
 use Rattle.pb_opb.proofs.laws.one_instance.Goals as goal
 
 pub returns : goal.returns
-returns c = λ limit top items items' h k. one_spelling opb closes (begin limit top) items items' (instance_each limit top items h) (instance_each limit top items' k)
+returns c = λ limit top items items' h k. one_spelling opb finishes (begin limit top) items items' (instance_each limit top items h) (instance_each limit top items' k)

@@ -13,37 +13,37 @@ use Rattle.pb_opb.specs.declared.event.OpbEvent.{OpbEvent}
 use Rattle.pb_opb.specs.declared.event.OpbEvent.TheVariants.{Header, Comment, Objective, Constraint}
 
 module _ (limit : ℕ) where
-  -- A statement after the header, and what follows it. `follows may n` holds of the statements after it: n of them are
-  -- constraints, and `may` says whether an objective may still come.
+  -- A statement after the header, and what follows it. `follows objective_allowed n` holds of the statements after it: n of them are
+  -- constraints, and `objective_allowed` says whether an objective may still come.
   abbrev pub IsEntry : Bool → ℕ → List Letter → (Bool → ℕ → Type 0) → OpbEvent → Type 0
-  IsEntry may n text follows (Header variables constraints tail) = ⊥
-  IsEntry may n text follows (Comment bytes) = IsInLine bytes × SpellsComment bytes text × follows may (suc n)
-  IsEntry may n text follows (Objective terms) = IsTrue may × SpellsObjective limit terms text × follows false (suc n)
-  IsEntry may n text follows (Constraint linear) = SpellsLinear White limit linear text × follows false n
+  IsEntry objective_allowed n text follows (Header variables constraints tail) = ⊥
+  IsEntry objective_allowed n text follows (Comment bytes) = IsInLine bytes × SpellsComment bytes text × follows objective_allowed (suc n)
+  IsEntry objective_allowed n text follows (Objective terms) = IsTrue objective_allowed × SpellsObjective limit terms text × follows false (suc n)
+  IsEntry objective_allowed n text follows (Constraint linear) = SpellsLinear White limit linear text × follows false n
 
   -- The statements of a body, counted down: this many constraints, the last one at the end. An objective may come
-  -- before the first constraint if `may` allows it.
+  -- before the first constraint if `objective_allowed` allows it.
   abbrev pub IsCounted : Bool → ℕ → List (Item OpbEvent) → Type 0
-  IsCounted may zero [] = Unit {0}
-  IsCounted may zero (i ∷ rest) = ⊥
-  IsCounted may (suc n) [] = ⊥
-  IsCounted may (suc n) (i ∷ rest) =
-      Each (λ b. IsTrue (is_white b)) i.gap × IsEntry may n i.text (λ m k. IsCounted m k rest) i.event
+  IsCounted objective_allowed zero [] = Unit {0}
+  IsCounted objective_allowed zero (i ∷ rest) = ⊥
+  IsCounted objective_allowed (suc n) [] = ⊥
+  IsCounted objective_allowed (suc n) (i ∷ rest) =
+      Each (λ b. IsTrue (is_white b)) i.gap × IsEntry objective_allowed n i.text (λ m k. IsCounted m k rest) i.event
 
 -- an objective may come first, or there is none
 abbrev MayHave : Bool → List OpbEvent → Type 0
 MayHave true events = HasObjectiveFirst events
 MayHave false events = HasNoObjective events
 
-no_more : (may : Bool) → MayHave may []
+no_more : (objective_allowed : Bool) → MayHave objective_allowed []
 no_more true = tt
 no_more false = tt
 
-comment_then : (may : Bool) (bytes : List ℕ) (events : List OpbEvent) → MayHave may events → MayHave may (Comment bytes ∷ events)
+comment_then : (objective_allowed : Bool) (bytes : List ℕ) (events : List OpbEvent) → MayHave objective_allowed events → MayHave objective_allowed (Comment bytes ∷ events)
 comment_then true bytes events h = h
 comment_then false bytes events h = h
 
-after_comment : (may : Bool) (bytes : List ℕ) (events : List OpbEvent) → MayHave may (Comment bytes ∷ events) → MayHave may events
+after_comment : (objective_allowed : Bool) (bytes : List ℕ) (events : List OpbEvent) → MayHave objective_allowed (Comment bytes ∷ events) → MayHave objective_allowed events
 after_comment true bytes events h = h
 after_comment false bytes events h = h
 
@@ -73,31 +73,31 @@ ends_some (f ∷ events) (Objective terms) h c = ends_some events f h c
 ends_some (f ∷ events) (Constraint linear) h c = omega (arith, c)
 
 module _ (limit : ℕ) where
-  record Parts (may : Bool) (n : ℕ) (items : List (Item OpbEvent)) : Type 0 where
+  record Parts (objective_allowed : Bool) (n : ℕ) (items : List (Item OpbEvent)) : Type 0 where
     pub spelled : AreSpelled limit items
     pub count : constraint_count (events_of items) ≡ n
-    pub objective : MayHave may (events_of items)
+    pub objective : MayHave objective_allowed (events_of items)
     pub last : EndsInConstraint (events_of items)
 
   -- the same for a first statement and the rest
-  record PartsOf (may : Bool) (n : ℕ) (gap : List ℕ) (text : List Letter) (e : OpbEvent) (rest : List (Item OpbEvent)) : Type 0 where
+  record PartsOf (objective_allowed : Bool) (n : ℕ) (gap : List ℕ) (text : List Letter) (e : OpbEvent) (rest : List (Item OpbEvent)) : Type 0 where
     pub spelled : Each (λ b. IsTrue (is_white b)) gap × SpellsEntry limit e text × AreSpelled limit rest
     pub count : constraint_count (e ∷ events_of rest) ≡ n
-    pub objective : MayHave may (e ∷ events_of rest)
+    pub objective : MayHave objective_allowed (e ∷ events_of rest)
     pub last : EndsInConstraint (e ∷ events_of rest)
 
-  entry_parts : (may : Bool) (n : ℕ) (gap : List ℕ) (text : List Letter) (rest : List (Item OpbEvent)) → Each (λ b. IsTrue (is_white b)) gap → ((m : Bool) (k : ℕ) → IsCounted limit m k rest → Parts m k rest) → (e : OpbEvent)
-      → IsEntry limit may n text (λ m k. IsCounted limit m k rest) e → PartsOf may (suc n) gap text e rest
-  entry_parts may n gap text rest g f (Header variables constraints tail) h = absurd h
-  entry_parts may n gap text rest g f (Comment bytes) h =
-      let p = f may (suc n) h.2 in
-      record { spelled = (g, (h.0, h.1), p.spelled); count = p.count; objective = comment_then may bytes (events_of rest) p.objective; last = ends_more (Comment bytes) (events_of rest) n p.count p.last }
-  entry_parts may n gap text rest g f (Objective terms) h =
+  entry_parts : (objective_allowed : Bool) (n : ℕ) (gap : List ℕ) (text : List Letter) (rest : List (Item OpbEvent)) → Each (λ b. IsTrue (is_white b)) gap → ((m : Bool) (k : ℕ) → IsCounted limit m k rest → Parts m k rest) → (e : OpbEvent)
+      → IsEntry limit objective_allowed n text (λ m k. IsCounted limit m k rest) e → PartsOf objective_allowed (suc n) gap text e rest
+  entry_parts objective_allowed n gap text rest g f (Header variables constraints tail) h = absurd h
+  entry_parts objective_allowed n gap text rest g f (Comment bytes) h =
+      let p = f objective_allowed (suc n) h.2 in
+      record { spelled = (g, (h.0, h.1), p.spelled); count = p.count; objective = comment_then objective_allowed bytes (events_of rest) p.objective; last = ends_more (Comment bytes) (events_of rest) n p.count p.last }
+  entry_parts objective_allowed n gap text rest g f (Objective terms) h =
       let p = f false (suc n) h.2 in
       record { spelled = (g, h.1, p.spelled); count = p.count; objective = subst (λ (m : Bool). MayHave m (Objective terms ∷ events_of rest)) (sym h.0) p.objective; last = ends_more (Objective terms) (events_of rest) n p.count p.last }
-  entry_parts may n gap text rest g f (Constraint linear) h =
+  entry_parts objective_allowed n gap text rest g f (Constraint linear) h =
       let p = f false n h.1 in
-      record { spelled = (g, h.0, p.spelled); count = ap suc p.count; objective = following may (events_of rest) p.objective; last = at_end (events_of rest) p.last }
+      record { spelled = (g, h.0, p.spelled); count = ap suc p.count; objective = following objective_allowed (events_of rest) p.objective; last = at_end (events_of rest) p.last }
     where
       following : (m : Bool) (events : List OpbEvent) → HasNoObjective events → MayHave m (Constraint linear ∷ events)
       following true events k = k
@@ -107,37 +107,37 @@ module _ (limit : ℕ) where
       at_end [] k = tt
       at_end (e ∷ events) k = k
 
-  parts : (items : List (Item OpbEvent)) (may : Bool) (n : ℕ) → IsCounted limit may n items → Parts may n items
-  parts [] may zero h = record { spelled = tt; count = refl; objective = no_more may; last = tt }
-  parts [] may (suc n) h = absurd h
-  parts (i ∷ rest) may zero h = absurd h
-  parts (i ∷ rest) may (suc n) h =
-      let p = entry_parts may n i.gap i.text rest h.0 (λ m k. parts rest m k) i.event h.1 in
+  parts : (items : List (Item OpbEvent)) (objective_allowed : Bool) (n : ℕ) → IsCounted limit objective_allowed n items → Parts objective_allowed n items
+  parts [] objective_allowed zero h = record { spelled = tt; count = refl; objective = no_more objective_allowed; last = tt }
+  parts [] objective_allowed (suc n) h = absurd h
+  parts (i ∷ rest) objective_allowed zero h = absurd h
+  parts (i ∷ rest) objective_allowed (suc n) h =
+      let p = entry_parts objective_allowed n i.gap i.text rest h.0 (λ m k. parts rest m k) i.event h.1 in
       record { spelled = p.spelled; count = p.count; objective = p.objective; last = p.last }
 
   -- and the converse
-  entry_counted : (may : Bool) (n : ℕ) (text : List Letter) (rest : List (Item OpbEvent)) → AreSpelled limit rest
+  entry_counted : (objective_allowed : Bool) (n : ℕ) (text : List Letter) (rest : List (Item OpbEvent)) → AreSpelled limit rest
       → ((m : Bool) (k : ℕ) → constraint_count (events_of rest) ≡ k → MayHave m (events_of rest) → EndsInConstraint (events_of rest) → IsCounted limit m k rest) → (e : OpbEvent)
-      → SpellsEntry limit e text → constraint_count (e ∷ events_of rest) ≡ suc n → MayHave may (e ∷ events_of rest) → EndsInConstraint (e ∷ events_of rest)
-      → IsEntry limit may n text (λ m k. IsCounted limit m k rest) e
-  entry_counted may n text rest r f (Header variables constraints tail) s c o l = absurd s
-  entry_counted may n text rest r f (Comment bytes) s c o l =
-      (s.0, s.1, f may (suc n) c (after_comment may bytes (events_of rest) o) (ends_after (Comment bytes) (events_of rest) l))
+      → SpellsEntry limit e text → constraint_count (e ∷ events_of rest) ≡ suc n → MayHave objective_allowed (e ∷ events_of rest) → EndsInConstraint (e ∷ events_of rest)
+      → IsEntry limit objective_allowed n text (λ m k. IsCounted limit m k rest) e
+  entry_counted objective_allowed n text rest r f (Header variables constraints tail) s c o l = absurd s
+  entry_counted objective_allowed n text rest r f (Comment bytes) s c o l =
+      (s.0, s.1, f objective_allowed (suc n) c (after_comment objective_allowed bytes (events_of rest) o) (ends_after (Comment bytes) (events_of rest) l))
   entry_counted true n text rest r f (Objective terms) s c o l = (refl, s, f false (suc n) c o (ends_after (Objective terms) (events_of rest) l))
   entry_counted false n text rest r f (Objective terms) s c o l = absurd o
-  entry_counted may n text rest r f (Constraint linear) s c o l =
-      (s, f false n (omega (arith, c)) (none may o) (ends_after (Constraint linear) (events_of rest) l))
+  entry_counted objective_allowed n text rest r f (Constraint linear) s c o l =
+      (s, f false n (omega (arith, c)) (none objective_allowed o) (ends_after (Constraint linear) (events_of rest) l))
     where
       none : (m : Bool) → MayHave m (Constraint linear ∷ events_of rest) → HasNoObjective (events_of rest)
       none true k = k
       none false k = k
 
-  counted_by : (items : List (Item OpbEvent)) → AreSpelled limit items → (may : Bool) (n : ℕ) → constraint_count (events_of items) ≡ n → MayHave may (events_of items) → EndsInConstraint (events_of items) → IsCounted limit may n items
-  counted_by [] s may zero c o l = tt
-  counted_by [] s may (suc n) c o l = omega (arith, c)
-  counted_by (i ∷ rest) s may zero c o l = ends_some (events_of rest) i.event l c
-  counted_by (i ∷ rest) s may (suc n) c o l =
-      (s.0, entry_counted may n i.text rest s.2 (λ m k. counted_by rest s.2 m k) i.event s.1 c o l)
+  counted_by : (items : List (Item OpbEvent)) → AreSpelled limit items → (objective_allowed : Bool) (n : ℕ) → constraint_count (events_of items) ≡ n → MayHave objective_allowed (events_of items) → EndsInConstraint (events_of items) → IsCounted limit objective_allowed n items
+  counted_by [] s objective_allowed zero c o l = tt
+  counted_by [] s objective_allowed (suc n) c o l = omega (arith, c)
+  counted_by (i ∷ rest) s objective_allowed zero c o l = ends_some (events_of rest) i.event l c
+  counted_by (i ∷ rest) s objective_allowed (suc n) c o l =
+      (s.0, entry_counted objective_allowed n i.text rest s.2 (λ m k. counted_by rest s.2 m k) i.event s.1 c o l)
 
   -- The two definitions agree.
   pub counted : (n : ℕ) (items : List (Item OpbEvent)) → IsBody limit n items → IsCounted limit true n items

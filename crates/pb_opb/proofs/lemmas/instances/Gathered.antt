@@ -5,7 +5,7 @@ use Rattle.pb_text.specs.meaning.Spelling.{Item}
 use Rattle.pb_text.specs.meaning.Whole.{gathered, events_of, IsRead, IsWhole, MayHold, StopsIn}
 use Rattle.pb_text.specs.declared.Spanned.{Spanned}
 use Rattle.pb_text.specs.declared.Stop.{Stop}
-use Rattle.pb_opb.specs.meaning.Gather.{with, ended_with, asks, counted, MayKeep, nothing}
+use Rattle.pb_opb.specs.meaning.Gather.{with, ended_with, asks, counted_statements, MayKeep, nothing}
 use Rattle.pb_opb.specs.meaning.Values.{IsValueOf, last_or, variables_in, tails_in, objectives_in, constraints_in, comments_in, comment_at}
 use Rattle.pb_opb.specs.declared.gather.InstanceSoFar.{InstanceSoFar}
 use Rattle.pb_opb.specs.declared.instance.Instance.{Instance}
@@ -38,7 +38,7 @@ adds (Constraint linear ∷ events) b =
     let k = adds events (one_more b (Constraint linear)) in
     record { variables = k.variables; tail = k.tail; objective = k.objective; comments = k.comments; constraints = k.constraints ∙ append_assoc b.instance.constraints (linear ∷ []) (constraints_in events) }
 
-ended_after : (events : List OpbEvent) (b : InstanceSoFar) → (gathered one_more b events).ended ≡ b.ended + counted events
+ended_after : (events : List OpbEvent) (b : InstanceSoFar) → (gathered one_more b events).ended ≡ b.ended + counted_statements events
 ended_after [] b = omega arith
 ended_after (Header variables constraints tail ∷ events) b = ended_after events (one_more b (Header variables constraints tail))
 ended_after (Comment text ∷ events) b = ended_after events (one_more b (Comment text))
@@ -70,7 +70,7 @@ module _ (format : List (Item OpbEvent) → Type 0) (longest : ℕ) (b : Instanc
 
   may_keep : (events : List OpbEvent) (x : OpbEvent) → MayHold one_more b (λ c e. asks c.ended e) events x → MayKeep events x
   may_keep events x h =
-      let count : (gathered one_more b events).ended ≡ counted events = let k = ended_after events b in omega (arith, k, n) in
+      let count : (gathered one_more b events).ended ≡ counted_statements events = let k = ended_after events b in omega (arith, k, n) in
       subst (λ (k : ℕ). IsTrue (asks k x)) count h
 
   pub stops_in : (may_ask : List ℕ → ℕ → Type 0) (seen : List ℕ) (s : Stop) → StopsIn format longest may_ask (MayHold one_more b (λ c e. asks c.ended e)) used seen s → StopsIn format longest may_ask MayKeep used seen s

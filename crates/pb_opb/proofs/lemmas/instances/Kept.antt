@@ -32,18 +32,18 @@ comments_fall low least all (c ∷ cs) h k = (omega (arith, k.0), k.1, k.2, k.3)
 module _ (limit : ℕ) where
   -- no objective, or one before this many constraints, if one may come
   abbrev Objectives : Bool → ℕ → List (Option (List Term)) → Type 0
-  Objectives may n [] = Unit {0}
-  Objectives may n (None ∷ rest) = ⊥
-  Objectives may n (Some terms ∷ []) = IsTrue may × AreTerms limit terms × (0 < n)
-  Objectives may n (Some terms ∷ x ∷ rest) = ⊥
+  Objectives objective_allowed n [] = Unit {0}
+  Objectives objective_allowed n (None ∷ rest) = ⊥
+  Objectives objective_allowed n (Some terms ∷ []) = IsTrue objective_allowed × AreTerms limit terms × (0 < n)
+  Objectives objective_allowed n (Some terms ∷ x ∷ rest) = ⊥
 
   -- statements after a header, of which n are constraints
-  pub record WasReported (may : Bool) (n : ℕ) (events : List OpbEvent) : Type 0 where
+  pub record WasReported (objective_allowed : Bool) (n : ℕ) (events : List OpbEvent) : Type 0 where
     pub variables : variables_in events ≡ []
     pub tails : tails_in events ≡ []
     pub count : length (constraints_in events) ≡ n
     constraints : AreLinears limit (constraints_in events)
-    objectives : Objectives may n (objectives_in events)
+    objectives : Objectives objective_allowed n (objectives_in events)
     comments : (k : ℕ) → AreComments k (k + (n + length (objectives_in events))) (comments_in k events)
 
   no_objective : (n : ℕ) (os : List (Option (List Term))) → Objectives false n os → os ≡ []
@@ -52,15 +52,15 @@ module _ (limit : ℕ) where
   no_objective n (Some t ∷ []) h = cc
   no_objective n (Some t ∷ x ∷ rest) h = absurd h
 
-  objectives-more : (may : Bool) (n : ℕ) (os : List (Option (List Term))) → Objectives false n os → Objectives may (suc n) os
-  objectives-more may n os h = subst (Objectives may (suc n)) (sym (no_objective n os h)) tt
+  objectives-more : (objective_allowed : Bool) (n : ℕ) (os : List (Option (List Term))) → Objectives false n os → Objectives objective_allowed (suc n) os
+  objectives-more objective_allowed n os h = subst (Objectives objective_allowed (suc n)) (sym (no_objective n os h)) tt
 
-  reported-entry : (may : Bool) (n : ℕ) (text : List Letter) (e : OpbEvent) (rest : List (Item OpbEvent))
+  reported-entry : (objective_allowed : Bool) (n : ℕ) (text : List Letter) (e : OpbEvent) (rest : List (Item OpbEvent))
       → ((m : Bool) (k : ℕ) → IsCounted limit m k rest → WasReported m k (events_of rest))
-      → IsEntry limit may n text (λ m k. IsCounted limit m k rest) e → WasReported may (suc n) (e ∷ events_of rest)
-  reported-entry may n text (Header a b t) rest ih h = absurd h
-  reported-entry may n text (Comment t) rest ih h =
-      let r : WasReported may (suc n) (events_of rest) = ih may (suc n) h.2 in
+      → IsEntry limit objective_allowed n text (λ m k. IsCounted limit m k rest) e → WasReported objective_allowed (suc n) (e ∷ events_of rest)
+  reported-entry objective_allowed n text (Header a b t) rest ih h = absurd h
+  reported-entry objective_allowed n text (Comment t) rest ih h =
+      let r : WasReported objective_allowed (suc n) (events_of rest) = ih objective_allowed (suc n) h.2 in
       record {
         variables = r.variables;
         tails = r.tails;
@@ -69,7 +69,7 @@ module _ (limit : ℕ) where
         objectives = r.objectives;
         comments = λ k. (omega arith, omega arith, h.0, r.comments k);
       }
-  reported-entry may n text (Objective t) rest ih h =
+  reported-entry objective_allowed n text (Objective t) rest ih h =
       let r : WasReported false (suc n) (events_of rest) = ih false (suc n) h.2 in
       let none : objectives_in (events_of rest) ≡ [] = no_objective (suc n) (objectives_in (events_of rest)) r.objectives in
       record {
@@ -77,31 +77,31 @@ module _ (limit : ℕ) where
         tails = r.tails;
         count = r.count;
         constraints = r.constraints;
-        objectives = subst (λ (os : List (Option (List Term))). Objectives may (suc n) (Some t ∷ os)) (sym none) (h.0, objective-within limit t text h.1, omega arith);
+        objectives = subst (λ (os : List (Option (List Term))). Objectives objective_allowed (suc n) (Some t ∷ os)) (sym none) (h.0, objective-within limit t text h.1, omega arith);
         comments = λ k.
             let e : k + 1 + (suc n + length (objectives_in (events_of rest))) ≡ k + (suc n + suc (length (objectives_in (events_of rest)))) = omega arith in
             comments_fall k (k + 1) (k + (suc n + suc (length (objectives_in (events_of rest))))) (comments_in (k + 1) (events_of rest)) (omega arith)
             (subst (λ (a : ℕ). AreComments (k + 1) a (comments_in (k + 1) (events_of rest))) e (r.comments (k + 1)));
       }
-  reported-entry may n text (Constraint l) rest ih h =
+  reported-entry objective_allowed n text (Constraint l) rest ih h =
       let r : WasReported false n (events_of rest) = ih false n h.1 in
       record {
         variables = r.variables;
         tails = r.tails;
         count = ap suc r.count;
         constraints = (linear-within White limit l text h.0, r.constraints);
-        objectives = objectives-more may n (objectives_in (events_of rest)) r.objectives;
+        objectives = objectives-more objective_allowed n (objectives_in (events_of rest)) r.objectives;
         comments = λ k.
             let e : k + 1 + (n + length (objectives_in (events_of rest))) ≡ k + (suc n + length (objectives_in (events_of rest))) = omega arith in
             comments_fall k (k + 1) (k + (suc n + length (objectives_in (events_of rest)))) (comments_in (k + 1) (events_of rest)) (omega arith)
             (subst (λ (a : ℕ). AreComments (k + 1) a (comments_in (k + 1) (events_of rest))) e (r.comments (k + 1)));
       }
 
-  pub reported : (may : Bool) (n : ℕ) (items : List (Item OpbEvent)) → IsCounted limit may n items → WasReported may n (events_of items)
-  reported may zero [] h = record { variables = refl; tails = refl; count = refl; constraints = tt; objectives = tt; comments = λ k. tt }
-  reported may zero (i ∷ rest) h = absurd h
-  reported may (suc n) [] h = absurd h
-  reported may (suc n) (i ∷ rest) h = reported-entry may n i.text i.event rest (λ m k b. reported m k rest b) h.1
+  pub reported : (objective_allowed : Bool) (n : ℕ) (items : List (Item OpbEvent)) → IsCounted limit objective_allowed n items → WasReported objective_allowed n (events_of items)
+  reported objective_allowed zero [] h = record { variables = refl; tails = refl; count = refl; constraints = tt; objectives = tt; comments = λ k. tt }
+  reported objective_allowed zero (i ∷ rest) h = absurd h
+  reported objective_allowed (suc n) [] h = absurd h
+  reported objective_allowed (suc n) (i ∷ rest) h = reported-entry objective_allowed n i.text i.event rest (λ m k b. reported m k rest b) h.1
 
   objective-value : (n : ℕ) (os : List (Option (List Term))) (cs : List Linear) → length cs ≡ n → Objectives true n os → IsObjective limit cs (last_or None os)
   objective-value n [] cs e h = tt

@@ -48,19 +48,19 @@ module _ (limit limit' : ℕ) (h : limit ≤ limit') where
       (after_it MinPrefix (Spells White limit part.TheVariants.Sum (sum.TheVariants.Sum xs)) (Spells White limit' part.TheVariants.Sum (sum.TheVariants.Sum xs)) t
       (λ q r. spells_larger White limit limit' h part.TheVariants.Sum q (sum.TheVariants.Sum xs) r) (objective_parts limit xs t k))
 
-  entry_grows : (may : Bool) (n : ℕ) (text : List Letter) (P Q : Bool → ℕ → Type 0) → ((m : Bool) (k : ℕ) → P m k → Q m k) → (e : OpbEvent)
-      → IsEntry limit may n text P e → IsEntry limit' may n text Q e
-  entry_grows may n text P Q f (Header variables constraints tail) k = absurd k
-  entry_grows may n text P Q f (Comment bytes) k = (k.0, k.1, f may (suc n) k.2)
-  entry_grows may n text P Q f (Objective xs) k = (k.0, objective_grows xs text k.1, f false (suc n) k.2)
-  entry_grows may n text P Q f (Constraint c) k = ((spells_larger White limit limit' h part.TheVariants.Linear text (sum.TheVariants.Linear c) (refl, k.0)).1, f false n k.1)
+  entry_grows : (objective_allowed : Bool) (n : ℕ) (text : List Letter) (P Q : Bool → ℕ → Type 0) → ((m : Bool) (k : ℕ) → P m k → Q m k) → (e : OpbEvent)
+      → IsEntry limit objective_allowed n text P e → IsEntry limit' objective_allowed n text Q e
+  entry_grows objective_allowed n text P Q f (Header variables constraints tail) k = absurd k
+  entry_grows objective_allowed n text P Q f (Comment bytes) k = (k.0, k.1, f objective_allowed (suc n) k.2)
+  entry_grows objective_allowed n text P Q f (Objective xs) k = (k.0, objective_grows xs text k.1, f false (suc n) k.2)
+  entry_grows objective_allowed n text P Q f (Constraint c) k = ((spells_larger White limit limit' h part.TheVariants.Linear text (sum.TheVariants.Linear c) (refl, k.0)).1, f false n k.1)
 
-  body_grows : (items : List (Item OpbEvent)) (may : Bool) (owed : ℕ) → IsCounted limit may owed items → IsCounted limit' may owed items
-  body_grows [] may zero k = tt
-  body_grows [] may (suc n) k = absurd k
-  body_grows (i ∷ rest) may zero k = absurd k
-  body_grows (i ∷ rest) may (suc n) k =
-      (k.0, entry_grows may n i.text (λ m j. IsCounted limit m j rest) (λ m j. IsCounted limit' m j rest) (λ m j. body_grows rest m j) i.event k.1)
+  body_grows : (items : List (Item OpbEvent)) (objective_allowed : Bool) (remaining : ℕ) → IsCounted limit objective_allowed remaining items → IsCounted limit' objective_allowed remaining items
+  body_grows [] objective_allowed zero k = tt
+  body_grows [] objective_allowed (suc n) k = absurd k
+  body_grows (i ∷ rest) objective_allowed zero k = absurd k
+  body_grows (i ∷ rest) objective_allowed (suc n) k =
+      (k.0, entry_grows objective_allowed n i.text (λ m j. IsCounted limit m j rest) (λ m j. IsCounted limit' m j rest) (λ m j. body_grows rest m j) i.event k.1)
 
 module _ (limit limit' top top' : ℕ) (h : limit ≤ limit') (j : top ≤ top') where
   begun_grows : (i : Item OpbEvent) (rest : List (Item OpbEvent)) (e : OpbEvent) → IsBegun limit top i rest e → IsBegun limit' top' i rest e

@@ -11,12 +11,12 @@ use Rattle.pb_opb.specs.declared.event.OpbEvent.TheVariants.{Header, Comment, Ob
 use Rattle.pb_opb.specs.declared.instance.Comment as comment
 use Rattle.pb_opb.proofs.lemmas.instances.Spelled.{spelled, IsMain, AreMain, AreInLines}
 
-pub spelled-events : (owed : Bool) (events : List OpbEvent) → events_of (spelled owed events) ≡ events
-spelled-events owed [] = refl
-spelled-events owed (Header n m t ∷ events) = ap (λ (x : List OpbEvent). Header n m t ∷ x) (spelled-events false events)
-spelled-events owed (Comment t ∷ events) = ap (λ (x : List OpbEvent). Comment t ∷ x) (spelled-events false events)
-spelled-events owed (Objective t ∷ events) = ap (λ (x : List OpbEvent). Objective t ∷ x) (spelled-events true events)
-spelled-events owed (Constraint l ∷ events) = ap (λ (x : List OpbEvent). Constraint l ∷ x) (spelled-events true events)
+pub spelled-events : (remaining : Bool) (events : List OpbEvent) → events_of (spelled remaining events) ≡ events
+spelled-events remaining [] = refl
+spelled-events remaining (Header n m t ∷ events) = ap (λ (x : List OpbEvent). Header n m t ∷ x) (spelled-events false events)
+spelled-events remaining (Comment t ∷ events) = ap (λ (x : List OpbEvent). Comment t ∷ x) (spelled-events false events)
+spelled-events remaining (Objective t ∷ events) = ap (λ (x : List OpbEvent). Objective t ∷ x) (spelled-events true events)
+spelled-events remaining (Constraint l ∷ events) = ap (λ (x : List OpbEvent). Constraint l ∷ x) (spelled-events true events)
 
 -- Comments add nothing to the other parts of a value.
 module _ {A : Type 0} (F : List OpbEvent → List A) (over : (t : List ℕ) (events : List OpbEvent) → F (Comment t ∷ events) ≡ F events)

@@ -179,11 +179,11 @@ owes (Objective terms) = true
 owes (Constraint linear) = true
 
 abbrev item_of : Bool → OpbEvent → Item OpbEvent
-item_of owed e = record { gap = gap_of owed; text = text_of e; event = e }
+item_of remaining e = record { gap = gap_of remaining; text = text_of e; event = e }
 
 abbrev pub spelled : Bool → List OpbEvent → List (Item OpbEvent)
-spelled owed [] = []
-spelled owed (e ∷ events) = item_of owed e ∷ spelled (owes e) events
+spelled remaining [] = []
+spelled remaining (e ∷ events) = item_of remaining e ∷ spelled (owes e) events
 
 abbrev pub lead : Bool → List OpbEvent → List ℕ
 lead true events = led_lines events
@@ -205,46 +205,46 @@ item-bytes i rest =
     bytes-append (plain i.gap) (i.text ++ letters_of rest)
     ∙ (ap (λ y. y ++ bytes (i.text ++ letters_of rest)) (bytes-plain i.gap) ∙ ap (λ y. i.gap ++ y) (bytes-append i.text (letters_of rest)))
 
-lead-first : (owed : Bool) (e : OpbEvent) (events : List OpbEvent) → gap_of owed ++ (event_bytes e ++ led_lines events) ≡ lead owed (e ∷ events)
+lead-first : (remaining : Bool) (e : OpbEvent) (events : List OpbEvent) → gap_of remaining ++ (event_bytes e ++ led_lines events) ≡ lead remaining (e ∷ events)
 lead-first true e events = refl
 lead-first false e [] = append-nil (event_bytes e)
 lead-first false e (f ∷ events) = ap (λ y. event_bytes e ++ y) (sym (led-lines f events))
 
-main-bytes : (owed : Bool) (e : OpbEvent) (events : List OpbEvent) → IsMain e → bytes_of (spelled true events) ≡ led_lines events
-    → bytes_of (spelled owed (e ∷ events)) ≡ lead owed (e ∷ events)
-main-bytes owed (Header n m tail) events h ih = absurd h
-main-bytes owed (Comment text) events h ih = absurd h
-main-bytes owed (Objective terms) events h ih =
-    item-bytes (item_of owed (Objective terms)) (spelled true events)
-    ∙ (ap (λ y. gap_of owed ++ (y ++ bytes_of (spelled true events))) (objective-bytes terms)
-    ∙ (ap (λ y. gap_of owed ++ (objective_bytes terms ++ y)) ih ∙ lead-first owed (Objective terms) events))
-main-bytes owed (Constraint linear) events h ih =
-    item-bytes (item_of owed (Constraint linear)) (spelled true events)
-    ∙ (ap (λ y. gap_of owed ++ (y ++ bytes_of (spelled true events))) (bytes-linear linear)
-    ∙ (ap (λ y. gap_of owed ++ (linear_bytes linear ++ y)) ih ∙ lead-first owed (Constraint linear) events))
+main-bytes : (remaining : Bool) (e : OpbEvent) (events : List OpbEvent) → IsMain e → bytes_of (spelled true events) ≡ led_lines events
+    → bytes_of (spelled remaining (e ∷ events)) ≡ lead remaining (e ∷ events)
+main-bytes remaining (Header n m tail) events h ih = absurd h
+main-bytes remaining (Comment text) events h ih = absurd h
+main-bytes remaining (Objective terms) events h ih =
+    item-bytes (item_of remaining (Objective terms)) (spelled true events)
+    ∙ (ap (λ y. gap_of remaining ++ (y ++ bytes_of (spelled true events))) (objective-bytes terms)
+    ∙ (ap (λ y. gap_of remaining ++ (objective_bytes terms ++ y)) ih ∙ lead-first remaining (Objective terms) events))
+main-bytes remaining (Constraint linear) events h ih =
+    item-bytes (item_of remaining (Constraint linear)) (spelled true events)
+    ∙ (ap (λ y. gap_of remaining ++ (y ++ bytes_of (spelled true events))) (bytes-linear linear)
+    ∙ (ap (λ y. gap_of remaining ++ (linear_bytes linear ++ y)) ih ∙ lead-first remaining (Constraint linear) events))
 
-comments-bytes : (cs : List comment.Comment) (e : OpbEvent) (events : List OpbEvent) → ((owed : Bool) → bytes_of (spelled owed (e ∷ events)) ≡ lead owed (e ∷ events))
-    → (owed : Bool) → bytes_of (spelled owed (comment_events cs ++ e ∷ events)) ≡ lead owed (comment_events cs ++ e ∷ events)
-comments-bytes [] e events ih owed = ih owed
-comments-bytes (c ∷ cs) e events ih owed =
+comments-bytes : (cs : List comment.Comment) (e : OpbEvent) (events : List OpbEvent) → ((remaining : Bool) → bytes_of (spelled remaining (e ∷ events)) ≡ lead remaining (e ∷ events))
+    → (remaining : Bool) → bytes_of (spelled remaining (comment_events cs ++ e ∷ events)) ≡ lead remaining (comment_events cs ++ e ∷ events)
+comments-bytes [] e events ih remaining = ih remaining
+comments-bytes (c ∷ cs) e events ih remaining =
     let rest : List OpbEvent = comment_events cs ++ e ∷ events in
-    item-bytes (item_of owed (Comment c.text)) (spelled false rest)
-    ∙ (ap (λ y. gap_of owed ++ (y ++ bytes_of (spelled false rest))) (comment-bytes c.text)
-    ∙ (ap (λ y. gap_of owed ++ (((42 ∷ c.text) ++ (10 ∷ [])) ++ y)) (comments-bytes cs e events ih false)
-    ∙ (ap (λ y. gap_of owed ++ y) (append_assoc (42 ∷ c.text) (10 ∷ []) (lines rest))
-    ∙ (ap (λ y. gap_of owed ++ ((42 ∷ c.text) ++ y)) (led-between (comment_events cs) e events) ∙ lead-first owed (Comment c.text) rest))))
+    item-bytes (item_of remaining (Comment c.text)) (spelled false rest)
+    ∙ (ap (λ y. gap_of remaining ++ (y ++ bytes_of (spelled false rest))) (comment-bytes c.text)
+    ∙ (ap (λ y. gap_of remaining ++ (((42 ∷ c.text) ++ (10 ∷ [])) ++ y)) (comments-bytes cs e events ih false)
+    ∙ (ap (λ y. gap_of remaining ++ y) (append_assoc (42 ∷ c.text) (10 ∷ []) (lines rest))
+    ∙ (ap (λ y. gap_of remaining ++ ((42 ∷ c.text) ++ y)) (led-between (comment_events cs) e events) ∙ lead-first remaining (Comment c.text) rest))))
 
-none-bytes : (owed : Bool) → bytes_of (spelled owed []) ≡ lead owed []
+none-bytes : (remaining : Bool) → bytes_of (spelled remaining []) ≡ lead remaining []
 none-bytes true = refl
 none-bytes false = refl
 
 -- the bytes of statements in order are their lines
-pub body-bytes : (events : List OpbEvent) → AreMain events → (n : ℕ) (cs : List comment.Comment) (owed : Bool) → bytes_of (spelled owed (in_order n cs events)) ≡ lead owed (in_order n cs events)
-body-bytes [] h n cs owed = none-bytes owed
-body-bytes (e ∷ events) h n cs owed =
+pub body-bytes : (events : List OpbEvent) → AreMain events → (n : ℕ) (cs : List comment.Comment) (remaining : Bool) → bytes_of (spelled remaining (in_order n cs events)) ≡ lead remaining (in_order n cs events)
+body-bytes [] h n cs remaining = none-bytes remaining
+body-bytes (e ∷ events) h n cs remaining =
     let later : List comment.Comment = drop (due n cs) cs in
     comments-bytes (take (due n cs) cs) e (in_order (n + 1) later events)
-    (λ o. main-bytes o e (in_order (n + 1) later events) h.0 (body-bytes events h.1 (n + 1) later true)) owed
+    (λ o. main-bytes o e (in_order (n + 1) later events) h.0 (body-bytes events h.1 (n + 1) later true)) remaining
 
 -- The statements are those of an instance.
 abbrev pub AreInLines : List comment.Comment → Type 0
@@ -261,28 +261,28 @@ in_lines-drop zero cs h = h
 in_lines-drop (suc k) [] h = tt
 in_lines-drop (suc k) (c ∷ cs) h = in_lines-drop k cs h.1
 
-gap-white : (owed : Bool) → Each (λ b. IsTrue (is_white b)) (gap_of owed)
+gap-white : (remaining : Bool) → Each (λ b. IsTrue (is_white b)) (gap_of remaining)
 gap-white true = (refl, tt)
 gap-white false = tt
 
 module _ (limit : ℕ) (small : limit < 2 ^ 127) where
-  comments-body : (cs : List comment.Comment) → AreInLines cs → (may : Bool) (n : ℕ) (events : List OpbEvent) → ((owed : Bool) → IsCounted limit may (suc n) (spelled owed events))
-      → (owed : Bool) → IsCounted limit may (suc n) (spelled owed (comment_events cs ++ events))
-  comments-body [] h may n events ih owed = ih owed
-  comments-body (c ∷ cs) h may n events ih owed = (gap-white owed, (h.0, comment-spelled c.text, comments-body cs h.1 may n events ih false))
+  comments-body : (cs : List comment.Comment) → AreInLines cs → (objective_allowed : Bool) (n : ℕ) (events : List OpbEvent) → ((remaining : Bool) → IsCounted limit objective_allowed (suc n) (spelled remaining events))
+      → (remaining : Bool) → IsCounted limit objective_allowed (suc n) (spelled remaining (comment_events cs ++ events))
+  comments-body [] h objective_allowed n events ih remaining = ih remaining
+  comments-body (c ∷ cs) h objective_allowed n events ih remaining = (gap-white remaining, (h.0, comment-spelled c.text, comments-body cs h.1 objective_allowed n events ih false))
 
-  pub constraints-body : (ls : List Linear) → AreLinears limit ls → (cs : List comment.Comment) → AreInLines cs → (may : Bool) (n : ℕ) (owed : Bool)
-      → IsCounted limit may (length ls) (spelled owed (in_order n cs (constraint_events ls)))
-  constraints-body [] h cs i may n owed = tt
-  constraints-body (l ∷ ls) h cs i may n owed =
+  pub constraints-body : (ls : List Linear) → AreLinears limit ls → (cs : List comment.Comment) → AreInLines cs → (objective_allowed : Bool) (n : ℕ) (remaining : Bool)
+      → IsCounted limit objective_allowed (length ls) (spelled remaining (in_order n cs (constraint_events ls)))
+  constraints-body [] h cs i objective_allowed n remaining = tt
+  constraints-body (l ∷ ls) h cs i objective_allowed n remaining =
       let later : List comment.Comment = drop (due n cs) cs in
-      comments-body (take (due n cs) cs) (in_lines-take (due n cs) cs i) may (length ls) (Constraint l ∷ in_order (n + 1) later (constraint_events ls))
-      (λ o. (gap-white o, (linear-spelled limit (omega arith) White l h.0, constraints-body ls h.1 later (in_lines-drop (due n cs) cs i) false (n + 1) true))) owed
+      comments-body (take (due n cs) cs) (in_lines-take (due n cs) cs i) objective_allowed (length ls) (Constraint l ∷ in_order (n + 1) later (constraint_events ls))
+      (λ o. (gap-white o, (linear-spelled limit (omega arith) White l h.0, constraints-body ls h.1 later (in_lines-drop (due n cs) cs i) false (n + 1) true))) remaining
 
-  pub objective-body : (terms : List Term) → AreTerms limit terms → (ls : List Linear) → 0 < length ls → AreLinears limit ls → (cs : List comment.Comment) → AreInLines cs → (n : ℕ) (owed : Bool)
-      → IsCounted limit true (length ls) (spelled owed (in_order n cs (Objective terms ∷ constraint_events ls)))
-  objective-body terms t [] some h cs i n owed = absurd (omega arith)
-  objective-body terms t (l ∷ ls) some h cs i n owed =
+  pub objective-body : (terms : List Term) → AreTerms limit terms → (ls : List Linear) → 0 < length ls → AreLinears limit ls → (cs : List comment.Comment) → AreInLines cs → (n : ℕ) (remaining : Bool)
+      → IsCounted limit true (length ls) (spelled remaining (in_order n cs (Objective terms ∷ constraint_events ls)))
+  objective-body terms t [] some h cs i n remaining = absurd (omega arith)
+  objective-body terms t (l ∷ ls) some h cs i n remaining =
       let later : List comment.Comment = drop (due n cs) cs in
       comments-body (take (due n cs) cs) (in_lines-take (due n cs) cs i) true (length ls) (Objective terms ∷ in_order (n + 1) later (constraint_events (l ∷ ls)))
-      (λ o. (gap-white o, (refl, objective-spelled limit terms small t, constraints-body (l ∷ ls) h later (in_lines-drop (due n cs) cs i) false (n + 1) true))) owed
+      (λ o. (gap-white o, (refl, objective-spelled limit terms small t, constraints-body (l ∷ ls) h later (in_lines-drop (due n cs) cs i) false (n + 1) true))) remaining

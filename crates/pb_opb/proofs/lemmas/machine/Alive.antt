@@ -1,6 +1,6 @@
 -- Each state that a machine of instances can be in accepts some text.
 use Rattle.std.proofs.Common.{◌≡◌, ℕ, zero, suc, ◌+◌, ◌-◌, ◌<◌, Bool, true, false, cond, List, [], length, refl, sym, ap, ◌∙◌, subst, arith, le-leb}
-use Rattle.pb_text.specs.contract.Automaton.{Reads, Accepts}
+use Rattle.pb_text.specs.contract.Automaton.{ReadsStatement, AcceptsItems}
 use Rattle.pb_text.specs.meaning.Spelling.{Letter, Item}
 use Rattle.pb_text.proofs.lemmas.machine.Living.{IsAlive, before, final, accepted}
 use Rattle.std.proofs.lemmas.Bool.{eq-eqb, ne_eqb}
@@ -11,10 +11,10 @@ use Rattle.pb_sums.specs.declared.Spaces as grammar
 use Rattle.pb_sums.specs.declared.Part as part
 use Rattle.pb_sums.specs.declared.phase.Phase as sum_phase
 use Rattle.pb_sums.proofs.lemmas.machine.Links.{reads_something}
-use Rattle.pb_opb.specs.engine.Machine.{plan, count, word_of}
+use Rattle.pb_opb.specs.engine.Machine.{transition, count, word_of}
 use Rattle.pb_opb.specs.engine.Order.{PhaseFits, Holds, IsIdle, IsInOrder}
 use Rattle.pb_opb.specs.declared.event.OpbEvent as event
-use Rattle.pb_opb.specs.engine.State.{OpbState, opb, between, after, owed_after, statement_of, giving, objectives, act, is_done}
+use Rattle.pb_opb.specs.engine.State.{OpbState, opb, between, after, remaining_after, statement_of, giving, objectives, act, is_done}
 use Rattle.pb_opb.specs.declared.event.OpbEvent.{OpbEvent}
 use Rattle.pb_opb.specs.declared.phase.Field.{Field}
 use Rattle.pb_opb.specs.declared.phase.Field.TheVariants.{Variables, Constraints}
@@ -25,51 +25,51 @@ use Rattle.pb_opb.proofs.lemmas.machine.GivenBytes.{Gives, gives_objective, give
 use Rattle.pb_opb.proofs.lemmas.machine.Stands.{stands}
 
 -- the machine of sums, if it is not done, can read on to an event
-sums_end : (inner : SumState) → sums.done inner ≡ false → (text : List Letter) × (event : SumEvent) × (last : SumState) × Reads sums inner text event last
+sums_end : (inner : SumState) → sums.done inner ≡ false → (text : List Letter) × (event : SumEvent) × (last : SumState) × ReadsStatement sums inner text event last
 sums_end inner h = reads_something inner.spaces inner.part inner.limit inner.work h
 
 one_less : (n : ℕ) → suc n - 1 ≡ n
 one_less n = omega arith
 
 -- after any statement the constraints that are still to come can be read
-pub owed_read : (s : OpbState) (may : Bool) (owed : ℕ) → (items : List (Item OpbEvent)) × Accepts opb (between s may owed) items
-owed_read s may zero = ([], refl)
-owed_read s may (suc n) =
-    let mid = giving (between s may (suc n)) phase.TheVariants.Constraint (record { spaces = grammar.TheVariants.White; part = part.TheVariants.Linear; limit = s.limit; work = record { terms = []; name = []; phase = sum_phase.TheVariants.Greater } }) in
+pub owed_read : (s : OpbState) (objective_allowed : Bool) (remaining : ℕ) → (items : List (Item OpbEvent)) × AcceptsItems opb (between s objective_allowed remaining) items
+owed_read s objective_allowed zero = ([], refl)
+owed_read s objective_allowed (suc n) =
+    let mid = giving (between s objective_allowed (suc n)) phase.TheVariants.Constraint (record { spaces = grammar.TheVariants.White; part = part.TheVariants.Linear; limit = s.limit; work = record { terms = []; name = []; phase = sum_phase.TheVariants.Greater } }) in
     let r = sums_end mid.sums refl in
     let more = owed_read s false n in
-    accepted opb (between s may (suc n)) (before opb (between s may (suc n)) mid 62 refl refl (record {
+    accepted opb (between s objective_allowed (suc n)) (before opb (between s objective_allowed (suc n)) mid 62 refl refl (record {
       text = r.0;
       event = statement_of r.1;
-      after = after (between s may (suc n)) phase.TheVariants.Constraint;
-      reads = within_reads (between s may (suc n)) phase.TheVariants.Constraint gives_constraint r.0 mid.sums r.1 r.2 r.3;
+      after = after (between s objective_allowed (suc n)) phase.TheVariants.Constraint;
+      reads = within_reads (between s objective_allowed (suc n)) phase.TheVariants.Constraint gives_constraint r.0 mid.sums r.1 r.2 r.3;
       rest = more.0;
-      accepts = subst (λ (k : ℕ). Accepts opb (between s false k) more.0) (sym (one_less n)) more.1;
+      accepts = subst (λ (k : ℕ). AcceptsItems opb (between s false k) more.0) (sym (one_less n)) more.1;
     }))
 
 -- a state in which bytes are given to the machine of sums is alive
 pub giving_alive : (s : OpbState) (p : Phase) → Gives p → (inner : SumState) → sums.done inner ≡ false → IsAlive opb (giving s p inner)
 giving_alive s p g inner h =
     let r = sums_end inner h in
-    let more = owed_read s false (owed_after p s.owed) in
+    let more = owed_read s false (remaining_after p s.remaining) in
     record { text = r.0; event = statement_of r.1; after = after s p; reads = within_reads s p g r.0 inner r.1 r.2 r.3; rest = more.0; accepts = more.1 }
 
 module _ (limit top : ℕ) where
   -- a state of the header, or one with no stored byte and with the machine of sums at its start
   abbrev pub idle : ℕ → ℕ → Phase → OpbState
-  idle variables owed p = stands limit top variables owed p []
+  idle variables remaining p = stands limit top variables remaining p []
 
   zero_counts : (f : Field) → count top f 0 48 ≡ To (phase.TheVariants.Count f 0)
   zero_counts f = ap (λ (b : Bool). cond b (To (phase.TheVariants.Count f 0)) Stop) (le-leb 0 top (omega arith))
 
   -- the next byte of a word continues it, and the last one ends it
   spelled : (f : Field) (k : ℕ) (is_last : Bool) → nat_eq (k + 1) (length (word_of f)) ≡ is_last
-      → plan top (phase.TheVariants.Word f k) (slice_index (word_of f) k) ≡ To (cond is_last (phase.TheVariants.BeforeCount f) (phase.TheVariants.Word f (k + 1)))
+      → transition top (phase.TheVariants.Word f k) (slice_index (word_of f) k) ≡ To (cond is_last (phase.TheVariants.BeforeCount f) (phase.TheVariants.Word f (k + 1)))
   spelled f k is_last e = rw (eq-eqb (slice_index (word_of f) k) (slice_index (word_of f) k) refl, e) refl
 
-  module _ (variables owed : ℕ) where
+  module _ (variables remaining : ℕ) where
     abbrev at_phase : Phase → OpbState
-    at_phase p = idle variables owed p
+    at_phase p = idle variables remaining p
 
     -- within a word, with this many bytes to come after the next one
     word_further : (f : Field) → IsAlive opb (at_phase (phase.TheVariants.BeforeCount f)) → (left k : ℕ) → suc (k + left) ≡ length (word_of f) → IsAlive opb (at_phase (phase.TheVariants.Word f k))
@@ -99,13 +99,13 @@ module _ (limit top : ℕ) where
         before opb (at_phase (phase.TheVariants.BeforeWord Constraints)) (at_phase (phase.TheVariants.Word Constraints 1)) 35 refl refl
         (word_further Constraints before_constraints 10 1 refl)
 
-  module _ (variables owed : ℕ) where
+  module _ (variables remaining : ℕ) where
     abbrev in_phase : Phase → OpbState
-    in_phase p = idle variables owed p
+    in_phase p = idle variables remaining p
 
     variables_counted : (n : ℕ) → IsAlive opb (in_phase (phase.TheVariants.Count Variables n))
     variables_counted n =
-        before opb (in_phase (phase.TheVariants.Count Variables n)) (idle n owed (phase.TheVariants.BeforeWord Constraints)) 32 refl refl (before_constraint_word n owed)
+        before opb (in_phase (phase.TheVariants.Count Variables n)) (idle n remaining (phase.TheVariants.BeforeWord Constraints)) 32 refl refl (before_constraint_word n remaining)
 
     before_variables : IsAlive opb (in_phase (phase.TheVariants.BeforeCount Variables))
     before_variables =
@@ -115,7 +115,7 @@ module _ (limit top : ℕ) where
     before_variable_word : IsAlive opb (in_phase (phase.TheVariants.BeforeWord Variables))
     before_variable_word =
         before opb (in_phase (phase.TheVariants.BeforeWord Variables)) (in_phase (phase.TheVariants.Word Variables 1)) 35 refl refl
-        (word_further variables owed Variables before_variables 8 1 refl)
+        (word_further variables remaining Variables before_variables 8 1 refl)
 
     started : IsAlive opb (in_phase phase.TheVariants.Start)
     started = before opb (in_phase phase.TheVariants.Start) (in_phase (phase.TheVariants.BeforeWord Variables)) 42 refl refl before_variable_word
@@ -124,8 +124,8 @@ module _ (limit top : ℕ) where
     objective_owed : (after_min : OpbState) → after_min ≡ giving (in_phase phase.TheVariants.AfterMin) phase.TheVariants.AfterMin (objectives limit) → IsAlive opb after_min
     objective_owed s e =
         let t = giving (in_phase phase.TheVariants.AfterMin) phase.TheVariants.AfterMin (objectives limit) in
-        let more = owed_read t false owed in
-        subst (IsAlive opb) (sym e) (final opb t (between t false owed) 59 (event.TheVariants.Objective []) refl more.0 more.1)
+        let more = owed_read t false remaining in
+        subst (IsAlive opb) (sym e) (final opb t (between t false remaining) 59 (event.TheVariants.Objective []) refl more.0 more.1)
 
     min_begun : (k : ℕ) → 0 < k → k < 4 → IsAlive opb (in_phase (phase.TheVariants.Min k))
     min_begun zero h i = absurd (omega arith)
@@ -143,56 +143,56 @@ module _ (limit top : ℕ) where
 
     word_owed : (f : Field) → IsAlive opb (in_phase (phase.TheVariants.BeforeWord f))
     word_owed Variables = before_variable_word
-    word_owed Constraints = before_constraint_word variables owed
+    word_owed Constraints = before_constraint_word variables remaining
 
     count_owed : (f : Field) → IsAlive opb (in_phase (phase.TheVariants.BeforeCount f))
     count_owed Variables = before_variables
-    count_owed Constraints = before_constraints variables owed
+    count_owed Constraints = before_constraints variables remaining
 
     word_begun : (f : Field) (k : ℕ) → k < length (word_of f) → IsAlive opb (in_phase (phase.TheVariants.Word f k))
-    word_begun f k h = word_further variables owed f (count_owed f) (length (word_of f) - suc k) k (omega (arith, h))
+    word_begun f k h = word_further variables remaining f (count_owed f) (length (word_of f) - suc k) k (omega (arith, h))
 
     counted : (f : Field) (n : ℕ) → IsAlive opb (in_phase (phase.TheVariants.Count f n))
     counted Variables n = variables_counted n
-    counted Constraints n = constraints_counted variables owed n
+    counted Constraints n = constraints_counted variables remaining n
 
 -- the state, if no byte is stored and the machine of sums is at its start
-is_idle : (s : OpbState) (p : Phase) → s.phase ≡ p → IsIdle s → s ≡ idle s.limit s.top s.variables s.owed p
+is_idle : (s : OpbState) (p : Phase) → s.phase ≡ p → IsIdle s → s ≡ idle s.limit s.top s.variables s.remaining p
 is_idle s p e (t, i) = rw (e, t, i) refl
 
-idle_accepts : (s : OpbState) (p : Phase) → s.phase ≡ p → IsIdle s → IsAlive opb (idle s.limit s.top s.variables s.owed p) → (items : List (Item OpbEvent)) × Accepts opb s items
+idle_accepts : (s : OpbState) (p : Phase) → s.phase ≡ p → IsIdle s → IsAlive opb (idle s.limit s.top s.variables s.remaining p) → (items : List (Item OpbEvent)) × AcceptsItems opb s items
 idle_accepts s p e h alive = accepted opb s (subst (IsAlive opb) (sym (is_idle s p e h)) alive)
 
-gives_accepts : (s : OpbState) (p : Phase) → s.phase ≡ p → Gives p → sums.done s.sums ≡ false → (items : List (Item OpbEvent)) × Accepts opb s items
+gives_accepts : (s : OpbState) (p : Phase) → s.phase ≡ p → Gives p → sums.done s.sums ≡ false → (items : List (Item OpbEvent)) × AcceptsItems opb s items
 gives_accepts s p e g h = accepted opb s (subst (λ (q : Phase). IsAlive opb (giving s q s.sums)) (sym e) (giving_alive s p g s.sums h))
 
 -- a positive count of constraints
-between_accepts : (s : OpbState) (may : Bool) (owed : ℕ) → s.owed ≡ owed → 0 < owed → s.phase ≡ phase.TheVariants.Between may → IsIdle s → (items : List (Item OpbEvent)) × Accepts opb s items
-between_accepts s may zero o h e i = absurd (omega arith)
-between_accepts s may (suc n) o h e i =
-    let more = owed_read s may (suc n) in
-    (more.0, subst (λ (t : OpbState). Accepts opb t more.0) (sym (is_idle s (phase.TheVariants.Between may) e i ∙ ap (λ (k : ℕ). idle s.limit s.top s.variables k (phase.TheVariants.Between may)) o)) more.1)
+between_accepts : (s : OpbState) (objective_allowed : Bool) (remaining : ℕ) → s.remaining ≡ remaining → 0 < remaining → s.phase ≡ phase.TheVariants.Between objective_allowed → IsIdle s → (items : List (Item OpbEvent)) × AcceptsItems opb s items
+between_accepts s objective_allowed zero o h e i = absurd (omega arith)
+between_accepts s objective_allowed (suc n) o h e i =
+    let more = owed_read s objective_allowed (suc n) in
+    (more.0, subst (λ (t : OpbState). AcceptsItems opb t more.0) (sym (is_idle s (phase.TheVariants.Between objective_allowed) e i ∙ ap (λ (k : ℕ). idle s.limit s.top s.variables k (phase.TheVariants.Between objective_allowed)) o)) more.1)
 
 -- what a state accepts, by what it has read last
-by_phase : (s : OpbState) (p : Phase) → s.phase ≡ p → PhaseFits s.top p → Holds s p → (items : List (Item OpbEvent)) × Accepts opb s items
-by_phase s phase.TheVariants.Start e fits h = idle_accepts s phase.TheVariants.Start e h (started s.limit s.top s.variables s.owed)
-by_phase s (phase.TheVariants.BeforeWord f) e fits h = idle_accepts s (phase.TheVariants.BeforeWord f) e h (word_owed s.limit s.top s.variables s.owed f)
-by_phase s (phase.TheVariants.Word f k) e fits h = idle_accepts s (phase.TheVariants.Word f k) e h (word_begun s.limit s.top s.variables s.owed f k fits)
-by_phase s (phase.TheVariants.BeforeCount f) e fits h = idle_accepts s (phase.TheVariants.BeforeCount f) e h (count_owed s.limit s.top s.variables s.owed f)
-by_phase s (phase.TheVariants.Count f n) e fits h = idle_accepts s (phase.TheVariants.Count f n) e h (counted s.limit s.top s.variables s.owed f n)
+by_phase : (s : OpbState) (p : Phase) → s.phase ≡ p → PhaseFits s.top p → Holds s p → (items : List (Item OpbEvent)) × AcceptsItems opb s items
+by_phase s phase.TheVariants.Start e fits h = idle_accepts s phase.TheVariants.Start e h (started s.limit s.top s.variables s.remaining)
+by_phase s (phase.TheVariants.BeforeWord f) e fits h = idle_accepts s (phase.TheVariants.BeforeWord f) e h (word_owed s.limit s.top s.variables s.remaining f)
+by_phase s (phase.TheVariants.Word f k) e fits h = idle_accepts s (phase.TheVariants.Word f k) e h (word_begun s.limit s.top s.variables s.remaining f k fits)
+by_phase s (phase.TheVariants.BeforeCount f) e fits h = idle_accepts s (phase.TheVariants.BeforeCount f) e h (count_owed s.limit s.top s.variables s.remaining f)
+by_phase s (phase.TheVariants.Count f n) e fits h = idle_accepts s (phase.TheVariants.Count f n) e h (counted s.limit s.top s.variables s.remaining f n)
 by_phase s phase.TheVariants.Tail e fits h =
-    let more = owed_read s true s.owed in
-    accepted opb s (final opb s (between s true s.owed) 10 (event.TheVariants.Header s.variables s.owed s.text) (ap (λ (p : Phase). act s 10 (plan s.top p 10)) e) more.0 more.1)
-by_phase s (phase.TheVariants.Between may) e fits h = between_accepts s may s.owed refl h.0 e h.1
-by_phase s (phase.TheVariants.Comment may) e fits h =
-    let more = owed_read s may s.owed in
-    accepted opb s (final opb s (between s may s.owed) 10 (event.TheVariants.Comment s.text) (ap (λ (p : Phase). act s 10 (plan s.top p 10)) e) more.0 more.1)
-by_phase s (phase.TheVariants.Min k) e fits h = idle_accepts s (phase.TheVariants.Min k) e h.1 (min_begun s.limit s.top s.variables s.owed k fits.0 fits.1)
-by_phase s phase.TheVariants.AfterMin e fits h = accepted opb s (objective_owed s.limit s.top s.variables s.owed s (rw (e, h.1, h.2) refl))
+    let more = owed_read s true s.remaining in
+    accepted opb s (final opb s (between s true s.remaining) 10 (event.TheVariants.Header s.variables s.remaining s.text) (ap (λ (p : Phase). act s 10 (transition s.top p 10)) e) more.0 more.1)
+by_phase s (phase.TheVariants.Between objective_allowed) e fits h = between_accepts s objective_allowed s.remaining refl h.0 e h.1
+by_phase s (phase.TheVariants.Comment objective_allowed) e fits h =
+    let more = owed_read s objective_allowed s.remaining in
+    accepted opb s (final opb s (between s objective_allowed s.remaining) 10 (event.TheVariants.Comment s.text) (ap (λ (p : Phase). act s 10 (transition s.top p 10)) e) more.0 more.1)
+by_phase s (phase.TheVariants.Min k) e fits h = idle_accepts s (phase.TheVariants.Min k) e h.1 (min_begun s.limit s.top s.variables s.remaining k fits.0 fits.1)
+by_phase s phase.TheVariants.AfterMin e fits h = accepted opb s (objective_owed s.limit s.top s.variables s.remaining s (rw (e, h.1, h.2) refl))
 by_phase s phase.TheVariants.Objective e fits h = gives_accepts s phase.TheVariants.Objective e gives_objective h.2
 by_phase s phase.TheVariants.Constraint e fits h = gives_accepts s phase.TheVariants.Constraint e gives_constraint h.2
 by_phase s phase.TheVariants.Done e fits h = ([], ap is_done e)
 
 -- each state in order accepts something
-pub live : (s : OpbState) → IsInOrder s → (items : List (Item OpbEvent)) × Accepts opb s items
+pub live : (s : OpbState) → IsInOrder s → (items : List (Item OpbEvent)) × AcceptsItems opb s items
 live s h = by_phase s s.phase refl h.fits h.holds

@@ -4,7 +4,7 @@ use Rattle.pb_text.specs.meaning.Blank.{IsInLine}
 use Rattle.std.proofs.Common.{◌≡◌, ℕ, zero, suc, ◌+◌, ◌-◌, ◌*◌, ◌≤◌, Bool, true, false, cond, ◌&&◌, List, [], ◌∷◌, ◌++◌, length, refl, sym, ap, ap₂, subst, ◌∙◌, ◌⊎◌, inl, inr, append-nil}
 use Rattle.std.proofs.lemmas.Bool.{false≢true, cond_both}
 use Rattle.std.specs.Prelude.{IsTrue, nat_eq, nat_le, slice_index}
-use Rattle.pb_text.specs.contract.Automaton.{Next, Go, End, Refuse, Reads, MayAsk}
+use Rattle.pb_text.specs.contract.Automaton.{Next, Go, End, Refuse, ReadsStatement, MayAsk}
 use Rattle.pb_text.specs.meaning.Asking.{AsksOnly}
 use Rattle.pb_text.specs.meaning.Classes.{is_blank, is_white, is_digit}
 use Rattle.pb_text.specs.meaning.Languages.{◌⋅◌, Byte, Bytes, Blanks0}
@@ -22,10 +22,10 @@ use Rattle.pb_sums.specs.declared.linear.SumEvent.{SumEvent}
 use Rattle.pb_sums.specs.declared.linear.SumEvent as sum
 use Rattle.pb_sums.proofs.lemmas.machine.Asked.{sums_asked, first_asks_nothing}
 use Rattle.pb_sums.proofs.lemmas.machine.Links.{reads_grammar}
-use Rattle.pb_sums.proofs.lemmas.machine.States.{goes-midway}
+use Rattle.pb_sums.proofs.lemmas.machine.States.{continues-midway}
 use Rattle.pb_opb.specs.meaning.Asking.{MinLead, Asks}
 use Rattle.pb_opb.specs.meaning.Instances.{constraint_word, min_word, IsTail, IsInstance}
-use Rattle.pb_opb.specs.engine.Machine.{word_of, plan, count}
+use Rattle.pb_opb.specs.engine.Machine.{word_of, transition, count}
 use Rattle.pb_opb.specs.engine.State.{OpbState, opb, begin, act, asks, over, giving, statement_of, linears, objectives}
 use Rattle.pb_opb.specs.declared.event.OpbEvent.{OpbEvent}
 use Rattle.pb_opb.specs.declared.event.OpbEvent.TheVariants.{Header, Comment, Objective, Constraint}
@@ -49,7 +49,7 @@ silent s b m e h = absurd (false≢true (sym e ∙ h))
 module _ (limit top : ℕ) where
   -- between two statements, or before the first one
   abbrev Idle : OpbState → Type 0
-  Idle s = (s ≡ begin limit top) ⊎ ((v : ℕ) × (may : Bool) × (n : ℕ) × (s ≡ idle limit top v may n))
+  Idle s = (s ≡ begin limit top) ⊎ ((v : ℕ) × (objective_allowed : Bool) × (n : ℕ) × (s ≡ idle limit top v objective_allowed n))
 
   abbrev Quiet : Next OpbState OpbEvent → Bool → Type 0
   Quiet n x = InGap (λ next. Idle next × (x ≡ false)) n
@@ -57,19 +57,19 @@ module _ (limit top : ℕ) where
   gap_begin : (b : ℕ) → Quiet (opb.step (begin limit top) b) (opb.asks (begin limit top) b)
   gap_begin b = cond_both (nat_eq b 42) _ _ (λ m. Quiet (act (begin limit top) b m) (asks (begin limit top) b m)) (λ e o. never true refl o) (λ e. tt)
 
-  gap_idle : (v : ℕ) (may : Bool) (n b : ℕ) → Quiet (opb.step (idle limit top v may n) b) (opb.asks (idle limit top v may n) b)
-  gap_idle v may zero b = tt
-  gap_idle v may (suc n) b =
-      let s : OpbState = idle limit top v may (suc n) in
+  gap_idle : (v : ℕ) (objective_allowed : Bool) (n b : ℕ) → Quiet (opb.step (idle limit top v objective_allowed n) b) (opb.asks (idle limit top v objective_allowed n) b)
+  gap_idle v objective_allowed zero b = tt
+  gap_idle v objective_allowed (suc n) b =
+      let s : OpbState = idle limit top v objective_allowed (suc n) in
       let P : Action → Type 0 = λ m. Quiet (act s b m) (asks s b m) in
-      cond_both (is_white b) _ _ P (λ e o. (inr (v, may, suc n, refl), refl))
+      cond_both (is_white b) _ _ P (λ e o. (inr (v, objective_allowed, suc n, refl), refl))
       (λ _. cond_both (nat_eq b 42) _ _ P (λ _ o. never true refl o)
-      (λ _. cond_both (nat_eq b 109 && may) _ _ P (λ _ o. never true refl o)
+      (λ _. cond_both (nat_eq b 109 && objective_allowed) _ _ P (λ _ o. never true refl o)
       (λ _. gap_given (λ next. Idle next × (sums.asks s.sums b ≡ false)) s (sums.step s.sums b))))
 
   gap_of : (s : OpbState) (b : ℕ) → Idle s → Quiet (opb.step s b) (opb.asks s b)
   gap_of s b (inl e) = subst (λ x. Quiet (opb.step x b) (opb.asks x b)) (sym e) (gap_begin b)
-  gap_of s b (inr (v, may, n, e)) = subst (λ x. Quiet (opb.step x b) (opb.asks x b)) (sym e) (gap_idle v may n b)
+  gap_of s b (inr (v, objective_allowed, n, e)) = subst (λ x. Quiet (opb.step x b) (opb.asks x b)) (sym e) (gap_idle v objective_allowed n b)
 
   gaps : (s next : OpbState) (b : ℕ) → Idle s → opb.step s b ≡ Go next → opb.begun next ≡ false → Idle next × (opb.asks s b ≡ false)
   gaps s next b i g o = (subst (λ x. Quiet x (opb.asks s b)) g (gap_of s b i)) o
@@ -81,16 +81,16 @@ module _ (limit top : ℕ) where
   after_header (Objective terms) next t h = absurd h
   after_header (Constraint linear) next t h = absurd h
 
-  after_entry : (v n : ℕ) (may : Bool) (e : OpbEvent) (next : OpbState) (t : List Letter) → entry.IsStatement limit top v n may e next t → Idle next
-  after_entry v n may (Header w k tail) next t h = absurd h
-  after_entry v n may (Comment line) next t h = inr (v, may, suc n, h.2)
-  after_entry v n may (Objective terms) next t h = inr (v, false, suc n, h.2)
-  after_entry v n may (Constraint linear) next t h = inr (v, false, n, h.1)
+  after_entry : (v n : ℕ) (objective_allowed : Bool) (e : OpbEvent) (next : OpbState) (t : List Letter) → entry.IsStatement limit top v n objective_allowed e next t → Idle next
+  after_entry v n objective_allowed (Header w k tail) next t h = absurd h
+  after_entry v n objective_allowed (Comment line) next t h = inr (v, objective_allowed, suc n, h.2)
+  after_entry v n objective_allowed (Objective terms) next t h = inr (v, false, suc n, h.2)
+  after_entry v n objective_allowed (Constraint linear) next t h = inr (v, false, n, h.1)
 
-  ends : (s next : OpbState) (t : List Letter) (e : OpbEvent) → Idle s → Reads opb s t e next → Idle next
-  ends s next t e (inl f) r = after_header e next t (header.header_only limit top t e next (subst (λ x. Reads opb x t e next) f r))
-  ends s next t e (inr (v, may, zero, f)) r = absurd (nothing_read limit top v may [] t e (idle limit top v may zero) next refl (subst (λ x. Reads opb x t e next) f r))
-  ends s next t e (inr (v, may, suc n, f)) r = after_entry v n may e next t (entry.entry_only limit top v n may t e next (subst (λ x. Reads opb x t e next) f r))
+  ends : (s next : OpbState) (t : List Letter) (e : OpbEvent) → Idle s → ReadsStatement opb s t e next → Idle next
+  ends s next t e (inl f) r = after_header e next t (header.header_only limit top t e next (subst (λ x. ReadsStatement opb x t e next) f r))
+  ends s next t e (inr (v, objective_allowed, zero, f)) r = absurd (nothing_read limit top v objective_allowed [] t e (idle limit top v objective_allowed zero) next refl (subst (λ x. ReadsStatement opb x t e next) f r))
+  ends s next t e (inr (v, objective_allowed, suc n, f)) r = after_entry v n objective_allowed e next t (entry.entry_only limit top v n objective_allowed t e next (subst (λ x. ReadsStatement opb x t e next) f r))
 
   -- the header
   abbrev AsksHeader : ℕ → List ℕ → ℕ → Type 0
@@ -100,9 +100,9 @@ module _ (limit top : ℕ) where
   counted s p n b le (a, c, e, h, k) white = (s.variables, n, p, [], (a, c, e, h, (le, k)), sym (append-nil (bytes p)), (white, tt))
 
   tailed : (s : OpbState) (p : List Letter) (b : ℕ) → IsTail s.text → (s.text ≡ [] → ⊥) → nat_eq b 10 ≡ false
-      → (header.Whole s.top Constraints s.owed (header.Before s.top s.variables Constraints) ⋅ Bytes s.text) p → AsksHeader s.top (bytes p) b
+      → (header.Whole s.top Constraints s.remaining (header.Before s.top s.variables Constraints) ⋅ Bytes s.text) p → AsksHeader s.top (bytes p) b
   tailed s p b h some line (a, c, e, k, is) =
-      (s.variables, s.owed, a, s.text, k, ap bytes e ∙ (bytes-append a c ∙ ap (λ (x : List ℕ). bytes a ++ x) (ap bytes is ∙ bytes-plain s.text)), tail_grown s.text b line some h)
+      (s.variables, s.remaining, a, s.text, k, ap bytes e ∙ (bytes-append a c ∙ ap (λ (x : List ℕ). bytes a ++ x) (ap bytes is ∙ bytes-plain s.text)), tail_grown s.text b line some h)
 
   module _ (s : OpbState) (p : List Letter) (b : ℕ) where
     -- what follows if a move may allocate
@@ -115,7 +115,7 @@ module _ (limit top : ℕ) where
     count_quiet : (A : Type 0) (f : Field) (n : ℕ) → Then A (count s.top f n b)
     count_quiet A f n = cond_both (is_digit b && nat_le (10 * n + (b - 48)) s.top) _ _ (Then A) (λ _ h. absurd (false≢true h)) (λ _ h. absurd (false≢true h))
 
-    header_asks : (q : Phase) → header.prefix s q p → Then (AsksHeader s.top (bytes p) b) (plan s.top q b)
+    header_asks : (q : Phase) → header.prefix s q p → Then (AsksHeader s.top (bytes p) b) (transition s.top q b)
     header_asks phase.TheVariants.Start h = cond_both (nat_eq b 42) _ _ (Then (AsksHeader s.top (bytes p) b)) (λ _ k. absurd (false≢true k)) (λ _ k. absurd (false≢true k))
     header_asks (phase.TheVariants.BeforeWord f) h =
         cond_both (is_blank b) _ _ (Then (AsksHeader s.top (bytes p) b)) (λ _ k. absurd (false≢true k))
@@ -133,8 +133,8 @@ module _ (limit top : ℕ) where
         (λ _. cond_both (is_blank b) _ _ (Then (AsksHeader s.top (bytes p) b)) (λ e k. counted s p n b h.0 h.1 e) (λ _ k. absurd (false≢true k))))
     header_asks phase.TheVariants.Tail h =
         cond_both (nat_eq b 10) _ _ (Then (AsksHeader s.top (bytes p) b)) (λ _ k. absurd (false≢true k)) (λ e k. tailed s p b h.0 h.1 e h.2)
-    header_asks (phase.TheVariants.Between may) h = absurd h
-    header_asks (phase.TheVariants.Comment may) h = absurd h
+    header_asks (phase.TheVariants.Between objective_allowed) h = absurd h
+    header_asks (phase.TheVariants.Comment objective_allowed) h = absurd h
     header_asks (phase.TheVariants.Min k) h = absurd h
     header_asks phase.TheVariants.AfterMin h = absurd h
     header_asks phase.TheVariants.Objective h = absurd h
@@ -160,8 +160,8 @@ module _ (limit top : ℕ) where
     ended s next e (End f new) h = (f, new, refl, (let k : e ≡ statement_of f = cc in k))
     ended s next e Refuse h = absurd (let f : ⊥ = cc in f)
 
-    sum_reads : (t : List Letter) (s : OpbState) (e : OpbEvent) (next : OpbState) → s.phase ≡ q → Reads opb s t e next
-        → (f : SumEvent) × (new : SumState) × Reads sums s.sums t f new × (e ≡ statement_of f)
+    sum_reads : (t : List Letter) (s : OpbState) (e : OpbEvent) (next : OpbState) → s.phase ≡ q → ReadsStatement opb s t e next
+        → (f : SumEvent) × (new : SumState) × ReadsStatement sums s.sums t f new × (e ≡ statement_of f)
     sum_reads [] s e next at r = absurd r
     sum_reads (l ∷ []) s e next at (h, n) =
         let (f, new, k, same) = ended s next e (sums.step s.sums l.byte) (sym (given_step s q g l.byte at) ∙ h) in
@@ -170,13 +170,13 @@ module _ (limit top : ℕ) where
         let (inner, i, same) = went s mid (sums.step s.sums l.byte) (sym (given_step s q g l.byte at) ∙ h) in
         let (f, new, j, is) = sum_reads (k ∷ t) mid e next (ap (λ x. x.phase) same) r in
         let number : opb.in_number mid ≡ sums.in_number inner = ap opb.in_number same ∙ g.number (giving s q inner) in
-        (f, new, (inner, i, goes-midway s.sums inner l.byte i, n ∙ number, subst (λ (x : SumState). Reads sums x (k ∷ t) f new) (ap (λ x. x.sums) same) j), is)
+        (f, new, (inner, i, continues-midway s.sums inner l.byte i, n ∙ number, subst (λ (x : SumState). ReadsStatement sums x (k ∷ t) f new) (ap (λ x. x.sums) same) j), is)
 
   -- Within a comment, the text is a comment.
   comment_step : (s : OpbState) (b : ℕ) (m : Bool) (x : Bool) → s.phase ≡ phase.TheVariants.Comment m → nat_eq b 10 ≡ x → opb.step s b ≡ act s b (cond x (EndComment m) (Keep b))
-  comment_step s b m x at e = ap (λ q. act s b (plan s.top q b)) at ∙ ap (λ y. act s b (cond y (EndComment m) (Keep b))) e
+  comment_step s b m x at e = ap (λ q. act s b (transition s.top q b)) at ∙ ap (λ y. act s b (cond y (EndComment m) (Keep b))) e
 
-  comment_reads : (t : List Letter) (s : OpbState) (m : Bool) (e : OpbEvent) (next : OpbState) → s.phase ≡ phase.TheVariants.Comment m → Reads opb s t e next → (line : List ℕ) × (e ≡ Comment line)
+  comment_reads : (t : List Letter) (s : OpbState) (m : Bool) (e : OpbEvent) (next : OpbState) → s.phase ≡ phase.TheVariants.Comment m → ReadsStatement opb s t e next → (line : List ℕ) × (e ≡ Comment line)
   comment_reads [] s m e next at r = absurd r
   comment_reads (l ∷ []) s m e next at (h, n) = by_test (nat_eq l.byte 10) refl
     where
@@ -197,7 +197,7 @@ module _ (limit top : ℕ) where
   in_comment s p b h e (a, c, is, star, kept) line =
       (s.text, ap bytes is ∙ (bytes-append a c ∙ ap₂ (λ (x y : List ℕ). x ++ y) (ap bytes star) (ap bytes kept ∙ bytes-plain s.text)), line_grown s.text b e h)
 
-  in_objective : (s new : OpbState) (inner : SumState) (a c rest : List Letter) (l : Letter) (f : SumEvent) → MinLead a → Walks sums (objectives s.limit) c s.sums → Reads sums s.sums (l ∷ rest) f inner
+  in_objective : (s new : OpbState) (inner : SumState) (a c rest : List Letter) (l : Letter) (f : SumEvent) → MinLead a → Walks sums (objectives s.limit) c s.sums → ReadsStatement sums s.sums (l ∷ rest) f inner
       → sums.asks s.sums l.byte ≡ true → Asks top (statement_of f) (bytes (a ++ c)) l.byte
   in_objective s new inner a c rest l f lead w r h =
       by_event f ((reads_grammar White part.TheVariants.Sum s.limit (c ++ l ∷ rest) f inner).0 (reads_after sums c (l ∷ rest) (objectives s.limit) s.sums inner f w r)).0
@@ -207,7 +207,7 @@ module _ (limit top : ℕ) where
           (a, bytes c, lead, bytes-append a c, sums_asked White part.TheVariants.Sum s.limit c s.sums l.byte w h)
       by_event (sum.TheVariants.Linear d) k = never false k.0 refl
 
-  in_constraint : (s : OpbState) (inner : SumState) (p rest : List Letter) (l : Letter) (f : SumEvent) → Walks sums (linears s.limit) p s.sums → Reads sums s.sums (l ∷ rest) f inner
+  in_constraint : (s : OpbState) (inner : SumState) (p rest : List Letter) (l : Letter) (f : SumEvent) → Walks sums (linears s.limit) p s.sums → ReadsStatement sums s.sums (l ∷ rest) f inner
       → sums.asks s.sums l.byte ≡ true → Asks top (statement_of f) (bytes p) l.byte
   in_constraint s inner p rest l f w r h =
       by_event f ((reads_grammar White part.TheVariants.Linear s.limit (p ++ l ∷ rest) f inner).0 (reads_after sums p (l ∷ rest) (linears s.limit) s.sums inner f w r)).0
@@ -216,8 +216,8 @@ module _ (limit top : ℕ) where
       by_event (sum.TheVariants.Sum xs) k = never false k.0 refl
       by_event (sum.TheVariants.Linear d) k = sums_asked White part.TheVariants.Linear s.limit p s.sums l.byte w h
 
-  module _ (v n : ℕ) (may : Bool) (s next : OpbState) (p rest : List Letter) (l : Letter) (e : OpbEvent) where
-    entry_asks : (q : Phase) → s.phase ≡ q → entry.prefix limit top v n may s q p → Reads opb s (l ∷ rest) e next → Then s p l.byte (Asks top e (bytes p) l.byte) (plan s.top q l.byte)
+  module _ (v n : ℕ) (objective_allowed : Bool) (s next : OpbState) (p rest : List Letter) (l : Letter) (e : OpbEvent) where
+    entry_asks : (q : Phase) → s.phase ≡ q → entry.prefix limit top v n objective_allowed s q p → ReadsStatement opb s (l ∷ rest) e next → Then s p l.byte (Asks top e (bytes p) l.byte) (transition s.top q l.byte)
     entry_asks (phase.TheVariants.Between m) at (same, none, kept, inner) r =
         let T : Action → Type 0 = Then s p l.byte (Asks top e (bytes p) l.byte) in
         cond_both (is_white l.byte) _ _ T (λ _ k. absurd (false≢true k))
@@ -248,21 +248,21 @@ module _ (limit top : ℕ) where
     entry_asks phase.TheVariants.Tail at h r = absurd h
     entry_asks phase.TheVariants.Done at h r = absurd h
 
-  texts : (at s next : OpbState) (prefix rest : List Letter) (l : Letter) (e : OpbEvent) → Idle at → Walks opb at prefix s → Reads opb s (l ∷ rest) e next
+  texts : (at s next : OpbState) (prefix rest : List Letter) (l : Letter) (e : OpbEvent) → Idle at → Walks opb at prefix s → ReadsStatement opb s (l ∷ rest) e next
       → IsTrue (opb.asks s l.byte) → Asks top e (bytes prefix) l.byte
   texts at s next prefix rest l e (inl f) w r a =
       let walk : Walks opb (begin limit top) prefix s = subst (λ x. Walks opb x prefix s) f w in
       let k : header.Prefix limit top s prefix = prefixes_of opb (header.Prefix limit top) (header.Reported limit top) (header.keeps limit top) prefix (begin limit top) [] s walk ((refl, refl), refl) in
       let h : header.IsHeader limit top e next (prefix ++ l ∷ rest) = header.header_only limit top (prefix ++ l ∷ rest) e next (reads_after opb prefix (l ∷ rest) (begin limit top) s next e walk r) in
       at_header e next (prefix ++ l ∷ rest) (bytes prefix) l.byte h (subst (λ x. AsksHeader x (bytes prefix) l.byte) k.0.1 (header_asks s prefix l.byte s.phase k.1 a))
-  texts at s next prefix rest l e (inr (v, may, zero, f)) w r a =
-      let walk : Walks opb (idle limit top v may zero) prefix s = subst (λ x. Walks opb x prefix s) f w in
-      absurd (nothing_read limit top v may [] (prefix ++ l ∷ rest) e (idle limit top v may zero) next refl (reads_after opb prefix (l ∷ rest) (idle limit top v may zero) s next e walk r))
-  texts at s next prefix rest l e (inr (v, may, suc n, f)) w r a =
-      let start : OpbState = idle limit top v may (suc n) in
+  texts at s next prefix rest l e (inr (v, objective_allowed, zero, f)) w r a =
+      let walk : Walks opb (idle limit top v objective_allowed zero) prefix s = subst (λ x. Walks opb x prefix s) f w in
+      absurd (nothing_read limit top v objective_allowed [] (prefix ++ l ∷ rest) e (idle limit top v objective_allowed zero) next refl (reads_after opb prefix (l ∷ rest) (idle limit top v objective_allowed zero) s next e walk r))
+  texts at s next prefix rest l e (inr (v, objective_allowed, suc n, f)) w r a =
+      let start : OpbState = idle limit top v objective_allowed (suc n) in
       let walk : Walks opb start prefix s = subst (λ x. Walks opb x prefix s) f w in
-      let k : entry.Prefix limit top v n may s prefix = prefixes_of opb (entry.Prefix limit top v n may) (entry.IsStatement limit top v n may) (entry.keeps limit top v n may) prefix start [] s walk ((refl, refl, refl, refl), (refl, refl, refl, refl)) in
-      entry_asks v n may s next prefix rest l e s.phase refl k.1 r a
+      let k : entry.Prefix limit top v n objective_allowed s prefix = prefixes_of opb (entry.Prefix limit top v n objective_allowed) (entry.IsStatement limit top v n objective_allowed) (entry.keeps limit top v n objective_allowed) prefix start [] s walk ((refl, refl, refl, refl), (refl, refl, refl, refl)) in
+      entry_asks v n objective_allowed s next prefix rest l e s.phase refl k.1 r a
 
   -- after these bytes of an instance
   pub asks_only : (used : List ℕ) (b : ℕ) → MayAsk opb (begin limit top) used b → AsksOnly (IsInstance limit top) (Asks top) used b

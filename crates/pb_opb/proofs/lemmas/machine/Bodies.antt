@@ -2,7 +2,7 @@
 use Rattle.std.proofs.Common.{◌≡◌, ℕ, zero, suc, Bool, true, false, ◌&&◌, List, [], ◌∷◌, refl, sym, ap, subst, ◌∙◌, ◌↔◌}
 use Rattle.std.proofs.lemmas.Bool.{cond_both}
 use Rattle.std.specs.Prelude.{IsTrue, nat_eq}
-use Rattle.pb_text.specs.contract.Automaton.{Next, Go, End, Refuse, Skips, Reads, Accepts}
+use Rattle.pb_text.specs.contract.Automaton.{Next, Go, End, Refuse, SkipsGap, ReadsStatement, AcceptsItems}
 use Rattle.pb_text.specs.meaning.Classes.{is_white}
 use Rattle.pb_text.specs.meaning.Languages.{Each}
 use Rattle.pb_text.specs.meaning.Spelling.{Item, Letter}
@@ -39,7 +39,7 @@ gap_given P s Refuse = tt
 
 module _ (limit top : ℕ) where
   -- no white space comes before a header
-  start_gap : (gap : List ℕ) (at : OpbState) → Skips opb (begin limit top) gap at → (gap ≡ []) × (at ≡ begin limit top)
+  start_gap : (gap : List ℕ) (at : OpbState) → SkipsGap opb (begin limit top) gap at → (gap ≡ []) × (at ≡ begin limit top)
   start_gap [] at h = (refl, h)
   start_gap (b ∷ gap) at (mid, g, o, h) = absurd (on o)
     where
@@ -51,111 +51,111 @@ module _ (limit top : ℕ) where
 
   module _ (v : ℕ) where
     abbrev at_idle : Bool → ℕ → OpbState
-    at_idle may owed = idle limit top v may owed
+    at_idle objective_allowed remaining = idle limit top v objective_allowed remaining
 
     -- white space between two statements
-    gap_byte : (may : Bool) (n b : ℕ) → InGap (λ mid. (is_white b ≡ true) × (mid ≡ at_idle may (suc n))) (opb.step (at_idle may (suc n)) b)
-    gap_byte may n b = cond_both (is_white b) _ _ Q
+    gap_byte : (objective_allowed : Bool) (n b : ℕ) → InGap (λ mid. (is_white b ≡ true) × (mid ≡ at_idle objective_allowed (suc n))) (opb.step (at_idle objective_allowed (suc n)) b)
+    gap_byte objective_allowed n b = cond_both (is_white b) _ _ Q
         (λ e o. (e, refl))
         (λ _. cond_both (nat_eq b 42) _ _ Q
         (λ _ o. never true refl o)
-        (λ _. cond_both (nat_eq b 109 && may) _ _ Q
+        (λ _. cond_both (nat_eq b 109 && objective_allowed) _ _ Q
         (λ _ o. never true refl o)
-        (λ _. gap_given (λ mid. (is_white b ≡ true) × (mid ≡ at_idle may (suc n))) (at_idle may (suc n)) (sums.step (linears limit) b))))
+        (λ _. gap_given (λ mid. (is_white b ≡ true) × (mid ≡ at_idle objective_allowed (suc n))) (at_idle objective_allowed (suc n)) (sums.step (linears limit) b))))
       where
         Q : Action → Type 0
-        Q m = InGap (λ mid. (is_white b ≡ true) × (mid ≡ at_idle may (suc n))) (act (at_idle may (suc n)) b m)
+        Q m = InGap (λ mid. (is_white b ≡ true) × (mid ≡ at_idle objective_allowed (suc n))) (act (at_idle objective_allowed (suc n)) b m)
 
-    gap_only : (may : Bool) (n : ℕ) (gap : List ℕ) (at : OpbState) → Skips opb (at_idle may (suc n)) gap at
-        → Each (λ b. IsTrue (is_white b)) gap × (at ≡ at_idle may (suc n))
-    gap_only may n [] at h = (tt, h)
-    gap_only may n (b ∷ gap) at (mid, g, o, h) =
-        let on : opb.begun mid ≡ false → (is_white b ≡ true) × (mid ≡ at_idle may (suc n)) = subst (λ x. InGap (λ s. (is_white b ≡ true) × (s ≡ at_idle may (suc n))) x) g (gap_byte may n b) in
-        let f : (is_white b ≡ true) × (mid ≡ at_idle may (suc n)) = on o in
-        let r : Each (λ b. IsTrue (is_white b)) gap × (at ≡ at_idle may (suc n)) = gap_only may n gap at (subst (λ s. Skips opb s gap at) f.1 h) in
+    gap_only : (objective_allowed : Bool) (n : ℕ) (gap : List ℕ) (at : OpbState) → SkipsGap opb (at_idle objective_allowed (suc n)) gap at
+        → Each (λ b. IsTrue (is_white b)) gap × (at ≡ at_idle objective_allowed (suc n))
+    gap_only objective_allowed n [] at h = (tt, h)
+    gap_only objective_allowed n (b ∷ gap) at (mid, g, o, h) =
+        let on : opb.begun mid ≡ false → (is_white b ≡ true) × (mid ≡ at_idle objective_allowed (suc n)) = subst (λ x. InGap (λ s. (is_white b ≡ true) × (s ≡ at_idle objective_allowed (suc n))) x) g (gap_byte objective_allowed n b) in
+        let f : (is_white b ≡ true) × (mid ≡ at_idle objective_allowed (suc n)) = on o in
+        let r : Each (λ b. IsTrue (is_white b)) gap × (at ≡ at_idle objective_allowed (suc n)) = gap_only objective_allowed n gap at (subst (λ s. SkipsGap opb s gap at) f.1 h) in
         ((f.0, r.0), r.1)
 
-    white_stays : (may : Bool) (n b : ℕ) → is_white b ≡ true → opb.step (at_idle may (suc n)) b ≡ Go (at_idle may (suc n))
-    white_stays may n b h = rw h refl
+    white_stays : (objective_allowed : Bool) (n b : ℕ) → is_white b ≡ true → opb.step (at_idle objective_allowed (suc n)) b ≡ Go (at_idle objective_allowed (suc n))
+    white_stays objective_allowed n b h = rw h refl
 
-    gap_each : (may : Bool) (n : ℕ) (gap : List ℕ) → Each (λ b. IsTrue (is_white b)) gap → Skips opb (at_idle may (suc n)) gap (at_idle may (suc n))
-    gap_each may n [] h = refl
-    gap_each may n (b ∷ gap) h = (at_idle may (suc n), white_stays may n b h.0, refl, gap_each may n gap h.1)
+    gap_each : (objective_allowed : Bool) (n : ℕ) (gap : List ℕ) → Each (λ b. IsTrue (is_white b)) gap → SkipsGap opb (at_idle objective_allowed (suc n)) gap (at_idle objective_allowed (suc n))
+    gap_each objective_allowed n [] h = refl
+    gap_each objective_allowed n (b ∷ gap) h = (at_idle objective_allowed (suc n), white_stays objective_allowed n b h.0, refl, gap_each objective_allowed n gap h.1)
 
     -- what follows a statement
-    entry_map : (may : Bool) (n : ℕ) (text : List Letter) (P Q : Bool → ℕ → Type 0) → ((m : Bool) (k : ℕ) → P m k → Q m k) → (e : OpbEvent)
-        → IsEntry limit may n text P e → IsEntry limit may n text Q e
-    entry_map may n text P Q f (Header variables constraints tail) h = absurd h
-    entry_map may n text P Q f (Comment bytes) h = (h.0, h.1, f may (suc n) h.2)
-    entry_map may n text P Q f (Objective xs) h = (h.0, h.1, f false (suc n) h.2)
-    entry_map may n text P Q f (Constraint c) h = (h.0, f false n h.1)
+    entry_map : (objective_allowed : Bool) (n : ℕ) (text : List Letter) (P Q : Bool → ℕ → Type 0) → ((m : Bool) (k : ℕ) → P m k → Q m k) → (e : OpbEvent)
+        → IsEntry limit objective_allowed n text P e → IsEntry limit objective_allowed n text Q e
+    entry_map objective_allowed n text P Q f (Header variables constraints tail) h = absurd h
+    entry_map objective_allowed n text P Q f (Comment bytes) h = (h.0, h.1, f objective_allowed (suc n) h.2)
+    entry_map objective_allowed n text P Q f (Objective xs) h = (h.0, h.1, f false (suc n) h.2)
+    entry_map objective_allowed n text P Q f (Constraint c) h = (h.0, f false n h.1)
 
-    entry_after : (may : Bool) (n : ℕ) (text : List Letter) (P : Bool → ℕ → Type 0) (e : OpbEvent) → IsEntry limit may n text P e
-        → (m : Bool) × (k : ℕ) × P m k × IsEntry limit may n text (λ m' k'. at_idle m k ≡ at_idle m' k') e
-    entry_after may n text P (Header variables constraints tail) h = absurd h
-    entry_after may n text P (Comment bytes) h = (may, suc n, h.2, (h.0, h.1, refl))
-    entry_after may n text P (Objective xs) h = (false, suc n, h.2, (h.0, h.1, refl))
-    entry_after may n text P (Constraint c) h = (false, n, h.1, (h.0, refl))
+    entry_after : (objective_allowed : Bool) (n : ℕ) (text : List Letter) (P : Bool → ℕ → Type 0) (e : OpbEvent) → IsEntry limit objective_allowed n text P e
+        → (m : Bool) × (k : ℕ) × P m k × IsEntry limit objective_allowed n text (λ m' k'. at_idle m k ≡ at_idle m' k') e
+    entry_after objective_allowed n text P (Header variables constraints tail) h = absurd h
+    entry_after objective_allowed n text P (Comment bytes) h = (objective_allowed, suc n, h.2, (h.0, h.1, refl))
+    entry_after objective_allowed n text P (Objective xs) h = (false, suc n, h.2, (h.0, h.1, refl))
+    entry_after objective_allowed n text P (Constraint c) h = (false, n, h.1, (h.0, refl))
 
     -- nothing follows the last constraint
-    pub nothing_read : (may : Bool) (gap : List ℕ) (text : List Letter) (e : OpbEvent) (at after : OpbState) → Skips opb (at_idle may zero) gap at
-        → Reads opb at text e after → ⊥
-    nothing_read may [] [] e at after h r = r
-    nothing_read may [] (l ∷ []) e at after h (r, n) = refuse_or_end e after (sym (ap (λ s. opb.step s l.byte) h) ∙ r)
-    nothing_read may [] (l ∷ k ∷ text) e at after h (mid, g, o, n, r) = refuse_or_go mid (sym (ap (λ s. opb.step s l.byte) h) ∙ g)
-    nothing_read may (b ∷ gap) text e at after (mid, g, o, h) r = refuse_or_go mid g
+    pub nothing_read : (objective_allowed : Bool) (gap : List ℕ) (text : List Letter) (e : OpbEvent) (at after : OpbState) → SkipsGap opb (at_idle objective_allowed zero) gap at
+        → ReadsStatement opb at text e after → ⊥
+    nothing_read objective_allowed [] [] e at after h r = r
+    nothing_read objective_allowed [] (l ∷ []) e at after h (r, n) = refuse_or_end e after (sym (ap (λ s. opb.step s l.byte) h) ∙ r)
+    nothing_read objective_allowed [] (l ∷ k ∷ text) e at after h (mid, g, o, n, r) = refuse_or_go mid (sym (ap (λ s. opb.step s l.byte) h) ∙ g)
+    nothing_read objective_allowed (b ∷ gap) text e at after (mid, g, o, h) r = refuse_or_go mid g
 
-    body_only : (items : List (Item OpbEvent)) (may : Bool) (owed : ℕ) → Accepts opb (at_idle may owed) items → IsCounted limit may owed items
-    body_only [] may zero h = tt
-    body_only [] may (suc n) h = never false h refl
-    body_only (i ∷ rest) may zero (at, after, g, r, a) = nothing_read may i.gap i.text i.event at after g r
-    body_only (i ∷ rest) may (suc n) (at, after, g, r, a) =
-        let f : Each (λ b. IsTrue (is_white b)) i.gap × (at ≡ at_idle may (suc n)) = gap_only may n i.gap at g in (
+    body_only : (items : List (Item OpbEvent)) (objective_allowed : Bool) (remaining : ℕ) → AcceptsItems opb (at_idle objective_allowed remaining) items → IsCounted limit objective_allowed remaining items
+    body_only [] objective_allowed zero h = tt
+    body_only [] objective_allowed (suc n) h = never false h refl
+    body_only (i ∷ rest) objective_allowed zero (at, after, g, r, a) = nothing_read objective_allowed i.gap i.text i.event at after g r
+    body_only (i ∷ rest) objective_allowed (suc n) (at, after, g, r, a) =
+        let f : Each (λ b. IsTrue (is_white b)) i.gap × (at ≡ at_idle objective_allowed (suc n)) = gap_only objective_allowed n i.gap at g in (
           f.0,
-          entry_map may n i.text (λ m k. after ≡ at_idle m k) (λ m k. IsCounted limit m k rest) (λ m k e. body_only rest m k (subst (λ s. Accepts opb s rest) e a)) i.event
-              (entry_only limit top v n may i.text i.event after (subst (λ s. Reads opb s i.text i.event after) f.1 r)),
+          entry_map objective_allowed n i.text (λ m k. after ≡ at_idle m k) (λ m k. IsCounted limit m k rest) (λ m k e. body_only rest m k (subst (λ s. AcceptsItems opb s rest) e a)) i.event
+              (entry_only limit top v n objective_allowed i.text i.event after (subst (λ s. ReadsStatement opb s i.text i.event after) f.1 r)),
         )
 
-    body_each : (items : List (Item OpbEvent)) (may : Bool) (owed : ℕ) → IsCounted limit may owed items → Accepts opb (at_idle may owed) items
-    body_each [] may zero h = refl
-    body_each [] may (suc n) h = absurd h
-    body_each (i ∷ rest) may zero h = absurd h
-    body_each (i ∷ rest) may (suc n) (g, h) =
-        let f : (m : Bool) × (k : ℕ) × IsCounted limit m k rest × IsEntry limit may n i.text (λ m' k'. at_idle m k ≡ at_idle m' k') i.event =
-        entry_after may n i.text (λ m k. IsCounted limit m k rest) i.event h in
-        (at_idle may (suc n), at_idle f.0 f.1, gap_each may n i.gap g, entry_reads limit top v n may i.text i.event (at_idle f.0 f.1) f.3, body_each rest f.0 f.1 f.2)
+    body_each : (items : List (Item OpbEvent)) (objective_allowed : Bool) (remaining : ℕ) → IsCounted limit objective_allowed remaining items → AcceptsItems opb (at_idle objective_allowed remaining) items
+    body_each [] objective_allowed zero h = refl
+    body_each [] objective_allowed (suc n) h = absurd h
+    body_each (i ∷ rest) objective_allowed zero h = absurd h
+    body_each (i ∷ rest) objective_allowed (suc n) (g, h) =
+        let f : (m : Bool) × (k : ℕ) × IsCounted limit m k rest × IsEntry limit objective_allowed n i.text (λ m' k'. at_idle m k ≡ at_idle m' k') i.event =
+        entry_after objective_allowed n i.text (λ m k. IsCounted limit m k rest) i.event h in
+        (at_idle objective_allowed (suc n), at_idle f.0 f.1, gap_each objective_allowed n i.gap g, entry_reads limit top v n objective_allowed i.text i.event (at_idle f.0 f.1) f.3, body_each rest f.0 f.1 f.2)
 
   -- with the header
   begun_only : (i : Item OpbEvent) (rest : List (Item OpbEvent)) (e : OpbEvent) (after : OpbState) → i.gap ≡ [] → IsHeader limit top e after i.text
-      → Accepts opb after rest → IsBegun limit top i rest e
-  begun_only i rest (Header v n tail) after g h a = (g, h.0, h.1, body_of limit n rest (body_only v rest true n (subst (λ s. Accepts opb s rest) h.2 a)))
+      → AcceptsItems opb after rest → IsBegun limit top i rest e
+  begun_only i rest (Header v n tail) after g h a = (g, h.0, h.1, body_of limit n rest (body_only v rest true n (subst (λ s. AcceptsItems opb s rest) h.2 a)))
   begun_only i rest _ after g h a = absurd h
 
-  pub instance_only : (items : List (Item OpbEvent)) → Accepts opb (begin limit top) items → IsInstance limit top items
+  pub instance_only : (items : List (Item OpbEvent)) → AcceptsItems opb (begin limit top) items → IsInstance limit top items
   instance_only [] h = never false h refl
   instance_only (i ∷ rest) (at, after, g, r, a) =
       let f : (i.gap ≡ []) × (at ≡ begin limit top) = start_gap i.gap at g in
-      begun_only i rest i.event after f.0 (header_only limit top i.text i.event after (subst (λ s. Reads opb s i.text i.event after) f.1 r)) a
+      begun_only i rest i.event after f.0 (header_only limit top i.text i.event after (subst (λ s. ReadsStatement opb s i.text i.event after) f.1 r)) a
 
   begun_each : (i : Item OpbEvent) (rest : List (Item OpbEvent)) (e : OpbEvent) → IsBegun limit top i rest e
-      → (at : OpbState) × (after : OpbState) × Skips opb (begin limit top) i.gap at × Reads opb at i.text e after × Accepts opb after rest
+      → (at : OpbState) × (after : OpbState) × SkipsGap opb (begin limit top) i.gap at × ReadsStatement opb at i.text e after × AcceptsItems opb after rest
   begun_each i rest (Header v n tail) (g, h, spells, body) = (
     begin limit top,
     idle limit top v true n,
-    subst (λ x. Skips opb (begin limit top) x (begin limit top)) (sym g) refl,
+    subst (λ x. SkipsGap opb (begin limit top) x (begin limit top)) (sym g) refl,
     header_reads limit top v n tail i.text h spells,
     body_each v rest true n (counted limit n rest body),
   )
   begun_each i rest _ h = absurd h
 
-  pub instance_each : (items : List (Item OpbEvent)) → IsInstance limit top items → Accepts opb (begin limit top) items
+  pub instance_each : (items : List (Item OpbEvent)) → IsInstance limit top items → AcceptsItems opb (begin limit top) items
   instance_each [] h = absurd h
   instance_each (i ∷ rest) h = begun_each i rest i.event h
 
   -- A new machine accepts the instances.
-  pub reads_instances : (items : List (Item OpbEvent)) → Accepts opb (begin limit top) items ↔ IsInstance limit top items
+  pub reads_instances : (items : List (Item OpbEvent)) → AcceptsItems opb (begin limit top) items ↔ IsInstance limit top items
   reads_instances items = (instance_only items, instance_each items)
 
 -- Nothing may follow a complete instance.
-pub closes : (s : OpbState) → IsTrue (opb.done s) → (b : ℕ) → opb.step s b ≡ Refuse
-closes s h b = ap (act s b) (done_stops s.top s.phase b h)
+pub finishes : (s : OpbState) → IsTrue (opb.done s) → (b : ℕ) → opb.step s b ≡ Refuse
+finishes s h b = ap (act s b) (done_stops s.top s.phase b h)

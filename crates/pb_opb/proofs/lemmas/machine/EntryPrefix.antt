@@ -3,7 +3,7 @@ use Rattle.pb_text.specs.meaning.Blank.{IsInLine}
 use Rattle.std.proofs.Common.{◌≡◌, ℕ, suc, ◌+◌, ◌-◌, ◌<◌, Bool, true, false, ◌&&◌, List, [], ◌∷◌, ◌++◌, length, take, refl, sym, ap, subst, arith, ◌∙◌}
 use Rattle.std.proofs.lemmas.Bool.{eqb-true, and_parts, cond_both}
 use Rattle.std.specs.Prelude.{IsTrue, nat_eq, slice_index}
-use Rattle.pb_text.specs.contract.Automaton.{Next, Go, End, Refuse, Reads}
+use Rattle.pb_text.specs.contract.Automaton.{Next, Go, End, Refuse, ReadsStatement}
 use Rattle.pb_text.specs.meaning.Classes.{is_white}
 use Rattle.pb_text.specs.meaning.Languages.{unmarked, Language, ◌⋅◌, Byte, Bytes}
 use Rattle.pb_text.specs.meaning.Spelling.{Letter, plain}
@@ -18,9 +18,9 @@ use Rattle.pb_sums.specs.declared.sum_kind.Spaces.TheVariants.{White}
 use Rattle.pb_sums.specs.declared.linear.SumEvent.{SumEvent}
 use Rattle.pb_sums.specs.declared.linear.SumEvent as sum
 use Rattle.pb_sums.proofs.lemmas.machine.Links.{reads_grammar}
-use Rattle.pb_sums.proofs.lemmas.machine.States.{goes-midway}
+use Rattle.pb_sums.proofs.lemmas.machine.States.{continues-midway}
 use Rattle.pb_opb.specs.meaning.Instances.{min_word, Whites0, SpellsObjective}
-use Rattle.pb_opb.specs.engine.Machine.{plan}
+use Rattle.pb_opb.specs.engine.Machine.{transition}
 use Rattle.pb_opb.specs.engine.State.{OpbState, opb, act, over, after, statement_of, linears, objectives, is_in_number}
 use Rattle.pb_opb.specs.declared.event.OpbEvent.{OpbEvent}
 use Rattle.pb_opb.specs.declared.phase.Phase.{Phase}
@@ -39,26 +39,26 @@ IsWhite b = IsTrue (is_white b)
 abbrev pub SumPrefix : ℕ → SumState → Language
 SumPrefix limit inner = λ p. Walks sums (objectives limit) p inner
 
-module _ (limit top v n : ℕ) (may : Bool) where
+module _ (limit top v n : ℕ) (objective_allowed : Bool) where
   -- What has been read, by phase.
   abbrev pub prefix : OpbState → Phase → Language
-  prefix s (phase.TheVariants.Between m) = λ p. (m ≡ may) × (p ≡ []) × (s.text ≡ []) × (s.sums ≡ linears s.limit)
-  prefix s (phase.TheVariants.Comment m) = λ p. (m ≡ may) × IsInLine s.text × (Byte 42 ⋅ Bytes s.text) p
-  prefix s (phase.TheVariants.Min k) = λ p. (may ≡ true) × (k < length min_word) × Bytes (take k min_word) p
-  prefix s phase.TheVariants.AfterMin = λ p. (may ≡ true) × (s.sums ≡ objectives s.limit) × MinPrefix p
-  prefix s phase.TheVariants.Objective = λ p. (may ≡ true) × (MinPrefix ⋅ SumPrefix s.limit s.sums) p
+  prefix s (phase.TheVariants.Between m) = λ p. (m ≡ objective_allowed) × (p ≡ []) × (s.text ≡ []) × (s.sums ≡ linears s.limit)
+  prefix s (phase.TheVariants.Comment m) = λ p. (m ≡ objective_allowed) × IsInLine s.text × (Byte 42 ⋅ Bytes s.text) p
+  prefix s (phase.TheVariants.Min k) = λ p. (objective_allowed ≡ true) × (k < length min_word) × Bytes (take k min_word) p
+  prefix s phase.TheVariants.AfterMin = λ p. (objective_allowed ≡ true) × (s.sums ≡ objectives s.limit) × MinPrefix p
+  prefix s phase.TheVariants.Objective = λ p. (objective_allowed ≡ true) × (MinPrefix ⋅ SumPrefix s.limit s.sums) p
   prefix s phase.TheVariants.Constraint = λ p. Walks sums (linears s.limit) p s.sums
   prefix s _ = λ p. ⊥
 
   abbrev pub Known : OpbState → Type 0
-  Known s = (s.limit ≡ limit) × (s.top ≡ top) × (s.variables ≡ v) × (s.owed ≡ suc n)
+  Known s = (s.limit ≡ limit) × (s.top ≡ top) × (s.variables ≡ v) × (s.remaining ≡ suc n)
 
   abbrev pub Prefix : OpbState → Language
   Prefix s = λ p. Known s × prefix s s.phase p
 
   -- a statement and what follows it
   abbrev pub IsStatement : OpbEvent → OpbState → Language
-  IsStatement e new = λ t. IsEntry limit may n t (λ m k. new ≡ idle limit top v m k) e
+  IsStatement e new = λ t. IsEntry limit objective_allowed n t (λ m k. new ≡ idle limit top v m k) e
 
   same_idle : (l t w k k' : ℕ) (m m' : Bool) → l ≡ limit → t ≡ top → w ≡ v → m ≡ m' → k ≡ k' → idle l t w m k ≡ idle limit top v m' k'
   same_idle l t w k k' m m' a b c d e = rw (a, b, c, d, e) refl
@@ -76,33 +76,33 @@ module _ (limit top v n : ℕ) (may : Bool) where
         → IsStatement (statement_of e) (after s phase.TheVariants.Constraint) (p ++ l ∷ [])
     ends_constraint (sum.TheVariants.Sum xs) h = never false h.0 refl
     ends_constraint (sum.TheVariants.Linear c) h =
-        let less : s.owed - 1 ≡ n = omega (arith, k.3) in
-        (subst (λ x. SpellsLinear White x c (p ++ l ∷ [])) k.0 h.1, same_idle s.limit s.top s.variables (s.owed - 1) n false false k.0 k.1 k.2 refl less)
+        let less : s.remaining - 1 ≡ n = omega (arith, k.3) in
+        (subst (λ x. SpellsLinear White x c (p ++ l ∷ [])) k.0 h.1, same_idle s.limit s.top s.variables (s.remaining - 1) n false false k.0 k.1 k.2 refl less)
 
     in_constraint : Walks sums (linears s.limit) p s.sums → (x : Next SumState SumEvent) → sums.step s.sums l.byte ≡ x → Leaves (over s phase.TheVariants.Constraint x)
-    in_constraint h (Go inner) e = λ w m. (k, walks_more sums p l (linears s.limit) s.sums inner h e (goes-midway s.sums inner l.byte e) m)
+    in_constraint h (Go inner) e = λ w m. (k, walks_more sums p l (linears s.limit) s.sums inner h e (continues-midway s.sums inner l.byte e) m)
     in_constraint h (End e new) f = λ m.
         ends_constraint e ((reads_grammar White part.TheVariants.Linear s.limit (p ++ l ∷ []) e new).0 (ends_walk sums p l (linears s.limit) s.sums new e h f m)).0
     in_constraint h Refuse e = tt
 
     -- objectives
-    ends_objective : may ≡ true → (e : SumEvent) → (MinPrefix ⋅ Spells White s.limit part.TheVariants.Sum e) (p ++ l ∷ [])
+    ends_objective : objective_allowed ≡ true → (e : SumEvent) → (MinPrefix ⋅ Spells White s.limit part.TheVariants.Sum e) (p ++ l ∷ [])
         → IsStatement (statement_of e) (after s phase.TheVariants.Objective) (p ++ l ∷ [])
     ends_objective m (sum.TheVariants.Sum xs) h = (
       m,
       subst (λ x. SpellsObjective x xs (p ++ l ∷ [])) k.0 (objective_of s.limit xs (p ++ l ∷ []) h),
-      same_idle s.limit s.top s.variables s.owed (suc n) false false k.0 k.1 k.2 refl k.3,
+      same_idle s.limit s.top s.variables s.remaining (suc n) false false k.0 k.1 k.2 refl k.3,
     )
     ends_objective m (sum.TheVariants.Linear c) (a, b, e, h, spells) = never false spells.0 refl
 
-    in_objective : may ≡ true → (MinPrefix ⋅ SumPrefix s.limit s.sums) p → (x : Next SumState SumEvent) → sums.step s.sums l.byte ≡ x
+    in_objective : objective_allowed ≡ true → (MinPrefix ⋅ SumPrefix s.limit s.sums) p → (x : Next SumState SumEvent) → sums.step s.sums l.byte ≡ x
         → Leaves (over s phase.TheVariants.Objective x)
     in_objective m h (Go inner) e = λ w i. (
       k,
       (
         m,
         grown MinPrefix (SumPrefix s.limit s.sums) (SumPrefix s.limit inner) p l
-            (λ q r. walks_more sums q l (objectives s.limit) s.sums inner r e (goes-midway s.sums inner l.byte e) i) h,
+            (λ q r. walks_more sums q l (objectives s.limit) s.sums inner r e (continues-midway s.sums inner l.byte e) i) h,
       ),
     )
     in_objective m h (End e new) f = λ i. ends_objective m e
@@ -110,12 +110,12 @@ module _ (limit top v n : ℕ) (may : Bool) where
         (λ q r. ((reads_grammar White part.TheVariants.Sum s.limit (q ++ l ∷ []) e new).0 (ends_walk sums q l (objectives s.limit) s.sums new e r f i)).0) h)
     in_objective m h Refuse e = tt
 
-    after_min : may ≡ true → s.sums ≡ objectives s.limit → MinPrefix p → After (plan s.top phase.TheVariants.AfterMin l.byte)
+    after_min : objective_allowed ≡ true → s.sums ≡ objectives s.limit → MinPrefix p → After (transition s.top phase.TheVariants.AfterMin l.byte)
     after_min m i h = cond_both (is_white l.byte) _ _ After
         (λ e w f. (k, (m, i, grown (Bytes min_word) Whites0 Whites0 p l (many-grown IsWhite l.byte l (as_unmarked l l.byte f refl) e) h)))
         (λ _. in_objective m (none_yet MinPrefix (SumPrefix s.limit s.sums) p i h) (sums.step s.sums l.byte) refl)
 
-    in_min : (j : ℕ) → may ≡ true → j < length min_word → Bytes (take j min_word) p → After (plan s.top (phase.TheVariants.Min j) l.byte)
+    in_min : (j : ℕ) → objective_allowed ≡ true → j < length min_word → Bytes (take j min_word) p → After (transition s.top (phase.TheVariants.Min j) l.byte)
     in_min j m i h = cond_both (nat_eq l.byte (slice_index min_word j)) _ _ After
         (λ e. cond_both (nat_eq (j + 1) (length min_word)) BeginSum (To (phase.TheVariants.Min (j + 1))) After
         (λ g w f. (k, (m, refl, none_yet (Bytes min_word) Whites0 (p ++ l ∷ []) ([], tt, refl) (word_whole min_word (j + 1) (p ++ l ∷ []) (eqb-true (j + 1) (length min_word) g) (longer f e)))))
@@ -126,13 +126,13 @@ module _ (limit top v n : ℕ) (may : Bool) where
         longer f e = word_grown min_word j l i f (eqb-true l.byte (slice_index min_word j) e) p h
 
     -- comments
-    in_comment : (m : Bool) → s.phase ≡ phase.TheVariants.Comment m → m ≡ may → IsInLine s.text → (Byte 42 ⋅ Bytes s.text) p
-        → After (plan s.top (phase.TheVariants.Comment m) l.byte)
+    in_comment : (m : Bool) → s.phase ≡ phase.TheVariants.Comment m → m ≡ objective_allowed → IsInLine s.text → (Byte 42 ⋅ Bytes s.text) p
+        → After (transition s.top (phase.TheVariants.Comment m) l.byte)
     in_comment m at same h c = cond_both (nat_eq l.byte 10) _ _ After
         (λ e f. (
           h,
           next (Byte 42 ⋅ Bytes s.text) (Byte 10) p l c (ap (λ x. x ∷ []) (as_unmarked l 10 f (eqb-true l.byte 10 e))),
-          same_idle s.limit s.top s.variables s.owed (suc n) m may k.0 k.1 k.2 same k.3,
+          same_idle s.limit s.top s.variables s.remaining (suc n) m objective_allowed k.0 k.1 k.2 same k.3,
         ))
         (λ e w f. (
           k,
@@ -147,7 +147,7 @@ module _ (limit top v n : ℕ) (may : Bool) where
         new = record s { text = s.text ++ l.byte ∷ [] }
 
     -- between two statements
-    between_two : (m : Bool) → m ≡ may → p ≡ [] → s.text ≡ [] → s.sums ≡ linears s.limit → After (plan s.top (phase.TheVariants.Between m) l.byte)
+    between_two : (m : Bool) → m ≡ objective_allowed → p ≡ [] → s.text ≡ [] → s.sums ≡ linears s.limit → After (transition s.top (phase.TheVariants.Between m) l.byte)
     between_two m same none kept inner = cond_both (is_white l.byte) _ _ After
         (λ e w. never false w refl)
         (λ _. cond_both (nat_eq l.byte 42) _ _ After
@@ -166,7 +166,7 @@ module _ (limit top v n : ℕ) (may : Bool) where
         first : (b : ℕ) → l.numeral ≡ false → nat_eq l.byte b ≡ true → p ++ l ∷ [] ≡ unmarked b ∷ []
         first b f e = ap (λ x. x ++ l ∷ []) none ∙ ap (λ x. x ∷ []) (as_unmarked l b f (eqb-true l.byte b e))
 
-    sound : (q : Phase) → s.phase ≡ q → prefix s q p → After (plan s.top q l.byte)
+    sound : (q : Phase) → s.phase ≡ q → prefix s q p → After (transition s.top q l.byte)
     sound (phase.TheVariants.Between m) e h = between_two m h.0 h.1 h.2 h.3
     sound (phase.TheVariants.Comment m) e h = in_comment m e h.0 h.1 h.2
     sound (phase.TheVariants.Min j) e h = in_min j h.0 h.1 h.2
@@ -178,6 +178,6 @@ module _ (limit top v n : ℕ) (may : Bool) where
   pub keeps : Keeps opb Prefix IsStatement
   keeps s l p f = sound s l p f.0 s.phase refl f.1
 
-  pub entry_only : (t : List Letter) (e : OpbEvent) (new : OpbState) → Reads opb (idle limit top v may (suc n)) t e new → IsStatement e new t
+  pub entry_only : (t : List Letter) (e : OpbEvent) (new : OpbState) → ReadsStatement opb (idle limit top v objective_allowed (suc n)) t e new → IsStatement e new t
   entry_only t e new r =
-      reported opb Prefix IsStatement keeps t (idle limit top v may (suc n)) [] e new r ((refl, refl, refl, refl), (refl, refl, refl, refl))
+      reported opb Prefix IsStatement keeps t (idle limit top v objective_allowed (suc n)) [] e new r ((refl, refl, refl, refl), (refl, refl, refl, refl))

@@ -1,6 +1,6 @@
 -- What the machine reads, in terms of instances.
 use Rattle.std.proofs.Common.{ℕ, List, Bool, Option}
-use Rattle.pb_text.specs.contract.Automaton.{Accepts, MayAsk}
+use Rattle.pb_text.specs.contract.Automaton.{AcceptsItems, MayAsk}
 use Rattle.pb_text.specs.meaning.Spelling.{Item}
 use Rattle.pb_text.specs.meaning.Reading.{Reads}
 use Rattle.pb_text.specs.declared.Place.{Place}
@@ -21,7 +21,7 @@ use Rattle.pb_opb.proofs.lemmas.machine.Bodies.{instance_only, instance_each}
 
 module _ (limit top longest : ℕ) where
   abbrev accepted : List (Item OpbEvent) → Type 0
-  accepted = Accepts opb (begin limit top)
+  accepted = AcceptsItems opb (begin limit top)
 
   abbrev spelled : List (Item OpbEvent) → Type 0
   spelled = IsInstance limit top

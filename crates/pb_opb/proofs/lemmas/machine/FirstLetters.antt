@@ -3,7 +3,7 @@ use Rattle.std.proofs.Common.{◌≡◌, ℕ, true, false, ◌||◌, List, [], �
 use Rattle.std.proofs.Math.Bool.{and-true}
 use Rattle.std.proofs.lemmas.Bool.{eqb-true, false_from_ne_true}
 use Rattle.std.specs.Prelude.{IsTrue, nat_eq, ℤ}
-use Rattle.pb_text.specs.contract.Automaton.{Refuse, Reads}
+use Rattle.pb_text.specs.contract.Automaton.{Refuse, ReadsStatement}
 use Rattle.pb_text.specs.meaning.Classes.{is_blank, is_white}
 use Rattle.pb_text.specs.meaning.Languages.{unmarked, digit, Language, ◌⋅◌, Each}
 use Rattle.pb_text.specs.meaning.Numbers.{Number}
@@ -52,12 +52,12 @@ sum-dark limit x xs P Q =
     (dark_then (Number limit x.coefficient) (Spaces1 White limit) (number-dark limit x.coefficient)))))
 
 -- a byte that a machine rejects does not begin what it reads
-taken : (s : SumState) (l : Letter) (t : List Letter) (e : SumEvent) (after : SumState) → Reads sums s (l ∷ t) e after → sums.step s l.byte ≡ Refuse → ⊥
+taken : (s : SumState) (l : Letter) (t : List Letter) (e : SumEvent) (after : SumState) → ReadsStatement sums s (l ∷ t) e after → sums.step s l.byte ≡ Refuse → ⊥
 taken s l [] e after (h, n) k = refuse_or_end e after (sym k ∙ h)
 taken s l (d ∷ t) e after (mid, h, i, n, r) k = refuse_or_go mid (sym k ∙ h)
 
 -- a linear text does not begin with white space, a star or `m`
-pub linear_first : (limit : ℕ) (l : Letter) (t : List Letter) (e : SumEvent) (after : SumState) → Reads sums (linears limit) (l ∷ t) e after
+pub linear_first : (limit : ℕ) (l : Letter) (t : List Letter) (e : SumEvent) (after : SumState) → ReadsStatement sums (linears limit) (l ∷ t) e after
     → (is_white l.byte ≡ false) × (nat_eq l.byte 42 ≡ false) × (nat_eq l.byte 109 ≡ false)
 linear_first limit l t e after r = (
   false_from_ne_true (is_white l.byte) (λ h. taken (linears limit) l t e after r (white_each (λ b. sums.step (linears limit) b ≡ Refuse) refl refl refl refl l.byte h)),

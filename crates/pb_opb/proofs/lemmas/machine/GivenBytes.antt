@@ -1,11 +1,11 @@
 -- A machine of instances in the phases in which it gives bytes to its machine of sums.
 use Rattle.std.proofs.Common.{◌≡◌, ℕ, ◌<◌, true, false, List, [], ◌∷◌, refl, sym, ap, ◌∙◌, subst, ◌⊎◌, inl, inr}
-use Rattle.pb_text.specs.contract.Automaton.{Next, Go, End, Reads}
+use Rattle.pb_text.specs.contract.Automaton.{Next, Go, End, ReadsStatement}
 use Rattle.pb_text.specs.meaning.Spelling.{Letter}
 use Rattle.pb_text.proofs.lemmas.machine.Walking.{same_first}
 use Rattle.pb_sums.specs.engine.State.{SumState, sums}
 use Rattle.pb_sums.specs.declared.SumEvent.{SumEvent}
-use Rattle.pb_opb.specs.engine.Machine.{plan}
+use Rattle.pb_opb.specs.engine.Machine.{transition}
 use Rattle.pb_opb.specs.engine.Order.{PhaseFits, Holds}
 use Rattle.pb_opb.specs.engine.State.{OpbState, opb, act, over, giving, after, statement_of, is_within, is_in_number}
 use Rattle.pb_opb.specs.declared.phase.Phase.{Phase}
@@ -14,11 +14,11 @@ use Rattle.pb_opb.specs.declared.phase.Action.TheVariants.{Give}
 
 -- a phase in which bytes are given to the machine of sums
 pub record Gives (p : Phase) : Type 0 where
-  pub planned : (top b : ℕ) → plan top p b ≡ Give p
+  pub planned : (top b : ℕ) → transition top p b ≡ Give p
   pub within : is_within p ≡ true
   pub number : (s : OpbState) → is_in_number s p ≡ sums.in_number s.sums
   pub fits : (top : ℕ) → PhaseFits top p
-  pub holds : (s : OpbState) → 0 < s.owed → s.text ≡ [] → sums.done s.sums ≡ false → Holds s p
+  pub holds : (s : OpbState) → 0 < s.remaining → s.text ≡ [] → sums.done s.sums ≡ false → Holds s p
 
 pub gives_objective : Gives phase.TheVariants.Objective
 gives_objective = record { planned = λ top b. refl; within = refl; number = λ s. refl; fits = λ top. tt; holds = λ s o t d. (o, t, d) }
@@ -36,7 +36,7 @@ gives_at s (inr e) = subst Gives (sym e) gives_objective
 
 -- a step in such a phase is one of the machine of sums
 pub given_step : (s : OpbState) (p : Phase) → Gives p → (b : ℕ) → s.phase ≡ p → opb.step s b ≡ over s p (sums.step s.sums b)
-given_step s p g b e = ap (act s b) (ap (λ (q : Phase). plan s.top q b) e ∙ g.planned s.top b)
+given_step s p g b e = ap (act s b) (ap (λ (q : Phase). transition s.top q b) e ∙ g.planned s.top b)
 
 module _ (s : OpbState) (p : Phase) (h : Gives p) where
   abbrev at : SumState → OpbState
@@ -46,15 +46,15 @@ module _ (s : OpbState) (p : Phase) (h : Gives p) where
   stepped inner b n e = given_step (at inner) p h b refl ∙ ap (over s p) e
 
   -- What the machine of sums reads, the machine of instances reads too.
-  pub within_reads : (t : List Letter) (inner : SumState) (e : SumEvent) (new : SumState) → Reads sums inner t e new → Reads opb (at inner) t (statement_of e) (after s p)
+  pub within_reads : (t : List Letter) (inner : SumState) (e : SumEvent) (new : SumState) → ReadsStatement sums inner t e new → ReadsStatement opb (at inner) t (statement_of e) (after s p)
   within_reads [] inner e new r = absurd r
   within_reads (l ∷ []) inner e new (g, n) = (stepped inner l.byte (End e new) g, n)
   within_reads (l ∷ k ∷ t) inner e new (mid, g, i, n, r) =
       (at mid, stepped inner l.byte (Go mid) g, h.within, n ∙ sym (h.number (at mid)), within_reads (k ∷ t) mid e new r)
 
   -- the same if the first letter is given too
-  pub given_reads : (l : Letter) (t : List Letter) (e : SumEvent) (new : SumState) → plan s.top s.phase l.byte ≡ Give p
-      → Reads sums s.sums (l ∷ t) e new → Reads opb s (l ∷ t) (statement_of e) (after s p)
+  pub given_reads : (l : Letter) (t : List Letter) (e : SumEvent) (new : SumState) → transition s.top s.phase l.byte ≡ Give p
+      → ReadsStatement sums s.sums (l ∷ t) e new → ReadsStatement opb s (l ∷ t) (statement_of e) (after s p)
   given_reads l t e new f r =
       same_first opb l t s (at s.sums) (after s p) (statement_of e)
       (ap (λ x. act s l.byte x) f ∙ sym (stepped s.sums l.byte (sums.step s.sums l.byte) refl))

@@ -2,7 +2,7 @@
 use Rattle.std.proofs.Common.{◌≡◌, ℕ, ◌+◌, ◌-◌, ◌*◌, ◌<◌, ◌≤◌, true, false, ◌&&◌, List, [], ◌∷◌, ◌++◌, length, take, refl, sym, ap, subst, arith, ◌∙◌}
 use Rattle.std.proofs.lemmas.Bool.{eqb-true, leb-true, and_parts, cond_both}
 use Rattle.std.specs.Prelude.{IsTrue, nat_eq, nat_le, slice_index}
-use Rattle.pb_text.specs.contract.Automaton.{Reads}
+use Rattle.pb_text.specs.contract.Automaton.{ReadsStatement}
 use Rattle.pb_text.specs.meaning.Classes.{is_blank, is_digit}
 use Rattle.pb_text.specs.meaning.Languages.{unmarked, digit, Language, ◌⋅◌, Byte, Bytes, Blanks0, Blanks1}
 use Rattle.pb_text.specs.meaning.Numbers.{Digits, Count}
@@ -12,7 +12,7 @@ use Rattle.pb_text.proofs.lemmas.text.Letters.{as_unmarked, some_digit, bytes_gr
 use Rattle.pb_text.proofs.lemmas.numbers.Numbers.{digits-grown, digits-one}
 use Rattle.pb_text.proofs.lemmas.machine.Walking.{On, Keeps, reported}
 use Rattle.pb_opb.specs.meaning.Instances.{variable_word, constraint_word, IsTail, SpellsHeader}
-use Rattle.pb_opb.specs.engine.Machine.{word_of, after_count, plan}
+use Rattle.pb_opb.specs.engine.Machine.{word_of, after_count, transition}
 use Rattle.pb_opb.specs.engine.State.{OpbState, opb, begin, act, is_in_number}
 use Rattle.pb_opb.specs.declared.event.OpbEvent.{OpbEvent}
 use Rattle.pb_opb.specs.declared.event.OpbEvent.TheVariants.{Header}
@@ -44,7 +44,7 @@ prefix s (phase.TheVariants.Word f k) = λ p. (k < length (word_of f)) × (Befor
 prefix s (phase.TheVariants.BeforeCount f) = Before s.top s.variables f ⋅ Bytes (word_of f) ⋅ Blanks0
 prefix s (phase.TheVariants.Count f n) = λ p. (n ≤ s.top) × (Before s.top s.variables f ⋅ Bytes (word_of f) ⋅ Blanks0 ⋅ Digits n) p
 prefix s phase.TheVariants.Tail = λ p.
-    IsTail s.text × (s.text ≡ [] → ⊥) × (Whole s.top Constraints s.owed (Before s.top s.variables Constraints) ⋅ Bytes s.text) p
+    IsTail s.text × (s.text ≡ [] → ⊥) × (Whole s.top Constraints s.remaining (Before s.top s.variables Constraints) ⋅ Bytes s.text) p
 prefix s _ = λ p. ⊥
 
 before_grown : (top v : ℕ) (f : Field) (l : Letter) (p : List Letter) → l.numeral ≡ false → is_blank l.byte ≡ true → Before top v f p → Before top v f (p ++ l ∷ [])
@@ -79,12 +79,12 @@ module _ (limit top : ℕ) where
     abbrev After : Action → Type 0
     After m = On opb Prefix Reported (act s l.byte m) l (p ++ l ∷ [])
 
-    at_start : p ≡ [] → After (plan s.top phase.TheVariants.Start l.byte)
+    at_start : p ≡ [] → After (transition s.top phase.TheVariants.Start l.byte)
     at_start h = cond_both (nat_eq l.byte 42) _ _ After
         (λ e w n. (k, none_yet (Byte 42) Blanks0 (p ++ l ∷ []) ([], tt, refl) (ap (λ x. x ++ l ∷ []) h ∙ ap (λ x. x ∷ []) (as_unmarked l 42 n (eqb-true l.byte 42 e)))))
         (λ e. tt)
 
-    before_word : (f : Field) → Before s.top s.variables f p → After (plan s.top (phase.TheVariants.BeforeWord f) l.byte)
+    before_word : (f : Field) → Before s.top s.variables f p → After (transition s.top (phase.TheVariants.BeforeWord f) l.byte)
     before_word f h = cond_both (is_blank l.byte) _ _ After
         (λ e w n. (k, before_grown s.top s.variables f l p n e h))
         (λ _. cond_both (nat_eq l.byte 35) _ _ After
@@ -95,7 +95,7 @@ module _ (limit top : ℕ) where
         (λ _. tt))
 
     in_word : (f : Field) (j : ℕ) → j < length (word_of f) → (Before s.top s.variables f ⋅ Bytes (take j (word_of f))) p
-        → After (plan s.top (phase.TheVariants.Word f j) l.byte)
+        → After (transition s.top (phase.TheVariants.Word f j) l.byte)
     in_word f j i h = cond_both (nat_eq l.byte (slice_index (word_of f) j)) _ _ After
         (λ e. cond_both (nat_eq (j + 1) (length (word_of f))) (phase.TheVariants.BeforeCount f) (phase.TheVariants.Word f (j + 1)) (λ q. After (To q))
         (λ g w n. (
@@ -112,7 +112,7 @@ module _ (limit top : ℕ) where
         longer : l.numeral ≡ false → nat_eq l.byte (slice_index (word_of f) j) ≡ true → (P ⋅ Bytes (take (j + 1) (word_of f))) (p ++ l ∷ [])
         longer n e = grown P (Bytes (take j (word_of f))) (Bytes (take (j + 1) (word_of f))) p l (word_grown (word_of f) j l i n (eqb-true l.byte (slice_index (word_of f) j) e)) h
 
-    before_count : (f : Field) → (Before s.top s.variables f ⋅ Bytes (word_of f) ⋅ Blanks0) p → After (plan s.top (phase.TheVariants.BeforeCount f) l.byte)
+    before_count : (f : Field) → (Before s.top s.variables f ⋅ Bytes (word_of f) ⋅ Blanks0) p → After (transition s.top (phase.TheVariants.BeforeCount f) l.byte)
     before_count f h = cond_both (is_blank l.byte) _ _ After
         (λ e w n. (k, grown (Before s.top s.variables f ⋅ Bytes (word_of f)) Blanks0 Blanks0 p l (many-grown IsBlank l.byte l (as_unmarked l l.byte n refl) e) h))
         (λ _. cond_both (is_digit l.byte && nat_le (10 * 0 + (l.byte - 48)) s.top) _ _ After
@@ -148,7 +148,7 @@ module _ (limit top : ℕ) where
         some_byte e = cc
 
     in_count : (f : Field) (n : ℕ) → n ≤ s.top → (Before s.top s.variables f ⋅ Bytes (word_of f) ⋅ Blanks0 ⋅ Digits n) p
-        → After (plan s.top (phase.TheVariants.Count f n) l.byte)
+        → After (transition s.top (phase.TheVariants.Count f n) l.byte)
     in_count f n i h = cond_both (is_digit l.byte) _ _ After
         (λ _. cond_both (is_digit l.byte && nat_le (10 * n + (l.byte - 48)) s.top) _ _ After
         (λ e w m.
@@ -164,8 +164,8 @@ module _ (limit top : ℕ) where
         (λ _. following f n i h)
 
     in_tail : s.phase ≡ phase.TheVariants.Tail → IsTail s.text → (s.text ≡ [] → ⊥)
-        → (Whole s.top Constraints s.owed (Before s.top s.variables Constraints) ⋅ Bytes s.text) p
-        → After (plan s.top phase.TheVariants.Tail l.byte)
+        → (Whole s.top Constraints s.remaining (Before s.top s.variables Constraints) ⋅ Bytes s.text) p
+        → After (transition s.top phase.TheVariants.Tail l.byte)
     in_tail at h some c = cond_both (nat_eq l.byte 10) _ _ After
         (λ e m. (k, h, next (C ⋅ Bytes s.text) (Byte 10) p l c (ap (λ x. x ∷ []) (as_unmarked l 10 m (eqb-true l.byte 10 e))), refl))
         (λ e w m. (
@@ -178,7 +178,7 @@ module _ (limit top : ℕ) where
         ))
       where
         C : Language
-        C = Whole s.top Constraints s.owed (Before s.top s.variables Constraints)
+        C = Whole s.top Constraints s.remaining (Before s.top s.variables Constraints)
 
         new : OpbState
         new = record s { text = s.text ++ l.byte ∷ [] }
@@ -187,7 +187,7 @@ module _ (limit top : ℕ) where
         more [] e = cc
         more (b ∷ text) e = cc
 
-    sound : (q : Phase) → s.phase ≡ q → prefix s q p → After (plan s.top q l.byte)
+    sound : (q : Phase) → s.phase ≡ q → prefix s q p → After (transition s.top q l.byte)
     sound phase.TheVariants.Start e h = at_start h
     sound (phase.TheVariants.BeforeWord f) e h = before_word f h
     sound (phase.TheVariants.Word f j) e h = in_word f j h.0 h.1
@@ -212,6 +212,6 @@ module _ (limit top : ℕ) where
   )
   to_limits t e after h = absurd h
 
-  pub header_only : (t : List Letter) (e : OpbEvent) (after : OpbState) → Reads opb (begin limit top) t e after → IsHeader e after t
+  pub header_only : (t : List Letter) (e : OpbEvent) (after : OpbState) → ReadsStatement opb (begin limit top) t e after → IsHeader e after t
   header_only t e after r =
       to_limits t e after (reported opb Prefix Reported keeps t (begin limit top) [] e after r ((refl, refl), refl))

@@ -4,7 +4,7 @@ use Rattle.std.proofs.Math.Seq.{get_or-append_seam}
 use Rattle.std.proofs.lemmas.Bool.{le-leb, eq-eqb}
 use Rattle.std.proofs.lemmas.Bool.Decides.{nat_tests}
 use Rattle.std.specs.Prelude.{IsTrue, nat_eq, slice_index}
-use Rattle.pb_text.specs.contract.Automaton.{Go, Reads}
+use Rattle.pb_text.specs.contract.Automaton.{Go, ReadsStatement}
 use Rattle.pb_text.specs.meaning.Classes.{is_blank}
 use Rattle.pb_text.specs.meaning.Languages.{unmarked, Language, ◌⋅◌, Byte, Bytes, Blanks0, Blanks1}
 use Rattle.pb_text.specs.meaning.Numbers.{Count}
@@ -13,7 +13,7 @@ use Rattle.pb_text.proofs.lemmas.text.ByteTests.{blank_each, digit_byte, digit_b
 use Rattle.pb_text.proofs.lemmas.numbers.DigitWalks.{TakesDigits, digits_lead}
 use Rattle.pb_text.proofs.lemmas.machine.Walking.{Walks, Leads, leads_then, longer, reads_after}
 use Rattle.pb_opb.specs.meaning.Instances.{variable_word, constraint_word, IsTail, SpellsHeader}
-use Rattle.pb_opb.specs.engine.Machine.{word_of, spell, count, after_count, plan}
+use Rattle.pb_opb.specs.engine.Machine.{word_of, spell, count, after_count, transition}
 use Rattle.pb_opb.specs.engine.State.{OpbState, opb, begin, act}
 use Rattle.pb_opb.specs.declared.event.OpbEvent.TheVariants.{Header}
 use Rattle.pb_opb.specs.declared.phase.Field.{Field}
@@ -34,12 +34,12 @@ count_next top f m d h l =
     let e : (48 + d) - 48 ≡ d = omega arith in
     rw (digit_byte d h, e, le-leb (10 * m + d) top l) refl
 
-first_digit : (top : ℕ) (f : Field) (d : ℕ) → d < 10 → d ≤ top → plan top (phase.TheVariants.BeforeCount f) (48 + d) ≡ To (phase.TheVariants.Count f d)
+first_digit : (top : ℕ) (f : Field) (d : ℕ) → d < 10 → d ≤ top → transition top (phase.TheVariants.BeforeCount f) (48 + d) ≡ To (phase.TheVariants.Count f d)
 first_digit top f d h l =
     let same : 10 * 0 + d ≡ d = omega arith in
     rw (digit_blank d h) (count_next top f 0 d h (omega arith) ∙ ap (λ n. To (phase.TheVariants.Count f n)) same)
 
-next_digit : (top : ℕ) (f : Field) (m d : ℕ) → d < 10 → 10 * m + d ≤ top → plan top (phase.TheVariants.Count f m) (48 + d) ≡ To (phase.TheVariants.Count f (10 * m + d))
+next_digit : (top : ℕ) (f : Field) (m d : ℕ) → d < 10 → 10 * m + d ≤ top → transition top (phase.TheVariants.Count f m) (48 + d) ≡ To (phase.TheVariants.Count f (10 * m + d))
 next_digit top f m d h l = ap (λ x. cond x (count top f m (48 + d)) (after_count f m (48 + d))) (digit_byte d h) ∙ count_next top f m d h l
 
 module _ (limit top : ℕ) where
@@ -147,7 +147,7 @@ module _ (limit top : ℕ) where
   begins_tail v n = blank_each (λ b. opb.step (head v (phase.TheVariants.Count Constraints n)) b ≡ Go (stands limit top v n phase.TheVariants.Tail (b ∷ []))) refl refl refl
 
   tail_reads : (v n : ℕ) (tail : List ℕ) → IsTail tail
-      → Reads opb (head v (phase.TheVariants.Count Constraints n)) (plain tail ++ unmarked 10 ∷ []) (Header v n tail) (idle limit top v true n)
+      → ReadsStatement opb (head v (phase.TheVariants.Count Constraints n)) (plain tail ++ unmarked 10 ∷ []) (Header v n tail) (idle limit top v true n)
   tail_reads v n [] h = (refl, refl)
   tail_reads v n (b ∷ bs) h =
       longer opb (unmarked b) (plain bs ++ unmarked 10 ∷ []) (head v (phase.TheVariants.Count Constraints n)) (stands limit top v n phase.TheVariants.Tail (b ∷ [])) (idle limit top v true n) (Header v n (b ∷ bs))
@@ -156,10 +156,10 @@ module _ (limit top : ℕ) where
 
   -- The machine reads each header.
   pub header_reads : (v n : ℕ) (tail : List ℕ) (t : List Letter) → IsTail tail → SpellsHeader top v n tail t
-      → Reads opb (begin limit top) t (Header v n tail) (idle limit top v true n)
+      → ReadsStatement opb (begin limit top) t (Header v n tail) (idle limit top v true n)
   header_reads v n tail t h (ab, c, e, (a, b, f, counts, g), k) =
       let parts : t ≡ a ++ (plain tail ++ unmarked 10 ∷ []) =
       e ∙ (ap (λ x. x ++ c) (f ∙ ap (λ x. a ++ x) g) ∙ (ap (λ x. (a ++ plain tail) ++ x) k ∙ append_assoc a (plain tail) (unmarked 10 ∷ []))) in
-      subst (λ x. Reads opb (begin limit top) x (Header v n tail) (idle limit top v true n)) (sym parts)
+      subst (λ x. ReadsStatement opb (begin limit top) x (Header v n tail) (idle limit top v true n)) (sym parts)
       (reads_after opb a (plain tail ++ unmarked 10 ∷ []) (begin limit top) (head v (phase.TheVariants.Count Constraints n)) (idle limit top v true n) (Header v n tail)
       (counts_lead v n a counts) (tail_reads v n tail h))

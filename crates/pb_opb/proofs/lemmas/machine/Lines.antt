@@ -5,7 +5,7 @@ use Rattle.std.proofs.lemmas.Bool.{not-true, not_from_false, false_from_ne_true}
 use Rattle.std.specs.Prelude.{nat_eq, Option, Some, None, IfSome}
 use Rattle.std.specs.Option.{unwrap_or}
 use Rattle.pb_text.specs.contract.Automaton.{Go, Runs}
-use Rattle.pb_opb.specs.engine.Machine.{plan}
+use Rattle.pb_opb.specs.engine.Machine.{transition}
 use Rattle.pb_opb.specs.engine.Order.{Holds, IsInOrder}
 use Rattle.pb_opb.specs.engine.State.{OpbState, opb, act, keeps_line}
 use Rattle.pb_opb.specs.declared.phase.Phase.{Phase}
@@ -28,9 +28,9 @@ keeping s text = record s { text = text }
 step_of : (s : OpbState) (b : ℕ) → keeps_line s.phase ≡ true → nat_eq b 10 ≡ false → opb.step s b ≡ Go (keeping s (s.text ++ b ∷ []))
 step_of s b at other = ap (act s b) (planned s.phase at)
   where
-    planned : (p : Phase) → keeps_line p ≡ true → plan s.top p b ≡ Keep b
+    planned : (p : Phase) → keeps_line p ≡ true → transition s.top p b ≡ Keep b
     planned phase.TheVariants.Tail e = rw other refl
-    planned (phase.TheVariants.Comment may) e = rw other refl
+    planned (phase.TheVariants.Comment objective_allowed) e = rw other refl
     planned _ e = cc e
 
 -- the stored text may be any
@@ -47,7 +47,7 @@ line_order s h at text = record {
   where
     holds : (p : Phase) → keeps_line p ≡ true → Holds s p → Holds (keeping s text) p
     holds phase.TheVariants.Tail e k = k
-    holds (phase.TheVariants.Comment may) e k = k
+    holds (phase.TheVariants.Comment objective_allowed) e k = k
     holds _ e k = cc e
 
 -- the run

@@ -2,18 +2,18 @@
 use Rattle.std.proofs.Common.{◌≡◌, ℕ, zero, suc, ◌+◌, ◌-◌, ◌*◌, ◌<◌, Bool, true, false, ◌&&◌, nat_le, nat_eq, List, [], ◌∷◌, ◌++◌, length, refl, sym, ap, ◌∙◌, subst, arith, IsTrue}
 use Rattle.std.specs.Prelude.{slice_index}
 use Rattle.pb_text.specs.meaning.Classes.{is_blank, is_white, is_digit}
-use Rattle.pb_text.specs.contract.Automaton.{Next, Go, End, Refuse, Admits, IsState, Goes, is_large, begins, begins_with}
+use Rattle.pb_text.specs.contract.Automaton.{Next, Go, End, Refuse, Admits, IsState, Continues, is_large, begins, begins_with}
 use Rattle.pb_text.proofs.lemmas.machine.Residual.{refuses}
 use Rattle.pb_text.proofs.lemmas.machine.Admitted.{admits_within}
 use Rattle.pb_sums.specs.engine.State.{SumState, sums, first}
 use Rattle.pb_sums.specs.declared.Spaces.TheVariants.{White}
 use Rattle.pb_sums.specs.declared.Part as part
 use Rattle.pb_sums.specs.declared.SumEvent.{SumEvent}
-use Rattle.pb_sums.proofs.lemmas.machine.States.{goes, goes-midway, ended-last}
+use Rattle.pb_sums.proofs.lemmas.machine.States.{continues, continues-midway, ended-last}
 use Rattle.pb_sums.proofs.lemmas.machine.Links.{midway-not-done}
 use Rattle.pb_opb.specs.meaning.Instances.{min_word}
-use Rattle.pb_opb.specs.engine.Machine.{plan, count, after_count, word_of}
-use Rattle.pb_opb.specs.engine.State.{OpbState, opb, at, asks, after, owed_after, phase_owing, statement_of, giving, linears, act, over, is_within, is_done, is_in_number}
+use Rattle.pb_opb.specs.engine.Machine.{transition, count, after_count, word_of}
+use Rattle.pb_opb.specs.engine.State.{OpbState, opb, at, asks, after, remaining_after, phase_owing, statement_of, giving, linears, act, over, is_within, is_done, is_in_number}
 use Rattle.pb_opb.specs.engine.Order.{PhaseFits, Holds, IsIdle, IsInOrder}
 use Rattle.pb_opb.specs.declared.phase.Field.{Field}
 use Rattle.pb_opb.specs.declared.phase.Field.TheVariants.{Variables, Constraints}
@@ -29,7 +29,7 @@ use Rattle.pb_opb.proofs.lemmas.machine.States.{either_way, is_state, outside}
 -- what holds if a byte is given to the machine of sums
 pub record IsGiven (s : OpbState) (q p : Phase) : Type 0 where
   pub gives : Gives p
-  pub owed : 0 < s.owed
+  pub remaining : 0 < s.remaining
   pub text : s.text ≡ []
   pub number : is_in_number s q ≡ sums.in_number s.sums
 
@@ -48,7 +48,7 @@ knows_after : (s : OpbState) (q : Phase) (f : Field) (n b : ℕ) → IsIdle s �
 knows_after s q Variables n b h = either_way (Knows s q) (is_blank b) (Declare n) Stop tt tt
 knows_after s q Constraints n b h = either_way (Knows s q) (nat_eq b 10) (EndHeader n) _ tt (either_way (Knows s q) (is_blank b) (BeginTail n b) Stop h tt)
 
-pub knows : (s : OpbState) (q : Phase) → Holds s q → (b : ℕ) → Knows s q (plan s.top q b)
+pub knows : (s : OpbState) (q : Phase) → Holds s q → (b : ℕ) → Knows s q (transition s.top q b)
 knows s phase.TheVariants.Start h b = either_way (Knows s phase.TheVariants.Start) (nat_eq b 42) (To (phase.TheVariants.BeforeWord Variables)) Stop h tt
 knows s (phase.TheVariants.BeforeWord f) h b =
     either_way (Knows s (phase.TheVariants.BeforeWord f)) (is_blank b) (To (phase.TheVariants.BeforeWord f)) _ h
@@ -61,31 +61,31 @@ knows s (phase.TheVariants.BeforeCount f) h b =
 knows s (phase.TheVariants.Count f n) h b =
     either_way (Knows s (phase.TheVariants.Count f n)) (is_digit b) _ _ (knows_count s (phase.TheVariants.Count f n) s.top f n b h) (knows_after s (phase.TheVariants.Count f n) f n b h)
 knows s phase.TheVariants.Tail h b = either_way (Knows s phase.TheVariants.Tail) (nat_eq b 10) EndTail (Keep b) tt (h, refl, λ text. h)
-knows s (phase.TheVariants.Between may) h b =
-    either_way (Knows s (phase.TheVariants.Between may)) (is_white b) (To (phase.TheVariants.Between may)) _ h
-    (either_way (Knows s (phase.TheVariants.Between may)) (nat_eq b 42) (To (phase.TheVariants.Comment may)) _ (h.0, h.1.1)
-    (either_way (Knows s (phase.TheVariants.Between may)) (nat_eq b 109 && may) (To (phase.TheVariants.Min 1)) (Give phase.TheVariants.Constraint) h
-    (record { gives = gives_constraint; owed = h.0; text = h.1.0; number = sym (ap sums.in_number h.1.1) })))
-knows s (phase.TheVariants.Comment may) h b = either_way (Knows s (phase.TheVariants.Comment may)) (nat_eq b 10) (EndComment may) (Keep b) tt (h.1, refl, λ text. h)
+knows s (phase.TheVariants.Between objective_allowed) h b =
+    either_way (Knows s (phase.TheVariants.Between objective_allowed)) (is_white b) (To (phase.TheVariants.Between objective_allowed)) _ h
+    (either_way (Knows s (phase.TheVariants.Between objective_allowed)) (nat_eq b 42) (To (phase.TheVariants.Comment objective_allowed)) _ (h.0, h.1.1)
+    (either_way (Knows s (phase.TheVariants.Between objective_allowed)) (nat_eq b 109 && objective_allowed) (To (phase.TheVariants.Min 1)) (Give phase.TheVariants.Constraint) h
+    (record { gives = gives_constraint; remaining = h.0; text = h.1.0; number = sym (ap sums.in_number h.1.1) })))
+knows s (phase.TheVariants.Comment objective_allowed) h b = either_way (Knows s (phase.TheVariants.Comment objective_allowed)) (nat_eq b 10) (EndComment objective_allowed) (Keep b) tt (h.1, refl, λ text. h)
 knows s (phase.TheVariants.Min k) h b =
     either_way (Knows s (phase.TheVariants.Min k)) (nat_eq b (slice_index min_word k)) _ Stop
     (either_way (Knows s (phase.TheVariants.Min k)) (nat_eq (k + 1) (length min_word)) BeginSum (To (phase.TheVariants.Min (k + 1))) tt h) tt
 knows s phase.TheVariants.AfterMin h b =
     either_way (Knows s phase.TheVariants.AfterMin) (is_white b) (To phase.TheVariants.AfterMin) (Give phase.TheVariants.Objective) h
-    (record { gives = gives_objective; owed = h.0; text = h.1; number = sym (ap sums.in_number h.2) })
-knows s phase.TheVariants.Objective h b = record { gives = gives_objective; owed = h.0; text = h.1; number = refl }
-knows s phase.TheVariants.Constraint h b = record { gives = gives_constraint; owed = h.0; text = h.1; number = refl }
+    (record { gives = gives_objective; remaining = h.0; text = h.1; number = sym (ap sums.in_number h.2) })
+knows s phase.TheVariants.Objective h b = record { gives = gives_objective; remaining = h.0; text = h.1; number = refl }
+knows s phase.TheVariants.Constraint h b = record { gives = gives_constraint; remaining = h.0; text = h.1; number = refl }
 knows s phase.TheVariants.Done h b = tt
 
-known : (s : OpbState) → IsInOrder s → (b : ℕ) (m : Action) → plan s.top s.phase b ≡ m → Knows s s.phase m
+known : (s : OpbState) → IsInOrder s → (b : ℕ) (m : Action) → transition s.top s.phase b ≡ m → Knows s s.phase m
 known s h b m e = subst (Knows s s.phase) e (knows s s.phase h.holds b)
 
 -- the plan for a number that equals the top
-pub planned_at : (n top : ℕ) (p : Phase) (b : ℕ) (m : Action) → n ≡ top → m ≡ plan n p b → plan top p b ≡ m
-planned_at n top p b m e h = ap (λ (k : ℕ). plan k p b) (sym e) ∙ sym h
+pub planned_at : (n top : ℕ) (p : Phase) (b : ℕ) (m : Action) → n ≡ top → m ≡ transition n p b → transition top p b ≡ m
+planned_at n top p b m e h = ap (λ (k : ℕ). transition k p b) (sym e) ∙ sym h
 
 -- the state if the machine continues
-pub to_order : (s : OpbState) → IsInOrder s → (b : ℕ) (p : Phase) → plan s.top s.phase b ≡ To p → PhaseFits s.top p → IsInOrder (at s p)
+pub to_order : (s : OpbState) → IsInOrder s → (b : ℕ) (p : Phase) → transition s.top s.phase b ≡ To p → PhaseFits s.top p → IsInOrder (at s p)
 to_order s h b p e fits = record {
   limit = h.limit;
   top = h.top;
@@ -99,23 +99,23 @@ to_order s h b p e fits = record {
 -- what the machine of sums leaves unchanged
 inner_goes : (inner next : SumState) (b : ℕ) → sums.step inner b ≡ Go next → (next.spaces ≡ inner.spaces) × (next.limit ≡ inner.limit) × (sums.done next ≡ false)
 inner_goes inner next b e =
-    let g = goes inner next b e in
-    (ap (λ (x : SumState). x.spaces) g.1, ap (λ (x : SumState). x.limit) g.1, midway-not-done next.work.phase (goes-midway inner next b e))
+    let g = continues inner next b e in
+    (ap (λ (x : SumState). x.spaces) g.1, ap (λ (x : SumState). x.limit) g.1, midway-not-done next.work.phase (continues-midway inner next b e))
 
 inner_ends : (inner next : SumState) (b : ℕ) (e : SumEvent) → sums.step inner b ≡ End e next → (next.spaces ≡ inner.spaces) × (next.limit ≡ inner.limit)
 inner_ends inner next b e h =
     let g = ended-last inner next b e h in (ap (λ (x : SumState). x.spaces) g, ap (λ (x : SumState). x.limit) g)
 
 -- the state if the machine of sums continues
-pub give_order : (s : OpbState) → IsInOrder s → (b : ℕ) (p : Phase) (inner : SumState) → plan s.top s.phase b ≡ Give p → sums.step s.sums b ≡ Go inner → IsState sums inner → IsInOrder (giving s p inner)
-give_order s h b p inner e goes state =
+pub give_order : (s : OpbState) → IsInOrder s → (b : ℕ) (p : Phase) (inner : SumState) → transition s.top s.phase b ≡ Give p → sums.step s.sums b ≡ Go inner → IsState sums inner → IsInOrder (giving s p inner)
+give_order s h b p inner e continues state =
     let k = known s h b (Give p) e in
-    let i = inner_goes s.sums inner b goes in
+    let i = inner_goes s.sums inner b continues in
     record {
       limit = h.limit;
       top = h.top;
       fits = k.gives.fits s.top;
-      holds = k.gives.holds (giving s p inner) k.owed k.text i.2;
+      holds = k.gives.holds (giving s p inner) k.remaining k.text i.2;
       spaces = i.0 ∙ h.spaces;
       limits = i.1 ∙ h.limits;
       state = state;
@@ -123,29 +123,29 @@ give_order s h b p inner e goes state =
 
 -- a byte after which the machine of sums continues keeps the state in order
 pub goes_order : (s : OpbState) → IsInOrder s → (b : ℕ) (went : Bool) (inner : SumState) → IsGiving s
-    → Goes sums s.sums b went inner → IsState sums inner → IsInOrder (giving s s.phase inner)
+    → Continues sums s.sums b went inner → IsState sums inner → IsInOrder (giving s s.phase inner)
 goes_order s h b false inner at same state = subst (λ (i : SumState). IsInOrder (giving s s.phase i)) (sym same) h
-goes_order s h b true inner at goes state = give_order s h b s.phase inner ((gives_at s at).planned s.top b) goes state
+goes_order s h b true inner at continues state = give_order s h b s.phase inner ((gives_at s at).planned s.top b) continues state
 
 -- a state between two statements
-owing_holds : (s : OpbState) (may : Bool) (n : ℕ) (inner : SumState) → inner ≡ linears s.limit
-    → Holds (record s { owed = n; phase = phase_owing may n; text = []; sums = inner }) (phase_owing may n)
-owing_holds s may zero inner e = (refl, e)
-owing_holds s may (suc n) inner e = (omega arith, (refl, e))
+owing_holds : (s : OpbState) (objective_allowed : Bool) (n : ℕ) (inner : SumState) → inner ≡ linears s.limit
+    → Holds (record s { remaining = n; phase = phase_owing objective_allowed n; text = []; sums = inner }) (phase_owing objective_allowed n)
+owing_holds s objective_allowed zero inner e = (refl, e)
+owing_holds s objective_allowed (suc n) inner e = (omega arith, (refl, e))
 
-owing_fits : (top : ℕ) (may : Bool) (n : ℕ) → PhaseFits top (phase_owing may n)
-owing_fits top may zero = tt
-owing_fits top may (suc n) = tt
+owing_fits : (top : ℕ) (objective_allowed : Bool) (n : ℕ) → PhaseFits top (phase_owing objective_allowed n)
+owing_fits top objective_allowed zero = tt
+owing_fits top objective_allowed (suc n) = tt
 
 -- the state if the machine of sums has ended and begins again
-module _ (s : OpbState) (h : IsInOrder s) (b : ℕ) (p : Phase) (next again : SumState) (x : SumEvent) (planned : plan s.top s.phase b ≡ Give p) (ends : sums.step s.sums b ≡ End x next) (begins : again ≡ first next.spaces part.TheVariants.Linear next.limit) where
+module _ (s : OpbState) (h : IsInOrder s) (b : ℕ) (p : Phase) (next again : SumState) (x : SumEvent) (planned : transition s.top s.phase b ≡ Give p) (ends : sums.step s.sums b ≡ End x next) (begins : again ≡ first next.spaces part.TheVariants.Linear next.limit) where
   again_is : again ≡ linears s.limit
   again_is =
       let i = inner_ends s.sums next b x ends in
       begins ∙ (ap (λ (y : _). first y part.TheVariants.Linear next.limit) (i.0 ∙ h.spaces) ∙ ap (λ (y : ℕ). first White part.TheVariants.Linear y) (i.1 ∙ h.limits))
 
   abbrev ended : OpbState
-  ended = record s { owed = owed_after p s.owed; phase = phase_owing false (owed_after p s.owed); sums = again }
+  ended = record s { remaining = remaining_after p s.remaining; phase = phase_owing false (remaining_after p s.remaining); sums = again }
 
   ended_is : ended ≡ after s p
   ended_is = rw ((known s h b (Give p) planned).text, again_is) refl
@@ -156,8 +156,8 @@ module _ (s : OpbState) (h : IsInOrder s) (b : ℕ) (p : Phase) (next again : Su
       record {
         limit = h.limit;
         top = h.top;
-        fits = owing_fits s.top false (owed_after p s.owed);
-        holds = rw k.text (owing_holds s false (owed_after p s.owed) again again_is);
+        fits = owing_fits s.top false (remaining_after p s.remaining);
+        holds = rw k.text (owing_holds s false (remaining_after p s.remaining) again again_is);
         spaces = ap (λ (y : SumState). y.spaces) again_is;
         limits = ap (λ (y : SumState). y.limit) again_is;
         state = state;
@@ -167,19 +167,19 @@ module _ (s : OpbState) (h : IsInOrder s) (b : ℕ) (p : Phase) (next again : Su
   end_step = ap (act s b) planned ∙ (ap (over s p) ends ∙ ap (λ (y : OpbState). End (statement_of x) y) (sym ended_is))
 
 -- a byte that the machine of sums rejects
-pub give_refused : (s : OpbState) → IsInOrder s → (b : ℕ) (p : Phase) → plan s.top s.phase b ≡ Give p → sums.step s.sums b ≡ Refuse → (opb.step s b ≡ Refuse) × (is_large opb s b ≡ is_large sums s.sums b)
+pub give_refused : (s : OpbState) → IsInOrder s → (b : ℕ) (p : Phase) → transition s.top s.phase b ≡ Give p → sums.step s.sums b ≡ Refuse → (opb.step s b ≡ Refuse) × (is_large opb s b ≡ is_large sums s.sums b)
 give_refused s h b p planned stops =
     (ap (act s b) planned ∙ ap (over s p) stops, ap (λ (x : Bool). x && is_digit b) (known s h b (Give p) planned).number)
 
 -- a byte that the machine of sums admits
-module _ (s : OpbState) (h : IsInOrder s) (b : ℕ) (p : Phase) (planned : plan s.top s.phase b ≡ Give p) where
+module _ (s : OpbState) (h : IsInOrder s) (b : ℕ) (p : Phase) (planned : transition s.top s.phase b ≡ Give p) where
   by_step : (n : Next SumState SumEvent) → sums.step s.sums b ≡ n → Admits sums s.sums b → Admits opb s b
   by_step (Go inner) e a =
       let k = known s h b (Give p) planned in
       let i = inner_goes s.sums inner b e in
       admits_before opb s (giving s p inner) b (ap (act s b) planned ∙ ap (over s p) e) k.gives.within (giving_alive s p k.gives inner i.2)
   by_step (End x inner) e a =
-      let more = owed_read s false (owed_after p s.owed) in
+      let more = owed_read s false (remaining_after p s.remaining) in
       admits_final opb s (after s p) b (statement_of x) (ap (act s b) planned ∙ ap (over s p) e) more.0 more.1
   by_step Refuse e a = absurd (refuses sums s.sums s.sums b e a.0 a.1 (a.2, a.3))
 
@@ -187,9 +187,9 @@ module _ (s : OpbState) (h : IsInOrder s) (b : ℕ) (p : Phase) (planned : plan 
   give_admits asking a = (subst (λ (m : Action). IsTrue (asks s b m)) (sym planned) asking, by_step (sums.step s.sums b) refl a)
 
 -- a byte of a tail or a comment
-pub tail_admits : (s : OpbState) → IsInOrder s → (b n c : ℕ) → plan s.top s.phase b ≡ BeginTail n c → IsTrue (opb.asks s b) × Admits opb s b
+pub tail_admits : (s : OpbState) → IsInOrder s → (b n c : ℕ) → transition s.top s.phase b ≡ BeginTail n c → IsTrue (opb.asks s b) × Admits opb s b
 tail_admits s h b n c planned =
-    let next = record s { owed = n; phase = phase.TheVariants.Tail; text = c ∷ [] } in
+    let next = record s { remaining = n; phase = phase.TheVariants.Tail; text = c ∷ [] } in
     let idle = known s h b (BeginTail n c) planned in
     let order : IsInOrder next = record { limit = h.limit; top = h.top; fits = tt; holds = idle.1; spaces = h.spaces; limits = h.limits; state = h.state } in
     (subst (λ (m : Action). IsTrue (asks s b m)) (sym planned) refl, admits_within opb s next b (ap (act s b) planned) refl refl (is_state next order))
@@ -201,15 +201,15 @@ not_done (phase.TheVariants.Word f k) h = refl
 not_done (phase.TheVariants.BeforeCount f) h = refl
 not_done (phase.TheVariants.Count f n) h = refl
 not_done phase.TheVariants.Tail h = refl
-not_done (phase.TheVariants.Between may) h = refl
-not_done (phase.TheVariants.Comment may) h = refl
+not_done (phase.TheVariants.Between objective_allowed) h = refl
+not_done (phase.TheVariants.Comment objective_allowed) h = refl
 not_done (phase.TheVariants.Min k) h = refl
 not_done phase.TheVariants.AfterMin h = refl
 not_done phase.TheVariants.Objective h = refl
 not_done phase.TheVariants.Constraint h = refl
 not_done phase.TheVariants.Done h = sym h
 
-pub keep_admits : (s : OpbState) → IsInOrder s → (b c : ℕ) → plan s.top s.phase b ≡ Keep c → IsTrue (opb.asks s b) × Admits opb s b
+pub keep_admits : (s : OpbState) → IsInOrder s → (b c : ℕ) → transition s.top s.phase b ≡ Keep c → IsTrue (opb.asks s b) × Admits opb s b
 keep_admits s h b c planned =
     let next = record s { text = s.text ++ c ∷ [] } in
     let k = known s h b (Keep c) planned in
@@ -217,13 +217,13 @@ keep_admits s h b c planned =
     (subst (λ (m : Action). IsTrue (asks s b m)) (sym planned) refl, admits_within opb s next b (ap (act s b) planned) k.1 (not_done s.phase k.1) (is_state next order))
 
 -- a byte that begins a sum or a linear text begins a statement
-module _ (s : OpbState) (h : IsInOrder s) (b : ℕ) (p : Phase) (planned : plan s.top s.phase b ≡ Give p) (out : is_within s.phase ≡ false) where
+module _ (s : OpbState) (h : IsInOrder s) (b : ℕ) (p : Phase) (planned : transition s.top s.phase b ≡ Give p) (out : is_within s.phase ≡ false) where
   fresh_inner : sums.begun s.sums ≡ false
   fresh_inner = ap sums.begun (outside s s.phase out h.holds).1.1
 
   same_begin : (n : Next SumState SumEvent) → sums.step s.sums b ≡ n → begins_with sums (sums.begun s.sums) n ≡ begins_with opb (is_within s.phase) (over s p n)
   same_begin (Go inner) e =
-      ap (λ (x : Bool). begins_with sums x (Go inner)) fresh_inner ∙ (goes-midway s.sums inner b e ∙ (sym (known s h b (Give p) planned).gives.within ∙ ap (λ (x : Bool). begins_with opb x (over s p (Go inner))) (sym out)))
+      ap (λ (x : Bool). begins_with sums x (Go inner)) fresh_inner ∙ (continues-midway s.sums inner b e ∙ (sym (known s h b (Give p) planned).gives.within ∙ ap (λ (x : Bool). begins_with opb x (over s p (Go inner))) (sym out)))
   same_begin (End x inner) e = ap (λ (y : Bool). begins_with sums y (End x inner)) fresh_inner ∙ ap (λ (y : Bool). begins_with opb y (over s p (End x inner))) (sym out)
   same_begin Refuse e = ap (λ (y : Bool). begins_with sums y Refuse) fresh_inner ∙ ap (λ (y : Bool). begins_with opb y (over s p Refuse)) (sym out)
 

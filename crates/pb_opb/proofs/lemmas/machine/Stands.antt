@@ -4,7 +4,7 @@ use Rattle.std.proofs.Common.{◌≡◌, ℕ, Bool, true, false, List, [], ◌�
 use Rattle.std.proofs.lemmas.Bool.{not-true}
 use Rattle.std.proofs.lemmas.List.{append-nil}
 use Rattle.std.specs.Prelude.{nat_eq}
-use Rattle.pb_text.specs.contract.Automaton.{Go, End, Reads}
+use Rattle.pb_text.specs.contract.Automaton.{Go, End, ReadsStatement}
 use Rattle.pb_text.specs.meaning.Languages.{unmarked, Each, Many}
 use Rattle.pb_text.specs.meaning.Spelling.{plain}
 use Rattle.pb_text.proofs.lemmas.machine.Walking.{Walks, Leads, longer}
@@ -14,11 +14,11 @@ use Rattle.pb_opb.specs.declared.phase.Phase.{Phase}
 
 -- with the machine of sums at the start of a linear text
 abbrev pub stands : ℕ → ℕ → ℕ → ℕ → Phase → List ℕ → OpbState
-stands limit top variables owed p text = record {
+stands limit top variables remaining p text = record {
   limit = limit;
   top = top;
   variables = variables;
-  owed = owed;
+  remaining = remaining;
   phase = p;
   text = text;
   sums = linears limit;
@@ -26,7 +26,7 @@ stands limit top variables owed p text = record {
 
 -- between two statements
 abbrev pub idle : ℕ → ℕ → ℕ → Bool → ℕ → OpbState
-idle limit top variables may owed = stands limit top variables owed (phase_owing may owed) []
+idle limit top variables objective_allowed remaining = stands limit top variables remaining (phase_owing objective_allowed remaining) []
 
 -- bytes that do not change the state
 pub stays : (P : ℕ → Type 0) (s : OpbState) → ((b : ℕ) → P b → opb.step s b ≡ Go s) → opb.begun s ≡ true → opb.in_number s ≡ false
@@ -45,10 +45,10 @@ pub record Keeps (at : List ℕ → OpbState) (event : List ℕ → OpbEvent) (n
   pub number : (kept : List ℕ) → opb.in_number (at kept) ≡ false
 
 pub line_reads : (at : List ℕ → OpbState) (event : List ℕ → OpbEvent) (new : OpbState) → Keeps at event new → (bs kept : List ℕ) → IsInLine bs
-    → Reads opb (at kept) (plain bs ++ unmarked 10 ∷ []) (event (kept ++ bs)) new
+    → ReadsStatement opb (at kept) (plain bs ++ unmarked 10 ∷ []) (event (kept ++ bs)) new
 line_reads at event new k [] kept h = (k.stop kept ∙ ap (λ (x : List ℕ). End (event x) new) (sym (append-nil kept)), refl)
 line_reads at event new k (b ∷ bs) kept h =
     let more : List ℕ = kept ++ b ∷ [] in
     longer opb (unmarked b) (plain bs ++ unmarked 10 ∷ []) (at kept) (at more) new (event (kept ++ b ∷ bs))
     (k.keep kept b (not-true (nat_eq b 10) h.0)) (k.within more) (sym (k.number more))
-    (subst (λ (x : List ℕ). Reads opb (at more) (plain bs ++ unmarked 10 ∷ []) (event x) new) (append_assoc kept (b ∷ []) bs) (line_reads at event new k bs more h.1))
+    (subst (λ (x : List ℕ). ReadsStatement opb (at more) (plain bs ++ unmarked 10 ∷ []) (event x) new) (append_assoc kept (b ∷ []) bs) (line_reads at event new k bs more h.1))

@@ -7,8 +7,8 @@ use Rattle.pb_text.specs.contract.Automaton.{Next, Go, End, Refuse, IsState}
 use Rattle.pb_sums.specs.engine.State.{SumState, sums}
 use Rattle.pb_sums.specs.declared.SumEvent.{SumEvent}
 use Rattle.pb_opb.specs.meaning.Instances.{min_word}
-use Rattle.pb_opb.specs.engine.Machine.{plan, count, after_count, word_of}
-use Rattle.pb_opb.specs.engine.State.{OpbState, opb, owed_after, phase_owing, act, over, is_within, is_done, is_in_number}
+use Rattle.pb_opb.specs.engine.Machine.{transition, count, after_count, word_of}
+use Rattle.pb_opb.specs.engine.State.{OpbState, opb, remaining_after, phase_owing, act, over, is_within, is_done, is_in_number}
 use Rattle.pb_opb.specs.engine.Order.{Holds, IsIdle, IsInOrder}
 use Rattle.pb_opb.specs.declared.event.OpbEvent.{OpbEvent}
 use Rattle.pb_opb.specs.declared.phase.Field.{Field}
@@ -58,7 +58,7 @@ on_after p Variables n b = either_way (OnAction p) (is_blank b) (Declare n) Stop
 on_after p Constraints n b = either_way (OnAction p) (nat_eq b 10) (EndHeader n) _ tt (either_way (OnAction p) (is_blank b) (BeginTail n b) Stop tt tt)
 
 -- the plan of each phase
-on_plan : (top : ℕ) (p : Phase) (b : ℕ) → OnAction p (plan top p b)
+on_plan : (top : ℕ) (p : Phase) (b : ℕ) → OnAction p (transition top p b)
 on_plan top phase.TheVariants.Start b = either_way (OnAction phase.TheVariants.Start) (nat_eq b 42) (To (phase.TheVariants.BeforeWord Variables)) Stop (refl, λ h. refl) tt
 on_plan top (phase.TheVariants.BeforeWord f) b =
     either_way (OnAction (phase.TheVariants.BeforeWord f)) (is_blank b) (To (phase.TheVariants.BeforeWord f)) _ (refl, λ h. refl)
@@ -72,11 +72,11 @@ on_plan top (phase.TheVariants.Count f n) b =
     either_way (OnAction (phase.TheVariants.Count f n)) (is_digit b) _ _ (on_count (phase.TheVariants.Count f n) top f n b) (on_after (phase.TheVariants.Count f n) f n b)
 on_plan top phase.TheVariants.Tail b =
     either_way (OnAction phase.TheVariants.Tail) (nat_eq b 10) EndTail (Keep b) tt refl
-on_plan top (phase.TheVariants.Between may) b =
-    either_way (OnAction (phase.TheVariants.Between may)) (is_white b) (To (phase.TheVariants.Between may)) _ (refl, λ h. h)
-    (either_way (OnAction (phase.TheVariants.Between may)) (nat_eq b 42) (To (phase.TheVariants.Comment may)) _ (refl, λ h. refl)
-    (either_way (OnAction (phase.TheVariants.Between may)) (nat_eq b 109 && may) (To (phase.TheVariants.Min 1)) (Give phase.TheVariants.Constraint) (refl, λ h. refl) (refl, λ h. refl)))
-on_plan top (phase.TheVariants.Comment may) b = either_way (OnAction (phase.TheVariants.Comment may)) (nat_eq b 10) (EndComment may) (Keep b) tt refl
+on_plan top (phase.TheVariants.Between objective_allowed) b =
+    either_way (OnAction (phase.TheVariants.Between objective_allowed)) (is_white b) (To (phase.TheVariants.Between objective_allowed)) _ (refl, λ h. h)
+    (either_way (OnAction (phase.TheVariants.Between objective_allowed)) (nat_eq b 42) (To (phase.TheVariants.Comment objective_allowed)) _ (refl, λ h. refl)
+    (either_way (OnAction (phase.TheVariants.Between objective_allowed)) (nat_eq b 109 && objective_allowed) (To (phase.TheVariants.Min 1)) (Give phase.TheVariants.Constraint) (refl, λ h. refl) (refl, λ h. refl)))
+on_plan top (phase.TheVariants.Comment objective_allowed) b = either_way (OnAction (phase.TheVariants.Comment objective_allowed)) (nat_eq b 10) (EndComment objective_allowed) (Keep b) tt refl
 on_plan top (phase.TheVariants.Min k) b =
     either_way (OnAction (phase.TheVariants.Min k)) (nat_eq b (slice_index min_word k)) _ Stop
     (either_way (OnAction (phase.TheVariants.Min k)) (nat_eq (k + 1) (length min_word)) BeginSum (To (phase.TheVariants.Min (k + 1))) tt (refl, λ h. refl)) tt
@@ -87,37 +87,37 @@ on_plan top phase.TheVariants.Constraint b = (refl, λ h. refl)
 on_plan top phase.TheVariants.Done b = tt
 
 -- what holds for the next state if the machine continues
-record Goes (s next : OpbState) : Type 0 where
+record Continues (s next : OpbState) : Type 0 where
   pub owes : opb.done next ≡ false
   pub stays : opb.begun s ≡ true → opb.begun next ≡ true
   pub grows : opb.spent next ≤ opb.spent s + 1
 
-owing : (may : Bool) (n : ℕ) → is_within (phase_owing may n) ≡ false
-owing may zero = refl
-owing may (suc n) = refl
+owing : (objective_allowed : Bool) (n : ℕ) → is_within (phase_owing objective_allowed n) ≡ false
+owing objective_allowed zero = refl
+owing objective_allowed (suc n) = refl
 
-sum_grows : (s : OpbState) (p : Phase) → IsState sums s.sums → GoesOn s.phase p → (b : ℕ) (n : Next SumState SumEvent) → sums.step s.sums b ≡ n → On (λ next. Goes s next) (λ next. opb.begun next ≡ false) (over s p n)
+sum_grows : (s : OpbState) (p : Phase) → IsState sums s.sums → GoesOn s.phase p → (b : ℕ) (n : Next SumState SumEvent) → sums.step s.sums b ≡ n → On (λ next. Continues s next) (λ next. opb.begun next ≡ false) (over s p n)
 sum_grows s p state g b (Go inner) e = record { owes = g.0; stays = g.1; grows = omega (arith, state.grows b inner e) }
-sum_grows s p state g b (End f inner) e = owing false (owed_after p s.owed)
+sum_grows s p state g b (End f inner) e = owing false (remaining_after p s.remaining)
 sum_grows s p state g b Refuse e = tt
 
-on_act : (s : OpbState) → IsState sums s.sums → (b : ℕ) (m : Action) → OnAction s.phase m → On (λ next. Goes s next) (λ next. opb.begun next ≡ false) (act s b m)
+on_act : (s : OpbState) → IsState sums s.sums → (b : ℕ) (m : Action) → OnAction s.phase m → On (λ next. Continues s next) (λ next. opb.begun next ≡ false) (act s b m)
 on_act s state b (To p) h = record { owes = h.0; stays = h.1; grows = omega arith }
 on_act s state b (Declare n) h = record { owes = refl; stays = λ i. refl; grows = omega arith }
 on_act s state b (BeginTail n c) h = record { owes = refl; stays = λ i. refl; grows = omega arith }
 on_act s state b (Keep c) h = record { owes = h; stays = λ i. i; grows = omega (arith, length-append s.text (c ∷ [])) }
 on_act s state b (EndHeader n) h = owing true n
-on_act s state b EndTail h = owing true s.owed
-on_act s state b (EndComment may) h = owing may s.owed
+on_act s state b EndTail h = owing true s.remaining
+on_act s state b (EndComment objective_allowed) h = owing objective_allowed s.remaining
 on_act s state b BeginSum h = record { owes = refl; stays = λ i. refl; grows = omega arith }
 on_act s state b (Give p) h = sum_grows s p state h b (sums.step s.sums b) refl
 on_act s state b Stop h = tt
 
-steps : (s : OpbState) → IsState sums s.sums → (b : ℕ) → On (λ next. Goes s next) (λ next. opb.begun next ≡ false) (opb.step s b)
-steps s state b = on_act s state b (plan s.top s.phase b) (on_plan s.top s.phase b)
+steps : (s : OpbState) → IsState sums s.sums → (b : ℕ) → On (λ next. Continues s next) (λ next. opb.begun next ≡ false) (opb.step s b)
+steps s state b = on_act s state b (transition s.top s.phase b) (on_plan s.top s.phase b)
 
 -- after the last constraint
-pub done_stops : (top : ℕ) (p : Phase) (b : ℕ) → is_done p ≡ true → plan top p b ≡ Stop
+pub done_stops : (top : ℕ) (p : Phase) (b : ℕ) → is_done p ≡ true → transition top p b ≡ Stop
 done_stops top phase.TheVariants.Done b h = refl
 done_stops top _ b h = absurd (false≢true h)
 
@@ -129,8 +129,8 @@ outside s (phase.TheVariants.Word f k) h i = absurd (false≢true (sym h))
 outside s (phase.TheVariants.BeforeCount f) h i = absurd (false≢true (sym h))
 outside s (phase.TheVariants.Count f n) h i = absurd (false≢true (sym h))
 outside s phase.TheVariants.Tail h i = absurd (false≢true (sym h))
-outside s (phase.TheVariants.Between may) h i = (refl, i.1)
-outside s (phase.TheVariants.Comment may) h i = absurd (false≢true (sym h))
+outside s (phase.TheVariants.Between objective_allowed) h i = (refl, i.1)
+outside s (phase.TheVariants.Comment objective_allowed) h i = absurd (false≢true (sym h))
 outside s (phase.TheVariants.Min k) h i = absurd (false≢true (sym h))
 outside s phase.TheVariants.AfterMin h i = absurd (false≢true (sym h))
 outside s phase.TheVariants.Objective h i = absurd (false≢true (sym h))
@@ -144,11 +144,11 @@ pub is_state : (s : OpbState) → IsInOrder s → IsState opb s
 is_state s h = record {
   live = live s h;
   ends = λ d b. ap (act s b) (done_stops s.top s.phase b d);
-  owes = λ b next e. (at_go (λ t. Goes s t) (λ t. opb.begun t ≡ false) (opb.step s b) next e (steps s h.state b)).owes;
-  stays = λ i b next e. (at_go (λ t. Goes s t) (λ t. opb.begun t ≡ false) (opb.step s b) next e (steps s h.state b)).stays i;
-  closes = λ b e next i. at_end (λ t. Goes s t) (λ t. opb.begun t ≡ false) (opb.step s b) e next i (steps s h.state b);
+  owes = λ b next e. (at_go (λ t. Continues s t) (λ t. opb.begun t ≡ false) (opb.step s b) next e (steps s h.state b)).owes;
+  stays = λ i b next e. (at_go (λ t. Continues s t) (λ t. opb.begun t ≡ false) (opb.step s b) next e (steps s h.state b)).stays i;
+  finishes = λ b e next i. at_end (λ t. Continues s t) (λ t. opb.begun t ≡ false) (opb.step s b) e next i (steps s h.state b);
   plain = λ o. (outside s s.phase o h.holds).0;
-  grows = λ b next e. (at_go (λ t. Goes s t) (λ t. opb.begun t ≡ false) (opb.step s b) next e (steps s h.state b)).grows;
+  grows = λ b next e. (at_go (λ t. Continues s t) (λ t. opb.begun t ≡ false) (opb.step s b) next e (steps s h.state b)).grows;
   bounds = omega (arith, h.state.bounds);
   empties = λ o. nothing_spent s (outside s s.phase o h.holds).1;
 }

@@ -1,7 +1,7 @@
 use Rattle.pb_text.proofs.lemmas.text.Deterministic.{prefix_free}
 use Rattle.pb_proof.specs.engine.Machine.State.{proofs, begin}
-use Rattle.pb_proof.proofs.lemmas.Machine.Exact.{reads_proofs, closes}
+use Rattle.pb_proof.proofs.lemmas.Machine.Exact.{reads_proofs, finishes}
 use Rattle.pb_proof.proofs.laws.prefix_free.Goals as goal
 
 pub returns : goal.returns
-returns c = λ limit top items items' more h k. prefix_free proofs closes (begin limit top) items items' more ((reads_proofs limit top items).1 h) ((reads_proofs limit top items').1 k)
+returns c = λ limit top items items' more h k. prefix_free proofs finishes (begin limit top) items items' more ((reads_proofs limit top items).1 h) ((reads_proofs limit top items').1 k)

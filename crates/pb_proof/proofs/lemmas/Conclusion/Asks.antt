@@ -2,14 +2,14 @@
 use Rattle.std.proofs.Common.{◌≡◌, ℕ, ◌+◌, ◌-◌, ◌*◌, Bool, true, false, ◌&&◌, List, [], ◌∷◌, ◌++◌, refl, sym, ap, subst, ◌∙◌, append_assoc, Some, None}
 use Rattle.std.proofs.lemmas.Bool.{false≢true, cond_both}
 use Rattle.std.specs.Prelude.{ℤ, nat_eq, nat_le, slice_index}
-use Rattle.pb_text.specs.contract.Automaton.{Next, Go, End, Refuse, Reads}
+use Rattle.pb_text.specs.contract.Automaton.{Next, Go, End, Refuse, ReadsStatement}
 use Rattle.pb_text.specs.meaning.Classes.{is_blank, is_digit}
 use Rattle.pb_text.specs.meaning.Spelling.{Letter, bytes}
 use Rattle.pb_text.proofs.lemmas.text.Languages.{bytes-append}
 use Rattle.pb_text.proofs.lemmas.machine.Walking.{Walks, prefixes_of}
 use Rattle.pb_sums.specs.declared.Literal.{Literal}
 use Rattle.pb_proof.specs.meaning.Asking.{AsksShown, AsksConclusion}
-use Rattle.pb_proof.specs.engine.Line.Conclusion.{word_of, phase_after_word, phase_after_bound, spell, first_word, digits, begin_bound, colon, next_action, between, after_bound, id_digits, after_id, plan}
+use Rattle.pb_proof.specs.engine.Line.Conclusion.{word_of, phase_after_word, phase_after_bound, spell, first_word, digits, begin_bound, colon, next_action, between, after_bound, id_digits, after_id, transition}
 use Rattle.pb_proof.specs.engine.Line.ConclusionState.{ConclusionState, conclusion_automaton, conclusion_first, showing_value, act, over, giving, asks}
 use Rattle.pb_proof.specs.engine.Line.Literals.{LiteralsState, literals_automaton}
 use Rattle.pb_proof.specs.meaning.Lines.{inf_word}
@@ -81,7 +81,7 @@ module _ (s : ConclusionState) (b : ℕ) where
   after_ids (owner.Lower x) id = cond_both (is_blank b) _ _ Quiet (λ _. refl) (λ _. refl)
 
   -- only within shown literals
-  shows_only : (ph : Phase) → asks s b (plan s.limit s.top ph b) ≡ true → (x : Showing) × (ph ≡ phase.Shown x)
+  shows_only : (ph : Phase) → asks s b (transition s.limit s.top ph b) ≡ true → (x : Showing) × (ph ≡ phase.Shown x)
   shows_only (phase.Shown x) h = (x, refl)
   shows_only phase.Start h = absurd (false≢true (sym (cond_both (is_blank b) _ _ Quiet (λ _. refl) (λ _. refl)) ∙ h))
   shows_only phase.Before h = absurd (false≢true (sym (cond_both (is_blank b) _ _ Quiet (λ _. refl) (λ _. words)) ∙ h))
@@ -106,7 +106,7 @@ module _ (s : ConclusionState) (b : ℕ) where
 
 -- What is read there is shown literals.
 shown_step : (s : ConclusionState) (b : ℕ) (x : Showing) → s.phase ≡ phase.Shown x → conclusion_automaton.step s b ≡ over s x (literals_automaton.step s.literals b)
-shown_step s b x e = ap (λ q. act s b (plan s.limit s.top q b)) e
+shown_step s b x e = ap (λ q. act s b (transition s.limit s.top q b)) e
 
 shown_went : (s next : ConclusionState) (x : Showing) (y : Next LiteralsState (List Literal)) → ◌≡◌ {A = Next ConclusionState Conclusion} (over s x y) (Go next) → next.phase ≡ s.phase
 shown_went s next x (Go inner) e = let f : next ≡ giving s inner = cc in ap (λ z. z.phase) f
@@ -119,7 +119,7 @@ shown_ended s next x c (Go inner) e = absurd (let f : ⊥ = cc in f)
 shown_ended s next x c (End ls inner) e = (ls, (let f : c ≡ showing_value x (Some ls) = cc in f))
 shown_ended s next x c Refuse e = absurd (let f : ⊥ = cc in f)
 
-shown_reads : (t : List Letter) (s : ConclusionState) (x : Showing) (c : Conclusion) (next : ConclusionState) → s.phase ≡ phase.Shown x → Reads conclusion_automaton s t c next
+shown_reads : (t : List Letter) (s : ConclusionState) (x : Showing) (c : Conclusion) (next : ConclusionState) → s.phase ≡ phase.Shown x → ReadsStatement conclusion_automaton s t c next
     → (ls : List Literal) × (c ≡ showing_value x (Some ls))
 shown_reads [] s x c next at r = absurd r
 shown_reads (l ∷ []) s x c next at (h, n) = shown_ended s next x c (literals_automaton.step s.literals l.byte) (sym (shown_step s l.byte x at) ∙ h)
@@ -134,11 +134,11 @@ module _ (limit top : ℕ) where
   shown_at : (s : ConclusionState) (x : Showing) (t : List Letter) (b : ℕ) → s.phase ≡ phase.Shown x → conclusion_prefix.prefix s.limit s.top s.literals s.phase t → conclusion_automaton.asks s b ≡ true → AsksShown (bytes t) b
   shown_at s x t b at f h =
       let (a, c, e, (u, v, i, j, colon), w) = subst (λ q. conclusion_prefix.prefix s.limit s.top s.literals q t) at f in
-      let asks_it : literals_automaton.asks s.literals b ≡ true = subst (λ q. asks s b (plan s.limit s.top q b) ≡ true) at h in
+      let asks_it : literals_automaton.asks s.literals b ≡ true = subst (λ q. asks s b (transition s.limit s.top q b) ≡ true) at h in
       let prefix : bytes a ≡ bytes u ++ 58 ∷ [] = ap bytes i ∙ (bytes-append u v ∙ ap (λ (y : List ℕ). bytes u ++ y) (ap bytes colon)) in
       (bytes u, bytes c, ap bytes e ∙ (bytes-append a c ∙ (ap (λ (y : List ℕ). y ++ bytes c) prefix ∙ append_assoc (bytes u) (58 ∷ []) (bytes c))), literals_asked true c s.literals b w asks_it)
 
-  pub conclusion_asked : (t rest : List Letter) (l : Letter) (s next : ConclusionState) (c : Conclusion) → Walks conclusion_automaton (conclusion_first limit top) t s → Reads conclusion_automaton s (l ∷ rest) c next
+  pub conclusion_asked : (t rest : List Letter) (l : Letter) (s next : ConclusionState) (c : Conclusion) → Walks conclusion_automaton (conclusion_first limit top) t s → ReadsStatement conclusion_automaton s (l ∷ rest) c next
       → conclusion_automaton.asks s l.byte ≡ true → AsksConclusion c (bytes t) l.byte
   conclusion_asked t rest l s next c w r h =
       let (x, at) = shows_only s l.byte s.phase h in

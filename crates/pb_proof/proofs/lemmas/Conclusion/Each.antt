@@ -1,7 +1,7 @@
 -- The conclusion machine reads each conclusion.
 use Rattle.std.proofs.Common.{◌≡◌, ℕ, ◌<◌, Bool, true, List, [], ◌∷◌, ◌++◌, refl, sym, ap, subst, ◌∙◌}
 use Rattle.std.specs.Prelude.{IsTrue, ℤ, Option, Some, None}
-use Rattle.pb_text.specs.contract.Automaton.{Go, Reads}
+use Rattle.pb_text.specs.contract.Automaton.{Go, ReadsStatement}
 use Rattle.pb_text.specs.meaning.Classes.{is_blank}
 use Rattle.pb_text.specs.meaning.Languages.{unmarked, Language, ◌⋅◌, Empty, Byte, Bytes, Blanks0, Blanks1}
 use Rattle.pb_text.specs.meaning.Numbers.{signed}
@@ -10,7 +10,7 @@ use Rattle.pb_text.proofs.lemmas.text.Languages.{inside, regroup, after_it}
 use Rattle.pb_text.proofs.lemmas.machine.Walking.{Walks, longer, reads_after}
 use Rattle.pb_text.proofs.lemmas.text.ByteTests.{blank_digit}
 use Rattle.pb_sums.specs.declared.Literal.{Literal}
-use Rattle.pb_proof.specs.meaning.Lines.{none_word, unsat_word, bounds_word, LineEnd, SpellsId, SpellsBound, SpellsShown, Shown, IdShown, SpellsConclusionLine}
+use Rattle.pb_proof.specs.meaning.Lines.{none_word, unsat_word, bounds_word, LineEnd, SpellsId, SpellsBound, SpellsShown, LiteralsShown, IdShown, SpellsConclusionLine}
 use Rattle.pb_proof.specs.engine.Line.Conclusion.{word_of, phase_after_word}
 use Rattle.pb_proof.specs.engine.Line.ConclusionState.{ConclusionState, conclusion_automaton, conclusion_first, conclusion_last, conclusion_value, showing_value, giving, over}
 use Rattle.pb_proof.specs.engine.Line.Literals.{LiteralsState, literals_automaton, literals_first, literals_last, SpellsJoined}
@@ -43,7 +43,7 @@ module _ (limit top : ℕ) where
 
   -- What the literals machine reads is read as the shown literals.
   pub shown_reads : (x : Showing) (t : List Letter) (inner : LiteralsState) (ls : List Literal) (last : LiteralsState)
-      → Reads literals_automaton inner t ls last → Reads conclusion_automaton (shown_at x inner) t (showing_value x (Some ls)) (conclusion_last limit top)
+      → ReadsStatement literals_automaton inner t ls last → ReadsStatement conclusion_automaton (shown_at x inner) t (showing_value x (Some ls)) (conclusion_last limit top)
   shown_reads x [] inner ls last r = absurd r
   shown_reads x (l ∷ []) inner ls last (g, n) = (ap (λ y. over (shown_at x inner) x y) g, n)
   shown_reads x (l ∷ k ∷ t) inner ls last (mid, g, i, n, r) =
@@ -53,10 +53,10 @@ module _ (limit top : ℕ) where
   itself p b e = refl
 
   ends_line : (c : Concluding) (P : Language) → Carries limit top (Is limit top phase.Start) P (Follows limit top (phase.AfterValue c))
-      → (t : List Letter) → (P ⋅ LineEnd) t → Reads conclusion_automaton (conclusion_first limit top) t (conclusion_value c) (conclusion_last limit top)
+      → (t : List Letter) → (P ⋅ LineEnd) t → ReadsStatement conclusion_automaton (conclusion_first limit top) t (conclusion_value c) (conclusion_last limit top)
   ends_line c P f t (a, b, e, h, k) =
       let (mid, w, o) = f (conclusion_first limit top) a refl h in
-      subst (λ x. Reads conclusion_automaton (conclusion_first limit top) x (conclusion_value c)
+      subst (λ x. ReadsStatement conclusion_automaton (conclusion_first limit top) x (conclusion_value c)
       (conclusion_last limit top)) (sym e)
       (reads_after conclusion_automaton a b (conclusion_first limit top) mid (conclusion_last limit top)
       (conclusion_value c) w
@@ -65,19 +65,19 @@ module _ (limit top : ℕ) where
   -- shown literals, and the end of the line
   colon_reads : (x : Showing) (ls : List Literal) (s : ConclusionState)
       → Follows limit top (phase.AfterValue (concluding.Shows x)) s
-      → (t : List Letter) → (Byte 58 ⋅ SpellsJoined true ls) t → Reads conclusion_automaton s t (showing_value x (Some ls)) (conclusion_last limit top)
+      → (t : List Letter) → (Byte 58 ⋅ SpellsJoined true ls) t → ReadsStatement conclusion_automaton s t (showing_value x (Some ls)) (conclusion_last limit top)
   colon_reads x ls s f t (a, b, e, h, k) =
-      subst (λ y. Reads conclusion_automaton s y (showing_value x (Some ls)) (conclusion_last limit top)) (sym (e ∙ ap (λ y. y ++ b) h))
+      subst (λ y. ReadsStatement conclusion_automaton s y (showing_value x (Some ls)) (conclusion_last limit top)) (sym (e ∙ ap (λ y. y ++ b) h))
       (longer conclusion_automaton (unmarked 58) b s (here (phase.Shown x)) (conclusion_last limit top) (showing_value x (Some ls)) (f 58 refl) refl refl
       (shown_reads x b (literals_first true) ls (literals_last true) ((literals_reads true b ls (literals_last true)).1 (k, refl))))
 
   some_shown : (x : Showing) (ls : List Literal) (s : ConclusionState)
       → Follows limit top (phase.AfterValue (concluding.Shows x)) s
-      → (t : List Letter) → (Blanks0 ⋅ (SpellsShown ls ⋅ LineEnd)) t → Reads conclusion_automaton s t (showing_value x (Some ls)) (conclusion_last limit top)
+      → (t : List Letter) → (Blanks0 ⋅ (SpellsShown ls ⋅ LineEnd)) t → ReadsStatement conclusion_automaton s t (showing_value x (Some ls)) (conclusion_last limit top)
   some_shown x ls s f t (a, b, e, h, k) =
       let c : (Byte 58 ⋅ SpellsJoined true ls) b = line_shown limit top ls b k in
       let gap : ConclusionState = here (phase.AfterValue (concluding.Shows x)) in
-      subst (λ y. Reads conclusion_automaton s y (showing_value x (Some ls)) (conclusion_last limit top)) (sym e)
+      subst (λ y. ReadsStatement conclusion_automaton s y (showing_value x (Some ls)) (conclusion_last limit top)) (sym e)
       (after_blanks conclusion_automaton s gap (conclusion_last limit top) (showing_value x (Some ls)) a b
       (follows_blanks limit top (phase.AfterValue (concluding.Shows x)) (phase.AfterValue (concluding.Shows x)) s (after_blanks_of limit top (concluding.Shows x)) f) h
       (colon_reads x ls s f b c) (colon_reads x ls gap (itself (phase.AfterValue (concluding.Shows x))) b c))
@@ -97,7 +97,7 @@ module _ (limit top : ℕ) where
 
   -- a conclusion that may show literals
   showing_reads : (x : Showing) (shown : Option (List Literal)) → Carries limit top (Is limit top phase.Before) (Body limit top x) (Follows limit top (phase.AfterValue (concluding.Shows x)))
-      → (t : List Letter) → (Blanks1 ⋅ (Body limit top x ⋅ Shown shown) ⋅ LineEnd) t → Reads conclusion_automaton (conclusion_first limit top) t (showing_value x shown) (conclusion_last limit top)
+      → (t : List Letter) → (Blanks1 ⋅ (Body limit top x ⋅ LiteralsShown shown) ⋅ LineEnd) t → ReadsStatement conclusion_automaton (conclusion_first limit top) t (showing_value x shown) (conclusion_last limit top)
   showing_reads x None f t h =
       ends_line (concluding.Shows x) (Blanks1 ⋅ Body limit top x)
       (carries_then limit top (Is limit top phase.Start) (Is limit top phase.Before) (Follows limit top (phase.AfterValue (concluding.Shows x))) Blanks1 (Body limit top x) start_carries f) t
@@ -106,7 +106,7 @@ module _ (limit top : ℕ) where
       let (a, b, e, k, (c, d, g, i, j)) = shown_parts x ls t h in
       let (mid, w, m) = start_carries (conclusion_first limit top) a refl k in
       let (new, v, o) = f mid c m i in
-      subst (λ y. Reads conclusion_automaton (conclusion_first limit top) y (showing_value x (Some ls)) (conclusion_last limit top)) (sym (e ∙ ap (λ y. a ++ y) g))
+      subst (λ y. ReadsStatement conclusion_automaton (conclusion_first limit top) y (showing_value x (Some ls)) (conclusion_last limit top)) (sym (e ∙ ap (λ y. a ++ y) g))
       (reads_after conclusion_automaton a (c ++ d) (conclusion_first limit top) mid (conclusion_last limit top) (showing_value x (Some ls)) w
       (reads_after conclusion_automaton c d mid new (conclusion_last limit top) (showing_value x (Some ls)) v (some_shown x ls new o d j)))
 
@@ -230,7 +230,7 @@ module _ (limit top : ℕ) where
 
   -- a conclusion without literals, after the first blanks
   plain_reads : (c : Concluding) (P : Language) → Carries limit top (Is limit top phase.Before) P (Follows limit top (phase.AfterValue c))
-      → (t : List Letter) → (Blanks1 ⋅ P ⋅ LineEnd) t → Reads conclusion_automaton (conclusion_first limit top) t (conclusion_value c) (conclusion_last limit top)
+      → (t : List Letter) → (Blanks1 ⋅ P ⋅ LineEnd) t → ReadsStatement conclusion_automaton (conclusion_first limit top) t (conclusion_value c) (conclusion_last limit top)
   plain_reads c P f =
       ends_line c (Blanks1 ⋅ P) (carries_then limit top (Is limit top phase.Start) (Is limit top phase.Before) (Follows limit top (phase.AfterValue c)) Blanks1 P start_carries f)
 
@@ -239,7 +239,7 @@ module _ (limit top : ℕ) where
       carries_to (Is limit top phase.Before) (Is limit top (phase_after_word w)) (Follows limit top (phase.AfterValue c)) (Bytes (word_of w))
       (λ s i. is_follows (phase.AfterValue c) s (i ∙ ap (λ q. here q) e)) (word_carries w)
 
-  pub conclusion_each : (c : Conclusion) (t : List Letter) → SpellsConclusionLine limit top c t → Reads conclusion_automaton (conclusion_first limit top) t c (conclusion_last limit top)
+  pub conclusion_each : (c : Conclusion) (t : List Letter) → SpellsConclusionLine limit top c t → ReadsStatement conclusion_automaton (conclusion_first limit top) t c (conclusion_last limit top)
   conclusion_each NoClaim t h = plain_reads concluding.NoClaim (Bytes none_word) (word_follows word.TheVariants.NoClaim concluding.NoClaim refl) t h
   conclusion_each (Unsat id) t h = plain_reads (concluding.Unsat id) (Bytes unsat_word ⋅ IdShown limit top id) (unsat_carries id) t h
   conclusion_each (Sat shown) t h = showing_reads showing.Sat shown (word_follows word.TheVariants.Sat (concluding.Shows showing.Sat) refl) t h

@@ -2,7 +2,7 @@
 use Rattle.std.proofs.Common.{◌≡◌, ℕ, ◌+◌, ◌-◌, ◌*◌, ◌<◌, ◌≤◌, Bool, true, false, ◌&&◌, List, [], ◌∷◌, ◌++◌, length, take, refl, sym, ap, subst, inl, inr, ◌∙◌}
 use Rattle.std.proofs.lemmas.Bool.{eqb-true, cond_both, and_parts}
 use Rattle.std.specs.Prelude.{ℤ, Some, None, nat_eq, nat_le, slice_index}
-use Rattle.pb_text.specs.contract.Automaton.{Next, Go, End, Refuse, Reads}
+use Rattle.pb_text.specs.contract.Automaton.{Next, Go, End, Refuse, ReadsStatement}
 use Rattle.pb_text.specs.meaning.Classes.{is_blank, is_digit}
 use Rattle.pb_text.specs.meaning.Languages.{unmarked, digit, Language, ◌⋅◌, Empty, Byte, Bytes, Blanks0, Blanks1}
 use Rattle.pb_text.specs.meaning.Numbers.{Digits, Sign, signed}
@@ -13,7 +13,7 @@ use Rattle.pb_text.proofs.lemmas.machine.Walking.{Walks, walks_more, ends_walk, 
 use Rattle.pb_text.proofs.lemmas.text.Letters.{as_unmarked, some_digit, word_grown, word_whole}
 use Rattle.pb_sums.specs.declared.Literal.{Literal}
 use Rattle.pb_proof.specs.meaning.Lines.{unsat_word, bounds_word, inf_word, Minus, SpellsId, SpellsBound, IdShown, SpellsConclusionLine}
-use Rattle.pb_proof.specs.engine.Line.Conclusion.{word_of, phase_after_word, phase_after_bound, spell, first_word, digits, begin_bound, colon, next_action, between, after_bound, id_digits, after_id, plan, PhaseFits}
+use Rattle.pb_proof.specs.engine.Line.Conclusion.{word_of, phase_after_word, phase_after_bound, spell, first_word, digits, begin_bound, colon, next_action, between, after_bound, id_digits, after_id, transition, PhaseFits}
 use Rattle.pb_proof.specs.engine.Line.ConclusionState.{ConclusionState, conclusion_automaton, conclusion_first, conclusion_at, giving, act, over, is_in_number}
 use Rattle.pb_proof.specs.engine.Line.Literals.{LiteralsState, literals_automaton, literals_first, SpellsJoined}
 use Rattle.pb_proof.specs.declared.conclusion.Bound.{Bound}
@@ -33,7 +33,7 @@ use Rattle.pb_proof.specs.declared.line.conclusion.phase.Phase.{Phase}
 use Rattle.pb_proof.specs.declared.line.conclusion.phase.Phase.TheVariants as phase
 use Rattle.pb_proof.specs.declared.line.conclusion.phase.Action.{Action}
 use Rattle.pb_proof.specs.declared.line.conclusion.phase.Action.TheVariants.{To}
-use Rattle.pb_proof.proofs.lemmas.Conclusion.Steps.{goes}
+use Rattle.pb_proof.proofs.lemmas.Conclusion.Steps.{continues}
 use Rattle.pb_proof.proofs.lemmas.Conclusion.Texts.{ConclusionRead, LowerRead, Lead, IdLead, Colon, BeforeIdRead, id_shown, bounds_body, conclusion_line, showing_line}
 use Rattle.pb_proof.proofs.lemmas.Line.Ends.{Gapped, Closing, blank_more, blank_closing, semicolon_after_blanks, line_after_blanks, line_closing, gapped, gapped_some, first_blank, further_blank, blanks_begin, blanks_go_on}
 use Rattle.pb_proof.proofs.lemmas.Literals.Theorems.{literals_reads, literals_of_one}
@@ -150,7 +150,7 @@ module _ (s : ConclusionState) (l : Letter) (p : List Letter) where
       cond_both (nat_eq l.byte 59) _ _ After (λ e u n. semicolon_after_blanks (ConclusionOf c) l p (eqb-true l.byte 59 e) n h) (λ _.
       cond_both (nat_eq l.byte 58) _ _ After (λ e. in_colon c e h) (λ _. tt))))
 
-  in_semicolon : (c : Concluding) → Closing (ConclusionOf c) p → After (plan s.limit s.top (phase.Semicolon c) l.byte)
+  in_semicolon : (c : Concluding) → Closing (ConclusionOf c) p → After (transition s.limit s.top (phase.Semicolon c) l.byte)
   in_semicolon c h =
       cond_both (is_blank l.byte) _ _ After (λ e u n. blank_closing (ConclusionOf c) l p e n h) (λ _.
       cond_both (nat_eq l.byte 10) _ _ After (λ e n. conclusion_line s.limit s.top c (p ++ l ∷ []) (line_closing (ConclusionOf c) l p (eqb-true l.byte 10 e) n h)) (λ _. tt))
@@ -200,7 +200,7 @@ module _ (s : ConclusionState) (l : Letter) (p : List Letter) where
       after_it P (Sign negative ⋅ Digits n) (SpellsBound s.limit (Finite (signed negative n))) p (λ q r. (negative, n, i, refl, r)) (regroup P (Sign negative) (Digits n) p h)
 
   in_number : (x : Side) (negative : Bool) (n : ℕ) → n ≤ s.limit → (LeadOf x ⋅ Blanks1 ⋅ Sign negative ⋅ Digits n) p
-      → After (plan s.limit s.top (phase.Digits x negative n) l.byte)
+      → After (transition s.limit s.top (phase.Digits x negative n) l.byte)
   in_number x negative n i h =
       cond_both (is_digit l.byte) _ _ After (λ _. next_digit x negative n h) (λ _. in_after_bound x (Finite (signed negative n)) (number_of (LeadOf x ⋅ Blanks1) negative n i h))
 
@@ -212,7 +212,7 @@ module _ (s : ConclusionState) (l : Letter) (p : List Letter) where
       (λ r. gapped (ConclusionOf (concluding.Shows (showing.Bounds x id Infinite))) (p ++ l ∷ []) (bounds_body s.limit s.top x id Infinite (p ++ l ∷ []) r)) i h
 
   -- blanks after the lower bound
-  in_spaced : (x : Bound) → (Lower x ⋅ Blanks1) p → After (plan s.limit s.top (phase.Spaced x) l.byte)
+  in_spaced : (x : Bound) → (Lower x ⋅ Blanks1) p → After (transition s.limit s.top (phase.Spaced x) l.byte)
   in_spaced x h =
       cond_both (is_blank l.byte) _ _ After (λ e u n. blanks_go_on (Lower x) l p e n h) (λ _.
       cond_both (nat_eq l.byte 58) _ _ After
@@ -231,7 +231,7 @@ module _ (s : ConclusionState) (l : Letter) (p : List Letter) where
   first_id_digit : (x : Owner) (negative : Bool) → (IdRead x ⋅ Minus negative) p → After (id_digits s.top x negative 0 l.byte)
   first_id_digit x negative h = in_id_digits x negative 0 (λ d i. next (IdRead x ⋅ Minus negative) (Digits (Value 0)) p l h (digits-one (l.byte - 48) l d i))
 
-  before_id : (x : Owner) → IdRead x p → After (plan s.limit s.top (phase.BeforeId x) l.byte)
+  before_id : (x : Owner) → IdRead x p → After (transition s.limit s.top (phase.BeforeId x) l.byte)
   before_id x h =
       cond_both (is_blank l.byte) _ _ After
       (λ e u n. blank_more (Colon s.limit s.top (IdLead s.limit s.top x)) l p e n h) (λ _.
@@ -251,7 +251,7 @@ module _ (s : ConclusionState) (l : Letter) (p : List Letter) where
   in_after_id (owner.Lower x) id h = cond_both (is_blank l.byte) _ _ After (λ e u n. blanks_begin (LeadOf (side.Upper x (Some id))) l p e n h) (λ _. tt)
 
   in_id : (x : Owner) (negative : Bool) (n : ℕ) → n ≤ s.top → (IdRead x ⋅ Minus negative ⋅ Digits n) p
-      → After (plan s.limit s.top (phase.IdDigits x negative n) l.byte)
+      → After (transition s.limit s.top (phase.IdDigits x negative n) l.byte)
   in_id x negative n i h =
       cond_both (is_digit l.byte) _ _ After
       (λ _. in_id_digits x negative n (λ d j. grown (IdRead x ⋅ Minus negative) (Digits n) (Digits (Value n)) p l (digits-grown n (l.byte - 48) l d j) h)) (λ _.
@@ -271,7 +271,7 @@ module _ (s : ConclusionState) (l : Letter) (p : List Letter) where
       (λ q r. ((literals_reads true (q ++ l ∷ []) ls inner).0 (ends_walk literals_automaton q l (literals_first true) s.literals inner ls r e n)).0) h)
   in_shown x at h Refuse e = tt
 
-  sound : (q : Phase) → s.phase ≡ q → PhaseFits s.limit s.top q → prefix s.limit s.top s.literals q p → After (plan s.limit s.top q l.byte)
+  sound : (q : Phase) → s.phase ≡ q → PhaseFits s.limit s.top q → prefix s.limit s.top s.literals q p → After (transition s.limit s.top q l.byte)
   sound phase.Start at f h =
       cond_both (is_blank l.byte) _ _ After (λ e u n. first_blank l p e n h) (λ _. tt)
   sound phase.Before at f h =
@@ -298,13 +298,13 @@ Known s = λ p. PhaseFits s.limit s.top s.phase × Prefix s p
 
 known : (s : ConclusionState) (l : Letter) (p : List Letter) → PhaseFits s.limit s.top s.phase → (n : Next ConclusionState Conclusion) → conclusion_automaton.step s l.byte ≡ n
     → On conclusion_automaton Prefix Reported n l p → On conclusion_automaton Known Reported n l p
-known s l p h (Go next) e f = λ b n. ((goes s next l.byte e).fits h, f b n)
+known s l p h (Go next) e f = λ b n. ((continues s next l.byte e).fits h, f b n)
 known s l p h (End c next) e f = f
 known s l p h Refuse e f = tt
 
 pub keeps : Keeps conclusion_automaton Known Reported
 keeps s l p f = known s l (p ++ l ∷ []) f.0 (conclusion_automaton.step s l.byte) refl (sound s l p s.phase refl f.0 f.1)
 
-pub conclusion_reported : (limit top : ℕ) (t : List Letter) (e : Conclusion) (after : ConclusionState) → Reads conclusion_automaton (conclusion_first limit top) t e after → SpellsConclusionLine after.limit after.top e t
+pub conclusion_reported : (limit top : ℕ) (t : List Letter) (e : Conclusion) (after : ConclusionState) → ReadsStatement conclusion_automaton (conclusion_first limit top) t e after → SpellsConclusionLine after.limit after.top e t
 conclusion_reported limit top t e after r =
     reported conclusion_automaton Known Reported keeps t (conclusion_first limit top) [] e after r (tt, refl)

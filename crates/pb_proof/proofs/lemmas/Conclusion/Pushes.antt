@@ -8,23 +8,23 @@ use Rattle.pb_text.specs.declared.limits.Limits.{Limits}
 use Rattle.pb_text.proofs.lemmas.machine.Residual.{refuses}
 use Rattle.pb_text.proofs.lemmas.machine.Outcomes.{go_or_refuse, end_or_refuse}
 use Rattle.pb_sums.specs.declared.Literal.{Literal}
-use Rattle.pb_proof.specs.engine.Line.Conclusion.{plan}
+use Rattle.pb_proof.specs.engine.Line.Conclusion.{transition}
 use Rattle.pb_proof.specs.engine.Line.ConclusionState.{ConclusionState, conclusion_automaton, conclusion_first, giving, act, over, asks, is_in_number, IsConclusionInOrder}
 use Rattle.pb_proof.specs.engine.Line.Literals.{LiteralsState, literals_automaton}
 use Rattle.pb_proof.specs.declared.line.conclusion.phase.Showing.{Showing}
 use Rattle.pb_proof.specs.declared.line.conclusion.phase.Phase.TheVariants as phase
 use Rattle.pb_proof.specs.declared.line.conclusion.phase.Action.{Action}
 use Rattle.pb_proof.specs.declared.line.conclusion.phase.Action.TheVariants.{Give}
-use Rattle.pb_proof.proofs.lemmas.Conclusion.Steps.{goes, give_phase, idle_order}
+use Rattle.pb_proof.proofs.lemmas.Conclusion.Steps.{continues, give_phase, idle_order}
 use Rattle.pb_proof.proofs.lemmas.Conclusion.Theorems.{conclusion_of_one}
 use Rattle.pb_text.proofs.lemmas.machine.OneText.{admits}
 
-module _ (s : ConclusionState) (h : IsConclusionInOrder s) (b : ℕ) (x : Showing) (planned : plan s.limit s.top s.phase b ≡ Give x) where
+module _ (s : ConclusionState) (h : IsConclusionInOrder s) (b : ℕ) (x : Showing) (planned : transition s.limit s.top s.phase b ≡ Give x) where
   given : (n : Next LiteralsState (List Literal)) → literals_automaton.step s.literals b ≡ n → conclusion_automaton.step s b ≡ over s x n
   given n e = ap (act s b) planned ∙ ap (over s x) e
 
   pub give_order : (inner : LiteralsState) → literals_automaton.step s.literals b ≡ Go inner → IsConclusionInOrder (giving s inner)
-  give_order inner e = (goes s (giving s inner) b (given (Go inner) e)).keeps h
+  give_order inner e = (continues s (giving s inner) b (given (Go inner) e)).keeps h
 
   pub give_refused : literals_automaton.step s.literals b ≡ Refuse → (conclusion_automaton.step s b ≡ Refuse) × (is_large conclusion_automaton s b ≡ false)
   give_refused e = (given Refuse e, ap (λ q. is_in_number s q && is_digit b) (give_phase s b x planned))

@@ -8,7 +8,7 @@ use Rattle.pb_text.specs.meaning.Numbers.{signed}
 use Rattle.pb_text.proofs.lemmas.text.Letters.{further}
 use Rattle.pb_sums.specs.declared.Literal.{Literal}
 use Rattle.pb_proof.specs.meaning.Lines.{inf_word}
-use Rattle.pb_proof.specs.engine.Line.Conclusion.{word_of, phase_after_word, phase_after_bound, spell, first_word, digits, begin_bound, colon, next_action, between, after_bound, id_digits, after_id, plan, is_within, is_done, PhaseFits}
+use Rattle.pb_proof.specs.engine.Line.Conclusion.{word_of, phase_after_word, phase_after_bound, spell, first_word, digits, begin_bound, colon, next_action, between, after_bound, id_digits, after_id, transition, is_within, is_done, PhaseFits}
 use Rattle.pb_proof.specs.engine.Line.ConclusionState.{ConclusionState, conclusion_automaton, conclusion_at, conclusion_last, giving, act, over, is_in_number, spent, Holds, IsConclusionInOrder}
 use Rattle.pb_proof.specs.engine.Line.Literals.{LiteralsState, literals_automaton}
 use Rattle.pb_proof.specs.declared.conclusion.Bound.{Bound}
@@ -117,7 +117,7 @@ module _ (s : ConclusionState) where
   next_bound side.Lower k = (refl, λ f. tt)
   next_bound (side.Upper lower id) k = (refl, λ f. tt)
 
-  pub on_plan : (p : Phase) (b : ℕ) → OnAction s p (plan s.limit s.top p b)
+  pub on_plan : (p : Phase) (b : ℕ) → OnAction s p (transition s.limit s.top p b)
   on_plan phase.Start b = on_cond s phase.Start (is_blank b) (To phase.Before) Stop (refl, λ f. tt) tt
   on_plan phase.Before b = on_cond s phase.Before (is_blank b) (To phase.Before) _ (refl, λ f. tt) (on_first s phase.Before b)
   on_plan (phase.Word w k) b =
@@ -153,7 +153,7 @@ module _ (s : ConclusionState) where
   on_plan phase.Done b = tt
 
 -- what holds after a byte
-pub record Goes (s next : ConclusionState) : Type 0 where
+pub record Continues (s next : ConclusionState) : Type 0 where
   pub fits : PhaseFits s.limit s.top s.phase → PhaseFits next.limit next.top next.phase
   pub within : conclusion_automaton.begun next ≡ true
   pub limits : conclusion_last next.limit next.top ≡ conclusion_last s.limit s.top
@@ -161,7 +161,7 @@ pub record Goes (s next : ConclusionState) : Type 0 where
   pub grows : conclusion_automaton.spent next ≤ conclusion_automaton.spent s + 1
 
 abbrev Stepped : ConclusionState → N → Type 0
-Stepped s (Go next) = Goes s next
+Stepped s (Go next) = Continues s next
 Stepped s (End e next) = next ≡ conclusion_last s.limit s.top
 Stepped s Refuse = Unit {0}
 
@@ -241,10 +241,10 @@ acted s b (Give shows) h = given s shows h b (literals_automaton.step s.literals
 acted s b Stop h = tt
 
 pub stepped : (s : ConclusionState) (b : ℕ) → Stepped s (conclusion_automaton.step s b)
-stepped s b = acted s b (plan s.limit s.top s.phase b) (on_plan s s.phase b)
+stepped s b = acted s b (transition s.limit s.top s.phase b) (on_plan s s.phase b)
 
-pub goes : (s next : ConclusionState) (b : ℕ) → conclusion_automaton.step s b ≡ Go next → Goes s next
-goes s next b e = subst (Stepped s) e (stepped s b)
+pub continues : (s next : ConclusionState) (b : ℕ) → conclusion_automaton.step s b ≡ Go next → Continues s next
+continues s next b e = subst (Stepped s) e (stepped s b)
 
 pub ends : (s next : ConclusionState) (b : ℕ) (c : Conclusion) → conclusion_automaton.step s b ≡ End c next → next ≡ conclusion_last s.limit s.top
 ends s next b c e = subst (Stepped s) e (stepped s b)
@@ -255,7 +255,7 @@ not_done phase.Start h = absurd (false≢true h)
 not_done phase.Done h = absurd (false≢true h)
 not_done _ h = refl
 
-pub done_stops : (limit top : ℕ) (p : Phase) (b : ℕ) → is_done p ≡ true → plan limit top p b ≡ Stop
+pub done_stops : (limit top : ℕ) (p : Phase) (b : ℕ) → is_done p ≡ true → transition limit top p b ≡ Stop
 done_stops limit top phase.Done b h = refl
 done_stops limit top _ b h = absurd (false≢true h)
 
@@ -270,5 +270,5 @@ nothing_spent s phase.Done h = refl
 nothing_spent s _ h = absurd (false≢true (sym h))
 
 -- bytes are given to the literals machine only where literals are shown
-pub give_phase : (s : ConclusionState) (b : ℕ) (x : Showing) → plan s.limit s.top s.phase b ≡ Give x → s.phase ≡ phase.Shown x
+pub give_phase : (s : ConclusionState) (b : ℕ) (x : Showing) → transition s.limit s.top s.phase b ≡ Give x → s.phase ≡ phase.Shown x
 give_phase s b x e = subst (OnAction s s.phase) e (on_plan s s.phase b)

@@ -2,7 +2,7 @@
 use Rattle.std.proofs.Common.{◌≡◌, ℕ, zero, suc, ◌<◌, ◌≤◌, Bool, true, false, List, [], ◌∷◌, ◌++◌, drop, refl, inl, inr, ◌⊎◌, sym, ap, subst, arith, ◌↔◌}
 use Rattle.std.proofs.lemmas.Bool.{false≢true}
 use Rattle.std.specs.Prelude.{ℤ, Option, Some, None}
-use Rattle.pb_text.specs.contract.Automaton.{Go, Reads, IsState}
+use Rattle.pb_text.specs.contract.Automaton.{Go, ReadsStatement, IsState}
 use Rattle.pb_text.specs.meaning.Languages.{unmarked}
 use Rattle.pb_text.specs.meaning.Numbers.{signed}
 use Rattle.pb_text.specs.meaning.Spelling.{Letter, plain}
@@ -29,7 +29,7 @@ use Rattle.pb_proof.specs.declared.line.conclusion.phase.Phase.TheVariants as ph
 use Rattle.pb_proof.proofs.lemmas.Conclusion.Each.{conclusion_each, shown_at, shown_reads}
 use Rattle.pb_proof.proofs.lemmas.Conclusion.Prefix.{conclusion_reported}
 use Rattle.pb_proof.proofs.lemmas.Conclusion.Parts.{before_opens, spaced_opens, infinity_leads, infinity_left, signed_step, id_step, first_id_step, signed_id_step}
-use Rattle.pb_proof.proofs.lemmas.Conclusion.Steps.{goes, ends, not_done, done_stops, no_number, nothing_spent}
+use Rattle.pb_proof.proofs.lemmas.Conclusion.Steps.{continues, ends, not_done, done_stops, no_number, nothing_spent}
 use Rattle.pb_proof.proofs.lemmas.Conclusion.Walk.{at, word_left, word_leads, id_steps}
 use Rattle.pb_proof.proofs.lemmas.Literals.Theorems.{literals_of_one}
 use Rattle.pb_text.proofs.lemmas.machine.OneText.{IsOfOne, reads_last, is_state}
@@ -163,31 +163,31 @@ bounded s phase.Done = omega arith
 
 pub conclusion_of_one : IsOfOne conclusion_automaton IsConclusionInOrder last
 conclusion_of_one = record {
-  keeps = λ s next b h e. (goes s next b e).keeps h;
-  begins = λ s next b e. (goes s next b e).within;
+  keeps = λ s next b h e. (continues s next b e).keeps h;
+  begins = λ s next b e. (continues s next b e).within;
   owes = λ s h. not_done s.phase h;
-  leads = λ s next b e. (goes s next b e).limits;
+  leads = λ s next b e. (continues s next b e).limits;
   ends = λ s next b c e. ends s next b c e;
   done = λ s. refl;
   stops = λ s d b. ap (act s b) (done_stops s.limit s.top s.phase b d);
   goes_on = goes_on;
   plain = λ s h. no_number s s.phase h;
-  grows = λ s next b e. (goes s next b e).grows;
+  grows = λ s next b e. (continues s next b e).grows;
   bounds = λ s. bounded s s.phase;
 }
 
 -- After the line the machine has ended.
-pub conclusion_ends : (s after : ConclusionState) (text : List Letter) (e : Conclusion) → Reads conclusion_automaton s text e after → after ≡ conclusion_last s.limit s.top
+pub conclusion_ends : (s after : ConclusionState) (text : List Letter) (e : Conclusion) → ReadsStatement conclusion_automaton s text e after → after ≡ conclusion_last s.limit s.top
 conclusion_ends s after text e r =
     reads_last conclusion_automaton IsConclusionInOrder last conclusion_of_one text s e after r
 
 -- A new machine reads exactly the conclusions.
 pub conclusion_reads : (limit top : ℕ) (text : List Letter) (e : Conclusion) (after : ConclusionState) →
-    Reads conclusion_automaton (conclusion_first limit top) text e after ↔ (SpellsConclusionLine limit top e text × (after ≡ conclusion_last limit top))
+    ReadsStatement conclusion_automaton (conclusion_first limit top) text e after ↔ (SpellsConclusionLine limit top e text × (after ≡ conclusion_last limit top))
 conclusion_reads limit top text e after = (
   (λ r. let i : after ≡ conclusion_last limit top = conclusion_ends (conclusion_first limit top) after text e r in
       (subst (λ x. SpellsConclusionLine x.limit x.top e text) i (conclusion_reported limit top text e after r), i)),
-  (λ h. subst (λ x. Reads conclusion_automaton (conclusion_first limit top) text e x) (sym h.1) (conclusion_each limit top e text h.0)),
+  (λ h. subst (λ x. ReadsStatement conclusion_automaton (conclusion_first limit top) text e x) (sym h.1) (conclusion_each limit top e text h.0)),
 )
 
 pub conclusion_is_state : (s : ConclusionState) → IsConclusionInOrder s → IsState conclusion_automaton s

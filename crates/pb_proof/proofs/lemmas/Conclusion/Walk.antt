@@ -12,7 +12,7 @@ use Rattle.pb_text.specs.meaning.Numbers.{signed}
 use Rattle.pb_text.specs.meaning.Spelling.{Letter, plain}
 use Rattle.pb_text.proofs.lemmas.machine.Walking.{Walks, Leads, walks_then}
 use Rattle.pb_text.proofs.lemmas.text.ByteTests.{blank_digit}
-use Rattle.pb_proof.specs.engine.Line.Conclusion.{word_of, phase_after_word, phase_after_bound, spell, digits, colon, next_action, between, after_bound, after_id, plan, is_within}
+use Rattle.pb_proof.specs.engine.Line.Conclusion.{word_of, phase_after_word, phase_after_bound, spell, digits, colon, next_action, between, after_bound, after_id, transition, is_within}
 use Rattle.pb_proof.specs.engine.Line.ConclusionState.{ConclusionState, conclusion_automaton, conclusion_at, conclusion_last, conclusion_value, act}
 use Rattle.pb_proof.specs.declared.conclusion.Bound.{Bound}
 use Rattle.pb_proof.specs.declared.conclusion.Bound.TheVariants.{Finite}
@@ -58,7 +58,7 @@ module _ (limit top : ℕ) where
 
   -- words
   pub record Spelled (w : List ℕ) (more : ℕ → Phase) (whole : Phase) : Type 0 where
-    pub planned : (k b : ℕ) → plan limit top (more k) b ≡ spell w k b (more (k + 1)) whole
+    pub planned : (k b : ℕ) → transition limit top (more k) b ≡ spell w k b (more (k + 1)) whole
     pub within : (k : ℕ) → is_within (more k) ≡ true
     pub number : (k : ℕ) → conclusion_automaton.in_number (at (more k)) ≡ false
     pub within_whole : is_within whole ≡ true
@@ -166,7 +166,7 @@ module _ (limit top : ℕ) where
   pub may_end : (c : Concluding) (s : ConclusionState) → Follows (phase.AfterValue c) s → MayEnd conclusion_automaton s (at (phase.AfterValue c)) (at (phase.Semicolon c)) (conclusion_value c) (conclusion_last limit top)
   may_end c s f = record {
     feeds = record { blanks = follows_blanks (phase.AfterValue c) (phase.AfterValue c) s (after_blanks_of c) f; ends = f 10 refl; ends_gap = refl };
-    closes = f 59 refl;
+    finishes = f 59 refl;
     closes_gap = refl;
     begun = refl;
     plain = refl;

@@ -2,14 +2,14 @@
 use Rattle.std.proofs.Common.{◌≡◌, ℕ, ◌+◌, ◌*◌, ◌<◌, ◌≤◌, List, refl, sym, ap, subst, arith, ◌∙◌}
 use Rattle.std.proofs.lemmas.Bool.{le-leb}
 use Rattle.std.specs.Prelude.{IsTrue, Option, Some, None}
-use Rattle.pb_text.specs.contract.Automaton.{Go, Reads}
+use Rattle.pb_text.specs.contract.Automaton.{Go, ReadsStatement}
 use Rattle.pb_text.specs.meaning.Classes.{is_blank}
 use Rattle.pb_text.specs.meaning.Languages.{Blanks1}
 use Rattle.pb_text.specs.meaning.Numbers.{Count}
 use Rattle.pb_text.specs.meaning.Spelling.{Letter}
 use Rattle.pb_text.proofs.lemmas.machine.Walking.{Leads, leads_then, reads_after}
 use Rattle.pb_proof.specs.meaning.Lines.{SpellsCount}
-use Rattle.pb_proof.specs.engine.Line.Count.{at, count_automaton, counting, count_last, act, plan, digits}
+use Rattle.pb_proof.specs.engine.Line.Count.{at, count_automaton, counting, count_last, act, transition, digits}
 use Rattle.pb_proof.specs.declared.line.byte_kind.NumberByte.TheVariants.{Blank, Digit}
 use Rattle.pb_proof.specs.declared.line.formula.phase.CountPhase.{CountPhase}
 use Rattle.pb_proof.specs.declared.line.formula.phase.CountPhase.TheVariants.{Start, Gap, Digits, Tail, Closing}
@@ -18,11 +18,11 @@ use Rattle.pb_proof.proofs.lemmas.Line.ByteKinds.{number_blank, number_digit}
 use Rattle.pb_proof.proofs.lemmas.Line.Ends.{TakesBlanks, Feeds, MayEnd, blanks1_lead, line_reads}
 
 module _ (limit top : ℕ) where
-  by_blank : (ph : CountPhase) (b : ℕ) → IsTrue (is_blank b) → count_automaton.step (at top ph) b ≡ act top (plan top ph Blank)
-  by_blank ph b h = ap (λ k. act top (plan top ph k)) (number_blank b h)
+  by_blank : (ph : CountPhase) (b : ℕ) → IsTrue (is_blank b) → count_automaton.step (at top ph) b ≡ act top (transition top ph Blank)
+  by_blank ph b h = ap (λ k. act top (transition top ph k)) (number_blank b h)
 
-  by_digit : (ph : CountPhase) (d : ℕ) → d < 10 → count_automaton.step (at top ph) (48 + d) ≡ act top (plan top ph (Digit d))
-  by_digit ph d h = ap (λ k. act top (plan top ph k)) (number_digit d h)
+  by_digit : (ph : CountPhase) (d : ℕ) → d < 10 → count_automaton.step (at top ph) (48 + d) ≡ act top (transition top ph (Digit d))
+  by_digit ph d h = ap (λ k. act top (transition top ph k)) (number_digit d h)
 
   digit_fits : (n d v : ℕ) → 10 * n + d ≡ v → v ≤ top → act top (digits top n d) ≡ Go (at top (Digits v))
   digit_fits n d v e l = rw (e, le-leb v top l) refl
@@ -47,7 +47,7 @@ module _ (limit top : ℕ) where
   none_ends : MayEnd count_automaton (counting top) (at top Gap) (at top (Closing None)) None (count_last top)
   none_ends = record {
     feeds = record { blanks = in_gap; ends = refl; ends_gap = refl };
-    closes = refl;
+    finishes = refl;
     closes_gap = refl;
     begun = refl;
     plain = refl;
@@ -61,7 +61,7 @@ module _ (limit top : ℕ) where
       ends = refl;
       ends_gap = refl;
     };
-    closes = refl;
+    finishes = refl;
     closes_gap = refl;
     begun = refl;
     plain = refl;
@@ -73,10 +73,10 @@ module _ (limit top : ℕ) where
       digits_lead count_automaton (λ n. at top (Digits n)) top takes_digits (at top Gap)
       (λ d i l. by_digit Gap d i ∙ digit_fits 0 d d (omega arith) l) n h.0 t h.1
 
-  pub reads_each : (count : Option ℕ) (t : List Letter) → SpellsCount limit top count t → Reads count_automaton (counting top) t count (count_last top)
+  pub reads_each : (count : Option ℕ) (t : List Letter) → SpellsCount limit top count t → ReadsStatement count_automaton (counting top) t count (count_last top)
   reads_each None t h = line_reads count_automaton (counting top) (at top Gap) (at top (Closing None)) (count_last top) None none_ends t h
   reads_each (Some n) t (a, b, e, h, k) =
-      subst (λ x. Reads count_automaton (counting top) x (Some n) (count_last top)) (sym e)
+      subst (λ x. ReadsStatement count_automaton (counting top) x (Some n) (count_last top)) (sym e)
       (reads_after count_automaton a b (counting top) (at top (Digits n)) (count_last top) (Some n)
       (leads_then count_automaton Blanks1 (Count top n) (counting top) (at top Gap) (at top (Digits n))
       (blanks1_lead count_automaton (counting top) (at top Gap) in_gap) (count_leads n) a h)

@@ -12,7 +12,7 @@ use Rattle.pb_text.specs.meaning.Spelling.{Letter}
 use Rattle.pb_text.proofs.lemmas.machine.Walking.{On, Keeps}
 use Rattle.pb_text.proofs.lemmas.text.Letters.{as_digit}
 use Rattle.pb_proof.specs.meaning.Lines.{LineEnd, SpellsCount}
-use Rattle.pb_proof.specs.engine.Line.Count.{CountState, count_automaton, act, plan, digits, next_action, is_in_number}
+use Rattle.pb_proof.specs.engine.Line.Count.{CountState, count_automaton, act, transition, digits, next_action, is_in_number}
 use Rattle.pb_proof.specs.engine.Line.ByteKind.{number_byte}
 use Rattle.pb_proof.specs.declared.line.byte_kind.NumberByte.{NumberByte}
 use Rattle.pb_proof.specs.declared.line.byte_kind.NumberByte.TheVariants.{Blank, Digit, Semicolon, Feed}
@@ -65,7 +65,7 @@ module _ (limit top : ℕ) where
   counted : (n : ℕ) (p : List Letter) → n ≤ top → (Blanks1 ⋅ DigitsOf n) p → body top (Some n) p
   counted n p l h = after_it Blanks1 (DigitsOf n) (Count top n) p (λ q k. (l, k)) h
 
-  sound : (ph : CountPhase) (k : NumberByte) (l : Letter) (p : List Letter) → NumberMeans k l.byte → prefix top ph p → OnNext (act top (plan top ph k)) l (p ++ l ∷ [])
+  sound : (ph : CountPhase) (k : NumberByte) (l : Letter) (p : List Letter) → NumberMeans k l.byte → prefix top ph p → OnNext (act top (transition top ph k)) l (p ++ l ∷ [])
   sound Start k l p m h =
       after_sound None Gap k l p refl m (ends.gapped Empty p h)
       (λ b n. ends.first_blank l p b n h)

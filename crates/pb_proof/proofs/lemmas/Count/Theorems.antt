@@ -2,13 +2,13 @@
 use Rattle.std.proofs.Common.{◌≡◌, ℕ, ◌+◌, ◌*◌, ◌^◌, ◌<◌, true, false, List, [], ◌∷◌, refl, sym, ap, subst, arith, ◌↔◌}
 use Rattle.std.proofs.lemmas.Bool.{leb-true, cond_both}
 use Rattle.std.specs.Prelude.{nat_le, Option, Some, None}
-use Rattle.pb_text.specs.contract.Automaton.{Next, Go, End, Refuse, Reads, IsState}
+use Rattle.pb_text.specs.contract.Automaton.{Next, Go, End, Refuse, ReadsStatement, IsState}
 use Rattle.pb_text.specs.meaning.Languages.{unmarked}
 use Rattle.pb_text.specs.meaning.Spelling.{Letter}
 use Rattle.pb_text.proofs.lemmas.machine.Walking.{reported}
 use Rattle.pb_text.proofs.lemmas.machine.Outcomes.{one_state}
 use Rattle.pb_proof.specs.meaning.Lines.{SpellsCount}
-use Rattle.pb_proof.specs.engine.Line.Count.{CountState, at, count_automaton, counting, count_last, act, plan, digits, next_action, is_midway, is_done, PhaseFits, ActionFits, IsCountInOrder}
+use Rattle.pb_proof.specs.engine.Line.Count.{CountState, at, count_automaton, counting, count_last, act, transition, digits, next_action, is_midway, is_done, PhaseFits, ActionFits, IsCountInOrder}
 use Rattle.pb_proof.specs.engine.Line.ByteKind.{number_byte}
 use Rattle.pb_proof.specs.declared.line.byte_kind.NumberByte.{NumberByte}
 use Rattle.pb_proof.specs.declared.line.byte_kind.NumberByte.TheVariants.{Blank, Digit, Semicolon, Feed}
@@ -24,7 +24,7 @@ use Rattle.pb_text.proofs.lemmas.machine.Living.{ReadsOn}
 abbrev N : Type 0
 N = Next CountState (Option ℕ)
 
--- The phase that `plan` leads to is midway, and a count that is being read is at most top.
+-- The phase that `transition` leads to is midway, and a count that is being read is at most top.
 digits_fit : (top n d : ℕ) → ActionFits top (digits top n d)
 digits_fit top n d = cond_both (nat_le (10 * n + d) top) _ _ (ActionFits top) (λ e. (leb-true (10 * n + d) top e, refl)) (λ _. tt)
 
@@ -33,7 +33,7 @@ after_fits top count gap Blank f h = (f, h)
 after_fits top count gap Semicolon f h = (tt, refl)
 after_fits top count gap _ f h = tt
 
-plan_fits : (top : ℕ) (ph : CountPhase) (k : NumberByte) → ActionFits top (plan top ph k)
+plan_fits : (top : ℕ) (ph : CountPhase) (k : NumberByte) → ActionFits top (transition top ph k)
 plan_fits top Start k = after_fits top None Gap k tt refl
 plan_fits top Gap (Digit d) = digits_fit top 0 d
 plan_fits top Gap k = after_fits top None Gap k tt refl
@@ -56,12 +56,12 @@ acted top (action.TheVariants.To p) next h e =
 acted top (action.TheVariants.End count) next h e = cc
 acted top action.TheVariants.Stop next h e = cc
 
-goes : (s next : CountState) (b : ℕ) → count_automaton.step s b ≡ Go next → Steps s.top next
-goes s next b e = acted s.top (plan s.top s.phase (number_byte b)) next (plan_fits s.top s.phase (number_byte b)) e
+continues : (s next : CountState) (b : ℕ) → count_automaton.step s b ≡ Go next → Steps s.top next
+continues s next b e = acted s.top (transition s.top s.phase (number_byte b)) next (plan_fits s.top s.phase (number_byte b)) e
 
 in_order : (s next : CountState) (b : ℕ) → IsCountInOrder s → count_automaton.step s b ≡ Go next → IsCountInOrder next
 in_order s next b h e =
-    let g : Steps s.top next = goes s next b e in
+    let g : Steps s.top next = continues s next b e in
     (subst (λ x. x < 2 ^ 63) (sym g.same_top) h.0, subst (λ x. PhaseFits x next.phase) (sym g.same_top) g.fits)
 
 ended : (top : ℕ) (m : CountAction) (next : CountState) (count : Option ℕ) → act top m ≡ End count next → next ≡ count_last top
@@ -76,7 +76,7 @@ owes : (ph : CountPhase) → is_midway ph ≡ true → is_done ph ≡ false
 owes Done h = sym h
 owes _ h = refl
 
-stops : (top : ℕ) (ph : CountPhase) (k : NumberByte) → is_done ph ≡ true → act top (plan top ph k) ≡ Refuse
+stops : (top : ℕ) (ph : CountPhase) (k : NumberByte) → is_done ph ≡ true → act top (transition top ph k) ≡ Refuse
 stops top Done k h = refl
 stops top _ k h = cc
 
@@ -96,10 +96,10 @@ some_text top Done h = cc
 pub count_of_one : IsOfOne count_automaton IsCountInOrder last
 count_of_one = record {
   keeps = in_order;
-  begins = λ s next b e. (goes s next b e).midway;
+  begins = λ s next b e. (continues s next b e).midway;
   owes = λ s h. owes s.phase h;
-  leads = λ s next b e. ap count_last (goes s next b e).same_top;
-  ends = λ s next b e i. ended s.top (plan s.top s.phase (number_byte b)) next e i;
+  leads = λ s next b e. ap count_last (continues s next b e).same_top;
+  ends = λ s next b e i. ended s.top (transition s.top s.phase (number_byte b)) next e i;
   done = λ s. refl;
   stops = λ s h b. stops s.top s.phase (number_byte b) h;
   goes_on = λ s g h. some_text s.top s.phase h;
@@ -109,16 +109,16 @@ count_of_one = record {
 }
 
 -- After the line the machine has ended.
-pub count_ends : (s after : CountState) (text : List Letter) (e : Option ℕ) → Reads count_automaton s text e after → after ≡ count_last s.top
+pub count_ends : (s after : CountState) (text : List Letter) (e : Option ℕ) → ReadsStatement count_automaton s text e after → after ≡ count_last s.top
 count_ends s after text e r = reads_last count_automaton IsCountInOrder last count_of_one text s e after r
 
 -- A new machine reads exactly the text after `f`.
 pub count_reads : (limit top : ℕ) (text : List Letter) (e : Option ℕ) (after : CountState) →
-    Reads count_automaton (counting top) text e after ↔ (SpellsCount limit top e text × (after ≡ count_last top))
+    ReadsStatement count_automaton (counting top) text e after ↔ (SpellsCount limit top e text × (after ≡ count_last top))
 count_reads limit top text e after = (
   (λ r. let i : after ≡ count_last top = count_ends (counting top) after text e r in
       (subst (λ x. Whole limit e x text) i (reported count_automaton Prefix (Whole limit) (keeps_prefix limit) text (counting top) [] e after r refl), i)),
-  (λ h. subst (λ x. Reads count_automaton (counting top) text e x) (sym h.1) (reads_each limit top e text h.0)),
+  (λ h. subst (λ x. ReadsStatement count_automaton (counting top) text e x) (sym h.1) (reads_each limit top e text h.0)),
 )
 
 pub count_is_state : (s : CountState) → IsCountInOrder s → IsState count_automaton s

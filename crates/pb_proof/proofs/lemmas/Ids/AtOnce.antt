@@ -6,7 +6,7 @@ use Rattle.pb_text.specs.contract.Automaton.{Go, Runs}
 use Rattle.pb_text.specs.meaning.Classes.{is_digit}
 use Rattle.pb_text.specs.contract.Digits.{value_from}
 use Rattle.pb_text.proofs.lemmas.numbers.DigitValues.{AreDigits, value-grows}
-use Rattle.pb_proof.specs.engine.Line.Ids.{ids_automaton, ids_at, act, plan, digits, begins_id}
+use Rattle.pb_proof.specs.engine.Line.Ids.{ids_automaton, ids_at, act, transition, digits, begins_id}
 use Rattle.pb_proof.specs.declared.line.byte_kind.NumberByte.TheVariants as kind
 use Rattle.pb_proof.specs.declared.line.delete.phase.IdsPhase.{IdsPhase}
 use Rattle.pb_proof.specs.declared.line.delete.phase.IdsPhase.TheVariants.{Gap, Between, Digits}
@@ -17,13 +17,13 @@ use Rattle.pb_proof.proofs.lemmas.Line.ByteKinds.{number_of_digit}
 module _ (top : ℕ) (ids : List ℤ) (l : top < 2 ^ 63) (some : 0 < top) where
   -- what a state does with a digit
   abbrev TakesDigits : IdsPhase → ℕ → Type 0
-  TakesDigits p n = (d : ℕ) → plan top p (kind.Digit d) ≡ digits top false n d
+  TakesDigits p n = (d : ℕ) → transition top p (kind.Digit d) ≡ digits top false n d
 
   digit_on : (p : IdsPhase) (n b : ℕ) → TakesDigits p n → IsTrue (is_digit b) → 10 * n + (b - 48) ≤ top
       → ids_automaton.step (ids_at top ids p) b ≡ Go (ids_at top ids (Digits false (10 * n + (b - 48))))
   digit_on p n b s e h =
       let f : digits top false n (b - 48) ≡ action.To (Digits false (10 * n + (b - 48))) = rw (le-leb (10 * n + (b - 48)) top h) refl in
-      ap (act top ids) (ap (plan top p) (number_of_digit b e) ∙ (s (b - 48) ∙ f))
+      ap (act top ids) (ap (transition top p) (number_of_digit b e) ∙ (s (b - 48) ∙ f))
 
   digits_run : (p : IdsPhase) (n b : ℕ) (text : List ℕ) → TakesDigits p n → AreDigits (b ∷ text) → value_from n (b ∷ text) ≤ top
       → Runs ids_automaton (ids_at top ids p) (b ∷ text) (ids_at top ids (Digits false (value_from n (b ∷ text))))

@@ -2,7 +2,7 @@
 use Rattle.std.proofs.Common.{◌≡◌, ℕ, ◌+◌, ◌*◌, ◌<◌, ◌≤◌, Bool, true, false, cond, List, [], ◌∷◌, ◌++◌, refl, sym, ap, subst, arith, append_assoc, ◌∙◌}
 use Rattle.std.proofs.lemmas.Bool.{le-leb}
 use Rattle.std.specs.Prelude.{IsTrue, ℤ, nat_eq}
-use Rattle.pb_text.specs.contract.Automaton.{Go, End, Reads}
+use Rattle.pb_text.specs.contract.Automaton.{Go, End, ReadsStatement}
 use Rattle.pb_text.specs.meaning.Classes.{is_blank}
 use Rattle.pb_text.specs.meaning.Languages.{◌⋅◌, Blanks1}
 use Rattle.pb_text.specs.meaning.Numbers.{signed, Digits as DigitsOf}
@@ -64,7 +64,7 @@ module _ (limit top : ℕ) where
   may_end : (ids : List ℤ) (s : S) → IsAfter ids s → MayEnd ids_automaton s (at ids Between) (at ids Closing) ids last
   may_end ids s h = record {
     feeds = record { blanks = takes_blanks ids s h; ends = h.feed; ends_gap = refl };
-    closes = h.semicolon;
+    finishes = h.semicolon;
     closes_gap = refl;
     begun = refl;
     plain = refl;
@@ -135,20 +135,20 @@ module _ (limit top : ℕ) where
   one_more ids id s t h k = blank_walks ids id s (at ids Between) t (takes_blanks ids s h) (between_opens ids) k
 
   -- further ids, and the end of the line
-  row_reads : (ids more : List ℤ) (s : S) (t : List Letter) → IsAfter ids s → (Listed (SpellsId top) more ⋅ LineEnd) t → Reads ids_automaton s t (ids ++ more) last
+  row_reads : (ids more : List ℤ) (s : S) (t : List Letter) → IsAfter ids s → (Listed (SpellsId top) more ⋅ LineEnd) t → ReadsStatement ids_automaton s t (ids ++ more) last
   row_reads ids more s t h (a, b, e, i, k) =
       let (mid, w, g) = listed_walks (SpellsId top) ids_automaton IsAfter one_more ids more s a h i in
-      subst (λ x. Reads ids_automaton s x (ids ++ more) last) (sym e)
+      subst (λ x. ReadsStatement ids_automaton s x (ids ++ more) last) (sym e)
       (reads_after ids_automaton a b s mid last (ids ++ more) w
       (line_reads ids_automaton mid (at (ids ++ more) Between) (at (ids ++ more) Closing) last (ids ++ more) (may_end (ids ++ more) mid g) b k))
 
   in_gap : TakesBlanks ids_automaton (ids_first top) (at [] Gap)
   in_gap = record { enters = λ b h. by_blank (ids_first top) b h; stays = λ b h. by_blank (at [] Gap) b h; begun = refl; plain = refl }
 
-  pub reads_each : (ids : List ℤ) (t : List Letter) → SpellsIds limit top ids t → Reads ids_automaton (ids_first top) t ids last
+  pub reads_each : (ids : List ℤ) (t : List Letter) → SpellsIds limit top ids t → ReadsStatement ids_automaton (ids_first top) t ids last
   reads_each [] t h = absurd (omega (arith, h.0))
   reads_each (id ∷ ids) t (z, (abc, d, e, (ab, c, f, h, i), k)) =
       let g : t ≡ ab ++ (c ++ d) = e ∙ (ap (λ x. x ++ d) f ∙ append_assoc ab c d) in
       let (mid, w, j) = blank_walks [] id (ids_first top) (at [] Gap) ab in_gap (gap_opens []) h in
-      subst (λ x. Reads ids_automaton (ids_first top) x (id ∷ ids) last) (sym g)
+      subst (λ x. ReadsStatement ids_automaton (ids_first top) x (id ∷ ids) last) (sym g)
       (reads_after ids_automaton ab (c ++ d) (ids_first top) mid last (id ∷ ids) w (row_reads (id ∷ []) ids mid (c ++ d) j (c, d, refl, i, k)))

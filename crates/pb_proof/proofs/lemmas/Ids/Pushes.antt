@@ -4,7 +4,7 @@ use Rattle.std.specs.Prelude.{IsTrue, ℤ}
 use Rattle.pb_text.specs.contract.Automaton.{Refuse, Admits, IsState}
 use Rattle.pb_text.proofs.lemmas.machine.Outcomes.{go_or_refuse, end_or_refuse}
 use Rattle.pb_text.proofs.lemmas.text.Booleans.{never}
-use Rattle.pb_proof.specs.engine.Line.Ids.{ids_automaton, ids_at, act, plan, keeps, is_midway, PhaseFits, IsIdsInOrder}
+use Rattle.pb_proof.specs.engine.Line.Ids.{ids_automaton, ids_at, act, transition, keeps, is_midway, PhaseFits, IsIdsInOrder}
 use Rattle.pb_proof.specs.engine.Line.ByteKind.{number_byte}
 use Rattle.pb_proof.specs.declared.line.byte_kind.NumberByte.{NumberByte}
 use Rattle.pb_proof.specs.declared.line.delete.phase.IdsPhase.{IdsPhase}
@@ -20,14 +20,14 @@ kept_acts top ids (action.To p) h e = cc
 kept_acts top ids action.End h e = cc
 kept_acts top ids action.Stop h e = cc
 
-pub moved : (top : ℕ) (ids : List ℤ) (p : IdsPhase) (b : ℕ) (k : NumberByte) (m : IdsAction) → k ≡ number_byte b → m ≡ plan top p k → ids_automaton.step (ids_at top ids p) b ≡ act top ids m
-moved top ids p b k m f g = ap (λ x. act top ids x) (ap (λ x. plan top p x) (sym f) ∙ sym g)
+pub moved : (top : ℕ) (ids : List ℤ) (p : IdsPhase) (b : ℕ) (k : NumberByte) (m : IdsAction) → k ≡ number_byte b → m ≡ transition top p k → ids_automaton.step (ids_at top ids p) b ≡ act top ids m
+moved top ids p b k m f g = ap (λ x. act top ids x) (ap (λ x. transition top p x) (sym f) ∙ sym g)
 
 -- a push may allocate at a byte that ends an id, and only if the byte is taken
-pub wants : (top : ℕ) (ids : List ℤ) (p : IdsPhase) (b : ℕ) (k : NumberByte) (m : IdsAction) → IsIdsInOrder (ids_at top ids p) → k ≡ number_byte b → m ≡ plan top p k → keeps m ≡ true
+pub wants : (top : ℕ) (ids : List ℤ) (p : IdsPhase) (b : ℕ) (k : NumberByte) (m : IdsAction) → IsIdsInOrder (ids_at top ids p) → k ≡ number_byte b → m ≡ transition top p k → keeps m ≡ true
     → IsTrue (ids_automaton.asks (ids_at top ids p) b) × Admits ids_automaton (ids_at top ids p) b
 wants top ids p b k m o f g h =
-    let i : plan top p (number_byte b) ≡ m = ap (λ x. plan top p x) (sym f) ∙ sym g in (
+    let i : transition top p (number_byte b) ≡ m = ap (λ x. transition top p x) (sym f) ∙ sym g in (
       ap keeps i ∙ h,
       admits ids_automaton IsIdsInOrder _ ids_of_one (ids_at top ids p) b (act top ids m) o (ap (λ x. act top ids x) i) (kept_acts top ids m h),
     )

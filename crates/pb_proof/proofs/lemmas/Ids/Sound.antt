@@ -12,7 +12,7 @@ use Rattle.pb_text.specs.meaning.Spelling.{Letter}
 use Rattle.pb_text.proofs.lemmas.machine.Walking.{On, Keeps}
 use Rattle.pb_text.proofs.lemmas.text.Letters.{as_unmarked, as_digit}
 use Rattle.pb_proof.specs.meaning.Lines.{Listed, SpellsId, SpellsIds, Minus as Sign}
-use Rattle.pb_proof.specs.engine.Line.Ids.{IdsState, ids_automaton, act, plan, digits, before, next_action}
+use Rattle.pb_proof.specs.engine.Line.Ids.{IdsState, ids_automaton, act, transition, digits, before, next_action}
 use Rattle.pb_proof.specs.engine.Line.ByteKind.{number_byte}
 use Rattle.pb_proof.specs.declared.line.byte_kind.NumberByte.{NumberByte}
 use Rattle.pb_proof.specs.declared.line.byte_kind.NumberByte.TheVariants as kind
@@ -85,7 +85,7 @@ module _ (limit top : ℕ) where
   first_before : (ids : List ℤ) (p : List Letter) → ids ≡ [] → Blanks1 p → Before top ids p
   first_before ids p e h = subst (λ y. Before top y p) (sym e) ([], p, refl, refl, h)
 
-  sound : (ph : IdsPhase) (ids : List ℤ) (k : NumberByte) (l : Letter) (p : List Letter) → NumberMeans k l.byte → prefix top ph ids p → OnNext (act top ids (plan top ph k)) l (p ++ l ∷ [])
+  sound : (ph : IdsPhase) (ids : List ℤ) (k : NumberByte) (l : Letter) (p : List Letter) → NumberMeans k l.byte → prefix top ph ids p → OnNext (act top ids (transition top ph k)) l (p ++ l ∷ [])
   sound Start ids kind.Blank l p m h =
       λ _ n. (h.0, ends.first_blank l p m n h.1)
   sound Gap ids kind.Blank l p m h = λ _ n. (h.0, ends.further_blank l p m n h.1)

@@ -4,7 +4,7 @@ use Rattle.std.proofs.Math.Nat.{min-le_left}
 use Rattle.std.proofs.lemmas.Bool.{leb-true, le-leb, cond_both}
 use Rattle.std.proofs.lemmas.List.{length-append}
 use Rattle.std.specs.Prelude.{ℤ, nat_le, nat_eq}
-use Rattle.pb_text.specs.contract.Automaton.{Next, Go, End, Refuse, Reads, IsState}
+use Rattle.pb_text.specs.contract.Automaton.{Next, Go, End, Refuse, ReadsStatement, IsState}
 use Rattle.pb_text.specs.meaning.Languages.{unmarked, digit}
 use Rattle.pb_text.specs.meaning.Numbers.{signed}
 use Rattle.pb_text.specs.meaning.Spelling.{Letter}
@@ -12,7 +12,7 @@ use Rattle.pb_text.proofs.lemmas.machine.Walking.{reported}
 use Rattle.pb_text.proofs.lemmas.machine.Outcomes.{one_state}
 use Rattle.pb_text.proofs.lemmas.text.Booleans.{never}
 use Rattle.pb_proof.specs.meaning.Lines.{SpellsIds}
-use Rattle.pb_proof.specs.engine.Line.Ids.{IdsState, ids_automaton, ids_at, ids_first, ids_last, act, plan, digits, before, next_action, is_midway, is_done, is_in_number, ActionFits, PhaseFits, IsIdsInOrder}
+use Rattle.pb_proof.specs.engine.Line.Ids.{IdsState, ids_automaton, ids_at, ids_first, ids_last, act, transition, digits, before, next_action, is_midway, is_done, is_in_number, ActionFits, PhaseFits, IsIdsInOrder}
 use Rattle.pb_proof.specs.engine.Line.ByteKind.{number_byte}
 use Rattle.pb_proof.specs.declared.line.byte_kind.NumberByte.{NumberByte}
 use Rattle.pb_proof.specs.declared.line.byte_kind.NumberByte.TheVariants as kind
@@ -28,7 +28,7 @@ use Rattle.pb_text.proofs.lemmas.machine.Living.{ReadsOn}
 abbrev N : Type 0
 N = Next IdsState (List ℤ)
 
--- The phase that `plan` leads to is midway, and an id that is being read is at most top.
+-- The phase that `transition` leads to is midway, and an id that is being read is at most top.
 digits_fit : (top : ℕ) (negative : Bool) (n d : ℕ) → ActionFits top (digits top negative n d)
 digits_fit top negative n d = cond_both (nat_le (10 * n + d) top) _ _ (ActionFits top) (λ e. (leb-true (10 * n + d) top e, refl)) (λ _. tt)
 
@@ -42,7 +42,7 @@ after_fits top id kind.Blank = (tt, refl)
 after_fits top id kind.Semicolon = (tt, refl)
 after_fits top id _ = tt
 
-plan_fits : (top : ℕ) (ph : IdsPhase) (k : NumberByte) → ActionFits top (plan top ph k)
+plan_fits : (top : ℕ) (ph : IdsPhase) (k : NumberByte) → ActionFits top (transition top ph k)
 plan_fits top Start kind.Blank = (tt, refl)
 plan_fits top Gap kind.Blank = (tt, refl)
 plan_fits top Gap k = before_fits top k
@@ -74,8 +74,8 @@ acted top ids action.End next h e = cc
 acted top ids (action.EndWith id) next h e = cc
 acted top ids action.Stop next h e = cc
 
-goes : (s next : IdsState) (b : ℕ) → ids_automaton.step s b ≡ Go next → Steps s.top s.ids next
-goes s next b e = acted s.top s.ids (plan s.top s.phase (number_byte b)) next (plan_fits s.top s.phase (number_byte b)) e
+continues : (s next : IdsState) (b : ℕ) → ids_automaton.step s b ≡ Go next → Steps s.top s.ids next
+continues s next b e = acted s.top s.ids (transition s.top s.phase (number_byte b)) next (plan_fits s.top s.phase (number_byte b)) e
 
 ended : (top : ℕ) (ids : List ℤ) (m : IdsAction) (next : IdsState) (e : List ℤ) → act top ids m ≡ End e next → next ≡ ids_last top
 ended top ids (action.To p) next e i = cc
@@ -91,7 +91,7 @@ owes : (ph : IdsPhase) → is_midway ph ≡ true → is_done ph ≡ false
 owes Done h = sym h
 owes _ h = refl
 
-stops : (top : ℕ) (ids : List ℤ) (ph : IdsPhase) (k : NumberByte) → is_done ph ≡ true → act top ids (plan top ph k) ≡ Refuse
+stops : (top : ℕ) (ids : List ℤ) (ph : IdsPhase) (k : NumberByte) → is_done ph ≡ true → act top ids (transition top ph k) ≡ Refuse
 stops top ids Done k h = refl
 stops top ids _ k h = cc
 
@@ -101,7 +101,7 @@ plain _ h = refl
 
 in_order : (s next : IdsState) (b : ℕ) → IsIdsInOrder s → ids_automaton.step s b ≡ Go next → IsIdsInOrder next
 in_order s next b h e =
-    let g : Steps s.top s.ids next = goes s next b e in (
+    let g : Steps s.top s.ids next = continues s next b e in (
       subst (λ x. x < 2 ^ 63) (sym g.same_top) h.0,
       subst (λ x. 0 < x) (sym g.same_top) h.1,
       subst (λ x. PhaseFits x next.phase) (sym g.same_top) g.fits,
@@ -155,29 +155,29 @@ module _ (top : ℕ) (some : 0 < top) (ids : List ℤ) where
 pub ids_of_one : IsOfOne ids_automaton IsIdsInOrder last
 ids_of_one = record {
   keeps = in_order;
-  begins = λ s next b e. (goes s next b e).midway;
+  begins = λ s next b e. (continues s next b e).midway;
   owes = λ s h. owes s.phase h;
-  leads = λ s next b e. ap ids_last (goes s next b e).same_top;
-  ends = λ s next b e i. ended s.top s.ids (plan s.top s.phase (number_byte b)) next e i;
+  leads = λ s next b e. ap ids_last (continues s next b e).same_top;
+  ends = λ s next b e i. ended s.top s.ids (transition s.top s.phase (number_byte b)) next e i;
   done = λ s. refl;
   stops = λ s h b. stops s.top s.ids s.phase (number_byte b) h;
   goes_on = λ s g h. some_text s.top g.1 s.ids s.phase h;
   plain = λ s h. plain s.phase h;
-  grows = λ s next b e. (goes s next b e).grows;
+  grows = λ s next b e. (continues s next b e).grows;
   bounds = λ s. min-le_left (length s.ids) (2 ^ 64 - 1);
 }
 
 -- After the line the machine has ended.
-pub ids_ends : (s after : IdsState) (text : List Letter) (e : List ℤ) → Reads ids_automaton s text e after → after ≡ ids_last s.top
+pub ids_ends : (s after : IdsState) (text : List Letter) (e : List ℤ) → ReadsStatement ids_automaton s text e after → after ≡ ids_last s.top
 ids_ends s after text e r = reads_last ids_automaton IsIdsInOrder last ids_of_one text s e after r
 
 -- A new machine reads exactly the ids.
 pub ids_reads : (limit top : ℕ) (text : List Letter) (e : List ℤ) (after : IdsState) →
-    Reads ids_automaton (ids_first top) text e after ↔ (SpellsIds limit top e text × (after ≡ ids_last top))
+    ReadsStatement ids_automaton (ids_first top) text e after ↔ (SpellsIds limit top e text × (after ≡ ids_last top))
 ids_reads limit top text e after = (
   (λ r. let i : after ≡ ids_last top = ids_ends (ids_first top) after text e r in
       (subst (λ x. Whole limit e x text) i (reported ids_automaton Prefix (Whole limit) (keeps_prefix limit) text (ids_first top) [] e after r (refl, refl)), i)),
-  (λ h. subst (λ x. Reads ids_automaton (ids_first top) text e x) (sym h.1) (reads_each limit top e text h.0)),
+  (λ h. subst (λ x. ReadsStatement ids_automaton (ids_first top) text e x) (sym h.1) (reads_each limit top e text h.0)),
 )
 
 pub ids_is_state : (s : IdsState) → IsIdsInOrder s → IsState ids_automaton s

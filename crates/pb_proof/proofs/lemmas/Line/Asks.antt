@@ -20,7 +20,7 @@ use Rattle.pb_sums.proofs.lemmas.machine.Asked.{ends_nothing, ends_after, asks_a
 use Rattle.pb_sums.proofs.lemmas.machine.LiteralPrefixes.{IsFirst}
 use Rattle.pb_proof.specs.meaning.Asking.{EndsNumber}
 use Rattle.pb_proof.specs.engine.Line.Rup.{RupState, rup_automaton, rup_first, rup_asks, rup_plan}
-use Rattle.pb_proof.specs.engine.Line.Ids.{IdsState, ids_automaton, ids_first, plan, digits, before, keeps}
+use Rattle.pb_proof.specs.engine.Line.Ids.{IdsState, ids_automaton, ids_first, transition, digits, before, keeps}
 use Rattle.pb_proof.specs.engine.Line.Literals.{LiteralsState, literals_automaton, literals_first, adds, is_more}
 use Rattle.pb_proof.specs.engine.Line.Literals as literals
 use Rattle.pb_proof.specs.engine.Line.ByteKind.{number_byte, name_byte}
@@ -78,43 +78,43 @@ before_quiet top (number.Digit d) = ids_quiet top false 0 d
 before_quiet top _ = refl
 
 module _ (limit : ℕ) where
-  asks_dark : (top : ℕ) (negative : Bool) (n b : ℕ) → keeps (plan top (Digits negative n) (number_byte b)) ≡ true → is_digit b ≡ false
+  asks_dark : (top : ℕ) (negative : Bool) (n b : ℕ) → keeps (transition top (Digits negative n) (number_byte b)) ≡ true → is_digit b ≡ false
   asks_dark top negative n b =
-      let P : NumberByte → Type 0 = λ k. keeps (plan top (Digits negative n) k) ≡ true → is_digit b ≡ false in
+      let P : NumberByte → Type 0 = λ k. keeps (transition top (Digits negative n) k) ≡ true → is_digit b ≡ false in
       cond_both (is_blank b) _ _ P (λ e h. blank_digit b e)
       (λ _. cond_both (is_digit b) _ _ P (λ _ h. absurd (false≢true (sym (ids_quiet top negative n (b - 48)) ∙ h))) (λ e. dark e (nat_eq b 45) (nat_eq b 59) (nat_eq b 10)))
     where
       dark : is_digit b ≡ false → (x y z : Bool)
-          → keeps (plan top (Digits negative n) (cond x number.Minus (cond y number.Semicolon (cond z number.Feed number.Other)))) ≡ true → is_digit b ≡ false
+          → keeps (transition top (Digits negative n) (cond x number.Minus (cond y number.Semicolon (cond z number.Feed number.Other)))) ≡ true → is_digit b ≡ false
       dark e x y z h = e
 
-  ids_at : (ph : IdsPhase) (top : ℕ) (held : List ℤ) (t : List Letter) (b : ℕ) → ids.prefix top ph held t → keeps (plan top ph (number_byte b)) ≡ true → EndsNumber (bytes t) b
+  ids_at : (ph : IdsPhase) (top : ℕ) (held : List ℤ) (t : List Letter) (b : ℕ) → ids.prefix top ph held t → keeps (transition top ph (number_byte b)) ≡ true → EndsNumber (bytes t) b
   ids_at Start top held t b h k = absurd (false≢true (sym (start (number_byte b)) ∙ k))
     where
-      start : (m : NumberByte) → keeps (plan top Start m) ≡ false
+      start : (m : NumberByte) → keeps (transition top Start m) ≡ false
       start number.Blank = refl
       start _ = refl
   ids_at Gap top held t b h k = absurd (false≢true (sym (gap (number_byte b)) ∙ k))
     where
-      gap : (m : NumberByte) → keeps (plan top Gap m) ≡ false
+      gap : (m : NumberByte) → keeps (transition top Gap m) ≡ false
       gap number.Blank = refl
       gap m = before_quiet top m
   ids_at Between top held t b h k = absurd (false≢true (sym (between (number_byte b)) ∙ k))
     where
-      between : (m : NumberByte) → keeps (plan top Between m) ≡ false
+      between : (m : NumberByte) → keeps (transition top Between m) ≡ false
       between number.Blank = refl
       between number.Semicolon = refl
       between number.Feed = refl
       between m = before_quiet top m
   ids_at Minus top held t b h k = absurd (false≢true (sym (minus (number_byte b)) ∙ k))
     where
-      minus : (m : NumberByte) → keeps (plan top Minus m) ≡ false
+      minus : (m : NumberByte) → keeps (transition top Minus m) ≡ false
       minus (number.Digit d) = ids_quiet top true 0 d
       minus _ = refl
   ids_at (Digits negative n) top held t b h k = number_end _ n t b h.1 (asks_dark top negative n b k)
   ids_at Closing top held t b h k = absurd (false≢true (sym (closing (number_byte b)) ∙ k))
     where
-      closing : (m : NumberByte) → keeps (plan top Closing m) ≡ false
+      closing : (m : NumberByte) → keeps (transition top Closing m) ≡ false
       closing number.Blank = refl
       closing number.Feed = refl
       closing _ = refl
@@ -144,14 +144,14 @@ module _ (b : ℕ) (text : List ℕ) where
   begins_at (name.Inner c) m h = absurd (false≢true h)
   begins_at name.Other m h = absurd (false≢true h)
 
-  start_at : (joined : Bool) (k : NameByte) → NameMeans k b → (adds (literals.plan joined at.Start k) || false) ≡ true → AsksLiteral text b
+  start_at : (joined : Bool) (k : NameByte) → NameMeans k b → (adds (literals.transition joined at.Start k) || false) ≡ true → AsksLiteral text b
   start_at true k m h = begins_at k m (sym (or-false (adds (literals.before k))) ∙ h)
   start_at false k m h = absurd (false≢true (sym (ap (λ x. x || false) (after_quiet k)) ∙ h))
 
-  gap_at : (joined : Bool) (k : NameByte) → NameMeans k b → (adds (literals.plan joined at.Gap k) || false) ≡ true → AsksLiteral text b
+  gap_at : (joined : Bool) (k : NameByte) → NameMeans k b → (adds (literals.transition joined at.Gap k) || false) ≡ true → AsksLiteral text b
   gap_at joined k m h = begins_at k m (sym (or-false (adds (literals.before k))) ∙ h)
 
-  negation_at : (joined : Bool) (k : NameByte) → NameMeans k b → (adds (literals.plan joined at.Negation k) || false) ≡ true → AsksLiteral text b
+  negation_at : (joined : Bool) (k : NameByte) → NameMeans k b → (adds (literals.transition joined at.Negation k) || false) ≡ true → AsksLiteral text b
   negation_at joined (name.Letter c) m h = letter_begins text b (subst (λ (x : ℕ). IsTrue (is_letter x)) (sym m.0) m.1)
   negation_at joined name.Tilde m h = absurd (false≢true h)
   negation_at joined name.Blank m h = absurd (false≢true h)
@@ -160,7 +160,7 @@ module _ (b : ℕ) (text : List ℕ) where
   negation_at joined (name.Inner c) m h = absurd (false≢true h)
   negation_at joined name.Other m h = absurd (false≢true h)
 
-  first_at : (joined negated : Bool) (bs : List ℕ) → EndsIn text bs → IsFirst bs → (k : NameByte) → NameMeans k b → (adds (literals.plan joined (at.First negated) k) || false) ≡ true → AsksLiteral text b
+  first_at : (joined negated : Bool) (bs : List ℕ) → EndsIn text bs → IsFirst bs → (k : NameByte) → NameMeans k b → (adds (literals.transition joined (at.First negated) k) || false) ≡ true → AsksLiteral text b
   first_at joined negated bs e f (name.Letter c) m h = inl (bs, e, first_further bs b f (letter_name b (subst (λ (x : ℕ). IsTrue (is_letter x)) (sym m.0) m.1)))
   first_at joined negated bs e f (name.Inner c) m h = inl (bs, e, first_further bs b f (subst (λ (x : ℕ). IsTrue (is_name_byte x)) (sym m.0) m.1))
   first_at joined negated bs e f name.Tilde m h = absurd (false≢true h)
@@ -169,7 +169,7 @@ module _ (b : ℕ) (text : List ℕ) where
   first_at joined negated bs e f name.Feed m h = absurd (false≢true h)
   first_at joined negated bs e f name.Other m h = absurd (false≢true h)
 
-  closing_at : (joined : Bool) (k : NameByte) → (adds (literals.plan joined at.Closing k) || false) ≡ true → AsksLiteral text b
+  closing_at : (joined : Bool) (k : NameByte) → (adds (literals.transition joined at.Closing k) || false) ≡ true → AsksLiteral text b
   closing_at joined name.Blank h = absurd (false≢true h)
   closing_at joined name.Feed h = absurd (false≢true h)
   closing_at joined name.Tilde h = absurd (false≢true h)
@@ -179,7 +179,7 @@ module _ (b : ℕ) (text : List ℕ) where
   closing_at joined name.Other h = absurd (false≢true h)
 
 literals_at : (ph : LiteralsPhase) (joined : Bool) (ls : List Literal) (bs : List ℕ) (t : List Letter) (b : ℕ) → sound.prefix joined ph ls bs t
-    → (adds (literals.plan joined ph (name_byte b)) || is_more ph) ≡ true → AsksLiteral (bytes t) b
+    → (adds (literals.transition joined ph (name_byte b)) || is_more ph) ≡ true → AsksLiteral (bytes t) b
 literals_at at.Start joined ls bs t b h k = start_at b (bytes t) joined (name_byte b) (name_means b) k
 literals_at at.Gap joined ls bs t b h k = gap_at b (bytes t) joined (name_byte b) (name_means b) k
 literals_at at.Negation joined ls bs t b h k = negation_at b (bytes t) joined (name_byte b) (name_means b) k

@@ -3,7 +3,7 @@ use Rattle.std.proofs.Common.{◌≡◌, ℕ, true, false, List, [], ◌∷◌, 
 use Rattle.std.proofs.lemmas.List.{append-nil}
 use Rattle.std.specs.Prelude.{IsTrue}
 use Rattle.pb_text.proofs.lemmas.text.Languages.{grown, next, none_yet, regroup, regroup3, after_it, many-grown, some-one, some-grown, some-many}
-use Rattle.pb_text.specs.contract.Automaton.{Automaton, Go, End, Reads}
+use Rattle.pb_text.specs.contract.Automaton.{Automaton, Go, End, ReadsStatement}
 use Rattle.pb_text.specs.meaning.Classes.{is_blank}
 use Rattle.pb_text.specs.meaning.Languages.{unmarked, Language, ◌⋅◌, Empty, Byte, Bytes, Each, Blanks0, Blanks1}
 use Rattle.pb_text.specs.meaning.Spelling.{Letter}
@@ -40,39 +40,39 @@ module _ {S E : Type 0} (m : Automaton S E) where
     pub ends_gap : m.step gap 10 ≡ End e after
 
   -- blank*, and the text after it, which either state reads
-  pub after_blanks : (s gap after : S) (e : E) (t u : List Letter) → TakesBlanks s gap → Blanks0 t → Reads m s u e after → Reads m gap u e after → Reads m s (t ++ u) e after
-  after_blanks s gap after e t u h ([], i, f) r q = subst (λ x. Reads m s (x ++ u) e after) (sym f) r
+  pub after_blanks : (s gap after : S) (e : E) (t u : List Letter) → TakesBlanks s gap → Blanks0 t → ReadsStatement m s u e after → ReadsStatement m gap u e after → ReadsStatement m s (t ++ u) e after
+  after_blanks s gap after e t u h ([], i, f) r q = subst (λ x. ReadsStatement m s (x ++ u) e after) (sym f) r
   after_blanks s gap after e t u h (b ∷ bs, i, f) r q =
       reads_after m t u s gap after e (blanks1_lead s gap h t (b, bs, i.0, i.1, f)) q
 
-  pub feed_reads : (s gap after : S) (e : E) → Feeds s gap e after → (t : List Letter) → Feed t → Reads m s t e after
+  pub feed_reads : (s gap after : S) (e : E) → Feeds s gap e after → (t : List Letter) → Feed t → ReadsStatement m s t e after
   feed_reads s gap after e h t (a, b, f, i, g) =
-      subst (λ x. Reads m s x e after) (sym (f ∙ ap (λ x. a ++ x) g))
+      subst (λ x. ReadsStatement m s x e after) (sym (f ∙ ap (λ x. a ++ x) g))
       (after_blanks s gap after e a (unmarked 10 ∷ []) h.blanks i (h.ends, refl) (h.ends_gap, refl))
 
   -- A line may end: at a line feed, or at a `;` that leads to the last state. Blanks may come before either.
   pub record MayEnd (s gap closing : S) (e : E) (after : S) : Type 0 where
     pub feeds : Feeds s gap e after
-    pub closes : m.step s 59 ≡ Go closing
+    pub finishes : m.step s 59 ≡ Go closing
     pub closes_gap : m.step gap 59 ≡ Go closing
     pub begun : m.begun closing ≡ true
     pub plain : m.in_number closing ≡ false
     pub last : Feeds closing closing e after
 
   semicolon_reads : (s closing after : S) (e : E) (a b : List Letter) → m.step s 59 ≡ Go closing → m.begun closing ≡ true → m.in_number closing ≡ false
-      → Byte 59 a → Reads m closing b e after → Reads m s (a ++ b) e after
+      → Byte 59 a → ReadsStatement m closing b e after → ReadsStatement m s (a ++ b) e after
   semicolon_reads s closing after e a b g h i f r =
-      subst (λ x. Reads m s (x ++ b) e after) (sym f) (longer m (unmarked 59) b s closing after e g h (sym i) r)
+      subst (λ x. ReadsStatement m s (x ++ b) e after) (sym f) (longer m (unmarked 59) b s closing after e g h (sym i) r)
 
-  pub line_reads : (s gap closing after : S) (e : E) → MayEnd s gap closing e after → (t : List Letter) → LineEnd t → Reads m s t e after
+  pub line_reads : (s gap closing after : S) (e : E) → MayEnd s gap closing e after → (t : List Letter) → LineEnd t → ReadsStatement m s t e after
   line_reads s gap closing after e h t (inl f) = feed_reads s gap after e h.feeds t f
   line_reads s gap closing after e h t (inr k) =
       let f : (Blanks0 ⋅ (Byte 59 ⋅ Feed)) t = regroup Blanks0 (Byte 59) Feed t k in
       let (a, b, g, i, (c, d, j, p, q)) = f in
-      let r : Reads m closing d e after = feed_reads closing closing after e h.last d q in
-      subst (λ x. Reads m s x e after) (sym (g ∙ ap (λ x. a ++ x) j))
+      let r : ReadsStatement m closing d e after = feed_reads closing closing after e h.last d q in
+      subst (λ x. ReadsStatement m s x e after) (sym (g ∙ ap (λ x. a ++ x) j))
       (after_blanks s gap after e a (c ++ d) h.feeds.blanks i
-      (semicolon_reads s closing after e c d h.closes h.begun h.plain p r)
+      (semicolon_reads s closing after e c d h.finishes h.begun h.plain p r)
       (semicolon_reads gap closing after e c d h.closes_gap h.begun h.plain p r))
 
 -- What has been read where a line may end, after a text of P: blanks, and then a `;` and blanks.

@@ -1,6 +1,6 @@
 -- What holds of the machines that read the text after the first word of a statement.
 use Rattle.std.proofs.Common.{◌≡◌, ℕ, ◌<◌, ◌^◌, false, List, refl, sym, subst}
-use Rattle.pb_text.specs.contract.Automaton.{Reads, IsState}
+use Rattle.pb_text.specs.contract.Automaton.{ReadsStatement, IsState}
 use Rattle.pb_text.specs.meaning.Spelling.{Letter}
 use Rattle.pb_sums.proofs.lemmas.machine.States.{first_is_state}
 use Rattle.pb_sums.specs.declared.Spaces.TheVariants.{Blank}
@@ -62,7 +62,7 @@ line_begins (line.TheVariants.Conclusion s) next b e = begins_in _ _ _ _ conclus
 
 module _ (limit top : ℕ) where
   -- What a new one reads is the text after the first word.
-  pub line_only : (r : LineKind) (t : List Letter) (e : Statement) (after : LineMachine) → Reads line_automaton (line_first limit top r) t e after → SpellsRest limit top r e t
+  pub line_only : (r : LineKind) (t : List Letter) (e : Statement) (after : LineMachine) → ReadsStatement line_automaton (line_first limit top r) t e after → SpellsRest limit top r e t
   line_only Count t e after h =
       let (c, last, f, k) = reads_out _ _ _ _ count_carries t (counting top) e after h in
       subst (λ x. SpellsRest limit top Count x t) (sym f) ((count_reads limit top t c last).0 k).0
@@ -85,7 +85,7 @@ module _ (limit top : ℕ) where
       let (c, last, f, k) = reads_out _ _ _ _ conclusion_carries t (conclusion_first limit top) e after h in
       subst (λ x. SpellsRest limit top Conclusion x t) (sym f) ((conclusion_reads limit top t c last).0 k).0
 
-  pub line_each : (r : LineKind) (t : List Letter) (e : Statement) → SpellsRest limit top r e t → (after : LineMachine) × Reads line_automaton (line_first limit top r) t e after
+  pub line_each : (r : LineKind) (t : List Letter) (e : Statement) → SpellsRest limit top r e t → (after : LineMachine) × ReadsStatement line_automaton (line_first limit top r) t e after
   line_each Count t (statement.TheVariants.F c) h = (line.TheVariants.Count (count_last top), reads_in _ _ _ _ count_carries t (counting top) c (count_last top) ((count_reads limit top t c (count_last top)).1 (h, refl)))
   line_each Count t _ h = absurd h
   line_each Pol t (statement.TheVariants.Pol c) h = (line.TheVariants.Pol (pol_last limit top), reads_in _ _ _ _ pol_carries t (pol_first limit top) c (pol_last limit top) ((pol_reads limit top t c (pol_last limit top)).1 (h, refl)))

@@ -12,7 +12,7 @@ use Rattle.pb_sums.specs.meaning.Sums.{IsName, SpellsLiteral, SpellsLinear}
 use Rattle.pb_sums.specs.declared.linear.Literal.{Literal}
 use Rattle.pb_sums.specs.declared.sum_kind.Spaces.TheVariants.{Blank}
 use Rattle.pb_sums.proofs.lemmas.values.CanonicalLaws.{linear-spelled, degree}
-use Rattle.pb_proof.specs.meaning.Lines.{pseudo_word, proof_word, version_word, two_word, f_word, pol_word, rup_word, soli_word, solx_word, del_word, id_word, output_word, conclusion_word, end_word, none_word, unsat_word, sat_word, bounds_word, Feed, LineEnd, Listed, SpellsId, Factor, SpellsBound, SpellsShown, Shown, IdShown, SpellsWord, SpellsConclusion, SpellsCount, SpellsWords, SpellsRup, SpellsLiterals, SpellsIds, SpellsConclusionLine, SpellsStatement}
+use Rattle.pb_proof.specs.meaning.Lines.{pseudo_word, proof_word, version_word, two_word, f_word, pol_word, rup_word, soli_word, solx_word, del_word, id_word, output_word, conclusion_word, end_word, none_word, unsat_word, sat_word, bounds_word, Feed, LineEnd, Listed, SpellsId, Factor, SpellsBound, SpellsShown, LiteralsShown, IdShown, SpellsWord, SpellsConclusion, SpellsCount, SpellsWords, SpellsRup, SpellsLiterals, SpellsIds, SpellsConclusionLine, SpellsStatement}
 use Rattle.pb_proof.specs.contract.Values.{IfGiven, IsId, IsFactor, AreLiterals, IsBound, IsWord, IsConclusion, IsStatementValue}
 use Rattle.pb_proof.specs.declared.word.PolWord.{PolWord}
 use Rattle.pb_proof.specs.declared.word.PolWord.TheVariants.{Id, Axiom, Add, Multiply, Divide, Saturate, Weaken}
@@ -47,7 +47,7 @@ listed_spelled P text R f (x ∷ xs) h =
 literals_spelled : (ls : List Literal) → AreLiterals ls → Listed SpellsLiteral ls (listed_text literal_text ls)
 literals_spelled ls h = listed_spelled SpellsLiteral literal_text (λ l. IsName l.name) literal_spelled ls h
 
-shown_spelled : (shown : Option (List Literal)) → IfGiven AreLiterals shown → Shown shown (shown_text shown)
+shown_spelled : (shown : Option (List Literal)) → IfGiven AreLiterals shown → LiteralsShown shown (shown_text shown)
 shown_spelled None h = refl
 shown_spelled (Some []) h = both Blanks0 (SpellsShown []) space (one 58) space0 refl
 shown_spelled (Some (l ∷ ls)) h =
@@ -92,7 +92,7 @@ module _ (limit : ℕ) (small : limit < 2 ^ 127) where
     conclusion_spelled : (c : Conclusion) → IsConclusion limit top c → SpellsConclusion limit top c (conclusion_text c)
     conclusion_spelled NoClaim h = refl
     conclusion_spelled (Unsat id) h = both (Bytes unsat_word) (IdShown limit top id) (plain unsat_word) (id_shown_text id) refl (id_shown_spelled id h)
-    conclusion_spelled (Sat shown) h = both (Bytes sat_word) (Shown shown) (plain sat_word) (shown_text shown) refl (shown_spelled shown h)
+    conclusion_spelled (Sat shown) h = both (Bytes sat_word) (LiteralsShown shown) (plain sat_word) (shown_text shown) refl (shown_spelled shown h)
     conclusion_spelled (Bounds lower id upper shown) h =
         let W : Language = Bytes bounds_word in
         let L : Language = SpellsBound limit lower in
@@ -102,7 +102,7 @@ module _ (limit : ℕ) (small : limit < 2 ^ 127) where
         let l : List Letter = bound_text lower in
         let i : List Letter = id_shown_text id in
         let u : List Letter = bound_text upper in
-        both (W ⋅ Blanks1 ⋅ L ⋅ I ⋅ Blanks1 ⋅ U) (Shown shown) (w ++ space ++ l ++ i ++ space ++ u) (shown_text shown)
+        both (W ⋅ Blanks1 ⋅ L ⋅ I ⋅ Blanks1 ⋅ U) (LiteralsShown shown) (w ++ space ++ l ++ i ++ space ++ u) (shown_text shown)
         (both (W ⋅ Blanks1 ⋅ L ⋅ I ⋅ Blanks1) U (w ++ space ++ l ++ i ++ space) u
         (both (W ⋅ Blanks1 ⋅ L ⋅ I) Blanks1 (w ++ space ++ l ++ i) space
         (both (W ⋅ Blanks1 ⋅ L) I (w ++ space ++ l) i

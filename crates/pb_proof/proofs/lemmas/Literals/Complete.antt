@@ -2,7 +2,7 @@
 use Rattle.std.proofs.Common.{◌≡◌, ℕ, Bool, true, false, List, [], ◌∷◌, ◌++◌, map, refl, sym, ap, subst, inl, inr, append_assoc, ◌∙◌}
 use Rattle.std.proofs.lemmas.List.{append-nil}
 use Rattle.std.specs.Prelude.{IsTrue}
-use Rattle.pb_text.specs.contract.Automaton.{Go, End, Reads}
+use Rattle.pb_text.specs.contract.Automaton.{Go, End, ReadsStatement}
 use Rattle.pb_text.specs.meaning.Classes.{is_blank, is_letter, is_name_byte}
 use Rattle.pb_text.specs.meaning.Languages.{unmarked, ◌⋅◌, Each, Blanks0, Blanks1}
 use Rattle.pb_text.specs.meaning.Spelling.{Letter}
@@ -56,7 +56,7 @@ module _ (joined : Bool) where
   may_end : (ls : List Literal) (s : S) → IsAfter ls s → MayEnd literals_automaton s (at_gap ls) (at_closing ls) ls (literals_last joined)
   may_end ls s h = record {
     feeds = record { blanks = takes_blanks ls s h; ends = h.feed; ends_gap = refl };
-    closes = h.semicolon;
+    finishes = h.semicolon;
     closes_gap = refl;
     begun = refl;
     plain = refl;
@@ -149,10 +149,10 @@ module _ (joined : Bool) where
   one_more ls l s t h k = (at_more ls l.negated l.name, further_walks ls l s t h k, more_after ls l.negated l.name)
 
   -- literals with blanks before each, and the end of the line
-  row_reads : (ls ms : List Literal) (s : S) (t : List Letter) → IsAfter ls s → (Listed SpellsLiteral ms ⋅ LineEnd) t → Reads literals_automaton s t (ls ++ ms) (literals_last joined)
+  row_reads : (ls ms : List Literal) (s : S) (t : List Letter) → IsAfter ls s → (Listed SpellsLiteral ms ⋅ LineEnd) t → ReadsStatement literals_automaton s t (ls ++ ms) (literals_last joined)
   row_reads ls ms s t h (a, b, e, i, k) =
       let (mid, w, g) = listed_walks SpellsLiteral literals_automaton IsAfter one_more ls ms s a h i in
-      subst (λ x. Reads literals_automaton s x (ls ++ ms) (literals_last joined)) (sym e)
+      subst (λ x. ReadsStatement literals_automaton s x (ls ++ ms) (literals_last joined)) (sym e)
       (reads_after literals_automaton a b s mid (literals_last joined) (ls ++ ms) w
       (line_reads literals_automaton mid (at_gap (ls ++ ms)) (at_closing (ls ++ ms)) (literals_last joined) (ls ++ ms) (may_end (ls ++ ms) mid g) b k))
 
@@ -172,13 +172,13 @@ first_joined l t (a, b, e, ([], i, f), k) =
 first_joined l t (a, b, e, (c ∷ cs, i, f), k) =
     further_walks true [] l (literals_first true) t (first_after true) (a, b, e, (c, cs, i.0, i.1, f), k)
 
-pub reads_each : (joined : Bool) (e : List Literal) (t : List Letter) → SpellsJoined joined e t → Reads literals_automaton (literals_first joined) t e (literals_last joined)
+pub reads_each : (joined : Bool) (e : List Literal) (t : List Letter) → SpellsJoined joined e t → ReadsStatement literals_automaton (literals_first joined) t e (literals_last joined)
 reads_each false e t h = row_reads false [] e (literals_first false) t (first_after false) h
 reads_each true [] t h =
     line_reads literals_automaton (literals_first true) (at_gap true []) (at_closing true []) (literals_last true) [] (may_end true [] (literals_first true) (first_after true)) t h
 reads_each true (l ∷ ls) t (abc, d, e, (ab, c, f, h, i), k) =
     let g : t ≡ ab ++ (c ++ d) = e ∙ (ap (λ x. x ++ d) f ∙ append_assoc ab c d) in
-    subst (λ x. Reads literals_automaton (literals_first true) x (l ∷ ls) (literals_last true)) (sym g)
+    subst (λ x. ReadsStatement literals_automaton (literals_first true) x (l ∷ ls) (literals_last true)) (sym g)
     (reads_after literals_automaton ab (c ++ d) (literals_first true) (at_more true [] l.negated l.name) (literals_last true) (l ∷ ls)
     (first_joined l ab h)
     (row_reads true (l ∷ []) ls (at_more true [] l.negated l.name) (c ++ d) (more_after true [] l.negated l.name) (c, d, refl, i, k)))

@@ -7,7 +7,7 @@ use Rattle.pb_text.proofs.lemmas.machine.Outcomes.{go_or_refuse, end_or_refuse}
 use Rattle.pb_text.proofs.lemmas.text.Booleans.{never}
 use Rattle.pb_sums.specs.declared.Literal.{Literal}
 use Rattle.pb_sums.proofs.lemmas.machine.Counts.{counted}
-use Rattle.pb_proof.specs.engine.Line.Literals.{literals_automaton, literals_at, flushed, act, plan, adds, is_more, is_midway, units, IsLiteralsInOrder}
+use Rattle.pb_proof.specs.engine.Line.Literals.{literals_automaton, literals_at, flushed, act, transition, adds, is_more, is_midway, units, IsLiteralsInOrder}
 use Rattle.pb_proof.specs.engine.Line.ByteKind.{name_byte}
 use Rattle.pb_proof.specs.declared.line.byte_kind.NameByte.{NameByte}
 use Rattle.pb_proof.specs.declared.line.solution.phase.LiteralsPhase.{LiteralsPhase}
@@ -28,15 +28,15 @@ taken_acts joined ms ls name action.End h e = end_or_refuse _ _ e
 taken_acts joined ms ls name action.Stop h e = h
 
 module _ (joined : Bool) (ls : List Literal) (name : List ℕ) (p : LiteralsPhase) (b : ℕ) (k : NameByte) where
-  planned : (m : LiteralsAction) → k ≡ name_byte b → m ≡ plan joined p k → plan joined p (name_byte b) ≡ m
-  planned m f g = ap (λ x. plan joined p x) (sym f) ∙ sym g
+  planned : (m : LiteralsAction) → k ≡ name_byte b → m ≡ transition joined p k → transition joined p (name_byte b) ≡ m
+  planned m f g = ap (λ x. transition joined p x) (sym f) ∙ sym g
 
-  moved : (m : LiteralsAction) → k ≡ name_byte b → m ≡ plan joined p k
+  moved : (m : LiteralsAction) → k ≡ name_byte b → m ≡ transition joined p k
       → literals_automaton.step (literals_at joined ls name p) b ≡ act joined (flushed p ls name) ls name m
   moved m f g = ap (λ x. act joined (flushed p ls name) ls name x) (planned m f g)
 
   -- a push may allocate at a byte of a name or one that ends a literal, and only if the byte is taken
-  pub wants : (m : LiteralsAction) → IsLiteralsInOrder (literals_at joined ls name p) → k ≡ name_byte b → m ≡ plan joined p k → IsTaken m
+  pub wants : (m : LiteralsAction) → IsLiteralsInOrder (literals_at joined ls name p) → k ≡ name_byte b → m ≡ transition joined p k → IsTaken m
       → (adds m || is_more p) ≡ true → IsTrue (literals_automaton.asks (literals_at joined ls name p) b) × Admits literals_automaton (literals_at joined ls name p) b
   wants m o f g t a = (
     ap (λ x. adds x || is_more p) (planned m f g) ∙ a,
@@ -44,7 +44,7 @@ module _ (joined : Bool) (ls : List Literal) (name : List ℕ) (p : LiteralsPhas
         (taken_acts joined (flushed p ls name) ls name m t),
   )
 
-  pub goes_to : (ms : List Literal) (new : List ℕ) (q : LiteralsPhase) → new ≡ [] → k ≡ name_byte b → action.To q ≡ plan joined p k → ms ≡ flushed p ls name
+  pub goes_to : (ms : List Literal) (new : List ℕ) (q : LiteralsPhase) → new ≡ [] → k ≡ name_byte b → action.To q ≡ transition joined p k → ms ≡ flushed p ls name
       → literals_automaton.step (literals_at joined ls name p) b ≡ Go (literals_at joined ms new q)
   goes_to ms new q z f g i =
       moved (action.To q) f g ∙ (ap (λ x. act joined x ls name (action.To q)) (sym i) ∙ ap (λ x. Go (literals_at joined ms x q)) (sym z))

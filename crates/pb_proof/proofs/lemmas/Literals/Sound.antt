@@ -13,7 +13,7 @@ use Rattle.pb_sums.specs.meaning.Sums.{SpellsLiteral}
 use Rattle.pb_sums.specs.declared.Literal.{Literal}
 use Rattle.pb_sums.proofs.lemmas.machine.LiteralPrefixes.{FirstOf, LiteralOf}
 use Rattle.pb_proof.specs.meaning.Lines.{LineEnd, Listed}
-use Rattle.pb_proof.specs.engine.Line.Literals.{LiteralsState, SpellsJoined, literals_automaton, literal, flushed, act, plan, next_action, before}
+use Rattle.pb_proof.specs.engine.Line.Literals.{LiteralsState, SpellsJoined, literals_automaton, literal, flushed, act, transition, next_action, before}
 use Rattle.pb_proof.specs.engine.Line.ByteKind.{name_byte}
 use Rattle.pb_proof.specs.declared.line.byte_kind.NameByte.{NameByte}
 use Rattle.pb_proof.specs.declared.line.byte_kind.NameByte.TheVariants as kind
@@ -104,7 +104,7 @@ start_sound false ls name k l p m e h =
 
 module _ (joined : Bool) where
   sound : (ph : LiteralsPhase) (ls : List Literal) (name : List ℕ) (k : NameByte) (l : Letter) (p : List Letter) → NameMeans k l.byte → prefix joined ph ls name p
-      → OnNext (act joined (flushed ph ls name) ls name (plan joined ph k)) l (p ++ l ∷ [])
+      → OnNext (act joined (flushed ph ls name) ls name (transition joined ph k)) l (p ++ l ∷ [])
   sound Start ls name k l p m h = start_sound joined ls name k l p m h.0 h.1
   sound Gap ls name k l p m h =
       before_sound joined ls name k l p m (before_of joined ls p h) (ends.gapped_some (Row joined ls) p h) (λ b n. ends.blanks_go_on (Row joined ls) l p b n h)

@@ -2,7 +2,7 @@
 use Rattle.std.proofs.Common.{◌≡◌, ℕ, ◌+◌, ◌-◌, ◌^◌, ◌≤◌, Bool, true, false, cond, List, [], ◌∷◌, ◌++◌, length, refl, sym, ap, subst, arith, ◌↔◌}
 use Rattle.std.proofs.Math.Nat.{min-le_left}
 use Rattle.std.proofs.lemmas.List.{length-append}
-use Rattle.pb_text.specs.contract.Automaton.{Next, Go, End, Refuse, Reads, IsState}
+use Rattle.pb_text.specs.contract.Automaton.{Next, Go, End, Refuse, ReadsStatement, IsState}
 use Rattle.pb_text.specs.meaning.Languages.{unmarked}
 use Rattle.pb_text.specs.meaning.Spelling.{Letter}
 use Rattle.pb_text.proofs.lemmas.machine.Walking.{reported}
@@ -10,7 +10,7 @@ use Rattle.pb_text.proofs.lemmas.machine.Outcomes.{one_state}
 use Rattle.pb_text.proofs.lemmas.text.Booleans.{never}
 use Rattle.pb_sums.specs.declared.Literal.{Literal}
 use Rattle.pb_sums.proofs.lemmas.machine.Counts.{to-grows, begin-grows, add-grows}
-use Rattle.pb_proof.specs.engine.Line.Literals.{LiteralsState, SpellsJoined, literals_automaton, literals_at, literals_first, literals_last, literal, flushed, act, plan, next_action, before, is_midway, is_begun, is_done, units, in_hand, ready, all_units, IsLiteralsInOrder}
+use Rattle.pb_proof.specs.engine.Line.Literals.{LiteralsState, SpellsJoined, literals_automaton, literals_at, literals_first, literals_last, literal, flushed, act, transition, next_action, before, is_midway, is_begun, is_done, units, in_hand, ready, all_units, IsLiteralsInOrder}
 use Rattle.pb_proof.specs.engine.Line.ByteKind.{name_byte}
 use Rattle.pb_proof.specs.declared.line.byte_kind.NameByte.{NameByte}
 use Rattle.pb_proof.specs.declared.line.byte_kind.NameByte.TheVariants as kind
@@ -48,7 +48,7 @@ start_sane : (joined : Bool) (k : NameByte) → IsSane joined Start (cond joined
 start_sane true k = before_sane true Start k refl
 start_sane false k = after_sane false Start k
 
-plan_sane : (joined : Bool) (ph : LiteralsPhase) (k : NameByte) → IsSane joined ph (plan joined ph k)
+plan_sane : (joined : Bool) (ph : LiteralsPhase) (k : NameByte) → IsSane joined ph (transition joined ph k)
 plan_sane joined Start k = start_sane joined k
 plan_sane joined Gap k = before_sane joined Gap k refl
 plan_sane joined Negation (kind.Letter b) = (refl, refl, refl)
@@ -130,8 +130,8 @@ module _ (joined : Bool) (ls : List Literal) (name : List ℕ) (ph : LiteralsPha
   ended action.TheVariants.End next e i = cc
   ended action.TheVariants.Stop next e i = cc
 
-goes : (s next : LiteralsState) (b : ℕ) → literals_automaton.step s b ≡ Go next → Steps s next
-goes s next b e = acted s.joined s.literals s.name s.phase (plan s.joined s.phase (name_byte b)) next (plan_sane s.joined s.phase (name_byte b)) e
+continues : (s next : LiteralsState) (b : ℕ) → literals_automaton.step s b ≡ Go next → Steps s next
+continues s next b e = acted s.joined s.literals s.name s.phase (transition s.joined s.phase (name_byte b)) next (plan_sane s.joined s.phase (name_byte b)) e
 
 abbrev last : LiteralsState → LiteralsState
 last s = literals_last s.joined
@@ -141,7 +141,7 @@ owes joined Done h = sym h
 owes joined _ h = refl
 
 stops : (joined : Bool) (ph : LiteralsPhase) (ls : List Literal) (name : List ℕ) (k : NameByte) → is_done ph ≡ true
-    → act joined (flushed ph ls name) ls name (plan joined ph k) ≡ Refuse
+    → act joined (flushed ph ls name) ls name (transition joined ph k) ≡ Refuse
 stops joined Done ls name k h = refl
 stops joined _ ls name k h = cc
 
@@ -168,30 +168,30 @@ some_text joined Done ls name h = cc
 
 pub literals_of_one : IsOfOne literals_automaton IsLiteralsInOrder last
 literals_of_one = record {
-  keeps = λ s next b g e i. never (is_midway next.phase) (goes s next b e).midway i;
-  begins = λ s next b e. midway_begun next.joined next.phase (goes s next b e).midway;
+  keeps = λ s next b g e i. never (is_midway next.phase) (continues s next b e).midway i;
+  begins = λ s next b e. midway_begun next.joined next.phase (continues s next b e).midway;
   owes = λ s h. owes s.joined s.phase h;
-  leads = λ s next b e. ap literals_last (goes s next b e).joined;
-  ends = λ s next b e i. ended s.joined s.literals s.name s.phase (plan s.joined s.phase (name_byte b)) next e i;
+  leads = λ s next b e. ap literals_last (continues s next b e).joined;
+  ends = λ s next b e i. ended s.joined s.literals s.name s.phase (transition s.joined s.phase (name_byte b)) next e i;
   done = λ s. refl;
   stops = λ s h b. stops s.joined s.phase s.literals s.name (name_byte b) h;
   goes_on = λ s g h. some_text s.joined s.phase s.literals s.name h;
   plain = λ s h. refl;
-  grows = λ s next b e. (goes s next b e).grows;
+  grows = λ s next b e. (continues s next b e).grows;
   bounds = λ s. omega (arith, min-le_left (all_units s) (2 ^ 64 - 1));
 }
 
 -- After the line the machine has ended.
-pub literals_ends : (s after : LiteralsState) (text : List Letter) (e : List Literal) → Reads literals_automaton s text e after → after ≡ literals_last s.joined
+pub literals_ends : (s after : LiteralsState) (text : List Letter) (e : List Literal) → ReadsStatement literals_automaton s text e after → after ≡ literals_last s.joined
 literals_ends s after text e r = reads_last literals_automaton IsLiteralsInOrder last literals_of_one text s e after r
 
 -- A new machine reads exactly the literals.
 pub literals_reads : (joined : Bool) (text : List Letter) (e : List Literal) (after : LiteralsState) →
-    Reads literals_automaton (literals_first joined) text e after ↔ (SpellsJoined joined e text × (after ≡ literals_last joined))
+    ReadsStatement literals_automaton (literals_first joined) text e after ↔ (SpellsJoined joined e text × (after ≡ literals_last joined))
 literals_reads joined text e after = (
   (λ r. let i : after ≡ literals_last joined = literals_ends (literals_first joined) after text e r in
       (subst (λ x. Whole e x text) i (reported literals_automaton Prefix Whole keeps_prefix text (literals_first joined) [] e after r (refl, refl)), i)),
-  (λ h. subst (λ x. Reads literals_automaton (literals_first joined) text e x) (sym h.1) (reads_each joined e text h.0)),
+  (λ h. subst (λ x. ReadsStatement literals_automaton (literals_first joined) text e x) (sym h.1) (reads_each joined e text h.0)),
 )
 
 pub literals_is_state : (s : LiteralsState) → IsLiteralsInOrder s → IsState literals_automaton s

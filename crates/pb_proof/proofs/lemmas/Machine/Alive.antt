@@ -4,13 +4,13 @@ use Rattle.std.proofs.Math.Seq.{split_at}
 use Rattle.std.proofs.lemmas.List.{length-take-le}
 use Rattle.std.proofs.lemmas.Bool.{eqb-true}
 use Rattle.std.specs.Prelude.{nat_eq, slice_index}
-use Rattle.pb_text.specs.contract.Automaton.{Accepts, IsState}
+use Rattle.pb_text.specs.contract.Automaton.{AcceptsItems, IsState}
 use Rattle.pb_text.specs.meaning.Languages.{unmarked, Blanks1, Byte}
 use Rattle.pb_text.specs.meaning.Spelling.{Letter, Item, plain}
 use Rattle.pb_proof.specs.engine.Line.Machine.{line_automaton, line_first}
 use Rattle.pb_proof.specs.meaning.Lines.{none_word, conclusion_word, f_word}
 use Rattle.pb_proof.specs.engine.Machine.Transition.{words_of, next_action}
-use Rattle.pb_proof.specs.meaning.Order.{IsOrdered}
+use Rattle.pb_proof.specs.meaning.Order.{IsStaged}
 use Rattle.pb_proof.specs.engine.Machine.State.{ProofState, proofs, at, idle, giving, next_stage, act, PhaseFits, HasGaps, Holds, IsInOrder}
 use Rattle.pb_proof.specs.declared.conclusion.Conclusion.TheVariants.{NoClaim}
 use Rattle.pb_proof.specs.declared.line.LineMachine.{LineMachine}
@@ -72,10 +72,10 @@ example Formula = formula_lines
 example Opening = item (plain (words_of keyword.Header) ++ unmarked 10 ∷ []) statement.TheVariants.Header ∷ formula_lines
 
 module _ (limit top : ℕ) where
-  closing_ordered : IsOrdered limit top Closing closing_lines
+  closing_ordered : IsStaged limit top Closing closing_lines
   closing_ordered = (no_gap, refl, written keyword.End, refl)
 
-  conclusion_ordered : IsOrdered limit top Concluding conclusion_lines
+  conclusion_ordered : IsStaged limit top Concluding conclusion_lines
   conclusion_ordered = (
     no_gap,
     refl,
@@ -89,13 +89,13 @@ module _ (limit top : ℕ) where
     closing_ordered,
   )
 
-  steps_ordered : IsOrdered limit top Steps step_lines
+  steps_ordered : IsStaged limit top Steps step_lines
   steps_ordered = (no_gap, refl, (plain (words_of keyword.Output), unmarked 10 ∷ [], refl, written keyword.Output, ended), conclusion_ordered)
 
-  formula_ordered : IsOrdered limit top Formula formula_lines
+  formula_ordered : IsStaged limit top Formula formula_lines
   formula_ordered = (no_gap, refl, (plain f_word, unmarked 10 ∷ [], refl, refl, ended), steps_ordered)
 
-  example_ordered : (s : Stage) → IsOrdered limit top s (example s)
+  example_ordered : (s : Stage) → IsStaged limit top s (example s)
   example_ordered Complete = refl
   example_ordered Closing = closing_ordered
   example_ordered Concluding = conclusion_ordered
@@ -103,7 +103,7 @@ module _ (limit top : ℕ) where
   example_ordered Formula = formula_ordered
   example_ordered Opening = (refl, refl, (plain (words_of keyword.Header), unmarked 10 ∷ [], refl, written keyword.Header, fed), formula_ordered)
 
-  pub stage_accepts : (s : Stage) → Accepts proofs (idle limit top s) (example s)
+  pub stage_accepts : (s : Stage) → AcceptsItems proofs (idle limit top s) (example s)
   stage_accepts s = ordered_each limit top (example s) s (example_ordered s)
 
   pub header_end_alive : IsAlive proofs (header_end limit top)
@@ -159,16 +159,16 @@ module _ (limit top : ℕ) where
 is_at : (s : ProofState) (p : Phase) → s.phase ≡ p → s.line ≡ None → s ≡ at s.limit s.top p
 is_at s p e h = rw (e, h) refl
 
-at_accepts : (s : ProofState) (p : Phase) → s.phase ≡ p → s.line ≡ None → IsAlive proofs (at s.limit s.top p) → (items : List (Item Statement)) × Accepts proofs s items
+at_accepts : (s : ProofState) (p : Phase) → s.phase ≡ p → s.line ≡ None → IsAlive proofs (at s.limit s.top p) → (items : List (Item Statement)) × AcceptsItems proofs s items
 at_accepts s p e h alive = accepted proofs s (subst (IsAlive proofs) (sym (is_at s p e h)) alive)
 
 -- after the line feed of a comment
-comment_accepts : (limit top : ℕ) (s : Stage) → HasGaps s → (items : List (Item Statement)) → Accepts proofs (idle limit top s) items → (items' : List (Item Statement)) × Accepts proofs (at limit top (phase.Comment s)) items'
+comment_accepts : (limit top : ℕ) (s : Stage) → HasGaps s → (items : List (Item Statement)) → AcceptsItems proofs (idle limit top s) items → (items' : List (Item Statement)) × AcceptsItems proofs (at limit top (phase.Comment s)) items'
 comment_accepts limit top Opening h items a = absurd h
 comment_accepts limit top Complete h items a = absurd h
 comment_accepts limit top s h [] a = absurd (none s h a)
   where
-    none : (s : Stage) → HasGaps s → Accepts proofs (idle limit top s) [] → ⊥
+    none : (s : Stage) → HasGaps s → AcceptsItems proofs (idle limit top s) [] → ⊥
     none Opening h a = h
     none Complete h a = h
     none Formula h a = cc
@@ -179,12 +179,12 @@ comment_accepts limit top s h (i ∷ items) (mid, after, g, r, a) =
     (record { gap = 10 ∷ i.gap; text = i.text; event = i.event } ∷ items, (mid, after, (idle limit top s, refl, refl, g), r, a))
 
 -- what a state accepts, by its phase
-by_phase : (s : ProofState) → IsInOrder s → (p : Phase) → s.phase ≡ p → PhaseFits p → Holds s p → (items : List (Item Statement)) × Accepts proofs s items
+by_phase : (s : ProofState) → IsInOrder s → (p : Phase) → s.phase ≡ p → PhaseFits p → Holds s p → (items : List (Item Statement)) × AcceptsItems proofs s items
 by_phase s order (phase.Between here) e fits h =
-    (example here, subst (λ x. Accepts proofs x (example here)) (sym (is_at s (phase.Between here) e h)) (stage_accepts s.limit s.top here))
+    (example here, subst (λ x. AcceptsItems proofs x (example here)) (sym (is_at s (phase.Between here) e h)) (stage_accepts s.limit s.top here))
 by_phase s order (phase.Comment here) e fits h =
     let (items, a) = comment_accepts s.limit s.top here fits (example here) (stage_accepts s.limit s.top here) in
-    (items, subst (λ x. Accepts proofs x items) (sym (is_at s (phase.Comment here) e h)) a)
+    (items, subst (λ x. AcceptsItems proofs x items) (sym (is_at s (phase.Comment here) e h)) a)
 by_phase s order (phase.Spelling f k) e fits h = at_accepts s (phase.Spelling f k) e h (spelling_alive s.limit s.top order.limit order.top order.some f k fits.1)
 by_phase s order phase.Solution e fits h = at_accepts s phase.Solution e h (solution_alive s.limit s.top order.limit order.top order.some)
 by_phase s order phase.HeaderEnd e fits h = at_accepts s phase.HeaderEnd e h (header_end_alive s.limit s.top)
@@ -196,5 +196,5 @@ by_phase s order (phase.Inside r) e fits (i, g, d, state) =
     is_giving s r i e h = rw (e, h) refl
 
 -- each state in order accepts something
-pub live : (s : ProofState) → IsInOrder s → (items : List (Item Statement)) × Accepts proofs s items
+pub live : (s : ProofState) → IsInOrder s → (items : List (Item Statement)) × AcceptsItems proofs s items
 live s h = by_phase s h s.phase refl h.fits h.holds

@@ -3,7 +3,7 @@ use Rattle.std.proofs.Common.{◌≡◌, ℕ, Bool, true, false, List, [], ◌�
 use Rattle.std.proofs.lemmas.Bool.{false≢true}
 use Rattle.std.specs.Prelude.{IsTrue, nat_eq}
 use Rattle.pb_text.specs.meaning.Asking.{AsksOnly}
-use Rattle.pb_text.specs.contract.Automaton.{Next, Go, End, Refuse, Reads, MayAsk}
+use Rattle.pb_text.specs.contract.Automaton.{Next, Go, End, Refuse, ReadsStatement, MayAsk}
 use Rattle.pb_text.specs.meaning.Spelling.{Letter, bytes}
 use Rattle.pb_text.proofs.lemmas.machine.Asked as asked
 use Rattle.pb_text.proofs.lemmas.text.Languages.{bytes-append}
@@ -16,7 +16,7 @@ use Rattle.pb_proof.specs.engine.Line.Rup.{rup_first}
 use Rattle.pb_proof.specs.engine.Line.Ids.{ids_first}
 use Rattle.pb_proof.specs.engine.Line.Machine.{line_automaton, line_first, SpellsRest}
 use Rattle.pb_proof.specs.engine.Line.Literals.{literals_first}
-use Rattle.pb_proof.specs.engine.Machine.Transition.{plan}
+use Rattle.pb_proof.specs.engine.Machine.Transition.{transition}
 use Rattle.pb_proof.specs.meaning.Order.{stage_after}
 use Rattle.pb_proof.specs.engine.Line.PolState.{pol_first}
 use Rattle.pb_proof.specs.meaning.Proofs.{IsProof}
@@ -43,34 +43,34 @@ use Rattle.pb_proof.proofs.lemmas.Machine.Sound as sound
 
 module _ (limit top : ℕ) where
   -- after the first word
-  line_asks : (r : LineKind) (q more : List Letter) (l : Letter) (i last : LineMachine) (e : Statement) → Walks line_automaton (line_first limit top r) q i → Reads line_automaton i (l ∷ more) e last
+  line_asks : (r : LineKind) (q more : List Letter) (l : Letter) (i last : LineMachine) (e : Statement) → Walks line_automaton (line_first limit top r) q i → ReadsStatement line_automaton i (l ∷ more) e last
       → line_automaton.asks i l.byte ≡ true → AsksAfter e (bytes q) l.byte
   line_asks kind.Count q more l i last e w r h =
       let (s, is, k) = walks_out _ _ _ _ count_carries q (counting top) i w in
       absurd (false≢true (subst (λ x. line_automaton.asks x l.byte ≡ true) is h))
   line_asks kind.Pol q more l i last e w r h =
       let (s, is, k) = walks_out _ _ _ _ pol_carries q (pol_first limit top) i w in
-      let (v, after, same, j) = reads_out _ _ _ _ pol_carries (l ∷ more) s e last (subst (λ x. Reads line_automaton x (l ∷ more) e last) is r) in
+      let (v, after, same, j) = reads_out _ _ _ _ pol_carries (l ∷ more) s e last (subst (λ x. ReadsStatement line_automaton x (l ∷ more) e last) is r) in
       subst (λ y. AsksAfter y (bytes q) l.byte) (sym same) (pol_asked limit top q s l.byte k (subst (λ x. line_automaton.asks x l.byte ≡ true) is h))
   line_asks kind.Rup q more l i last e w r h =
       let (s, is, k) = walks_out _ _ _ _ rup_carries q (rup_first limit) i w in
-      let (v, after, same, j) = reads_out _ _ _ _ rup_carries (l ∷ more) s e last (subst (λ x. Reads line_automaton x (l ∷ more) e last) is r) in
+      let (v, after, same, j) = reads_out _ _ _ _ rup_carries (l ∷ more) s e last (subst (λ x. ReadsStatement line_automaton x (l ∷ more) e last) is r) in
       subst (λ y. AsksAfter y (bytes q) l.byte) (sym same) (rup_asked limit top q s l.byte k (subst (λ x. line_automaton.asks x l.byte ≡ true) is h))
   line_asks kind.Soli q more l i last e w r h =
       let (s, is, k) = walks_out _ _ _ _ soli_carries q (literals_first false) i w in
-      let (v, after, same, j) = reads_out _ _ _ _ soli_carries (l ∷ more) s e last (subst (λ x. Reads line_automaton x (l ∷ more) e last) is r) in
+      let (v, after, same, j) = reads_out _ _ _ _ soli_carries (l ∷ more) s e last (subst (λ x. ReadsStatement line_automaton x (l ∷ more) e last) is r) in
       subst (λ y. AsksAfter y (bytes q) l.byte) (sym same) (literals_asked false q s l.byte k (subst (λ x. line_automaton.asks x l.byte ≡ true) is h))
   line_asks kind.Solx q more l i last e w r h =
       let (s, is, k) = walks_out _ _ _ _ solx_carries q (literals_first false) i w in
-      let (v, after, same, j) = reads_out _ _ _ _ solx_carries (l ∷ more) s e last (subst (λ x. Reads line_automaton x (l ∷ more) e last) is r) in
+      let (v, after, same, j) = reads_out _ _ _ _ solx_carries (l ∷ more) s e last (subst (λ x. ReadsStatement line_automaton x (l ∷ more) e last) is r) in
       subst (λ y. AsksAfter y (bytes q) l.byte) (sym same) (literals_asked false q s l.byte k (subst (λ x. line_automaton.asks x l.byte ≡ true) is h))
   line_asks kind.Delete q more l i last e w r h =
       let (s, is, k) = walks_out _ _ _ _ delete_carries q (ids_first top) i w in
-      let (v, after, same, j) = reads_out _ _ _ _ delete_carries (l ∷ more) s e last (subst (λ x. Reads line_automaton x (l ∷ more) e last) is r) in
+      let (v, after, same, j) = reads_out _ _ _ _ delete_carries (l ∷ more) s e last (subst (λ x. ReadsStatement line_automaton x (l ∷ more) e last) is r) in
       subst (λ y. AsksAfter y (bytes q) l.byte) (sym same) (ids_asked limit top q s l.byte k (subst (λ x. line_automaton.asks x l.byte ≡ true) is h))
   line_asks kind.Conclusion q more l i last e w r h =
       let (s, is, k) = walks_out _ _ _ _ conclusion_carries q (conclusion_first limit top) i w in
-      let (v, after, same, j) = reads_out _ _ _ _ conclusion_carries (l ∷ more) s e last (subst (λ x. Reads line_automaton x (l ∷ more) e last) is r) in
+      let (v, after, same, j) = reads_out _ _ _ _ conclusion_carries (l ∷ more) s e last (subst (λ x. ReadsStatement line_automaton x (l ∷ more) e last) is r) in
       subst (λ y. AsksAfter y (bytes q) l.byte) (sym same) (conclusion_asked limit top q more l s after v k j (subst (λ x. line_automaton.asks x l.byte ≡ true) is h))
 
   -- the first word of a statement that may allocate
@@ -92,7 +92,7 @@ module _ (limit top : ℕ) where
 
   -- After the first word, the line machine reads.
   line_step : (s : ProofState) (b : ℕ) (r : LineKind) (i : LineMachine) → s.phase ≡ phase.Inside r → s.line ≡ Some i → proofs.step s b ≡ over s r (line_automaton.step i b)
-  line_step s b r i e f = ap (λ q. act s b (plan q b)) e ∙ ap (λ x. over s r (step_line x b)) f
+  line_step s b r i e f = ap (λ q. act s b (transition q b)) e ∙ ap (λ x. over s r (step_line x b)) f
 
   went : (s next : ProofState) (r : LineKind) (x : Next LineMachine Statement) → ◌≡◌ {A = Next ProofState Statement} (over s r x) (Go next) → (i : LineMachine) × (x ≡ Go i) × (next ≡ giving s.limit s.top r i)
   went s next r (Go i) e = (i, refl, (let f : next ≡ giving s.limit s.top r i = cc in f))
@@ -104,8 +104,8 @@ module _ (limit top : ℕ) where
   ended s next r e (End v i) h = (i, (let f : v ≡ e = cc in ap (λ (y : Statement). let z : Next LineMachine Statement = End y i in z) f))
   ended s next r e Refuse h = absurd (let f : ⊥ = cc in f)
 
-  inside_reads : (t : List Letter) (s : ProofState) (r : LineKind) (i : LineMachine) (e : Statement) (next : ProofState) → s.phase ≡ phase.Inside r → s.line ≡ Some i → Reads proofs s t e next
-      → (last : LineMachine) × Reads line_automaton i t e last
+  inside_reads : (t : List Letter) (s : ProofState) (r : LineKind) (i : LineMachine) (e : Statement) (next : ProofState) → s.phase ≡ phase.Inside r → s.line ≡ Some i → ReadsStatement proofs s t e next
+      → (last : LineMachine) × ReadsStatement line_automaton i t e last
   inside_reads [] s r i e next p o h = absurd h
   inside_reads (l ∷ []) s r i e next p o (h, n) =
       let (last, k) = ended s next r e (line_automaton.step i l.byte) (sym (line_step s l.byte r i p o) ∙ h) in (last, (k, n))
@@ -134,11 +134,11 @@ module _ (limit top : ℕ) where
 
   gaps : (s next : ProofState) (b : ℕ) → Idle s → proofs.step s b ≡ Go next → proofs.begun next ≡ false → Idle next × (proofs.asks s b ≡ false)
   gaps s next b (p, e, i) g o =
-      let k : InGap (proofs.step s b) (proofs.asks s b) = subst (λ x. InGap (proofs.step x b) (proofs.asks x b)) (sym e) (gap_action p b (plan p b)) in
+      let k : InGap (proofs.step s b) (proofs.asks s b) = subst (λ x. InGap (proofs.step x b) (proofs.asks x b)) (sym e) (gap_action p b (transition p b)) in
       (subst (λ x. InGap x (proofs.asks s b)) g k) o
 
   -- no statement begins in a comment
-  not_in_comment : {A : Type 0} (st : Stage) (t : List Letter) (e : Statement) (next : ProofState) → Reads proofs (at limit top (phase.Comment st)) t e next → A
+  not_in_comment : {A : Type 0} (st : Stage) (t : List Letter) (e : Statement) (next : ProofState) → ReadsStatement proofs (at limit top (phase.Comment st)) t e next → A
   not_in_comment st [] e next r = absurd r
   not_in_comment st (l ∷ []) e next (h, n) = absurd (let f : ⊥ = cc in f)
   not_in_comment st (l ∷ k ∷ t) e next (mid, h, o, n, r) = never (proofs.begun mid) o (dark mid h)
@@ -150,7 +150,7 @@ module _ (limit top : ℕ) where
           by_test true e = let j : proofs.step (at limit top (phase.Comment st)) l.byte ≡ Go (at limit top (phase.Between st)) = rw e refl in let z : m ≡ at limit top (phase.Between st) = cc in ap proofs.begun z
           by_test false e = let j : proofs.step (at limit top (phase.Comment st)) l.byte ≡ Go (at limit top (phase.Comment st)) = rw e refl in let z : m ≡ at limit top (phase.Comment st) = cc in ap proofs.begun z
 
-  from_idle : (A : Type 0) (p : Phase) (t : List Letter) (e : Statement) (next : ProofState) → is_within p ≡ false → Reads proofs (at limit top p) t e next
+  from_idle : (A : Type 0) (p : Phase) (t : List Letter) (e : Statement) (next : ProofState) → is_within p ≡ false → ReadsStatement proofs (at limit top p) t e next
       → ((st : Stage) → p ≡ phase.Between st → A) → A
   from_idle A (phase.Between st) t e next i r f = f st refl
   from_idle A (phase.Comment st) t e next i r f = not_in_comment st t e next r
@@ -160,11 +160,11 @@ module _ (limit top : ℕ) where
   from_idle A (phase.OutputEnd may) t e next i r f = never true refl i
   from_idle A (phase.Inside w) t e next i r f = never true refl i
 
-  ends : (s next : ProofState) (t : List Letter) (e : Statement) → Idle s → Reads proofs s t e next → Idle next
+  ends : (s next : ProofState) (t : List Letter) (e : Statement) → Idle s → ReadsStatement proofs s t e next → Idle next
   ends s next t e (p, same, i) r =
-      let h : Reads proofs (at limit top p) t e next = subst (λ x. Reads proofs x t e next) same r in
+      let h : ReadsStatement proofs (at limit top p) t e next = subst (λ x. ReadsStatement proofs x t e next) same r in
       from_idle (Idle next) p t e next i h
-      (λ st is. (phase.Between (stage_after e), (sound.statement_only limit top st t e next (subst (λ q. Reads proofs (at limit top q) t e next) is h)).2, refl))
+      (λ st is. (phase.Between (stage_after e), (sound.statement_only limit top st t e next (subst (λ q. ReadsStatement proofs (at limit top q) t e next) is h)).2, refl))
 
   -- without a line machine, no byte may allocate
   quiet : (s : ProofState) (b : ℕ) (m : Action) → s.line ≡ None → asks s b m ≡ false
@@ -176,11 +176,11 @@ module _ (limit top : ℕ) where
   quiet s b EndProof e = refl
   quiet s b Stop e = refl
 
-  module _ (st : Stage) (s next : ProofState) (p more : List Letter) (l : Letter) (e : Statement) (r : Reads proofs s (l ∷ more) e next) where
-    silent : {A : Type 0} (q : Phase) → s.line ≡ None → asks s l.byte (plan q l.byte) ≡ true → A
-    silent q o h = absurd (false≢true (sym (quiet s l.byte (plan q l.byte) o) ∙ h))
+  module _ (st : Stage) (s next : ProofState) (p more : List Letter) (l : Letter) (e : Statement) (r : ReadsStatement proofs s (l ∷ more) e next) where
+    silent : {A : Type 0} (q : Phase) → s.line ≡ None → asks s l.byte (transition q l.byte) ≡ true → A
+    silent q o h = absurd (false≢true (sym (quiet s l.byte (transition q l.byte) o) ∙ h))
 
-    by_phase : (q : Phase) → s.phase ≡ q → sound.prefix_in limit top st s q p → asks s l.byte (plan q l.byte) ≡ true → Asks e (bytes p) l.byte
+    by_phase : (q : Phase) → s.phase ≡ q → sound.prefix_in limit top st s q p → asks s l.byte (transition q l.byte) ≡ true → Asks e (bytes p) l.byte
     by_phase (phase.Between x) f k h = silent (phase.Between x) k.2 h
     by_phase (phase.Comment x) f k h = absurd k
     by_phase (phase.Spelling w j) f k h = silent (phase.Spelling w j) k.4 h
@@ -195,7 +195,7 @@ module _ (limit top : ℕ) where
         let spelled : SpellsRest limit top x e (c ++ l ∷ more) = line_only limit top x (c ++ l ∷ more) e last (reads_after line_automaton c (l ∷ more) (line_first limit top x) i last e w v) in
         (word, bytes c, first_word x e (c ++ l ∷ more) word (bytes c) l.byte spelled before b, ap bytes is ∙ bytes-append word c, b)
 
-  texts : (start s next : ProofState) (prefix more : List Letter) (l : Letter) (e : Statement) → Idle start → Walks proofs start prefix s → Reads proofs s (l ∷ more) e next
+  texts : (start s next : ProofState) (prefix more : List Letter) (l : Letter) (e : Statement) → Idle start → Walks proofs start prefix s → ReadsStatement proofs s (l ∷ more) e next
       → IsTrue (proofs.asks s l.byte) → Asks e (bytes prefix) l.byte
   texts start s next prefix more l e (p, same, i) w r a =
       let walk : Walks proofs (at limit top p) prefix s = subst (λ x. Walks proofs x prefix s) same w in

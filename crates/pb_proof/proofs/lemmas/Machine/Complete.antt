@@ -5,7 +5,7 @@ use Rattle.std.proofs.Math.Seq.{get_or-append_seam}
 use Rattle.std.proofs.lemmas.Bool.Decides.{nat_tests}
 use Rattle.std.proofs.lemmas.List.{append-nil}
 use Rattle.std.specs.Prelude.{IsTrue, nat_eq, slice_index}
-use Rattle.pb_text.specs.contract.Automaton.{Go, Reads}
+use Rattle.pb_text.specs.contract.Automaton.{Go, ReadsStatement}
 use Rattle.pb_text.specs.meaning.Classes.{is_blank}
 use Rattle.pb_text.specs.meaning.Languages.{unmarked, Language, ◌⋅◌, Byte, Each, Blanks1}
 use Rattle.pb_text.specs.meaning.Spelling.{Letter, plain}
@@ -13,7 +13,7 @@ use Rattle.pb_text.proofs.lemmas.machine.Walking.{Walks, walks_then, walks_more,
 use Rattle.pb_text.proofs.lemmas.text.Booleans.{never}
 use Rattle.pb_proof.specs.engine.Line.Machine.{line_automaton, line_first, SpellsRest}
 use Rattle.pb_proof.specs.meaning.Lines.{Feed, LineEnd, SpellsStatement}
-use Rattle.pb_proof.specs.engine.Machine.Transition.{words_of, sol_word, next_action, meets, spell, plan}
+use Rattle.pb_proof.specs.engine.Machine.Transition.{words_of, sol_word, next_action, meets, spell, transition}
 use Rattle.pb_proof.specs.meaning.Order.{stage_of, stage_after}
 use Rattle.pb_proof.specs.engine.Machine.State.{ProofState, proofs, at, idle, giving, next_stage, over, act}
 use Rattle.pb_proof.specs.declared.line.LineMachine.{LineMachine}
@@ -264,16 +264,16 @@ module _ (limit top : ℕ) where
   begins_with keyword.End t (a, b, e, h, k) = (b, e ∙ ap (λ x. x ++ b) h)
 
   -- From the stage, the words and the text after them are read.
-  entered : (f : Keyword) (t u : List Letter) (e : Statement) (after : ProofState) → Spaced (words_of f) t → Reads proofs (spelt f 0) (t ++ u) e after
-      → Reads proofs (idle limit top (stage_keyword f)) (t ++ u) e after
+  entered : (f : Keyword) (t u : List Letter) (e : Statement) (after : ProofState) → Spaced (words_of f) t → ReadsStatement proofs (spelt f 0) (t ++ u) e after
+      → ReadsStatement proofs (idle limit top (stage_keyword f)) (t ++ u) e after
   entered f t u e after h r =
       let (v, g) = begins_with f t h in
-      subst (λ x. Reads proofs (idle limit top (stage_keyword f)) (x ++ u) e after) (sym g)
+      subst (λ x. ReadsStatement proofs (idle limit top (stage_keyword f)) (x ++ u) e after) (sym g)
       (same_first proofs (unmarked (first_byte f)) (v ++ u) (idle limit top (stage_keyword f)) (spelt f 0) after e (enters f)
-      (subst (λ x. Reads proofs (spelt f 0) (x ++ u) e after) g r))
+      (subst (λ x. ReadsStatement proofs (spelt f 0) (x ++ u) e after) g r))
 
   words_then : (f : Keyword) (next : ProofState) → ((k b : ℕ) → act (spelt f k) b (next_action f) ≡ Go next) → proofs.begun next ≡ true → proofs.in_number next ≡ false
-      → (t u : List Letter) (e : Statement) (after : ProofState) → KeywordWords f t → Reads proofs next u e after → Reads proofs (idle limit top (stage_keyword f)) (t ++ u) e after
+      → (t u : List Letter) (e : Statement) (after : ProofState) → KeywordWords f t → ReadsStatement proofs next u e after → ReadsStatement proofs (idle limit top (stage_keyword f)) (t ++ u) e after
   words_then f next g w n t u e after h r =
       let spaced : Spaced (words_of f) t = keyword_each f t h in
       let s : Spelled f t = spelled_words f t spaced in
@@ -282,16 +282,16 @@ module _ (limit top : ℕ) where
       (subst (λ x. Walks proofs (spelt f 0) x next) (sym s.text_is)
       (walks_more proofs s.text (unmarked s.final) (spelt f 0) (spelt f s.count) next s.walks (s.last ∙ g s.count s.final) w (sym n))) r)
 
-  words_end : (t : List Letter) → KeywordWords keyword.End t → Reads proofs (idle limit top Closing) t statement.TheVariants.End (idle limit top Complete)
+  words_end : (t : List Letter) → KeywordWords keyword.End t → ReadsStatement proofs (idle limit top Closing) t statement.TheVariants.End (idle limit top Complete)
   words_end t h =
       let spaced : Spaced (words_of keyword.End) t = keyword_each keyword.End t h in
       let s : Spelled keyword.End t = spelled_words keyword.End t spaced in
-      let r : Reads proofs (spelt keyword.End 0) t statement.TheVariants.End (idle limit top Complete) =
-      subst (λ x. Reads proofs (spelt keyword.End 0) x statement.TheVariants.End (idle limit top Complete)) (sym s.text_is)
+      let r : ReadsStatement proofs (spelt keyword.End 0) t statement.TheVariants.End (idle limit top Complete) =
+      subst (λ x. ReadsStatement proofs (spelt keyword.End 0) x statement.TheVariants.End (idle limit top Complete)) (sym s.text_is)
       (ends_walk proofs s.text (unmarked s.final) (spelt keyword.End 0) (spelt keyword.End s.count) (idle limit top Complete) statement.TheVariants.End s.walks s.last refl) in
-      subst (λ x. Reads proofs (idle limit top Closing) x statement.TheVariants.End (idle limit top Complete)) (append-nil t)
+      subst (λ x. ReadsStatement proofs (idle limit top Closing) x statement.TheVariants.End (idle limit top Complete)) (append-nil t)
       (entered keyword.End t [] statement.TheVariants.End (idle limit top Complete) spaced
-      (subst (λ x. Reads proofs (spelt keyword.End 0) x statement.TheVariants.End (idle limit top Complete)) (sym (append-nil t)) r))
+      (subst (λ x. ReadsStatement proofs (spelt keyword.End 0) x statement.TheVariants.End (idle limit top Complete)) (sym (append-nil t)) r))
 
   -- the states at the ends of lines
   abbrev pub header_end : ProofState
@@ -317,7 +317,7 @@ module _ (limit top : ℕ) where
   output_may : MayEnd proofs (output_end true) (output_end true) (output_end false) statement.TheVariants.Output (idle limit top Concluding)
   output_may = record {
     feeds = output_feeds true;
-    closes = refl;
+    finishes = refl;
     closes_gap = refl;
     begun = refl;
     plain = refl;
@@ -325,13 +325,13 @@ module _ (limit top : ℕ) where
   }
 
   -- what the line machine reads, the proof machine reads
-  pub given_reads : (r : LineKind) (t : List Letter) (i last : LineMachine) (e : Statement) → Reads line_automaton i t e last → Reads proofs (giving limit top r i) t e (idle limit top (next_stage r))
+  pub given_reads : (r : LineKind) (t : List Letter) (i last : LineMachine) (e : Statement) → ReadsStatement line_automaton i t e last → ReadsStatement proofs (giving limit top r i) t e (idle limit top (next_stage r))
   given_reads r [] i last e h = absurd h
   given_reads r (l ∷ []) i last e (g, n) = (ap (over (giving limit top r i) r) g, n)
   given_reads r (l ∷ k ∷ t) i last e (mid, g, w, n, h) =
       (giving limit top r mid, ap (over (giving limit top r i) r) g, refl, n, given_reads r (k ∷ t) mid last e h)
 
-  rest_reads : (r : LineKind) (t : List Letter) (e : Statement) → SpellsRest limit top r e t → Reads proofs (giving limit top r (line_first limit top r)) t e (idle limit top (next_stage r))
+  rest_reads : (r : LineKind) (t : List Letter) (e : Statement) → SpellsRest limit top r e t → ReadsStatement proofs (giving limit top r (line_first limit top r)) t e (idle limit top (next_stage r))
   rest_reads r t e h = let (last, k) = line_each limit top r t e h in given_reads r t (line_first limit top r) last e k
 
   plain_first : (r : LineKind) → proofs.in_number (giving limit top r (line_first limit top r)) ≡ false
@@ -341,18 +341,18 @@ module _ (limit top : ℕ) where
   begun_rest r = giving limit top r (line_first limit top r)
 
   -- after `soli` and `solx`
-  solution_then : (b : ℕ) (r : LineKind) (t u : List Letter) (e : Statement) (after : ProofState) → plan phase.Solution b ≡ action.Begin r → t ≡ plain sol_word ++ unmarked b ∷ []
-      → Reads proofs (begun_rest r) u e after → Reads proofs (idle limit top Steps) (t ++ u) e after
+  solution_then : (b : ℕ) (r : LineKind) (t u : List Letter) (e : Statement) (after : ProofState) → transition phase.Solution b ≡ action.Begin r → t ≡ plain sol_word ++ unmarked b ∷ []
+      → ReadsStatement proofs (begun_rest r) u e after → ReadsStatement proofs (idle limit top Steps) (t ++ u) e after
   solution_then b r t u e after g f h =
-      subst (λ x. Reads proofs (idle limit top Steps) x e after) (sym (ap (λ x. x ++ u) f ∙ append_assoc (plain sol_word) (unmarked b ∷ []) u))
+      subst (λ x. ReadsStatement proofs (idle limit top Steps) x e after) (sym (ap (λ x. x ++ u) f ∙ append_assoc (plain sol_word) (unmarked b ∷ []) u))
       (words_then keyword.Solution (at limit top phase.Solution) (λ k c. refl) refl refl (plain sol_word) (unmarked b ∷ u) e after refl
       (longer proofs (unmarked b) u (at limit top phase.Solution) (begun_rest r) after e (ap (act (at limit top phase.Solution) b) g) refl (sym (plain_first r)) h))
 
-  by_parts : (P Q : Language) (t : List Letter) (e : Statement) (s after : ProofState) → ((a b : List Letter) → P a → Q b → Reads proofs s (a ++ b) e after) → (P ⋅ Q) t → Reads proofs s t e after
-  by_parts P Q t e s after f (a, b, g, h, k) = subst (λ x. Reads proofs s x e after) (sym g) (f a b h k)
+  by_parts : (P Q : Language) (t : List Letter) (e : Statement) (s after : ProofState) → ((a b : List Letter) → P a → Q b → ReadsStatement proofs s (a ++ b) e after) → (P ⋅ Q) t → ReadsStatement proofs s t e after
+  by_parts P Q t e s after f (a, b, g, h, k) = subst (λ x. ReadsStatement proofs s x e after) (sym g) (f a b h k)
 
   -- The machine reads each statement.
-  pub statement_each : (t : List Letter) (e : Statement) → SpellsStatement limit top e t → Reads proofs (idle limit top (stage_of e)) t e (idle limit top (stage_after e))
+  pub statement_each : (t : List Letter) (e : Statement) → SpellsStatement limit top e t → ReadsStatement proofs (idle limit top (stage_of e)) t e (idle limit top (stage_after e))
   statement_each t statement.TheVariants.Header h =
       by_parts (KeywordWords keyword.Header) Feed t statement.TheVariants.Header (idle limit top Opening) (idle limit top Formula)
       (λ a b i k. words_then keyword.Header header_end (λ j c. refl) refl refl a b statement.TheVariants.Header (idle limit top Formula) i

@@ -2,12 +2,12 @@
 use Rattle.std.proofs.Common.{◌≡◌, ℕ, true, false, List, [], ◌∷◌, ◌++◌, refl, sym, ap, subst, ◌↔◌}
 use Rattle.std.proofs.lemmas.List.Elements.{All-nil, All-cons, All-head, All-tail}
 use Rattle.std.specs.Prelude.{IsTrue, All}
-use Rattle.pb_text.specs.contract.Automaton.{Refuse, Accepts}
+use Rattle.pb_text.specs.contract.Automaton.{Refuse, AcceptsItems}
 use Rattle.pb_text.specs.meaning.Spelling.{Item}
 use Rattle.pb_text.specs.meaning.Whole.{events_of}
 use Rattle.pb_proof.specs.meaning.Lines.{SpellsStatement}
-use Rattle.pb_proof.specs.engine.Machine.Transition.{plan}
-use Rattle.pb_proof.specs.meaning.Order.{stage_of, stage_after, GapAt, IsOrdered}
+use Rattle.pb_proof.specs.engine.Machine.Transition.{transition}
+use Rattle.pb_proof.specs.meaning.Order.{stage_of, stage_after, GapAt, IsStaged}
 use Rattle.pb_text.proofs.lemmas.text.Deterministic.{one_spelling}
 use Rattle.pb_text.proofs.lemmas.text.Booleans.{never}
 use Rattle.pb_proof.specs.contract.Formats.{OneProof}
@@ -159,17 +159,17 @@ module _ (limit top : ℕ) where
   gap_is Closing gap h = h
   gap_is Complete gap h = h
 
-  spelled_only : (items : List (Item Statement)) (at : Stage) → IsOrdered limit top at items → InOrder at (events_of items) × AreSpelled limit top items
+  spelled_only : (items : List (Item Statement)) (at : Stage) → IsStaged limit top at items → InOrder at (events_of items) × AreSpelled limit top items
   spelled_only [] at h = (h, All-nil Spelled)
   spelled_only (i ∷ rest) at (g, s, t, h) =
       let k = spelled_only rest (stage_after i.event) h in
       ((s, k.0), All-cons Spelled i rest (gap_is at i.gap g, t) k.1)
 
-  at_once : (items : List (Item Statement)) → IsOrdered limit top Opening items → BeginsAtOnce limit top items
+  at_once : (items : List (Item Statement)) → IsStaged limit top Opening items → BeginsAtOnce limit top items
   at_once [] h = cc
   at_once (i ∷ rest) h = h.0
 
-  pub proof_only : (items : List (Item Statement)) → IsOrdered limit top Opening items → IsProof limit top items
+  pub proof_only : (items : List (Item Statement)) → IsStaged limit top Opening items → IsProof limit top items
   proof_only items h =
       let k = spelled_only items Opening h in
       let (v, s, e) = at_opening (events_of items) k.0 in
@@ -188,28 +188,28 @@ module _ (limit top : ℕ) where
   gap_later (Conclude c) gap h = h
   gap_later End gap h = h
 
-  later_each : (items : List (Item Statement)) (before : Statement) → InOrder (stage_after before) (events_of items) → AreSpelled limit top items → IsOrdered limit top (stage_after before) items
+  later_each : (items : List (Item Statement)) (before : Statement) → InOrder (stage_after before) (events_of items) → AreSpelled limit top items → IsStaged limit top (stage_after before) items
   later_each [] before h s = h
   later_each (i ∷ rest) before (e, h) s =
       let k = All-head Spelled i rest s in
       (gap_later before i.gap k.0, e, k.1, later_each rest i.event h (All-tail Spelled i rest s))
 
-  pub proof_each : (items : List (Item Statement)) → IsProof limit top items → IsOrdered limit top Opening items
+  pub proof_each : (items : List (Item Statement)) → IsProof limit top items → IsStaged limit top Opening items
   proof_each items (v, (steps, e, first, spelled)) = from_first items (subst (InOrder Opening) (sym e) (statements_order v steps)) first spelled
     where
-      from_first : (items : List (Item Statement)) → InOrder Opening (events_of items) → BeginsAtOnce limit top items → AreSpelled limit top items → IsOrdered limit top Opening items
+      from_first : (items : List (Item Statement)) → InOrder Opening (events_of items) → BeginsAtOnce limit top items → AreSpelled limit top items → IsStaged limit top Opening items
       from_first [] h f s = absurd f
       from_first (i ∷ rest) (e, h) f s = (f, e, (All-head Spelled i rest s).1, later_each rest i.event h (All-tail Spelled i rest s))
 
   -- A new machine accepts exactly the proofs.
-  pub reads_proofs : (items : List (Item Statement)) → Accepts proofs (begin limit top) items ↔ IsProof limit top items
+  pub reads_proofs : (items : List (Item Statement)) → AcceptsItems proofs (begin limit top) items ↔ IsProof limit top items
   reads_proofs items = (
     (λ h. proof_only items (ordered_only limit top items Opening h)),
     (λ h. ordered_each limit top items Opening (proof_each items h)),
   )
 
 -- No byte is taken after a complete proof.
-pub done_stops : (s : ProofState) (p : Phase) (b : ℕ) → is_done p ≡ true → act s b (plan p b) ≡ Refuse
+pub done_stops : (s : ProofState) (p : Phase) (b : ℕ) → is_done p ≡ true → act s b (transition p b) ≡ Refuse
 done_stops s (phase.Between Complete) b h = refl
 done_stops s (phase.Between Opening) b h = never false h refl
 done_stops s (phase.Between Formula) b h = never false h refl
@@ -223,9 +223,9 @@ done_stops s phase.HeaderEnd b h = never false h refl
 done_stops s (phase.OutputEnd may) b h = never false h refl
 done_stops s (phase.Inside r) b h = never false h refl
 
-pub closes : (s : ProofState) → IsTrue (proofs.done s) → (b : ℕ) → proofs.step s b ≡ Refuse
-closes s h b = done_stops s s.phase b h
+pub finishes : (s : ProofState) → IsTrue (proofs.done s) → (b : ℕ) → proofs.step s b ≡ Refuse
+finishes s h b = done_stops s s.phase b h
 
 -- each text is of one proof only
 pub one_proof : OneProof
-one_proof limit top items items' h k = one_spelling proofs closes (begin limit top) items items' ((reads_proofs limit top items).1 h) ((reads_proofs limit top items').1 k)
+one_proof limit top items items' h k = one_spelling proofs finishes (begin limit top) items items' ((reads_proofs limit top items).1 h) ((reads_proofs limit top items').1 k)

@@ -4,7 +4,7 @@ use Rattle.std.proofs.Common.{◌≡◌, ℕ, Bool, true, false, cond, not, ◌&
 use Rattle.std.proofs.lemmas.List.{append-nil}
 use Rattle.std.specs.Prelude.{nat_eq, slice_index}
 use Rattle.std.proofs.Math.Bool.{or-true}
-use Rattle.pb_text.specs.contract.Automaton.{Next, Go, End, Refuse, Skips, Reads}
+use Rattle.pb_text.specs.contract.Automaton.{Next, Go, End, Refuse, SkipsGap, ReadsStatement}
 use Rattle.pb_text.specs.meaning.Blank.{IsBlank, Nothing, in_comment}
 use Rattle.pb_text.specs.meaning.Classes.{is_white}
 use Rattle.pb_text.specs.meaning.Spelling.{Letter}
@@ -113,7 +113,7 @@ module _ (limit top : ℕ) (s : Stage) (gaps : HasGaps s) where
   mode_after : (before : List ℕ) (b : ℕ) → next_mode b (in_comment before) ≡ in_comment (before ++ b ∷ [])
   mode_after before b = sym (in_comment-snoc before b)
 
-  gap_only : (gap before : List ℕ) (mid : ProofState) → Skips proofs (gap_state (in_comment before)) gap mid → IsBlank before
+  gap_only : (gap before : List ℕ) (mid : ProofState) → SkipsGap proofs (gap_state (in_comment before)) gap mid → IsBlank before
       → IsBlank (before ++ gap) × (mid ≡ gap_state (in_comment (before ++ gap)))
   gap_only [] before mid h blank = (
     subst IsBlank (sym (append-nil before)) blank,
@@ -122,7 +122,7 @@ module _ (limit top : ℕ) (s : Stage) (gaps : HasGaps s) where
   gap_only (b ∷ gap) before mid (next, g, o, h) blank =
       let on : InGap (Leads b (in_comment before)) (Go next) = subst (λ x. InGap (Leads b (in_comment before)) x) g (gap_byte (in_comment before) b) in
       let f : Leads b (in_comment before) next = on o in
-      let k = gap_only gap (before ++ b ∷ []) mid (subst (λ x. Skips proofs x gap mid) (f.1 ∙ ap gap_state (mode_after before b)) h) (IsBlank-snoc before b blank f.0) in
+      let k = gap_only gap (before ++ b ∷ []) mid (subst (λ x. SkipsGap proofs x gap mid) (f.1 ∙ ap gap_state (mode_after before b)) h) (IsBlank-snoc before b blank f.0) in
       subst (λ x. IsBlank x × (mid ≡ gap_state (in_comment x))) (append_assoc before (b ∷ []) gap) k
 
   -- the converse
@@ -150,7 +150,7 @@ module _ (limit top : ℕ) (s : Stage) (gaps : HasGaps s) where
       by_white true e = ap (λ y. Go (gap_state y)) (sym (white_mode b e))
       by_white false e = by_star e (nat_eq b 42) refl
 
-  gap_each : (gap before : List ℕ) → IsBlank (before ++ gap) → Skips proofs (gap_state (in_comment before)) gap (gap_state (in_comment (before ++ gap)))
+  gap_each : (gap before : List ℕ) → IsBlank (before ++ gap) → SkipsGap proofs (gap_state (in_comment before)) gap (gap_state (in_comment (before ++ gap)))
   gap_each [] before h = ap (λ x. gap_state (in_comment x)) (append-nil before)
   gap_each (b ∷ gap) before h =
       let e : before ++ b ∷ gap ≡ (before ++ b ∷ []) ++ gap = sym (append_assoc before (b ∷ []) gap) in
@@ -159,12 +159,12 @@ module _ (limit top : ℕ) (s : Stage) (gaps : HasGaps s) where
         gap_state (next_mode b (in_comment before)),
         gap_step (in_comment before) b (passes_at before gap b (blank_passes (before ++ b ∷ gap) h)),
         outside (next_mode b (in_comment before)),
-        subst (λ x. Skips proofs x gap (gap_state (in_comment (before ++ b ∷ gap)))) (ap gap_state (sym m))
-            (subst (λ x. Skips proofs (gap_state (in_comment (before ++ b ∷ []))) gap (gap_state (in_comment x))) (sym e) k),
+        subst (λ x. SkipsGap proofs x gap (gap_state (in_comment (before ++ b ∷ gap)))) (ap gap_state (sym m))
+            (subst (λ x. SkipsGap proofs (gap_state (in_comment (before ++ b ∷ []))) gap (gap_state (in_comment x))) (sym e) k),
       )
 
   -- no statement begins in a comment
-  comment_reads : (t : List Letter) (e : Statement) (after : ProofState) → Reads proofs (gap_state true) t e after → ⊥
+  comment_reads : (t : List Letter) (e : Statement) (after : ProofState) → ReadsStatement proofs (gap_state true) t e after → ⊥
   comment_reads [] e after r = r
   comment_reads (l ∷ []) e after (g, n) = no_end g
     where
@@ -176,15 +176,15 @@ module _ (limit top : ℕ) (s : Stage) (gaps : HasGaps s) where
       stays true g = let f : idle limit top s ≡ mid = cc in never (proofs.begun mid) i (ap proofs.begun (sym f))
       stays false g = let f : at limit top (phase.Comment s) ≡ mid = cc in never (proofs.begun mid) i (ap proofs.begun (sym f))
 
-  pub gap_before : (gap : List ℕ) (mid after : ProofState) (t : List Letter) (e : Statement) → Skips proofs (idle limit top s) gap mid → Reads proofs mid t e after
+  pub gap_before : (gap : List ℕ) (mid after : ProofState) (t : List Letter) (e : Statement) → SkipsGap proofs (idle limit top s) gap mid → ReadsStatement proofs mid t e after
       → IsGap gap × (mid ≡ idle limit top s)
   gap_before gap mid after t e h r =
       let k = gap_only gap [] mid h Nothing in
       by_mode (in_comment gap) refl k
     where
       by_mode : (x : Bool) → in_comment gap ≡ x → IsBlank gap × (mid ≡ gap_state (in_comment gap)) → IsGap gap × (mid ≡ idle limit top s)
-      by_mode true c k = absurd (comment_reads t e after (subst (λ y. Reads proofs y t e after) (k.1 ∙ ap gap_state c) r))
+      by_mode true c k = absurd (comment_reads t e after (subst (λ y. ReadsStatement proofs y t e after) (k.1 ∙ ap gap_state c) r))
       by_mode false c k = ((k.0, c), k.1 ∙ ap gap_state c)
 
-  pub gap_skips : (gap : List ℕ) → IsGap gap → Skips proofs (idle limit top s) gap (idle limit top s)
-  gap_skips gap (blank, c) = subst (λ x. Skips proofs (idle limit top s) gap (gap_state x)) c (gap_each gap [] blank)
+  pub gap_skips : (gap : List ℕ) → IsGap gap → SkipsGap proofs (idle limit top s) gap (idle limit top s)
+  gap_skips gap (blank, c) = subst (λ x. SkipsGap proofs (idle limit top s) gap (gap_state x)) c (gap_each gap [] blank)

@@ -1,11 +1,11 @@
 -- What the proof machine accepts from a stage is the statements in order.
 use Rattle.std.proofs.Common.{◌≡◌, ℕ, true, false, List, [], ◌∷◌, refl, sym, ap, subst, ◌∙◌}
-use Rattle.pb_text.specs.contract.Automaton.{Next, Go, End, Refuse, Skips, Reads, Accepts}
+use Rattle.pb_text.specs.contract.Automaton.{Next, Go, End, Refuse, SkipsGap, ReadsStatement, AcceptsItems}
 use Rattle.pb_text.specs.meaning.Spelling.{Item, Letter}
 use Rattle.pb_text.proofs.lemmas.text.Booleans.{never}
 use Rattle.pb_text.proofs.lemmas.machine.Outcomes.{refuse_or_go, refuse_or_end}
 use Rattle.pb_proof.specs.engine.Machine.Transition.{enter}
-use Rattle.pb_proof.specs.meaning.Order.{stage_of, stage_after, GapAt, IsOrdered}
+use Rattle.pb_proof.specs.meaning.Order.{stage_of, stage_after, GapAt, IsStaged}
 use Rattle.pb_proof.specs.engine.Machine.State.{ProofState, proofs, idle, act, is_complete}
 use Rattle.pb_proof.specs.declared.machine.phase.Stage.{Stage}
 use Rattle.pb_proof.specs.declared.machine.phase.Stage.TheVariants.{Opening, Formula, Steps, Concluding, Closing, Complete}
@@ -41,17 +41,17 @@ module _ (limit top : ℕ) where
   went_inside b action.EndProof h = tt
   went_inside b action.Stop h = tt
 
-  opening_gap : (gap : List ℕ) (mid : ProofState) → Skips proofs (idle limit top Opening) gap mid → (gap ≡ []) × (mid ≡ idle limit top Opening)
+  opening_gap : (gap : List ℕ) (mid : ProofState) → SkipsGap proofs (idle limit top Opening) gap mid → (gap ≡ []) × (mid ≡ idle limit top Opening)
   opening_gap [] mid h = (refl, h)
   opening_gap (b ∷ gap) mid (next, g, o, h) = never (proofs.begun next) (subst OnGo g (went_inside b (enter Opening b) (enter_inside Opening b))) o
 
-  complete_reads : (gap : List ℕ) (mid after : ProofState) (t : List Letter) (e : Statement) → Skips proofs (idle limit top Complete) gap mid → Reads proofs mid t e after → ⊥
+  complete_reads : (gap : List ℕ) (mid after : ProofState) (t : List Letter) (e : Statement) → SkipsGap proofs (idle limit top Complete) gap mid → ReadsStatement proofs mid t e after → ⊥
   complete_reads [] mid after [] e h r = r
   complete_reads [] mid after (l ∷ []) e h (g, n) = refuse_or_end e after (sym (ap (λ s. proofs.step s l.byte) h) ∙ g)
   complete_reads [] mid after (l ∷ k ∷ t) e h (next, g, i, n, r) = refuse_or_go next (sym (ap (λ s. proofs.step s l.byte) h) ∙ g)
   complete_reads (b ∷ gap) mid after t e (next, g, o, h) r = refuse_or_go next g
 
-  gap_at : (at : Stage) (gap : List ℕ) (mid after : ProofState) (t : List Letter) (e : Statement) → Skips proofs (idle limit top at) gap mid → Reads proofs mid t e after
+  gap_at : (at : Stage) (gap : List ℕ) (mid after : ProofState) (t : List Letter) (e : Statement) → SkipsGap proofs (idle limit top at) gap mid → ReadsStatement proofs mid t e after
       → GapAt at gap × (mid ≡ idle limit top at)
   gap_at Opening gap mid after t e h r = opening_gap gap mid h
   gap_at Complete gap mid after t e h r = absurd (complete_reads gap mid after t e h r)
@@ -60,12 +60,12 @@ module _ (limit top : ℕ) where
   gap_at Concluding gap mid after t e h r = gap_before limit top Concluding tt gap mid after t e h r
   gap_at Closing gap mid after t e h r = gap_before limit top Closing tt gap mid after t e h r
 
-  pub ordered_only : (items : List (Item Statement)) (at : Stage) → Accepts proofs (idle limit top at) items → IsOrdered limit top at items
+  pub ordered_only : (items : List (Item Statement)) (at : Stage) → AcceptsItems proofs (idle limit top at) items → IsStaged limit top at items
   ordered_only [] at h = complete at h
   ordered_only (i ∷ rest) at (mid, after, g, r, a) =
       let k = gap_at at i.gap mid after i.text i.event g r in
-      let s = statement_only limit top at i.text i.event after (subst (λ x. Reads proofs x i.text i.event after) k.1 r) in
-      (k.0, s.0, s.1, ordered_only rest (stage_after i.event) (subst (λ x. Accepts proofs x rest) s.2 a))
+      let s = statement_only limit top at i.text i.event after (subst (λ x. ReadsStatement proofs x i.text i.event after) k.1 r) in
+      (k.0, s.0, s.1, ordered_only rest (stage_after i.event) (subst (λ x. AcceptsItems proofs x rest) s.2 a))
 
   -- no statement comes after the last one
   stage_some : (e : Statement) → stage_of e ≡ Complete → ⊥
@@ -75,20 +75,20 @@ module _ (limit top : ℕ) where
   stage_some (statement.TheVariants.Conclude c) h = cc
   stage_some _ h = cc
 
-  skips_at : (at : Stage) (gap : List ℕ) → (at ≡ Complete → ⊥) → GapAt at gap → Skips proofs (idle limit top at) gap (idle limit top at)
-  skips_at Opening gap n h = subst (λ x. Skips proofs (idle limit top Opening) x (idle limit top Opening)) (sym h) refl
+  skips_at : (at : Stage) (gap : List ℕ) → (at ≡ Complete → ⊥) → GapAt at gap → SkipsGap proofs (idle limit top at) gap (idle limit top at)
+  skips_at Opening gap n h = subst (λ x. SkipsGap proofs (idle limit top Opening) x (idle limit top Opening)) (sym h) refl
   skips_at Complete gap n h = absurd (n refl)
   skips_at Formula gap n h = gap_skips limit top Formula tt gap h
   skips_at Steps gap n h = gap_skips limit top Steps tt gap h
   skips_at Concluding gap n h = gap_skips limit top Concluding tt gap h
   skips_at Closing gap n h = gap_skips limit top Closing tt gap h
 
-  pub ordered_each : (items : List (Item Statement)) (at : Stage) → IsOrdered limit top at items → Accepts proofs (idle limit top at) items
+  pub ordered_each : (items : List (Item Statement)) (at : Stage) → IsStaged limit top at items → AcceptsItems proofs (idle limit top at) items
   ordered_each [] at h = ap is_complete h
   ordered_each (i ∷ rest) at (g, s, t, h) = (
     idle limit top at,
     idle limit top (stage_after i.event),
     skips_at at i.gap (λ k. stage_some i.event (s ∙ k)) g,
-    subst (λ x. Reads proofs (idle limit top x) i.text i.event (idle limit top (stage_after i.event))) s (statement_each limit top i.text i.event t),
+    subst (λ x. ReadsStatement proofs (idle limit top x) i.text i.event (idle limit top (stage_after i.event))) s (statement_each limit top i.text i.event t),
     ordered_each rest (stage_after i.event) h,
   )

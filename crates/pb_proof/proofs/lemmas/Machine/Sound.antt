@@ -4,7 +4,7 @@ use Rattle.std.proofs.Math.Seq.{take-suc}
 use Rattle.std.proofs.lemmas.Bool.{eqb-true, cond_both, and_parts}
 use Rattle.std.proofs.lemmas.List.{take_all}
 use Rattle.std.specs.Prelude.{nat_eq, slice_index}
-use Rattle.pb_text.specs.contract.Automaton.{Next, Go, End, Refuse, Reads}
+use Rattle.pb_text.specs.contract.Automaton.{Next, Go, End, Refuse, ReadsStatement}
 use Rattle.pb_text.specs.meaning.Classes.{is_blank, is_white}
 use Rattle.pb_text.specs.meaning.Languages.{Language, ◌⋅◌, Bytes}
 use Rattle.pb_text.specs.meaning.Spelling.{Letter, plain}
@@ -14,7 +14,7 @@ use Rattle.pb_text.proofs.lemmas.text.Booleans.{never}
 use Rattle.pb_text.proofs.lemmas.text.Letters.{as_unmarked, further}
 use Rattle.pb_proof.specs.engine.Line.Machine.{line_automaton, line_first, SpellsRest}
 use Rattle.pb_proof.specs.meaning.Lines.{f_word, pol_word, rup_word, soli_word, solx_word, conclusion_word, SpellsStatement}
-use Rattle.pb_proof.specs.engine.Machine.Transition.{words_of, sol_word, next_action, meets, spell, step_keyword, enter, pass, between, plan}
+use Rattle.pb_proof.specs.engine.Machine.Transition.{words_of, sol_word, next_action, meets, spell, step_keyword, enter, pass, between, transition}
 use Rattle.pb_proof.specs.meaning.Order.{stage_of, stage_after}
 use Rattle.pb_proof.specs.engine.Machine.State.{ProofState, proofs, idle, next_stage, over, step_line, act, asked}
 use Rattle.pb_proof.specs.declared.line.LineMachine.{LineMachine}
@@ -167,7 +167,7 @@ module _ (limit top : ℕ) (here : Stage) where
         (λ _. else)
 
     spelling : (f : Keyword) (j : ℕ) → stage_keyword f ≡ here → 0 < j → j < length (words_of f) → Spaced (take j (words_of f)) p → s.line ≡ None
-        → After (plan (phase.Spelling f j) l.byte)
+        → After (transition (phase.Spelling f j) l.byte)
     spelling f j at some h q o = spells o f at j h q _
         (cond_both (is_blank l.byte && nat_eq (slice_index (words_of f) (j - 1)) 32) _ _ After
         (λ e w n.
@@ -206,21 +206,21 @@ module _ (limit top : ℕ) (here : Stage) where
     between_two Complete at e o = tt
 
     -- `i` or `x` after `sol`
-    logged : Steps ≡ here → Bytes sol_word p → After (plan phase.Solution l.byte)
+    logged : Steps ≡ here → Bytes sol_word p → After (transition phase.Solution l.byte)
     logged at e = cond_both (nat_eq l.byte 105) _ _ After
         (λ h. begins kind.Soli at (λ n. ap (λ x. x ++ l ∷ []) e ∙ ap (λ x. plain sol_word ++ x ∷ []) (as_unmarked l 105 n (eqb-true l.byte 105 h))))
         (λ _. cond_both (nat_eq l.byte 120) _ _ After
         (λ h. begins kind.Solx at (λ n. ap (λ x. x ++ l ∷ []) e ∙ ap (λ x. plain sol_word ++ x ∷ []) (as_unmarked l 120 n (eqb-true l.byte 120 h))))
         (λ _. tt))
 
-    header_ends : Opening ≡ here → Gapped (KeywordWords keyword.Header) p → s.line ≡ None → After (plan phase.HeaderEnd l.byte)
+    header_ends : Opening ≡ here → Gapped (KeywordWords keyword.Header) p → s.line ≡ None → After (transition phase.HeaderEnd l.byte)
     header_ends at h o = cond_both (is_blank l.byte) _ _ After
         (λ e w n. (k, (at, blank_more (KeywordWords keyword.Header) l p e (plain_letter o n) h, o)))
         (λ _. cond_both (nat_eq l.byte 10) _ _ After
         (λ e n. (at, feed_after_blanks (KeywordWords keyword.Header) l p (eqb-true l.byte 10 e) n h, same_idle s.limit s.top Formula Formula k.0 k.1 refl))
         (λ _. tt))
 
-    output_ends : (may : Bool) → prefix_in s (phase.OutputEnd may) p → After (plan (phase.OutputEnd may) l.byte)
+    output_ends : (may : Bool) → prefix_in s (phase.OutputEnd may) p → After (transition (phase.OutputEnd may) l.byte)
     output_ends true (at, h, o) = cond_both (is_blank l.byte) _ _ After
         (λ e w n. (k, (at, blank_more (KeywordWords keyword.Output) l p e (plain_letter o n) h, o)))
         (λ _. cond_both (nat_eq l.byte 10) _ _ After
@@ -259,11 +259,11 @@ module _ (limit top : ℕ) (here : Stage) where
         (z.0 ∙ at, z.1, same_idle s.limit s.top (next_stage r) (stage_after e) k.0 k.1 z.2)
     given r at i h Refuse e = tt
 
-    inside : (r : LineKind) → stage_rest r ≡ here → (i : LineMachine) → s.line ≡ Some i → (Before r ⋅ (λ q. Walks line_automaton (line_first limit top r) q i)) p → After (plan (phase.Inside r) l.byte)
+    inside : (r : LineKind) → stage_rest r ≡ here → (i : LineMachine) → s.line ≡ Some i → (Before r ⋅ (λ q. Walks line_automaton (line_first limit top r) q i)) p → After (transition (phase.Inside r) l.byte)
     inside r at i e h =
         subst (λ x. Leaves (over s r (step_line x l.byte))) (sym e) (given r at i h (line_automaton.step i l.byte) refl)
 
-    sound : (q : Phase) → prefix_in s q p → After (plan q l.byte)
+    sound : (q : Phase) → prefix_in s q p → After (transition q l.byte)
     sound (phase.Between at) h = between_two at h.0 h.1 h.2
     sound (phase.Comment at) h = absurd h
     sound (phase.Spelling f j) h = spelling f j h.0 h.1 h.2 h.3 h.4
@@ -275,6 +275,6 @@ module _ (limit top : ℕ) (here : Stage) where
   pub keeps : Keeps proofs Read IsStatement
   keeps s l p f = sound s l p f.0 s.phase f.1
 
-  pub statement_only : (t : List Letter) (e : Statement) (after : ProofState) → Reads proofs (idle limit top here) t e after → IsStatement e after t
+  pub statement_only : (t : List Letter) (e : Statement) (after : ProofState) → ReadsStatement proofs (idle limit top here) t e after → IsStatement e after t
   statement_only t e after r =
       reported proofs Read IsStatement keeps t (idle limit top here) [] e after r ((refl, refl), (refl, refl, refl))

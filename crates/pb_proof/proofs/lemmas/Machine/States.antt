@@ -8,7 +8,7 @@ use Rattle.pb_text.specs.meaning.Classes.{is_blank, is_white}
 use Rattle.pb_text.proofs.lemmas.machine.Residual.{refuses}
 use Rattle.pb_text.proofs.lemmas.text.Booleans.{never}
 use Rattle.pb_proof.specs.engine.Line.Machine.{line_automaton, line_first}
-use Rattle.pb_proof.specs.engine.Machine.Transition.{words_of, next_action, meets, spell, step_keyword, enter, pass, between, plan}
+use Rattle.pb_proof.specs.engine.Machine.Transition.{words_of, next_action, meets, spell, step_keyword, enter, pass, between, transition}
 use Rattle.pb_proof.specs.engine.Machine.State.{ProofState, proofs, at, idle, giving, next_stage, over, step_line, act, asked, asks, is_within, is_done, is_complete, HasGaps, PhaseFits, Holds, IsInOrder}
 use Rattle.pb_proof.specs.declared.line.LineMachine.{LineMachine}
 use Rattle.pb_proof.specs.declared.machine.phase.Keyword.{Keyword}
@@ -25,7 +25,7 @@ use Rattle.pb_proof.proofs.lemmas.Line.Laws.{line_begins, line_fresh, line_first
 use Rattle.pb_text.proofs.lemmas.text.Letters.{further}
 use Rattle.pb_text.proofs.lemmas.machine.Living.{admits_before, admits_final, admitted_on}
 use Rattle.pb_proof.proofs.lemmas.Machine.Alive.{live, reading_alive, stage_accepts, example}
-use Rattle.pb_proof.proofs.lemmas.Machine.Exact.{closes}
+use Rattle.pb_proof.proofs.lemmas.Machine.Exact.{finishes}
 use Rattle.pb_proof.proofs.lemmas.Spaced.{some_byte}
 
 -- the phase has no line machine
@@ -99,7 +99,7 @@ on_between Concluding b = on_pass Concluding b tt
 on_between Closing b = on_pass Closing b tt
 
 -- the transitions of each phase
-pub on_plan : (p : Phase) (b : ℕ) → PhaseFits p → OnAction p (plan p b)
+pub on_plan : (p : Phase) (b : ℕ) → PhaseFits p → OnAction p (transition p b)
 on_plan (phase.Between s) b h = on_between s b
 on_plan (phase.Comment s) b h = cond_both (nat_eq b 10) (phase.Between s) (phase.Comment s) (λ q. OnAction (phase.Comment s) (action.To q))
     (λ _. (tt, record { owes = gaps_incomplete s h; stays = λ w. w; fits = tt; plain = tt }))
@@ -147,13 +147,13 @@ outside_plain (phase.OutputEnd may) h = tt
 outside_plain (phase.Inside r) h = never true refl h
 
 -- what holds after a byte
-record Goes (s next : ProofState) : Type 0 where
+record Continues (s next : ProofState) : Type 0 where
   pub owes : proofs.done next ≡ false
   pub stays : proofs.begun s ≡ true → proofs.begun next ≡ true
   pub grows : proofs.spent next ≤ proofs.spent s + 1
 
 abbrev On : ProofState → Next ProofState Statement → Type 0
-On s (Go next) = Goes s next
+On s (Go next) = Continues s next
 On s (End e next) = proofs.begun next ≡ false
 On s Refuse = Unit {0}
 
@@ -181,10 +181,10 @@ on_act s h b action.EndProof k = refl
 on_act s h b action.Stop k = tt
 
 steps : (s : ProofState) → IsInOrder s → (b : ℕ) → On s (proofs.step s b)
-steps s h b = on_act s h b (plan s.phase b) (on_plan s.phase b h.fits)
+steps s h b = on_act s h b (transition s.phase b) (on_plan s.phase b h.fits)
 
-goes : (s next : ProofState) (b : ℕ) → IsInOrder s → proofs.step s b ≡ Go next → Goes s next
-goes s next b h e = subst (On s) e (steps s h b)
+continues : (s next : ProofState) (b : ℕ) → IsInOrder s → proofs.step s b ≡ Go next → Continues s next
+continues s next b h e = subst (On s) e (steps s h b)
 
 kept_within : (s : ProofState) (p : Phase) → Holds s p → proofs.kept s ≤ proofs.spent s
 kept_within s (phase.Inside r) (i, e, d, state) = rw e state.bounds
@@ -198,26 +198,26 @@ kept_within s (phase.OutputEnd may) h = rw h (omega arith)
 pub is_state : (s : ProofState) → IsInOrder s → IsState proofs s
 is_state s h = record {
   live = live s h;
-  ends = λ d b. closes s d b;
-  owes = λ b next e. (goes s next b h e).owes;
-  stays = λ i b next e. (goes s next b h e).stays i;
-  closes = λ b x next e. subst (On s) e (steps s h b);
+  ends = λ d b. finishes s d b;
+  owes = λ b next e. (continues s next b h e).owes;
+  stays = λ i b next e. (continues s next b h e).stays i;
+  finishes = λ b x next e. subst (On s) e (steps s h b);
   plain = λ o. ap (asked false line_automaton.in_number) (plain_holds s s.phase (outside_plain s.phase o) h.holds);
-  grows = λ b next e. (goes s next b h e).grows;
+  grows = λ b next e. (continues s next b h e).grows;
   bounds = kept_within s s.phase h.holds;
   empties = λ o. ap (asked 0 line_automaton.spent) (plain_holds s s.phase (outside_plain s.phase o) h.holds);
 }
 
 -- What holds of the machine after a byte.
 module _ (s : ProofState) (h : IsInOrder s) (b : ℕ) where
-  pub known : (m : Action) → plan s.phase b ≡ m → OnAction s.phase m
+  pub known : (m : Action) → transition s.phase b ≡ m → OnAction s.phase m
   known m e = subst (OnAction s.phase) e (on_plan s.phase b h.fits)
 
   -- without a line machine
   pub at_order : (p : Phase) → IsPlain p → PhaseFits p → (i : Option LineMachine) → i ≡ None → IsInOrder (record { limit = s.limit; top = s.top; phase = p; line = i })
   at_order p o f i e = record { limit = h.limit; top = h.top; some = h.some; fits = f; holds = holds_plain (record { limit = s.limit; top = s.top; phase = p; line = i }) p o e }
 
-  pub to_order : (p : Phase) → plan s.phase b ≡ action.To p → IsInOrder (record s { phase = p })
+  pub to_order : (p : Phase) → transition s.phase b ≡ action.To p → IsInOrder (record s { phase = p })
   to_order p e =
       let k = known (action.To p) e in
       at_order p k.1.plain k.1.fits s.line (plain_holds s s.phase k.0 h.holds)
@@ -231,7 +231,7 @@ module _ (s : ProofState) (h : IsInOrder s) (b : ℕ) where
     holds = (line_first s.limit s.top r, refl, (line_fresh s.limit s.top r).0, line_first_state s.limit s.top h.limit h.top h.some r);
   }
 
-  module _ (r : LineKind) (planned : plan s.phase b ≡ action.Give r) where
+  module _ (r : LineKind) (planned : transition s.phase b ≡ action.Give r) where
     pub given : (i : LineMachine) × (s.line ≡ Some i) × (line_automaton.done i ≡ false) × IsState line_automaton i
     given = inside_of s s.phase r (known (action.Give r) planned) h.holds
 

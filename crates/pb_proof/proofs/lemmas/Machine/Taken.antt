@@ -24,11 +24,11 @@ use Rattle.pb_proof.proofs.lemmas.Machine.States as states
 within : (limit top : ℕ) (r : LineKind) (old : LineMachine) → IsInOrder (giving limit top r old) → (text : List ℕ) (new : LineMachine) → Runs line_automaton old text new
     → Runs proofs (giving limit top r old) text (giving limit top r new) × IsInOrder (giving limit top r new)
 within limit top r old h [] new same = (ap (giving limit top r) same, subst (λ (i : LineMachine). IsInOrder (giving limit top r i)) (sym same) h)
-within limit top r old h (b ∷ text) new (mid, goes, state, rest) =
+within limit top r old h (b ∷ text) new (mid, continues, state, rest) =
     let s = giving limit top r old in
-    let k = states.give_order s h b r refl old mid refl goes state in
+    let k = states.give_order s h b r refl old mid refl continues state in
     let (runs, order) = within limit top r mid k text new rest in
-    ((giving limit top r mid, ap (over s r) goes, states.is_state (giving limit top r mid) k, runs), order)
+    ((giving limit top r mid, ap (over s r) continues, states.is_state (giving limit top r mid) k, runs), order)
 
 -- if a line machine is stored, the phase is `Inside`
 reading : (s : ProofState) (p : Phase) → Holds s p → (i : LineMachine) → s.line ≡ Some i → (r : LineKind) × (p ≡ phase.Inside r)
@@ -76,12 +76,12 @@ within_rup o old h [] new same = (
   ap (λ i. let s : RupState = record { phase = InsideRup; sums = i; linear = o } in s) same,
   subst (λ i. IsRupInOrder (record { phase = InsideRup; sums = i; linear = o })) (sym same) h,
 )
-within_rup o old h (b ∷ text) new (mid, goes, state, rest) =
+within_rup o old h (b ∷ text) new (mid, continues, state, rest) =
     let s : RupState = record { phase = InsideRup; sums = old; linear = o } in
     let next : RupState = record { phase = InsideRup; sums = mid; linear = o } in
-    let k = rup_states.give_order s h b mid refl goes state in
+    let k = rup_states.give_order s h b mid refl continues state in
     let (runs, order) = within_rup o mid k text new rest in
-    ((next, ap (rup_over s) goes, rup_states.rup_is_state next k, runs), order)
+    ((next, ap (rup_over s) continues, rup_states.rup_is_state next k, runs), order)
 
 pub rup_runs_given : (s : RupState) → IsRupInOrder s → s.phase ≡ InsideRup → (text : List ℕ) (new : SumState) → Runs sums s.sums text new
     → Runs rup_automaton s text (record s { sums = new }) × IsRupInOrder (record s { sums = new })
@@ -99,9 +99,9 @@ pub rup_runs_begun : (s : RupState) → IsRupInOrder s → s.phase ≡ GapRup �
     → Runs rup_automaton s (take n text) (record s { phase = InsideRup; sums = new }) × IsRupInOrder (record s { phase = InsideRup; sums = new })
 rup_runs_begun s h at n [] new some fits begins runs = absurd (omega arith)
 rup_runs_begun s h at zero (b ∷ text) new some fits begins runs = absurd (omega arith)
-rup_runs_begun s h at (suc n) (b ∷ text) new some fits begins (mid, goes, state, rest) =
+rup_runs_begun s h at (suc n) (b ∷ text) new some fits begins (mid, continues, state, rest) =
     let planned : rup_plan s.phase b ≡ Give = rw (at, begins) refl in
     let next : RupState = record { phase = InsideRup; sums = mid; linear = s.linear } in
-    let k = rup_states.give_order s h b mid planned goes state in
+    let k = rup_states.give_order s h b mid planned continues state in
     let (runs, order) = within_rup s.linear mid k (take n text) new rest in
-    ((next, ap (rup_act s b) planned ∙ ap (rup_over s) goes, rup_states.rup_is_state next k, runs), order)
+    ((next, ap (rup_act s b) planned ∙ ap (rup_over s) continues, rup_states.rup_is_state next k, runs), order)

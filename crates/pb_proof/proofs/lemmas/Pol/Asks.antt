@@ -11,7 +11,7 @@ use Rattle.pb_sums.specs.meaning.Asking.{EndsIn}
 use Rattle.pb_sums.proofs.lemmas.machine.Asked.{ends_nothing, at_name, name_further, first_further}
 use Rattle.pb_sums.proofs.lemmas.machine.LiteralPrefixes.{FirstOf, LiteralOf}
 use Rattle.pb_proof.specs.meaning.Asking.{AsksWord}
-use Rattle.pb_proof.specs.engine.Line.Pol.{plan, read, next, next_word, next_large, star, late, blank, semicolon, feed, close, number, signed, role_of, bound, kind_of, is_letter_kind, is_name_kind, may_be_name, counted, adds, wants, Closing}
+use Rattle.pb_proof.specs.engine.Line.Pol.{transition, read, next, next_word, next_large, star, late, blank, semicolon, feed, close, number, signed, role_of, bound, kind_of, is_letter_kind, is_name_kind, may_be_name, counted, adds, wants, Closing}
 use Rattle.pb_proof.specs.engine.Line.PolState.{PolState, pol_automaton, pol_first}
 use Rattle.pb_proof.specs.declared.word.PolWord.{PolWord}
 use Rattle.pb_proof.specs.declared.line.pol.phase.Kind.{Kind}
@@ -57,29 +57,29 @@ module _ (limit top depth b : ℕ) (t : List Letter) where
   number_quiet n d = cond_both (nat_le (10 * n + d) (bound limit top depth)) _ _ Then (λ _ h. absurd (false≢true h)) (λ _ h. absurd (false≢true h))
 
   -- a word that ends here, at a byte that is not part of a word
-  closes : (ws : List PolWord) (name : List ℕ) (ph : Phase) → prefix limit top ph ws depth name t → is_digit b ≡ false → is_name_byte b ≡ false
+  finishes : (ws : List PolWord) (name : List ℕ) (ph : Phase) → prefix limit top ph ws depth name t → is_digit b ≡ false → is_name_byte b ≡ false
       → (c : Change) (h : Held) → close limit top depth ph ≡ Some (c, h) → adds c ≡ true → AsksWord (bytes t) b
-  closes ws name phase.Start f dark plain c h e k = absurd (false≢true (ap adds (ap change_of e) ∙ k))
-  closes ws name phase.After f dark plain c h e k = absurd (false≢true (ap adds (ap change_of e) ∙ k))
-  closes ws name (phase.Gap g) f dark plain c h e k = absurd (false≢true (ap adds (ap change_of e) ∙ k))
-  closes ws name (phase.Signed n) f dark plain c h e k = inr (inl (number_end _ n t b f.1 dark))
-  closes ws name (phase.Number n) f dark plain c h e k = inr (inl (number_end _ n t b f.1 dark))
-  closes ws name (phase.Lone role.Name) f dark plain c h e k = absurd (false≢true (ap is_there e))
-  closes ws name (phase.Lone role.Saturate) (is, f) dark plain c h e k = inr (inr (inr (saturates f, plain)))
+  finishes ws name phase.Start f dark plain c h e k = absurd (false≢true (ap adds (ap change_of e) ∙ k))
+  finishes ws name phase.After f dark plain c h e k = absurd (false≢true (ap adds (ap change_of e) ∙ k))
+  finishes ws name (phase.Gap g) f dark plain c h e k = absurd (false≢true (ap adds (ap change_of e) ∙ k))
+  finishes ws name (phase.Signed n) f dark plain c h e k = inr (inl (number_end _ n t b f.1 dark))
+  finishes ws name (phase.Number n) f dark plain c h e k = inr (inl (number_end _ n t b f.1 dark))
+  finishes ws name (phase.Lone role.Name) f dark plain c h e k = absurd (false≢true (ap is_there e))
+  finishes ws name (phase.Lone role.Saturate) (is, f) dark plain c h e k = inr (inr (inr (saturates f, plain)))
     where
       saturates : (Before limit top role.Saturate ws depth ⋅ Blanks1 ⋅ FirstOf false name) t → EndsIn (bytes t) (115 ∷ [])
       saturates (x, y, z, u, (v, w)) =
           subst (λ (n : List ℕ). EndsIn (bytes t) n) is (literal_end (Before limit top role.Saturate ws depth ⋅ Blanks1) false name t (x, y, z, u, w))
-  closes ws name (phase.Lone role.Divide) f dark plain c h e k = absurd (false≢true (ap adds (ap change_of e) ∙ k))
-  closes ws name (phase.Lone role.DivideLarge) f dark plain c h e k = absurd (false≢true (ap adds (ap change_of e) ∙ k))
-  closes ws name (phase.Lone role.Weaken) f dark plain c h e k = absurd (false≢true (ap adds (ap change_of e) ∙ k))
-  closes ws name (phase.Name negated) (x, y, z, u, (v, w)) dark plain c h e k =
+  finishes ws name (phase.Lone role.Divide) f dark plain c h e k = absurd (false≢true (ap adds (ap change_of e) ∙ k))
+  finishes ws name (phase.Lone role.DivideLarge) f dark plain c h e k = absurd (false≢true (ap adds (ap change_of e) ∙ k))
+  finishes ws name (phase.Lone role.Weaken) f dark plain c h e k = absurd (false≢true (ap adds (ap change_of e) ∙ k))
+  finishes ws name (phase.Name negated) (x, y, z, u, (v, w)) dark plain c h e k =
       inl (at_name (bytes t) name b (literal_end (Settled limit top ws depth ⋅ Blanks1) negated name t (x, y, z, u, w)) v)
-  closes ws name phase.Minus f dark plain c h e k = absurd (false≢true (ap is_there e))
-  closes ws name phase.Tilde f dark plain c h e k = absurd (false≢true (ap is_there e))
-  closes ws name phase.First f dark plain c h e k = absurd (false≢true (ap is_there e))
-  closes ws name phase.Ending f dark plain c h e k = absurd (false≢true (ap is_there e))
-  closes ws name phase.Done f dark plain c h e k = absurd f
+  finishes ws name phase.Minus f dark plain c h e k = absurd (false≢true (ap is_there e))
+  finishes ws name phase.Tilde f dark plain c h e k = absurd (false≢true (ap is_there e))
+  finishes ws name phase.First f dark plain c h e k = absurd (false≢true (ap is_there e))
+  finishes ws name phase.Ending f dark plain c h e k = absurd (false≢true (ap is_there e))
+  finishes ws name phase.Done f dark plain c h e k = absurd f
 
   -- what ends a word
   module _ (x : Closing) (ends : (c : Change) (h : Held) → x ≡ Some (c, h) → adds c ≡ true → AsksWord (bytes t) b) where
@@ -152,11 +152,11 @@ module _ (limit top depth b : ℕ) (t : List Letter) where
   lates kind.Feed = λ h. absurd (false≢true h)
   lates _ = λ h. absurd (false≢true h)
 
-  plans : (ws : List PolWord) (name : List ℕ) (ph : Phase) → prefix limit top ph ws depth name t → (k : Kind) → Says k b → Then (plan limit top depth ph k)
+  plans : (ws : List PolWord) (name : List ℕ) (ph : Phase) → prefix limit top ph ws depth name t → (k : Kind) → Says k b → Then (transition limit top depth ph k)
   plans ws name phase.Ending f k e = lates k
-  plans ws name ph f kind.Blank e = let d = blank_dark b e in blanks (close limit top depth ph) (closes ws name ph f d.0 d.1) (close limit top depth ph) refl
-  plans ws name ph f kind.Semicolon e = semicolons (close limit top depth ph) (closes ws name ph f (rw e refl) (rw e refl)) (close limit top depth ph) refl
-  plans ws name ph f kind.Feed e = feeds (close limit top depth ph) (closes ws name ph f (rw e refl) (rw e refl)) (close limit top depth ph) refl
+  plans ws name ph f kind.Blank e = let d = blank_dark b e in blanks (close limit top depth ph) (finishes ws name ph f d.0 d.1) (close limit top depth ph) refl
+  plans ws name ph f kind.Semicolon e = semicolons (close limit top depth ph) (finishes ws name ph f (rw e refl) (rw e refl)) (close limit top depth ph) refl
+  plans ws name ph f kind.Feed e = feeds (close limit top depth ph) (finishes ws name ph f (rw e refl) (rw e refl)) (close limit top depth ph) refl
   plans ws name ph f k e = reads ws name ph f k e
 
 pub pol_asked : (limit top : ℕ) (t : List Letter) (s : PolState) (b : ℕ) → Walks pol_automaton (pol_first limit top) t s → pol_automaton.asks s b ≡ true → AsksWord (bytes t) b

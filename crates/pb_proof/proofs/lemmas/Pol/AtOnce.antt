@@ -10,7 +10,7 @@ use Rattle.pb_text.specs.contract.Digits.{value_from}
 use Rattle.pb_text.proofs.lemmas.numbers.DigitValues.{AreDigits, value-grows}
 use Rattle.pb_text.proofs.lemmas.machine.Running.{runs_more}
 use Rattle.pb_proof.specs.engine.Line.IdPrefix.{IsSpacedId}
-use Rattle.pb_proof.specs.engine.Line.Pol.{plan, number, bound, kind_of, changed, counted, held_number}
+use Rattle.pb_proof.specs.engine.Line.Pol.{transition, number, bound, kind_of, changed, counted, held_number}
 use Rattle.pb_proof.specs.engine.Line.PolFast.{held_before, held_operator, operator}
 use Rattle.pb_proof.specs.engine.Line.PolState.{PolState, pol_automaton}
 use Rattle.pb_proof.specs.declared.word.PolWord.{PolWord}
@@ -64,7 +64,7 @@ module _ (limit top d : ℕ) (ws : List PolWord) (name : List ℕ) (some : 0 < t
 
   -- what a state does with a digit
   abbrev TakesDigits : Phase → ℕ → Type 0
-  TakesDigits p n = (e : ℕ) → plan limit top d p (kind.Digit e) ≡ number limit top d n e
+  TakesDigits p n = (e : ℕ) → transition limit top d p (kind.Digit e) ≡ number limit top d n e
 
   digit_on : (p : Phase) (n b : ℕ) → TakesDigits p n → IsTrue (is_digit b) → 10 * n + (b - 48) ≤ bound limit top d
       → pol_automaton.step (at p) b ≡ Go (at (phase.Number (10 * n + (b - 48))))
@@ -105,7 +105,7 @@ module _ (limit top d : ℕ) (ws : List PolWord) (name : List ℕ) (some : 0 < t
   space_on : (v : ℕ) → 0 < v → v ≤ top → pol_automaton.step (at (phase.Number v)) 32 ≡ Go (with_id v)
   space_on v h i =
       let fits : nat_le v top ≡ true = le-leb v top i in
-      let planned : action.Turn (change.Id (pos v)) (phase.Gap (held_number limit d v)) ≡ plan limit top d (phase.Number v) kind.Blank = rw (not_zero v h, fits) refl in
+      let planned : action.Turn (change.Id (pos v)) (phase.Gap (held_number limit d v)) ≡ transition limit top d (phase.Number v) kind.Blank = rw (not_zero v h, fits) refl in
       moved limit top ws d name (phase.Number v) 32 kind.Blank (action.Turn (change.Id (pos v)) (phase.Gap (held_number limit d v))) refl planned
 
   -- an id and the space after it
@@ -129,7 +129,7 @@ module _ (limit top d : ℕ) (ws : List PolWord) (name : List ℕ) (some : 0 < t
   in_gap c = midway_state limit top (changed c ws name) (counted c d) [] (phase.Gap held.Nothing) some refl
 
   -- an operator that takes effect at its own byte
-  turned_first : (p : Phase) (b : ℕ) (k : Kind) (c : Change) → k ≡ kind_of b → action.Turn c phase.After ≡ plan limit top d p k → RunsTo p b c
+  turned_first : (p : Phase) (b : ℕ) (k : Kind) (c : Change) → k ≡ kind_of b → action.Turn c phase.After ≡ transition limit top d p k → RunsTo p b c
   turned_first p b k c e f = (
     state limit top (changed c ws name) (counted c d) [] phase.After,
     moved limit top ws d name p b k (action.Turn c phase.After) e f,
@@ -143,8 +143,8 @@ module _ (limit top d : ℕ) (ws : List PolWord) (name : List ℕ) (some : 0 < t
   )
 
   -- and one that is a letter
-  turned_last : (p : Phase) (b : ℕ) (k : Kind) (r : Role) (c : Change) → k ≡ kind_of b → action.Begin (phase.Lone r) ≡ plan limit top d p k
-      → action.Turn c (phase.Gap held.Nothing) ≡ plan limit top d (phase.Lone r) kind.Blank → changed c ws (b ∷ []) ≡ changed c ws name → RunsTo p b c
+  turned_last : (p : Phase) (b : ℕ) (k : Kind) (r : Role) (c : Change) → k ≡ kind_of b → action.Begin (phase.Lone r) ≡ transition limit top d p k
+      → action.Turn c (phase.Gap held.Nothing) ≡ transition limit top d (phase.Lone r) kind.Blank → changed c ws (b ∷ []) ≡ changed c ws name → RunsTo p b c
   turned_last p b k r c e f g h = (
     state limit top ws d (b ∷ []) (phase.Lone r),
     moved limit top ws d name p b k (action.Begin (phase.Lone r)) e f,
@@ -157,13 +157,13 @@ module _ (limit top d : ℕ) (ws : List PolWord) (name : List ℕ) (some : 0 < t
     ),
   )
 
-  plus_planned : (h : Held) → Some h ≡ held_before (phase.Gap h) → nat_le 2 d ≡ true → action.Turn change.Sum phase.After ≡ plan limit top d (phase.Gap h) kind.Plus
+  plus_planned : (h : Held) → Some h ≡ held_before (phase.Gap h) → nat_le 2 d ≡ true → action.Turn change.Sum phase.After ≡ transition limit top d (phase.Gap h) kind.Plus
   plus_planned held.Nothing e t = rw t refl
   plus_planned held.Number e t = rw t refl
   plus_planned held.Name e t = rw t refl
   plus_planned held.Large e t = cc e
 
-  saturate_planned : (h : Held) → Some h ≡ held_before (phase.Gap h) → nat_le 1 d ≡ true → action.Begin (phase.Lone role.Saturate) ≡ plan limit top d (phase.Gap h) kind.S
+  saturate_planned : (h : Held) → Some h ≡ held_before (phase.Gap h) → nat_le 1 d ≡ true → action.Begin (phase.Lone role.Saturate) ≡ transition limit top d (phase.Gap h) kind.S
   saturate_planned held.Nothing e t = rw t refl
   saturate_planned held.Number e t = rw t refl
   saturate_planned held.Name e t = rw t refl

@@ -2,7 +2,7 @@
 use Rattle.std.proofs.Common.{◌≡◌, ℕ, zero, suc, ◌-◌, ◌<◌, ◌≤◌, Bool, true, false, cond, List, [], ◌∷◌, ◌++◌, refl, sym, ap, subst, arith, append_assoc, append-nil, ◌∙◌}
 use Rattle.std.proofs.lemmas.Bool.{le-leb}
 use Rattle.std.specs.Prelude.{pos, neg_ℤ, nat_le, ℤ, Some}
-use Rattle.pb_text.specs.contract.Automaton.{Go, Reads}
+use Rattle.pb_text.specs.contract.Automaton.{Go, ReadsStatement}
 use Rattle.pb_text.specs.meaning.Languages.{unmarked, ◌⋅◌, Byte, Bytes, Blanks1}
 use Rattle.pb_text.specs.meaning.Numbers.{Digits}
 use Rattle.pb_text.specs.meaning.Spelling.{Letter, plain}
@@ -50,7 +50,7 @@ IsOperand _ = ⊥
 
 module _ (limit top : ℕ) (e : List PolWord) (after : PolState) where
   abbrev R : PolState → List Letter → Type 0
-  R s t = Reads pol_automaton s t e after
+  R s t = ReadsStatement pol_automaton s t e after
 
   abbrev gap : List PolWord → ℕ → PolState
   gap ws d = state limit top ws d [] (phase.Gap held.Nothing)
@@ -243,7 +243,7 @@ module _ (limit top : ℕ) where
       (state limit top ws 1 [] phase.Ending) ws (pol_last limit top)
   may_end ws = record {
     feeds = record { blanks = takes_blanks limit top ws 1 [] phase.After change.Keep held.Nothing refl; ends = refl; ends_gap = refl };
-    closes = refl;
+    finishes = refl;
     closes_gap = refl;
     begun = refl;
     plain = refl;
@@ -251,26 +251,26 @@ module _ (limit top : ℕ) where
   }
 
   words_run : (ws vs : List PolWord) (d : ℕ) (t u : List Letter) → Counts d ws → Listed (SpellsWord limit top) ws t → LineEnd u
-      → Reads pol_automaton (state limit top vs d [] phase.After) (t ++ u) (vs ++ ws) (pol_last limit top)
+      → ReadsStatement pol_automaton (state limit top vs d [] phase.After) (t ++ u) (vs ++ ws) (pol_last limit top)
   words_run [] vs d t u c h k =
-      subst (λ n. Reads pol_automaton (state limit top vs n [] phase.After) (t ++ u) (vs ++ []) (pol_last limit top)) (sym c)
-      (subst (λ x. Reads pol_automaton (state limit top vs 1 [] phase.After) (x ++ u) (vs ++ []) (pol_last limit top)) (sym h)
-      (subst (λ x. Reads pol_automaton (state limit top vs 1 [] phase.After) u x (pol_last limit top)) (sym (append-nil vs))
+      subst (λ n. ReadsStatement pol_automaton (state limit top vs n [] phase.After) (t ++ u) (vs ++ []) (pol_last limit top)) (sym c)
+      (subst (λ x. ReadsStatement pol_automaton (state limit top vs 1 [] phase.After) (x ++ u) (vs ++ []) (pol_last limit top)) (sym h)
+      (subst (λ x. ReadsStatement pol_automaton (state limit top vs 1 [] phase.After) u x (pol_last limit top)) (sym (append-nil vs))
       (line_reads pol_automaton (state limit top vs 1 [] phase.After) (state limit top vs 1 [] (phase.Gap held.Nothing)) (state limit top vs 1 [] phase.Ending)
       (pol_last limit top) vs (may_end vs) u k)))
   words_run (w ∷ ws) vs d t u c (ab, y, g, (a, b, i, s, x), z) k =
       let from : PolState = state limit top vs d [] phase.After in
       let wide : PolState = state limit top vs d [] (phase.Gap held.Nothing) in
       let same : t ++ u ≡ a ++ (b ++ (y ++ u)) = ap (λ p. p ++ u) (g ∙ ap (λ p. p ++ y) i) ∙ (append_assoc (a ++ b) y u ∙ append_assoc a b (y ++ u)) in
-      subst (λ p. Reads pol_automaton from p (vs ++ w ∷ ws) (pol_last limit top)) (sym same)
+      subst (λ p. ReadsStatement pol_automaton from p (vs ++ w ∷ ws) (pol_last limit top)) (sym same)
       (reads_after pol_automaton a (b ++ (y ++ u)) from wide (pol_last limit top) (vs ++ w ∷ ws)
       (blanks1_lead pol_automaton from wide (takes_blanks limit top vs d [] phase.After change.Keep held.Nothing refl) a s)
       (word_run limit top (vs ++ w ∷ ws) (pol_last limit top) vs d w ws b (y ++ u) c x
-      (λ n m. subst (λ p. Reads pol_automaton (state limit top (vs ++ w ∷ []) n [] phase.After) (y ++ u) p (pol_last limit top)) (append_assoc vs (w ∷ []) ws)
+      (λ n m. subst (λ p. ReadsStatement pol_automaton (state limit top (vs ++ w ∷ []) n [] phase.After) (y ++ u) p (pol_last limit top)) (append_assoc vs (w ∷ []) ws)
       (words_run ws (vs ++ w ∷ []) n y u m z k))))
 
   -- Each line of words is read.
-  pub reads_each : (ws : List PolWord) (t : List Letter) → SpellsWords limit top ws t → Reads pol_automaton (pol_first limit top) t ws (pol_last limit top)
+  pub reads_each : (ws : List PolWord) (t : List Letter) → SpellsWords limit top ws t → ReadsStatement pol_automaton (pol_first limit top) t ws (pol_last limit top)
   reads_each ws t (h, (a, b, g, i, k)) =
       as_after limit top ws (pol_last limit top) phase.Start change.Keep held.Nothing tt [] 0 [] t refl
-      (subst (λ x. Reads pol_automaton (state limit top [] 0 [] phase.After) x ws (pol_last limit top)) (sym g) (words_run ws [] 0 a b (postfix_counts ws h) i k))
+      (subst (λ x. ReadsStatement pol_automaton (state limit top [] 0 [] phase.After) x ws (pol_last limit top)) (sym g) (words_run ws [] 0 a b (postfix_counts ws h) i k))

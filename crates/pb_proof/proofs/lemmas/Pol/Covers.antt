@@ -1,9 +1,9 @@
 -- A state that reads everything that another one reads.
 use Rattle.std.proofs.Common.{◌≡◌, ℕ, Bool, true, false, cond, ◌&&◌, List, [], ◌∷◌, refl, sym, subst, ◌∙◌}
 use Rattle.std.specs.Prelude.{nat_eq, Some}
-use Rattle.pb_text.specs.contract.Automaton.{Automaton, Next, Go, End, Refuse, Reads}
+use Rattle.pb_text.specs.contract.Automaton.{Automaton, Next, Go, End, Refuse, ReadsStatement}
 use Rattle.pb_text.specs.meaning.Spelling.{Letter}
-use Rattle.pb_proof.specs.engine.Line.Pol.{work, act, plan, close, blank, semicolon, feed, changed, counted, may_be_name, is_name_kind, kind_of}
+use Rattle.pb_proof.specs.engine.Line.Pol.{work, act, transition, close, blank, semicolon, feed, changed, counted, may_be_name, is_name_kind, kind_of}
 use Rattle.pb_proof.specs.engine.Line.PolState.{PolState, pol_automaton, over}
 use Rattle.pb_proof.specs.declared.word.PolWord.{PolWord}
 use Rattle.pb_proof.specs.declared.line.pol.phase.Kind.{Kind}
@@ -24,7 +24,7 @@ module _ {S E : Type 0} (m : Automaton S E) (t : List Letter) (e : E) (after : S
   -- after a byte, the second outcome reads everything that the first one reads
   abbrev pub Covers : Next S E → Next S E → Type 0
   Covers (Go mid) n = (own : S) × (n ≡ Go own) × (m.begun mid ≡ true → m.begun own ≡ true) × (m.in_number own ≡ m.in_number mid)
-      × (Reads m mid t e after → Reads m own t e after)
+      × (ReadsStatement m mid t e after → ReadsStatement m own t e after)
   Covers (End f next) n = n ≡ End f next
   Covers Refuse n = Unit {0}
 
@@ -35,7 +35,7 @@ module _ {S E : Type 0} (m : Automaton S E) (t : List Letter) (e : E) (after : S
 
 module _ {S E : Type 0} (m : Automaton S E) where
   covered : (s own : S) (l : Letter) (t : List Letter) (e : E) (after : S) → Covers m t e after (m.step s l.byte) (m.step own l.byte)
-      → Reads m s (l ∷ t) e after → Reads m own (l ∷ t) e after
+      → ReadsStatement m s (l ∷ t) e after → ReadsStatement m own (l ∷ t) e after
   covered s own l [] e after c (h, n) = (subst (λ x. Covers m [] e after x (m.step own l.byte)) h c, n)
   covered s own l (k ∷ t) e after c (mid, h, b, n, r) =
       let (next, g, i, j, f) = subst (λ x. Covers m (k ∷ t) e after x (m.step own l.byte)) h c in
@@ -49,7 +49,7 @@ module _ (limit top : ℕ) (e : List PolWord) (after : PolState) where
   st = state limit top
 
   abbrev R : PolState → List Letter → Type 0
-  R s t = Reads pol_automaton s t e after
+  R s t = ReadsStatement pol_automaton s t e after
 
   -- what a move leads to
   abbrev by : PolState → ℕ → Action → Next PolState (List PolWord)
@@ -62,7 +62,7 @@ module _ (limit top : ℕ) (e : List PolWord) (after : PolState) where
   same t s b m = covers_same pol_automaton t e after (by s b m)
 
   at_kind : (s own : PolState) (l : Letter) (t : List Letter)
-      → ((k : Kind) → C t (by s l.byte (plan s.limit s.top s.work.depth s.work.phase k)) (by own l.byte (plan own.limit own.top own.work.depth own.work.phase k)))
+      → ((k : Kind) → C t (by s l.byte (transition s.limit s.top s.work.depth s.work.phase k)) (by own l.byte (transition own.limit own.top own.work.depth own.work.phase k)))
       → R s (l ∷ t) → R own (l ∷ t)
   at_kind s own l t f r = covered pol_automaton s own l t e after (f (kind_of l.byte)) r
 
@@ -78,8 +78,8 @@ module _ (limit top : ℕ) (e : List PolWord) (after : PolState) where
       further b =
           rw h (same t (st ws d name (phase.Lone r)) l.byte (cond b (action.Add (phase.Name false)) action.Stop))
 
-      go : (k : Kind) → C t (by (st ws d name (phase.Lone role.Name)) l.byte (plan limit top d (phase.Lone role.Name) k))
-          (by (st ws d name (phase.Lone r)) l.byte (plan limit top d (phase.Lone r) k))
+      go : (k : Kind) → C t (by (st ws d name (phase.Lone role.Name)) l.byte (transition limit top d (phase.Lone role.Name) k))
+          (by (st ws d name (phase.Lone r)) l.byte (transition limit top d (phase.Lone r) k))
       go kind.Blank = tt
       go kind.Semicolon = tt
       go kind.Feed = tt
@@ -91,16 +91,16 @@ module _ (limit top : ℕ) (e : List PolWord) (after : PolState) where
   as_gap h i ws d (l ∷ t) x = at_kind (st ws d [] (phase.Gap held.Nothing)) (st ws d [] (phase.Gap h)) l t (go h i (as_gap h i ws d t)) x
     where
       go : (h : Held) → NotLarge h → (R (st ws d [] (phase.Gap held.Nothing)) t → R (st ws d [] (phase.Gap h)) t) → (k : Kind)
-          → C t (by (st ws d [] (phase.Gap held.Nothing)) l.byte (plan limit top d (phase.Gap held.Nothing) k))
-          (by (st ws d [] (phase.Gap h)) l.byte (plan limit top d (phase.Gap h) k))
+          → C t (by (st ws d [] (phase.Gap held.Nothing)) l.byte (transition limit top d (phase.Gap held.Nothing) k))
+          (by (st ws d [] (phase.Gap h)) l.byte (transition limit top d (phase.Gap h) k))
       go held.Large i more k = absurd i
-      go held.Nothing i more k = same t (st ws d [] (phase.Gap held.Nothing)) l.byte (plan limit top d (phase.Gap held.Nothing) k)
+      go held.Nothing i more k = same t (st ws d [] (phase.Gap held.Nothing)) l.byte (transition limit top d (phase.Gap held.Nothing) k)
       go h i more kind.Blank = (st ws d [] (phase.Gap h), refl, (λ b. b), refl, more)
       go held.Number i more kind.Star = tt
       go held.Name i more kind.Star = tt
       go held.Number i more kind.D = (st ws d (l.byte ∷ []) (phase.Lone role.Divide), refl, (λ b. b), refl, as_letter role.Divide refl ws d (l.byte ∷ []) t)
       go held.Name i more kind.W = (st ws d (l.byte ∷ []) (phase.Lone role.Weaken), refl, (λ b. b), refl, as_letter role.Weaken refl ws d (l.byte ∷ []) t)
-      go h i more k = same t (st ws d [] (phase.Gap h)) l.byte (plan limit top d (phase.Gap h) k)
+      go h i more k = same t (st ws d [] (phase.Gap h)) l.byte (transition limit top d (phase.Gap h) k)
 
   -- the state after a word that has ended
   abbrev pub following : Change → List PolWord → ℕ → List ℕ → PolState
@@ -121,7 +121,7 @@ module _ (limit top : ℕ) (e : List PolWord) (after : PolState) where
       feeds false = tt
 
       go : (ph : Phase) → close limit top d ph ≡ Some (c, h) → (k : Kind)
-          → C t (by (following c ws d name) l.byte (plan limit top (counted c d) phase.After k)) (by (st ws d name ph) l.byte (plan limit top d ph k))
+          → C t (by (following c ws d name) l.byte (transition limit top (counted c d) phase.After k)) (by (st ws d name ph) l.byte (transition limit top d ph k))
       go phase.Ending q k = absurd (cc)
       go ph q kind.Blank =
           subst (λ o. C t (by (following c ws d name) l.byte (blank (Some (change.Keep, held.Nothing)))) (by (st ws d name phase.Start) l.byte (blank o))) (sym q)

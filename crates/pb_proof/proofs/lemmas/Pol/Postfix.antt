@@ -1,7 +1,7 @@
 -- Postfix words determine their expression, and leave one. Offered to other crates.
 use Rattle.std.proofs.Common.{◌≡◌, ℕ, zero, suc, List, [], ◌∷◌, ◌++◌, refl, sym, ap, ◌∙◌, subst, arith}
 use Rattle.pb_proof.specs.contract.Leaving.{Leaves, WordsReport, WordsLeaveOne}
-use Rattle.pb_proof.specs.meaning.Postfix.{Tree, Constraint, True, Sum, Times, Divided, Saturated, Weakened, words}
+use Rattle.pb_proof.specs.meaning.Postfix.{Tree, Constraint, LiteralAxiom, Sum, Product, Quotient, Saturation, Weakening, words}
 use Rattle.pb_proof.specs.declared.word.PolWord.{PolWord}
 use Rattle.pb_proof.specs.declared.word.PolWord.TheVariants.{Id, Axiom, Add, Multiply, Divide, Saturate, Weaken}
 use Rattle.pb_proof.proofs.lemmas.Pol.Trees.{Counts, postfix_counts, counts_postfix}
@@ -9,17 +9,17 @@ use Rattle.pb_proof.proofs.lemmas.Pol.Trees.{Counts, postfix_counts, counts_post
 -- a word applied to a stack of expressions, the last one first
 pub one_word : PolWord → List Tree → List Tree
 one_word (Id id) ts = Constraint id ∷ ts
-one_word (Axiom l) ts = True l ∷ ts
+one_word (Axiom l) ts = LiteralAxiom l ∷ ts
 one_word Add (b ∷ a ∷ ts) = Sum a b ∷ ts
 one_word Add (b ∷ []) = []
 one_word Add [] = []
-one_word (Multiply k) (a ∷ ts) = Times a k ∷ ts
+one_word (Multiply k) (a ∷ ts) = Product a k ∷ ts
 one_word (Multiply k) [] = []
-one_word (Divide k) (a ∷ ts) = Divided a k ∷ ts
+one_word (Divide k) (a ∷ ts) = Quotient a k ∷ ts
 one_word (Divide k) [] = []
-one_word Saturate (a ∷ ts) = Saturated a ∷ ts
+one_word Saturate (a ∷ ts) = Saturation a ∷ ts
 one_word Saturate [] = []
-one_word (Weaken name) (a ∷ ts) = Weakened a name ∷ ts
+one_word (Weaken name) (a ∷ ts) = Weakening a name ∷ ts
 one_word (Weaken name) [] = []
 
 pub built : List PolWord → List Tree → List Tree
@@ -34,14 +34,14 @@ built_then (x ∷ xs) ys ts = built_then xs ys (one_word x ts)
 pub built_words : (t : Tree) (ts : List Tree) → built (words t) ts ≡ t ∷ ts
 unfolding built one_word
 built_words (Constraint id) ts = refl
-built_words (True l) ts = refl
+built_words (LiteralAxiom l) ts = refl
 built_words (Sum a b) ts =
     built_then (words a ++ words b) (Add ∷ []) ts
     ∙ ap (built (Add ∷ [])) (built_then (words a) (words b) ts ∙ ap (built (words b)) (built_words a ts) ∙ built_words b (a ∷ ts))
-built_words (Times a k) ts = built_then (words a) (Multiply k ∷ []) ts ∙ ap (built (Multiply k ∷ [])) (built_words a ts)
-built_words (Divided a k) ts = built_then (words a) (Divide k ∷ []) ts ∙ ap (built (Divide k ∷ [])) (built_words a ts)
-built_words (Saturated a) ts = built_then (words a) (Saturate ∷ []) ts ∙ ap (built (Saturate ∷ [])) (built_words a ts)
-built_words (Weakened a name) ts = built_then (words a) (Weaken name ∷ []) ts ∙ ap (built (Weaken name ∷ [])) (built_words a ts)
+built_words (Product a k) ts = built_then (words a) (Multiply k ∷ []) ts ∙ ap (built (Multiply k ∷ [])) (built_words a ts)
+built_words (Quotient a k) ts = built_then (words a) (Divide k ∷ []) ts ∙ ap (built (Divide k ∷ [])) (built_words a ts)
+built_words (Saturation a) ts = built_then (words a) (Saturate ∷ []) ts ∙ ap (built (Saturate ∷ [])) (built_words a ts)
+built_words (Weakening a name) ts = built_then (words a) (Weaken name ∷ []) ts ∙ ap (built (Weaken name ∷ [])) (built_words a ts)
 
 pub words_report : WordsReport
 words_report t u e =

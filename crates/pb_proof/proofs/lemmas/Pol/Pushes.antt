@@ -7,7 +7,7 @@ use Rattle.pb_text.specs.declared.machine.Push.{Push}
 use Rattle.pb_text.specs.declared.machine.Push.TheVariants as push
 use Rattle.pb_text.proofs.lemmas.text.Booleans.{never}
 use Rattle.pb_text.proofs.lemmas.machine.Outcomes.{go_or_refuse, end_or_refuse}
-use Rattle.pb_proof.specs.engine.Line.Pol.{act, plan, kind_of, wants, is_midway, is_in_number}
+use Rattle.pb_proof.specs.engine.Line.Pol.{act, transition, kind_of, wants, is_midway, is_in_number}
 use Rattle.pb_proof.specs.engine.Line.PolState.{PolState, pol_automaton, over, IsPolInOrder}
 use Rattle.pb_proof.specs.declared.word.PolWord.{PolWord}
 use Rattle.pb_proof.specs.declared.line.pol.phase.Kind.{Kind}
@@ -34,14 +34,14 @@ module _ (limit top : ℕ) (ws : List PolWord) (d : ℕ) (name : List ℕ) (ph :
   abbrev at : PolState
   at = state limit top ws d name ph
 
-  planned : k ≡ kind_of b → m ≡ plan limit top d ph k → plan limit top d ph (kind_of b) ≡ m
-  planned e f = ap (λ x. plan limit top d ph x) (sym e) ∙ sym f
+  planned : k ≡ kind_of b → m ≡ transition limit top d ph k → transition limit top d ph (kind_of b) ≡ m
+  planned e f = ap (λ x. transition limit top d ph x) (sym e) ∙ sym f
 
-  pub moved : k ≡ kind_of b → m ≡ plan limit top d ph k → pol_automaton.step at b ≡ over at (act at.work b m)
+  pub moved : k ≡ kind_of b → m ≡ transition limit top d ph k → pol_automaton.step at b ≡ over at (act at.work b m)
   moved e f = ap (λ x. over at (act at.work b x)) (planned e f)
 
   -- a push allocates only at a byte that is taken
-  pub asks_for : k ≡ kind_of b → m ≡ plan limit top d ph k → IsPolInOrder at → IsTaken m → wants m ≡ true → IsTrue (pol_automaton.asks at b) × Admits pol_automaton at b
+  pub asks_for : k ≡ kind_of b → m ≡ transition limit top d ph k → IsPolInOrder at → IsTaken m → wants m ≡ true → IsTrue (pol_automaton.asks at b) × Admits pol_automaton at b
   asks_for e f g t w = (ap wants (planned e f) ∙ w, pol_admits at b (over at (act at.work b m)) g (moved e f) (taken at b m t))
 
 pub same_state : (limit top : ℕ) (ws vs : List PolWord) (d n : ℕ) (name new : List ℕ) (ph q : Phase) → ws ≡ vs → d ≡ n → name ≡ new → ph ≡ q

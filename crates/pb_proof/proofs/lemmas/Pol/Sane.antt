@@ -4,7 +4,7 @@ use Rattle.std.specs.Prelude.{pos, neg_ℤ, nat_eq, nat_le, Some, None}
 use Rattle.std.proofs.lemmas.Bool.{false≢true, true≢false}
 use Rattle.pb_text.specs.contract.Automaton.{Go, End}
 use Rattle.pb_text.proofs.lemmas.machine.Outcomes.{one_state, one_end, go_or_end, refuse_or_go, refuse_or_end, end_or_go}
-use Rattle.pb_proof.specs.engine.Line.Pol.{Work, work, act, plan, read, next, next_word, late, blank, semicolon, feed, close, held_number, number, signed, role_of, bound, is_letter_kind, is_name_kind, may_be_name, is_midway, is_done, adds, changed, counted, turned, with_last, finished}
+use Rattle.pb_proof.specs.engine.Line.Pol.{Work, work, act, transition, read, next, next_word, late, blank, semicolon, feed, close, held_number, number, signed, role_of, bound, is_letter_kind, is_name_kind, may_be_name, is_midway, is_done, adds, changed, counted, turned, with_last, finished}
 use Rattle.pb_proof.specs.engine.Line.Pol as pol
 use Rattle.pb_proof.specs.engine.Line.PolState.{word_units, units, in_hand, ready, all_units}
 use Rattle.pb_proof.specs.declared.word.PolWord.{PolWord}
@@ -112,12 +112,12 @@ module _ (limit top d : ℕ) where
   feed-sane ph None = tt
   feed-sane ph (Some (c, x)) = test ph (nat_eq (counted c d) 1) (action.End c) tt
 
-pub plan-sane : (limit top d : ℕ) (ph : Phase) (k : Kind) → IsSane ph (plan limit top d ph k)
-plan-sane limit top d phase.Ending k = late-sane limit top d k
-plan-sane limit top d ph kind.Blank = blank-sane limit top d ph (close limit top d ph) (close-sane limit top d ph)
-plan-sane limit top d ph kind.Semicolon = semicolon-sane limit top d ph (close limit top d ph) (close-sane limit top d ph)
-plan-sane limit top d ph kind.Feed = feed-sane limit top d ph (close limit top d ph)
-plan-sane limit top d ph k = read-sane limit top d ph k
+pub transition-sane : (limit top d : ℕ) (ph : Phase) (k : Kind) → IsSane ph (transition limit top d ph k)
+transition-sane limit top d phase.Ending k = late-sane limit top d k
+transition-sane limit top d ph kind.Blank = blank-sane limit top d ph (close limit top d ph) (close-sane limit top d ph)
+transition-sane limit top d ph kind.Semicolon = semicolon-sane limit top d ph (close limit top d ph) (close-sane limit top d ph)
+transition-sane limit top d ph kind.Feed = feed-sane limit top d ph (close limit top d ph)
+transition-sane limit top d ph k = read-sane limit top d ph k
 
 -- What is stored grows by at most one unit per byte.
 pub units_append : (ws : List PolWord) (w : PolWord) → units (ws ++ w ∷ []) ≡ units ws + word_units w
@@ -178,21 +178,21 @@ turn_grows c ws name ph q true e f g = let h = added_units c ws name e in let i 
 abbrev pub IsNext : Work → Work → Type 0
 IsNext w v = (is_midway v.phase ≡ true) × (potential v ≤ potential w + 1)
 
-pub goes : (w v : Work) (b : ℕ) (m : Action) → IsSane w.phase m → act w b m ≡ Go v → IsNext w v
-goes w v b (action.To q) h e =
+pub continues : (w v : Work) (b : ℕ) (m : Action) → IsSane w.phase m → act w b m ≡ Go v → IsNext w v
+continues w v b (action.To q) h e =
     subst (IsNext w) (one_state (work w.words w.depth w.name q) v e)
     (h.0, (let i = ready_once q in let j = h.1 in omega (arith, i, j)))
-goes w v b (action.Begin q) h e =
+continues w v b (action.Begin q) h e =
     subst (IsNext w) (one_state (work w.words w.depth (b ∷ []) q) v e)
     (h.0, (let i = h.1 in let j = h.2 in omega (arith, i, j)))
-goes w v b (action.Add q) h e =
+continues w v b (action.Add q) h e =
     subst (IsNext w) (one_state (work w.words w.depth (w.name ++ b ∷ []) q) v e)
     (h.0, (let i = h.1 in let j = h.2 in omega (arith, i, j, length-append w.name (b ∷ []))))
-goes w v b (action.Turn c q) h e =
+continues w v b (action.Turn c q) h e =
     subst (IsNext w) (one_state (work (changed c w.words w.name) (counted c w.depth) [] q) v e)
     (h.0, turn_grows c w.words w.name w.phase q (adds c) refl h.1 h.2)
-goes w v b (action.End c) h e = end_or_go (changed c w.words w.name) finished v e
-goes w v b action.Stop h e = refuse_or_go v e
+continues w v b (action.End c) h e = end_or_go (changed c w.words w.name) finished v e
+continues w v b action.Stop h e = refuse_or_go v e
 
 pub ends : (w v : Work) (b : ℕ) (m : Action) (e : List PolWord) → act w b m ≡ End e v → v ≡ finished
 ends w v b (action.End c) e h = sym (one_end (changed c w.words w.name) e finished v h).1
@@ -203,7 +203,7 @@ ends w v b (action.Turn c q) e h = go_or_end (work (changed c w.words w.name) (c
 ends w v b action.Stop e h = refuse_or_end e v h
 
 -- after the end of the line no byte is taken
-pub stops : (limit top d : ℕ) (ph : Phase) (k : Kind) → is_done ph ≡ true → plan limit top d ph k ≡ action.Stop
+pub stops : (limit top d : ℕ) (ph : Phase) (k : Kind) → is_done ph ≡ true → transition limit top d ph k ≡ action.Stop
 stops limit top d phase.Done kind.Blank h = refl
 stops limit top d phase.Done kind.Semicolon h = refl
 stops limit top d phase.Done kind.Feed h = refl

@@ -3,7 +3,7 @@ use Rattle.std.proofs.Common.{◌≡◌, ℕ, zero, suc, ◌+◌, ◌-◌, ◌*�
 use Rattle.std.proofs.lemmas.Bool.{eqb-true, leb-true, and_parts, false≢true}
 use Rattle.std.proofs.lemmas.Bool.Decides.{nat_tests}
 use Rattle.std.specs.Prelude.{IsTrue, pos, neg_ℤ, nat_eq, nat_le, Some, None}
-use Rattle.pb_text.specs.contract.Automaton.{Next, Reads}
+use Rattle.pb_text.specs.contract.Automaton.{Next, ReadsStatement}
 use Rattle.pb_text.specs.meaning.Classes.{is_blank, is_name_byte}
 use Rattle.pb_text.specs.meaning.Languages.{unmarked, Language, ◌⋅◌, Byte, Bytes, Blanks0, Blanks1}
 use Rattle.pb_text.specs.meaning.Numbers.{Digits}
@@ -14,7 +14,7 @@ use Rattle.pb_text.proofs.lemmas.machine.Walking.{On, Keeps, reported}
 use Rattle.pb_text.proofs.lemmas.text.Letters.{as_unmarked, as_digit}
 use Rattle.pb_sums.proofs.lemmas.machine.LiteralPrefixes.{FirstOf, LiteralOf}
 use Rattle.pb_proof.specs.meaning.Lines.{LineEnd, SpellsWord, SpellsWords}
-use Rattle.pb_proof.specs.engine.Line.Pol.{work, act, plan, read, next, next_word, next_large, star, late, blank, semicolon, feed, close, close_number, held_number, close_lone, held_name, number, signed, role_of, bound, kind_of, is_letter_kind, is_name_kind, may_be_name, changed, counted, turned, with_last}
+use Rattle.pb_proof.specs.engine.Line.Pol.{work, act, transition, read, next, next_word, next_large, star, late, blank, semicolon, feed, close, close_number, held_number, close_lone, held_name, number, signed, role_of, bound, kind_of, is_letter_kind, is_name_kind, may_be_name, changed, counted, turned, with_last}
 use Rattle.pb_proof.specs.engine.Line.Pol as pol
 use Rattle.pb_proof.specs.engine.Line.PolState.{PolState, pol_automaton, pol_first, over}
 use Rattle.pb_proof.specs.declared.word.PolWord.{PolWord}
@@ -155,18 +155,18 @@ module _ (limit top : ℕ) (ws : List PolWord) (d : ℕ) (name : List ℕ) where
           gapped (Holds limit top held.Name (ws ++ literal false ∷ []) (suc d)) p
           (ws, e, name, refl, ap suc f, k.0, (λ rest r. m rest (subst (λ x. Counts x rest) (sym f) r)), (a, b, g, (u, v, i, o, j), k.1))
 
-  closes : (ph : Phase) (p : List Letter) → before ph p → Closed (close limit top d ph) p
-  closes phase.Start p (e, f, g) = gapped (Has ws d) p (at limit top ws [] d 0 p e f (λ rest r. r, g))
-  closes phase.After p h = gapped (Has ws d) p h
-  closes (phase.Gap h) p k = gapped_some (Holds limit top h ws d) p k
-  closes (phase.Signed n) p (le, t) = closed_test (nat_eq n 0) (Some (change.Id (neg_ℤ (pos n)), held.Nothing)) p (λ e.
+  finishes : (ph : Phase) (p : List Letter) → before ph p → Closed (close limit top d ph) p
+  finishes phase.Start p (e, f, g) = gapped (Has ws d) p (at limit top ws [] d 0 p e f (λ rest r. r, g))
+  finishes phase.After p h = gapped (Has ws d) p h
+  finishes (phase.Gap h) p k = gapped_some (Holds limit top h ws d) p k
+  finishes (phase.Signed n) p (le, t) = closed_test (nat_eq n 0) (Some (change.Id (neg_ℤ (pos n)), held.Nothing)) p (λ e.
       let (a, b, g, r, k) = regroup (Has ws d ⋅ Blanks1) (Byte 45) (Digits n) p t in
       gapped (Has (ws ++ word.Id (neg_ℤ (pos n)) ∷ []) (suc d)) p
       (settle limit top ws d (suc d) (word.Id (neg_ℤ (pos n))) p (λ rest r. r) (a, b, g, r, (true, n, positive n e, le, refl, k))))
-  closes (phase.Number n) p h = closed_test (nat_eq n 0) (close_number limit top d n) p (λ e. closes_number n p (positive n e) h)
-  closes (phase.Lone r) p h = closes_lone r p h
-  closes (phase.Name negated) p h = closes_name negated p h
-  closes _ p h = tt
+  finishes (phase.Number n) p h = closed_test (nat_eq n 0) (close_number limit top d n) p (λ e. closes_number n p (positive n e) h)
+  finishes (phase.Lone r) p h = closes_lone r p h
+  finishes (phase.Name negated) p h = closes_name negated p h
+  finishes _ p h = tt
 
 -- What one byte adds.
 module _ (limit top : ℕ) (ws : List PolWord) (d : ℕ) (name : List ℕ) (l : Letter) (p : List Letter) where
@@ -338,16 +338,16 @@ module _ (limit top : ℕ) (ws : List PolWord) (d : ℕ) (name : List ℕ) (l : 
   reads (phase.Name negated) k e t = names negated k e t
   reads _ _ e t = tt
 
-  sound : (ph : Phase) (k : Kind) → Says k l.byte → Was ph p → OnAction (plan limit top d ph k)
+  sound : (ph : Phase) (k : Kind) → Says k l.byte → Was ph p → OnAction (transition limit top d ph k)
   sound phase.Ending k e t = lates k e t
-  sound ph kind.Blank e t = blanks (close limit top d ph) e (closes limit top ws d name ph p t)
-  sound ph kind.Semicolon e t = semicolons (close limit top d ph) e (closes limit top ws d name ph p t)
-  sound ph kind.Feed e t = feeds (close limit top d ph) e (closes limit top ws d name ph p t)
+  sound ph kind.Blank e t = blanks (close limit top d ph) e (finishes limit top ws d name ph p t)
+  sound ph kind.Semicolon e t = semicolons (close limit top d ph) e (finishes limit top ws d name ph p t)
+  sound ph kind.Feed e t = feeds (close limit top d ph) e (finishes limit top ws d name ph p t)
   sound ph k e t = reads ph k e t
 
 pub keeps : Keeps pol_automaton Prefix Whole
 keeps s l p h = sound s.limit s.top s.work.words s.work.depth s.work.name l p s.work.phase (kind_of l.byte) (kind_says l.byte) h
 
 -- What is read is a line of words.
-pub reads_only : (limit top : ℕ) (text : List Letter) (e : List PolWord) (after : PolState) → Reads pol_automaton (pol_first limit top) text e after → Whole e after text
+pub reads_only : (limit top : ℕ) (text : List Letter) (e : List PolWord) (after : PolState) → ReadsStatement pol_automaton (pol_first limit top) text e after → Whole e after text
 reads_only limit top text e after r = reported pol_automaton Prefix Whole keeps text (pol_first limit top) [] e after r (refl, refl, refl)

@@ -4,21 +4,21 @@ use Rattle.std.proofs.Math.Nat.{min-le_left}
 use Rattle.std.proofs.lemmas.Bool.{false≢true, true≢false}
 use Rattle.pb_text.specs.contract.Automaton.{Go, End, Refuse}
 use Rattle.pb_text.proofs.lemmas.machine.Outcomes.{one_state, one_end, go_or_end, refuse_or_go, refuse_or_end, end_or_go}
-use Rattle.pb_proof.specs.engine.Line.Pol.{Work, Outcome, act, step, plan, kind_of, is_midway, is_done, is_in_number, finished}
+use Rattle.pb_proof.specs.engine.Line.Pol.{Work, Outcome, act, step, transition, kind_of, is_midway, is_done, is_in_number, finished}
 use Rattle.pb_proof.specs.engine.Line.PolState.{PolState, pol_with, pol_automaton, over, all_units, in_hand, ready, units, IsPolInOrder}
 use Rattle.pb_proof.specs.declared.word.PolWord.{PolWord}
 use Rattle.pb_proof.specs.declared.line.pol.phase.Phase.{Phase}
 use Rattle.pb_proof.specs.declared.line.pol.phase.Phase.TheVariants as phase
 use Rattle.pb_text.proofs.lemmas.machine.OneText.{IsOfOne}
 use Rattle.pb_proof.proofs.lemmas.Pol.Alive.{alive}
-use Rattle.pb_proof.proofs.lemmas.Pol.Sane.{plan-sane, potential, IsNext, goes, ends, stops}
+use Rattle.pb_proof.proofs.lemmas.Pol.Sane.{transition-sane, potential, IsNext, continues, ends, stops}
 
 -- Where the automaton continues, and where it ends.
 went : (s next : PolState) (b : ℕ) (n : Outcome) → step s.limit s.top s.work b ≡ n → over s n ≡ Go next → (v : Work) × (next ≡ pol_with s v) × IsNext s.work v
 went s next b (Go v) e h = (
   v,
   sym (one_state (pol_with s v) next h),
-  goes s.work v b (plan s.limit s.top s.work.depth s.work.phase (kind_of b)) (plan-sane s.limit s.top s.work.depth s.work.phase (kind_of b)) e,
+  continues s.work v b (transition s.limit s.top s.work.depth s.work.phase (kind_of b)) (transition-sane s.limit s.top s.work.depth s.work.phase (kind_of b)) e,
 )
 went s next b (End f v) e h = end_or_go f (pol_with s v) next h
 went s next b Refuse e h = refuse_or_go next h
@@ -30,7 +30,7 @@ closed : (s next : PolState) (b : ℕ) (f : List PolWord) (n : Outcome) → step
 closed s next b f (Go v) e h = go_or_end (pol_with s v) f next h
 closed s next b f (End g v) e h =
     sym (one_end g f (pol_with s v) next h).1
-    ∙ ap (λ w. pol_with s w) (ends s.work v b (plan s.limit s.top s.work.depth s.work.phase (kind_of b)) g e)
+    ∙ ap (λ w. pol_with s w) (ends s.work v b (transition s.limit s.top s.work.depth s.work.phase (kind_of b)) g e)
 closed s next b f Refuse e h = refuse_or_end f next h
 
 midway_owes : (ph : Phase) → is_midway ph ≡ true → is_done ph ≡ false

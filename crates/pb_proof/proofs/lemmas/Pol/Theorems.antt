@@ -1,6 +1,6 @@
 -- The laws of the `pol` machine.
 use Rattle.std.proofs.Common.{◌≡◌, ℕ, ◌<◌, List, refl, subst, sym, ◌↔◌}
-use Rattle.pb_text.specs.contract.Automaton.{Next, Refuse, Reads, IsState, Admits}
+use Rattle.pb_text.specs.contract.Automaton.{Next, Refuse, ReadsStatement, IsState, Admits}
 use Rattle.pb_text.specs.meaning.Spelling.{Letter}
 use Rattle.pb_proof.specs.meaning.Lines.{SpellsWords}
 use Rattle.pb_proof.specs.engine.Line.PolState.{PolState, pol_first, pol_last, pol_automaton, IsPolInOrder}
@@ -12,10 +12,10 @@ use Rattle.pb_proof.proofs.lemmas.Pol.States.{HasIds, last_of, of_one, empties}
 
 -- What a new machine reads is a line of words, and then it has ended.
 pub pol_reads : (limit top : ℕ) (text : List Letter) (e : List PolWord) (after : PolState)
-    → Reads pol_automaton (pol_first limit top) text e after ↔ (SpellsWords limit top e text × (after ≡ pol_last limit top))
-pol_reads limit top text e after = (one, λ h. subst (λ x. Reads pol_automaton (pol_first limit top) text e x) (sym h.1) (reads_each limit top e text h.0))
+    → ReadsStatement pol_automaton (pol_first limit top) text e after ↔ (SpellsWords limit top e text × (after ≡ pol_last limit top))
+pol_reads limit top text e after = (one, λ h. subst (λ x. ReadsStatement pol_automaton (pol_first limit top) text e x) (sym h.1) (reads_each limit top e text h.0))
   where
-    one : Reads pol_automaton (pol_first limit top) text e after → SpellsWords limit top e text × (after ≡ pol_last limit top)
+    one : ReadsStatement pol_automaton (pol_first limit top) text e after → SpellsWords limit top e text × (after ≡ pol_last limit top)
     one r =
         let f : after ≡ pol_last limit top = reads_last pol_automaton HasIds last_of of_one text (pol_first limit top) e after r in
         (subst (λ x. SpellsWords x.limit x.top e text) f (reads_only limit top text e after r), f)

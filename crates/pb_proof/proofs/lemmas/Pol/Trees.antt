@@ -1,6 +1,6 @@
 -- Words are those of one expression if and only if the count of expressions goes from 0 to 1 and none is missing.
 use Rattle.std.proofs.Common.{◌≡◌, ℕ, suc, List, [], ◌∷◌, ◌++◌, length, refl, arith, append_assoc, append-nil}
-use Rattle.pb_proof.specs.meaning.Postfix.{Tree, Constraint, True, Sum, Times, Divided, Saturated, Weakened, words, IsPostfix}
+use Rattle.pb_proof.specs.meaning.Postfix.{Tree, Constraint, LiteralAxiom, Sum, Product, Quotient, Saturation, Weakening, words, IsPostfix}
 use Rattle.pb_proof.specs.declared.word.PolWord.{PolWord}
 use Rattle.pb_proof.specs.declared.word.PolWord.TheVariants.{Id, Axiom, Add, Multiply, Divide, Saturate, Weaken}
 
@@ -23,12 +23,12 @@ stacked (a ∷ below) = stacked below ++ words a
 
 tree_counts : (a : Tree) (d : ℕ) (ws : List PolWord) → Counts (suc d) ws → Counts d (words a ++ ws)
 tree_counts (Constraint id) d ws h = h
-tree_counts (True literal) d ws h = h
+tree_counts (LiteralAxiom literal) d ws h = h
 tree_counts (Sum a b) d ws h = simp append_assoc (tree_counts a d _ (tree_counts b (suc d) _ h))
-tree_counts (Times a k) d ws h = rw append_assoc (tree_counts a d _ h)
-tree_counts (Divided a k) d ws h = rw append_assoc (tree_counts a d _ h)
-tree_counts (Saturated a) d ws h = rw append_assoc (tree_counts a d _ h)
-tree_counts (Weakened a name) d ws h = rw append_assoc (tree_counts a d _ h)
+tree_counts (Product a k) d ws h = rw append_assoc (tree_counts a d _ h)
+tree_counts (Quotient a k) d ws h = rw append_assoc (tree_counts a d _ h)
+tree_counts (Saturation a) d ws h = rw append_assoc (tree_counts a d _ h)
+tree_counts (Weakening a name) d ws h = rw append_assoc (tree_counts a d _ h)
 
 -- with such a stack below, these words end in one expression
 counts_tree : (ws : List PolWord) (below : List Tree) → Counts (length below) ws → (tree : Tree) × (stacked below ++ ws ≡ words tree)
@@ -36,18 +36,18 @@ counts_tree [] [] h = absurd (omega arith)
 counts_tree [] (a ∷ []) h = (a, simp append-nil)
 counts_tree [] (a ∷ b ∷ below) h = absurd (omega arith)
 counts_tree (Id id ∷ ws) below h = let r = counts_tree ws (Constraint id ∷ below) h in (r.0, simp append_assoc at r.1)
-counts_tree (Axiom l ∷ ws) below h = let r = counts_tree ws (True l ∷ below) h in (r.0, simp append_assoc at r.1)
+counts_tree (Axiom l ∷ ws) below h = let r = counts_tree ws (LiteralAxiom l ∷ below) h in (r.0, simp append_assoc at r.1)
 counts_tree (Add ∷ ws) [] h = absurd h
 counts_tree (Add ∷ ws) (a ∷ []) h = absurd h
 counts_tree (Add ∷ ws) (b ∷ a ∷ below) h = let r = counts_tree ws (Sum a b ∷ below) h in (r.0, simp append_assoc (simp append_assoc at r.1))
 counts_tree (Multiply k ∷ ws) [] h = absurd h
-counts_tree (Multiply k ∷ ws) (a ∷ below) h = let r = counts_tree ws (Times a k ∷ below) h in (r.0, simp append_assoc (simp append_assoc at r.1))
+counts_tree (Multiply k ∷ ws) (a ∷ below) h = let r = counts_tree ws (Product a k ∷ below) h in (r.0, simp append_assoc (simp append_assoc at r.1))
 counts_tree (Divide k ∷ ws) [] h = absurd h
-counts_tree (Divide k ∷ ws) (a ∷ below) h = let r = counts_tree ws (Divided a k ∷ below) h in (r.0, simp append_assoc (simp append_assoc at r.1))
+counts_tree (Divide k ∷ ws) (a ∷ below) h = let r = counts_tree ws (Quotient a k ∷ below) h in (r.0, simp append_assoc (simp append_assoc at r.1))
 counts_tree (Saturate ∷ ws) [] h = absurd h
-counts_tree (Saturate ∷ ws) (a ∷ below) h = let r = counts_tree ws (Saturated a ∷ below) h in (r.0, simp append_assoc (simp append_assoc at r.1))
+counts_tree (Saturate ∷ ws) (a ∷ below) h = let r = counts_tree ws (Saturation a ∷ below) h in (r.0, simp append_assoc (simp append_assoc at r.1))
 counts_tree (Weaken k ∷ ws) [] h = absurd h
-counts_tree (Weaken k ∷ ws) (a ∷ below) h = let r = counts_tree ws (Weakened a k ∷ below) h in (r.0, simp append_assoc (simp append_assoc at r.1))
+counts_tree (Weaken k ∷ ws) (a ∷ below) h = let r = counts_tree ws (Weakening a k ∷ below) h in (r.0, simp append_assoc (simp append_assoc at r.1))
 
 -- the words of an expression, and no others, lead from 0 to 1
 pub postfix_counts : (ws : List PolWord) → IsPostfix ws → Counts 0 ws

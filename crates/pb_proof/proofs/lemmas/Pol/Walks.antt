@@ -10,7 +10,7 @@ use Rattle.pb_text.specs.meaning.Spelling.{Letter, plain}
 use Rattle.pb_text.proofs.lemmas.machine.Walking.{Walks}
 use Rattle.pb_text.proofs.lemmas.numbers.DigitWalks.{digits_lead}
 use Rattle.pb_sums.specs.meaning.Sums.{IsName}
-use Rattle.pb_proof.specs.engine.Line.Pol.{act, plan, close, blank, changed, counted, bound, may_be_name, is_letter_kind, is_name_kind, role_of, kind_of}
+use Rattle.pb_proof.specs.engine.Line.Pol.{act, transition, close, blank, changed, counted, bound, may_be_name, is_letter_kind, is_name_kind, role_of, kind_of}
 use Rattle.pb_proof.specs.engine.Line.PolState.{PolState, pol_automaton, over}
 use Rattle.pb_proof.specs.declared.word.PolWord.{PolWord}
 use Rattle.pb_proof.specs.declared.line.pol.phase.Kind.{Kind}
@@ -29,10 +29,10 @@ use Rattle.pb_proof.proofs.lemmas.Pol.Covers.{state}
 use Rattle.pb_proof.proofs.lemmas.Pol.Kinds.{of_digit, of_blank, of_letter, of_name}
 
 -- the step for a known kind, and for a known move
-pub steps : (s : PolState) (b : ℕ) (k : Kind) → kind_of b ≡ k → pol_automaton.step s b ≡ over s (act s.work b (plan s.limit s.top s.work.depth s.work.phase k))
-steps s b k e = ap (λ x. over s (act s.work b (plan s.limit s.top s.work.depth s.work.phase x))) e
+pub steps : (s : PolState) (b : ℕ) (k : Kind) → kind_of b ≡ k → pol_automaton.step s b ≡ over s (act s.work b (transition s.limit s.top s.work.depth s.work.phase k))
+steps s b k e = ap (λ x. over s (act s.work b (transition s.limit s.top s.work.depth s.work.phase x))) e
 
-pub moves : (s : PolState) (b : ℕ) (m : Action) → plan s.limit s.top s.work.depth s.work.phase (kind_of b) ≡ m → pol_automaton.step s b ≡ over s (act s.work b m)
+pub moves : (s : PolState) (b : ℕ) (m : Action) → transition s.limit s.top s.work.depth s.work.phase (kind_of b) ≡ m → pol_automaton.step s b ≡ over s (act s.work b m)
 moves s b m e = ap (λ x. over s (act s.work b x)) e
 
 module _ (limit top : ℕ) (ws : List PolWord) (d : ℕ) where
@@ -41,7 +41,7 @@ module _ (limit top : ℕ) (ws : List PolWord) (d : ℕ) where
 
   -- numbers
   tested : (s : PolState) (k most : ℕ) (n : ℕ) (ph : Phase) → kind_of (48 + k) ≡ kind.Digit k
-      → plan s.limit s.top s.work.depth s.work.phase (kind.Digit k) ≡ cond (nat_le n most) (action.To ph) action.Stop → n ≤ most
+      → transition s.limit s.top s.work.depth s.work.phase (kind.Digit k) ≡ cond (nat_le n most) (action.To ph) action.Stop → n ≤ most
       → pol_automaton.step s (48 + k) ≡ over s (act s.work (48 + k) (action.To ph))
   tested s k most n ph e f l =
       steps s (48 + k) (kind.Digit k) e
@@ -73,32 +73,32 @@ module _ (limit top : ℕ) (ws : List PolWord) (d : ℕ) where
       n l t h
 
   -- names
-  plan_letter : (k : Kind) → is_letter_kind k ≡ true → plan limit top d (phase.Gap held.Nothing) k ≡ action.Begin (phase.Lone (role_of d held.Nothing k))
+  plan_letter : (k : Kind) → is_letter_kind k ≡ true → transition limit top d (phase.Gap held.Nothing) k ≡ action.Begin (phase.Lone (role_of d held.Nothing k))
   plan_letter kind.D e = refl
   plan_letter kind.S e = refl
   plan_letter kind.W e = refl
   plan_letter kind.Letter e = refl
   plan_letter _ e = absurd (false≢true e)
 
-  plan_name : (negated : Bool) (k : Kind) → is_name_kind k ≡ true → plan limit top d (phase.Name negated) k ≡ action.Add (phase.Name negated)
+  plan_name : (negated : Bool) (k : Kind) → is_name_kind k ≡ true → transition limit top d (phase.Name negated) k ≡ action.Add (phase.Name negated)
   plan_name negated kind.Blank e = absurd (false≢true e)
   plan_name negated kind.Semicolon e = absurd (false≢true e)
   plan_name negated kind.Feed e = absurd (false≢true e)
   plan_name negated k e = ap (λ x. cond x (action.Add (phase.Name negated)) action.Stop) e
 
-  plan_second : (r : Role) → may_be_name r ≡ true → (k : Kind) → is_name_kind k ≡ true → plan limit top d (phase.Lone r) k ≡ action.Add (phase.Name false)
+  plan_second : (r : Role) → may_be_name r ≡ true → (k : Kind) → is_name_kind k ≡ true → transition limit top d (phase.Lone r) k ≡ action.Add (phase.Name false)
   plan_second r h kind.Blank e = absurd (false≢true e)
   plan_second r h kind.Semicolon e = absurd (false≢true e)
   plan_second r h kind.Feed e = absurd (false≢true e)
   plan_second r h k e = ap (λ x. cond (x && is_name_kind k) (action.Add (phase.Name false)) action.Stop) h ∙ ap (λ x. cond x (action.Add (phase.Name false)) action.Stop) e
 
-  plan_tilde : (k : Kind) → is_letter_kind k ≡ true → plan limit top d phase.Tilde k ≡ action.Begin phase.First
+  plan_tilde : (k : Kind) → is_letter_kind k ≡ true → transition limit top d phase.Tilde k ≡ action.Begin phase.First
   plan_tilde kind.Blank e = absurd (false≢true e)
   plan_tilde kind.Semicolon e = absurd (false≢true e)
   plan_tilde kind.Feed e = absurd (false≢true e)
   plan_tilde k e = ap (λ x. cond x (action.Begin phase.First) action.Stop) e
 
-  plan_first : (k : Kind) → is_name_kind k ≡ true → plan limit top d phase.First k ≡ action.Add (phase.Name true)
+  plan_first : (k : Kind) → is_name_kind k ≡ true → transition limit top d phase.First k ≡ action.Add (phase.Name true)
   plan_first kind.Blank e = absurd (false≢true e)
   plan_first kind.Semicolon e = absurd (false≢true e)
   plan_first kind.Feed e = absurd (false≢true e)
@@ -147,7 +147,7 @@ module _ (limit top : ℕ) (ws : List PolWord) (d : ℕ) where
       )
 
   -- blanks
-  plan_blank : (ph : Phase) (c : Change) (h : Held) → close limit top d ph ≡ Some (c, h) → plan limit top d ph kind.Blank ≡ action.Turn c (phase.Gap h)
+  plan_blank : (ph : Phase) (c : Change) (h : Held) → close limit top d ph ≡ Some (c, h) → transition limit top d ph kind.Blank ≡ action.Turn c (phase.Gap h)
   plan_blank phase.Ending c h q = absurd (cc)
   plan_blank ph c h q = ap blank q
 

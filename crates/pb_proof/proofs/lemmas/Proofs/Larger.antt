@@ -13,7 +13,7 @@ use Rattle.pb_sums.specs.declared.Spaces.TheVariants.{Blank}
 use Rattle.pb_sums.specs.declared.Part as part
 use Rattle.pb_sums.specs.declared.SumEvent as sum
 use Rattle.pb_sums.proofs.lemmas.values.Larger.{spells_larger}
-use Rattle.pb_proof.specs.meaning.Lines.{Feed, LineEnd, Listed, SpellsId, Factor, SpellsBound, Shown, IdShown, SpellsWord, SpellsConclusion, SpellsCount, SpellsRup, SpellsStatement, rup_word, f_word, conclusion_word, unsat_word, bounds_word}
+use Rattle.pb_proof.specs.meaning.Lines.{Feed, LineEnd, Listed, SpellsId, Factor, SpellsBound, LiteralsShown, IdShown, SpellsWord, SpellsConclusion, SpellsCount, SpellsRup, SpellsStatement, rup_word, f_word, conclusion_word, unsat_word, bounds_word}
 use Rattle.pb_proof.specs.meaning.Proofs.{IsGap, AreSpelled, BeginsAtOnce, IsProof}
 use Rattle.pb_proof.specs.declared.word.PolWord.{PolWord}
 use Rattle.pb_proof.specs.declared.word.PolWord.TheVariants.{Id, Axiom, Add, Multiply, Divide, Saturate, Weaken}
@@ -77,7 +77,7 @@ module _ (limit limit' top top' : ℕ) (h : limit ≤ limit') (j : top ≤ top')
   conclusion_grows (Bounds lower id upper shown) t k =
       let A : ℕ → Language = λ n. Bytes bounds_word ⋅ Blanks1 ⋅ SpellsBound n lower in
       let B : ℕ → ℕ → Language = λ n m. A n ⋅ IdShown n m id in
-      first_grows (B limit top ⋅ Blanks1 ⋅ SpellsBound limit upper) (B limit' top' ⋅ Blanks1 ⋅ SpellsBound limit' upper) (Shown shown)
+      first_grows (B limit top ⋅ Blanks1 ⋅ SpellsBound limit upper) (B limit' top' ⋅ Blanks1 ⋅ SpellsBound limit' upper) (LiteralsShown shown)
       (both_grow (B limit top ⋅ Blanks1) (B limit' top' ⋅ Blanks1) (SpellsBound limit upper) (SpellsBound limit' upper)
       (first_grows (B limit top) (B limit' top') Blanks1
       (both_grow (A limit) (A limit') (IdShown limit top id) (IdShown limit' top' id)

@@ -11,7 +11,7 @@ use Rattle.pb_sums.specs.meaning.Sums.{IsName, SpellsLiteral}
 use Rattle.pb_sums.specs.declared.linear.Literal.{Literal}
 use Rattle.pb_sums.specs.declared.sum_kind.Spaces.TheVariants.{Blank}
 use Rattle.pb_sums.proofs.lemmas.values.Within.{number-within, linear-within}
-use Rattle.pb_proof.specs.meaning.Lines.{Listed, SpellsId, Factor, SpellsBound, Shown, IdShown, SpellsWord, SpellsConclusion, SpellsStatement}
+use Rattle.pb_proof.specs.meaning.Lines.{Listed, SpellsId, Factor, SpellsBound, LiteralsShown, IdShown, SpellsWord, SpellsConclusion, SpellsStatement}
 use Rattle.pb_proof.specs.meaning.Proofs.{IsGap, IsStep, statements_of}
 use Rattle.pb_proof.specs.contract.Values.{IfGiven, IsId, IsFactor, AreLiterals, IsBound, IsWord, IsConclusion, IsStatementValue, IsProofValue}
 use Rattle.pb_proof.specs.contract.ValueLaws.{StatementValues, ProofValues, OneValue}
@@ -35,7 +35,7 @@ literal_value l t h = h.0
 literals_value : (ls : List Literal) (t : List Letter) → Listed SpellsLiteral ls t → AreLiterals ls
 literals_value ls t h = listed_values SpellsLiteral (λ l. IsName l.name) literal_value ls t h
 
-shown_value : (shown : Option (List Literal)) (t : List Letter) → Shown shown t → IfGiven AreLiterals shown
+shown_value : (shown : Option (List Literal)) (t : List Letter) → LiteralsShown shown t → IfGiven AreLiterals shown
 shown_value None t h = tt
 shown_value (Some []) t h = All-nil (λ l. IsName l.name)
 shown_value (Some (l ∷ ls)) t (s, r, e, blanks, (ab, c, f, (a, b, g, start, h), k)) = All-cons (λ l. IsName l.name) l ls h.0 (literals_value ls c k)

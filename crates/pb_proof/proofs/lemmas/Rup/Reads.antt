@@ -2,7 +2,7 @@
 use Rattle.std.proofs.Common.{◌≡◌, ℕ, true, false, List, [], ◌∷◌, ◌++◌, refl, sym, ap, subst, ◌∙◌, ◌↔◌}
 use Rattle.std.proofs.lemmas.Bool.{eqb-true, cond_both, false_from_ne_true}
 use Rattle.std.specs.Prelude.{IsTrue, nat_eq, Option, Some, None}
-use Rattle.pb_text.specs.contract.Automaton.{Next, Go, End, Refuse, Reads}
+use Rattle.pb_text.specs.contract.Automaton.{Next, Go, End, Refuse, ReadsStatement}
 use Rattle.pb_text.specs.meaning.Classes.{is_blank}
 use Rattle.pb_text.specs.meaning.Languages.{Language, ◌⋅◌, Blanks0, Blanks1}
 use Rattle.pb_text.specs.meaning.Spelling.{Letter}
@@ -21,7 +21,7 @@ use Rattle.pb_sums.specs.declared.Part as part
 use Rattle.pb_sums.specs.declared.SumEvent.{SumEvent}
 use Rattle.pb_sums.specs.declared.SumEvent as sum
 use Rattle.pb_sums.proofs.lemmas.machine.Links.{reads_grammar}
-use Rattle.pb_sums.proofs.lemmas.machine.States.{goes-midway}
+use Rattle.pb_sums.proofs.lemmas.machine.States.{continues-midway}
 use Rattle.pb_proof.specs.engine.Line.Rup.{RupState, rup_automaton, rup_first, rup_last, sum_first, sum_last, rup_plan, rup_act, rup_over, linear_of, rup_finish}
 use Rattle.pb_proof.specs.meaning.Lines.{SpellsRup}
 use Rattle.pb_proof.specs.declared.line.rup.phase.RupPhase.{RupPhase}
@@ -31,7 +31,7 @@ use Rattle.pb_proof.specs.declared.line.rup.phase.RupAction.TheVariants.{Give}
 use Rattle.pb_proof.proofs.lemmas.Line.Ends.{TakesBlanks, blanks1_lead, Feeds, feed_reads, gapped, first_blank, further_blank, blank_more, feed_after_blanks}
 
 -- what the sum machine reads
-pub given_walks : (o : Option Linear) (t : List Letter) (inner new : SumState) (e : SumEvent) → Reads sums inner t e new
+pub given_walks : (o : Option Linear) (t : List Letter) (inner new : SumState) (e : SumEvent) → ReadsStatement sums inner t e new
     → Walks rup_automaton (record { phase = Inside; sums = inner; linear = o }) t (record { phase = Tail; sums = new; linear = Some (linear_of e) })
 given_walks o [] inner new e r = absurd r
 given_walks o (l ∷ []) inner new e (g, n) =
@@ -84,7 +84,7 @@ module _ (limit top : ℕ) where
     given n h (Go inner) e = λ w f. (
       n,
       grown Blanks1 (SumPrefix s.sums) (SumPrefix inner) p l
-          (λ q r. walks_more sums q l (sum_first limit) s.sums inner r e (goes-midway s.sums inner l.byte e) f) h,
+          (λ q r. walks_more sums q l (sum_first limit) s.sums inner r e (continues-midway s.sums inner l.byte e) f) h,
     )
     given n h (End e new) i = λ w f.
         let (a, b, j, g, r) = h in
@@ -124,7 +124,7 @@ module _ (limit top : ℕ) where
   pub keeps : Keeps rup_automaton Prefix Whole
   keeps s l p f = sound s l p s.phase f
 
-  pub rup_only : (t : List Letter) (c : Linear) (after : RupState) → Reads rup_automaton (rup_first limit) t c after → SpellsRup limit top c t × (after ≡ rup_last limit)
+  pub rup_only : (t : List Letter) (c : Linear) (after : RupState) → ReadsStatement rup_automaton (rup_first limit) t c after → SpellsRup limit top c t × (after ≡ rup_last limit)
   rup_only t c after r =
       reported rup_automaton Prefix Whole keeps t (rup_first limit) [] c after r (refl, refl, refl)
 
@@ -165,7 +165,7 @@ module _ (limit top : ℕ) where
   gap_gives l h =
       let e : is_blank l.byte ≡ false = false_from_ne_true (is_blank l.byte) (λ k. h (no_blank l.byte k)) in rw e refl
 
-  linear_walks : (t : List Letter) (new : SumState) (e : SumEvent) → Reads sums (sum_first limit) t e new → Walks rup_automaton (in_phase Gap) t (following e new)
+  linear_walks : (t : List Letter) (new : SumState) (e : SumEvent) → ReadsStatement sums (sum_first limit) t e new → Walks rup_automaton (in_phase Gap) t (following e new)
   linear_walks [] new e r = absurd r
   linear_walks (l ∷ []) new e (g, n) =
       let k = gap_gives l (λ h. refuse_or_end e new (sym h ∙ g)) in
@@ -178,21 +178,21 @@ module _ (limit top : ℕ) where
   allows_it AtLeast h = refl
   allows_it Equal h = cc
 
-  pub rup_each : (t : List Letter) (c : Linear) → SpellsRup limit top c t → Reads rup_automaton (rup_first limit) t c (rup_last limit)
+  pub rup_each : (t : List Letter) (c : Linear) → SpellsRup limit top c t → ReadsStatement rup_automaton (rup_first limit) t c (rup_last limit)
   rup_each t c (r, (ab, f, e, (a, b, g, h, k), i)) =
-      let q : Reads sums (sum_first limit) b (sum.TheVariants.Linear c) (sum_last limit) =
+      let q : ReadsStatement sums (sum_first limit) b (sum.TheVariants.Linear c) (sum_last limit) =
       (reads_grammar Blank part.TheVariants.AtLeast limit b (sum.TheVariants.Linear c) (sum_last limit)).1 ((allows_it c.relation r, k), refl) in
       let w : Walks rup_automaton (rup_first limit) (a ++ b) (following (sum.TheVariants.Linear c) (sum_last limit)) =
       walks_then rup_automaton a b (rup_first limit) (in_phase Gap)
       (following (sum.TheVariants.Linear c) (sum_last limit))
       (blanks1_lead rup_automaton (in_phase Start) (in_phase Gap) gap_blanks a h) (linear_walks b (sum_last limit) (sum.TheVariants.Linear c) q) in
-      subst (λ x. Reads rup_automaton (rup_first limit) x c (rup_last limit)) (ap (λ x. x ++ f) (sym g) ∙ sym e)
+      subst (λ x. ReadsStatement rup_automaton (rup_first limit) x c (rup_last limit)) (ap (λ x. x ++ f) (sym g) ∙ sym e)
       (reads_after rup_automaton (a ++ b) f (rup_first limit) (following (sum.TheVariants.Linear c) (sum_last limit)) (rup_last limit) c w
       (feed_reads rup_automaton (following (sum.TheVariants.Linear c) (sum_last limit)) (following (sum.TheVariants.Linear c) (sum_last limit)) (rup_last limit) c (tail_feeds (sum.TheVariants.Linear c)) f i))
 
   -- What a new machine reads is a constraint, and then it has ended.
-  pub rup_reads : (t : List Letter) (c : Linear) (after : RupState) → Reads rup_automaton (rup_first limit) t c after ↔ (SpellsRup limit top c t × (after ≡ rup_last limit))
+  pub rup_reads : (t : List Letter) (c : Linear) (after : RupState) → ReadsStatement rup_automaton (rup_first limit) t c after ↔ (SpellsRup limit top c t × (after ≡ rup_last limit))
   rup_reads t c after = (
     rup_only t c after,
-    λ h. subst (λ x. Reads rup_automaton (rup_first limit) t c x) (sym h.1) (rup_each t c h.0),
+    λ h. subst (λ x. ReadsStatement rup_automaton (rup_first limit) t c x) (sym h.1) (rup_each t c h.0),
   )

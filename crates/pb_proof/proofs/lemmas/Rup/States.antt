@@ -2,13 +2,13 @@
 use Rattle.std.proofs.Common.{◌≡◌, ℕ, ◌+◌, ◌≤◌, Bool, true, false, cond, List, [], ◌++◌, refl, sym, ap, subst, ◌∙◌, arith, ◌&&◌}
 use Rattle.std.specs.Prelude.{IsTrue, nat_eq, Option, Some, None}
 use Rattle.std.proofs.lemmas.Bool.{cond_both}
-use Rattle.pb_text.specs.contract.Automaton.{Next, Go, End, Refuse, Accepts, Admits, IsState, is_large}
+use Rattle.pb_text.specs.contract.Automaton.{Next, Go, End, Refuse, AcceptsItems, Admits, IsState, is_large}
 use Rattle.pb_text.specs.meaning.Classes.{is_blank, is_digit}
 use Rattle.pb_text.specs.meaning.Spelling.{Item}
 use Rattle.pb_text.proofs.lemmas.machine.Residual.{refuses}
 use Rattle.pb_text.proofs.lemmas.machine.Walking.{reads_after}
 use Rattle.pb_text.proofs.lemmas.text.Booleans.{never}
-use Rattle.pb_sums.specs.engine.Machine.{Work, Outcome, act, flushed, plan, kind, letter_at, is_numeric}
+use Rattle.pb_sums.specs.engine.Machine.{Work, Outcome, act, flushed, transition, kind, letter_at, is_numeric}
 use Rattle.pb_sums.specs.engine.State.{SumState, sums, over, units}
 use Rattle.pb_sums.specs.declared.Linear.{Linear}
 use Rattle.pb_sums.specs.declared.linear.Term.{Term}
@@ -19,7 +19,7 @@ use Rattle.pb_sums.specs.declared.SumEvent.{SumEvent}
 use Rattle.pb_sums.specs.declared.SumEvent as sum
 use Rattle.pb_sums.proofs.lemmas.machine.Counts.{flushed-units}
 use Rattle.pb_sums.proofs.lemmas.machine.Links.{reads_something, midway-not-done}
-use Rattle.pb_sums.proofs.lemmas.machine.States.{goes-midway, ended-last}
+use Rattle.pb_sums.proofs.lemmas.machine.States.{continues-midway, ended-last}
 use Rattle.pb_proof.specs.engine.Line.Rup.{RupState, rup_automaton, rup_first, sum_first, rup_plan, rup_act, rup_over, rup_finish, rup_midway, rup_done, rup_in_number, rup_asks, linear_of, RupHolds, IsRupInOrder}
 use Rattle.pb_proof.specs.declared.line.rup.phase.RupPhase.{RupPhase}
 use Rattle.pb_proof.specs.declared.line.rup.phase.RupPhase.TheVariants.{Start, Gap, Inside, Tail, Done}
@@ -45,7 +45,7 @@ over-ends s next e Refuse h = absurd (let f : ⊥ = cc in f)
 pub ended_units : (s next : SumState) (b : ℕ) (e : SumEvent) → sums.step s b ≡ End e next → units (linear_of e).terms ≤ sums.spent s
 ended_units s next b e h =
     let p = s.work.phase in
-    let m : Action = plan s.part s.limit p (kind s.spaces (letter_at (is_numeric p) b)) in
+    let m : Action = transition s.part s.limit p (kind s.spaces (letter_at (is_numeric p) b)) in
     let k = over-ends s next e (act (flushed p s.work.terms s.work.name) s.work.terms s.work.name m) h in
     let t : (linear_of e).terms ≡ flushed p s.work.terms s.work.name = acted-terms (flushed p s.work.terms s.work.name) s.work.terms s.work.name m e k.0 k.1 in
     rw t (omega (arith, flushed-units p s.work.terms s.work.name))
@@ -54,12 +54,12 @@ pub ended_empty : (s next : SumState) (b : ℕ) (e : SumEvent) → sums.step s b
 ended_empty s next b e h = ap sums.spent (ended-last s next b e h)
 
 -- what holds after a byte
-record Goes (s next : RupState) : Type 0 where
+record Continues (s next : RupState) : Type 0 where
   pub begins : rup_midway next.phase ≡ true
   pub grows : rup_automaton.spent next ≤ rup_automaton.spent s + 1
 
 abbrev On : RupState → Next RupState Linear → Type 0
-On s (Go next) = Goes s next
+On s (Go next) = Continues s next
 On s (End e next) = (rup_done next.phase ≡ true) × (rup_automaton.spent next ≡ 0)
 On s Refuse = Unit {0}
 
@@ -120,8 +120,8 @@ on_act s h b Stop e k = tt
 steps : (s : RupState) → IsRupInOrder s → (b : ℕ) → On s (rup_automaton.step s b)
 steps s h b = on_act s h b (rup_plan s.phase b) refl (on_plan s.phase b)
 
-goes : (s next : RupState) (b : ℕ) → IsRupInOrder s → rup_automaton.step s b ≡ Go next → Goes s next
-goes s next b h e = subst (On s) e (steps s h b)
+continues : (s next : RupState) (b : ℕ) → IsRupInOrder s → rup_automaton.step s b ≡ Go next → Continues s next
+continues s next b h e = subst (On s) e (steps s h b)
 
 ends : (s next : RupState) (b : ℕ) (c : Linear) → IsRupInOrder s → rup_automaton.step s b ≡ End c next → (rup_done next.phase ≡ true) × (rup_automaton.spent next ≡ 0)
 ends s next b c h e = subst (On s) e (steps s h b)
@@ -227,7 +227,7 @@ alive s Inside e h d = inside_alive s e h.1
 alive s Tail e h d = finishing s h.0.0 e h.0.1
 alive s Done e h d = never true refl d
 
-live : (s : RupState) → IsRupInOrder s → (d : Bool) → rup_done s.phase ≡ d → (items : List (Item Linear)) × Accepts rup_automaton s items
+live : (s : RupState) → IsRupInOrder s → (d : Bool) → rup_done s.phase ≡ d → (items : List (Item Linear)) × AcceptsItems rup_automaton s items
 live s h true d = ([], d)
 live s h false d = accepted rup_automaton s (alive s s.phase refl h.holds d)
 
@@ -235,11 +235,11 @@ pub rup_is_state : (s : RupState) → IsRupInOrder s → IsState rup_automaton s
 rup_is_state s h = record {
   live = live s h (rup_done s.phase) refl;
   ends = λ d b. done_stops s s.phase b d;
-  owes = λ b next e. midway_not_done next.phase (goes s next b h e).begins;
-  stays = λ i b next e. (goes s next b h e).begins;
-  closes = λ b c next e. done_not_midway next.phase (ends s next b c h e).0;
+  owes = λ b next e. midway_not_done next.phase (continues s next b h e).begins;
+  stays = λ i b next e. (continues s next b h e).begins;
+  finishes = λ b c next e. done_not_midway next.phase (ends s next b c h e).0;
   plain = λ o. outside_plain s s.phase o;
-  grows = λ b next e. (goes s next b h e).grows;
+  grows = λ b next e. (continues s next b h e).grows;
   bounds = omega (arith, h.state.bounds);
   empties = λ o. empty_outside s s.phase h.holds o;
 }
@@ -270,7 +270,7 @@ to_order s h b p e = record { holds = held s.phase h.holds e; state = h.state }
 
 pub give_order : (s : RupState) → IsRupInOrder s → (b : ℕ) (inner : SumState) → rup_plan s.phase b ≡ Give → sums.step s.sums b ≡ Go inner → IsState sums inner → IsRupInOrder (record s { phase = Inside; sums = inner })
 give_order s h b inner e g state = record {
-  holds = (given_none s s.phase b h.holds e, midway-not-done inner.work.phase (goes-midway s.sums inner b g));
+  holds = (given_none s s.phase b h.holds e, midway-not-done inner.work.phase (continues-midway s.sums inner b g));
   state = state;
 }
 
@@ -295,7 +295,7 @@ module _ (s : RupState) (h : IsRupInOrder s) (b : ℕ) (planned : rup_plan s.pha
   by_step : (n : Next SumState SumEvent) → sums.step s.sums b ≡ n → Admits sums s.sums b → Admits rup_automaton s b
   by_step (Go inner) e a =
       admits_before rup_automaton s (record s { phase = Inside; sums = inner }) b (ap (rup_act s b) planned ∙ ap (rup_over s) e) refl
-      (inside_alive (record s { phase = Inside; sums = inner }) refl (midway-not-done inner.work.phase (goes-midway s.sums inner b e)))
+      (inside_alive (record s { phase = Inside; sums = inner }) refl (midway-not-done inner.work.phase (continues-midway s.sums inner b e)))
   by_step (End x inner) e a =
       admits_before rup_automaton s (record { phase = Tail; sums = inner; linear = Some (linear_of x) }) b (ap (rup_act s b) planned ∙ ap (rup_over s) e) refl
       (finishing (record { phase = Tail; sums = inner; linear = Some (linear_of x) }) (linear_of x) refl refl)

@@ -96,30 +96,30 @@ after_id owner.TheVariants.Unsat id b = next_action (concluding.TheVariants.Unsa
 after_id (owner.TheVariants.Lower x) id b = cond (is_blank b) (To (phase.BeforeBound (side.TheVariants.Upper x (Some id)))) Stop
 
 -- the action for a phase and a byte
-abbrev pub plan : ℕ → ℕ → Phase → ℕ → Action
-plan limit top phase.Start b = cond (is_blank b) (To phase.Before) Stop
-plan limit top phase.Before b = cond (is_blank b) (To phase.Before) (first_word b)
-plan limit top (phase.Word w k) b = spell (word_of w) k b (phase.Word w (k + 1)) (phase_after_word w)
-plan limit top (phase.AfterValue concluding) b = next_action concluding b
-plan limit top (phase.Semicolon concluding) b = cond (is_blank b) (To (phase.Semicolon concluding)) (cond (nat_eq b 10) (Finish concluding) Stop)
-plan limit top phase.Bounded b = cond (is_blank b) (To (phase.BeforeBound side.TheVariants.Lower)) Stop
-plan limit top (phase.BeforeBound side) b = cond (is_blank b) (To (phase.BeforeBound side)) (begin_bound limit side b)
-plan limit top (phase.Signed side negative) b = digits limit side negative 0 b
-plan limit top (phase.Digits side negative n) b =
+abbrev pub transition : ℕ → ℕ → Phase → ℕ → Action
+transition limit top phase.Start b = cond (is_blank b) (To phase.Before) Stop
+transition limit top phase.Before b = cond (is_blank b) (To phase.Before) (first_word b)
+transition limit top (phase.Word w k) b = spell (word_of w) k b (phase.Word w (k + 1)) (phase_after_word w)
+transition limit top (phase.AfterValue concluding) b = next_action concluding b
+transition limit top (phase.Semicolon concluding) b = cond (is_blank b) (To (phase.Semicolon concluding)) (cond (nat_eq b 10) (Finish concluding) Stop)
+transition limit top phase.Bounded b = cond (is_blank b) (To (phase.BeforeBound side.TheVariants.Lower)) Stop
+transition limit top (phase.BeforeBound side) b = cond (is_blank b) (To (phase.BeforeBound side)) (begin_bound limit side b)
+transition limit top (phase.Signed side negative) b = digits limit side negative 0 b
+transition limit top (phase.Digits side negative n) b =
     cond (is_digit b) (digits limit side negative n b) (after_bound side (Finite (signed negative n)) b)
-plan limit top (phase.Infinity side k) b =
+transition limit top (phase.Infinity side k) b =
     spell inf_word k b (phase.Infinity side (k + 1)) (phase_after_bound side Infinite)
-plan limit top (phase.Between x) b = between x b
-plan limit top (phase.Spaced x) b =
+transition limit top (phase.Between x) b = between x b
+transition limit top (phase.Spaced x) b =
     cond (is_blank b) (To (phase.Spaced x))
     (cond (nat_eq b 58) (To (phase.BeforeId (owner.TheVariants.Lower x))) (begin_bound limit (side.TheVariants.Upper x None) b))
-plan limit top (phase.BeforeId owner) b =
+transition limit top (phase.BeforeId owner) b =
     cond (is_blank b) (To (phase.BeforeId owner)) (cond (nat_eq b 45) (To (phase.IdSigned owner)) (id_digits top owner false 0 b))
-plan limit top (phase.IdSigned owner) b = id_digits top owner true 0 b
-plan limit top (phase.IdDigits owner negative n) b =
+transition limit top (phase.IdSigned owner) b = id_digits top owner true 0 b
+transition limit top (phase.IdDigits owner negative n) b =
     cond (is_digit b) (id_digits top owner negative n b) (cond (nat_eq n 0) Stop (after_id owner (signed negative n) b))
-plan limit top (phase.Shown shows) b = Give shows
-plan limit top phase.Done b = Stop
+transition limit top (phase.Shown shows) b = Give shows
+transition limit top phase.Done b = Stop
 
 -- a conclusion has begun and not ended, or has ended
 abbrev pub is_within : Phase → Bool

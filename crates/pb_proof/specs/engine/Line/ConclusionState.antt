@@ -2,7 +2,7 @@
 use Rattle.std.specs.Prelude.{◌≡◌, ℕ, ◌<◌, ◌^◌, Bool, true, false, Option, Some, None, List}
 use Rattle.pb_text.specs.contract.Automaton.{Automaton, Next, Go, End, Refuse}
 use Rattle.pb_sums.specs.declared.Literal.{Literal}
-use Rattle.pb_proof.specs.engine.Line.Conclusion.{plan, is_within, is_done, is_in_digits, PhaseFits}
+use Rattle.pb_proof.specs.engine.Line.Conclusion.{transition, is_within, is_done, is_in_digits, PhaseFits}
 use Rattle.pb_proof.specs.engine.Line.Literals.{LiteralsState, literals_automaton, literals_first, IsLiteralsInOrder}
 use Rattle.pb_proof.specs.declared.line.conclusion.phase.Showing.{Showing}
 use Rattle.pb_proof.specs.declared.line.conclusion.phase.Showing as showing
@@ -81,11 +81,11 @@ spent s _ = 0
 
 abbrev pub conclusion_automaton : Automaton ConclusionState Conclusion
 conclusion_automaton = record {
-  step = λ s b. act s b (plan s.limit s.top s.phase b);
+  step = λ s b. act s b (transition s.limit s.top s.phase b);
   done = λ s. is_done s.phase;
   begun = λ s. is_within s.phase;
   in_number = λ s. is_in_number s s.phase;
-  asks = λ s b. asks s b (plan s.limit s.top s.phase b);
+  asks = λ s b. asks s b (transition s.limit s.top s.phase b);
   kept = λ s. kept s s.phase;
   spent = λ s. spent s s.phase;
 }

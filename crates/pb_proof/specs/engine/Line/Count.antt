@@ -35,16 +35,16 @@ next_action count gap Semicolon = action.TheVariants.To (Closing count)
 next_action count gap Feed = action.TheVariants.End count
 next_action count gap _ = action.TheVariants.Stop
 
-abbrev pub plan : ℕ → CountPhase → NumberByte → CountAction
-plan top Start k = next_action None Gap k
-plan top Gap (Digit d) = digits top 0 d
-plan top Gap k = next_action None Gap k
-plan top (Digits n) (Digit d) = digits top n d
-plan top (Digits n) k = next_action (Some n) (Tail n) k
-plan top (Tail n) k = next_action (Some n) (Tail n) k
-plan top (Closing count) Blank = action.TheVariants.To (Closing count)
-plan top (Closing count) Feed = action.TheVariants.End count
-plan _ _ _ = action.TheVariants.Stop
+abbrev pub transition : ℕ → CountPhase → NumberByte → CountAction
+transition top Start k = next_action None Gap k
+transition top Gap (Digit d) = digits top 0 d
+transition top Gap k = next_action None Gap k
+transition top (Digits n) (Digit d) = digits top n d
+transition top (Digits n) k = next_action (Some n) (Tail n) k
+transition top (Tail n) k = next_action (Some n) (Tail n) k
+transition top (Closing count) Blank = action.TheVariants.To (Closing count)
+transition top (Closing count) Feed = action.TheVariants.End count
+transition _ _ _ = action.TheVariants.Stop
 
 abbrev pub act : ℕ → CountAction → Next CountState (Option ℕ)
 act top (action.TheVariants.To p) = Go (at top p)
@@ -67,7 +67,7 @@ is_in_number _ = false
 -- the automaton: it stores nothing
 abbrev pub count_automaton : Automaton CountState (Option ℕ)
 count_automaton = record {
-  step = λ s b. act s.top (plan s.top s.phase (number_byte b));
+  step = λ s b. act s.top (transition s.top s.phase (number_byte b));
   done = λ s. is_done s.phase;
   begun = λ s. is_midway s.phase;
   in_number = λ s. is_in_number s.phase;

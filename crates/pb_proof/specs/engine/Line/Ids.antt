@@ -43,20 +43,20 @@ next_action id kind.Semicolon = action.Keep Closing id
 next_action id kind.Feed = action.EndWith id
 next_action id _ = action.Stop
 
-abbrev pub plan : ℕ → IdsPhase → NumberByte → IdsAction
-plan top Start kind.Blank = action.To Gap
-plan top Gap kind.Blank = action.To Gap
-plan top Gap k = before top k
-plan top Between kind.Blank = action.To Between
-plan top Between kind.Semicolon = action.To Closing
-plan top Between kind.Feed = action.End
-plan top Between k = before top k
-plan top Minus (kind.Digit d) = digits top true 0 d
-plan top (Digits negative n) (kind.Digit d) = digits top negative n d
-plan top (Digits negative n) k = cond (nat_eq n 0) action.Stop (next_action (signed negative n) k)
-plan top Closing kind.Blank = action.To Closing
-plan top Closing kind.Feed = action.End
-plan _ _ _ = action.Stop
+abbrev pub transition : ℕ → IdsPhase → NumberByte → IdsAction
+transition top Start kind.Blank = action.To Gap
+transition top Gap kind.Blank = action.To Gap
+transition top Gap k = before top k
+transition top Between kind.Blank = action.To Between
+transition top Between kind.Semicolon = action.To Closing
+transition top Between kind.Feed = action.End
+transition top Between k = before top k
+transition top Minus (kind.Digit d) = digits top true 0 d
+transition top (Digits negative n) (kind.Digit d) = digits top negative n d
+transition top (Digits negative n) k = cond (nat_eq n 0) action.Stop (next_action (signed negative n) k)
+transition top Closing kind.Blank = action.To Closing
+transition top Closing kind.Feed = action.End
+transition _ _ _ = action.Stop
 
 abbrev pub act : ℕ → List ℤ → IdsAction → Next IdsState (List ℤ)
 act top ids (action.To p) = Go (ids_at top ids p)
@@ -66,7 +66,7 @@ act top ids (action.EndWith id) = End (ids ++ id ∷ []) (ids_last top)
 act top ids action.Stop = Refuse
 
 abbrev pub step : IdsState → NumberByte → Next IdsState (List ℤ)
-step s k = act s.top s.ids (plan s.top s.phase k)
+step s k = act s.top s.ids (transition s.top s.phase k)
 
 abbrev pub is_midway : IdsPhase → Bool
 is_midway Start = false
@@ -100,7 +100,7 @@ ids_automaton = record {
   done = λ s. is_done s.phase;
   begun = λ s. is_midway s.phase;
   in_number = λ s. is_in_number s.phase;
-  asks = λ s b. keeps (plan s.top s.phase (number_byte b));
+  asks = λ s b. keeps (transition s.top s.phase (number_byte b));
   kept = λ s. min (length s.ids) (2 ^ 64 - 1);
   spent = λ s. length s.ids;
 }

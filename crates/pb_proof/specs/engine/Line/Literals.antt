@@ -53,18 +53,18 @@ before Tilde = action.TheVariants.To Negation
 before (Letter b) = action.TheVariants.Begin (First false) b
 before k = next_action k
 
-abbrev pub plan : Bool → LiteralsPhase → NameByte → LiteralsAction
-plan joined Start k = cond joined (before k) (next_action k)
-plan joined Gap k = before k
-plan joined Negation (Letter b) = action.TheVariants.Begin (First true) b
-plan joined (First negated) (Letter b) = action.TheVariants.Add (More negated) b
-plan joined (First negated) (Inner b) = action.TheVariants.Add (More negated) b
-plan joined (More negated) (Letter b) = action.TheVariants.Add (More negated) b
-plan joined (More negated) (Inner b) = action.TheVariants.Add (More negated) b
-plan joined (More negated) k = next_action k
-plan joined Closing Blank = action.TheVariants.To Closing
-plan joined Closing Feed = action.TheVariants.End
-plan _ _ _ = action.TheVariants.Stop
+abbrev pub transition : Bool → LiteralsPhase → NameByte → LiteralsAction
+transition joined Start k = cond joined (before k) (next_action k)
+transition joined Gap k = before k
+transition joined Negation (Letter b) = action.TheVariants.Begin (First true) b
+transition joined (First negated) (Letter b) = action.TheVariants.Add (More negated) b
+transition joined (First negated) (Inner b) = action.TheVariants.Add (More negated) b
+transition joined (More negated) (Letter b) = action.TheVariants.Add (More negated) b
+transition joined (More negated) (Inner b) = action.TheVariants.Add (More negated) b
+transition joined (More negated) k = next_action k
+transition joined Closing Blank = action.TheVariants.To Closing
+transition joined Closing Feed = action.TheVariants.End
+transition _ _ _ = action.TheVariants.Stop
 
 -- the literals with the one whose name is complete
 abbrev pub flushed : LiteralsPhase → List Literal → List ℕ → List Literal
@@ -80,7 +80,7 @@ act joined ms ls name action.TheVariants.End = End ms (literals_last joined)
 act joined ms ls name action.TheVariants.Stop = Refuse
 
 abbrev pub step : LiteralsState → NameByte → Next LiteralsState (List Literal)
-step s k = act s.joined (flushed s.phase s.literals s.name) s.literals s.name (plan s.joined s.phase k)
+step s k = act s.joined (flushed s.phase s.literals s.name) s.literals s.name (transition s.joined s.phase k)
 
 abbrev pub is_midway : LiteralsPhase → Bool
 is_midway Start = false
@@ -134,7 +134,7 @@ literals_automaton = record {
   done = λ s. is_done s.phase;
   begun = λ s. is_begun s.joined s.phase;
   in_number = λ s. false;
-  asks = λ s b. adds (plan s.joined s.phase (name_byte b)) || is_more s.phase;
+  asks = λ s b. adds (transition s.joined s.phase (name_byte b)) || is_more s.phase;
   kept = λ s. min (all_units s) (2 ^ 64 - 1);
   spent = λ s. all_units s + ready s.joined s.phase;
 }

@@ -230,12 +230,12 @@ late kind.Feed = action.End change.Keep
 late _ = action.Stop
 
 -- the whole transition
-abbrev pub plan : ℕ → ℕ → ℕ → Phase → Kind → Action
-plan limit top depth phase.Ending k = late k
-plan limit top depth p kind.Blank = blank (close limit top depth p)
-plan limit top depth p kind.Semicolon = semicolon depth (close limit top depth p)
-plan limit top depth p kind.Feed = feed depth (close limit top depth p)
-plan limit top depth p k = read limit top depth p k
+abbrev pub transition : ℕ → ℕ → ℕ → Phase → Kind → Action
+transition limit top depth phase.Ending k = late k
+transition limit top depth p kind.Blank = blank (close limit top depth p)
+transition limit top depth p kind.Semicolon = semicolon depth (close limit top depth p)
+transition limit top depth p kind.Feed = feed depth (close limit top depth p)
+transition limit top depth p k = read limit top depth p k
 
 -- What a machine stores: the words so far, how many expressions they are, the name that is being read, and what was
 -- read last.
@@ -272,7 +272,7 @@ act w b action.Stop = Refuse
 
 -- the step for one byte
 abbrev pub step : ℕ → ℕ → Work → ℕ → Outcome
-step limit top w b = act w b (plan limit top w.depth w.phase (kind_of b))
+step limit top w b = act w b (transition limit top w.depth w.phase (kind_of b))
 
 -- the changes that may allocate: those that add a word
 abbrev pub adds : Change → Bool

@@ -1,7 +1,7 @@
 -- The states of the machine for postfix words, and its automaton.
 use Rattle.std.specs.Prelude.{◌≡◌, ℕ, ◌+◌, ◌-◌, ◌^◌, ◌<◌, min, false, List, [], ◌∷◌, length}
 use Rattle.pb_text.specs.contract.Automaton.{Automaton, Next, Go, End, Refuse}
-use Rattle.pb_proof.specs.engine.Line.Pol.{Work, Outcome, fresh, finished, step, plan, kind_of, is_in_number, is_midway, is_done, wants}
+use Rattle.pb_proof.specs.engine.Line.Pol.{Work, Outcome, fresh, finished, step, transition, kind_of, is_in_number, is_midway, is_done, wants}
 use Rattle.pb_proof.specs.declared.word.PolWord.{PolWord}
 use Rattle.pb_proof.specs.declared.word.PolWord.TheVariants.{Axiom, Weaken}
 use Rattle.pb_proof.specs.declared.line.pol.phase.Phase.{Phase}
@@ -69,7 +69,7 @@ pol_automaton = record {
   done = λ s. is_done s.work.phase;
   begun = λ s. is_midway s.work.phase;
   in_number = λ s. is_in_number s.work.phase;
-  asks = λ s b. wants (plan s.limit s.top s.work.depth s.work.phase (kind_of b));
+  asks = λ s b. wants (transition s.limit s.top s.work.depth s.work.phase (kind_of b));
   kept = λ s. min (all_units s.work) (2 ^ 64 - 1);
   spent = λ s. all_units s.work + ready s.work.phase;
 }

@@ -2,7 +2,7 @@
 use Rattle.std.specs.Prelude.{◌≡◌, ℕ, ◌^◌, ◌<◌, Bool, true, false, Option, Some, None, length}
 use Rattle.pb_text.specs.contract.Automaton.{Automaton, Next, Go, End, Refuse, IsState}
 use Rattle.pb_proof.specs.engine.Line.Machine.{line_automaton, line_first}
-use Rattle.pb_proof.specs.engine.Machine.Transition.{plan, words_of}
+use Rattle.pb_proof.specs.engine.Machine.Transition.{transition, words_of}
 use Rattle.pb_proof.specs.declared.line.LineMachine.{LineMachine}
 use Rattle.pb_proof.specs.declared.machine.phase.Stage.{Stage}
 use Rattle.pb_proof.specs.declared.machine.phase.Stage as stage
@@ -87,11 +87,11 @@ asks s b _ = false
 
 abbrev pub proofs : Automaton ProofState Statement
 proofs = record {
-  step = λ s b. act s b (plan s.phase b);
+  step = λ s b. act s b (transition s.phase b);
   done = λ s. is_done s.phase;
   begun = λ s. is_within s.phase;
   in_number = λ s. asked false line_automaton.in_number s.line;
-  asks = λ s b. asks s b (plan s.phase b);
+  asks = λ s b. asks s b (transition s.phase b);
   kept = λ s. asked 0 line_automaton.kept s.line;
   spent = λ s. asked 0 line_automaton.spent s.line;
 }

@@ -77,16 +77,16 @@ between stage.TheVariants.Opening b = enter stage.TheVariants.Opening b
 between stage.TheVariants.Complete b = Stop
 between at b = pass at b
 
-abbrev pub plan : Phase → ℕ → Action
-plan (phase.TheVariants.Between at) b = between at b
-plan (phase.TheVariants.Comment at) b = To (cond (nat_eq b 10) (phase.TheVariants.Between at) (phase.TheVariants.Comment at))
-plan (phase.TheVariants.Spelling f k) b =
+abbrev pub transition : Phase → ℕ → Action
+transition (phase.TheVariants.Between at) b = between at b
+transition (phase.TheVariants.Comment at) b = To (cond (nat_eq b 10) (phase.TheVariants.Between at) (phase.TheVariants.Comment at))
+transition (phase.TheVariants.Spelling f k) b =
     spell f k b (cond (is_blank b && nat_eq (slice_index (words_of f) (k - 1)) 32) (To (phase.TheVariants.Spelling f k)) Stop)
-plan phase.TheVariants.Solution b =
+transition phase.TheVariants.Solution b =
     cond (nat_eq b 105) (Begin kind.Soli) (cond (nat_eq b 120) (Begin kind.Solx) Stop)
-plan phase.TheVariants.HeaderEnd b = cond (is_blank b) (To phase.TheVariants.HeaderEnd) (cond (nat_eq b 10) EndHeader Stop)
-plan (phase.TheVariants.OutputEnd may) b =
+transition phase.TheVariants.HeaderEnd b = cond (is_blank b) (To phase.TheVariants.HeaderEnd) (cond (nat_eq b 10) EndHeader Stop)
+transition (phase.TheVariants.OutputEnd may) b =
     cond (is_blank b) (To (phase.TheVariants.OutputEnd may))
     (cond (nat_eq b 10) EndOutput
     (cond (nat_eq b 59 && may) (To (phase.TheVariants.OutputEnd false)) Stop))
-plan (phase.TheVariants.Inside r) b = Give r
+transition (phase.TheVariants.Inside r) b = Give r

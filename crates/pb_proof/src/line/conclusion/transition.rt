@@ -1,7 +1,7 @@
 //! What the machine for conclusions does with a byte, given what it has read last.
 
 ghost use Rattle.std.specs.Prelude.{◌≡◌, ℕ, ◌<◌, ◌≤◌, ◌^◌, length, Bool};
-ghost use Rattle.pb_proof.specs.engine.Line.Conclusion.{word_of, phase_after_word, spell, first_word, digits, begin_bound, phase_after_bound, colon, next_action, between, after_bound, id_digits, after_id, plan, is_within, is_done, is_in_digits, PhaseFits, ActionFits};
+ghost use Rattle.pb_proof.specs.engine.Line.Conclusion.{word_of, phase_after_word, spell, first_word, digits, begin_bound, phase_after_bound, colon, next_action, between, after_bound, id_digits, after_id, transition, is_within, is_done, is_in_digits, PhaseFits, ActionFits};
 
 use crate::conclusion::Bound;
 use crate::line::conclusion::phase::{Action, Concluding, Owner, Phase, Showing, Side, Word};
@@ -45,7 +45,7 @@ fn spell(word: &[u8], read: usize, byte: u8, more: Phase, whole: Phase) -> Actio
 
 /// The action for the first byte of a first word.
 fn first_word(byte: u8) -> Action
-    ensures plan { result ≡ first_word byte }
+    ensures transition { result ≡ first_word byte }
     ensures fits { (limit top : ℕ) → ActionFits limit top result }
 {
     match byte {
@@ -61,7 +61,7 @@ fn first_word(byte: u8) -> Action
 fn digits(limit: u128, side: Side, negative: bool, magnitude: u128, byte: u8) -> Action
     requires room { limit < 2 ^ 127 }
     requires fits { magnitude ≤ limit }
-    ensures plan { result ≡ digits limit side negative magnitude byte }
+    ensures transition { result ≡ digits limit side negative magnitude byte }
     ensures fits { (top : ℕ) → ActionFits limit top result }
 {
     if !is_digit(byte) {
@@ -76,7 +76,7 @@ fn digits(limit: u128, side: Side, negative: bool, magnitude: u128, byte: u8) ->
 /// The action for the first byte of a bound.
 fn begin_bound(limit: u128, side: Side, byte: u8) -> Action
     requires room { limit < 2 ^ 127 }
-    ensures plan { result ≡ begin_bound limit side byte }
+    ensures transition { result ≡ begin_bound limit side byte }
     ensures fits { (top : ℕ) → ActionFits limit top result }
 {
     match byte {
@@ -101,7 +101,7 @@ fn phase_after_bound(side: Side, bound: Bound) -> Phase
 
 /// The action for `:` after a conclusion.
 fn colon(concluding: Concluding) -> Action
-    ensures plan { result ≡ colon concluding }
+    ensures transition { result ≡ colon concluding }
     ensures fits { (limit top : ℕ) → ActionFits limit top result }
 {
     match concluding {
@@ -113,7 +113,7 @@ fn colon(concluding: Concluding) -> Action
 
 /// The action for a byte after a conclusion.
 fn next_action(concluding: Concluding, byte: u8) -> Action
-    ensures plan { result ≡ next_action concluding byte }
+    ensures transition { result ≡ next_action concluding byte }
     ensures fits { (limit top : ℕ) → ActionFits limit top result }
 {
     if is_blank(byte) {
@@ -129,7 +129,7 @@ fn next_action(concluding: Concluding, byte: u8) -> Action
 
 /// The action for a byte after the lower bound.
 fn between(bound: Bound, byte: u8) -> Action
-    ensures plan { result ≡ between bound byte }
+    ensures transition { result ≡ between bound byte }
     ensures fits { (limit top : ℕ) → ActionFits limit top result }
 {
     if is_blank(byte) {
@@ -143,7 +143,7 @@ fn between(bound: Bound, byte: u8) -> Action
 
 /// The action for a byte after a bound.
 fn after_bound(side: Side, bound: Bound, byte: u8) -> Action
-    ensures plan { result ≡ after_bound side bound byte }
+    ensures transition { result ≡ after_bound side bound byte }
     ensures fits { (limit top : ℕ) → ActionFits limit top result }
 {
     match side {
@@ -159,7 +159,7 @@ fn after_bound(side: Side, bound: Bound, byte: u8) -> Action
 fn id_digits(top: u64, owner: Owner, negative: bool, magnitude: u64, byte: u8) -> Action
     requires top { top < 2 ^ 63 }
     requires fits { magnitude ≤ top }
-    ensures plan { result ≡ id_digits top owner negative magnitude byte }
+    ensures transition { result ≡ id_digits top owner negative magnitude byte }
     ensures fits { (limit : ℕ) → ActionFits limit top result }
 {
     if !is_digit(byte) {
@@ -173,7 +173,7 @@ fn id_digits(top: u64, owner: Owner, negative: bool, magnitude: u64, byte: u8) -
 
 /// The action for a byte after an id.
 fn after_id(owner: Owner, id: i64, byte: u8) -> Action
-    ensures plan { result ≡ after_id owner id byte }
+    ensures transition { result ≡ after_id owner id byte }
     ensures fits { (limit top : ℕ) → ActionFits limit top result }
 {
     match owner {
@@ -188,7 +188,7 @@ fn after_id(owner: Owner, id: i64, byte: u8) -> Action
 /// The action for a further byte of a first word.
 fn in_word(word: Word, read: usize, byte: u8) -> Action
     requires { read < length (word_of word) }
-    ensures plan { result ≡ plan 0 0 (Phase.Word word read) byte }
+    ensures transition { result ≡ transition 0 0 (Phase.Word word read) byte }
     ensures fits { (limit top : ℕ) → ActionFits limit top result }
 {
     let more = Phase::Word(word, read + 1);
@@ -197,7 +197,7 @@ fn in_word(word: Word, read: usize, byte: u8) -> Action
 
 /// The action for a byte after `;`.
 fn semicolon(concluding: Concluding, byte: u8) -> Action
-    ensures plan { result ≡ plan 0 0 (Phase.Semicolon concluding) byte }
+    ensures transition { result ≡ transition 0 0 (Phase.Semicolon concluding) byte }
     ensures fits { (limit top : ℕ) → ActionFits limit top result }
 {
     if is_blank(byte) {
@@ -213,7 +213,7 @@ fn semicolon(concluding: Concluding, byte: u8) -> Action
 fn number(limit: u128, side: Side, negative: bool, magnitude: u128, byte: u8) -> Action
     requires room { limit < 2 ^ 127 }
     requires fits { magnitude ≤ limit }
-    ensures plan { result ≡ plan limit 0 (Phase.Digits side negative magnitude) byte }
+    ensures transition { result ≡ transition limit 0 (Phase.Digits side negative magnitude) byte }
     ensures fits { (top : ℕ) → ActionFits limit top result }
 {
     if is_digit(byte) {
@@ -226,7 +226,7 @@ fn number(limit: u128, side: Side, negative: bool, magnitude: u128, byte: u8) ->
 /// The action for a further byte of `INF`.
 fn infinity(side: Side, read: usize, byte: u8) -> Action
     requires { read < 3 }
-    ensures plan { result ≡ plan 0 0 (Phase.Infinity side read) byte }
+    ensures transition { result ≡ transition 0 0 (Phase.Infinity side read) byte }
     ensures fits { (limit top : ℕ) → ActionFits limit top result }
 {
     let more = Phase::Infinity(side, read + 1);
@@ -242,7 +242,7 @@ fn infinity(side: Side, read: usize, byte: u8) -> Action
 /// The action for a byte after the lower bound and blanks.
 fn spaced(limit: u128, bound: Bound, byte: u8) -> Action
     requires room { limit < 2 ^ 127 }
-    ensures plan { result ≡ plan limit 0 (Phase.Spaced bound) byte }
+    ensures transition { result ≡ transition limit 0 (Phase.Spaced bound) byte }
     ensures fits { (top : ℕ) → ActionFits limit top result }
 {
     if is_blank(byte) {
@@ -257,7 +257,7 @@ fn spaced(limit: u128, bound: Bound, byte: u8) -> Action
 /// The action for a byte after `:` and before an id.
 fn before_id(top: u64, owner: Owner, byte: u8) -> Action
     requires top { top < 2 ^ 63 }
-    ensures plan { result ≡ plan 0 top (Phase.BeforeId owner) byte }
+    ensures transition { result ≡ transition 0 top (Phase.BeforeId owner) byte }
     ensures fits { (limit : ℕ) → ActionFits limit top result }
 {
     if is_blank(byte) {
@@ -273,7 +273,7 @@ fn before_id(top: u64, owner: Owner, byte: u8) -> Action
 fn id_number(top: u64, owner: Owner, negative: bool, magnitude: u64, byte: u8) -> Action
     requires top { top < 2 ^ 63 }
     requires fits { magnitude ≤ top }
-    ensures plan { result ≡ plan 0 top (Phase.IdDigits owner negative magnitude) byte }
+    ensures transition { result ≡ transition 0 top (Phase.IdDigits owner negative magnitude) byte }
     ensures fits { (limit : ℕ) → ActionFits limit top result }
 {
     if is_digit(byte) {
@@ -286,11 +286,11 @@ fn id_number(top: u64, owner: Owner, negative: bool, magnitude: u64, byte: u8) -
 }
 
 /// What the machine does with a byte.
-pub(crate) fn plan(limit: u128, top: u64, phase: Phase, byte: u8) -> Action
+pub(crate) fn transition(limit: u128, top: u64, phase: Phase, byte: u8) -> Action
     requires room { limit < 2 ^ 127 }
     requires top { top < 2 ^ 63 }
     requires phase { PhaseFits limit top phase }
-    ensures plan { result ≡ plan limit top phase byte }
+    ensures transition { result ≡ transition limit top phase byte }
     ensures fits { ActionFits limit top result }
 {
     match phase {

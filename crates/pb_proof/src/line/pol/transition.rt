@@ -1,7 +1,7 @@
 //! What the machine for postfix words does with a kind of byte.
 
 ghost use Rattle.std.specs.Prelude.{◌≡◌, ℕ, ◌+◌, ◌*◌, ◌<◌, ◌^◌, nat_le};
-ghost use Rattle.pb_proof.specs.engine.Line.Pol.{is_in_number, is_done, bound, signed, number, blank, semicolon, feed, role_of, next_large, star, next_word, next, may_be_name, read, late, plan, KindFits, PhaseFits, ActionFits};
+ghost use Rattle.pb_proof.specs.engine.Line.Pol.{is_in_number, is_done, bound, signed, number, blank, semicolon, feed, role_of, next_large, star, next_word, next, may_be_name, read, late, transition, KindFits, PhaseFits, ActionFits};
 ghost use Rattle.pb_proof.specs.engine.Line.PolState.{in_hand};
 
 use crate::line::pol::close::{close, counted};
@@ -52,7 +52,7 @@ fn bound(limit: u128, top: u64, depth: usize) -> u128
 
 fn signed(top: u64, magnitude: u128, digit: u8) -> Action
     requires digit { digit < 10 }
-    ensures plan { result ≡ signed top magnitude digit }
+    ensures transition { result ≡ signed top magnitude digit }
     ensures fits { (limit depth : ℕ) (kind : Kind) → ActionFits limit top depth kind result }
 {
     match next_digit(top as u128, magnitude, digit) {
@@ -63,7 +63,7 @@ fn signed(top: u64, magnitude: u128, digit: u8) -> Action
 
 fn number(limit: u128, top: u64, depth: usize, magnitude: u128, digit: u8) -> Action
     requires digit { digit < 10 }
-    ensures plan { result ≡ number limit top depth magnitude digit }
+    ensures transition { result ≡ number limit top depth magnitude digit }
     ensures fits { (kind : Kind) → ActionFits limit top depth kind result }
 {
     match next_digit(bound(limit, top, depth), magnitude, digit) {
@@ -73,7 +73,7 @@ fn number(limit: u128, top: u64, depth: usize, magnitude: u128, digit: u8) -> Ac
 }
 
 fn blank(closing: Option<(Change, Held)>) -> Action
-    ensures plan { result ≡ blank closing }
+    ensures transition { result ≡ blank closing }
     ensures fits { (limit top depth : ℕ) (kind : Kind) → ActionFits limit top depth kind result }
 {
     match closing {
@@ -84,7 +84,7 @@ fn blank(closing: Option<(Change, Held)>) -> Action
 
 fn semicolon(depth: usize, closing: Option<(Change, Held)>) -> Action
     requires { depth < 2 ^ 63 }
-    ensures plan { result ≡ semicolon depth closing }
+    ensures transition { result ≡ semicolon depth closing }
     ensures fits { (limit top : ℕ) (kind : Kind) → ActionFits limit top depth kind result }
 {
     match closing {
@@ -95,7 +95,7 @@ fn semicolon(depth: usize, closing: Option<(Change, Held)>) -> Action
 
 fn feed(depth: usize, closing: Option<(Change, Held)>) -> Action
     requires { depth < 2 ^ 63 }
-    ensures plan { result ≡ feed depth closing }
+    ensures transition { result ≡ feed depth closing }
     ensures fits { (limit top : ℕ) (kind : Kind) → ActionFits limit top depth kind result }
 {
     match closing {
@@ -116,7 +116,7 @@ fn role_of(depth: usize, held: Held, kind: Kind) -> Role
 }
 
 fn next_large(kind: Kind) -> Action
-    ensures plan { result ≡ next_large kind }
+    ensures transition { result ≡ next_large kind }
     ensures fits { (limit top depth : ℕ) → ActionFits limit top depth kind result }
 {
     match kind {
@@ -127,7 +127,7 @@ fn next_large(kind: Kind) -> Action
 }
 
 fn star(held: Held) -> Action
-    ensures plan { result ≡ star held }
+    ensures transition { result ≡ star held }
     ensures fits { (limit top depth : ℕ) (kind : Kind) → ActionFits limit top depth kind result }
 {
     match held {
@@ -139,7 +139,7 @@ fn star(held: Held) -> Action
 fn next_word(limit: u128, top: u64, depth: usize, held: Held, kind: Kind) -> Action
     requires limit { limit < 2 ^ 127 }
     requires kind { KindFits kind }
-    ensures plan { result ≡ next_word limit top depth held kind }
+    ensures transition { result ≡ next_word limit top depth held kind }
     ensures fits { ActionFits limit top depth kind result }
 {
     match kind {
@@ -157,7 +157,7 @@ fn next_word(limit: u128, top: u64, depth: usize, held: Held, kind: Kind) -> Act
 fn next(limit: u128, top: u64, depth: usize, held: Held, kind: Kind) -> Action
     requires limit { limit < 2 ^ 127 }
     requires kind { KindFits kind }
-    ensures plan { result ≡ next limit top depth held kind }
+    ensures transition { result ≡ next limit top depth held kind }
     ensures fits { ActionFits limit top depth kind result }
 {
     match held {
@@ -180,7 +180,7 @@ fn read(limit: u128, top: u64, depth: usize, phase: Phase, kind: Kind) -> Action
     requires limit { limit < 2 ^ 127 }
     requires phase { PhaseFits limit top depth phase }
     requires kind { KindFits kind }
-    ensures plan { result ≡ read limit top depth phase kind }
+    ensures transition { result ≡ read limit top depth phase kind }
     ensures fits { ActionFits limit top depth kind result }
 {
     match (phase, kind) {
@@ -200,7 +200,7 @@ fn read(limit: u128, top: u64, depth: usize, phase: Phase, kind: Kind) -> Action
 
 /// The action for a byte after the `;`.
 fn late(kind: Kind) -> Action
-    ensures plan { result ≡ late kind }
+    ensures transition { result ≡ late kind }
     ensures fits { (limit top depth : ℕ) → ActionFits limit top depth kind result }
 {
     match kind {
@@ -212,13 +212,13 @@ fn late(kind: Kind) -> Action
 
 /// What the machine does with a kind of byte. This does not allocate.
 #[inline(always)]
-pub fn plan(limit: u128, top: u64, depth: usize, phase: Phase, kind: Kind) -> Action
+pub fn transition(limit: u128, top: u64, depth: usize, phase: Phase, kind: Kind) -> Action
     requires limit { limit < 2 ^ 127 }
     requires top { top < 2 ^ 63 }
     requires depth { depth < 2 ^ 63 }
     requires phase { PhaseFits limit top depth phase }
     requires kind { KindFits kind }
-    ensures plan { result ≡ plan limit top depth phase kind }
+    ensures transition { result ≡ transition limit top depth phase kind }
     ensures fits { ActionFits limit top depth kind result }
 {
     match (phase, kind) {

@@ -1,7 +1,7 @@
 //! Ends the line of a `rup`.
 
 ghost use Rattle.std.specs.Prelude.{◌≡◌};
-ghost use Rattle.pb_text.specs.contract.Automaton.{Closes};
+ghost use Rattle.pb_text.specs.contract.Automaton.{Finishes};
 ghost use Rattle.pb_proof.specs.engine.Line.Rup.{rup_automaton, rup_plan};
 
 use crate::line::rup::phase::{RupAction, RupPhase};
@@ -13,7 +13,7 @@ impl RupMachine {
     /// Ends the line with a byte, if the line is complete.
     #[inline(always)]
     pub(super) fn end(&mut self, byte: u8) -> Option<Linear>
-        ensures { Closes rup_automaton self.old byte result self.new }
+        ensures { Finishes rup_automaton self.old byte result self.new }
     {
         match rup_plan(self.phase, byte) {
             RupAction::Finish => self.give_linear(byte),
@@ -25,7 +25,7 @@ impl RupMachine {
     #[inline(always)]
     fn give_linear(&mut self, byte: u8) -> Option<Linear>
         requires { rup_plan self.old.phase byte ≡ RupAction.Finish }
-        ensures { Closes rup_automaton self.old byte result self.new }
+        ensures { Finishes rup_automaton self.old byte result self.new }
     {
         match mem::replace(&mut self.linear, None) {
             Some(linear) => {

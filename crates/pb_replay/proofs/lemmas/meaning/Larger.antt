@@ -9,7 +9,7 @@ use Rattle.pb_proof.specs.declared.Conclusion.{Conclusion}
 use Rattle.pb_proof.specs.declared.Conclusion.TheVariants.{NoClaim, Unsat, Sat, Bounds}
 use Rattle.pb_proof.specs.declared.Statement.{Statement}
 use Rattle.pb_proof.specs.declared.Statement.TheVariants.{Header, F, Pol, Rup, Soli, Solx, Delete, Output, Conclude, End}
-use Rattle.pb_proof.specs.meaning.Postfix.{Tree, Constraint, True, Sum, Times, Divided, Saturated, Weakened, words}
+use Rattle.pb_proof.specs.meaning.Postfix.{Tree, Constraint, LiteralAxiom, Sum, Product, Quotient, Saturation, Weakening, words}
 use Rattle.pb_normal.specs.declared.Side.{Side}
 use Rattle.pb_normal.specs.declared.Side.TheVariants.{AtLeast as least, AtMost as most}
 use Rattle.pb_normal.specs.meaning.Form.{Form}
@@ -53,13 +53,13 @@ module _ (limit more : ℕ) (wider : limit ≤ more) where
 
   tree-more : (names : List (List ℕ)) (live : List (Option Form)) (t : Tree) → GrowsAt (FormOfExpression limit names live t) (FormOfExpression more names live t)
   tree-more names live (Constraint i) = λ r is h. h
-  tree-more names live (True l) = λ r is h. h
+  tree-more names live (LiteralAxiom l) = λ r is h. h
   tree-more names live (Sum a b) =
       grows-after _ _ _ _ (tree-more names live a) (λ f. grows-after _ _ _ _ (tree-more names live b) (λ g. grows-some (IsSum f g) _ _ (λ r. limited-more r)))
-  tree-more names live (Times a k) = grows-after _ _ _ _ (tree-more names live a) (λ f. limited-more _)
-  tree-more names live (Divided a k) = grows-after _ _ _ _ (tree-more names live a) (λ f r is h. h)
-  tree-more names live (Saturated a) = grows-after _ _ _ _ (tree-more names live a) (λ f r is h. h)
-  tree-more names live (Weakened a name) = grows-after _ _ _ _ (tree-more names live a) (λ f r is h. h)
+  tree-more names live (Product a k) = grows-after _ _ _ _ (tree-more names live a) (λ f. limited-more _)
+  tree-more names live (Quotient a k) = grows-after _ _ _ _ (tree-more names live a) (λ f r is h. h)
+  tree-more names live (Saturation a) = grows-after _ _ _ _ (tree-more names live a) (λ f r is h. h)
+  tree-more names live (Weakening a name) = grows-after _ _ _ _ (tree-more names live a) (λ f r is h. h)
 
   normal-more : {A : Type 0} (names : List (List ℕ)) (side : Side) (linear : Linear) (p q : Form → Answer A) → ((r : Form) → GrowsAt (p r) (q r)) → GrowsAt (normal_form limit names side linear p) (normal_form more names side linear q)
   normal-more names side linear p q g = grows-need _ _ _ _ _ (λ le. omega (arith, le, wider)) (grows-some _ p q g)

@@ -1,8 +1,7 @@
 -- The rules accept what the outcomes accept.
-use Rattle.std.specs.Prelude.{Option, Some, None, Ok, ℤ, set, Contains}
-use Rattle.std.proofs.Common.{◌≡◌, ◌⊎◌, ℕ, ◌<◌, List, [], ◌∷◌, ◌++◌, length, refl, sym, subst, inl, inr, pos, ◌-ℤ◌, ◌≤ℤ◌}
+use Rattle.std.specs.Prelude.{Option, Some, None, Ok, ℤ, set}
+use Rattle.std.proofs.Common.{ℕ, List, [], ◌∷◌, length, refl, sym, subst, inl}
 use Rattle.pb_sums.specs.declared.Literal.{Literal}
-use Rattle.pb_sums.specs.declared.Linear.{Linear}
 use Rattle.pb_sums.specs.declared.Term.{Term}
 use Rattle.pb_proof.specs.declared.Bound.{Bound}
 use Rattle.pb_proof.specs.declared.Bound.TheVariants.{Finite, Infinite}
@@ -10,38 +9,34 @@ use Rattle.pb_proof.specs.declared.Conclusion.{Conclusion}
 use Rattle.pb_proof.specs.declared.Conclusion.TheVariants.{NoClaim, Unsat, Sat, Bounds}
 use Rattle.pb_proof.specs.declared.Statement.{Statement}
 use Rattle.pb_proof.specs.declared.Statement.TheVariants.{Header, F, Pol, Rup, Soli, Solx, Delete, Output, Conclude, End}
-use Rattle.pb_proof.specs.meaning.Postfix.{Tree, Constraint, True, Sum, Times, Divided, Saturated, Weakened, words}
-use Rattle.pb_normal.specs.declared.Side.{Side}
-use Rattle.pb_normal.specs.declared.Side.TheVariants.{AtLeast as least, AtMost as most}
-use Rattle.pb_normal.specs.meaning.Constraints.{Fits}
+use Rattle.pb_proof.specs.meaning.Postfix.{Tree, Constraint, LiteralAxiom, Sum, Product, Quotient, Saturation, Weakening, words}
 use Rattle.pb_normal.specs.meaning.Form.{Form}
 use Rattle.pb_normal.specs.meaning.Names.{with_names}
-use Rattle.pb_normal.specs.meaning.Written.{IsSideOf}
 use Rattle.pb_normal.specs.declared.numbered.NumberedLiteral.{NumberedLiteral}
 use Rattle.pb_replay.specs.meaning.Answer.{Answer}
-use Rattle.pb_replay.specs.meaning.Conclusions.{Concludes, lower_bound, upper_bound, contradicted, verdict_of}
+use Rattle.pb_replay.specs.meaning.Conclusions.{Concludes, lower_bound, upper_bound, contradicted}
 use Rattle.pb_replay.specs.meaning.Problem.{Problem}
 use Rattle.pb_replay.specs.meaning.Replay.{State, Logged, Live, FormOfExpression, Completed, Deleted, numbered, place}
 use Rattle.pb_replay.specs.meaning.Statements.{Does, Outcome, mentioned}
-use Rattle.pb_replay.specs.contract.Rules.{HasForm, constraint, literal, sum, product, quotient, saturation, weakening, IsFormOfSide, IsSolvedBy, Deletes, none, one, HasContradiction, some, named, IsNamed, unnamed, named_one, IsLower, infinite, finite, IsUpper, unbounded, by_shown, by_logged, IsJustified, no_claim, unsat, sat_shown, sat_logged, bounds, with_form, Rule, header, formula, pol, rup, soli, solx, delete, output, conclude, end, Step, RulesAreOutcomes}
+use Rattle.pb_replay.specs.contract.Rules.{HasForm, constraint, literal, sum, product, quotient, saturation, weakening, IsSolvedBy, Deletes, none, one, HasContradiction, some, named, unnamed, named_one, IsLower, infinite, finite, IsUpper, unbounded, by_shown, by_logged, IsJustified, no_claim, unsat, sat_shown, sat_logged, bounds, with_form, Rule, header, formula, pol, rup, soli, solx, delete, output, conclude, end, Step, RulesAreOutcomes}
 use Rattle.pb_replay.proofs.lemmas.meaning.Accepting.{ok-same, needed, followed, eached}
 
 -- expressions
 form-to : (limit : ℕ) (names : List (List ℕ)) (live : List (Option Form)) (tree : Tree) (r : Form) → FormOfExpression limit names live tree (Ok r) → HasForm limit names live tree r
 form-to limit names live (Constraint id) r h = let f = needed h in subst (HasForm limit names live (Constraint id)) (sym (ok-same f.2)) (constraint id f.0 f.1)
-form-to limit names live (True l) r h = subst (HasForm limit names live (True l)) (sym (ok-same h)) (literal l)
+form-to limit names live (LiteralAxiom l) r h = subst (HasForm limit names live (LiteralAxiom l)) (sym (ok-same h)) (literal l)
 form-to limit names live (Sum a b) r h =
     let f = followed h in
     let g = followed f.2 in
     let last = needed g.2.2 in
     subst (HasForm limit names live (Sum a b)) (sym (ok-same last.1)) (sum a b f.0 g.0 g.2.0 (form-to limit names live a f.0 f.1) (form-to limit names live b g.0 g.1) g.2.1 last.0)
-form-to limit names live (Times a k) r h =
+form-to limit names live (Product a k) r h =
     let f = followed h in
     let last = needed f.2 in
-    subst (HasForm limit names live (Times a k)) (sym (ok-same last.1)) (product a k f.0 (form-to limit names live a f.0 f.1) last.0)
-form-to limit names live (Divided a k) r h = let f = followed h in subst (HasForm limit names live (Divided a k)) (sym (ok-same f.2)) (quotient a k f.0 (form-to limit names live a f.0 f.1))
-form-to limit names live (Saturated a) r h = let f = followed h in subst (HasForm limit names live (Saturated a)) (sym (ok-same f.2)) (saturation a f.0 (form-to limit names live a f.0 f.1))
-form-to limit names live (Weakened a name) r h = let f = followed h in subst (HasForm limit names live (Weakened a name)) (sym (ok-same f.2)) (weakening a name f.0 (form-to limit names live a f.0 f.1))
+    subst (HasForm limit names live (Product a k)) (sym (ok-same last.1)) (product a k f.0 (form-to limit names live a f.0 f.1) last.0)
+form-to limit names live (Quotient a k) r h = let f = followed h in subst (HasForm limit names live (Quotient a k)) (sym (ok-same f.2)) (quotient a k f.0 (form-to limit names live a f.0 f.1))
+form-to limit names live (Saturation a) r h = let f = followed h in subst (HasForm limit names live (Saturation a)) (sym (ok-same f.2)) (saturation a f.0 (form-to limit names live a f.0 f.1))
+form-to limit names live (Weakening a name) r h = let f = followed h in subst (HasForm limit names live (Weakening a name)) (sym (ok-same f.2)) (weakening a name f.0 (form-to limit names live a f.0 f.1))
 
 form-from : (limit : ℕ) (names : List (List ℕ)) (live : List (Option Form)) (tree : Tree) (r : Form) → HasForm limit names live tree r → FormOfExpression limit names live tree (Ok r)
 form-from limit names live _ _ (constraint id f at) = inl (f, at, refl)

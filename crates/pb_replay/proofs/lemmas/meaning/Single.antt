@@ -13,7 +13,7 @@ use Rattle.pb_proof.specs.declared.Conclusion.{Conclusion}
 use Rattle.pb_proof.specs.declared.Conclusion.TheVariants.{NoClaim, Unsat, Sat, Bounds}
 use Rattle.pb_proof.specs.declared.Statement.{Statement}
 use Rattle.pb_proof.specs.declared.Statement.TheVariants.{Header, F, Pol, Rup, Soli, Solx, Delete, Output, Conclude, End}
-use Rattle.pb_proof.specs.meaning.Postfix.{Tree, Constraint, True, Sum, Times, Divided, Saturated, Weakened, words}
+use Rattle.pb_proof.specs.meaning.Postfix.{Tree, Constraint, LiteralAxiom, Sum, Product, Quotient, Saturation, Weakening, words}
 use Rattle.pb_normal.specs.declared.numbered.NumberedLiteral.{NumberedLiteral}
 use Rattle.pb_normal.specs.declared.Side.{Side}
 use Rattle.pb_normal.specs.declared.Side.TheVariants.{AtLeast as least, AtMost as most}
@@ -84,15 +84,15 @@ IsLive-one live i f g p q = same_Some _ _ (sym p ∙ q)
 
 single-tree : (limit : ℕ) (names : List (List ℕ)) (live : List (Option Form)) (t : Tree) → IsSingle (FormOfExpression limit names live t)
 single-tree limit names live (Constraint i) = single-found (IsLive live i) _ _ (IsLive-one live i) (λ f. single-gives f)
-single-tree limit names live (True l) = single-gives _
+single-tree limit names live (LiteralAxiom l) = single-gives _
 single-tree limit names live (Sum a b) =
     single-after (FormOfExpression limit names live a) _ (single-tree limit names live a) (λ f.
     single-after (FormOfExpression limit names live b) _ (single-tree limit names live b) (λ g.
     single-some (IsSum f g) _ (IsSum-unique f g) (λ r. single-need _ _ _ (single-gives r))))
-single-tree limit names live (Times a k) = single-after (FormOfExpression limit names live a) _ (single-tree limit names live a) (λ f. single-need _ _ _ (single-gives (multiplied (unsigned_abs k) f)))
-single-tree limit names live (Divided a k) = single-after (FormOfExpression limit names live a) _ (single-tree limit names live a) (λ f. single-gives _)
-single-tree limit names live (Saturated a) = single-after (FormOfExpression limit names live a) _ (single-tree limit names live a) (λ f. single-gives _)
-single-tree limit names live (Weakened a name) = single-after (FormOfExpression limit names live a) _ (single-tree limit names live a) (λ f. single-gives _)
+single-tree limit names live (Product a k) = single-after (FormOfExpression limit names live a) _ (single-tree limit names live a) (λ f. single-need _ _ _ (single-gives (multiplied (unsigned_abs k) f)))
+single-tree limit names live (Quotient a k) = single-after (FormOfExpression limit names live a) _ (single-tree limit names live a) (λ f. single-gives _)
+single-tree limit names live (Saturation a) = single-after (FormOfExpression limit names live a) _ (single-tree limit names live a) (λ f. single-gives _)
+single-tree limit names live (Weakening a name) = single-after (FormOfExpression limit names live a) _ (single-tree limit names live a) (λ f. single-gives _)
 
 AreValues-one : (list : List NumberedLiteral) (names : ℕ) (xs ys : List Bool) → AreValues list names xs → AreValues list names ys → xs ≡ ys
 AreValues-one list names xs ys p q =

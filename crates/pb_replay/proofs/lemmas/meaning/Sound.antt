@@ -9,7 +9,7 @@ use Rattle.pb_sums.specs.declared.Term.{Term}
 use Rattle.pb_proof.specs.declared.PolWord.TheVariants.{Divide}
 use Rattle.pb_proof.specs.declared.Statement.{Statement}
 use Rattle.pb_proof.specs.declared.Statement.TheVariants.{Header, F, Pol, Rup, Soli, Solx, Delete, Output, Conclude, End}
-use Rattle.pb_proof.specs.meaning.Postfix.{Tree, Constraint, True, Sum, Times, Divided, Saturated, Weakened, words}
+use Rattle.pb_proof.specs.meaning.Postfix.{Tree, Constraint, LiteralAxiom, Sum, Product, Quotient, Saturation, Weakening, words}
 use Rattle.pb_proof.specs.contract.Values.{IsWord, IsStatementValue}
 use Rattle.pb_proof.specs.declared.Stage.{Stage}
 use Rattle.pb_proof.specs.declared.Stage.TheVariants.{Formula, Steps, Concluding, Closing, Complete}
@@ -57,16 +57,16 @@ all_right P (x ∷ xs) ys h = all_right P xs ys (All-tail P x (xs ++ ys) h)
 
 proper : (limit top : ℕ) (t : Tree) → All (IsWord limit top) (words t) → HasDivisors t
 proper limit top (Constraint id) h = tt
-proper limit top (True l) h = tt
+proper limit top (LiteralAxiom l) h = tt
 proper limit top (Sum a b) h =
     let rest = all_left (IsWord limit top) (words a ++ words b) _ h in
     (proper limit top a (all_left (IsWord limit top) (words a) (words b) rest), proper limit top b (all_right (IsWord limit top) (words a) (words b) rest))
-proper limit top (Times a k) h = proper limit top a (all_left (IsWord limit top) (words a) _ h)
-proper limit top (Divided a k) h =
+proper limit top (Product a k) h = proper limit top a (all_left (IsWord limit top) (words a) _ h)
+proper limit top (Quotient a k) h =
     let last = All-head (IsWord limit top) (Divide k) [] (all_right (IsWord limit top) (words a) _ h) in
     (last.0, proper limit top a (all_left (IsWord limit top) (words a) _ h))
-proper limit top (Saturated a) h = proper limit top a (all_left (IsWord limit top) (words a) _ h)
-proper limit top (Weakened a name) h = proper limit top a (all_left (IsWord limit top) (words a) _ h)
+proper limit top (Saturation a) h = proper limit top a (all_left (IsWord limit top) (words a) _ h)
+proper limit top (Weakening a name) h = proper limit top a (all_left (IsWord limit top) (words a) _ h)
 
 -- a step that changes only the live forms
 live-sound : (v : Problem) (s : State) (live : List (Option Form)) (names : List (List ℕ)) (next : Stage) → IsSound v s → IsNamePrefix v.names names → AreDistinct names → ((a : ℕ → Bool) → IsSolution v a → HoldAll a (Live s.live) → HoldAll a (Live live)) → IsSound v (record { live = live; names = names; logged = s.logged; next = next; concluded = s.concluded })

@@ -23,7 +23,7 @@ use Rattle.pb_proof.specs.declared.Conclusion.{Conclusion}
 use Rattle.pb_proof.specs.declared.Conclusion.TheVariants.{NoClaim, Unsat, Sat, Bounds}
 use Rattle.pb_proof.specs.declared.Statement.{Statement}
 use Rattle.pb_proof.specs.declared.Statement.TheVariants.{Header, F, Pol, Rup, Soli, Solx, Delete, Output, Conclude, End}
-use Rattle.pb_proof.specs.meaning.Postfix.{Tree, Constraint, True, Sum, Times, Divided, Saturated, Weakened, words}
+use Rattle.pb_proof.specs.meaning.Postfix.{Tree, Constraint, LiteralAxiom, Sum, Product, Quotient, Saturation, Weakening, words}
 use Rattle.pb_normal.specs.declared.Side.{Side}
 use Rattle.pb_normal.specs.declared.Side.TheVariants.{AtLeast as least, AtMost as most}
 use Rattle.pb_normal.specs.meaning.Rules.{IsSum, only, on}
@@ -125,14 +125,14 @@ never-limited limit r = never-need _ _ _ (λ n h. cc) (never-gives r)
 
 never-tree : (limit : ℕ) (names : List (List ℕ)) (live : List (Option Form)) (t : Tree) → Never (FormOfExpression limit names live t)
 never-tree limit names live (Constraint i) = never-found _ _ _ (λ n h. cc) (λ f. never-gives f)
-never-tree limit names live (True l) = never-gives _
+never-tree limit names live (LiteralAxiom l) = never-gives _
 never-tree limit names live (Sum a b) =
     never-after (FormOfExpression limit names live a) _ (never-tree limit names live a) (λ f.
     never-after (FormOfExpression limit names live b) _ (never-tree limit names live b) (λ g. never-some (IsSum f g) _ (never-limited limit)))
-never-tree limit names live (Times a k) = never-after (FormOfExpression limit names live a) _ (never-tree limit names live a) (λ f. never-limited limit _)
-never-tree limit names live (Divided a k) = never-after (FormOfExpression limit names live a) _ (never-tree limit names live a) (λ f. never-gives _)
-never-tree limit names live (Saturated a) = never-after (FormOfExpression limit names live a) _ (never-tree limit names live a) (λ f. never-gives _)
-never-tree limit names live (Weakened a name) = never-after (FormOfExpression limit names live a) _ (never-tree limit names live a) (λ f. never-gives _)
+never-tree limit names live (Product a k) = never-after (FormOfExpression limit names live a) _ (never-tree limit names live a) (λ f. never-limited limit _)
+never-tree limit names live (Quotient a k) = never-after (FormOfExpression limit names live a) _ (never-tree limit names live a) (λ f. never-gives _)
+never-tree limit names live (Saturation a) = never-after (FormOfExpression limit names live a) _ (never-tree limit names live a) (λ f. never-gives _)
+never-tree limit names live (Weakening a name) = never-after (FormOfExpression limit names live a) _ (never-tree limit names live a) (λ f. never-gives _)
 
 never-normal : {A : Type 0} (limit : ℕ) (names : List (List ℕ)) (side : Side) (linear : Linear) (next : Form → Answer A) → ((r : Form) → Never (next r)) → Never (normal_form limit names side linear next)
 never-normal limit names side linear next h = never-need _ _ _ (λ n h. cc) (never-some _ next h)

@@ -1,6 +1,6 @@
 -- The form of a slot goes, and the root stays.
-use Rattle.std.specs.Prelude.{All, Contains, Option, Bool, Some, map, slice_get, ◌/◌}
-use Rattle.std.proofs.Common.{Vec, Global, ◌≡◌, ℕ, zero, suc, ◌+◌, ◌*◌, ◌<◌, ◌≤◌, ◌⊎◌, ◌∷◌, [], List, true, false, refl, sym, ◌∙◌, ap, subst, inl, inr, arith, length, get_or, set, length-set, get_or-set_same, get_or-set_other}
+use Rattle.std.specs.Prelude.{Contains, Option, Bool, Some, map, slice_get, ◌/◌}
+use Rattle.std.proofs.Common.{Vec, Global, ◌≡◌, ℕ, zero, suc, ◌<◌, ◌⊎◌, ◌∷◌, [], List, true, false, refl, sym, ◌∙◌, ap, subst, inl, inr, arith, length, get_or, set, length-set, get_or-set_same, get_or-set_other}
 use Rattle.std.proofs.lemmas.Bool.{cases_eq, both_ways}
 use Rattle.std.proofs.lemmas.List.{length-map, get_or-map, get_or_default, map-set}
 use Rattle.std.proofs.lemmas.Option.{slice_get-get_or, get_or_from_slice_get}
@@ -13,24 +13,22 @@ use Rattle.pb_replay.specs.declared.propagate.assignment.Assignment.{Assignment}
 use Rattle.pb_replay.specs.declared.propagate.store.Store.{Store}
 use Rattle.pb_replay.specs.declared.propagate.store.kept.Kept.{Kept}
 use Rattle.pb_replay.specs.declared.propagate.clauses.Clauses.{Clauses}
-use Rattle.pb_replay.specs.declared.propagate.clauses.lists.Watch.{Watch}
-use Rattle.pb_replay.specs.engine.Engine.Lists.{Shape, Puts, has, says, open_sum, size}
-use Rattle.pb_replay.specs.engine.Engine.Counts.{IsTidy, beside}
-use Rattle.pb_replay.specs.engine.Engine.Fields.{shapes_of, kept_shape, IsEmpty}
+use Rattle.pb_replay.specs.engine.Engine.Lists.{Shape, has, says, open_sum, size}
+use Rattle.pb_replay.specs.engine.Engine.Fields.{shapes_of, kept_shape}
 use Rattle.pb_replay.specs.engine.Engine.Root.{IsRooted, IsSpare, HasOpen, HasTrue, HasVacated, HasLost, IsSameWatch}
-use Rattle.pb_replay.specs.engine.Clauses.Truths.{flip, true_at, false_at}
+use Rattle.pb_replay.specs.engine.Clauses.Truths.{flip, true_at}
 use Rattle.pb_replay.specs.engine.Clauses.Links.{lists_of, list_at, watch_at}
 use Rattle.pb_replay.specs.engine.Clauses.Runs.{AreReady, AreWalked}
 use Rattle.pb_replay.specs.engine.Clauses.Shapes.{one_term, literal_at, clause_shape, slot_shape, joined, clauses_of, all_of}
 use Rattle.pb_replay.specs.engine.Clauses.Walked.{walked_codes}
 use Rattle.pb_replay.proofs.lemmas.clauses.Linked.{lists-length}
-use Rattle.pb_replay.proofs.lemmas.clauses.Literals.{true-listed, false-listed, place-code, code-place}
-use Rattle.pb_replay.proofs.lemmas.clauses.Shapes.{joined-at, joined-length, two-open, shape-some}
+use Rattle.pb_replay.proofs.lemmas.clauses.Literals.{true-listed, false-listed}
+use Rattle.pb_replay.proofs.lemmas.clauses.Shapes.{joined-at, two-open}
 use Rattle.pb_replay.proofs.lemmas.clauses.Slots.{joined-cleared}
 use Rattle.pb_replay.proofs.lemmas.clauses.Truths.{flip-half}
 use Rattle.pb_replay.proofs.lemmas.engine.Values.{Agree}
 use Rattle.pb_replay.proofs.lemmas.root.Admitted.{no-watch}
-use Rattle.pb_replay.proofs.lemmas.root.Rooted.{IsUnused, derives-spare, unused-spare}
+use Rattle.pb_replay.proofs.lemmas.root.Rooted.{derives-spare, unused-spare}
 
 -- a term of a clause is one of its literals, with coefficient 1
 clause-term : (codes : List ℕ) (l : NumberedLiteral) (c : ℕ) → Contains (map one_term codes) (record { literal = l; coefficient = c }) → (x : ℕ) × Contains codes x × (literal_at x ≡ l) × (c ≡ 1)

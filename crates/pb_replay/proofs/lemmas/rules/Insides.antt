@@ -5,7 +5,7 @@ use Rattle.std.proofs.Common.{ℕ, ◌*◌, ◌<◌, ◌==◌, not, nat_lt, min,
 use Rattle.std.proofs.lemmas.List.Elements.{All-cons, All-nil}
 use Rattle.pb_proof.specs.declared.PolWord.{PolWord}
 use Rattle.pb_proof.specs.declared.PolWord.TheVariants.{Add, Divide, Multiply, Saturate, Weaken}
-use Rattle.pb_proof.specs.meaning.Postfix.{Tree, Constraint, True, Sum, Times, Divided, Saturated, Weakened, words}
+use Rattle.pb_proof.specs.meaning.Postfix.{Tree, Constraint, LiteralAxiom, Sum, Product, Quotient, Saturation, Weakening, words}
 use Rattle.pb_normal.specs.declared.entry.Entry.{Entry}
 use Rattle.pb_normal.specs.meaning.Form.{Form}
 use Rattle.pb_normal.specs.meaning.Names.{HasNames, number_in}
@@ -32,7 +32,7 @@ module _ (limit : ℕ) (names : List (List ℕ)) (live : List (Option Form)) (wi
 
   pub tree-inside : (t : Tree) (r : Form) → HasNames names (word_names (words t)) → FormOfExpression limit names live t (Ok r) → IsInside (length names) r
   tree-inside (Constraint id) r h k = let f = needed k in subst (λ (x : Form). IsInside (length names) x) (sym (ok-same f.2)) (within f.0 (IsLive-live live id f.0 f.1))
-  tree-inside (True l) r h k =
+  tree-inside (LiteralAxiom l) r h k =
       let n = length names in
       let x = number_in names l.name in
       subst (λ (y : Form). IsInside n y) (sym (ok-same k)) (All-cons (λ (t : Entry). t.variable < n) (record { variable = x; negated = l.negated; coefficient = 1 }) [] (number_in-below names l.name h.0) (All-nil (λ (t : Entry). t.variable < n)))
@@ -46,22 +46,22 @@ module _ (limit : ℕ) (names : List (List ℕ)) (live : List (Option Form)) (wi
       let left = (IsOver-below n f.0).1 (tree-inside a f.0 parts.0 f.1) in
       let right = (IsOver-below n g.0).1 (tree-inside b g.0 parts.1 g.1) in
       subst (λ (x : Form). IsInside n x) (sym (ok-same last.1)) ((IsOver-below n sum.0).0 (IsOver-sum (λ v. nat_lt v n) f.0 g.0 sum.0 sum.1 left right))
-  tree-inside (Times a c) r h k =
+  tree-inside (Product a c) r h k =
       let f = followed k in
       let last = needed f.2 in
       let n = length names in
       let before = (IsOver-below n f.0).1 (tree-inside a f.0 (split (words a) (Multiply c ∷ []) h).0 f.1) in
       subst (λ (x : Form). IsInside n x) (sym (ok-same last.1)) ((IsOver-below n (multiplied (unsigned_abs c) f.0)).0 (IsOver-mapped (λ v. nat_lt v n) (λ t. t.coefficient * unsigned_abs c) (f.0).terms before))
-  tree-inside (Divided a c) r h k =
+  tree-inside (Quotient a c) r h k =
       let f = followed k in
       let n = length names in
       let before = (IsOver-below n f.0).1 (tree-inside a f.0 (split (words a) (Divide c ∷ []) h).0 f.1) in
       subst (λ (x : Form). IsInside n x) (sym (ok-same f.2)) ((IsOver-below n (divided (unsigned_abs c) f.0)).0 (IsOver-mapped (λ v. nat_lt v n) (λ t. div_ceil t.coefficient (unsigned_abs c)) (f.0).terms before))
-  tree-inside (Saturated a) r h k =
+  tree-inside (Saturation a) r h k =
       let f = followed k in
       let n = length names in
       subst (λ (x : Form). IsInside n x) (sym (ok-same f.2)) (inside-saturated n f.0 (tree-inside a f.0 (split (words a) (Saturate ∷ []) h).0 f.1))
-  tree-inside (Weakened a name) r h k =
+  tree-inside (Weakening a name) r h k =
       let f = followed k in
       let n = length names in
       let before = (IsOver-below n f.0).1 (tree-inside a f.0 (split (words a) (Weaken name ∷ []) h).0 f.1) in

@@ -3,7 +3,7 @@ use Rattle.std.specs.Prelude.{Result, Ok, Err, Option, unsigned_abs}
 use Rattle.std.proofs.Common.{◌≡◌, ℕ, ◌+◌, List, [], ◌∷◌, ◌++◌, refl, ap, arith, inl, inr, append_assoc, append-nil}
 use Rattle.pb_proof.specs.declared.PolWord.{PolWord}
 use Rattle.pb_proof.specs.declared.PolWord.TheVariants.{Add, Multiply, Divide, Saturate, Weaken}
-use Rattle.pb_proof.specs.meaning.Postfix.{Tree, Constraint, True, Sum, Times, Divided, Saturated, Weakened, words}
+use Rattle.pb_proof.specs.meaning.Postfix.{Tree, Constraint, LiteralAxiom, Sum, Product, Quotient, Saturation, Weakening, words}
 use Rattle.pb_normal.specs.meaning.Form.{Form}
 use Rattle.pb_normal.specs.meaning.Names.{number_in}
 use Rattle.pb_normal.specs.meaning.Rules.{IsSum, multiplied, divided, saturated, weakened, axiom_on}
@@ -20,14 +20,14 @@ at_same m n ws e h = rw e h
 -- the words of an expression leave one form
 leaves_more : (t : Tree) (n : ℕ) (rest : List PolWord) → Leaves (n + 1) rest → Leaves n (words t ++ rest)
 leaves_more (Constraint id) n rest h = (omega arith, at_same _ _ rest (omega arith) h)
-leaves_more (True l) n rest h = (omega arith, at_same _ _ rest (omega arith) h)
+leaves_more (LiteralAxiom l) n rest h = (omega arith, at_same _ _ rest (omega arith) h)
 leaves_more (Sum a b) n rest h =
     rw (append_assoc (words a ++ words b) (Add ∷ []) rest, append_assoc (words a) (words b) (Add ∷ rest))
     (leaves_more a n (words b ++ (Add ∷ rest)) (leaves_more b (n + 1) (Add ∷ rest) (omega arith, at_same _ _ rest (omega arith) h)))
-leaves_more (Times a k) n rest h = rw (append_assoc (words a) (Multiply k ∷ []) rest) (leaves_more a n (Multiply k ∷ rest) (omega arith, at_same _ _ rest (omega arith) h))
-leaves_more (Divided a k) n rest h = rw (append_assoc (words a) (Divide k ∷ []) rest) (leaves_more a n (Divide k ∷ rest) (omega arith, at_same _ _ rest (omega arith) h))
-leaves_more (Saturated a) n rest h = rw (append_assoc (words a) (Saturate ∷ []) rest) (leaves_more a n (Saturate ∷ rest) (omega arith, at_same _ _ rest (omega arith) h))
-leaves_more (Weakened a name) n rest h = rw (append_assoc (words a) (Weaken name ∷ []) rest) (leaves_more a n (Weaken name ∷ rest) (omega arith, at_same _ _ rest (omega arith) h))
+leaves_more (Product a k) n rest h = rw (append_assoc (words a) (Multiply k ∷ []) rest) (leaves_more a n (Multiply k ∷ rest) (omega arith, at_same _ _ rest (omega arith) h))
+leaves_more (Quotient a k) n rest h = rw (append_assoc (words a) (Divide k ∷ []) rest) (leaves_more a n (Divide k ∷ rest) (omega arith, at_same _ _ rest (omega arith) h))
+leaves_more (Saturation a) n rest h = rw (append_assoc (words a) (Saturate ∷ []) rest) (leaves_more a n (Saturate ∷ rest) (omega arith, at_same _ _ rest (omega arith) h))
+leaves_more (Weakening a name) n rest h = rw (append_assoc (words a) (Weaken name ∷ []) rest) (leaves_more a n (Weaken name ∷ rest) (omega arith, at_same _ _ rest (omega arith) h))
 
 pub leaves-one : (t : Tree) → Leaves 0 (words t)
 leaves-one t = rw (append-nil (words t)) at (leaves_more t 0 [] (omega arith))
@@ -70,7 +70,7 @@ module _ (limit : ℕ) (names : List (List ℕ)) (live : List (Option Form)) whe
   as_tree (Constraint id) rest fs r (inl (gs, inr (p, bad), h)) = absurd cc
   as_tree (Constraint id) rest fs r (inr (e, inl (f, p, bad), h)) = absurd cc
   as_tree (Constraint id) rest fs r (inr (e, inr (p, is), h)) = let same : e ≡ NoSuchId id = cc in inr (e, inr (p, ap (λ (d : Fault). Err d) same), h)
-  as_tree (True l) rest fs r h = inl (axiom_on (number_in names l.name) l.negated, refl, after_given (axiom_on (number_in names l.name) l.negated ∷ fs) (Words limit names live rest) r h)
+  as_tree (LiteralAxiom l) rest fs r h = inl (axiom_on (number_in names l.name) l.negated, refl, after_given (axiom_on (number_in names l.name) l.negated ∷ fs) (Words limit names live rest) r h)
   as_tree (Sum a b) rest fs r h =
       let split = rw (append_assoc (words a ++ words b) (Add ∷ []) rest, append_assoc (words a) (words b) (Add ∷ rest)) at h in
       joined (FormOfExpression limit names live a) (λ f. after {A = Form} (FormOfExpression limit names live b) (λ g. some (IsSum f g) (limited limit))) (Then rest fs) r
@@ -86,25 +86,25 @@ module _ (limit : ℕ) (names : List (List ℕ)) (live : List (Option Form)) whe
       summed f g w =
           let one = after_some (IsSum f g) (λ s. after (limited limit s) (λ x. gives (x ∷ fs))) (Words limit names live rest) r w in
           (one.0, one.1, after_gives (limited limit one.0) (λ x. x ∷ fs) (Words limit names live rest) r one.2)
-  as_tree (Times a k) rest fs r h =
+  as_tree (Product a k) rest fs r h =
       let split = rw (append_assoc (words a) (Multiply k ∷ []) rest) at h in
       joined (FormOfExpression limit names live a) (λ f. limited limit (multiplied (unsigned_abs k) f)) (Then rest fs) r
       (after_like (FormOfExpression limit names live a) (Then (Multiply k ∷ rest) fs) (λ f. after (limited limit (multiplied (unsigned_abs k) f)) (Then rest fs)) r
       (λ f w. after_gives (limited limit (multiplied (unsigned_abs k) f)) (λ x. x ∷ fs) (Words limit names live rest) r w)
       (as_tree a (Multiply k ∷ rest) fs r split))
-  as_tree (Divided a k) rest fs r h =
+  as_tree (Quotient a k) rest fs r h =
       let split = rw (append_assoc (words a) (Divide k ∷ []) rest) at h in
       joined (FormOfExpression limit names live a) (λ f. gives (divided (unsigned_abs k) f)) (Then rest fs) r
       (after_like (FormOfExpression limit names live a) (Then (Divide k ∷ rest) fs) (λ f. after (gives (divided (unsigned_abs k) f)) (Then rest fs)) r
       (λ f w. inl (divided (unsigned_abs k) f, refl, after_given (divided (unsigned_abs k) f ∷ fs) (Words limit names live rest) r w))
       (as_tree a (Divide k ∷ rest) fs r split))
-  as_tree (Saturated a) rest fs r h =
+  as_tree (Saturation a) rest fs r h =
       let split = rw (append_assoc (words a) (Saturate ∷ []) rest) at h in
       joined (FormOfExpression limit names live a) (λ f. gives (saturated f)) (Then rest fs) r
       (after_like (FormOfExpression limit names live a) (Then (Saturate ∷ rest) fs) (λ f. after (gives (saturated f)) (Then rest fs)) r
       (λ f w. inl (saturated f, refl, after_given (saturated f ∷ fs) (Words limit names live rest) r w))
       (as_tree a (Saturate ∷ rest) fs r split))
-  as_tree (Weakened a name) rest fs r h =
+  as_tree (Weakening a name) rest fs r h =
       let split = rw (append_assoc (words a) (Weaken name ∷ []) rest) at h in
       joined (FormOfExpression limit names live a) (λ f. gives (weakened (number_in names name) f)) (Then rest fs) r
       (after_like (FormOfExpression limit names live a) (Then (Weaken name ∷ rest) fs) (λ f. after (gives (weakened (number_in names name) f)) (Then rest fs)) r

@@ -3,7 +3,7 @@ use Rattle.std.proofs.Common.{◌≡◌, ℕ, ◌+◌, ◌*◌, Bool, true, fals
 use Rattle.std.proofs.lemmas.Bool.{false≢true, cond_both}
 use Rattle.std.specs.Prelude.{IsTrue, Option, Some, None, nat_le, nat_eq}
 use Rattle.pb_text.specs.meaning.Asking.{AsksOnly}
-use Rattle.pb_text.specs.contract.Automaton.{Next, Go, End, Refuse, MayAsk, Reads}
+use Rattle.pb_text.specs.contract.Automaton.{Next, Go, End, Refuse, MayAsk, ReadsStatement}
 use Rattle.pb_text.specs.meaning.Classes.{is_digit, is_letter, is_name_byte}
 use Rattle.pb_text.specs.meaning.Spelling.{Letter, bytes}
 use Rattle.pb_text.proofs.lemmas.text.ByteTests.{letter_name}
@@ -12,7 +12,7 @@ use Rattle.pb_text.proofs.lemmas.text.Booleans.{never}
 use Rattle.pb_text.proofs.lemmas.machine.Walking.{Walks, reads_after}
 use Rattle.pb_text.proofs.lemmas.text.Languages.{each-append}
 use Rattle.pb_sums.specs.meaning.Asking.{EndsIn, IsNameStart, InName, AsksLiteral}
-use Rattle.pb_sums.specs.engine.Machine.{act, plan, digits, number, next_action, kind, symbol, letter_at, is_numeric, flushed, adds, is_more}
+use Rattle.pb_sums.specs.engine.Machine.{act, transition, digits, number, next_action, kind, symbol, letter_at, is_numeric, flushed, adds, is_more}
 use Rattle.pb_sums.specs.engine.State.{SumState, sums, first, over, asks, IsOneText}
 use Rattle.pb_sums.specs.meaning.Sums.{IsName, is_space, allows, reads_sums}
 use Rattle.pb_sums.specs.declared.sum_kind.Spaces.{Spaces}
@@ -27,7 +27,7 @@ use Rattle.pb_sums.specs.declared.phase.Phase as phase
 use Rattle.pb_sums.specs.declared.phase.Action.{Action}
 use Rattle.pb_sums.specs.declared.phase.Action.TheVariants.{To, Begin, Add, EndSum, EndLinear, Stop}
 use Rattle.pb_sums.proofs.lemmas.machine.LiteralPrefixes.{IsFirst, name-append, first-append}
-use Rattle.pb_sums.proofs.lemmas.machine.States.{accepts_one, ended-last, goes-midway, nothing-after}
+use Rattle.pb_sums.proofs.lemmas.machine.States.{accepts_one, ended-last, continues-midway, nothing-after}
 
 abbrev IsNameByte : ℕ → Type 0
 IsNameByte e = IsTrue (is_name_byte e)
@@ -124,7 +124,7 @@ module _ (want : Part) (limit b : ℕ) where
   after_fits p Semicolon = cond_both (reads_sums want) _ _ (Fits p b) (λ _. tt) (λ _. tt)
   after_fits p _ = tt
 
-  plan_fits : (p : Phase) (k : Kind) → Means k b → Fits p b (plan want limit p k)
+  plan_fits : (p : Phase) (k : Kind) → Means k b → Fits p b (transition want limit p k)
   plan_fits phase.TheVariants.Start Space m = cond_both (reads_sums want) _ _ (Fits phase.TheVariants.Start b) (λ _. refl) (λ _. tt)
   plan_fits phase.TheVariants.Start Plus m = refl
   plan_fits phase.TheVariants.Start Minus m = refl
@@ -199,13 +199,13 @@ acts s text b EndSum h k = tt
 acts s text b (EndLinear r z) h k = tt
 acts s text b Stop h k = tt
 
-fits : (s : SumState) (b : ℕ) → Fits s.work.phase b (plan s.part s.limit s.work.phase (kind s.spaces (letter_at (is_numeric s.work.phase) b)))
+fits : (s : SumState) (b : ℕ) → Fits s.work.phase b (transition s.part s.limit s.work.phase (kind s.spaces (letter_at (is_numeric s.work.phase) b)))
 fits s b = plan_fits s.part s.limit b s.work.phase (kind s.spaces (letter_at (is_numeric s.work.phase) b)) (means s.spaces (letter_at (is_numeric s.work.phase) b))
 
 stepped : (s next : SumState) (b : ℕ) (text : List ℕ) → Known s text → sums.step s b ≡ Go next → Known next (text ++ b ∷ [])
 stepped s next b text k e =
     subst (λ (x : Next SumState SumEvent). Stays x (text ++ b ∷ [])) e
-    (acts s text b (plan s.part s.limit s.work.phase (kind s.spaces (letter_at (is_numeric s.work.phase) b))) (fits s b) k)
+    (acts s text b (transition s.part s.limit s.work.phase (kind s.spaces (letter_at (is_numeric s.work.phase) b))) (fits s b) k)
 
 walked : (t : List Letter) (s next : SumState) (text : List ℕ) → Known s text → Walks sums s t next → Known next (text ++ bytes t)
 walked [] s next text k w = subst (λ (x : List ℕ). Known next x) (sym (append-nil text)) (subst (λ (x : SumState). Known x text) (sym w) k)
@@ -235,7 +235,7 @@ by_either p name text b m f h k = by_adds (adds m) refl h
     by_adds false e g = more p g k
 
 -- Before a text, it does not allocate.
-begins_plain : (want : Part) (limit : ℕ) (k : Kind) → adds (plan want limit phase.TheVariants.Start k) ≡ false
+begins_plain : (want : Part) (limit : ℕ) (k : Kind) → adds (transition want limit phase.TheVariants.Start k) ≡ false
 begins_plain want limit Space = cond_both (reads_sums want) _ _ (λ m. adds m ≡ false) (λ _. refl) (λ _. refl)
 begins_plain want limit Plus = refl
 begins_plain want limit Minus = refl
@@ -251,11 +251,11 @@ first_asks_nothing spaces part limit b = rw (begins_plain part limit (kind space
 -- After a part of a text that is read, if the machine may allocate.
 pub sums_asked : (spaces : Spaces) (part : Part) (limit : ℕ) (t : List Letter) (s : SumState) (b : ℕ) → Walks sums (first spaces part limit) t s → asks s b ≡ true → AsksLiteral (bytes t) b
 sums_asked spaces part limit t s b w h =
-    by_either s.work.phase s.work.name (bytes t) b (plan s.part s.limit s.work.phase (kind s.spaces (letter_at (is_numeric s.work.phase) b))) (fits s b) h
+    by_either s.work.phase s.work.name (bytes t) b (transition s.part s.limit s.work.phase (kind s.spaces (letter_at (is_numeric s.work.phase) b))) (fits s b) h
     (walked t (first spaces part limit) s [] tt w)
 
 -- after an event, the text is complete
-ends_done : (t : List Letter) (s next : SumState) (e : SumEvent) → Reads sums s t e next → sums.done next ≡ true
+ends_done : (t : List Letter) (s next : SumState) (e : SumEvent) → ReadsStatement sums s t e next → sums.done next ≡ true
 ends_done [] s next e r = absurd r
 ends_done (l ∷ []) s next e r = subst (λ (x : SumState). sums.done x ≡ true) (sym (ended-last s next l.byte e r.0)) refl
 ends_done (l ∷ k ∷ t) s next e (mid, g, o, n, r) = ends_done (k ∷ t) mid next e r
@@ -268,7 +268,7 @@ module _ (spaces : Spaces) (part : Part) (limit : ℕ) where
   abbrev Asks : SumEvent → List ℕ → ℕ → Type 0
   Asks e text b = AsksLiteral text b
 
-  texts : (at s next : SumState) (prefix rest : List Letter) (l : Letter) (e : SumEvent) → Idle at → Walks sums at prefix s → Reads sums s (l ∷ rest) e next
+  texts : (at s next : SumState) (prefix rest : List Letter) (l : Letter) (e : SumEvent) → Idle at → Walks sums at prefix s → ReadsStatement sums s (l ∷ rest) e next
       → IsTrue (sums.asks s l.byte) → Asks e (bytes prefix) l.byte
   texts at s next prefix rest l e (inl f) w r a = sums_asked spaces part limit prefix s l.byte (subst (λ (x : SumState). Walks sums x prefix s) f w) a
   texts at s next prefix rest l e (inr d) w r a = absurd (nothing-after spaces part limit at (prefix ++ l ∷ rest) e next d (reads_after sums prefix (l ∷ rest) at s next e w r))
@@ -276,7 +276,7 @@ module _ (spaces : Spaces) (part : Part) (limit : ℕ) where
   pub asks_one : (used : List ℕ) (b : ℕ) → MayAsk sums (first spaces part limit) used b → AsksOnly (IsOneText spaces limit part) Asks used b
   asks_one used b (state, lead, a) items more h e =
       asked.asks_within sums Idle Asks (record {
-        gaps = λ s next c i g o. never (sums.begun next) (goes-midway s next c g) o;
+        gaps = λ s next c i g o. never (sums.begun next) (continues-midway s next c g) o;
         ends = λ s next t f i r. inr (ends_done t s next f r);
         texts = texts;
       }) (first spaces part limit) used b (inl refl) state lead a items more ((accepts_one spaces part limit items).1 h) e

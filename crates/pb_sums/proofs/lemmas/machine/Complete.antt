@@ -305,18 +305,18 @@ module _ (spaces : Spaces) (want : Part) (limit : ℕ) where
       (sum-run x xs) (after-run (x ∷ xs)) n t e h
 
   -- a sum and `;`
-  abbrev Closes : List Term → N → Type 0
-  Closes xs n = moves n Semicolon ≡ End (event.TheVariants.Sum xs) finished
+  abbrev Finishes : List Term → N → Type 0
+  Finishes xs n = moves n Semicolon ≡ End (event.TheVariants.Sum xs) finished
 
-  closes-run : IsTrue (reads_sums want) → (xs : List Term) → T (Is (Go fresh)) (SpellsSum spaces limit xs ⋅ Spaces0 spaces limit) (Closes xs)
-  closes-run ok [] n t e h =
+  finishes-run : IsTrue (reads_sums want) → (xs : List Term) → T (Is (Go fresh)) (SpellsSum spaces limit xs ⋅ Spaces0 spaces limit) (Finishes xs)
+  finishes-run ok [] n t e h =
       let S : N = to [] phase.TheVariants.Empty in
       let i : moves n Space ≡ S = ap (λ y. moves y Space) e ∙ (act-cond [] [] [] (reads_sums want) (To phase.TheVariants.Empty) ∙ ap (λ b. cond b S Refuse) ok) in
       elim (many-run n S i refl t (nil_first (Spaces0 spaces limit) t h)) [
         | inl f ↦ ap (λ y. moves y Semicolon) (f ∙ e) ∙ (follows-start Semicolon tt ∙ ap (λ b. cond b (End (event.TheVariants.Sum []) finished) Refuse) ok)
         | inr f ↦ ap (λ y. moves y Semicolon) f
       ]
-  closes-run ok (x ∷ xs) n t e h = head-run (x ∷ xs) n t e h Semicolon tt ∙ ap (λ b. cond b (End (event.TheVariants.Sum (x ∷ xs)) finished) Refuse) ok
+  finishes-run ok (x ∷ xs) n t e h = head-run (x ∷ xs) n t e h Semicolon tt ∙ ap (λ b. cond b (End (event.TheVariants.Sum (x ∷ xs)) finished) Refuse) ok
 
   semicolon-run : (n m : N) → moves n Semicolon ≡ m → (t : List Letter) → Byte 59 t → go n t ≡ m
   semicolon-run n m e t h = ap (λ x. go n x) h ∙ (reads n (unmarked 59) Semicolon [] refl ∙ e)
@@ -370,6 +370,6 @@ module _ (spaces : Spaces) (want : Part) (limit : ℕ) where
 
   pub reads_each : (t : List Letter) (e : SumEvent) → Spells spaces limit want e t → run (on_letter spaces want limit) (Go fresh) t ≡ End e finished
   reads_each t (event.TheVariants.Sum xs) h =
-      takes_then (on_letter spaces want limit) (Is (Go fresh)) (Closes xs) (Is (End (event.TheVariants.Sum xs) finished)) (SpellsSum spaces limit xs ⋅ Spaces0 spaces limit) (Byte 59)
-      (closes-run h.0 xs) (λ n u e g. semicolon-run n (End (event.TheVariants.Sum xs) finished) e u g) (Go fresh) t refl h.1
+      takes_then (on_letter spaces want limit) (Is (Go fresh)) (Finishes xs) (Is (End (event.TheVariants.Sum xs) finished)) (SpellsSum spaces limit xs ⋅ Spaces0 spaces limit) (Byte 59)
+      (finishes-run h.0 xs) (λ n u e g. semicolon-run n (End (event.TheVariants.Sum xs) finished) e u g) (Go fresh) t refl h.1
   reads_each t (event.TheVariants.Linear c) h = linear-run c.terms c.relation c.degree h.0 (Go fresh) t refl h.1

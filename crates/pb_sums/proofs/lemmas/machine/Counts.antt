@@ -2,7 +2,7 @@
 use Rattle.std.proofs.Common.{◌≡◌, ℕ, ◌+◌, ◌-◌, ◌^◌, ◌<◌, ◌≤◌, min, take, get_or, List, [], ◌∷◌, ◌++◌, length, sym, ap, subst, arith, ◌∙◌}
 use Rattle.std.proofs.lemmas.List.{length-append, take_more}
 use Rattle.pb_text.specs.contract.Automaton.{Go}
-use Rattle.pb_sums.specs.engine.Machine.{Work, act, term, flushed, plan, finished}
+use Rattle.pb_sums.specs.engine.Machine.{Work, act, term, flushed, transition, finished}
 use Rattle.pb_sums.specs.engine.State.{units, in_hand, ready, all_units}
 use Rattle.pb_sums.specs.declared.linear.SumEvent as event
 use Rattle.pb_sums.specs.declared.linear.Term.{Term}
@@ -13,7 +13,7 @@ use Rattle.pb_sums.specs.declared.sum_kind.Part.{Part}
 use Rattle.pb_sums.specs.declared.sum_kind.Spaces.{Spaces}
 use Rattle.pb_sums.specs.declared.phase.Action.{Action}
 use Rattle.pb_sums.specs.declared.phase.Action.TheVariants.{To, Begin, Add, EndSum, EndLinear, Stop}
-use Rattle.pb_sums.proofs.lemmas.machine.Flags.{IsSane, plan-sane}
+use Rattle.pb_sums.proofs.lemmas.machine.Flags.{IsSane, transition-sane}
 use Rattle.pb_text.proofs.lemmas.machine.Outcomes.{one_state, refuse_or_go, end_or_go}
 
 pub units-append : (xs : List Term) (x : Term) → units (xs ++ x ∷ []) ≡ units xs + (1 + length x.literal.name)
@@ -80,9 +80,9 @@ act-grows ph k xs name EndSum w h e = end_or_go (event.TheVariants.Sum (flushed 
 act-grows ph k xs name (EndLinear r z) w h e = end_or_go (event.TheVariants.Linear (record { terms = flushed ph xs name; relation = r; degree = z })) finished w e
 act-grows ph k xs name Stop w h e = refuse_or_go w e
 
-pub letter-grows : (spaces : Spaces) (want : Part) (limit : ℕ) (w v : Work) (k : Kind) → act (flushed w.phase w.terms w.name) w.terms w.name (plan want limit w.phase k) ≡ Go v
+pub letter-grows : (spaces : Spaces) (want : Part) (limit : ℕ) (w v : Work) (k : Kind) → act (flushed w.phase w.terms w.name) w.terms w.name (transition want limit w.phase k) ≡ Go v
     → potential v ≤ potential w + 1
-letter-grows spaces want limit w v k e = act-grows w.phase k w.terms w.name (plan want limit w.phase k) v (plan-sane want limit w.phase k) e
+letter-grows spaces want limit w v k e = act-grows w.phase k w.terms w.name (transition want limit w.phase k) v (transition-sane want limit w.phase k) e
 
 -- a count that saturates
 pub counted : (u n c m r : ℕ) → c ≡ min u (2 ^ 64 - 1) → m ≡ min (n + 1) (2 ^ 64 - 1) → r ≡ min (c + m) (2 ^ 64 - 1) → r ≡ min (u + (1 + n)) (2 ^ 64 - 1)

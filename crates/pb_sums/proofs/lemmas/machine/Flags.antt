@@ -2,7 +2,7 @@
 use Rattle.pb_sums.proofs.lemmas.machine.LetterKinds.{on_letter, Means, kind-means}
 use Rattle.pb_sums.specs.engine.State.{in_hand, ready}
 use Rattle.pb_text.specs.meaning.Languages.{unmarked}
-use Rattle.pb_sums.specs.engine.Machine.{digits, is_midway, Work, plan, act, kind, number, next_action, letter_at, is_numeric, is_in_number, kind_of_plain, kind_of_numeral, flushed, finished}
+use Rattle.pb_sums.specs.engine.Machine.{digits, is_midway, Work, transition, act, kind, number, next_action, letter_at, is_numeric, is_in_number, kind_of_plain, kind_of_numeral, flushed, finished}
 use Rattle.pb_sums.specs.meaning.Sums.{is_space, reads_sums, allows}
 use Rattle.pb_sums.specs.declared.phase.Kind.{Kind}
 use Rattle.pb_sums.specs.declared.phase.Kind.TheVariants.{Space, Digit, Start, Inner, Tilde, Plus, Minus, Greater, Equals, Semicolon, Other}
@@ -64,42 +64,42 @@ module _ (want : Part) (limit : ℕ) where
   after-sane ph Semicolon = sane_test ph Semicolon (reads_sums want) EndSum refl
   after-sane ph _ = tt
 
-  pub plan-sane : (ph : Phase) (k : Kind) → IsSane ph k (plan want limit ph k)
-  plan-sane phase.TheVariants.Start Space = sane_test phase.TheVariants.Start Space (reads_sums want) (To phase.TheVariants.Empty) ((refl, refl), refl)
-  plan-sane phase.TheVariants.Start Plus = number-sane phase.TheVariants.Start None Plus
-  plan-sane phase.TheVariants.Start Minus = number-sane phase.TheVariants.Start None Minus
-  plan-sane phase.TheVariants.Start (Digit d) = number-sane phase.TheVariants.Start None (Digit d)
-  plan-sane phase.TheVariants.Start k = after-sane phase.TheVariants.Start k
-  plan-sane (phase.TheVariants.Signed role negative) (Digit d) = digits-sane (phase.TheVariants.Signed role negative) role negative 0 d
-  plan-sane (phase.TheVariants.Digits role negative n) (Digit d) = digits-sane (phase.TheVariants.Digits role negative n) role negative n d
-  plan-sane (phase.TheVariants.Digits None negative n) Space = ((refl, refl), refl)
-  plan-sane (phase.TheVariants.Digits (Some r) negative n) Space = ((refl, refl), refl)
-  plan-sane (phase.TheVariants.Digits (Some r) negative n) Semicolon = refl
-  plan-sane (phase.TheVariants.Gap z) Space = ((refl, refl), refl)
-  plan-sane (phase.TheVariants.Gap z) Tilde = ((refl, refl), refl)
-  plan-sane (phase.TheVariants.Gap z) (Start b) = ((refl, refl), refl, refl)
-  plan-sane (phase.TheVariants.Tilde z) (Start b) = ((refl, refl), refl, refl)
-  plan-sane (phase.TheVariants.First z negated) (Start b) = ((refl, refl), refl, refl)
-  plan-sane (phase.TheVariants.First z negated) (Inner b) = ((refl, refl), refl, refl)
-  plan-sane (phase.TheVariants.More z negated) (Start b) = ((refl, refl), refl, refl)
-  plan-sane (phase.TheVariants.More z negated) (Inner b) = ((refl, refl), refl, refl)
-  plan-sane (phase.TheVariants.More z negated) Space = ((refl, refl), refl)
-  plan-sane (phase.TheVariants.More z negated) k = after-sane (phase.TheVariants.More z negated) k
-  plan-sane phase.TheVariants.Between Space = ((refl, refl), refl)
-  plan-sane phase.TheVariants.Between Plus = number-sane phase.TheVariants.Between None Plus
-  plan-sane phase.TheVariants.Between Minus = number-sane phase.TheVariants.Between None Minus
-  plan-sane phase.TheVariants.Between (Digit d) = number-sane phase.TheVariants.Between None (Digit d)
-  plan-sane phase.TheVariants.Between k = after-sane phase.TheVariants.Between k
-  plan-sane phase.TheVariants.Greater Equals = ((refl, refl), refl)
-  plan-sane (phase.TheVariants.Operator r) Space = ((refl, refl), refl)
-  plan-sane (phase.TheVariants.Operator r) k = number-sane (phase.TheVariants.Operator r) (Some r) k
-  plan-sane (phase.TheVariants.Tail r z) Space = ((refl, refl), refl)
-  plan-sane (phase.TheVariants.Tail r z) Semicolon = refl
-  plan-sane phase.TheVariants.Empty Space = ((refl, refl), refl)
-  plan-sane phase.TheVariants.Empty Semicolon = refl
-  plan-sane _ _ = tt
+  pub transition-sane : (ph : Phase) (k : Kind) → IsSane ph k (transition want limit ph k)
+  transition-sane phase.TheVariants.Start Space = sane_test phase.TheVariants.Start Space (reads_sums want) (To phase.TheVariants.Empty) ((refl, refl), refl)
+  transition-sane phase.TheVariants.Start Plus = number-sane phase.TheVariants.Start None Plus
+  transition-sane phase.TheVariants.Start Minus = number-sane phase.TheVariants.Start None Minus
+  transition-sane phase.TheVariants.Start (Digit d) = number-sane phase.TheVariants.Start None (Digit d)
+  transition-sane phase.TheVariants.Start k = after-sane phase.TheVariants.Start k
+  transition-sane (phase.TheVariants.Signed role negative) (Digit d) = digits-sane (phase.TheVariants.Signed role negative) role negative 0 d
+  transition-sane (phase.TheVariants.Digits role negative n) (Digit d) = digits-sane (phase.TheVariants.Digits role negative n) role negative n d
+  transition-sane (phase.TheVariants.Digits None negative n) Space = ((refl, refl), refl)
+  transition-sane (phase.TheVariants.Digits (Some r) negative n) Space = ((refl, refl), refl)
+  transition-sane (phase.TheVariants.Digits (Some r) negative n) Semicolon = refl
+  transition-sane (phase.TheVariants.Gap z) Space = ((refl, refl), refl)
+  transition-sane (phase.TheVariants.Gap z) Tilde = ((refl, refl), refl)
+  transition-sane (phase.TheVariants.Gap z) (Start b) = ((refl, refl), refl, refl)
+  transition-sane (phase.TheVariants.Tilde z) (Start b) = ((refl, refl), refl, refl)
+  transition-sane (phase.TheVariants.First z negated) (Start b) = ((refl, refl), refl, refl)
+  transition-sane (phase.TheVariants.First z negated) (Inner b) = ((refl, refl), refl, refl)
+  transition-sane (phase.TheVariants.More z negated) (Start b) = ((refl, refl), refl, refl)
+  transition-sane (phase.TheVariants.More z negated) (Inner b) = ((refl, refl), refl, refl)
+  transition-sane (phase.TheVariants.More z negated) Space = ((refl, refl), refl)
+  transition-sane (phase.TheVariants.More z negated) k = after-sane (phase.TheVariants.More z negated) k
+  transition-sane phase.TheVariants.Between Space = ((refl, refl), refl)
+  transition-sane phase.TheVariants.Between Plus = number-sane phase.TheVariants.Between None Plus
+  transition-sane phase.TheVariants.Between Minus = number-sane phase.TheVariants.Between None Minus
+  transition-sane phase.TheVariants.Between (Digit d) = number-sane phase.TheVariants.Between None (Digit d)
+  transition-sane phase.TheVariants.Between k = after-sane phase.TheVariants.Between k
+  transition-sane phase.TheVariants.Greater Equals = ((refl, refl), refl)
+  transition-sane (phase.TheVariants.Operator r) Space = ((refl, refl), refl)
+  transition-sane (phase.TheVariants.Operator r) k = number-sane (phase.TheVariants.Operator r) (Some r) k
+  transition-sane (phase.TheVariants.Tail r z) Space = ((refl, refl), refl)
+  transition-sane (phase.TheVariants.Tail r z) Semicolon = refl
+  transition-sane phase.TheVariants.Empty Space = ((refl, refl), refl)
+  transition-sane phase.TheVariants.Empty Semicolon = refl
+  transition-sane _ _ = tt
 
-  digit-needs : (ph : Phase) (d : ℕ) → (is_numeric ph ≡ true) ⊎ (plan want limit ph (Digit d) ≡ Stop)
+  digit-needs : (ph : Phase) (d : ℕ) → (is_numeric ph ≡ true) ⊎ (transition want limit ph (Digit d) ≡ Stop)
   digit-needs phase.TheVariants.Start d = inl refl
   digit-needs (phase.TheVariants.Signed role negative) d = inl refl
   digit-needs (phase.TheVariants.Digits role negative n) d = inl refl
@@ -114,7 +114,7 @@ module _ (want : Part) (limit : ℕ) where
   digit-needs phase.TheVariants.Empty d = inr refl
   digit-needs phase.TheVariants.Done d = inr refl
 
-  inner-needs : (ph : Phase) (b : ℕ) → (is_numeric ph ≡ false) ⊎ (plan want limit ph (Inner b) ≡ Stop)
+  inner-needs : (ph : Phase) (b : ℕ) → (is_numeric ph ≡ false) ⊎ (transition want limit ph (Inner b) ≡ Stop)
   inner-needs phase.TheVariants.Start b = inr refl
   inner-needs (phase.TheVariants.Signed role negative) b = inr refl
   inner-needs (phase.TheVariants.Digits role negative n) b = inr refl
@@ -129,7 +129,7 @@ module _ (want : Part) (limit : ℕ) where
   inner-needs phase.TheVariants.Empty b = inl refl
   inner-needs phase.TheVariants.Done b = inl refl
 
-  other-stops : (ph : Phase) → plan want limit ph Other ≡ Stop
+  other-stops : (ph : Phase) → transition want limit ph Other ≡ Stop
   other-stops phase.TheVariants.Start = refl
   other-stops (phase.TheVariants.Signed role negative) = refl
   other-stops (phase.TheVariants.Digits role negative n) = refl
@@ -155,19 +155,19 @@ module _ (want : Part) (limit : ℕ) where
       space-no s b e = grind (arith, nat_tests)
 
   -- A letter that the machine takes is the one that its byte is to the machine.
-  pub flag : (s : Spaces) (ph : Phase) (c : Letter) → (c ≡ letter_at (is_numeric ph) c.byte) ⊎ (plan want limit ph (kind s c) ≡ Stop)
+  pub flag : (s : Spaces) (ph : Phase) (c : Letter) → (c ≡ letter_at (is_numeric ph) c.byte) ⊎ (transition want limit ph (kind s c) ≡ Stop)
   flag s ph c = go c.byte c.numeral (is_digit c.byte) refl
     where
       go : (b : ℕ) (m : Bool) (x : Bool) → is_digit b ≡ x →
-          (◌≡◌ {A = Letter} (record { byte = b; numeral = m }) (letter_at (is_numeric ph) b)) ⊎ (plan want limit ph (cond m (kind_of_numeral b) (kind_of_plain s b)) ≡ Stop)
+          (◌≡◌ {A = Letter} (record { byte = b; numeral = m }) (letter_at (is_numeric ph) b)) ⊎ (transition want limit ph (cond m (kind_of_numeral b) (kind_of_plain s b)) ≡ Stop)
       go b true true e = elim (digit-needs ph (b - 48)) [
         | inl f ↦ inl (ap (λ n. record { byte = b; numeral = n }) (sym (ap (λ y. y && is_digit b) f ∙ e)))
-        | inr f ↦ inr (ap (λ y. plan want limit ph (cond y (Digit (b - 48)) Other)) e ∙ f)
+        | inr f ↦ inr (ap (λ y. transition want limit ph (cond y (Digit (b - 48)) Other)) e ∙ f)
       ]
-      go b true false e = inr (ap (λ y. plan want limit ph (cond y (Digit (b - 48)) Other)) e ∙ other-stops ph)
+      go b true false e = inr (ap (λ y. transition want limit ph (cond y (Digit (b - 48)) Other)) e ∙ other-stops ph)
       go b false true e = elim (inner-needs ph b) [
         | inl f ↦ inl (ap (λ n. record { byte = b; numeral = n }) (sym (ap (λ y. y && is_digit b) f)))
-        | inr f ↦ inr (ap (λ y. plan want limit ph y) (digit-inner s b e) ∙ f)
+        | inr f ↦ inr (ap (λ y. transition want limit ph y) (digit-inner s b e) ∙ f)
       ]
       go b false false e = inl (ap (λ n. record { byte = b; numeral = n }) (sym (ap (λ y. is_numeric ph && y) e ∙ and-false (is_numeric ph))))
 
@@ -191,10 +191,10 @@ module _ (want : Part) (limit : ℕ) where
   pub gone : (s : Spaces) (w w' : Work) (c : Letter) → on_letter s want limit w c ≡ Go w' → (is_in_number w'.phase ≡ c.numeral) × (is_midway w'.phase ≡ true)
   gone s w w' c e =
       let ys : List Term = flushed w.phase w.terms w.name in
-      let f : Flags (kind s c) w'.phase = go-sane w.phase (kind s c) ys w.terms w.name (plan want limit w.phase (kind s c)) w' (plan-sane w.phase (kind s c)) e in
+      let f : Flags (kind s c) w'.phase = go-sane w.phase (kind s c) ys w.terms w.name (transition want limit w.phase (kind s c)) w' (transition-sane w.phase (kind s c)) e in
       elim (numeral-of s c (kind s c) (kind-means s c)) [
         | inl g ↦ (f.0 ∙ sym g, f.1)
-        | inr g ↦ refuse_or_go w' (sym (ap (λ m. act ys w.terms w.name m) (ap (λ k. plan want limit w.phase k) g ∙ other-stops w.phase)) ∙ e)
+        | inr g ↦ refuse_or_go w' (sym (ap (λ m. act ys w.terms w.name m) (ap (λ k. transition want limit w.phase k) g ∙ other-stops w.phase)) ∙ e)
       ]
 
   end-sane : (ph : Phase) (k : Kind) (ys xs : List Term) (name : List ℕ) (m : Action) (v : SumEvent) (w : Work) → IsSane ph k m → act ys xs name m ≡ End v w → (k ≡ Semicolon) × (w ≡ finished)
@@ -209,6 +209,6 @@ module _ (want : Part) (limit : ℕ) where
   pub ended : (s : Spaces) (w w' : Work) (v : SumEvent) (c : Letter) → on_letter s want limit w c ≡ End v w' → (c.numeral ≡ false) × (w' ≡ finished)
   ended s w w' v c e =
       let f : (kind s c ≡ Semicolon) × (w' ≡ finished) =
-      end-sane w.phase (kind s c) (flushed w.phase w.terms w.name) w.terms w.name (plan want limit w.phase (kind s c)) v w' (plan-sane w.phase (kind s c)) e in
+      end-sane w.phase (kind s c) (flushed w.phase w.terms w.name) w.terms w.name (transition want limit w.phase (kind s c)) v w' (transition-sane w.phase (kind s c)) e in
       let m : c ≡ unmarked 59 = subst (λ k. Means s k c) f.0 (kind-means s c) in
       (ap (λ x. x.numeral) m, f.1)

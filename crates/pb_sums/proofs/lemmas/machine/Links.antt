@@ -2,7 +2,7 @@
 use Rattle.std.proofs.Common.{◌≡◌, ℕ, Bool, true, false, List, [], ◌∷◌, refl, sym, ap, subst, ◌⊎◌, inl, inr, ◌∙◌, ◌↔◌}
 use Rattle.pb_text.proofs.lemmas.machine.Outcomes.{one_state, one_end, go_or_end, go_or_refuse, end_or_refuse, refuse_or_go, refuse_or_end, end_or_go}
 use Rattle.pb_text.proofs.lemmas.machine.Runs.{run, run-refuse}
-use Rattle.pb_text.specs.contract.Automaton.{Go, End, Refuse, Reads}
+use Rattle.pb_text.specs.contract.Automaton.{Go, End, Refuse, ReadsStatement}
 use Rattle.pb_text.specs.meaning.Spelling.{Letter}
 use Rattle.pb_sums.specs.meaning.Sums.{Spells}
 use Rattle.pb_sums.specs.engine.Machine.{Work, Outcome, act, step, letter_at, is_numeric, is_in_number, is_midway, is_done, flushed, fresh, finished}
@@ -52,7 +52,7 @@ module _ (spaces : Spaces) (want : Part) (limit : ℕ) where
   go = run on
 
   first-letter : (w : Work) (c : Letter) (t : List Letter) (e : SumEvent) (u : Work) (n : Outcome) → on w c ≡ n → go n t ≡ End e u
-      → ((v : Work) → go (Go v) t ≡ End e u → Reads sums (state v) t e (state u)) → Reads sums (state w) (c ∷ t) e (state u)
+      → ((v : Work) → go (Go v) t ≡ End e u → ReadsStatement sums (state v) t e (state u)) → ReadsStatement sums (state w) (c ∷ t) e (state u)
   first-letter w c [] e u (Go v) i h later = go_or_end v e u h
   first-letter w c (d ∷ t) e u (Go v) i h later =
       let g : (is_in_number v.phase ≡ c.numeral) × (is_midway v.phase ≡ true) = gone want limit spaces w v c i in
@@ -67,7 +67,7 @@ module _ (spaces : Spaces) (want : Part) (limit : ℕ) where
   first-letter w c (d ∷ t) e u (End f v) i h later = refuse_or_end e u h
   first-letter w c t e u Refuse i h later = refuse_or_end e u (sym (run-refuse on t) ∙ h)
 
-  pub run-reads : (t : List Letter) (w u : Work) (e : SumEvent) → go (Go w) t ≡ End e u → Reads sums (state w) t e (state u)
+  pub run-reads : (t : List Letter) (w u : Work) (e : SumEvent) → go (Go w) t ≡ End e u → ReadsStatement sums (state w) t e (state u)
   run-reads [] w u e h = go_or_end w e u h
   run-reads (c ∷ t) w u e h = first-letter w c t e u (on w c) refl h (λ v k. run-reads t v u e k)
 
@@ -99,23 +99,23 @@ module _ (spaces : Spaces) (want : Part) (limit : ℕ) where
   next-letter w l mid (End f v) i h m = end_or_go f (state v) mid h
   next-letter w l mid Refuse i h m = refuse_or_go mid h
 
-  pub reads-run : (t : List Letter) (w : Work) (e : SumEvent) (s : SumState) → Reads sums (state w) t e s → (go (Go w) t ≡ End e finished) × (s ≡ state finished)
+  pub reads-run : (t : List Letter) (w : Work) (e : SumEvent) (s : SumState) → ReadsStatement sums (state w) t e s → (go (Go w) t ≡ End e finished) × (s ≡ state finished)
   reads-run [] w e s h = absurd h
   reads-run (l ∷ []) w e s h = last-letter w l e s (on w (own w l.byte)) refl h.0 h.1
   reads-run (l ∷ k ∷ t) w e s (mid, i, b, m, h) =
       let f : (v : Work) × (mid ≡ state v) × (on w l ≡ Go v) = next-letter w l mid (on w (own w l.byte)) refl i m in
-      let g : (go (Go f.0) (k ∷ t) ≡ End e finished) × (s ≡ state finished) = reads-run (k ∷ t) f.0 e s (subst (λ x. Reads sums x (k ∷ t) e s) f.1 h) in
+      let g : (go (Go f.0) (k ∷ t) ≡ End e finished) × (s ≡ state finished) = reads-run (k ∷ t) f.0 e s (subst (λ x. ReadsStatement sums x (k ∷ t) e s) f.1 h) in
       (ap (λ x. go x (k ∷ t)) f.2 ∙ g.0, g.1)
 
   pub reads_grammar : (text : List Letter) (event : SumEvent) (after : SumState) →
-      Reads sums (first spaces want limit) text event after ↔ (Spells spaces limit want event text × (after ≡ last spaces want limit))
+      ReadsStatement sums (first spaces want limit) text event after ↔ (Spells spaces limit want event text × (after ≡ last spaces want limit))
   reads_grammar text event after = (
     (λ h. let f : (go (Go fresh) text ≡ End event finished) × (after ≡ state finished) = reads-run text fresh event after h in
         ((exact spaces want limit text event).1 f.0, f.1)),
-    (λ h. subst (λ x. Reads sums (state fresh) text event x) (sym h.1) (run-reads text fresh finished event ((exact spaces want limit text event).0 h.0))),
+    (λ h. subst (λ x. ReadsStatement sums (state fresh) text event x) (sym h.1) (run-reads text fresh finished event ((exact spaces want limit text event).0 h.0))),
   )
 
-  pub reads_something : (w : Work) → is_done w.phase ≡ false → (text : List Letter) × (event : SumEvent) × (after : SumState) × Reads sums (state w) text event after
+  pub reads_something : (w : Work) → is_done w.phase ≡ false → (text : List Letter) × (event : SumEvent) × (after : SumState) × ReadsStatement sums (state w) text event after
   reads_something w h =
       let f : (t : List Letter) × (e : SumEvent) × (go (Go w) t ≡ End e finished) = alive spaces want limit w.phase w.terms w.name h in
       (f.0, f.1, state finished, run-reads f.0 w finished f.1 f.2)

@@ -5,7 +5,7 @@ use Rattle.pb_text.specs.contract.Automaton.{Go, End, Refuse, Admits, IsState, P
 use Rattle.pb_text.specs.meaning.Classes.{is_digit}
 use Rattle.pb_text.specs.declared.machine.Push.{Push}
 use Rattle.pb_text.specs.declared.machine.Push.TheVariants as push
-use Rattle.pb_sums.specs.engine.Machine.{act, plan, kind, letter_at, is_numeric, is_in_number, flushed, to, at_name, adds, is_more}
+use Rattle.pb_sums.specs.engine.Machine.{act, transition, kind, letter_at, is_numeric, is_in_number, flushed, to, at_name, adds, is_more}
 use Rattle.pb_sums.specs.engine.State.{SumState, sums, over, asks, IsInOrder}
 use Rattle.pb_sums.specs.declared.linear.Term.{Term}
 use Rattle.pb_sums.specs.declared.linear.Relation.{Relation}
@@ -38,17 +38,17 @@ module _ (s : Spaces) (w : Part) (limit : ℕ) (xs : List Term) (name : List ℕ
   abbrev state : SumState
   state = record { spaces = s; part = w; limit = limit; work = record { terms = xs; name = name; phase = p } }
 
-  planned : n ≡ is_numeric p → k ≡ kind s (letter_at n b) → m ≡ plan w limit p k → plan w limit p (kind s (letter_at (is_numeric p) b)) ≡ m
-  planned e f g = ap (λ x. plan w limit p x) (ap (λ x. kind s (letter_at x b)) (sym e) ∙ sym f) ∙ sym g
+  planned : n ≡ is_numeric p → k ≡ kind s (letter_at n b) → m ≡ transition w limit p k → transition w limit p (kind s (letter_at (is_numeric p) b)) ≡ m
+  planned e f g = ap (λ x. transition w limit p x) (ap (λ x. kind s (letter_at x b)) (sym e) ∙ sym f) ∙ sym g
 
-  planned-stop : n ≡ is_numeric p → k ≡ kind s (letter_at n b) → Stop ≡ plan w limit p k → plan w limit p (kind s (letter_at (is_numeric p) b)) ≡ Stop
-  planned-stop e f g = ap (λ x. plan w limit p x) (ap (λ x. kind s (letter_at x b)) (sym e) ∙ sym f) ∙ sym g
+  planned-stop : n ≡ is_numeric p → k ≡ kind s (letter_at n b) → Stop ≡ transition w limit p k → transition w limit p (kind s (letter_at (is_numeric p) b)) ≡ Stop
+  planned-stop e f g = ap (λ x. transition w limit p x) (ap (λ x. kind s (letter_at x b)) (sym e) ∙ sym f) ∙ sym g
 
-  pub moved : n ≡ is_numeric p → k ≡ kind s (letter_at n b) → m ≡ plan w limit p k → sums.step state b ≡ over state (act (flushed p xs name) xs name m)
+  pub moved : n ≡ is_numeric p → k ≡ kind s (letter_at n b) → m ≡ transition w limit p k → sums.step state b ≡ over state (act (flushed p xs name) xs name m)
   moved e f g = ap (λ x. over state (act (flushed p xs name) xs name x)) (planned e f g)
 
   -- a push may allocate at a byte of a name or one that ends a literal, and only if the byte is taken
-  pub wants : n ≡ is_numeric p → k ≡ kind s (letter_at n b) → m ≡ plan w limit p k → IsTaken m → (adds m || is_more p) ≡ true → IsTrue (asks state b) × Admits sums state b
+  pub wants : n ≡ is_numeric p → k ≡ kind s (letter_at n b) → m ≡ transition w limit p k → IsTaken m → (adds m || is_more p) ≡ true → IsTrue (asks state b) × Admits sums state b
   wants e f g t a = (
     ap (λ x. adds x || is_more p) (planned e f g) ∙ a,
     admits state b (over state (act (flushed p xs name) xs name m)) (moved e f g) (taken-acts state (flushed p xs name) xs name m t),
@@ -56,40 +56,40 @@ module _ (s : Spaces) (w : Part) (limit : ℕ) (xs : List Term) (name : List ℕ
 
   -- what the plan does not allow is rejected
   refuses-by : (d : Bool) → d ≡ (is_in_number p && is_digit b) → (answer : Push SumEvent) → answer ≡ (if d then push.Large else push.No)
-      → n ≡ is_numeric p → k ≡ kind s (letter_at n b) → Stop ≡ plan w limit p k → Pushes sums state b answer state
+      → n ≡ is_numeric p → k ≡ kind s (letter_at n b) → Stop ≡ transition w limit p k → Pushes sums state b answer state
   refuses-by true h answer a e f g = subst (λ (x : Push SumEvent). Pushes sums state b x state) (sym a) (ap (λ x. over state (act (flushed p xs name) xs name x)) (planned-stop e f g), sym h, refl)
   refuses-by false h answer a e f g = subst (λ (x : Push SumEvent). Pushes sums state b x state) (sym a) (ap (λ x. over state (act (flushed p xs name) xs name x)) (planned-stop e f g), sym h, refl)
 
   pub refuses : (answer : Push SumEvent) → answer ≡ (if is_in_number p && is_digit b then push.Large else push.No)
-      → n ≡ is_numeric p → k ≡ kind s (letter_at n b) → Stop ≡ plan w limit p k → Pushes sums state b answer state
+      → n ≡ is_numeric p → k ≡ kind s (letter_at n b) → Stop ≡ transition w limit p k → Pushes sums state b answer state
   refuses = refuses-by (is_in_number p && is_digit b) refl
 
 pub goes_to : (s : Spaces) (w : Part) (limit : ℕ) (xs ys : List Term) (name : List ℕ) (p q : Phase) (b : ℕ) (n : Bool) (k : Kind) (new : List ℕ) → new ≡ [] →
-    n ≡ is_numeric p → k ≡ kind s (letter_at n b) → To q ≡ plan w limit p k → ys ≡ flushed p xs name →
+    n ≡ is_numeric p → k ≡ kind s (letter_at n b) → To q ≡ transition w limit p k → ys ≡ flushed p xs name →
     sums.step (state s w limit xs name p b n k (To q)) b ≡ Go (record { spaces = s; part = w; limit = limit; work = record { terms = ys; name = new; phase = q } })
 goes_to s w limit xs ys name p q b n k new z e f g i =
     moved s w limit xs name p b n k (To q) e f g
     ∙ (ap (λ x. over (state s w limit xs name p b n k (To q)) (to x q)) (sym i) ∙ ap (λ x. over (state s w limit xs name p b n k (To q)) (at_name ys q x)) (sym z))
 
 pub begins_to : (s : Spaces) (w : Part) (limit : ℕ) (xs : List Term) (name : List ℕ) (p q : Phase) (b : ℕ) (n : Bool) (k : Kind) (c : ℕ) (new : List ℕ) → new ≡ c ∷ [] →
-    n ≡ is_numeric p → k ≡ kind s (letter_at n b) → Begin q c ≡ plan w limit p k →
+    n ≡ is_numeric p → k ≡ kind s (letter_at n b) → Begin q c ≡ transition w limit p k →
     sums.step (state s w limit xs name p b n k (Begin q c)) b ≡ Go (record { spaces = s; part = w; limit = limit; work = record { terms = xs; name = new; phase = q } })
 begins_to s w limit xs name p q b n k c new z e f g =
     moved s w limit xs name p b n k (Begin q c) e f g ∙ ap (λ x. over (state s w limit xs name p b n k (Begin q c)) (at_name xs q x)) (sym z)
 
 pub adds_to : (s : Spaces) (w : Part) (limit : ℕ) (xs : List Term) (name : List ℕ) (p q : Phase) (b : ℕ) (n : Bool) (k : Kind) (c : ℕ) (new : List ℕ) → new ≡ name ++ c ∷ [] →
-    n ≡ is_numeric p → k ≡ kind s (letter_at n b) → Add q c ≡ plan w limit p k →
+    n ≡ is_numeric p → k ≡ kind s (letter_at n b) → Add q c ≡ transition w limit p k →
     sums.step (state s w limit xs name p b n k (Add q c)) b ≡ Go (record { spaces = s; part = w; limit = limit; work = record { terms = xs; name = new; phase = q } })
 adds_to s w limit xs name p q b n k c new z e f g =
     moved s w limit xs name p b n k (Add q c) e f g ∙ ap (λ x. over (state s w limit xs name p b n k (Add q c)) (at_name xs q x)) (sym z)
 
 pub ends_sum : (s : Spaces) (w : Part) (limit : ℕ) (xs ys zs : List Term) (name new : List ℕ) (p q : Phase) (b : ℕ) (n : Bool) (k : Kind) →
-    n ≡ is_numeric p → k ≡ kind s (letter_at n b) → EndSum ≡ plan w limit p k → ys ≡ flushed p xs name → zs ≡ [] → new ≡ [] → q ≡ phase.TheVariants.Done →
+    n ≡ is_numeric p → k ≡ kind s (letter_at n b) → EndSum ≡ transition w limit p k → ys ≡ flushed p xs name → zs ≡ [] → new ≡ [] → q ≡ phase.TheVariants.Done →
     sums.step (state s w limit xs name p b n k EndSum) b ≡ End (event.TheVariants.Sum ys) (standing s w limit zs new q)
 ends_sum s w limit xs ys zs name new p q b n k e f g i j l m = rw (i, j, l, m) (moved s w limit xs name p b n k EndSum e f g)
 
 pub ends_linear : (s : Spaces) (w : Part) (limit : ℕ) (xs ys zs : List Term) (name new : List ℕ) (p q : Phase) (b : ℕ) (n : Bool) (k : Kind) (r : Relation) (z : ℤ) →
-    n ≡ is_numeric p → k ≡ kind s (letter_at n b) → EndLinear r z ≡ plan w limit p k → ys ≡ flushed p xs name → zs ≡ [] → new ≡ [] → q ≡ phase.TheVariants.Done →
+    n ≡ is_numeric p → k ≡ kind s (letter_at n b) → EndLinear r z ≡ transition w limit p k → ys ≡ flushed p xs name → zs ≡ [] → new ≡ [] → q ≡ phase.TheVariants.Done →
     sums.step (state s w limit xs name p b n k (EndLinear r z)) b ≡ End (event.TheVariants.Linear (record { terms = ys; relation = r; degree = z })) (standing s w limit zs new q)
 ends_linear s w limit xs ys zs name new p q b n k r z e f g i j l m = rw (i, j, l, m) (moved s w limit xs name p b n k (EndLinear r z) e f g)
 

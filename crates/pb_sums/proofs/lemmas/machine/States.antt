@@ -1,10 +1,10 @@
 -- What holds of each state of a machine, and what its first state accepts. Offered to other crates.
 use Rattle.std.proofs.Common.{◌≡◌, ℕ, ◌+◌, ◌≤◌, ◌^◌, ◌-◌, min, true, false, List, [], ◌∷◌, length, refl, sym, ap, subst, arith, ◌∙◌, ◌↔◌}
 use Rattle.std.proofs.Math.Nat.{min-le_left}
-use Rattle.pb_text.specs.contract.Automaton.{Next, Go, End, Refuse, Reads, Skips, Accepts, Admits, IsState}
+use Rattle.pb_text.specs.contract.Automaton.{Next, Go, End, Refuse, ReadsStatement, SkipsGap, AcceptsItems, Admits, IsState}
 use Rattle.pb_text.specs.meaning.Spelling.{Letter, Item}
 use Rattle.pb_sums.specs.declared.linear.Term.{Term}
-use Rattle.pb_sums.specs.engine.Machine.{PhaseFits, Work, Outcome, act, step, plan, kind, letter_at, is_numeric, is_in_number, is_midway, is_done, finished, flushed, is_more}
+use Rattle.pb_sums.specs.engine.Machine.{PhaseFits, Work, Outcome, act, step, transition, kind, letter_at, is_numeric, is_in_number, is_midway, is_done, finished, flushed, is_more}
 use Rattle.pb_sums.specs.engine.State.{SumState, sums, over, first, last, with_work, units, in_hand, ready, all_units, IsInOrder, IsOneText}
 use Rattle.pb_sums.specs.declared.linear.SumEvent.{SumEvent}
 use Rattle.pb_sums.specs.declared.phase.Kind.{Kind}
@@ -27,8 +27,8 @@ gone-from s next b (Go v) e h = (v, sym (one_state (with_work s v) next h), e)
 gone-from s next b (End f v) e h = end_or_go f (with_work s v) next h
 gone-from s next b Refuse e h = refuse_or_go next h
 
-pub goes : (s next : SumState) (b : ℕ) → sums.step s b ≡ Go next → (v : Work) × (next ≡ with_work s v) × (step s.spaces s.part s.limit s.work b ≡ Go v)
-goes s next b h = gone-from s next b (step s.spaces s.part s.limit s.work b) refl h
+pub continues : (s next : SumState) (b : ℕ) → sums.step s b ≡ Go next → (v : Work) × (next ≡ with_work s v) × (step s.spaces s.part s.limit s.work b ≡ Go v)
+continues s next b h = gone-from s next b (step s.spaces s.part s.limit s.work b) refl h
 
 ended-from : (s next : SumState) (b : ℕ) (f : SumEvent) (n : Outcome) → step s.spaces s.part s.limit s.work b ≡ n → over s n ≡ End f next → next ≡ with_work s finished
 ended-from s next b f (Go v) e h = go_or_end (with_work s v) f next h
@@ -39,12 +39,12 @@ ended-from s next b f Refuse e h = refuse_or_end f next h
 pub ended-last : (s next : SumState) (b : ℕ) (f : SumEvent) → sums.step s b ≡ End f next → next ≡ with_work s finished
 ended-last s next b f h = ended-from s next b f (step s.spaces s.part s.limit s.work b) refl h
 
-pub goes-midway : (s next : SumState) (b : ℕ) → sums.step s b ≡ Go next → sums.begun next ≡ true
-goes-midway s next b h =
-    let f : (v : Work) × (next ≡ with_work s v) × (step s.spaces s.part s.limit s.work b ≡ Go v) = goes s next b h in
+pub continues-midway : (s next : SumState) (b : ℕ) → sums.step s b ≡ Go next → sums.begun next ≡ true
+continues-midway s next b h =
+    let f : (v : Work) × (next ≡ with_work s v) × (step s.spaces s.part s.limit s.work b ≡ Go v) = continues s next b h in
     ap (λ x. is_midway x.work.phase) f.1 ∙ (gone s.part s.limit s.spaces s.work f.0 (letter_at (is_numeric s.work.phase) b) f.2).1
 
-done-stops : (want : Part) (limit : ℕ) (ph : Phase) (k : Kind) → is_done ph ≡ true → plan want limit ph k ≡ Stop
+done-stops : (want : Part) (limit : ℕ) (ph : Phase) (k : Kind) → is_done ph ≡ true → transition want limit ph k ≡ Stop
 done-stops want limit phase.TheVariants.Start k h = cc
 done-stops want limit (phase.TheVariants.Signed role negative) k h = cc
 done-stops want limit (phase.TheVariants.Digits role negative n) k h = cc
@@ -95,16 +95,16 @@ ended_state s = with_work s finished
 of_one : IsOfOne sums (λ s. Unit {0}) ended_state
 of_one = record {
   keeps = λ s next b g h. tt;
-  begins = goes-midway;
+  begins = continues-midway;
   owes = λ s i. midway-not-done s.work.phase i;
-  leads = λ s next b h. ap ended_state (goes s next b h).1;
+  leads = λ s next b h. ap ended_state (continues s next b h).1;
   ends = ended-last;
   done = λ s. refl;
   stops = stopped;
   goes_on = λ s g h. reads_something s.spaces s.part s.limit s.work h;
   plain = λ s i. numbers-midway s.work.phase i;
   grows = λ s next b e.
-      let f : (v : Work) × (next ≡ with_work s v) × (step s.spaces s.part s.limit s.work b ≡ Go v) = goes s next b e in
+      let f : (v : Work) × (next ≡ with_work s v) × (step s.spaces s.part s.limit s.work b ≡ Go v) = continues s next b e in
       subst (λ x. potential x.work ≤ potential s.work + 1) (sym f.1)
       (letter-grows s.spaces s.part s.limit s.work f.0 (kind s.spaces (letter_at (is_numeric s.work.phase) b)) f.2);
   bounds = λ s. kept-within (all_units s.work) (ready s.work.phase);
@@ -132,41 +132,41 @@ module _ (spaces : Spaces) (part : Part) (limit : ℕ) where
   abbrev end : SumState
   end = last spaces part limit
 
-  no-gap : (s at : SumState) (gap : List ℕ) → Skips sums s gap at → (gap ≡ []) × (at ≡ s)
+  no-gap : (s at : SumState) (gap : List ℕ) → SkipsGap sums s gap at → (gap ≡ []) × (at ≡ s)
   no-gap s at [] h = (refl, h)
-  no-gap s at (b ∷ gap) (mid, e, f, h) = never (sums.begun mid) (goes-midway s mid b e) f
+  no-gap s at (b ∷ gap) (mid, e, f, h) = never (sums.begun mid) (continues-midway s mid b e) f
 
-  pub nothing-after : (s : SumState) (text : List Letter) (e : SumEvent) (after : SumState) → sums.done s ≡ true → Reads sums s text e after → ⊥
+  pub nothing-after : (s : SumState) (text : List Letter) (e : SumEvent) (after : SumState) → sums.done s ≡ true → ReadsStatement sums s text e after → ⊥
   nothing-after s [] e after d h = h
   nothing-after s (l ∷ []) e after d h = refuse_or_end e after (sym (stopped s d l.byte) ∙ h.0)
   nothing-after s (l ∷ k ∷ text) e after d (mid, h, b, m, r) = refuse_or_go mid (sym (stopped s d l.byte) ∙ h)
 
-  one_only : (items : List (Item SumEvent)) → Accepts sums begin items → IsOneText spaces limit part items
+  one_only : (items : List (Item SumEvent)) → AcceptsItems sums begin items → IsOneText spaces limit part items
   one_only [] h = absurd (not_yet h)
     where
       not_yet : false ≡ true → ⊥
       not_yet e = cc
   one_only (i ∷ []) (at, after, g, r, d) =
       let f : (i.gap ≡ []) × (at ≡ begin) = no-gap begin at i.gap g in
-      (f.0, ((reads_grammar spaces part limit i.text i.event after).0 (subst (λ x. Reads sums x i.text i.event after) f.1 r)).0)
+      (f.0, ((reads_grammar spaces part limit i.text i.event after).0 (subst (λ x. ReadsStatement sums x i.text i.event after) f.1 r)).0)
   one_only (i ∷ j ∷ rest) (at, after, g, r, (at2, after2, g2, r2, h)) =
       let f : (i.gap ≡ []) × (at ≡ begin) = no-gap begin at i.gap g in
-      let e : after ≡ end = ((reads_grammar spaces part limit i.text i.event after).0 (subst (λ x. Reads sums x i.text i.event after) f.1 r)).1 in
+      let e : after ≡ end = ((reads_grammar spaces part limit i.text i.event after).0 (subst (λ x. ReadsStatement sums x i.text i.event after) f.1 r)).1 in
       let k : (j.gap ≡ []) × (at2 ≡ after) = no-gap after at2 j.gap g2 in
-      absurd (nothing-after end j.text j.event after2 refl (subst (λ x. Reads sums x j.text j.event after2) (k.1 ∙ e) r2))
+      absurd (nothing-after end j.text j.event after2 refl (subst (λ x. ReadsStatement sums x j.text j.event after2) (k.1 ∙ e) r2))
 
-  one_each : (items : List (Item SumEvent)) → IsOneText spaces limit part items → Accepts sums begin items
+  one_each : (items : List (Item SumEvent)) → IsOneText spaces limit part items → AcceptsItems sums begin items
   one_each [] h = absurd h
   one_each (i ∷ []) h = (
     begin,
     end,
-    subst (λ g. Skips sums begin g begin) (sym h.0) refl,
+    subst (λ g. SkipsGap sums begin g begin) (sym h.0) refl,
     (reads_grammar spaces part limit i.text i.event end).1 (h.1, refl),
     refl,
   )
   one_each (i ∷ j ∷ rest) h = absurd h
 
-  pub accepts_one : (items : List (Item SumEvent)) → Accepts sums begin items ↔ IsOneText spaces limit part items
+  pub accepts_one : (items : List (Item SumEvent)) → AcceptsItems sums begin items ↔ IsOneText spaces limit part items
   accepts_one items = (one_only items, one_each items)
 
   pub first_is_state : IsState sums begin

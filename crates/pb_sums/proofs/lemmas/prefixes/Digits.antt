@@ -7,7 +7,7 @@ use Rattle.pb_text.proofs.lemmas.numbers.DigitValues.{AreDigits, value-grows}
 use Rattle.pb_text.specs.contract.Automaton.{Go, Runs}
 use Rattle.pb_text.specs.meaning.Classes.{is_digit}
 use Rattle.pb_text.specs.contract.Digits.{value_from}
-use Rattle.pb_sums.specs.engine.Machine.{plan, digits, kind, letter_at, flushed, is_numeric}
+use Rattle.pb_sums.specs.engine.Machine.{transition, digits, kind, letter_at, flushed, is_numeric}
 use Rattle.pb_sums.specs.engine.Prefix.{IsSign, HasSign, begins_number, role, sign_read}
 use Rattle.pb_sums.specs.engine.State.{SumState, sums}
 use Rattle.pb_sums.specs.declared.linear.Relation.{Relation}
@@ -35,7 +35,7 @@ module _ (spaces : Spaces) (part : Part) (limit : ℕ) (xs : List Term) where
   pub record Begins (p : Phase) (r : Option Relation) (negative : Bool) (n : ℕ) : Type 0 where
     pub numeric : is_numeric p ≡ true
     pub same : flushed p xs [] ≡ xs
-    pub on_digit : (d : ℕ) → plan part limit p (Digit d) ≡ digits limit r negative n d
+    pub on_digit : (d : ℕ) → transition part limit p (Digit d) ≡ digits limit r negative n d
 
   digit-on : (p : Phase) (r : Option Relation) (negative : Bool) (n b : ℕ) → Begins p r negative n → IsTrue (is_digit b) → 10 * n + (b - 48) ≤ limit
       → sums.step (at p) b ≡ Go (at (phase.TheVariants.Digits r negative (10 * n + (b - 48))))
@@ -81,19 +81,19 @@ module _ (spaces : Spaces) (part : Part) (limit : ℕ) (xs : List Term) where
   begins (phase.TheVariants.Operator r) e = record { numeric = refl; same = refl; on_digit = λ d. refl }
   begins _ e = cc e
 
-  on-plus : (p : Phase) → begins_unread p ≡ true → plan part limit p Plus ≡ To (phase.TheVariants.Signed (role p) false)
+  on-plus : (p : Phase) → begins_unread p ≡ true → transition part limit p Plus ≡ To (phase.TheVariants.Signed (role p) false)
   on-plus phase.TheVariants.Start e = refl
   on-plus phase.TheVariants.Between e = refl
   on-plus (phase.TheVariants.Operator r) e = refl
   on-plus _ e = cc e
 
-  on-minus : (p : Phase) → begins_unread p ≡ true → plan part limit p Minus ≡ To (phase.TheVariants.Signed (role p) true)
+  on-minus : (p : Phase) → begins_unread p ≡ true → transition part limit p Minus ≡ To (phase.TheVariants.Signed (role p) true)
   on-minus phase.TheVariants.Start e = refl
   on-minus phase.TheVariants.Between e = refl
   on-minus (phase.TheVariants.Operator r) e = refl
   on-minus _ e = cc e
 
-  sign-on : (p : Phase) (negative : Bool) (b : ℕ) (k : Kind) → begins_unread p ≡ true → k ≡ kind spaces (letter_at true b) → plan part limit p k ≡ To (phase.TheVariants.Signed (role p) negative)
+  sign-on : (p : Phase) (negative : Bool) (b : ℕ) (k : Kind) → begins_unread p ≡ true → k ≡ kind spaces (letter_at true b) → transition part limit p k ≡ To (phase.TheVariants.Signed (role p) negative)
       → sums.step (at p) b ≡ Go (at (phase.TheVariants.Signed (role p) negative))
   sign-on p negative b k e f g =
       let s : Begins p (role p) false 0 = begins p e in

@@ -1,6 +1,6 @@
 -- Consecutive feeds are one feed of all that they were fed.
 use Rattle.std.proofs.Common.{◌≡◌, ◌+◌, ◌∙◌, ℕ, List, [], ◌∷◌, ◌++◌, length, Result, Ok, Err, refl, sym, ap, arith, subst, subst₂, append-nil, append_assoc}
-use Rattle.pb_text.specs.contract.Automaton.{Accepts}
+use Rattle.pb_text.specs.contract.Automaton.{AcceptsItems}
 use Rattle.pb_text.specs.meaning.Spelling.{bytes}
 use Rattle.pb_text.specs.meaning.Reading.{Reads}
 use Rattle.pb_text.specs.contract.Standing.{IsOpen, IsUnread}
@@ -37,7 +37,7 @@ module _ {M E : Type 0} {g : Ghosts M E} (longest : ℕ) (start : M) (after : Fe
   feeds_further ((piece, Err s) ∷ feeds) before h all = absurd (let bad = all.0 in cc bad)
 
   pub any_cutting : (feeds : List (List ℕ × Result (Fed E) Stop)) (before : Feeder M E g) → StandsAt longest start [] [] before → IsOpen before.stop → Feeds before feeds after
-      → (used : List ℕ) × Reads (Accepts g.automaton start) longest (input_fed feeds) used (spans_answered feeds) after.place (is_complete after) after.stop × (NoneStopped feeds → length used ≡ used_by feeds)
+      → (used : List ℕ) × Reads (AcceptsItems g.automaton start) longest (input_fed feeds) used (spans_answered feeds) after.place (is_complete after) after.stop × (NoneStopped feeds → length used ≡ used_by feeds)
   any_cutting feeds before s counts h =
       let k = feeds_stand feeds before [] [] s counts h in
       let none : bytes s.1.letters ≡ [] = nothing_fed (bytes s.1.letters) s.1.left (sym s.1.input_is) in (

@@ -4,7 +4,7 @@ use Rattle.std.proofs.lemmas.List.{append-nil}
 use Rattle.std.proofs.lemmas.Bool.{false≢true}
 use Rattle.pb_text.specs.meaning.Spelling.{Letter, bytes, place_after, place_next, place_or}
 use Rattle.pb_text.specs.meaning.Reading.{last_numeral, byte_limit, AreShort}
-use Rattle.pb_text.specs.contract.Automaton.{Automaton, Go, End, Refuse, Accepts, Admits, Leads, state_after, IsState, is_large, begins, begins_with}
+use Rattle.pb_text.specs.contract.Automaton.{Automaton, Go, End, Refuse, AcceptsItems, Admits, Leads, state_after, IsState, is_large, begins, begins_with}
 use Rattle.pb_text.specs.engine.SpentBytes.{end_of, SpentSince}
 use Rattle.pb_text.specs.contract.Standing.{EndBy, Follows, Stands, Waits, Halts, opened}
 use Rattle.pb_text.specs.declared.place.Place.{Place}
@@ -57,7 +57,7 @@ module _ {S E : Type 0} (m : Automaton S E) (longest : ℕ) (start old new : S) 
   longer = length-append s.letters (letter ∷ [])
 
   -- with one byte taken
-  moved : state_after m (m.step old b) ≡ Some new → (more : List (Spanned E)) (first' : Option Place) → Follows (Accepts m start) (Accepts m new) (s.letters ++ letter ∷ []) (spans ++ more) first' → IsState m new → is_some first' ≡ m.begun new
+  moved : state_after m (m.step old b) ≡ Some new → (more : List (Spanned E)) (first' : Option Place) → Follows (AcceptsItems m start) (AcceptsItems m new) (s.letters ++ letter ∷ []) (spans ++ more) first' → IsState m new → is_some first' ≡ m.begun new
       → (is_some first' ≡ true → m.done new ≡ false) → length s.letters + 1 ≤ end_of longest first' → AreShort longest (length s.letters + 1) more → SpentSince (length s.letters + 1) first' (m.spent new)
       → Stands m longest start (input ++ b ∷ []) (spans ++ more) new (place_next place b) first' None
   moved taken more first' follows state begins owed within short spent =
@@ -83,18 +83,18 @@ module _ {S E : Type 0} (m : Automaton S E) (longest : ℕ) (start old new : S) 
         waits = inr refl;
       }
 
-  module _ (goes : m.step old b ≡ Go new) (state : IsState m new) (lt : place.offset < end_of longest first) where
+  module _ (continues : m.step old b ≡ Go new) (state : IsState m new) (lt : place.offset < end_of longest first) where
     taken : state_after m (m.step old b) ≡ Some new
-    taken = ap (state_after m) goes
+    taken = ap (state_after m) continues
 
     owes : m.done new ≡ false
-    owes = s.is_state.owes b new goes
+    owes = s.is_state.owes b new continues
 
     spends : m.spent new ≤ m.spent old + 1
-    spends = s.is_state.grows b new goes
+    spends = s.is_state.grows b new continues
 
     begins_is : begins m old b ≡ begins_with m (m.begun old) (Go new)
-    begins_is = ap (begins_with m (m.begun old)) goes
+    begins_is = ap (begins_with m (m.begun old)) continues
 
     after : Option Place → Bool → Option Place
     after q starts = opened q starts (place_after (bytes s.letters))
@@ -102,12 +102,12 @@ module _ {S E : Type 0} (m : Automaton S E) (longest : ℕ) (start old new : S) 
     from_started : (p : Place) → Some p ≡ first → (starts : Bool) → Stands m longest start (input ++ b ∷ []) (spans ++ []) new (place_next place b) (opened (Some p) starts place) None
     from_started p same starts =
         let begun : m.begun old ≡ true = sym s.begun_is ∙ ap is_some (sym same) in
-        let inside : m.begun new ≡ true = s.is_state.stays begun b new goes in
-        let follows : Follows (Accepts m start) (Accepts m old) s.letters spans (Some p) = subst (λ (q : Option Place). Follows (Accepts m start) (Accepts m old) s.letters spans q) (sym same) s.follows in
+        let inside : m.begun new ≡ true = s.is_state.stays begun b new continues in
+        let follows : Follows (AcceptsItems m start) (AcceptsItems m old) s.letters spans (Some p) = subst (λ (q : Option Place). Follows (AcceptsItems m start) (AcceptsItems m old) s.letters spans q) (sym same) s.follows in
         let spent : SpentSince (length s.letters) (Some p) (m.spent old) = subst (λ (q : Option Place). SpentSince (length s.letters) q (m.spent old)) (sym same) s.spent in
         let less : place.offset < end_of longest (Some p) = subst (λ (q : Option Place). place.offset < end_of longest q) (sym same) lt in
         moved taken [] (Some p)
-        (step (Accepts m start) (Accepts m old) (Accepts m new) (Put true letter) s.letters spans (Some p) letter [] (Some p) follows (takes_within m old new b goes inside owes state) (letter_advances letter (bytes s.letters) (Some p)) (residual m old s.is_state) (residual m new state) tt)
+        (step (AcceptsItems m start) (AcceptsItems m old) (AcceptsItems m new) (Put true letter) s.letters spans (Some p) letter [] (Some p) follows (takes_within m old new b continues inside owes state) (letter_advances letter (bytes s.letters) (Some p)) (residual m old s.is_state) (residual m new state) tt)
         state (sym inside) (λ e. owes) (omega (arith, less, offset_is)) tt (omega (arith, spent, spends))
 
     spent_nothing : m.begun old ≡ false → m.spent old ≡ 0
@@ -115,18 +115,18 @@ module _ {S E : Type 0} (m : Automaton S E) (longest : ℕ) (start old new : S) 
 
     from_begun : None ≡ first → m.begun old ≡ false → m.begun new ≡ true → Stands m longest start (input ++ b ∷ []) (spans ++ []) new (place_next place b) (Some place) None
     from_begun same out inside =
-        let follows : Follows (Accepts m start) (Accepts m old) s.letters spans None = subst (λ (q : Option Place). Follows (Accepts m start) (Accepts m old) s.letters spans q) (sym same) s.follows in
+        let follows : Follows (AcceptsItems m start) (AcceptsItems m old) s.letters spans None = subst (λ (q : Option Place). Follows (AcceptsItems m start) (AcceptsItems m old) s.letters spans q) (sym same) s.follows in
         let less : place.offset < byte_limit = subst (λ (q : Option Place). place.offset < end_of longest q) (sym same) lt in
-        let k = step (Accepts m start) (Accepts m old) (Accepts m new) (Put true letter) s.letters spans None letter [] (Some (place_after (bytes s.letters))) follows (takes_within m old new b goes inside owes state) (letter_advances letter (bytes s.letters) None) (residual m old s.is_state) (residual m new state) tt in
-        moved taken [] (Some place) (subst (λ (p : Place). Follows (Accepts m start) (Accepts m new) (s.letters ++ letter ∷ []) (spans ++ []) (Some p)) (sym s.place_is) k)
+        let k = step (AcceptsItems m start) (AcceptsItems m old) (AcceptsItems m new) (Put true letter) s.letters spans None letter [] (Some (place_after (bytes s.letters))) follows (takes_within m old new b continues inside owes state) (letter_advances letter (bytes s.letters) None) (residual m old s.is_state) (residual m new state) tt in
+        moved taken [] (Some place) (subst (λ (p : Place). Follows (AcceptsItems m start) (AcceptsItems m new) (s.letters ++ letter ∷ []) (spans ++ []) (Some p)) (sym s.place_is) k)
         state (sym inside) (λ e. owes) (omega (arith, less, offset_is, s.some)) tt (omega (arith, offset_is, spends, spent_nothing out))
 
     from_between : None ≡ first → m.begun old ≡ false → m.begun new ≡ false → Stands m longest start (input ++ b ∷ []) (spans ++ []) new (place_next place b) None None
     from_between same before out =
-        let follows : Follows (Accepts m start) (Accepts m old) s.letters spans None = subst (λ (q : Option Place). Follows (Accepts m start) (Accepts m old) s.letters spans q) (sym same) s.follows in
+        let follows : Follows (AcceptsItems m start) (AcceptsItems m old) s.letters spans None = subst (λ (q : Option Place). Follows (AcceptsItems m start) (AcceptsItems m old) s.letters spans q) (sym same) s.follows in
         let less : place.offset < byte_limit = subst (λ (q : Option Place). place.offset < end_of longest q) (sym same) lt in
         moved taken [] None
-        (step (Accepts m start) (Accepts m old) (Accepts m new) (Put false letter) s.letters spans None letter [] None follows (takes_between m old new b goes out owes state) (gap_advances letter (bytes s.letters) None) (residual m old s.is_state) (residual m new state) tt)
+        (step (AcceptsItems m start) (AcceptsItems m old) (AcceptsItems m new) (Put false letter) s.letters spans None letter [] None follows (takes_between m old new b continues out owes state) (gap_advances letter (bytes s.letters) None) (residual m old s.is_state) (residual m new state) tt)
         state (sym out) (λ e. absurd (false≢true e)) (omega (arith, less, offset_is)) tt (state.empties out)
 
     from_nothing : None ≡ first → m.begun old ≡ false → (here : Bool) → m.begun new ≡ here → Stands m longest start (input ++ b ∷ []) (spans ++ []) new (place_next place b) (opened None here place) None
@@ -154,15 +154,15 @@ module _ {S E : Type 0} (m : Automaton S E) (longest : ℕ) (start old new : S) 
       → Stands m longest start (input ++ b ∷ []) (spans ++ record { event = e; first = place_or first place; past = place_next place b } ∷ []) new (place_next place b) None None
   stands_event e ends state lt =
       let here : List ℕ = bytes s.letters in
-      let out : m.begun new ≡ false = s.is_state.closes b e new ends in
+      let out : m.begun new ≡ false = s.is_state.finishes b e new ends in
       let q : Spanned E = record { event = e; first = place_or first (place_after here); past = place_after (here ++ b ∷ []) } in
       let n : Spanned E = record { event = e; first = place_or first place; past = place_next place b } in
       let same : q ≡ n = ap₂ (λ (x y : Place). let r : Spanned E = record { event = e; first = place_or first x; past = y } in r) (sym s.place_is) (sym next_place) in
       let past_offset : (place_next place b).offset ≡ length s.letters + 1 = ap (λ (x : Place). x.offset) next_place ∙ omega (arith, place_after-offset (here ++ b ∷ []), length-append here (b ∷ []), length-bytes s.letters) in
       let ended : EndBy (length (s.letters ++ letter ∷ [])) (q ∷ []) =
       (omega (arith, place_after-offset (here ++ b ∷ []), length-append here (b ∷ []), length-bytes s.letters, longer), tt) in
-      let k = step (Accepts m start) (Accepts m old) (Accepts m new) (PutLast letter e) s.letters spans first letter (q ∷ []) None s.follows (takes_last m old new b e ends out state) (last_advances letter e here first) (residual m old s.is_state) (residual m new state) ended in
-      moved (ap (state_after m) ends) (n ∷ []) None (subst (λ (r : Spanned E). Follows (Accepts m start) (Accepts m new) (s.letters ++ letter ∷ []) (spans ++ r ∷ []) None) same k)
+      let k = step (AcceptsItems m start) (AcceptsItems m old) (AcceptsItems m new) (PutLast letter e) s.letters spans first letter (q ∷ []) None s.follows (takes_last m old new b e ends out state) (last_advances letter e here first) (residual m old s.is_state) (residual m new state) ended in
+      moved (ap (state_after m) ends) (n ∷ []) None (subst (λ (r : Spanned E). Follows (AcceptsItems m start) (AcceptsItems m new) (s.letters ++ letter ∷ []) (spans ++ r ∷ []) None) same k)
       state (sym out) (λ h. absurd (false≢true h)) (omega (arith, end_limit longest first, lt, offset_is)) (span_fits first e (place_next place b) past_offset lt) (state.empties out)
 
   -- a stop at the byte, with the machine unchanged
@@ -173,7 +173,7 @@ module _ {S E : Type 0} (m : Automaton S E) (longest : ℕ) (start old new : S) 
         letters = s.letters;
         left = b ∷ [];
         input_is = ap (λ (x : List ℕ). x ++ b ∷ []) input_taken;
-        follows = subst (λ (x : List (Spanned E)). Follows (Accepts m start) (Accepts m old) s.letters x first) (sym (append-nil spans)) s.follows;
+        follows = subst (λ (x : List (Spanned E)). Follows (AcceptsItems m start) (AcceptsItems m old) s.letters x first) (sym (append-nil spans)) s.follows;
         leads = s.leads;
         is_state = s.is_state;
         place_is = s.place_is;

@@ -9,8 +9,8 @@ use Rattle.std.proofs.Common.{None, []}
 module _ {S E : Type 0} (m : Automaton S E) where
   -- a byte of a statement
   pub admits_within : (old new : S) (b : ℕ) → m.step old b ≡ Go new → m.begun new ≡ true → m.done new ≡ false → IsState m new → Admits m old b
-  admits_within old new b goes inside owed state =
+  admits_within old new b continues inside owed state =
       let l : Letter = record { byte = b; numeral = m.in_number new } in
-      let k = (takes_within m old new b goes inside owed state).into state.live.0 state.live.1 in
+      let k = (takes_within m old new b continues inside owed state).into state.live.0 state.live.1 in
       let e : letters_of k.0 ≡ l ∷ letters_of state.live.0 = (letter_advances l [] None).letters_are state.live.0 k.0 k.1 in
       (k.0, k.2, bytes (letters_of state.live.0), ap bytes e)

@@ -2,8 +2,8 @@
 -- other crates.
 use Rattle.std.proofs.Common.{◌≡◌, ℕ, List, [], ◌∷◌, ◌++◌, true, false, IsTrue, Some, refl, sym, ap, ap₂, ◌∙◌, subst, append_assoc, append-nil, ◌⊎◌, inl, inr}
 use Rattle.std.proofs.lemmas.Bool.{false≢true}
-use Rattle.pb_text.specs.contract.Automaton.{Automaton, Next, Go, End, Skips, Reads, Accepts, state_after, Leads}
-use Rattle.pb_text.specs.meaning.Asking.{IsWithin}
+use Rattle.pb_text.specs.contract.Automaton.{Automaton, Next, Go, End, SkipsGap, ReadsStatement, AcceptsItems, state_after, Leads}
+use Rattle.pb_text.specs.meaning.Asking.{AsksWithin}
 use Rattle.pb_text.specs.meaning.Spelling.{Letter, Item, plain, bytes, letters_of, bytes_of}
 use Rattle.pb_text.proofs.lemmas.text.FirstBytes.{head, tail}
 use Rattle.pb_text.proofs.lemmas.text.Languages.{bytes-append, bytes-plain}
@@ -33,12 +33,12 @@ module _ {S E : Type 0} (m : Automaton S E) where
   module _ (Idle : S → Type 0) (Asks : E → List ℕ → ℕ → Type 0) where
     pub record IsAsked : Type 0 where
       pub gaps : (s next : S) (b : ℕ) → Idle s → m.step s b ≡ Go next → m.begun next ≡ false → Idle next × (m.asks s b ≡ false)
-      pub ends : (s next : S) (t : List Letter) (e : E) → Idle s → Reads m s t e next → Idle next
-      pub texts : (at s next : S) (prefix rest : List Letter) (l : Letter) (e : E) → Idle at → Walks m at prefix s → Reads m s (l ∷ rest) e next
+      pub ends : (s next : S) (t : List Letter) (e : E) → Idle s → ReadsStatement m s t e next → Idle next
+      pub texts : (at s next : S) (prefix rest : List Letter) (l : Letter) (e : E) → Idle at → Walks m at prefix s → ReadsStatement m s (l ∷ rest) e next
           → IsTrue (m.asks s l.byte) → Asks e (bytes prefix) l.byte
 
     module _ (known : IsAsked) (state : S) (b : ℕ) (more : List ℕ) (asks : IsTrue (m.asks state b)) where
-      in_gap : (gap : List ℕ) (s at : S) (after_it used : List ℕ) → Idle s → Skips m s gap at → Leads m s used state → gap ++ after_it ≡ used ++ b ∷ more
+      in_gap : (gap : List ℕ) (s at : S) (after_it used : List ℕ) → Idle s → SkipsGap m s gap at → Leads m s used state → gap ++ after_it ≡ used ++ b ∷ more
           → (left : List ℕ) × (used ≡ gap ++ left) × Leads m at left state × Idle at × (after_it ≡ left ++ b ∷ more)
       in_gap [] s at after_it used i k l e = (used, refl, subst (λ (x : S). Leads m x used state) (sym k) l, subst Idle (sym k) i, e)
       in_gap (c ∷ gap) s at after_it [] i (mid, g, o, k) l e =
@@ -57,7 +57,7 @@ module _ {S E : Type 0} (m : Automaton S E) where
           ((later : List ℕ) × (bytes t ≡ used ++ b ∷ later) × Asks e (before ++ used) b)
           ⊎ ((left : List ℕ) × (used ≡ bytes t ++ left) × Leads m after left state × (after_it ≡ left ++ b ∷ more))
 
-      here : (at cur after : S) (prefix rest : List Letter) (l : Letter) (e : E) → Idle at → Walks m at prefix cur → Reads m cur (l ∷ rest) e after → state ≡ cur → l.byte ≡ b
+      here : (at cur after : S) (prefix rest : List Letter) (l : Letter) (e : E) → Idle at → Walks m at prefix cur → ReadsStatement m cur (l ∷ rest) e after → state ≡ cur → l.byte ≡ b
           → Asks e (bytes prefix ++ []) b
       here at cur after prefix rest l e i w r same byte =
           let a : IsTrue (m.asks cur l.byte) = subst (λ (x : ℕ). m.asks cur x ≡ true) (sym byte) (subst (λ (x : S). m.asks x b ≡ true) same asks) in
@@ -71,7 +71,7 @@ module _ {S E : Type 0} (m : Automaton S E) where
           inl (later, put l.byte d (bytes t) (used ++ b ∷ later) (sym same) h, subst (λ (x : List ℕ). Asks e x b) prefix_is a)
       moved t prefix l d used e after after_it same (inr (left, h, k, j)) = inr (left, put d l.byte used (bytes t ++ left) same h, k, j)
 
-      in_text : (t prefix : List Letter) (at cur after : S) (e : E) (after_it used : List ℕ) → Idle at → Walks m at prefix cur → Reads m cur t e after → Leads m cur used state
+      in_text : (t prefix : List Letter) (at cur after : S) (e : E) (after_it used : List ℕ) → Idle at → Walks m at prefix cur → ReadsStatement m cur t e after → Leads m cur used state
           → bytes t ++ after_it ≡ used ++ b ∷ more → InText t (bytes prefix) used e after after_it
       in_text [] prefix at cur after e after_it used i w r l q = absurd r
       in_text (l ∷ []) prefix at cur after e after_it [] i w r lead q =
@@ -92,7 +92,7 @@ module _ {S E : Type 0} (m : Automaton S E) where
           (tail l.byte d (bytes (k ∷ t) ++ after_it) (used ++ b ∷ more) q))
 
       first_item : (i : Item E) (rest : List (Item E)) (used left : List ℕ) (after : S) → used ≡ i.gap ++ left → InText i.text [] left i.event after (bytes_of rest)
-          → ((after_it : List ℕ) → Leads m after after_it state → bytes_of rest ≡ after_it ++ b ∷ more → IsWithin Asks rest after_it b) → IsWithin Asks (i ∷ rest) used b
+          → ((after_it : List ℕ) → Leads m after after_it state → bytes_of rest ≡ after_it ++ b ∷ more → AsksWithin Asks rest after_it b) → AsksWithin Asks (i ∷ rest) used b
       first_item i rest used left after e (inl (later, h, a)) further =
           record { done = []; item = i; rest = rest; text = left; more = later; items_are = refl; used_are = e; text_is = h; asks = a }
       first_item i rest used left after e (inr (after_it, h, k, j)) further =
@@ -112,7 +112,7 @@ module _ {S E : Type 0} (m : Automaton S E) where
             asks = w.asks;
           }
 
-      asked : (items : List (Item E)) (s : S) (used : List ℕ) → Idle s → Accepts m s items → Leads m s used state → bytes_of items ≡ used ++ b ∷ more → IsWithin Asks items used b
+      asked : (items : List (Item E)) (s : S) (used : List ℕ) → Idle s → AcceptsItems m s items → Leads m s used state → bytes_of items ≡ used ++ b ∷ more → AsksWithin Asks items used b
       asked [] s used i a l e = no_byte used more b e
       asked (j ∷ rest) s used i (at, after, k, r, a) l e =
           let g = in_gap j.gap s at (bytes j.text ++ bytes_of rest) used i k l (sym (item_bytes j rest) ∙ e) in
@@ -121,5 +121,5 @@ module _ {S E : Type 0} (m : Automaton S E) where
 
     -- after these bytes of what a state accepts
     pub asks_within : IsAsked → (start : S) (used : List ℕ) (b : ℕ) → Idle start → (state : S) → Leads m start used state → IsTrue (m.asks state b)
-        → (items : List (Item E)) (more : List ℕ) → Accepts m start items → bytes_of items ≡ used ++ b ∷ more → IsWithin Asks items used b
+        → (items : List (Item E)) (more : List ℕ) → AcceptsItems m start items → bytes_of items ≡ used ++ b ∷ more → AsksWithin Asks items used b
     asks_within known start used b i state l a items more h e = asked known state b more a items start used i h l e

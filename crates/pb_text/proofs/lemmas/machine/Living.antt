@@ -1,6 +1,6 @@
 -- States from which a text can be completed. Offered to other crates.
 use Rattle.std.proofs.Common.{◌≡◌, ℕ, true, false, List, [], ◌∷◌, refl, sym, ap, subst, ◌∙◌}
-use Rattle.pb_text.specs.contract.Automaton.{Automaton, Go, End, Skips, Reads, Accepts, Admits, IsState}
+use Rattle.pb_text.specs.contract.Automaton.{Automaton, Go, End, SkipsGap, ReadsStatement, AcceptsItems, Admits, IsState}
 use Rattle.pb_text.specs.meaning.Spelling.{Letter, Item, bytes_of}
 use Rattle.pb_text.proofs.lemmas.machine.Residual.{First, Nothing, InGap, InText, AtLast, first_of}
 use Rattle.pb_text.proofs.lemmas.machine.Walking.{longer}
@@ -10,35 +10,35 @@ use Rattle.pb_text.proofs.lemmas.machine.Outcomes.{one_state, go_or_end}
 
 module _ {S E : Type 0} (m : Automaton S E) where
   abbrev pub ReadsOn : S → Type 0
-  ReadsOn s = (text : List Letter) × (e : E) × (after : S) × Reads m s text e after
+  ReadsOn s = (text : List Letter) × (e : E) × (after : S) × ReadsStatement m s text e after
 
   -- one byte earlier
   pub reads_before : (s next : S) (b : ℕ) → m.step s b ≡ Go next → m.begun next ≡ true → ReadsOn next → ReadsOn s
-  reads_before s next b goes inside (text, e, after, r) =
+  reads_before s next b continues inside (text, e, after, r) =
       let l : Letter = record { byte = b; numeral = m.in_number next } in
-      (l ∷ text, e, after, longer m l text s next after e goes inside refl r)
+      (l ∷ text, e, after, longer m l text s next after e continues inside refl r)
 
   -- A state from which a statement can be completed, and then the text.
   pub record IsAlive (s : S) : Type 0 where
     pub text : List Letter
     pub event : E
     pub after : S
-    pub reads : Reads m s text event after
+    pub reads : ReadsStatement m s text event after
     pub rest : List (Item E)
-    pub accepts : Accepts m after rest
+    pub accepts : AcceptsItems m after rest
 
   -- one byte earlier, and a byte that ends a statement
   pub before : (s next : S) (b : ℕ) → m.step s b ≡ Go next → m.begun next ≡ true → IsAlive next → IsAlive s
-  before s next b goes inside h = record {
+  before s next b continues inside h = record {
     text = record { byte = b; numeral = m.in_number next } ∷ h.text;
     event = h.event;
     after = h.after;
-    reads = longer m (record { byte = b; numeral = m.in_number next }) h.text s next h.after h.event goes inside refl h.reads;
+    reads = longer m (record { byte = b; numeral = m.in_number next }) h.text s next h.after h.event continues inside refl h.reads;
     rest = h.rest;
     accepts = h.accepts;
   }
 
-  pub final : (s next : S) (b : ℕ) (e : E) → m.step s b ≡ End e next → (rest : List (Item E)) → Accepts m next rest → IsAlive s
+  pub final : (s next : S) (b : ℕ) (e : E) → m.step s b ≡ End e next → (rest : List (Item E)) → AcceptsItems m next rest → IsAlive s
   final s next b e ends rest accepts = record {
     text = record { byte = b; numeral = false } ∷ [];
     event = e;
@@ -49,19 +49,19 @@ module _ {S E : Type 0} (m : Automaton S E) where
   }
 
   -- what such a state accepts
-  pub accepted : (s : S) → IsAlive s → (items : List (Item E)) × Accepts m s items
+  pub accepted : (s : S) → IsAlive s → (items : List (Item E)) × AcceptsItems m s items
   accepted s h = (record { gap = []; text = h.text; event = h.event } ∷ h.rest, (s, h.after, refl, h.reads, h.accepts))
 
   -- a byte that leads to an alive state is admitted, and so is one that ends a statement
   pub admits_before : (s next : S) (b : ℕ) → m.step s b ≡ Go next → m.begun next ≡ true → IsAlive next → Admits m s b
-  admits_before s next b goes inside h = (
+  admits_before s next b continues inside h = (
     record { gap = []; text = record { byte = b; numeral = m.in_number next } ∷ h.text; event = h.event } ∷ h.rest,
-    (s, h.after, refl, longer m (record { byte = b; numeral = m.in_number next }) h.text s next h.after h.event goes inside refl h.reads, h.accepts),
+    (s, h.after, refl, longer m (record { byte = b; numeral = m.in_number next }) h.text s next h.after h.event continues inside refl h.reads, h.accepts),
     _,
     refl,
   )
 
-  pub admits_final : (s next : S) (b : ℕ) (e : E) → m.step s b ≡ End e next → (rest : List (Item E)) → Accepts m next rest → Admits m s b
+  pub admits_final : (s next : S) (b : ℕ) (e : E) → m.step s b ≡ End e next → (rest : List (Item E)) → AcceptsItems m next rest → Admits m s b
   admits_final s next b e ends rest accepts =
       (record { gap = []; text = record { byte = b; numeral = false } ∷ []; event = e } ∷ rest, (s, next, refl, (ends, refl), accepts), _, refl)
 
@@ -69,7 +69,7 @@ module _ {S E : Type 0} (m : Automaton S E) where
   abbrev pub BeginsAtOnce : Type 0
   BeginsAtOnce = (s next : S) (b : ℕ) → m.step s b ≡ Go next → m.begun next ≡ true
 
-  gapless : BeginsAtOnce → (s at : S) (gap : List ℕ) → Skips m s gap at → at ≡ s
+  gapless : BeginsAtOnce → (s at : S) (gap : List ℕ) → SkipsGap m s gap at → at ≡ s
   gapless begins s at [] h = h
   gapless begins s at (b ∷ gap) (mid, g, o, h) = never (m.begun mid) (begins s mid b g) o
 
@@ -77,10 +77,10 @@ module _ {S E : Type 0} (m : Automaton S E) where
   pub reads_on : BeginsAtOnce → (s : S) → IsState m s → m.done s ≡ false → ReadsOn s
   reads_on begins s state d = by_items state.live.0 state.live.1
     where
-      by_items : (items : List (Item E)) → Accepts m s items → ReadsOn s
+      by_items : (items : List (Item E)) → AcceptsItems m s items → ReadsOn s
       by_items [] h = never (m.done s) h d
       by_items (i ∷ rest) (at, after, g, r, a) =
-          (i.text, i.event, after, subst (λ x. Reads m x i.text i.event after) (gapless begins s at i.gap g) r)
+          (i.text, i.event, after, subst (λ x. ReadsStatement m x i.text i.event after) (gapless begins s at i.gap g) r)
 
   -- What is admitted can be continued to an event.
   pub admitted_on : BeginsAtOnce → (s next : S) (b : ℕ) → m.step s b ≡ Go next → Admits m s b → ReadsOn next
@@ -92,7 +92,7 @@ module _ {S E : Type 0} (m : Automaton S E) where
       by_first _ (InText l k text x rest mid h i n (at, after, f, r, z)) e =
           let byte : l.byte ≡ b = head l.byte b _ more e in
           let same : mid ≡ next = one_state mid next (sym h ∙ (ap (m.step s) byte ∙ g)) in
-          (k ∷ text, x, after, subst (λ y. Reads m y (k ∷ text) x after) (f ∙ same) r)
+          (k ∷ text, x, after, subst (λ y. ReadsStatement m y (k ∷ text) x after) (f ∙ same) r)
       by_first _ (AtLast l x rest last h n k) e =
           let byte : l.byte ≡ b = head l.byte b _ more e in
           go_or_end next x last (sym g ∙ (ap (m.step s) (sym byte) ∙ h))

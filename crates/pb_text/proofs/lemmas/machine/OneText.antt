@@ -1,7 +1,7 @@
 -- Machines of one text, which begin with its first byte and end with its last one: what holds of their states. Offered to
 -- other crates.
 use Rattle.std.proofs.Common.{◌≡◌, ℕ, ◌+◌, ◌≤◌, Bool, true, false, List, [], ◌∷◌, refl, ap, ◌∙◌}
-use Rattle.pb_text.specs.contract.Automaton.{Automaton, Next, Go, End, Refuse, Reads, Accepts, Admits, IsState}
+use Rattle.pb_text.specs.contract.Automaton.{Automaton, Next, Go, End, Refuse, ReadsStatement, AcceptsItems, Admits, IsState}
 use Rattle.pb_text.specs.meaning.Spelling.{Letter, Item}
 use Rattle.pb_text.proofs.lemmas.text.Booleans.{never}
 use Rattle.pb_text.proofs.lemmas.machine.Living.{ReadsOn, IsAlive, accepted, admits_before, admits_final}
@@ -23,12 +23,12 @@ module _ {S E : Type 0} (m : Automaton S E) (Good : S → Type 0) (last : S → 
 
   module _ (h : IsOfOne) where
     -- After the text, the machine has ended.
-    pub reads_last : (text : List Letter) (s : S) (e : E) (after : S) → Reads m s text e after → after ≡ last s
+    pub reads_last : (text : List Letter) (s : S) (e : E) (after : S) → ReadsStatement m s text e after → after ≡ last s
     reads_last [] s e after r = absurd r
     reads_last (l ∷ []) s e after (i, n) = h.ends s after l.byte e i
     reads_last (l ∷ k ∷ text) s e after (mid, i, g, n, r) = reads_last (k ∷ text) mid e after r ∙ h.leads s mid l.byte i
 
-    reads_done : (s : S) (text : List Letter) (e : E) (after : S) → Reads m s text e after → m.done after ≡ true
+    reads_done : (s : S) (text : List Letter) (e : E) (after : S) → ReadsStatement m s text e after → m.done after ≡ true
     reads_done s text e after r = ap m.done (reads_last text s e after r) ∙ h.done s
 
     alive : (s : S) → Good s → m.done s ≡ false → IsAlive m s
@@ -36,7 +36,7 @@ module _ {S E : Type 0} (m : Automaton S E) (Good : S → Type 0) (last : S → 
         let (text, e, after, r) = h.goes_on s g d in
         record { text = text; event = e; after = after; reads = r; rest = []; accepts = reads_done s text e after r }
 
-    live : (s : S) (d : Bool) → m.done s ≡ d → Good s → (items : List (Item E)) × Accepts m s items
+    live : (s : S) (d : Bool) → m.done s ≡ d → Good s → (items : List (Item E)) × AcceptsItems m s items
     live s true d g = ([], d)
     live s false d g = accepted m s (alive s g d)
 
@@ -50,7 +50,7 @@ module _ {S E : Type 0} (m : Automaton S E) (Good : S → Type 0) (last : S → 
       ends = λ d b. h.stops s d b;
       owes = λ b next e. h.owes next (h.begins s next b e);
       stays = λ i b next e. h.begins s next b e;
-      closes = λ b e next i. let f : next ≡ last s = h.ends s next b e i in not_begun next (m.begun next) refl (ap m.done f ∙ h.done s);
+      finishes = λ b e next i. let f : next ≡ last s = h.ends s next b e i in not_begun next (m.begun next) refl (ap m.done f ∙ h.done s);
       plain = h.plain s;
       grows = λ b next e. h.grows s next b e;
       bounds = h.bounds s;

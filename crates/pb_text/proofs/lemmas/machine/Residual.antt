@@ -1,7 +1,7 @@
 -- A state accepts, after a byte, exactly what it accepted before with that byte prepended. Offered to other crates.
 use Rattle.std.proofs.Common.{◌≡◌, ◌≢◌, ℕ, List, [], ◌∷◌, Bool, true, false, IsTrue, refl, sym, ap, ap₂, ◌∙◌, subst}
 use Rattle.pb_text.specs.meaning.Spelling.{Letter, Item, bytes_of}
-use Rattle.pb_text.specs.contract.Automaton.{Automaton, Go, End, Refuse, Skips, Reads, Accepts, IsState}
+use Rattle.pb_text.specs.contract.Automaton.{Automaton, Go, End, Refuse, SkipsGap, ReadsStatement, AcceptsItems, IsState}
 use Rattle.pb_text.proofs.lemmas.text.FirstBytes.{head}
 use Rattle.pb_text.proofs.lemmas.machine.Outcomes.{one_state, one_end, go_or_end, go_or_refuse, end_or_refuse}
 use Rattle.pb_text.proofs.lemmas.text.Booleans.{never}
@@ -49,93 +49,93 @@ module _ {S E : Type 0} (m : Automaton S E) where
   -- statement or does not.
   pub data First (s : S) : List (Item E) → Type 0 where
     Nothing : IsTrue (m.done s) → First s []
-    InGap : (b : ℕ) (gap : List ℕ) (text : List Letter) (e : E) (rest : List (Item E)) (next : S) → m.step s b ≡ Go next → m.begun next ≡ false → Accepts m next (record { gap = gap; text = text; event = e } ∷ rest) → First s (record { gap = b ∷ gap; text = text; event = e } ∷ rest)
-    InText : (l k : Letter) (text : List Letter) (e : E) (rest : List (Item E)) (next : S) → m.step s l.byte ≡ Go next → m.begun next ≡ true → l.numeral ≡ m.in_number next → Accepts m next (record { gap = []; text = k ∷ text; event = e } ∷ rest) → First s (record { gap = []; text = l ∷ k ∷ text; event = e } ∷ rest)
-    AtLast : (l : Letter) (e : E) (rest : List (Item E)) (next : S) → m.step s l.byte ≡ End e next → l.numeral ≡ false → Accepts m next rest → First s (record { gap = []; text = l ∷ []; event = e } ∷ rest)
+    InGap : (b : ℕ) (gap : List ℕ) (text : List Letter) (e : E) (rest : List (Item E)) (next : S) → m.step s b ≡ Go next → m.begun next ≡ false → AcceptsItems m next (record { gap = gap; text = text; event = e } ∷ rest) → First s (record { gap = b ∷ gap; text = text; event = e } ∷ rest)
+    InText : (l k : Letter) (text : List Letter) (e : E) (rest : List (Item E)) (next : S) → m.step s l.byte ≡ Go next → m.begun next ≡ true → l.numeral ≡ m.in_number next → AcceptsItems m next (record { gap = []; text = k ∷ text; event = e } ∷ rest) → First s (record { gap = []; text = l ∷ k ∷ text; event = e } ∷ rest)
+    AtLast : (l : Letter) (e : E) (rest : List (Item E)) (next : S) → m.step s l.byte ≡ End e next → l.numeral ≡ false → AcceptsItems m next rest → First s (record { gap = []; text = l ∷ []; event = e } ∷ rest)
 
-  first_text : (s at after : S) (text : List Letter) (e : E) (rest : List (Item E)) → at ≡ s → Reads m at text e after → Accepts m after rest → First s (record { gap = []; text = text; event = e } ∷ rest)
+  first_text : (s at after : S) (text : List Letter) (e : E) (rest : List (Item E)) → at ≡ s → ReadsStatement m at text e after → AcceptsItems m after rest → First s (record { gap = []; text = text; event = e } ∷ rest)
   first_text s at after [] e rest same r a = absurd r
   first_text s at after (l ∷ []) e rest same r a =
       AtLast l e rest after (ap (λ (x : S). m.step x l.byte) (sym same) ∙ r.0) r.1 a
   first_text s at after (l ∷ k ∷ text) e rest same r a =
       InText l k text e rest r.0 (ap (λ (x : S). m.step x l.byte) (sym same) ∙ r.1) r.2 r.3 (r.0, after, refl, r.4, a)
 
-  first_gap : (s at after : S) (gap : List ℕ) (text : List Letter) (e : E) (rest : List (Item E)) → Skips m s gap at → Reads m at text e after → Accepts m after rest → First s (record { gap = gap; text = text; event = e } ∷ rest)
+  first_gap : (s at after : S) (gap : List ℕ) (text : List Letter) (e : E) (rest : List (Item E)) → SkipsGap m s gap at → ReadsStatement m at text e after → AcceptsItems m after rest → First s (record { gap = gap; text = text; event = e } ∷ rest)
   first_gap s at after [] text e rest same r a = first_text s at after text e rest same r a
   first_gap s at after (b ∷ gap) text e rest h r a = InGap b gap text e rest h.0 h.1 h.2 (at, after, h.3, r, a)
 
-  pub first_of : (s : S) (items : List (Item E)) → Accepts m s items → First s items
+  pub first_of : (s : S) (items : List (Item E)) → AcceptsItems m s items → First s items
   first_of s [] h = Nothing h
   first_of s (i ∷ rest) h = first_gap s h.0 h.1 i.gap i.text i.event rest h.2 h.3 h.4
 
   module _ (old new : S) (b : ℕ) where
     -- with the byte in the gap
-    into_gap : m.step old b ≡ Go new → m.begun new ≡ false → m.done new ≡ false → (later : List (Item E)) → Accepts m new later → (items : List (Item E)) × PutGap b later items × Accepts m old items
-    into_gap goes out owed [] h = never (m.done new) h owed
-    into_gap goes out owed (i ∷ rest) h = (record { gap = b ∷ i.gap; text = i.text; event = i.event } ∷ rest, refl, (h.0, h.1, (new, goes, out, h.2), h.3, h.4))
+    into_gap : m.step old b ≡ Go new → m.begun new ≡ false → m.done new ≡ false → (later : List (Item E)) → AcceptsItems m new later → (items : List (Item E)) × PutGap b later items × AcceptsItems m old items
+    into_gap continues out owed [] h = never (m.done new) h owed
+    into_gap continues out owed (i ∷ rest) h = (record { gap = b ∷ i.gap; text = i.text; event = i.event } ∷ rest, refl, (h.0, h.1, (new, continues, out, h.2), h.3, h.4))
 
     abbrev letter : Letter
     letter = record { byte = b; numeral = m.in_number new }
 
-    longer : m.step old b ≡ Go new → m.begun new ≡ true → (at after : S) (text : List Letter) (e : E) → at ≡ new → Reads m at text e after → Reads m old (letter ∷ text) e after
-    longer goes inside at after [] e same r = absurd r
-    longer goes inside at after (k ∷ text) e same r = (new, goes, inside, refl, subst (λ (x : S). Reads m x (k ∷ text) e after) same r)
+    longer : m.step old b ≡ Go new → m.begun new ≡ true → (at after : S) (text : List Letter) (e : E) → at ≡ new → ReadsStatement m at text e after → ReadsStatement m old (letter ∷ text) e after
+    longer continues inside at after [] e same r = absurd r
+    longer continues inside at after (k ∷ text) e same r = (new, continues, inside, refl, subst (λ (x : S). ReadsStatement m x (k ∷ text) e after) same r)
 
     -- with the letter in the text
-    into_text : IsState m new → m.step old b ≡ Go new → m.begun new ≡ true → m.done new ≡ false → (later : List (Item E)) → Accepts m new later → (items : List (Item E)) × PutLetter letter later items × Accepts m old items
-    into_text state goes inside owed [] h = never (m.done new) h owed
-    into_text state goes inside owed (i ∷ rest) h = by_gap i.gap refl h.2
+    into_text : IsState m new → m.step old b ≡ Go new → m.begun new ≡ true → m.done new ≡ false → (later : List (Item E)) → AcceptsItems m new later → (items : List (Item E)) × PutLetter letter later items × AcceptsItems m old items
+    into_text state continues inside owed [] h = never (m.done new) h owed
+    into_text state continues inside owed (i ∷ rest) h = by_gap i.gap refl h.2
       where
-        by_gap : (gap : List ℕ) → gap ≡ i.gap → Skips m new gap h.0 → (items : List (Item E)) × PutLetter letter (i ∷ rest) items × Accepts m old items
-        by_gap [] same skips = (record { gap = []; text = letter ∷ i.text; event = i.event } ∷ rest, (sym same, refl), (old, h.1, refl, longer goes inside h.0 h.1 i.text i.event skips h.3, h.4))
+        by_gap : (gap : List ℕ) → gap ≡ i.gap → SkipsGap m new gap h.0 → (items : List (Item E)) × PutLetter letter (i ∷ rest) items × AcceptsItems m old items
+        by_gap [] same skips = (record { gap = []; text = letter ∷ i.text; event = i.event } ∷ rest, (sym same, refl), (old, h.1, refl, longer continues inside h.0 h.1 i.text i.event skips h.3, h.4))
         by_gap (c ∷ gap) same skips = never (m.begun skips.0) (state.stays inside c skips.0 skips.1) skips.2
 
     -- a byte that is taken between two statements
-    onto_gap : m.step old b ≡ Go new → m.begun new ≡ false → m.in_number new ≡ false → (items : List (Item E)) → First old items → BeginsWith b items → (later : List (Item E)) × Put false letter later items × Accepts m new later
-    onto_gap goes out plain _ (Nothing d) (more, e) = cc
-    onto_gap goes out plain _ (InGap c gap text x rest next s g a) (more, e) =
+    onto_gap : m.step old b ≡ Go new → m.begun new ≡ false → m.in_number new ≡ false → (items : List (Item E)) → First old items → BeginsWith b items → (later : List (Item E)) × Put false letter later items × AcceptsItems m new later
+    onto_gap continues out plain _ (Nothing d) (more, e) = cc
+    onto_gap continues out plain _ (InGap c gap text x rest next s g a) (more, e) =
         let byte : c ≡ b = head c b _ more e in
-        let same : next ≡ new = one_state next new (sym s ∙ (ap (m.step old) byte ∙ goes)) in
-        (record { gap = gap; text = text; event = x } ∷ rest, (plain, ap (λ (y : ℕ). let i : Item E = record { gap = y ∷ gap; text = text; event = x } in i ∷ rest) byte), subst (λ (y : S). Accepts m y (record { gap = gap; text = text; event = x } ∷ rest)) same a)
-    onto_gap goes out plain _ (InText l k text x rest next s g n a) (more, e) =
+        let same : next ≡ new = one_state next new (sym s ∙ (ap (m.step old) byte ∙ continues)) in
+        (record { gap = gap; text = text; event = x } ∷ rest, (plain, ap (λ (y : ℕ). let i : Item E = record { gap = y ∷ gap; text = text; event = x } in i ∷ rest) byte), subst (λ (y : S). AcceptsItems m y (record { gap = gap; text = text; event = x } ∷ rest)) same a)
+    onto_gap continues out plain _ (InText l k text x rest next s g n a) (more, e) =
         let byte : l.byte ≡ b = head l.byte b _ more e in
-        let same : next ≡ new = one_state next new (sym s ∙ (ap (m.step old) byte ∙ goes)) in
+        let same : next ≡ new = one_state next new (sym s ∙ (ap (m.step old) byte ∙ continues)) in
         never (m.begun new) (ap m.begun (sym same) ∙ g) out
-    onto_gap goes out plain _ (AtLast l x rest next s n a) (more, e) =
+    onto_gap continues out plain _ (AtLast l x rest next s n a) (more, e) =
         let byte : l.byte ≡ b = head l.byte b _ more e in
-        go_or_end new x next (sym goes ∙ (ap (m.step old) (sym byte) ∙ s))
+        go_or_end new x next (sym continues ∙ (ap (m.step old) (sym byte) ∙ s))
 
     same_letter : (l : Letter) → l.byte ≡ b → l.numeral ≡ m.in_number new → l ≡ letter
     same_letter l p q = rw (sym p, sym q) refl
 
     -- a letter that is taken in a statement
-    onto_text : m.step old b ≡ Go new → m.begun new ≡ true → (items : List (Item E)) → First old items → BeginsWith b items → (later : List (Item E)) × PutLetter letter later items × Accepts m new later
-    onto_text goes inside _ (Nothing d) (more, e) = cc
-    onto_text goes inside _ (InGap c gap text x rest next s g a) (more, e) =
+    onto_text : m.step old b ≡ Go new → m.begun new ≡ true → (items : List (Item E)) → First old items → BeginsWith b items → (later : List (Item E)) × PutLetter letter later items × AcceptsItems m new later
+    onto_text continues inside _ (Nothing d) (more, e) = cc
+    onto_text continues inside _ (InGap c gap text x rest next s g a) (more, e) =
         let byte : c ≡ b = head c b _ more e in
-        let same : next ≡ new = one_state next new (sym s ∙ (ap (m.step old) byte ∙ goes)) in
+        let same : next ≡ new = one_state next new (sym s ∙ (ap (m.step old) byte ∙ continues)) in
         never (m.begun new) inside (ap m.begun (sym same) ∙ g)
-    onto_text goes inside _ (InText l k text x rest next s g n a) (more, e) =
+    onto_text continues inside _ (InText l k text x rest next s g n a) (more, e) =
         let byte : l.byte ≡ b = head l.byte b _ more e in
-        let same : next ≡ new = one_state next new (sym s ∙ (ap (m.step old) byte ∙ goes)) in
-        (record { gap = []; text = k ∷ text; event = x } ∷ rest, (refl, ap (λ (y : Letter). let i : Item E = record { gap = []; text = y ∷ k ∷ text; event = x } in i ∷ rest) (same_letter l byte (n ∙ ap m.in_number same))), subst (λ (y : S). Accepts m y (record { gap = []; text = k ∷ text; event = x } ∷ rest)) same a)
-    onto_text goes inside _ (AtLast l x rest next s n a) (more, e) =
+        let same : next ≡ new = one_state next new (sym s ∙ (ap (m.step old) byte ∙ continues)) in
+        (record { gap = []; text = k ∷ text; event = x } ∷ rest, (refl, ap (λ (y : Letter). let i : Item E = record { gap = []; text = y ∷ k ∷ text; event = x } in i ∷ rest) (same_letter l byte (n ∙ ap m.in_number same))), subst (λ (y : S). AcceptsItems m y (record { gap = []; text = k ∷ text; event = x } ∷ rest)) same a)
+    onto_text continues inside _ (AtLast l x rest next s n a) (more, e) =
         let byte : l.byte ≡ b = head l.byte b _ more e in
-        go_or_end new x next (sym goes ∙ (ap (m.step old) (sym byte) ∙ s))
+        go_or_end new x next (sym continues ∙ (ap (m.step old) (sym byte) ∙ s))
 
     -- a letter that ends its statement
-    onto_last : (d : E) → m.step old b ≡ End d new → m.in_number new ≡ false → (items : List (Item E)) → First old items → BeginsWith b items → (later : List (Item E)) × PutLast letter d later items × Accepts m new later
-    onto_last d goes plain _ (Nothing h) (more, e) = cc
-    onto_last d goes plain _ (InGap c gap text x rest next s g a) (more, e) =
+    onto_last : (d : E) → m.step old b ≡ End d new → m.in_number new ≡ false → (items : List (Item E)) → First old items → BeginsWith b items → (later : List (Item E)) × PutLast letter d later items × AcceptsItems m new later
+    onto_last d continues plain _ (Nothing h) (more, e) = cc
+    onto_last d continues plain _ (InGap c gap text x rest next s g a) (more, e) =
         let byte : c ≡ b = head c b _ more e in
-        go_or_end next d new (sym s ∙ (ap (m.step old) byte ∙ goes))
-    onto_last d goes plain _ (InText l k text x rest next s g n a) (more, e) =
+        go_or_end next d new (sym s ∙ (ap (m.step old) byte ∙ continues))
+    onto_last d continues plain _ (InText l k text x rest next s g n a) (more, e) =
         let byte : l.byte ≡ b = head l.byte b _ more e in
-        go_or_end next d new (sym s ∙ (ap (m.step old) byte ∙ goes))
-    onto_last d goes plain _ (AtLast l x rest next s n a) (more, e) =
+        go_or_end next d new (sym s ∙ (ap (m.step old) byte ∙ continues))
+    onto_last d continues plain _ (AtLast l x rest next s n a) (more, e) =
         let byte : l.byte ≡ b = head l.byte b _ more e in
-        let same = one_end x d next new (sym s ∙ (ap (m.step old) byte ∙ goes)) in
-        (rest, ap₂ (λ (y : Letter) (z : E). let i : Item E = record { gap = []; text = y ∷ []; event = z } in i ∷ rest) (same_letter l byte (n ∙ sym plain)) same.0, subst (λ (y : S). Accepts m y rest) same.1 a)
+        let same = one_end x d next new (sym s ∙ (ap (m.step old) byte ∙ continues)) in
+        (rest, ap₂ (λ (y : Letter) (z : E). let i : Item E = record { gap = []; text = y ∷ []; event = z } in i ∷ rest) (same_letter l byte (n ∙ sym plain)) same.0, subst (λ (y : S). AcceptsItems m y rest) same.1 a)
 
     refused_first : m.step old b ≡ Refuse → (items : List (Item E)) → First old items → BeginsWith b items → ⊥
     refused_first stops _ (Nothing h) (more, e) = cc
@@ -146,28 +146,28 @@ module _ {S E : Type 0} (m : Automaton S E) where
     refused_first stops _ (AtLast l x rest next s n a) (more, e) =
         let byte : l.byte ≡ b = head l.byte b _ more e in end_or_refuse x next (sym s ∙ (ap (m.step old) byte ∙ stops))
 
-    pub takes_between : m.step old b ≡ Go new → m.begun new ≡ false → m.done new ≡ false → IsState m new → Takes (Accepts m old) (Put false letter) b (Accepts m new)
-    takes_between goes out owed state = record {
-      into = λ later h. let k = into_gap goes out owed later h in (k.0, (state.plain out, k.1), k.2);
-      onto = λ items h begins. onto_gap goes out (state.plain out) items (first_of old items h) begins;
+    pub takes_between : m.step old b ≡ Go new → m.begun new ≡ false → m.done new ≡ false → IsState m new → Takes (AcceptsItems m old) (Put false letter) b (AcceptsItems m new)
+    takes_between continues out owed state = record {
+      into = λ later h. let k = into_gap continues out owed later h in (k.0, (state.plain out, k.1), k.2);
+      onto = λ items h begins. onto_gap continues out (state.plain out) items (first_of old items h) begins;
     }
 
-    pub takes_within : m.step old b ≡ Go new → m.begun new ≡ true → m.done new ≡ false → IsState m new → Takes (Accepts m old) (Put true letter) b (Accepts m new)
-    takes_within goes inside owed state = record {
-      into = λ later h. into_text state goes inside owed later h;
-      onto = λ items h begins. onto_text goes inside items (first_of old items h) begins;
+    pub takes_within : m.step old b ≡ Go new → m.begun new ≡ true → m.done new ≡ false → IsState m new → Takes (AcceptsItems m old) (Put true letter) b (AcceptsItems m new)
+    takes_within continues inside owed state = record {
+      into = λ later h. into_text state continues inside owed later h;
+      onto = λ items h begins. onto_text continues inside items (first_of old items h) begins;
     }
 
-    pub takes_last : (d : E) → m.step old b ≡ End d new → m.begun new ≡ false → IsState m new → Takes (Accepts m old) (PutLast letter d) b (Accepts m new)
-    takes_last d goes out state = record {
-      into = λ later h. (record { gap = []; text = letter ∷ []; event = d } ∷ later, refl, (old, new, refl, (goes, state.plain out), h));
-      onto = λ items h begins. onto_last d goes (state.plain out) items (first_of old items h) begins;
+    pub takes_last : (d : E) → m.step old b ≡ End d new → m.begun new ≡ false → IsState m new → Takes (AcceptsItems m old) (PutLast letter d) b (AcceptsItems m new)
+    takes_last d continues out state = record {
+      into = λ later h. (record { gap = []; text = letter ∷ []; event = d } ∷ later, refl, (old, new, refl, (continues, state.plain out), h));
+      onto = λ items h begins. onto_last d continues (state.plain out) items (first_of old items h) begins;
     }
 
-    pub refuses : m.step old b ≡ Refuse → Refuses (Accepts m old) b
+    pub refuses : m.step old b ≡ Refuse → Refuses (AcceptsItems m old) b
     refuses stops items h begins = refused_first stops items (first_of old items h) begins
 
-  pub has_text : (s at after : S) (text : List Letter) (e : E) → Reads m at text e after → text ≢ []
+  pub has_text : (s at after : S) (text : List Letter) (e : E) → ReadsStatement m at text e after → text ≢ []
   has_text s at after [] e r = absurd r
   has_text s at after (l ∷ text) e r = λ h. cc
 
@@ -177,7 +177,7 @@ module _ {S E : Type 0} (m : Automaton S E) where
   ends_first s state d _ (InText l k text x rest next g o n a) = go_or_refuse next (sym g ∙ state.ends d l.byte)
   ends_first s state d _ (AtLast l x rest next g n a) = end_or_refuse x next (sym g ∙ state.ends d l.byte)
 
-  pub residual : (s : S) → IsState m s → IsResidual (Accepts m s)
+  pub residual : (s : S) → IsState m s → IsResidual (AcceptsItems m s)
   residual s state = record {
     live = state.live;
     texts = λ i rest h. has_text s h.0 h.1 i.text i.event h.3;

@@ -14,13 +14,13 @@ use Rattle.pb_text.proofs.lemmas.feeder.Steps.{stands_go}
 module _ {S E : Type 0} (m : Automaton S E) where
   -- one more byte
   pub runs_more : (old : S) (text : List ℕ) (mid : S) (b : ℕ) (new : S) → Runs m old text mid → m.step mid b ≡ Go new → IsState m new → Runs m old (text ++ b ∷ []) new
-  runs_more old [] mid b new same goes state = (new, subst (λ (x : S). m.step x b ≡ Go new) same goes, state, refl)
-  runs_more old (c ∷ text) mid b new (next, first, is, rest) goes state = (next, first, is, runs_more next text mid b new rest goes state)
+  runs_more old [] mid b new same continues state = (new, subst (λ (x : S). m.step x b ≡ Go new) same continues, state, refl)
+  runs_more old (c ∷ text) mid b new (next, first, is, rest) continues state = (next, first, is, runs_more next text mid b new rest continues state)
 
   -- the same for the bytes of a piece
   pub runs_on : (old : S) (piece : List ℕ) (i : ℕ) (mid new : S) → i < length piece → Runs m old (take i piece) mid → m.step mid (get_or piece i 0) ≡ Go new → IsState m new → Runs m old (take (i + 1) piece) new
-  runs_on old piece i mid new h runs goes state =
-      subst (λ (x : List ℕ). Runs m old x new) (sym (take_more piece i 0 h)) (runs_more old (take i piece) mid (get_or piece i 0) new runs goes state)
+  runs_on old piece i mid new h runs continues state =
+      subst (λ (x : List ℕ). Runs m old x new) (sym (take_more piece i 0 h)) (runs_more old (take i piece) mid (get_or piece i 0) new runs continues state)
 
 by_feed : (feed : Bool) (p : Place) → (cond feed (let q : Place = record { line = p.line + 1; column = 1; offset = p.offset + 1 } in q) (record { line = p.line; column = p.column + 1; offset = p.offset + 1 })).offset ≡ p.offset + 1
 by_feed true p = refl
@@ -81,7 +81,7 @@ module _ {S E : Type 0} (m : Automaton S E) where
   -- no text is complete on the way
   pub runs_unfinished : (old : S) (text : List ℕ) (new : S) → IsState m old → m.done old ≡ false → Runs m old text new → m.done new ≡ false
   runs_unfinished old [] new state unfinished same = subst (λ (x : S). m.done x ≡ false) (sym same) unfinished
-  runs_unfinished old (b ∷ text) new state unfinished (mid, goes, is, rest) = runs_unfinished mid text new is (state.owes b mid goes) rest
+  runs_unfinished old (b ∷ text) new state unfinished (mid, continues, is, rest) = runs_unfinished mid text new is (state.owes b mid continues) rest
 
 module _ {S E : Type 0} (m : Automaton S E) (longest : ℕ) (start : S) (spans : List (Spanned E)) where
   -- a statement that was open stays open, with the same beginning
@@ -97,10 +97,10 @@ module _ {S E : Type 0} (m : Automaton S E) (longest : ℕ) (start : S) (spans :
     rw append-nil (subst (λ (x : S). Stands m longest start input spans x place first None) (sym same) s),
     subst (λ (x : S). m.done x ≡ false) (sym same) unfinished,
   )
-  stands_run old (b ∷ text) new input place first s unfinished begun fits (mid, goes, state, rest) =
+  stands_run old (b ∷ text) new input place first s unfinished begun fits (mid, continues, state, rest) =
       let lt : place.offset < end_of longest first = omega (arith, fits) in
-      let k = stands_go m longest start old mid input spans place first s unfinished b goes state lt in
+      let k = stands_go m longest start old mid input spans place first s unfinished b continues state lt in
       let k' : Stands m longest start (input ++ b ∷ []) spans mid (place_next place b) first None = rw (append-nil, stays_open first (begins m old b) place begun) at k in
       let fits' : (place_next place b).offset + length text ≤ end_of longest first = omega (arith, next_offset place b, fits) in
-      let r = stands_run mid text new (input ++ b ∷ []) (place_next place b) first k' (s.is_state.owes b mid goes) begun fits' rest in
+      let r = stands_run mid text new (input ++ b ∷ []) (place_next place b) first k' (s.is_state.owes b mid continues) begun fits' rest in
       (subst (λ (x : List ℕ). Stands m longest start x spans new (place_past place (b ∷ text)) first None) (append_assoc input (b ∷ []) text) r.0, r.1)

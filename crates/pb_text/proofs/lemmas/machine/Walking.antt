@@ -1,6 +1,6 @@
 -- A machine on the way through a statement, and what it reads after that. Offered to other crates.
 use Rattle.std.proofs.Common.{◌≡◌, List, [], ◌∷◌, ◌++◌, true, false, refl, sym, subst, ◌∙◌, append_assoc}
-use Rattle.pb_text.specs.contract.Automaton.{Automaton, Next, Go, End, Refuse, Reads}
+use Rattle.pb_text.specs.contract.Automaton.{Automaton, Next, Go, End, Refuse, ReadsStatement}
 use Rattle.pb_text.specs.meaning.Languages.{Language, ◌⋅◌}
 use Rattle.pb_text.specs.meaning.Spelling.{Letter}
 use Rattle.std.proofs.lemmas.List.{append-nil}
@@ -22,20 +22,20 @@ module _ {S E : Type 0} (m : Automaton S E) where
 
   -- one letter prepended
   pub longer : (l : Letter) (t : List Letter) (s mid after : S) (e : E) → m.step s l.byte ≡ Go mid → m.begun mid ≡ true → l.numeral ≡ m.in_number mid
-      → Reads m mid t e after → Reads m s (l ∷ t) e after
+      → ReadsStatement m mid t e after → ReadsStatement m s (l ∷ t) e after
   longer l [] s mid after e g i n r = absurd r
   longer l (k ∷ t) s mid after e g i n r = (mid, g, i, n, r)
 
-  pub reads_after : (a b : List Letter) (s mid after : S) (e : E) → Walks s a mid → Reads m mid b e after → Reads m s (a ++ b) e after
-  reads_after [] b s mid after e h r = subst (λ x. Reads m x b e after) h r
+  pub reads_after : (a b : List Letter) (s mid after : S) (e : E) → Walks s a mid → ReadsStatement m mid b e after → ReadsStatement m s (a ++ b) e after
+  reads_after [] b s mid after e h r = subst (λ x. ReadsStatement m x b e after) h r
   reads_after (l ∷ a) b s mid after e (next, g, i, n, w) r = longer l (a ++ b) s next after e g i n (reads_after a b next mid after e w r)
 
   pub ends_walk : (a : List Letter) (l : Letter) (s mid after : S) (e : E) → Walks s a mid → m.step mid l.byte ≡ End e after → l.numeral ≡ false
-      → Reads m s (a ++ l ∷ []) e after
+      → ReadsStatement m s (a ++ l ∷ []) e after
   ends_walk a l s mid after e w h n = reads_after a (l ∷ []) s mid after e w (h, n)
 
   -- the first letter leads to the same outcome from two states
-  pub same_first : (l : Letter) (t : List Letter) (s s' after : S) (e : E) → m.step s l.byte ≡ m.step s' l.byte → Reads m s' (l ∷ t) e after → Reads m s (l ∷ t) e after
+  pub same_first : (l : Letter) (t : List Letter) (s s' after : S) (e : E) → m.step s l.byte ≡ m.step s' l.byte → ReadsStatement m s' (l ∷ t) e after → ReadsStatement m s (l ∷ t) e after
   same_first l [] s s' after e h (r, n) = (h ∙ r, n)
   same_first l (k ∷ t) s s' after e h (mid, g, i, n, r) = (mid, h ∙ g, i, n, r)
 
@@ -56,7 +56,7 @@ module _ {S E : Type 0} (m : Automaton S E) where
     abbrev pub Keeps : Type 0
     Keeps = (s : S) (l : Letter) (p : List Letter) → Prefix s p → On (m.step s l.byte) l (p ++ l ∷ [])
 
-    pub reported : Keeps → (t : List Letter) (s : S) (p : List Letter) (e : E) (after : S) → Reads m s t e after → Prefix s p → Whole e after (p ++ t)
+    pub reported : Keeps → (t : List Letter) (s : S) (p : List Letter) (e : E) (after : S) → ReadsStatement m s t e after → Prefix s p → Whole e after (p ++ t)
     reported k [] s p e after r f = absurd r
     reported k (l ∷ []) s p e after (h, n) f =
         let on : On (End e after) l (p ++ l ∷ []) = subst (λ x. On x l (p ++ l ∷ [])) h (k s l p f) in on n

@@ -1,7 +1,7 @@
 -- A machine that has taken nothing, from a source that failed.
 use Rattle.std.proofs.Common.{◌≡◌, ℕ, ◌<◌, List, [], false, None, Some, sym, ap, ◌∙◌, subst}
 use Rattle.std.proofs.lemmas.List.{nil_from_length}
-use Rattle.pb_text.specs.contract.Automaton.{Automaton, Accepts, IsState}
+use Rattle.pb_text.specs.contract.Automaton.{Automaton, AcceptsItems, IsState}
 use Rattle.pb_text.specs.contract.NothingRead.{ReadsNothing, first_place, first_fault}
 use Rattle.pb_text.specs.meaning.Reading.{Reads}
 use Rattle.pb_text.specs.meaning.Spelling.{bytes}
@@ -10,9 +10,9 @@ use Rattle.pb_text.proofs.lemmas.feeder.Begin.{stands_new, stands_failed}
 use Rattle.pb_text.proofs.lemmas.text.Short.{place_after-offset}
 use Rattle.pb_text.proofs.lemmas.feeder.Reported.{stands_reads}
 
-pub reads_nothing : {S E : Type 0} (m : Automaton S E) (start : S) → IsState m start → m.begun start ≡ false → m.done start ≡ false → (longest : ℕ) → 0 < longest → ReadsNothing (Accepts m start) longest
+pub reads_nothing : {S E : Type 0} (m : Automaton S E) (start : S) → IsState m start → m.begun start ≡ false → m.done start ≡ false → (longest : ℕ) → 0 < longest → ReadsNothing (AcceptsItems m start) longest
 reads_nothing m start state out owed longest some text =
     let stands = stands_failed m longest start start [] [] first_place None text owed (stands_new m longest start state out some) in
     let none : bytes stands.letters ≡ [] = nil_from_length (bytes stands.letters) (sym (place_after-offset (bytes stands.letters)) ∙ sym (ap (λ (p : Place). p.offset) stands.place_is)) in
-    subst (λ (used : List ℕ). Reads (Accepts m start) longest text used [] first_place false (Some first_fault)) none
+    subst (λ (used : List ℕ). Reads (AcceptsItems m start) longest text used [] first_place false (Some first_fault)) none
     (stands_reads m longest start text [] start first_place None (Some first_fault) stands false (sym owed))

@@ -1,6 +1,6 @@
 -- Consecutive pulls are a read. Offered to other crates.
 use Rattle.std.proofs.Common.{◌≡◌, ℕ, List, [], ◌∷◌, ◌++◌, length, true, false, IsTrue, Option, Some, None, Result, Ok, Err, refl, sym, ap, ◌∙◌, subst, subst₂, append-nil, append_assoc, arith, length-append}
-use Rattle.pb_text.specs.contract.Automaton.{Accepts, Leads, MayAsk}
+use Rattle.pb_text.specs.contract.Automaton.{AcceptsItems, Leads, MayAsk}
 use Rattle.pb_text.specs.meaning.Spelling.{bytes}
 use Rattle.pb_text.specs.meaning.Reading.{Reads}
 use Rattle.pb_text.specs.engine.SpentBytes.{end_of}
@@ -47,9 +47,9 @@ module _ {M E : Type 0} {g : Ghosts M E} {given given' : List ℕ} (longest : �
       let s = p.stands.1 in
       let used = letters_are (Ok (Some m)) p (h.used ++ p.taken) [] (spans ++ m ∷ []) s (sym (append-nil (h.used ++ p.taken))) in
       let r = stands_reads g.automaton longest start (h.used ++ p.taken) (spans ++ m ∷ []) new.machine new.place new.first new.stop s (is_complete new) refl in
-      let r' : Reads (Accepts g.automaton start) longest (h.used ++ p.taken) (h.used ++ p.taken) (spans ++ m ∷ []) m.past (is_complete new) None =
-      subst₂ (λ (q : Place) (o : Option Stop). Reads (Accepts g.automaton start) longest (h.used ++ p.taken) (h.used ++ p.taken) (spans ++ m ∷ []) q (is_complete new) o) (sym past) running
-      (subst (λ (x : List ℕ). Reads (Accepts g.automaton start) longest (h.used ++ p.taken) x (spans ++ m ∷ []) new.place (is_complete new) new.stop) used r) in (
+      let r' : Reads (AcceptsItems g.automaton start) longest (h.used ++ p.taken) (h.used ++ p.taken) (spans ++ m ∷ []) m.past (is_complete new) None =
+      subst₂ (λ (q : Place) (o : Option Stop). Reads (AcceptsItems g.automaton start) longest (h.used ++ p.taken) (h.used ++ p.taken) (spans ++ m ∷ []) q (is_complete new) o) (sym past) running
+      (subst (λ (x : List ℕ). Reads (AcceptsItems g.automaton start) longest (h.used ++ p.taken) x (spans ++ m ∷ []) new.place (is_complete new) new.stop) used r) in (
         record { used = h.used ++ p.taken; seen = p.seen; took = took (Ok (Some m)) p; offset_is = offset_is (Ok (Some m)) p; stands = p.stands; running = running },
         record { used = h.used ++ p.taken; seen = p.seen; took = took (Ok (Some m)) p; done = is_complete new; reads = r' },
       )
@@ -59,9 +59,9 @@ module _ {M E : Type 0} {g : Ghosts M E} {given given' : List ℕ} (longest : �
       let s : Stands g.automaton longest start (h.used ++ (p.taken ++ p.seen)) spans new.machine new.place new.first new.stop = rw append-nil at p.stands.1 in
       let used = letters_are (Ok None) p (h.used ++ (p.taken ++ p.seen)) p.seen spans s (sym (append_assoc h.used p.taken p.seen)) in
       let r = stands_reads g.automaton longest start (h.used ++ (p.taken ++ p.seen)) spans new.machine new.place new.first new.stop s true (sym done) in
-      let r' : Reads (Accepts g.automaton start) longest ((h.used ++ p.taken) ++ p.seen) (h.used ++ p.taken) spans new.place true None =
-      subst₂ (λ (x y : List ℕ). Reads (Accepts g.automaton start) longest x y spans new.place true None) (sym (append_assoc h.used p.taken p.seen)) used
-      (subst (λ (o : Option Stop). Reads (Accepts g.automaton start) longest (h.used ++ (p.taken ++ p.seen)) (bytes s.letters) spans new.place true o) running r) in
+      let r' : Reads (AcceptsItems g.automaton start) longest ((h.used ++ p.taken) ++ p.seen) (h.used ++ p.taken) spans new.place true None =
+      subst₂ (λ (x y : List ℕ). Reads (AcceptsItems g.automaton start) longest x y spans new.place true None) (sym (append_assoc h.used p.taken p.seen)) used
+      (subst (λ (o : Option Stop). Reads (AcceptsItems g.automaton start) longest (h.used ++ (p.taken ++ p.seen)) (bytes s.letters) spans new.place true o) running r) in
       record { used = h.used ++ p.taken; seen = p.seen; took = took (Ok None) p; reads = r' }
 
   row_stopped : (stop : Stop) (p : Pulls longest start h.used spans old now (Err stop) new after given given') → new.stop ≡ Some stop → PullsOn longest start before spans (Err stop) new after
@@ -70,9 +70,9 @@ module _ {M E : Type 0} {g : Ghosts M E} {given given' : List ℕ} (longest : �
       let used = letters_are (Err stop) p (h.used ++ (p.taken ++ p.seen)) p.seen spans s (sym (append_assoc h.used p.taken p.seen)) in
       let w = halted g.automaton new.machine (end_of longest new.first) s.letters s.left new.place new.stop stop halts s.waits in
       let r = stands_reads g.automaton longest start (h.used ++ (p.taken ++ p.seen)) spans new.machine new.place new.first new.stop s false (sym w.0) in
-      let r' : Reads (Accepts g.automaton start) longest ((h.used ++ p.taken) ++ p.seen) (h.used ++ p.taken) spans stop.place false (Some stop) =
-      subst₂ (λ (x y : List ℕ). Reads (Accepts g.automaton start) longest x y spans stop.place false (Some stop)) (sym (append_assoc h.used p.taken p.seen)) used
-      (subst₂ (λ (q : Place) (o : Option Stop). Reads (Accepts g.automaton start) longest (h.used ++ (p.taken ++ p.seen)) (bytes s.letters) spans q false o) (sym w.1) halts r) in
+      let r' : Reads (AcceptsItems g.automaton start) longest ((h.used ++ p.taken) ++ p.seen) (h.used ++ p.taken) spans stop.place false (Some stop) =
+      subst₂ (λ (x y : List ℕ). Reads (AcceptsItems g.automaton start) longest x y spans stop.place false (Some stop)) (sym (append_assoc h.used p.taken p.seen)) used
+      (subst₂ (λ (q : Place) (o : Option Stop). Reads (AcceptsItems g.automaton start) longest (h.used ++ (p.taken ++ p.seen)) (bytes s.letters) spans q false o) (sym w.1) halts r) in
       let left : s.left ≡ p.seen = append_cancel_left (h.used ++ p.taken) s.left p.seen (ap (λ (x : List ℕ). x ++ s.left) (sym used) ∙ (sym s.input_is ∙ sym (append_assoc h.used p.taken p.seen))) in
       let may : (b : ℕ) → IsTrue (g.automaton.asks new.machine b) → MayAsk g.automaton start (h.used ++ p.taken) b =
       (λ b k. (new.machine, subst (λ (x : List ℕ). Leads g.automaton start x new.machine) used s.leads, k)) in (

@@ -2,7 +2,7 @@
 use Rattle.std.proofs.Common.{◌≡◌, ℕ, List, [], ◌∷◌, ◌++◌, length, map, take, Bool, true, false, IsTrue, Option, Some, None, Result, Ok, Err, refl, sym, ap, ap₂, ◌∙◌, subst, subst₂, append-nil, append_assoc, arith, length-append}
 use Rattle.std.proofs.Math.Seq.{take-append_seam}
 use Rattle.std.proofs.lemmas.List.{append_cancel_left}
-use Rattle.pb_text.specs.contract.Automaton.{Automaton, Accepts, Leads, MayAsk}
+use Rattle.pb_text.specs.contract.Automaton.{Automaton, AcceptsItems, Leads, MayAsk}
 use Rattle.pb_text.specs.meaning.Spelling.{Letter, Item, bytes, spans_since, place_after}
 use Rattle.pb_text.specs.meaning.Reading.{Reads, IsSpelled}
 use Rattle.pb_text.specs.engine.SpentBytes.{end_of}
@@ -87,16 +87,16 @@ module _ {M E : Type 0} {g : Ghosts M E} (longest : ℕ) (start : M) (spans : Li
 
   module _ {V : Type 0} (with : V → E → V) (empty value : V) (value_is : value ≡ gathered with empty (map (λ m. m.event) spans)) where
     pub whole_done : (first given given' : List ℕ) → given ≡ first ++ taken → (p : Pulls longest start taken spans old now (Ok None) new after given given') → new.stop ≡ None → is_complete new ≡ true
-        → Used before after first given' (λ used seen. IsWhole (Accepts g.automaton start) longest with empty used (record { event = value; first = record { line = 1; column = 1; offset = 0 }; past = new.place }))
+        → Used before after first given' (λ used seen. IsWhole (AcceptsItems g.automaton start) longest with empty used (record { event = value; first = record { line = 1; column = 1; offset = 0 }; past = new.place }))
     unfolding place_after
     whole_done first given given' are p running done =
         let s : Stands g.automaton longest start (taken ++ (p.taken ++ p.seen)) spans new.machine new.place new.first new.stop = rw append-nil at p.stands.1 in
         let used : bytes s.letters ≡ taken ++ p.taken = letters_are (Ok None) p (taken ++ (p.taken ++ p.seen)) s p.seen (sym (append_assoc taken p.taken p.seen)) in
         let r = stands_reads g.automaton longest start (taken ++ (p.taken ++ p.seen)) spans new.machine new.place new.first new.stop s true (sym done) in
-        let spelled : IsSpelled (Accepts g.automaton start) longest (bytes s.letters) spans = r.answer.0 in
-        let spelled' : IsSpelled (Accepts g.automaton start) longest (taken ++ p.taken) spans = subst (λ (x : List ℕ). IsSpelled (Accepts g.automaton start) longest x spans) used spelled in
+        let spelled : IsSpelled (AcceptsItems g.automaton start) longest (bytes s.letters) spans = r.answer.0 in
+        let spelled' : IsSpelled (AcceptsItems g.automaton start) longest (taken ++ p.taken) spans = subst (λ (x : List ℕ). IsSpelled (AcceptsItems g.automaton start) longest x spans) used spelled in
         used_so before after first given'
-        (λ used seen. IsWhole (Accepts g.automaton start) longest with empty used (record { event = value; first = record { line = 1; column = 1; offset = 0 }; past = new.place }))
+        (λ used seen. IsWhole (AcceptsItems g.automaton start) longest with empty used (record { event = value; first = record { line = 1; column = 1; offset = 0 }; past = new.place }))
         (taken ++ p.taken) p.seen
         (took_all before now after taken p.taken p.seen lost p.took)
         (given_both first given given' taken p.taken are p.given_are)
@@ -109,21 +109,21 @@ module _ {M E : Type 0} {g : Ghosts M E} (longest : ℕ) (start : M) (spans : Li
         })
 
   pub whole_stopped : {V : Type 0} (with : V → E → V) (empty : V) (asks : V → E → Bool) (stop : Stop) (first given given' : List ℕ) → given ≡ first ++ taken → (p : Pulls longest start taken spans old now (Err stop) new after given given') → new.stop ≡ Some stop
-      → Used before after first given' (λ used seen. StopsIn (Accepts g.automaton start) longest (MayAsk g.automaton start) (MayHold with empty asks) used seen stop)
+      → Used before after first given' (λ used seen. StopsIn (AcceptsItems g.automaton start) longest (MayAsk g.automaton start) (MayHold with empty asks) used seen stop)
   whole_stopped with empty asks stop first given given' are p halts =
       let s : Stands g.automaton longest start (taken ++ (p.taken ++ p.seen)) spans new.machine new.place new.first new.stop = rw append-nil at p.stands.1 in
       let used : bytes s.letters ≡ taken ++ p.taken = letters_are (Err stop) p (taken ++ (p.taken ++ p.seen)) s p.seen (sym (append_assoc taken p.taken p.seen)) in
       let w = halted g.automaton new.machine (end_of longest new.first) s.letters s.left new.place new.stop stop halts s.waits in
       let r = stands_reads g.automaton longest start (taken ++ (p.taken ++ p.seen)) spans new.machine new.place new.first new.stop s false (sym w.0) in
-      let r' : Reads (Accepts g.automaton start) longest ((taken ++ p.taken) ++ p.seen) (taken ++ p.taken) spans stop.place false (Some stop) =
-      subst₂ (λ (x y : List ℕ). Reads (Accepts g.automaton start) longest x y spans stop.place false (Some stop)) (sym (append_assoc taken p.taken p.seen)) used
-      (subst₂ (λ (q : Place) (o : Option Stop). Reads (Accepts g.automaton start) longest (taken ++ (p.taken ++ p.seen)) (bytes s.letters) spans q false o) (sym w.1) halts r) in
+      let r' : Reads (AcceptsItems g.automaton start) longest ((taken ++ p.taken) ++ p.seen) (taken ++ p.taken) spans stop.place false (Some stop) =
+      subst₂ (λ (x y : List ℕ). Reads (AcceptsItems g.automaton start) longest x y spans stop.place false (Some stop)) (sym (append_assoc taken p.taken p.seen)) used
+      (subst₂ (λ (q : Place) (o : Option Stop). Reads (AcceptsItems g.automaton start) longest (taken ++ (p.taken ++ p.seen)) (bytes s.letters) spans q false o) (sym w.1) halts r) in
       let left : s.left ≡ p.seen = append_cancel_left (taken ++ p.taken) s.left p.seen (ap (λ (x : List ℕ). x ++ s.left) (sym used) ∙ (sym s.input_is ∙ sym (append_assoc taken p.taken p.seen))) in
       let may : (b : ℕ) → IsTrue (g.automaton.asks new.machine b) → MayAsk g.automaton start (taken ++ p.taken) b =
       (λ b h. (new.machine, subst (λ (x : List ℕ). Leads g.automaton start x new.machine) used s.leads, h)) in
       let a = asking g.automaton (MayAsk g.automaton start) new.machine (end_of longest new.first) s.letters (taken ++ p.taken) p.seen s.left stop.why left may w.2 in
       used_so before after first given'
-      (λ used seen. StopsIn (Accepts g.automaton start) longest (MayAsk g.automaton start) (MayHold with empty asks) used seen stop)
+      (λ used seen. StopsIn (AcceptsItems g.automaton start) longest (MayAsk g.automaton start) (MayHold with empty asks) used seen stop)
       (taken ++ p.taken) p.seen
       (took_all before now after taken p.taken p.seen lost p.took)
       (given_both first given given' taken p.taken are p.given_are)
@@ -137,17 +137,17 @@ module _ {M E : Type 0} {g : Ghosts M E} (longest : ℕ) (start : M) (spans : Li
   -- if an event could not be stored
   pub whole_unkept : {V : Type 0} (with : V → E → V) (empty : V) (asks : V → E → Bool) (m : Spanned E) (first given given' : List ℕ) → given ≡ first ++ taken → (p : Pulls longest start taken spans old now (Ok (Some m)) new after given given') → new.stop ≡ None → m.past ≡ new.place
       → IsTrue (asks (gathered with empty (events_at spans)) m.event)
-      → Used before after first given' (λ used seen. StopsIn (Accepts g.automaton start) longest (MayAsk g.automaton start) (MayHold with empty asks) used seen (record { place = new.place; why = Memory }))
+      → Used before after first given' (λ used seen. StopsIn (AcceptsItems g.automaton start) longest (MayAsk g.automaton start) (MayHold with empty asks) used seen (record { place = new.place; why = Memory }))
   whole_unkept with empty asks m first given given' are p running past h =
       let s = p.stands.1 in
       let used : bytes s.letters ≡ taken ++ p.taken = same_prefix (bytes s.letters) (taken ++ p.taken) s.left [] (sym s.input_is ∙ sym (append-nil (taken ++ p.taken)))
       (sym (place_after-offset (bytes s.letters)) ∙ (sym (ap (λ (q : Place). q.offset) s.place_is) ∙ omega (arith, p.offset_is, length-append taken p.taken))) in
       let r = stands_reads g.automaton longest start (taken ++ p.taken) (spans ++ m ∷ []) new.machine new.place new.first new.stop s (is_complete new) refl in
-      let r' : Reads (Accepts g.automaton start) longest (taken ++ p.taken) (taken ++ p.taken) (spans ++ m ∷ []) m.past (is_complete new) None =
-      subst₂ (λ (q : Place) (o : Option Stop). Reads (Accepts g.automaton start) longest (taken ++ p.taken) (taken ++ p.taken) (spans ++ m ∷ []) q (is_complete new) o) (sym past) running
-      (subst (λ (x : List ℕ). Reads (Accepts g.automaton start) longest (taken ++ p.taken) x (spans ++ m ∷ []) new.place (is_complete new) new.stop) used r) in
+      let r' : Reads (AcceptsItems g.automaton start) longest (taken ++ p.taken) (taken ++ p.taken) (spans ++ m ∷ []) m.past (is_complete new) None =
+      subst₂ (λ (q : Place) (o : Option Stop). Reads (AcceptsItems g.automaton start) longest (taken ++ p.taken) (taken ++ p.taken) (spans ++ m ∷ []) q (is_complete new) o) (sym past) running
+      (subst (λ (x : List ℕ). Reads (AcceptsItems g.automaton start) longest (taken ++ p.taken) x (spans ++ m ∷ []) new.place (is_complete new) new.stop) used r) in
       used_so before after first given'
-      (λ used seen. StopsIn (Accepts g.automaton start) longest (MayAsk g.automaton start) (MayHold with empty asks) used seen (record { place = new.place; why = Memory }))
+      (λ used seen. StopsIn (AcceptsItems g.automaton start) longest (MayAsk g.automaton start) (MayHold with empty asks) used seen (record { place = new.place; why = Memory }))
       (taken ++ p.taken) p.seen
       (took_all before now after taken p.taken p.seen lost p.took)
       (given_both first given given' taken p.taken are p.given_are)

@@ -3,7 +3,7 @@
 use Rattle.std.proofs.Common.{◌≡◌, ℕ, List, [], ◌∷◌, ◌++◌, true, false, IsTrue, refl, sym, ap, ap₂, ◌∙◌, subst}
 use Rattle.std.proofs.lemmas.List.{append-nil}
 use Rattle.pb_text.specs.meaning.Spelling.{Letter, Item, bytes_of}
-use Rattle.pb_text.specs.contract.Automaton.{Automaton, Go, End, Refuse, Accepts}
+use Rattle.pb_text.specs.contract.Automaton.{Automaton, Go, End, Refuse, AcceptsItems}
 use Rattle.pb_text.proofs.lemmas.text.FirstBytes.{head, tail}
 use Rattle.pb_text.proofs.lemmas.machine.Outcomes.{one_state, one_end, go_or_end, go_or_refuse, end_or_refuse}
 use Rattle.pb_text.proofs.lemmas.text.Booleans.{never}
@@ -24,23 +24,23 @@ module _ {S E : Type 0} (m : Automaton S E) where
   Same items items' more = (items ≡ items') × (more ≡ [])
 
   -- nothing may follow a complete text
-  abbrev pub Closes : Type 0
-  Closes = (s : S) → IsTrue (m.done s) → (b : ℕ) → m.step s b ≡ Refuse
+  abbrev pub Finishes : Type 0
+  Finishes = (s : S) → IsTrue (m.done s) → (b : ℕ) → m.step s b ≡ Refuse
 
-  module _ (closes : Closes) where
+  module _ (finishes : Finishes) where
     at_end : (s : S) (items' : List (Item E)) (more : List ℕ) → IsTrue (m.done s) → First m s items' → bytes_of items' ≡ more → Same [] items' more
     at_end s _ more d (Nothing _) e = (refl, sym e)
-    at_end s _ more d (InGap b gap text x rest next h o a) e = go_or_refuse next (sym h ∙ closes s d b)
-    at_end s _ more d (InText l k text x rest next h o n a) e = go_or_refuse next (sym h ∙ closes s d l.byte)
-    at_end s _ more d (AtLast l x rest next h n a) e = end_or_refuse x next (sym h ∙ closes s d l.byte)
+    at_end s _ more d (InGap b gap text x rest next h o a) e = go_or_refuse next (sym h ∙ finishes s d b)
+    at_end s _ more d (InText l k text x rest next h o n a) e = go_or_refuse next (sym h ∙ finishes s d l.byte)
+    at_end s _ more d (AtLast l x rest next h n a) e = end_or_refuse x next (sym h ∙ finishes s d l.byte)
 
     -- what is known of shorter texts
     abbrev Known : List ℕ → Type 0
-    Known bs = (s : S) (items items' : List (Item E)) (more : List ℕ) → Accepts m s items → Accepts m s items' → bytes_of items ≡ bs → bytes_of items' ≡ bs ++ more → Same items items' more
+    Known bs = (s : S) (items items' : List (Item E)) (more : List ℕ) → AcceptsItems m s items → AcceptsItems m s items' → bytes_of items ≡ bs → bytes_of items' ≡ bs ++ more → Same items items' more
 
     module _ (s : S) (b : ℕ) (bs more : List ℕ) (known : Known bs) where
       in_gap : (items' : List (Item E)) (c : ℕ) (gap : List ℕ) (text : List Letter) (x : E) (rest : List (Item E)) (next : S)
-          → m.step s c ≡ Go next → m.begun next ≡ false → Accepts m next (item gap text x ∷ rest)
+          → m.step s c ≡ Go next → m.begun next ≡ false → AcceptsItems m next (item gap text x ∷ rest)
           → c ≡ b → bytes_of (item gap text x ∷ rest) ≡ bs
           → First m s items' → bytes_of items' ≡ b ∷ (bs ++ more) → Same (item (c ∷ gap) text x ∷ rest) items' more
       in_gap _ c gap text x rest next h o a e f (Nothing _) g = not_empty b (bs ++ more) (sym g)
@@ -49,7 +49,7 @@ module _ {S E : Type 0} (m : Automaton S E) where
           let same : next' ≡ next = one_state next' next (sym h' ∙ (ap (m.step s) (sym byte) ∙ h)) in
           let k : Same (item gap text x ∷ rest) (item gap' text' x' ∷ rest') more =
           known next (item gap text x ∷ rest) (item gap' text' x' ∷ rest') more a
-          (subst (λ y. Accepts m y (item gap' text' x' ∷ rest')) same a') f (tail c' b _ (bs ++ more) g) in
+          (subst (λ y. AcceptsItems m y (item gap' text' x' ∷ rest')) same a') f (tail c' b _ (bs ++ more) g) in
           (longer byte k.0, k.1)
         where
           longer : c ≡ c' → item gap text x ∷ rest ≡ item gap' text' x' ∷ rest' → item (c ∷ gap) text x ∷ rest ≡ item (c' ∷ gap') text' x' ∷ rest'
@@ -67,7 +67,7 @@ module _ {S E : Type 0} (m : Automaton S E) where
           go_or_end next x' next' (sym h ∙ (ap (m.step s) byte ∙ h'))
 
       in_text : (items' : List (Item E)) (l k : Letter) (text : List Letter) (x : E) (rest : List (Item E)) (next : S)
-          → m.step s l.byte ≡ Go next → m.begun next ≡ true → l.numeral ≡ m.in_number next → Accepts m next (item [] (k ∷ text) x ∷ rest)
+          → m.step s l.byte ≡ Go next → m.begun next ≡ true → l.numeral ≡ m.in_number next → AcceptsItems m next (item [] (k ∷ text) x ∷ rest)
           → l.byte ≡ b → bytes_of (item [] (k ∷ text) x ∷ rest) ≡ bs
           → First m s items' → bytes_of items' ≡ b ∷ (bs ++ more) → Same (item [] (l ∷ k ∷ text) x ∷ rest) items' more
       in_text _ l k text x rest next h o n a e f (Nothing _) g = not_empty b (bs ++ more) (sym g)
@@ -81,7 +81,7 @@ module _ {S E : Type 0} (m : Automaton S E) where
           let letter : l ≡ l' = one_letter l l' byte (n ∙ (ap m.in_number (sym same) ∙ sym n')) in
           let r : Same (item [] (k ∷ text) x ∷ rest) (item [] (k' ∷ text') x' ∷ rest') more =
           known next (item [] (k ∷ text) x ∷ rest) (item [] (k' ∷ text') x' ∷ rest') more a
-          (subst (λ y. Accepts m y (item [] (k' ∷ text') x' ∷ rest')) same a') f (tail l'.byte b _ (bs ++ more) g) in
+          (subst (λ y. AcceptsItems m y (item [] (k' ∷ text') x' ∷ rest')) same a') f (tail l'.byte b _ (bs ++ more) g) in
           (longer letter r.0, r.1)
         where
           longer : l ≡ l' → item [] (k ∷ text) x ∷ rest ≡ item [] (k' ∷ text') x' ∷ rest' → item [] (l ∷ k ∷ text) x ∷ rest ≡ item [] (l' ∷ k' ∷ text') x' ∷ rest'
@@ -95,7 +95,7 @@ module _ {S E : Type 0} (m : Automaton S E) where
           go_or_end next x' next' (sym h ∙ (ap (m.step s) byte ∙ h'))
 
       at_last : (items' : List (Item E)) (l : Letter) (x : E) (rest : List (Item E)) (next : S)
-          → m.step s l.byte ≡ End x next → l.numeral ≡ false → Accepts m next rest → l.byte ≡ b → bytes_of rest ≡ bs
+          → m.step s l.byte ≡ End x next → l.numeral ≡ false → AcceptsItems m next rest → l.byte ≡ b → bytes_of rest ≡ bs
           → First m s items' → bytes_of items' ≡ b ∷ (bs ++ more) → Same (item [] (l ∷ []) x ∷ rest) items' more
       at_last _ l x rest next h n a e f (Nothing _) g = not_empty b (bs ++ more) (sym g)
       at_last _ l x rest next h n a e f (InGap c' gap' text' x' rest' next' h' o' a') g =
@@ -108,7 +108,7 @@ module _ {S E : Type 0} (m : Automaton S E) where
           let byte : l.byte ≡ l'.byte = e ∙ sym (head l'.byte b _ (bs ++ more) g) in
           let same : (x ≡ x') × (next ≡ next') = one_end x x' next next' (sym h ∙ (ap (m.step s) byte ∙ h')) in
           let letter : l ≡ l' = one_letter l l' byte (n ∙ sym n') in
-          let r : Same rest rest' more = known next rest rest' more a (subst (λ y. Accepts m y rest') (sym same.1) a') f (tail l'.byte b _ (bs ++ more) g) in
+          let r : Same rest rest' more = known next rest rest' more a (subst (λ y. AcceptsItems m y rest') (sym same.1) a') f (tail l'.byte b _ (bs ++ more) g) in
           (ap (λ (z : List (Item E)). item [] (l ∷ []) x ∷ z) r.0 ∙ ap₂ (λ (y : Letter) (z : E). item [] (y ∷ []) z ∷ rest') letter same.0, r.1)
 
       by_first : (items items' : List (Item E)) → First m s items → First m s items' → bytes_of items ≡ b ∷ bs → bytes_of items' ≡ b ∷ (bs ++ more)
@@ -134,9 +134,9 @@ module _ {S E : Type 0} (m : Automaton S E) where
     only_prefix (b ∷ bs) s items items' more h k e g =
         by_first s b bs more (only_prefix bs) items items' (first_of m s items h) (first_of m s items' k) e g
 
-    pub one_spelling : (s : S) (items items' : List (Item E)) → Accepts m s items → Accepts m s items' → bytes_of items ≡ bytes_of items' → items ≡ items'
+    pub one_spelling : (s : S) (items items' : List (Item E)) → AcceptsItems m s items → AcceptsItems m s items' → bytes_of items ≡ bytes_of items' → items ≡ items'
     one_spelling s items items' h k e =
         (only_prefix (bytes_of items) s items items' [] h k refl (sym e ∙ sym (append-nil (bytes_of items)))).0
 
-    pub prefix_free : (s : S) (items items' : List (Item E)) (more : List ℕ) → Accepts m s items → Accepts m s items' → bytes_of items' ≡ bytes_of items ++ more → more ≡ []
+    pub prefix_free : (s : S) (items items' : List (Item E)) (more : List ℕ) → AcceptsItems m s items → AcceptsItems m s items' → bytes_of items' ≡ bytes_of items ++ more → more ≡ []
     prefix_free s items items' more h k e = (only_prefix (bytes_of items) s items items' more h k refl e).1

@@ -2,7 +2,7 @@
 use Rattle.std.proofs.Common.{◌≡◌, ℕ, ◌+◌, List, [], ◌∷◌, ◌++◌, length, nat_le, true, false, cond, Option, Some, None, refl, sym, ap, ◌∙◌, subst, arith, length-append}
 use Rattle.pb_text.specs.meaning.Spelling.{Letter, Item, bytes_of, place_after, place_or, spans_since}
 use Rattle.pb_text.specs.meaning.Reading.{ended_within, HasFixedSpans}
-use Rattle.pb_text.specs.contract.Automaton.{Automaton, Go, End, Accepts}
+use Rattle.pb_text.specs.contract.Automaton.{Automaton, Go, End, AcceptsItems}
 use Rattle.pb_text.specs.declared.place.Place.{Place}
 use Rattle.pb_text.specs.declared.place.Spanned.{Spanned}
 use Rattle.pb_text.proofs.lemmas.feeder.Answer.{not_ended}
@@ -15,9 +15,9 @@ use Rattle.pb_text.proofs.lemmas.machine.Residual.{PutGap, PutLetter, PutLast, F
 module _ {S E : Type 0} (m : Automaton S E) where
   -- what is accepted after the first byte
   data Moved (s : S) (b : ℕ) (items : List (Item E)) (more : List ℕ) : Type 0 where
-    Between : (next : S) (later : List (Item E)) → m.step s b ≡ Go next → m.begun next ≡ false → PutGap b later items → Accepts m next later → bytes_of later ≡ more → Moved s b items more
-    Within : (next : S) (later : List (Item E)) (l : Letter) → l.byte ≡ b → m.step s b ≡ Go next → m.begun next ≡ true → PutLetter l later items → Accepts m next later → bytes_of later ≡ more → Moved s b items more
-    Last : (next : S) (later : List (Item E)) (l : Letter) (e : E) → l.byte ≡ b → m.step s b ≡ End e next → PutLast l e later items → Accepts m next later → bytes_of later ≡ more → Moved s b items more
+    Between : (next : S) (later : List (Item E)) → m.step s b ≡ Go next → m.begun next ≡ false → PutGap b later items → AcceptsItems m next later → bytes_of later ≡ more → Moved s b items more
+    Within : (next : S) (later : List (Item E)) (l : Letter) → l.byte ≡ b → m.step s b ≡ Go next → m.begun next ≡ true → PutLetter l later items → AcceptsItems m next later → bytes_of later ≡ more → Moved s b items more
+    Last : (next : S) (later : List (Item E)) (l : Letter) (e : E) → l.byte ≡ b → m.step s b ≡ End e next → PutLast l e later items → AcceptsItems m next later → bytes_of later ≡ more → Moved s b items more
 
   moved : (s : S) (b : ℕ) (items : List (Item E)) (more : List ℕ) → First m s items → bytes_of items ≡ b ∷ more → Moved s b items more
   moved s b _ more (Nothing d) e = cc
@@ -38,7 +38,7 @@ module _ {S E : Type 0} (m : Automaton S E) where
 
   -- what is known of shorter prefixes
   abbrev Known : List ℕ → Type 0
-  Known prefix = (s : S) (first : Option Place) (before : List ℕ) (items items' : List (Item E)) (rest rest' : List ℕ) (n : ℕ) → Accepts m s items → Accepts m s items' → bytes_of items ≡ prefix ++ rest → bytes_of items' ≡ prefix ++ rest' → n ≡ length before + length prefix
+  Known prefix = (s : S) (first : Option Place) (before : List ℕ) (items items' : List (Item E)) (rest rest' : List ℕ) (n : ℕ) → AcceptsItems m s items → AcceptsItems m s items' → bytes_of items ≡ prefix ++ rest → bytes_of items' ≡ prefix ++ rest' → n ≡ length before + length prefix
       → ended_within n (spans_since first before items) ≡ ended_within n (spans_since first before items')
 
   module _ (s : S) (b : ℕ) (prefix : List ℕ) (known : Known prefix) (first : Option Place) (before : List ℕ) (items items' : List (Item E)) (rest rest' : List ℕ) (n : ℕ) (is : n ≡ length before + length (b ∷ prefix)) where
@@ -59,7 +59,7 @@ module _ {S E : Type 0} (m : Automaton S E) where
     both (Between next later h o p a e) (Between next' later' h' o' p' a' e') =
         let same : next' ≡ next = one_state next' next (sym h' ∙ h) in
         ap (ended_within n) (in_gap later items p)
-        ∙ (known next first (before ++ b ∷ []) later later' rest rest' n a (subst (λ (y : S). Accepts m y later') same a') e e' longer
+        ∙ (known next first (before ++ b ∷ []) later later' rest rest' n a (subst (λ (y : S). AcceptsItems m y later') same a') e e' longer
         ∙ ap (ended_within n) (sym (in_gap later' items' p')))
     both (Between next later h o p a e) (Within next' later' l' byte' h' o' p' a' e') =
         let same : next' ≡ next = one_state next' next (sym h' ∙ h) in never (m.begun next') o' (ap m.begun same ∙ o)
@@ -69,25 +69,25 @@ module _ {S E : Type 0} (m : Automaton S E) where
     both (Within next later l byte h o p a e) (Within next' later' l' byte' h' o' p' a' e') =
         let same : next' ≡ next = one_state next' next (sym h' ∙ h) in
         ap (ended_within n) (in_text later items l byte p)
-        ∙ (known next (Some (place_or first (place_after before))) (before ++ b ∷ []) later later' rest rest' n a (subst (λ (y : S). Accepts m y later') same a') e e' longer
+        ∙ (known next (Some (place_or first (place_after before))) (before ++ b ∷ []) later later' rest rest' n a (subst (λ (y : S). AcceptsItems m y later') same a') e e' longer
         ∙ ap (ended_within n) (sym (in_text later' items' l' byte' p')))
     both (Within next later l byte h o p a e) (Last next' later' l' x' byte' h' p' a' e') = go_or_end next x' next' (sym h ∙ h')
     both (Last next later l x byte h p a e) (Between next' later' h' o' p' a' e') = go_or_end next' x next (sym h' ∙ h)
     both (Last next later l x byte h p a e) (Within next' later' l' byte' h' o' p' a' e') = go_or_end next' x next (sym h' ∙ h)
     both (Last next later l x byte h p a e) (Last next' later' l' x' byte' h' p' a' e') =
         let same : (x' ≡ x) × (next' ≡ next) = one_end x' x next' next (sym h' ∙ h) in
-        let k = known next None (before ++ b ∷ []) later later' rest rest' n a (subst (λ (y : S). Accepts m y later') same.1 a') e e' longer in
+        let k = known next None (before ++ b ∷ []) later later' rest rest' n a (subst (λ (y : S). AcceptsItems m y later') same.1 a') e e' longer in
         ap (ended_within n) (at_last later items l x byte p)
         ∙ (with_span n (span first before b x) _ _ k
         ∙ (ap (λ (y : E). ended_within n (span first before b y ∷ spans_since None (before ++ b ∷ []) later')) (sym same.0)
         ∙ ap (ended_within n) (sym (at_last later' items' l' x' byte' p'))))
 
   -- no statement has ended before its first byte
-  none_yet : (s : S) (first : Option Place) (before : List ℕ) (items : List (Item E)) (n : ℕ) → Accepts m s items → n ≡ length before + length {A = ℕ} [] → ended_within n (spans_since first before items) ≡ []
+  none_yet : (s : S) (first : Option Place) (before : List ℕ) (items : List (Item E)) (n : ℕ) → AcceptsItems m s items → n ≡ length before + length {A = ℕ} [] → ended_within n (spans_since first before items) ≡ []
   none_yet s first before items n a is =
       let same : n ≡ length before = omega (arith, is) in
       ap (λ (k : ℕ). ended_within k (spans_since first before items)) same
-      ∙ not_ended (Accepts m s) (λ i later h. has_text m s h.0 h.1 i.text i.event h.3) first before items a
+      ∙ not_ended (AcceptsItems m s) (λ i later h. has_text m s h.0 h.1 i.text i.event h.3) first before items a
 
   seen : (prefix : List ℕ) → Known prefix
   seen [] s first before items items' rest rest' n a a' e e' is =
@@ -95,5 +95,5 @@ module _ {S E : Type 0} (m : Automaton S E) where
   seen (b ∷ prefix) s first before items items' rest rest' n a a' e e' is =
       both s b prefix (seen prefix) first before items items' rest rest' n is (moved s b items (prefix ++ rest) (first_of m s items a) e) (moved s b items' (prefix ++ rest') (first_of m s items' a') e')
 
-  pub fixed_spans : (start : S) → HasFixedSpans (Accepts m start)
+  pub fixed_spans : (start : S) → HasFixedSpans (AcceptsItems m start)
   fixed_spans start prefix items items' a a' f f' = seen prefix start None [] items items' f.0 f'.0 (length prefix) a a' f.1 f'.1 (omega arith)

@@ -7,7 +7,7 @@ use Rattle.pb_text.proofs.over.pour_from.Goals as goal
 pub returns-in-Ok-clause-pours : goal.returns-in-Ok-clause-pours
 returns-in-Ok-clause-pours g c =
     let shown = c.in-Ok.bytes.now in
-    let fed = c.bite-used in
+    let fed = c.feed_statement-used in
     let rested = c.fill_buf.follows.lender-at-none in
     let before = g.T.Read.remaining c.args.reader.now in
     let after = g.T.Read.remaining c.consume.new.self in

@@ -1,5 +1,5 @@
 use Rattle.std.proofs.Common.{ap, ◌∙◌, ℕ, None}
-use Rattle.pb_text.specs.contract.Automaton.{Accepts, MayAsk}
+use Rattle.pb_text.specs.contract.Automaton.{AcceptsItems, MayAsk}
 use Rattle.pb_text.specs.meaning.Pulling.{faults_after}
 use Rattle.pb_text.proofs.lemmas.source.Overs.{reads_reported}
 use Rattle.pb_text.proofs.reader.read_from.Goals as goal
@@ -8,7 +8,7 @@ pub returns-clause-reads : goal.returns-clause-reads
 returns-clause-reads g c =
     let o = c.read_whole-read.new.source in
     let r = rw (c.new-source.ensures.inner, c.new-source.ensures.shown) at c.read_whole-read.ensures.reads in
-    reads_reported (Accepts g.M.Machine.automaton c.args.machine) c.args.longest g.G.Gather.with c.args.empty (MayAsk g.M.Machine.automaton c.args.machine) g.G.Gather.asks (g.T.Read.remaining c.args.reader) c.read_whole-read.result
+    reads_reported (AcceptsItems g.M.Machine.automaton c.args.machine) c.args.longest g.G.Gather.with c.args.empty (MayAsk g.M.Machine.automaton c.args.machine) g.G.Gather.asks (g.T.Read.remaining c.args.reader) c.read_whole-read.result
     (g.T.Read.remaining o.inner) (g.T.BufRead.consumable_len o.inner) o.shown r
 
 pub returns-clause-faults : goal.returns-clause-faults

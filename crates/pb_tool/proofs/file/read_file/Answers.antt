@@ -1,4 +1,4 @@
-use Rattle.pb_text.specs.contract.Automaton.{Accepts, MayAsk}
+use Rattle.pb_text.specs.contract.Automaton.{AcceptsItems, MayAsk}
 use Rattle.pb_text.specs.meaning.Whole.{IsWhole, ReadsWhole}
 use Rattle.pb_tool.specs.meaning.Tidy.IsRefused.{InText, InRest}
 use Rattle.pb_tool.proofs.lemmas.file.GivenBytes.{file_then_blank, given_file, given_stray, used_of}
@@ -21,14 +21,14 @@ returns-in_err-rest_is_blank-clause-refused g c =
 pub returns-in_err-rest_is_blank-clause-refused_given : goal.returns-in_err-rest_is_blank-clause-refused_given
 returns-in_err-rest_is_blank-clause-refused_given g c =
     passed_on _ _ _ c.from_residual-in_err-rest_is_blank.ensures.1
-    (given_stray (ReadsWhole (Accepts g.M.Machine.automaton c.args.machine) c.args.longest g.G.Gather.with c.args.empty (MayAsk g.M.Machine.automaton c.args.machine) g.G.Gather.asks) c.in_ok-read.read _
-    (λ given seen more r. used_of (λ used. IsWhole (Accepts g.M.Machine.automaton c.args.machine) c.args.longest g.G.Gather.with c.args.empty used c.in_ok-read.read) given seen more r) _ _ _ c.in_ok-read.ensures.given c.in_err-rest_is_blank.ensures.given)
+    (given_stray (ReadsWhole (AcceptsItems g.M.Machine.automaton c.args.machine) c.args.longest g.G.Gather.with c.args.empty (MayAsk g.M.Machine.automaton c.args.machine) g.G.Gather.asks) c.in_ok-read.read _
+    (λ given seen more r. used_of (λ used. IsWhole (AcceptsItems g.M.Machine.automaton c.args.machine) c.args.longest g.G.Gather.with c.args.empty used c.in_ok-read.read) given seen more r) _ _ _ c.in_ok-read.ensures.given c.in_err-rest_is_blank.ensures.given)
 
 pub returns-clause-file : goal.returns-clause-file
 returns-clause-file g c =
     let (used, seen, took, read) = c.in_ok-read.ensures.reads in
-    file_then_blank (IsWhole (Accepts g.M.Machine.automaton c.args.machine) c.args.longest g.G.Gather.with c.args.empty) c.in_ok-read.read _ _ _ used seen took read read.past c.in_ok-rest_is_blank.ensures.blank
+    file_then_blank (IsWhole (AcceptsItems g.M.Machine.automaton c.args.machine) c.args.longest g.G.Gather.with c.args.empty) c.in_ok-read.read _ _ _ used seen took read read.past c.in_ok-rest_is_blank.ensures.blank
 
 pub returns-clause-given : goal.returns-clause-given
 returns-clause-given g c =
-    given_file (IsWhole (Accepts g.M.Machine.automaton c.args.machine) c.args.longest g.G.Gather.with c.args.empty) c.in_ok-read.read (λ used r. r.past) _ _ _ c.in_ok-read.ensures.given c.in_ok-rest_is_blank.ensures.given
+    given_file (IsWhole (AcceptsItems g.M.Machine.automaton c.args.machine) c.args.longest g.G.Gather.with c.args.empty) c.in_ok-read.read (λ used r. r.past) _ _ _ c.in_ok-read.ensures.given c.in_ok-rest_is_blank.ensures.given

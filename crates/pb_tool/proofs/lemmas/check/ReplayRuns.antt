@@ -1,7 +1,7 @@
 -- What a run of a replay through the statements of a source ensures.
 use Rattle.std.proofs.Common.{◌≡◌, ◌⊎◌, ℕ, List, [], ◌∷◌, ◌++◌, Bool, true, false, Option, Some, None, Result, Ok, Err, refl, sym, ap, ◌∙◌, subst, inl, inr}
 use Rattle.pb_text.specs.meaning.Limits.{largest, top_of}
-use Rattle.pb_text.specs.contract.Automaton.{Accepts as AcceptsBytes, MayAsk}
+use Rattle.pb_text.specs.contract.Automaton.{AcceptsItems as AcceptsBytes, MayAsk}
 use Rattle.pb_text.specs.meaning.Reading.{Reads}
 use Rattle.pb_text.specs.meaning.PullsInARow.{TookAll, TookSoFar}
 use Rattle.pb_text.specs.meaning.Spelling.{Item}

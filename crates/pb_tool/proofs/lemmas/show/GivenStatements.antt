@@ -1,7 +1,7 @@
 -- Statements that are shown one after another, for the bytes that the calls of a source have given.
 use Rattle.std.proofs.Common.{◌≡◌, ℕ, List, [], ◌∷◌, ◌++◌, length, true, false, Option, Some, None, Result, Ok, Err, refl, sym, ap, ◌∙◌, subst, append_assoc, length-append, arith}
 use Rattle.std.proofs.lemmas.List.{append_cancel_right}
-use Rattle.pb_text.specs.contract.Automaton.{Accepts}
+use Rattle.pb_text.specs.contract.Automaton.{AcceptsItems}
 use Rattle.pb_text.specs.contract.Feeding.{StandsAt, place_of, halt_of, stop_of, is_complete}
 use Rattle.pb_text.specs.meaning.Pulling.{OfGiven, Pulls}
 use Rattle.pb_text.specs.meaning.Stopping.{IsAsking}
@@ -41,7 +41,7 @@ module _ {M E : Type 0} {g : Ghosts M E} (longest : ℕ) (start : M) (before mid
   )
 
   pub given_so_far : (m : Spanned E) → OfGiven (λ text end. PullsOn longest start text spans (Ok (Some m)) new end) before after
-      → OfGiven (λ text end. TookSoFar (Accepts g.automaton start) longest text end (spans ++ m ∷ []) m.past) before after
+      → OfGiven (λ text end. TookSoFar (AcceptsItems g.automaton start) longest text end (spans ++ m ∷ []) m.past) before after
   given_so_far m (given, seen, e, on) = (given, seen, e, on.1)
 
   -- the state of the feeder after an event

@@ -1,5 +1,5 @@
 use Rattle.std.proofs.Common.{◌≡◌, sym, subst}
-use Rattle.pb_opb.specs.engine.Machine.{plan}
+use Rattle.pb_opb.specs.engine.Machine.{transition}
 use Rattle.pb_opb.specs.engine.State.{OpbState}
 use Rattle.pb_opb.specs.contracts.machine.OpbMachine.{the_view}
 use Rattle.pb_opb.specs.declared.phase.Action.TheVariants.{Give}
@@ -9,13 +9,13 @@ use Rattle.pb_opb.proofs.machine.OpbMachine.end_sum.Goals as goal
 pub invariant_of-self : goal.invariant_of-self
 invariant_of-self c =
     let s : OpbState = the_view c.self.inside in
-    let planned : plan s.top s.phase c.args.byte ≡ Give c.args.phase = subst (λ (x : OpbState). plan x.top x.phase c.args.byte ≡ Give c.args.phase) (sym c.self.view_is) c.requires in
-    rw (c.phase_owing-self-inside.ensures, c.owed_after-self-inside.ensures)
-    (end_order s c.self.invariant c.args.byte c.args.phase c.closes.new.self c.restart.new.self c.in-Some.event planned c.in-Some.ensures.closes c.restart.ensures.begins c.restart.ensures.state)
+    let planned : transition s.top s.phase c.args.byte ≡ Give c.args.phase = subst (λ (x : OpbState). transition x.top x.phase c.args.byte ≡ Give c.args.phase) (sym c.self.view_is) c.requires in
+    rw (c.phase_owing-self-inside.ensures, c.remaining_after-self-inside.ensures)
+    (end_order s c.self.invariant c.args.byte c.args.phase c.try_finish.new.self c.restart.new.self c.in-Some.event planned c.in-Some.ensures.finishes c.restart.ensures.begins c.restart.ensures.state)
 
 pub returns-in-Some : goal.returns-in-Some
 returns-in-Some c =
     let s : OpbState = the_view c.self.inside in
-    let planned : plan s.top s.phase c.args.byte ≡ Give c.args.phase = subst (λ (x : OpbState). plan x.top x.phase c.args.byte ≡ Give c.args.phase) (sym c.self.view_is) c.requires in
-    rw (← c.self.view_is, c.statement_of.ensures, c.phase_owing-self-inside.ensures, c.owed_after-self-inside.ensures)
-    (end_step s c.self.invariant c.args.byte c.args.phase c.closes.new.self c.restart.new.self c.in-Some.event planned c.in-Some.ensures.closes c.restart.ensures.begins)
+    let planned : transition s.top s.phase c.args.byte ≡ Give c.args.phase = subst (λ (x : OpbState). transition x.top x.phase c.args.byte ≡ Give c.args.phase) (sym c.self.view_is) c.requires in
+    rw (← c.self.view_is, c.statement_of.ensures, c.phase_owing-self-inside.ensures, c.remaining_after-self-inside.ensures)
+    (end_step s c.self.invariant c.args.byte c.args.phase c.try_finish.new.self c.restart.new.self c.in-Some.event planned c.in-Some.ensures.finishes c.restart.ensures.begins)

@@ -11,7 +11,7 @@ use Rattle.pb_opb.proofs.machine.OpbMachine.take.Goals as goal
 pub invariant_of-self : goal.invariant_of-self
 invariant_of-self c =
     let s : OpbState = the_view c.self.inside in
-    to_order s c.self.invariant c.args.byte c.in-To.phase (planned_at c.top.result s.top s.phase c.args.byte (To c.in-To.phase) c.top.ensures.value c.in-To.ensures.plan)
+    to_order s c.self.invariant c.args.byte c.in-To.phase (planned_at c.top.result s.top s.phase c.args.byte (To c.in-To.phase) c.top.ensures.value c.in-To.ensures.transition)
     (subst (λ (n : ℕ). PhaseFits n c.in-To.phase) c.top.ensures.value c.in-To.ensures.fits)
 
 -- a text that could not grow is unchanged
@@ -21,13 +21,13 @@ same_text s text e = ap (λ (t : List ℕ). let x : OpbState = record s { text =
 pub returns-then-is_err : goal.returns-then-is_err
 returns-then-is_err c =
     let s : OpbState = the_view c.self.inside in
-    let k = tail_admits s c.self.invariant c.args.byte c.in-BeginTail.constraints c.in-BeginTail.first (planned_at c.top.result s.top s.phase c.args.byte (BeginTail c.in-BeginTail.constraints c.in-BeginTail.first) c.top.ensures.value c.in-BeginTail.ensures.plan) in
+    let k = tail_admits s c.self.invariant c.args.byte c.in-BeginTail.constraints c.in-BeginTail.first (planned_at c.top.result s.top s.phase c.args.byte (BeginTail c.in-BeginTail.constraints c.in-BeginTail.first) c.top.ensures.value c.in-BeginTail.ensures.transition) in
     subst (λ (x : OpbState). IsTrue (opb.asks x c.args.byte) × Admits opb x c.args.byte × (record s { text = c.push.new.self } ≡ x)) c.self.view_is
     (k.0, k.1, same_text s c.push.new.self (unchanged c.push.result _ _ _ c.push.ensures (sym c.is_err.ensures.value ∙ c.if-is_err.true)))
 
 pub returns-then-is_err-2 : goal.returns-then-is_err-2
 returns-then-is_err-2 c =
     let s : OpbState = the_view c.self.inside in
-    let k = keep_admits s c.self.invariant c.args.byte c.in-Keep.next (planned_at c.top.result s.top s.phase c.args.byte (Keep c.in-Keep.next) c.top.ensures.value c.in-Keep.ensures.plan) in
+    let k = keep_admits s c.self.invariant c.args.byte c.in-Keep.next (planned_at c.top.result s.top s.phase c.args.byte (Keep c.in-Keep.next) c.top.ensures.value c.in-Keep.ensures.transition) in
     subst (λ (x : OpbState). IsTrue (opb.asks x c.args.byte) × Admits opb x c.args.byte × (record s { text = c.push-in-Keep.new.self } ≡ x)) c.self.view_is
     (k.0, k.1, same_text s c.push-in-Keep.new.self (unchanged c.push-in-Keep.result _ _ _ c.push-in-Keep.ensures (sym c.is_err-in-Keep.ensures.value ∙ c.if-is_err-2.true)))

@@ -1,6 +1,6 @@
 use Rattle.std.proofs.Common.{◌≡◌, sym, subst, Some, IsTrue, refl}
 use Rattle.pb_text.specs.contract.Automaton.{Admits}
-use Rattle.pb_proof.specs.engine.Machine.Transition.{plan}
+use Rattle.pb_proof.specs.engine.Machine.Transition.{transition}
 use Rattle.pb_proof.specs.engine.Machine.State.{ProofState, IsInOrder, proofs}
 use Rattle.pb_proof.specs.contracts.machine.ProofMachine.{the_view}
 use Rattle.pb_proof.specs.declared.line.LineMachine.{LineMachine}
@@ -11,7 +11,7 @@ use Rattle.pb_proof.proofs.machine.ProofMachine.give.Goals as goal
 pub invariant_of-self-in-Go : goal.invariant_of-self-in-Go
 invariant_of-self-in-Go c =
     let s : ProofState = the_view c.self.inside in
-    let planned : plan s.phase c.args.byte ≡ Give c.args.kind = subst (λ (x : ProofState). plan x.phase c.args.byte ≡ Give c.args.kind) (sym c.self.view_is) c.requires in
+    let planned : transition s.phase c.args.byte ≡ Give c.args.kind = subst (λ (x : ProofState). transition x.phase c.args.byte ≡ Give c.args.kind) (sym c.self.view_is) c.requires in
     let order = give_order s c.self.invariant c.args.byte c.args.kind planned c.in-Some.line c.push.new.self c.in-Some.is c.in-Go.ensures.pushes c.in-Go.ensures.state in
     subst (λ p. IsInOrder (record { limit = s.limit; top = s.top; phase = p; line = Some c.push.new.self }))
     (sym (known s c.self.invariant c.args.byte (Give c.args.kind) planned)) order
@@ -25,7 +25,7 @@ same_view s old new e h = rw (h, ← e) (same s)
 pub returns-in-Memory : goal.returns-in-Memory
 returns-in-Memory c =
     let s : ProofState = the_view c.self.inside in
-    let planned : plan s.phase c.args.byte ≡ Give c.args.kind = subst (λ (x : ProofState). plan x.phase c.args.byte ≡ Give c.args.kind) (sym c.self.view_is) c.requires in
+    let planned : transition s.phase c.args.byte ≡ Give c.args.kind = subst (λ (x : ProofState). transition x.phase c.args.byte ≡ Give c.args.kind) (sym c.self.view_is) c.requires in
     let p = c.in-Memory.ensures.pushes in
     let k = give_admits s c.self.invariant c.args.byte c.args.kind planned c.in-Some.line c.in-Some.is p.0 p.1 in
     subst (λ (x : ProofState). IsTrue (proofs.asks x c.args.byte) × Admits proofs x c.args.byte × (record s { line = Some c.push.new.self } ≡ x)) c.self.view_is

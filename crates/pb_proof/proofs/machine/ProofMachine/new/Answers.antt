@@ -1,5 +1,5 @@
 use Rattle.pb_text.specs.meaning.Limits.{largest, top_of}
-use Rattle.pb_text.specs.contract.Automaton.{Accepts}
+use Rattle.pb_text.specs.contract.Automaton.{AcceptsItems}
 use Rattle.pb_text.proofs.lemmas.text.Formats as formats
 use Rattle.pb_proof.specs.meaning.Proofs.{IsProof}
 use Rattle.pb_proof.specs.engine.Machine.State.{proofs, begin}
@@ -14,7 +14,7 @@ pub returns-clause-reads : goal.returns-clause-reads
 returns-clause-reads c =
     let l = largest c.args.limits in
     let t = top_of c.args.limits in
-    λ longest. formats.reads (Accepts proofs (begin l t)) (IsProof l t) (λ items h. (reads_proofs l t items).0 h) (λ items h. (reads_proofs l t items).1 h) longest
+    λ longest. formats.reads (AcceptsItems proofs (begin l t)) (IsProof l t) (λ items h. (reads_proofs l t items).0 h) (λ items h. (reads_proofs l t items).1 h) longest
 
 pub returns-clause-asks : goal.returns-clause-asks
 returns-clause-asks c = asks_only (largest c.args.limits) (top_of c.args.limits)

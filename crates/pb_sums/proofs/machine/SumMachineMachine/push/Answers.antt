@@ -11,7 +11,7 @@ use Rattle.pb_sums.proofs.machine.SumMachineMachine.push.Goals as goal
 pub returns-then-is_err-clause-pushes : goal.returns-then-is_err-clause-pushes
 returns-then-is_err-clause-pushes c = rw (← c.self.view_is) (
     let f = wants c.self.inside.spaces c.self.inside.part c.self.inside.limit c.self.inside.terms c.self.inside.name c.self.inside.phase c.args.byte
-    c.is_numeric.result c.kind-kind.result (Begin c.in-Begin.phase c.in-Begin.first) c.is_numeric.ensures c.kind-kind.ensures.kind c.in-Begin.ensures.plan tt refl in
+    c.is_numeric.result c.kind-kind.result (Begin c.in-Begin.phase c.in-Begin.first) c.is_numeric.ensures c.kind-kind.ensures.kind c.in-Begin.ensures.transition tt refl in
     (f.0, f.1, refl)
     )
 
@@ -22,7 +22,7 @@ pub returns-then-is_err-2-clause-pushes : goal.returns-then-is_err-2-clause-push
 returns-then-is_err-2-clause-pushes c = rw (← c.self.view_is) (
     let k = unchanged c.push-in-Add.result _ _ _ c.push-in-Add.ensures (sym c.if-is_err-2.ensures.value) in
     let f = wants c.self.inside.spaces c.self.inside.part c.self.inside.limit c.self.inside.terms c.self.inside.name c.self.inside.phase c.args.byte
-    c.is_numeric.result c.kind-kind.result (Add c.in-Add.phase c.in-Add.next) c.is_numeric.ensures c.kind-kind.ensures.kind c.in-Add.ensures.plan tt refl in
+    c.is_numeric.result c.kind-kind.result (Add c.in-Add.phase c.in-Add.next) c.is_numeric.ensures c.kind-kind.ensures.kind c.in-Add.ensures.transition tt refl in
     (f.0, f.1, same_state c.self.inside.spaces c.self.inside.part c.self.inside.limit _ _ _ _ _ _ refl k refl)
     )
 
@@ -35,7 +35,7 @@ pub returns-then-is_err-3-clause-pushes : goal.returns-then-is_err-3-clause-push
 returns-then-is_err-3-clause-pushes c = rw (← c.self.view_is) (
     let k = when_err c.flush.result _ c.flush.ensures.err (sym c.if-is_err-3.ensures.value) in
     let f = wants c.self.inside.spaces c.self.inside.part c.self.inside.limit c.self.inside.terms c.self.inside.name c.self.inside.phase c.args.byte
-    c.is_numeric.result c.kind-kind.result (To c.in-To.phase) c.is_numeric.ensures c.kind-kind.ensures.kind c.in-To.ensures.plan tt k.0 in
+    c.is_numeric.result c.kind-kind.result (To c.in-To.phase) c.is_numeric.ensures c.kind-kind.ensures.kind c.in-To.ensures.transition tt k.0 in
     (f.0, f.1, same_state c.self.inside.spaces c.self.inside.part c.self.inside.limit _ _ _ _ _ _ k.1 k.2 refl)
     )
 
@@ -59,7 +59,7 @@ pub returns-else-is_err-3-clause-pushes : goal.returns-else-is_err-3-clause-push
 returns-else-is_err-3-clause-pushes c = rw (← c.self.view_is) (
     let k = when_ok c.flush.result _ c.flush.ensures.ok (sym c.if-is_err-3.ensures.value) in
     goes_to c.self.inside.spaces c.self.inside.part c.self.inside.limit c.self.inside.terms _ c.self.inside.name c.self.inside.phase c.in-To.phase c.args.byte
-    c.is_numeric.result c.kind-kind.result _ k.1 c.is_numeric.ensures c.kind-kind.ensures.kind c.in-To.ensures.plan k.0
+    c.is_numeric.result c.kind-kind.result _ k.1 c.is_numeric.ensures c.kind-kind.ensures.kind c.in-To.ensures.transition k.0
     )
 
 pub returns-else-is_err-3-clause-state : goal.returns-else-is_err-3-clause-state
@@ -70,7 +70,7 @@ pub returns-in_default-clause-pushes : goal.returns-in_default-clause-pushes
 returns-in_default-clause-pushes c = rw (← c.self.view_is) (
     let k = c.in_default.ensures.err in
     let f = wants c.self.inside.spaces c.self.inside.part c.self.inside.limit c.self.inside.terms c.self.inside.name c.self.inside.phase c.args.byte
-    c.is_numeric.result c.kind-kind.result EndSum c.is_numeric.ensures c.kind-kind.ensures.kind c.in-EndSum.ensures.plan tt k.0 in
+    c.is_numeric.result c.kind-kind.result EndSum c.is_numeric.ensures c.kind-kind.ensures.kind c.in-EndSum.ensures.transition tt k.0 in
     (f.0, f.1, same_state c.self.inside.spaces c.self.inside.part c.self.inside.limit _ _ _ _ _ _ k.1 k.2 k.3)
     )
 
@@ -79,14 +79,14 @@ returns-in_default-clause-state c =
     let k = c.in_default.ensures.err in
     rw (k.1, k.2, k.3) (is_state _ c.self.invariant.1)
 
-pub plan-requires-clause-room : goal.plan-requires-clause-room
-plan-requires-clause-room c = c.self.invariant.0
+pub transition-requires-clause-room : goal.transition-requires-clause-room
+transition-requires-clause-room c = c.self.invariant.0
 
-pub plan-requires-clause-phase : goal.plan-requires-clause-phase
-plan-requires-clause-phase c = c.self.invariant.1.0
+pub transition-requires-clause-phase : goal.transition-requires-clause-phase
+transition-requires-clause-phase c = c.self.invariant.1.0
 
-pub plan-requires-clause-kind : goal.plan-requires-clause-kind
-plan-requires-clause-kind c = c.kind-kind.ensures.fits
+pub transition-requires-clause-kind : goal.transition-requires-clause-kind
+transition-requires-clause-kind c = c.kind-kind.ensures.fits
 
 pub push-requires : goal.push-requires
 push-requires c = c.in-Begin.ensures.fits.2
@@ -97,28 +97,28 @@ push-requires-in-Add c = c.in-Add.ensures.fits.2
 pub returns-in-Stop-clause-pushes : goal.returns-in-Stop-clause-pushes
 returns-in-Stop-clause-pushes c = rw (← c.self.view_is) (
     refuses c.self.inside.spaces c.self.inside.part c.self.inside.limit c.self.inside.terms c.self.inside.name c.self.inside.phase c.args.byte c.is_numeric.result c.kind-kind.result Stop c.refusal.result c.refusal.ensures
-    c.is_numeric.ensures c.kind-kind.ensures.kind c.in-Stop.ensures.plan
+    c.is_numeric.ensures c.kind-kind.ensures.kind c.in-Stop.ensures.transition
     )
 
 pub returns-else-is_err-clause-pushes : goal.returns-else-is_err-clause-pushes
 returns-else-is_err-clause-pushes c = rw (← c.self.view_is) (
     let k = grown c.push.result _ _ _ c.push.ensures (sym c.if-is_err.ensures.value) ∙ ap (λ (x : List ℕ). x ++ c.in-Begin.first ∷ []) c.new-name.ensures in
     begins_to c.self.inside.spaces c.self.inside.part c.self.inside.limit c.self.inside.terms c.self.inside.name c.self.inside.phase c.in-Begin.phase c.args.byte
-    c.is_numeric.result c.kind-kind.result c.in-Begin.first _ k c.is_numeric.ensures c.kind-kind.ensures.kind c.in-Begin.ensures.plan
+    c.is_numeric.result c.kind-kind.result c.in-Begin.first _ k c.is_numeric.ensures c.kind-kind.ensures.kind c.in-Begin.ensures.transition
     )
 
 pub returns-else-is_err-2-clause-pushes : goal.returns-else-is_err-2-clause-pushes
 returns-else-is_err-2-clause-pushes c = rw (← c.self.view_is) (
     let k = grown c.push-in-Add.result _ _ _ c.push-in-Add.ensures (sym c.if-is_err-2.ensures.value) in
     adds_to c.self.inside.spaces c.self.inside.part c.self.inside.limit c.self.inside.terms c.self.inside.name c.self.inside.phase c.in-Add.phase c.args.byte
-    c.is_numeric.result c.kind-kind.result c.in-Add.next _ k c.is_numeric.ensures c.kind-kind.ensures.kind c.in-Add.ensures.plan
+    c.is_numeric.result c.kind-kind.result c.in-Add.next _ k c.is_numeric.ensures c.kind-kind.ensures.kind c.in-Add.ensures.transition
     )
 
 pub returns-in-Ok-clause-pushes : goal.returns-in-Ok-clause-pushes
 returns-in-Ok-clause-pushes c = rw (← c.self.view_is) (
     let k = c.in-Ok.ensures.ok in
     ends_sum c.self.inside.spaces c.self.inside.part c.self.inside.limit c.self.inside.terms _ _ c.self.inside.name _ c.self.inside.phase _ c.args.byte c.is_numeric.result c.kind-kind.result
-    c.is_numeric.ensures c.kind-kind.ensures.kind c.in-EndSum.ensures.plan c.in-Ok.ensures.terms k.0 k.1 k.2
+    c.is_numeric.ensures c.kind-kind.ensures.kind c.in-EndSum.ensures.transition c.in-Ok.ensures.terms k.0 k.1 k.2
     )
 
 pub returns-in-Ok-clause-state : goal.returns-in-Ok-clause-state
@@ -132,7 +132,7 @@ returns-in-Ok-finish-clause-pushes c = rw (← c.self.view_is) (
     let k = c.in-Ok-finish.ensures.ok in
     rw (to_z-of_z w128 c.in-EndLinear.degree fits) (
     ends_linear c.self.inside.spaces c.self.inside.part c.self.inside.limit c.self.inside.terms _ _ c.self.inside.name _ c.self.inside.phase _ c.args.byte c.is_numeric.result c.kind-kind.result c.in-EndLinear.relation c.in-EndLinear.degree
-    c.is_numeric.ensures c.kind-kind.ensures.kind c.in-EndLinear.ensures.plan c.in-Ok-finish.ensures.terms k.0 k.1 k.2)
+    c.is_numeric.ensures c.kind-kind.ensures.kind c.in-EndLinear.ensures.transition c.in-Ok-finish.ensures.terms k.0 k.1 k.2)
     )
 
 pub returns-in-Ok-finish-clause-state : goal.returns-in-Ok-finish-clause-state
@@ -144,7 +144,7 @@ pub returns-in_default-finish-clause-pushes : goal.returns-in_default-finish-cla
 returns-in_default-finish-clause-pushes c = rw (← c.self.view_is) (
     let k = c.in_default-finish.ensures.err in
     let f = wants c.self.inside.spaces c.self.inside.part c.self.inside.limit c.self.inside.terms c.self.inside.name c.self.inside.phase c.args.byte
-    c.is_numeric.result c.kind-kind.result (EndLinear c.in-EndLinear.relation c.in-EndLinear.degree) c.is_numeric.ensures c.kind-kind.ensures.kind c.in-EndLinear.ensures.plan tt k.0 in
+    c.is_numeric.result c.kind-kind.result (EndLinear c.in-EndLinear.relation c.in-EndLinear.degree) c.is_numeric.ensures c.kind-kind.ensures.kind c.in-EndLinear.ensures.transition tt k.0 in
     (f.0, f.1, same_state c.self.inside.spaces c.self.inside.part c.self.inside.limit _ _ _ _ _ _ k.1 k.2 k.3)
     )
 

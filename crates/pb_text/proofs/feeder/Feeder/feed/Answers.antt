@@ -73,7 +73,7 @@ returns-in-Ok-Some-clause-feeds g c = rw c.with_event.ensures (
 pub loop-used-preserved : goal.loop-used-preserved
 loop-used-preserved g c =
     let t = rw (c.in-Ok-None.is, c.in-Ok-None.field-0-is) at c.take.ensures in
-    let r = c.run-used-in-loop-used in
+    let r = c.feed_fast-used-in-loop-used in
     let piece = c.args.piece.now in
     let i = c.loop-used.used in
     record {

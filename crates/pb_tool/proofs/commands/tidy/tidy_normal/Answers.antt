@@ -1,5 +1,5 @@
 use Rattle.std.proofs.Common.{Some, ◌++◌, ◌∙◌, refl}
-use Rattle.pb_text.specs.contract.Automaton.{Accepts, MayAsk}
+use Rattle.pb_text.specs.contract.Automaton.{AcceptsItems, MayAsk}
 use Rattle.pb_opb.specs.engine.State.{opb}
 use Rattle.pb_tool.proofs.lemmas.tidy.NormalFile.{reported_faults, reported_file, reported_on, unnoted}
 use Rattle.pb_tool.proofs.commands.tidy.tidy_normal.Goals as goal
@@ -7,17 +7,17 @@ use Rattle.pb_tool.proofs.commands.tidy.tidy_normal.Goals as goal
 pub returns-in-Err-clause-tidies : goal.returns-in-Err-clause-tidies
 returns-in-Err-clause-tidies g c =
     let stopped = rw c.new-empty.ensures at c.in-Err.ensures.refused in
-    rw c.text_fault.ensures (unnoted c.args.limits c.args.longest (Accepts opb c.new-machine.result) c.new-machine.ensures.accepts _ _ (MayAsk opb c.new-machine.result) c.new-machine.ensures.asks c.in-Err.refusal stopped, refl)
+    rw c.text_fault.ensures (unnoted c.args.limits c.args.longest (AcceptsItems opb c.new-machine.result) c.new-machine.ensures.accepts _ _ (MayAsk opb c.new-machine.result) c.new-machine.ensures.asks c.in-Err.refusal stopped, refl)
 
 pub returns-in-Err-clause-given : goal.returns-in-Err-clause-given
 returns-in-Err-clause-given g c =
     let (given, seen, e, stopped) = rw c.new-empty.ensures at c.in-Err.ensures.refused_given in
-    rw c.text_fault.ensures (given, seen, e, (unnoted c.args.limits c.args.longest (Accepts opb c.new-machine.result) c.new-machine.ensures.accepts (Some (given ++ seen)) (Some seen) (MayAsk opb c.new-machine.result) c.new-machine.ensures.asks c.in-Err.refusal stopped, refl))
+    rw c.text_fault.ensures (given, seen, e, (unnoted c.args.limits c.args.longest (AcceptsItems opb c.new-machine.result) c.new-machine.ensures.accepts (Some (given ++ seen)) (Some seen) (MayAsk opb c.new-machine.result) c.new-machine.ensures.asks c.in-Err.refusal stopped, refl))
 
 pub returns-clause-tidies : goal.returns-clause-tidies
 returns-clause-tidies g c =
     let file = rw c.new-empty.ensures at c.in-Ok.ensures.file in
-    reported_file c.args.limits c.args.longest (Accepts opb c.new-machine.result) c.new-machine.ensures.accepts _ _ g.W.Sink.contents g.W.Sink.faults c.in-Ok.text file c.args.out.now c.write.result c.write.new.out c.write.ensures
+    reported_file c.args.limits c.args.longest (AcceptsItems opb c.new-machine.result) c.new-machine.ensures.accepts _ _ g.W.Sink.contents g.W.Sink.faults c.in-Ok.text file c.args.out.now c.write.result c.write.new.out c.write.ensures
 
 pub returns-clause-given : goal.returns-clause-given
 returns-clause-given g c =
@@ -25,16 +25,16 @@ returns-clause-given g c =
       given,
       seen,
       e,
-      reported_file c.args.limits c.args.longest (Accepts opb c.new-machine.result) c.new-machine.ensures.accepts (Some (given ++ seen)) (Some seen) g.W.Sink.contents g.W.Sink.faults c.in-Ok.text file c.args.out.now c.write.result c.write.new.out c.write.ensures,
+      reported_file c.args.limits c.args.longest (AcceptsItems opb c.new-machine.result) c.new-machine.ensures.accepts (Some (given ++ seen)) (Some seen) g.W.Sink.contents g.W.Sink.faults c.in-Ok.text file c.args.out.now c.write.result c.write.new.out c.write.ensures,
     )
 
 pub returns-clause-faults : goal.returns-clause-faults
 returns-clause-faults g c =
     let file = rw c.new-empty.ensures at c.in-Ok.ensures.file in
-    c.in-Ok.ensures.faults ∙ reported_faults c.args.limits c.args.longest (Accepts opb c.new-machine.result) c.new-machine.ensures.accepts _ _ g.W.Sink.contents g.W.Sink.faults c.in-Ok.text file c.args.out.now c.write.result c.write.new.out (g.S.Source.faults c.args.input.now) c.write.ensures
+    c.in-Ok.ensures.faults ∙ reported_faults c.args.limits c.args.longest (AcceptsItems opb c.new-machine.result) c.new-machine.ensures.accepts _ _ g.W.Sink.contents g.W.Sink.faults c.in-Ok.text file c.args.out.now c.write.result c.write.new.out (g.S.Source.faults c.args.input.now) c.write.ensures
 
 pub returns-clause-seen : goal.returns-clause-seen
 returns-clause-seen g c =
     let file = rw c.new-empty.ensures at c.in-Ok.ensures.file in
-    reported_on c.args.limits c.args.longest (Accepts opb c.new-machine.result) c.new-machine.ensures.accepts _ _ g.W.Sink.contents g.W.Sink.faults c.in-Ok.text file c.args.out.now
+    reported_on c.args.limits c.args.longest (AcceptsItems opb c.new-machine.result) c.new-machine.ensures.accepts _ _ g.W.Sink.contents g.W.Sink.faults c.in-Ok.text file c.args.out.now
     (g.S.Source.shown c.read_file.new.input) (g.S.Source.ended c.read_file.new.input) c.in-Ok.ensures.ended c.write.result c.write.new.out c.write.ensures

@@ -1,12 +1,12 @@
 use Rattle.std.proofs.Common.{Some, ◌++◌}
-use Rattle.pb_text.specs.contract.Automaton.{Accepts, MayAsk}
+use Rattle.pb_text.specs.contract.Automaton.{AcceptsItems, MayAsk}
 use Rattle.pb_proof.specs.engine.Machine.State.{proofs}
 use Rattle.pb_tool.proofs.lemmas.tidy.ProofLines.{tidies_text}
 use Rattle.pb_tool.proofs.commands.tidy.tidy_proof.Goals as goal
 
 pub returns-clause-tidies : goal.returns-clause-tidies
 returns-clause-tidies g c =
-    tidies_text c.args.limits c.args.longest (Accepts proofs c.new.result) c.new.ensures.accepts c.new-2.result c.new-2.ensures (MayAsk proofs c.new.result) c.new.ensures.asks g.W.Sink.contents g.W.Sink.faults _ _ c.tidy_each.result _ _ c.tidy_each.ensures.tidies
+    tidies_text c.args.limits c.args.longest (AcceptsItems proofs c.new.result) c.new.ensures.accepts c.new-2.result c.new-2.ensures (MayAsk proofs c.new.result) c.new.ensures.asks g.W.Sink.contents g.W.Sink.faults _ _ c.tidy_each.result _ _ c.tidy_each.ensures.tidies
 
 pub returns-clause-given : goal.returns-clause-given
 returns-clause-given g c =
@@ -14,5 +14,5 @@ returns-clause-given g c =
       given,
       seen,
       e,
-      tidies_text c.args.limits c.args.longest (Accepts proofs c.new.result) c.new.ensures.accepts c.new-2.result c.new-2.ensures (MayAsk proofs c.new.result) c.new.ensures.asks g.W.Sink.contents g.W.Sink.faults (Some (given ++ seen)) c.args.out.now c.tidy_each.result (Some seen) c.tidy_each.new.out tidies,
+      tidies_text c.args.limits c.args.longest (AcceptsItems proofs c.new.result) c.new.ensures.accepts c.new-2.result c.new-2.ensures (MayAsk proofs c.new.result) c.new.ensures.asks g.W.Sink.contents g.W.Sink.faults (Some (given ++ seen)) c.args.out.now c.tidy_each.result (Some seen) c.tidy_each.new.out tidies,
     )

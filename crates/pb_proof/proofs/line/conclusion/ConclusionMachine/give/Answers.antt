@@ -1,6 +1,6 @@
 use Rattle.std.proofs.Common.{◌≡◌, false, IsTrue, sym, subst}
 use Rattle.pb_text.specs.contract.Automaton.{Refuse, Admits, is_large}
-use Rattle.pb_proof.specs.engine.Line.Conclusion.{plan}
+use Rattle.pb_proof.specs.engine.Line.Conclusion.{transition}
 use Rattle.pb_proof.specs.engine.Line.ConclusionState.{ConclusionState, conclusion_automaton, giving}
 use Rattle.pb_proof.specs.contracts.line.conclusion.ConclusionMachine.{the_view}
 use Rattle.pb_proof.specs.declared.line.conclusion.phase.Action.TheVariants.{Give}
@@ -10,13 +10,13 @@ use Rattle.pb_proof.proofs.line.conclusion.ConclusionMachine.give.Goals as goal
 pub invariant_of-self : goal.invariant_of-self
 invariant_of-self c =
     let s : ConclusionState = the_view c.self.inside in
-    let planned : plan s.limit s.top s.phase c.args.byte ≡ Give c.args.showing = subst (λ (x : ConclusionState). plan x.limit x.top x.phase c.args.byte ≡ Give c.args.showing) (sym c.self.view_is) c.requires in
+    let planned : transition s.limit s.top s.phase c.args.byte ≡ Give c.args.showing = subst (λ (x : ConclusionState). transition x.limit x.top x.phase c.args.byte ≡ Give c.args.showing) (sym c.self.view_is) c.requires in
     give_order s c.self.invariant c.args.byte c.args.showing planned c.push.new.self c.in-Go.ensures.pushes
 
 pub returns-in-No : goal.returns-in-No
 returns-in-No c =
     let s : ConclusionState = the_view c.self.inside in
-    let planned : plan s.limit s.top s.phase c.args.byte ≡ Give c.args.showing = subst (λ (x : ConclusionState). plan x.limit x.top x.phase c.args.byte ≡ Give c.args.showing) (sym c.self.view_is) c.requires in
+    let planned : transition s.limit s.top s.phase c.args.byte ≡ Give c.args.showing = subst (λ (x : ConclusionState). transition x.limit x.top x.phase c.args.byte ≡ Give c.args.showing) (sym c.self.view_is) c.requires in
     let p = c.in-No.ensures.pushes in
     let k = give_refused s c.self.invariant c.args.byte c.args.showing planned p.0 in
     subst (λ (x : ConclusionState). (conclusion_automaton.step x c.args.byte ≡ Refuse) × (is_large conclusion_automaton x c.args.byte ≡ false) × (giving s c.push.new.self ≡ x)) c.self.view_is (k.0, k.1, same_inner s c.push.new.self p.2)
@@ -24,7 +24,7 @@ returns-in-No c =
 pub returns-in-Memory : goal.returns-in-Memory
 returns-in-Memory c =
     let s : ConclusionState = the_view c.self.inside in
-    let planned : plan s.limit s.top s.phase c.args.byte ≡ Give c.args.showing = subst (λ (x : ConclusionState). plan x.limit x.top x.phase c.args.byte ≡ Give c.args.showing) (sym c.self.view_is) c.requires in
+    let planned : transition s.limit s.top s.phase c.args.byte ≡ Give c.args.showing = subst (λ (x : ConclusionState). transition x.limit x.top x.phase c.args.byte ≡ Give c.args.showing) (sym c.self.view_is) c.requires in
     let p = c.in-Memory.ensures.pushes in
     let k = give_admits s c.self.invariant c.args.byte c.args.showing planned p.0 p.1 in
     subst (λ (x : ConclusionState). IsTrue (conclusion_automaton.asks x c.args.byte) × Admits conclusion_automaton x c.args.byte × (giving s c.push.new.self ≡ x)) c.self.view_is (k.0, k.1, same_inner s c.push.new.self p.2)

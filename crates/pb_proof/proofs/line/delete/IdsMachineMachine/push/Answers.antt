@@ -11,7 +11,7 @@ pub returns-then-is_err-clause-pushes : goal.returns-then-is_err-clause-pushes
 returns-then-is_err-clause-pushes c = rw (← c.self.view_is) (
     let k = unchanged c.push.result _ _ _ c.push.ensures.items (sym c.if-is_err.ensures.value) in
     let f = wants c.self.inside.top c.self.inside.ids c.self.inside.phase c.args.byte c.number_byte.result
-    (action.Keep c.in-Keep.phase c.in-Keep.id) c.self.invariant c.number_byte.ensures.kind c.in-Keep.ensures.plan refl
+    (action.Keep c.in-Keep.phase c.in-Keep.id) c.self.invariant c.number_byte.ensures.kind c.in-Keep.ensures.transition refl
     in
     (f.0, f.1, ap (λ x. ids_at c.self.inside.top x c.self.inside.phase) k)
     )
@@ -25,7 +25,7 @@ pub returns-then-is_err-2-clause-pushes : goal.returns-then-is_err-2-clause-push
 returns-then-is_err-2-clause-pushes c = rw (← c.self.view_is) (
     let k = unchanged c.push-in-EndWith.result _ _ _ c.push-in-EndWith.ensures.items (sym c.if-is_err-2.ensures.value) in
     let f = wants c.self.inside.top c.self.inside.ids c.self.inside.phase c.args.byte c.number_byte.result
-    (action.EndWith c.in-EndWith.id) c.self.invariant c.number_byte.ensures.kind c.in-EndWith.ensures.plan refl in
+    (action.EndWith c.in-EndWith.id) c.self.invariant c.number_byte.ensures.kind c.in-EndWith.ensures.transition refl in
     (f.0, f.1, ap (λ x. ids_at c.self.inside.top x c.self.inside.phase) k)
     )
 
@@ -69,5 +69,5 @@ invariant_of-self-then-is_err-2 c =
 
 pub returns-in-To-clause-pushes : goal.returns-in-To-clause-pushes
 returns-in-To-clause-pushes c = rw (← c.self.view_is) (
-    moved c.self.inside.top c.self.inside.ids c.self.inside.phase c.args.byte c.number_byte.result (action.To c.in-To.phase) c.number_byte.ensures.kind c.in-To.ensures.plan
+    moved c.self.inside.top c.self.inside.ids c.self.inside.phase c.args.byte c.number_byte.result (action.To c.in-To.phase) c.number_byte.ensures.kind c.in-To.ensures.transition
     )

@@ -8,11 +8,11 @@ pub returns-then-take_space-clause-runs : goal.returns-then-take_space-clause-ru
 returns-then-take_space-clause-runs c =
     let none : c.take_operator-length.result ≡ 0 = omega arith in
     let same = subst (λ (n : ℕ). Runs pol_automaton c.args.self.now (take n c.args.text.now) c.take_operator-length.new.self) none c.take_operator-length.ensures.runs in
-    runs_on pol_automaton c.args.self.now c.args.text.now 0 c.take_operator-length.new.self c.take_space.new.self c.requires same c.if-take_space.ensures.goes c.take_space.ensures.state
+    runs_on pol_automaton c.args.self.now c.args.text.now 0 c.take_operator-length.new.self c.take_space.new.self c.requires same c.if-take_space.ensures.continues c.take_space.ensures.state
 
 pub returns-then-take_saturate-clause-runs : goal.returns-then-take_saturate-clause-runs
 returns-then-take_saturate-clause-runs c =
     let none : c.take_operator-length.result ≡ 0 = omega arith in
     let same = subst (λ (n : ℕ). Runs pol_automaton c.args.self.now (take n c.args.text.now) c.take_operator-length.new.self) none c.take_operator-length.ensures.runs in
-    let still = subst (λ x. Runs pol_automaton c.args.self.now [] x) (sym c.if-take_space.ensures.goes) same in
-    runs_on pol_automaton c.args.self.now c.args.text.now 0 c.take_space.new.self c.take_saturate.new.self c.requires still c.if-take_saturate.ensures.goes c.take_saturate.ensures.state
+    let still = subst (λ x. Runs pol_automaton c.args.self.now [] x) (sym c.if-take_space.ensures.continues) same in
+    runs_on pol_automaton c.args.self.now c.args.text.now 0 c.take_space.new.self c.take_saturate.new.self c.requires still c.if-take_saturate.ensures.continues c.take_saturate.ensures.state

@@ -10,7 +10,7 @@ use Rattle.pb_proof.proofs.line.pol.PolMachineMachine.push.Goals as goal
 pub returns-then-is_err-clause-pushes : goal.returns-then-is_err-clause-pushes
 returns-then-is_err-clause-pushes c = rw (← c.self.view_is) (
     let f = asks_for c.self.inside.limit c.self.inside.top c.self.inside.words.items c.self.inside.depth c.self.inside.name c.self.inside.phase c.args.byte
-    c.kind_of.result (Begin c.in-Begin.phase) c.kind_of.ensures.kind c.in-Begin.ensures.plan c.self.invariant.4 tt refl in
+    c.kind_of.result (Begin c.in-Begin.phase) c.kind_of.ensures.kind c.in-Begin.ensures.transition c.self.invariant.4 tt refl in
     (f.0, f.1, refl)
     )
 
@@ -21,7 +21,7 @@ pub returns-then-is_err-2-clause-pushes : goal.returns-then-is_err-2-clause-push
 returns-then-is_err-2-clause-pushes c = rw (← c.self.view_is) (
     let k = unchanged c.push-in-Add.result _ _ _ c.push-in-Add.ensures (sym c.if-is_err-2.ensures.value) in
     let f = asks_for c.self.inside.limit c.self.inside.top c.self.inside.words.items c.self.inside.depth c.self.inside.name c.self.inside.phase c.args.byte
-    c.kind_of.result (Add c.in-Add.phase) c.kind_of.ensures.kind c.in-Add.ensures.plan c.self.invariant.4 tt refl in
+    c.kind_of.result (Add c.in-Add.phase) c.kind_of.ensures.kind c.in-Add.ensures.transition c.self.invariant.4 tt refl in
     (f.0, f.1, same_state c.self.inside.limit c.self.inside.top _ _ _ _ _ _ _ _ refl refl k refl)
     )
 
@@ -34,7 +34,7 @@ pub returns-then-is_err-3-clause-pushes : goal.returns-then-is_err-3-clause-push
 returns-then-is_err-3-clause-pushes c = rw (← c.self.view_is) (
     let k = when_err c.turn.result _ c.turn.ensures.err (sym c.if-is_err-3.ensures.value) in
     let f = asks_for c.self.inside.limit c.self.inside.top c.self.inside.words.items c.self.inside.depth c.self.inside.name c.self.inside.phase c.args.byte
-    c.kind_of.result (Turn c.in-Turn.change c.in-Turn.phase) c.kind_of.ensures.kind c.in-Turn.ensures.plan c.self.invariant.4 tt k.0 in
+    c.kind_of.result (Turn c.in-Turn.change c.in-Turn.phase) c.kind_of.ensures.kind c.in-Turn.ensures.transition c.self.invariant.4 tt k.0 in
     (f.0, f.1, same_state c.self.inside.limit c.self.inside.top _ _ _ _ _ _ _ _ k.1 k.2 k.3 refl)
     )
 
@@ -47,7 +47,7 @@ pub returns-in_default-clause-pushes : goal.returns-in_default-clause-pushes
 returns-in_default-clause-pushes c = rw (← c.self.view_is) (
     let k = c.in_default.ensures.err in
     let f = asks_for c.self.inside.limit c.self.inside.top c.self.inside.words.items c.self.inside.depth c.self.inside.name c.self.inside.phase c.args.byte
-    c.kind_of.result (End c.in-End.change) c.kind_of.ensures.kind c.in-End.ensures.plan c.self.invariant.4 tt k.0 in
+    c.kind_of.result (End c.in-End.change) c.kind_of.ensures.kind c.in-End.ensures.transition c.self.invariant.4 tt k.0 in
     (f.0, f.1, same_state c.self.inside.limit c.self.inside.top _ _ _ _ _ _ _ _ k.1 k.2 k.3 k.4)
     )
 
@@ -79,20 +79,20 @@ pub returns-in-Stop-clause-pushes : goal.returns-in-Stop-clause-pushes
 returns-in-Stop-clause-pushes c = rw (← c.self.view_is) (
     refused _ c.args.byte c.refusal.result
     (moved c.self.inside.limit c.self.inside.top c.self.inside.words.items c.self.inside.depth c.self.inside.name c.self.inside.phase c.args.byte
-    c.kind_of.result Stop c.kind_of.ensures.kind c.in-Stop.ensures.plan) c.refusal.ensures
+    c.kind_of.result Stop c.kind_of.ensures.kind c.in-Stop.ensures.transition) c.refusal.ensures
     )
 
 pub returns-in-To-clause-pushes : goal.returns-in-To-clause-pushes
 returns-in-To-clause-pushes c = rw (← c.self.view_is) (
     moved c.self.inside.limit c.self.inside.top c.self.inside.words.items c.self.inside.depth c.self.inside.name c.self.inside.phase c.args.byte
-    c.kind_of.result (To c.in-To.phase) c.kind_of.ensures.kind c.in-To.ensures.plan
+    c.kind_of.result (To c.in-To.phase) c.kind_of.ensures.kind c.in-To.ensures.transition
     )
 
 pub returns-else-is_err-3-clause-pushes : goal.returns-else-is_err-3-clause-pushes
 returns-else-is_err-3-clause-pushes c = rw (← c.self.view_is) (
     let k = when_ok c.turn.result _ c.turn.ensures.ok (sym c.if-is_err-3.ensures.value) in
     moved c.self.inside.limit c.self.inside.top c.self.inside.words.items c.self.inside.depth c.self.inside.name c.self.inside.phase c.args.byte
-    c.kind_of.result (Turn c.in-Turn.change c.in-Turn.phase) c.kind_of.ensures.kind c.in-Turn.ensures.plan
+    c.kind_of.result (Turn c.in-Turn.change c.in-Turn.phase) c.kind_of.ensures.kind c.in-Turn.ensures.transition
     ∙ ap (λ s. Go s) (same_state c.self.inside.limit c.self.inside.top _ _ _ _ _ _ _ _ (sym k.0) (sym k.1) (sym k.2) refl)
     )
 
@@ -100,7 +100,7 @@ pub returns-in-Ok-clause-pushes : goal.returns-in-Ok-clause-pushes
 returns-in-Ok-clause-pushes c = rw (← c.self.view_is) (
     ended_to c.self.inside.limit c.self.inside.top _ _ _ _ _ _ _
     (moved c.self.inside.limit c.self.inside.top c.self.inside.words.items c.self.inside.depth c.self.inside.name c.self.inside.phase c.args.byte
-    c.kind_of.result (End c.in-End.change) c.kind_of.ensures.kind c.in-End.ensures.plan)
+    c.kind_of.result (End c.in-End.change) c.kind_of.ensures.kind c.in-End.ensures.transition)
     c.in-Ok.ensures.words c.in-Ok.ensures.ok
     )
 
@@ -156,7 +156,7 @@ pub returns-else-is_err-clause-pushes : goal.returns-else-is_err-clause-pushes
 returns-else-is_err-clause-pushes c = rw (← c.self.view_is) (
     let k = grown c.push.result _ _ _ c.push.ensures (sym c.if-is_err.ensures.value) ∙ ap (λ (n : List ℕ). n ++ c.args.byte ∷ []) c.new-name.ensures in
     moved c.self.inside.limit c.self.inside.top c.self.inside.words.items c.self.inside.depth c.self.inside.name c.self.inside.phase c.args.byte
-    c.kind_of.result (Begin c.in-Begin.phase) c.kind_of.ensures.kind c.in-Begin.ensures.plan
+    c.kind_of.result (Begin c.in-Begin.phase) c.kind_of.ensures.kind c.in-Begin.ensures.transition
     ∙ ap (λ s. Go s) (same_state c.self.inside.limit c.self.inside.top _ _ _ _ _ _ _ _ refl refl (sym k) refl)
     )
 
@@ -164,6 +164,6 @@ pub returns-else-is_err-2-clause-pushes : goal.returns-else-is_err-2-clause-push
 returns-else-is_err-2-clause-pushes c = rw (← c.self.view_is) (
     let k = grown c.push-in-Add.result _ _ _ c.push-in-Add.ensures (sym c.if-is_err-2.ensures.value) in
     moved c.self.inside.limit c.self.inside.top c.self.inside.words.items c.self.inside.depth c.self.inside.name c.self.inside.phase c.args.byte
-    c.kind_of.result (Add c.in-Add.phase) c.kind_of.ensures.kind c.in-Add.ensures.plan
+    c.kind_of.result (Add c.in-Add.phase) c.kind_of.ensures.kind c.in-Add.ensures.transition
     ∙ ap (λ s. Go s) (same_state c.self.inside.limit c.self.inside.top _ _ _ _ _ _ _ _ refl refl (sym k) refl)
     )

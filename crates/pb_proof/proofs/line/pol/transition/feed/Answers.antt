@@ -1,5 +1,5 @@
 use Rattle.std.proofs.Common.{rules}
 use Rattle.pb_proof.proofs.line.pol.transition.feed.Goals as goal
 
-pub returns-in-Some-clause-plan : goal.returns-in-Some-clause-plan
-returns-in-Some-clause-plan c = search rules
+pub returns-in-Some-clause-transition : goal.returns-in-Some-clause-transition
+returns-in-Some-clause-transition c = search rules

@@ -8,7 +8,7 @@ use Rattle.pb_proof.proofs.line.solution.LiteralsMachineMachine.push.Goals as go
 pub returns-then-is_err-clause-pushes : goal.returns-then-is_err-clause-pushes
 returns-then-is_err-clause-pushes c = rw (← c.self.view_is) (
     let f = wants c.self.inside.joined c.self.inside.literals c.self.inside.name c.self.inside.phase c.args.byte c.name_byte.result
-    (action.Begin c.in-Begin.phase c.in-Begin.first) c.self.invariant c.name_byte.ensures.kind c.in-Begin.ensures.plan tt refl in
+    (action.Begin c.in-Begin.phase c.in-Begin.first) c.self.invariant c.name_byte.ensures.kind c.in-Begin.ensures.transition tt refl in
     (f.0, f.1, refl)
     )
 
@@ -19,7 +19,7 @@ pub returns-then-is_err-2-clause-pushes : goal.returns-then-is_err-2-clause-push
 returns-then-is_err-2-clause-pushes c = rw (← c.self.view_is) (
     let k = unchanged c.push-in-Add.result _ _ _ c.push-in-Add.ensures (sym c.if-is_err-2.ensures.value) in
     let f = wants c.self.inside.joined c.self.inside.literals c.self.inside.name c.self.inside.phase c.args.byte c.name_byte.result
-    (action.Add c.in-Add.phase c.in-Add.next) c.self.invariant c.name_byte.ensures.kind c.in-Add.ensures.plan tt refl in
+    (action.Add c.in-Add.phase c.in-Add.next) c.self.invariant c.name_byte.ensures.kind c.in-Add.ensures.transition tt refl in
     (f.0, f.1, same_state c.self.inside.joined _ _ _ _ _ _ refl k refl)
     )
 
@@ -32,7 +32,7 @@ pub returns-then-is_err-3-clause-pushes : goal.returns-then-is_err-3-clause-push
 returns-then-is_err-3-clause-pushes c = rw (← c.self.view_is) (
     let k = when_err c.flush.result _ c.flush.ensures.err (sym c.if-is_err-3.ensures.value) in
     let f = wants c.self.inside.joined c.self.inside.literals c.self.inside.name c.self.inside.phase c.args.byte c.name_byte.result
-    (action.To c.in-To.phase) c.self.invariant c.name_byte.ensures.kind c.in-To.ensures.plan tt k.0 in
+    (action.To c.in-To.phase) c.self.invariant c.name_byte.ensures.kind c.in-To.ensures.transition tt k.0 in
     (f.0, f.1, same_state c.self.inside.joined _ _ _ _ _ _ k.1 k.2 refl)
     )
 
@@ -54,7 +54,7 @@ pub returns-else-is_err-3-clause-pushes : goal.returns-else-is_err-3-clause-push
 returns-else-is_err-3-clause-pushes c = rw (← c.self.view_is) (
     let k = when_ok c.flush.result _ c.flush.ensures.ok (sym c.if-is_err-3.ensures.value) in
     goes_to c.self.inside.joined c.self.inside.literals c.self.inside.name c.self.inside.phase c.args.byte c.name_byte.result
-    _ _ c.in-To.phase k.1 c.name_byte.ensures.kind c.in-To.ensures.plan k.0
+    _ _ c.in-To.phase k.1 c.name_byte.ensures.kind c.in-To.ensures.transition k.0
     )
 
 pub returns-else-is_err-3-clause-state : goal.returns-else-is_err-3-clause-state
@@ -64,7 +64,7 @@ pub returns-in_default-clause-pushes : goal.returns-in_default-clause-pushes
 returns-in_default-clause-pushes c = rw (← c.self.view_is) (
     let k = c.in_default.ensures.err in
     let f = wants c.self.inside.joined c.self.inside.literals c.self.inside.name c.self.inside.phase c.args.byte c.name_byte.result
-    action.End c.self.invariant c.name_byte.ensures.kind c.in-End.ensures.plan tt k.0 in
+    action.End c.self.invariant c.name_byte.ensures.kind c.in-End.ensures.transition tt k.0 in
     (f.0, f.1, same_state c.self.inside.joined _ _ _ _ _ _ k.1 k.2 k.3)
     )
 

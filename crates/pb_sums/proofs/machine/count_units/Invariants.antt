@@ -1,6 +1,0 @@
-use Rattle.std.proofs.Common.{◌≡◌, ◌-◌, ◌^◌, min, take}
-use Rattle.pb_sums.specs.engine.State.{units}
-use Rattle.pb_sums.proofs.machine.count_units.Given as goal
-
-abbrev pub invariant-loop-term : goal.invariant-loop-term
-invariant-loop-term l = l.count ≡ min (units (take l.term-index l.terms)) (2 ^ 64 - 1)

@@ -1,0 +1,14 @@
+use Rattle.std.proofs.Common.{◌-◌, ◌≤◌, length, take}
+use Rattle.pb_text.specs.contract.Automaton.{IsState, Runs}
+use Rattle.pb_text.proofs.machine.Machine.take_run.Given as goal
+
+-- the bytes so far were taken
+abbrev pub invariant-loop-taken : goal.invariant-loop-taken
+invariant-loop-taken g l = record {
+  bound : l.taken ≤ length l.piece;
+  runs : Runs g.Self.Machine.automaton l.fn.self (take l.taken l.piece) l.self;
+  state : IsState g.Self.Machine.automaton l.self;
+}
+
+abbrev pub decreases-loop-taken : goal.decreases-loop-taken
+decreases-loop-taken g l = length l.piece - l.taken
