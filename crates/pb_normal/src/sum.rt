@@ -16,13 +16,14 @@ use std::marker::Model;
 /// The fewest terms for which a form becomes a tree.
 const MANY: usize = 32;
 
-/// How many small changes in a row make the list anew, before the form becomes a tree. To make a tree takes about as long.
+/// How many small changes in a row make the list anew, before the form becomes a tree. To make a tree takes about as
+/// long.
 const LISTED: usize = 16;
 
 /// A form that one rule after another changes.
 ///
-/// A change is small if it weakens, or adds a form with few terms. After some small changes in a row, each takes time in
-/// the terms that it adds, and not in all terms of the form.
+/// A change is small if it weakens, or adds a form with few terms. After some small changes in a row, each takes time
+/// in the terms that it adds, and not in all terms of the form.
 #[derive(Drop)]
 pub struct Sum<'a> {
     kind: Kind<'a>,

@@ -23,8 +23,8 @@ use std::alloc::Global;
 /// `end pseudo-Boolean proof`.
 ///
 /// A stop names the first byte that no text of a proof under the limits has there: `Byte`, or `TooLarge` for a
-/// further digit of a number. Or it names the end of the input (`Ended`) or the byte at offset `2^40` (`TooLong`). Or it
-/// names a fault of the source (`Read`), or the position at which memory ran out (`Memory`).
+/// further digit of a number. Or it names the end of the input (`Ended`) or the byte at offset `2^40` (`TooLong`). Or
+/// it names a fault of the source (`Read`), or the position at which memory ran out (`Memory`).
 pub fn read_proof<S: Source>(
     alloc: Global,
     input: &mut S,

@@ -39,7 +39,8 @@ pub fn keeps_its_state()
     ensures { KeepsItsState }
 {}
 
-/// A name stores only its text, and a short text only its length, its 22 bytes and its allocator, as contracts see these.
+/// A name stores only its text, and a short text only its length, its 22 bytes and its allocator, as contracts see
+/// these.
 pub fn names_keep_their_texts()
     ensures names { NameKeeps }
     ensures short { ShortKeeps }

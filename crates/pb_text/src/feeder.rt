@@ -139,8 +139,8 @@ impl<M: Machine> Feeder<M> {
         }
     }
 
-    /// Takes bytes of the piece through the end of the next event, or all of them. After a stop, and after the last event,
-    /// it takes none.
+    /// Takes bytes of the piece through the end of the next event, or all of them. After a stop, and after the last
+    /// event, it takes none.
     pub fn feed(&mut self, piece: &[u8]) -> Result<Fed<M::Event>, Stop>
         // If `StandsAt` held for all earlier input, it holds for that input followed by these bytes.
         ensures feeds { FeedsOnce self.old piece.now result self.new }
@@ -272,7 +272,8 @@ impl<M: Machine> Feeder<M> {
         entered + self.feed_body(&piece[entered..])
     }
 
-    /// If no statement has begun, takes a prefix of a piece, at most through the first byte of one. It returns the length.
+    /// If no statement has begun, takes a prefix of a piece, at most through the first byte of one. It returns the
+    /// length.
     #[inline(always)]
     fn skip_gap(&mut self, piece: &[u8]) -> usize
         requires unfinished { is_complete self.old ≡ false }

@@ -31,8 +31,8 @@ pub fn any_cutting<M: Machine>()
         → IsUnread (halt_of after) }
 {}
 
-/// A feeder that `StandsAt` its input has read it. The spans that it returned, its position, whether the text is complete,
-/// and its stop are those of a read.
+/// A feeder that `StandsAt` its input has read it. The spans that it returned, its position, whether the text is
+/// complete, and its stop are those of a read.
 pub fn standing_is_reading<M: Machine>()
     ensures { (longest : ℕ) (start : M) (input : List ℕ) (spans : List (Spanned M.Event)) (feeder : Feeder M M.Event M.Machine)
         → StandsAt longest start input spans feeder

@@ -13,8 +13,8 @@ use crate::whole::{Gather, read_whole};
 use std::io::BufRead;
 
 /// Reads one text of a machine from a reader, as `read_whole` does. It also returns the source over the reader, which
-/// counts the failures of the reader. If the reader reports its bytes, those left are the ones after that text, or after
-/// the last byte taken.
+/// counts the failures of the reader. If the reader reports its bytes, those left are the ones after that text, or
+/// after the last byte taken.
 pub fn read_from<T: BufRead + Drop, M: Machine + Drop, G: Gather<Event = M::Event> + Drop>(
     reader: T,
     machine: M,

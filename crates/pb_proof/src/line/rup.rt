@@ -181,8 +181,8 @@ impl RupMachine {
         taken
     }
 
-    /// Gives bytes at the start of a text to the machine for sums, if a constraint has begun or may begin. Returns how many
-    /// it took.
+    /// Gives bytes at the start of a text to the machine for sums, if a constraint has begun or may begin. Returns
+    /// how many it took.
     fn give_prefix(&mut self, text: &[u8]) -> usize
         ensures bound { result ≤ length text.now }
         ensures runs { Runs rup_automaton self.old (take result text.now) self.new }

@@ -46,7 +46,8 @@ pub struct Engine {
     eager: Eager,
     clauses: Clauses,
     root: Root,
-    // For each number the slot of its form, or no slot if the form was removed. The slot of a removed form is used again.
+    // For each number the slot of its form, or no slot if the form was removed. The slot of a removed form is used
+    // again.
     places: Vec<usize>,
     // The slots of removed forms.
     free: Vec<usize>,
@@ -171,8 +172,8 @@ fn rest(store: &Store, rests: &Rests, clauses: &mut Clauses, run: &mut Run)
     run.next = 0;
 }
 
-// The root after a form was stored in a slot. It is made anew once the questions without it took eight visits for each form and
-// variable.
+// The root after a form was stored in a slot. It is made anew once the questions without it took eight visits for
+// each form and variable.
 fn follow(
     store: &Store,
     run: &Run,
@@ -345,8 +346,8 @@ impl Engine {
         self.places.len()
     }
 
-    /// The number of visits of the last `rup`. Visits to entries of occurrence lists, to terms, and to watches and literals
-    /// of clauses are counted.
+    /// The number of visits of the last `rup`. Visits to entries of occurrence lists, to terms, and to watches and
+    /// literals of clauses are counted.
     pub fn visits(&self) -> u64
         ensures { result ≡ self.now.visits }
     {

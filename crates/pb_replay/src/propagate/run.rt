@@ -177,8 +177,8 @@ pub fn try_put(
     Ok(found)
 }
 
-/// Visits a form until its candidate requires nothing. Returns whether it or another form is falsified. Waiting forms are
-/// visited later.
+/// Visits a form until its candidate requires nothing. Returns whether it or another form is falsified. Waiting forms
+/// are visited later.
 fn visit_form(
     store: &Store,
     rests: &Rests,
@@ -248,9 +248,9 @@ pub fn choose(store: &Store, form: usize, work: &mut Vec<usize>) -> Result<(), A
     Ok(())
 }
 
-/// Visits the forms of the work list, then the clauses in which a falsified literal is watched. When neither is left, the
-/// next waiting form is taken, until none waits. A unit that is falsified so ends a question before further clauses are
-/// visited. The first `from` literals are walked already. Returns whether a conflict was met.
+/// Visits the forms of the work list, then the clauses in which a falsified literal is watched. When neither is left,
+/// the next waiting form is taken, until none waits. A unit that is falsified so ends a question before further
+/// clauses are visited. The first `from` literals are walked already. Returns whether a conflict was met.
 pub fn propagate(
     store: &Store,
     rests: &Rests,

@@ -15,8 +15,8 @@ use crate::propagate::store::falling::Falling;
 use crate::propagate::store::kept::Kept;
 use crate::propagate::term::Term;
 
-/// A form that contains a literal, and the position of its term there. The fields are private: other modules learn them only by
-/// `visit`.
+/// A form that contains a literal, and the position of its term there. The fields are private: other modules learn
+/// them only by `visit`.
 #[derive(Clone, Copy)]
 pub struct Occurrence {
     form: usize,
@@ -40,8 +40,8 @@ pub struct Store {
     pub variables: usize,
 }
 
-/// Reads an entry of an occurrence list, and counts the visit. This is also a visit to the entry's term, whose coefficient
-/// `weight_of` returns.
+/// Reads an entry of an occurrence list, and counts the visit. This is also a visit to the entry's term, whose
+/// coefficient `weight_of` returns.
 pub fn visit(entries: &[Occurrence], i: usize, visits: &mut Visits) -> Visited
     requires { i < length entries.now }
     ensures item { entry_at result ≡ slice_index_or entries.now i (entry_at result) }

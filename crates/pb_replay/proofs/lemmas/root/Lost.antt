@@ -1,6 +1,6 @@
 -- The form of a slot goes, and the root stays.
 use Rattle.std.specs.Prelude.{Contains, Option, Bool, Some, map, slice_get, ◌/◌}
-use Rattle.std.proofs.Common.{Vec, Global, ◌≡◌, ℕ, zero, suc, ◌<◌, ◌⊎◌, ◌∷◌, [], List, true, false, refl, sym, ◌∙◌, ap, subst, inl, inr, arith, length, get_or, set, length-set, get_or-set_same, get_or-set_other}
+use Rattle.std.proofs.Common.{Vec, Global, ◌≡◌, ℕ, ◌<◌, ◌⊎◌, ◌∷◌, [], List, true, false, refl, sym, ◌∙◌, ap, subst, inl, inr, arith, length, get_or, set, length-set, get_or-set_same, get_or-set_other}
 use Rattle.std.proofs.lemmas.Bool.{cases_eq, both_ways}
 use Rattle.std.proofs.lemmas.List.{length-map, get_or-map, get_or_default, map-set}
 use Rattle.std.proofs.lemmas.Option.{slice_get-get_or, get_or_from_slice_get}
@@ -28,7 +28,7 @@ use Rattle.pb_replay.proofs.lemmas.clauses.Slots.{joined-cleared}
 use Rattle.pb_replay.proofs.lemmas.clauses.Truths.{flip-half}
 use Rattle.pb_replay.proofs.lemmas.engine.Values.{Agree}
 use Rattle.pb_replay.proofs.lemmas.root.Admitted.{no-watch}
-use Rattle.pb_replay.proofs.lemmas.root.Rooted.{derives-spare, unused-spare}
+use Rattle.pb_replay.proofs.lemmas.root.Rooted.{derives-spare, only-one, unused-spare}
 
 -- a term of a clause is one of its literals, with coefficient 1
 clause-term : (codes : List ℕ) (l : NumberedLiteral) (c : ℕ) → Contains (map one_term codes) (record { literal = l; coefficient = c }) → (x : ℕ) × Contains codes x × (literal_at x ≡ l) × (c ≡ 1)
@@ -41,7 +41,7 @@ clause-term codes l c (k, within, at) =
 -- a clause with an open literal has put none
 pub open-spare : (values : List (Option Bool)) (list : List NumberedLiteral) (codes : List ℕ) → Agree values list → HasOpen values codes → IsSpare (clause_shape codes) list
 open-spare values list codes agree (m, among, untrue, unfalse) l earlier on within puts =
-    let whole : clause_shape codes ≡ puts.form = only (clause_shape codes) puts.form puts.among in
+    let whole : clause_shape codes ≡ puts.form = only-one (clause_shape codes) puts.form puts.among in
     let term : Contains (map one_term codes) (record { literal = l; coefficient = puts.coefficient }) = subst (λ (y : Shape). Contains y.terms (record { literal = l; coefficient = puts.coefficient })) (sym whole) puts.term in
     let x = clause-term codes l puts.coefficient term in
     let apart : m ≡ x.0 → ⊥ = λ is. both_ways _ (sym (true-listed values list m agree) ∙ untrue) (ap (λ y. has list (literal_at y)) is ∙ ap (has list) x.2 ∙ on) in
@@ -50,10 +50,6 @@ open-spare values list codes agree (m, among, untrue, unfalse) l earlier on with
     let two = two-open earlier codes x.0 m x.1 among apart mine other in
     omega (arith, two, puts.forced, x.3, ap (λ (y : Shape). y.degree) whole, ap (λ (y : Shape). open_sum earlier y.terms) whole)
   where
-    only : (x y : Shape) → Contains (x ∷ []) y → x ≡ y
-    only x y (zero, inside, is) = is
-    only x y (suc i, inside, is) = absurd (omega (arith, inside))
-
     not-within : (a b : List NumberedLiteral) (k : NumberedLiteral) → ((j : NumberedLiteral) → has a j ≡ true → has b j ≡ true) → has b k ≡ false → has a k ≡ false
     not-within a b k w none = by (has a k) refl
       where

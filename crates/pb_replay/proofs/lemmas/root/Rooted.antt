@@ -56,7 +56,7 @@ derives-spare a b given _ h (put {list} l d m) = put l (derives-spare a b given 
       | inr spare ↦ absurd (spare l list (has-push_new list l) (λ j at. has-push_old list l j at) (puts-other a (m.form ∷ []) list l m (one_itself m.form)))
     ]
 
-only-one : (x y : Shape) → Contains (x ∷ []) y → x ≡ y
+pub only-one : (x y : Shape) → Contains (x ∷ []) y → x ≡ y
 only-one x y (zero, inside, is) = is
 only-one x y (suc i, inside, is) = absurd (omega (arith, inside))
 

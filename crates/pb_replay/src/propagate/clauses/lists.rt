@@ -5,8 +5,8 @@ ghost use Rattle.pb_replay.specs.engine.Clauses.Links.{lists_of, list_at, watch_
 
 use std::alloc::AllocError;
 
-/// A watch: the literal that it watches, and its position in that literal's list. The watches of slot `s` are `2 * s` and
-/// `2 * s + 1`.
+/// A watch: the literal that it watches, and its position in that literal's list. The watches of slot `s` are `2 * s`
+/// and `2 * s + 1`.
 #[derive(Clone, Copy)]
 pub struct Watch {
     pub literal: u32,

@@ -19,8 +19,8 @@ use pb_normal::Normal;
 use std::alloc::AllocError;
 use std::mem;
 
-/// Whether propagation over the live forms and one more meets a conflict. It continues from the root, each literal of which
-/// counts as a visit.
+/// Whether propagation over the live forms and one more meets a conflict. It continues from the root, each literal of
+/// which counts as a visit.
 pub fn ask(
     store: &mut Store,
     clauses: &mut Clauses,

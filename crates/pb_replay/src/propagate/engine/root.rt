@@ -21,8 +21,8 @@ use crate::propagate::store::Store;
 use crate::propagate::store::opened::{has_true, open_under};
 use std::alloc::{AllocError, Global};
 
-/// The literals that the live forms force with nothing assumed, and the state of each form under them. Questions continue
-/// from there.
+/// The literals that the live forms force with nothing assumed, and the state of each form under them. Questions
+/// continue from there.
 #[derive(Drop)]
 pub struct Root {
     pub run: Run,
@@ -74,7 +74,8 @@ fn rests_of(alloc: Global, run: &Run) -> Result<Rests, AllocError>
     Ok(Rests { opens, starts })
 }
 
-/// Lowers the open sum of a form to that under the list. The form is put to work if it may then propagate or is falsified.
+/// Lowers the open sum of a form to that under the list. The form is put to work if it may then propagate or is
+/// falsified.
 pub fn lay(store: &Store, run: &mut Run, form: usize) -> Result<(), AllocError>
     requires store { IsSound store.now }
     requires form { form < length store.now.kept.items }
@@ -163,8 +164,8 @@ impl Root {
         self.live = false;
     }
 
-    // Whether the form of a slot has forced none of the literals. A clause with an open literal has not, nor has another form
-    // without a true one.
+    // Whether the form of a slot has forced none of the literals. A clause with an open literal has not, nor has
+    // another form without a true one.
     fn is_spare(&self, store: &Store, clauses: &Clauses, slot: usize) -> bool
         requires slot { slot < length store.now.kept.items }
         requires sound { IsSound store.now }
@@ -241,8 +242,8 @@ impl Root {
         Ok(())
     }
 
-    /// Propagates a form that was added, after what is kept. Nothing is kept if a conflict is met, or if the form is a clause with
-    /// a falsified literal that is watched.
+    /// Propagates a form that was added, after what is kept. Nothing is kept if a conflict is met, or if the form is
+    /// a clause with a falsified literal that is watched.
     pub fn admit(
         &mut self,
         store: &Store,

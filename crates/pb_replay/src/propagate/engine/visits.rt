@@ -26,7 +26,7 @@ impl Visits {
         Visits { number: 0 }
     }
 
-    /// One visit for each of so many literals.
+    /// One visit for each literal.
     pub(super) fn of(literals: usize) -> Visits
         ensures { result ≡ literals }
     {

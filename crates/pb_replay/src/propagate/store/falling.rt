@@ -9,8 +9,8 @@ use crate::shared::Shared;
 use pb_normal::{Entry, Normal, NumberedLiteral};
 use std::alloc::{AllocError, Global};
 
-/// A form or none, and the positions of its terms in order of falling coefficient. Each term is stored once, and the form
-/// may have other owners.
+/// A form or none, and the positions of its terms in order of falling coefficient. Each term is stored once, and the
+/// form may have other owners.
 #[derive(Drop)]
 pub struct Falling {
     form: Option<Shared>,

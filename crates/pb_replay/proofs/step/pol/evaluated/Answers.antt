@@ -20,7 +20,6 @@ returns-in_err-form-clause-err c =
       | inr bad ↦ inr (some_fault _ _ _ _ _ c.requires.postfix (word_fails _ _ _ _ _ _ _ c.loop-word-test.true c.word-item.is _ c.loop-word.invariant _ bad))
     ])
 
-
 pub loop-word-preserved : goal.loop-word-preserved
 loop-word-preserved c =
     stands_next _ _ _ _ _ _ _ c.loop-word-test.true c.word-item.is _ c.loop-word.invariant c.in_ok-form.form _ _ c.in_ok-form.ensures.ok c.in_ok-form.ensures.count c.in_ok-push.ensures.ok
