@@ -1,4 +1,4 @@
-use Rattle.std.proofs.Common.{arith, ◌≡◌, ◌↔◌, ◌∙◌, ℕ, ◌+◌, ◌<◌, List, [], ◌∷◌, ◌++◌, None, Option, Result, Ok, Bool, true, IsTrue, Bor, get_or, length, take, ap, sym, subst}
+use Rattle.std.proofs.Common.{arith, ◌≡◌, ◌∙◌, ℕ, ◌+◌, ◌<◌, List, [], ◌∷◌, ◌++◌, None, Option, Result, Ok, Bool, true, IsTrue, Bor, get_or, length, take, ap, sym, subst}
 use Rattle.std.specs.List.{flat_map}
 use Rattle.std.proofs.lemmas.Grind.{flat_map-append}
 use Rattle.std.proofs.lemmas.List.{append-nil, take_all, take_more}
@@ -37,29 +37,27 @@ loop-piece-preserved c = (
       (opens c.loop-piece.checker.fault c.loop-piece.invariant.0) (c.loop-piece.invariant.1 first at)),
 )
 
--- the verdict holds for all pieces
-verified : (c : goal.After-drop-checker-inside-35) → Verifies c.args.replay (joined c.args.pieces.now) c.in_ok-verdict.verdict
-verified c first at = (
-  place_in c.finish.new.self,
-  c.in_ok-verdict.ensures.ends c.args.replay.limits byte_limit c.args.replay.problem first (joined c.args.pieces.now) c.loop-piece.invariant.0
-      (subst (λ (ps : List (Bor (List ℕ))). ChecksAt c.args.replay.limits byte_limit c.args.replay.problem first (joined ps) c.loop-piece.checker)
-      (take_all c.loop-piece.piece-index c.args.pieces.now (omega (arith, c.loop-piece-test.false))) (c.loop-piece.invariant.1 first at)),
+-- The verdict holds for all pieces, and the answer is whether it is UNSAT.
+pub returns-clause-exact : goal.returns-clause-exact
+returns-clause-exact c = (
+  c.in_ok-verdict.verdict,
+  λ first at. (
+    place_in c.finish.new.self,
+    c.in_ok-verdict.ensures.ends c.args.replay.limits byte_limit c.args.replay.problem first (joined c.args.pieces.now) c.loop-piece.invariant.0
+        (subst (λ (ps : List (Bor (List ℕ))). ChecksAt c.args.replay.limits byte_limit c.args.replay.problem first (joined ps) c.loop-piece.checker)
+        (take_all c.loop-piece.piece-index c.args.pieces.now (omega (arith, c.loop-piece-test.false))) (c.loop-piece.invariant.1 first at)),
+  ),
+  elim c.match-matches.branch [
+    | in-Unsat w ↦ ((λ yes. w.in-Unsat.is), (λ e. w.matches-is))
+    | in_default w ↦ ((λ yes. absurd (cc)), (λ e. absurd (w.in_default.not-Unsat e)))
+  ],
 )
-
--- the answer is whether it is UNSAT
-whether : (c : goal.After-drop-checker-inside-35) → IsTrue c.match-matches.matches ↔ (c.in_ok-verdict.verdict ≡ Unsat)
-whether c = elim c.match-matches.branch [
-  | in-Unsat w ↦ ((λ yes. w.in-Unsat.is), (λ e. w.matches-is))
-  | in_default w ↦ ((λ yes. absurd (cc)), (λ e. absurd (w.in_default.not-Unsat e)))
-]
 
 is_true : (answer : Bool) → ◌≡◌ {A = Result Bool CheckFault} (Ok answer) (Ok true) → IsTrue answer
 is_true answer e = cc
 
 pub returns-clause-unsat : goal.returns-clause-unsat
 returns-clause-unsat c e =
+    let (verdict, verified, whether) = returns-clause-exact c in
     true_of c.statements_are_sound.ensures.statements c.verdicts_are_true.ensures.forms c.reads_are_of_proofs.ensures c.args.replay (joined c.args.pieces.now) Unsat
-    (subst (λ (v : Verdict). Verifies c.args.replay (joined c.args.pieces.now) v) ((whether c).0 (is_true c.match-matches.matches e)) (verified c)) c.report_sound.ensures.problem c.report_sound.ensures.sound
-
-pub returns-clause-exact : goal.returns-clause-exact
-returns-clause-exact c = (c.in_ok-verdict.verdict, verified c, whether c)
+    (subst (λ (v : Verdict). Verifies c.args.replay (joined c.args.pieces.now) v) (whether.0 (is_true c.match-matches.matches e)) verified) c.report_sound.ensures.problem c.report_sound.ensures.sound
