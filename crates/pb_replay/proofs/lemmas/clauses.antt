@@ -11,5 +11,6 @@ pub mod Slots
 pub mod Steps
 pub mod Stores
 pub mod Truths
+pub mod Turned
 pub mod Walks
 pub mod Watching

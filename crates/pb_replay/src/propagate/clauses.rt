@@ -27,12 +27,23 @@ fn some_open(literals: &[u32], values: &[Option<bool>]) -> bool
     false
 }
 
+// The position that comes so far after the start of a search, round a clause of so many literals.
+fn start_after(start: usize, passed: usize, count: usize) -> usize {
+    let next = start.saturating_add(passed);
+    if next >= count {
+        return next - count;
+    }
+    next
+}
+
 /// Clauses by slots, each with two watched literals.
 #[derive(Drop)]
 pub struct Clauses {
     // The literals of each slot's clause, none if the slot is empty.
     literals: Vec<Vec<u32>>,
-    // The literals of a slot's clause before this position are falsified or watched.
+    // Where the search in a slot's clause starts. It goes round the clause.
+    starts: Vec<usize>,
+    // How many literals from there on are falsified or watched.
     passed: Vec<usize>,
     // The slots whose search has begun in this run.
     moved: Vec<usize>,
@@ -51,6 +62,7 @@ impl Clauses {
     {
         Clauses {
             literals: Vec::new(alloc),
+            starts: Vec::new(alloc),
             passed: Vec::new(alloc),
             moved: Vec::new(alloc),
             watches: Vec::new(alloc),
@@ -81,6 +93,7 @@ impl Clauses {
         ensures lists { self.new.lists ≡ self.old.lists }
     {
         let alloc = *self.lists.allocator();
+        self.starts.push(0)?;
         self.passed.push(0)?;
         let idle = Watch {
             literal: 0,
@@ -209,7 +222,8 @@ impl Clauses {
         some_open(self.literals[slot].as_slice(), values)
     }
 
-    /// Prepares for another run. Only the clauses in which a search has begun are visited, and nothing is allocated.
+    /// Prepares for another run, whose searches start where those of this run ended. Only the clauses in which a search has
+    /// begun are visited, and nothing is allocated.
     pub fn rest(&mut self)
         requires running { (values : List (Option Bool)) × IsRunning values self.old }
         ensures rest { AreReady self.new }
@@ -219,6 +233,8 @@ impl Clauses {
     {
         'slots: for i in 0..self.moved.len() {
             let slot = self.moved[i];
+            let count = self.literals[slot].len();
+            self.starts[slot] = start_after(self.starts[slot], self.passed[slot], count);
             self.passed[slot] = 0;
         }
         self.moved.clear();

@@ -10,7 +10,8 @@ use Rattle.pb_replay.specs.declared.propagate.clauses.lists.Watch.{Watch}
 use Rattle.pb_replay.specs.declared.propagate.clauses.Clauses.{Clauses}
 use Rattle.pb_replay.specs.engine.Clauses.Truths.{flip, true_at, false_at}
 use Rattle.pb_replay.specs.engine.Clauses.Links.{watch_at, list_at, lists_of, AreLinked, Remains}
-use Rattle.pb_replay.specs.engine.Clauses.Runs.{AreWalked, Grows, AreStored, IsWatched, ArePassed, AreNoted, AreServed, IsRunning, IsUnit, IsBroken}
+use Rattle.pb_replay.specs.engine.Clauses.Runs.{AreWalked, Grows, AreStored, IsWatched, ArePassed, AreNoted, AreServed, IsRunning, IsUnit, IsBroken, turned, all_turned}
+use Rattle.pb_replay.proofs.lemmas.clauses.Turned.{turned-at, turned-count, turned-length, turned-size, stored-turned, stored-back}
 use Rattle.pb_replay.proofs.lemmas.clauses.Linked.{sits-within, lists-length, list-here}
 use Rattle.pb_replay.proofs.lemmas.clauses.Truths.{flip-half, flip-flip, flip-apart, same-slot, not_both}
 
@@ -345,6 +346,10 @@ pub record Reading (c : Clauses) (l index e other : ℕ) : Type 0 where
   pub flips : other_at ≡ flip e
   pub other_is : other ≡ (watch_at watches other_at).literal
 
+-- no search has passed more than its clause
+pub running-bounded : (c : Clauses) (values : List (Option Bool)) → IsRunning values c → (s : ℕ) → get_or c.passed.items s 0 ≤ length (list_at (lists_of c.literals.items) s)
+running-bounded c values r s = omega (arith, r.passed.bounded s, turned-size c.starts.items (lists_of c.literals.items) s)
+
 pub reading-item : (c : Clauses) (l index e other : ℕ) → Reading c l index e other → slice_get (list_at (lists_of c.lists.items) l) index ≡ Some e
 reading-item c l index e other r = item-of r.lists c.lists.items l index e r.lists_are r.item
 
@@ -364,84 +369,110 @@ reading-small c values l index e other run r =
 pub reading-slot : (c : Clauses) (values : List (Option Bool)) (l index e other : ℕ) → IsRunning values c → Reading c l index e other → (e / 2 < length c.literals.items) × (e / 2 < length c.passed.items)
 reading-slot c values l index e other run r =
     let inside = slot-within (lists_of c.literals.items) c.watches.items (lists_of c.lists.items) e run.stored (reading-live c values l index e other run r) in
-    (omega (arith, inside, lists-length c.literals.items), omega (arith, inside, run.passed.sizes))
+    (omega (arith, inside, lists-length c.literals.items), omega (arith, inside, run.passed.sizes, turned-count c.starts.items (lists_of c.literals.items)))
 
--- the clause and the position at which its search continues
-pub record Resuming (c : Clauses) (s from : ℕ) (xs : List ℕ) : Type 0 where
+-- the clause, where its search starts, and how far it has come
+pub record Resuming (c : Clauses) (s from start : ℕ) (xs : List ℕ) : Type 0 where
   pub from_is : from ≡ get_or c.passed.items s from
+  pub start_is : start ≡ get_or c.starts.items s start
   pub vec : Vec ℕ Global
   pub vec_is : vec ≡ get_or c.literals.items s vec
   pub items : xs ≡ vec.items
 
-pub resuming-from : (c : Clauses) (s from : ℕ) (xs : List ℕ) → s < length c.passed.items → Resuming c s from xs → from ≡ get_or c.passed.items s 0
-resuming-from c s from xs inside r = get_or_read c.passed.items s from inside r.from_is 0
+pub resuming-from : (c : Clauses) (s from start : ℕ) (xs : List ℕ) → s < length c.passed.items → Resuming c s from start xs → from ≡ get_or c.passed.items s 0
+resuming-from c s from start xs inside r = get_or_read c.passed.items s from inside r.from_is 0
 
-pub resuming-xs : (c : Clauses) (s from : ℕ) (xs : List ℕ) → s < length c.literals.items → Resuming c s from xs → xs ≡ list_at (lists_of c.literals.items) s
-resuming-xs c s from xs inside r = r.items ∙ sym (list-here c.literals.items s r.vec inside r.vec_is)
+pub resuming-xs : (c : Clauses) (s from start : ℕ) (xs : List ℕ) → s < length c.literals.items → Resuming c s from start xs → xs ≡ list_at (lists_of c.literals.items) s
+resuming-xs c s from start xs inside r = r.items ∙ sym (list-here c.literals.items s r.vec inside r.vec_is)
 
-pub resuming-within : (c : Clauses) (values : List (Option Bool)) (l index e other from : ℕ) (xs : List ℕ) → IsRunning values c → Reading c l index e other → Resuming c (e / 2) from xs → from ≤ length xs
-resuming-within c values l index e other from xs run r s =
+pub resuming-turned : (c : Clauses) (s from start : ℕ) (xs : List ℕ) → s < length c.literals.items → length c.starts.items ≡ length c.literals.items → Resuming c s from start xs → turned start xs ≡ list_at (all_turned c.starts.items (lists_of c.literals.items)) s
+resuming-turned c s from start xs inside sizes r =
+    ap (λ n. turned n xs) (get_or_read c.starts.items s start (omega (arith, inside, sizes)) r.start_is 0) ∙ (ap (turned (get_or c.starts.items s 0)) (resuming-xs c s from start xs inside r) ∙ sym (turned-at c.starts.items (lists_of c.literals.items) s))
+
+pub resuming-within : (c : Clauses) (values : List (Option Bool)) (l index e other from start : ℕ) (xs : List ℕ) → IsRunning values c → Reading c l index e other → Resuming c (e / 2) from start xs → from ≤ length xs
+resuming-within c values l index e other from start xs run r s =
     let two = reading-slot c values l index e other run r in
-    omega (arith, resuming-from c (e / 2) from xs two.1 s, ap length (resuming-xs c (e / 2) from xs two.0 s), run.passed.bounded (e / 2))
+    omega (arith, resuming-from c (e / 2) from start xs two.1 s, ap length (resuming-xs c (e / 2) from start xs two.0 s), run.passed.bounded (e / 2), turned-size c.starts.items (lists_of c.literals.items) (e / 2))
 
-pub resuming-inside : (c : Clauses) (values : List (Option Bool)) (l index e other from : ℕ) (xs : List ℕ) → IsRunning values c → Reading c l index e other → Resuming c (e / 2) from xs → All (λ x. x < 2 * length values) xs
-resuming-inside c values l index e other from xs run r s =
+pub resuming-inside : (c : Clauses) (values : List (Option Bool)) (l index e other from start : ℕ) (xs : List ℕ) → IsRunning values c → Reading c l index e other → Resuming c (e / 2) from start xs → All (λ x. x < 2 * length values) xs
+resuming-inside c values l index e other from start xs run r s =
     let two = reading-slot c values l index e other run r in
-    let those = resuming-xs c (e / 2) from xs two.0 s in
+    let those = resuming-xs c (e / 2) from start xs two.0 s in
     λ k d h. let small = run.stored.inside (e / 2) k d (omega (arith, h, ap length those)) in
     omega (arith, small, ap (λ (ys : List ℕ). get_or ys k d) those, lists-length c.lists.items, run.sizes)
 
-pub visiting-by : (c : Clauses) (values : List (Option Bool)) (l index e other from place : ℕ) (xs : List ℕ) → IsRunning values c → false_at values l ≡ true → Reading c l index e other → Resuming c (e / 2) from xs → HasSearched values xs from other place →
-    Visiting values (lists_of c.literals.items) c.passed.items c.watches.items (lists_of c.lists.items) l index e other place
-visiting-by c values l index e other from place xs run failed r s searched =
+pub searched-by : (values : List (Option Bool)) (start from other place : ℕ) (xs : List ℕ) → from ≤ place → place ≤ length xs →
+    ((k d : ℕ) → from ≤ k → k < place → (false_at values (get_or (turned start xs) k d) ≡ true) ⊎ (get_or (turned start xs) k d ≡ other)) →
+    (place < length xs → (d : ℕ) → (false_at values (get_or (turned start xs) place d) ≡ false) × (get_or (turned start xs) place d ≡ other → ⊥)) →
+    HasSearched values (turned start xs) from other place
+searched-by values start from other place xs after within passed found = record {
+  after = after;
+  within = omega (arith, within, turned-length start xs);
+  passed = passed;
+  found = λ h. found (omega (arith, h, turned-length start xs));
+}
+
+-- a search that has passed more
+pub bounded-raised : (c : Clauses) (values : List (Option Bool)) (s x : ℕ) → IsRunning values c → s < length c.passed.items → x ≤ length (list_at (lists_of c.literals.items) s) → (t : ℕ) → get_or (set c.passed.items s x) t 0 ≤ length (list_at (lists_of c.literals.items) t)
+bounded-raised c values s x run inside within t = by (cases_eq t s)
+  where
+    by : (t ≡ s) ⊎ (t ≡ s → ⊥) → get_or (set c.passed.items s x) t 0 ≤ length (list_at (lists_of c.literals.items) t)
+    by (inl is) = subst (λ u. get_or (set c.passed.items s x) u 0 ≤ length (list_at (lists_of c.literals.items) u)) (sym is) (omega (arith, within, get_or-set_same c.passed.items s x 0 inside))
+    by (inr n) = omega (arith, running-bounded c values run t, get_or-set_other c.passed.items s t x 0 n)
+
+pub visiting-by : (c : Clauses) (values : List (Option Bool)) (l index e other from start place : ℕ) (xs : List ℕ) → IsRunning values c → false_at values l ≡ true → Reading c l index e other → Resuming c (e / 2) from start xs → HasSearched values (turned start xs) from other place →
+    Visiting values (all_turned c.starts.items (lists_of c.literals.items)) c.passed.items c.watches.items (lists_of c.lists.items) l index e other place
+visiting-by c values l index e other from start place xs run failed r s searched =
     let two = reading-slot c values l index e other run r in
     record {
-      stored = run.stored;
+      stored = stored-turned c.starts.items (lists_of c.literals.items) c.watches.items (lists_of c.lists.items) run.stored;
       passes = run.passed;
       failed = failed;
       item = reading-item c l index e other r;
       other_is = reading-other c l index e other r;
-      searched = subst (λ ys. HasSearched values ys (get_or c.passed.items (e / 2) 0) other place) (resuming-xs c (e / 2) from xs two.0 s)
-          (subst (λ n. HasSearched values xs n other place) (resuming-from c (e / 2) from xs two.1 s) searched);
+      searched = subst (λ ys. HasSearched values ys (get_or c.passed.items (e / 2) 0) other place) (resuming-turned c (e / 2) from start xs two.0 run.starts s)
+          (subst (λ n. HasSearched values (turned start xs) n other place) (resuming-from c (e / 2) from start xs two.1 s) searched);
     }
 
 -- the state if no literal is left that may be watched
-pub running-end : (c : Clauses) (values : List (Option Bool)) (l index e other from place : ℕ) (xs : List ℕ) (passed' moved_v : Vec ℕ Global) → IsRunning values c → false_at values l ≡ true → Reading c l index e other → Resuming c (e / 2) from xs → HasSearched values xs from other place → length xs ≤ place →
+pub running-end : (c : Clauses) (values : List (Option Bool)) (l index e other from start place : ℕ) (xs : List ℕ) (passed' moved_v : Vec ℕ Global) → IsRunning values c → false_at values l ≡ true → Reading c l index e other → Resuming c (e / 2) from start xs → HasSearched values (turned start xs) from other place → length xs ≤ place →
     (moved_v.items ≡ c.moved.items ++ (e / 2 ∷ [])) ⊎ ((0 < from) × (moved_v.items ≡ c.moved.items)) → passed'.items ≡ set c.passed.items (e / 2) place →
-    IsRunning values (record { literals = c.literals; passed = passed'; moved = moved_v; watches = c.watches; lists = c.lists })
-running-end c values l index e other from place xs passed' moved_v run failed r s searched end noted now =
+    IsRunning values (record { literals = c.literals; starts = c.starts; passed = passed'; moved = moved_v; watches = c.watches; lists = c.lists })
+running-end c values l index e other from start place xs passed' moved_v run failed r s searched end noted now =
     let two = reading-slot c values l index e other run r in
-    let in_visit = visiting-by c values l index e other from place xs run failed r s searched in
-    let end_at : length (list_at (lists_of c.literals.items) (e / 2)) ≤ place = omega (arith, end, ap length (resuming-xs c (e / 2) from xs two.0 s)) in
-    let from_is = resuming-from c (e / 2) from xs two.1 s in
+    let in_visit = visiting-by c values l index e other from start place xs run failed r s searched in
+    let end_at : length (list_at (all_turned c.starts.items (lists_of c.literals.items)) (e / 2)) ≤ place = omega (arith, end, ap length (resuming-xs c (e / 2) from start xs two.0 s), turned-size c.starts.items (lists_of c.literals.items) (e / 2)) in
+    let from_is = resuming-from c (e / 2) from start xs two.1 s in
     let noted_at = subst (λ n. (moved_v.items ≡ c.moved.items ++ (e / 2 ∷ [])) ⊎ ((0 < n) × (moved_v.items ≡ c.moved.items))) from_is noted in
     record {
       stored = run.stored;
-      passed = subst (λ p. ArePassed values (lists_of c.literals.items) p c.watches.items) (sym now) (passed-end values (lists_of c.literals.items) c.passed.items c.watches.items (lists_of c.lists.items) l index e other place in_visit end_at);
+      passed = subst (λ p. ArePassed values (all_turned c.starts.items (lists_of c.literals.items)) p c.watches.items) (sym now) (passed-end values (all_turned c.starts.items (lists_of c.literals.items)) c.passed.items c.watches.items (lists_of c.lists.items) l index e other place in_visit end_at);
+      starts = run.starts;
       noted = subst (λ p. AreNoted p moved_v.items) (sym now) (noted-set c.passed.items c.moved.items moved_v.items (e / 2) place run.noted two.1 noted_at);
       sizes = run.sizes;
     }
 
-pub running-move : (c : Clauses) (values : List (Option Bool)) (l index e other from place : ℕ) (xs : List ℕ) (passed' moved_v : Vec ℕ Global) (watches' : Vec Watch Global) (lists' : Vec (Vec ℕ Global) Global) → IsRunning values c → false_at values l ≡ true → Reading c l index e other → Resuming c (e / 2) from xs → HasSearched values xs from other place →
+pub running-move : (c : Clauses) (values : List (Option Bool)) (l index e other from start place : ℕ) (xs : List ℕ) (passed' moved_v : Vec ℕ Global) (watches' : Vec Watch Global) (lists' : Vec (Vec ℕ Global) Global) → IsRunning values c → false_at values l ≡ true → Reading c l index e other → Resuming c (e / 2) from start xs → HasSearched values (turned start xs) from other place →
     (moved_v.items ≡ c.moved.items ++ (e / 2 ∷ [])) ⊎ ((0 < from) × (moved_v.items ≡ c.moved.items)) → passed'.items ≡ set c.passed.items (e / 2) (place + 1) → length lists'.items ≡ length c.lists.items →
-    Shifted values (lists_of c.literals.items) c.watches.items watches'.items (lists_of c.lists.items) (lists_of lists'.items) index e place →
-    IsRunning values (record { literals = c.literals; passed = passed'; moved = moved_v; watches = watches'; lists = lists' })
-running-move c values l index e other from place xs passed' moved_v watches' lists' run failed r s searched noted now sizes m =
+    Shifted values (all_turned c.starts.items (lists_of c.literals.items)) c.watches.items watches'.items (lists_of c.lists.items) (lists_of lists'.items) index e place →
+    IsRunning values (record { literals = c.literals; starts = c.starts; passed = passed'; moved = moved_v; watches = watches'; lists = lists' })
+running-move c values l index e other from start place xs passed' moved_v watches' lists' run failed r s searched noted now sizes m =
     let two = reading-slot c values l index e other run r in
-    let in_visit = visiting-by c values l index e other from place xs run failed r s searched in
-    let from_is = resuming-from c (e / 2) from xs two.1 s in
+    let in_visit = visiting-by c values l index e other from start place xs run failed r s searched in
+    let from_is = resuming-from c (e / 2) from start xs two.1 s in
     let noted_at = subst (λ n. (moved_v.items ≡ c.moved.items ++ (e / 2 ∷ [])) ⊎ ((0 < n) × (moved_v.items ≡ c.moved.items))) from_is noted in
     record {
-      stored = stored-move values (lists_of c.literals.items) c.passed.items c.watches.items watches'.items (lists_of c.lists.items) (lists_of lists'.items) l index e other place in_visit m;
-      passed = subst (λ p. ArePassed values (lists_of c.literals.items) p watches'.items) (sym now) (passed-move values (lists_of c.literals.items) c.passed.items c.watches.items watches'.items (lists_of c.lists.items) (lists_of lists'.items) l index e other place in_visit m);
+      stored = stored-back c.starts.items (lists_of c.literals.items) watches'.items (lists_of lists'.items) (stored-move values (all_turned c.starts.items (lists_of c.literals.items)) c.passed.items c.watches.items watches'.items (lists_of c.lists.items) (lists_of lists'.items) l index e other place in_visit m);
+      passed = subst (λ p. ArePassed values (all_turned c.starts.items (lists_of c.literals.items)) p watches'.items) (sym now) (passed-move values (all_turned c.starts.items (lists_of c.literals.items)) c.passed.items c.watches.items watches'.items (lists_of c.lists.items) (lists_of lists'.items) l index e other place in_visit m);
+      starts = run.starts;
       noted = subst (λ p. AreNoted p moved_v.items) (sym now) (noted-set c.passed.items c.moved.items moved_v.items (e / 2) (place + 1) run.noted two.1 noted_at);
       sizes = sizes ∙ run.sizes;
     }
 
 -- what pays for the visits of a search
-pub covered-by : (c : Clauses) (values : List (Option Bool)) (l index e other from place next : ℕ) (xs : List ℕ) (v0 v1 v2 v3 : ℕ) → IsRunning values c → Reading c l index e other → Resuming c (e / 2) from xs → next ≡ min (place + 1) (length xs) → v1 ≤ v0 + 1 → v2 ≤ v1 + 1 → v3 + from ≤ v2 + next → v3 + sum c.passed.items ≤ v0 + 2 + sum (set c.passed.items (e / 2) next)
-covered-by c values l index e other from place next xs v0 v1 v2 v3 run r s next_is a b few =
+pub covered-by : (c : Clauses) (values : List (Option Bool)) (l index e other from start place next : ℕ) (xs : List ℕ) (v0 v1 v2 v3 : ℕ) → IsRunning values c → Reading c l index e other → Resuming c (e / 2) from start xs → next ≡ min (place + 1) (length xs) → v1 ≤ v0 + 1 → v2 ≤ v1 + 1 → v3 + from ≤ v2 + next → v3 + sum c.passed.items ≤ v0 + 2 + sum (set c.passed.items (e / 2) next)
+covered-by c values l index e other from start place next xs v0 v1 v2 v3 run r s next_is a b few =
     let two = reading-slot c values l index e other run r in
     let raised = sum-raised c.passed.items (e / 2) next two.1 in
-    let from_is = resuming-from c (e / 2) from xs two.1 s in
+    let from_is = resuming-from c (e / 2) from start xs two.1 s in
     omega (arith, raised, from_is, few, a, b)

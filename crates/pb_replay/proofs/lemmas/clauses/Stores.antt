@@ -1,5 +1,5 @@
 -- Clauses are added and removed.
-use Rattle.std.specs.Prelude.{Bool, true, false, Some, slice_get, All, Contains, Vec, ◌/◌}
+use Rattle.std.specs.Prelude.{Bool, Option, true, false, Some, slice_get, All, Contains, Vec, ◌/◌}
 use Rattle.std.specs.Global.{Global}
 use Rattle.std.proofs.Common.{◌≡◌, ℕ, ◌+◌, ◌*◌, ◌<◌, ◌≤◌, ◌⊎◌, ◌++◌, ◌∷◌, [], List, refl, sym, ◌∙◌, ap, subst, arith, inl, inr, length, get_or, set, length-set, length-append, get_or-set_same, get_or-set_other}
 use Rattle.std.proofs.lemmas.Bool.{cases_eq, cases_lt, both_ways}
@@ -10,11 +10,12 @@ use Rattle.pb_replay.specs.declared.propagate.clauses.lists.Watch.{Watch}
 use Rattle.pb_replay.specs.declared.propagate.clauses.Clauses.{Clauses}
 use Rattle.pb_replay.specs.engine.Clauses.Truths.{flip}
 use Rattle.pb_replay.specs.engine.Clauses.Links.{idle, watch_at, list_at, lists_of, Sits, AreLinked}
-use Rattle.pb_replay.specs.engine.Clauses.Runs.{AreStored, AreNoted, AreReady}
+use Rattle.pb_replay.specs.engine.Clauses.Runs.{AreStored, AreNoted, AreReady, IsRunning}
 use Rattle.pb_replay.proofs.lemmas.clauses.Linked.{list-within, lists-length}
 use Rattle.pb_replay.proofs.lemmas.clauses.Truths.{flip-half, flip-flip, flip-even}
 use Rattle.pb_replay.proofs.lemmas.clauses.Steps.{live-within}
 use Rattle.pb_replay.proofs.lemmas.clauses.Gets.{push-default}
+use Rattle.pb_replay.proofs.lemmas.clauses.Turned.{turned-count}
 
 -- what is known of clauses depends only on the element at each position
 pub stored-same : (clauses clauses' : List (List ℕ)) (ws ws' : List Watch) (ls ls' : List (List ℕ)) → ((s : ℕ) → list_at clauses' s ≡ list_at clauses s) → ((e : ℕ) → watch_at ws' e ≡ watch_at ws e) → ((l : ℕ) → list_at ls' l ≡ list_at ls l) → length ws' ≡ 2 * length clauses' → length ls ≤ length ls' → AreStored clauses ws ls → AreStored clauses' ws' ls'
@@ -61,6 +62,25 @@ left-none passed moved i end old s = elim (old.each s) [
   | inl z ↦ z
   | inr w ↦ absurd (omega (arith, w.1, w.2, end))
 ]
+
+-- the slots on the trail are those of clauses
+pub noted-slot : (values : List (Option Bool)) (c : Clauses) (moved : List ℕ) (i slot : ℕ) → IsRunning values c → moved ≡ c.moved.items → i < length moved → slot ≡ get_or moved i slot → slot < length c.literals.items
+noted-slot values c moved i slot run same inside is =
+    let named = run.noted.named i slot (omega (arith, inside, ap length same)) in
+    omega (arith, named, is, ap (λ ms. get_or ms i slot) same, run.passed.sizes, turned-count c.starts.items (lists_of c.literals.items), lists-length c.literals.items)
+
+-- once no search has passed anything, the clauses are ready
+pub rest-ready : (values : List (Option Bool)) (c c' : Clauses) (i : ℕ) → IsRunning values c → c'.literals ≡ c.literals → c'.watches ≡ c.watches → c'.lists ≡ c.lists → length c'.starts.items ≡ length c.starts.items → length c'.passed.items ≡ length c.passed.items →
+    AreLeft c'.passed.items c.moved.items i → length c.moved.items ≤ i → c'.moved.items ≡ [] → AreReady c'
+rest-ready values c c' i run literals watches lists starts passed left end none =
+    let as_many : length c'.literals.items ≡ length c.literals.items = ap (λ (v : Vec (Vec ℕ Global) Global). length v.items) literals in
+    record {
+      stored = rw (literals, watches, lists) run.stored;
+      sizes = omega (arith, passed, as_many, run.passed.sizes, turned-count c.starts.items (lists_of c.literals.items), lists-length c.literals.items);
+      starts = omega (arith, starts, as_many, run.starts);
+      none = left-none c'.passed.items c.moved.items i end left;
+      trail = none;
+    }
 
 -- a slot has two watches
 two-of : (k s : ℕ) → k / 2 ≡ s → (k ≡ 2 * s) ⊎ (k ≡ 2 * s + 1)
@@ -203,19 +223,20 @@ lists-push occ occ' v pushed none l =
     ap (λ xs. list_at xs l) whole ∙ push-default (lists_of occ) l []
 
 pub rest-widen : (c : Clauses) (lists' : Vec (Vec ℕ Global) Global) (occ1 : List (Vec ℕ Global)) (v w : Vec ℕ Global) → AreReady c → occ1 ≡ c.lists.items ++ (v ∷ []) → lists'.items ≡ occ1 ++ (w ∷ []) → v.items ≡ [] → w.items ≡ [] →
-    AreReady (record { literals = c.literals; passed = c.passed; moved = c.moved; watches = c.watches; lists = lists' })
+    AreReady (record { literals = c.literals; starts = c.starts; passed = c.passed; moved = c.moved; watches = c.watches; lists = lists' })
 rest-widen c lists' occ1 v w r one two none_v none_w = record {
   stored = stored-same (lists_of c.literals.items) (lists_of c.literals.items) c.watches.items c.watches.items (lists_of c.lists.items) (lists_of lists'.items) (λ s. refl) (λ e. refl)
       (λ l. lists-push occ1 lists'.items w two none_w l ∙ lists-push c.lists.items occ1 v one none_v l)
       r.stored.pairs (omega (arith, lists-length c.lists.items, lists-length lists'.items, ap length one, ap length two, length-append c.lists.items (v ∷ []), length-append occ1 (w ∷ []))) r.stored;
   sizes = r.sizes;
+  starts = r.starts;
   none = r.none;
   trail = r.trail;
 }
 
-pub rest-extend : (c : Clauses) (literals' : Vec (Vec ℕ Global) Global) (passed' : Vec ℕ Global) (watches' : Vec Watch Global) (ws1 : List Watch) (v : Vec ℕ Global) (i : Watch) → AreReady c → i ≡ idle → literals'.items ≡ c.literals.items ++ (v ∷ []) → v.items ≡ [] → passed'.items ≡ c.passed.items ++ (0 ∷ []) → ws1 ≡ c.watches.items ++ (i ∷ []) → watches'.items ≡ ws1 ++ (i ∷ []) →
-    AreReady (record { literals = literals'; passed = passed'; moved = c.moved; watches = watches'; lists = c.lists })
-rest-extend c literals' passed' watches' ws1 v i r is_idle pushed none_v passed one two =
+pub rest-extend : (c : Clauses) (literals' : Vec (Vec ℕ Global) Global) (starts' passed' : Vec ℕ Global) (watches' : Vec Watch Global) (ws1 : List Watch) (v : Vec ℕ Global) (i : Watch) → AreReady c → i ≡ idle → literals'.items ≡ c.literals.items ++ (v ∷ []) → v.items ≡ [] → starts'.items ≡ c.starts.items ++ (0 ∷ []) → passed'.items ≡ c.passed.items ++ (0 ∷ []) → ws1 ≡ c.watches.items ++ (i ∷ []) → watches'.items ≡ ws1 ++ (i ∷ []) →
+    AreReady (record { literals = literals'; starts = starts'; passed = passed'; moved = c.moved; watches = watches'; lists = c.lists })
+rest-extend c literals' starts' passed' watches' ws1 v i r is_idle pushed none_v started passed one two =
     let one_idle : ws1 ≡ c.watches.items ++ (idle ∷ []) = one ∙ ap (λ (w : Watch). c.watches.items ++ (w ∷ [])) is_idle in
     let two_idle : watches'.items ≡ ws1 ++ (idle ∷ []) = two ∙ ap (λ (w : Watch). ws1 ++ (w ∷ [])) is_idle in
     record {
@@ -226,6 +247,7 @@ rest-extend c literals' passed' watches' ws1 v i r is_idle pushed none_v passed 
           (omega (arith, ap length one_idle, ap length two_idle, length-append c.watches.items (idle ∷ []), length-append ws1 (idle ∷ []), ap length pushed, length-append c.literals.items (v ∷ []), lists-length c.literals.items, lists-length literals'.items, r.stored.pairs))
           (omega arith) r.stored;
       sizes = omega (arith, r.sizes, ap length passed, ap length pushed, length-append c.passed.items (0 ∷ []), length-append c.literals.items (v ∷ []));
+      starts = omega (arith, r.starts, ap length started, ap length pushed, length-append c.starts.items (0 ∷ []), length-append c.literals.items (v ∷ []));
       none = λ s. ap (λ ps. get_or ps s 0) passed ∙ push-default c.passed.items s 0 ∙ r.none s;
       trail = r.trail;
     }
@@ -237,7 +259,7 @@ literals-set occ s v = map-set (λ (x : Vec ℕ Global). x.items) occ s v
 pub rest-fill : (c : Clauses) (literals' : Vec (Vec ℕ Global) Global) (watches' : Vec Watch Global) (lists' : Vec (Vec ℕ Global) Global) (ws1 : List Watch) (w1 w2 : Watch) (s x y : ℕ) (v : Vec ℕ Global) → AreReady c → s < length c.literals.items → list_at (lists_of c.literals.items) s ≡ [] →
     2 ≤ length v.items → x ≡ get_or v.items 0 0 → y ≡ get_or v.items 1 0 → (get_or v.items 0 0 ≡ get_or v.items 1 0 → ⊥) → All (λ z. z < length c.lists.items) v.items →
     literals'.items ≡ set c.literals.items s v → ws1 ≡ set c.watches.items (2 * s) w1 → watches'.items ≡ set ws1 (2 * s + 1) w2 → w1.live ≡ true → w1.literal ≡ x → w2.live ≡ true → w2.literal ≡ y → AreLinked watches'.items (lists_of lists'.items) → length lists'.items ≡ length c.lists.items →
-    AreReady (record { literals = literals'; passed = c.passed; moved = c.moved; watches = watches'; lists = lists' })
+    AreReady (record { literals = literals'; starts = c.starts; passed = c.passed; moved = c.moved; watches = watches'; lists = lists' })
 rest-fill c literals' watches' lists' ws1 w1 w2 s x y v r room empty two x_is y_is apart inside now one both live_1 at_1 live_2 at_2 linked sizes =
     let clauses = lists_of c.literals.items in
     let room_c : s < length clauses = omega (arith, room, lists-length c.literals.items) in
@@ -255,6 +277,7 @@ rest-fill c literals' watches' lists' ws1 w1 w2 s x y v r room empty two x_is y_
     record {
       stored = subst (λ cs. AreStored cs watches'.items (lists_of lists'.items)) (sym (ap lists_of now ∙ literals-set c.literals.items s v)) stored;
       sizes = r.sizes ∙ sym (ap length now ∙ length-set c.literals.items s v);
+      starts = r.starts ∙ sym (ap length now ∙ length-set c.literals.items s v);
       none = r.none;
       trail = r.trail;
     }

@@ -11,7 +11,7 @@ use Rattle.pb_replay.specs.engine.Engine.Lists.{Shape, Weighted, has, IsWithin, 
 use Rattle.pb_replay.specs.engine.Engine.Counts.{spent, AreFound}
 use Rattle.pb_replay.specs.engine.Clauses.Truths.{flip, true_at, false_at}
 use Rattle.pb_replay.specs.engine.Clauses.Links.{watch_at, list_at, lists_of, AreLinked}
-use Rattle.pb_replay.specs.engine.Clauses.Runs.{AreServed, AreWalked, IsRunning, IsUnit, Grows, Awaits}
+use Rattle.pb_replay.specs.engine.Clauses.Runs.{AreServed, AreWalked, IsRunning, IsUnit, Grows, Awaits, all_turned}
 use Rattle.pb_replay.specs.engine.Clauses.Shapes.{joined, AreJoined, clauses_of, literal_at}
 use Rattle.pb_replay.proofs.lemmas.engine.Literals.{has-push_old, has-push_new}
 use Rattle.pb_replay.proofs.lemmas.clauses.Literals.{Agree, true-listed, false-listed}
@@ -52,10 +52,11 @@ running-grow c old new g r = record {
     sizes = r.passed.sizes;
     bounded = r.passed.bounded;
     each = λ s k d h. elim (r.passed.each s k d h) [
-      | inl f ↦ inl (g.failed (get_or (list_at (lists_of c.literals.items) s) k d) f)
+      | inl f ↦ inl (g.failed (get_or (list_at (all_turned c.starts.items (lists_of c.literals.items)) s) k d) f)
       | inr w ↦ inr w
     ];
   };
+  starts = r.starts;
   noted = r.noted;
   sizes = r.sizes ∙ ap (λ n. 2 * n) (sym g.sizes);
 }

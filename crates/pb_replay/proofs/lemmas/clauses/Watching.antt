@@ -19,6 +19,8 @@ use Rattle.pb_replay.proofs.lemmas.engine.Puts.{place-inside}
 use Rattle.pb_replay.proofs.lemmas.engine.Values.{says-inside}
 use Rattle.pb_replay.proofs.lemmas.store.Gets.{last-is}
 use Rattle.pb_replay.proofs.lemmas.engine.Spent.{place-injective}
+use Rattle.pb_replay.proofs.lemmas.clauses.Steps.{running-bounded}
+use Rattle.pb_replay.proofs.lemmas.clauses.Turned.{turned-count}
 use Rattle.pb_replay.proofs.lemmas.clauses.Truths.{flip-half, flip-flip}
 use Rattle.pb_replay.proofs.lemmas.clauses.Linked.{lists-length}
 use Rattle.pb_replay.proofs.lemmas.clauses.Codes.{has as stands}
@@ -42,10 +44,11 @@ pub ready-running : (c : Clauses) (values : List (Option Bool)) → AreReady c �
 ready-running c values r sizes = record {
   stored = r.stored;
   passed = record {
-    sizes = r.sizes ∙ sym (lists-length c.literals.items);
+    sizes = r.sizes ∙ sym (lists-length c.literals.items) ∙ sym (turned-count c.starts.items (lists_of c.literals.items));
     bounded = λ s. omega (arith, r.none s);
     each = λ s k d h. absurd (omega (arith, h, r.none s));
   };
+  starts = r.starts;
   noted = record {
     noted = λ s. inl (r.none s);
     named = λ k d h. absurd (omega (arith, h, ap length r.trail));
@@ -197,7 +200,7 @@ cost-broken c0 c c' values list n v v' s s' l single inside is bounded covered w
 pub cost-most : (c0 c : Clauses) (values : List (Option Bool)) (list : List NumberedLiteral) (n : ℕ) → IsWatching c0 c values list n → cost c0 c n list ≤ 2 * killed (clauses_of c0) (walked_codes n list) + sum_by length (clauses_of c0)
 cost-most c0 c values list n w =
     let clauses = clauses_of c0 in
-    let bounded = subst (λ ls. (t : ℕ) → get_or c.passed.items t 0 ≤ length (list_at (lists_of ls.items) t)) w.literals w.running.passed.bounded in
+    let bounded = subst (λ ls. (t : ℕ) → get_or c.passed.items t 0 ≤ length (list_at (lists_of ls.items) t)) w.literals (running-bounded c values w.running) in
     omega (arith, passed-most c.passed.items clauses bounded)
 
 -- if all falsified literals are walked, each clause is settled

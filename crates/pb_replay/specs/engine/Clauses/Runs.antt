@@ -1,11 +1,21 @@
 -- A run of propagation: what it knows of the clauses, and what a visit to a watch finds.
-use Rattle.std.specs.Prelude.{◌≡◌, ℕ, ◌+◌, ◌*◌, ◌/◌, ◌<◌, ◌≤◌, ◌⊎◌, true, false, [], List, length, All, Contains, Bool, Option, Some, slice_get, slice_index_or}
+use Rattle.std.specs.Prelude.{◌≡◌, ℕ, ◌+◌, ◌*◌, ◌/◌, ◌<◌, ◌≤◌, ◌⊎◌, ◌++◌, ◌∷◌, true, false, [], List, length, take, drop, All, Contains, Bool, Option, Some, slice_get, slice_index_or}
 use Rattle.pb_replay.specs.declared.propagate.clauses.lists.Watch.{Watch}
 use Rattle.pb_replay.specs.declared.propagate.clauses.Clauses.{Clauses}
 use Rattle.pb_replay.specs.declared.propagate.clauses.visiting.Visit.{Visit}
 use Rattle.pb_replay.specs.declared.propagate.clauses.visiting.Visit.TheVariants.{Stays, Leaves, Forces, Falsified}
 use Rattle.pb_replay.specs.engine.Clauses.Truths.{flip, true_at, false_at}
 use Rattle.pb_replay.specs.engine.Clauses.Links.{lists_of, list_at, watch_at, AreLinked}
+
+-- a list from a position on, and then from its beginning
+abbrev pub turned : ℕ → List ℕ → List ℕ
+turned start xs = drop start xs ++ take start xs
+
+-- each clause in the order in which it is searched
+abbrev pub all_turned : List ℕ → List (List ℕ) → List (List ℕ)
+all_turned starts [] = []
+all_turned [] (xs ∷ clauses) = turned 0 xs ∷ all_turned [] clauses
+all_turned (start ∷ starts) (xs ∷ clauses) = turned start xs ∷ all_turned starts clauses
 
 -- each clause has two watches, on different literals of it
 pub record AreStored (clauses : List (List ℕ)) (watches : List Watch) (lists : List (List ℕ)) : Type 0 where
@@ -36,7 +46,8 @@ pub record AreNoted (passed moved : List ℕ) : Type 0 where
 
 pub record IsRunning (values : List (Option Bool)) (c : Clauses) : Type 0 where
   pub stored : AreStored (lists_of c.literals.items) c.watches.items (lists_of c.lists.items)
-  pub passed : ArePassed values (lists_of c.literals.items) c.passed.items c.watches.items
+  pub passed : ArePassed values (all_turned c.starts.items (lists_of c.literals.items)) c.passed.items c.watches.items
+  pub starts : length c.starts.items ≡ length c.literals.items
   pub noted : AreNoted c.passed.items c.moved.items
   pub sizes : length c.lists.items ≡ 2 * length values
 
@@ -83,6 +94,7 @@ index_after index Falsified = index
 pub record AreReady (c : Clauses) : Type 0 where
   pub stored : AreStored (lists_of c.literals.items) c.watches.items (lists_of c.lists.items)
   pub sizes : length c.passed.items ≡ length c.literals.items
+  pub starts : length c.starts.items ≡ length c.literals.items
   pub none : (s : ℕ) → slice_index_or c.passed.items s 0 ≡ 0
   pub trail : c.moved.items ≡ []
 

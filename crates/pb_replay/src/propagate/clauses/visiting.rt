@@ -3,7 +3,7 @@
 ghost use Rattle.std.specs.Prelude.{◌≡◌, ℕ, ◌+◌, ◌*◌, ◌-◌, ◌^◌, ◌<◌, ◌≤◌, ◌⊎◌, ◌++◌, ◌∷◌, [], List, Bool, Option, true, false, All, length, min, sum, slice_get, slice_index_or, OnOk, IfOk, Some};
 ghost use Rattle.pb_replay.specs.engine.Clauses.Truths.{false_at, true_at};
 ghost use Rattle.pb_replay.specs.engine.Clauses.Links.{lists_of, list_at, watch_at, AreLinked, Remains};
-ghost use Rattle.pb_replay.specs.engine.Clauses.Runs.{IsRunning, AreServed, AreWalked, Grows, HasFound, index_after};
+ghost use Rattle.pb_replay.specs.engine.Clauses.Runs.{IsRunning, AreServed, AreWalked, Grows, HasFound, index_after, turned};
 
 use crate::propagate::clauses::Clauses;
 use crate::propagate::clauses::lists::{Watch, put_in, take_out};
@@ -71,9 +71,27 @@ fn may_watch(values: &[Option<bool>], literal: u32, other: u32) -> bool
     !is_false(values, literal)
 }
 
-// The first position, from `from` on, of a literal that may be watched, or the end.
+// The position that comes so far after the start of a search, round a clause of so many literals.
+fn position(start: usize, after: usize, count: usize) -> usize
+    requires { after < count }
+    ensures inside { result < count }
+    ensures round { (xs : List ℕ) (d : ℕ) → length xs ≡ count → slice_index_or (turned start xs) after d ≡ slice_index_or xs result d }
+{
+    if start >= count {
+        return after;
+    }
+    let rest = count - start;
+    if after < rest {
+        return start + after;
+    }
+    after - rest
+}
+
+// How many literals come before the first one that may be watched, from the start on and round the clause. The first `from`
+// are passed already.
 fn search(
     literals: &[u32],
+    start: usize,
     from: usize,
     other: u32,
     values: &[Option<bool>],
@@ -83,15 +101,16 @@ fn search(
     requires inside { All (λ x. x < 2 * length values.now) literals.now }
     ensures after { from ≤ result }
     ensures within { result ≤ length literals.now }
-    ensures passed { (k d : ℕ) → from ≤ k → k < result → (false_at values.now (slice_index_or literals.now k d) ≡ true) ⊎ (slice_index_or literals.now k d ≡ other) }
-    ensures found { result < length literals.now → (d : ℕ) → (false_at values.now (slice_index_or literals.now result d) ≡ false) × (slice_index_or literals.now result d ≡ other → ⊥) }
+    ensures passed { (k d : ℕ) → from ≤ k → k < result → (false_at values.now (slice_index_or (turned start literals.now) k d) ≡ true) ⊎ (slice_index_or (turned start literals.now) k d ≡ other) }
+    ensures found { result < length literals.now → (d : ℕ) → (false_at values.now (slice_index_or (turned start literals.now) result d) ≡ false) × (slice_index_or (turned start literals.now) result d ≡ other → ⊥) }
     ensures rising { visits.old ≤ visits.new }
     ensures few { visits.new + from ≤ visits.old + min (result + 1) (length literals.now) }
 {
-    'places: for place in from..literals.len() {
+    'places: for passed in from..literals.len() {
+        let place = position(start, passed, literals.len());
         let literal = visit_literal(literals, place, visits);
         if may_watch(values, literal, other) {
-            return place;
+            return passed;
         }
     }
     literals.len()
@@ -168,17 +187,18 @@ pub fn visit_clause(
     let slot = watch / 2;
     let from = clauses.passed[slot];
     note(&mut clauses.moved, slot, from)?;
+    let start = clauses.starts[slot];
     let literals = clauses.literals[slot].as_slice();
-    let place = search(literals, from, other, values, visits);
-    if place >= literals.len() {
-        clauses.passed[slot] = place;
+    let passed = search(literals, start, from, other, values, visits);
+    if passed >= literals.len() {
+        clauses.passed[slot] = passed;
         if is_false(values, other) {
             return Ok(Visit::Falsified);
         }
         return Ok(Visit::Forces(other));
     }
-    let found = literals[place];
-    clauses.passed[slot] = place + 1;
+    let found = literals[position(start, passed, literals.len())];
+    clauses.passed[slot] = passed + 1;
     shift(
         &mut clauses.lists,
         &mut clauses.watches,

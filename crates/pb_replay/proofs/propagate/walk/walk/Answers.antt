@@ -10,6 +10,7 @@ use Rattle.pb_replay.specs.engine.Clauses.Shapes.{clauses_of}
 use Rattle.pb_replay.proofs.lemmas.clauses.Literals.{true-listed, false-listed}
 use Rattle.pb_replay.proofs.lemmas.clauses.Shapes.{broken-conflicts, conflicts-joined}
 use Rattle.pb_replay.proofs.lemmas.clauses.Walks.{grows-trans, IsWalking, walking-start, walking-next, walking-forces, walked-end}
+use Rattle.pb_replay.proofs.lemmas.clauses.Steps.{running-bounded}
 use Rattle.pb_replay.proofs.lemmas.root.Extends.{extends-none, extends-then}
 use Rattle.pb_replay.proofs.propagate.walk.walk.Goals as goal
 
@@ -199,3 +200,7 @@ returns-in-Falsified-clause-kept c = λ base codes more old. (subst (λ vs. (b :
 
 pub returns-clause-kept : goal.returns-clause-kept
 returns-clause-kept c = c.watches.invariant.kept
+
+pub returns-clause-bounded : goal.returns-clause-bounded
+returns-clause-bounded c = λ s.
+    omega (arith, running-bounded c.watches.clauses _ c.watches.invariant.walking.running s, ap (λ (v : Vec (Vec ℕ Global) Global). length (list_at (lists_of v.items) s)) c.watches.invariant.walking.literals)

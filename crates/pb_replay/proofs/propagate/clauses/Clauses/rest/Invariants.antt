@@ -10,4 +10,5 @@ invariant-slots l = record {
   lists : l.self.lists ≡ l.initial.self.lists;
   left : AreLeft l.self.passed.items l.initial.self.moved.items l.i;
   sizes : length l.self.passed.items ≡ length l.initial.self.passed.items;
+  starts : length l.self.starts.items ≡ length l.initial.self.starts.items;
 }

@@ -73,6 +73,7 @@ returns-clause-rest c =
     record {
       stored = subst (λ cs. AreStored cs c.take_out-2.new.watches.items (lists_of c.take_out-2.new.lists.items)) (sym (literals-set me.literals.items c.args.slot c.new.result ∙ ap (set (lists_of me.literals.items) c.args.slot) c.new.ensures.items)) stored;
       sizes = c.requires.rest.sizes ∙ sym (length-set me.literals.items c.args.slot c.new.result);
+      starts = c.requires.rest.starts ∙ sym (length-set me.literals.items c.args.slot c.new.result);
       none = c.requires.rest.none;
       trail = c.requires.rest.trail;
     }
