@@ -205,7 +205,7 @@ impl SumMachine {
         let Some((length, relation)) = relation_prefix(self.part, text) else {
             return 0;
         };
-        self.phase = Phase::Operator(relation);
+        self.phase = Phase::Relation(relation);
         if length < text.len() && text[length] == b' ' {
             return length + 1;
         }
@@ -357,7 +357,7 @@ impl SumMachine {
         let _ = self.is_done();
         match self.phase {
             Phase::Start | Phase::Signed(None, _) | Phase::Between => self.take_start(text),
-            Phase::Signed(Some(_), _) | Phase::Operator(_) => self.take_numeral(text),
+            Phase::Signed(Some(_), _) | Phase::Relation(_) => self.take_numeral(text),
             Phase::Gap(_) | Phase::Tilde(_) => self.take_name(text),
             Phase::More(_, _) => self.take_more(text),
             _ => 0,

@@ -42,8 +42,8 @@ pub enum Phase {
     Between,
     /// The first byte of `>=`.
     Greater,
-    /// The operator, and perhaps space.
-    Operator(Relation),
+    /// The relation, and perhaps space.
+    Relation(Relation),
     /// The degree and space.
     Tail(Relation, i128),
     /// Space, and no term.

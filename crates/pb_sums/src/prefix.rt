@@ -3,7 +3,7 @@
 ghost use Rattle.std.specs.Prelude.{◌<◌, ◌≤◌, ◌≡◌, IsTrue, IfSome, None, true, false, take, length, get_or};
 ghost use Rattle.pb_text.specs.meaning.Classes.{is_name_byte};
 ghost use Rattle.pb_text.specs.meaning.Languages.{Each};
-ghost use Rattle.pb_sums.specs.contract.Canonical.{operator_bytes};
+ghost use Rattle.pb_sums.specs.contract.Canonical.{relation_bytes};
 ghost use Rattle.pb_sums.specs.engine.Prefix.{HasSign, LacksRelation};
 ghost use Rattle.pb_sums.specs.meaning.Sums.{allows};
 
@@ -61,7 +61,7 @@ fn leading_sign(text: &[u8]) -> (usize, bool)
 pub fn relation_prefix(part: Part, text: &[u8]) -> Option<(usize, Relation)>
     ensures bound { IfSome result (λ r. r.0 ≤ length text.now) }
     ensures allowed { IfSome result (λ r. allows part r.1 ≡ true) }
-    ensures operator { IfSome result (λ r. take r.0 text.now ≡ operator_bytes r.1) }
+    ensures relation { IfSome result (λ r. take r.0 text.now ≡ relation_bytes r.1) }
     ensures none { result ≡ None → LacksRelation part text.now }
 {
     if allows(part, Relation::AtLeast) && text.starts_with(b">=") {

@@ -20,7 +20,7 @@ pub fn is_numeric(phase: Phase) -> bool
         | Phase::Signed(_, _)
         | Phase::Digits(_, _, _)
         | Phase::Between
-        | Phase::Operator(_) => true,
+        | Phase::Relation(_) => true,
         _ => false,
     }
 }
@@ -60,7 +60,7 @@ pub fn begins_number(phase: Phase) -> bool
     ensures { result ≡ begins_number phase }
 {
     match phase {
-        Phase::Start | Phase::Signed(_, _) | Phase::Between | Phase::Operator(_) => true,
+        Phase::Start | Phase::Signed(_, _) | Phase::Between | Phase::Relation(_) => true,
         _ => false,
     }
 }
@@ -71,7 +71,7 @@ pub fn role(phase: Phase) -> Option<Relation>
 {
     match phase {
         Phase::Signed(role, _) => role,
-        Phase::Operator(r) => Some(r),
+        Phase::Relation(r) => Some(r),
         _ => None,
     }
 }
@@ -128,7 +128,7 @@ pub fn after_space(phase: Phase) -> Option<Phase>
         Phase::Digits(Some(r), negative, n) => Some(Phase::Tail(r, signed(negative, n))),
         Phase::Gap(z) => Some(Phase::Gap(z)),
         Phase::More(_, _) | Phase::Between => Some(Phase::Between),
-        Phase::Operator(r) => Some(Phase::Operator(r)),
+        Phase::Relation(r) => Some(Phase::Relation(r)),
         Phase::Tail(r, z) => Some(Phase::Tail(r, z)),
         _ => None,
     }
@@ -200,7 +200,7 @@ fn next_action(part: Part, kind: Kind) -> Action
 {
     match kind {
         Kind::Greater if allows(part, Relation::AtLeast) => Action::To(Phase::Greater),
-        Kind::Equals if allows(part, Relation::Equal) => Action::To(Phase::Operator(
+        Kind::Equals if allows(part, Relation::Equal) => Action::To(Phase::Relation(
             Relation::Equal,
         )),
         Kind::Semicolon if reads_sums(part) => Action::EndSum,
@@ -244,9 +244,9 @@ pub fn transition(part: Part, limit: u128, phase: Phase, kind: Kind) -> Action
         }
         (Phase::More(_, _) | Phase::Between, Kind::Space) => Action::To(Phase::Between),
         (Phase::More(_, _) | Phase::Between, _) => next_action(part, kind),
-        (Phase::Greater, Kind::Equals) => Action::To(Phase::Operator(Relation::AtLeast)),
-        (Phase::Operator(r), Kind::Space) => Action::To(Phase::Operator(r)),
-        (Phase::Operator(r), _) => number(limit, Some(r), kind),
+        (Phase::Greater, Kind::Equals) => Action::To(Phase::Relation(Relation::AtLeast)),
+        (Phase::Relation(r), Kind::Space) => Action::To(Phase::Relation(r)),
+        (Phase::Relation(r), _) => number(limit, Some(r), kind),
         (Phase::Tail(r, z), Kind::Space) => Action::To(Phase::Tail(r, z)),
         (Phase::Tail(r, z), Kind::Semicolon) => Action::EndLinear(r, z),
         (Phase::Empty, Kind::Space) => Action::To(Phase::Empty),

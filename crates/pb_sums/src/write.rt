@@ -4,7 +4,7 @@ ghost use Rattle.std.specs.Prelude.{◌≡◌, ◌+◌, ◌≤◌, ◌++◌, ◌
 ghost use Rattle.std.specs.Fmt.{signed_decimal};
 ghost use Rattle.pb_text.specs.meaning.Writing.{Writes};
 ghost use Rattle.pb_sums.specs.meaning.Sums.{literal_bytes};
-ghost use Rattle.pb_sums.specs.contract.Canonical.{weight_bytes, term_bytes, further_bytes, sum_bytes, operator_bytes, linear_bytes, place_bytes};
+ghost use Rattle.pb_sums.specs.contract.Canonical.{weight_bytes, term_bytes, further_bytes, sum_bytes, relation_bytes, linear_bytes, place_bytes};
 
 use crate::Name;
 use crate::linear::{Linear, Literal, Relation, Term};
@@ -189,10 +189,10 @@ pub fn write_sum<S: Sink>(terms: &[Term], out: &mut S) -> Result<(), Failed>
     }
 }
 
-/// Puts the end of a linear text into an empty piece: the operator, the degree and ` ;`.
+/// Puts the end of a linear text into an empty piece: the relation, the degree and ` ;`.
 fn put_end(relation: Relation, degree: i128, piece: &mut Piece)
     requires { piece.old ≡ [] }
-    ensures text { piece.new ≡ operator_bytes relation ++ (32 ∷ (signed_decimal degree ++ (32 ∷ 59 ∷ []))) }
+    ensures text { piece.new ≡ relation_bytes relation ++ (32 ∷ (signed_decimal degree ++ (32 ∷ 59 ∷ []))) }
     ensures short { length piece.new < ROOM }
 {
     piece.put_text(b" ;");
@@ -204,7 +204,7 @@ fn put_end(relation: Relation, degree: i128, piece: &mut Piece)
     }
 }
 
-/// Writes a linear text: its sum, the operator and the degree, with single spaces, and ` ;`.
+/// Writes a linear text: its sum, the relation and the degree, with single spaces, and ` ;`.
 pub fn write_linear<S: Sink>(linear: &Linear, out: &mut S) -> Result<(), Failed>
     ensures { Writes S.contents S.faults out.old (linear_bytes linear.now) result out.new }
 {

@@ -322,14 +322,14 @@ impl Machine for PolMachine {
         if !matches!(self.phase, Phase::Start) {
             return false;
         }
-        let planned = transition(
+        let action = transition(
             self.limit,
             self.top,
             self.depth,
             Phase::Start,
             kind_of(byte),
         );
-        !matches!(planned, Action::Stop)
+        !matches!(action, Action::Stop)
     }
 
     fn held(&self) -> usize {

@@ -2,7 +2,7 @@
 
 ghost use Rattle.std.specs.Prelude.{◌≡◌, ◌-◌, ◌^◌, min};
 ghost use Rattle.pb_text.specs.meaning.Limits.{largest};
-ghost use Rattle.pb_proof.specs.engine.Line.Rup.{rup_plan, rup_done, linear_of, units_in};
+ghost use Rattle.pb_proof.specs.engine.Line.Rup.{rup_transition, rup_done, linear_of, units_in};
 
 mod end;
 mod phase;
@@ -35,8 +35,8 @@ impl Model for RupMachine {
 }
 
 /// What the machine does with a byte.
-fn rup_plan(phase: RupPhase, byte: u8) -> RupAction
-    ensures { result ≡ rup_plan phase byte }
+fn rup_transition(phase: RupPhase, byte: u8) -> RupAction
+    ensures { result ≡ rup_transition phase byte }
 {
     match phase {
         RupPhase::Start | RupPhase::Gap if is_blank(byte) => RupAction::To(RupPhase::Gap),
@@ -81,7 +81,7 @@ fn units_in(linear: &Option<Linear>) -> usize
 
 impl RupMachine {
     ghost use Rattle.pb_text.specs.contract.Automaton.{IsState, Pushes};
-    ghost use Rattle.pb_proof.specs.engine.Line.Rup.{rup_automaton, rup_first, rup_plan};
+    ghost use Rattle.pb_proof.specs.engine.Line.Rup.{rup_automaton, rup_first, rup_transition};
 
     /// A machine at the start of its text. Creating it does not allocate.
     pub(crate) fn new(alloc: Global, limits: Limits) -> Self
@@ -98,7 +98,7 @@ impl RupMachine {
     fn take(&mut self, byte: u8) -> Push<Linear>
         ensures { Pushes rup_automaton self.old byte result self.new }
     {
-        match rup_plan(self.phase, byte) {
+        match rup_transition(self.phase, byte) {
             RupAction::To(phase) => {
                 self.phase = phase;
                 Push::Go
@@ -111,7 +111,7 @@ impl RupMachine {
 
     /// Gives a byte to the machine for sums.
     fn give(&mut self, byte: u8) -> Push<Linear>
-        requires { rup_plan self.old.phase byte ≡ RupAction.Give }
+        requires { rup_transition self.old.phase byte ≡ RupAction.Give }
         ensures { Pushes rup_automaton self.old byte result self.new }
     {
         match self.sums.push(byte) {
@@ -132,7 +132,7 @@ impl RupMachine {
 
     /// Ends the line.
     fn finish(&mut self) -> Push<Linear>
-        requires { rup_plan self.old.phase 10 ≡ RupAction.Finish }
+        requires { rup_transition self.old.phase 10 ≡ RupAction.Finish }
         ensures { Pushes rup_automaton self.old 10 result self.new }
     {
         match mem::replace(&mut self.linear, None) {
@@ -148,11 +148,11 @@ impl RupMachine {
 impl RupMachine {
     ghost use Rattle.std.specs.Prelude.{◌≤◌, take, length};
     ghost use Rattle.pb_text.specs.contract.Automaton.{Continues, IsState, Runs};
-    ghost use Rattle.pb_proof.specs.engine.Line.Rup.{rup_automaton, rup_plan};
+    ghost use Rattle.pb_proof.specs.engine.Line.Rup.{rup_automaton, rup_transition};
 
     /// Gives a byte to the machine for sums. Returns whether the byte was taken.
     fn gives(&mut self, byte: u8) -> bool
-        requires { rup_plan self.old.phase byte ≡ RupAction.Give }
+        requires { rup_transition self.old.phase byte ≡ RupAction.Give }
         ensures { Continues rup_automaton self.old byte result self.new }
     {
         match self.give(byte) {
@@ -243,7 +243,7 @@ impl Machine for RupMachine {
     ghost automaton = { rup_automaton };
 
     fn try_continue(&mut self, byte: u8) -> bool {
-        let gone = match rup_plan(self.phase, byte) {
+        let gone = match rup_transition(self.phase, byte) {
             RupAction::To(phase) => {
                 self.phase = phase;
                 true

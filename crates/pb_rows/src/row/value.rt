@@ -143,8 +143,8 @@ fn count_of(word: &str) -> Result<Option<u64>, Broken> {
 
 /// An empty sum, as `>= 1` or `= 1`.
 fn goal_of(alloc: Global, value: &str) -> Result<Linear, Broken> {
-    let (operator, degree) = parted(value);
-    let relation = match operator {
+    let (text, degree) = parted(value);
+    let relation = match text {
         ">=" => Relation::AtLeast,
         "=" => Relation::Equal,
         _ => return Err(Broken::Value),

@@ -45,13 +45,13 @@ abbrev pub head_bytes : List Term → List ℕ
 head_bytes [] = []
 head_bytes (x ∷ xs) = sum_bytes (x ∷ xs) ++ (32 ∷ [])
 
-abbrev pub operator_bytes : Relation → List ℕ
-operator_bytes AtLeast = codes ">="
-operator_bytes Equal = codes "="
+abbrev pub relation_bytes : Relation → List ℕ
+relation_bytes AtLeast = codes ">="
+relation_bytes Equal = codes "="
 
 -- the degree is its digits, after a `-` if it is negative
 abbrev pub linear_bytes : Linear → List ℕ
-linear_bytes c = head_bytes c.terms ++ (operator_bytes c.relation ++ (32 ∷ (signed_decimal c.degree ++ codes " ;")))
+linear_bytes c = head_bytes c.terms ++ (relation_bytes c.relation ++ (32 ∷ (signed_decimal c.degree ++ codes " ;")))
 
 -- a line, `:`, a column and a space
 abbrev pub place_bytes : Place → List ℕ
@@ -87,8 +87,8 @@ abbrev pub head_text : List Term → List Letter
 head_text [] = []
 head_text (x ∷ xs) = sum_text (x ∷ xs) ++ space
 
-abbrev pub operator_text : Relation → List Letter
-operator_text r = plain (operator_bytes r)
+abbrev pub relation_text : Relation → List Letter
+relation_text r = plain (relation_bytes r)
 
 abbrev pub linear_text : Linear → List Letter
-linear_text c = head_text c.terms ++ operator_text c.relation ++ space ++ degree_text c.degree ++ space ++ (unmarked 59 ∷ [])
+linear_text c = head_text c.terms ++ relation_text c.relation ++ space ++ degree_text c.degree ++ space ++ (unmarked 59 ∷ [])

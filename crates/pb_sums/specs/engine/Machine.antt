@@ -50,7 +50,7 @@ is_numeric phase.TheVariants.Start = true
 is_numeric (phase.TheVariants.Signed role negative) = true
 is_numeric (phase.TheVariants.Digits role negative n) = true
 is_numeric phase.TheVariants.Between = true
-is_numeric (phase.TheVariants.Operator r) = true
+is_numeric (phase.TheVariants.Relation r) = true
 is_numeric _ = false
 
 abbrev pub is_in_number : Phase → Bool
@@ -105,7 +105,7 @@ number limit role _ = Stop
 -- what may follow the terms
 abbrev pub next_action : Part → Kind → Action
 next_action want Greater = cond (allows want AtLeast) (To phase.TheVariants.Greater) Stop
-next_action want Equals = cond (allows want Equal) (To (phase.TheVariants.Operator Equal)) Stop
+next_action want Equals = cond (allows want Equal) (To (phase.TheVariants.Relation Equal)) Stop
 next_action want Semicolon = cond (reads_sums want) EndSum Stop
 next_action want _ = Stop
 
@@ -135,9 +135,9 @@ transition want limit phase.TheVariants.Between Plus = number limit None Plus
 transition want limit phase.TheVariants.Between Minus = number limit None Minus
 transition want limit phase.TheVariants.Between (Digit d) = number limit None (Digit d)
 transition want limit phase.TheVariants.Between k = next_action want k
-transition want limit phase.TheVariants.Greater Equals = To (phase.TheVariants.Operator AtLeast)
-transition want limit (phase.TheVariants.Operator r) Space = To (phase.TheVariants.Operator r)
-transition want limit (phase.TheVariants.Operator r) k = number limit (Some r) k
+transition want limit phase.TheVariants.Greater Equals = To (phase.TheVariants.Relation AtLeast)
+transition want limit (phase.TheVariants.Relation r) Space = To (phase.TheVariants.Relation r)
+transition want limit (phase.TheVariants.Relation r) k = number limit (Some r) k
 transition want limit (phase.TheVariants.Tail r z) Space = To (phase.TheVariants.Tail r z)
 transition want limit (phase.TheVariants.Tail r z) Semicolon = EndLinear r z
 transition want limit phase.TheVariants.Empty Space = To phase.TheVariants.Empty

@@ -4,7 +4,7 @@ use Rattle.pb_text.specs.meaning.Classes.{is_letter, is_name_byte}
 use Rattle.pb_text.specs.contract.Digits.{HasDigits}
 use Rattle.pb_text.specs.meaning.Languages.{Each}
 use Rattle.pb_text.specs.meaning.Numbers.{signed}
-use Rattle.pb_sums.specs.contract.Canonical.{operator_bytes}
+use Rattle.pb_sums.specs.contract.Canonical.{relation_bytes}
 use Rattle.pb_sums.specs.meaning.Sums.{allows}
 use Rattle.pb_sums.specs.declared.sum_kind.Part.{Part}
 use Rattle.pb_sums.specs.declared.linear.Relation.{Relation}
@@ -23,12 +23,12 @@ abbrev pub begins_number : Phase → Bool
 begins_number phase.TheVariants.Start = true
 begins_number (phase.TheVariants.Signed r negative) = true
 begins_number phase.TheVariants.Between = true
-begins_number (phase.TheVariants.Operator r) = true
+begins_number (phase.TheVariants.Relation r) = true
 begins_number _ = false
 
 abbrev pub role : Phase → Option Relation
 role (phase.TheVariants.Signed r negative) = r
-role (phase.TheVariants.Operator r) = Some r
+role (phase.TheVariants.Relation r) = Some r
 role _ = None
 
 abbrev pub sign_read : Phase → Option Bool
@@ -47,7 +47,7 @@ begins_relation _ = false
 
 -- The text does not begin with a relation that the part allows.
 abbrev pub LacksRelation : Part → List ℕ → Type 0
-LacksRelation part text = (r : Relation) → allows part r ≡ true → take (length (operator_bytes r)) text ≢ operator_bytes r
+LacksRelation part text = (r : Relation) → allows part r ≡ true → take (length (relation_bytes r)) text ≢ relation_bytes r
 
 -- the state after a name, if one may begin
 abbrev pub after_name : Phase → Option Phase
@@ -62,7 +62,7 @@ after_space (phase.TheVariants.Digits (Some r) negative n) = Some (phase.TheVari
 after_space (phase.TheVariants.Gap z) = Some (phase.TheVariants.Gap z)
 after_space (phase.TheVariants.More z negated) = Some phase.TheVariants.Between
 after_space phase.TheVariants.Between = Some phase.TheVariants.Between
-after_space (phase.TheVariants.Operator r) = Some (phase.TheVariants.Operator r)
+after_space (phase.TheVariants.Relation r) = Some (phase.TheVariants.Relation r)
 after_space (phase.TheVariants.Tail r z) = Some (phase.TheVariants.Tail r z)
 after_space _ = None
 

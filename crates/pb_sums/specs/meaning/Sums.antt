@@ -73,12 +73,12 @@ module _ (spaces : Spaces) (limit : ℕ) where
   Head [] = Empty
   Head (x ∷ xs) = SpellsSum (x ∷ xs) ⋅ Spaces0
 
-  abbrev pub Operator : Relation → Language
-  Operator AtLeast = Bytes (codes ">=")
-  Operator Equal = Byte 61
+  abbrev pub SpellsRelation : Relation → Language
+  SpellsRelation AtLeast = Bytes (codes ">=")
+  SpellsRelation Equal = Byte 61
 
   abbrev pub SpellsLinear : Linear → Language
-  SpellsLinear c = Head c.terms ⋅ Operator c.relation ⋅ Spaces0 ⋅ Number limit c.degree ⋅ Spaces0 ⋅ Byte 59
+  SpellsLinear c = Head c.terms ⋅ SpellsRelation c.relation ⋅ Spaces0 ⋅ Number limit c.degree ⋅ Spaces0 ⋅ Byte 59
 
   -- what a machine reads
   abbrev pub Spells : part.Part → event.SumEvent → Language

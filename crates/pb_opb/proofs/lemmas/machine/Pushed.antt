@@ -33,7 +33,7 @@ pub record IsGiven (s : OpbState) (q p : Phase) : Type 0 where
   pub text : s.text ≡ []
   pub number : is_in_number s q ≡ sums.in_number s.sums
 
--- what a plan needs of the state
+-- what an action needs of the state
 abbrev Knows : OpbState → Phase → Action → Type 0
 Knows s q (To p) = Holds s p
 Knows s q (BeginTail n c) = IsIdle s
@@ -80,7 +80,7 @@ knows s phase.TheVariants.Done h b = tt
 known : (s : OpbState) → IsInOrder s → (b : ℕ) (m : Action) → transition s.top s.phase b ≡ m → Knows s s.phase m
 known s h b m e = subst (Knows s s.phase) e (knows s s.phase h.holds b)
 
--- the plan for a number that equals the top
+-- the action for a number that equals the top
 pub planned_at : (n top : ℕ) (p : Phase) (b : ℕ) (m : Action) → n ≡ top → m ≡ transition n p b → transition top p b ≡ m
 planned_at n top p b m e h = ap (λ (k : ℕ). transition k p b) (sym e) ∙ sym h
 

@@ -57,34 +57,34 @@ on_after : (p : Phase) (f : Field) (n b : ℕ) → OnAction p (after_count f n b
 on_after p Variables n b = either_way (OnAction p) (is_blank b) (Declare n) Stop tt tt
 on_after p Constraints n b = either_way (OnAction p) (nat_eq b 10) (EndHeader n) _ tt (either_way (OnAction p) (is_blank b) (BeginTail n b) Stop tt tt)
 
--- the plan of each phase
-on_plan : (top : ℕ) (p : Phase) (b : ℕ) → OnAction p (transition top p b)
-on_plan top phase.TheVariants.Start b = either_way (OnAction phase.TheVariants.Start) (nat_eq b 42) (To (phase.TheVariants.BeforeWord Variables)) Stop (refl, λ h. refl) tt
-on_plan top (phase.TheVariants.BeforeWord f) b =
+-- the action of each phase
+on_transition : (top : ℕ) (p : Phase) (b : ℕ) → OnAction p (transition top p b)
+on_transition top phase.TheVariants.Start b = either_way (OnAction phase.TheVariants.Start) (nat_eq b 42) (To (phase.TheVariants.BeforeWord Variables)) Stop (refl, λ h. refl) tt
+on_transition top (phase.TheVariants.BeforeWord f) b =
     either_way (OnAction (phase.TheVariants.BeforeWord f)) (is_blank b) (To (phase.TheVariants.BeforeWord f)) _ (refl, λ h. refl)
     (either_way (OnAction (phase.TheVariants.BeforeWord f)) (nat_eq b 35) (To (phase.TheVariants.Word f 1)) Stop (refl, λ h. refl) tt)
-on_plan top (phase.TheVariants.Word f k) b =
+on_transition top (phase.TheVariants.Word f k) b =
     either_way (OnAction (phase.TheVariants.Word f k)) (nat_eq b (slice_index (word_of f) k)) _ Stop
     (either_way (GoesOn (phase.TheVariants.Word f k)) (nat_eq (k + 1) (length (word_of f))) (phase.TheVariants.BeforeCount f) (phase.TheVariants.Word f (k + 1)) (refl, λ h. refl) (refl, λ h. refl)) tt
-on_plan top (phase.TheVariants.BeforeCount f) b =
+on_transition top (phase.TheVariants.BeforeCount f) b =
     either_way (OnAction (phase.TheVariants.BeforeCount f)) (is_blank b) (To (phase.TheVariants.BeforeCount f)) _ (refl, λ h. refl) (on_count (phase.TheVariants.BeforeCount f) top f 0 b)
-on_plan top (phase.TheVariants.Count f n) b =
+on_transition top (phase.TheVariants.Count f n) b =
     either_way (OnAction (phase.TheVariants.Count f n)) (is_digit b) _ _ (on_count (phase.TheVariants.Count f n) top f n b) (on_after (phase.TheVariants.Count f n) f n b)
-on_plan top phase.TheVariants.Tail b =
+on_transition top phase.TheVariants.Tail b =
     either_way (OnAction phase.TheVariants.Tail) (nat_eq b 10) EndTail (Keep b) tt refl
-on_plan top (phase.TheVariants.Between objective_allowed) b =
+on_transition top (phase.TheVariants.Between objective_allowed) b =
     either_way (OnAction (phase.TheVariants.Between objective_allowed)) (is_white b) (To (phase.TheVariants.Between objective_allowed)) _ (refl, λ h. h)
     (either_way (OnAction (phase.TheVariants.Between objective_allowed)) (nat_eq b 42) (To (phase.TheVariants.Comment objective_allowed)) _ (refl, λ h. refl)
     (either_way (OnAction (phase.TheVariants.Between objective_allowed)) (nat_eq b 109 && objective_allowed) (To (phase.TheVariants.Min 1)) (Give phase.TheVariants.Constraint) (refl, λ h. refl) (refl, λ h. refl)))
-on_plan top (phase.TheVariants.Comment objective_allowed) b = either_way (OnAction (phase.TheVariants.Comment objective_allowed)) (nat_eq b 10) (EndComment objective_allowed) (Keep b) tt refl
-on_plan top (phase.TheVariants.Min k) b =
+on_transition top (phase.TheVariants.Comment objective_allowed) b = either_way (OnAction (phase.TheVariants.Comment objective_allowed)) (nat_eq b 10) (EndComment objective_allowed) (Keep b) tt refl
+on_transition top (phase.TheVariants.Min k) b =
     either_way (OnAction (phase.TheVariants.Min k)) (nat_eq b (slice_index min_word k)) _ Stop
     (either_way (OnAction (phase.TheVariants.Min k)) (nat_eq (k + 1) (length min_word)) BeginSum (To (phase.TheVariants.Min (k + 1))) tt (refl, λ h. refl)) tt
-on_plan top phase.TheVariants.AfterMin b =
+on_transition top phase.TheVariants.AfterMin b =
     either_way (OnAction phase.TheVariants.AfterMin) (is_white b) (To phase.TheVariants.AfterMin) (Give phase.TheVariants.Objective) (refl, λ h. refl) (refl, λ h. refl)
-on_plan top phase.TheVariants.Objective b = (refl, λ h. refl)
-on_plan top phase.TheVariants.Constraint b = (refl, λ h. refl)
-on_plan top phase.TheVariants.Done b = tt
+on_transition top phase.TheVariants.Objective b = (refl, λ h. refl)
+on_transition top phase.TheVariants.Constraint b = (refl, λ h. refl)
+on_transition top phase.TheVariants.Done b = tt
 
 -- what holds for the next state if the machine continues
 record Continues (s next : OpbState) : Type 0 where
@@ -114,7 +114,7 @@ on_act s state b (Give p) h = sum_grows s p state h b (sums.step s.sums b) refl
 on_act s state b Stop h = tt
 
 steps : (s : OpbState) → IsState sums s.sums → (b : ℕ) → On (λ next. Continues s next) (λ next. opb.begun next ≡ false) (opb.step s b)
-steps s state b = on_act s state b (transition s.top s.phase b) (on_plan s.top s.phase b)
+steps s state b = on_act s state b (transition s.top s.phase b) (on_transition s.top s.phase b)
 
 -- after the last constraint
 pub done_stops : (top : ℕ) (p : Phase) (b : ℕ) → is_done p ≡ true → transition top p b ≡ Stop

@@ -117,40 +117,40 @@ module _ (s : ConclusionState) where
   next_bound side.Lower k = (refl, λ f. tt)
   next_bound (side.Upper lower id) k = (refl, λ f. tt)
 
-  pub on_plan : (p : Phase) (b : ℕ) → OnAction s p (transition s.limit s.top p b)
-  on_plan phase.Start b = on_cond s phase.Start (is_blank b) (To phase.Before) Stop (refl, λ f. tt) tt
-  on_plan phase.Before b = on_cond s phase.Before (is_blank b) (To phase.Before) _ (refl, λ f. tt) (on_first s phase.Before b)
-  on_plan (phase.Word w k) b =
+  pub on_transition : (p : Phase) (b : ℕ) → OnAction s p (transition s.limit s.top p b)
+  on_transition phase.Start b = on_cond s phase.Start (is_blank b) (To phase.Before) Stop (refl, λ f. tt) tt
+  on_transition phase.Before b = on_cond s phase.Before (is_blank b) (To phase.Before) _ (refl, λ f. tt) (on_first s phase.Before b)
+  on_transition (phase.Word w k) b =
       on_spell s (phase.Word w k) (word_of w) k b (phase.Word w (k + 1)) (phase_after_word w) (next_word w k)
       (λ e. (refl, λ f. further k (length (word_of w)) f e))
-  on_plan (phase.AfterValue c) b = on_after s (phase.AfterValue c) c b
-  on_plan (phase.Semicolon c) b =
+  on_transition (phase.AfterValue c) b = on_after s (phase.AfterValue c) c b
+  on_transition (phase.Semicolon c) b =
       on_cond s (phase.Semicolon c) (is_blank b) (To (phase.Semicolon c)) _ (refl, λ f. tt)
       (on_cond s (phase.Semicolon c) (nat_eq b 10) (Finish c) Stop tt tt)
-  on_plan phase.Bounded b = on_cond s phase.Bounded (is_blank b) (To (phase.BeforeBound side.Lower)) Stop (refl, λ f. tt) tt
-  on_plan (phase.BeforeBound x) b =
+  on_transition phase.Bounded b = on_cond s phase.Bounded (is_blank b) (To (phase.BeforeBound side.Lower)) Stop (refl, λ f. tt) tt
+  on_transition (phase.BeforeBound x) b =
       on_cond s (phase.BeforeBound x) (is_blank b) (To (phase.BeforeBound x)) _ (refl, λ f. tt) (on_begin s (phase.BeforeBound x) x b)
-  on_plan (phase.Signed x negative) b = on_digits s (phase.Signed x negative) x negative 0 b
-  on_plan (phase.Digits x negative n) b =
+  on_transition (phase.Signed x negative) b = on_digits s (phase.Signed x negative) x negative 0 b
+  on_transition (phase.Digits x negative n) b =
       on_cond s (phase.Digits x negative n) (is_digit b) _ _ (on_digits s (phase.Digits x negative n) x negative n b)
       (on_after_bound s (phase.Digits x negative n) x (Finite (signed negative n)) b)
-  on_plan (phase.Infinity x k) b =
+  on_transition (phase.Infinity x k) b =
       on_spell s (phase.Infinity x k) inf_word k b (phase.Infinity x (k + 1)) (phase_after_bound x Infinite)
       (next_bound x k)
       (λ e. (refl, λ f. further k (length inf_word) f e))
-  on_plan (phase.Between x) b = on_between s (phase.Between x) x b
-  on_plan (phase.Spaced x) b =
+  on_transition (phase.Between x) b = on_between s (phase.Between x) x b
+  on_transition (phase.Spaced x) b =
       on_cond s (phase.Spaced x) (is_blank b) (To (phase.Spaced x)) _ (refl, λ f. tt)
       (on_cond s (phase.Spaced x) (nat_eq b 58) (To (phase.BeforeId (owner.Lower x))) _ (refl, λ f. tt) (on_begin s (phase.Spaced x) (side.Upper x None) b))
-  on_plan (phase.BeforeId x) b =
+  on_transition (phase.BeforeId x) b =
       on_cond s (phase.BeforeId x) (is_blank b) (To (phase.BeforeId x)) _ (refl, λ f. tt)
       (on_cond s (phase.BeforeId x) (nat_eq b 45) (To (phase.IdSigned x)) _ (refl, λ f. tt) (on_id_digits s (phase.BeforeId x) x false 0 b))
-  on_plan (phase.IdSigned x) b = on_id_digits s (phase.IdSigned x) x true 0 b
-  on_plan (phase.IdDigits x negative n) b =
+  on_transition (phase.IdSigned x) b = on_id_digits s (phase.IdSigned x) x true 0 b
+  on_transition (phase.IdDigits x negative n) b =
       on_cond s (phase.IdDigits x negative n) (is_digit b) _ _ (on_id_digits s (phase.IdDigits x negative n) x negative n b)
       (on_cond s (phase.IdDigits x negative n) (nat_eq n 0) Stop _ tt (on_after_id s (phase.IdDigits x negative n) x (signed negative n) b))
-  on_plan (phase.Shown shows) b = refl
-  on_plan phase.Done b = tt
+  on_transition (phase.Shown shows) b = refl
+  on_transition phase.Done b = tt
 
 -- what holds after a byte
 pub record Continues (s next : ConclusionState) : Type 0 where
@@ -241,7 +241,7 @@ acted s b (Give shows) h = given s shows h b (literals_automaton.step s.literals
 acted s b Stop h = tt
 
 pub stepped : (s : ConclusionState) (b : ℕ) → Stepped s (conclusion_automaton.step s b)
-stepped s b = acted s b (transition s.limit s.top s.phase b) (on_plan s s.phase b)
+stepped s b = acted s b (transition s.limit s.top s.phase b) (on_transition s s.phase b)
 
 pub continues : (s next : ConclusionState) (b : ℕ) → conclusion_automaton.step s b ≡ Go next → Continues s next
 continues s next b e = subst (Stepped s) e (stepped s b)
@@ -271,4 +271,4 @@ nothing_spent s _ h = absurd (false≢true (sym h))
 
 -- bytes are given to the literals machine only where literals are shown
 pub give_phase : (s : ConclusionState) (b : ℕ) (x : Showing) → transition s.limit s.top s.phase b ≡ Give x → s.phase ≡ phase.Shown x
-give_phase s b x e = subst (OnAction s s.phase) e (on_plan s s.phase b)
+give_phase s b x e = subst (OnAction s s.phase) e (on_transition s s.phase b)

@@ -33,16 +33,16 @@ after_fits top count gap Blank f h = (f, h)
 after_fits top count gap Semicolon f h = (tt, refl)
 after_fits top count gap _ f h = tt
 
-plan_fits : (top : ℕ) (ph : CountPhase) (k : NumberByte) → ActionFits top (transition top ph k)
-plan_fits top Start k = after_fits top None Gap k tt refl
-plan_fits top Gap (Digit d) = digits_fit top 0 d
-plan_fits top Gap k = after_fits top None Gap k tt refl
-plan_fits top (Digits n) (Digit d) = digits_fit top n d
-plan_fits top (Digits n) k = after_fits top (Some n) (Tail n) k tt refl
-plan_fits top (Tail n) k = after_fits top (Some n) (Tail n) k tt refl
-plan_fits top (Closing count) Blank = (tt, refl)
-plan_fits top (Closing count) Feed = tt
-plan_fits _ _ _ = tt
+transition_fits : (top : ℕ) (ph : CountPhase) (k : NumberByte) → ActionFits top (transition top ph k)
+transition_fits top Start k = after_fits top None Gap k tt refl
+transition_fits top Gap (Digit d) = digits_fit top 0 d
+transition_fits top Gap k = after_fits top None Gap k tt refl
+transition_fits top (Digits n) (Digit d) = digits_fit top n d
+transition_fits top (Digits n) k = after_fits top (Some n) (Tail n) k tt refl
+transition_fits top (Tail n) k = after_fits top (Some n) (Tail n) k tt refl
+transition_fits top (Closing count) Blank = (tt, refl)
+transition_fits top (Closing count) Feed = tt
+transition_fits _ _ _ = tt
 
 -- What holds after a step that continues.
 record Steps (top : ℕ) (next : CountState) : Type 0 where
@@ -57,7 +57,7 @@ acted top (action.TheVariants.End count) next h e = cc
 acted top action.TheVariants.Stop next h e = cc
 
 continues : (s next : CountState) (b : ℕ) → count_automaton.step s b ≡ Go next → Steps s.top next
-continues s next b e = acted s.top (transition s.top s.phase (number_byte b)) next (plan_fits s.top s.phase (number_byte b)) e
+continues s next b e = acted s.top (transition s.top s.phase (number_byte b)) next (transition_fits s.top s.phase (number_byte b)) e
 
 in_order : (s next : CountState) (b : ℕ) → IsCountInOrder s → count_automaton.step s b ≡ Go next → IsCountInOrder next
 in_order s next b h e =

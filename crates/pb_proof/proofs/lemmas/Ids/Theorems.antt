@@ -42,20 +42,20 @@ after_fits top id kind.Blank = (tt, refl)
 after_fits top id kind.Semicolon = (tt, refl)
 after_fits top id _ = tt
 
-plan_fits : (top : ℕ) (ph : IdsPhase) (k : NumberByte) → ActionFits top (transition top ph k)
-plan_fits top Start kind.Blank = (tt, refl)
-plan_fits top Gap kind.Blank = (tt, refl)
-plan_fits top Gap k = before_fits top k
-plan_fits top Between kind.Blank = (tt, refl)
-plan_fits top Between kind.Semicolon = (tt, refl)
-plan_fits top Between kind.Feed = tt
-plan_fits top Between k = before_fits top k
-plan_fits top Minus (kind.Digit d) = digits_fit top true 0 d
-plan_fits top (Digits negative n) (kind.Digit d) = digits_fit top negative n d
-plan_fits top (Digits negative n) k = cond_both (nat_eq n 0) _ _ (ActionFits top) (λ _. tt) (λ _. after_fits top (signed negative n) k)
-plan_fits top Closing kind.Blank = (tt, refl)
-plan_fits top Closing kind.Feed = tt
-plan_fits _ _ _ = tt
+transition_fits : (top : ℕ) (ph : IdsPhase) (k : NumberByte) → ActionFits top (transition top ph k)
+transition_fits top Start kind.Blank = (tt, refl)
+transition_fits top Gap kind.Blank = (tt, refl)
+transition_fits top Gap k = before_fits top k
+transition_fits top Between kind.Blank = (tt, refl)
+transition_fits top Between kind.Semicolon = (tt, refl)
+transition_fits top Between kind.Feed = tt
+transition_fits top Between k = before_fits top k
+transition_fits top Minus (kind.Digit d) = digits_fit top true 0 d
+transition_fits top (Digits negative n) (kind.Digit d) = digits_fit top negative n d
+transition_fits top (Digits negative n) k = cond_both (nat_eq n 0) _ _ (ActionFits top) (λ _. tt) (λ _. after_fits top (signed negative n) k)
+transition_fits top Closing kind.Blank = (tt, refl)
+transition_fits top Closing kind.Feed = tt
+transition_fits _ _ _ = tt
 
 -- What holds after a step that continues.
 record Steps (top : ℕ) (ids : List ℤ) (next : IdsState) : Type 0 where
@@ -75,7 +75,7 @@ acted top ids (action.EndWith id) next h e = cc
 acted top ids action.Stop next h e = cc
 
 continues : (s next : IdsState) (b : ℕ) → ids_automaton.step s b ≡ Go next → Steps s.top s.ids next
-continues s next b e = acted s.top s.ids (transition s.top s.phase (number_byte b)) next (plan_fits s.top s.phase (number_byte b)) e
+continues s next b e = acted s.top s.ids (transition s.top s.phase (number_byte b)) next (transition_fits s.top s.phase (number_byte b)) e
 
 ended : (top : ℕ) (ids : List ℤ) (m : IdsAction) (next : IdsState) (e : List ℤ) → act top ids m ≡ End e next → next ≡ ids_last top
 ended top ids (action.To p) next e i = cc

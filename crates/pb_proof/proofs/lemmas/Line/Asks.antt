@@ -19,7 +19,7 @@ use Rattle.pb_sums.specs.declared.Spaces.TheVariants.{Blank as BlankSpaces}
 use Rattle.pb_sums.proofs.lemmas.machine.Asked.{ends_nothing, ends_after, asks_after, at_name, sums_asked, first_asks_nothing, first_further}
 use Rattle.pb_sums.proofs.lemmas.machine.LiteralPrefixes.{IsFirst}
 use Rattle.pb_proof.specs.meaning.Asking.{EndsNumber}
-use Rattle.pb_proof.specs.engine.Line.Rup.{RupState, rup_automaton, rup_first, rup_asks, rup_plan}
+use Rattle.pb_proof.specs.engine.Line.Rup.{RupState, rup_automaton, rup_first, rup_asks, rup_transition}
 use Rattle.pb_proof.specs.engine.Line.Ids.{IdsState, ids_automaton, ids_first, transition, digits, before, keeps}
 use Rattle.pb_proof.specs.engine.Line.Literals.{LiteralsState, literals_automaton, literals_first, adds, is_more}
 use Rattle.pb_proof.specs.engine.Line.Literals as literals
@@ -195,7 +195,7 @@ literals_asked joined t s b w h =
 
 -- ---- linear texts
 module _ (limit top : ℕ) where
-  rup_at : (s : RupState) (ph : RupPhase) (t : List Letter) (b : ℕ) → reads.prefix limit top s ph t → rup_asks s b (rup_plan ph b) ≡ true → AsksLiteral (bytes t) b
+  rup_at : (s : RupState) (ph : RupPhase) (t : List Letter) (b : ℕ) → reads.prefix limit top s ph t → rup_asks s b (rup_transition ph b) ≡ true → AsksLiteral (bytes t) b
   rup_at s rup.Start t b h = cond_both (is_blank b) _ _ (λ m. rup_asks s b m ≡ true → AsksLiteral (bytes t) b) (λ _ k. absurd (false≢true k)) (λ _ k. absurd (false≢true k))
   rup_at s rup.Gap t b (h, inner, linear) =
       cond_both (is_blank b) _ _ (λ m. rup_asks s b m ≡ true → AsksLiteral (bytes t) b) (λ _ k. absurd (false≢true k))

@@ -48,17 +48,17 @@ start_sane : (joined : Bool) (k : NameByte) → IsSane joined Start (cond joined
 start_sane true k = before_sane true Start k refl
 start_sane false k = after_sane false Start k
 
-plan_sane : (joined : Bool) (ph : LiteralsPhase) (k : NameByte) → IsSane joined ph (transition joined ph k)
-plan_sane joined Start k = start_sane joined k
-plan_sane joined Gap k = before_sane joined Gap k refl
-plan_sane joined Negation (kind.Letter b) = (refl, refl, refl)
-plan_sane joined (First negated) (kind.Letter b) = (refl, refl, refl)
-plan_sane joined (First negated) (kind.Inner b) = (refl, refl, refl)
-plan_sane joined (More negated) (kind.Letter b) = (refl, refl, refl)
-plan_sane joined (More negated) (kind.Inner b) = (refl, refl, refl)
-plan_sane joined (More negated) k = after_sane joined (More negated) k
-plan_sane joined Closing kind.Blank = (refl, refl)
-plan_sane _ _ _ = tt
+transition_sane : (joined : Bool) (ph : LiteralsPhase) (k : NameByte) → IsSane joined ph (transition joined ph k)
+transition_sane joined Start k = start_sane joined k
+transition_sane joined Gap k = before_sane joined Gap k refl
+transition_sane joined Negation (kind.Letter b) = (refl, refl, refl)
+transition_sane joined (First negated) (kind.Letter b) = (refl, refl, refl)
+transition_sane joined (First negated) (kind.Inner b) = (refl, refl, refl)
+transition_sane joined (More negated) (kind.Letter b) = (refl, refl, refl)
+transition_sane joined (More negated) (kind.Inner b) = (refl, refl, refl)
+transition_sane joined (More negated) k = after_sane joined (More negated) k
+transition_sane joined Closing kind.Blank = (refl, refl)
+transition_sane _ _ _ = tt
 
 midway_begun : (joined : Bool) (ph : LiteralsPhase) → is_midway ph ≡ true → is_begun joined ph ≡ true
 midway_begun joined Start h = cc
@@ -131,7 +131,7 @@ module _ (joined : Bool) (ls : List Literal) (name : List ℕ) (ph : LiteralsPha
   ended action.TheVariants.Stop next e i = cc
 
 continues : (s next : LiteralsState) (b : ℕ) → literals_automaton.step s b ≡ Go next → Steps s next
-continues s next b e = acted s.joined s.literals s.name s.phase (transition s.joined s.phase (name_byte b)) next (plan_sane s.joined s.phase (name_byte b)) e
+continues s next b e = acted s.joined s.literals s.name s.phase (transition s.joined s.phase (name_byte b)) next (transition_sane s.joined s.phase (name_byte b)) e
 
 abbrev last : LiteralsState → LiteralsState
 last s = literals_last s.joined

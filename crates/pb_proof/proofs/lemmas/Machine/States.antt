@@ -99,24 +99,24 @@ on_between Concluding b = on_pass Concluding b tt
 on_between Closing b = on_pass Closing b tt
 
 -- the transitions of each phase
-pub on_plan : (p : Phase) (b : ℕ) → PhaseFits p → OnAction p (transition p b)
-on_plan (phase.Between s) b h = on_between s b
-on_plan (phase.Comment s) b h = cond_both (nat_eq b 10) (phase.Between s) (phase.Comment s) (λ q. OnAction (phase.Comment s) (action.To q))
+pub on_transition : (p : Phase) (b : ℕ) → PhaseFits p → OnAction p (transition p b)
+on_transition (phase.Between s) b h = on_between s b
+on_transition (phase.Comment s) b h = cond_both (nat_eq b 10) (phase.Between s) (phase.Comment s) (λ q. OnAction (phase.Comment s) (action.To q))
     (λ _. (tt, record { owes = gaps_incomplete s h; stays = λ w. w; fits = tt; plain = tt }))
     (λ _. (tt, record { owes = refl; stays = λ w. w; fits = h; plain = tt }))
-on_plan (phase.Spelling f k) b h = on_spell (phase.Spelling f k) tt f k b _ h.1
+on_transition (phase.Spelling f k) b h = on_spell (phase.Spelling f k) tt f k b _ h.1
     (cond_both (is_blank b && nat_eq (slice_index (words_of f) (k - 1)) 32) _ _ (OnAction (phase.Spelling f k))
     (λ _. within_on (phase.Spelling f k) (phase.Spelling f k) tt refl refl h tt) (λ _. tt))
-on_plan phase.Solution b h = cond_both (nat_eq b 105) _ _ (OnAction phase.Solution) (λ _. tt) (λ _. cond_both (nat_eq b 120) _ _ (OnAction phase.Solution) (λ _. tt) (λ _. tt))
-on_plan phase.HeaderEnd b h = cond_both (is_blank b) _ _ (OnAction phase.HeaderEnd)
+on_transition phase.Solution b h = cond_both (nat_eq b 105) _ _ (OnAction phase.Solution) (λ _. tt) (λ _. cond_both (nat_eq b 120) _ _ (OnAction phase.Solution) (λ _. tt) (λ _. tt))
+on_transition phase.HeaderEnd b h = cond_both (is_blank b) _ _ (OnAction phase.HeaderEnd)
     (λ _. within_on phase.HeaderEnd phase.HeaderEnd tt refl refl tt tt)
     (λ _. cond_both (nat_eq b 10) _ _ (OnAction phase.HeaderEnd) (λ _. tt) (λ _. tt))
-on_plan (phase.OutputEnd may) b h = cond_both (is_blank b) _ _ (OnAction (phase.OutputEnd may))
+on_transition (phase.OutputEnd may) b h = cond_both (is_blank b) _ _ (OnAction (phase.OutputEnd may))
     (λ _. within_on (phase.OutputEnd may) (phase.OutputEnd may) tt refl refl tt tt)
     (λ _. cond_both (nat_eq b 10) _ _ (OnAction (phase.OutputEnd may)) (λ _. tt)
     (λ _. cond_both (nat_eq b 59 && may) _ _ (OnAction (phase.OutputEnd may))
     (λ _. within_on (phase.OutputEnd may) (phase.OutputEnd false) tt refl refl tt tt) (λ _. tt)))
-on_plan (phase.Inside r) b h = refl
+on_transition (phase.Inside r) b h = refl
 
 -- without a line machine nothing is stored, and no number is read
 pub plain_holds : (s : ProofState) (p : Phase) → IsPlain p → Holds s p → s.line ≡ None
@@ -181,7 +181,7 @@ on_act s h b action.EndProof k = refl
 on_act s h b action.Stop k = tt
 
 steps : (s : ProofState) → IsInOrder s → (b : ℕ) → On s (proofs.step s b)
-steps s h b = on_act s h b (transition s.phase b) (on_plan s.phase b h.fits)
+steps s h b = on_act s h b (transition s.phase b) (on_transition s.phase b h.fits)
 
 continues : (s next : ProofState) (b : ℕ) → IsInOrder s → proofs.step s b ≡ Go next → Continues s next
 continues s next b h e = subst (On s) e (steps s h b)
@@ -211,7 +211,7 @@ is_state s h = record {
 -- What holds of the machine after a byte.
 module _ (s : ProofState) (h : IsInOrder s) (b : ℕ) where
   pub known : (m : Action) → transition s.phase b ≡ m → OnAction s.phase m
-  known m e = subst (OnAction s.phase) e (on_plan s.phase b h.fits)
+  known m e = subst (OnAction s.phase) e (on_transition s.phase b h.fits)
 
   -- without a line machine
   pub at_order : (p : Phase) → IsPlain p → PhaseFits p → (i : Option LineMachine) → i ≡ None → IsInOrder (record { limit = s.limit; top = s.top; phase = p; line = i })

@@ -8,7 +8,7 @@ use Rattle.pb_text.specs.declared.machine.Push.TheVariants as push
 use Rattle.pb_sums.specs.engine.State.{SumState, sums}
 use Rattle.pb_sums.specs.declared.Linear.{Linear}
 use Rattle.pb_sums.specs.declared.SumEvent.{SumEvent}
-use Rattle.pb_proof.specs.engine.Line.Rup.{RupState, rup_automaton, rup_plan, rup_act, rup_over, IsRupInOrder}
+use Rattle.pb_proof.specs.engine.Line.Rup.{RupState, rup_automaton, rup_transition, rup_act, rup_over, IsRupInOrder}
 use Rattle.pb_proof.specs.engine.Line.Machine.{line_automaton}
 use Rattle.pb_proof.specs.engine.Machine.State.{ProofState, proofs, giving, over, Holds, IsInOrder}
 use Rattle.pb_proof.specs.declared.line.rup.phase.RupPhase.TheVariants.{Gap as GapRup, Inside as InsideRup}
@@ -61,7 +61,7 @@ goes_on s new e (End f inner) h = cc
 goes_on s new e Refuse h = cc
 
 -- if a byte is given and not taken, nothing changes
-pub unmoved : (s new : RupState) (b : ℕ) (answer : Push Linear) → rup_plan s.phase b ≡ Give → Pushes rup_automaton s b answer new → (answer ≡ push.Go → ⊥) → new ≡ s
+pub unmoved : (s new : RupState) (b : ℕ) (answer : Push Linear) → rup_transition s.phase b ≡ Give → Pushes rup_automaton s b answer new → (answer ≡ push.Go → ⊥) → new ≡ s
 unmoved s new b push.Go planned h k = absurd (k refl)
 unmoved s new b (push.Event e) planned h k = absurd (goes_on s new e (sums.step s.sums b) (sym (ap (rup_act s b) planned) ∙ h))
 unmoved s new b push.No planned h k = h.2
@@ -100,7 +100,7 @@ pub rup_runs_begun : (s : RupState) → IsRupInOrder s → s.phase ≡ GapRup �
 rup_runs_begun s h at n [] new some fits begins runs = absurd (omega arith)
 rup_runs_begun s h at zero (b ∷ text) new some fits begins runs = absurd (omega arith)
 rup_runs_begun s h at (suc n) (b ∷ text) new some fits begins (mid, continues, state, rest) =
-    let planned : rup_plan s.phase b ≡ Give = rw (at, begins) refl in
+    let planned : rup_transition s.phase b ≡ Give = rw (at, begins) refl in
     let next : RupState = record { phase = InsideRup; sums = mid; linear = s.linear } in
     let k = rup_states.give_order s h b mid planned continues state in
     let (runs, order) = within_rup s.linear mid k (take n text) new rest in

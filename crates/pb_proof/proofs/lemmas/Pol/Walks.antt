@@ -73,36 +73,36 @@ module _ (limit top : ℕ) (ws : List PolWord) (d : ℕ) where
       n l t h
 
   -- names
-  plan_letter : (k : Kind) → is_letter_kind k ≡ true → transition limit top d (phase.Gap held.Nothing) k ≡ action.Begin (phase.Lone (role_of d held.Nothing k))
-  plan_letter kind.D e = refl
-  plan_letter kind.S e = refl
-  plan_letter kind.W e = refl
-  plan_letter kind.Letter e = refl
-  plan_letter _ e = absurd (false≢true e)
+  transition_letter : (k : Kind) → is_letter_kind k ≡ true → transition limit top d (phase.Gap held.Nothing) k ≡ action.Begin (phase.Lone (role_of d held.Nothing k))
+  transition_letter kind.D e = refl
+  transition_letter kind.S e = refl
+  transition_letter kind.W e = refl
+  transition_letter kind.Letter e = refl
+  transition_letter _ e = absurd (false≢true e)
 
-  plan_name : (negated : Bool) (k : Kind) → is_name_kind k ≡ true → transition limit top d (phase.Name negated) k ≡ action.Add (phase.Name negated)
-  plan_name negated kind.Blank e = absurd (false≢true e)
-  plan_name negated kind.Semicolon e = absurd (false≢true e)
-  plan_name negated kind.Feed e = absurd (false≢true e)
-  plan_name negated k e = ap (λ x. cond x (action.Add (phase.Name negated)) action.Stop) e
+  transition_name : (negated : Bool) (k : Kind) → is_name_kind k ≡ true → transition limit top d (phase.Name negated) k ≡ action.Add (phase.Name negated)
+  transition_name negated kind.Blank e = absurd (false≢true e)
+  transition_name negated kind.Semicolon e = absurd (false≢true e)
+  transition_name negated kind.Feed e = absurd (false≢true e)
+  transition_name negated k e = ap (λ x. cond x (action.Add (phase.Name negated)) action.Stop) e
 
-  plan_second : (r : Role) → may_be_name r ≡ true → (k : Kind) → is_name_kind k ≡ true → transition limit top d (phase.Lone r) k ≡ action.Add (phase.Name false)
-  plan_second r h kind.Blank e = absurd (false≢true e)
-  plan_second r h kind.Semicolon e = absurd (false≢true e)
-  plan_second r h kind.Feed e = absurd (false≢true e)
-  plan_second r h k e = ap (λ x. cond (x && is_name_kind k) (action.Add (phase.Name false)) action.Stop) h ∙ ap (λ x. cond x (action.Add (phase.Name false)) action.Stop) e
+  transition_second : (r : Role) → may_be_name r ≡ true → (k : Kind) → is_name_kind k ≡ true → transition limit top d (phase.Lone r) k ≡ action.Add (phase.Name false)
+  transition_second r h kind.Blank e = absurd (false≢true e)
+  transition_second r h kind.Semicolon e = absurd (false≢true e)
+  transition_second r h kind.Feed e = absurd (false≢true e)
+  transition_second r h k e = ap (λ x. cond (x && is_name_kind k) (action.Add (phase.Name false)) action.Stop) h ∙ ap (λ x. cond x (action.Add (phase.Name false)) action.Stop) e
 
-  plan_tilde : (k : Kind) → is_letter_kind k ≡ true → transition limit top d phase.Tilde k ≡ action.Begin phase.First
-  plan_tilde kind.Blank e = absurd (false≢true e)
-  plan_tilde kind.Semicolon e = absurd (false≢true e)
-  plan_tilde kind.Feed e = absurd (false≢true e)
-  plan_tilde k e = ap (λ x. cond x (action.Begin phase.First) action.Stop) e
+  transition_tilde : (k : Kind) → is_letter_kind k ≡ true → transition limit top d phase.Tilde k ≡ action.Begin phase.First
+  transition_tilde kind.Blank e = absurd (false≢true e)
+  transition_tilde kind.Semicolon e = absurd (false≢true e)
+  transition_tilde kind.Feed e = absurd (false≢true e)
+  transition_tilde k e = ap (λ x. cond x (action.Begin phase.First) action.Stop) e
 
-  plan_first : (k : Kind) → is_name_kind k ≡ true → transition limit top d phase.First k ≡ action.Add (phase.Name true)
-  plan_first kind.Blank e = absurd (false≢true e)
-  plan_first kind.Semicolon e = absurd (false≢true e)
-  plan_first kind.Feed e = absurd (false≢true e)
-  plan_first k e = ap (λ x. cond x (action.Add (phase.Name true)) action.Stop) e
+  transition_first : (k : Kind) → is_name_kind k ≡ true → transition limit top d phase.First k ≡ action.Add (phase.Name true)
+  transition_first kind.Blank e = absurd (false≢true e)
+  transition_first kind.Semicolon e = absurd (false≢true e)
+  transition_first kind.Feed e = absurd (false≢true e)
+  transition_first k e = ap (λ x. cond x (action.Add (phase.Name true)) action.Stop) e
 
   named_role : (k : Kind) → may_be_name (role_of d held.Nothing k) ≡ true
   named_role kind.S = go (nat_le 1 d)
@@ -117,7 +117,7 @@ module _ (limit top : ℕ) (ws : List PolWord) (d : ℕ) where
   more_walk negated [] name h = ap (λ x. st x (phase.Name negated)) (append-nil name)
   more_walk negated (b ∷ bs) name h = (
     st (name ++ b ∷ []) (phase.Name negated),
-    moves (st name (phase.Name negated)) b (action.Add (phase.Name negated)) (plan_name negated (kind_of b) (of_name b h.0)),
+    moves (st name (phase.Name negated)) b (action.Add (phase.Name negated)) (transition_name negated (kind_of b) (of_name b h.0)),
     refl,
     refl,
     subst (λ x. Walks pol_automaton (st (name ++ b ∷ []) (phase.Name negated)) (plain bs) (st x (phase.Name negated))) (append_assoc name (b ∷ []) bs)
@@ -129,16 +129,16 @@ module _ (limit top : ℕ) (ws : List PolWord) (d : ℕ) where
   name_walk (b ∷ []) h = absurd h
   name_walk (b ∷ c ∷ bs) h =
       let r : Role = role_of d held.Nothing (kind_of b) in
-      let first = moves (st [] (phase.Gap held.Nothing)) b (action.Begin (phase.Lone r)) (plan_letter (kind_of b) (of_letter b h.0)) in
-      let second = moves (st (b ∷ []) (phase.Lone r)) c (action.Add (phase.Name false)) (plan_second r (named_role (kind_of b)) (kind_of c) (of_name c h.1.0)) in
+      let first = moves (st [] (phase.Gap held.Nothing)) b (action.Begin (phase.Lone r)) (transition_letter (kind_of b) (of_letter b h.0)) in
+      let second = moves (st (b ∷ []) (phase.Lone r)) c (action.Add (phase.Name false)) (transition_second r (named_role (kind_of b)) (kind_of c) (of_name c h.1.0)) in
       (st (b ∷ []) (phase.Lone r), first, refl, refl, (st (b ∷ c ∷ []) (phase.Name false), second, refl, refl, more_walk false bs (b ∷ c ∷ []) h.1.1))
 
   pub negated_walk : (name : List ℕ) → IsName name → Walks pol_automaton (st [] (phase.Gap held.Nothing)) (plain (126 ∷ name)) (st name (phase.Name true))
   negated_walk [] h = absurd h
   negated_walk (b ∷ []) h = absurd h
   negated_walk (b ∷ c ∷ bs) h =
-      let first = moves (st [] phase.Tilde) b (action.Begin phase.First) (plan_tilde (kind_of b) (of_letter b h.0)) in
-      let second = moves (st (b ∷ []) phase.First) c (action.Add (phase.Name true)) (plan_first (kind_of c) (of_name c h.1.0)) in (
+      let first = moves (st [] phase.Tilde) b (action.Begin phase.First) (transition_tilde (kind_of b) (of_letter b h.0)) in
+      let second = moves (st (b ∷ []) phase.First) c (action.Add (phase.Name true)) (transition_first (kind_of c) (of_name c h.1.0)) in (
         st [] phase.Tilde,
         refl,
         refl,
@@ -147,15 +147,15 @@ module _ (limit top : ℕ) (ws : List PolWord) (d : ℕ) where
       )
 
   -- blanks
-  plan_blank : (ph : Phase) (c : Change) (h : Held) → close limit top d ph ≡ Some (c, h) → transition limit top d ph kind.Blank ≡ action.Turn c (phase.Gap h)
-  plan_blank phase.Ending c h q = absurd (cc)
-  plan_blank ph c h q = ap blank q
+  transition_blank : (ph : Phase) (c : Change) (h : Held) → close limit top d ph ≡ Some (c, h) → transition limit top d ph kind.Blank ≡ action.Turn c (phase.Gap h)
+  transition_blank phase.Ending c h q = absurd (cc)
+  transition_blank ph c h q = ap blank q
 
 pub takes_blanks : (limit top : ℕ) (ws : List PolWord) (d : ℕ) (name : List ℕ) (ph : Phase) (c : Change) (h : Held) → close limit top d ph ≡ Some (c, h)
     → TakesBlanks pol_automaton (state limit top ws d name ph) (state limit top (changed c ws name) (counted c d) [] (phase.Gap h))
 takes_blanks limit top ws d name ph c h q = record {
   enters = λ b i. steps (state limit top ws d name ph) b kind.Blank (of_blank b i)
-      ∙ ap (λ x. over (state limit top ws d name ph) (act (state limit top ws d name ph).work b x)) (plan_blank limit top ws d ph c h q);
+      ∙ ap (λ x. over (state limit top ws d name ph) (act (state limit top ws d name ph).work b x)) (transition_blank limit top ws d ph c h q);
   stays = λ b i. steps (state limit top (changed c ws name) (counted c d) [] (phase.Gap h)) b kind.Blank (of_blank b i);
   begun = refl;
   plain = refl;

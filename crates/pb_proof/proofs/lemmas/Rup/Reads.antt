@@ -22,7 +22,7 @@ use Rattle.pb_sums.specs.declared.SumEvent.{SumEvent}
 use Rattle.pb_sums.specs.declared.SumEvent as sum
 use Rattle.pb_sums.proofs.lemmas.machine.Links.{reads_grammar}
 use Rattle.pb_sums.proofs.lemmas.machine.States.{continues-midway}
-use Rattle.pb_proof.specs.engine.Line.Rup.{RupState, rup_automaton, rup_first, rup_last, sum_first, sum_last, rup_plan, rup_act, rup_over, linear_of, rup_finish}
+use Rattle.pb_proof.specs.engine.Line.Rup.{RupState, rup_automaton, rup_first, rup_last, sum_first, sum_last, rup_transition, rup_act, rup_over, linear_of, rup_finish}
 use Rattle.pb_proof.specs.meaning.Lines.{SpellsRup}
 use Rattle.pb_proof.specs.declared.line.rup.phase.RupPhase.{RupPhase}
 use Rattle.pb_proof.specs.declared.line.rup.phase.RupPhase.TheVariants.{Start, Gap, Inside, Tail, Done}
@@ -65,7 +65,7 @@ module _ (limit top : ℕ) where
     abbrev After : RupAction → Type 0
     After m = Leaves (rup_act s l.byte m)
 
-    at_start : p ≡ [] → s.sums ≡ sum_first limit → s.linear ≡ None → After (rup_plan Start l.byte)
+    at_start : p ≡ [] → s.sums ≡ sum_first limit → s.linear ≡ None → After (rup_transition Start l.byte)
     at_start e i n = cond_both (is_blank l.byte) _ _ After
         (λ h w f. (first_blank l p h f e, i, n))
         (λ h. tt)
@@ -94,12 +94,12 @@ module _ (limit top : ℕ) where
         (k.1, (linear_of e, refl, (spelled e t).0, (spelled e t).1))
     given n h Refuse i = tt
 
-    in_gap : Blanks1 p → s.sums ≡ sum_first limit → s.linear ≡ None → After (rup_plan Gap l.byte)
+    in_gap : Blanks1 p → s.sums ≡ sum_first limit → s.linear ≡ None → After (rup_transition Gap l.byte)
     in_gap h i n = cond_both (is_blank l.byte) _ _ After
         (λ k w f. (further_blank l p k f h, i, n))
         (λ k. given n (none_yet Blanks1 (SumPrefix s.sums) p i h) (sums.step s.sums l.byte) refl)
 
-    in_tail : s.sums ≡ sum_last limit → (c : Linear) → s.linear ≡ Some c → c.relation ≡ AtLeast → (Blanks1 ⋅ SpellsLinear Blank limit c ⋅ Blanks0) p → After (rup_plan Tail l.byte)
+    in_tail : s.sums ≡ sum_last limit → (c : Linear) → s.linear ≡ Some c → c.relation ≡ AtLeast → (Blanks1 ⋅ SpellsLinear Blank limit c ⋅ Blanks0) p → After (rup_transition Tail l.byte)
     in_tail i c k r h = cond_both (is_blank l.byte) _ _ After
         (λ g w f. (i, (c, k, r, blank_more (Blanks1 ⋅ SpellsLinear Blank limit c) l p g f h)))
         (λ _. cond_both (nat_eq l.byte 10) _ _ After
@@ -114,7 +114,7 @@ module _ (limit top : ℕ) where
             (r, feed_after_blanks (Blanks1 ⋅ SpellsLinear Blank limit c) l p (eqb-true l.byte 10 g) f h) in
             (subst (λ x. SpellsRup limit top x (p ++ l ∷ [])) (sym same) whole, rw i refl)
 
-    sound : (q : RupPhase) → prefix s q p → After (rup_plan q l.byte)
+    sound : (q : RupPhase) → prefix s q p → After (rup_transition q l.byte)
     sound Start h = at_start h.0 h.1 h.2
     sound Gap h = in_gap h.0 h.1 h.2
     sound Inside h = given h.0 h.1 (sums.step s.sums l.byte) refl
@@ -161,7 +161,7 @@ module _ (limit top : ℕ) where
   no_blank : (b : ℕ) → is_blank b ≡ true → sums.step (sum_first limit) b ≡ Refuse
   no_blank = blank_each (λ b. sums.step (sum_first limit) b ≡ Refuse) refl refl refl
 
-  gap_gives : (l : Letter) → (sums.step (sum_first limit) l.byte ≡ Refuse → ⊥) → rup_plan Gap l.byte ≡ Give
+  gap_gives : (l : Letter) → (sums.step (sum_first limit) l.byte ≡ Refuse → ⊥) → rup_transition Gap l.byte ≡ Give
   gap_gives l h =
       let e : is_blank l.byte ≡ false = false_from_ne_true (is_blank l.byte) (λ k. h (no_blank l.byte k)) in rw e refl
 

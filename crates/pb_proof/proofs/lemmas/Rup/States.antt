@@ -20,7 +20,7 @@ use Rattle.pb_sums.specs.declared.SumEvent as sum
 use Rattle.pb_sums.proofs.lemmas.machine.Counts.{flushed-units}
 use Rattle.pb_sums.proofs.lemmas.machine.Links.{reads_something, midway-not-done}
 use Rattle.pb_sums.proofs.lemmas.machine.States.{continues-midway, ended-last}
-use Rattle.pb_proof.specs.engine.Line.Rup.{RupState, rup_automaton, rup_first, sum_first, rup_plan, rup_act, rup_over, rup_finish, rup_midway, rup_done, rup_in_number, rup_asks, linear_of, RupHolds, IsRupInOrder}
+use Rattle.pb_proof.specs.engine.Line.Rup.{RupState, rup_automaton, rup_first, sum_first, rup_transition, rup_act, rup_over, rup_finish, rup_midway, rup_done, rup_in_number, rup_asks, linear_of, RupHolds, IsRupInOrder}
 use Rattle.pb_proof.specs.declared.line.rup.phase.RupPhase.{RupPhase}
 use Rattle.pb_proof.specs.declared.line.rup.phase.RupPhase.TheVariants.{Start, Gap, Inside, Tail, Done}
 use Rattle.pb_proof.specs.declared.line.rup.phase.RupAction.{RupAction}
@@ -67,12 +67,12 @@ abbrev OnAction : RupAction → Type 0
 OnAction (To p) = rup_midway p ≡ true
 OnAction _ = Unit {0}
 
-on_plan : (p : RupPhase) (b : ℕ) → OnAction (rup_plan p b)
-on_plan Start b = cond_both (is_blank b) (To Gap) Stop OnAction (λ e. refl) (λ e. tt)
-on_plan Gap b = cond_both (is_blank b) (To Gap) Give OnAction (λ e. refl) (λ e. tt)
-on_plan Inside b = tt
-on_plan Tail b = cond_both (is_blank b) (To Tail) _ OnAction (λ e. refl) (λ e. cond_both (nat_eq b 10) Finish Stop OnAction (λ e. tt) (λ e. tt))
-on_plan Done b = tt
+on_transition : (p : RupPhase) (b : ℕ) → OnAction (rup_transition p b)
+on_transition Start b = cond_both (is_blank b) (To Gap) Stop OnAction (λ e. refl) (λ e. tt)
+on_transition Gap b = cond_both (is_blank b) (To Gap) Give OnAction (λ e. refl) (λ e. tt)
+on_transition Inside b = tt
+on_transition Tail b = cond_both (is_blank b) (To Tail) _ OnAction (λ e. refl) (λ e. cond_both (nat_eq b 10) Finish Stop OnAction (λ e. tt) (λ e. tt))
+on_transition Done b = tt
 
 -- where bytes are given to the sum machine, and where the line ends
 not_given : (x y : Bool) → cond x (To Tail) (cond y Finish Stop) ≡ Give → ⊥
@@ -80,14 +80,14 @@ not_given true y e = cc
 not_given false true e = cc
 not_given false false e = cc
 
-given_none : (s : RupState) (p : RupPhase) (b : ℕ) → RupHolds s p → rup_plan p b ≡ Give → s.linear ≡ None
+given_none : (s : RupState) (p : RupPhase) (b : ℕ) → RupHolds s p → rup_transition p b ≡ Give → s.linear ≡ None
 given_none s Start b h e = h.0
 given_none s Gap b h e = h.0
 given_none s Inside b h e = h.0
 given_none s Tail b h e = absurd (not_given (is_blank b) (nat_eq b 10) e)
 given_none s Done b h e = h.0
 
-finish_empty : (s : RupState) (p : RupPhase) (b : ℕ) → RupHolds s p → rup_plan p b ≡ Finish → sums.spent s.sums ≡ 0
+finish_empty : (s : RupState) (p : RupPhase) (b : ℕ) → RupHolds s p → rup_transition p b ≡ Finish → sums.spent s.sums ≡ 0
 finish_empty s Start b h e = absurd (not_finished (is_blank b) e)
   where
     not_finished : (x : Bool) → cond x (To Gap) Stop ≡ Finish → ⊥
@@ -111,14 +111,14 @@ on_finish : (s : RupState) → sums.spent s.sums ≡ 0 → (o : Option Linear) �
 on_finish s h None = tt
 on_finish s h (Some c) = (refl, ap (λ (n : ℕ). 0 + n) h)
 
-on_act : (s : RupState) → IsRupInOrder s → (b : ℕ) (m : RupAction) → rup_plan s.phase b ≡ m → OnAction m → On s (rup_act s b m)
+on_act : (s : RupState) → IsRupInOrder s → (b : ℕ) (m : RupAction) → rup_transition s.phase b ≡ m → OnAction m → On s (rup_act s b m)
 on_act s h b (To p) e k = record { begins = k; grows = omega arith }
 on_act s h b Give e k = on_given s h.state (given_none s s.phase b h.holds e) b (sums.step s.sums b) refl
 on_act s h b Finish e k = on_finish s (finish_empty s s.phase b h.holds e) s.linear
 on_act s h b Stop e k = tt
 
 steps : (s : RupState) → IsRupInOrder s → (b : ℕ) → On s (rup_automaton.step s b)
-steps s h b = on_act s h b (rup_plan s.phase b) refl (on_plan s.phase b)
+steps s h b = on_act s h b (rup_transition s.phase b) refl (on_transition s.phase b)
 
 continues : (s next : RupState) (b : ℕ) → IsRupInOrder s → rup_automaton.step s b ≡ Go next → Continues s next
 continues s next b h e = subst (On s) e (steps s h b)
@@ -147,7 +147,7 @@ begun_act s b Finish k = begun_finish s s.linear
 begun_act s b Stop k = tt
 
 pub rup_begins : (s next : RupState) (b : ℕ) → rup_automaton.step s b ≡ Go next → rup_automaton.begun next ≡ true
-rup_begins s next b e = subst OnGo e (begun_act s b (rup_plan s.phase b) (on_plan s.phase b))
+rup_begins s next b e = subst OnGo e (begun_act s b (rup_transition s.phase b) (on_transition s.phase b))
 
 midway_not_done : (p : RupPhase) → rup_midway p ≡ true → rup_done p ≡ false
 midway_not_done Start h = refl
@@ -163,7 +163,7 @@ done_not_midway Gap h = sym h
 done_not_midway Inside h = sym h
 done_not_midway Tail h = sym h
 
-done_stops : (s : RupState) (p : RupPhase) (b : ℕ) → rup_done p ≡ true → rup_act s b (rup_plan p b) ≡ Refuse
+done_stops : (s : RupState) (p : RupPhase) (b : ℕ) → rup_done p ≡ true → rup_act s b (rup_transition p b) ≡ Refuse
 done_stops s Done b h = refl
 done_stops s Start b h = never false h refl
 done_stops s Gap b h = never false h refl
@@ -187,7 +187,7 @@ empty_outside s Tail h k = never true refl k
 -- Each state that has not ended can end.
 finishing : (s : RupState) (c : Linear) → s.phase ≡ Tail → s.linear ≡ Some c → IsAlive rup_automaton s
 finishing s c p e =
-    final rup_automaton s (record s { phase = Done; linear = None }) 10 c (ap (λ x. rup_act s 10 (rup_plan x 10)) p ∙ ap (rup_finish s) e) [] refl
+    final rup_automaton s (record s { phase = Done; linear = None }) 10 c (ap (λ x. rup_act s 10 (rup_transition x 10)) p ∙ ap (rup_finish s) e) [] refl
 
 inside_alive : (s : RupState) → s.phase ≡ Inside → sums.done s.sums ≡ false → IsAlive rup_automaton s
 inside_alive s p d =
@@ -210,7 +210,7 @@ inside_alive s p d =
 gap_alive : (s : RupState) → s.phase ≡ Gap → s.sums ≡ sum_first s.sums.limit → IsAlive rup_automaton s
 gap_alive s p i =
     let mid : RupState = record s { phase = Inside; sums = record { spaces = s.sums.spaces; part = s.sums.part; limit = s.sums.limit; work = record { terms = []; name = []; phase = sum_phase.TheVariants.Greater } } } in
-    before rup_automaton s mid 62 (ap (λ x. rup_act s 62 (rup_plan x 62)) p ∙ stepped s i) refl (inside_alive mid refl refl)
+    before rup_automaton s mid 62 (ap (λ x. rup_act s 62 (rup_transition x 62)) p ∙ stepped s i) refl (inside_alive mid refl refl)
   where
     stepped : (s : RupState) → s.sums ≡ sum_first s.sums.limit → rup_over s (sums.step s.sums 62) ≡ Go (record s { phase = Inside; sums = record { spaces = s.sums.spaces; part = s.sums.part; limit = s.sums.limit; work = record { terms = []; name = []; phase = sum_phase.TheVariants.Greater } } })
     stepped s i = rw i refl
@@ -218,7 +218,7 @@ gap_alive s p i =
 start_alive : (s : RupState) → s.phase ≡ Start → s.sums ≡ sum_first s.sums.limit → IsAlive rup_automaton s
 start_alive s p i =
     let mid : RupState = record s { phase = Gap } in
-    before rup_automaton s mid 32 (ap (λ x. rup_act s 32 (rup_plan x 32)) p) refl (gap_alive mid refl i)
+    before rup_automaton s mid 32 (ap (λ x. rup_act s 32 (rup_transition x 32)) p) refl (gap_alive mid refl i)
 
 alive : (s : RupState) (p : RupPhase) → s.phase ≡ p → RupHolds s p → rup_done p ≡ false → IsAlive rup_automaton s
 alive s Start e h d = start_alive s e h.1
@@ -249,7 +249,7 @@ pub rup_first_in_order : (limit : ℕ) → IsState sums (sum_first limit) → Is
 rup_first_in_order limit state = record { holds = (refl, refl); state = state }
 
 -- What holds of the machine after a byte.
-pub to_order : (s : RupState) → IsRupInOrder s → (b : ℕ) (p : RupPhase) → rup_plan s.phase b ≡ To p → IsRupInOrder (record s { phase = p })
+pub to_order : (s : RupState) → IsRupInOrder s → (b : ℕ) (p : RupPhase) → rup_transition s.phase b ≡ To p → IsRupInOrder (record s { phase = p })
 to_order s h b p e = record { holds = held s.phase h.holds e; state = h.state }
   where
     at_gap : (x : Bool) (m : RupAction) → cond x (To Gap) m ≡ To p → (m ≡ To p → p ≡ Gap) → p ≡ Gap
@@ -261,14 +261,14 @@ to_order s h b p e = record { holds = held s.phase h.holds e; state = h.state }
     at_tail false true e = absurd (let f : ⊥ = cc in f)
     at_tail false false e = absurd (let f : ⊥ = cc in f)
 
-    held : (q : RupPhase) → RupHolds s q → rup_plan q b ≡ To p → RupHolds s p
+    held : (q : RupPhase) → RupHolds s q → rup_transition q b ≡ To p → RupHolds s p
     held Start h e = subst (RupHolds s) (sym (at_gap (is_blank b) Stop e (λ k. absurd (let f : ⊥ = cc in f)))) h
     held Gap h e = subst (RupHolds s) (sym (at_gap (is_blank b) Give e (λ k. absurd (let f : ⊥ = cc in f)))) h
     held Inside h e = absurd (let f : ⊥ = cc in f)
     held Tail h e = subst (RupHolds s) (sym (at_tail (is_blank b) (nat_eq b 10) e)) h
     held Done h e = absurd (let f : ⊥ = cc in f)
 
-pub give_order : (s : RupState) → IsRupInOrder s → (b : ℕ) (inner : SumState) → rup_plan s.phase b ≡ Give → sums.step s.sums b ≡ Go inner → IsState sums inner → IsRupInOrder (record s { phase = Inside; sums = inner })
+pub give_order : (s : RupState) → IsRupInOrder s → (b : ℕ) (inner : SumState) → rup_transition s.phase b ≡ Give → sums.step s.sums b ≡ Go inner → IsState sums inner → IsRupInOrder (record s { phase = Inside; sums = inner })
 give_order s h b inner e g state = record {
   holds = (given_none s s.phase b h.holds e, midway-not-done inner.work.phase (continues-midway s.sums inner b g));
   state = state;
@@ -278,14 +278,14 @@ pub tail_order : (s : RupState) (b : ℕ) (e : SumEvent) (inner : SumState) → 
 tail_order s b e inner g state = record { holds = ((linear_of e, refl), ended_empty s.sums inner b e g); state = state }
 
 -- if a byte is given to the sum machine, a number is read if and only if that machine reads one
-given_number : (s : RupState) (p : RupPhase) (b : ℕ) → RupHolds s p → rup_plan p b ≡ Give → rup_in_number s p ≡ sums.in_number s.sums
+given_number : (s : RupState) (p : RupPhase) (b : ℕ) → RupHolds s p → rup_transition p b ≡ Give → rup_in_number s p ≡ sums.in_number s.sums
 given_number s Inside b h e = refl
 given_number s Gap b h e = sym (ap sums.in_number h.1)
 given_number s Start b h e = sym (ap sums.in_number h.1)
 given_number s Tail b h e = absurd (not_given (is_blank b) (nat_eq b 10) e)
 given_number s Done b h e = absurd (let f : ⊥ = cc in f)
 
-module _ (s : RupState) (h : IsRupInOrder s) (b : ℕ) (planned : rup_plan s.phase b ≡ Give) where
+module _ (s : RupState) (h : IsRupInOrder s) (b : ℕ) (planned : rup_transition s.phase b ≡ Give) where
   pub give_refused : sums.step s.sums b ≡ Refuse → (rup_automaton.step s b ≡ Refuse) × (is_large rup_automaton s b ≡ is_large sums s.sums b)
   give_refused stops = (
     ap (rup_act s b) planned ∙ ap (rup_over s) stops,

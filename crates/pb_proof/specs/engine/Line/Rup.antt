@@ -33,12 +33,12 @@ rup_first limit = record { phase = Start; sums = sum_first limit; linear = None 
 abbrev pub rup_last : ℕ → RupState
 rup_last limit = record { phase = Done; sums = sum_last limit; linear = None }
 
-abbrev pub rup_plan : RupPhase → ℕ → RupAction
-rup_plan Start b = cond (is_blank b) (To Gap) Stop
-rup_plan Gap b = cond (is_blank b) (To Gap) Give
-rup_plan Inside b = Give
-rup_plan Tail b = cond (is_blank b) (To Tail) (cond (nat_eq b 10) Finish Stop)
-rup_plan Done b = Stop
+abbrev pub rup_transition : RupPhase → ℕ → RupAction
+rup_transition Start b = cond (is_blank b) (To Gap) Stop
+rup_transition Gap b = cond (is_blank b) (To Gap) Give
+rup_transition Inside b = Give
+rup_transition Tail b = cond (is_blank b) (To Tail) (cond (nat_eq b 10) Finish Stop)
+rup_transition Done b = Stop
 
 -- the constraint that a machine for sums has read; in a goal, it never reads a sum without a relation
 abbrev pub linear_of : SumEvent → Linear
@@ -84,11 +84,11 @@ units_in (Some c) = units c.terms
 
 abbrev pub rup_automaton : Automaton RupState Linear
 rup_automaton = record {
-  step = λ s b. rup_act s b (rup_plan s.phase b);
+  step = λ s b. rup_act s b (rup_transition s.phase b);
   done = λ s. rup_done s.phase;
   begun = λ s. rup_midway s.phase;
   in_number = λ s. rup_in_number s s.phase;
-  asks = λ s b. rup_asks s b (rup_plan s.phase b);
+  asks = λ s b. rup_asks s b (rup_transition s.phase b);
   kept = λ s. min (units_in s.linear + sums.kept s.sums) (2 ^ 64 - 1);
   spent = λ s. units_in s.linear + sums.spent s.sums;
 }

@@ -2,10 +2,10 @@
 
 ghost use Rattle.std.specs.Prelude.{◌≡◌};
 ghost use Rattle.pb_text.specs.contract.Automaton.{Finishes};
-ghost use Rattle.pb_proof.specs.engine.Line.Rup.{rup_automaton, rup_plan};
+ghost use Rattle.pb_proof.specs.engine.Line.Rup.{rup_automaton, rup_transition};
 
 use crate::line::rup::phase::{RupAction, RupPhase};
-use crate::line::rup::{RupMachine, rup_plan};
+use crate::line::rup::{RupMachine, rup_transition};
 use pb_sums::Linear;
 use std::mem;
 
@@ -15,7 +15,7 @@ impl RupMachine {
     pub(super) fn end(&mut self, byte: u8) -> Option<Linear>
         ensures { Finishes rup_automaton self.old byte result self.new }
     {
-        match rup_plan(self.phase, byte) {
+        match rup_transition(self.phase, byte) {
             RupAction::Finish => self.give_linear(byte),
             _ => None,
         }
@@ -24,7 +24,7 @@ impl RupMachine {
     /// Returns the constraint, if there is one.
     #[inline(always)]
     fn give_linear(&mut self, byte: u8) -> Option<Linear>
-        requires { rup_plan self.old.phase byte ≡ RupAction.Finish }
+        requires { rup_transition self.old.phase byte ≡ RupAction.Finish }
         ensures { Finishes rup_automaton self.old byte result self.new }
     {
         match mem::replace(&mut self.linear, None) {

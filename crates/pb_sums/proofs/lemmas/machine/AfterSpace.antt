@@ -26,5 +26,5 @@ module _ (spaces : Spaces) (part : Part) (limit : ℕ) (xs : List Term) (name : 
   space_state phase.TheVariants.Between q e = state-of q phase.TheVariants.Between (cc) tt refl
   space_state (phase.TheVariants.Tail r z) q e = state-of q (phase.TheVariants.Tail r z) (cc) tt refl
   space_state (phase.TheVariants.More z negated) q e = state-of q phase.TheVariants.Between (cc) tt refl
-  space_state (phase.TheVariants.Operator r) q e = state-of q (phase.TheVariants.Operator r) (cc) tt refl
+  space_state (phase.TheVariants.Relation r) q e = state-of q (phase.TheVariants.Relation r) (cc) tt refl
   space_state _ q e = cc e

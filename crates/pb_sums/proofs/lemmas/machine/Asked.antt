@@ -124,39 +124,39 @@ module _ (want : Part) (limit b : ℕ) where
   after_fits p Semicolon = cond_both (reads_sums want) _ _ (Fits p b) (λ _. tt) (λ _. tt)
   after_fits p _ = tt
 
-  plan_fits : (p : Phase) (k : Kind) → Means k b → Fits p b (transition want limit p k)
-  plan_fits phase.TheVariants.Start Space m = cond_both (reads_sums want) _ _ (Fits phase.TheVariants.Start b) (λ _. refl) (λ _. tt)
-  plan_fits phase.TheVariants.Start Plus m = refl
-  plan_fits phase.TheVariants.Start Minus m = refl
-  plan_fits phase.TheVariants.Start (Digit d) m = digits_fit phase.TheVariants.Start None false 0 d
-  plan_fits phase.TheVariants.Start k m = after_fits phase.TheVariants.Start k
-  plan_fits (phase.TheVariants.Signed role negative) (Digit d) m = digits_fit (phase.TheVariants.Signed role negative) role negative 0 d
-  plan_fits (phase.TheVariants.Digits role negative n) (Digit d) m = digits_fit (phase.TheVariants.Digits role negative n) role negative n d
-  plan_fits (phase.TheVariants.Digits None negative n) Space m = refl
-  plan_fits (phase.TheVariants.Digits None negative n) k m = tt
-  plan_fits (phase.TheVariants.Digits (Some r) negative n) Space m = refl
-  plan_fits (phase.TheVariants.Digits (Some r) negative n) k m = tt
-  plan_fits (phase.TheVariants.Gap z) Space m = refl
-  plan_fits (phase.TheVariants.Gap z) Tilde m = refl
-  plan_fits (phase.TheVariants.Gap z) (Start c) m = m
-  plan_fits (phase.TheVariants.Tilde z) (Start c) m = m
-  plan_fits (phase.TheVariants.First z negated) (Start c) m = (m.0, letter_name c m.1, refl)
-  plan_fits (phase.TheVariants.First z negated) (Inner c) m = (m.0, m.1, refl)
-  plan_fits (phase.TheVariants.More z negated) (Start c) m = (m.0, letter_name c m.1, refl)
-  plan_fits (phase.TheVariants.More z negated) (Inner c) m = (m.0, m.1, refl)
-  plan_fits (phase.TheVariants.More z negated) Space m = refl
-  plan_fits (phase.TheVariants.More z negated) k m = after_fits (phase.TheVariants.More z negated) k
-  plan_fits phase.TheVariants.Between Space m = refl
-  plan_fits phase.TheVariants.Between Plus m = refl
-  plan_fits phase.TheVariants.Between Minus m = refl
-  plan_fits phase.TheVariants.Between (Digit d) m = digits_fit phase.TheVariants.Between None false 0 d
-  plan_fits phase.TheVariants.Between k m = after_fits phase.TheVariants.Between k
-  plan_fits phase.TheVariants.Greater Equals m = refl
-  plan_fits (phase.TheVariants.Operator r) Space m = refl
-  plan_fits (phase.TheVariants.Operator r) k m = number_fits (phase.TheVariants.Operator r) (Some r) k
-  plan_fits (phase.TheVariants.Tail r z) Space m = refl
-  plan_fits phase.TheVariants.Empty Space m = refl
-  plan_fits _ _ m = tt
+  transition_fits : (p : Phase) (k : Kind) → Means k b → Fits p b (transition want limit p k)
+  transition_fits phase.TheVariants.Start Space m = cond_both (reads_sums want) _ _ (Fits phase.TheVariants.Start b) (λ _. refl) (λ _. tt)
+  transition_fits phase.TheVariants.Start Plus m = refl
+  transition_fits phase.TheVariants.Start Minus m = refl
+  transition_fits phase.TheVariants.Start (Digit d) m = digits_fit phase.TheVariants.Start None false 0 d
+  transition_fits phase.TheVariants.Start k m = after_fits phase.TheVariants.Start k
+  transition_fits (phase.TheVariants.Signed role negative) (Digit d) m = digits_fit (phase.TheVariants.Signed role negative) role negative 0 d
+  transition_fits (phase.TheVariants.Digits role negative n) (Digit d) m = digits_fit (phase.TheVariants.Digits role negative n) role negative n d
+  transition_fits (phase.TheVariants.Digits None negative n) Space m = refl
+  transition_fits (phase.TheVariants.Digits None negative n) k m = tt
+  transition_fits (phase.TheVariants.Digits (Some r) negative n) Space m = refl
+  transition_fits (phase.TheVariants.Digits (Some r) negative n) k m = tt
+  transition_fits (phase.TheVariants.Gap z) Space m = refl
+  transition_fits (phase.TheVariants.Gap z) Tilde m = refl
+  transition_fits (phase.TheVariants.Gap z) (Start c) m = m
+  transition_fits (phase.TheVariants.Tilde z) (Start c) m = m
+  transition_fits (phase.TheVariants.First z negated) (Start c) m = (m.0, letter_name c m.1, refl)
+  transition_fits (phase.TheVariants.First z negated) (Inner c) m = (m.0, m.1, refl)
+  transition_fits (phase.TheVariants.More z negated) (Start c) m = (m.0, letter_name c m.1, refl)
+  transition_fits (phase.TheVariants.More z negated) (Inner c) m = (m.0, m.1, refl)
+  transition_fits (phase.TheVariants.More z negated) Space m = refl
+  transition_fits (phase.TheVariants.More z negated) k m = after_fits (phase.TheVariants.More z negated) k
+  transition_fits phase.TheVariants.Between Space m = refl
+  transition_fits phase.TheVariants.Between Plus m = refl
+  transition_fits phase.TheVariants.Between Minus m = refl
+  transition_fits phase.TheVariants.Between (Digit d) m = digits_fit phase.TheVariants.Between None false 0 d
+  transition_fits phase.TheVariants.Between k m = after_fits phase.TheVariants.Between k
+  transition_fits phase.TheVariants.Greater Equals m = refl
+  transition_fits (phase.TheVariants.Relation r) Space m = refl
+  transition_fits (phase.TheVariants.Relation r) k m = number_fits (phase.TheVariants.Relation r) (Some r) k
+  transition_fits (phase.TheVariants.Tail r z) Space m = refl
+  transition_fits phase.TheVariants.Empty Space m = refl
+  transition_fits _ _ m = tt
 
 -- the text ends in the name being read
 abbrev Holds : Phase → List ℕ → List ℕ → Type 0
@@ -200,7 +200,7 @@ acts s text b (EndLinear r z) h k = tt
 acts s text b Stop h k = tt
 
 fits : (s : SumState) (b : ℕ) → Fits s.work.phase b (transition s.part s.limit s.work.phase (kind s.spaces (letter_at (is_numeric s.work.phase) b)))
-fits s b = plan_fits s.part s.limit b s.work.phase (kind s.spaces (letter_at (is_numeric s.work.phase) b)) (means s.spaces (letter_at (is_numeric s.work.phase) b))
+fits s b = transition_fits s.part s.limit b s.work.phase (kind s.spaces (letter_at (is_numeric s.work.phase) b)) (means s.spaces (letter_at (is_numeric s.work.phase) b))
 
 stepped : (s next : SumState) (b : ℕ) (text : List ℕ) → Known s text → sums.step s b ≡ Go next → Known next (text ++ b ∷ [])
 stepped s next b text k e =

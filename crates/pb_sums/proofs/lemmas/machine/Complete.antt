@@ -1,7 +1,7 @@
 -- The machine reads each text of the grammar: one lemma for each word of the grammar.
 use Rattle.pb_sums.proofs.lemmas.machine.LetterKinds.{on_letter, kind-digit, kind-space, kind-letter, kind-name}
 use Rattle.pb_sums.specs.engine.Machine.{Work, action, act, kind, to, at_name, digits, next_action, fresh, finished}
-use Rattle.pb_sums.specs.meaning.Sums.{is_space, SpellsLiteral, Spaces0, Spaces1, SpellsTerm, SpellsFurther, SpellsSum, Head, Operator, SpellsLinear, Spells, reads_sums, allows}
+use Rattle.pb_sums.specs.meaning.Sums.{is_space, SpellsLiteral, Spaces0, Spaces1, SpellsTerm, SpellsFurther, SpellsSum, Head, SpellsRelation, SpellsLinear, Spells, reads_sums, allows}
 use Rattle.pb_sums.specs.declared.phase.Kind.{Kind}
 use Rattle.pb_sums.specs.declared.phase.Kind.TheVariants.{Space, Digit, Start, Tilde, Plus, Minus, Greater, Equals, Semicolon}
 use Rattle.pb_sums.specs.declared.phase.Action.{Action}
@@ -52,7 +52,7 @@ module _ (spaces : Spaces) (want : Part) (limit : ℕ) where
 
   abbrev out_after : List Term → Kind → N
   out_after xs Greater = cond (allows want AtLeast) (to xs phase.TheVariants.Greater) Refuse
-  out_after xs Equals = cond (allows want Equal) (to xs (phase.TheVariants.Operator Equal)) Refuse
+  out_after xs Equals = cond (allows want Equal) (to xs (phase.TheVariants.Relation Equal)) Refuse
   out_after xs Semicolon = cond (reads_sums want) (End (event.TheVariants.Sum xs) finished) Refuse
   out_after xs _ = Refuse
 
@@ -70,7 +70,7 @@ module _ (spaces : Spaces) (want : Part) (limit : ℕ) where
 
   act-after : (ys xs : List Term) (name : List ℕ) (k : Kind) → IsOfAfter k → act ys xs name (next_action want k) ≡ out_after ys k
   act-after ys xs name Greater h = act-cond ys xs name (allows want AtLeast) (To phase.TheVariants.Greater)
-  act-after ys xs name Equals h = act-cond ys xs name (allows want Equal) (To (phase.TheVariants.Operator Equal))
+  act-after ys xs name Equals h = act-cond ys xs name (allows want Equal) (To (phase.TheVariants.Relation Equal))
   act-after ys xs name Semicolon h = act-cond ys xs name (reads_sums want) EndSum
   act-after ys xs name _ h = absurd h
 
@@ -239,11 +239,11 @@ module _ (spaces : Spaces) (want : Part) (limit : ℕ) where
   opens-start (Digit d) h = act-digits [] [] [] None false 0 d
   opens-start _ h = absurd h
 
-  opens-operator : (r : Relation) (zs : List Term) → Opens (Some r) zs (to zs (phase.TheVariants.Operator r))
-  opens-operator r zs Plus h = refl
-  opens-operator r zs Minus h = refl
-  opens-operator r zs (Digit d) h = act-digits zs zs [] (Some r) false 0 d
-  opens-operator r zs _ h = absurd h
+  opens-relation : (r : Relation) (zs : List Term) → Opens (Some r) zs (to zs (phase.TheVariants.Relation r))
+  opens-relation r zs Plus h = refl
+  opens-relation r zs Minus h = refl
+  opens-relation r zs (Digit d) h = act-digits zs zs [] (Some r) false 0 d
+  opens-relation r zs _ h = absurd h
 
   held-space : (zs : List Term) (n : N) → Held zs n → moves n Space ≡ to zs phase.TheVariants.Between
   held-space zs n (xs, x, e, f) = ap (λ y. moves y Space) f ∙ ap (λ ys. to ys phase.TheVariants.Between) (sym e)
@@ -322,22 +322,22 @@ module _ (spaces : Spaces) (want : Part) (limit : ℕ) where
   semicolon-run n m e t h = ap (λ x. go n x) h ∙ (reads n (unmarked 59) Semicolon [] refl ∙ e)
 
   -- a linear text
-  operator-run : (xs : List Term) (r : Relation) → IsTrue (allows want r) → T (Follows xs) (Operator spaces limit r) (Is (to xs (phase.TheVariants.Operator r)))
-  operator-run xs AtLeast ok n t f h =
+  relation-run : (xs : List Term) (r : Relation) → IsTrue (allows want r) → T (Follows xs) (SpellsRelation spaces limit r) (Is (to xs (phase.TheVariants.Relation r)))
+  relation-run xs AtLeast ok n t f h =
       ap (λ x. go n x) h
       ∙ (reads n (unmarked 62) Greater (unmarked 61 ∷ []) refl
       ∙ (ap (λ y. go y (unmarked 61 ∷ [])) (f Greater tt ∙ ap (λ b. cond b (to xs phase.TheVariants.Greater) Refuse) ok)
       ∙ reads (to xs phase.TheVariants.Greater) (unmarked 61) Equals [] refl))
-  operator-run xs Equal ok n t f h =
+  relation-run xs Equal ok n t f h =
       ap (λ x. go n x) h
       ∙ (reads n (unmarked 61) Equals [] refl
-      ∙ (f Equals tt ∙ ap (λ b. cond b (to xs (phase.TheVariants.Operator Equal)) Refuse) ok))
+      ∙ (f Equals tt ∙ ap (λ b. cond b (to xs (phase.TheVariants.Relation Equal)) Refuse) ok))
 
-  after-operator : (xs : List Term) (r : Relation) → T (Is (to xs (phase.TheVariants.Operator r))) (Spaces0 spaces limit) (Opens (Some r) xs)
-  after-operator xs r n t e h =
-      let O : N = to xs (phase.TheVariants.Operator r) in
+  after-relation : (xs : List Term) (r : Relation) → T (Is (to xs (phase.TheVariants.Relation r))) (Spaces0 spaces limit) (Opens (Some r) xs)
+  after-relation xs r n t e h =
+      let O : N = to xs (phase.TheVariants.Relation r) in
       let f : go n t ≡ O = ap (λ y. go y t) e ∙ elim (many-run O O refl refl t h) [ inl g ↦ g | inr g ↦ g ] in
-      subst (λ y. Opens (Some r) xs y) (sym f) (opens-operator r xs)
+      subst (λ y. Opens (Some r) xs y) (sym f) (opens-relation r xs)
 
   abbrev Ends : List Term → Relation → ℤ → N → Type 0
   Ends xs r z n = moves n Semicolon ≡ whole xs r z
@@ -356,14 +356,14 @@ module _ (spaces : Spaces) (want : Part) (limit : ℕ) where
       let M = on_letter spaces want limit in
       let S : Language = Spaces0 spaces limit in
       let H : Language = Head spaces limit xs in
-      let O : Language = Operator spaces limit r in
+      let O : Language = SpellsRelation spaces limit r in
       let Z : Language = Number limit z in
       takes_then M (Is (Go fresh)) (Ends xs r z) (Is (whole xs r z)) (H ⋅ O ⋅ S ⋅ Z ⋅ S) (Byte 59)
       (takes_then M (Is (Go fresh)) (Closed (Some r) xs z) (Ends xs r z) (H ⋅ O ⋅ S ⋅ Z) S
       (takes_then M (Is (Go fresh)) (Opens (Some r) xs) (Closed (Some r) xs z) (H ⋅ O ⋅ S) Z
-      (takes_then M (Is (Go fresh)) (Is (to xs (phase.TheVariants.Operator r))) (Opens (Some r) xs) (H ⋅ O) S
-      (takes_then M (Is (Go fresh)) (Follows xs) (Is (to xs (phase.TheVariants.Operator r))) H O (head-run xs) (operator-run xs r ok))
-      (after-operator xs r))
+      (takes_then M (Is (Go fresh)) (Is (to xs (phase.TheVariants.Relation r))) (Opens (Some r) xs) (H ⋅ O) S
+      (takes_then M (Is (Go fresh)) (Follows xs) (Is (to xs (phase.TheVariants.Relation r))) H O (head-run xs) (relation-run xs r ok))
+      (after-relation xs r))
       (number-run (Some r) xs z))
       (tail-run xs r z))
       (λ n t e h. semicolon-run n (whole xs r z) e t h)

@@ -26,8 +26,8 @@ use Rattle.std.specs.Prelude.{nat_le, Option, Some, None}
 use Rattle.pb_sums.specs.declared.linear.SumEvent as event
 use Rattle.pb_sums.specs.declared.phase.Phase as phase
 
--- What the plan for a phase and a kind says about the next state. The byte was a digit of a number if and only if the
--- state is in a number. The text has begun. If a name has begun, a literal is being read. Only `;` ends a text.
+-- What the transition of a phase at a kind says about the next state. The byte was a digit of a number if and only if
+-- the state is in a number. The text has begun. If a name has begun, a literal is being read. Only `;` ends a text.
 abbrev pub is_digit_kind : Kind → Bool
 is_digit_kind (Digit d) = true
 is_digit_kind _ = false
@@ -60,7 +60,7 @@ module _ (want : Part) (limit : ℕ) where
 
   after-sane : (ph : Phase) (k : Kind) → IsSane ph k (next_action want k)
   after-sane ph Greater = sane_test ph Greater (allows want AtLeast) (To phase.TheVariants.Greater) ((refl, refl), refl)
-  after-sane ph Equals = sane_test ph Equals (allows want Equal) (To (phase.TheVariants.Operator Equal)) ((refl, refl), refl)
+  after-sane ph Equals = sane_test ph Equals (allows want Equal) (To (phase.TheVariants.Relation Equal)) ((refl, refl), refl)
   after-sane ph Semicolon = sane_test ph Semicolon (reads_sums want) EndSum refl
   after-sane ph _ = tt
 
@@ -91,8 +91,8 @@ module _ (want : Part) (limit : ℕ) where
   transition-sane phase.TheVariants.Between (Digit d) = number-sane phase.TheVariants.Between None (Digit d)
   transition-sane phase.TheVariants.Between k = after-sane phase.TheVariants.Between k
   transition-sane phase.TheVariants.Greater Equals = ((refl, refl), refl)
-  transition-sane (phase.TheVariants.Operator r) Space = ((refl, refl), refl)
-  transition-sane (phase.TheVariants.Operator r) k = number-sane (phase.TheVariants.Operator r) (Some r) k
+  transition-sane (phase.TheVariants.Relation r) Space = ((refl, refl), refl)
+  transition-sane (phase.TheVariants.Relation r) k = number-sane (phase.TheVariants.Relation r) (Some r) k
   transition-sane (phase.TheVariants.Tail r z) Space = ((refl, refl), refl)
   transition-sane (phase.TheVariants.Tail r z) Semicolon = refl
   transition-sane phase.TheVariants.Empty Space = ((refl, refl), refl)
@@ -109,7 +109,7 @@ module _ (want : Part) (limit : ℕ) where
   digit-needs (phase.TheVariants.More z negated) d = inr refl
   digit-needs phase.TheVariants.Between d = inl refl
   digit-needs phase.TheVariants.Greater d = inr refl
-  digit-needs (phase.TheVariants.Operator r) d = inl refl
+  digit-needs (phase.TheVariants.Relation r) d = inl refl
   digit-needs (phase.TheVariants.Tail r z) d = inr refl
   digit-needs phase.TheVariants.Empty d = inr refl
   digit-needs phase.TheVariants.Done d = inr refl
@@ -124,7 +124,7 @@ module _ (want : Part) (limit : ℕ) where
   inner-needs (phase.TheVariants.More z negated) b = inl refl
   inner-needs phase.TheVariants.Between b = inr refl
   inner-needs phase.TheVariants.Greater b = inl refl
-  inner-needs (phase.TheVariants.Operator r) b = inr refl
+  inner-needs (phase.TheVariants.Relation r) b = inr refl
   inner-needs (phase.TheVariants.Tail r z) b = inl refl
   inner-needs phase.TheVariants.Empty b = inl refl
   inner-needs phase.TheVariants.Done b = inl refl
@@ -139,7 +139,7 @@ module _ (want : Part) (limit : ℕ) where
   other-stops (phase.TheVariants.More z negated) = refl
   other-stops phase.TheVariants.Between = refl
   other-stops phase.TheVariants.Greater = refl
-  other-stops (phase.TheVariants.Operator r) = refl
+  other-stops (phase.TheVariants.Relation r) = refl
   other-stops (phase.TheVariants.Tail r z) = refl
   other-stops phase.TheVariants.Empty = refl
   other-stops phase.TheVariants.Done = refl

@@ -1,4 +1,4 @@
--- A push does what the plan says.
+-- A push does what the transition says.
 use Rattle.std.proofs.Common.{◌≡◌, ℕ, ℤ, Bool, true, false, ◌||◌, ◌&&◌, List, [], ◌∷◌, ◌++◌, refl, sym, ap, subst, ◌∙◌}
 use Rattle.std.specs.Prelude.{IsTrue, if◌then◌else◌}
 use Rattle.pb_text.specs.contract.Automaton.{Go, End, Refuse, Admits, IsState, Pushes}
@@ -54,7 +54,7 @@ module _ (s : Spaces) (w : Part) (limit : ℕ) (xs : List Term) (name : List ℕ
     admits state b (over state (act (flushed p xs name) xs name m)) (moved e f g) (taken-acts state (flushed p xs name) xs name m t),
   )
 
-  -- what the plan does not allow is rejected
+  -- what the transition does not allow is rejected
   refuses-by : (d : Bool) → d ≡ (is_in_number p && is_digit b) → (answer : Push SumEvent) → answer ≡ (if d then push.Large else push.No)
       → n ≡ is_numeric p → k ≡ kind s (letter_at n b) → Stop ≡ transition w limit p k → Pushes sums state b answer state
   refuses-by true h answer a e f g = subst (λ (x : Push SumEvent). Pushes sums state b x state) (sym a) (ap (λ x. over state (act (flushed p xs name) xs name x)) (planned-stop e f g), sym h, refl)

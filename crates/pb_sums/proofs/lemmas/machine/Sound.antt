@@ -3,7 +3,7 @@ use Rattle.pb_sums.proofs.lemmas.machine.Prefixes.{IsCons, cons-append, Before, 
 use Rattle.pb_sums.proofs.lemmas.machine.LiteralPrefixes.{first-append, name-append, FirstOf, LiteralOf, name-bytes}
 use Rattle.pb_sums.proofs.lemmas.machine.LetterKinds.{on_letter, Means, kind-means}
 use Rattle.pb_sums.specs.engine.Machine.{Work, action, act, kind, term, digits, number, next_action, fresh, finished}
-use Rattle.pb_sums.specs.meaning.Sums.{is_space, Spaces0, Spaces1, SpellsSum, Head, Operator, Spells, reads_sums, allows}
+use Rattle.pb_sums.specs.meaning.Sums.{is_space, Spaces0, Spaces1, SpellsSum, Head, SpellsRelation, Spells, reads_sums, allows}
 use Rattle.pb_sums.specs.declared.phase.Kind.{Kind}
 use Rattle.pb_sums.specs.declared.phase.Kind.TheVariants.{Space, Digit, Start, Inner, Tilde, Plus, Minus, Greater, Equals, Semicolon}
 use Rattle.pb_sums.specs.declared.phase.Action.{Action}
@@ -36,14 +36,14 @@ module _ (spaces : Spaces) (want : Part) (limit : ℕ) where
   abbrev S1 : Language
   S1 = Spaces1 spaces limit
 
-  -- before a number: of a term, or after an operator
+  -- before a number: of a term, or after a relation
   abbrev Permits : Option Relation → Type 0
   Permits None = Unit {0}
   Permits (Some r) = IsTrue (allows want r)
 
   abbrev Lead : Option Relation → List Term → Language
   Lead None xs = Before spaces limit xs
-  Lead (Some r) xs = Head spaces limit xs ⋅ Operator spaces limit r ⋅ S0
+  Lead (Some r) xs = Head spaces limit xs ⋅ SpellsRelation spaces limit r ⋅ S0
 
   abbrev Weighted : ℤ → List Term → Language
   Weighted z xs = Before spaces limit xs ⋅ Number limit z ⋅ S1
@@ -59,8 +59,8 @@ module _ (spaces : Spaces) (want : Part) (limit : ℕ) where
   prefix (phase.TheVariants.More z negated) xs name = Weighted z xs ⋅ LiteralOf negated name
   prefix phase.TheVariants.Between xs name = λ t. IsCons xs × (SpellsSum spaces limit xs ⋅ S1) t
   prefix phase.TheVariants.Greater xs name = λ t. IsTrue (allows want AtLeast) × (Head spaces limit xs ⋅ Byte 62) t
-  prefix (phase.TheVariants.Operator r) xs name = λ t. IsTrue (allows want r) × (Head spaces limit xs ⋅ Operator spaces limit r ⋅ S0) t
-  prefix (phase.TheVariants.Tail r z) xs name = λ t. IsTrue (allows want r) × (Head spaces limit xs ⋅ Operator spaces limit r ⋅ S0 ⋅ Number limit z ⋅ S0) t
+  prefix (phase.TheVariants.Relation r) xs name = λ t. IsTrue (allows want r) × (Head spaces limit xs ⋅ SpellsRelation spaces limit r ⋅ S0) t
+  prefix (phase.TheVariants.Tail r z) xs name = λ t. IsTrue (allows want r) × (Head spaces limit xs ⋅ SpellsRelation spaces limit r ⋅ S0 ⋅ Number limit z ⋅ S0) t
   prefix phase.TheVariants.Empty xs name = λ t. (xs ≡ []) × IsTrue (reads_sums want) × S0 t
   prefix phase.TheVariants.Done xs name = λ t. ⊥
 
@@ -95,11 +95,11 @@ module _ (spaces : Spaces) (want : Part) (limit : ℕ) where
       on_test ys xs name (allows want AtLeast) (To phase.TheVariants.Greater) (p ++ c ∷ [])
       (λ e. (e, next (Head spaces limit ys) (Byte 62) p c h (ap (λ x. x ∷ []) m)))
   after-sound ys xs name Equals c p m h i =
-      on_test ys xs name (allows want Equal) (To (phase.TheVariants.Operator Equal)) (p ++ c ∷ [])
+      on_test ys xs name (allows want Equal) (To (phase.TheVariants.Relation Equal)) (p ++ c ∷ [])
       (λ e. (
         e,
-        none_yet (Head spaces limit ys ⋅ Operator spaces limit Equal) S0 (p ++ c ∷ []) ([], tt, refl)
-            (next (Head spaces limit ys) (Operator spaces limit Equal) p c h (ap (λ x. x ∷ []) m)),
+        none_yet (Head spaces limit ys ⋅ SpellsRelation spaces limit Equal) S0 (p ++ c ∷ []) ([], tt, refl)
+            (next (Head spaces limit ys) (SpellsRelation spaces limit Equal) p c h (ap (λ x. x ∷ []) m)),
       ))
   after-sound ys xs name Semicolon c p m h i =
       on_test ys xs name (reads_sums want) EndSum (p ++ c ∷ [])
@@ -218,11 +218,11 @@ module _ (spaces : Spaces) (want : Part) (limit : ℕ) where
       after-sound xs xs name k c p m (head-of xs p h.0 (between-sum xs p h.1)) (between-sum xs p h.1)
   sound phase.TheVariants.Greater xs name Equals c p m h = (
     h.0,
-    s0-none (Head spaces limit xs ⋅ Operator spaces limit AtLeast) (p ++ c ∷ [])
-        (grown (Head spaces limit xs) (Byte 62) (Operator spaces limit AtLeast) p c (λ q r. ap (λ x. x ++ c ∷ []) r ∙ ap (λ y. unmarked 62 ∷ y ∷ []) m) h.1),
+    s0-none (Head spaces limit xs ⋅ SpellsRelation spaces limit AtLeast) (p ++ c ∷ [])
+        (grown (Head spaces limit xs) (Byte 62) (SpellsRelation spaces limit AtLeast) p c (λ q r. ap (λ x. x ++ c ∷ []) r ∙ ap (λ y. unmarked 62 ∷ y ∷ []) m) h.1),
   )
-  sound (phase.TheVariants.Operator r) xs name Space c p m h = (h.0, s0-grown (Head spaces limit xs ⋅ Operator spaces limit r) c p m h.1)
-  sound (phase.TheVariants.Operator r) xs name k c p m h = number-sound (Some r) xs xs name k c p m h.0 h.1
+  sound (phase.TheVariants.Relation r) xs name Space c p m h = (h.0, s0-grown (Head spaces limit xs ⋅ SpellsRelation spaces limit r) c p m h.1)
+  sound (phase.TheVariants.Relation r) xs name k c p m h = number-sound (Some r) xs xs name k c p m h.0 h.1
   sound (phase.TheVariants.Tail r z) xs name Space c p m h = (h.0, s0-grown (Lead (Some r) xs ⋅ Number limit z) c p m h.1)
   sound (phase.TheVariants.Tail r z) xs name Semicolon c p m h =
       (h.0, next (Lead (Some r) xs ⋅ Number limit z ⋅ S0) (Byte 59) p c h.1 (ap (λ x. x ∷ []) m))

@@ -71,13 +71,13 @@ module _ (spaces : Spaces) (want : Part) (limit : ℕ) where
   alive-degree : (xs : List Term) (r : Relation) (negative : Bool) (n : ℕ) → Alive (to xs (phase.TheVariants.Digits (Some r) negative n))
   alive-degree xs r negative n = (unmarked 59 ∷ [], event.TheVariants.Linear (record { terms = xs; relation = r; degree = signed negative n }), refl)
 
-  alive-operator : (xs : List Term) (r : Relation) → Alive (to xs (phase.TheVariants.Operator r))
-  alive-operator xs r =
-      before (to xs (phase.TheVariants.Operator r)) (to xs (phase.TheVariants.Digits (Some r) false 0)) (digit 0 ∷ [])
+  alive-relation : (xs : List Term) (r : Relation) → Alive (to xs (phase.TheVariants.Relation r))
+  alive-relation xs r =
+      before (to xs (phase.TheVariants.Relation r)) (to xs (phase.TheVariants.Digits (Some r) false 0)) (digit 0 ∷ [])
       (zero_fits xs [] (Some r) false) (alive-degree xs r false 0)
 
   alive-greater : (xs : List Term) → Alive (to xs phase.TheVariants.Greater)
-  alive-greater xs = before (to xs phase.TheVariants.Greater) (to xs (phase.TheVariants.Operator AtLeast)) (unmarked 61 ∷ []) refl (alive-operator xs AtLeast)
+  alive-greater xs = before (to xs phase.TheVariants.Greater) (to xs (phase.TheVariants.Relation AtLeast)) (unmarked 61 ∷ []) refl (alive-relation xs AtLeast)
 
   -- what may follow terms can be completed
   alive-after : (xs : List Term) (n : N) (w : Part) (zs : List Term) (name : List ℕ) → go n (unmarked 59 ∷ []) ≡ act xs zs name (next_action w Semicolon) → go n (unmarked 62 ∷ []) ≡ act xs zs name (next_action w Greater) → Alive n
@@ -111,9 +111,9 @@ module _ (spaces : Spaces) (want : Part) (limit : ℕ) where
   alive (phase.TheVariants.More z negated) xs name h = alive-more xs name z negated
   alive phase.TheVariants.Between xs name h = alive-after xs (at_name xs phase.TheVariants.Between name) want xs name refl refl
   alive phase.TheVariants.Greater xs name h =
-      before (at_name xs phase.TheVariants.Greater name) (to xs (phase.TheVariants.Operator AtLeast)) (unmarked 61 ∷ []) refl (alive-operator xs AtLeast)
-  alive (phase.TheVariants.Operator r) xs name h =
-      before (at_name xs (phase.TheVariants.Operator r) name) (to xs (phase.TheVariants.Digits (Some r) false 0)) (digit 0 ∷ [])
+      before (at_name xs phase.TheVariants.Greater name) (to xs (phase.TheVariants.Relation AtLeast)) (unmarked 61 ∷ []) refl (alive-relation xs AtLeast)
+  alive (phase.TheVariants.Relation r) xs name h =
+      before (at_name xs (phase.TheVariants.Relation r) name) (to xs (phase.TheVariants.Digits (Some r) false 0)) (digit 0 ∷ [])
       (zero_fits xs name (Some r) false) (alive-degree xs r false 0)
   alive (phase.TheVariants.Tail r z) xs name h = (unmarked 59 ∷ [], event.TheVariants.Linear (record { terms = xs; relation = r; degree = z }), refl)
   alive phase.TheVariants.Empty xs name h = (unmarked 59 ∷ [], event.TheVariants.Sum xs, refl)

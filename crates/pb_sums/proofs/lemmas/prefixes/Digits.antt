@@ -72,25 +72,25 @@ module _ (spaces : Spaces) (part : Part) (limit : ℕ) (xs : List Term) where
   abbrev begins_unread : Phase → Bool
   begins_unread phase.TheVariants.Start = true
   begins_unread phase.TheVariants.Between = true
-  begins_unread (phase.TheVariants.Operator r) = true
+  begins_unread (phase.TheVariants.Relation r) = true
   begins_unread _ = false
 
   begins : (p : Phase) → begins_unread p ≡ true → Begins p (role p) false 0
   begins phase.TheVariants.Start e = record { numeric = refl; same = refl; on_digit = λ d. refl }
   begins phase.TheVariants.Between e = record { numeric = refl; same = refl; on_digit = λ d. refl }
-  begins (phase.TheVariants.Operator r) e = record { numeric = refl; same = refl; on_digit = λ d. refl }
+  begins (phase.TheVariants.Relation r) e = record { numeric = refl; same = refl; on_digit = λ d. refl }
   begins _ e = cc e
 
   on-plus : (p : Phase) → begins_unread p ≡ true → transition part limit p Plus ≡ To (phase.TheVariants.Signed (role p) false)
   on-plus phase.TheVariants.Start e = refl
   on-plus phase.TheVariants.Between e = refl
-  on-plus (phase.TheVariants.Operator r) e = refl
+  on-plus (phase.TheVariants.Relation r) e = refl
   on-plus _ e = cc e
 
   on-minus : (p : Phase) → begins_unread p ≡ true → transition part limit p Minus ≡ To (phase.TheVariants.Signed (role p) true)
   on-minus phase.TheVariants.Start e = refl
   on-minus phase.TheVariants.Between e = refl
-  on-minus (phase.TheVariants.Operator r) e = refl
+  on-minus (phase.TheVariants.Relation r) e = refl
   on-minus _ e = cc e
 
   sign-on : (p : Phase) (negative : Bool) (b : ℕ) (k : Kind) → begins_unread p ≡ true → k ≡ kind spaces (letter_at true b) → transition part limit p k ≡ To (phase.TheVariants.Signed (role p) negative)
@@ -125,7 +125,7 @@ module _ (spaces : Spaces) (part : Part) (limit : ℕ) (xs : List Term) where
       rw (s.0, s.1) (number-run (phase.TheVariants.Signed r read) r read digits (record { numeric = refl; same = refl; on_digit = λ d. refl }) h k l)
   digits-after phase.TheVariants.Start negative text i digits e s h k l = signed-run phase.TheVariants.Start negative (take i text) digits refl s.0 h k l
   digits-after phase.TheVariants.Between negative text i digits e s h k l = signed-run phase.TheVariants.Between negative (take i text) digits refl s.0 h k l
-  digits-after (phase.TheVariants.Operator r) negative text i digits e s h k l = signed-run (phase.TheVariants.Operator r) negative (take i text) digits refl s.0 h k l
+  digits-after (phase.TheVariants.Relation r) negative text i digits e s h k l = signed-run (phase.TheVariants.Relation r) negative (take i text) digits refl s.0 h k l
   digits-after _ negative text i digits e s h k l = cc e
 
 -- a number, if one may begin, or its digits

@@ -10,7 +10,7 @@ use Rattle.pb_text.proofs.lemmas.machine.Running.{runs_on}
 use Rattle.pb_sums.specs.engine.Prefix.{HasSign, begins_number, begins_relation, role, sign_read, after_name, after_number, text_after}
 use Rattle.pb_sums.specs.engine.State.{SumState, sums}
 use Rattle.pb_sums.specs.engine.TermParts.{begins_term, IsTilde, standing, IsSpacedNumber, IsLiteral}
-use Rattle.pb_sums.specs.contract.Canonical.{operator_bytes}
+use Rattle.pb_sums.specs.contract.Canonical.{relation_bytes}
 use Rattle.pb_sums.specs.meaning.Sums.{allows}
 use Rattle.pb_sums.specs.declared.linear.Literal.{Literal}
 use Rattle.pb_sums.specs.declared.linear.Relation.{Relation}
@@ -111,32 +111,32 @@ term_runs spaces part limit xs ys old new p text i j z l b e f prefix literal wi
 
 -- a relation
 pub relation_runs : (spaces : Spaces) (part : Part) (limit : ℕ) (xs : List Term) (name : List ℕ) (p : Phase) (text : List ℕ) (r : Relation)
-    → begins_relation p ≡ true → name ≡ [] → allows part r ≡ true → text ≡ operator_bytes r
-    → Runs sums (standing spaces part limit xs name p) text (standing spaces part limit xs name (phase.TheVariants.Operator r))
+    → begins_relation p ≡ true → name ≡ [] → allows part r ≡ true → text ≡ relation_bytes r
+    → Runs sums (standing spaces part limit xs name p) text (standing spaces part limit xs name (phase.TheVariants.Relation r))
 relation_runs spaces part limit xs name phase.TheVariants.Between text AtLeast b n h e = rw (n, e) (
   standing spaces part limit xs [] phase.TheVariants.Greater,
   rw h refl,
   midway_state spaces part limit xs [] phase.TheVariants.Greater tt refl,
   (
-    standing spaces part limit xs [] (phase.TheVariants.Operator AtLeast),
+    standing spaces part limit xs [] (phase.TheVariants.Relation AtLeast),
     refl,
-    midway_state spaces part limit xs [] (phase.TheVariants.Operator AtLeast) tt refl,
+    midway_state spaces part limit xs [] (phase.TheVariants.Relation AtLeast) tt refl,
     refl,
   ),
 )
 relation_runs spaces part limit xs name phase.TheVariants.Between text Equal b n h e = rw (n, e) (
-  standing spaces part limit xs [] (phase.TheVariants.Operator Equal),
+  standing spaces part limit xs [] (phase.TheVariants.Relation Equal),
   rw h refl,
-  midway_state spaces part limit xs [] (phase.TheVariants.Operator Equal) tt refl,
+  midway_state spaces part limit xs [] (phase.TheVariants.Relation Equal) tt refl,
   refl,
 )
 relation_runs spaces part limit xs name _ text r b n h e = cc b
 
 -- a relation and a space
 pub spaced_relation_runs : (spaces : Spaces) (part : Part) (limit : ℕ) (xs : List Term) (name : List ℕ) (p : Phase) (text : List ℕ) (i : ℕ) (r : Relation)
-    → begins_relation p ≡ true → name ≡ [] → allows part r ≡ true → take i text ≡ operator_bytes r → i < length text → get_or text i 0 ≡ 32
-    → Runs sums (standing spaces part limit xs name p) (take (i + 1) text) (standing spaces part limit xs name (phase.TheVariants.Operator r))
+    → begins_relation p ≡ true → name ≡ [] → allows part r ≡ true → take i text ≡ relation_bytes r → i < length text → get_or text i 0 ≡ 32
+    → Runs sums (standing spaces part limit xs name p) (take (i + 1) text) (standing spaces part limit xs name (phase.TheVariants.Relation r))
 spaced_relation_runs spaces part limit xs name p text i r b n h e l s =
-    let next : SumState = standing spaces part limit xs name (phase.TheVariants.Operator r) in
+    let next : SumState = standing spaces part limit xs name (phase.TheVariants.Relation r) in
     runs_on sums (standing spaces part limit xs name p) text i next next l (relation_runs spaces part limit xs name p (take i text) r b n h e)
-    (rw (n, s) refl) (midway_state spaces part limit xs name (phase.TheVariants.Operator r) tt refl)
+    (rw (n, s) refl) (midway_state spaces part limit xs name (phase.TheVariants.Relation r) tt refl)

@@ -7,8 +7,8 @@ use Rattle.pb_text.specs.meaning.Numbers.{Number}
 use Rattle.pb_text.specs.meaning.Spelling.{Letter, digits_of, bytes}
 use Rattle.pb_text.proofs.lemmas.text.Languages.{bytes-append, bytes-plain, bytes-digits}
 use Rattle.pb_text.proofs.lemmas.numbers.Numbers.{decimal-digits}
-use Rattle.pb_sums.specs.meaning.Sums.{literal_bytes, Spaces0, Spaces1, SpellsTerm, SpellsFurther, SpellsSum, Head, Operator, SpellsLinear}
-use Rattle.pb_sums.specs.contract.Canonical.{space, degree_text, weight_text, literal_text, term_text, further_text, sum_text, head_text, operator_text, linear_text, IsTerm, AreTerms, IsLinear, weight_bytes, term_bytes, further_bytes, sum_bytes, head_bytes, operator_bytes, linear_bytes}
+use Rattle.pb_sums.specs.meaning.Sums.{literal_bytes, Spaces0, Spaces1, SpellsTerm, SpellsFurther, SpellsSum, Head, SpellsRelation, SpellsLinear}
+use Rattle.pb_sums.specs.contract.Canonical.{space, degree_text, weight_text, literal_text, term_text, further_text, sum_text, head_text, relation_text, linear_text, IsTerm, AreTerms, IsLinear, weight_bytes, term_bytes, further_bytes, sum_bytes, head_bytes, relation_bytes, linear_bytes}
 use Rattle.pb_sums.specs.declared.linear.Term.{Term}
 use Rattle.pb_sums.specs.declared.linear.Relation.{Relation}
 use Rattle.pb_sums.specs.declared.linear.Relation.TheVariants.{AtLeast, Equal}
@@ -48,14 +48,14 @@ module _ (limit : ℕ) (small : limit < 10 ^ 64) where
     head-spelled [] h = refl
     head-spelled (x ∷ xs) h = (sum_text (x ∷ xs), space, refl, sum-spelled (x ∷ xs) h, space0)
 
-    operator-spelled : (r : Relation) → Operator spaces limit r (operator_text r)
-    operator-spelled AtLeast = refl
-    operator-spelled Equal = refl
+    relation-spelled : (r : Relation) → SpellsRelation spaces limit r (relation_text r)
+    relation-spelled AtLeast = refl
+    relation-spelled Equal = refl
 
     pub linear-spelled : (c : Linear) → IsLinear limit c → SpellsLinear spaces limit c (linear_text c)
     linear-spelled c h =
         let H : List Letter = head_text c.terms in
-        let O : List Letter = operator_text c.relation in
+        let O : List Letter = relation_text c.relation in
         let D : List Letter = degree_text c.degree in (
           H ++ O ++ space ++ D ++ space,
           unmarked 59 ∷ [],
@@ -68,7 +68,7 @@ module _ (limit : ℕ) (small : limit < 10 ^ 64) where
               H ++ O ++ space,
               D,
               refl,
-              (H ++ O, space, refl, (H, O, refl, head-spelled c.terms h.0, operator-spelled c.relation), space0),
+              (H ++ O, space, refl, (H, O, refl, head-spelled c.terms h.0, relation-spelled c.relation), space0),
               degree c.degree h.1,
             ),
             space0,
@@ -117,7 +117,7 @@ regrouped h o s d u e = simp append_assoc
 pub bytes-linear : (c : Linear) → bytes (linear_text c) ≡ linear_bytes c
 bytes-linear c =
     let H : List Letter = head_text c.terms in
-    let O : List Letter = operator_text c.relation in
+    let O : List Letter = relation_text c.relation in
     let D : List Letter = degree_text c.degree in
     let E : List Letter = unmarked 32 ∷ unmarked 59 ∷ [] in
     ap bytes (regrouped H O space D space (unmarked 59 ∷ []))
@@ -125,5 +125,5 @@ bytes-linear c =
     ∙ (ap (λ y. y ++ bytes (O ++ (unmarked 32 ∷ (D ++ E)))) (bytes-head c.terms)
     ∙ ap (λ y. head_bytes c.terms ++ y)
     (bytes-append O (unmarked 32 ∷ (D ++ E))
-    ∙ (ap (λ y. y ++ (32 ∷ bytes (D ++ E))) (bytes-plain (operator_bytes c.relation))
-    ∙ ap (λ y. operator_bytes c.relation ++ (32 ∷ y)) (bytes-append D E ∙ ap (λ y. y ++ (32 ∷ 59 ∷ [])) (bytes-degree c.degree))))))
+    ∙ (ap (λ y. y ++ (32 ∷ bytes (D ++ E))) (bytes-plain (relation_bytes c.relation))
+    ∙ ap (λ y. relation_bytes c.relation ++ (32 ∷ y)) (bytes-append D E ∙ ap (λ y. y ++ (32 ∷ 59 ∷ [])) (bytes-degree c.degree))))))

@@ -5,7 +5,7 @@ use Rattle.pb_text.specs.meaning.Numbers.{Number}
 use Rattle.pb_text.specs.meaning.Spelling.{Letter}
 use Rattle.pb_text.proofs.lemmas.text.Languages.{each_side}
 use Rattle.pb_text.proofs.lemmas.numbers.Numbers.{number-within}
-use Rattle.pb_sums.specs.meaning.Sums.{Spaces0, Spaces1, SpellsLiteral, SpellsTerm, SpellsFurther, SpellsSum, Head, Operator, SpellsLinear, Spells}
+use Rattle.pb_sums.specs.meaning.Sums.{Spaces0, Spaces1, SpellsLiteral, SpellsTerm, SpellsFurther, SpellsSum, Head, SpellsRelation, SpellsLinear, Spells}
 use Rattle.pb_sums.specs.declared.linear.Term.{Term}
 use Rattle.pb_sums.specs.declared.linear.Linear.{Linear}
 use Rattle.pb_sums.specs.declared.linear.SumEvent.{SumEvent}
@@ -52,7 +52,7 @@ module _ (spaces : Spaces) (small large : ℕ) (h : small ≤ large) where
   linear-grows : (c : Linear) → Grows (λ n. SpellsLinear spaces n c)
   linear-grows c =
       let H : ℕ → Language = λ n. Head spaces n c.terms in
-      let O : ℕ → Language = λ n. Operator spaces n c.relation in
+      let O : ℕ → Language = λ n. SpellsRelation spaces n c.relation in
       let S : ℕ → Language = λ n. Spaces0 spaces n in
       let N : ℕ → Language = λ n. Number n c.degree in
       grows_then (λ n. H n ⋅ O n ⋅ S n ⋅ N n ⋅ S n) (λ n. Byte 59)

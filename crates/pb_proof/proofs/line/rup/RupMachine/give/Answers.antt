@@ -1,7 +1,7 @@
 use Rattle.std.proofs.Common.{◌≡◌, ◌∙◌, ap, sym, subst, true, false, IsTrue}
 use Rattle.pb_text.specs.contract.Automaton.{Refuse, Admits, is_large}
 use Rattle.pb_sums.specs.engine.State.{SumState}
-use Rattle.pb_proof.specs.engine.Line.Rup.{RupState, rup_automaton, rup_plan, IsRupInOrder}
+use Rattle.pb_proof.specs.engine.Line.Rup.{RupState, rup_automaton, rup_transition, IsRupInOrder}
 use Rattle.pb_proof.specs.contracts.line.rup.RupMachine.{the_view}
 use Rattle.pb_proof.specs.declared.line.rup.phase.RupPhase.TheVariants.{Tail}
 use Rattle.pb_proof.specs.declared.line.rup.phase.RupAction.TheVariants.{Give}
@@ -12,7 +12,7 @@ use Rattle.pb_proof.proofs.line.rup.RupMachine.give.Goals as goal
 pub invariant_of-self : goal.invariant_of-self
 invariant_of-self c =
     let s : RupState = the_view c.self.inside in
-    let planned : rup_plan s.phase c.args.byte ≡ Give = subst (λ (x : RupState). rup_plan x.phase c.args.byte ≡ Give) (sym c.self.view_is) c.requires in
+    let planned : rup_transition s.phase c.args.byte ≡ Give = subst (λ (x : RupState). rup_transition x.phase c.args.byte ≡ Give) (sym c.self.view_is) c.requires in
     give_order s c.self.invariant c.args.byte c.push.new.self planned c.in-Go.ensures.pushes c.in-Go.ensures.state
 
 pub invariant_of-self-in-Event : goal.invariant_of-self-in-Event
@@ -27,7 +27,7 @@ same_view s inner e = ap (λ (i : SumState). let t : RupState = record s { sums 
 pub returns-in-Large : goal.returns-in-Large
 returns-in-Large c =
     let s : RupState = the_view c.self.inside in
-    let planned : rup_plan s.phase c.args.byte ≡ Give = subst (λ (x : RupState). rup_plan x.phase c.args.byte ≡ Give) (sym c.self.view_is) c.requires in
+    let planned : rup_transition s.phase c.args.byte ≡ Give = subst (λ (x : RupState). rup_transition x.phase c.args.byte ≡ Give) (sym c.self.view_is) c.requires in
     let p = c.in-Large.ensures.pushes in
     let k = give_refused s c.self.invariant c.args.byte planned p.0 in
     subst (λ (x : RupState). (rup_automaton.step x c.args.byte ≡ Refuse) × (is_large rup_automaton x c.args.byte ≡ true) × (record s { sums = c.push.new.self } ≡ x)) c.self.view_is (k.0, k.1 ∙ p.1, same_view s c.push.new.self p.2)
@@ -35,7 +35,7 @@ returns-in-Large c =
 pub returns-in-No : goal.returns-in-No
 returns-in-No c =
     let s : RupState = the_view c.self.inside in
-    let planned : rup_plan s.phase c.args.byte ≡ Give = subst (λ (x : RupState). rup_plan x.phase c.args.byte ≡ Give) (sym c.self.view_is) c.requires in
+    let planned : rup_transition s.phase c.args.byte ≡ Give = subst (λ (x : RupState). rup_transition x.phase c.args.byte ≡ Give) (sym c.self.view_is) c.requires in
     let p = c.in-No.ensures.pushes in
     let k = give_refused s c.self.invariant c.args.byte planned p.0 in
     subst (λ (x : RupState). (rup_automaton.step x c.args.byte ≡ Refuse) × (is_large rup_automaton x c.args.byte ≡ false) × (record s { sums = c.push.new.self } ≡ x)) c.self.view_is (k.0, k.1 ∙ p.1, same_view s c.push.new.self p.2)
@@ -43,7 +43,7 @@ returns-in-No c =
 pub returns-in-Memory : goal.returns-in-Memory
 returns-in-Memory c =
     let s : RupState = the_view c.self.inside in
-    let planned : rup_plan s.phase c.args.byte ≡ Give = subst (λ (x : RupState). rup_plan x.phase c.args.byte ≡ Give) (sym c.self.view_is) c.requires in
+    let planned : rup_transition s.phase c.args.byte ≡ Give = subst (λ (x : RupState). rup_transition x.phase c.args.byte ≡ Give) (sym c.self.view_is) c.requires in
     let p = c.in-Memory.ensures.pushes in
     let k = give_admits s c.self.invariant c.args.byte planned p.0 p.1 in
     subst (λ (x : RupState). IsTrue (rup_automaton.asks x c.args.byte) × Admits rup_automaton x c.args.byte × (record s { sums = c.push.new.self } ≡ x)) c.self.view_is (k.0, k.1, same_view s c.push.new.self p.2)
