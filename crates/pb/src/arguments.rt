@@ -1,12 +1,13 @@
 //! The arguments of the command line, and what is answered if they give no job.
 
 ghost use Rattle.std.specs.Prelude.{IfOk};
-ghost use Rattle.pb_tool.specs.contract.Words.{HasRanges};
+ghost use Rattle.pb_words.specs.Words.{HasRanges};
 
 use crate::answers::{USAGE, answer_fault, answer_memory};
 use crate::until::UntilFault;
 use clap::error::ErrorKind;
-use pb_tool::{Job, ToolFault, WordsFault, read_words};
+use pb_tool::ToolFault;
+use pb_words::{Job, WordsFault, read_words};
 use std::alloc::Global;
 use std::env::FillError;
 use std::io::{self, Write};

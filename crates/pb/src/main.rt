@@ -1,7 +1,7 @@
 //! The command `pb`: its arguments, its files and its exit status.
 #![tactic(auto)]
 
-ghost use Rattle.pb_tool.specs.contract.Words.{HasRanges};
+ghost use Rattle.pb_words.specs.Words.{HasRanges};
 
 mod answers;
 mod arguments;
@@ -23,7 +23,8 @@ use crate::origin::is_standard;
 use crate::texts::{show_over, tidy_over};
 use crate::tracing::trace_over;
 use crate::watching::Asked;
-use pb_tool::{Input, Job, ToolFault, limits_of};
+use pb_tool::{Input, ToolFault, limits_of};
+use pb_words::Job;
 use std::io::{self, IsTerminal, Write};
 use std::process::ExitCode;
 use std::random::RandomSource;

@@ -5,7 +5,7 @@ use crate::name::lines_of;
 use crate::page::{Done, Page, answered, page, report_count, report_either};
 use clap::error::ErrorKind;
 use pb_text::write_bytes;
-use pb_tool::{Job, WordsFault, read_words};
+use pb_words::{Job, WordsFault, read_words};
 use std::alloc::Global;
 
 /// Reads the lines of the input as the words of a command line. Reports the job that they ask for, or else the kind of

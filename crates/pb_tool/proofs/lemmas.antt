@@ -2,4 +2,3 @@ pub mod check
 pub mod show
 pub mod file
 pub mod tidy
-pub mod words

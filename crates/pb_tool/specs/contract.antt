@@ -12,4 +12,3 @@ pub mod Seen
 pub mod Show
 pub mod Stays
 pub mod Watched
-pub mod Words

@@ -7,7 +7,6 @@ mod fault;
 mod file;
 pub mod laws;
 mod limits;
-mod words;
 
 pub use commands::check::checker::{CheckFault, Checker};
 pub use commands::check::watch::{Unwatched, Watch};
@@ -16,4 +15,3 @@ pub use commands::show::show;
 pub use commands::tidy::{tidy, tidy_with_hasher};
 pub use fault::{Input, ToolFault, status, write_fault};
 pub use limits::limits_of;
-pub use words::{Job, WordsFault, read_words};

@@ -1,7 +1,0 @@
-use Rattle.pb_tool.proofs.words.options.show.Goals as goal
-
-pub returns-clause-app : goal.returns-clause-app
-returns-clause-app c = c.reader.ensures.app
-
-pub returns-clause-local : goal.returns-clause-local
-returns-clause-local c = c.reader.ensures.local

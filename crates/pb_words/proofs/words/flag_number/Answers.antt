@@ -1,0 +1,19 @@
+use Rattle.std.proofs.Common.{◌∙◌}
+use Rattle.clap.specs.Words.{found_of}
+use Rattle.clap.proofs.WalkLemmas.{first_value-rows}
+use Rattle.pb_words.proofs.lemmas.Entries.{absent, given, outside}
+use Rattle.pb_words.proofs.words.flag_number.Goals as goal
+
+pub returns-in_default-clause-ok : goal.returns-in_default-clause-ok
+returns-in_default-clause-ok c = absent c.args.low c.args.high _ (c.in_default.ensures ∙ first_value-rows (found_of c.args.given.now) c.args.flag.now)
+
+pub returns-in-Some-number_within-clause-ok : goal.returns-in-Some-number_within-clause-ok
+returns-in-Some-number_within-clause-ok c =
+    given c.args.low c.args.high c.in-Some-number_within.number c.in-Some.text.now _ (c.in-Some.ensures ∙ first_value-rows (found_of c.args.given.now) c.args.flag.now)
+    c.in-Some-number_within.ensures.0 c.in-Some-number_within.ensures.1
+
+pub returns-clause-err : goal.returns-clause-err
+returns-clause-err c = (
+  c.in_ok-error.ensures,
+  outside c.args.low c.args.high c.in-Some.text.now _ (c.in-Some.ensures ∙ first_value-rows (found_of c.args.given.now) c.args.flag.now) c.in_default-number_within.ensures,
+)

@@ -1,0 +1,18 @@
+use Rattle.std.proofs.Common.{◌≡◌, ◌∙◌, ap, false}
+use Rattle.clap.specs.Words.{AddsSubcommand, App, app_of, with_subcommand}
+use Rattle.clap.specs.declared.builder.Command.TheViews.{out-Command as fields_of}
+use Rattle.clap.specs.declared.builder.command.Command.{Command}
+use Rattle.pb_words.specs.Words.{check_command, pb_program, show_command, tidy_command, trace_command}
+use Rattle.pb_words.proofs.words.options.command.Goals as goal
+
+added : (old sub new : Command) (above below : App) → AddsSubcommand old sub new → app_of old ≡ above → app_of sub ≡ below → (fields_of sub).has_globals ≡ false
+    → app_of new ≡ with_subcommand above below.top
+added old sub new above below adds is sub_is local =
+    adds.shape local ∙ (ap (λ (a : App). with_subcommand a (app_of sub).top) is ∙ ap (λ (a : App). with_subcommand above a.top) sub_is)
+
+pub returns-clause-ok : goal.returns-clause-ok
+returns-clause-ok c =
+    let one = added _ _ _ pb_program show_command c.in_ok-subcommand.ensures c.program.ensures.app c.in_ok-show.ensures.app c.in_ok-show.ensures.local in
+    let two = added _ _ _ _ tidy_command c.in_ok-subcommand-2.ensures one c.in_ok-tidy.ensures.app c.in_ok-tidy.ensures.local in
+    let three = added _ _ _ _ check_command c.in_ok-subcommand-3.ensures two c.in_ok-check.ensures.app c.in_ok-check.ensures.local in
+    added _ _ _ _ trace_command c.in_ok-command.ensures three c.in_ok-trace.ensures.app c.in_ok-trace.ensures.local

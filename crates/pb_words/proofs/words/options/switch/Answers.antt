@@ -1,0 +1,17 @@
+use Rattle.std.proofs.Common.{◌∙◌, Some, ap}
+use Rattle.clap.specs.Walk.{Rule}
+use Rattle.clap.specs.Words.{rule_of}
+use Rattle.clap.specs.declared.builder.action.ArgAction.TheVariants.{SetTrue}
+use Rattle.clap.specs.declared.builder.arg.Arg.{Arg}
+use Rattle.pb_words.proofs.words.options.switch.Goals as goal
+
+pub returns-clause-rule : goal.returns-clause-rule
+returns-clause-rule c =
+    ap rule_of c.help.ensures
+    ∙ (ap rule_of c.action.ensures
+    ∙ (ap (λ (a : Arg). rule_of (record a { action = Some SetTrue })) c.long.ensures ∙ ap (λ (r : Rule). record r { long = Some c.args.name.now; action = Some SetTrue }) c.new.ensures.rule))
+
+pub returns-clause-local : goal.returns-clause-local
+returns-clause-local c =
+    ap (λ (a : Arg). a.global) c.help.ensures
+    ∙ (ap (λ (a : Arg). a.global) c.action.ensures ∙ (ap (λ (a : Arg). a.global) c.long.ensures ∙ c.new.ensures.optional.1))
