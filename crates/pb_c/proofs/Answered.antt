@@ -4,9 +4,7 @@ use Rattle.pb_text.specs.contract.OverState.{inner_of, shown_of}
 use Rattle.pb_text.specs.contract.Over.{reported}
 use Rattle.pb_text.specs.declared.Limits.{Limits}
 use Rattle.pb_text.specs.declared.over.Over.{Over}
-use Rattle.pb_replay.specs.declared.verdict.Verdict.{Verdict}
 use Rattle.pb_tool.specs.meaning.Files.{ShowsFile, TidiesFile}
-use Rattle.pb_tool.specs.meaning.Verified.{ChecksFiles}
 use Rattle.pb_tool.specs.declared.fault.ToolFault.{ToolFault}
 use Rattle.pb_c.specs.Answers.{empty, faults, written}
 use Rattle.pb_c.specs.declared.page.Page.{Page}
@@ -16,14 +14,6 @@ pub whole : (o : Over (Bor (List ℕ))) (s : Bor (List ℕ)) → inner_of o ≡ 
 whole o s is none = ap (λ (x : Option ℕ). reported (Some o.inner.now) None x) none ∙ ap (λ (x : Bor (List ℕ)). Some x.now) is
 
 module _ (limits : Limits) (longest : ℕ) where
-  pub of_check : (i : List ℕ) (p left right : Option (List ℕ)) (old new : Page) (answer : Result Verdict ToolFault) (i' p' : Option (List ℕ))
-      → left ≡ Some i → right ≡ p → old ≡ empty → ChecksFiles limits longest written faults left right old answer i' p' new
-      → ChecksFiles limits longest written faults (Some i) p empty answer i' p' new
-  of_check i p left right old new answer i' p' one other bare h =
-      subst (λ (x : Option (List ℕ)). ChecksFiles limits longest written faults x p empty answer i' p' new) one
-      (subst (λ (x : Option (List ℕ)). ChecksFiles limits longest written faults left x empty answer i' p' new) other
-      (subst (λ (x : Page). ChecksFiles limits longest written faults left right x answer i' p' new) bare h))
-
   pub of_tidy : (normal : Bool) (input : List ℕ) (before : Option (List ℕ)) (old new : Page) (answer : Result Unit ToolFault) (after : Option (List ℕ))
       → before ≡ Some input → old ≡ empty → TidiesFile limits longest written faults normal before old answer after new
       → TidiesFile limits longest written faults normal (Some input) empty answer after new

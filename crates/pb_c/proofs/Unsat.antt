@@ -1,6 +1,7 @@
 -- What a line says holds for the instance.
 use Rattle.std.proofs.Common.{◌≡◌, ◌⊎◌, ◌∙◌, ◌^◌, ℕ, List, codes, length, Option, Some, Result, Ok, Err, sym, ap, subst, inl, inr, arith, length-append}
 use Rattle.std.specs.Prelude.{unwrap_or}
+use Rattle.pb_text.specs.meaning.Writing.{Wrote}
 use Rattle.pb_text.specs.declared.Limits.{Limits}
 use Rattle.pb_text.specs.declared.place.Why.{Why}
 use Rattle.pb_text.specs.declared.place.Why.TheVariants as why
@@ -14,7 +15,7 @@ use Rattle.pb_tool.specs.contract.Faults.{exit_status, stop_status}
 use Rattle.pb_tool.specs.contract.Refusals.{refusal_status}
 use Rattle.pb_tool.specs.meaning.Headline.{IsUnsatisfiable, VerdictsAreTrue}
 use Rattle.pb_tool.specs.meaning.Tidy.{IsInstanceFile}
-use Rattle.pb_tool.specs.meaning.Verified.{ChecksFiles, verdict_line}
+use Rattle.pb_tool.specs.meaning.Verified.{CheckCall, Returns, verdict_line}
 use Rattle.pb_tool.specs.declared.fault.ToolFault.{ToolFault}
 use Rattle.pb_tool.specs.declared.fault.ToolFault.TheVariants.{Text, Open, Overflow, Memory, Write, Step}
 use Rattle.pb_c.specs.Answers.{AnswersCheck, IsTextOf, empty, faults, status_of, written}
@@ -58,25 +59,29 @@ no_fault (Step place e name) h = of_step e h
     of_step step.IdsSpent k = omega (arith, k)
     of_step step.Order k = omega (arith, k)
 
+-- what was written to an empty page is all that is on it
+written_alone : (old new : Page) (w : Verdict) → old ≡ empty → Wrote written faults old (verdict_line w) new → new.text ≡ verdict_line w
+written_alone old new w bare wrote = (subst (λ (x : Page). Wrote written faults x (verdict_line w) new) bare wrote).appends
+
 module _ (law : VerdictsAreTrue) (limits : Limits) (longest : ℕ) where
   -- with status 0, the text is the line of a verdict that holds for the instance
-  of_answer : (i : List ℕ) (p : Option (List ℕ)) (text old new : List ℕ) (status whole : ℕ) (page : Page) (answer : Result Verdict ToolFault) (i' p' : Option (List ℕ))
-      → ChecksFiles limits longest written faults (Some i) p empty answer i' p' page → IsTextOf answer page.text text → status ≡ status_of answer → Puts text old new whole → status ≡ 0
+  of_answer : (i text old new : List ℕ) (status whole : ℕ) (c : CheckCall (Option (List ℕ)) Page) (result : Result Verdict ToolFault)
+      → c.instance ≡ Some i → c.out ≡ empty → Returns limits longest written faults c result → IsTextOf result c.out_after.text text → status ≡ status_of result → Puts text old new whole → status ≡ 0
       → (after : Option (List ℕ)) × (v : Instance) × IsInstanceFile limits longest (Some i) after v × (w : Verdict) × Puts (verdict_line w) old new whole × MeansWritten v w
-  of_answer i p text old new status whole page (Ok w) i' p' (v, file, q, proof, verified, wrote) line ended put zero = (
-    i',
+  of_answer i text old new status whole c (Ok w) one bare (v, file, q, proof, verified, wrote) line ended put zero = (
+    c.instance_after,
     v,
-    file,
+    subst (λ (x : Option (List ℕ)). IsInstanceFile limits longest x c.instance_after v) one file,
     w,
-    subst (λ (t : List ℕ). Puts t old new whole) (line ∙ wrote.appends) put,
-    law limits longest v q w p p' proof verified,
+    subst (λ (t : List ℕ). Puts t old new whole) (line ∙ written_alone c.out c.out_after w bare wrote) put,
+    law limits longest v q w c.proof c.proof_after proof verified,
   )
-  of_answer i p text old new status whole page (Err e) i' p' checks line ended put zero = absurd (no_fault e (sym ended ∙ zero))
+  of_answer i text old new status whole c (Err e) one bare checks line ended put zero = absurd (no_fault e (sym ended ∙ zero))
 
 pub shows_truth : VerdictsAreTrue → (o : Options) (i p old new : List ℕ) (status whole : ℕ) → AnswersCheck o i p old status new whole → ShowsTruth o i old status new whole
 shows_truth law o i p old new status whole (text, put, inl (wrong, line, two)) zero = absurd (omega (arith, two, zero))
 shows_truth law o i p old new status whole (text, put, inr (limits, longest, asked, a)) zero =
-    let (after, v, file, w, reported, true) = of_answer law limits (unwrap_or longest (2 ^ 40)) i (Some p) text old new status whole a.page a.answer a.instance_left a.proof_left a.checks a.line_is a.status_is put zero in
+    let (after, v, file, w, reported, true) = of_answer law limits (unwrap_or longest (2 ^ 40)) i text old new status whole a.call a.call.result a.texts.0 a.begins_empty a.checks a.line_is a.status_is put zero in
     (limits, longest, asked, after, v, file, w, reported, true)
 
 -- the line of UNSAT differs from the others in its length

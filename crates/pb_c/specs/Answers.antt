@@ -1,10 +1,10 @@
 -- What a call returns, in terms of what the tool returns for the same texts.
 use Rattle.std.specs.Prelude.{◌≡◌, ◌⊎◌, ◌^◌, ℕ, List, [], codes, Bool, Option, Some, Result, Ok, Err, unwrap_or}
 use Rattle.pb_text.specs.declared.Limits.{Limits}
-use Rattle.pb_replay.specs.declared.verdict.Verdict.{Verdict}
 use Rattle.pb_tool.specs.contract.Faults.{exit_status, fault_line}
+use Rattle.pb_tool.specs.meaning.Decided.{IsOfTexts}
 use Rattle.pb_tool.specs.meaning.Files.{ShowsFile, TidiesFile}
-use Rattle.pb_tool.specs.meaning.Verified.{ChecksFiles}
+use Rattle.pb_tool.specs.meaning.Verified.{CheckCall, ChecksFiles}
 use Rattle.pb_tool.specs.declared.fault.ToolFault.{ToolFault}
 use Rattle.pb_c.specs.Options.{AreWrong, IsAsked}
 use Rattle.pb_c.specs.Buffer.{IsPrefixOf, Puts}
@@ -39,13 +39,12 @@ IsWholeOf (Err e) page text = IsPrefixOf page (fault_line e) text
 module _ (limits : Limits) (longest : ℕ) where
   -- `check` has this result for the two texts, and this is its line and its status.
   pub record AnswerOfCheck (i p line : List ℕ) (status : ℕ) : Type 0 where
-    pub answer : Result Verdict ToolFault
-    pub instance_left : Option (List ℕ)
-    pub proof_left : Option (List ℕ)
-    pub page : Page
-    pub checks : ChecksFiles limits longest written faults (Some i) (Some p) empty answer instance_left proof_left page
-    pub line_is : IsTextOf answer page.text line
-    pub status_is : status ≡ status_of answer
+    pub call : CheckCall (Option (List ℕ)) Page
+    pub texts : IsOfTexts i p call
+    pub begins_empty : call.out ≡ empty
+    pub checks : ChecksFiles limits longest written faults call
+    pub line_is : IsTextOf call.result call.out_after.text line
+    pub status_is : status ≡ status_of call.result
 
   -- `tidy` has this result for the text.
   pub record AnswerOfTidy (normal : Bool) (input text : List ℕ) (status : ℕ) : Type 0 where

@@ -7,9 +7,8 @@ use Rattle.pb_opb.specs.contract.Canonical.{event_bytes}
 use Rattle.pb_proof.specs.meaning.Canonical.{statement_bytes}
 use Rattle.pb_tool.specs.meaning.Files.{AsksInProofText, IsProofText, TidiesProof}
 use Rattle.pb_tool.specs.contract.Show.{ShowsLines}
-use Rattle.pb_replay.specs.declared.verdict.Verdict.{Verdict}
 use Rattle.pb_tool.specs.meaning.Tidy.{AsksInInstanceText, IsInstanceText, Tidies}
-use Rattle.pb_tool.specs.meaning.Verified.{ChecksFiles}
+use Rattle.pb_tool.specs.meaning.Verified.{CheckCall, ChecksFiles}
 use Rattle.pb_tool.specs.declared.fault.ToolFault.{ToolFault}
 
 module _ (limits : Limits) (longest : ℕ) {W : Type 0} (contents : W → Option (List ℕ)) (faults : W → ℕ) where
@@ -28,6 +27,14 @@ module _ (limits : Limits) (longest : ℕ) {W : Type 0} (contents : W → Option
       ⊎ OfGiven (λ left rest. ShowsLines (IsInstanceText limits) longest (AsksInInstanceText limits) event_bytes contents faults left old result rest new) before after
 
   -- The same for `pb check`: for the bytes that the calls gave of the instance, and those of the proof.
-  abbrev pub ChecksGiven : List ℕ → List ℕ → W → Result Verdict ToolFault → List ℕ → List ℕ → W → Type 0
-  ChecksGiven i p old result i' p' new =
-      OfGiven (λ one one'. OfGiven (λ other other'. ChecksFiles limits longest contents faults one other old result one' other' new) p p') i i'
+  abbrev pub ChecksGiven : CheckCall (List ℕ) W → Type 0
+  ChecksGiven c =
+      OfGiven (λ instance instance_after. OfGiven (λ proof proof_after. ChecksFiles limits longest contents faults record {
+        instance = instance;
+        proof = proof;
+        out = c.out;
+        result = c.result;
+        instance_after = instance_after;
+        proof_after = proof_after;
+        out_after = c.out_after;
+      }) c.proof c.proof_after) c.instance c.instance_after

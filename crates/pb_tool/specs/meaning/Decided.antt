@@ -10,7 +10,7 @@ use Rattle.pb_replay.specs.declared.fault.Fault.TheVariants.{Memory as no_memory
 use Rattle.pb_replay.specs.declared.verdict.Verdict.{Verdict}
 use Rattle.pb_tool.specs.meaning.Files.{IsProofFile}
 use Rattle.pb_tool.specs.meaning.Tidy.{IsInstanceFile}
-use Rattle.pb_tool.specs.meaning.Verified.{ChecksFiles, IsVerified}
+use Rattle.pb_tool.specs.meaning.Verified.{CheckCall, ChecksFiles, IsVerified}
 use Rattle.pb_tool.specs.declared.fault.ToolFault.{ToolFault}
 use Rattle.pb_tool.specs.declared.fault.ToolFault.TheVariants.{Text, Open, Overflow, Memory, Write, Step}
 
@@ -53,16 +53,20 @@ module _ (limits : Limits) (longest : ℕ) where
     pub second : IsProofFile limits longest (Some p) (Some []) proof
     pub verified : IsVerified limits instance proof w
 
+-- the two sources are these texts
+abbrev pub IsOfTexts : {W : Type 0} → List ℕ → List ℕ → CheckCall (Option (List ℕ)) W → Type 0
+IsOfTexts i p c = (c.instance ≡ Some i) × (c.proof ≡ Some p)
+
 module _ {W : Type 0} (contents : W → Option (List ℕ)) (faults : W → ℕ) where
   -- If the bytes decide the result, a check returns a verdict if and only if the bytes are verified with it.
   abbrev pub AnswersExactly : Type 0
-  AnswersExactly = (limits : Limits) (longest : ℕ) (i p : List ℕ) (i' p' : Option (List ℕ)) (old new : W) (result : Result Verdict ToolFault) (w : Verdict) →
-      ChecksFiles limits longest contents faults (Some i) (Some p) old result i' p' new → IsDecided result →
-      (result ≡ Ok w) ↔ AreVerified limits longest i p w
+  AnswersExactly = (limits : Limits) (longest : ℕ) (i p : List ℕ) (c : CheckCall (Option (List ℕ)) W) (w : Verdict) →
+      IsOfTexts i p c → ChecksFiles limits longest contents faults c → IsDecided c.result →
+      (c.result ≡ Ok w) ↔ AreVerified limits longest i p w
 
   -- Two checks of the same bytes have the same result, if the bytes decide both results.
   abbrev pub OneAnswer : Type 0
-  OneAnswer = (limits : Limits) (longest : ℕ) (i p : List ℕ) (i' p' i'' p'' : Option (List ℕ)) (old new old' new' : W) (one other : Result Verdict ToolFault) →
-      ChecksFiles limits longest contents faults (Some i) (Some p) old one i' p' new → IsDecided one →
-      ChecksFiles limits longest contents faults (Some i) (Some p) old' other i'' p'' new' → IsDecided other →
-      IsSame one other
+  OneAnswer = (limits : Limits) (longest : ℕ) (i p : List ℕ) (one other : CheckCall (Option (List ℕ)) W) →
+      IsOfTexts i p one → ChecksFiles limits longest contents faults one → IsDecided one.result →
+      IsOfTexts i p other → ChecksFiles limits longest contents faults other → IsDecided other.result →
+      IsSame one.result other.result

@@ -1,5 +1,5 @@
 -- What an accepted check means.
-use Rattle.std.specs.Prelude.{◌≡◌, ◌↔◌, ℕ, ◌-◌, ◌^◌, List, [], Bool, Option, Some, Result, Ok}
+use Rattle.std.specs.Prelude.{◌≡◌, ◌↔◌, ℕ, ◌-◌, ◌^◌, List, [], Bool, Option, Some, Ok}
 use Rattle.pb_text.specs.meaning.Limits.{bits_of, top_of}
 use Rattle.pb_text.specs.meaning.Reading.{byte_limit}
 use Rattle.pb_text.specs.declared.Limits.{Limits}
@@ -9,11 +9,10 @@ use Rattle.pb_replay.specs.meaning.Problem.{Solves}
 use Rattle.pb_replay.specs.meaning.Meaning.{MeansWritten}
 use Rattle.pb_replay.specs.declared.verdict.Verdict.{Verdict}
 use Rattle.pb_replay.specs.declared.verdict.Verdict.TheVariants.{Unsat}
-use Rattle.pb_tool.specs.meaning.Decided.{AreVerified, IsDecided}
+use Rattle.pb_tool.specs.meaning.Decided.{AreVerified, IsDecided, IsOfTexts}
 use Rattle.pb_tool.specs.meaning.Files.{IsProofFile}
 use Rattle.pb_tool.specs.meaning.Tidy.{IsInstanceFile}
-use Rattle.pb_tool.specs.meaning.Verified.{ChecksFiles, IsVerified}
-use Rattle.pb_tool.specs.declared.fault.ToolFault.{ToolFault}
+use Rattle.pb_tool.specs.meaning.Verified.{CheckCall, ChecksFiles, IsVerified}
 
 -- What a proof that was read shows of an instance is true of the instance as it is written.
 abbrev pub VerdictsAreTrue : Type 0
@@ -44,14 +43,14 @@ IsUnsatText text = (limits : Limits) × AreWidest limits × UnsatOf limits byte_
 
 -- If a check of two sources returns that UNSAT is verified, the first was an instance, and no assignment solves it.
 abbrev pub UnsatIsTrue : {W : Type 0} → (W → Option (List ℕ)) → (W → ℕ) → Type 0
-UnsatIsTrue {W} contents faults = (limits : Limits) (longest : ℕ) (i p i' p' : Option (List ℕ)) (old new : W) →
-    ChecksFiles limits longest contents faults i p old (Ok Unsat) i' p' new →
-    UnsatOf limits longest i i'
+UnsatIsTrue {W} contents faults = (limits : Limits) (longest : ℕ) (c : CheckCall (Option (List ℕ)) W) →
+    ChecksFiles limits longest contents faults c → c.result ≡ Ok Unsat →
+    UnsatOf limits longest c.instance c.instance_after
 
 -- The headline, for I/O and allocation that succeed. A check of two texts verifies UNSAT if and only if they are an
 -- instance and a proof of UNSAT that the rules accept. Then no assignment solves that instance.
 abbrev pub UnsatIsExact : {W : Type 0} → (W → Option (List ℕ)) → (W → ℕ) → Type 0
-UnsatIsExact {W} contents faults = (limits : Limits) (longest : ℕ) (i p : List ℕ) (i' p' : Option (List ℕ)) (old new : W) (result : Result Verdict ToolFault) →
-    ChecksFiles limits longest contents faults (Some i) (Some p) old result i' p' new → IsDecided result →
-    ((result ≡ Ok Unsat) ↔ AreVerified limits longest i p Unsat)
+UnsatIsExact {W} contents faults = (limits : Limits) (longest : ℕ) (i p : List ℕ) (c : CheckCall (Option (List ℕ)) W) →
+    IsOfTexts i p c → ChecksFiles limits longest contents faults c → IsDecided c.result →
+    ((c.result ≡ Ok Unsat) ↔ AreVerified limits longest i p Unsat)
     × ((texts : AreVerified limits longest i p Unsat) → IsUnsatisfiable texts.instance)

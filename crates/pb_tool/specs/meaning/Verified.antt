@@ -40,6 +40,17 @@ abbrev pub IsReported : List (List ℕ) → Fault → List ℕ → Type 0
 IsReported names (NotTotal n) name = name ≡ get_or names n []
 IsReported names _ name = name ≡ []
 
+-- A call of `check`: the result, and what stood in the two sources and on the output before and after. `S` says what is
+-- known of a source: the bytes that are left in it, if these are known, or the bytes that its calls have given.
+pub record CheckCall (S W : Type 0) : Type 0 where
+  pub instance : S
+  pub proof : S
+  pub out : W
+  pub result : Result Verdict ToolFault
+  pub instance_after : S
+  pub proof_after : S
+  pub out_after : W
+
 module _ (limits : Limits) where
   -- The instance opens, and the statements of the proof are accepted with this verdict.
   pub record IsVerified (i : Instance) (p : Proof) (w : Verdict) : Type 0 where
@@ -80,30 +91,46 @@ module _ (limits : Limits) where
       InProof : (last : State) (a : IsAccepted after s.place false (Some s) last) → IsAsking (AsksInProofText limits) a.took.used a.took.seen s.why → IsRefusedText after s
       AfterProof : (mid : Option (List ℕ)) (place : Place) (last : State) (w : Verdict) → IsAccepted mid place true None last → last.concluded ≡ Some w → ReadsBlank place mid (Err s) after → IsRefusedText after s
 
-  module _ (longest : ℕ) {W : Type 0} (contents : W → Option (List ℕ)) (faults : W → ℕ) where
-    -- What was read of the two sources, one after the other, and what was written. Nothing is written before both were
-    -- accepted. Each case says which tests were passed before the fault.
-    abbrev pub ChecksFiles : Option (List ℕ) → Option (List ℕ) → W → Result Verdict ToolFault → Option (List ℕ) → Option (List ℕ) → W → Type 0
-    ChecksFiles i p old (Ok w) i' p' new =
-        (v : Instance) × IsInstanceFile limits longest i i' v × (q : Proof) × IsProofFile limits longest p p' q
-        × IsVerified v q w × Wrote contents faults old (verdict_line w) new
-    ChecksFiles i p old (Err (Text of_instance s)) i' p' new = IsNoInstanceFile limits longest i i' s × (p' ≡ p) × (new ≡ old)
-    ChecksFiles i p old (Err (Overflow of_instance)) i' p' new =
-        (v : Instance) × IsInstanceFile limits longest i i' v × Opened (largest limits) v (Err over) × (p' ≡ p) × (new ≡ old)
-    ChecksFiles i p old (Err (Memory of_instance)) i' p' new =
-        (v : Instance) × IsInstanceFile limits longest i i' v × FitsAll (largest limits) v × (p' ≡ p) × (new ≡ old)
-    ChecksFiles i p old (Err (Step place e name)) i' p' new =
-        (v : Instance) × IsInstanceFile limits longest i i' v × (problem : Problem) × Opened (largest limits) v (Ok problem)
-        × IsRefusedStep longest problem (first_state problem) p p' place e (string_bytes name) × (new ≡ old)
-    ChecksFiles i p old (Err (Text of_proof s)) i' p' new =
-        (v : Instance) × IsInstanceFile limits longest i i' v × (problem : Problem) × Opened (largest limits) v (Ok problem)
-        × IsRefusedText longest problem (first_state problem) p p' s × (new ≡ old)
-    ChecksFiles i p old (Err Write) i' p' new =
-        (v : Instance) × IsInstanceFile limits longest i i' v × (q : Proof) × IsProofFile limits longest p p' q
-        × (w : Verdict) × IsVerified v q w × Broke contents faults old (verdict_line w) new
-    ChecksFiles i p old (Err (Text File s)) i' p' new = ⊥
-    ChecksFiles i p old (Err (Overflow File)) i' p' new = ⊥
-    ChecksFiles i p old (Err (Overflow of_proof)) i' p' new = ⊥
-    ChecksFiles i p old (Err (Memory File)) i' p' new = ⊥
-    ChecksFiles i p old (Err (Memory of_proof)) i' p' new = ⊥
-    ChecksFiles i p old (Err (Open input)) i' p' new = ⊥
+  module _ (longest : ℕ) {W : Type 0} (contents : W → Option (List ℕ)) (faults : W → ℕ) (c : CheckCall (Option (List ℕ)) W) where
+    -- the instance that was read
+    abbrev pub HasInstance : Instance → Type 0
+    HasInstance = IsInstanceFile limits longest c.instance c.instance_after
+
+    -- the proof that was read
+    abbrev pub HasProof : Proof → Type 0
+    HasProof = IsProofFile limits longest c.proof c.proof_after
+
+    -- nothing was written
+    abbrev pub WritesNothing : Type 0
+    WritesNothing = c.out_after ≡ c.out
+
+    -- nothing was read of the proof, and nothing was written
+    abbrev pub LeavesProof : Type 0
+    LeavesProof = (c.proof_after ≡ c.proof) × WritesNothing
+
+    -- What each result says: what was read and written, and which tests were passed before a fault.
+    abbrev pub Returns : Result Verdict ToolFault → Type 0
+    Returns (Ok w) =
+        (v : Instance) × HasInstance v × (q : Proof) × HasProof q × IsVerified v q w × Wrote contents faults c.out (verdict_line w) c.out_after
+    Returns (Err (Text of_instance s)) = IsNoInstanceFile limits longest c.instance c.instance_after s × LeavesProof
+    Returns (Err (Overflow of_instance)) = (v : Instance) × HasInstance v × Opened (largest limits) v (Err over) × LeavesProof
+    Returns (Err (Memory of_instance)) = (v : Instance) × HasInstance v × FitsAll (largest limits) v × LeavesProof
+    Returns (Err (Step place e name)) =
+        (v : Instance) × HasInstance v × (problem : Problem) × Opened (largest limits) v (Ok problem)
+        × IsRefusedStep longest problem (first_state problem) c.proof c.proof_after place e (string_bytes name) × WritesNothing
+    Returns (Err (Text of_proof s)) =
+        (v : Instance) × HasInstance v × (problem : Problem) × Opened (largest limits) v (Ok problem)
+        × IsRefusedText longest problem (first_state problem) c.proof c.proof_after s × WritesNothing
+    Returns (Err Write) =
+        (v : Instance) × HasInstance v × (q : Proof) × HasProof q
+        × (w : Verdict) × IsVerified v q w × Broke contents faults c.out (verdict_line w) c.out_after
+    Returns (Err (Text File s)) = ⊥
+    Returns (Err (Overflow File)) = ⊥
+    Returns (Err (Overflow of_proof)) = ⊥
+    Returns (Err (Memory File)) = ⊥
+    Returns (Err (Memory of_proof)) = ⊥
+    Returns (Err (Open input)) = ⊥
+
+    -- The two sources were read one after the other. Nothing is written before both were accepted.
+    abbrev pub ChecksFiles : Type 0
+    ChecksFiles = Returns c.result

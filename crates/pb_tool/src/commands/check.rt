@@ -43,11 +43,25 @@ pub fn check<I: Source, P: Source, W: Sink>(
     limits: Limits,
 ) -> Result<Verdict, ToolFault>
     requires { IfSome longest (λ n. 0 < n) }
-    ensures checks { ChecksFiles limits (unwrap_or longest (2 ^ 40)) W.contents W.faults (I.left instance.old) (P.left proof.old) out.old
-        result (I.left instance.new) (P.left proof.new) out.new }
+    ensures checks { ChecksFiles limits (unwrap_or longest (2 ^ 40)) W.contents W.faults record {
+      instance = I.left instance.old;
+      proof = P.left proof.old;
+      out = out.old;
+      result = result;
+      instance_after = I.left instance.new;
+      proof_after = P.left proof.new;
+      out_after = out.new;
+    } }
     // For any sources, files included: the result is right for the bytes that their calls have given.
-    ensures given { ChecksGiven limits (unwrap_or longest (2 ^ 40)) W.contents W.faults (I.history instance.old) (P.history proof.old) out.old
-        result (I.history instance.new) (P.history proof.new) out.new }
+    ensures given { ChecksGiven limits (unwrap_or longest (2 ^ 40)) W.contents W.faults record {
+      instance = I.history instance.old;
+      proof = P.history proof.old;
+      out = out.old;
+      result = result;
+      instance_after = I.history instance.new;
+      proof_after = P.history proof.new;
+      out_after = out.new;
+    } }
     // What a verdict says is true of the instance that was read. For UNSAT, no assignment solves that instance.
     ensures unsat { result ≡ Ok Verdict.Unsat → UnsatOf limits (unwrap_or longest (2 ^ 40)) (I.left instance.old) (I.left instance.new) }
     ensures true_verdict { IfOk result (λ w. TrueOf limits (unwrap_or longest (2 ^ 40)) w (I.left instance.old) (I.left instance.new)) }
@@ -82,11 +96,25 @@ pub fn check_with_hasher<I: Source, P: Source, W: Sink>(
     limits: Limits,
 ) -> Result<Verdict, ToolFault>
     requires { IfSome longest (λ n. 0 < n) }
-    ensures checks { ChecksFiles limits (unwrap_or longest (2 ^ 40)) W.contents W.faults (I.left instance.old) (P.left proof.old) out.old
-        result (I.left instance.new) (P.left proof.new) out.new }
+    ensures checks { ChecksFiles limits (unwrap_or longest (2 ^ 40)) W.contents W.faults record {
+      instance = I.left instance.old;
+      proof = P.left proof.old;
+      out = out.old;
+      result = result;
+      instance_after = I.left instance.new;
+      proof_after = P.left proof.new;
+      out_after = out.new;
+    } }
     // For any sources, files included: the result is right for the bytes that their calls have given.
-    ensures given { ChecksGiven limits (unwrap_or longest (2 ^ 40)) W.contents W.faults (I.history instance.old) (P.history proof.old) out.old
-        result (I.history instance.new) (P.history proof.new) out.new }
+    ensures given { ChecksGiven limits (unwrap_or longest (2 ^ 40)) W.contents W.faults record {
+      instance = I.history instance.old;
+      proof = P.history proof.old;
+      out = out.old;
+      result = result;
+      instance_after = I.history instance.new;
+      proof_after = P.history proof.new;
+      out_after = out.new;
+    } }
     // What a verdict says is true of the instance that was read. For UNSAT, no assignment solves that instance.
     ensures unsat { result ≡ Ok Verdict.Unsat → UnsatOf limits (unwrap_or longest (2 ^ 40)) (I.left instance.old) (I.left instance.new) }
     ensures true_verdict { IfOk result (λ w. TrueOf limits (unwrap_or longest (2 ^ 40)) w (I.left instance.old) (I.left instance.new)) }
@@ -123,11 +151,25 @@ pub fn check_watched<I: Source, P: Source, W: Sink, V: Watch>(
     limits: Limits,
 ) -> Result<Verdict, ToolFault>
     requires { IfSome longest (λ n. 0 < n) }
-    ensures checks { ChecksFiles limits (unwrap_or longest (2 ^ 40)) W.contents W.faults (I.left instance.old) (P.left proof.old) out.old
-        result (I.left instance.new) (P.left proof.new) out.new }
+    ensures checks { ChecksFiles limits (unwrap_or longest (2 ^ 40)) W.contents W.faults record {
+      instance = I.left instance.old;
+      proof = P.left proof.old;
+      out = out.old;
+      result = result;
+      instance_after = I.left instance.new;
+      proof_after = P.left proof.new;
+      out_after = out.new;
+    } }
     // For any sources, files included: the result is right for the bytes that their calls have given.
-    ensures given { ChecksGiven limits (unwrap_or longest (2 ^ 40)) W.contents W.faults (I.history instance.old) (P.history proof.old) out.old
-        result (I.history instance.new) (P.history proof.new) out.new }
+    ensures given { ChecksGiven limits (unwrap_or longest (2 ^ 40)) W.contents W.faults record {
+      instance = I.history instance.old;
+      proof = P.history proof.old;
+      out = out.old;
+      result = result;
+      instance_after = I.history instance.new;
+      proof_after = P.history proof.new;
+      out_after = out.new;
+    } }
     // What a verdict says is true of the instance that was read. For UNSAT, no assignment solves that instance.
     ensures unsat { result ≡ Ok Verdict.Unsat → UnsatOf limits (unwrap_or longest (2 ^ 40)) (I.left instance.old) (I.left instance.new) }
     ensures true_verdict { IfOk result (λ w. TrueOf limits (unwrap_or longest (2 ^ 40)) w (I.left instance.old) (I.left instance.new)) }

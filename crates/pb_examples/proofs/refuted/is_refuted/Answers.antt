@@ -1,4 +1,4 @@
-use Rattle.std.proofs.Common.{◌≡◌, ◌∙◌, ◌↔◌, None, Result, ℕ, List, Option, Some, Ok, Bor, Bool, IsTrue, ap, subst}
+use Rattle.std.proofs.Common.{◌≡◌, ◌∙◌, ◌↔◌, None, Result, ℕ, List, Option, Some, Ok, Bor, Bool, IsTrue, refl, sym, ap, subst}
 use Rattle.pb_text.specs.contract.OverState.{inner_of, shown_of}
 use Rattle.pb_text.specs.contract.Over.{reported}
 use Rattle.pb_text.specs.meaning.Reading.{byte_limit}
@@ -6,10 +6,10 @@ use Rattle.pb_text.specs.declared.Limits.{Limits}
 use Rattle.pb_text.specs.declared.over.Over.{Over}
 use Rattle.pb_replay.specs.declared.verdict.Verdict.{Verdict}
 use Rattle.pb_replay.specs.declared.verdict.Verdict.TheVariants.{Unsat}
-use Rattle.pb_tool.specs.meaning.Decided.{AreVerified}
+use Rattle.pb_tool.specs.meaning.Decided.{AreVerified, IsDecided, IsOfTexts}
 use Rattle.pb_tool.specs.meaning.Headline.{AreWidest, IsUnsatText, UnsatIsExact, UnsatOf}
 use Rattle.pb_tool.specs.meaning.Tidy.{IsInstanceFile}
-use Rattle.pb_tool.specs.meaning.Verified.{ChecksFiles}
+use Rattle.pb_tool.specs.meaning.Verified.{CheckCall, ChecksFiles}
 use Rattle.pb_tool.specs.declared.fault.ToolFault.{ToolFault}
 use Rattle.pb_examples.proofs.refuted.is_refuted.Goals as goal
 use Rattle.pb_examples.proofs.refuted.is_refuted.Goals.{in-Unsat, in_default}
@@ -32,14 +32,12 @@ returns-clause-unsat c e =
 same : {w v : Verdict} → ◌≡◌ {A = Result Verdict ToolFault} (Ok w) (Ok v) → w ≡ v
 same e = cc
 
-answered : {W : Type 0} (contents : W → Option (List ℕ)) (faults : W → ℕ) → UnsatIsExact contents faults → (limits : Limits) (i p : List ℕ) (left right i' p' : Option (List ℕ)) (old new : W) (w : Verdict)
-    → left ≡ Some i → right ≡ Some p → ChecksFiles limits byte_limit contents faults left right old (Ok w) i' p' new
+answered : {W : Type 0} (contents : W → Option (List ℕ)) (faults : W → ℕ) → UnsatIsExact contents faults → (limits : Limits) (i p : List ℕ) (c : CheckCall (Option (List ℕ)) W) (w : Verdict)
+    → c.result ≡ Ok w → IsOfTexts i p c → ChecksFiles limits byte_limit contents faults c
     → (answer : Bool) → IsTrue answer ↔ (w ≡ Unsat) → IsTrue answer ↔ AreVerified limits byte_limit i p Unsat
-answered contents faults exact limits i p left right i' p' old new w one other checks answer is =
-    let first = subst (λ (x : Option (List ℕ)). ChecksFiles limits byte_limit contents faults x right old (Ok w) i' p' new) one checks in
-    let second = subst (λ (x : Option (List ℕ)). ChecksFiles limits byte_limit contents faults (Some i) x old (Ok w) i' p' new) other first in
-    let (accepted, _) = exact limits byte_limit i p i' p' old new (Ok w) second tt in
-    (λ yes. accepted.0 (ap Ok (is.0 yes)), λ v. is.1 (same (accepted.1 v)))
+answered contents faults exact limits i p c w ok texts checks answer is =
+    let (accepted, _) = exact limits byte_limit i p c texts checks (subst IsDecided (sym ok) tt) in
+    (λ yes. accepted.0 (ok ∙ ap Ok (is.0 yes)), λ v. is.1 (same (sym ok ∙ accepted.1 v)))
 
 -- the text of a source over a slice is the slice
 whole : (o : Over (Bor (List ℕ))) (s : Bor (List ℕ)) → inner_of o ≡ s → shown_of o ≡ None → reported (Some o.inner.now) None o.shown ≡ Some s.now
@@ -56,7 +54,10 @@ pub returns-clause-exact : goal.returns-clause-exact
 returns-clause-exact c = (
   c.full-limits.result,
   (c.full-limits.ensures.bits, c.full-limits.ensures.top),
-  answered _ _ c.unsat_is_exact.ensures c.full-limits.result c.args.instance.now c.args.proof.now _ _ _ _ c.new-out.result c.check.new.out c.in_ok-verdict.verdict
-      (whole c.new-instance.result c.args.instance c.new-instance.ensures.inner c.new-instance.ensures.shown) (whole c.new-proof.result c.args.proof c.new-proof.ensures.inner c.new-proof.ensures.shown)
+  answered _ _ c.unsat_is_exact.ensures c.full-limits.result c.args.instance.now c.args.proof.now
+      (record { instance = _; proof = _; out = c.new-out.result; result = Ok c.in_ok-verdict.verdict; instance_after = _; proof_after = _; out_after = c.check.new.out }) c.in_ok-verdict.verdict refl (
+        whole c.new-instance.result c.args.instance c.new-instance.ensures.inner c.new-instance.ensures.shown,
+        whole c.new-proof.result c.args.proof c.new-proof.ensures.inner c.new-proof.ensures.shown,
+      )
       c.in_ok-verdict.ensures.checks c.match-matches.matches (whether c),
 )

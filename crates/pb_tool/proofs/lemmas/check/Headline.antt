@@ -17,7 +17,7 @@ use Rattle.pb_replay.specs.declared.verdict.Verdict.{Verdict}
 use Rattle.pb_replay.specs.declared.verdict.Verdict.TheVariants.{Unsat}
 use Rattle.pb_tool.specs.contract.Given.{ChecksGiven}
 use Rattle.pb_tool.specs.meaning.Headline.{TrueOf, UnsatIsTrue, UnsatOf, VerdictsAreTrue}
-use Rattle.pb_tool.specs.meaning.Verified.{ChecksFiles}
+use Rattle.pb_tool.specs.meaning.Verified.{CheckCall, ChecksFiles, Returns}
 
 module _ (values : StatementValues) (limit top : ℕ) where
   abbrev IsSpelled : Item Statement → Type 0
@@ -36,17 +36,21 @@ verdicts means values limits longest i p w before after file verified =
     verified.accepted verified.claimed
 
 pub unsat : {W : Type 0} (contents : W → Option (List ℕ)) (faults : W → ℕ) → VerdictsMean → StatementValues → UnsatIsTrue contents faults
-unsat contents faults means values limits longest i p i' p' old new (v, file, q, proof, verified, wrote) =
-    (v, file, verdicts means values limits longest v q Unsat p p' proof verified)
+unsat contents faults means values limits longest c checks is =
+    let (v, file, q, proof, verified, wrote) = subst (Returns limits longest contents faults c) is checks in
+    (v, file, verdicts means values limits longest v q Unsat c.proof c.proof_after proof verified)
 
 -- ---- what a check that returns a verdict says of the instance that it has read
 
 module _ (true : VerdictsAreTrue) {W : Type 0} (contents : W → Option (List ℕ)) (faults : W → ℕ) (limits : Limits) (longest : ℕ) (old new : W) (w : Verdict) where
-  pub verdict_is_true : (i p i' p' : Option (List ℕ)) → ChecksFiles limits longest contents faults i p old (Ok w) i' p' new → TrueOf limits longest w i i'
+  abbrev pub call : {S : Type 0} → S → S → S → S → CheckCall S W
+  call i p i' p' = record { instance = i; proof = p; out = old; result = Ok w; instance_after = i'; proof_after = p'; out_after = new }
+
+  pub verdict_is_true : (i p i' p' : Option (List ℕ)) → ChecksFiles limits longest contents faults (call i p i' p') → TrueOf limits longest w i i'
   verdict_is_true i p i' p' (v, file, q, proof, verified, wrote) = (v, file, true limits longest v q w p p' proof verified)
 
   -- the same for the bytes that its calls gave
-  pub given_is_true : (i p i' p' : List ℕ) → ChecksGiven limits longest contents faults i p old (Ok w) i' p' new → OfGiven (TrueOf limits longest w) i i'
+  pub given_is_true : (i p i' p' : List ℕ) → ChecksGiven limits longest contents faults (call i p i' p') → OfGiven (TrueOf limits longest w) i i'
   given_is_true i p i' p' (one, left, e, (other, rest, f, checks)) =
       (one, left, e, verdict_is_true (Some (one ++ left)) (Some (other ++ rest)) (Some left) (Some rest) checks)
 

@@ -24,13 +24,13 @@ use Rattle.pb_replay.specs.declared.fault.Fault.{Fault}
 use Rattle.pb_replay.specs.declared.fault.Fault.TheVariants.{Memory as no_memory, Overflow as over}
 use Rattle.pb_replay.specs.declared.verdict.Verdict.{Verdict}
 use Rattle.pb_opb.proofs.lemmas.instances.OneValue.{same_value}
-use Rattle.pb_tool.specs.meaning.Decided.{AnswersExactly, AreVerified, IsDecided, IsOfText, IsSame, OneAnswer}
+use Rattle.pb_tool.specs.meaning.Decided.{AnswersExactly, AreVerified, IsDecided, IsOfText, IsOfTexts, IsSame, OneAnswer}
 use Rattle.pb_tool.specs.meaning.Files.{IsProofFile, IsProofText}
 use Rattle.pb_tool.specs.contract.Show.{IsSpelling}
 use Rattle.pb_tool.specs.engine.Single.{AllSingle}
 use Rattle.pb_tool.specs.meaning.Tidy.{IsFile, IsInstanceText, IsInstanceFile, IsNoInstanceFile}
 use Rattle.pb_tool.specs.meaning.Tidy.IsRefused.{InText, InRest}
-use Rattle.pb_tool.specs.meaning.Verified.{ChecksFiles, IsRefusedStep, IsRefusedText, IsVerified, InProof, AfterProof}
+use Rattle.pb_tool.specs.meaning.Verified.{CheckCall, ChecksFiles, IsRefusedStep, IsRefusedText, IsVerified, InProof, AfterProof}
 use Rattle.pb_tool.specs.declared.fault.ToolFault.{ToolFault}
 use Rattle.pb_tool.specs.declared.fault.ToolFault.TheVariants.{Text, Open, Overflow, Memory, Write, Step}
 use Rattle.pb_tool.specs.declared.fault.Input.TheVariants.{File, Instance as of_instance, Proof as of_proof}
@@ -156,7 +156,15 @@ module _ (laws : AllSingle) (limits : Limits) (longest : ℕ) (i : List ℕ) whe
 
     module _ {W : Type 0} (contents : W → Option (List ℕ)) (faults : W → ℕ) where
       abbrev Answers : Result Verdict ToolFault → W → Option (List ℕ) → Option (List ℕ) → W → Type 0
-      Answers result old i' p' new = ChecksFiles limits longest contents faults (Some i) (Some p) old result i' p' new
+      Answers result old i' p' new = ChecksFiles limits longest contents faults record {
+        instance = Some i;
+        proof = Some p;
+        out = old;
+        result = result;
+        instance_after = i';
+        proof_after = p';
+        out_after = new;
+      }
 
       -- what is verified is the result
       settled : (i1 p1 : Option (List ℕ)) (v : Instance) (q : Proof) (w : Verdict) → IsInstanceFile limits longest (Some i) i1 v → IsProofFile limits longest (Some p) p1 q → IsVerified limits v q w
@@ -168,8 +176,8 @@ module _ (laws : AllSingle) (limits : Limits) (longest : ℕ) (i : List ℕ) whe
           subst (λ (y : Problem). Accepts (largest limits) (top_of limits) y (first_state y) (statements_of q) h'.last) problem (subst (λ (y : Proof). Accepts (largest limits) (top_of limits) h'.problem (first_state h'.problem) (statements_of y) h'.last) proof h'.accepted) in
           let last : h'.last ≡ h.last = one_state laws.outcomes limits h.problem (statements_of q) (first_state h.problem) h'.last h.last here h.accepted in
           ap (λ (y : Verdict). Ok y) (same_Some x w (sym h'.claimed ∙ (ap (λ (s : State). s.concluded) last ∙ h.claimed)))
-      settled i1 p1 v q w f g h (Err (Text of_instance s)) old new i' p' (r, kept, same) d = absurd (no_instance i1 i' v s f r d)
-      settled i1 p1 v q w f g h (Err (Overflow of_instance)) old new i' p' (v', f', k, kept, same) d = absurd (opens i1 i' v v' h.problem f h.opened f' k)
+      settled i1 p1 v q w f g h (Err (Text of_instance s)) old new i' p' (r, left) d = absurd (no_instance i1 i' v s f r d)
+      settled i1 p1 v q w f g h (Err (Overflow of_instance)) old new i' p' (v', f', k, left) d = absurd (opens i1 i' v v' h.problem f h.opened f' k)
       settled i1 p1 v q w f g h (Err (Step place e name)) old new i' p' (v', f', problem, opened, r, x) d =
           let same : h.problem ≡ problem = problems i1 i' v v' h.problem problem f h.opened f' opened in
           let went : Went problem = subst Went same (proof_passed laws limits longest p h.problem (first_state h.problem) p1 q h.last g h.accepted) in
@@ -207,8 +215,8 @@ module _ (laws : AllSingle) (limits : Limits) (longest : ℕ) (i : List ℕ) whe
 
       shown : (result : Result Verdict ToolFault) (old new : W) (i' p' : Option (List ℕ)) → Answers result old i' p' new → IsDecided result → Shown result
       shown (Ok w) old new i' p' a d = Accepted w refl (verified_by w old new i' p' a)
-      shown (Err (Text of_instance s)) old new i' p' (r, kept, same) d = NoInstance s i' refl r d
-      shown (Err (Overflow of_instance)) old new i' p' (v, f, k, kept, same) d = TooLarge v i' refl f k
+      shown (Err (Text of_instance s)) old new i' p' (r, left) d = NoInstance s i' refl r d
+      shown (Err (Overflow of_instance)) old new i' p' (v, f, k, left) d = TooLarge v i' refl f k
       shown (Err (Step place e name)) old new i' p' (v, f, problem, opened, r, x) d = NoStep v i' problem place e name p' refl f opened r d
       shown (Err (Text of_proof s)) old new i' p' (v, f, problem, opened, r, x) d = NoText v i' problem s p' refl f opened r d
       shown (Err (Text File s)) old new i' p' a d = absurd a
@@ -276,8 +284,19 @@ module _ (laws : AllSingle) (limits : Limits) (longest : ℕ) (i : List ℕ) whe
           (λ w e v. settled (Some []) (Some []) v.instance v.proof w v.first v.second v.verified other old' new' i'' p'' b d')
           (shown one old new i' p' a d) (shown other old' new' i'' p'' b d')
 
-pub answers_exactly : {W : Type 0} (contents : W → Option (List ℕ)) (faults : W → ℕ) → AllSingle → AnswersExactly contents faults
-answers_exactly contents faults laws limits longest i p i' p' old new result w a d = exactly laws limits longest i p contents faults i' p' old new result w a d
+module _ {W : Type 0} (contents : W → Option (List ℕ)) (faults : W → ℕ) (laws : AllSingle) where
+  -- a check of two texts, in terms of these texts
+  of_texts : (limits : Limits) (longest : ℕ) (i p : List ℕ) (c : CheckCall (Option (List ℕ)) W) → IsOfTexts i p c → ChecksFiles limits longest contents faults c
+      → Answers laws limits longest i p contents faults c.result c.out c.instance_after c.proof_after c.out_after
+  of_texts limits longest i p c (first, second) checks =
+      subst (λ (x : Option (List ℕ)). ChecksFiles limits longest contents faults (record c { instance = Some i; proof = x })) second
+      (subst (λ (x : Option (List ℕ)). ChecksFiles limits longest contents faults (record c { instance = x })) first checks)
 
-pub one_answer : {W : Type 0} (contents : W → Option (List ℕ)) (faults : W → ℕ) → AllSingle → OneAnswer contents faults
-one_answer contents faults laws limits longest i p i' p' i'' p'' old new old' new' one other a d b d' = alike laws limits longest i p contents faults i' p' i'' p'' old new old' new' one other a d b d'
+  pub answers_exactly : AnswersExactly contents faults
+  answers_exactly limits longest i p c w is a d =
+      exactly laws limits longest i p contents faults c.instance_after c.proof_after c.out c.out_after c.result w (of_texts limits longest i p c is a) d
+
+  pub one_answer : OneAnswer contents faults
+  one_answer limits longest i p c o is a d is' b d' =
+      alike laws limits longest i p contents faults c.instance_after c.proof_after o.instance_after o.proof_after c.out c.out_after o.out o.out_after c.result o.result
+      (of_texts limits longest i p c is a) d (of_texts limits longest i p o is' b) d'

@@ -25,7 +25,7 @@ use Rattle.pb_replay.specs.declared.verdict.Verdict.{Verdict}
 use Rattle.pb_tool.specs.meaning.Files.{IsProofText}
 use Rattle.pb_tool.specs.contract.Checks.{KeepsNames}
 use Rattle.pb_tool.specs.contract.Runs.{IsNoReplay, IsReplayOf, IsReportedAs, Replays, RunsProof, faults_of_instance}
-use Rattle.pb_tool.specs.meaning.Verified.{ChecksFiles, IsAccepted, IsReported, IsVerified, verdict_line}
+use Rattle.pb_tool.specs.meaning.Verified.{CheckCall, ChecksFiles, IsAccepted, IsReported, IsVerified, verdict_line}
 use Rattle.pb_tool.specs.declared.commands.check.checker.CheckFault.TheVariants as check
 use Rattle.pb_tool.specs.declared.fault.ToolFault.{ToolFault}
 use Rattle.pb_tool.specs.declared.fault.ToolFault.TheVariants.{Text, Open, Overflow, Memory, Write, Step}
@@ -95,21 +95,24 @@ module _ (limits : Limits) (longest : ℕ) (v : Problem) (first : State) (before
   step_report law after new place e Write h reported = absurd reported
 
 module _ (limits : Limits) (longest n : ℕ) (is : longest ≡ n) {W : Type 0} (contents : W → Option (List ℕ)) (faults : W → ℕ) (i i' p p' : Option (List ℕ)) (old new : W) where
+  abbrev call : Result Verdict ToolFault → CheckCall (Option (List ℕ)) W
+  call result = record { instance = i; proof = p; out = old; result = result; instance_after = i'; proof_after = p'; out_after = new }
+
   abbrev Checks : Result Verdict ToolFault → Type 0
-  Checks result = ChecksFiles limits n contents faults i p old result i' p' new
+  Checks result = ChecksFiles limits n contents faults (call result)
 
   -- there is no replay
   pub no_replay : (f : ToolFault) → IsNoReplay limits longest i i' f → p' ≡ p → new ≡ old → Checks (Err f)
-  no_replay f h kept same = subst (λ (m : ℕ). ChecksFiles limits m contents faults i p old (Err f) i' p' new) is (by f h)
+  no_replay f h kept same = subst (λ (m : ℕ). ChecksFiles limits m contents faults (call (Err f))) is (by f h)
     where
-      by : (f : ToolFault) → IsNoReplay limits longest i i' f → ChecksFiles limits longest contents faults i p old (Err f) i' p' new
-      by (Text of_instance s) h = (h, kept, same)
+      by : (f : ToolFault) → IsNoReplay limits longest i i' f → ChecksFiles limits longest contents faults (call (Err f))
+      by (Text of_instance s) h = (h, (kept, same))
       by (Text File s) h = absurd h
       by (Text of_proof s) h = absurd h
-      by (Overflow of_instance) h = (h.0, h.1, h.2, kept, same)
+      by (Overflow of_instance) h = (h.0, h.1, h.2, (kept, same))
       by (Overflow File) h = absurd h
       by (Overflow of_proof) h = absurd h
-      by (Memory of_instance) h = (h.0, h.1, h.2, kept, same)
+      by (Memory of_instance) h = (h.0, h.1, h.2, (kept, same))
       by (Memory File) h = absurd h
       by (Memory of_proof) h = absurd h
       by (Open input) h = absurd h
@@ -130,18 +133,18 @@ module _ (limits : Limits) (longest n : ℕ) (is : longest ≡ n) {W : Type 0} (
     pub checked_ok : (w : Verdict) → Owes (Ok w) → Wrote contents faults old (verdict_line w) new → Checks (Ok w)
     checked_ok w owed wrote =
         let (q, file, t, accepted, claimed) = here (Ok w) owed in
-        subst (λ (m : ℕ). ChecksFiles limits m contents faults i p old (Ok w) i' p' new) is (h.instance, h.file, q, file, verified w q t accepted claimed, wrote)
+        subst (λ (m : ℕ). ChecksFiles limits m contents faults (call (Ok w))) is (h.instance, h.file, q, file, verified w q t accepted claimed, wrote)
 
     pub checked_broke : (w : Verdict) → Owes (Ok w) → Broke contents faults old (verdict_line w) new → Checks (Err Write)
     checked_broke w owed broke =
         let (q, file, t, accepted, claimed) = here (Ok w) owed in
-        subst (λ (m : ℕ). ChecksFiles limits m contents faults i p old (Err Write) i' p' new) is (h.instance, h.file, q, file, w, verified w q t accepted claimed, broke)
+        subst (λ (m : ℕ). ChecksFiles limits m contents faults (call (Err Write))) is (h.instance, h.file, q, file, w, verified w q t accepted claimed, broke)
 
     -- the proof was rejected
     pub checked_refused : (f : ToolFault) → Owes (Err f) → new ≡ old → Checks (Err f)
-    checked_refused f owed same = subst (λ (m : ℕ). ChecksFiles limits m contents faults i p old (Err f) i' p' new) is (by f (here (Err f) owed))
+    checked_refused f owed same = subst (λ (m : ℕ). ChecksFiles limits m contents faults (call (Err f))) is (by f (here (Err f) owed))
       where
-        by : (f : ToolFault) → Replays limits longest r.problem (first_state r.problem) p (Err f) p' → ChecksFiles limits longest contents faults i p old (Err f) i' p' new
+        by : (f : ToolFault) → Replays limits longest r.problem (first_state r.problem) p (Err f) p' → ChecksFiles limits longest contents faults (call (Err f))
         by (Step place e name) x = (h.instance, h.file, r.problem, h.opened, x, same)
         by (Text of_proof s) x = (h.instance, h.file, r.problem, h.opened, x, same)
         by (Text File s) x = absurd x
