@@ -8,7 +8,7 @@ ghost use Rattle.std.specs.Prelude.{◌≡◌, ℕ, List, Option, Some, None, �
 ghost use Rattle.pb_normal.specs.meaning.Form.{Form};
 ghost use Rattle.pb_normal.specs.meaning.Rules.{negation_of, negation};
 ghost use Rattle.pb_normal.specs.declared.numbered.NumberedLiteral.{NumberedLiteral};
-ghost use Rattle.pb_replay.specs.declared.propagate.store.kept.Kept.{Kept};
+ghost use Rattle.pb_replay.specs.declared.propagate.store.stored_form.StoredForm.{StoredForm};
 ghost use Rattle.pb_replay.specs.engine.Engine.Live.{Standing, Live, Gives, terms_in, one_in};
 ghost use Rattle.pb_replay.specs.engine.Engine.Lists.{has, IsWithin};
 ghost use Rattle.pb_replay.specs.engine.Engine.Counts.{IsCounted, beside, IsTidy, IsUndone, AreSingle};
@@ -31,7 +31,7 @@ use crate::propagate::rests::Rests;
 use crate::propagate::run::{Run, choose, propagate, try_put, undo_forms};
 use crate::propagate::slots::{occupy, quit, vacancy};
 use crate::propagate::store::Store;
-use crate::propagate::store::links::{enter, leave};
+use crate::propagate::store::occurrence_lists::{enter, leave};
 use crate::shared::Shared;
 use pb_normal::{Normal, NormalFault, NumberedLiteral};
 use std::alloc::{AllocError, Global};

@@ -18,7 +18,7 @@ use crate::propagate::assignment::Assignment;
 use crate::propagate::clauses::Clauses;
 use crate::propagate::engine::visits::Visits;
 use crate::propagate::rests::Rests;
-use crate::propagate::store::kept::is_below;
+use crate::propagate::store::stored_form::is_below;
 use crate::propagate::store::{Store, Visited, visit, visit_term, weight_of};
 use crate::propagate::walk::walk;
 use pb_normal::NumberedLiteral;

@@ -11,13 +11,13 @@ use crate::propagate::clauses::Clauses;
 use crate::propagate::eager::Eager;
 use crate::propagate::run::Run;
 use crate::propagate::store::Store;
-use crate::propagate::store::kept::Kept;
-use crate::propagate::store::links::{fill, vacate, watch, widen};
+use crate::propagate::store::occurrence_lists::{fill, vacate, watch, widen};
+use crate::propagate::store::stored_form::StoredForm;
 use crate::shared::Shared;
 use std::alloc::AllocError;
 
 // The slot of a removed form.
-fn left_slot(kept: &[Kept], free: &mut Vec<usize>) -> Option<usize>
+fn left_slot(kept: &[StoredForm], free: &mut Vec<usize>) -> Option<usize>
     ensures { IfSome result (λ slot. slice_get (forms_of kept.now) slot ≡ Some None) }
 {
     let slot = free.pop()?;

@@ -1,9 +1,9 @@
 //! The stored forms and the occurrence lists.
 
-pub mod falling;
-pub mod kept;
-pub mod links;
+pub mod occurrence_lists;
 pub mod opened;
+pub mod sorted_form;
+pub mod stored_form;
 
 ghost use Rattle.std.specs.Prelude.{◌≡◌, ℕ, ◌≤◌, ◌+◌, ◌-◌, ◌^◌, ◌<◌, length, min, slice_index_or};
 ghost use Rattle.pb_replay.specs.declared.propagate.term.Term.{Term};
@@ -11,8 +11,8 @@ ghost use Rattle.pb_replay.specs.engine.Engine.Terms.{terms_of};
 ghost use Rattle.pb_replay.specs.engine.Engine.Fields.{entry_at};
 
 use crate::propagate::engine::visits::Visits;
-use crate::propagate::store::falling::Falling;
-use crate::propagate::store::kept::Kept;
+use crate::propagate::store::sorted_form::SortedForm;
+use crate::propagate::store::stored_form::StoredForm;
 use crate::propagate::term::Term;
 
 /// A form that contains a literal, and the position of its term there. The fields are private: other modules learn
@@ -33,7 +33,7 @@ pub struct Visited {
 /// The stored forms, and for each literal the forms that contain it.
 #[derive(Drop)]
 pub struct Store {
-    pub kept: Vec<Kept>,
+    pub kept: Vec<StoredForm>,
     // For each form, the position of the entry of each of its terms in the list of its literal.
     pub spots: Vec<Vec<usize>>,
     pub occurrences: Vec<Vec<Occurrence>>,
@@ -58,7 +58,7 @@ pub fn visit(entries: &[Occurrence], i: usize, visits: &mut Visits) -> Visited
 
 /// The coefficient of a visited entry's term. If all are equal, the bound gives it, and the terms need
 /// not be read.
-pub fn weight_of(kept: &Kept, entry: &Visited) -> u128
+pub fn weight_of(kept: &StoredForm, entry: &Visited) -> u128
     requires { entry.now.index < length (terms_of kept.now.terms) }
     ensures { (d : Term) → result ≡ (slice_index_or (terms_of kept.now.terms) entry.now.index d).coefficient }
 {
@@ -69,7 +69,7 @@ pub fn weight_of(kept: &Kept, entry: &Visited) -> u128
 }
 
 /// Reads a candidate, and counts the visit.
-pub fn visit_term(terms: &Falling, i: usize, visits: &mut Visits) -> Term
+pub fn visit_term(terms: &SortedForm, i: usize, visits: &mut Visits) -> Term
     requires { i < length (terms_of terms.now) }
     ensures item { (d : Term) → result ≡ slice_index_or (terms_of terms.now) i d }
     ensures rising { visits.old ≤ visits.new }

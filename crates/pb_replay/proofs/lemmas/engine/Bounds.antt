@@ -6,7 +6,7 @@ use Rattle.std.proofs.lemmas.List.{length-map}
 use Rattle.std.proofs.lemmas.List.Sums.{sum_by-cons}
 use Rattle.std.proofs.lemmas.List.Sorted.{length_permutation}
 use Rattle.pb_normal.specs.meaning.Form.{Form}
-use Rattle.pb_replay.specs.declared.propagate.store.kept.Kept.{Kept}
+use Rattle.pb_replay.specs.declared.propagate.store.stored_form.StoredForm.{StoredForm}
 use Rattle.pb_replay.specs.engine.Engine.Lists.{Shape}
 use Rattle.pb_replay.specs.engine.Engine.Forms.{entry_of}
 use Rattle.pb_replay.specs.engine.Engine.Counts.{AreFound}
@@ -50,7 +50,7 @@ pub joined-terms : (xs : List Shape) (clauses : List (List ℕ)) → AreJoined x
 joined-terms xs clauses j = terms-both xs clauses j.short j.apart
 
 -- a form that may propagate with nothing assigned is live
-live-one : (p : Option Form) (x : Kept) → IsSlot p (kept_shape x) → eager_one x ≤ one_in p
+live-one : (p : Option Form) (x : StoredForm) → IsSlot p (kept_shape x) → eager_one x ≤ one_in p
 live-one p x s = elim (cases_Bool x.eager) [
   | inr idle ↦ rw idle (omega arith)
   | inl eager ↦ rw eager (live p s (x.busy eager))
@@ -60,13 +60,13 @@ live-one p x s = elim (cases_Bool x.eager) [
     live None e some = absurd (omega (arith, some, ap length e.0, e.1))
     live (Some f) e some = omega arith
 
-bare-none : (x : Kept) → terms_of x.terms ≡ [] → x.degree ≡ 0 → eager_one x ≡ 0
+bare-none : (x : StoredForm) → terms_of x.terms ≡ [] → x.degree ≡ 0 → eager_one x ≡ 0
 bare-none x h k = elim (cases_Bool x.eager) [
   | inr idle ↦ rw idle refl
   | inl eager ↦ absurd (let some = x.busy eager in omega (arith, some, ap length h, k))
 ]
 
-eager-both : (os : List (Option Form)) (keep : List Kept) (clauses : List (List ℕ)) → AreBare (shapes_of keep) clauses → AreSlots os (joined (shapes_of keep) clauses) → sum_by eager_one keep ≤ sum_by one_in os
+eager-both : (os : List (Option Form)) (keep : List StoredForm) (clauses : List (List ℕ)) → AreBare (shapes_of keep) clauses → AreSlots os (joined (shapes_of keep) clauses) → sum_by eager_one keep ≤ sum_by one_in os
 eager-both os [] clauses bare a = omega arith
 eager-both [] (k ∷ ks) [] bare a = absurd (let e : true ≡ false = a in cc)
 eager-both [] (k ∷ ks) (codes ∷ clauses) bare a = absurd (let e : true ≡ false = a in cc)
@@ -81,7 +81,7 @@ eager-both (o ∷ os) (k ∷ ks) (codes ∷ clauses) bare a =
     first [] s h = live-one o k s
     first (y ∷ ys) s h = let e = h (omega arith) in omega (arith, bare-none k e.0 e.1)
 
-pub slots-eager : (os : List (Option Form)) (keep : List Kept) (clauses : List (List ℕ)) → AreJoined (shapes_of keep) clauses → AreSlots os (joined (shapes_of keep) clauses) → sum_by eager_one keep ≤ sum_by one_in os
+pub slots-eager : (os : List (Option Form)) (keep : List StoredForm) (clauses : List (List ℕ)) → AreJoined (shapes_of keep) clauses → AreSlots os (joined (shapes_of keep) clauses) → sum_by eager_one keep ≤ sum_by one_in os
 slots-eager os keep clauses j a = eager-both os keep clauses j.apart a
 
 -- no more forms wait than are on the list

@@ -5,7 +5,7 @@ use Rattle.std.proofs.lemmas.List.Elements.{All-push, filter-append}
 use Rattle.std.proofs.lemmas.List.Filters.{length-filter_more}
 use Rattle.std.proofs.lemmas.List.{get_or_read}
 use Rattle.pb_normal.specs.declared.numbered.NumberedLiteral.{NumberedLiteral}
-use Rattle.pb_replay.specs.declared.propagate.store.kept.Kept.{Kept}
+use Rattle.pb_replay.specs.declared.propagate.store.stored_form.StoredForm.{StoredForm}
 use Rattle.pb_replay.specs.declared.propagate.rests.Rests.{Rests}
 use Rattle.pb_replay.specs.engine.Engine.Lists.{Shape, Derives, begin, IsSettled, Weighted}
 use Rattle.pb_replay.specs.engine.Engine.Fields.{shapes_of, kept_shape}
@@ -155,7 +155,7 @@ Propagating-bound g p waiting forms whole lists n list0 cands0 work0 next0 visit
     let bound = spent-le lists list (derivation-single whole list0 list single s.derived) in
     omega (arith, bound, s.works, length-append work0 (filter p (take taken waiting)), fewer p waiting taken)
 
-pub Propagating-settled : (g : Rests) (p : ℕ → Bool) (waiting : List ℕ) (keep : List Kept) (whole : List Shape) (lists : List (List Weighted)) (list0 : List NumberedLiteral) (cands0 work0 : List ℕ) (next0 visits0 extra taken : ℕ) (opens cands : List ℕ) (list : List NumberedLiteral) (work trail : List ℕ) (next visits : ℕ) → length work ≤ next → length waiting ≤ taken → IsPropagating g p waiting (shapes_of keep) whole lists (length keep) list0 cands0 work0 next0 visits0 extra taken opens cands list work trail next visits → (f : Shape) → Contains (shapes_of keep) f → IsSettled f list
+pub Propagating-settled : (g : Rests) (p : ℕ → Bool) (waiting : List ℕ) (keep : List StoredForm) (whole : List Shape) (lists : List (List Weighted)) (list0 : List NumberedLiteral) (cands0 work0 : List ℕ) (next0 visits0 extra taken : ℕ) (opens cands : List ℕ) (list : List NumberedLiteral) (work trail : List ℕ) (next visits : ℕ) → length work ≤ next → length waiting ≤ taken → IsPropagating g p waiting (shapes_of keep) whole lists (length keep) list0 cands0 work0 next0 visits0 extra taken opens cands list work trail next visits → (f : Shape) → Contains (shapes_of keep) f → IsSettled f list
 Propagating-settled g p waiting keep whole lists list0 cands0 work0 next0 visits0 extra taken opens cands list work trail next visits all none_waits state f (s, inside, is) =
     let from = source kept_shape keep s f inside is in
     let busy : s ≡ length keep → ⊥ = λ e. absurd (omega (arith, e, from.inside)) in

@@ -9,7 +9,7 @@ use Rattle.std.proofs.lemmas.List.Elements.{Contains-push_cases, Contains-append
 use Rattle.pb_normal.specs.meaning.Form.{Form}
 use Rattle.pb_normal.specs.meaning.Rules.{opposite}
 use Rattle.pb_normal.specs.declared.entry.Entry.{Entry}
-use Rattle.pb_replay.specs.declared.propagate.store.kept.Kept.{Kept}
+use Rattle.pb_replay.specs.declared.propagate.store.stored_form.StoredForm.{StoredForm}
 use Rattle.pb_replay.specs.declared.propagate.rests.Rests.{Rests}
 use Rattle.pb_replay.specs.engine.Engine.Lists.{Shape, size}
 use Rattle.pb_replay.specs.engine.Engine.Forms.{IsKeptAs}
@@ -37,16 +37,16 @@ element (x ∷ xs) (suc s) h =
     record { value = e.value; at = e.at; got = e.got }
 
 -- at rest each form is as it was made
-pub rest-at : (keep : List Kept) (opens cands : List ℕ) → AreAtRest keep opens cands → (s : ℕ) (d : Shape) → s < length keep → (get_or opens s 0 ≡ size (get_or (shapes_of keep) s d).terms) × (get_or cands s 0 ≡ 0)
+pub rest-at : (keep : List StoredForm) (opens cands : List ℕ) → AreAtRest keep opens cands → (s : ℕ) (d : Shape) → s < length keep → (get_or opens s 0 ≡ size (get_or (shapes_of keep) s d).terms) × (get_or cands s 0 ≡ 0)
 rest-at keep opens cands r s d inside =
     let e = element keep s inside in
     let k = e.value in
-    let opened : get_or opens s 0 ≡ k.total = ap (λ (xs : List ℕ). get_or xs s 0) r.opened ∙ get_or-map (λ (x : Kept). x.total) keep s k 0 inside ∙ ap (λ (x : Kept). x.total) (e.at k) in
-    let passed : get_or cands s 0 ≡ 0 = ap (λ (xs : List ℕ). get_or xs s 0) r.passed ∙ get_or-map (λ (x : Kept). 0) keep s k 0 inside in
+    let opened : get_or opens s 0 ≡ k.total = ap (λ (xs : List ℕ). get_or xs s 0) r.opened ∙ get_or-map (λ (x : StoredForm). x.total) keep s k 0 inside ∙ ap (λ (x : StoredForm). x.total) (e.at k) in
+    let passed : get_or cands s 0 ≡ 0 = ap (λ (xs : List ℕ). get_or xs s 0) r.passed ∙ get_or-map (λ (x : StoredForm). 0) keep s k 0 inside in
     let shape : get_or (shapes_of keep) s d ≡ kept_shape k = get_or-map kept_shape keep s k d inside ∙ ap kept_shape (e.at k) in
     (opened ∙ k.sum ∙ sym (ap (λ (f : Shape). size f.terms) shape), passed)
 
-pub rest-undone : (rests : Rests) (keep : List Kept) (opens cands : List ℕ) → rests.opens.items ≡ [] → rests.starts.items ≡ [] → AreAtRest keep opens cands → IsUndone rests (shapes_of keep) opens cands [] 0
+pub rest-undone : (rests : Rests) (keep : List StoredForm) (opens cands : List ℕ) → rests.opens.items ≡ [] → rests.starts.items ≡ [] → AreAtRest keep opens cands → IsUndone rests (shapes_of keep) opens cands [] 0
 rest-undone rests keep opens cands bare plain r = record {
   clean = λ s d less gone.
       let at = rest-at keep opens cands r s d (omega (arith, less, length-map keep kept_shape)) in
@@ -55,31 +55,31 @@ rest-undone rests keep opens cands bare plain r = record {
   named = λ i d h. absurd (omega (arith, h));
 }
 
-pub undone-rest : (rests : Rests) (keep : List Kept) (opens cands work : List ℕ) (from : ℕ) → rests.opens.items ≡ [] → rests.starts.items ≡ [] → length opens ≡ length keep → length cands ≡ length keep → length work ≤ from → IsUndone rests (shapes_of keep) opens cands work from → AreAtRest keep opens cands
+pub undone-rest : (rests : Rests) (keep : List StoredForm) (opens cands work : List ℕ) (from : ℕ) → rests.opens.items ≡ [] → rests.starts.items ≡ [] → length opens ≡ length keep → length cands ≡ length keep → length work ≤ from → IsUndone rests (shapes_of keep) opens cands work from → AreAtRest keep opens cands
 undone-rest rests keep opens cands work from bare plain o c all u = record {
-  opened = ext_get_or 0 opens (map (λ k. k.total) keep) (omega (arith, o, length-map keep (λ (k : Kept). k.total))) (λ s less. total_at s (omega (arith, less, o)));
-  passed = ext_get_or 0 cands (map (λ k. 0) keep) (omega (arith, c, length-map {B = ℕ} keep (λ (k : Kept). 0))) (λ s less. zero_at s (omega (arith, less, c)));
+  opened = ext_get_or 0 opens (map (λ k. k.total) keep) (omega (arith, o, length-map keep (λ (k : StoredForm). k.total))) (λ s less. total_at s (omega (arith, less, o)));
+  passed = ext_get_or 0 cands (map (λ k. 0) keep) (omega (arith, c, length-map {B = ℕ} keep (λ (k : StoredForm). 0))) (λ s less. zero_at s (omega (arith, less, c)));
 }
   where
-    total_at : (s : ℕ) → s < length keep → get_or opens s 0 ≡ get_or (map (λ (k : Kept). k.total) keep) s 0
+    total_at : (s : ℕ) → s < length keep → get_or opens s 0 ≡ get_or (map (λ (k : StoredForm). k.total) keep) s 0
     total_at s inside =
         let e = element keep s inside in
         let k = e.value in
         let shape : get_or (shapes_of keep) s (kept_shape k) ≡ kept_shape k = get_or-map kept_shape keep s k (kept_shape k) inside ∙ ap kept_shape (e.at k) in
         let clean = u.clean s (kept_shape k) (omega (arith, inside, length-map keep kept_shape)) (λ i after h. absurd (omega (arith, after, h, all))) in
-        clean.0 ∙ ap (λ xs. get_or xs s (size (get_or (shapes_of keep) s (kept_shape k)).terms)) bare ∙ ap (λ (f : Shape). size f.terms) shape ∙ sym k.sum ∙ sym (get_or-map (λ (x : Kept). x.total) keep s k 0 inside ∙ ap (λ (x : Kept). x.total) (e.at k))
+        clean.0 ∙ ap (λ xs. get_or xs s (size (get_or (shapes_of keep) s (kept_shape k)).terms)) bare ∙ ap (λ (f : Shape). size f.terms) shape ∙ sym k.sum ∙ sym (get_or-map (λ (x : StoredForm). x.total) keep s k 0 inside ∙ ap (λ (x : StoredForm). x.total) (e.at k))
 
-    zero_at : (s : ℕ) → s < length keep → get_or cands s 0 ≡ get_or {A = ℕ} (map (λ (k : Kept). 0) keep) s 0
+    zero_at : (s : ℕ) → s < length keep → get_or cands s 0 ≡ get_or {A = ℕ} (map (λ (k : StoredForm). 0) keep) s 0
     zero_at s inside =
         let e = element keep s inside in
         let clean = u.clean s (kept_shape e.value) (omega (arith, inside, length-map keep kept_shape)) (λ i after h. absurd (omega (arith, after, h, all))) in
-        clean.1 ∙ ap (λ xs. get_or xs s 0) plain ∙ sym (get_or-map (λ (x : Kept). 0) keep s e.value 0 inside)
+        clean.1 ∙ ap (λ xs. get_or xs s 0) plain ∙ sym (get_or-map (λ (x : StoredForm). 0) keep s e.value 0 inside)
 
-pub rest-lengths : (keep : List Kept) (opens cands : List ℕ) → AreAtRest keep opens cands → (length opens ≡ length keep) × (length cands ≡ length keep)
-rest-lengths keep opens cands r = (ap length r.opened ∙ length-map keep (λ (k : Kept). k.total), ap length r.passed ∙ length-map {B = ℕ} keep (λ (k : Kept). 0))
+pub rest-lengths : (keep : List StoredForm) (opens cands : List ℕ) → AreAtRest keep opens cands → (length opens ≡ length keep) × (length cands ≡ length keep)
+rest-lengths keep opens cands r = (ap length r.opened ∙ length-map keep (λ (k : StoredForm). k.total), ap length r.passed ∙ length-map {B = ℕ} keep (λ (k : StoredForm). 0))
 
 -- a form that does not wait is calm
-pub calm-but : (keep : List Kept) (work : List ℕ) → IsEager keep work → IsCalmBut (shapes_of keep) work
+pub calm-but : (keep : List StoredForm) (work : List ℕ) → IsEager keep work → IsCalmBut (shapes_of keep) work
 calm-but keep work e = record {
   named = λ i d h. let named = e.named i d h in omega (arith, named, length-map keep kept_shape);
   aside = λ s d less gone.
@@ -118,7 +118,7 @@ filter-all P p (x ∷ xs) all = by_head (p x) refl (filter-all P p xs (λ i d h.
     by_head false e a = rw e a
 
 -- the list without the forms that were removed
-pub eager-filter : (keep : List Kept) (eager : List ℕ) → IsEager keep eager → IsEager keep (filter (waits keep) eager)
+pub eager-filter : (keep : List StoredForm) (eager : List ℕ) → IsEager keep eager → IsEager keep (filter (waits keep) eager)
 eager-filter keep eager e = record {
   named = filter-all (λ s. s < length keep) (waits keep) eager e.named;
   aside = λ s less gone. elim (cases_Bool (waits keep s)) [
@@ -128,7 +128,7 @@ eager-filter keep eager e = record {
 }
 
 -- a form was added
-pub waits-before : (keep : List Kept) (k : Kept) (s : ℕ) → s < length keep → waits (keep ++ (k ∷ [])) s ≡ waits keep s
+pub waits-before : (keep : List StoredForm) (k : StoredForm) (s : ℕ) → s < length keep → waits (keep ++ (k ∷ [])) s ≡ waits keep s
 waits-before [] k s h = absurd (omega (arith, h))
 waits-before (x ∷ xs) k zero h = refl
 waits-before (x ∷ xs) k (suc s) h = waits-before xs k s (omega (arith, h))
@@ -136,14 +136,14 @@ waits-before (x ∷ xs) k (suc s) h = waits-before xs k s (omega (arith, h))
 absent-prefix : (xs ys : List ℕ) (s : ℕ) → IsAbsent (xs ++ ys) 0 s → IsAbsent xs 0 s
 absent-prefix xs ys s gone i from less at = gone i from (omega (arith, less, length-append xs ys)) (get_or_append_left xs ys 0 i less ∙ at)
 
-pub eager-entered : (keep keep' : List Kept) (k : Kept) (eager eager' : List ℕ) (number : ℕ) → keep' ≡ keep ++ (k ∷ []) → number ≡ length keep → eager' ≡ eager ++ filter (waits keep') (number ∷ []) → IsEager keep eager → IsEager keep' eager'
+pub eager-entered : (keep keep' : List StoredForm) (k : StoredForm) (eager eager' : List ℕ) (number : ℕ) → keep' ≡ keep ++ (k ∷ []) → number ≡ length keep → eager' ≡ eager ++ filter (waits keep') (number ∷ []) → IsEager keep eager → IsEager keep' eager'
 eager-entered keep keep' k eager eager' number same at more e = rw more (by_head (waits keep' number) refl)
   where
     long : length keep' ≡ length keep + 1
     long = omega (arith, ap length same, length-append keep (k ∷ []))
 
     idle_before : (s : ℕ) → s < length keep → waits keep' s ≡ waits keep s
-    idle_before s less = ap (λ (xs : List Kept). waits xs s) same ∙ waits-before keep k s less
+    idle_before s less = ap (λ (xs : List StoredForm). waits xs s) same ∙ waits-before keep k s less
 
     by_head : (b : Bool) → waits keep' number ≡ b → IsEager keep' (eager ++ filter (waits keep') (number ∷ []))
     by_head true h = rw h (record {
@@ -168,10 +168,10 @@ eager-entered keep keep' k eager eager' number same at more e = rw more (by_head
       ];
     })
 
-pub rest-entered : (f : Form) (keep keep' : List Kept) (opens opens' cands cands' : List ℕ) → HasEntered f keep keep' opens opens' cands cands' → AreAtRest keep opens cands → AreAtRest keep' opens' cands'
+pub rest-entered : (f : Form) (keep keep' : List StoredForm) (opens opens' cands cands' : List ℕ) → HasEntered f keep keep' opens opens' cands cands' → AreAtRest keep opens cands → AreAtRest keep' opens' cands'
 rest-entered f keep keep' opens opens' cands cands' h r = record {
-  opened = h.opened ∙ ap (λ (xs : List ℕ). xs ++ (h.kept.total ∷ [])) r.opened ∙ sym (ap (map (λ k. k.total)) h.keeps ∙ map-append (λ (k : Kept). k.total) keep (h.kept ∷ []));
-  passed = h.candidates ∙ ap (λ (xs : List ℕ). xs ++ (0 ∷ [])) r.passed ∙ sym (ap (map (λ k. 0)) h.keeps ∙ map-append (λ (k : Kept). 0) keep (h.kept ∷ []));
+  opened = h.opened ∙ ap (λ (xs : List ℕ). xs ++ (h.kept.total ∷ [])) r.opened ∙ sym (ap (map (λ k. k.total)) h.keeps ∙ map-append (λ (k : StoredForm). k.total) keep (h.kept ∷ []));
+  passed = h.candidates ∙ ap (λ (xs : List ℕ). xs ++ (0 ∷ [])) r.passed ∙ sym (ap (map (λ k. 0)) h.keeps ∙ map-append (λ (k : StoredForm). 0) keep (h.kept ∷ []));
 }
 
 pub slots-more : (os : List (Option Form)) (xs : List Shape) (p : Option Form) (x : Shape) → AreSlots os xs → IsSlot p x → AreSlots (os ++ (p ∷ [])) (xs ++ (x ∷ []))
@@ -180,11 +180,11 @@ slots-more [] (y ∷ ys) p x a k = absurd (let e : true ≡ false = a in cc)
 slots-more (o ∷ os) [] p x a k = absurd (let e : true ≡ false = a in cc)
 slots-more (o ∷ os) (y ∷ ys) p x a k = (a.0, slots-more os ys p x a.1 k)
 
-pub slots-entered : (os : List (Option Form)) (f : Form) (keep keep' : List Kept) (clauses : List (List ℕ)) (opens opens' cands cands' : List ℕ) → length clauses ≤ length (shapes_of keep) → HasEntered f keep keep' opens opens' cands cands' → AreSlots os (joined (shapes_of keep) clauses) → AreSlots (os ++ (Some f ∷ [])) (joined (shapes_of keep') clauses)
+pub slots-entered : (os : List (Option Form)) (f : Form) (keep keep' : List StoredForm) (clauses : List (List ℕ)) (opens opens' cands cands' : List ℕ) → length clauses ≤ length (shapes_of keep) → HasEntered f keep keep' opens opens' cands cands' → AreSlots os (joined (shapes_of keep) clauses) → AreSlots (os ++ (Some f ∷ [])) (joined (shapes_of keep') clauses)
 slots-entered os f keep keep' clauses opens opens' cands cands' short h a =
     rw (h.keeps, map-append kept_shape keep (h.kept ∷ []), joined-push (shapes_of keep) clauses (kept_shape h.kept) short) (slots-more os (joined (shapes_of keep) clauses) (Some f) (kept_shape h.kept) a h.is)
 
-pub joined-entered : (f : Form) (keep keep' : List Kept) (clauses : List (List ℕ)) (opens opens' cands cands' : List ℕ) → HasEntered f keep keep' opens opens' cands cands' → AreJoined (shapes_of keep) clauses → AreJoined (shapes_of keep') clauses
+pub joined-entered : (f : Form) (keep keep' : List StoredForm) (clauses : List (List ℕ)) (opens opens' cands cands' : List ℕ) → HasEntered f keep keep' opens opens' cands cands' → AreJoined (shapes_of keep) clauses → AreJoined (shapes_of keep') clauses
 joined-entered f keep keep' clauses opens opens' cands cands' h j = rw (h.keeps, map-append kept_shape keep (h.kept ∷ [])) (AreJoined-push (shapes_of keep) clauses (kept_shape h.kept) j)
 
 pub slots-length : (os : List (Option Form)) (xs : List Shape) → AreSlots os xs → length xs ≡ length os
@@ -200,11 +200,11 @@ prefix-of xs ys y e = rw e (ap (λ n. take n (ys ++ (y ∷ []))) short ∙ take-
     short : length (ys ++ (y ∷ [])) - 1 ≡ length ys
     short = omega (arith, length-append ys (y ∷ []))
 
-pub rest-left : (f : Form) (keep keep' keep'' : List Kept) (opens opens' cands cands' opens1 opens2 cands1 cands2 : List ℕ) → HasEntered f keep keep' opens opens' cands cands' → AreAtRest keep' opens1 cands1 → keep'' ≡ take (length keep' - 1) keep' → opens2 ≡ take (length opens1 - 1) opens1 → cands2 ≡ take (length cands1 - 1) cands1 → (keep'' ≡ keep) × AreAtRest keep'' opens2 cands2
+pub rest-left : (f : Form) (keep keep' keep'' : List StoredForm) (opens opens' cands cands' opens1 opens2 cands1 cands2 : List ℕ) → HasEntered f keep keep' opens opens' cands cands' → AreAtRest keep' opens1 cands1 → keep'' ≡ take (length keep' - 1) keep' → opens2 ≡ take (length opens1 - 1) opens1 → cands2 ≡ take (length cands1 - 1) cands1 → (keep'' ≡ keep) × AreAtRest keep'' opens2 cands2
 rest-left f keep keep' keep'' opens opens' cands cands' opens1 opens2 cands1 cands2 h r k o c =
     let back : keep'' ≡ keep = k ∙ prefix-of keep' keep h.kept h.keeps in
-    let opened1 : opens1 ≡ map (λ (x : Kept). x.total) keep ++ (h.kept.total ∷ []) = r.opened ∙ ap (map (λ x. x.total)) h.keeps ∙ map-append (λ (x : Kept). x.total) keep (h.kept ∷ []) in
-    let passed1 : cands1 ≡ map (λ (x : Kept). 0) keep ++ (0 ∷ []) = r.passed ∙ ap (map (λ x. 0)) h.keeps ∙ map-append (λ (x : Kept). 0) keep (h.kept ∷ []) in (
+    let opened1 : opens1 ≡ map (λ (x : StoredForm). x.total) keep ++ (h.kept.total ∷ []) = r.opened ∙ ap (map (λ x. x.total)) h.keeps ∙ map-append (λ (x : StoredForm). x.total) keep (h.kept ∷ []) in
+    let passed1 : cands1 ≡ map (λ (x : StoredForm). 0) keep ++ (0 ∷ []) = r.passed ∙ ap (map (λ x. 0)) h.keeps ∙ map-append (λ (x : StoredForm). 0) keep (h.kept ∷ []) in (
       back,
       record {
         opened = o ∙ prefix-of opens1 (map (λ x. x.total) keep) h.kept.total opened1 ∙ sym (ap (map (λ x. x.total)) back);
@@ -275,7 +275,7 @@ slots-set (o ∷ os) [] s p x e a = absurd (let f : true ≡ false = a in cc)
 slots-set (o ∷ os) (y ∷ ys) zero p x e a = (e, a.1)
 slots-set (o ∷ os) (y ∷ ys) (suc s) p x e a = (a.0, slots-set os ys s p x e a.1)
 
-pub map-zero : (keep : List Kept) (s : ℕ) (k : Kept) → map {B = ℕ} (λ k. 0) (set keep s k) ≡ map (λ k. 0) keep
+pub map-zero : (keep : List StoredForm) (s : ℕ) (k : StoredForm) → map {B = ℕ} (λ k. 0) (set keep s k) ≡ map (λ k. 0) keep
 map-zero [] s k = refl
 map-zero (x ∷ xs) zero k = refl
 map-zero (x ∷ xs) (suc s) k = ap (λ ys. 0 ∷ ys) (map-zero xs s k)
@@ -289,7 +289,7 @@ opposite-inside es n all k d h =
     omega (arith, ap (λ (x : Entry). x.variable) is, ap (λ (x : Entry). x.variable) (e.at e.value), small)
 
 -- what a propagation from no literals needs at its start, if all forms that may propagate with nothing assigned wait
-pub rest-tidy-all : (rests : Rests) (keep : List Kept) (eager opens cands : List ℕ) → rests.opens.items ≡ [] → rests.starts.items ≡ [] → AreAtRest keep opens cands → IsEager keep eager → IsTidy (beside rests (filter (waits keep) eager)) (shapes_of keep) opens cands [] [] [] 0 (length keep)
+pub rest-tidy-all : (rests : Rests) (keep : List StoredForm) (eager opens cands : List ℕ) → rests.opens.items ≡ [] → rests.starts.items ≡ [] → AreAtRest keep opens cands → IsEager keep eager → IsTidy (beside rests (filter (waits keep) eager)) (shapes_of keep) opens cands [] [] [] 0 (length keep)
 rest-tidy-all rests keep eager opens cands bare plain rest e =
     let waiting = filter (waits keep) eager in
     let whole : IsEager keep (waiting ++ []) = subst (IsEager keep) (sym (append-nil waiting)) (eager-filter keep eager e) in
@@ -304,7 +304,7 @@ filter-twice p x = at (p x) refl
     at true e = rw (e, e) refl
     at false e = rw e refl
 
-pub rest-tidy-first : (rests : Rests) (keep : List Kept) (eager opens cands work trail : List ℕ) (number : ℕ) → rests.opens.items ≡ [] → rests.starts.items ≡ [] → number < length keep → work ≡ filter (waits keep) (number ∷ []) → trail ≡ filter (waits keep) (number ∷ []) → AreAtRest keep opens cands → IsEager keep (eager ++ filter (waits keep) (number ∷ [])) → IsTidy (beside rests (filter (waits keep) eager)) (shapes_of keep) opens cands [] work trail 0 (length keep)
+pub rest-tidy-first : (rests : Rests) (keep : List StoredForm) (eager opens cands work trail : List ℕ) (number : ℕ) → rests.opens.items ≡ [] → rests.starts.items ≡ [] → number < length keep → work ≡ filter (waits keep) (number ∷ []) → trail ≡ filter (waits keep) (number ∷ []) → AreAtRest keep opens cands → IsEager keep (eager ++ filter (waits keep) (number ∷ [])) → IsTidy (beside rests (filter (waits keep) eager)) (shapes_of keep) opens cands [] work trail 0 (length keep)
 rest-tidy-first rests keep eager opens cands work trail number bare plain inside is noted rest e =
     let waiting = filter (waits keep) eager in
     let first = filter (waits keep) (number ∷ []) in

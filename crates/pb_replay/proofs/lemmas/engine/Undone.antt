@@ -1,7 +1,7 @@
 use Rattle.std.proofs.Common.{◌≡◌, ℕ, ◌+◌, ◌<◌, ◌⊎◌, List, sym, ◌∙◌, ap, inl, inr, arith, length, get_or, set, get_or-set_same, get_or-set_other}
 use Rattle.std.proofs.lemmas.Bool.{cases_eq}
 use Rattle.std.proofs.lemmas.List.{get_or_read, length-map}
-use Rattle.pb_replay.specs.declared.propagate.store.kept.Kept.{Kept}
+use Rattle.pb_replay.specs.declared.propagate.store.stored_form.StoredForm.{StoredForm}
 use Rattle.pb_replay.specs.declared.propagate.rests.Rests.{Rests}
 use Rattle.pb_replay.specs.engine.Engine.Lists.{Shape, size}
 use Rattle.pb_replay.specs.engine.Engine.Counts.{IsAbsent, IsUndone, rest_open, rest_start}
@@ -9,12 +9,12 @@ use Rattle.pb_replay.specs.engine.Engine.Fields.{shapes_of, kept_shape}
 use Rattle.pb_replay.proofs.lemmas.engine.VisitSteps.{shape-at}
 use Rattle.pb_replay.proofs.lemmas.store.Gets.{lt_of_apart}
 
-pub undo-form : (rests : Rests) (keep : List Kept) (opens cands work : List ℕ) (i form : ℕ) → i < length work → form ≡ get_or work i form → IsUndone rests (shapes_of keep) opens cands work i → form < length keep
+pub undo-form : (rests : Rests) (keep : List StoredForm) (opens cands work : List ℕ) (i form : ℕ) → i < length work → form ≡ get_or work i form → IsUndone rests (shapes_of keep) opens cands work i → form < length keep
 undo-form rests keep opens cands work i form inside is u =
     let named = u.named i form inside in
     omega (arith, named, is, length-map keep kept_shape)
 
-pub undo-next : (rests : Rests) (keep : List Kept) (opens cands opens' cands' work : List ℕ) (i form opened back : ℕ) (k : Kept) → i < length work → form ≡ get_or work i form → form < length keep → k ≡ get_or keep form k → opened ≡ get_or rests.opens.items form k.total → back ≡ get_or rests.starts.items form 0 → length opens ≡ length keep → length cands ≡ length keep → opens' ≡ set opens form opened → cands' ≡ set cands form back → IsUndone rests (shapes_of keep) opens cands work i → IsUndone rests (shapes_of keep) opens' cands' work (i + 1)
+pub undo-next : (rests : Rests) (keep : List StoredForm) (opens cands opens' cands' work : List ℕ) (i form opened back : ℕ) (k : StoredForm) → i < length work → form ≡ get_or work i form → form < length keep → k ≡ get_or keep form k → opened ≡ get_or rests.opens.items form k.total → back ≡ get_or rests.starts.items form 0 → length opens ≡ length keep → length cands ≡ length keep → opens' ≡ set opens form opened → cands' ≡ set cands form back → IsUndone rests (shapes_of keep) opens cands work i → IsUndone rests (shapes_of keep) opens' cands' work (i + 1)
 undo-next rests keep opens cands opens' cands' work i form opened back k inside is named at whole first o c lower again u = rw (lower, again) (record { clean = λ s d in_forms gone. clean_at s d in_forms gone (cases_eq s form); named = u.named })
   where
     clean_at : (s : ℕ) (d : Shape) → s < length (shapes_of keep) → IsAbsent work (i + 1) s → (s ≡ form) ⊎ (s ≡ form → ⊥) → (get_or (set opens form opened) s 0 ≡ rest_open rests s (get_or (shapes_of keep) s d)) × (get_or (set cands form back) s 0 ≡ rest_start rests s)

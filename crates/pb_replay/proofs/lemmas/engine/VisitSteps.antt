@@ -7,7 +7,7 @@ use Rattle.pb_normal.specs.declared.numbered.NumberedLiteral.{NumberedLiteral}
 use Rattle.pb_replay.specs.declared.propagate.term.Term.{Term}
 use Rattle.pb_replay.specs.engine.Engine.Lists.{Shape, AreInside, open_sum, size, Derives, begin, put, Conflicts, broken, Weighted}
 use Rattle.pb_replay.specs.engine.Engine.Counts.{Aside, rest_open, IsCounted, IsTidy, IsPaid, IsAbsent, Adopted, kept, added, IsCalm, IsDone, AreFound, Grown, pushed, spared, spent, weight_in}
-use Rattle.pb_replay.specs.declared.propagate.store.kept.Kept.{Kept}
+use Rattle.pb_replay.specs.declared.propagate.store.stored_form.StoredForm.{StoredForm}
 use Rattle.pb_replay.specs.declared.propagate.rests.Rests.{Rests}
 use Rattle.pb_replay.specs.engine.Engine.Fields.{shapes_of, kept_shape}
 use Rattle.pb_replay.specs.engine.Engine.Terms.{terms_of}
@@ -113,7 +113,7 @@ Visiting-conflict forms opens list form f inside is c low =
     broken (get_or forms form f) (Contains-get_or forms form f inside) (omega (arith, now, low_is))
 
 -- in terms of what the program reads
-pub shape-at : (keep : List Kept) (form : ℕ) (k : Kept) → form < length keep → k ≡ get_or keep form k → (d : Shape) → get_or (shapes_of keep) form d ≡ kept_shape k
+pub shape-at : (keep : List StoredForm) (form : ℕ) (k : StoredForm) → form < length keep → k ≡ get_or keep form k → (d : Shape) → get_or (shapes_of keep) form d ≡ kept_shape k
 shape-at keep form k inside is d = get_or-map kept_shape keep form k d inside ∙ ap kept_shape (sym is)
 
 pub Visiting-start : (aside : Aside) (forms : List Shape) (lists : List (List Weighted)) (form : ℕ) (opens cands : List ℕ) (list : List NumberedLiteral) (work trail : List ℕ) (next visits : ℕ) → IsTidy aside forms opens cands list work trail next form → (IsAbsent work 0 form → ⊥) → length opens ≡ length forms → length cands ≡ length forms → next ≤ length work → IsVisiting aside forms lists form list cands work visits opens cands list work trail next visits
@@ -132,7 +132,7 @@ pub Visiting-settled_by : (aside : Aside) (forms : List Shape) (lists : List (Li
 Visiting-settled_by aside forms lists form list0 cands0 work0 visits0 opens cands list work trail next visits f n e is calm p =
     rw (← e) (Visiting-settled aside forms lists form list0 cands0 work0 visits0 opens cands list work trail next visits f is calm p)
 
-pub Visiting-next_by : (aside : Aside) (keep : List Kept) (lists : List (List Weighted)) (form : ℕ) (list0 : List NumberedLiteral) (cands0 work0 : List ℕ) (visits0 : ℕ) (opens cands : List ℕ) (list : List NumberedLiteral) (work trail : List ℕ) (next visits seen : ℕ) (opens' mid cands' : List ℕ) (list' : List NumberedLiteral) (work' trail' : List ℕ) (next' visits' : ℕ) (k : Kept) (items : List Term) (o c : ℕ) (t : Term) →
+pub Visiting-next_by : (aside : Aside) (keep : List StoredForm) (lists : List (List Weighted)) (form : ℕ) (list0 : List NumberedLiteral) (cands0 work0 : List ℕ) (visits0 : ℕ) (opens cands : List ℕ) (list : List NumberedLiteral) (work trail : List ℕ) (next visits seen : ℕ) (opens' mid cands' : List ℕ) (list' : List NumberedLiteral) (work' trail' : List ℕ) (next' visits' : ℕ) (k : StoredForm) (items : List Term) (o c : ℕ) (t : Term) →
     form < length keep → k ≡ get_or keep form k → o ≡ get_or opens form o → c ≡ get_or cands form c → items ≡ (terms_of k.terms) → c < length items → t ≡ get_or items c t →
     seen ≡ min (visits + 1) (2 ^ 64 - 1) → visits ≤ seen → o < k.degree + t.coefficient →
     mid ≡ cands → next' ≡ next →
@@ -158,19 +158,19 @@ Visiting-next_by aside keep lists form list0 cands0 work0 visits0 opens cands li
     let passed_c : cands' ≡ set cands form (c + 1) = passed ∙ ap (λ (x : List ℕ). set x form (c + 1)) mid_is in
     rw next_is (Visiting-next aside (shapes_of keep) lists form list0 cands0 work0 visits0 opens cands list work trail next visits seen opens' cands' list' work' trail' visits' (kept_shape k) c t inside_f (shape-at keep form k inside is) cand_0 here_k item_k counted_visit rising low_0 adopted counted tidy_c paid_c gone longer sizes passed_c p)
 
-pub calm-by : (k : Kept) (opens cands : List ℕ) (form o c : ℕ) → form < length opens → form < length cands → o ≡ get_or opens form o → c ≡ get_or cands form c → k.degree ≤ o → ((d : Term) → c < length (terms_of k.terms) → k.degree + (get_or (terms_of k.terms) c d).coefficient ≤ o) → IsCalm (kept_shape k) (get_or opens form 0) (get_or cands form 0)
+pub calm-by : (k : StoredForm) (opens cands : List ℕ) (form o c : ℕ) → form < length opens → form < length cands → o ≡ get_or opens form o → c ≡ get_or cands form c → k.degree ≤ o → ((d : Term) → c < length (terms_of k.terms) → k.degree + (get_or (terms_of k.terms) c d).coefficient ≤ o) → IsCalm (kept_shape k) (get_or opens form 0) (get_or cands form 0)
 calm-by k opens cands form o c room roomc open_is cand_is met waiting =
     let open_0 = get_or_read opens form o room open_is 0 in
     let cand_0 = get_or_read cands form c roomc cand_is 0 in
     rw (← open_0, ← cand_0) (record { met = met; waiting = waiting })
 
-pub waiting-by : (k : Kept) (items : List Term) (o c : ℕ) (t : Term) → items ≡ (terms_of k.terms) → t ≡ get_or items c t → k.degree + t.coefficient ≤ o → (d : Term) → c < length (terms_of k.terms) → k.degree + (get_or (terms_of k.terms) c d).coefficient ≤ o
+pub waiting-by : (k : StoredForm) (items : List Term) (o c : ℕ) (t : Term) → items ≡ (terms_of k.terms) → t ≡ get_or items c t → k.degree + t.coefficient ≤ o → (d : Term) → c < length (terms_of k.terms) → k.degree + (get_or (terms_of k.terms) c d).coefficient ≤ o
 waiting-by k items o c t items_is item low d here =
     let item_k : t ≡ get_or (terms_of k.terms) c t = rw (← items_is) item in
     let same : get_or (terms_of k.terms) c d ≡ t = get_or_default (terms_of k.terms) c d t here ∙ sym item_k in
     rw same low
 
-pub term-inside : (keep : List Kept) (n form : ℕ) (k : Kept) (items : List Term) (c : ℕ) (t : Term) → form < length keep → k ≡ get_or keep form k → items ≡ (terms_of k.terms) → c < length items → t ≡ get_or items c t → All (λ f. AreInside n f.terms) (shapes_of keep) → t.literal.variable < n
+pub term-inside : (keep : List StoredForm) (n form : ℕ) (k : StoredForm) (items : List Term) (c : ℕ) (t : Term) → form < length keep → k ≡ get_or keep form k → items ≡ (terms_of k.terms) → c < length items → t ≡ get_or items c t → All (λ f. AreInside n f.terms) (shapes_of keep) → t.literal.variable < n
 term-inside keep n form k items c t inside is items_is here item all =
     let of_form = all form (kept_shape k) (omega (arith, inside, length-map keep kept_shape)) in
     let of_kept : AreInside n (kept_shape k).terms = rw (shape-at keep form k inside is (kept_shape k)) at of_form in
@@ -183,19 +183,19 @@ pub grown-by : {P Q : Type 0} (x : ℕ) (old new : List ℕ) → (P → Q) → G
 grown-by x old _ f pushed = pushed
 grown-by x old _ f (spared p) = spared (f p)
 
-pub idle-at : (keep : List Kept) (opens : List ℕ) (form : ℕ) (k : Kept) (o e : ℕ) → form < length keep → k ≡ get_or keep form k → form < length opens → o ≡ get_or opens form o → k.bound ≤ o - e → (d : Shape) (c : ℕ) → IsCalm (get_or (shapes_of keep) form d) (get_or opens form 0 - e) c
+pub idle-at : (keep : List StoredForm) (opens : List ℕ) (form : ℕ) (k : StoredForm) (o e : ℕ) → form < length keep → k ≡ get_or keep form k → form < length opens → o ≡ get_or opens form o → k.bound ≤ o - e → (d : Shape) (c : ℕ) → IsCalm (get_or (shapes_of keep) form d) (get_or opens form 0 - e) c
 idle-at keep opens form k o e inside is room open_is low d c =
     let open_0 = get_or_read opens form o room open_is 0 in
     rw (shape-at keep form k inside is d, ← open_0) (k.idle (o - e) c low)
 
-pub changed-at : (rests : Rests) (keep : List Kept) (opens : List ℕ) (form : ℕ) (k : Kept) (o : ℕ) → form < length keep → k ≡ get_or keep form k → form < length opens → o ≡ get_or opens form o → (o ≡ get_or rests.opens.items form k.total → ⊥) → (d : Shape) → get_or opens form 0 ≡ rest_open rests form (get_or (shapes_of keep) form d) → ⊥
+pub changed-at : (rests : Rests) (keep : List StoredForm) (opens : List ℕ) (form : ℕ) (k : StoredForm) (o : ℕ) → form < length keep → k ≡ get_or keep form k → form < length opens → o ≡ get_or opens form o → (o ≡ get_or rests.opens.items form k.total → ⊥) → (d : Shape) → get_or opens form 0 ≡ rest_open rests form (get_or (shapes_of keep) form d) → ⊥
 changed-at rests keep opens form k o inside is room open_is other d e =
     let open_0 = get_or_read opens form o room open_is 0 in
     let shape : size (get_or (shapes_of keep) form d).terms ≡ size (terms_of k.terms) = ap (λ (f : Shape). size f.terms) (shape-at keep form k inside is d) in
     other (open_0 ∙ e ∙ ap (get_or rests.opens.items form) (shape ∙ sym k.sum))
 
 -- a coefficient that is read
-pub weight-read : (keep : List Kept) (form index : ℕ) (k : Kept) (w : ℕ) → form < length keep → k ≡ get_or keep form k → ((d : Term) → w ≡ (get_or (terms_of k.terms) index d).coefficient) → w ≡ coefficient_at (shapes_of keep) form index
+pub weight-read : (keep : List StoredForm) (form index : ℕ) (k : StoredForm) (w : ℕ) → form < length keep → k ≡ get_or keep form k → ((d : Term) → w ≡ (get_or (terms_of k.terms) index d).coefficient) → w ≡ coefficient_at (shapes_of keep) form index
 weight-read keep form index k w inside is read =
     let t : Term = record { literal = record { variable = 0; negated = false }; coefficient = 0 } in
     read t ∙ ap (λ (f : Shape). (get_or f.terms index t).coefficient) (sym (shape-at keep form k inside is (record { terms = []; degree = 0 })))

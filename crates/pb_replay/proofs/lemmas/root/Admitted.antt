@@ -9,7 +9,7 @@ use Rattle.pb_replay.specs.declared.propagate.rests.Rests.{Rests}
 use Rattle.pb_replay.specs.declared.propagate.run.Run.{Run}
 use Rattle.pb_replay.specs.declared.propagate.assignment.Assignment.{Assignment}
 use Rattle.pb_replay.specs.declared.propagate.store.Store.{Store}
-use Rattle.pb_replay.specs.declared.propagate.store.kept.Kept.{Kept}
+use Rattle.pb_replay.specs.declared.propagate.store.stored_form.StoredForm.{StoredForm}
 use Rattle.pb_replay.specs.declared.propagate.clauses.Clauses.{Clauses}
 use Rattle.pb_replay.specs.declared.propagate.clauses.lists.Watch.{Watch}
 use Rattle.pb_replay.specs.engine.Engine.Lists.{Shape, open_sum, size, has}
@@ -27,7 +27,7 @@ use Rattle.pb_replay.proofs.lemmas.engine.Rests.{element}
 use Rattle.pb_replay.proofs.lemmas.root.Rooted.{derives-without}
 
 -- the same form in both
-same-shape : (xs ys : List Kept) (s : ℕ) (d : Shape) → s < length ys → slice_get xs s ≡ slice_get ys s → get_or (shapes_of xs) s d ≡ get_or (shapes_of ys) s d
+same-shape : (xs ys : List StoredForm) (s : ℕ) (d : Shape) → s < length ys → slice_get xs s ≡ slice_get ys s → get_or (shapes_of xs) s d ≡ get_or (shapes_of ys) s d
 same-shape xs ys s d less same =
     let e = element ys s less in
     let k = e.value in
@@ -41,7 +41,7 @@ bare-parts : (x : Shape) (codes : List ℕ) → (slot_shape x codes).terms ≡ [
 bare-parts x [] h = h
 bare-parts x (c ∷ codes) h = absurd (omega (arith, ap length h, length-map (c ∷ codes) one_term))
 
-pub bare-slot : (keep : List Kept) (clauses : List (List ℕ)) (s : ℕ) (d : Shape) → s < length keep → ((x : Shape) → slice_get (joined (shapes_of keep) clauses) s ≡ Some x → x.terms ≡ []) → (get_or (shapes_of keep) s d).terms ≡ []
+pub bare-slot : (keep : List StoredForm) (clauses : List (List ℕ)) (s : ℕ) (d : Shape) → s < length keep → ((x : Shape) → slice_get (joined (shapes_of keep) clauses) s ≡ Some x → x.terms ≡ []) → (get_or (shapes_of keep) s d).terms ≡ []
 bare-slot keep clauses s d less bare =
     let inside : s < length (shapes_of keep) = omega (arith, less, length-map keep kept_shape) in
     let room : s < length (joined (shapes_of keep) clauses) = omega (arith, inside, joined-length (shapes_of keep) clauses) in

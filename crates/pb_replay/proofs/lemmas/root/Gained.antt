@@ -4,7 +4,7 @@ use Rattle.std.proofs.Common.{◌≡◌, ℕ, ◌+◌, ◌*◌, ◌<◌, ◌≤�
 use Rattle.std.proofs.lemmas.Bool.{cases_lt, cases_eq}
 use Rattle.std.proofs.lemmas.List.{length-map, get_or_append_left, get_or_past, get_or_push}
 use Rattle.std.proofs.lemmas.Option.{slice_get_within, get_or_from_slice_get}
-use Rattle.pb_replay.specs.declared.propagate.store.kept.Kept.{Kept}
+use Rattle.pb_replay.specs.declared.propagate.store.stored_form.StoredForm.{StoredForm}
 use Rattle.pb_replay.specs.declared.propagate.store.Store.{Store}
 use Rattle.pb_replay.specs.declared.propagate.clauses.Clauses.{Clauses}
 use Rattle.pb_replay.specs.declared.propagate.clauses.lists.Watch.{Watch}
@@ -46,7 +46,7 @@ vacant-bare xs clauses s x v at =
     ap (λ (f : Shape). f.terms) (sym is ∙ shape) ∙ v.terms x
 
 -- a form in a vacant slot
-pub gained-filled : (before store : Store) (old clauses : Clauses) (slot : ℕ) (k : Kept) → store.variables ≡ before.variables → store.kept.items ≡ set before.kept.items slot k → ((s : ℕ) → (s ≡ slot → ⊥) → list_at (clauses_of clauses) s ≡ list_at (clauses_of old) s) → ((e : ℕ) → (e / 2 ≡ slot → ⊥) → watch_at clauses.watches.items e ≡ watch_at old.watches.items e) → IsVacant (shapes_of before.kept.items) (clauses_of old) slot → HasGained before old store clauses slot
+pub gained-filled : (before store : Store) (old clauses : Clauses) (slot : ℕ) (k : StoredForm) → store.variables ≡ before.variables → store.kept.items ≡ set before.kept.items slot k → ((s : ℕ) → (s ≡ slot → ⊥) → list_at (clauses_of clauses) s ≡ list_at (clauses_of old) s) → ((e : ℕ) → (e / 2 ≡ slot → ⊥) → watch_at clauses.watches.items e ≡ watch_at old.watches.items e) → IsVacant (shapes_of before.kept.items) (clauses_of old) slot → HasGained before old store clauses slot
 gained-filled before store old clauses slot k variables keeps filled watched v = record {
   variables = variables;
   longer = inl (ap length keeps ∙ length-set before.kept.items slot k);

@@ -11,7 +11,7 @@ use Rattle.pb_replay.specs.declared.propagate.rests.Rests.{Rests}
 use Rattle.pb_replay.specs.declared.propagate.run.Run.{Run}
 use Rattle.pb_replay.specs.declared.propagate.assignment.Assignment.{Assignment}
 use Rattle.pb_replay.specs.declared.propagate.store.Store.{Store}
-use Rattle.pb_replay.specs.declared.propagate.store.kept.Kept.{Kept}
+use Rattle.pb_replay.specs.declared.propagate.store.stored_form.StoredForm.{StoredForm}
 use Rattle.pb_replay.specs.declared.propagate.clauses.Clauses.{Clauses}
 use Rattle.pb_replay.specs.engine.Engine.Lists.{Shape, has, says, open_sum, size}
 use Rattle.pb_replay.specs.engine.Engine.Fields.{shapes_of, kept_shape}
@@ -133,7 +133,7 @@ lost-rooted before store old clauses run run' rests rests' slot inside room read
   walked = rw h.assignment (vacated-walked run.assignment.values.items old clauses (walked_codes (length run.assignment.list.items) run.assignment.list.items) slot ready none_there g.watched r.walked);
 }
   where
-    k : Kept
+    k : StoredForm
     k = g.kept.0
 
     longer : length store.kept.items ≡ length before.kept.items

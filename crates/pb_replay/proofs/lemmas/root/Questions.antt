@@ -9,7 +9,7 @@ use Rattle.std.proofs.lemmas.List.Sorted.{length_permutation}
 use Rattle.pb_normal.specs.meaning.Form.{Form}
 use Rattle.pb_normal.specs.declared.numbered.NumberedLiteral.{NumberedLiteral}
 use Rattle.pb_replay.specs.declared.propagate.rests.Rests.{Rests}
-use Rattle.pb_replay.specs.declared.propagate.store.kept.Kept.{Kept}
+use Rattle.pb_replay.specs.declared.propagate.store.stored_form.StoredForm.{StoredForm}
 use Rattle.pb_replay.specs.declared.propagate.store.Store.{Store}
 use Rattle.pb_replay.specs.declared.propagate.clauses.lists.Watch.{Watch}
 use Rattle.pb_replay.specs.engine.Engine.Lists.{Shape, Derives, Extends, open_sum, size}
@@ -36,18 +36,18 @@ root-few store clauses list sound j single one d =
     omega (arith, root-short shapes (spots_of store.spots.items) lists store.variables clauses list sound d, both-le lists list single one, killed-both clauses list one, sound.whole.totals, joined-terms shapes clauses j)
 
 -- the shapes with one more form
-pub entered-shapes : (g : Form) (keep keep' : List Kept) (opens opens' cands cands' : List ℕ) (h : HasEntered g keep keep' opens opens' cands cands') → shapes_of keep' ≡ shapes_of keep ++ (kept_shape h.kept ∷ [])
+pub entered-shapes : (g : Form) (keep keep' : List StoredForm) (opens opens' cands cands' : List ℕ) (h : HasEntered g keep keep' opens opens' cands cands') → shapes_of keep' ≡ shapes_of keep ++ (kept_shape h.kept ∷ [])
 entered-shapes g keep keep' opens opens' cands cands' h = ap shapes_of h.keeps ∙ map-append kept_shape keep (h.kept ∷ [])
 
-entered-other : (g : Form) (keep keep' : List Kept) (opens opens' cands cands' : List ℕ) (h : HasEntered g keep keep' opens opens' cands cands') (s : ℕ) (d : Shape) → s < length keep → get_or (shapes_of keep') s d ≡ get_or (shapes_of keep) s d
+entered-other : (g : Form) (keep keep' : List StoredForm) (opens opens' cands cands' : List ℕ) (h : HasEntered g keep keep' opens opens' cands cands') (s : ℕ) (d : Shape) → s < length keep → get_or (shapes_of keep') s d ≡ get_or (shapes_of keep) s d
 entered-other g keep keep' opens opens' cands cands' h s d less =
     ap (λ xs. get_or xs s d) (entered-shapes g keep keep' opens opens' cands cands' h) ∙ get_or_append_left (shapes_of keep) (kept_shape h.kept ∷ []) d s (omega (arith, less, length-map keep kept_shape))
 
-entered-length : (g : Form) (keep keep' : List Kept) (opens opens' cands cands' : List ℕ) (h : HasEntered g keep keep' opens opens' cands cands') → length (shapes_of keep') ≡ length keep + 1
+entered-length : (g : Form) (keep keep' : List StoredForm) (opens opens' cands cands' : List ℕ) (h : HasEntered g keep keep' opens opens' cands cands') → length (shapes_of keep') ≡ length keep + 1
 entered-length g keep keep' opens opens' cands cands' h = omega (arith, length-map keep' kept_shape, ap length h.keeps, length-append keep (h.kept ∷ []))
 
 -- the open sums after the goal is laid on the root
-pub laid-counted : (g : Form) (keep keep' : List Kept) (opens opens' cands cands' lowered : List ℕ) (list : List NumberedLiteral) (n : ℕ) → (h : HasEntered g keep keep' opens opens' cands cands') → n ≡ length keep → length opens ≡ length keep →
+pub laid-counted : (g : Form) (keep keep' : List StoredForm) (opens opens' cands cands' lowered : List ℕ) (list : List NumberedLiteral) (n : ℕ) → (h : HasEntered g keep keep' opens opens' cands cands') → n ≡ length keep → length opens ≡ length keep →
     ((s : ℕ) (d : Shape) → s < length keep → get_or opens s 0 ≡ open_sum list (get_or (shapes_of keep) s d).terms) →
     ((d : Shape) → lowered ≡ set opens' n (open_sum list (get_or (shapes_of keep') n d).terms)) → IsCounted (shapes_of keep') lowered list []
 laid-counted g keep keep' opens opens' cands cands' lowered list n h at sizes counted low =
@@ -60,7 +60,7 @@ laid-counted g keep keep' opens opens' cands cands' lowered list n h at sizes co
     below s inside other (inr past) = absurd (other (omega (arith, past, inside, entered-length g keep keep' opens opens' cands cands' h, at)))
 
 -- the forms with the goal after them, which may be anything
-entered-tidy : (rests : Rests) (g : Form) (keep keep' : List Kept) (opens opens' cands cands' : List ℕ) (list : List NumberedLiteral) (n : ℕ) → (h : HasEntered g keep keep' opens opens' cands cands') → n ≡ length keep → length opens ≡ length keep → length cands ≡ length keep → length rests.opens.items ≡ length keep → length rests.starts.items ≡ length keep →
+entered-tidy : (rests : Rests) (g : Form) (keep keep' : List StoredForm) (opens opens' cands cands' : List ℕ) (list : List NumberedLiteral) (n : ℕ) → (h : HasEntered g keep keep' opens opens' cands cands') → n ≡ length keep → length opens ≡ length keep → length cands ≡ length keep → length rests.opens.items ≡ length keep → length rests.starts.items ≡ length keep →
     IsTidy (beside rests []) (shapes_of keep) opens cands list [] [] 0 n → IsTidy (beside rests []) (shapes_of keep') opens' cands' list [] [] 0 n
 entered-tidy rests g keep keep' opens opens' cands cands' list n h at sizes csizes rsizes ssizes tidy = record {
   calm = λ s d inside idle off gone.
@@ -120,7 +120,7 @@ entered-tidy rests g keep keep' opens opens' cands cands' list n h at sizes csiz
         total ∙ h.kept.sum ∙ sym (ap (λ (x : Shape). size x.terms) its) ∙ sym (get_or_past rests.opens.items s (size (get_or (shapes_of keep') s d).terms) (omega (arith, one, at, rsizes)))
 
 -- what a propagation needs of the forms after the goal is laid on the root
-pub laid-tidy : (rests : Rests) (g : Form) (keep keep' : List Kept) (opens opens' cands cands' lowered : List ℕ) (list : List NumberedLiteral) (work trail : List ℕ) (n : ℕ) → (h : HasEntered g keep keep' opens opens' cands cands') → n ≡ length keep → length opens ≡ length keep → length cands ≡ length keep → length rests.opens.items ≡ length keep → length rests.starts.items ≡ length keep →
+pub laid-tidy : (rests : Rests) (g : Form) (keep keep' : List StoredForm) (opens opens' cands cands' lowered : List ℕ) (list : List NumberedLiteral) (work trail : List ℕ) (n : ℕ) → (h : HasEntered g keep keep' opens opens' cands cands') → n ≡ length keep → length opens ≡ length keep → length cands ≡ length keep → length rests.opens.items ≡ length keep → length rests.starts.items ≡ length keep →
     IsTidy (beside rests []) (shapes_of keep) opens cands list [] [] 0 n →
     ((d : Shape) → lowered ≡ set opens' n (open_sum list (get_or (shapes_of keep') n d).terms)) →
     Grown ((d : Shape) (c : ℕ) → IsCalm (get_or (shapes_of keep') n d) (open_sum list (get_or (shapes_of keep') n d).terms) c) n [] work → trail ≡ n ∷ [] →

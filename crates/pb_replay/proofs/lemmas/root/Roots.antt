@@ -7,7 +7,7 @@ use Rattle.pb_normal.specs.declared.numbered.NumberedLiteral.{NumberedLiteral}
 use Rattle.pb_replay.specs.declared.propagate.rests.Rests.{Rests}
 use Rattle.pb_replay.specs.declared.propagate.run.Run.{Run}
 use Rattle.pb_replay.specs.declared.propagate.store.Store.{Store}
-use Rattle.pb_replay.specs.declared.propagate.store.kept.Kept.{Kept}
+use Rattle.pb_replay.specs.declared.propagate.store.stored_form.StoredForm.{StoredForm}
 use Rattle.pb_replay.specs.declared.propagate.clauses.Clauses.{Clauses}
 use Rattle.pb_replay.specs.engine.Engine.Lists.{Shape, Derives, size}
 use Rattle.pb_replay.specs.engine.Engine.Counts.{IsAbsent, IsCounted, IsTidy, IsUndone, beside, rest_open, rest_start, weight_in}
@@ -97,7 +97,7 @@ kept-rooted store clauses clauses' run run' rests rests' values sizes csizes cou
     }
 
 -- what a propagation from nothing needs, if questions return to where it starts
-pub start-counted : (keep : List Kept) (opens cands : List ℕ) → AreAtRest keep opens cands → IsCounted (shapes_of keep) opens [] []
+pub start-counted : (keep : List StoredForm) (opens cands : List ℕ) → AreAtRest keep opens cands → IsCounted (shapes_of keep) opens [] []
 start-counted keep opens cands r = record {
   each = λ s d inside.
       let at = rest-at keep opens cands r s d (omega (arith, inside, length-map keep kept_shape)) in
@@ -106,7 +106,7 @@ start-counted keep opens cands r = record {
       omega (arith, at.0, sum, nothing);
 }
 
-pub start-tidy : (rests : Rests) (keep : List Kept) (eager opens cands : List ℕ) → rests.opens.items ≡ opens → rests.starts.items ≡ cands → AreAtRest keep opens cands → IsEager keep eager → IsTidy (beside rests (filter (waits keep) eager)) (shapes_of keep) opens cands [] [] [] 0 (length keep)
+pub start-tidy : (rests : Rests) (keep : List StoredForm) (eager opens cands : List ℕ) → rests.opens.items ≡ opens → rests.starts.items ≡ cands → AreAtRest keep opens cands → IsEager keep eager → IsTidy (beside rests (filter (waits keep) eager)) (shapes_of keep) opens cands [] [] [] 0 (length keep)
 start-tidy rests keep eager opens cands opened started r e = record {
   calm = λ s d inside idle off gone.
       let at = rest-at keep opens cands r s d (omega (arith, inside, length-map keep kept_shape)) in

@@ -8,7 +8,7 @@ use Rattle.std.proofs.lemmas.List.{get_or-take, set-set, take-map, map-append, l
 use Rattle.std.proofs.lemmas.List.Elements.{All-push, All-set, All-take}
 use Rattle.pb_replay.specs.declared.propagate.term.Term.{Term}
 use Rattle.pb_replay.specs.declared.propagate.store.Occurrence.{Occurrence}
-use Rattle.pb_replay.specs.declared.propagate.store.kept.Kept.{Kept}
+use Rattle.pb_replay.specs.declared.propagate.store.stored_form.StoredForm.{StoredForm}
 use Rattle.pb_replay.specs.engine.Engine.Lists.{Shape, AreInside}
 use Rattle.pb_replay.specs.engine.Engine.Fields.{shapes_of, kept_shape, forms_of, spots_of, entries_of}
 use Rattle.pb_replay.specs.engine.Engine.Terms.{terms_of}
@@ -23,7 +23,7 @@ use Rattle.pb_replay.proofs.lemmas.store.Weights.{entries-apart, others-named, o
 pub set-end : {X : Type 0} (xs ys : List X) (n : ℕ) (y z : X) → ys ≡ xs ++ (y ∷ []) → n ≡ length xs → set ys n z ≡ xs ++ (z ∷ [])
 set-end xs ys n y z e at = ap (λ zs. set zs n z) e ∙ ap (λ m. set (xs ++ (y ∷ [])) m z) at ∙ set-append_seam xs y [] z
 
-pub empty-end : (keep keep' : List Kept) (k : Kept) (n : ℕ) → keep' ≡ keep ++ (k ∷ []) → n ≡ length keep → (terms_of k.terms) ≡ [] → terms_at (shapes_of keep') n ≡ []
+pub empty-end : (keep keep' : List StoredForm) (k : StoredForm) (n : ℕ) → keep' ≡ keep ++ (k ∷ []) → n ≡ length keep → (terms_of k.terms) ≡ [] → terms_at (shapes_of keep') n ≡ []
 empty-end keep keep' k n e at empty =
     rw (e, map-append kept_shape keep (k ∷ [])) (ap (λ (f : Shape). f.terms) (last-is (shapes_of keep) (kept_shape k) (record { terms = []; degree = 0 }) n (at ∙ sym (length-map keep kept_shape))) ∙ empty)
 
@@ -31,7 +31,7 @@ none_inside : (n : ℕ) (ts : List Term) → ts ≡ [] → AreInside n ts
 none_inside n ts h i d less = absurd (omega (arith, less, ap length h))
 
 -- an empty form after the others
-pub widened-forms : (keep : List Kept) (k : Kept) (sp : List (Vec ℕ Global)) (v : Vec ℕ Global) (occ : List (Vec Occurrence Global)) (n : ℕ) → (terms_of k.terms) ≡ [] → v.items ≡ [] →
+pub widened-forms : (keep : List StoredForm) (k : StoredForm) (sp : List (Vec ℕ Global)) (v : Vec ℕ Global) (occ : List (Vec Occurrence Global)) (n : ℕ) → (terms_of k.terms) ≡ [] → v.items ≡ [] →
     IsStored (shapes_of keep) (spots_of sp) (entries_of (shapes_of keep) occ) n → IsStored (shapes_of (keep ++ (k ∷ []))) (spots_of (sp ++ (v ∷ []))) (entries_of (shapes_of (keep ++ (k ∷ []))) occ) n
 widened-forms keep k sp v occ n empty no_spots old =
     let forms = shapes_of keep in
@@ -62,7 +62,7 @@ widened-forms keep k sp v occ n empty no_spots old =
     })
 
 -- a form in the slot of an empty one
-pub filled-stored : (keep : List Kept) (k : Kept) (sp : List (Vec ℕ Global)) (v : Vec ℕ Global) (occ occ' : List (Vec Occurrence Global)) (n form : ℕ) (terms : List Term) →
+pub filled-stored : (keep : List StoredForm) (k : StoredForm) (sp : List (Vec ℕ Global)) (v : Vec ℕ Global) (occ occ' : List (Vec Occurrence Global)) (n form : ℕ) (terms : List Term) →
     form < length keep → terms_at (shapes_of keep) form ≡ [] → terms ≡ (terms_of k.terms) → length occ' ≡ length occ → length v.items ≡ length terms → AreInside n (terms_of k.terms) →
     ((base : List Shape) (all : List (List ℕ)) → form < length base → terms_at base form ≡ terms → form < length all → IsLinked (cut base form 0) (set all form []) (entries_of base occ) → IsLinked (cut base form (length terms)) (set all form v.items) (entries_of base occ')) →
     IsStored (shapes_of keep) (spots_of sp) (entries_of (shapes_of keep) occ) n → IsStored (shapes_of (set keep form k)) (spots_of (set sp form v)) (entries_of (shapes_of (set keep form k)) occ') n
@@ -106,7 +106,7 @@ terms-taken forms n k size other =
       | inr more ↦ ap (λ (f : Shape). f.terms) (get_or_past (take n forms) k e (omega (arith, length-take-le n forms (omega (arith, size)), more)) ∙ sym (get_or_past forms k e (omega (arith, size, lt_of_apart n k more other))))
     ]
 
-pub left-stored : (keep : List Kept) (sp sp0 : List (Vec ℕ Global)) (occ occ0 : List (Vec Occurrence Global)) (n number : ℕ) → length keep ≡ number + 1 → length occ ≡ length occ0 →
+pub left-stored : (keep : List StoredForm) (sp sp0 : List (Vec ℕ Global)) (occ occ0 : List (Vec Occurrence Global)) (n number : ℕ) → length keep ≡ number + 1 → length occ ≡ length occ0 →
     ((s : ℕ) → length (get_or (spots_of sp) s []) ≡ length (get_or (spots_of sp0) s [])) → IsLinked (cut (shapes_of keep) number 0) (spots_of sp) (entries_of (shapes_of keep) occ) → IsStored (shapes_of keep) (spots_of sp0) (entries_of (shapes_of keep) occ0) n →
     IsStored (shapes_of (take number keep)) (spots_of (take number sp)) (entries_of (shapes_of (take number keep)) occ) n
 left-stored keep sp sp0 occ occ0 n number count sizes rooms linked old =
@@ -137,7 +137,7 @@ left-stored keep sp sp0 occ occ0 n number count sizes rooms linked old =
           ap length (get_or-take number (spots_of sp) s [] before) ∙ rooms s ∙ old.rooms s (omega (arith, before, forms_size)) ∙ sym (ap (λ (f : Shape). length f.terms) (get_or-take number forms s e before));
     })
 
-pub vacated-stored : (keep : List Kept) (k : Kept) (sp sp0 : List (Vec ℕ Global)) (v : Vec ℕ Global) (occ occ0 : List (Vec Occurrence Global)) (n form : ℕ) → form < length keep → (terms_of k.terms) ≡ [] → v.items ≡ [] → length occ ≡ length occ0 →
+pub vacated-stored : (keep : List StoredForm) (k : StoredForm) (sp sp0 : List (Vec ℕ Global)) (v : Vec ℕ Global) (occ occ0 : List (Vec Occurrence Global)) (n form : ℕ) → form < length keep → (terms_of k.terms) ≡ [] → v.items ≡ [] → length occ ≡ length occ0 →
     ((s : ℕ) → length (get_or (spots_of sp) s []) ≡ length (get_or (spots_of sp0) s [])) → IsLinked (cut (shapes_of keep) form 0) (spots_of sp) (entries_of (shapes_of keep) occ) → IsStored (shapes_of keep) (spots_of sp0) (entries_of (shapes_of keep) occ0) n →
     IsStored (shapes_of (set keep form k)) (spots_of (set sp form v)) (entries_of (shapes_of (set keep form k)) occ) n
 vacated-stored keep k sp sp0 v occ occ0 n form inside empty no_spots sizes rooms linked old =
@@ -167,21 +167,21 @@ pub take-at : {X : Type 0} (xs ys : List X) (a b : ℕ) → a ≡ b → xs ≡ y
 take-at xs ys a b e f = ap (λ n. take n xs) e ∙ ap (take b) f
 
 -- one more empty form is none of the forms
-pub forms-more : (keep keep' : List Kept) (k : Kept) (s : ℕ) → keep' ≡ keep ++ (k ∷ []) → k.terms.form ≡ None → get_or (forms_of keep') s None ≡ get_or (forms_of keep) s None
+pub forms-more : (keep keep' : List StoredForm) (k : StoredForm) (s : ℕ) → keep' ≡ keep ++ (k ∷ []) → k.terms.form ≡ None → get_or (forms_of keep') s None ≡ get_or (forms_of keep) s None
 forms-more keep keep' k s same e = ap (λ ks. get_or (forms_of ks) s None) same ∙ at keep s
   where
-    at : (ks : List Kept) (n : ℕ) → get_or (forms_of (ks ++ (k ∷ []))) n None ≡ get_or (forms_of ks) n None
+    at : (ks : List StoredForm) (n : ℕ) → get_or (forms_of (ks ++ (k ∷ []))) n None ≡ get_or (forms_of ks) n None
     at [] zero = e
     at [] (suc n) = refl
     at (x ∷ ks) zero = refl
     at (x ∷ ks) (suc n) = at ks n
 
 -- the forms, as one is added or removed
-pub forms-widened : (keep keep' : List Kept) (k : Kept) → keep' ≡ keep ++ (k ∷ []) → k.terms.form ≡ None → forms_of keep' ≡ forms_of keep ++ (None ∷ [])
-forms-widened keep keep' k same e = ap forms_of same ∙ map-append (λ (x : Kept). x.terms.form) keep (k ∷ []) ∙ ap (λ o. forms_of keep ++ (o ∷ [])) e
+pub forms-widened : (keep keep' : List StoredForm) (k : StoredForm) → keep' ≡ keep ++ (k ∷ []) → k.terms.form ≡ None → forms_of keep' ≡ forms_of keep ++ (None ∷ [])
+forms-widened keep keep' k same e = ap forms_of same ∙ map-append (λ (x : StoredForm). x.terms.form) keep (k ∷ []) ∙ ap (λ o. forms_of keep ++ (o ∷ [])) e
 
-pub forms-filled : (keep keep' : List Kept) (k : Kept) (s : ℕ) (o : Option Form) → keep' ≡ set keep s k → k.terms.form ≡ o → forms_of keep' ≡ set (forms_of keep) s o
-forms-filled keep keep' k s o same e = ap forms_of same ∙ map-set (λ (x : Kept). x.terms.form) keep s k ∙ ap (set (forms_of keep) s) e
+pub forms-filled : (keep keep' : List StoredForm) (k : StoredForm) (s : ℕ) (o : Option Form) → keep' ≡ set keep s k → k.terms.form ≡ o → forms_of keep' ≡ set (forms_of keep) s o
+forms-filled keep keep' k s o same e = ap forms_of same ∙ map-set (λ (x : StoredForm). x.terms.form) keep s k ∙ ap (set (forms_of keep) s) e
 
-pub forms-length : (keep : List Kept) → length (forms_of keep) ≡ length keep
-forms-length keep = length-map keep (λ (k : Kept). k.terms.form)
+pub forms-length : (keep : List StoredForm) → length (forms_of keep) ≡ length keep
+forms-length keep = length-map keep (λ (k : StoredForm). k.terms.form)

@@ -6,7 +6,7 @@ use Rattle.std.proofs.lemmas.List.{length-map, map-append, get_or-map, get_or_pa
 use Rattle.std.proofs.lemmas.List.Sums.{sum_by-set, sum_by_push, sum_by-cons}
 use Rattle.std.proofs.lemmas.Option.{slice_get_within, slice_get-get_or, get_or_from_slice_get}
 use Rattle.pb_normal.specs.meaning.Form.{Form}
-use Rattle.pb_replay.specs.declared.propagate.store.kept.Kept.{Kept}
+use Rattle.pb_replay.specs.declared.propagate.store.stored_form.StoredForm.{StoredForm}
 use Rattle.pb_replay.specs.engine.Engine.Fields.{forms_of}
 use Rattle.pb_replay.specs.engine.Engine.Lists.{Shape}
 use Rattle.pb_replay.specs.engine.Engine.Live.{Live}
@@ -248,8 +248,8 @@ numbered-more forms o places small p = numbered-same forms (forms ++ (o ∷ []))
   | inr found ↦ get_or_append_left forms (o ∷ []) None s (at-inside forms s found.0 found.1)
 ])
 
-pub numbered-entered : (keep keep' : List Kept) (k : Kept) (places : List ℕ) → keep' ≡ keep ++ (k ∷ []) → length keep < 2 ^ 64 - 1 → ArePlaced (forms_of keep) places → numbered (forms_of keep') places ≡ numbered (forms_of keep) places
+pub numbered-entered : (keep keep' : List StoredForm) (k : StoredForm) (places : List ℕ) → keep' ≡ keep ++ (k ∷ []) → length keep < 2 ^ 64 - 1 → ArePlaced (forms_of keep) places → numbered (forms_of keep') places ≡ numbered (forms_of keep) places
 numbered-entered keep keep' k places same small p =
-    let form : Kept → Option Form = λ x. x.terms.form in
+    let form : StoredForm → Option Form = λ x. x.terms.form in
     let more : forms_of keep' ≡ forms_of keep ++ (form k ∷ []) = ap forms_of same ∙ map-append form keep (k ∷ []) in
     rw more (numbered-more (forms_of keep) (form k) places (omega (arith, small, length-map keep form)) p)

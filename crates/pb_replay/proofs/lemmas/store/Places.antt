@@ -15,7 +15,7 @@ use Rattle.pb_replay.proofs.lemmas.store.Gets.{get-push_same, get-push_other}
 use Rattle.pb_replay.proofs.lemmas.store.Crosses.{Same}
 use Rattle.pb_replay.proofs.lemmas.store.Links.{link-next}
 use Rattle.pb_replay.proofs.lemmas.store.Unlinks.{swap-here, swap-length, unlink-next, named-spot, named-entry}
-use Rattle.pb_replay.specs.declared.propagate.store.kept.Kept.{Kept}
+use Rattle.pb_replay.specs.declared.propagate.store.stored_form.StoredForm.{StoredForm}
 use Rattle.pb_replay.specs.engine.Engine.Fields.{shapes_of, kept_shape}
 use Rattle.pb_replay.proofs.lemmas.store.Links.{cut-length}
 use Rattle.pb_replay.proofs.lemmas.engine.VisitSteps.{shape-at, term-inside}
@@ -106,7 +106,7 @@ pub record UnlinkRead (base : List Shape) (spots : List (List ℕ)) (occ : List 
   pub named : (o : Occurrence) → slice_get (get_or (lists_of occ) p []) (length (get_or (lists_of occ) p []) - 1) ≡ Some o → (o.form < length spots) × (o.index < length (get_or spots o.form []))
   pub next : (spots' : List (List ℕ)) (occ' : List (Vec Occurrence Global)) → ((o : Occurrence) × (o ≡ get_or (get_or (lists_of occ) p []) q o) × (lists_of occ' ≡ set (lists_of occ) p (swap_remove (get_or (lists_of occ) p []) q o))) → Moved (get_or (lists_of occ) p []) q spots spots' → IsLinked (cut base form j) spots' (entries_of base occ')
 
-pub unlink-read : (keep keep' : List Kept) (sp : List (Vec ℕ Global)) (occ : List (Vec Occurrence Global)) (n form left j : ℕ) (k : Kept) (t : Term) (w : Vec ℕ Global) (q p : ℕ) →
+pub unlink-read : (keep keep' : List StoredForm) (sp : List (Vec ℕ Global)) (occ : List (Vec Occurrence Global)) (n form left j : ℕ) (k : StoredForm) (t : Term) (w : Vec ℕ Global) (q p : ℕ) →
     keep' ≡ keep → left ≡ j + 1 → form < length keep → k ≡ get_or keep' form k → left ≤ length (terms_at (shapes_of keep) form) → t ≡ get_or (terms_of k.terms) j t → w ≡ get_or sp form w → length (get_or (spots_of sp) form []) ≡ length (terms_at (shapes_of keep) form) → q ≡ get_or w.items j q → p ≡ place t.literal →
     All (λ f. AreInside n f.terms) (shapes_of keep) → length occ ≡ 2 * n → IsLinked (cut (shapes_of keep) form left) (spots_of sp) (entries_of (shapes_of keep) occ) → UnlinkRead (shapes_of keep) (spots_of sp) occ form j q p
 unlink-read keep keep' sp occ n form left j k t w q p same count inside kept_is most item spots_is rooms spot_is place_is all places old =

@@ -7,7 +7,7 @@ use Rattle.std.proofs.Math.Seq.{map-set_same}
 use Rattle.std.proofs.lemmas.List.Sums.{sum_by-set, sum_by_push}
 use Rattle.std.proofs.lemmas.Option.{slice_get_within, slice_get-get_or, get_or_from_slice_get}
 use Rattle.pb_normal.specs.meaning.Form.{Form}
-use Rattle.pb_replay.specs.declared.propagate.store.kept.Kept.{Kept}
+use Rattle.pb_replay.specs.declared.propagate.store.stored_form.StoredForm.{StoredForm}
 use Rattle.pb_replay.specs.declared.propagate.store.Store.{Store}
 use Rattle.pb_replay.specs.declared.propagate.run.Run.{Run}
 use Rattle.pb_replay.specs.declared.propagate.eager.Eager.{Eager}
@@ -34,12 +34,12 @@ use Rattle.pb_replay.proofs.lemmas.clauses.Slots.{IsVacant, slots-vacant, joined
 use Rattle.pb_replay.proofs.lemmas.clauses.Shapes.{joined-length}
 
 -- what an empty slot is
-pub record IsBare (keep : List Kept) (s : ℕ) : Type 0 where
+pub record IsBare (keep : List StoredForm) (s : ℕ) : Type 0 where
   pub inside : s < length keep
   pub terms : terms_at (shapes_of keep) s ≡ []
   pub idle : waits keep s ≡ false
 
-pub vacant-bare : (keep : List Kept) (clauses : List (List ℕ)) (s : ℕ) → IsVacant (shapes_of keep) clauses s → IsBare keep s
+pub vacant-bare : (keep : List StoredForm) (clauses : List (List ℕ)) (s : ℕ) → IsVacant (shapes_of keep) clauses s → IsBare keep s
 vacant-bare keep clauses s v =
     let inside : s < length keep = omega (arith, v.inside, length-map keep kept_shape) in
     let e = element keep s inside in
@@ -54,37 +54,37 @@ vacant-bare keep clauses s v =
       ];
     }
 
-pub slots-bare : (os : List (Option Form)) (keep : List Kept) (clauses : List (List ℕ)) (s : ℕ) → AreSlots os (joined (shapes_of keep) clauses) → slice_get os s ≡ Some None → IsBare keep s
+pub slots-bare : (os : List (Option Form)) (keep : List StoredForm) (clauses : List (List ℕ)) (s : ℕ) → AreSlots os (joined (shapes_of keep) clauses) → slice_get os s ≡ Some None → IsBare keep s
 slots-bare os keep clauses s a h = vacant-bare keep clauses s (slots-vacant os (shapes_of keep) clauses s a h)
 
-waits-other : (keep : List Kept) (s t : ℕ) (k : Kept) → (t ≡ s → ⊥) → waits (set keep s k) t ≡ waits keep t
+waits-other : (keep : List StoredForm) (s t : ℕ) (k : StoredForm) → (t ≡ s → ⊥) → waits (set keep s k) t ≡ waits keep t
 waits-other keep s t k n = ap kept_waits (get-set_other keep s t k n)
 
-waits-here : (keep : List Kept) (s : ℕ) (k : Kept) → s < length keep → waits (set keep s k) s ≡ k.eager
+waits-here : (keep : List StoredForm) (s : ℕ) (k : StoredForm) → s < length keep → waits (set keep s k) s ≡ k.eager
 waits-here keep s k inside = ap kept_waits (get-set_same keep s k inside)
 
-waits-inside : (keep : List Kept) (s : ℕ) → waits keep s ≡ true → s < length keep
+waits-inside : (keep : List StoredForm) (s : ℕ) → waits keep s ≡ true → s < length keep
 waits-inside [] s w = absurd (let e : false ≡ true = w in cc)
 waits-inside (k ∷ ks) zero w = omega arith
 waits-inside (k ∷ ks) (suc s) w = let less = waits-inside ks s w in omega (arith, less)
 
 -- all on the list wait, and each that waits is on the list
-pub record IsExact (keep : List Kept) (list : List ℕ) : Type 0 where
+pub record IsExact (keep : List StoredForm) (list : List ℕ) : Type 0 where
   pub eager : IsEager keep list
   pub exact : AllWait keep list
   pub few : length list ≤ sum_by eager_one keep
 
-pub exact-absent : (keep : List Kept) (list : List ℕ) (s : ℕ) → AllWait keep list → waits keep s ≡ false → IsAbsent list 0 s
+pub exact-absent : (keep : List StoredForm) (list : List ℕ) (s : ℕ) → AllWait keep list → waits keep s ≡ false → IsAbsent list 0 s
 exact-absent keep list s exact idle = get-absent list s (λ i h. both_ways _ idle (exact i s h))
 
-pub eager-there : (keep : List Kept) (list : List ℕ) (s : ℕ) → IsEager keep list → waits keep s ≡ true → IsAbsent list 0 s → ⊥
+pub eager-there : (keep : List StoredForm) (list : List ℕ) (s : ℕ) → IsEager keep list → waits keep s ≡ true → IsAbsent list 0 s → ⊥
 eager-there keep list s e w gone = both_ways _ (e.aside s (waits-inside keep s w) gone) w
 
 -- an empty form after the others
-one-of : (k : Kept) (b : Bool) → k.eager ≡ b → eager_one k ≡ (if b then 1 else 0)
+one-of : (k : StoredForm) (b : Bool) → k.eager ≡ b → eager_one k ≡ (if b then 1 else 0)
 one-of k b e = ap (λ c. if c then 1 else 0) e
 
-exact-widened : (keep : List Kept) (k : Kept) (list : List ℕ) → IsEmpty k → IsExact keep list → IsExact (keep ++ (k ∷ [])) list
+exact-widened : (keep : List StoredForm) (k : StoredForm) (list : List ℕ) → IsEmpty k → IsExact keep list → IsExact (keep ++ (k ∷ [])) list
 exact-widened keep k list e x =
     let long = length-append keep (k ∷ []) in
     record {
@@ -103,7 +103,7 @@ exact-widened keep k list e x =
       few = omega (arith, x.few, sum_by_push eager_one keep k);
     }
 
-pub rest-widened : (store store' : Store) (run run' : Run) (waiting waiting' : Eager) (clauses clauses' : Clauses) (forms : List (Option Form)) (k : Kept) → IsSound store' → IsEmpty k → store'.kept.items ≡ store.kept.items ++ (k ∷ []) → run'.opens.items ≡ run.opens.items ++ (0 ∷ []) → run'.candidates.items ≡ run.candidates.items ++ (0 ∷ []) →
+pub rest-widened : (store store' : Store) (run run' : Run) (waiting waiting' : Eager) (clauses clauses' : Clauses) (forms : List (Option Form)) (k : StoredForm) → IsSound store' → IsEmpty k → store'.kept.items ≡ store.kept.items ++ (k ∷ []) → run'.opens.items ≡ run.opens.items ++ (0 ∷ []) → run'.candidates.items ≡ run.candidates.items ++ (0 ∷ []) →
     store'.variables ≡ store.variables → run'.trail ≡ run.trail → ((run'.assignment ≡ run.assignment) × (run'.work ≡ run.work) × (run'.next ≡ run.next) × (run'.visits ≡ run.visits)) → waiting'.list.items ≡ waiting.list.items → length waiting'.seats.items ≡ length waiting.seats.items + 1 →
     AreReady clauses' → clauses_of clauses' ≡ clauses_of clauses ++ ([] ∷ []) → clauses'.lists ≡ clauses.lists →
     IsAtRest store run waiting clauses forms → IsAtRest store' run' waiting' clauses' (forms ++ (None ∷ []))
@@ -120,8 +120,8 @@ rest-widened store store' run run' waiting waiting' clauses clauses' forms k sou
       widths = ap (λ (v : Vec (Vec ℕ Global) Global). length v.items) lists ∙ r.widths ∙ ap (λ n. 2 * n) (sym variables);
       known = omega (arith, ap length literals, length-append (clauses_of clauses) ([] ∷ []), lists-length clauses.literals.items, lists-length clauses'.literals.items, r.known, ap length keeps, length-append keep (k ∷ []));
       rest = record {
-        opened = opens ∙ ap (λ (xs : List ℕ). xs ++ (0 ∷ [])) r.rest.opened ∙ ap (λ n. map (λ (z : Kept). z.total) keep ++ (n ∷ [])) (sym e.total) ∙ sym (ap (map (λ z. z.total)) keeps ∙ map-append (λ (z : Kept). z.total) keep (k ∷ []));
-        passed = cands ∙ ap (λ (xs : List ℕ). xs ++ (0 ∷ [])) r.rest.passed ∙ sym (ap (map (λ z. 0)) keeps ∙ map-append (λ (z : Kept). 0) keep (k ∷ []));
+        opened = opens ∙ ap (λ (xs : List ℕ). xs ++ (0 ∷ [])) r.rest.opened ∙ ap (λ n. map (λ (z : StoredForm). z.total) keep ++ (n ∷ [])) (sym e.total) ∙ sym (ap (map (λ z. z.total)) keeps ∙ map-append (λ (z : StoredForm). z.total) keep (k ∷ []));
+        passed = cands ∙ ap (λ (xs : List ℕ). xs ++ (0 ∷ [])) r.rest.passed ∙ sym (ap (map (λ z. 0)) keeps ∙ map-append (λ (z : StoredForm). 0) keep (k ∷ []));
       };
       values = ap (λ (a : Assignment). length a.values.items) same.0 ∙ r.values ∙ sym variables;
       list = ap (λ (a : Assignment). a.list.items) same.0 ∙ r.list;
@@ -135,7 +135,7 @@ rest-widened store store' run run' waiting waiting' clauses clauses' forms k sou
     }
 
 -- a form in the slot of an empty one
-exact-filled : (keep keep' : List Kept) (k : Kept) (list list' : List ℕ) (s : ℕ) → IsBare keep s → keep' ≡ set keep s k → list' ≡ list ++ filter (waits keep') (s ∷ []) → IsExact keep list → IsExact keep' list'
+exact-filled : (keep keep' : List StoredForm) (k : StoredForm) (list list' : List ℕ) (s : ℕ) → IsBare keep s → keep' ≡ set keep s k → list' ≡ list ++ filter (waits keep') (s ∷ []) → IsExact keep list → IsExact keep' list'
 exact-filled keep keep' k list list' s bare keeps more x = rw (more, keeps) (by_head k.eager refl)
   where
     here : waits (set keep s k) s ≡ k.eager
@@ -200,7 +200,7 @@ rest-filled store store' run run' waiting waiting' clauses forms f s sound none 
       widths = r.widths ∙ ap (λ n. 2 * n) (sym variables);
       known = omega (arith, r.known, ap length h.keeps, length-set keep s k);
       rest = record {
-        opened = h.opened ∙ ap (λ (xs : List ℕ). set xs s k.total) r.rest.opened ∙ sym (ap (map (λ z. z.total)) h.keeps ∙ map-set (λ (z : Kept). z.total) keep s k);
+        opened = h.opened ∙ ap (λ (xs : List ℕ). set xs s k.total) r.rest.opened ∙ sym (ap (map (λ z. z.total)) h.keeps ∙ map-set (λ (z : StoredForm). z.total) keep s k);
         passed = ap (λ (v : Vec ℕ Global). v.items) same.0 ∙ r.rest.passed ∙ sym (ap (map (λ z. 0)) h.keeps ∙ map-zero keep s k);
       };
       values = ap (λ (a : Assignment). length a.values.items) same.1 ∙ r.values ∙ sym variables;
@@ -215,7 +215,7 @@ rest-filled store store' run run' waiting waiting' clauses forms f s sound none 
     }
 
 -- an empty form in the slot of a removed one
-exact-quit : (keep : List Kept) (k : Kept) (list list' seats : List ℕ) (s : ℕ) → s < length keep → k.eager ≡ false → AreSeated list seats →
+exact-quit : (keep : List StoredForm) (k : StoredForm) (list list' seats : List ℕ) (s : ℕ) → s < length keep → k.eager ≡ false → AreSeated list seats →
     (waits keep s ≡ true → (q : ℕ) × (slice_get list q ≡ Some s) × (list' ≡ swap_remove list q s)) → (waits keep s ≡ false → list' ≡ list) → IsExact keep list → IsExact (set keep s k) list'
 exact-quit keep k list list' seats s inside idle seated out same x = by_head (waits keep s) refl
   where
@@ -276,7 +276,7 @@ shape-made a b p q =
     let second : record { terms = b.terms; degree = a.degree } ≡ record { terms = b.terms; degree = b.degree } = ap (λ n. let x : Shape = record { terms = b.terms; degree = n } in x) q in
     first ∙ second
 
-pub shapes-watched : (keep keep' : List Kept) (k : Kept) (clauses : List (List ℕ)) (s : ℕ) → IsVacant (shapes_of keep) clauses s → IsUnlisted k → keep' ≡ set keep s k → shapes_of keep' ≡ shapes_of keep
+pub shapes-watched : (keep keep' : List StoredForm) (k : StoredForm) (clauses : List (List ℕ)) (s : ℕ) → IsVacant (shapes_of keep) clauses s → IsUnlisted k → keep' ≡ set keep s k → shapes_of keep' ≡ shapes_of keep
 shapes-watched keep keep' k clauses s v e keeps =
     let inside : s < length keep = omega (arith, v.inside, length-map keep kept_shape) in
     let x = element keep s inside in
@@ -284,10 +284,10 @@ shapes-watched keep keep' k clauses s v e keeps =
     let same : kept_shape k ≡ kept_shape (get_or keep s k) = shape-made (kept_shape k) (get_or (shapes_of keep) s (kept_shape k)) (e.terms ∙ sym (v.terms (kept_shape k))) (e.degree ∙ sym (v.degree (kept_shape k))) ∙ shape in
     ap shapes_of keeps ∙ map-set_same kept_shape keep s k k same
 
-nothing-total : (k : Kept) → terms_of k.terms ≡ [] → k.total ≡ 0
+nothing-total : (k : StoredForm) → terms_of k.terms ≡ [] → k.total ≡ 0
 nothing-total k h = k.sum ∙ ap (sum_by (λ t. t.coefficient)) h
 
-pub rest-watched : (store store' : Store) (run : Run) (waiting : Eager) (clauses clauses' : Clauses) (forms : List (Option Form)) (f : Form) (k : Kept) (s : ℕ) → slice_get forms s ≡ Some None → IsUnlisted k → store'.kept.items ≡ set store.kept.items s k →
+pub rest-watched : (store store' : Store) (run : Run) (waiting : Eager) (clauses clauses' : Clauses) (forms : List (Option Form)) (f : Form) (k : StoredForm) (s : ℕ) → slice_get forms s ≡ Some None → IsUnlisted k → store'.kept.items ≡ set store.kept.items s k →
     store'.spots ≡ store.spots → store'.occurrences ≡ store.occurrences → store'.variables ≡ store.variables → IsNormal f → IsClause f → AreReady clauses' → clauses_of clauses' ≡ set (clauses_of clauses) s (map code f.terms) → length clauses'.lists.items ≡ length clauses.lists.items →
     IsAtRest store run waiting clauses forms → IsAtRest store' run waiting clauses' (set forms s (Some f))
 rest-watched store store' run waiting clauses clauses' forms f k s none e keeps spots occ variables normal clause ready literals lists r =
@@ -302,7 +302,7 @@ rest-watched store store' run waiting clauses clauses' forms f k s none e keeps 
     let y : IsExact store'.kept.items waiting.list.items = rw keeps x in
     let was = element keep s bare.inside in
     let shape : get_or (shapes_of keep) s (kept_shape was.value) ≡ kept_shape was.value = get_or-map kept_shape keep s was.value (kept_shape was.value) bare.inside ∙ ap kept_shape (was.at was.value) in
-    let nothing : k.total ≡ (get_or keep s k).total = e.total ∙ sym (ap (λ (z : Kept). z.total) (was.at k) ∙ nothing-total was.value (sym (ap (λ (z : Shape). z.terms) shape) ∙ vacant.terms (kept_shape was.value))) in
+    let nothing : k.total ≡ (get_or keep s k).total = e.total ∙ sym (ap (λ (z : StoredForm). z.total) (was.at k) ∙ nothing-total was.value (sym (ap (λ (z : Shape). z.terms) shape) ∙ vacant.terms (kept_shape was.value))) in
     record {
       sound = rw (same, spots, occ, variables) r.sound;
       slots = rw (same, literals, joined-clause (shapes_of keep) (clauses_of clauses) s codes room some) (slots-set forms (joined (shapes_of keep) (clauses_of clauses)) s (Some f) (clause_shape codes) (clause-kept f normal clause) r.slots);
@@ -311,7 +311,7 @@ rest-watched store store' run waiting clauses clauses' forms f k s none e keeps 
       widths = omega (arith, lists, r.widths, variables);
       known = omega (arith, ap length literals, length-set (clauses_of clauses) s codes, lists-length clauses.literals.items, lists-length clauses'.literals.items, r.known, ap length keeps, length-set keep s k);
       rest = record {
-        opened = r.rest.opened ∙ sym (ap (map (λ z. z.total)) keeps ∙ map-set_same (λ (z : Kept). z.total) keep s k k nothing);
+        opened = r.rest.opened ∙ sym (ap (map (λ z. z.total)) keeps ∙ map-set_same (λ (z : StoredForm). z.total) keep s k k nothing);
         passed = r.rest.passed ∙ sym (ap (map (λ z. 0)) keeps ∙ map-zero keep s k);
       };
       values = r.values ∙ sym variables;
@@ -325,7 +325,7 @@ rest-watched store store' run waiting clauses clauses' forms f k s none e keeps 
       seats = omega (arith, r.seats, ap length keeps, length-set keep s k);
     }
 
-pub rest-quit : (store store' : Store) (run run' : Run) (waiting waiting' : Eager) (clauses clauses' : Clauses) (forms : List (Option Form)) (k : Kept) (s : ℕ) → s < length forms → IsSound store' → IsEmpty k → store'.kept.items ≡ set store.kept.items s k → run'.opens.items ≡ set run.opens.items s 0 →
+pub rest-quit : (store store' : Store) (run run' : Run) (waiting waiting' : Eager) (clauses clauses' : Clauses) (forms : List (Option Form)) (k : StoredForm) (s : ℕ) → s < length forms → IsSound store' → IsEmpty k → store'.kept.items ≡ set store.kept.items s k → run'.opens.items ≡ set run.opens.items s 0 →
     store'.variables ≡ store.variables → run'.trail ≡ run.trail → ((run'.candidates ≡ run.candidates) × (run'.assignment ≡ run.assignment) × (run'.work ≡ run.work) × (run'.next ≡ run.next) × (run'.visits ≡ run.visits)) →
     (waits store.kept.items s ≡ true → (q : ℕ) × (slice_get waiting.list.items q ≡ Some s) × (waiting'.list.items ≡ swap_remove waiting.list.items q s)) → (waits store.kept.items s ≡ false → waiting'.list.items ≡ waiting.list.items) → length waiting'.seats.items ≡ length waiting.seats.items →
     AreReady clauses' → clauses_of clauses' ≡ set (clauses_of clauses) s [] → length clauses'.lists.items ≡ length clauses.lists.items →
@@ -343,7 +343,7 @@ rest-quit store store' run run' waiting waiting' clauses clauses' forms k s less
       widths = omega (arith, lists, r.widths, variables);
       known = omega (arith, ap length literals, length-set (clauses_of clauses) s [], lists-length clauses.literals.items, lists-length clauses'.literals.items, r.known, ap length keeps, length-set keep s k);
       rest = record {
-        opened = opens ∙ ap (λ (xs : List ℕ). set xs s 0) r.rest.opened ∙ sym (ap (map (λ z. z.total)) keeps ∙ map-set (λ (z : Kept). z.total) keep s k ∙ ap (set (map (λ (z : Kept). z.total) keep) s) e.total);
+        opened = opens ∙ ap (λ (xs : List ℕ). set xs s 0) r.rest.opened ∙ sym (ap (map (λ z. z.total)) keeps ∙ map-set (λ (z : StoredForm). z.total) keep s k ∙ ap (set (map (λ (z : StoredForm). z.total) keep) s) e.total);
         passed = ap (λ (v : Vec ℕ Global). v.items) same.0 ∙ r.rest.passed ∙ sym (ap (map (λ z. 0)) keeps ∙ map-zero keep s k);
       };
       values = ap (λ (a : Assignment). length a.values.items) same.1 ∙ r.values ∙ sym variables;

@@ -2,7 +2,7 @@
 use Rattle.std.specs.Prelude.{◌≡◌, ℕ, false, [], ◌∷◌, ◌++◌, List, Option, Some, None, map, slice_set, Vec}
 use Rattle.std.specs.Global.{Global}
 use Rattle.pb_replay.specs.declared.propagate.store.Occurrence.{Occurrence}
-use Rattle.pb_replay.specs.declared.propagate.store.kept.Kept.{Kept}
+use Rattle.pb_replay.specs.declared.propagate.store.stored_form.StoredForm.{StoredForm}
 use Rattle.pb_replay.specs.declared.propagate.store.Store.{Store}
 use Rattle.pb_replay.specs.declared.propagate.store.Visited.{Visited}
 use Rattle.pb_replay.specs.engine.Engine.Lists.{Shape, Weighted}
@@ -11,14 +11,14 @@ use Rattle.pb_replay.specs.engine.Engine.Forms.{IsKeptAs}
 use Rattle.pb_replay.specs.engine.Engine.Terms.{terms_of}
 use Rattle.pb_replay.specs.engine.Engine.Links.{IsStored, weighted}
 
-abbrev pub kept_shape : Kept → Shape
+abbrev pub kept_shape : StoredForm → Shape
 kept_shape k = record { terms = terms_of k.terms; degree = k.degree }
 
-abbrev pub shapes_of : List Kept → List Shape
+abbrev pub shapes_of : List StoredForm → List Shape
 shapes_of kept = map kept_shape kept
 
 -- the forms, none in the slot of a removed one
-abbrev pub forms_of : List Kept → List (Option Form)
+abbrev pub forms_of : List StoredForm → List (Option Form)
 forms_of kept = map (λ k. k.terms.form) kept
 
 abbrev pub lists_of : List (Vec Occurrence Global) → List (List Occurrence)
@@ -40,8 +40,8 @@ abbrev pub IsSound : Store → Type 0
 IsSound s = IsStored (shapes_of s.kept.items) (spots_of s.spots.items) (entries_of (shapes_of s.kept.items) s.occurrences.items) s.variables
 
 -- a form is added after the others, with its open sum and its candidate as at rest
-pub record HasEntered (f : Form) (keep keep' : List Kept) (opens opens' cands cands' : List ℕ) : Type 0 where
-  pub kept : Kept
+pub record HasEntered (f : Form) (keep keep' : List StoredForm) (opens opens' cands cands' : List ℕ) : Type 0 where
+  pub kept : StoredForm
   pub is : IsKeptAs f (kept_shape kept)
   pub form : kept.terms.form ≡ Some f
   pub keeps : keep' ≡ keep ++ (kept ∷ [])
@@ -49,22 +49,22 @@ pub record HasEntered (f : Form) (keep keep' : List Kept) (opens opens' cands ca
   pub candidates : cands' ≡ cands ++ (0 ∷ [])
 
 -- a form is stored in the slot of an empty one, with its open sum as at rest
-pub record HasFilled (f : Form) (slot : ℕ) (keep keep' : List Kept) (opens opens' : List ℕ) : Type 0 where
-  pub kept : Kept
+pub record HasFilled (f : Form) (slot : ℕ) (keep keep' : List StoredForm) (opens opens' : List ℕ) : Type 0 where
+  pub kept : StoredForm
   pub is : IsKeptAs f (kept_shape kept)
   pub form : kept.terms.form ≡ Some f
   pub keeps : keep' ≡ slice_set keep slot kept
   pub opened : opens' ≡ slice_set opens slot kept.total
 
 -- the form has nothing in the occurrence lists
-pub record IsUnlisted (k : Kept) : Type 0 where
+pub record IsUnlisted (k : StoredForm) : Type 0 where
   pub terms : terms_of k.terms ≡ []
   pub degree : k.degree ≡ 0
   pub total : k.total ≡ 0
   pub eager : k.eager ≡ false
 
 -- an empty form
-pub record IsEmpty (k : Kept) : Type 0 where
+pub record IsEmpty (k : StoredForm) : Type 0 where
   pub form : k.terms.form ≡ None
   pub terms : terms_of k.terms ≡ []
   pub degree : k.degree ≡ 0

@@ -3,7 +3,7 @@ use Rattle.std.specs.Prelude.{◌≡◌, ℕ, ◌<◌, ◌≤◌, ◌*◌, List,
 use Rattle.pb_normal.specs.declared.numbered.NumberedLiteral.{NumberedLiteral}
 use Rattle.pb_normal.specs.meaning.Form.{Form}
 use Rattle.pb_normal.specs.meaning.Rules.{negation}
-use Rattle.pb_replay.specs.declared.propagate.store.kept.Kept.{Kept}
+use Rattle.pb_replay.specs.declared.propagate.store.stored_form.StoredForm.{StoredForm}
 use Rattle.pb_replay.specs.declared.propagate.store.Store.{Store}
 use Rattle.pb_replay.specs.declared.propagate.run.Run.{Run}
 use Rattle.pb_replay.specs.declared.propagate.eager.Eager.{Eager}
@@ -27,28 +27,28 @@ AreSlots (o ∷ os) [] = true ≡ false
 AreSlots (o ∷ os) (x ∷ xs) = IsSlot o x × AreSlots os xs
 
 -- whether the form with this number may propagate with nothing assigned
-abbrev pub kept_waits : Option Kept → Bool
+abbrev pub kept_waits : Option StoredForm → Bool
 kept_waits None = false
 kept_waits (Some k) = k.eager
 
-abbrev pub waits : List Kept → ℕ → Bool
+abbrev pub waits : List StoredForm → ℕ → Bool
 waits keep s = kept_waits (slice_get keep s)
 
 -- one if a form may propagate with nothing assigned
-abbrev pub eager_one : Kept → ℕ
+abbrev pub eager_one : StoredForm → ℕ
 eager_one k = if k.eager then 1 else 0
 
 -- each form on the list may propagate with nothing assigned
-abbrev pub AllWait : List Kept → List ℕ → Type 0
+abbrev pub AllWait : List StoredForm → List ℕ → Type 0
 AllWait keep list = (i s : ℕ) → slice_get list i ≡ Some s → waits keep s ≡ true
 
 -- each form that may propagate with nothing assigned is on the list
-pub record IsEager (keep : List Kept) (eager : List ℕ) : Type 0 where
+pub record IsEager (keep : List StoredForm) (eager : List ℕ) : Type 0 where
   pub named : All (λ s. s < length keep) eager
   pub aside : (s : ℕ) → s < length keep → IsAbsent eager 0 s → waits keep s ≡ false
 
 -- the open sums and candidates are those with nothing assigned
-pub record AreAtRest (keep : List Kept) (opens cands : List ℕ) : Type 0 where
+pub record AreAtRest (keep : List StoredForm) (opens cands : List ℕ) : Type 0 where
   pub opened : opens ≡ map (λ k. k.total) keep
   pub passed : cands ≡ map (λ k. 0) keep
 

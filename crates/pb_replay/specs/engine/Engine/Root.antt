@@ -2,7 +2,7 @@
 use Rattle.std.specs.Prelude.{◌≡◌, ℕ, ◌+◌, ◌*◌, ◌/◌, ◌<◌, ◌≤◌, ◌⊎◌, ◌++◌, ◌∷◌, Contains, true, false, List, [], Bool, Option, Some, length, slice_get, slice_set, slice_index, slice_index_or}
 use Rattle.pb_normal.specs.declared.numbered.NumberedLiteral.{NumberedLiteral}
 use Rattle.pb_normal.specs.meaning.Rules.{negation}
-use Rattle.pb_replay.specs.declared.propagate.store.kept.Kept.{Kept}
+use Rattle.pb_replay.specs.declared.propagate.store.stored_form.StoredForm.{StoredForm}
 use Rattle.pb_replay.specs.declared.propagate.store.Store.{Store}
 use Rattle.pb_replay.specs.declared.propagate.run.Run.{Run}
 use Rattle.pb_replay.specs.declared.propagate.rests.Rests.{Rests}
@@ -58,7 +58,7 @@ IsSameWatch old new = (new.live ≡ old.live) × (new.literal ≡ old.literal)
 -- the form of a slot went
 pub record HasVacated (before : Store) (old : Clauses) (store : Store) (clauses : Clauses) (slot : ℕ) : Type 0 where
   pub variables : store.variables ≡ before.variables
-  pub kept : (k : Kept) × IsEmpty k × (store.kept.items ≡ slice_set before.kept.items slot k)
+  pub kept : (k : StoredForm) × IsEmpty k × (store.kept.items ≡ slice_set before.kept.items slot k)
   pub emptied : clauses_of clauses ≡ slice_set (clauses_of old) slot []
   pub watched : (e : ℕ) → (e / 2 ≡ slot → ⊥) → IsSameWatch (watch_at old.watches.items e) (watch_at clauses.watches.items e)
 
@@ -94,7 +94,7 @@ pub record HasReached (run run' : Run) (rests rests' : Rests) (slot : ℕ) : Typ
 
 -- nothing changed, or an empty slot came after the others
 pub record HasWidened (before : Store) (old : Clauses) (store : Store) (clauses : Clauses) (slot : ℕ) : Type 0 where
-  pub kept : ((store.kept.items ≡ before.kept.items) × (clauses_of clauses ≡ clauses_of old)) ⊎ ((slot ≡ length before.kept.items) × (k : Kept) × (store.kept.items ≡ before.kept.items ++ (k ∷ [])) × (clauses_of clauses ≡ clauses_of old ++ ([] ∷ [])))
+  pub kept : ((store.kept.items ≡ before.kept.items) × (clauses_of clauses ≡ clauses_of old)) ⊎ ((slot ≡ length before.kept.items) × (k : StoredForm) × (store.kept.items ≡ before.kept.items ++ (k ∷ [])) × (clauses_of clauses ≡ clauses_of old ++ ([] ∷ [])))
   pub watched : (e : ℕ) → watch_at clauses.watches.items e ≡ watch_at old.watches.items e
 
 -- what a propagation from nothing has found: each literal of its list was visited

@@ -14,7 +14,7 @@ use crate::propagate::engine::root::{Root, back, lay};
 use crate::propagate::engine::visits::Visits;
 use crate::propagate::run::propagate;
 use crate::propagate::store::Store;
-use crate::propagate::store::links::{enter, leave};
+use crate::propagate::store::occurrence_lists::{enter, leave};
 use pb_normal::Normal;
 use std::alloc::AllocError;
 use std::mem;

@@ -7,7 +7,7 @@ ghost use Rattle.pb_replay.specs.engine.Engine.Lists.{has, says, open_part, open
 ghost use Rattle.pb_replay.specs.engine.Engine.Root.{HasTrue};
 ghost use Rattle.pb_replay.specs.engine.Engine.Terms.{terms_of};
 
-use crate::propagate::store::falling::Falling;
+use crate::propagate::store::sorted_form::SortedForm;
 use crate::propagate::term::Term;
 use pb_normal::NumberedLiteral;
 
@@ -35,7 +35,7 @@ fn part_of(values: &[Option<bool>], term: Term) -> u128
 }
 
 /// The open sum of a form under some values.
-pub fn open_under(terms: &Falling, values: &[Option<bool>]) -> u128
+pub fn open_under(terms: &SortedForm, values: &[Option<bool>]) -> u128
     requires small { sum_by (λ t. t.coefficient) (terms_of terms.now) < 2 ^ 127 }
     requires inside { AreInside (length values.now) (terms_of terms.now) }
     ensures { (list : List NumberedLiteral) → ((l : NumberedLiteral) → has list l ≡ says values.now l) → result ≡ open_sum list (terms_of terms.now) }
@@ -59,7 +59,7 @@ fn is_true(values: &[Option<bool>], literal: NumberedLiteral) -> bool
 }
 
 /// Whether a literal of a form is true.
-pub fn has_true(terms: &Falling, values: &[Option<bool>]) -> bool
+pub fn has_true(terms: &SortedForm, values: &[Option<bool>]) -> bool
     requires inside { AreInside (length values.now) (terms_of terms.now) }
     ensures yes { result ≡ true → HasTrue values.now (terms_of terms.now) }
     ensures no { result ≡ false → HasTrue values.now (terms_of terms.now) → ⊥ }

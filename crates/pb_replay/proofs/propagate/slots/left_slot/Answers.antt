@@ -1,7 +1,7 @@
 use Rattle.std.specs.Prelude.{Option, Some}
 use Rattle.std.proofs.Common.{ap, sym, ◌∙◌}
 use Rattle.pb_normal.specs.meaning.Form.{Form}
-use Rattle.pb_replay.specs.declared.propagate.store.kept.Kept.{Kept}
+use Rattle.pb_replay.specs.declared.propagate.store.stored_form.StoredForm.{StoredForm}
 use Rattle.pb_replay.proofs.lemmas.store.Gets.{get-map}
 use Rattle.pb_replay.proofs.lemmas.solutions.Options.{none_of}
 use Rattle.pb_replay.proofs.propagate.slots.left_slot.Goals as goal
@@ -10,4 +10,4 @@ pub returns : goal.returns
 returns c =
     let at = c.in_ok-kept.ensures.lookup in
     let none = none_of c.in_ok-kept.kept.now.terms.form (sym c.has_form.ensures ∙ c.if-has_form.false) in
-    get-map (λ (k : Kept). k.terms.form) c.args.kept.now c.in_ok-slot.slot c.in_ok-kept.kept.now at.3.0 at.1 ∙ ap (λ (o : Option Form). let s : Option (Option Form) = Some o in s) none
+    get-map (λ (k : StoredForm). k.terms.form) c.args.kept.now c.in_ok-slot.slot c.in_ok-kept.kept.now at.3.0 at.1 ∙ ap (λ (o : Option Form). let s : Option (Option Form) = Some o in s) none

@@ -1,7 +1,7 @@
 use Rattle.std.specs.Prelude.{None}
 use Rattle.std.proofs.Common.{arith}
 use Rattle.std.proofs.lemmas.List.{length-map}
-use Rattle.pb_replay.specs.declared.propagate.store.kept.Kept.{Kept}
+use Rattle.pb_replay.specs.declared.propagate.store.stored_form.StoredForm.{StoredForm}
 use Rattle.pb_replay.specs.engine.Engine.Fields.{forms_of}
 use Rattle.pb_replay.proofs.lemmas.store.Changes.{forms-filled}
 use Rattle.pb_replay.proofs.lemmas.store.Slots.{eager-there, rest-quit}
@@ -16,7 +16,7 @@ returns-clause-rest c =
     let k = reported.kept in
     let keep = c.args.store.now.kept.items in
     rw (forms-filled keep c.vacate.new.store.kept.items k.0 c.args.slot None k.2 k.1.form)
-    (rest-quit c.args.store.now c.vacate.new.store c.args.run.now c.vacate.new.run c.args.eager.now c.unseat.new.eager c.args.clauses.now c.empty.new.self (forms_of keep) k.0 c.args.slot (omega (arith, c.requires.slot, length-map keep (λ (x : Kept). x.terms.form))) reported.sound k.1 k.2 reported.opens
+    (rest-quit c.args.store.now c.vacate.new.store c.args.run.now c.vacate.new.run c.args.eager.now c.unseat.new.eager c.args.clauses.now c.empty.new.self (forms_of keep) k.0 c.args.slot (omega (arith, c.requires.slot, length-map keep (λ (x : StoredForm). x.terms.form))) reported.sound k.1 k.2 reported.opens
     reported.variables reported.trail reported.rest c.unseat.ensures.taken c.unseat.ensures.same c.unseat.ensures.seats c.empty.ensures.rest c.empty.ensures.literals c.empty.ensures.lists c.requires.rest)
 
 pub returns-clause-forms : goal.returns-clause-forms

@@ -1,11 +1,11 @@
 use Rattle.std.proofs.Common.{◌≡◌, ℕ, zero, suc, ◌<◌, ◌∷◌, [], List, true, false, refl, sym, ◌∙◌, ap, arith, length, get_or}
-use Rattle.pb_replay.specs.declared.propagate.store.kept.Kept.{Kept}
+use Rattle.pb_replay.specs.declared.propagate.store.stored_form.StoredForm.{StoredForm}
 use Rattle.pb_replay.specs.engine.Engine.Rest.{waits}
 use Rattle.pb_replay.proofs.propagate.slots.unseat.Goals as goal
 
-waits-of : (keep : List Kept) (s : ℕ) (k : Kept) → s < length keep → k ≡ get_or keep s k → waits keep s ≡ k.eager
+waits-of : (keep : List StoredForm) (s : ℕ) (k : StoredForm) → s < length keep → k ≡ get_or keep s k → waits keep s ≡ k.eager
 waits-of [] s k inside is = absurd (omega (arith, inside))
-waits-of (x ∷ xs) zero k inside is = ap (λ (v : Kept). v.eager) (sym is)
+waits-of (x ∷ xs) zero k inside is = ap (λ (v : StoredForm). v.eager) (sym is)
 waits-of (x ∷ xs) (suc s) k inside is = waits-of xs s k (omega (arith, inside)) is
 
 pub returns-then-not-index-clause-taken : goal.returns-then-not-index-clause-taken

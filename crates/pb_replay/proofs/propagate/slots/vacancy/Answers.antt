@@ -1,7 +1,7 @@
 use Rattle.std.specs.Prelude.{None}
 use Rattle.std.proofs.Common.{inr, arith}
 use Rattle.std.proofs.lemmas.List.{length-map}
-use Rattle.pb_replay.specs.declared.propagate.store.kept.Kept.{Kept}
+use Rattle.pb_replay.specs.declared.propagate.store.stored_form.StoredForm.{StoredForm}
 use Rattle.pb_replay.specs.engine.Engine.Fields.{forms_of}
 use Rattle.pb_replay.proofs.lemmas.store.Gets.{get-push_same}
 use Rattle.pb_replay.proofs.lemmas.store.Changes.{forms-more, forms-widened}
@@ -22,7 +22,7 @@ returns-clause-slot c =
     let keep = c.args.store.now.kept in
     let k = c.in_ok-widen.ensures.kept in
     rw (forms-widened keep.items c.widen.new.store.kept.items k.0 k.2 k.1.form)
-    (get-push_same (forms_of keep.items) c.len-slot.result None (omega (arith, c.len-slot.ensures, keep.ok.0, length-map keep.items (λ (x : Kept). x.terms.form))))
+    (get-push_same (forms_of keep.items) c.len-slot.result None (omega (arith, c.len-slot.ensures, keep.ok.0, length-map keep.items (λ (x : StoredForm). x.terms.form))))
 
 pub returns-clause-forms : goal.returns-clause-forms
 returns-clause-forms c = λ s.
