@@ -11,6 +11,7 @@ pub mod visiting;
 
 use crate::propagate::clauses::lists::{Watch, put_in, take_out};
 use crate::propagate::clauses::truth::{is_false, is_open, is_true};
+use crate::propagate::clauses::visiting::position;
 use std::alloc::{AllocError, Global};
 
 // Whether a literal of a clause is open.
@@ -27,13 +28,12 @@ fn some_open(literals: &[u32], values: &[Option<bool>]) -> bool
     false
 }
 
-// The position that comes so far after the start of a search, round a clause of so many literals.
-fn start_after(start: usize, passed: usize, count: usize) -> usize {
-    let next = start.saturating_add(passed);
-    if next >= count {
-        return next - count;
+// Where the next search in a clause of `count` literals starts: where this one, after `passed` of them, has ended.
+fn next_start(start: usize, passed: usize, count: usize) -> usize {
+    if passed >= count {
+        return start;
     }
-    next
+    position(start, passed, count)
 }
 
 /// Clauses by slots, each with two watched literals.
@@ -234,7 +234,7 @@ impl Clauses {
         'slots: for i in 0..self.moved.len() {
             let slot = self.moved[i];
             let count = self.literals[slot].len();
-            self.starts[slot] = start_after(self.starts[slot], self.passed[slot], count);
+            self.starts[slot] = next_start(self.starts[slot], self.passed[slot], count);
             self.passed[slot] = 0;
         }
         self.moved.clear();

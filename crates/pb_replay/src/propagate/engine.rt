@@ -406,10 +406,7 @@ impl Engine {
         leave(&mut self.store, &mut self.run);
         self.root.paid = self.root.paid.saturating_add(self.run.visits.number());
         self.spent = false;
-        if found {
-            return Ok(true);
-        }
-        Ok(false)
+        Ok(found)
     }
 
     /// The values of the completion of given literals over the live forms, or `None` if a conflict is met. There is one

@@ -71,8 +71,9 @@ fn may_watch(values: &[Option<bool>], literal: u32, other: u32) -> bool
     !is_false(values, literal)
 }
 
-// The position that comes so far after the start of a search, round a clause of so many literals.
-fn position(start: usize, after: usize, count: usize) -> usize
+// The position of the literal that comes `after` literals past the start, round a clause of `count` literals. A start
+// outside the clause stands for its first literal.
+pub fn position(start: usize, after: usize, count: usize) -> usize
     requires { after < count }
     ensures inside { result < count }
     ensures round { (xs : List ℕ) (d : ℕ) → length xs ≡ count → slice_index_or (turned start xs) after d ≡ slice_index_or xs result d }

@@ -108,42 +108,6 @@ propagate-requires-clause-tidy c =
     let tidy = rest-tidy-first c.none-rests.result new.store.kept.items e.eager.list.items new.run.opens.items new.run.candidates.items c.choose-2.new.work.items c.choose.new.work.items c.len-number.result c.none-rests.ensures.opens c.none-rests.ensures.starts inside first noted rest waiting in
     rw (c.as_slice.ensures.value, ap (λ (a : Assignment). a.list.items) c.enter.ensures.rest.0, r.list, c.enter.ensures.rest.2, r.next) tidy
 
-pub invariant_of-self-then-found : goal.invariant_of-self-then-found
-invariant_of-self-then-found c = λ ready.
-    let e = c.self.inside in
-    let both = c.self.invariant (ap (λ (v : Standing). v.spent) c.self.view_is ∙ c.requires.ready) in
-    let r = both.0 in
-    let keep = e.store.kept.items in
-    let new = c.enter.new in
-    let h = c.in_ok-enter.ensures.entered in
-    let done = c.rest.new.run in
-    let last = c.leave.new in
-    let left = rest-left c.in-Ok.negation keep new.store.kept.items last.store.kept.items e.run.opens.items new.run.opens.items e.run.candidates.items new.run.candidates.items done.opens.items last.run.opens.items done.candidates.items last.run.candidates.items h c.rest.ensures.rest c.leave.ensures.kept c.leave.ensures.opens c.leave.ensures.candidates in
-    let same = c.leave.ensures.rest in
-    let entered = c.enter.ensures.rest in
-    let lit : clauses_of c.rest.new.clauses ≡ clauses_of e.clauses = ap (λ (v : Vec (Vec ℕ Global) Global). lists_of v.items) (c.rest.ensures.literals ∙ c.propagate.ensures.literals) in (
-      record {
-        sound = c.leave.ensures.sound;
-        slots = rw (left.0, lit) r.slots;
-        joined = rw (left.0, lit) r.joined;
-        ready = c.rest.ensures.ready;
-        widths = ap (λ (v : Vec (Vec ℕ Global) Global). length v.items) c.rest.ensures.lists ∙ c.in_ok-found.ensures.running.sizes ∙ ap (λ n. 2 * n) (c.in_ok-found.ensures.values ∙ ap (λ (a : Assignment). length a.values.items) entered.0 ∙ r.values ∙ sym c.in_ok-enter.ensures.variables ∙ sym c.leave.ensures.variables);
-        known = ap (λ (v : Vec (Vec ℕ Global) Global). length v.items) (c.rest.ensures.literals ∙ c.propagate.ensures.literals) ∙ r.known ∙ ap length (sym left.0);
-        rest = left.1;
-        values = ap (λ (a : Assignment). length a.values.items) same.0 ∙ c.rest.ensures.values ∙ c.in_ok-found.ensures.values ∙ ap (λ (a : Assignment). length a.values.items) entered.0 ∙ r.values ∙ sym c.in_ok-enter.ensures.variables ∙ sym c.leave.ensures.variables;
-        list = ap (λ (a : Assignment). a.list.items) same.0 ∙ c.rest.ensures.list;
-        work = ap (λ (v : Vec ℕ Global). v.items) same.1 ∙ c.rest.ensures.work;
-        trail = ap (λ (v : Vec ℕ Global). v.items) c.leave.ensures.trail ∙ c.rest.ensures.trail;
-        next = same.2 ∙ c.rest.ensures.next;
-        eager = rw left.0 r.eager;
-        exact = rw left.0 r.exact;
-        few = rw left.0 r.few;
-        seats = rw left.0 r.seats;
-      },
-      rw left.0 both.1,
-      λ live. absurd (let e : true ≡ false = sym live ∙ c.if-self.false in cc),
-    )
-
 pub invariant_of-self-2 : goal.invariant_of-self-2
 invariant_of-self-2 c = λ ready.
     let e = c.self.inside in
@@ -180,8 +144,8 @@ invariant_of-self-2 c = λ ready.
       λ live. absurd (let e : true ≡ false = sym live ∙ c.if-self.false in cc),
     )
 
-pub returns-then-found-clause-implied : goal.returns-then-found-clause-implied
-returns-then-found-clause-implied c = λ found.
+pub returns-clause-implied : goal.returns-clause-implied
+returns-clause-implied c = λ found.
     let e = c.self.inside in
     let both = c.self.invariant (ap (λ (v : Standing). v.spent) c.self.view_is ∙ c.requires.ready) in
     let r = both.0 in
@@ -196,7 +160,7 @@ returns-then-found-clause-implied c = λ found.
     let shown = numbered forms e.places.items in
     let empty = ap (λ (x : Assignment). x.list.items) c.enter.ensures.rest.0 ∙ r.list in
     let d = derives (With (Live shown) g) shapes [] [] c.propagate.new.run.assignment.list.items a (λ v n. sym (on-none (record { variable = v; negated = n }))) (rw empty at reported.derived) in
-    let meets : MeetsConflict (With (Live shown) g) [] = record { list = d.list; derived = d.derived; conflict = conflicts (With (Live shown) g) shapes d.list c.propagate.new.run.assignment.list.items a d.matches (reported.conflict c.if-found.true) } in
+    let meets : MeetsConflict (With (Live shown) g) [] = record { list = d.list; derived = d.derived; conflict = conflicts (With (Live shown) g) shapes d.list c.propagate.new.run.assignment.list.items a d.matches (reported.conflict found) } in
     rw (← c.self.view_is) (inr (rw c.in-Ok.ensures.negation at meets))
 
 pub returns-clause-not_implied : goal.returns-clause-not_implied
@@ -217,43 +181,14 @@ returns-clause-not_implied c = λ found rup.
     let empty = ap (λ (x : Assignment). x.list.items) c.enter.ensures.rest.0 ∙ r.list in
     let d = derives (With (Live shown) g) shapes [] [] run.assignment.list.items a (λ v n. sym (on-none (record { variable = v; negated = n }))) (rw empty at reported.derived) in
     let free : MeetsConflict (With (Live shown) g) [] → ⊥ = closed-none (With (Live shown) g) [] d.list d.derived
-    (is-closed (With (Live shown) g) shapes d.list run.assignment.list.items a d.matches (reported.settled c.if-found.false))
-    (has-none (With (Live shown) g) shapes d.list run.assignment.list.items a d.matches (λ l on. opposite run.assignment.values.items run.assignment.list.items l run.assignment.agrees on) (reported.settled c.if-found.false)) in
+    (is-closed (With (Live shown) g) shapes d.list run.assignment.list.items a d.matches (reported.settled found))
+    (has-none (With (Live shown) g) shapes d.list run.assignment.list.items a d.matches (λ l on. opposite run.assignment.values.items run.assignment.list.items l run.assignment.agrees on) (reported.settled found)) in
     let free_goal : MeetsConflict (With (Live shown) (negation_of c.args.goal.now)) [] → ⊥ = rw c.in-Ok.ensures.negation at free in
     let same : shown ≡ c.args.self.now.forms = ap (λ (v : Standing). v.forms) c.self.view_is in
     elim rup [
       | inl nothing ↦ c.if-degree-eq0.false (ap (of_z w128) (c.degree.ensures.degree ∙ ap pos nothing))
       | inr m ↦ free_goal (rw (← same) at m)
     ]
-
-pub returns-then-found-clause-most : goal.returns-then-found-clause-most
-returns-then-found-clause-most c =
-    let e = c.self.inside in
-    let both = c.self.invariant (ap (λ (v : Standing). v.spent) c.self.view_is ∙ c.requires.ready) in
-    let r = both.0 in
-    let keep = e.store.kept.items in
-    let new = c.enter.new in
-    let h = c.in_ok-enter.ensures.entered in
-    let g = c.in-Ok.negation in
-    let forms = forms_of e.store.kept.items in
-    let number = c.len-number.result in
-    let shapes = all_of new.store e.clauses in
-    let slots = slots-entered forms g keep new.store.kept.items (clauses_of e.clauses) e.run.opens.items new.run.opens.items e.run.candidates.items new.run.candidates.items r.joined.short h r.slots in
-    let terms = slots-terms (forms ++ (Some g ∷ [])) shapes slots in
-    let both_terms = joined-terms (shapes_of new.store.kept.items) (clauses_of e.clauses) (joined-entered g keep new.store.kept.items (clauses_of e.clauses) e.run.opens.items new.run.opens.items e.run.candidates.items new.run.candidates.items h r.joined) in
-    let more = sum_by_push terms_in forms (Some g) in
-    let goal_terms : length g.terms ≡ length c.args.goal.now.terms = ap (λ (f : Form). length f.terms) c.in-Ok.ensures.negation ∙ length-map c.args.goal.now.terms opposite_entry in
-    let number_is : number ≡ length keep = omega (arith, c.len-number.ensures, e.store.kept.ok.0) in
-    let few = slots-eager forms keep (clauses_of e.clauses) r.joined r.slots in
-    let first = filter-few (waits new.store.kept.items) (number ∷ []) in
-    let stand = filter-few (waits new.store.kept.items) e.eager.list.items in
-    let work_is : length new.run.work.items ≡ 0 = ap (λ (v : Vec ℕ Global). length v.items) c.enter.ensures.rest.1 ∙ ap length r.work in
-    let work = ap length c.in_ok-choose-2.ensures ∙ length-append new.run.work.items (filter (waits new.store.kept.items) (number ∷ [])) in
-    let waiting = ap (λ (xs : List ℕ). length (filter (waits new.store.kept.items) xs)) c.as_slice.ensures.value in
-    let same : numbered forms e.places.items ≡ c.args.self.now.forms = ap (λ (v : Standing). v.forms) c.self.view_is in
-    let visits_made = most-visits c.propagate.new.run.visits (sum new.run.candidates.items) new.run.visits (length c.choose-2.new.work.items + length (filter (waits new.store.kept.items) c.as_slice.result.now)) new.run.next (sum_by length (entries_of (shapes_of new.store.kept.items) new.store.occurrences.items)) (sum c.propagate.new.run.candidates.items) (sum_by (λ (f : Shape). length f.terms) (shapes_of new.store.kept.items)) (sum_by {X = List ℕ} length (clauses_of e.clauses)) (sum_by one_in forms + 1)
-    (omega (arith, c.propagate.ensures.upper, spent-le (entries_of (shapes_of new.store.kept.items) new.store.occurrences.items) c.propagate.new.run.assignment.list.items c.propagate.ensures.single, killed-most (clauses_of e.clauses) (map falsified_code c.propagate.new.run.assignment.list.items))) (c.enter.ensures.rest.3 ∙ c.none-self-inside.ensures) c.propagate.ensures.bounded c.in_ok-enter.ensures.sound.whole.totals (omega (arith, few, r.few, first, stand, work_is, work, waiting)) in
-    rw (← same) (omega (arith, both.1.alike terms_in refl, both.1.alike one_in refl, visits_made, terms, both_terms, more, goal_terms, c.leave.ensures.rest.3, c.rest.ensures.visits))
 
 pub returns-clause-most : goal.returns-clause-most
 returns-clause-most c =
@@ -313,8 +248,8 @@ returns-in_err-found-clause-most c =
     (omega (arith, c.propagate.ensures.upper, spent-le (entries_of (shapes_of new.store.kept.items) new.store.occurrences.items) c.propagate.new.run.assignment.list.items c.propagate.ensures.single, killed-most (clauses_of e.clauses) (map falsified_code c.propagate.new.run.assignment.list.items))) (c.enter.ensures.rest.3 ∙ c.none-self-inside.ensures) c.propagate.ensures.bounded c.in_ok-enter.ensures.sound.whole.totals (omega (arith, few, r.few, first, stand, work_is, work, waiting)) in
     rw (← same) (omega (arith, both.1.alike terms_in refl, both.1.alike one_in refl, visits_made, terms, both_terms, more, goal_terms))
 
-pub returns-then-found-clause-conflict : goal.returns-then-found-clause-conflict
-returns-then-found-clause-conflict c = λ found.
+pub returns-clause-conflict : goal.returns-clause-conflict
+returns-clause-conflict c = λ found.
     let e = c.self.inside in
     let both = c.self.invariant (ap (λ (v : Standing). v.spent) c.self.view_is ∙ c.requires.ready) in
     let r = both.0 in
@@ -332,7 +267,7 @@ returns-then-found-clause-conflict c = λ found.
     let d = derives (With (Live shown) g) shapes [] [] run.assignment.list.items a (λ v n. sym (on-none (record { variable = v; negated = n }))) (rw empty at reported.derived) in
     let least = found-least (length run.assignment.list.items) run.visits (length new.run.assignment.list.items) new.run.visits (ap length empty) (c.enter.ensures.rest.3 ∙ c.none-self-inside.ensures) reported.found (omega (arith, run.assignment.list.ok.0, run.assignment.list.ok.1)) in
     let small : length d.list ≤ c.leave.new.run.visits = omega (arith, least, d.count, c.leave.ensures.rest.3, c.rest.ensures.visits) in
-    let meets : (m : MeetsConflict (With (Live shown) g) []) × (length m.list ≤ c.leave.new.run.visits) = (record { list = d.list; derived = d.derived; conflict = conflicts (With (Live shown) g) shapes d.list run.assignment.list.items a d.matches (reported.conflict c.if-found.true) }, small) in
+    let meets : (m : MeetsConflict (With (Live shown) g) []) × (length m.list ≤ c.leave.new.run.visits) = (record { list = d.list; derived = d.derived; conflict = conflicts (With (Live shown) g) shapes d.list run.assignment.list.items a d.matches (reported.conflict found) }, small) in
     rw (← c.self.view_is) (inr (rw c.in-Ok.ensures.negation at meets))
 
 pub returns-clause-completion : goal.returns-clause-completion
@@ -354,7 +289,7 @@ returns-clause-completion c = λ found.
     let d = derives (With (Live shown) g) shapes [] [] run.assignment.list.items a (λ v n. sym (on-none (record { variable = v; negated = n }))) (rw empty at reported.derived) in
     let least = found-least (length run.assignment.list.items) run.visits (length new.run.assignment.list.items) new.run.visits (ap length empty) (c.enter.ensures.rest.3 ∙ c.none-self-inside.ensures) reported.found (omega (arith, run.assignment.list.ok.0, run.assignment.list.ok.1)) in
     let small : length d.list ≤ c.leave.new.run.visits = omega (arith, least, d.count, c.leave.ensures.rest.3, c.rest.ensures.visits) in
-    let done : IsCompletion (With (Live shown) g) [] d.list = record { derived = d.derived; closed = is-closed (With (Live shown) g) shapes d.list run.assignment.list.items a d.matches (reported.settled c.if-found.false) } in
+    let done : IsCompletion (With (Live shown) g) [] d.list = record { derived = d.derived; closed = is-closed (With (Live shown) g) shapes d.list run.assignment.list.items a d.matches (reported.settled found) } in
     let whole : (list : List NumberedLiteral) × IsCompletion (With (Live shown) g) [] list × (length list ≤ c.leave.new.run.visits) = (d.list, done, small) in
     rw (← c.self.view_is) (rw c.in-Ok.ensures.negation at whole)
 
@@ -365,19 +300,6 @@ propagate-requires-clause-waiting c =
     let r = both.0 in
     let h = c.in_ok-enter.ensures.entered in
     rw c.as_slice.ensures.value (λ k d less. omega (arith, r.eager.named k d less, ap length h.keeps, length-append e.store.kept.items (h.kept ∷ [])))
-
-pub returns-then-found-clause-forms : goal.returns-then-found-clause-forms
-returns-then-found-clause-forms c =
-    let e = c.self.inside in
-    let both = c.self.invariant (ap (λ (v : Standing). v.spent) c.self.view_is ∙ c.requires.ready) in
-    let r = both.0 in
-    let keep = e.store.kept.items in
-    let new = c.enter.new in
-    let h = c.in_ok-enter.ensures.entered in
-    let done = c.rest.new.run in
-    let last = c.leave.new in
-    let left = rest-left c.in-Ok.negation keep new.store.kept.items last.store.kept.items e.run.opens.items new.run.opens.items e.run.candidates.items new.run.candidates.items done.opens.items last.run.opens.items done.candidates.items last.run.candidates.items h c.rest.ensures.rest c.leave.ensures.kept c.leave.ensures.opens c.leave.ensures.candidates in
-    rw left.0 (ap (λ (v : Standing). v.forms) c.self.view_is)
 
 pub returns-clause-forms : goal.returns-clause-forms
 returns-clause-forms c =
@@ -445,9 +367,6 @@ returns-in_err-choose-2-clause-unasked c = λ nothing. absurd (c.if-degree-eq0.f
 pub returns-in_err-found-clause-unasked : goal.returns-in_err-found-clause-unasked
 returns-in_err-found-clause-unasked c = λ nothing. absurd (c.if-degree-eq0.false (ap (of_z w128) (c.degree.ensures.degree ∙ ap pos nothing)))
 
-pub returns-then-found-clause-unasked : goal.returns-then-found-clause-unasked
-returns-then-found-clause-unasked c = λ nothing. absurd (c.if-degree-eq0.false (ap (of_z w128) (c.degree.ensures.degree ∙ ap pos nothing)))
-
 pub returns-clause-unasked : goal.returns-clause-unasked
 returns-clause-unasked c = λ nothing. absurd (c.if-degree-eq0.false (ap (of_z w128) (c.degree.ensures.degree ∙ ap pos nothing)))
 
@@ -465,21 +384,6 @@ returns-then-degree-eq0-clause-not_implied c = λ found. absurd cc
 
 pub returns-then-degree-eq0-clause-completion : goal.returns-then-degree-eq0-clause-completion
 returns-then-degree-eq0-clause-completion c = λ found. absurd cc
-
-pub returns-then-found-clause-not_implied : goal.returns-then-found-clause-not_implied
-returns-then-found-clause-not_implied c = λ found. absurd cc
-
-pub returns-then-found-clause-completion : goal.returns-then-found-clause-completion
-returns-then-found-clause-completion c = λ found. absurd cc
-
-pub returns-clause-implied : goal.returns-clause-implied
-returns-clause-implied c = λ found. absurd cc
-
-pub returns-clause-conflict : goal.returns-clause-conflict
-returns-clause-conflict c = λ found. absurd cc
-
-pub returns-then-found-clause-variables : goal.returns-then-found-clause-variables
-returns-then-found-clause-variables c = c.leave.ensures.variables ∙ c.in_ok-enter.ensures.variables ∙ ap (λ (v : Standing). v.variables) c.self.view_is
 
 pub returns-clause-variables : goal.returns-clause-variables
 returns-clause-variables c = c.leave.ensures.variables ∙ c.in_ok-enter.ensures.variables ∙ ap (λ (v : Standing). v.variables) c.self.view_is
