@@ -1,6 +1,6 @@
 -- Clauses in the order in which they are searched.
 use Rattle.std.proofs.Common.{◌≡◌, ℕ, zero, suc, ◌+◌, ◌*◌, ◌-◌, ◌<◌, ◌≤◌, ◌⊎◌, true, List, [], ◌∷◌, ◌++◌, length, get_or, take, refl, sym, ◌∙◌, ap, subst, arith, inl, inr, length-append}
-use Rattle.std.specs.Prelude.{◌/◌, All, Contains, Bool, Option, drop}
+use Rattle.std.specs.Prelude.{◌/◌, Contains, Bool, Option, drop}
 use Rattle.std.proofs.lemmas.List.{take-append-drop, length-drop, get_or-drop, get_or-take, get_or_append_left, get_or-append_right, append-nil}
 use Rattle.std.proofs.lemmas.List.Elements.{All-contains, Contains-append_left, Contains-append_right, Contains-append_cases, Contains-get_or}
 use Rattle.std.proofs.Math.ListN.{drop_of_length-le}

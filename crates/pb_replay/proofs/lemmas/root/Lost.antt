@@ -1,6 +1,6 @@
 -- The form of a slot goes, and the root stays.
 use Rattle.std.specs.Prelude.{Contains, Option, Bool, Some, map, slice_get, ◌/◌}
-use Rattle.std.proofs.Common.{Vec, Global, ◌≡◌, ℕ, ◌<◌, ◌⊎◌, ◌∷◌, [], List, true, false, refl, sym, ◌∙◌, ap, subst, inl, inr, arith, length, get_or, set, length-set, get_or-set_same, get_or-set_other}
+use Rattle.std.proofs.Common.{Vec, Global, ◌≡◌, ℕ, ◌<◌, ◌⊎◌, [], List, true, false, refl, sym, ◌∙◌, ap, subst, inl, inr, arith, length, get_or, set, length-set, get_or-set_same, get_or-set_other}
 use Rattle.std.proofs.lemmas.Bool.{cases_eq, both_ways}
 use Rattle.std.proofs.lemmas.List.{length-map, get_or-map, get_or_default, map-set}
 use Rattle.std.proofs.lemmas.Option.{slice_get-get_or, get_or_from_slice_get}

@@ -1,4 +1,4 @@
-use Rattle.std.proofs.Common.{◌≡◌, ◌+◌, ◌-◌, ◌<◌, ◌≤◌, ℕ, ap, ◌∙◌, sym, length, get_or, arith}
+use Rattle.std.proofs.Common.{◌-◌, ap, ◌∙◌, get_or, arith}
 use Rattle.pb_replay.proofs.lemmas.clauses.Turned.{turned-early, turned-late, turned-past}
 use Rattle.pb_replay.proofs.propagate.clauses.visiting.position.Goals as goal
 

@@ -1,5 +1,5 @@
 use Rattle.std.specs.Prelude.{None}
-use Rattle.std.proofs.Common.{◌≡◌, true, false, ◌<◌, sym, ◌∙◌, ap, length, set, arith}
+use Rattle.std.proofs.Common.{◌<◌, sym, ◌∙◌, ap, length, set, arith}
 use Rattle.pb_replay.specs.engine.Engine.Live.{Standing}
 use Rattle.pb_replay.specs.engine.Engine.Fields.{forms_of}
 use Rattle.pb_replay.proofs.lemmas.store.Changes.{forms-length}
