@@ -3,6 +3,5 @@ pub mod Answer
 pub mod Conclusions
 pub mod Meaning
 pub mod Problem
-pub mod Propagation
 pub mod Replay
 pub mod Statements

@@ -1,11 +1,9 @@
-//! Replay of proofs: propagation, the statements of a proof over an instance, and what their verdicts mean.
+//! Replay of proofs: the statements of a proof over an instance, and what their verdicts mean.
 #![tactic(auto)]
 
 mod fault;
 pub mod laws;
-mod propagate;
 mod replay;
-mod shared;
 mod state;
 mod step;
 mod verdict;

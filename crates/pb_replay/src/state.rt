@@ -7,11 +7,10 @@ pub(crate) mod load;
 pub(crate) mod objective;
 pub(crate) mod solution;
 
-use crate::propagate::engine::Engine;
-use crate::shared::Shared;
 use crate::verdict::Verdict;
 use pb_normal::Names;
 use pb_proof::Stage;
+use pb_propagate::{Engine, Shared};
 use pb_sums::Linear;
 use pb_text::Limits;
 use std::alloc::Global;

@@ -1,6 +1,5 @@
 -- Lemmas of what is true of a state, and of what is accepted.
 pub mod Accepting
-pub mod Choices
 pub mod Larger
 pub mod Loads
 pub mod Order

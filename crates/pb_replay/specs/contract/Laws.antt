@@ -16,7 +16,7 @@ use Rattle.pb_replay.specs.declared.fault.Fault.TheVariants.{NotTotal}
 use Rattle.pb_replay.specs.declared.verdict.Verdict.{Verdict}
 use Rattle.pb_replay.specs.meaning.Answer.{Answer}
 use Rattle.pb_replay.specs.meaning.Problem.{Problem, Opened, Solves}
-use Rattle.pb_replay.specs.meaning.Propagation.{Derivation, MeetsConflict, IsCompletion}
+use Rattle.pb_propagate.specs.meaning.Propagation.{Derivation, MeetsConflict, IsCompletion}
 use Rattle.pb_replay.specs.meaning.Replay.{State, first_state}
 use Rattle.pb_replay.specs.contract.ReplayModel.{verdict_at}
 use Rattle.pb_replay.specs.meaning.Statements.{Outcome, Accepts, MayWantAt}

@@ -13,7 +13,8 @@ use Rattle.pb_replay.specs.declared.fault.Fault.TheVariants.{Memory, NotTotal}
 use Rattle.pb_replay.specs.declared.verdict.Verdict.{Verdict}
 use Rattle.pb_replay.specs.declared.state.Running.{Running}
 use Rattle.pb_replay.specs.meaning.Problem.{Problem, objective_of}
-use Rattle.pb_replay.specs.meaning.Replay.{State, Logged, Live, added, first_state}
+use Rattle.pb_replay.specs.meaning.Replay.{State, Logged, added, first_state}
+use Rattle.pb_propagate.specs.meaning.Propagation.{Live}
 use Rattle.pb_replay.specs.meaning.Statements.{Does, Outcome, mentioned}
 use Rattle.pb_replay.specs.meaning.Meaning.{IsNamePrefix, IsProblem, IsSound}
 

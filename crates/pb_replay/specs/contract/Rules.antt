@@ -23,8 +23,8 @@ use Rattle.pb_normal.specs.meaning.Written.{IsSideOf}
 use Rattle.pb_normal.specs.declared.numbered.NumberedLiteral.{NumberedLiteral}
 use Rattle.pb_replay.specs.meaning.Conclusions.{IsShownBy, objective_with, verdict_of}
 use Rattle.pb_replay.specs.meaning.Problem.{Problem}
-use Rattle.pb_replay.specs.meaning.Propagation.{IsRup, IsCompletion, MeetsConflict}
-use Rattle.pb_replay.specs.meaning.Replay.{State, Logged, Live, IsLive, Excludes, HasValue, AreValues, Shown, no_form, numbered, place, value}
+use Rattle.pb_propagate.specs.meaning.Propagation.{IsRup, IsCompletion, MeetsConflict, Live}
+use Rattle.pb_replay.specs.meaning.Replay.{State, Logged, IsLive, Excludes, HasValue, AreValues, Shown, no_form, numbered, place, value}
 use Rattle.pb_replay.specs.meaning.Statements.{IsCount, Outcome, mentioned}
 
 -- an expression has a form; those of sums and products are within the limit

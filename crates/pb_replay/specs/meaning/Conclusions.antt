@@ -16,8 +16,8 @@ use Rattle.pb_replay.specs.declared.verdict.Verdict.{Verdict}
 use Rattle.pb_replay.specs.declared.verdict.Verdict.TheVariants as verdict
 use Rattle.pb_replay.specs.meaning.Answer.{Answer, gives, need, found}
 use Rattle.pb_replay.specs.meaning.Problem.{Problem}
-use Rattle.pb_replay.specs.meaning.Propagation.{IsRup}
-use Rattle.pb_replay.specs.meaning.Replay.{State, Logged, Live, IsLive, Shown, normal_form, numbered}
+use Rattle.pb_propagate.specs.meaning.Propagation.{IsRup, Live}
+use Rattle.pb_replay.specs.meaning.Replay.{State, Logged, IsLive, Shown, normal_form, numbered}
 
 -- the verdict of a conclusion, without its justification
 abbrev pub verdict_of : Conclusion → Verdict

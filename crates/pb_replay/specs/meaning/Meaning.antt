@@ -11,8 +11,8 @@ use Rattle.pb_replay.specs.meaning.Replay.{Logged}
 use Rattle.pb_replay.specs.declared.verdict.Verdict.{Verdict}
 use Rattle.pb_replay.specs.declared.verdict.Verdict.TheVariants.{NoClaim, Unsat, Sat, Bounds}
 use Rattle.pb_replay.specs.meaning.Problem.{Problem, objective_of, Solves, written_value}
-use Rattle.pb_replay.specs.meaning.Propagation.{HoldAll}
-use Rattle.pb_replay.specs.meaning.Replay.{State, Live, value, by_name}
+use Rattle.pb_propagate.specs.meaning.Propagation.{HoldAll, Live}
+use Rattle.pb_replay.specs.meaning.Replay.{State, value, by_name}
 
 -- what a verdict means for solutions S and their values w
 module _ {A : Type 0} (S : A → Type 0) (w : A → ℤ) where

@@ -16,7 +16,7 @@ use Rattle.pb_replay.specs.declared.fault.Fault.TheVariants.{Overflow, NoSuchId,
 use Rattle.pb_replay.specs.declared.verdict.Verdict.{Verdict}
 use Rattle.pb_replay.specs.meaning.Answer.{Answer, gives, need, each_below, found, some, after}
 use Rattle.pb_replay.specs.meaning.Problem.{Problem, objective_of}
-use Rattle.pb_replay.specs.meaning.Propagation.{MeetsConflict, IsCompletion}
+use Rattle.pb_propagate.specs.meaning.Propagation.{MeetsConflict, IsCompletion}
 
 -- a solution: its values by the numbers of names, and the value of the objective
 pub record Logged : Type 0 where
@@ -40,10 +40,6 @@ by_name names a name = a (number_in names name)
 
 abbrev pub value : Problem → (ℕ → Bool) → ℤ
 value v a = true_sum (by_name v.names a) (objective_of v.objective)
-
--- the live forms
-abbrev pub Live : List (Option Form) → Form → Type 0
-Live live f = Contains live (Some f)
 
 -- the index of the id among so many; a negative id counts back from the newest; their number if the id was never given
 abbrev pub place : ℕ → ℤ → ℕ

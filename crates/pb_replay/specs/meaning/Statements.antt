@@ -19,8 +19,8 @@ use Rattle.pb_normal.specs.meaning.Written.{names_of}
 use Rattle.pb_replay.specs.declared.fault.Fault.TheVariants.{FormulaCount, NotImplied, NoObjective, IdsSpent, Order}
 use Rattle.pb_replay.specs.meaning.Answer.{Answer, gives, need, found, some, after}
 use Rattle.pb_replay.specs.meaning.Problem.{Problem}
-use Rattle.pb_replay.specs.meaning.Propagation.{IsRup}
-use Rattle.pb_replay.specs.meaning.Replay.{State, Live, FormOfExpression, normal_form, numbered, Completed, Excludes, Deleted, added}
+use Rattle.pb_propagate.specs.meaning.Propagation.{IsRup, Live}
+use Rattle.pb_replay.specs.meaning.Replay.{State, FormOfExpression, normal_form, numbered, Completed, Excludes, Deleted, added}
 use Rattle.pb_replay.specs.meaning.Conclusions.{Concludes, objective_with, verdict_of}
 
 -- the names in literals, words and conclusions, as often as they are written

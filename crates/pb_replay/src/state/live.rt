@@ -5,10 +5,9 @@ ghost use Rattle.pb_normal.specs.meaning.Form.{Form};
 ghost use Rattle.pb_replay.specs.contract.ReplayModel.{Keeps, Adding, IsLinked, IsInside};
 
 use crate::fault::Fault;
-use crate::propagate::engine::Engine;
-use crate::shared::Shared;
 use crate::state::Running;
 use pb_normal::Normal;
+use pb_propagate::{Engine, Shared};
 use std::alloc::{AllocError, Global};
 
 /// Adds variables to the engine, up to this number.

@@ -9,12 +9,12 @@ ghost use Rattle.pb_replay.specs.meaning.Problem.{FitsAll, Opened, objective_of}
 ghost use Rattle.pb_replay.specs.contract.ReplayModel.{IsFirst, problem_of};
 
 use crate::fault::Fault;
-use crate::shared::share_each;
 use crate::state::Running;
 use crate::state::live::engine_over;
 use pb_normal::{HashKeys, Names, Normal, NormalFault, Side, fits, load, terms_fit};
 use pb_opb::Instance;
 use pb_proof::Stage;
+use pb_propagate::share_each;
 use pb_sums::{Linear, Relation, Term};
 use pb_text::{Limits, Sequence};
 use std::alloc::Global;

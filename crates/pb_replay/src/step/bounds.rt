@@ -8,7 +8,6 @@ ghost use Rattle.pb_replay.specs.meaning.Replay.{IsLive};
 ghost use Rattle.pb_replay.specs.contract.ReplayModel.{IsInside, IsLinked, IsProper, Keeps, HasNamed, problem_of};
 
 use crate::fault::Fault;
-use crate::propagate::engine::Engine;
 use crate::state::Running;
 use crate::state::find::find;
 use crate::state::objective::objective_form;
@@ -16,6 +15,7 @@ use crate::step::contradiction::none_is_left;
 use crate::step::shown::shown;
 use pb_normal::{Normal, NormalFault, NumberedLiteral, Side};
 use pb_proof::Bound;
+use pb_propagate::Engine;
 use std::alloc::AllocError;
 
 /// Whether the form with this id is a contradiction, or its sum with the negation of the goal is one.

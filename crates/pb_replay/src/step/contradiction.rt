@@ -9,10 +9,10 @@ ghost use Rattle.pb_replay.specs.meaning.Replay.{Logged};
 ghost use Rattle.pb_replay.specs.contract.ReplayModel.{IsBest, state_of};
 
 use crate::fault::Fault;
-use crate::propagate::engine::Engine;
 use crate::state::Running;
 use crate::state::find::find;
 use pb_normal::Normal;
+use pb_propagate::Engine;
 
 /// Whether the form with this number is a live contradiction.
 fn is_contradiction_at(engine: &Engine, number: usize) -> bool

@@ -5,11 +5,11 @@ ghost use Rattle.pb_replay.specs.meaning.Replay.{Deleted};
 ghost use Rattle.pb_replay.specs.contract.ReplayModel.{Keeps, Goes, IsLinked, IsReady};
 
 use crate::fault::Fault;
-use crate::propagate::engine::Engine;
 use crate::state::Running;
 use crate::state::find::{find, place_of};
 use pb_normal::Normal;
 use pb_proof::Statement;
+use pb_propagate::Engine;
 use pb_text::Sequence;
 
 /// Deletes the constraints with these ids in order, up to the first id that has none.

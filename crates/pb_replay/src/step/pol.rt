@@ -16,13 +16,12 @@ ghost use Rattle.pb_proof.specs.contract.Leaving.{takes};
 ghost use Rattle.pb_replay.specs.meaning.Statements.{word_names};
 
 use crate::fault::Fault;
-use crate::propagate::engine::Engine;
-use crate::shared::Shared;
 use crate::state::Running;
 use crate::state::find::{find, number_of, share};
 use crate::state::live::{add_shared, widen};
 use pb_normal::{Names, Normal, Sum};
 use pb_proof::{PolWord, Statement};
+use pb_propagate::{Engine, Shared};
 use pb_text::{Limits, Sequence};
 use std::alloc::{AllocError, Global};
 

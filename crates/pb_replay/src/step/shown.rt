@@ -6,12 +6,12 @@ ghost use Rattle.pb_replay.specs.meaning.Replay.{Completed, Logged, Shown, numbe
 ghost use Rattle.pb_replay.specs.contract.ReplayModel.{Keeps, HasNamed, IsLinked, IsProper, problem_of};
 
 use crate::fault::Fault;
-use crate::propagate::engine::Engine;
 use crate::state::Running;
 use crate::state::live::engine_of;
 use crate::state::solution::judged;
 use crate::step::solution::{completion, take_literals};
 use pb_normal::NumberedLiteral;
+use pb_propagate::Engine;
 use pb_sums::Literal;
 use pb_text::Sequence;
 

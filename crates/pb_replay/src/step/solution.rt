@@ -3,8 +3,8 @@
 ghost use Rattle.std.specs.Prelude.{◌≡◌, ◌<◌, ◌^◌, ◌⊎◌, All, IfOk, IfErr, IsSome, OnOk, Ok, Err, length, true, false, unsigned_abs, ℕ, pos, ◌-ℤ◌, [], List};
 ghost use Rattle.pb_normal.specs.declared.numbered.NumberedLiteral.{NumberedLiteral as ANumberedLiteral};
 ghost use Rattle.pb_normal.specs.meaning.Rules.{on};
-ghost use Rattle.pb_replay.specs.engine.Engine.Live.{Live, Gives};
-ghost use Rattle.pb_replay.specs.meaning.Propagation.{MeetsConflict, IsCompletion};
+ghost use Rattle.pb_propagate.specs.engine.Engine.Live.{Live, Gives};
+ghost use Rattle.pb_propagate.specs.meaning.Propagation.{MeetsConflict, IsCompletion};
 ghost use Rattle.pb_replay.specs.meaning.Replay.{Completed, Excludes, Logged, negations, numbered};
 ghost use Rattle.pb_replay.specs.contract.ReplayModel.{Keeps, Goes, GoesAt, Logs, HasNamed, IsBetter, IsInside, IsLinked, IsProper, IsReady, problem_of};
 ghost use Rattle.pb_text.specs.meaning.Limits.{largest, top_of};
@@ -13,7 +13,6 @@ ghost use Rattle.pb_sums.specs.declared.linear.Literal.{Literal as Written};
 ghost use Rattle.pb_replay.specs.engine.Bounds.{Demands};
 
 use crate::fault::Fault;
-use crate::propagate::engine::Engine;
 use crate::state::Running;
 use crate::state::literals::{number_names, numbered_literals};
 use crate::state::live::{add, widen};
@@ -21,6 +20,7 @@ use crate::state::objective::objective_form;
 use crate::state::solution::judged;
 use pb_normal::{Normal, NormalFault, NumberedLiteral, Side};
 use pb_proof::Statement;
+use pb_propagate::Engine;
 use pb_sums::Literal;
 use pb_text::Sequence;
 use std::alloc::{AllocError, AllocFailed, Global};

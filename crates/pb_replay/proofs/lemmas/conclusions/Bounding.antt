@@ -28,7 +28,7 @@ use Rattle.pb_replay.specs.meaning.Replay.{IsLive, Logged, State, normal_form, n
 use Rattle.pb_replay.specs.contract.ReplayModel.{GoesAt, HasNamed, IsBest, IsProper, Keeps, problem_of, state_of}
 use Rattle.pb_text.proofs.lemmas.text.Results.{ok_or_err}
 use Rattle.pb_replay.proofs.lemmas.conclusions.Best.{below}
-use Rattle.pb_replay.proofs.lemmas.store.Gets.{contains-none}
+use Rattle.pb_propagate.proofs.lemmas.store.Gets.{contains-none}
 use Rattle.pb_replay.proofs.lemmas.names.Going.{form-of}
 use Rattle.pb_replay.proofs.lemmas.rules.Ready.{same_problem}
 use Rattle.pb_replay.proofs.lemmas.rules.States.{same-state}

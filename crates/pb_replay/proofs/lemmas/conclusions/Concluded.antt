@@ -20,8 +20,8 @@ use Rattle.pb_normal.proofs.lemmas.rules.Sums.{Holds-sum}
 use Rattle.pb_replay.specs.meaning.Replay.{Logged}
 use Rattle.pb_replay.specs.meaning.Answer.{Answer}
 use Rattle.pb_replay.specs.meaning.Problem.{Problem}
-use Rattle.pb_replay.specs.meaning.Propagation.{HoldAll}
-use Rattle.pb_replay.specs.meaning.Replay.{State, Live, value, numbered}
+use Rattle.pb_propagate.specs.meaning.Propagation.{HoldAll, Live}
+use Rattle.pb_replay.specs.meaning.Replay.{State, value, numbered}
 use Rattle.pb_replay.specs.meaning.Conclusions.{contradicted, none_left, named, objective_with, IsShownBy, trivial, contradiction, sum, propagated, lower_bound, upper_bound, Concludes, verdict_of}
 use Rattle.pb_replay.specs.meaning.Meaning.{IsSolution, HasNone, IsAtLeast, IsAtMost, Means, Accounted, known, beaten, allowed, IsSound, IsProblem}
 use Rattle.pb_replay.proofs.lemmas.meaning.Accepting.{needed}
@@ -30,7 +30,7 @@ use Rattle.pb_normal.proofs.lemmas.names.WrittenForms.{HasNames-append}
 use Rattle.pb_replay.proofs.lemmas.names.Naming.{value-over, value-agree, side-holds, objective-named}
 use Rattle.pb_replay.proofs.lemmas.meaning.Propagating.{IsRup-holds}
 use Rattle.pb_replay.proofs.lemmas.solutions.Solutions.{Completed-taken}
-use Rattle.pb_replay.proofs.lemmas.store.Gets.{contains-none}
+use Rattle.pb_propagate.proofs.lemmas.store.Gets.{contains-none}
 
 contradiction-fails : (a : ℕ → Bool) (f : Form) → IsContradiction f → Holds a f → ⊥
 contradiction-fails a f c h = omega (arith, total-le-each (true_at a) f.terms)

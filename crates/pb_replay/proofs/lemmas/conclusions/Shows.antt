@@ -13,8 +13,8 @@ use Rattle.pb_replay.specs.declared.fault.Fault.TheVariants.{Conflict, Memory, N
 use Rattle.pb_replay.specs.declared.state.Running.{Running}
 use Rattle.pb_replay.specs.declared.verdict.Verdict.TheVariants as verdict
 use Rattle.pb_replay.specs.meaning.Problem.{Problem}
-use Rattle.pb_replay.specs.meaning.Propagation.{MeetsConflict}
-use Rattle.pb_replay.specs.meaning.Replay.{Completed, Live, Logged, Shown, State, numbered}
+use Rattle.pb_propagate.specs.meaning.Propagation.{MeetsConflict, Live}
+use Rattle.pb_replay.specs.meaning.Replay.{Completed, Logged, Shown, State, numbered}
 use Rattle.pb_replay.specs.contract.ReplayModel.{GoesAt, IsBest, problem_of, state_of}
 use Rattle.pb_replay.proofs.lemmas.rules.Living.{Live-loaded}
 use Rattle.pb_replay.proofs.lemmas.solutions.Solved.{completed-to, conflicting}

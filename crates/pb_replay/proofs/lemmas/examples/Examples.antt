@@ -11,8 +11,7 @@ use Rattle.pb_normal.specs.meaning.Written.{IsFormOf, written_on}
 use Rattle.pb_normal.specs.declared.numbered.NumberedLiteral.{NumberedLiteral}
 use Rattle.pb_replay.specs.declared.verdict.Verdict.TheVariants as verdict
 use Rattle.pb_replay.specs.meaning.Problem.{Problem, Opened}
-use Rattle.pb_replay.specs.meaning.Propagation.{MayPropagate, begin, put, broken, With, IsRup}
-use Rattle.pb_replay.specs.meaning.Replay.{Live}
+use Rattle.pb_propagate.specs.meaning.Propagation.{MayPropagate, begin, put, broken, With, IsRup, Live}
 use Rattle.pb_replay.specs.contract.Example.{name_x, unit_on, opposed, short_proof, other_proof, Verifies}
 
 abbrev plain_x : Form

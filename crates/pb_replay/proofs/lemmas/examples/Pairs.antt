@@ -8,8 +8,8 @@ use Rattle.pb_normal.specs.meaning.Form.{Form, Holds, total}
 use Rattle.pb_normal.specs.meaning.Rules.{assignment, only, on}
 use Rattle.pb_normal.specs.declared.numbered.NumberedLiteral.{NumberedLiteral}
 use Rattle.pb_replay.specs.meaning.Problem.{Problem}
-use Rattle.pb_replay.specs.meaning.Propagation.{begin, MayPropagate}
-use Rattle.pb_replay.specs.meaning.Replay.{Live, HasValue, AreValues, Excludes, Completed, logged_of, negations}
+use Rattle.pb_propagate.specs.meaning.Propagation.{begin, MayPropagate, Live}
+use Rattle.pb_replay.specs.meaning.Replay.{HasValue, AreValues, Excludes, Completed, logged_of, negations}
 use Rattle.pb_replay.specs.contract.Example.{name_x, name_y}
 use Rattle.pb_replay.proofs.lemmas.meaning.Propagating.{AreTrue, AreTrue-put, on-negations, conflict-none}
 

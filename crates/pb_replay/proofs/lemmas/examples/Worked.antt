@@ -17,13 +17,13 @@ use Rattle.pb_replay.specs.declared.verdict.Verdict.TheVariants as verdict
 use Rattle.pb_proof.specs.declared.Bound.TheVariants.{Finite}
 use Rattle.pb_proof.specs.declared.Stage.TheVariants.{Concluding}
 use Rattle.pb_replay.specs.meaning.Problem.{Problem, Opened}
-use Rattle.pb_replay.specs.meaning.Propagation.{MayPropagate, begin, put, broken, With, IsRup}
-use Rattle.pb_replay.specs.meaning.Replay.{Live, State, Logged, first_state, logged_of}
+use Rattle.pb_propagate.specs.meaning.Propagation.{MayPropagate, begin, put, broken, With, IsRup, Live}
+use Rattle.pb_replay.specs.meaning.Replay.{State, Logged, first_state, logged_of}
 use Rattle.pb_replay.specs.meaning.Statements.{Accepts}
 use Rattle.pb_replay.specs.meaning.Conclusions.{objective_with, propagated}
 use Rattle.pb_replay.specs.contract.Example.{name_x, name_y, unit_on, at_least_one, both_terms, either, all_logged, logged_proof, shown_proof, best_logged, best_proof, bounds_of, Verifies, Refuses}
 use Rattle.pb_replay.proofs.lemmas.examples.Pairs.{entry, pair, values, problem, met, completed, live-met, own-met, clause-of}
-use Rattle.pb_replay.proofs.lemmas.engine.Literals.{literal}
+use Rattle.pb_propagate.proofs.lemmas.engine.Literals.{literal}
 
 abbrev names : List (List ℕ)
 names = name_x ∷ name_y ∷ []

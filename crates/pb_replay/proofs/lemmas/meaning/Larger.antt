@@ -19,7 +19,8 @@ use Rattle.pb_replay.specs.meaning.Replay.{Logged}
 use Rattle.pb_replay.specs.meaning.Answer.{Answer, need, found, some, after}
 use Rattle.pb_normal.specs.meaning.Rules.{IsSum}
 use Rattle.pb_replay.specs.meaning.Problem.{Problem}
-use Rattle.pb_replay.specs.meaning.Replay.{State, Live, Completed, FormOfExpression, limited, normal_form, added, numbered}
+use Rattle.pb_replay.specs.meaning.Replay.{State, Completed, FormOfExpression, limited, normal_form, added, numbered}
+use Rattle.pb_propagate.specs.meaning.Propagation.{Live}
 use Rattle.pb_replay.specs.meaning.Conclusions.{named, objective_with, lower_bound, Concludes}
 use Rattle.pb_replay.specs.meaning.Statements.{Does, mentioned}
 use Rattle.pb_replay.specs.contract.Laws.{OpensMore, AcceptsMore}

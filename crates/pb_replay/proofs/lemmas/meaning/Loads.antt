@@ -22,14 +22,14 @@ use Rattle.pb_normal.proofs.lemmas.names.WrittenForms.{SameAsForm-from, SameAsFo
 use Rattle.pb_replay.specs.declared.verdict.Verdict.{Verdict}
 use Rattle.pb_replay.specs.declared.verdict.Verdict.TheVariants.{NoClaim, Unsat, Sat, Bounds}
 use Rattle.pb_replay.specs.meaning.Problem.{Problem, Opened, Solves, written_value, names_in, objective_of}
-use Rattle.pb_replay.specs.meaning.Propagation.{HoldAll}
+use Rattle.pb_propagate.specs.meaning.Propagation.{HoldAll}
 use Rattle.pb_replay.specs.meaning.Replay.{State, by_name, value, first_state}
 use Rattle.pb_replay.specs.meaning.Meaning.{IsSolution, Means, MeansWritten, IsAtLeast, IsAtMost, IsProblem, IsSound, Accounted, known, beaten, allowed, AccountedWritten, known_names, beaten_value, allowed_still}
 use Rattle.pb_replay.specs.contract.Laws.{ProblemsAreProper, MeaningsAgree, VerdictsMean, SolutionsAreAccounted}
 use Rattle.pb_replay.proofs.lemmas.meaning.Accepting.{needed, ok-same}
 use Rattle.pb_replay.proofs.lemmas.names.Naming.{Holds-agree, back, true_sum-agree, value-agree}
 use Rattle.pb_replay.proofs.lemmas.meaning.Sound.{first-sound, run-sound}
-use Rattle.pb_replay.proofs.lemmas.store.Gets.{contains-none}
+use Rattle.pb_propagate.proofs.lemmas.store.Gets.{contains-none}
 
 -- for each member of a longer list
 module _ {X : Type 0} (P : X → Type 0) where

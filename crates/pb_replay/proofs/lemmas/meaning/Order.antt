@@ -5,9 +5,9 @@ use Rattle.pb_normal.specs.meaning.Form.{Form}
 use Rattle.pb_normal.specs.meaning.Rules.{only, on}
 use Rattle.pb_normal.specs.declared.numbered.NumberedLiteral.{NumberedLiteral}
 use Rattle.pb_replay.specs.contract.Laws.{InList, OrderIsFree, CompletionIsOne}
-use Rattle.pb_replay.specs.meaning.Propagation.{Derivation, begin, put, HasConflict, MeetsConflict}
-use Rattle.pb_replay.proofs.lemmas.solutions.Completing.{IsPart, on_it, still, conflicting, lasting, put-part, derivation-keeps, conflict-part, completion-one}
-use Rattle.pb_replay.proofs.lemmas.meaning.Choices.{only-self}
+use Rattle.pb_propagate.specs.meaning.Propagation.{Derivation, begin, put, HasConflict, MeetsConflict}
+use Rattle.pb_propagate.proofs.lemmas.engine.Completing.{IsPart, on_it, still, conflicting, lasting, put-part, derivation-keeps, conflict-part, completion-one}
+use Rattle.pb_propagate.proofs.lemmas.engine.Choices.{only-self}
 
 -- a list is extended until it has a conflict, or the literals of another one
 pub record Reached (forms : Form → Type 0) (from other : List NumberedLiteral) : Type 0 where

@@ -6,9 +6,9 @@ use Rattle.pb_normal.specs.declared.numbered.NumberedLiteral.{NumberedLiteral}
 use Rattle.pb_normal.specs.meaning.Form.{Form, Holds, total, true_at}
 use Rattle.pb_normal.specs.meaning.Rules.{negation_of, only, on}
 use Rattle.pb_replay.specs.meaning.Replay.{negations}
-use Rattle.pb_replay.specs.meaning.Propagation.{opened, MayPropagate, Derivation, begin, put, HasConflict, opposed, broken, MeetsConflict, With, IsRup, HoldAll}
+use Rattle.pb_propagate.specs.meaning.Propagation.{opened, MayPropagate, Derivation, begin, put, HasConflict, opposed, broken, MeetsConflict, With, IsRup, HoldAll}
 use Rattle.pb_normal.proofs.lemmas.terms.Maps.{Holds-negation_back}
-use Rattle.pb_replay.proofs.lemmas.meaning.Choices.{total-fits, total-within, only-true}
+use Rattle.pb_propagate.proofs.lemmas.engine.Choices.{total-fits, total-within, only-true}
 
 -- a literal and its negation
 pub true_at-not : (a : ℕ → Bool) (v : ℕ) (n : Bool) → true_at a v (not n) ≡ not (true_at a v n)

@@ -16,7 +16,8 @@ use Rattle.pb_normal.specs.declared.numbered.NumberedLiteral.{NumberedLiteral}
 use Rattle.pb_replay.specs.meaning.Answer.{Answer}
 use Rattle.pb_replay.specs.meaning.Conclusions.{Concludes, lower_bound, upper_bound, contradicted}
 use Rattle.pb_replay.specs.meaning.Problem.{Problem}
-use Rattle.pb_replay.specs.meaning.Replay.{State, Logged, Live, FormOfExpression, Completed, Deleted, numbered, place}
+use Rattle.pb_replay.specs.meaning.Replay.{State, Logged, FormOfExpression, Completed, Deleted, numbered, place}
+use Rattle.pb_propagate.specs.meaning.Propagation.{Live}
 use Rattle.pb_replay.specs.meaning.Statements.{Does, Outcome, mentioned}
 use Rattle.pb_replay.specs.contract.Rules.{HasForm, constraint, literal, sum, product, quotient, saturation, weakening, IsSolvedBy, Deletes, none, one, HasContradiction, some, named, unnamed, named_one, IsLower, infinite, finite, IsUpper, unbounded, by_shown, by_logged, IsJustified, no_claim, unsat, sat_shown, sat_logged, bounds, with_form, Rule, header, formula, pol, rup, soli, solx, delete, output, conclude, end, Step, RulesAreOutcomes}
 use Rattle.pb_replay.proofs.lemmas.meaning.Accepting.{ok-same, needed, followed, eached}

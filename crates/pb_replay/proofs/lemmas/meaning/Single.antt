@@ -27,13 +27,14 @@ use Rattle.pb_normal.specs.meaning.Rules.{IsSum, multiplied, on}
 use Rattle.pb_normal.proofs.lemmas.rules.Unique.{IsSum-unique, IsRising-same, same_form}
 use Rattle.pb_normal.proofs.lemmas.names.WrittenForms.{IsFormOf-unique, same_forms}
 use Rattle.pb_replay.specs.meaning.Problem.{Problem, FitsAll, names_in}
-use Rattle.pb_replay.specs.meaning.Replay.{State, Live, IsLive, place, FormOfExpression, normal_form, HasValue, AreValues, Solution, Completed, Shown, logged_of, Excludes, Deleted, added, numbered}
+use Rattle.pb_replay.specs.meaning.Replay.{State, IsLive, place, FormOfExpression, normal_form, HasValue, AreValues, Solution, Completed, Shown, logged_of, Excludes, Deleted, added, numbered}
+use Rattle.pb_propagate.specs.meaning.Propagation.{Live}
 use Rattle.pb_replay.specs.meaning.Conclusions.{none_left, named, objective_with, lower_bound, upper_bound, Concludes}
 use Rattle.pb_replay.specs.meaning.Statements.{Does, mentioned}
 use Rattle.pb_replay.specs.contract.Laws.{IsSingle, OpeningsAreSingle, OutcomesAreSingle}
 use Rattle.pb_replay.proofs.lemmas.meaning.Accepting.{ok-same}
 use Rattle.pb_text.proofs.lemmas.text.Results.{ok_or_err, same_err}
-use Rattle.pb_replay.proofs.lemmas.solutions.Completing.{completion-one}
+use Rattle.pb_propagate.proofs.lemmas.engine.Completing.{completion-one}
 use Rattle.pb_proof.proofs.lemmas.Pol.Postfix.{words_report}
 
 Excludes-unique : (given : List NumberedLiteral) (r s : Form) → Excludes given r → Excludes given s → r ≡ s

@@ -21,8 +21,8 @@ use Rattle.pb_normal.specs.meaning.Written.{true_sum, IsSideOf}
 use Rattle.pb_normal.proofs.lemmas.names.Appearing.{distinct}
 use Rattle.pb_replay.specs.meaning.Replay.{Logged}
 use Rattle.pb_replay.specs.meaning.Problem.{Problem}
-use Rattle.pb_replay.specs.meaning.Propagation.{HoldAll}
-use Rattle.pb_replay.specs.meaning.Replay.{State, Live, value, by_name, Deleted, place, numbered}
+use Rattle.pb_propagate.specs.meaning.Propagation.{HoldAll, Live}
+use Rattle.pb_replay.specs.meaning.Replay.{State, value, by_name, Deleted, place, numbered}
 use Rattle.pb_replay.specs.meaning.Conclusions.{objective_with, verdict_of}
 use Rattle.pb_replay.specs.meaning.Statements.{Does, Accepts, mentioned}
 use Rattle.pb_replay.specs.meaning.Meaning.{IsSolution, Accounted, known, beaten, allowed, IsNamePrefix, IsSound, IsProblem}
@@ -33,7 +33,7 @@ use Rattle.pb_replay.proofs.lemmas.names.Naming.{IsNamePrefix-more, length-prefi
 use Rattle.pb_replay.proofs.lemmas.meaning.Propagating.{IsRup-holds}
 use Rattle.pb_replay.proofs.lemmas.meaning.Trees.{HasDivisors, FormOfExpression-holds}
 use Rattle.pb_replay.proofs.lemmas.solutions.Solutions.{Completed-taken, taken-known, clause-fails}
-use Rattle.pb_replay.proofs.lemmas.store.Gets.{contains-none}
+use Rattle.pb_propagate.proofs.lemmas.store.Gets.{contains-none}
 use Rattle.pb_replay.proofs.lemmas.conclusions.Concluded.{Concludes-means, objective-numbers}
 
 pub first-sound : FirstIsSound

@@ -7,8 +7,8 @@ use Rattle.pb_normal.specs.meaning.Form.{Form, Holds}
 use Rattle.pb_normal.proofs.lemmas.terms.Maps.{Holds-divided, Holds-weakened}
 use Rattle.pb_normal.proofs.lemmas.rules.Scales.{Holds-multiplied, Holds-saturated}
 use Rattle.pb_normal.proofs.lemmas.rules.Sums.{Holds-sum}
-use Rattle.pb_replay.specs.meaning.Propagation.{HoldAll}
-use Rattle.pb_replay.specs.meaning.Replay.{Live, FormOfExpression}
+use Rattle.pb_propagate.specs.meaning.Propagation.{HoldAll, Live}
+use Rattle.pb_replay.specs.meaning.Replay.{FormOfExpression}
 use Rattle.pb_replay.proofs.lemmas.meaning.Accepting.{needed, followed, ok-same}
 use Rattle.pb_replay.proofs.lemmas.rules.Living.{IsLive-live}
 

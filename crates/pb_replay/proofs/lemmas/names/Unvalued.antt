@@ -13,7 +13,8 @@ use Rattle.pb_normal.proofs.lemmas.names.Appearing.{prefix, distinct}
 use Rattle.pb_normal.proofs.lemmas.names.Numbering.{number_in-get}
 use Rattle.pb_replay.specs.declared.fault.Fault.{Fault}
 use Rattle.pb_replay.specs.declared.fault.Fault.TheVariants as fault
-use Rattle.pb_replay.specs.meaning.Replay.{State, Live, IsLive, place, FormOfExpression, limited, normal_form, HasValue, Completed, Shown, Excludes, Deleted, added, numbered}
+use Rattle.pb_replay.specs.meaning.Replay.{State, IsLive, place, FormOfExpression, limited, normal_form, HasValue, Completed, Shown, Excludes, Deleted, added, numbered}
+use Rattle.pb_propagate.specs.meaning.Propagation.{Live}
 use Rattle.pb_replay.specs.meaning.Statements.{Does, MayWant, PassesFirst, literal_names, mentioned}
 use Rattle.pb_sums.specs.declared.Term.{Term}
 use Rattle.pb_sums.specs.declared.Linear.{Linear}
@@ -32,8 +33,8 @@ use Rattle.pb_replay.specs.meaning.Answer.{Answer, gives, need, found, some, aft
 use Rattle.pb_replay.specs.meaning.Problem.{Problem}
 use Rattle.pb_replay.specs.meaning.Conclusions.{none_left, named, objective_with, lower_bound, upper_bound, Concludes}
 use Rattle.pb_replay.specs.contract.Laws.{UnvaluedAreOld, UnvaluedMayWant}
-use Rattle.pb_replay.proofs.lemmas.solutions.Completing.{derivation-keeps}
-use Rattle.pb_replay.proofs.lemmas.meaning.Choices.{only-self}
+use Rattle.pb_propagate.proofs.lemmas.engine.Completing.{derivation-keeps}
+use Rattle.pb_propagate.proofs.lemmas.engine.Choices.{only-self}
 
 -- at each new index is one of the names that appeared
 data Among (q : List ℕ) : List (List ℕ) → Type 0 where

@@ -13,7 +13,8 @@ use Rattle.pb_normal.specs.meaning.Rules.{multiplied, divided, saturated, weaken
 use Rattle.pb_normal.proofs.lemmas.names.Appearing.{names_split}
 use Rattle.pb_normal.proofs.lemmas.rules.Keeps.{IsOver-sum, IsOver-mapped, IsOver-filtered, IsOver-below}
 use Rattle.pb_normal.proofs.lemmas.names.Numbering.{number_in-below}
-use Rattle.pb_replay.specs.meaning.Replay.{Live, FormOfExpression}
+use Rattle.pb_replay.specs.meaning.Replay.{FormOfExpression}
+use Rattle.pb_propagate.specs.meaning.Propagation.{Live}
 use Rattle.pb_replay.specs.contract.ReplayModel.{IsInside}
 use Rattle.pb_replay.specs.meaning.Statements.{word_names}
 use Rattle.pb_replay.proofs.lemmas.meaning.Accepting.{needed, followed, ok-same}

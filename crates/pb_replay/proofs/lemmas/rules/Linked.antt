@@ -7,7 +7,7 @@ use Rattle.pb_normal.specs.meaning.Form.{Form}
 use Rattle.pb_normal.specs.meaning.Names.{with_names}
 use Rattle.pb_normal.proofs.lemmas.names.Appearing.{prefix}
 use Rattle.pb_replay.specs.declared.state.Running.{Running}
-use Rattle.pb_replay.specs.meaning.Replay.{Live}
+use Rattle.pb_propagate.specs.meaning.Propagation.{Live}
 use Rattle.pb_replay.specs.contract.ReplayModel.{IsInside, IsLinked}
 use Rattle.pb_replay.proofs.lemmas.rules.Living.{Live-loaded}
 

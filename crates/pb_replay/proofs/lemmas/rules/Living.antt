@@ -7,8 +7,8 @@ use Rattle.std.proofs.Math.ListN.{get_or-eq_default}
 use Rattle.std.proofs.lemmas.List.Elements.{Contains-get_or, Contains-push_cases}
 use Rattle.std.proofs.lemmas.Option.{none-some, same_Some}
 use Rattle.pb_normal.specs.meaning.Form.{Form, Holds}
-use Rattle.pb_replay.specs.meaning.Propagation.{HoldAll}
-use Rattle.pb_replay.specs.meaning.Replay.{Live, IsLive, place}
+use Rattle.pb_propagate.specs.meaning.Propagation.{HoldAll, Live}
+use Rattle.pb_replay.specs.meaning.Replay.{IsLive, place}
 
 pub read-live : (live : List (Option Form)) (k : ℕ) (f : Form) → get_or live k None ≡ Some f → Live live f
 read-live live k f e =

@@ -12,7 +12,8 @@ use Rattle.pb_replay.specs.declared.fault.Fault.{Fault}
 use Rattle.pb_replay.specs.declared.state.Running.{Running}
 use Rattle.pb_replay.specs.meaning.Answer.{some}
 use Rattle.pb_replay.specs.meaning.Meaning.{IsNamePrefix}
-use Rattle.pb_replay.specs.meaning.Replay.{IsLive, Live, Logged, State, FormOfExpression, added}
+use Rattle.pb_replay.specs.meaning.Replay.{IsLive, Logged, State, FormOfExpression, added}
+use Rattle.pb_propagate.specs.meaning.Propagation.{Live}
 use Rattle.pb_replay.specs.contract.ReplayModel.{Adding, Goes, IsInside, IsLinked, state_of, with_mentioned}
 use Rattle.pb_replay.specs.meaning.Statements.{word_names}
 use Rattle.pb_replay.proofs.lemmas.rules.Insides.{tree-inside}

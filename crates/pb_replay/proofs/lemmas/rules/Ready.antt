@@ -31,7 +31,7 @@ use Rattle.pb_replay.proofs.lemmas.rules.States.{same-state}
 use Rattle.pb_replay.specs.meaning.Meaning.{IsNamePrefix, IsSound, Means, MeansWritten}
 use Rattle.pb_replay.specs.contract.ReplayModel.{Comes, Keeps, IsBest, IsFirst, IsInside, IsKept, IsLinked, IsProper, IsReady, problem_of, state_of}
 use Rattle.pb_text.specs.declared.Limits.{Limits}
-use Rattle.pb_replay.proofs.lemmas.store.Gets.{contains-none}
+use Rattle.pb_propagate.proofs.lemmas.store.Gets.{contains-none}
 use Rattle.pb_replay.proofs.lemmas.meaning.Loads.{problems-proper, loaded-inside, meanings-agree}
 use Rattle.pb_replay.proofs.lemmas.meaning.Sound.{first-sound, statements-sound}
 use Rattle.std.proofs.lemmas.List.{length-take-le}

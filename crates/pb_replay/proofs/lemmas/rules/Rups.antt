@@ -23,8 +23,8 @@ use Rattle.std.proofs.Common.{subst, map, length}
 use Rattle.pb_text.proofs.lemmas.text.Results.{same_err}
 use Rattle.pb_replay.proofs.lemmas.rules.States.{same-state, added-over}
 use Rattle.pb_replay.specs.declared.state.Running.{Running}
-use Rattle.pb_replay.specs.meaning.Propagation.{IsRup}
-use Rattle.pb_replay.specs.meaning.Replay.{Live, Logged, State, added}
+use Rattle.pb_propagate.specs.meaning.Propagation.{IsRup, Live}
+use Rattle.pb_replay.specs.meaning.Replay.{Logged, State, added}
 use Rattle.pb_replay.specs.contract.ReplayModel.{Adding, Goes, Comes, Keeps, problem_of, state_of, with_mentioned}
 use Rattle.pb_replay.specs.meaning.Statements.{Does, IsCount}
 use Rattle.pb_replay.specs.meaning.Meaning.{IsNamePrefix}

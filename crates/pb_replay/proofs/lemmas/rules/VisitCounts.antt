@@ -13,9 +13,9 @@ use Rattle.pb_normal.proofs.lemmas.names.WrittenForms.{IsFormOf-unique}
 use Rattle.pb_replay.specs.declared.fault.Fault.{Fault}
 use Rattle.pb_replay.specs.declared.fault.Fault.TheVariants.{IdsSpent, Memory, NotImplied, Order, Overflow}
 use Rattle.pb_replay.specs.declared.state.Running.{Running}
-use Rattle.pb_replay.specs.engine.Engine.Live.{terms_in, one_in}
-use Rattle.pb_replay.specs.meaning.Propagation.{MeetsConflict, IsCompletion, With}
-use Rattle.pb_replay.specs.meaning.Replay.{Live, added}
+use Rattle.pb_propagate.specs.engine.Engine.Live.{terms_in, one_in}
+use Rattle.pb_propagate.specs.meaning.Propagation.{MeetsConflict, IsCompletion, With, Live}
+use Rattle.pb_replay.specs.meaning.Replay.{added}
 use Rattle.pb_replay.specs.contract.ReplayModel.{Adding, state_of}
 use Rattle.pb_replay.specs.contract.Visits.{RupVisits, IsFew, CoversConflict, CoversCompletion}
 use Rattle.pb_text.proofs.lemmas.text.Results.{ok_or_err, same_err}

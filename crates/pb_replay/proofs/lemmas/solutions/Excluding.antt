@@ -12,14 +12,14 @@ use Rattle.pb_replay.specs.declared.fault.Fault.{Fault}
 use Rattle.pb_replay.specs.declared.state.Running.{Running}
 use Rattle.pb_replay.specs.engine.Bounds.{Demands}
 use Rattle.pb_replay.specs.meaning.Problem.{Problem}
-use Rattle.pb_replay.specs.meaning.Propagation.{begin, opposed}
-use Rattle.pb_replay.specs.meaning.Replay.{Completed, Excludes, Live, Logged, negations, numbered}
+use Rattle.pb_propagate.specs.meaning.Propagation.{begin, opposed, Live}
+use Rattle.pb_replay.specs.meaning.Replay.{Completed, Excludes, Logged, negations, numbered}
 use Rattle.pb_replay.specs.contract.ReplayModel.{GoesAt, IsInside, Logs, problem_of}
 use Rattle.std.proofs.lemmas.Bool.{or_cases}
 use Rattle.std.proofs.lemmas.List.Elements.{All-head, All-tail, Contains-get_or}
 use Rattle.pb_replay.proofs.lemmas.meaning.Accepting.{needed}
 use Rattle.pb_replay.proofs.lemmas.meaning.Propagating.{on-negations}
-use Rattle.pb_replay.proofs.lemmas.meaning.Choices.{only-true, only-self, total-has, rising-positive}
+use Rattle.pb_propagate.proofs.lemmas.engine.Choices.{only-true, only-self, total-has, rising-positive}
 
 -- literals that complete to something are not opposed
 pub apart : (v : Problem) (F : Form → Type 0) (n : ℕ) (given : List NumberedLiteral) (g : Logged) → Completed v F n given (Ok g) → (x : ℕ) → on given x true ≡ true → on given x false ≡ true → ⊥

@@ -8,11 +8,11 @@ use Rattle.pb_normal.specs.meaning.Form.{Form, Holds, total, true_at}
 use Rattle.pb_normal.specs.meaning.Rules.{assignment, only, on}
 use Rattle.pb_replay.specs.meaning.Replay.{Logged}
 use Rattle.pb_replay.specs.meaning.Problem.{Problem}
-use Rattle.pb_replay.specs.meaning.Propagation.{HoldAll, MeetsConflict, IsCompletion}
+use Rattle.pb_propagate.specs.meaning.Propagation.{HoldAll, MeetsConflict, IsCompletion}
 use Rattle.pb_replay.specs.meaning.Replay.{Completed, HasValue, AreValues, Excludes, negations, value, no_form, logged_of}
 use Rattle.pb_replay.specs.meaning.Meaning.{IsSolution}
 use Rattle.pb_replay.proofs.lemmas.meaning.Accepting.{needed, eached, ok-same}
-use Rattle.pb_replay.proofs.lemmas.meaning.Choices.{only-true, total-within}
+use Rattle.pb_propagate.proofs.lemmas.engine.Choices.{only-true, total-within}
 use Rattle.pb_replay.proofs.lemmas.meaning.Propagating.{AreTrue, on-negations, derivation-true, true_at-not}
 
 -- what an accepted completion has

@@ -7,9 +7,9 @@ use Rattle.pb_normal.specs.meaning.Form.{Form, Holds}
 use Rattle.pb_normal.specs.meaning.Rules.{assignment, on}
 use Rattle.pb_replay.specs.declared.fault.Fault.{Fault}
 use Rattle.pb_replay.specs.declared.fault.Fault.TheVariants.{Conflict, Memory, NotTotal, Violates}
-use Rattle.pb_replay.specs.engine.Engine.Live.{Gives, value_says}
+use Rattle.pb_propagate.specs.engine.Engine.Live.{Gives, value_says}
 use Rattle.pb_replay.specs.meaning.Problem.{Problem}
-use Rattle.pb_replay.specs.meaning.Propagation.{MayPropagate, Derivation, begin, put, HasConflict, opposed, broken, MeetsConflict, IsCompletion}
+use Rattle.pb_propagate.specs.meaning.Propagation.{MayPropagate, Derivation, begin, put, HasConflict, opposed, broken, MeetsConflict, IsCompletion}
 use Rattle.pb_replay.specs.meaning.Replay.{Logged, HasValue, AreValues, Solution, Completed, Shown, no_form, logged_of, value}
 use Rattle.pb_replay.proofs.lemmas.meaning.Accepting.{ok-same}
 use Rattle.pb_text.proofs.lemmas.text.Results.{ok_or_err, same_err}

@@ -1,5 +1,5 @@
 use Rattle.std.proofs.Common.{length}
-use Rattle.pb_replay.specs.meaning.Replay.{Live}
+use Rattle.pb_propagate.specs.meaning.Propagation.{Live}
 use Rattle.pb_replay.specs.contract.ReplayModel.{problem_of}
 use Rattle.pb_replay.proofs.lemmas.solutions.Solved.{completed-ok, completed-err}
 use Rattle.pb_replay.proofs.step.solution.completed.Goals as goal

@@ -2,7 +2,7 @@ use Rattle.std.specs.Int.{w128}
 use Rattle.std.proofs.lemmas.Int.{fits_signed_from_abs, to_z-of_z}
 use Rattle.std.proofs.Common.{length, inl, inr}
 use Rattle.std.proofs.lemmas.Result.{err_from_is_err_and}
-use Rattle.pb_replay.specs.meaning.Replay.{Live}
+use Rattle.pb_propagate.specs.meaning.Propagation.{Live}
 use Rattle.pb_replay.specs.contract.ReplayModel.{problem_of}
 use Rattle.pb_replay.proofs.lemmas.solutions.Excluding.{apart, solx-ok, solx-err}
 use Rattle.pb_replay.proofs.lemmas.names.Going.{logs-from}

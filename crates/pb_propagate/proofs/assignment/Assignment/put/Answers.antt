@@ -1,0 +1,14 @@
+use Rattle.std.specs.Prelude.{Option, Bool}
+use Rattle.std.proofs.Common.{arith, ap, length, length-append, length-set}
+use Rattle.pb_normal.specs.declared.numbered.NumberedLiteral.{NumberedLiteral}
+use Rattle.pb_propagate.proofs.lemmas.engine.Values.{Agree-push, vacancy-push}
+use Rattle.pb_propagate.proofs.assignment.Assignment.put.Goals as goal
+
+pub invariant_of-self-2 : goal.invariant_of-self-2
+invariant_of-self-2 c =
+    let more = Agree-push c.args.self.now.values.items c.args.self.now.list.items c.args.literal c.args.self.now.agrees c.requires.inside c.requires.absent c.requires.not_falsified in
+    let less = vacancy-push c.args.self.now.values.items c.args.self.now.list.items c.args.literal c.args.self.now.agrees c.requires.inside c.requires.absent c.requires.not_falsified in
+    record {
+      agrees = λ l. rw c.in_ok-push.ensures.items (more l);
+      room = omega (arith, less, c.args.self.now.room, length-set {A = Option Bool}, ap length c.in_ok-push.ensures.items, length-append {A = NumberedLiteral});
+    }

@@ -1,0 +1,7 @@
+use Rattle.std.proofs.Common.{ℕ, ◌<◌, get_or}
+use Rattle.pb_normal.specs.declared.entry.Entry.{Entry}
+use Rattle.pb_propagate.specs.engine.Clauses.Shapes.{IsLight}
+use Rattle.pb_propagate.proofs.clause.is_clause.Given as goal
+
+abbrev pub invariant-entries : goal.invariant-entries
+invariant-entries l = (k : ℕ) (d : Entry) → k < l.i → IsLight (get_or l.entries k d)

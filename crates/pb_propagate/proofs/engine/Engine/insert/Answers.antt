@@ -1,0 +1,99 @@
+use Rattle.std.specs.Prelude.{Some, None}
+use Rattle.std.proofs.Common.{rules, inl, inr, ◌≡◌, set, ◌-◌, ◌^◌, ◌<◌, ◌++◌, ◌∷◌, [], ◌∙◌, ap, arith}
+use Rattle.std.proofs.lemmas.Option.{slice_get_within}
+use Rattle.pb_propagate.specs.engine.Engine.Live.{Standing}
+use Rattle.pb_propagate.specs.engine.Engine.Fields.{forms_of}
+use Rattle.pb_propagate.specs.engine.Engine.Slots.{numbered}
+use Rattle.pb_propagate.proofs.lemmas.store.Changes.{forms-length}
+use Rattle.pb_propagate.proofs.lemmas.store.Placed.{numbered-same, numbered-filled, numbered-grown, placed-agree, placed-filled}
+use Rattle.pb_propagate.proofs.lemmas.root.Gained.{gained-both}
+use Rattle.pb_propagate.proofs.engine.Engine.insert.Goals as goal
+
+pub invariant_of-self-2 : goal.invariant_of-self-2
+invariant_of-self-2 c = λ ready.
+    let e = c.self.inside in
+    let r = c.self.invariant (ap (λ (v : Standing). v.spent) c.self.view_is ∙ c.requires.ready) in
+    let keep = c.vacancy.new.store.kept in
+    let forms = forms_of keep.items in
+    let was = forms_of e.store.kept.items in
+    let slot = c.in_ok-slot.slot in
+    let none = c.in_ok-slot.ensures.slot in
+    let small : slot < 2 ^ 64 - 1 = omega (arith, slice_get_within forms slot None none, keep.ok.0, keep.ok.1, forms-length keep.items) in
+    let placed = placed-agree was forms e.places.items c.vacancy.ensures.forms r.1 in
+    (c.in_ok-follow.ensures.rest, rw (c.in_ok-occupy.ensures.forms, c.in_ok-push.ensures.items) (placed-filled forms e.places.items slot c.args.form none small placed), c.in_ok-follow.ensures.rooted)
+
+pub returns-in_err-slot-clause-unchanged : goal.returns-in_err-slot-clause-unchanged
+returns-in_err-slot-clause-unchanged c =
+    let e = c.self.inside in
+    let was = forms_of e.store.kept.items in
+    let same : numbered (forms_of c.vacancy.new.store.kept.items) e.places.items ≡ c.args.self.now.forms =
+    numbered-same was (forms_of c.vacancy.new.store.kept.items) e.places.items (λ n s h. c.vacancy.ensures.forms s) ∙ ap (λ (v : Standing). v.forms) c.self.view_is in
+    search (rules, same)
+
+pub returns-in_err-occupy-clause-unchanged : goal.returns-in_err-occupy-clause-unchanged
+returns-in_err-occupy-clause-unchanged c =
+    let e = c.self.inside in
+    let r = c.self.invariant (ap (λ (v : Standing). v.spent) c.self.view_is ∙ c.requires.ready) in
+    let keep = c.vacancy.new.store.kept in
+    let forms = forms_of keep.items in
+    let was = forms_of e.store.kept.items in
+    let slot = c.in_ok-slot.slot in
+    let none = c.in_ok-slot.ensures.slot in
+    let small : slot < 2 ^ 64 - 1 = omega (arith, slice_get_within forms slot None none, keep.ok.0, keep.ok.1, forms-length keep.items) in
+    let placed = placed-agree was forms e.places.items c.vacancy.ensures.forms r.1 in
+    let same = numbered-same was forms e.places.items (λ n s h. c.vacancy.ensures.forms s) ∙ ap (λ (v : Standing). v.forms) c.self.view_is in
+    let reported : numbered (forms_of c.occupy.new.store.kept.items) e.places.items ≡ c.args.self.now.forms = elim c.in_err-occupy.ensures.refused [
+      | inl still ↦ ap (λ fs. numbered fs e.places.items) still ∙ same
+      | inr filled ↦ ap (λ fs. numbered fs e.places.items) filled ∙ numbered-filled forms e.places.items slot c.args.form none small placed ∙ same
+    ] in
+    search (rules, reported)
+
+pub returns-in_err-push-clause-unchanged : goal.returns-in_err-push-clause-unchanged
+returns-in_err-push-clause-unchanged c =
+    let e = c.self.inside in
+    let r = c.self.invariant (ap (λ (v : Standing). v.spent) c.self.view_is ∙ c.requires.ready) in
+    let keep = c.vacancy.new.store.kept in
+    let forms = forms_of keep.items in
+    let was = forms_of e.store.kept.items in
+    let slot = c.in_ok-slot.slot in
+    let none = c.in_ok-slot.ensures.slot in
+    let small : slot < 2 ^ 64 - 1 = omega (arith, slice_get_within forms slot None none, keep.ok.0, keep.ok.1, forms-length keep.items) in
+    let placed = placed-agree was forms e.places.items c.vacancy.ensures.forms r.1 in
+    let same : numbered (set forms slot (Some c.args.form)) e.places.items ≡ c.args.self.now.forms =
+    numbered-filled forms e.places.items slot c.args.form none small placed ∙ numbered-same was forms e.places.items (λ n s h. c.vacancy.ensures.forms s) ∙ ap (λ (v : Standing). v.forms) c.self.view_is in
+    search (rules, same)
+
+pub returns-in_err-follow-clause-unchanged : goal.returns-in_err-follow-clause-unchanged
+returns-in_err-follow-clause-unchanged c =
+    let e = c.self.inside in
+    let r = c.self.invariant (ap (λ (v : Standing). v.spent) c.self.view_is ∙ c.requires.ready) in
+    let keep = c.vacancy.new.store.kept in
+    let forms = forms_of keep.items in
+    let was = forms_of e.store.kept.items in
+    let slot = c.in_ok-slot.slot in
+    let none = c.in_ok-slot.ensures.slot in
+    let small : slot < 2 ^ 64 - 1 = omega (arith, slice_get_within forms slot None none, keep.ok.0, keep.ok.1, forms-length keep.items) in
+    let placed = placed-agree was forms e.places.items c.vacancy.ensures.forms r.1 in
+    let same : numbered (set forms slot (Some c.args.form)) e.places.items ≡ c.args.self.now.forms =
+    numbered-filled forms e.places.items slot c.args.form none small placed ∙ numbered-same was forms e.places.items (λ n s h. c.vacancy.ensures.forms s) ∙ ap (λ (v : Standing). v.forms) c.self.view_is in
+    search (rules, same)
+
+pub returns-clause-forms : goal.returns-clause-forms
+returns-clause-forms c =
+    let e = c.self.inside in
+    let r = c.self.invariant (ap (λ (v : Standing). v.spent) c.self.view_is ∙ c.requires.ready) in
+    let keep = c.vacancy.new.store.kept in
+    let forms = forms_of keep.items in
+    let was = forms_of e.store.kept.items in
+    let slot = c.in_ok-slot.slot in
+    let none = c.in_ok-slot.ensures.slot in
+    let small : slot < 2 ^ 64 - 1 = omega (arith, slice_get_within forms slot None none, keep.ok.0, keep.ok.1, forms-length keep.items) in
+    let placed = placed-agree was forms e.places.items c.vacancy.ensures.forms r.1 in
+    let same = numbered-same was forms e.places.items (λ n s h. c.vacancy.ensures.forms s) ∙ ap (λ (v : Standing). v.forms) c.self.view_is in
+    rw (c.in_ok-occupy.ensures.forms, c.in_ok-push.ensures.items) (numbered-grown forms e.places.items slot c.args.form none small placed ∙ ap (λ xs. xs ++ (Some c.args.form ∷ [])) same)
+
+pub follow-requires-clause-gained : goal.follow-requires-clause-gained
+follow-requires-clause-gained c = λ live.
+    let e = c.self.inside in
+    let r = c.self.invariant (ap (λ (v : Standing). v.spent) c.self.view_is ∙ c.requires.ready) in
+    (e.store, e.clauses, r.2 live, gained-both e.store c.vacancy.new.store c.occupy.new.store e.clauses c.vacancy.new.clauses c.occupy.new.clauses c.in_ok-slot.slot c.vacancy.ensures.variables c.in_ok-slot.ensures.widened c.in_ok-occupy.ensures.gained)

@@ -1,0 +1,39 @@
+use Rattle.std.proofs.Common.{true, false, Vec, Global, ℕ, ◌≡◌, ◌∷◌, [], ◌∙◌, ap, length, length-append, arith, sym}
+use Rattle.pb_propagate.specs.engine.Engine.Live.{Standing}
+use Rattle.pb_propagate.specs.engine.Engine.Fields.{shapes_of, spots_of}
+use Rattle.pb_propagate.specs.engine.Clauses.Links.{lists_of}
+use Rattle.pb_propagate.specs.engine.Clauses.Shapes.{clauses_of}
+use Rattle.pb_propagate.proofs.lemmas.store.Places.{entries-length}
+use Rattle.pb_propagate.proofs.lemmas.engine.Wider.{widened-stored, half}
+use Rattle.pb_propagate.proofs.engine.Engine.widen.Goals as goal
+
+pub invariant_of-self-2 : goal.invariant_of-self-2
+invariant_of-self-2 c = λ ready.
+    let e = c.self.inside in
+    let both = c.self.invariant (ap (λ (v : Standing). v.spent) c.self.view_is ∙ c.requires.ready) in
+    let r = both.0 in
+    let occ = e.store.occurrences.items in
+    let lit : clauses_of c.widen-2.new.self ≡ clauses_of e.clauses = ap (λ (v : Vec (Vec ℕ Global) Global). lists_of v.items) c.widen-2.ensures.literals in
+    let count = half c.len.result (length c.push-2.new.self.items) e.store.variables (omega (arith, c.len.ensures, c.push-2.new.self.ok.0))
+    (omega (arith, ap length c.in_ok-push.ensures.items, ap length c.in_ok-push-2.ensures.items, length-append occ (c.new.result ∷ []), length-append c.push.new.self.items (c.new-2.result ∷ []), entries-length (shapes_of e.store.kept.items) occ, r.sound.places)) in (
+      record {
+        sound = widened-stored (shapes_of e.store.kept.items) (spots_of e.store.spots.items) occ c.push.new.self.items c.push-2.new.self.items c.new.result c.new-2.result e.store.variables _ c.in_ok-push.ensures.items c.in_ok-push-2.ensures.items c.new.ensures.items c.new-2.ensures.items count r.sound;
+        slots = rw lit r.slots;
+        joined = rw lit r.joined;
+        ready = c.in_ok-widen-2.ensures.rest;
+        widths = omega (arith, c.in_ok-widen-2.ensures.lists, r.widths, count);
+        known = ap (λ (v : Vec (Vec ℕ Global) Global). length v.items) c.widen-2.ensures.literals ∙ r.known;
+        rest = r.rest;
+        values = omega (arith, c.in_ok-widen.ensures.values, r.values, count);
+        list = c.widen.ensures.list ∙ r.list;
+        work = r.work;
+        trail = r.trail;
+        next = r.next;
+        eager = r.eager;
+        exact = r.exact;
+        few = r.few;
+        seats = r.seats;
+      },
+      both.1,
+      λ live. absurd (let e : false ≡ true = sym c.end.ensures ∙ live in cc),
+    )

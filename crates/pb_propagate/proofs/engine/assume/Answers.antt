@@ -1,0 +1,70 @@
+use Rattle.std.proofs.Common.{◌≡◌, ◌+◌, [], get_or, true, false, refl, ◌∙◌, arith}
+use Rattle.pb_normal.specs.declared.numbered.NumberedLiteral.{NumberedLiteral}
+use Rattle.pb_normal.specs.meaning.Rules.{negation}
+use Rattle.pb_propagate.specs.engine.Engine.Lists.{has}
+use Rattle.pb_propagate.specs.engine.Engine.Counts.{none}
+use Rattle.pb_propagate.specs.engine.Engine.Fields.{shapes_of}
+use Rattle.pb_propagate.specs.engine.Engine.Rest.{opposite}
+use Rattle.pb_propagate.proofs.lemmas.engine.Literals.{has-get}
+use Rattle.pb_propagate.proofs.lemmas.engine.Assumed.{Assumed, assumed-next, given-refuted, within-none}
+use Rattle.pb_propagate.proofs.engine.assume.Goals as goal
+
+pub given-init : goal.given-init
+given-init c = record {
+  values = refl;
+  opens = refl;
+  candidates = refl;
+  next = refl;
+  longer = omega arith;
+  single = rw c.requires.empty none;
+  counted = c.requires.counted;
+  tidy = λ aside busy t. t;
+  within = within-none c.args.run.now.assignment.list.items c.args.given.now c.requires.empty;
+  covers = within-none [] c.args.run.now.assignment.list.items refl;
+}
+
+pub returns-then-contains-clause-refuted : goal.returns-then-contains-clause-refuted
+returns-then-contains-clause-refuted c = λ found.
+    let d : NumberedLiteral = record { variable = 0; negated = false } in
+    let l = get_or c.args.given.now c.given.i d in
+    let on : has c.given.run.assignment.list.items (negation l) ≡ true = cc (c.contains.ensures, c.if-contains.true, c.negation.ensures) in
+    opposite l (has-get c.args.given.now c.given.i d c.given-test.true) (c.given.invariant.within (negation l) on)
+
+pub given-preserved : goal.given-preserved
+given-preserved c =
+    let d : NumberedLiteral = record { variable = 0; negated = false } in
+    let l = get_or c.args.given.now c.given.i d in
+    let free : has c.given.run.assignment.list.items (negation l) ≡ false = cc (c.contains.ensures, c.if-contains.false, c.negation.ensures) in
+    let i = c.given.invariant in
+    let reported = c.in_ok-try_put.ensures in
+    let a = assumed-next c.args.given.now c.given.run.assignment.list.items c.try_put.new.run.assignment.list.items c.given.i d c.given-test.true free reported.adopted (record { within = i.within; covers = i.covers; single = i.single }) in
+    record {
+      values = reported.values ∙ i.values;
+      opens = reported.opens ∙ i.opens;
+      candidates = reported.candidates ∙ i.candidates;
+      next = reported.next ∙ i.next;
+      longer = omega (arith, i.longer, reported.longer_work);
+      single = a.single;
+      counted = reported.counted c.if-branch.false;
+      tidy = λ aside busy t. reported.tidy aside busy (i.tidy aside busy t);
+      within = a.within;
+      covers = a.covers;
+    }
+
+-- where a form is falsified: the literal was tried
+tried : (c : goal.Then-branch) → Assumed c.args.given.now c.try_put.new.run.assignment.list.items (c.given.i + 1)
+tried c =
+    let d : NumberedLiteral = record { variable = 0; negated = false } in
+    let l = get_or c.args.given.now c.given.i d in
+    let free : has c.given.run.assignment.list.items (negation l) ≡ false = cc (c.contains.ensures, c.if-contains.false, c.negation.ensures) in
+    let i = c.given.invariant in
+    assumed-next c.args.given.now c.given.run.assignment.list.items c.try_put.new.run.assignment.list.items c.given.i d c.given-test.true free c.in_ok-try_put.ensures.adopted (record { within = i.within; covers = i.covers; single = i.single })
+
+pub returns-then-branch-clause-refuted : goal.returns-then-branch-clause-refuted
+returns-then-branch-clause-refuted c = λ found. given-refuted (shapes_of c.args.store.now.kept.items) c.args.given.now c.try_put.new.run.assignment.list.items (tried c).within (c.in_ok-try_put.ensures.conflict c.if-branch.true)
+
+pub returns-then-branch-clause-single : goal.returns-then-branch-clause-single
+returns-then-branch-clause-single c = (tried c).single
+
+pub returns-then-branch-clause-tidy : goal.returns-then-branch-clause-tidy
+returns-then-branch-clause-tidy c = λ aside busy t. c.in_ok-try_put.ensures.tidy aside busy (c.given.invariant.tidy aside busy t)

@@ -1,0 +1,12 @@
+use Rattle.std.proofs.Common.{◌≡◌, List, length}
+use Rattle.pb_propagate.specs.engine.Engine.Lists.{Shape}
+use Rattle.pb_propagate.specs.engine.Engine.Counts.{IsUndone}
+use Rattle.pb_propagate.proofs.engine.root.keep.Given as goal
+
+abbrev pub invariant-forms : goal.invariant-forms
+invariant-forms l = record {
+  run : l.run ≡ l.initial.run;
+  opens : length l.rests.opens.items ≡ length l.run.opens.items;
+  starts : length l.rests.starts.items ≡ length l.run.candidates.items;
+  undone : (forms : List Shape) × (length forms ≡ length l.run.opens.items) × IsUndone l.rests forms l.run.opens.items l.run.candidates.items l.run.trail.items l.i;
+}

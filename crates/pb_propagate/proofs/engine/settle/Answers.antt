@@ -1,0 +1,37 @@
+use Rattle.std.specs.Prelude.{filter}
+use Rattle.std.proofs.Common.{length, arith}
+use Rattle.pb_propagate.proofs.lemmas.clauses.Watching.{ready-running}
+use Rattle.pb_propagate.specs.engine.Engine.Rest.{waits}
+use Rattle.pb_propagate.specs.engine.Engine.Fields.{shapes_of}
+use Rattle.pb_propagate.specs.engine.Engine.Rest.{derived}
+use Rattle.pb_propagate.specs.engine.Clauses.Shapes.{clauses_of}
+use Rattle.pb_propagate.proofs.lemmas.clauses.Shapes.{refuted-joined}
+use Rattle.pb_propagate.proofs.engine.settle.Goals as goal
+
+pub returns-then-branch-clause-refuted : goal.returns-then-branch-clause-refuted
+returns-then-branch-clause-refuted c = λ found.
+    (c.args.given.now, refuted-joined (shapes_of c.args.store.now.kept.items) (clauses_of c.args.clauses.now) c.args.given.now c.args.given.now c.requires.joined (c.in_ok-assume.ensures.refuted c.if-branch.true))
+
+pub returns-clause-refuted : goal.returns-clause-refuted
+returns-clause-refuted c = λ found.
+    let same = c.in_ok-assume.ensures.same c.if-branch.false in
+    (c.propagate.new.run.assignment.list.items, derived (record { first = c.assume.new.run.assignment.list.items; within = same.0; covers = same.1; derived = c.in_ok-found.ensures.derived }) (c.in_ok-found.ensures.conflict found))
+
+pub returns-clause-ended : goal.returns-clause-ended
+returns-clause-ended c = λ found.
+    let same = c.in_ok-assume.ensures.same c.if-branch.false in
+    record {
+      derived = record { first = c.assume.new.run.assignment.list.items; within = same.0; covers = same.1; derived = c.in_ok-found.ensures.derived };
+      settled = c.in_ok-found.ensures.settled found;
+    }
+
+pub propagate-requires-clause-tidy : goal.propagate-requires-clause-tidy
+propagate-requires-clause-tidy c = c.in_ok-assume.ensures.tidy (filter (waits c.args.store.now.kept.items) c.args.waiting.now) (length c.args.store.now.kept.items) c.requires.tidy
+
+pub returns-then-branch-clause-undone : goal.returns-then-branch-clause-undone
+returns-then-branch-clause-undone c =
+    let t = c.in_ok-assume.ensures.tidy (filter (waits c.args.store.now.kept.items) c.args.waiting.now) (length c.args.store.now.kept.items) c.requires.tidy in
+    record { clean = t.clean; named = t.marked }
+
+pub returns-then-branch-clause-running : goal.returns-then-branch-clause-running
+returns-then-branch-clause-running c = ready-running c.args.clauses.now c.assume.new.run.assignment.values.items c.requires.ready (omega (arith, c.requires.widths, c.requires.values, c.in_ok-assume.ensures.values))

@@ -1,0 +1,4 @@
+pub mod engine
+pub mod store
+pub mod clauses
+pub mod root

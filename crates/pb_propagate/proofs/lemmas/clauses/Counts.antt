@@ -1,0 +1,182 @@
+-- How many visits there are.
+use Rattle.std.specs.Prelude.{◌||◌, ◌==◌, Bool, true, false, Some, map, slice_get, Contains, sum, sum_by, count_by, ◌/◌}
+use Rattle.std.proofs.Common.{◌≡◌, ℕ, zero, suc, ◌+◌, ◌<◌, ◌≤◌, ◌⊎◌, ◌++◌, ◌∷◌, [], List, cond, refl, sym, ◌∙◌, ap, subst, arith, inl, inr, length, get_or, set, eq-eqb, get_or-set_other}
+use Rattle.std.proofs.lemmas.Bool.{cases_lt, both_ways, eqb-true}
+use Rattle.std.proofs.lemmas.List.{get_or_past, get_or-map, length-map}
+use Rattle.std.proofs.lemmas.List.Sums.{sum_by-cons, sum_by-set, sum-map, get_or-le-sum_by, count_by-le-length}
+use Rattle.std.proofs.lemmas.Option.{slice_get-get_or}
+use Rattle.pb_propagate.specs.declared.clauses.lists.Watch.{Watch}
+use Rattle.pb_propagate.specs.engine.Clauses.Truths.{flip}
+use Rattle.pb_propagate.specs.engine.Clauses.Links.{watch_at, list_at}
+use Rattle.pb_propagate.specs.engine.Clauses.Runs.{AreStored}
+pub use Rattle.pb_propagate.specs.engine.Clauses.Walked.{killed}
+use Rattle.pb_propagate.proofs.lemmas.clauses.Codes.{has, AreSingle}
+use Rattle.pb_propagate.proofs.lemmas.clauses.Linked.{one-place}
+use Rattle.pb_propagate.proofs.lemmas.clauses.Truths.{same-slot}
+use Rattle.pb_propagate.proofs.lemmas.clauses.Steps.{slot-within}
+
+-- different numbers, each with a weight: there are no more of them than the sum of the weights
+pub pigeons : (xs ws : List ℕ) → AreSingle xs → ((i d : ℕ) → i < length xs → 1 ≤ get_or ws (get_or xs i d) 0) → length xs ≤ sum ws
+pigeons [] ws single weighs = omega arith
+pigeons (x ∷ xs) ws single weighs =
+    let heavy : 1 ≤ get_or ws x 0 = weighs 0 0 (omega arith) in
+    let inside : x < length ws = within (cases_lt x (length ws)) heavy in
+    let changed : sum (set ws x 0) + get_or ws x 0 ≡ sum ws + 0 = sum_by-set (λ y. y) ws x 0 0 inside in
+    let rest : length xs ≤ sum (set ws x 0) = pigeons xs (set ws x 0)
+    (λ i j d less inside_j same. single (suc i) (suc j) d (omega (arith, less)) (omega (arith, inside_j)) same)
+    (λ i d h. lighter i d h) in
+    omega (arith, heavy, changed, rest)
+  where
+    within : (x < length ws) ⊎ (length ws ≤ x) → 1 ≤ get_or ws x 0 → x < length ws
+    within (inl h) heavy = h
+    within (inr past) heavy = absurd (omega (arith, heavy, get_or_past ws x 0 past))
+
+    lighter : (i d : ℕ) → i < length xs → 1 ≤ get_or (set ws x 0) (get_or xs i d) 0
+    lighter i d h =
+        let apart : get_or xs i d ≡ x → ⊥ = λ is. single 0 (suc i) d (omega arith) (omega (arith, h)) (sym is) in
+        let old : 1 ≤ get_or ws (get_or xs i d) 0 = weighs (suc i) d (omega (arith, h)) in
+        omega (arith, old, get_or-set_other ws x (get_or xs i d) 0 0 apart)
+
+ones : ℕ → List ℕ
+ones zero = []
+ones (suc n) = 1 ∷ ones n
+
+sum-ones : (n : ℕ) → sum (ones n) ≡ n
+unfolding ones
+sum-ones zero = refl
+sum-ones (suc n) = let h = sum-ones n in omega (arith, sum_by-cons (λ x. x) 1 (ones n), h)
+
+get-ones : (n x : ℕ) → x < n → get_or (ones n) x 0 ≡ 1
+unfolding ones
+get-ones zero x h = absurd (omega (arith, h))
+get-ones (suc n) zero h = refl
+get-ones (suc n) (suc x) h = get-ones n x (omega (arith, h))
+
+-- different numbers below a bound: there are no more of them than the bound
+pub single-short : (xs : List ℕ) (n : ℕ) → AreSingle xs → ((i d : ℕ) → i < length xs → get_or xs i d < n) → length xs ≤ n
+single-short xs n single small =
+    let h = pigeons xs (ones n) single (λ i d inside. omega (arith, get-ones n (get_or xs i d) (small i d inside))) in
+    omega (arith, h, sum-ones n)
+
+-- how often a literal occurs
+abbrev pub occurs : List (List ℕ) → ℕ → ℕ
+occurs clauses l = sum_by (λ xs. count_by (λ x. l == x) xs) clauses
+
+count-some : (xs : List ℕ) (l : ℕ) → Contains xs l → 1 ≤ count_by (λ x. l == x) xs
+count-some xs l (k, inside, is) =
+    let one : ◌≡◌ {A = ℕ} (cond (l == get_or xs k l) 1 0) 1 = ap (λ (b : Bool). cond {A = ℕ} b 1 0) (eq-eqb l (get_or xs k l) (sym is)) in
+    let most = get_or-le-sum_by (λ x. cond (l == x) 1 0) xs k l inside in
+    omega (arith, one, most)
+
+-- a literal's list is no longer than the number of times that the literal occurs
+pub list-short : (clauses : List (List ℕ)) (ws : List Watch) (ls : List (List ℕ)) (l : ℕ) → AreStored clauses ws ls → length (list_at ls l) ≤ occurs clauses l
+list-short clauses ws ls l stored =
+    let h = pigeons (map half (list_at ls l)) (map weight clauses) single-slots heavy in
+    omega (arith, h, length-map (list_at ls l) half, sum-map weight clauses)
+  where
+    half : ℕ → ℕ
+    half e = e / 2
+
+    weight : List ℕ → ℕ
+    weight xs = count_by (λ x. l == x) xs
+
+    item : (i d : ℕ) → i < length (list_at ls l) → slice_get (list_at ls l) i ≡ Some (get_or (list_at ls l) i d)
+    item i d h = slice_get-get_or (list_at ls l) i d h
+
+    two-apart : (a b i j : ℕ) → slice_get (list_at ls l) i ≡ Some a → slice_get (list_at ls l) j ≡ Some b → i < j → a / 2 ≡ b / 2 → ⊥
+    two-apart a b i j at_a at_b less same =
+        let sits_a = stored.linked.named a l i at_a in
+        let sits_b = stored.linked.named b l j at_b in
+        let apart : a ≡ b → ⊥ = λ is. absurd (omega (arith, less, (one-place ws ls a l i l j stored.linked at_a (at_b ∙ ap (λ x. Some x) (sym is))).1)) in
+        let flips : a ≡ flip b = same-slot a b same apart in
+        stored.apart b sits_b.live (ap (λ t. (watch_at ws t).literal) (sym flips) ∙ sits_a.literal ∙ sym sits_b.literal)
+
+    single-slots : AreSingle (map half (list_at ls l))
+    single-slots i j d less inside same =
+        let in_j : j < length (list_at ls l) = omega (arith, inside, length-map (list_at ls l) half) in
+        let in_i : i < length (list_at ls l) = omega (arith, less, in_j) in
+        let at_i : get_or (map half (list_at ls l)) i d ≡ half (get_or (list_at ls l) i 0) = get_or-map half (list_at ls l) i 0 d in_i in
+        let at_j : get_or (map half (list_at ls l)) j d ≡ half (get_or (list_at ls l) j 0) = get_or-map half (list_at ls l) j 0 d in_j in
+        two-apart (get_or (list_at ls l) i 0) (get_or (list_at ls l) j 0) i j (item i 0 in_i) (item j 0 in_j) less (sym at_i ∙ same ∙ at_j)
+
+    heavy : (i d : ℕ) → i < length (map half (list_at ls l)) → 1 ≤ get_or (map weight clauses) (get_or (map half (list_at ls l)) i d) 0
+    heavy i d inside =
+        let in_i : i < length (list_at ls l) = omega (arith, inside, length-map (list_at ls l) half) in
+        let e : ℕ = get_or (list_at ls l) i 0 in
+        let at_i : get_or (map half (list_at ls l)) i d ≡ half e = get_or-map half (list_at ls l) i 0 d in_i in
+        let sits = stored.linked.named e l i (item i 0 in_i) in
+        let slot = slot-within clauses ws ls e stored sits.live in
+        let there : Contains (list_at clauses (e / 2)) l = subst (Contains (list_at clauses (e / 2))) sits.literal (stored.watched e sits.live) in
+        let weighs : get_or (map weight clauses) (half e) 0 ≡ weight (list_at clauses (e / 2)) = get_or-map weight clauses (e / 2) [] 0 slot in
+        let some = count-some (list_at clauses (e / 2)) l there in
+        subst (λ t. 1 ≤ get_or (map weight clauses) t 0) (sym at_i) (omega (arith, weighs, some))
+
+or-none : (b : Bool) → (b || false) ≡ (false || b)
+or-none true = refl
+or-none false = refl
+
+or-step : (b h q k : Bool) → k ≡ (h || q) → (b || k) ≡ ((b || h) || q)
+or-step true h q k e = refl
+or-step false h q k e = e
+
+has-push : (xs : List ℕ) (y x : ℕ) → has (xs ++ (y ∷ [])) x ≡ (has xs x || (y == x))
+has-push [] y x = or-none (y == x)
+has-push (z ∷ zs) y x = or-step (z == x) (has zs x) (y == x) (has (zs ++ (y ∷ [])) x) (has-push zs y x)
+
+one-more : (walked : List ℕ) (l x : ℕ) → has walked l ≡ false → cond (has (walked ++ (l ∷ [])) x) 1 0 ≡ cond (has walked x) 1 0 + cond (l == x) 1 0
+one-more walked l x fresh = ap (λ b. cond b 1 0) (has-push walked l x) ∙ by (has walked x) (l == x) refl refl
+  where
+    by : (a b : Bool) → has walked x ≡ a → (l == x) ≡ b → cond (has walked x || (l == x)) 1 0 ≡ cond (has walked x) 1 0 + cond (l == x) 1 0
+    by true true p q = absurd (both_ways _ fresh (ap (has walked) (eqb-true l x q) ∙ p))
+    by true false p q = rw (p, q) refl
+    by false true p q = rw (p, q) refl
+    by false false p q = rw (p, q) refl
+
+count-more : (xs walked : List ℕ) (l : ℕ) → has walked l ≡ false → count_by (λ x. has (walked ++ (l ∷ [])) x) xs ≡ count_by (λ x. has walked x) xs + count_by (λ x. l == x) xs
+count-more [] walked l fresh = refl
+count-more (x ∷ xs) walked l fresh =
+    let rest = count-more xs walked l fresh in
+    let one = one-more walked l x fresh in
+    let a = sum_by-cons (λ y. cond (has (walked ++ (l ∷ [])) y) 1 0) x xs in
+    let b = sum_by-cons (λ y. cond (has walked y) 1 0) x xs in
+    let c = sum_by-cons (λ y. cond (l == y) 1 0) x xs in
+    omega (arith, a, b, c, one, rest)
+
+pub killed-more : (clauses : List (List ℕ)) (walked : List ℕ) (l : ℕ) → has walked l ≡ false → killed clauses (walked ++ (l ∷ [])) ≡ killed clauses walked + occurs clauses l
+killed-more [] walked l fresh = refl
+killed-more (xs ∷ clauses) walked l fresh =
+    let rest = killed-more clauses walked l fresh in
+    let one = count-more xs walked l fresh in
+    let a = sum_by-cons (λ ys. count_by (λ x. has (walked ++ (l ∷ [])) x) ys) xs clauses in
+    let b = sum_by-cons (λ ys. count_by (λ x. has walked x) ys) xs clauses in
+    let c = sum_by-cons (λ ys. count_by (λ x. l == x) ys) xs clauses in
+    omega (arith, a, b, c, one, rest)
+
+pub killed-most : (clauses : List (List ℕ)) (walked : List ℕ) → killed clauses walked ≤ sum_by length clauses
+killed-most [] walked = omega arith
+killed-most (xs ∷ clauses) walked =
+    let rest = killed-most clauses walked in
+    let one = count_by-le-length (λ x. has walked x) xs in
+    let a = sum_by-cons (λ ys. count_by (λ x. has walked x) ys) xs clauses in
+    let b = sum_by-cons (λ (ys : List ℕ). length ys) xs clauses in
+    omega (arith, a, b, one, rest)
+
+-- the positions that searches have passed
+pub passed-most : (ps : List ℕ) (clauses : List (List ℕ)) → ((s : ℕ) → get_or ps s 0 ≤ length (list_at clauses s)) → sum ps ≤ sum_by length clauses
+passed-most [] clauses h = omega arith
+passed-most (p ∷ ps) [] h =
+    let rest = passed-most ps [] (λ s. h (suc s)) in
+    let first = h 0 in
+    omega (arith, rest, first, sum_by-cons (λ x. x) p ps)
+passed-most (p ∷ ps) (xs ∷ clauses) h =
+    let rest = passed-most ps clauses (λ s. h (suc s)) in
+    let first = h 0 in
+    let b = sum_by-cons (λ (ys : List ℕ). length ys) xs clauses in
+    omega (arith, rest, first, b, sum_by-cons (λ x. x) p ps)
+
+pub passed-none : (ps : List ℕ) → ((s : ℕ) → get_or ps s 0 ≡ 0) → sum ps ≡ 0
+passed-none [] h = refl
+passed-none (p ∷ ps) h =
+    let rest = passed-none ps (λ s. h (suc s)) in
+    let first = h 0 in
+    omega (arith, rest, first, sum_by-cons (λ x. x) p ps)

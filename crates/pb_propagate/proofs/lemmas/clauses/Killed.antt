@@ -1,0 +1,120 @@
+-- The occurrences of the literals on a list, and of their negations.
+use Rattle.std.specs.Prelude.{◌==◌, Bool, true, false, Contains, map, sum_by, count_by}
+use Rattle.std.proofs.Common.{◌≡◌, ℕ, zero, suc, ◌+◌, ◌<◌, ◌≤◌, cond, ◌++◌, ◌∷◌, [], List, refl, sym, ◌∙◌, ap, arith, inl, inr, length, get_or, take, eq-eqb}
+use Rattle.std.proofs.lemmas.Bool.{cases_Bool, both_ways, eqb-true, or_cases, or_left, or_right}
+use Rattle.std.proofs.lemmas.List.{map-append}
+use Rattle.std.proofs.lemmas.List.Sums.{sum_by-cons, get_or-le-sum_by}
+use Rattle.pb_normal.specs.declared.numbered.NumberedLiteral.{NumberedLiteral}
+use Rattle.pb_normal.specs.meaning.Rules.{negation}
+use Rattle.pb_propagate.specs.engine.Engine.Lists.{same, has}
+use Rattle.pb_propagate.specs.engine.Engine.Counts.{place}
+use Rattle.pb_propagate.specs.engine.Clauses.Links.{list_at}
+use Rattle.pb_propagate.proofs.lemmas.engine.Literals.{same-refl}
+use Rattle.pb_propagate.proofs.lemmas.engine.Spent.{place-injective}
+use Rattle.pb_propagate.proofs.lemmas.clauses.Codes.{has as stands}
+use Rattle.pb_propagate.proofs.lemmas.clauses.Counts.{killed, killed-more, occurs}
+use Rattle.pb_propagate.proofs.lemmas.clauses.Stores.{slot-room}
+use Rattle.pb_propagate.proofs.lemmas.clauses.Watching.{falsified_code}
+
+-- a list and its negations have no literal in common
+abbrev pub IsOneSided : List NumberedLiteral → Type 0
+IsOneSided list = (l : NumberedLiteral) → has list l ≡ true → has list (negation l) ≡ false
+
+-- a number of a mapped list comes from a literal
+pub stands-source : (f : NumberedLiteral → ℕ) (xs : List NumberedLiteral) (x : ℕ) → stands (map f xs) x ≡ true → (l : NumberedLiteral) × (has xs l ≡ true) × (f l ≡ x)
+unfolding has
+stands-source f [] x h = absurd (both_ways _ refl h)
+stands-source f (k ∷ xs) x h = elim (or_cases (f k == x) (stands (map f xs) x) h) [
+  | inl is ↦ (k, or_left (same k k) (has xs k) (same-refl k), eqb-true (f k) x is)
+  | inr old ↦ let w = stands-source f xs x old in (w.0, or_right (same k w.0) (has xs w.0) w.1, w.2)
+]
+
+-- the places of a list lack those of other literals
+pub fresh-place : (xs : List NumberedLiteral) (l : NumberedLiteral) → has xs l ≡ false → stands (map place xs) (place l) ≡ false
+fresh-place xs l absent = elim (cases_Bool (stands (map place xs) (place l))) [
+  | inl there ↦
+      let w = stands-source place xs (place l) there in
+      absurd (both_ways _ absent (ap (has xs) (sym (place-injective w.0 l w.2)) ∙ w.1))
+  | inr none_there ↦ none_there
+]
+
+-- one more literal on the list
+pub killed-push : (clauses : List (List ℕ)) (xs : List NumberedLiteral) (l : NumberedLiteral) → has xs l ≡ false → killed clauses (map place (xs ++ (l ∷ []))) ≡ killed clauses (map place xs) + occurs clauses (place l)
+killed-push clauses xs l absent = ap (killed clauses) (map-append place xs (l ∷ [])) ∙ killed-more clauses (map place xs) (place l) (fresh-place xs l absent)
+
+bit-within : (a b : Bool) → (a ≡ true → b ≡ true) → cond a 1 0 ≤ cond b 1 0
+bit-within true true h = omega arith
+bit-within true false h = absurd (both_ways _ refl (h refl))
+bit-within false true h = omega arith
+bit-within false false h = omega arith
+
+-- fewer are counted by a narrower test
+count-within : (p q : ℕ → Bool) → ((x : ℕ) → p x ≡ true → q x ≡ true) → (xs : List ℕ) → count_by p xs ≤ count_by q xs
+count-within p q h [] = omega arith
+count-within p q h (x ∷ xs) =
+    let rest = count-within p q h xs in
+    let here = bit-within (p x) (q x) (h x) in
+    omega (arith, rest, here, sum_by-cons (λ y. cond (p y) 1 0) x xs, sum_by-cons (λ y. cond (q y) 1 0) x xs)
+
+pub killed-within : (clauses : List (List ℕ)) (a b : List ℕ) → ((x : ℕ) → stands a x ≡ true → stands b x ≡ true) → killed clauses a ≤ killed clauses b
+killed-within [] a b h = omega arith
+killed-within (xs ∷ clauses) a b h =
+    let rest = killed-within clauses a b h in
+    let here = count-within (stands a) (stands b) h xs in
+    omega (arith, rest, here, sum_by-cons (λ ys. count_by (λ x. stands a x) ys) xs clauses, sum_by-cons (λ ys. count_by (λ x. stands b x) ys) xs clauses)
+
+bit-apart : (a b : Bool) → (a ≡ true → b ≡ true → ⊥) → cond a 1 0 + cond b 1 0 ≤ 1
+bit-apart true true h = absurd (h refl refl)
+bit-apart true false h = omega arith
+bit-apart false true h = omega arith
+bit-apart false false h = omega arith
+
+-- what two tests count is no more than the whole if nothing passes both
+count-apart : (p q : ℕ → Bool) → ((x : ℕ) → p x ≡ true → q x ≡ true → ⊥) → (xs : List ℕ) → count_by p xs + count_by q xs ≤ length xs
+count-apart p q h [] = omega arith
+count-apart p q h (x ∷ xs) =
+    let rest = count-apart p q h xs in
+    let here = bit-apart (p x) (q x) (h x) in
+    omega (arith, rest, here, sum_by-cons (λ y. cond (p y) 1 0) x xs, sum_by-cons (λ y. cond (q y) 1 0) x xs)
+
+pub killed-apart : (clauses : List (List ℕ)) (a b : List ℕ) → ((x : ℕ) → stands a x ≡ true → stands b x ≡ true → ⊥) → killed clauses a + killed clauses b ≤ sum_by length clauses
+killed-apart [] a b h = omega arith
+killed-apart (xs ∷ clauses) a b h =
+    let rest = killed-apart clauses a b h in
+    let here = count-apart (stands a) (stands b) h xs in
+    let total = sum_by-cons (λ (ys : List ℕ). length ys) xs clauses in
+    omega (arith, rest, here, total, sum_by-cons (λ ys. count_by (λ x. stands a x) ys) xs clauses, sum_by-cons (λ ys. count_by (λ x. stands b x) ys) xs clauses)
+
+-- no code is both of a literal of the list and of a negation
+pub codes-apart : (list : List NumberedLiteral) (x : ℕ) → IsOneSided list → stands (map falsified_code list) x ≡ true → stands (map place list) x ≡ true → ⊥
+codes-apart list x one a b =
+    let l = stands-source falsified_code list x a in
+    let k = stands-source place list x b in
+    let is : negation l.0 ≡ k.0 = place-injective (negation l.0) k.0 (l.2 ∙ sym k.2) in
+    both_ways _ (one l.0 l.1) (ap (has list) is ∙ k.1)
+
+pub killed-both : (clauses : List (List ℕ)) (list : List NumberedLiteral) → IsOneSided list → killed clauses (map falsified_code list) + killed clauses (map place list) ≤ sum_by length clauses
+killed-both clauses list one = killed-apart clauses (map falsified_code list) (map place list) (λ x a b. codes-apart list x one a b)
+
+-- the first literals
+stands-take : (f : NumberedLiteral → ℕ) (n : ℕ) (xs : List NumberedLiteral) (x : ℕ) → stands (map f (take n xs)) x ≡ true → stands (map f xs) x ≡ true
+stands-take f zero [] x h = h
+stands-take f zero (k ∷ xs) x h = absurd (both_ways _ refl h)
+stands-take f (suc n) [] x h = h
+stands-take f (suc n) (k ∷ xs) x h = elim (or_cases (f k == x) (stands (map f (take n xs)) x) h) [
+  | inl is ↦ or_left (f k == x) (stands (map f xs) x) is
+  | inr old ↦ or_right (f k == x) (stands (map f xs) x) (stands-take f n xs x old)
+]
+
+-- how often a literal of a clause occurs
+count-one : (xs : List ℕ) (l : ℕ) → Contains xs l → 1 ≤ count_by (λ x. l == x) xs
+count-one xs l (k, inside, is) =
+    let one : ◌≡◌ {A = ℕ} (cond (l == get_or xs k l) 1 0) 1 = ap (λ (b : Bool). cond {A = ℕ} b 1 0) (eq-eqb l (get_or xs k l) (sym is)) in
+    let most = get_or-le-sum_by (λ x. cond (l == x) 1 0) xs k l inside in
+    omega (arith, one, most)
+
+pub occurs-some : (clauses : List (List ℕ)) (s l : ℕ) → 0 < length (list_at clauses s) → Contains (list_at clauses s) l → 1 ≤ occurs clauses l
+occurs-some clauses s l some there =
+    let one = count-one (list_at clauses s) l there in
+    let most = get_or-le-sum_by (λ xs. count_by (λ x. l == x) xs) clauses s [] (slot-room clauses s some) in
+    omega (arith, one, most)

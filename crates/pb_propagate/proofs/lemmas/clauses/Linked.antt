@@ -1,0 +1,241 @@
+-- A watch is removed from a list or added to one.
+use Rattle.std.specs.Prelude.{true, false, Some, slice_get, swap_remove, Vec}
+use Rattle.std.specs.Global.{Global}
+use Rattle.std.proofs.Common.{◌≡◌, ℕ, ◌+◌, ◌-◌, ◌<◌, ◌≤◌, ◌⊎◌, ◌++◌, ◌∷◌, [], List, refl, sym, ◌∙◌, ap, subst, arith, inl, inr, length, get_or, set, length-set, get_or-set_same, get_or-set_other}
+use Rattle.std.proofs.lemmas.Bool.{cases_eq, cases_lt, both_ways}
+use Rattle.std.proofs.lemmas.List.{get_or_past, get_or-map, map-set, length-map, get_or_read}
+use Rattle.std.proofs.lemmas.Option.{same_Some, slice_get_within, none-some}
+use Rattle.pb_propagate.specs.declared.clauses.lists.Watch.{Watch}
+use Rattle.pb_propagate.specs.engine.Clauses.Links.{idle, watch_at, list_at, lists_of, Sits, AreLinked}
+use Rattle.pb_propagate.proofs.lemmas.clauses.Gets.{get-push_less, get-push_same, get-push_past, swap-other, swap-here, swap-past, lt_of_apart}
+
+pub sits-of : (w : Watch) (l i : ℕ) → w.live ≡ true → w.literal ≡ l → w.spot ≡ i → Sits w l i
+sits-of w l i live literal spot = record { live = live; literal = literal; spot = spot }
+
+idle-dead : (l i : ℕ) → Sits idle l i → ⊥
+idle-dead l i s = both_ways _ refl s.live
+
+-- a live watch is one of the stored ones
+pub sits-within : (ws : List Watch) (e l i : ℕ) → Sits (watch_at ws e) l i → e < length ws
+sits-within ws e l i s = elim (cases_lt e (length ws)) [
+  | inl inside ↦ inside
+  | inr past ↦ absurd (idle-dead l i (subst (λ w. Sits w l i) (get_or_past ws e idle past) s))
+]
+
+-- an entry's list is one of the lists
+pub list-within : (ls : List (List ℕ)) (l i e : ℕ) → slice_get (list_at ls l) i ≡ Some e → l < length ls
+list-within ls l i e h = elim (cases_lt l (length ls)) [
+  | inl inside ↦ inside
+  | inr past ↦ absurd (none-some e (sym (ap (λ (xs : List ℕ). slice_get xs i) (get_or_past ls l [] past)) ∙ h))
+]
+
+-- two positions of one watch are equal
+pub one-place : (ws : List Watch) (ls : List (List ℕ)) (e l i k j : ℕ) → AreLinked ws ls → slice_get (list_at ls l) i ≡ Some e → slice_get (list_at ls k) j ≡ Some e → (l ≡ k) × (i ≡ j)
+one-place ws ls e l i k j old a b =
+    let p = old.named e l i a in
+    let q = old.named e k j b in
+    (sym p.literal ∙ q.literal, sym p.spot ∙ q.spot)
+
+-- what is known of a watch that is removed, when the last of its list moves to its position
+pub record Taking (ws ws' : List Watch) (ls ls' : List (List ℕ)) (l i e : ℕ) : Type 0 where
+  pub old : AreLinked ws ls
+  pub item : slice_get (list_at ls l) i ≡ Some e
+  pub now : list_at ls' l ≡ swap_remove (list_at ls l) i e
+  pub others : (k : ℕ) → (k ≡ l → ⊥) → list_at ls' k ≡ list_at ls k
+  pub dead : (watch_at ws' e).live ≡ false
+
+-- none moves to its position
+pub taking-last : (ws ws' : List Watch) (ls ls' : List (List ℕ)) (l i e : ℕ) → Taking ws ws' ls ls' l i e → i + 1 ≡ length (list_at ls l) → ((k : ℕ) → (k ≡ e → ⊥) → watch_at ws' k ≡ watch_at ws k) → AreLinked ws' ls'
+taking-last ws ws' ls ls' l i e t end same = record {
+  sits = λ k p j s. sits-at k p j s (cases_eq k e) (cases_eq p l);
+  named = λ k p j h. named-at k p j h (cases_eq p l) (cases_lt j i);
+}
+  where
+    apart : (k p j : ℕ) → slice_get (list_at ls p) j ≡ Some k → ((p ≡ l) × (j ≡ i) → ⊥) → k ≡ e → ⊥
+    apart k p j h n is = n (one-place ws ls e p j l i t.old (h ∙ ap (λ x. Some x) is) t.item)
+
+    sits-at : (k p j : ℕ) → Sits (watch_at ws' k) p j → (k ≡ e) ⊎ (k ≡ e → ⊥) → (p ≡ l) ⊎ (p ≡ l → ⊥) → slice_get (list_at ls' p) j ≡ Some k
+    sits-at k p j s (inl is) q = absurd (both_ways _ (ap (λ x. (watch_at ws' x).live) is ∙ t.dead) s.live)
+    sits-at k p j s (inr n) (inr other) = ap (λ (xs : List ℕ). slice_get xs j) (t.others p other) ∙ t.old.sits k p j (subst (λ w. Sits w p j) (same k n) s)
+    sits-at k p j s (inr n) (inl here) =
+        let was : slice_get (list_at ls l) j ≡ Some k = ap (λ x. slice_get (list_at ls x) j) (sym here) ∙ t.old.sits k p j (subst (λ w. Sits w p j) (same k n) s) in
+        let off : j ≡ i → ⊥ = λ at. n (same_Some k e (sym was ∙ ap (slice_get (list_at ls l)) at ∙ t.item)) in
+        let off_last : j ≡ length (list_at ls l) - 1 → ⊥ = λ at. off (omega (arith, at, end)) in
+        ap (λ x. slice_get (list_at ls' x) j) here ∙ ap (λ (xs : List ℕ). slice_get xs j) t.now ∙ swap-other (list_at ls l) i j e off off_last ∙ was
+
+    named-at : (k p j : ℕ) → slice_get (list_at ls' p) j ≡ Some k → (p ≡ l) ⊎ (p ≡ l → ⊥) → (j < i) ⊎ (i ≤ j) → Sits (watch_at ws' k) p j
+    named-at k p j h (inr other) q =
+        let was : slice_get (list_at ls p) j ≡ Some k = ap (λ (xs : List ℕ). slice_get xs j) (sym (t.others p other)) ∙ h in
+        subst (λ w. Sits w p j) (sym (same k (apart k p j was (λ b. other b.0)))) (t.old.named k p j was)
+    named-at k p j h (inl here) (inl less) =
+        let off : j ≡ i → ⊥ = λ at. absurd (omega (arith, at, less)) in
+        let off_last : j ≡ length (list_at ls l) - 1 → ⊥ = λ at. off (omega (arith, at, end)) in
+        let was : slice_get (list_at ls l) j ≡ Some k = sym (swap-other (list_at ls l) i j e off off_last) ∙ ap (λ (xs : List ℕ). slice_get xs j) (sym t.now) ∙ ap (λ x. slice_get (list_at ls' x) j) (sym here) ∙ h in
+        let was_p : slice_get (list_at ls p) j ≡ Some k = ap (λ x. slice_get (list_at ls x) j) here ∙ was in
+        subst (λ w. Sits w p j) (sym (same k (apart k p j was_p (λ b. off b.1)))) (t.old.named k p j was_p)
+    named-at k p j h (inl here) (inr more) =
+        let at_now : slice_get (swap_remove (list_at ls l) i e) j ≡ Some k = ap (λ (xs : List ℕ). slice_get xs j) (sym t.now) ∙ ap (λ x. slice_get (list_at ls' x) j) (sym here) ∙ h in
+        absurd (none-some k (sym (swap-past (list_at ls l) i j e (omega (arith, more, end))) ∙ at_now))
+
+-- another watch moves to its position
+pub taking-moved : (ws ws' : List Watch) (ls ls' : List (List ℕ)) (l i e m : ℕ) → Taking ws ws' ls ls' l i e → i + 1 < length (list_at ls l) → slice_get (list_at ls l) (length (list_at ls l) - 1) ≡ Some m → ((k : ℕ) → (k ≡ e → ⊥) → (k ≡ m → ⊥) → watch_at ws' k ≡ watch_at ws k) → watch_at ws' m ≡ record (watch_at ws m) { spot = i } → AreLinked ws' ls'
+taking-moved ws ws' ls ls' l i e m t more last same moved = record {
+  sits = λ k p j s. sits-at k p j s (cases_eq k e) (cases_eq k m) (cases_eq p l);
+  named = λ k p j h. named-at k p j h (cases_eq p l) (cases_eq j i) (cases_lt j (length (list_at ls l) - 1));
+}
+  where
+    m-apart : m ≡ e → ⊥
+    m-apart is = absurd (omega (arith, (one-place ws ls e l (length (list_at ls l) - 1) l i t.old (last ∙ ap (λ x. Some x) is) t.item).1, more))
+
+    m-sits : Sits (watch_at ws m) l (length (list_at ls l) - 1)
+    m-sits = t.old.named m l (length (list_at ls l) - 1) last
+
+    apart : (k p j : ℕ) → slice_get (list_at ls p) j ≡ Some k → ((p ≡ l) × (j ≡ i) → ⊥) → k ≡ e → ⊥
+    apart k p j h n is = n (one-place ws ls e p j l i t.old (h ∙ ap (λ x. Some x) is) t.item)
+
+    apart_m : (k p j : ℕ) → slice_get (list_at ls p) j ≡ Some k → ((p ≡ l) × (j ≡ length (list_at ls l) - 1) → ⊥) → k ≡ m → ⊥
+    apart_m k p j h n is = n (one-place ws ls m p j l (length (list_at ls l) - 1) t.old (h ∙ ap (λ x. Some x) is) last)
+
+    now-here : slice_get (list_at ls' l) i ≡ Some m
+    now-here = ap (λ (xs : List ℕ). slice_get xs i) t.now ∙ swap-here (list_at ls l) i e m more last
+
+    sits-at : (k p j : ℕ) → Sits (watch_at ws' k) p j → (k ≡ e) ⊎ (k ≡ e → ⊥) → (k ≡ m) ⊎ (k ≡ m → ⊥) → (p ≡ l) ⊎ (p ≡ l → ⊥) → slice_get (list_at ls' p) j ≡ Some k
+    sits-at k p j s (inl is) r q = absurd (both_ways _ (ap (λ x. (watch_at ws' x).live) is ∙ t.dead) s.live)
+    sits-at k p j s (inr n) (inl is) q =
+        let s_m : Sits (record (watch_at ws m) { spot = i }) p j = subst (λ w. Sits w p j) moved (subst (λ x. Sits (watch_at ws' x) p j) is s) in
+        let at_l : p ≡ l = sym s_m.literal ∙ m-sits.literal in
+        let at_i : j ≡ i = sym s_m.spot in
+        ap (λ x. slice_get (list_at ls' x) j) at_l ∙ ap (slice_get (list_at ls' l)) at_i ∙ now-here ∙ ap (λ x. Some x) (sym is)
+    sits-at k p j s (inr n) (inr n_m) (inr other) = ap (λ (xs : List ℕ). slice_get xs j) (t.others p other) ∙ t.old.sits k p j (subst (λ w. Sits w p j) (same k n n_m) s)
+    sits-at k p j s (inr n) (inr n_m) (inl here) =
+        let was : slice_get (list_at ls l) j ≡ Some k = ap (λ x. slice_get (list_at ls x) j) (sym here) ∙ t.old.sits k p j (subst (λ w. Sits w p j) (same k n n_m) s) in
+        let off : j ≡ i → ⊥ = λ at. n (same_Some k e (sym was ∙ ap (slice_get (list_at ls l)) at ∙ t.item)) in
+        let off_last : j ≡ length (list_at ls l) - 1 → ⊥ = λ at. n_m (same_Some k m (sym was ∙ ap (slice_get (list_at ls l)) at ∙ last)) in
+        ap (λ x. slice_get (list_at ls' x) j) here ∙ ap (λ (xs : List ℕ). slice_get xs j) t.now ∙ swap-other (list_at ls l) i j e off off_last ∙ was
+
+    named-at : (k p j : ℕ) → slice_get (list_at ls' p) j ≡ Some k → (p ≡ l) ⊎ (p ≡ l → ⊥) → (j ≡ i) ⊎ (j ≡ i → ⊥) → (j < length (list_at ls l) - 1) ⊎ (length (list_at ls l) - 1 ≤ j) → Sits (watch_at ws' k) p j
+    named-at k p j h (inr other) q r =
+        let was : slice_get (list_at ls p) j ≡ Some k = ap (λ (xs : List ℕ). slice_get xs j) (sym (t.others p other)) ∙ h in
+        subst (λ w. Sits w p j) (sym (same k (apart k p j was (λ b. other b.0)) (apart_m k p j was (λ b. other b.0)))) (t.old.named k p j was)
+    named-at k p j h (inl here) (inl at) r =
+        let k_is : k ≡ m = same_Some k m (sym h ∙ ap (λ x. slice_get (list_at ls' x) j) here ∙ ap (slice_get (list_at ls' l)) at ∙ now-here) in
+        let there : Sits (record (watch_at ws m) { spot = i }) p j = record { live = m-sits.live; literal = m-sits.literal ∙ sym here; spot = sym at } in
+        subst (λ x. Sits (watch_at ws' x) p j) (sym k_is) (subst (λ w. Sits w p j) (sym moved) there)
+    named-at k p j h (inl here) (inr off) (inl less) =
+        let off_last : j ≡ length (list_at ls l) - 1 → ⊥ = λ at. absurd (omega (arith, at, less)) in
+        let was : slice_get (list_at ls l) j ≡ Some k = sym (swap-other (list_at ls l) i j e off off_last) ∙ ap (λ (xs : List ℕ). slice_get xs j) (sym t.now) ∙ ap (λ x. slice_get (list_at ls' x) j) (sym here) ∙ h in
+        let was_p : slice_get (list_at ls p) j ≡ Some k = ap (λ x. slice_get (list_at ls x) j) here ∙ was in
+        subst (λ w. Sits w p j) (sym (same k (apart k p j was_p (λ b. off b.1)) (apart_m k p j was_p (λ b. off_last b.1)))) (t.old.named k p j was_p)
+    named-at k p j h (inl here) (inr off) (inr past) =
+        let at_now : slice_get (swap_remove (list_at ls l) i e) j ≡ Some k = ap (λ (xs : List ℕ). slice_get xs j) (sym t.now) ∙ ap (λ x. slice_get (list_at ls' x) j) (sym here) ∙ h in
+        absurd (none-some k (sym (swap-past (list_at ls l) i j e past) ∙ at_now))
+
+-- a watch that is in no list is appended to one
+pub put-linked : (ws : List Watch) (ls ls' : List (List ℕ)) (e l : ℕ) (w : Watch) → AreLinked ws ls → (watch_at ws e).live ≡ false → e < length ws → w.live ≡ true → w.literal ≡ l → w.spot ≡ length (list_at ls l) → list_at ls' l ≡ list_at ls l ++ (e ∷ []) → ((k : ℕ) → (k ≡ l → ⊥) → list_at ls' k ≡ list_at ls k) → AreLinked (set ws e w) ls'
+put-linked ws ls ls' e l w old dead inside live literal spot now others = record {
+  sits = λ k p j s. sits-at k p j s (cases_eq k e) (cases_eq p l);
+  named = λ k p j h. named-at k p j h (cases_eq p l) (cases_lt j (length (list_at ls l))) (cases_eq j (length (list_at ls l)));
+}
+  where
+    here-is : watch_at (set ws e w) e ≡ w
+    here-is = get_or-set_same ws e w idle inside
+
+    same : (k : ℕ) → (k ≡ e → ⊥) → watch_at (set ws e w) k ≡ watch_at ws k
+    same k n = get_or-set_other ws e k w idle n
+
+    apart : (k p j : ℕ) → slice_get (list_at ls p) j ≡ Some k → k ≡ e → ⊥
+    apart k p j h is = both_ways _ (ap (λ x. (watch_at ws x).live) is ∙ dead) (old.named k p j h).live
+
+    sits-at : (k p j : ℕ) → Sits (watch_at (set ws e w) k) p j → (k ≡ e) ⊎ (k ≡ e → ⊥) → (p ≡ l) ⊎ (p ≡ l → ⊥) → slice_get (list_at ls' p) j ≡ Some k
+    sits-at k p j s (inl is) q =
+        let s_e : Sits w p j = subst (λ x. Sits x p j) here-is (subst (λ x. Sits (watch_at (set ws e w) x) p j) is s) in
+        let at_l : p ≡ l = sym s_e.literal ∙ literal in
+        let at_j : j ≡ length (list_at ls l) = sym s_e.spot ∙ spot in
+        ap (λ x. slice_get (list_at ls' x) j) at_l ∙ ap (λ (xs : List ℕ). slice_get xs j) now ∙ get-push_same (list_at ls l) j e at_j ∙ ap (λ x. Some x) (sym is)
+    sits-at k p j s (inr n) (inr other) = ap (λ (xs : List ℕ). slice_get xs j) (others p other) ∙ old.sits k p j (subst (λ x. Sits x p j) (same k n) s)
+    sits-at k p j s (inr n) (inl here) =
+        let was : slice_get (list_at ls l) j ≡ Some k = ap (λ x. slice_get (list_at ls x) j) (sym here) ∙ old.sits k p j (subst (λ x. Sits x p j) (same k n) s) in
+        ap (λ x. slice_get (list_at ls' x) j) here ∙ ap (λ (xs : List ℕ). slice_get xs j) now ∙ get-push_less (list_at ls l) j e (slice_get_within (list_at ls l) j k was) ∙ was
+
+    named-at : (k p j : ℕ) → slice_get (list_at ls' p) j ≡ Some k → (p ≡ l) ⊎ (p ≡ l → ⊥) → (j < length (list_at ls l)) ⊎ (length (list_at ls l) ≤ j) → (j ≡ length (list_at ls l)) ⊎ (j ≡ length (list_at ls l) → ⊥) → Sits (watch_at (set ws e w) k) p j
+    named-at k p j h (inr other) q r =
+        let was : slice_get (list_at ls p) j ≡ Some k = ap (λ (xs : List ℕ). slice_get xs j) (sym (others p other)) ∙ h in
+        subst (λ x. Sits x p j) (sym (same k (apart k p j was))) (old.named k p j was)
+    named-at k p j h (inl here) (inl less) r =
+        let was : slice_get (list_at ls l) j ≡ Some k = sym (get-push_less (list_at ls l) j e less) ∙ ap (λ (xs : List ℕ). slice_get xs j) (sym now) ∙ ap (λ x. slice_get (list_at ls' x) j) (sym here) ∙ h in
+        let was_p : slice_get (list_at ls p) j ≡ Some k = ap (λ x. slice_get (list_at ls x) j) here ∙ was in
+        subst (λ x. Sits x p j) (sym (same k (apart k p j was_p))) (old.named k p j was_p)
+    named-at k p j h (inl here) (inr past) (inl at) =
+        let got : slice_get (list_at ls l ++ (e ∷ [])) j ≡ Some k = ap (λ (xs : List ℕ). slice_get xs j) (sym now) ∙ ap (λ x. slice_get (list_at ls' x) j) (sym here) ∙ h in
+        let k_is : k ≡ e = same_Some k e (sym got ∙ get-push_same (list_at ls l) j e at) in
+        let there : Sits w p j = record { live = live; literal = literal ∙ sym here; spot = spot ∙ sym at } in
+        subst (λ x. Sits (watch_at (set ws e w) x) p j) (sym k_is) (subst (λ x. Sits x p j) (sym here-is) there)
+    named-at k p j h (inl here) (inr past) (inr off) =
+        let got : slice_get (list_at ls l ++ (e ∷ [])) j ≡ Some k = ap (λ (xs : List ℕ). slice_get xs j) (sym now) ∙ ap (λ x. slice_get (list_at ls' x) j) (sym here) ∙ h in
+        absurd (none-some k (sym (get-push_past (list_at ls l) j e (lt_of_apart (length (list_at ls l)) j past off)) ∙ got))
+
+-- the lists as they are stored
+pub list-here : (occ : List (Vec ℕ Global)) (p : ℕ) (v : Vec ℕ Global) → p < length occ → v ≡ get_or occ p v → list_at (lists_of occ) p ≡ v.items
+list-here occ p v room value = get_or-map (λ (x : Vec ℕ Global). x.items) occ p v [] room ∙ ap (λ (x : Vec ℕ Global). x.items) (sym value)
+
+pub lists-set : (occ : List (Vec ℕ Global)) (p : ℕ) (v v1 : Vec ℕ Global) (xs : List ℕ) → p < length occ → v ≡ get_or occ p v → v1.items ≡ xs → lists_of (set occ p v1) ≡ set (lists_of occ) p xs
+lists-set occ p v v1 xs room value now = map-set (λ (x : Vec ℕ Global). x.items) occ p v1 ∙ ap (set (lists_of occ) p) now
+
+pub lists-length : (occ : List (Vec ℕ Global)) → length (lists_of occ) ≡ length occ
+lists-length occ = length-map occ (λ (x : Vec ℕ Global). x.items)
+
+abbrev pub dead : Watch → Watch
+dead w = record { literal = w.literal; live = false; spot = w.spot }
+
+-- what the program does to a list and to the watches
+pub record Removing (ws : List Watch) (ls ls' : List (List ℕ)) (l i e : ℕ) (w : Watch) : Type 0 where
+  pub old : AreLinked ws ls
+  pub item : slice_get (list_at ls l) i ≡ Some e
+  pub now : ls' ≡ set ls l (swap_remove (list_at ls l) i e)
+  pub room : l < length ls
+  pub watch : w ≡ get_or ws e w
+
+removing-inside : (ws : List Watch) (ls ls' : List (List ℕ)) (l i e : ℕ) (w : Watch) → Removing ws ls ls' l i e w → e < length ws
+removing-inside ws ls ls' l i e w r = sits-within ws e l i (r.old.named e l i r.item)
+
+removing-now : (ws : List Watch) (ls ls' : List (List ℕ)) (l i e : ℕ) (w : Watch) → Removing ws ls ls' l i e w → list_at ls' l ≡ swap_remove (list_at ls l) i e
+removing-now ws ls ls' l i e w r = ap (λ (x : List (List ℕ)). list_at x l) r.now ∙ get_or-set_same ls l (swap_remove (list_at ls l) i e) [] r.room
+
+pub removing-others : (ws : List Watch) (ls ls' : List (List ℕ)) (l i e : ℕ) (w : Watch) → Removing ws ls ls' l i e w → (k : ℕ) → (k ≡ l → ⊥) → list_at ls' k ≡ list_at ls k
+removing-others ws ls ls' l i e w r k n = ap (λ (x : List (List ℕ)). list_at x k) r.now ∙ get_or-set_other ls l k (swap_remove (list_at ls l) i e) [] n
+
+pub take-last : (ws : List Watch) (ls ls' : List (List ℕ)) (l i e : ℕ) (w : Watch) → Removing ws ls ls' l i e w → i + 1 ≡ length (list_at ls l) → AreLinked (set ws e (dead w)) ls'
+take-last ws ls ls' l i e w r end =
+    let inside = removing-inside ws ls ls' l i e w r in
+    taking-last ws (set ws e (dead w)) ls ls' l i e (record {
+      old = r.old;
+      item = r.item;
+      now = removing-now ws ls ls' l i e w r;
+      others = removing-others ws ls ls' l i e w r;
+      dead = ap (λ (x : Watch). x.live) (get_or-set_same ws e (dead w) idle inside);
+    }) end (λ k n. get_or-set_other ws e k (dead w) idle n)
+
+pub moved-apart : (ws : List Watch) (ls : List (List ℕ)) (l i e m : ℕ) → AreLinked ws ls → slice_get (list_at ls l) i ≡ Some e → i + 1 < length (list_at ls l) → slice_get (list_at ls l) (length (list_at ls l) - 1) ≡ Some m → m ≡ e → ⊥
+moved-apart ws ls l i e m old item more last is =
+    let two = one-place ws ls e l (length (list_at ls l) - 1) l i old (last ∙ ap (λ x. Some x) is) item in
+    absurd (omega (arith, two.1, more))
+
+pub take-moved : (ws : List Watch) (ls ls' : List (List ℕ)) (l i e m : ℕ) (w w1 : Watch) → Removing ws ls ls' l i e w → i + 1 < length (list_at ls l) → slice_get (list_at ls l) (length (list_at ls l) - 1) ≡ Some m → w1 ≡ get_or (set ws e (dead w)) m w1 →
+    AreLinked (set (set ws e (dead w)) m (record { literal = w1.literal; live = w1.live; spot = i })) ls'
+take-moved ws ls ls' l i e m w w1 r more last w1-is =
+    let inside = removing-inside ws ls ls' l i e w r in
+    let apart = moved-apart ws ls l i e m r.old r.item more last in
+    let inside_m : m < length ws = sits-within ws m l (length (list_at ls l) - 1) (r.old.named m l (length (list_at ls l) - 1) last) in
+    let ws1 : List Watch = set ws e (dead w) in
+    let inside_1 : m < length ws1 = omega (arith, inside_m, length-set ws e (dead w)) in
+    let w1-was : w1 ≡ watch_at ws m = get_or_read ws1 m w1 inside_1 w1-is idle ∙ get_or-set_other ws e m (dead w) idle apart in
+    let new : Watch = record { literal = w1.literal; live = w1.live; spot = i } in
+    taking-moved ws (set ws1 m new) ls ls' l i e m (record {
+      old = r.old;
+      item = r.item;
+      now = removing-now ws ls ls' l i e w r;
+      others = removing-others ws ls ls' l i e w r;
+      dead = ap (λ (x : Watch). x.live) (get_or-set_other ws1 m e new idle (λ h. apart (sym h)) ∙ get_or-set_same ws e (dead w) idle inside);
+    }) more last
+    (λ k n n_m. get_or-set_other ws1 m k new idle n_m ∙ get_or-set_other ws e k (dead w) idle n)
+    (get_or-set_same ws1 m new idle inside_1 ∙ ap (λ (x : Watch). record x { spot = i }) w1-was)

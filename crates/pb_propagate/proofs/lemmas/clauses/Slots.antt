@@ -1,0 +1,231 @@
+-- The constraints of all slots when a constraint is added or removed.
+use Rattle.std.specs.Prelude.{◌==◌, ◌/◌, ◌%◌, not, Bool, true, false, All, map, count_by, Option, Some, None, slice_get, IsPermutation}
+use Rattle.std.proofs.Common.{◌≡◌, ℕ, zero, suc, ◌+◌, ◌*◌, ◌<◌, ◌≤◌, cond, ◌⊎◌, ◌++◌, ◌∷◌, [], List, refl, sym, ◌∙◌, ap, subst, arith, inl, inr, length, get_or, set, length-set, length-append, get_or-set_same, get_or-set_other, eq-eqb}
+use Rattle.std.proofs.lemmas.Bool.{cases_eq, cases_Bool, eqb-true}
+use Rattle.std.proofs.lemmas.Bool.Decides.{nat_tests}
+use Rattle.std.proofs.lemmas.List.{get_or_append_left}
+use Rattle.std.proofs.lemmas.List.Sorted.{IsPermutation-refl}
+use Rattle.std.proofs.lemmas.List.Sums.{sum_by-cons}
+use Rattle.std.proofs.lemmas.Option.{slice_get_within}
+use Rattle.pb_normal.specs.declared.entry.Entry.{Entry}
+use Rattle.pb_normal.specs.meaning.Form.{Form, IsNormal, IsRising}
+use Rattle.pb_propagate.specs.engine.Engine.Lists.{Shape}
+use Rattle.pb_propagate.specs.engine.Engine.Forms.{entry_of, IsKeptAs}
+use Rattle.pb_propagate.specs.engine.Engine.Rest.{IsSlot, AreSlots}
+use Rattle.pb_propagate.specs.engine.Clauses.Links.{list_at}
+use Rattle.pb_propagate.specs.engine.Clauses.Shapes.{code, one_term, clause_shape, slot_shape, joined, AreDifferent, AreJoined, IsLight, IsClause}
+use Rattle.pb_propagate.proofs.lemmas.clauses.Gets.{push-default}
+use Rattle.pb_propagate.proofs.lemmas.clauses.Shapes.{joined-at, joined-length, shape-some}
+use Rattle.pb_propagate.proofs.lemmas.clauses.Stores.{slot-room}
+
+-- a slot
+pub slots-at : (os : List (Option Form)) (xs : List Shape) (s : ℕ) (p : Option Form) (d : Shape) → AreSlots os xs → slice_get os s ≡ Some p → (s < length xs) × IsSlot p (get_or xs s d)
+slots-at [] xs s p d a h = absurd (let less = slice_get_within [] s p h in omega (arith, less))
+slots-at (o ∷ os) [] s p d a h = absurd (let e : true ≡ false = a in cc)
+slots-at (o ∷ os) (x ∷ xs) zero p d a h = (omega arith, subst (λ q. IsSlot q x) (same-some o p h) a.0)
+  where
+    same-some : (q r : Option Form) → ◌≡◌ {A = Option (Option Form)} (Some q) (Some r) → q ≡ r
+    same-some q r e = cc e
+slots-at (o ∷ os) (x ∷ xs) (suc s) p d a h = let rest = slots-at os xs s p d a.1 h in (omega (arith, rest.0), rest.1)
+
+-- an empty slot has neither a clause nor terms
+pub record IsVacant (xs : List Shape) (clauses : List (List ℕ)) (s : ℕ) : Type 0 where
+  pub inside : s < length xs
+  pub clause : list_at clauses s ≡ []
+  pub terms : (d : Shape) → (get_or xs s d).terms ≡ []
+  pub degree : (d : Shape) → (get_or xs s d).degree ≡ 0
+
+slot-none : (x : Shape) (codes : List ℕ) → IsSlot None (slot_shape x codes) → (codes ≡ []) × (x.terms ≡ []) × (x.degree ≡ 0)
+slot-none x [] e = (refl, e.0, e.1)
+slot-none x (c ∷ codes) e = absurd (omega (arith, e.1))
+
+pub slots-vacant : (os : List (Option Form)) (xs : List Shape) (clauses : List (List ℕ)) (s : ℕ) → AreSlots os (joined xs clauses) → slice_get os s ≡ Some None → IsVacant xs clauses s
+slots-vacant os xs clauses s a h =
+    let d0 : Shape = record { terms = []; degree = 0 } in
+    let inside : s < length xs = omega (arith, (slots-at os (joined xs clauses) s None d0 a h).0, joined-length xs clauses) in
+    record {
+      inside = inside;
+      clause = (slot-none (get_or xs s d0) (list_at clauses s) (subst (IsSlot None) (joined-at xs clauses s d0 inside) (slots-at os (joined xs clauses) s None d0 a h).1)).0;
+      terms = λ d. (slot-none (get_or xs s d) (list_at clauses s) (subst (IsSlot None) (joined-at xs clauses s d inside) (slots-at os (joined xs clauses) s None d a h).1)).1;
+      degree = λ d. (slot-none (get_or xs s d) (list_at clauses s) (subst (IsSlot None) (joined-at xs clauses s d inside) (slots-at os (joined xs clauses) s None d a h).1)).2;
+    }
+
+-- a constraint is added after the others
+pub joined-none : (xs : List Shape) → joined xs [] ≡ xs
+joined-none [] = refl
+joined-none (x ∷ xs) = refl
+
+pub joined-push : (xs : List Shape) (clauses : List (List ℕ)) (x : Shape) → length clauses ≤ length xs → joined (xs ++ (x ∷ [])) clauses ≡ joined xs clauses ++ (x ∷ [])
+joined-push xs [] x h = joined-none (xs ++ (x ∷ [])) ∙ ap (λ ys. ys ++ (x ∷ [])) (sym (joined-none xs))
+joined-push [] (codes ∷ clauses) x h = absurd (omega (arith, h))
+joined-push (y ∷ xs) (codes ∷ clauses) x h = ap (λ ys. slot_shape y codes ∷ ys) (joined-push xs clauses x (omega (arith, h)))
+
+pub joined-widen : (xs : List Shape) (clauses : List (List ℕ)) (x : Shape) → length clauses ≡ length xs → joined (xs ++ (x ∷ [])) (clauses ++ ([] ∷ [])) ≡ joined xs clauses ++ (x ∷ [])
+joined-widen [] [] x h = refl
+joined-widen [] (codes ∷ clauses) x h = absurd (omega (arith, h))
+joined-widen (y ∷ xs) [] x h = absurd (omega (arith, h))
+joined-widen (y ∷ xs) (codes ∷ clauses) x h = ap (λ ys. slot_shape y codes ∷ ys) (joined-widen xs clauses x (omega (arith, h)))
+
+pub AreJoined-push : (xs : List Shape) (clauses : List (List ℕ)) (x : Shape) → AreJoined xs clauses → AreJoined (xs ++ (x ∷ [])) clauses
+AreJoined-push xs clauses x j = record {
+  short = omega (arith, j.short, length-append xs (x ∷ []));
+  apart = λ s d less some.
+      let inside : s < length xs = omega (arith, slot-room clauses s some, j.short) in
+      subst (λ (y : Shape). (y.terms ≡ []) × (y.degree ≡ 0)) (sym (get_or_append_left xs (x ∷ []) d s inside)) (j.apart s d inside some);
+  different = j.different;
+}
+
+pub AreJoined-widen : (xs : List Shape) (clauses : List (List ℕ)) (x : Shape) → AreJoined xs clauses → AreJoined (xs ++ (x ∷ [])) (clauses ++ ([] ∷ []))
+AreJoined-widen xs clauses x j = record {
+  short = omega (arith, j.short, length-append xs (x ∷ []), length-append clauses ([] ∷ []));
+  apart = λ s d less some.
+      let was : 0 < length (list_at clauses s) = omega (arith, some, ap length (push-default clauses s [])) in
+      let inside : s < length xs = omega (arith, slot-room clauses s was, j.short) in
+      subst (λ (y : Shape). (y.terms ≡ []) × (y.degree ≡ 0)) (sym (get_or_append_left xs (x ∷ []) d s inside)) (j.apart s d inside was);
+  different = λ s. subst AreDifferent (sym (push-default clauses s [])) (j.different s);
+}
+
+-- a constraint is stored in a slot
+pub joined-set : (xs : List Shape) (clauses : List (List ℕ)) (s : ℕ) (x : Shape) → list_at clauses s ≡ [] → joined (set xs s x) clauses ≡ set (joined xs clauses) s x
+joined-set [] clauses s x h = refl
+joined-set (y ∷ xs) [] s x h = joined-none (set (y ∷ xs) s x)
+joined-set (y ∷ xs) (codes ∷ clauses) zero x h = ap (λ c. slot_shape x c ∷ joined xs clauses) h
+joined-set (y ∷ xs) (codes ∷ clauses) (suc s) x h = ap (λ ys. slot_shape y codes ∷ ys) (joined-set xs clauses s x h)
+
+pub AreJoined-set : (xs : List Shape) (clauses : List (List ℕ)) (s : ℕ) (x : Shape) → list_at clauses s ≡ [] → AreJoined xs clauses → AreJoined (set xs s x) clauses
+AreJoined-set xs clauses s x h j = record {
+  short = omega (arith, j.short, length-set xs s x);
+  apart = λ t d less some. apart-at t d less some (cases_eq t s);
+  different = j.different;
+}
+  where
+    apart-at : (t : ℕ) (d : Shape) → t < length (set xs s x) → 0 < length (list_at clauses t) → (t ≡ s) ⊎ (t ≡ s → ⊥) → ((get_or (set xs s x) t d).terms ≡ []) × ((get_or (set xs s x) t d).degree ≡ 0)
+    apart-at t d less some (inl is) = absurd (omega (arith, some, ap length (ap (list_at clauses) is ∙ h)))
+    apart-at t d less some (inr n) = subst (λ (y : Shape). (y.terms ≡ []) × (y.degree ≡ 0)) (sym (get_or-set_other xs s t x d n)) (j.apart t d (omega (arith, less, length-set xs s x)) some)
+
+-- a clause is stored in a slot
+pub joined-clause : (xs : List Shape) (clauses : List (List ℕ)) (s : ℕ) (codes : List ℕ) → s < length clauses → 0 < length codes → joined xs (set clauses s codes) ≡ set (joined xs clauses) s (clause_shape codes)
+joined-clause [] clauses s codes less some = refl
+joined-clause (y ∷ xs) [] s codes less some = absurd (omega (arith, less))
+joined-clause (y ∷ xs) (c ∷ clauses) zero codes less some = ap (λ z. z ∷ joined xs clauses) (shape-some y codes some)
+joined-clause (y ∷ xs) (c ∷ clauses) (suc s) codes less some = ap (λ ys. slot_shape y c ∷ ys) (joined-clause xs clauses s codes (omega (arith, less)) some)
+
+pub AreJoined-clause : (xs : List Shape) (clauses : List (List ℕ)) (s : ℕ) (codes : List ℕ) → s < length clauses → ((d : Shape) → ((get_or xs s d).terms ≡ []) × ((get_or xs s d).degree ≡ 0)) → AreDifferent codes → AreJoined xs clauses → AreJoined xs (set clauses s codes)
+AreJoined-clause xs clauses s codes room bare different j = record {
+  short = omega (arith, j.short, length-set clauses s codes);
+  apart = λ t d less some. apart-at t d less some (cases_eq t s);
+  different = λ t. different-at t (cases_eq t s);
+}
+  where
+    apart-at : (t : ℕ) (d : Shape) → t < length xs → 0 < length (list_at (set clauses s codes) t) → (t ≡ s) ⊎ (t ≡ s → ⊥) → ((get_or xs t d).terms ≡ []) × ((get_or xs t d).degree ≡ 0)
+    apart-at t d less some (inl is) = subst (λ k. ((get_or xs k d).terms ≡ []) × ((get_or xs k d).degree ≡ 0)) (sym is) (bare d)
+    apart-at t d less some (inr n) = j.apart t d less (omega (arith, some, ap length (get_or-set_other clauses s t codes [] n)))
+
+    different-at : (t : ℕ) → (t ≡ s) ⊎ (t ≡ s → ⊥) → AreDifferent (list_at (set clauses s codes) t)
+    different-at t (inl is) = subst AreDifferent (sym (ap (list_at (set clauses s codes)) is ∙ get_or-set_same clauses s codes [] room)) different
+    different-at t (inr n) = subst AreDifferent (sym (get_or-set_other clauses s t codes [] n)) (j.different t)
+
+-- a slot is emptied
+pub joined-cleared : (xs : List Shape) (clauses : List (List ℕ)) (s : ℕ) (x : Shape) → joined (set xs s x) (set clauses s []) ≡ set (joined xs clauses) s x
+joined-cleared [] clauses s x = refl
+joined-cleared (y ∷ xs) [] zero x = refl
+joined-cleared (y ∷ xs) [] (suc s) x = refl
+joined-cleared (y ∷ xs) (c ∷ clauses) zero x = refl
+joined-cleared (y ∷ xs) (c ∷ clauses) (suc s) x = ap (λ ys. slot_shape y c ∷ ys) (joined-cleared xs clauses s x)
+
+none-different : AreDifferent []
+none-different x = omega arith
+
+pub AreJoined-cleared : (xs : List Shape) (clauses : List (List ℕ)) (s : ℕ) (x : Shape) → s < length clauses → AreJoined xs clauses → AreJoined (set xs s x) (set clauses s [])
+AreJoined-cleared xs clauses s x room j = record {
+  short = omega (arith, j.short, length-set xs s x, length-set clauses s []);
+  apart = λ t d less some. apart-at t d less some (cases_eq t s);
+  different = λ t. different-at t (cases_eq t s);
+}
+  where
+    apart-at : (t : ℕ) (d : Shape) → t < length (set xs s x) → 0 < length (list_at (set clauses s []) t) → (t ≡ s) ⊎ (t ≡ s → ⊥) → ((get_or (set xs s x) t d).terms ≡ []) × ((get_or (set xs s x) t d).degree ≡ 0)
+    apart-at t d less some (inl is) = absurd (omega (arith, some, ap length (ap (list_at (set clauses s [])) is ∙ get_or-set_same clauses s [] [] room)))
+    apart-at t d less some (inr n) = subst (λ (y : Shape). (y.terms ≡ []) × (y.degree ≡ 0)) (sym (get_or-set_other xs s t x d n)) (j.apart t d (omega (arith, less, length-set xs s x)) (omega (arith, some, ap length (get_or-set_other clauses s t [] [] n))))
+
+    different-at : (t : ℕ) → (t ≡ s) ⊎ (t ≡ s → ⊥) → AreDifferent (list_at (set clauses s []) t)
+    different-at t (inl is) = subst AreDifferent (sym (ap (list_at (set clauses s [])) is ∙ get_or-set_same clauses s [] [] room)) none-different
+    different-at t (inr n) = subst AreDifferent (sym (get_or-set_other clauses s t [] [] n)) (j.different t)
+
+-- the clause of a form
+
+half-of : (v : ℕ) (b : Bool) → (2 * v + cond b 1 0) / 2 ≡ v
+half-of v true = omega arith
+half-of v false = omega arith
+
+parity-of : (v : ℕ) (b : Bool) → not ((2 * v + cond b 1 0) % 2 == 0) ≡ b
+parity-of v true = grind (arith, nat_tests)
+parity-of v false = grind (arith, nat_tests)
+
+entry-made : (v v' : ℕ) (b b' : Bool) (c c' : ℕ) → v ≡ v' → b ≡ b' → c ≡ c' → ◌≡◌ {A = Entry} (record { variable = v; negated = b; coefficient = c }) (record { variable = v'; negated = b'; coefficient = c' })
+entry-made v v' b b' c c' p q r = rw (p, q, r) refl
+
+pub light-back : (e : Entry) → IsLight e → entry_of (one_term (code e)) ≡ e
+light-back e light = entry-made (code e / 2) e.variable (not (code e % 2 == 0)) e.negated 1 e.coefficient (half-of e.variable e.negated) (parity-of e.variable e.negated) (sym light.one)
+
+pub codes-back : (es : List Entry) → All IsLight es → map entry_of (map one_term (map code es)) ≡ es
+codes-back [] all = refl
+codes-back (e ∷ es) all =
+    let rest = codes-back es (λ k d less. all (suc k) d (omega (arith, less))) in
+    let first = light-back e (all 0 e (omega arith)) in
+    rw (first, rest) refl
+
+pub clause-kept : (f : Form) → IsNormal f → IsClause f → IsKeptAs f (clause_shape (map code f.terms))
+clause-kept f normal c = record {
+  terms = subst (λ es. IsPermutation es f.terms) (sym (codes-back f.terms c.light)) (IsPermutation-refl f.terms);
+  degree = sym c.degree;
+  normal = normal;
+}
+
+code-from : (e : Entry) → (2 * e.variable ≤ code e) × (code e ≤ 2 * e.variable + 1)
+code-from e = at e.negated
+  where
+    at : (b : Bool) → (2 * e.variable ≤ 2 * e.variable + cond b 1 0) × (2 * e.variable + cond b 1 0 ≤ 2 * e.variable + 1)
+    at true = (omega arith, omega arith)
+    at false = (omega arith, omega arith)
+
+apart-zero : (x y : ℕ) → (x ≡ y → ⊥) → ◌≡◌ {A = ℕ} (cond (x == y) 1 0) 0
+apart-zero x y n = elim (cases_Bool (x == y)) [
+  | inl is ↦ absurd (n (eqb-true x y is))
+  | inr isnt ↦ ap (λ (b : Bool). cond {A = ℕ} b 1 0) isnt
+]
+
+rising-none : (n : ℕ) (es : List Entry) (x : ℕ) → IsRising n es → x < 2 * n → count_by (λ y. x == y) (map code es) ≡ 0
+rising-none n [] x r h = refl
+rising-none n (e ∷ es) x r h =
+    let from = code-from e in
+    let rest = rising-none (e.variable + 1) es x r.2 (omega (arith, h, r.0)) in
+    let first = apart-zero x (code e) (λ is. absurd (omega (arith, is, from.0, h, r.0))) in
+    omega (arith, rest, first, sum_by-cons (λ y. cond (x == y) 1 0) (code e) (map code es))
+
+pub rising-different : (n : ℕ) (es : List Entry) → IsRising n es → AreDifferent (map code es)
+rising-different n [] r x = omega arith
+rising-different n (e ∷ es) r x =
+    let split = sum_by-cons (λ y. cond (x == y) 1 0) (code e) (map code es) in
+    let from = code-from e in
+    elim (cases_eq x (code e)) [
+      | inl is ↦
+          let rest = rising-none (e.variable + 1) es x r.2 (omega (arith, is, from.1)) in
+          let first : ◌≡◌ {A = ℕ} (cond (x == code e) 1 0) 1 = ap (λ (b : Bool). cond {A = ℕ} b 1 0) (eq-eqb x (code e) is) in
+          omega (arith, split, rest, first)
+      | inr n ↦
+          let rest = rising-different (e.variable + 1) es r.2 x in
+          omega (arith, split, rest, apart-zero x (code e) n)
+    ]
+
+pub first-two : (n : ℕ) (es : List Entry) → IsRising n es → 2 ≤ length es → get_or (map code es) 0 0 ≡ get_or (map code es) 1 0 → ⊥
+first-two n [] r h same = absurd (omega (arith, h))
+first-two n (e ∷ []) r h same = absurd (omega (arith, h))
+first-two n (e ∷ f ∷ es) r h same =
+    let a = code-from e in
+    let b = code-from f in
+    omega (arith, same, a.1, b.0, r.2.0)
+
+pub codes-inside : (es : List Entry) (n m : ℕ) → m ≡ 2 * n → All (λ e. e.variable < n) es → All (λ x. x < m) (map code es)
+codes-inside [] n m wide all k d less = absurd (omega (arith, less))
+codes-inside (e ∷ es) n m wide all zero d less = let a = code-from e in let inside : e.variable < n = all 0 e (omega arith) in omega (arith, a.1, inside, wide)
+codes-inside (e ∷ es) n m wide all (suc k) d less = codes-inside es n m wide (λ i x h. all (suc i) x (omega (arith, h))) k d (omega (arith, less))

@@ -1,0 +1,478 @@
+-- What a visit to a watch leaves of what a run knows.
+use Rattle.std.specs.Prelude.{Bool, true, false, Option, Some, slice_get, All, Contains, Vec, ◌/◌, sum, min}
+use Rattle.std.specs.Global.{Global}
+use Rattle.std.proofs.Common.{◌≡◌, ℕ, ◌+◌, ◌*◌, ◌<◌, ◌≤◌, ◌⊎◌, ◌++◌, ◌∷◌, [], List, refl, sym, ◌∙◌, ap, subst, arith, inl, inr, length, get_or, set, length-set, get_or-set_same, get_or-set_other}
+use Rattle.std.proofs.lemmas.Bool.{cases_eq, cases_lt, both_ways}
+use Rattle.std.proofs.lemmas.List.{get_or_default, get_or_read}
+use Rattle.std.proofs.lemmas.List.Sums.{sum_by-set}
+use Rattle.std.proofs.lemmas.List.Elements.{All-contains, Contains-get_or, Contains-push, Contains-append_left, Contains-push_cases}
+use Rattle.pb_propagate.specs.declared.clauses.lists.Watch.{Watch}
+use Rattle.pb_propagate.specs.declared.clauses.Clauses.{Clauses}
+use Rattle.pb_propagate.specs.engine.Clauses.Truths.{flip, true_at, false_at}
+use Rattle.pb_propagate.specs.engine.Clauses.Links.{watch_at, list_at, lists_of, AreLinked, Remains}
+use Rattle.pb_propagate.specs.engine.Clauses.Runs.{AreWalked, Grows, AreStored, IsWatched, ArePassed, AreNoted, AreServed, IsRunning, IsUnit, IsBroken, turned, all_turned}
+use Rattle.pb_propagate.proofs.lemmas.clauses.Turned.{turned-at, turned-count, turned-length, turned-size, stored-turned, stored-back}
+use Rattle.pb_propagate.proofs.lemmas.clauses.Linked.{sits-within, lists-length, list-here}
+use Rattle.pb_propagate.proofs.lemmas.clauses.Truths.{flip-half, flip-flip, flip-apart, same-slot, not_both}
+
+-- a live watch is one of the stored ones
+pub live-within : (ws : List Watch) (e : ℕ) → (watch_at ws e).live ≡ true → e < length ws
+live-within ws e live = sits-within ws e (watch_at ws e).literal (watch_at ws e).spot (record { live = live; literal = refl; spot = refl })
+
+pub slot-within : (clauses : List (List ℕ)) (ws : List Watch) (ls : List (List ℕ)) (e : ℕ) → AreStored clauses ws ls → (watch_at ws e).live ≡ true → e / 2 < length clauses
+slot-within clauses ws ls e stored live = omega (arith, live-within ws e live, stored.pairs)
+
+pub literal-within : (clauses : List (List ℕ)) (ws : List Watch) (ls : List (List ℕ)) (e : ℕ) → AreStored clauses ws ls → (watch_at ws e).live ≡ true → (watch_at ws e).literal < length ls
+literal-within clauses ws ls e stored live =
+    All-contains (λ x. x < length ls) (list_at clauses (e / 2)) (watch_at ws e).literal (stored.inside (e / 2)) (stored.watched e live)
+
+-- what a search has found in a clause
+pub record HasSearched (values : List (Option Bool)) (xs : List ℕ) (from other place : ℕ) : Type 0 where
+  pub after : from ≤ place
+  pub within : place ≤ length xs
+  pub passed : (k d : ℕ) → from ≤ k → k < place → (false_at values (get_or xs k d) ≡ true) ⊎ (get_or xs k d ≡ other)
+  pub found : place < length xs → (d : ℕ) → (false_at values (get_or xs place d) ≡ false) × (get_or xs place d ≡ other → ⊥)
+
+-- the watch that is visited
+pub record Visiting (values : List (Option Bool)) (clauses : List (List ℕ)) (passed : List ℕ) (ws : List Watch) (ls : List (List ℕ)) (l index e other place : ℕ) : Type 0 where
+  pub stored : AreStored clauses ws ls
+  pub passes : ArePassed values clauses passed ws
+  pub failed : false_at values l ≡ true
+  pub item : slice_get (list_at ls l) index ≡ Some e
+  pub other_is : other ≡ (watch_at ws (flip e)).literal
+  pub searched : HasSearched values (list_at clauses (e / 2)) (get_or passed (e / 2) 0) other place
+
+pub visiting-live : (values : List (Option Bool)) (clauses : List (List ℕ)) (passed : List ℕ) (ws : List Watch) (ls : List (List ℕ)) (l index e other place : ℕ) → Visiting values clauses passed ws ls l index e other place → (watch_at ws e).live ≡ true
+visiting-live values clauses passed ws ls l index e other place g = (g.stored.linked.named e l index g.item).live
+
+pub visiting-literal : (values : List (Option Bool)) (clauses : List (List ℕ)) (passed : List ℕ) (ws : List Watch) (ls : List (List ℕ)) (l index e other place : ℕ) → Visiting values clauses passed ws ls l index e other place → (watch_at ws e).literal ≡ l
+visiting-literal values clauses passed ws ls l index e other place g = (g.stored.linked.named e l index g.item).literal
+
+pub visiting-slot : (values : List (Option Bool)) (clauses : List (List ℕ)) (passed : List ℕ) (ws : List Watch) (ls : List (List ℕ)) (l index e other place : ℕ) → Visiting values clauses passed ws ls l index e other place → e / 2 < length passed
+visiting-slot values clauses passed ws ls l index e other place g =
+    omega (arith, slot-within clauses ws ls e g.stored (visiting-live values clauses passed ws ls l index e other place g), g.passes.sizes)
+
+-- the trail
+pub noted-set : (passed moved moved' : List ℕ) (s x : ℕ) → AreNoted passed moved → s < length passed → (moved' ≡ moved ++ (s ∷ [])) ⊎ ((0 < get_or passed s 0) × (moved' ≡ moved)) → AreNoted (set passed s x) moved'
+noted-set passed moved moved' s x old inside how = record {
+  noted = λ t. noted-at t (cases_eq t s) how;
+  named = named-by how;
+}
+  where
+    keeps : (t : ℕ) → Contains moved t → (moved' ≡ moved ++ (s ∷ [])) ⊎ ((0 < get_or passed s 0) × (moved' ≡ moved)) → Contains moved' t
+    keeps t h (inl e) = subst (λ (xs : List ℕ). Contains xs t) (sym e) (Contains-append_left moved (s ∷ []) t h)
+    keeps t h (inr p) = subst (λ (xs : List ℕ). Contains xs t) (sym p.1) h
+
+    has-s : (get_or passed s 0 ≡ 0) ⊎ Contains moved s → (moved' ≡ moved ++ (s ∷ [])) ⊎ ((0 < get_or passed s 0) × (moved' ≡ moved)) → Contains moved' s
+    has-s o (inl e) = subst (λ (xs : List ℕ). Contains xs s) (sym e) (Contains-push moved s)
+    has-s (inl z) (inr p) = absurd (omega (arith, z, p.0))
+    has-s (inr h) (inr p) = keeps s h (inr p)
+
+    noted-at : (t : ℕ) → (t ≡ s) ⊎ (t ≡ s → ⊥) → (moved' ≡ moved ++ (s ∷ [])) ⊎ ((0 < get_or passed s 0) × (moved' ≡ moved)) → (get_or (set passed s x) t 0 ≡ 0) ⊎ Contains moved' t
+    noted-at t (inl is) h = inr (subst (Contains moved') (sym is) (has-s (old.noted s) h))
+    noted-at t (inr n) h = elim (old.noted t) [
+      | inl z ↦ inl (get_or-set_other passed s t x 0 n ∙ z)
+      | inr m ↦ inr (keeps t m h)
+    ]
+
+    named-by : (moved' ≡ moved ++ (s ∷ [])) ⊎ ((0 < get_or passed s 0) × (moved' ≡ moved)) → All (λ t. t < length (set passed s x)) moved'
+    named-by (inr p) = λ k d h. omega (arith, old.named k d (omega (arith, h, ap length p.1)), ap (λ (xs : List ℕ). get_or xs k d) p.1, length-set passed s x)
+    named-by (inl e) = λ k d h.
+        elim (Contains-push_cases moved s (get_or moved' k d) (subst (λ (xs : List ℕ). Contains xs (get_or moved' k d)) e (Contains-get_or moved' k d h))) [
+          | inl m ↦ omega (arith, All-contains (λ t. t < length passed) moved (get_or moved' k d) old.named m, length-set passed s x)
+          | inr is ↦ omega (arith, is, inside, length-set passed s x)
+        ]
+
+-- no literal is left that may be watched
+pub passed-end : (values : List (Option Bool)) (clauses : List (List ℕ)) (passed : List ℕ) (ws : List Watch) (ls : List (List ℕ)) (l index e other place : ℕ) → Visiting values clauses passed ws ls l index e other place → length (list_at clauses (e / 2)) ≤ place → ArePassed values clauses (set passed (e / 2) place) ws
+passed-end values clauses passed ws ls l index e other place g end = record {
+  sizes = length-set passed (e / 2) place ∙ g.passes.sizes;
+  bounded = λ s. bounded-at s (cases_eq s (e / 2));
+  each = λ s k d h. each-at s k d h (cases_eq s (e / 2)) (cases_lt k (get_or passed (e / 2) 0));
+}
+  where
+    inside : e / 2 < length passed
+    inside = visiting-slot values clauses passed ws ls l index e other place g
+
+    bounded-at : (s : ℕ) → (s ≡ e / 2) ⊎ (s ≡ e / 2 → ⊥) → get_or (set passed (e / 2) place) s 0 ≤ length (list_at clauses s)
+    bounded-at s (inl is) = subst (λ t. get_or (set passed (e / 2) place) t 0 ≤ length (list_at clauses t)) (sym is) (omega (arith, get_or-set_same passed (e / 2) place 0 inside, g.searched.within))
+    bounded-at s (inr n) = omega (arith, get_or-set_other passed (e / 2) s place 0 n, g.passes.bounded s)
+
+    here : (k d : ℕ) → k < place → (k < get_or passed (e / 2) 0) ⊎ (get_or passed (e / 2) 0 ≤ k) → (false_at values (get_or (list_at clauses (e / 2)) k d) ≡ true) ⊎ IsWatched ws (e / 2) (get_or (list_at clauses (e / 2)) k d)
+    here k d h (inl before) = g.passes.each (e / 2) k d before
+    here k d h (inr after) = elim (g.searched.passed k d after h) [
+      | inl f ↦ inl f
+      | inr o ↦ inr (record { watch = flip e; slot = flip-half e; literal = sym g.other_is ∙ sym o })
+    ]
+
+    each-at : (s k d : ℕ) → k < get_or (set passed (e / 2) place) s 0 → (s ≡ e / 2) ⊎ (s ≡ e / 2 → ⊥) → (k < get_or passed (e / 2) 0) ⊎ (get_or passed (e / 2) 0 ≤ k) → (false_at values (get_or (list_at clauses s) k d) ≡ true) ⊎ IsWatched ws s (get_or (list_at clauses s) k d)
+    each-at s k d h (inl is) q =
+        let at_s : k < get_or (set passed (e / 2) place) (e / 2) 0 = subst (λ t. k < get_or (set passed (e / 2) place) t 0) is h in
+        let less : k < place = omega (arith, at_s, get_or-set_same passed (e / 2) place 0 inside) in
+        subst (λ t. (false_at values (get_or (list_at clauses t) k d) ≡ true) ⊎ IsWatched ws t (get_or (list_at clauses t) k d)) (sym is) (here k d less q)
+    each-at s k d h (inr n) q = g.passes.each s k d (omega (arith, h, get_or-set_other passed (e / 2) s place 0 n))
+
+-- all but the other watched literal are falsified
+pub all-but : (values : List (Option Bool)) (clauses : List (List ℕ)) (passed : List ℕ) (ws : List Watch) (ls : List (List ℕ)) (l index e other place : ℕ) → Visiting values clauses passed ws ls l index e other place → length (list_at clauses (e / 2)) ≤ place →
+    (k d : ℕ) → k < length (list_at clauses (e / 2)) → (false_at values (get_or (list_at clauses (e / 2)) k d) ≡ true) ⊎ (get_or (list_at clauses (e / 2)) k d ≡ other)
+all-but values clauses passed ws ls l index e other place g end k d h = by (cases_lt k (get_or passed (e / 2) 0))
+  where
+    watched : (w : IsWatched ws (e / 2) (get_or (list_at clauses (e / 2)) k d)) → (w.watch ≡ e) ⊎ (w.watch ≡ e → ⊥) → (false_at values (get_or (list_at clauses (e / 2)) k d) ≡ true) ⊎ (get_or (list_at clauses (e / 2)) k d ≡ other)
+    watched w (inl is) =
+        let l-is : get_or (list_at clauses (e / 2)) k d ≡ l = sym w.literal ∙ ap (λ t. (watch_at ws t).literal) is ∙ visiting-literal values clauses passed ws ls l index e other place g in
+        inl (ap (false_at values) l-is ∙ g.failed)
+    watched w (inr n) =
+        let flips : w.watch ≡ flip e = same-slot w.watch e w.slot n in
+        inr (sym w.literal ∙ ap (λ t. (watch_at ws t).literal) flips ∙ sym g.other_is)
+
+    by : (k < get_or passed (e / 2) 0) ⊎ (get_or passed (e / 2) 0 ≤ k) → (false_at values (get_or (list_at clauses (e / 2)) k d) ≡ true) ⊎ (get_or (list_at clauses (e / 2)) k d ≡ other)
+    by (inl before) = elim (g.passes.each (e / 2) k d before) [
+      | inl f ↦ inl f
+      | inr w ↦ watched w (cases_eq w.watch e)
+    ]
+    by (inr after) = g.searched.passed k d after (omega (arith, h, end))
+
+pub broken-of : (values : List (Option Bool)) (clauses : List (List ℕ)) (passed : List ℕ) (ws : List Watch) (ls : List (List ℕ)) (l index e other place : ℕ) → Visiting values clauses passed ws ls l index e other place → length (list_at clauses (e / 2)) ≤ place → false_at values other ≡ true → IsBroken values clauses
+broken-of values clauses passed ws ls l index e other place g end failed = record {
+  slot = e / 2;
+  some = omega (arith, (g.stored.watched e (visiting-live values clauses passed ws ls l index e other place g)).1);
+  all = λ k d h. elim (all-but values clauses passed ws ls l index e other place g end k d h) [
+    | inl f ↦ f
+    | inr o ↦ ap (false_at values) o ∙ failed
+  ];
+}
+
+pub unit-of : (values : List (Option Bool)) (clauses : List (List ℕ)) (passed : List ℕ) (ws : List Watch) (ls : List (List ℕ)) (l index e other place : ℕ) → Visiting values clauses passed ws ls l index e other place → length (list_at clauses (e / 2)) ≤ place → true_at values other ≡ false → false_at values other ≡ false → IsUnit values clauses other
+unit-of values clauses passed ws ls l index e other place g end not_true not_false =
+    let live = visiting-live values clauses passed ws ls l index e other place g in
+    let at : Contains (list_at clauses (flip e / 2)) (watch_at ws (flip e)).literal = g.stored.watched (flip e) (g.stored.paired e live) in
+    let at_slot : Contains (list_at clauses (e / 2)) (watch_at ws (flip e)).literal = subst (λ s. Contains (list_at clauses s) (watch_at ws (flip e)).literal) (flip-half e) at in
+    record {
+      slot = e / 2;
+      stands = subst (Contains (list_at clauses (e / 2))) (sym g.other_is) at_slot;
+      others = all-but values clauses passed ws ls l index e other place g end;
+      not_true = not_true;
+      not_false = not_false;
+    }
+
+-- the watch has moved to another literal
+pub record Shifted (values : List (Option Bool)) (clauses : List (List ℕ)) (ws ws' : List Watch) (ls ls' : List (List ℕ)) (index e place : ℕ) : Type 0 where
+  pub within : place < length (list_at clauses (e / 2))
+  pub linked : AreLinked ws' ls'
+  pub literal : (watch_at ws' e).literal ≡ get_or (list_at clauses (e / 2)) place 0
+  pub live : (watch_at ws' e).live ≡ true
+  pub others : (k : ℕ) → (k ≡ e → ⊥) → Remains index (watch_at ws k) (watch_at ws' k)
+  pub watches : length ws' ≡ length ws
+  pub lists : length ls' ≡ length ls
+
+pub passed-move : (values : List (Option Bool)) (clauses : List (List ℕ)) (passed : List ℕ) (ws ws' : List Watch) (ls ls' : List (List ℕ)) (l index e other place : ℕ) → Visiting values clauses passed ws ls l index e other place → Shifted values clauses ws ws' ls ls' index e place → ArePassed values clauses (set passed (e / 2) (place + 1)) ws'
+passed-move values clauses passed ws ws' ls ls' l index e other place g m = record {
+  sizes = length-set passed (e / 2) (place + 1) ∙ g.passes.sizes;
+  bounded = λ s. bounded-at s (cases_eq s (e / 2));
+  each = λ s k d h. each-at s k d h (cases_eq s (e / 2));
+}
+  where
+    inside : e / 2 < length passed
+    inside = visiting-slot values clauses passed ws ls l index e other place g
+
+    bounded-at : (s : ℕ) → (s ≡ e / 2) ⊎ (s ≡ e / 2 → ⊥) → get_or (set passed (e / 2) (place + 1)) s 0 ≤ length (list_at clauses s)
+    bounded-at s (inl is) = subst (λ t. get_or (set passed (e / 2) (place + 1)) t 0 ≤ length (list_at clauses t)) (sym is) (omega (arith, get_or-set_same passed (e / 2) (place + 1) 0 inside, m.within))
+    bounded-at s (inr n) = omega (arith, get_or-set_other passed (e / 2) s (place + 1) 0 n, g.passes.bounded s)
+
+    watched : (s x : ℕ) (w : IsWatched ws s x) → (w.watch ≡ e) ⊎ (w.watch ≡ e → ⊥) → (false_at values x ≡ true) ⊎ IsWatched ws' s x
+    watched s x w (inl is) =
+        let l-is : x ≡ l = sym w.literal ∙ ap (λ t. (watch_at ws t).literal) is ∙ visiting-literal values clauses passed ws ls l index e other place g in
+        inl (ap (false_at values) l-is ∙ g.failed)
+    watched s x w (inr n) = inr (record { watch = w.watch; slot = w.slot; literal = (m.others w.watch n).literal ∙ w.literal })
+
+    old : (s k d : ℕ) → k < get_or passed s 0 → (false_at values (get_or (list_at clauses s) k d) ≡ true) ⊎ IsWatched ws' s (get_or (list_at clauses s) k d)
+    old s k d h = elim (g.passes.each s k d h) [
+      | inl f ↦ inl f
+      | inr w ↦ watched s (get_or (list_at clauses s) k d) w (cases_eq w.watch e)
+    ]
+
+    here : (k d : ℕ) → k < place + 1 → (k < get_or passed (e / 2) 0) ⊎ (get_or passed (e / 2) 0 ≤ k) → (k < place) ⊎ (place ≤ k) → (false_at values (get_or (list_at clauses (e / 2)) k d) ≡ true) ⊎ IsWatched ws' (e / 2) (get_or (list_at clauses (e / 2)) k d)
+    here k d h (inl before) q = old (e / 2) k d before
+    here k d h (inr after) (inl less) = elim (g.searched.passed k d after less) [
+      | inl f ↦ inl f
+      | inr o ↦ inr (record { watch = flip e; slot = flip-half e; literal = (m.others (flip e) (flip-apart e)).literal ∙ sym g.other_is ∙ sym o })
+    ]
+    here k d h (inr after) (inr at) =
+        let k-is : k ≡ place = omega (arith, h, at) in
+        inr (record { watch = e; slot = refl; literal = m.literal ∙ get_or_default (list_at clauses (e / 2)) place 0 d m.within ∙ ap (λ t. get_or (list_at clauses (e / 2)) t d) (sym k-is) })
+
+    each-at : (s k d : ℕ) → k < get_or (set passed (e / 2) (place + 1)) s 0 → (s ≡ e / 2) ⊎ (s ≡ e / 2 → ⊥) → (false_at values (get_or (list_at clauses s) k d) ≡ true) ⊎ IsWatched ws' s (get_or (list_at clauses s) k d)
+    each-at s k d h (inl is) =
+        let at_s : k < get_or (set passed (e / 2) (place + 1)) (e / 2) 0 = subst (λ t. k < get_or (set passed (e / 2) (place + 1)) t 0) is h in
+        let less : k < place + 1 = omega (arith, at_s, get_or-set_same passed (e / 2) (place + 1) 0 inside) in
+        subst (λ t. (false_at values (get_or (list_at clauses t) k d) ≡ true) ⊎ IsWatched ws' t (get_or (list_at clauses t) k d)) (sym is) (here k d less (cases_lt k (get_or passed (e / 2) 0)) (cases_lt k place))
+    each-at s k d h (inr n) = old s k d (omega (arith, h, get_or-set_other passed (e / 2) s (place + 1) 0 n))
+
+-- the found literal is open
+found-open : (values : List (Option Bool)) (clauses : List (List ℕ)) (passed : List ℕ) (ws ws' : List Watch) (ls ls' : List (List ℕ)) (l index e other place : ℕ) → Visiting values clauses passed ws ls l index e other place → Shifted values clauses ws ws' ls ls' index e place → (false_at values (watch_at ws' e).literal ≡ false) × ((watch_at ws' e).literal ≡ (watch_at ws (flip e)).literal → ⊥)
+found-open values clauses passed ws ws' ls ls' l index e other place g m =
+    let two = g.searched.found m.within 0 in
+    (ap (false_at values) m.literal ∙ two.0, λ h. two.1 (sym m.literal ∙ h ∙ sym g.other_is))
+
+pub stored-move : (values : List (Option Bool)) (clauses : List (List ℕ)) (passed : List ℕ) (ws ws' : List Watch) (ls ls' : List (List ℕ)) (l index e other place : ℕ) → Visiting values clauses passed ws ls l index e other place → Shifted values clauses ws ws' ls ls' index e place → AreStored clauses ws' ls'
+stored-move values clauses passed ws ws' ls ls' l index e other place g m = record {
+  linked = m.linked;
+  pairs = m.watches ∙ g.stored.pairs;
+  watched = λ k live. watched-at k live (cases_eq k e);
+  paired = λ k live. paired-at k live (cases_eq k e) (cases_eq (flip k) e);
+  apart = λ k live h. apart-at k live h (cases_eq k e) (cases_eq (flip k) e);
+  full = λ s some. full-at s some (cases_eq (2 * s) e);
+  inside = λ s k d h. omega (arith, g.stored.inside s k d h, m.lists);
+}
+  where
+    live-e : (watch_at ws e).live ≡ true
+    live-e = visiting-live values clauses passed ws ls l index e other place g
+
+    was-live : (k : ℕ) → (k ≡ e → ⊥) → (watch_at ws' k).live ≡ true → (watch_at ws k).live ≡ true
+    was-live k n live = sym (m.others k n).live ∙ live
+
+    watched-at : (k : ℕ) → (watch_at ws' k).live ≡ true → (k ≡ e) ⊎ (k ≡ e → ⊥) → Contains (list_at clauses (k / 2)) (watch_at ws' k).literal
+    watched-at k live (inl is) =
+        subst (λ t. Contains (list_at clauses (t / 2)) (watch_at ws' t).literal) (sym is) (subst (Contains (list_at clauses (e / 2))) (sym m.literal) (Contains-get_or (list_at clauses (e / 2)) place 0 m.within))
+    watched-at k live (inr n) = subst (Contains (list_at clauses (k / 2))) (sym (m.others k n).literal) (g.stored.watched k (was-live k n live))
+
+    paired-at : (k : ℕ) → (watch_at ws' k).live ≡ true → (k ≡ e) ⊎ (k ≡ e → ⊥) → (flip k ≡ e) ⊎ (flip k ≡ e → ⊥) → (watch_at ws' (flip k)).live ≡ true
+    paired-at k live a (inl is) = ap (λ t. (watch_at ws' t).live) is ∙ m.live
+    paired-at k live (inl is) (inr n) =
+        let n_flip : flip e ≡ e → ⊥ = flip-apart e in
+        ap (λ t. (watch_at ws' (flip t)).live) is ∙ (m.others (flip e) n_flip).live ∙ g.stored.paired e live-e
+    paired-at k live (inr n) (inr n_flip) = (m.others (flip k) n_flip).live ∙ g.stored.paired k (was-live k n live)
+
+    open' : (false_at values (watch_at ws' e).literal ≡ false) × ((watch_at ws' e).literal ≡ (watch_at ws (flip e)).literal → ⊥)
+    open' = found-open values clauses passed ws ws' ls ls' l index e other place g m
+
+    apart-at : (k : ℕ) → (watch_at ws' k).live ≡ true → (watch_at ws' (flip k)).literal ≡ (watch_at ws' k).literal → (k ≡ e) ⊎ (k ≡ e → ⊥) → (flip k ≡ e) ⊎ (flip k ≡ e → ⊥) → ⊥
+    apart-at k live h (inl is) q =
+        let at_e : (watch_at ws' (flip e)).literal ≡ (watch_at ws' e).literal = subst (λ t. (watch_at ws' (flip t)).literal ≡ (watch_at ws' t).literal) is h in
+        open'.1 (sym at_e ∙ (m.others (flip e) (flip-apart e)).literal)
+    apart-at k live h (inr n) (inl is) =
+        let k-is : k ≡ flip e = sym (flip-flip k) ∙ ap flip is in
+        let at_e : (watch_at ws' e).literal ≡ (watch_at ws' (flip e)).literal = ap (λ t. (watch_at ws' t).literal) (sym is) ∙ h ∙ ap (λ t. (watch_at ws' t).literal) k-is in
+        open'.1 (at_e ∙ (m.others (flip e) (flip-apart e)).literal)
+    apart-at k live h (inr n) (inr n_flip) =
+        g.stored.apart k (was-live k n live) (sym (m.others (flip k) n_flip).literal ∙ h ∙ (m.others k n).literal)
+
+    full-at : (s : ℕ) → 0 < length (list_at clauses s) → (2 * s ≡ e) ⊎ (2 * s ≡ e → ⊥) → (watch_at ws' (2 * s)).live ≡ true
+    full-at s some (inl is) = ap (λ t. (watch_at ws' t).live) is ∙ m.live
+    full-at s some (inr n) = (m.others (2 * s) n).live ∙ g.stored.full s some
+
+pub served-move : (values : List (Option Bool)) (clauses : List (List ℕ)) (passed : List ℕ) (ws ws' : List Watch) (ls ls' : List (List ℕ)) (l index e other place : ℕ) (walked : List ℕ) → Visiting values clauses passed ws ls l index e other place → Shifted values clauses ws ws' ls ls' index e place → AreServed values ws walked l index → AreServed values ws' walked l index
+served-move values clauses passed ws ws' ls ls' l index e other place walked g m old = record {
+  failed = old.failed;
+  now = old.now;
+  done = λ k live h. done-at k live h (cases_eq k e) (cases_eq (flip k) e);
+  here = λ k live h less. here-at k live h less (cases_eq k e) (cases_eq (flip k) e);
+}
+  where
+    open' : false_at values (watch_at ws' e).literal ≡ false
+    open' = (found-open values clauses passed ws ws' ls ls' l index e other place g m).0
+
+    was-live : (k : ℕ) → (k ≡ e → ⊥) → (watch_at ws' k).live ≡ true → (watch_at ws k).live ≡ true
+    was-live k n live = sym (m.others k n).live ∙ live
+
+    -- the watch was on a falsified literal
+    not-true : (k : ℕ) → flip k ≡ e → true_at values (watch_at ws (flip k)).literal ≡ true → ⊥
+    not-true k is h =
+        not_both values l (ap (true_at values) (sym (visiting-literal values clauses passed ws ls l index e other place g)) ∙ ap (λ t. true_at values (watch_at ws t).literal) (sym is) ∙ h) g.failed
+
+    done-at : (k : ℕ) → (watch_at ws' k).live ≡ true → Contains walked (watch_at ws' k).literal → (k ≡ e) ⊎ (k ≡ e → ⊥) → (flip k ≡ e) ⊎ (flip k ≡ e → ⊥) → true_at values (watch_at ws' (flip k)).literal ≡ true
+    done-at k live h (inl is) q = absurd (both_ways _ (ap (λ t. false_at values (watch_at ws' t).literal) is ∙ open') (old.failed (watch_at ws' k).literal h))
+    done-at k live h (inr n) q =
+        let was = old.done k (was-live k n live) (subst (Contains walked) (m.others k n).literal h) in
+        elim q [
+          | inl is ↦ absurd (not-true k is was)
+          | inr n_flip ↦ ap (true_at values) (m.others (flip k) n_flip).literal ∙ was
+        ]
+
+    here-at : (k : ℕ) → (watch_at ws' k).live ≡ true → (watch_at ws' k).literal ≡ l → (watch_at ws' k).spot < index → (k ≡ e) ⊎ (k ≡ e → ⊥) → (flip k ≡ e) ⊎ (flip k ≡ e → ⊥) → true_at values (watch_at ws' (flip k)).literal ≡ true
+    here-at k live h less (inl is) q = absurd (both_ways _ (ap (λ t. false_at values (watch_at ws' t).literal) is ∙ open') (ap (false_at values) h ∙ g.failed))
+    here-at k live h less (inr n) q =
+        let spot = (m.others k n).spot less in
+        let was = old.here k (was-live k n live) (sym (m.others k n).literal ∙ h) (omega (arith, spot, less)) in
+        elim q [
+          | inl is ↦ absurd (not-true k is was)
+          | inr n_flip ↦ ap (true_at values) (m.others (flip k) n_flip).literal ∙ was
+        ]
+
+-- how a search is paid for
+-- what was walked under fewer values stays so
+pub walked-move : (base values : List (Option Bool)) (clauses : List (List ℕ)) (passed : List ℕ) (ws ws' : List Watch) (ls ls' : List (List ℕ)) (l index e other place : ℕ) (codes : List ℕ) → Grows base values → Visiting values clauses passed ws ls l index e other place → Shifted values clauses ws ws' ls ls' index e place → AreWalked base ws codes → AreWalked base ws' codes
+walked-move base values clauses passed ws ws' ls ls' l index e other place codes more g m old = record {
+  failed = old.failed;
+  done = λ k live h. done-at k live h (cases_eq k e) (cases_eq (flip k) e);
+}
+  where
+    open' : false_at values (watch_at ws' e).literal ≡ false
+    open' = (found-open values clauses passed ws ws' ls ls' l index e other place g m).0
+
+    -- the watch was on a falsified literal
+    not-true : (k : ℕ) → flip k ≡ e → true_at base (watch_at ws (flip k)).literal ≡ true → ⊥
+    not-true k is h =
+        let at : true_at values (watch_at ws e).literal ≡ true = ap (λ t. true_at values (watch_at ws t).literal) (sym is) ∙ more.met (watch_at ws (flip k)).literal h in
+        not_both values l (ap (true_at values) (sym (visiting-literal values clauses passed ws ls l index e other place g)) ∙ at) g.failed
+
+    done-at : (k : ℕ) → (watch_at ws' k).live ≡ true → Contains codes (watch_at ws' k).literal → (k ≡ e) ⊎ (k ≡ e → ⊥) → (flip k ≡ e) ⊎ (flip k ≡ e → ⊥) → true_at base (watch_at ws' (flip k)).literal ≡ true
+    done-at k live h (inl is) q = absurd (both_ways _ (ap (λ t. false_at values (watch_at ws' t).literal) is ∙ open') (more.failed (watch_at ws' k).literal (old.failed (watch_at ws' k).literal h)))
+    done-at k live h (inr n) q =
+        let was = old.done k (sym (m.others k n).live ∙ live) (subst (Contains codes) (m.others k n).literal h) in
+        elim q [
+          | inl is ↦ absurd (not-true k is was)
+          | inr n_flip ↦ ap (true_at base) (m.others (flip k) n_flip).literal ∙ was
+        ]
+
+pub sum-raised : (passed : List ℕ) (s x : ℕ) → s < length passed → sum (set passed s x) + get_or passed s 0 ≡ sum passed + x
+sum-raised passed s x inside = sum_by-set (λ y. y) passed s x 0 inside
+
+-- in terms of what the program reads
+pub item-of : (xs ys : List (Vec ℕ Global)) (l i e : ℕ) → xs ≡ ys → slice_get (list_at (lists_of xs) l) i ≡ Some e → slice_get (list_at (lists_of ys) l) i ≡ Some e
+item-of xs ys l i e same h = subst (λ zs. slice_get (list_at (lists_of zs) l) i ≡ Some e) same h
+
+pub item-live : (c : Clauses) (values : List (Option Bool)) (xs : List (Vec ℕ Global)) (l i e : ℕ) → IsRunning values c → xs ≡ c.lists.items → slice_get (list_at (lists_of xs) l) i ≡ Some e → (watch_at c.watches.items e).live ≡ true
+item-live c values xs l i e run same h = (run.stored.linked.named e l i (item-of xs c.lists.items l i e same h)).live
+
+-- what is read at the entry
+pub record Reading (c : Clauses) (l index e other : ℕ) : Type 0 where
+  pub lists : List (Vec ℕ Global)
+  pub lists_are : lists ≡ c.lists.items
+  pub item : slice_get (list_at (lists_of lists) l) index ≡ Some e
+  pub watches : List Watch
+  pub watches_are : watches ≡ c.watches.items
+  pub other_at : ℕ
+  pub flips : other_at ≡ flip e
+  pub other_is : other ≡ (watch_at watches other_at).literal
+
+-- no search has passed more than its clause
+pub running-bounded : (c : Clauses) (values : List (Option Bool)) → IsRunning values c → (s : ℕ) → get_or c.passed.items s 0 ≤ length (list_at (lists_of c.literals.items) s)
+running-bounded c values r s = omega (arith, r.passed.bounded s, turned-size c.starts.items (lists_of c.literals.items) s)
+
+pub reading-item : (c : Clauses) (l index e other : ℕ) → Reading c l index e other → slice_get (list_at (lists_of c.lists.items) l) index ≡ Some e
+reading-item c l index e other r = item-of r.lists c.lists.items l index e r.lists_are r.item
+
+pub reading-other : (c : Clauses) (l index e other : ℕ) → Reading c l index e other → other ≡ (watch_at c.watches.items (flip e)).literal
+reading-other c l index e other r =
+    r.other_is ∙ ap (λ ws. (watch_at ws r.other_at).literal) r.watches_are ∙ ap (λ t. (watch_at c.watches.items t).literal) r.flips
+
+pub reading-live : (c : Clauses) (values : List (Option Bool)) (l index e other : ℕ) → IsRunning values c → Reading c l index e other → (watch_at c.watches.items e).live ≡ true
+reading-live c values l index e other run r = (run.stored.linked.named e l index (reading-item c l index e other r)).live
+
+pub reading-small : (c : Clauses) (values : List (Option Bool)) (l index e other : ℕ) → IsRunning values c → Reading c l index e other → other < 2 * length values
+reading-small c values l index e other run r =
+    let live = reading-live c values l index e other run r in
+    let small = literal-within (lists_of c.literals.items) c.watches.items (lists_of c.lists.items) (flip e) run.stored (run.stored.paired e live) in
+    omega (arith, small, reading-other c l index e other r, lists-length c.lists.items, run.sizes)
+
+pub reading-slot : (c : Clauses) (values : List (Option Bool)) (l index e other : ℕ) → IsRunning values c → Reading c l index e other → (e / 2 < length c.literals.items) × (e / 2 < length c.passed.items)
+reading-slot c values l index e other run r =
+    let inside = slot-within (lists_of c.literals.items) c.watches.items (lists_of c.lists.items) e run.stored (reading-live c values l index e other run r) in
+    (omega (arith, inside, lists-length c.literals.items), omega (arith, inside, run.passed.sizes, turned-count c.starts.items (lists_of c.literals.items)))
+
+-- the clause, where its search starts, and how far it has come
+pub record Resuming (c : Clauses) (s from start : ℕ) (xs : List ℕ) : Type 0 where
+  pub from_is : from ≡ get_or c.passed.items s from
+  pub start_is : start ≡ get_or c.starts.items s start
+  pub vec : Vec ℕ Global
+  pub vec_is : vec ≡ get_or c.literals.items s vec
+  pub items : xs ≡ vec.items
+
+pub resuming-from : (c : Clauses) (s from start : ℕ) (xs : List ℕ) → s < length c.passed.items → Resuming c s from start xs → from ≡ get_or c.passed.items s 0
+resuming-from c s from start xs inside r = get_or_read c.passed.items s from inside r.from_is 0
+
+pub resuming-xs : (c : Clauses) (s from start : ℕ) (xs : List ℕ) → s < length c.literals.items → Resuming c s from start xs → xs ≡ list_at (lists_of c.literals.items) s
+resuming-xs c s from start xs inside r = r.items ∙ sym (list-here c.literals.items s r.vec inside r.vec_is)
+
+pub resuming-turned : (c : Clauses) (s from start : ℕ) (xs : List ℕ) → s < length c.literals.items → length c.starts.items ≡ length c.literals.items → Resuming c s from start xs → turned start xs ≡ list_at (all_turned c.starts.items (lists_of c.literals.items)) s
+resuming-turned c s from start xs inside sizes r =
+    ap (λ n. turned n xs) (get_or_read c.starts.items s start (omega (arith, inside, sizes)) r.start_is 0) ∙ (ap (turned (get_or c.starts.items s 0)) (resuming-xs c s from start xs inside r) ∙ sym (turned-at c.starts.items (lists_of c.literals.items) s))
+
+pub resuming-within : (c : Clauses) (values : List (Option Bool)) (l index e other from start : ℕ) (xs : List ℕ) → IsRunning values c → Reading c l index e other → Resuming c (e / 2) from start xs → from ≤ length xs
+resuming-within c values l index e other from start xs run r s =
+    let two = reading-slot c values l index e other run r in
+    omega (arith, resuming-from c (e / 2) from start xs two.1 s, ap length (resuming-xs c (e / 2) from start xs two.0 s), run.passed.bounded (e / 2), turned-size c.starts.items (lists_of c.literals.items) (e / 2))
+
+pub resuming-inside : (c : Clauses) (values : List (Option Bool)) (l index e other from start : ℕ) (xs : List ℕ) → IsRunning values c → Reading c l index e other → Resuming c (e / 2) from start xs → All (λ x. x < 2 * length values) xs
+resuming-inside c values l index e other from start xs run r s =
+    let two = reading-slot c values l index e other run r in
+    let those = resuming-xs c (e / 2) from start xs two.0 s in
+    λ k d h. let small = run.stored.inside (e / 2) k d (omega (arith, h, ap length those)) in
+    omega (arith, small, ap (λ (ys : List ℕ). get_or ys k d) those, lists-length c.lists.items, run.sizes)
+
+pub searched-by : (values : List (Option Bool)) (start from other place : ℕ) (xs : List ℕ) → from ≤ place → place ≤ length xs →
+    ((k d : ℕ) → from ≤ k → k < place → (false_at values (get_or (turned start xs) k d) ≡ true) ⊎ (get_or (turned start xs) k d ≡ other)) →
+    (place < length xs → (d : ℕ) → (false_at values (get_or (turned start xs) place d) ≡ false) × (get_or (turned start xs) place d ≡ other → ⊥)) →
+    HasSearched values (turned start xs) from other place
+searched-by values start from other place xs after within passed found = record {
+  after = after;
+  within = omega (arith, within, turned-length start xs);
+  passed = passed;
+  found = λ h. found (omega (arith, h, turned-length start xs));
+}
+
+-- a search that has passed more
+pub bounded-raised : (c : Clauses) (values : List (Option Bool)) (s x : ℕ) → IsRunning values c → s < length c.passed.items → x ≤ length (list_at (lists_of c.literals.items) s) → (t : ℕ) → get_or (set c.passed.items s x) t 0 ≤ length (list_at (lists_of c.literals.items) t)
+bounded-raised c values s x run inside within t = by (cases_eq t s)
+  where
+    by : (t ≡ s) ⊎ (t ≡ s → ⊥) → get_or (set c.passed.items s x) t 0 ≤ length (list_at (lists_of c.literals.items) t)
+    by (inl is) = subst (λ u. get_or (set c.passed.items s x) u 0 ≤ length (list_at (lists_of c.literals.items) u)) (sym is) (omega (arith, within, get_or-set_same c.passed.items s x 0 inside))
+    by (inr n) = omega (arith, running-bounded c values run t, get_or-set_other c.passed.items s t x 0 n)
+
+pub visiting-by : (c : Clauses) (values : List (Option Bool)) (l index e other from start place : ℕ) (xs : List ℕ) → IsRunning values c → false_at values l ≡ true → Reading c l index e other → Resuming c (e / 2) from start xs → HasSearched values (turned start xs) from other place →
+    Visiting values (all_turned c.starts.items (lists_of c.literals.items)) c.passed.items c.watches.items (lists_of c.lists.items) l index e other place
+visiting-by c values l index e other from start place xs run failed r s searched =
+    let two = reading-slot c values l index e other run r in
+    record {
+      stored = stored-turned c.starts.items (lists_of c.literals.items) c.watches.items (lists_of c.lists.items) run.stored;
+      passes = run.passed;
+      failed = failed;
+      item = reading-item c l index e other r;
+      other_is = reading-other c l index e other r;
+      searched = subst (λ ys. HasSearched values ys (get_or c.passed.items (e / 2) 0) other place) (resuming-turned c (e / 2) from start xs two.0 run.starts s)
+          (subst (λ n. HasSearched values (turned start xs) n other place) (resuming-from c (e / 2) from start xs two.1 s) searched);
+    }
+
+-- the state if no literal is left that may be watched
+pub running-end : (c : Clauses) (values : List (Option Bool)) (l index e other from start place : ℕ) (xs : List ℕ) (passed' moved_v : Vec ℕ Global) → IsRunning values c → false_at values l ≡ true → Reading c l index e other → Resuming c (e / 2) from start xs → HasSearched values (turned start xs) from other place → length xs ≤ place →
+    (moved_v.items ≡ c.moved.items ++ (e / 2 ∷ [])) ⊎ ((0 < from) × (moved_v.items ≡ c.moved.items)) → passed'.items ≡ set c.passed.items (e / 2) place →
+    IsRunning values (record { literals = c.literals; starts = c.starts; passed = passed'; moved = moved_v; watches = c.watches; lists = c.lists })
+running-end c values l index e other from start place xs passed' moved_v run failed r s searched end noted now =
+    let two = reading-slot c values l index e other run r in
+    let in_visit = visiting-by c values l index e other from start place xs run failed r s searched in
+    let end_at : length (list_at (all_turned c.starts.items (lists_of c.literals.items)) (e / 2)) ≤ place = omega (arith, end, ap length (resuming-xs c (e / 2) from start xs two.0 s), turned-size c.starts.items (lists_of c.literals.items) (e / 2)) in
+    let from_is = resuming-from c (e / 2) from start xs two.1 s in
+    let noted_at = subst (λ n. (moved_v.items ≡ c.moved.items ++ (e / 2 ∷ [])) ⊎ ((0 < n) × (moved_v.items ≡ c.moved.items))) from_is noted in
+    record {
+      stored = run.stored;
+      passed = subst (λ p. ArePassed values (all_turned c.starts.items (lists_of c.literals.items)) p c.watches.items) (sym now) (passed-end values (all_turned c.starts.items (lists_of c.literals.items)) c.passed.items c.watches.items (lists_of c.lists.items) l index e other place in_visit end_at);
+      starts = run.starts;
+      noted = subst (λ p. AreNoted p moved_v.items) (sym now) (noted-set c.passed.items c.moved.items moved_v.items (e / 2) place run.noted two.1 noted_at);
+      sizes = run.sizes;
+    }
+
+pub running-move : (c : Clauses) (values : List (Option Bool)) (l index e other from start place : ℕ) (xs : List ℕ) (passed' moved_v : Vec ℕ Global) (watches' : Vec Watch Global) (lists' : Vec (Vec ℕ Global) Global) → IsRunning values c → false_at values l ≡ true → Reading c l index e other → Resuming c (e / 2) from start xs → HasSearched values (turned start xs) from other place →
+    (moved_v.items ≡ c.moved.items ++ (e / 2 ∷ [])) ⊎ ((0 < from) × (moved_v.items ≡ c.moved.items)) → passed'.items ≡ set c.passed.items (e / 2) (place + 1) → length lists'.items ≡ length c.lists.items →
+    Shifted values (all_turned c.starts.items (lists_of c.literals.items)) c.watches.items watches'.items (lists_of c.lists.items) (lists_of lists'.items) index e place →
+    IsRunning values (record { literals = c.literals; starts = c.starts; passed = passed'; moved = moved_v; watches = watches'; lists = lists' })
+running-move c values l index e other from start place xs passed' moved_v watches' lists' run failed r s searched noted now sizes m =
+    let two = reading-slot c values l index e other run r in
+    let in_visit = visiting-by c values l index e other from start place xs run failed r s searched in
+    let from_is = resuming-from c (e / 2) from start xs two.1 s in
+    let noted_at = subst (λ n. (moved_v.items ≡ c.moved.items ++ (e / 2 ∷ [])) ⊎ ((0 < n) × (moved_v.items ≡ c.moved.items))) from_is noted in
+    record {
+      stored = stored-back c.starts.items (lists_of c.literals.items) watches'.items (lists_of lists'.items) (stored-move values (all_turned c.starts.items (lists_of c.literals.items)) c.passed.items c.watches.items watches'.items (lists_of c.lists.items) (lists_of lists'.items) l index e other place in_visit m);
+      passed = subst (λ p. ArePassed values (all_turned c.starts.items (lists_of c.literals.items)) p watches'.items) (sym now) (passed-move values (all_turned c.starts.items (lists_of c.literals.items)) c.passed.items c.watches.items watches'.items (lists_of c.lists.items) (lists_of lists'.items) l index e other place in_visit m);
+      starts = run.starts;
+      noted = subst (λ p. AreNoted p moved_v.items) (sym now) (noted-set c.passed.items c.moved.items moved_v.items (e / 2) (place + 1) run.noted two.1 noted_at);
+      sizes = sizes ∙ run.sizes;
+    }
+
+-- what pays for the visits of a search
+pub covered-by : (c : Clauses) (values : List (Option Bool)) (l index e other from start place next : ℕ) (xs : List ℕ) (v0 v1 v2 v3 : ℕ) → IsRunning values c → Reading c l index e other → Resuming c (e / 2) from start xs → next ≡ min (place + 1) (length xs) → v1 ≤ v0 + 1 → v2 ≤ v1 + 1 → v3 + from ≤ v2 + next → v3 + sum c.passed.items ≤ v0 + 2 + sum (set c.passed.items (e / 2) next)
+covered-by c values l index e other from start place next xs v0 v1 v2 v3 run r s next_is a b few =
+    let two = reading-slot c values l index e other run r in
+    let raised = sum-raised c.passed.items (e / 2) next two.1 in
+    let from_is = resuming-from c (e / 2) from start xs two.1 s in
+    omega (arith, raised, from_is, few, a, b)

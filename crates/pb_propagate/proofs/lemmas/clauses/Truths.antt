@@ -1,0 +1,38 @@
+-- Literals, coded, and their truth.
+use Rattle.std.specs.Prelude.{◌==◌, Bool, true, false, Option, Some, None, ◌/◌, ◌%◌}
+use Rattle.std.proofs.Common.{◌≡◌, ℕ, ◌+◌, ◌*◌, List, get_or, arith}
+use Rattle.std.proofs.lemmas.Bool.Decides.{nat_tests}
+use Rattle.pb_propagate.specs.engine.Clauses.Truths.{flip, is_met, is_failed, true_at, false_at}
+
+pub flip-half : (c : ℕ) → flip c / 2 ≡ c / 2
+unfolding flip
+flip-half c = grind (arith, nat_tests)
+
+pub flip-flip : (c : ℕ) → flip (flip c) ≡ c
+unfolding flip
+flip-flip c = grind (arith, nat_tests)
+
+pub flip-apart : (c : ℕ) → flip c ≡ c → ⊥
+unfolding flip
+flip-apart c = grind (arith, nat_tests)
+
+pub flip-even : (s : ℕ) → flip (2 * s) ≡ 2 * s + 1
+unfolding flip
+flip-even s = grind (arith, nat_tests)
+
+-- the two watches of a slot
+pub same-slot : (a b : ℕ) → a / 2 ≡ b / 2 → (a ≡ b → ⊥) → a ≡ flip b
+unfolding flip
+same-slot a b = grind (arith, nat_tests)
+
+met-failed : (o : Option Bool) (p : Bool) → is_met o p ≡ true → is_failed o p ≡ true → ⊥
+met-failed None p h k = cc
+met-failed (Some true) true h k = cc
+met-failed (Some true) false h k = cc
+met-failed (Some false) true h k = cc
+met-failed (Some false) false h k = cc
+
+-- no literal is both true and falsified
+pub not_both : (values : List (Option Bool)) (c : ℕ) → true_at values c ≡ true → false_at values c ≡ true → ⊥
+unfolding true_at false_at
+not_both values c h k = met-failed (get_or values (c / 2) None) (c % 2 == 0) h k

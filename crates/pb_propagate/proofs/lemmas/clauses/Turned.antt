@@ -1,0 +1,119 @@
+-- Clauses in the order in which they are searched.
+use Rattle.std.proofs.Common.{◌≡◌, ℕ, zero, suc, ◌+◌, ◌*◌, ◌-◌, ◌<◌, ◌≤◌, ◌⊎◌, true, List, [], ◌∷◌, ◌++◌, length, get_or, take, refl, sym, ◌∙◌, ap, subst, arith, inl, inr, length-append}
+use Rattle.std.specs.Prelude.{◌/◌, Contains, Bool, Option, drop}
+use Rattle.std.proofs.lemmas.List.{take-append-drop, length-drop, get_or-drop, get_or-take, get_or_append_left, get_or-append_right, append-nil}
+use Rattle.std.proofs.lemmas.List.Elements.{All-contains, Contains-append_left, Contains-append_right, Contains-append_cases, Contains-get_or}
+use Rattle.std.proofs.Math.ListN.{drop_of_length-le}
+use Rattle.pb_propagate.specs.declared.clauses.lists.Watch.{Watch}
+use Rattle.pb_propagate.specs.engine.Clauses.Links.{list_at, watch_at}
+use Rattle.pb_propagate.specs.engine.Clauses.Truths.{false_at}
+use Rattle.pb_propagate.specs.engine.Clauses.Runs.{turned, all_turned, AreStored, IsUnit, IsBroken}
+
+pub turned-length : (start : ℕ) (xs : List ℕ) → length (turned start xs) ≡ length xs
+turned-length start xs = omega (arith, length-append (drop start xs) (take start xs), length-append (take start xs) (drop start xs), ap length (take-append-drop start xs))
+
+-- the literals up to the end, and those after it
+pub turned-early : (start k : ℕ) (xs : List ℕ) (d : ℕ) → start + k < length xs → get_or (turned start xs) k d ≡ get_or xs (start + k) d
+turned-early start k xs d h = get_or_append_left (drop start xs) (take start xs) d k (omega (arith, h, length-drop start xs)) ∙ get_or-drop start xs k d
+
+pub turned-late : (start k : ℕ) (xs : List ℕ) (d : ℕ) → length xs - start ≤ k → k < length xs → get_or (turned start xs) k d ≡ get_or xs (k - (length xs - start)) d
+turned-late start k xs d h less = get_or-append_right (drop start xs) (take start xs) (length xs - start) k d (length-drop start xs) h ∙ get_or-take start xs (k - (length xs - start)) d (omega (arith, h, less))
+
+-- a start past the end is the beginning
+pub turned-past : (start k : ℕ) (xs : List ℕ) (d : ℕ) → length xs ≤ start → get_or (turned start xs) k d ≡ get_or xs k d
+turned-past start k xs d h =
+    let none : drop start xs ≡ [] = drop_of_length-le xs h in
+    let all : take start xs ≡ xs = sym (ap (λ ys. take start xs ++ ys) none ∙ append-nil (take start xs)) ∙ take-append-drop start xs in
+    ap (λ ys. get_or (ys ++ take start xs) k d) none ∙ ap (λ ys. get_or ys k d) all
+
+-- they are the same literals
+pub turned-contains : (start : ℕ) (xs : List ℕ) (x : ℕ) → Contains xs x → Contains (turned start xs) x
+turned-contains start xs x h =
+    elim (Contains-append_cases (take start xs) (drop start xs) x (subst (λ ys. Contains ys x) (sym (take-append-drop start xs)) h)) [
+      | inl t ↦ Contains-append_right (drop start xs) (take start xs) x t
+      | inr d ↦ Contains-append_left (drop start xs) (take start xs) x d
+    ]
+
+pub contains-turned : (start : ℕ) (xs : List ℕ) (x : ℕ) → Contains (turned start xs) x → Contains xs x
+contains-turned start xs x h =
+    subst (λ ys. Contains ys x) (take-append-drop start xs) (elim (Contains-append_cases (drop start xs) (take start xs) x h) [
+      | inl d ↦ Contains-append_right (take start xs) (drop start xs) x d
+      | inr t ↦ Contains-append_left (take start xs) (drop start xs) x t
+    ])
+
+-- each clause
+pub turned-count : (starts : List ℕ) (clauses : List (List ℕ)) → length (all_turned starts clauses) ≡ length clauses
+turned-count starts [] = refl
+turned-count [] (xs ∷ clauses) = ap suc (turned-count [] clauses)
+turned-count (n ∷ starts) (xs ∷ clauses) = ap suc (turned-count starts clauses)
+
+pub turned-at : (starts : List ℕ) (clauses : List (List ℕ)) (s : ℕ) → list_at (all_turned starts clauses) s ≡ turned (get_or starts s 0) (list_at clauses s)
+turned-at [] [] s = refl
+turned-at (zero ∷ starts) [] zero = refl
+turned-at (suc n ∷ starts) [] zero = refl
+turned-at (n ∷ starts) [] (suc s) = turned-at starts [] s
+turned-at [] (xs ∷ clauses) zero = refl
+turned-at [] (xs ∷ clauses) (suc s) = turned-at [] clauses s
+turned-at (n ∷ starts) (xs ∷ clauses) zero = refl
+turned-at (n ∷ starts) (xs ∷ clauses) (suc s) = turned-at starts clauses s
+
+pub turned-size : (starts : List ℕ) (clauses : List (List ℕ)) (s : ℕ) → length (list_at (all_turned starts clauses) s) ≡ length (list_at clauses s)
+turned-size starts clauses s = ap length (turned-at starts clauses s) ∙ turned-length (get_or starts s 0) (list_at clauses s)
+
+module _ (starts : List ℕ) (clauses : List (List ℕ)) where
+  pub to-turned : (s x : ℕ) → Contains (list_at clauses s) x → Contains (list_at (all_turned starts clauses) s) x
+  to-turned s x h = subst (λ ys. Contains ys x) (sym (turned-at starts clauses s)) (turned-contains (get_or starts s 0) (list_at clauses s) x h)
+
+  pub from-turned : (s x : ℕ) → Contains (list_at (all_turned starts clauses) s) x → Contains (list_at clauses s) x
+  from-turned s x h = contains-turned (get_or starts s 0) (list_at clauses s) x (subst (λ ys. Contains ys x) (turned-at starts clauses s) h)
+
+  -- what holds of each literal in one order
+  each-from : (P : ℕ → Type 0) (s k d : ℕ) → ((j e : ℕ) → j < length (list_at (all_turned starts clauses) s) → P (get_or (list_at (all_turned starts clauses) s) j e)) → k < length (list_at clauses s) → P (get_or (list_at clauses s) k d)
+  each-from P s k d all h =
+      let x = get_or (list_at clauses s) k d in
+      let there = to-turned s x (Contains-get_or (list_at clauses s) k d h) in
+      All-contains P (list_at (all_turned starts clauses) s) x (λ j e less. all j e less) there
+
+  each-to : (P : ℕ → Type 0) (s k d : ℕ) → ((j e : ℕ) → j < length (list_at clauses s) → P (get_or (list_at clauses s) j e)) → k < length (list_at (all_turned starts clauses) s) → P (get_or (list_at (all_turned starts clauses) s) k d)
+  each-to P s k d all h =
+      let x = get_or (list_at (all_turned starts clauses) s) k d in
+      let there = from-turned s x (Contains-get_or (list_at (all_turned starts clauses) s) k d h) in
+      All-contains P (list_at clauses s) x (λ j e less. all j e less) there
+
+  pub stored-turned : (ws : List Watch) (ls : List (List ℕ)) → AreStored clauses ws ls → AreStored (all_turned starts clauses) ws ls
+  stored-turned ws ls h = record {
+    linked = h.linked;
+    pairs = h.pairs ∙ ap (λ n. 2 * n) (sym (turned-count starts clauses));
+    watched = λ e live. to-turned (e / 2) (watch_at ws e).literal (h.watched e live);
+    paired = h.paired;
+    apart = h.apart;
+    full = λ s some. h.full s (omega (arith, some, turned-size starts clauses s));
+    inside = λ s k d less. each-to (λ x. x < length ls) s k d (λ j e l. h.inside s j e l) less;
+  }
+
+  pub stored-back : (ws : List Watch) (ls : List (List ℕ)) → AreStored (all_turned starts clauses) ws ls → AreStored clauses ws ls
+  stored-back ws ls h = record {
+    linked = h.linked;
+    pairs = h.pairs ∙ ap (λ n. 2 * n) (turned-count starts clauses);
+    watched = λ e live. from-turned (e / 2) (watch_at ws e).literal (h.watched e live);
+    paired = h.paired;
+    apart = h.apart;
+    full = λ s some. h.full s (omega (arith, some, turned-size starts clauses s));
+    inside = λ s k d less. each-from (λ x. x < length ls) s k d (λ j e l. h.inside s j e l) less;
+  }
+
+  pub unit-back : (values : List (Option Bool)) (x : ℕ) → IsUnit values (all_turned starts clauses) x → IsUnit values clauses x
+  unit-back values x h = record {
+    slot = h.slot;
+    stands = from-turned h.slot x h.stands;
+    others = λ k d less. each-from (λ y. (false_at values y ≡ true) ⊎ (y ≡ x)) h.slot k d h.others less;
+    not_true = h.not_true;
+    not_false = h.not_false;
+  }
+
+  pub broken-back : (values : List (Option Bool)) → IsBroken values (all_turned starts clauses) → IsBroken values clauses
+  broken-back values h = record {
+    slot = h.slot;
+    some = omega (arith, h.some, turned-size starts clauses h.slot);
+    all = λ k d less. each-from (λ y. false_at values y ≡ true) h.slot k d h.all less;
+  }

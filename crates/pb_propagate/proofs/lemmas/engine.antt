@@ -1,0 +1,21 @@
+-- Lemmas of propagation.
+pub mod Assumed
+pub mod Bounds
+pub mod Bridge
+pub mod Derivations
+pub mod Ends
+pub mod Laws
+pub mod Literals
+pub mod VisitSteps
+pub mod Propagated
+pub mod Puts
+pub mod Rested
+pub mod Rests
+pub mod Runs
+pub mod Sources
+pub mod Spent
+pub mod Undone
+pub mod Values
+pub mod Wider
+pub mod Choices
+pub mod Completing

@@ -1,0 +1,98 @@
+-- The given literals, and what a completion from them is.
+use Rattle.std.specs.Prelude.{Option, Some, None}
+use Rattle.std.proofs.Common.{◌≡◌, ℕ, ◌+◌, ◌<◌, ◌||◌, ◌++◌, ◌∷◌, [], List, Bool, true, false, refl, sym, ◌∙◌, ap, inl, inr, length, get_or, take, arith}
+use Rattle.std.specs.Cmp.{both_ways as same_answers}
+use Rattle.std.proofs.lemmas.Bool.{both_ways, or_cases}
+use Rattle.std.proofs.lemmas.List.{take_more}
+use Rattle.pb_normal.specs.meaning.Form.{Form}
+use Rattle.pb_normal.specs.declared.numbered.NumberedLiteral.{NumberedLiteral}
+use Rattle.pb_normal.specs.meaning.Rules.{on, negation}
+use Rattle.pb_propagate.specs.engine.Engine.Lists.{Shape, same, has, says, holds, IsWithin, Conflicts, opposed as both, broken as low, begin as start}
+use Rattle.pb_propagate.specs.engine.Engine.Counts.{Adopted, kept, added, AreSingle, more}
+use Rattle.pb_propagate.specs.meaning.Propagation.{begin, MeetsConflict, IsCompletion}
+use Rattle.pb_propagate.specs.engine.Engine.Live.{value_says, Gives}
+use Rattle.pb_propagate.specs.engine.Engine.Rest.{IsRefuted, opposite as opposites, derived as from, IsEnded}
+use Rattle.pb_propagate.proofs.lemmas.engine.Literals.{literal, open_sum-within, has-none, has-get, has-push_old, has-push_new, push-within}
+use Rattle.pb_propagate.proofs.lemmas.engine.Bridge.{AreKept, Matches, only-same, Derived, derives, conflicts, is-closed, has-none as conflict-free}
+use Rattle.pb_propagate.proofs.lemmas.engine.Completing.{closed-none}
+use Rattle.pb_propagate.proofs.lemmas.engine.Values.{Agree, opposite}
+
+-- a literal was tried
+pub record Assumed (given list : List NumberedLiteral) (i : ℕ) : Type 0 where
+  pub within : IsWithin list given
+  pub covers : IsWithin (take i given) list
+  pub single : AreSingle list
+
+pub assumed-next : (given old new : List NumberedLiteral) (i : ℕ) (d : NumberedLiteral) → i < length given → has old (negation (get_or given i d)) ≡ false → Adopted (get_or given i d) old new → Assumed given old i → Assumed given new (i + 1)
+assumed-next given old _ i d inside free (kept done) a =
+    let l = get_or given i d in
+    let here : has old l ≡ true = elim (or_cases (has old l) (has old (negation l)) done) [
+      | inl there ↦ there
+      | inr opposed ↦ absurd (both_ways _ free opposed)
+    ] in
+    record {
+      within = a.within;
+      covers = λ k h. push-within (take i given) old l a.covers here k (sym (ap (λ xs. has xs k) (take_more given i d inside)) ∙ h);
+      single = a.single;
+    }
+assumed-next given old _ i d inside free (added absent opened) a =
+    let l = get_or given i d in
+    record {
+      within = push-within old given l a.within (has-get given i d inside);
+      covers = λ k h. push-within (take i given) (old ++ (l ∷ [])) l (λ m g. has-push_old old l m (a.covers m g)) (has-push_new old l) k (sym (ap (λ xs. has xs k) (take_more given i d inside)) ∙ h);
+      single = more l a.single absent;
+    }
+
+pub within-none : (list given : List NumberedLiteral) → list ≡ [] → IsWithin list given
+within-none list given e l h = absurd (both_ways _ (has-none l) (sym (ap (λ xs. has xs l) e) ∙ h))
+
+-- some of what is given falsifies a form
+pub given-refuted : (shapes : List Shape) (given list : List NumberedLiteral) → IsWithin list given → Conflicts shapes list → IsRefuted shapes given given
+given-refuted shapes given list within (both l here there) = opposites l (within l here) (within (negation l) there)
+given-refuted shapes given list within (low f among less) =
+    from (record { first = given; within = λ l h. h; covers = λ l h. h; derived = start }) (low f among (omega (arith, less, open_sum-within list given within f.terms)))
+
+-- the list as given
+pub on-has : (list : List NumberedLiteral) → Matches list list
+unfolding has
+on-has [] v n = refl
+on-has (l ∷ ls) v n = ap (λ b. b || on ls v n) (only-same l v n) ∙ ap (λ b. same l (literal v n) || b) (on-has ls v n)
+
+given-matches : (given first : List NumberedLiteral) → IsWithin first given → IsWithin given first → Matches given first
+given-matches given first w c v n =
+    on-has given v n ∙ same_answers (has given (literal v n)) (has first (literal v n)) (c (literal v n)) (w (literal v n))
+
+pub refuted-meets : (F : Form → Type 0) (shapes : List Shape) (given list : List NumberedLiteral) → AreKept F shapes → IsRefuted shapes given list → MeetsConflict F given
+refuted-meets F shapes given list a (opposites l here there) =
+    record { list = given; derived = begin; conflict = conflicts F shapes given given a (on-has given) (both l here there) }
+refuted-meets F shapes given list a (from d bad) =
+    let e = derives F shapes given d.first list a (given-matches given d.first d.within d.covers) d.derived in
+    record { list = e.list; derived = e.derived; conflict = conflicts F shapes e.list list a e.matches bad }
+
+ended-derived : (F : Form → Type 0) (shapes : List Shape) (given list : List NumberedLiteral) → AreKept F shapes → (e : IsEnded shapes given list) → Derived F given e.derived.first list
+ended-derived F shapes given list a e =
+    derives F shapes given e.derived.first list a (given-matches given e.derived.first e.derived.within e.derived.covers) e.derived.derived
+
+pub ended-free : (F : Form → Type 0) (shapes : List Shape) (given list : List NumberedLiteral) (values : List (Option Bool)) → AreKept F shapes → Agree values list → IsEnded shapes given list → MeetsConflict F given → ⊥
+ended-free F shapes given list values a g e =
+    let d = ended-derived F shapes given list a e in
+    closed-none F given d.list d.derived (is-closed F shapes d.list list a d.matches e.settled) (conflict-free F shapes d.list list a d.matches (λ l here. opposite values list l g here) e.settled)
+
+value-of : (o : Option Bool) (n : Bool) → holds o n ≡ value_says o n
+value-of None n = refl
+value-of (Some true) true = refl
+value-of (Some true) false = refl
+value-of (Some false) true = refl
+value-of (Some false) false = refl
+
+says-value : (values : List (Option Bool)) (v : ℕ) (n : Bool) → says values (literal v n) ≡ value_says (get_or values v None) n
+unfolding says
+says-value values v n = value-of (get_or values v None) n
+
+pub ended-completion : (F : Form → Type 0) (shapes : List Shape) (given list : List NumberedLiteral) (values copy : List (Option Bool)) → AreKept F shapes → Agree values list → copy ≡ values → IsEnded shapes given list → (list : List NumberedLiteral) × IsCompletion F given list × Gives list copy
+ended-completion F shapes given list values copy a g c e =
+    let d = ended-derived F shapes given list a e in (
+      d.list,
+      record { derived = d.derived; closed = is-closed F shapes d.list list a d.matches e.settled },
+      λ v n. d.matches v n ∙ g (literal v n) ∙ says-value values v n ∙ ap (λ xs. value_says (get_or xs v None) n) (sym c),
+    )

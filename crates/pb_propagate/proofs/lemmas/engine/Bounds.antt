@@ -1,0 +1,105 @@
+-- The number of visits of a propagation, in terms of the live forms.
+use Rattle.std.specs.Prelude.{sum_by, map, Option, Some, None, filter}
+use Rattle.std.proofs.Common.{suc, get_or, sym, subst, ◌≡◌, ℕ, ◌+◌, ◌-◌, ◌*◌, ◌^◌, ◌<◌, ◌≤◌, ◌∷◌, [], List, Bool, true, false, refl, ap, arith, inl, inr, length}
+use Rattle.std.proofs.lemmas.Bool.{cases_lt, cases_Bool}
+use Rattle.std.proofs.lemmas.List.{length-map}
+use Rattle.std.proofs.lemmas.List.Sums.{sum_by-cons}
+use Rattle.std.proofs.lemmas.List.Sorted.{length_permutation}
+use Rattle.pb_normal.specs.meaning.Form.{Form}
+use Rattle.pb_propagate.specs.declared.store.stored_form.StoredForm.{StoredForm}
+use Rattle.pb_propagate.specs.engine.Engine.Lists.{Shape}
+use Rattle.pb_propagate.specs.engine.Engine.Forms.{entry_of}
+use Rattle.pb_propagate.specs.engine.Engine.Counts.{AreFound}
+use Rattle.pb_propagate.specs.engine.Engine.Fields.{shapes_of, kept_shape}
+use Rattle.pb_propagate.specs.engine.Engine.Terms.{terms_of}
+use Rattle.pb_propagate.specs.engine.Engine.Live.{terms_in, one_in}
+use Rattle.pb_propagate.specs.engine.Engine.Rest.{IsSlot, AreSlots, eager_one}
+use Rattle.pb_propagate.specs.engine.Clauses.Links.{list_at}
+use Rattle.pb_propagate.specs.engine.Clauses.Shapes.{one_term, slot_shape, joined, AreJoined}
+use Rattle.pb_propagate.proofs.lemmas.clauses.Slots.{joined-none}
+
+-- the terms of the stored forms are those of the live ones
+slot-terms : (o : Option Form) (x : Shape) → IsSlot o x → length x.terms ≡ terms_in o
+slot-terms None x s = ap length s.0
+slot-terms (Some f) x s = omega (arith, length_permutation (map entry_of x.terms) f.terms s.terms, length-map x.terms entry_of)
+
+pub slots-terms : (os : List (Option Form)) (xs : List Shape) → AreSlots os xs → sum_by (λ f. length f.terms) xs ≡ sum_by terms_in os
+slots-terms [] [] a = refl
+slots-terms [] (x ∷ xs) a = absurd (let e : true ≡ false = a in cc)
+slots-terms (o ∷ os) [] a = absurd (let e : true ≡ false = a in cc)
+slots-terms (o ∷ os) (x ∷ xs) a =
+    omega (arith, slot-terms o x a.0, slots-terms os xs a.1, sum_by-cons (λ (f : Shape). length f.terms) x xs, sum_by-cons terms_in o os)
+
+-- the terms of the clauses and those of the occurrence lists
+abbrev AreBare : List Shape → List (List ℕ) → Type 0
+AreBare xs clauses = (s : ℕ) (d : Shape) → s < length xs → 0 < length (list_at clauses s) → ((get_or xs s d).terms ≡ []) × ((get_or xs s d).degree ≡ 0)
+
+terms-both : (xs : List Shape) (clauses : List (List ℕ)) → length clauses ≤ length xs → AreBare xs clauses → sum_by (λ f. length f.terms) (joined xs clauses) ≡ sum_by (λ f. length f.terms) xs + sum_by length clauses
+terms-both [] [] short bare = refl
+terms-both [] (codes ∷ clauses) short bare = absurd (omega (arith, short))
+terms-both (x ∷ xs) [] short bare = omega arith
+terms-both (x ∷ xs) (codes ∷ clauses) short bare =
+    let rest = terms-both xs clauses (omega (arith, short)) (λ s d less some. bare (suc s) d (omega (arith, less)) some) in
+    omega (arith, rest, first codes (λ some. bare 0 x (omega arith) some), sum_by-cons (λ (f : Shape). length f.terms) x xs, sum_by-cons (λ (f : Shape). length f.terms) (slot_shape x codes) (joined xs clauses), sum_by-cons {X = List ℕ} length codes clauses)
+  where
+    first : (ys : List ℕ) → (0 < length ys → (x.terms ≡ []) × (x.degree ≡ 0)) → length (slot_shape x ys).terms ≡ length x.terms + length ys
+    first [] h = omega arith
+    first (y ∷ ys) h = omega (arith, ap length (h (omega arith)).0, length-map (y ∷ ys) one_term)
+
+pub joined-terms : (xs : List Shape) (clauses : List (List ℕ)) → AreJoined xs clauses → sum_by (λ f. length f.terms) (joined xs clauses) ≡ sum_by (λ f. length f.terms) xs + sum_by length clauses
+joined-terms xs clauses j = terms-both xs clauses j.short j.apart
+
+-- a form that may propagate with nothing assigned is live
+live-one : (p : Option Form) (x : StoredForm) → IsSlot p (kept_shape x) → eager_one x ≤ one_in p
+live-one p x s = elim (cases_Bool x.eager) [
+  | inr idle ↦ rw idle (omega arith)
+  | inl eager ↦ rw eager (live p s (x.busy eager))
+]
+  where
+    live : (q : Option Form) → IsSlot q (kept_shape x) → 0 < x.degree + length (terms_of x.terms) → 1 ≤ one_in q
+    live None e some = absurd (omega (arith, some, ap length e.0, e.1))
+    live (Some f) e some = omega arith
+
+bare-none : (x : StoredForm) → terms_of x.terms ≡ [] → x.degree ≡ 0 → eager_one x ≡ 0
+bare-none x h k = elim (cases_Bool x.eager) [
+  | inr idle ↦ rw idle refl
+  | inl eager ↦ absurd (let some = x.busy eager in omega (arith, some, ap length h, k))
+]
+
+eager-both : (os : List (Option Form)) (keep : List StoredForm) (clauses : List (List ℕ)) → AreBare (shapes_of keep) clauses → AreSlots os (joined (shapes_of keep) clauses) → sum_by eager_one keep ≤ sum_by one_in os
+eager-both os [] clauses bare a = omega arith
+eager-both [] (k ∷ ks) [] bare a = absurd (let e : true ≡ false = a in cc)
+eager-both [] (k ∷ ks) (codes ∷ clauses) bare a = absurd (let e : true ≡ false = a in cc)
+eager-both (o ∷ os) (k ∷ ks) [] bare a =
+    let rest = eager-both os ks [] (λ s d less some. absurd (omega (arith, some))) (subst (AreSlots os) (sym (joined-none (shapes_of ks))) a.1) in
+    omega (arith, live-one o k a.0, rest, sum_by-cons eager_one k ks, sum_by-cons one_in o os)
+eager-both (o ∷ os) (k ∷ ks) (codes ∷ clauses) bare a =
+    let rest = eager-both os ks clauses (λ s d less some. bare (suc s) d (omega (arith, less)) some) a.1 in
+    omega (arith, first codes a.0 (λ some. bare 0 (kept_shape k) (omega arith) some), rest, sum_by-cons eager_one k ks, sum_by-cons one_in o os)
+  where
+    first : (ys : List ℕ) → IsSlot o (slot_shape (kept_shape k) ys) → (0 < length ys → (terms_of k.terms ≡ []) × (k.degree ≡ 0)) → eager_one k ≤ one_in o
+    first [] s h = live-one o k s
+    first (y ∷ ys) s h = let e = h (omega arith) in omega (arith, bare-none k e.0 e.1)
+
+pub slots-eager : (os : List (Option Form)) (keep : List StoredForm) (clauses : List (List ℕ)) → AreJoined (shapes_of keep) clauses → AreSlots os (joined (shapes_of keep) clauses) → sum_by eager_one keep ≤ sum_by one_in os
+slots-eager os keep clauses j a = eager-both os keep clauses j.apart a
+
+-- no more forms wait than are on the list
+pub filter-few : (p : ℕ → Bool) (xs : List ℕ) → length (filter p xs) ≤ length xs
+filter-few p [] = omega arith
+filter-few p (x ∷ xs) = by_head (p x) refl (filter-few p xs)
+  where
+    by_head : (b : Bool) → p x ≡ b → length (filter p xs) ≤ length xs → length (filter p (x ∷ xs)) ≤ length (x ∷ xs)
+    by_head true e h = rw e (omega (arith, h))
+    by_head false e h = rw e (omega (arith, h))
+
+-- the list is no longer than the number of visits
+pub found-least : (n v n0 v0 : ℕ) → n0 ≡ 0 → v0 ≡ 0 → AreFound n0 n v0 v → n < 2 ^ 64 → n ≤ v
+found-least n v n0 v0 e f found small =
+    elim (cases_lt v (2 ^ 64 - 1)) [
+      | inl below ↦ let few = found below in omega (arith, few, e, f)
+      | inr at_top ↦ omega (arith, at_top, small)
+    ]
+
+pub most-visits : (v c0 v0 w n0 l c t k f : ℕ) → v + c0 ≤ v0 + (w - n0) + 2 * l + c + 3 * k → v0 ≡ 0 → c ≤ t → l ≡ t → w ≤ f → v ≤ 3 * (t + k) + f
+most-visits v c0 v0 w n0 l c t k f h a b d e = omega (arith, h, a, b, d, e)

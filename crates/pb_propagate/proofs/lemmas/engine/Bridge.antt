@@ -1,0 +1,206 @@
+-- The engine's lists and forms are those of the definitions.
+use Rattle.std.specs.Prelude.{sum_by, map, Contains}
+use Rattle.std.proofs.Common.{◌≡◌, ℕ, suc, ◌+◌, ◌<◌, ◌⊎◌, ◌++◌, ◌∷◌, [], List, Bool, true, false, not, ◌||◌, refl, sym, ◌∙◌, ap, subst, arith, inl, inr, length, length-append}
+use Rattle.std.specs.Cmp.{both_ways as same_answers}
+use Rattle.std.proofs.Math.Bool.{or_comm}
+use Rattle.std.proofs.lemmas.Bool.{cases_Bool, both_ways}
+use Rattle.std.proofs.lemmas.List.{get_or-map, length-map}
+use Rattle.std.proofs.lemmas.List.Sums.{sum_by-cons}
+use Rattle.std.proofs.lemmas.List.Sorted.{IsPermutation-sym, sum_by-IsPermutation, Contains-permutation}
+use Rattle.pb_normal.specs.declared.entry.Entry.{Entry}
+use Rattle.pb_normal.specs.meaning.Form.{Form, IsRising, total, counted}
+use Rattle.pb_normal.specs.meaning.Rules.{only, on, negation}
+use Rattle.pb_normal.specs.declared.numbered.NumberedLiteral.{NumberedLiteral}
+use Rattle.pb_propagate.specs.declared.term.Term.{Term}
+use Rattle.pb_propagate.specs.engine.Engine.Forms.{entry_of, IsKeptAs}
+use Rattle.pb_propagate.specs.engine.Engine.Lists.{Shape, same, has, open_part, open_sum, IsSettled, Puts, Derives, begin as start, put as more, Conflicts, opposed as both, broken as low}
+use Rattle.pb_propagate.specs.meaning.Propagation.{opened, MayPropagate, Derivation, begin, put, HasConflict, opposed, broken}
+use Rattle.pb_propagate.proofs.lemmas.engine.Choices.{total-has, rising-positive, only-true, only-self}
+use Rattle.pb_propagate.proofs.lemmas.engine.Literals.{literal, same-true, same-refl, has-push, open_part-falsified, open_part-open, literal_ext}
+use Rattle.pb_propagate.proofs.lemmas.engine.Derivations.{one_itself}
+use Rattle.pb_propagate.proofs.lemmas.engine.Sources.{source}
+
+-- the first list has the literals of the second
+abbrev pub Matches : List NumberedLiteral → List NumberedLiteral → Type 0
+Matches new old = (v : ℕ) (n : Bool) → on new v n ≡ has old (literal v n)
+
+pub only-same : (l : NumberedLiteral) (v : ℕ) (n : Bool) → only l.variable l.negated v n ≡ same l (literal v n)
+only-same l v n = same_answers (only l.variable l.negated v n) (same l (literal v n))
+    (λ h. let parts = only-true l.variable l.negated v n h in rw (parts.0, parts.1) (ap (same l) (literal_ext (literal l.variable l.negated) l refl refl) ∙ same-refl l))
+    (λ h. let is = same-true l (literal v n) h in rw (ap (λ (k : NumberedLiteral). k.variable) is, ap (λ (k : NumberedLiteral). k.negated) is) (only-self v n))
+
+pub matches-put : (new old : List NumberedLiteral) (l : NumberedLiteral) → Matches new old → Matches (l ∷ new) (old ++ (l ∷ []))
+matches-put new old l m v n =
+    ap (λ b. b || on new v n) (only-same l v n) ∙ ap (λ b. same l (literal v n) || b) (m v n) ∙ or_comm (same l (literal v n)) (has old (literal v n)) ∙ sym (has-push old l (literal v n))
+
+pub matches-at : (new old : List NumberedLiteral) (l : NumberedLiteral) → Matches new old → on new l.variable l.negated ≡ has old l
+matches-at new old l m = m l.variable l.negated ∙ ap (has old) (literal_ext (literal l.variable l.negated) l refl refl)
+
+-- sums
+total-sum : (p : ℕ → Bool → Bool) (es : List Entry) → total p es ≡ sum_by (counted p) es
+total-sum p [] = refl
+total-sum p (e ∷ es) = omega (arith, total-sum p es, sum_by-cons (counted p) e es)
+
+sum-entries : (f : Entry → ℕ) (g : Term → ℕ) → ((t : Term) → f (entry_of t) ≡ g t) → (ts : List Term) → sum_by f (map entry_of ts) ≡ sum_by g ts
+sum-entries f g e [] = refl
+sum-entries f g e (t ∷ ts) = omega (arith, sum-entries f g e ts, e t, sum_by-cons f (entry_of t) (map entry_of ts), sum_by-cons g t ts)
+
+counted-open : (new old : List NumberedLiteral) → Matches new old → (t : Term) → counted (opened new) (entry_of t) ≡ open_part old t
+counted-open new old m t =
+    elim (cases_Bool (has old (negation t.literal))) [
+      | inl gone ↦ counted-false new t (m t.literal.variable (not t.literal.negated) ∙ gone) ∙ sym (open_part-falsified old t gone)
+      | inr there ↦ counted-true new t (m t.literal.variable (not t.literal.negated) ∙ there) ∙ sym (open_part-open old t there)
+    ]
+  where
+    counted-false : (xs : List NumberedLiteral) (u : Term) → on xs u.literal.variable (not u.literal.negated) ≡ true → counted (opened xs) (entry_of u) ≡ 0
+    counted-false xs u h = rw h refl
+
+    counted-true : (xs : List NumberedLiteral) (u : Term) → on xs u.literal.variable (not u.literal.negated) ≡ false → counted (opened xs) (entry_of u) ≡ u.coefficient
+    counted-true xs u h = rw h refl
+
+pub total-open : (f : Form) (x : Shape) (new old : List NumberedLiteral) → IsKeptAs f x → Matches new old → total (opened new) f.terms ≡ open_sum old x.terms
+total-open f x new old k m =
+    omega (arith, total-sum (opened new) f.terms, sum_by-IsPermutation (counted (opened new)) (map entry_of x.terms) f.terms k.terms, sum-entries (counted (opened new)) (open_part old) (counted-open new old m) x.terms)
+
+-- beyond its variable a literal has no coefficient
+rising-past : (n v : ℕ) (b : Bool) (es : List Entry) → v < n → IsRising n es → total (only v b) es ≡ 0
+rising-past n v b [] h r = refl
+rising-past n v b (x ∷ xs) h r =
+    let rest = rising-past (x.variable + 1) v b xs (omega (arith, h, r.0)) r.2 in
+    elim (cases_Bool (only v b x.variable x.negated)) [
+      | inl here ↦ let is = only-true v b x.variable x.negated here in absurd (omega (arith, is.0, h, r.0))
+      | inr other ↦ let none : counted (only v b) x ≡ 0 = rw other refl in omega (arith, rest, none)
+    ]
+
+rising-only : (n v : ℕ) (b : Bool) (es : List Entry) → IsRising n es → 0 < total (only v b) es → Contains es (record { variable = v; negated = b; coefficient = total (only v b) es })
+rising-only n v b [] r h = absurd (omega (arith, h))
+rising-only n v b (x ∷ xs) r h =
+    elim (cases_Bool (only v b x.variable x.negated)) [
+      | inl here ↦
+          let is = only-true v b x.variable x.negated here in
+          let past = rising-past (x.variable + 1) v b xs (omega (arith, is.0)) r.2 in
+          let mine : counted (only v b) x ≡ x.coefficient = rw here refl in
+          (0, omega arith, entry_ext x v b (total (only v b) (x ∷ xs)) is.0 is.1 (omega (arith, past, mine)))
+      | inr other ↦
+          let none : counted (only v b) x ≡ 0 = rw other refl in
+          let same_total : total (only v b) (x ∷ xs) ≡ total (only v b) xs = omega (arith, none) in
+          let rest = rising-only (x.variable + 1) v b xs r.2 (omega (arith, h, same_total)) in
+          later x xs (record { variable = v; negated = b; coefficient = total (only v b) xs }) (record { variable = v; negated = b; coefficient = total (only v b) (x ∷ xs) }) (entry_ext (record { variable = v; negated = b; coefficient = total (only v b) xs }) v b (total (only v b) (x ∷ xs)) refl refl (sym same_total)) rest
+    ]
+  where
+    made : ℕ → Bool → ℕ → Entry
+    made a c d = record { variable = a; negated = c; coefficient = d }
+
+    entry_ext : (y : Entry) (a : ℕ) (c : Bool) (d : ℕ) → y.variable ≡ a → y.negated ≡ c → y.coefficient ≡ d → y ≡ record { variable = a; negated = c; coefficient = d }
+    entry_ext y a c d e f g = rw (← e, ← f, ← g) refl
+
+    later : (y : Entry) (ys : List Entry) (e e' : Entry) → e ≡ e' → Contains ys e → Contains (y ∷ ys) e'
+    later y ys e e' s (k, inside, is) = subst (Contains (y ∷ ys)) s (suc k, omega (arith, inside), is)
+
+-- the stored forms are the set's, each perhaps in another order, and some empty ones
+pub record AreKept (F : Form → Type 0) (shapes : List Shape) : Type 0 where
+  pub forth : (x : Shape) → Contains shapes x → ((f : Form) × F f × IsKeptAs f x) ⊎ ((x.terms ≡ []) × (x.degree ≡ 0))
+  pub back : (f : Form) → F f → (x : Shape) × Contains shapes x × IsKeptAs f x
+
+entry-contains : (f : Form) (x : Shape) (t : Term) → IsKeptAs f x → Contains x.terms t → Contains f.terms (entry_of t)
+entry-contains f x t k (i, inside, is) =
+    let mapped : Contains (map entry_of x.terms) (entry_of t) = (i, omega (arith, inside, length-map x.terms entry_of), get_or-map entry_of x.terms i t (entry_of t) inside ∙ ap entry_of is) in
+    Contains-permutation (map entry_of x.terms) f.terms (entry_of t) k.terms mapped
+
+pub may-put : (F : Form → Type 0) (shapes : List Shape) (new old : List NumberedLiteral) (l : NumberedLiteral) → AreKept F shapes → Matches new old → Puts shapes old l → MayPropagate F new l
+may-put F shapes new old l a m p =
+    elim (a.forth p.form p.among) [
+      | inr empty ↦ absurd (no_term p.form.terms empty.0 p.term)
+      | inl found ↦
+          let f = found.0 in
+          let k = found.2 in
+          let t : Term = record { literal = l; coefficient = p.coefficient } in
+          let mine = entry-contains f p.form t k p.term in
+          let some = total-has (only l.variable l.negated) f.terms (entry_of t) mine (only-self l.variable l.negated) in
+          let positive = rising-positive 0 f.terms (entry_of t) k.normal.ordered mine in
+          record {
+            absent = matches-at new old l m ∙ p.absent;
+            not_falsified = m l.variable (not l.negated) ∙ p.not_falsified;
+            form = f;
+            among = found.1;
+            stands = omega (arith, some, positive);
+            forced = omega (arith, total-open f p.form new old k m, p.forced, k.degree, some);
+          }
+    ]
+  where
+    no_term : (ts : List Term) → ts ≡ [] → Contains ts (record { literal = l; coefficient = p.coefficient }) → ⊥
+    no_term ts e (i, inside, is) = omega (arith, inside, ap length e)
+
+pub record Derived (F : Form → Type 0) (given beginning old : List NumberedLiteral) : Type 0 where
+  pub list : List NumberedLiteral
+  pub count : length list + length beginning ≡ length old + length given
+  pub derived : Derivation F given list
+  pub matches : Matches list old
+
+pub derives : (F : Form → Type 0) (shapes : List Shape) (given first : List NumberedLiteral) (old : List NumberedLiteral) → AreKept F shapes → Matches given first → Derives shapes first old → Derived F given first old
+derives F shapes given first _ a m start = record { list = given; count = omega arith; derived = begin; matches = m }
+derives F shapes given first _ a m (more {list = earlier} l d p) =
+    let before = derives F shapes given first earlier a m d in
+    record {
+      list = l ∷ before.list;
+      count = omega (arith, before.count, length-append earlier (l ∷ []));
+      derived = put l before.derived (may-put F shapes before.list earlier l a before.matches p);
+      matches = matches-put before.list earlier l before.matches;
+    }
+
+pub conflicts : (F : Form → Type 0) (shapes : List Shape) (new old : List NumberedLiteral) → AreKept F shapes → Matches new old → Conflicts shapes old → HasConflict F new
+conflicts F shapes new old a m (both l here there) = by_sign l.negated refl
+  where
+    on-at : (b : Bool) → l.negated ≡ b → on new l.variable b ≡ true
+    on-at b e = m l.variable b ∙ ap (has old) (literal_ext (literal l.variable b) l refl (sym e)) ∙ here
+
+    on-not : (b : Bool) → l.negated ≡ b → on new l.variable (not b) ≡ true
+    on-not b e = m l.variable (not b) ∙ ap (has old) (literal_ext (literal l.variable (not b)) (negation l) refl (ap not (sym e))) ∙ there
+
+    by_sign : (b : Bool) → l.negated ≡ b → HasConflict F new
+    by_sign true e = opposed l.variable (on-at true e) (on-not true e)
+    by_sign false e = opposed l.variable (on-not false e) (on-at false e)
+conflicts F shapes new old a m (low x among less) =
+    elim (a.forth x among) [
+      | inr empty ↦ absurd (omega (arith, empty.1, less))
+      | inl found ↦ broken found.0 found.1 (omega (arith, total-open found.0 x new old found.2 m, less, found.2.degree))
+    ]
+
+-- if each stored form is settled, the list is closed and has no conflict
+pub is-closed : (F : Form → Type 0) (shapes : List Shape) (new old : List NumberedLiteral) → AreKept F shapes → Matches new old → ((x : Shape) → Contains shapes x → IsSettled x old) → (l : NumberedLiteral) → MayPropagate F new l → ⊥
+is-closed F shapes new old a m settled l p =
+    let found = a.back p.form p.among in
+    let x = found.0 in
+    let k = found.2 in
+    let c = total (only l.variable l.negated) p.form.terms in
+    let entry = rising-only 0 l.variable l.negated p.form.terms k.normal.ordered p.stands in
+    let back = Contains-permutation p.form.terms (map entry_of x.terms) (record { variable = l.variable; negated = l.negated; coefficient = c }) (IsPermutation-sym (map entry_of x.terms) p.form.terms k.terms) entry in
+    let term : Contains x.terms (record { literal = l; coefficient = c }) = term-back x.terms c back in
+    (settled x found.1).idle l (record {
+      absent = sym (matches-at new old l m) ∙ p.absent;
+      not_falsified = sym (m l.variable (not l.negated)) ∙ p.not_falsified;
+      form = x;
+      among = one_itself x;
+      coefficient = c;
+      term = term;
+      forced = omega (arith, total-open p.form x new old k m, p.forced, k.degree);
+    })
+  where
+    term_ext : (t : Term) (c : ℕ) → entry_of t ≡ record { variable = l.variable; negated = l.negated; coefficient = c } → t ≡ record { literal = l; coefficient = c }
+    term_ext t c e =
+        let same_literal : t.literal ≡ l = literal_ext t.literal l (ap (λ (y : Entry). y.variable) e) (ap (λ (y : Entry). y.negated) e) in
+        let same_weight : t.coefficient ≡ c = ap (λ (y : Entry). y.coefficient) e in
+        rw (← same_literal, ← same_weight) refl
+
+    term-back : (ts : List Term) (c : ℕ) → Contains (map entry_of ts) (record { variable = l.variable; negated = l.negated; coefficient = c }) → Contains ts (record { literal = l; coefficient = c })
+    term-back ts c (i, inside, is) =
+        let from = source entry_of ts i (record { variable = l.variable; negated = l.negated; coefficient = c }) inside is in
+        let same_term = term_ext from.element c from.value in
+        (i, from.inside, from.at_place (record { literal = l; coefficient = c }) ∙ same_term)
+
+pub has-none : (F : Form → Type 0) (shapes : List Shape) (new old : List NumberedLiteral) → AreKept F shapes → Matches new old → ((l : NumberedLiteral) → has old l ≡ true → has old (negation l) ≡ false) → ((x : Shape) → Contains shapes x → IsSettled x old) → HasConflict F new → ⊥
+has-none F shapes new old a m single settled (opposed v here there) =
+    both_ways _ (single (literal v true) (sym (m v true) ∙ here)) (sym (m v false) ∙ there)
+has-none F shapes new old a m single settled (broken f among less) =
+    let found = a.back f among in
+    absurd (omega (arith, (settled found.0 found.1).met, total-open f found.0 new old found.2 m, less, found.2.degree))

@@ -1,0 +1,65 @@
+-- Sums over choices of literals. Offered to other crates.
+use Rattle.std.specs.Prelude.{Contains}
+use Rattle.std.proofs.Common.{zero, suc, ◌<◌, ◌∙◌, ap, ◌≡◌, ℕ, ◌+◌, ◌≤◌, Bool, true, false, not, cond, eqb, List, [], ◌∷◌, refl, sym, arith, eq-eqb}
+use Rattle.std.proofs.lemmas.Bool.{eqb-true, and_parts}
+use Rattle.pb_normal.specs.declared.entry.Entry.{Entry}
+use Rattle.pb_normal.specs.meaning.Form.{IsRising, total, counted}
+use Rattle.pb_normal.specs.meaning.Rules.{only}
+
+-- two disjoint choices, both within a third
+one_fits : (p r q : Bool) (c : ℕ) → (p ≡ true → q ≡ true) → (r ≡ true → q ≡ true) → (p ≡ true → r ≡ true → ⊥) → cond p c 0 + cond r c 0 ≤ cond q c 0
+one_fits true true q c f g h = absurd (h refl refl)
+one_fits true false true c f g h = omega arith
+one_fits true false false c f g h = absurd (let e = f refl in cc)
+one_fits false true true c f g h = omega arith
+one_fits false true false c f g h = absurd (let e = g refl in cc)
+one_fits false false q c f g h = omega arith
+
+pub total-fits : (p r q : ℕ → Bool → Bool) → ((w : ℕ) (m : Bool) → p w m ≡ true → q w m ≡ true) → ((w : ℕ) (m : Bool) → r w m ≡ true → q w m ≡ true) → ((w : ℕ) (m : Bool) → p w m ≡ true → r w m ≡ true → ⊥) → (ts : List Entry) → total p ts + total r ts ≤ total q ts
+total-fits p r q f g h [] = omega arith
+total-fits p r q f g h (t ∷ ts) =
+    omega (arith, total-fits p r q f g h ts, one_fits (p t.variable t.negated) (r t.variable t.negated) (q t.variable t.negated) t.coefficient (f t.variable t.negated) (g t.variable t.negated) (h t.variable t.negated))
+
+one_within : (p q : Bool) (c : ℕ) → (p ≡ true → q ≡ true) → cond p c 0 ≤ cond q c 0
+one_within true true c f = omega arith
+one_within true false c f = absurd (let e = f refl in cc)
+one_within false q c f = omega arith
+
+pub total-within : (p q : ℕ → Bool → Bool) → ((w : ℕ) (m : Bool) → p w m ≡ true → q w m ≡ true) → (ts : List Entry) → total p ts ≤ total q ts
+total-within p q f [] = omega arith
+total-within p q f (t ∷ ts) = omega (arith, total-within p q f ts, one_within (p t.variable t.negated) (q t.variable t.negated) t.coefficient (f t.variable t.negated))
+
+-- the one literal
+sign_same : (n m : Bool) → cond n m (not m) ≡ true → m ≡ n
+sign_same true true h = refl
+sign_same true false h = h
+sign_same false true h = sym h
+sign_same false false h = refl
+
+pub only-true : (v : ℕ) (n : Bool) (w : ℕ) (m : Bool) → only v n w m ≡ true → (w ≡ v) × (m ≡ n)
+only-true v n w m h =
+    let parts = and_parts (eqb w v) (cond n m (not m)) h in
+    (eqb-true w v parts.0, sign_same n m parts.1)
+
+sign_self : (n : Bool) → cond n n (not n) ≡ true
+sign_self true = refl
+sign_self false = refl
+
+pub only-self : (v : ℕ) (n : Bool) → only v n v n ≡ true
+only-self v n = rw (eq-eqb v v refl) (sign_self n)
+
+-- an entry counts for the literals that are chosen
+pub total-has : (p : ℕ → Bool → Bool) (es : List Entry) (e : Entry) → Contains es e → p e.variable e.negated ≡ true → e.coefficient ≤ total p es
+total-has p [] e (k, inside, is) h = absurd (omega (arith, inside))
+total-has p (x ∷ xs) e (zero, inside, is) h =
+    let whole : counted p x ≡ e.coefficient = ap (counted p) is ∙ rw h refl in
+    omega (arith, whole)
+total-has p (x ∷ xs) e (suc k, inside, is) h =
+    let rest = total-has p xs e (k, omega (arith, inside), is) h in
+    omega (arith, rest)
+
+-- the entries of an increasing list count
+pub rising-positive : (n : ℕ) (es : List Entry) (e : Entry) → IsRising n es → Contains es e → 0 < e.coefficient
+rising-positive n [] e r (k, inside, is) = absurd (omega (arith, inside))
+rising-positive n (x ∷ xs) e r (zero, inside, is) = omega (arith, r.1, ap (λ (y : Entry). y.coefficient) is)
+rising-positive n (x ∷ xs) e r (suc k, inside, is) = rising-positive (x.variable + 1) xs e r.2 (k, omega (arith, inside), is)

@@ -1,0 +1,139 @@
+-- Literals on a list, tested and counted. Offered to other crates.
+use Rattle.std.specs.Prelude.{◌==◌, ◌||◌, Bool, true, false, not, Contains, sum_by}
+use Rattle.std.specs.Bool.{beq}
+use Rattle.std.specs.List.{list_any}
+use Rattle.std.proofs.Common.{◌≡◌, ℕ, zero, suc, ◌+◌, ◌<◌, ◌≤◌, ◌⊎◌, ◌++◌, ◌∷◌, [], List, length, get_or, refl, sym, ◌∙◌, ap, inl, inr, arith, eq-eqb}
+use Rattle.std.proofs.Math.Bool.{or-false, not-not}
+use Rattle.std.proofs.lemmas.Bool.{cases_Bool, eqb-true, and_parts, or_cases, or_left, or_right, both_ways}
+use Rattle.std.proofs.lemmas.List.Folds.{list_any-append}
+use Rattle.std.proofs.lemmas.List.Sums.{sum_by-le-sum_by, sum_by-cons}
+use Rattle.pb_normal.specs.declared.numbered.NumberedLiteral.{NumberedLiteral}
+use Rattle.pb_normal.specs.meaning.Rules.{negation}
+use Rattle.pb_propagate.specs.declared.term.Term.{Term}
+use Rattle.pb_propagate.specs.engine.Engine.Lists.{same, has, open_part, open_sum, IsWithin}
+
+pub beq-true : (a b : Bool) → beq a b ≡ true → a ≡ b
+beq-true true true h = refl
+beq-true false false h = refl
+beq-true true false h = cc
+beq-true false true h = cc
+
+pub beq-refl : (a : Bool) → beq a a ≡ true
+beq-refl true = refl
+beq-refl false = refl
+
+pub beq-not : (a b : Bool) → beq (not a) b ≡ not (beq a b)
+beq-not true true = refl
+beq-not true false = refl
+beq-not false true = refl
+beq-not false false = refl
+
+abbrev pub literal : ℕ → Bool → NumberedLiteral
+literal v n = record { variable = v; negated = n }
+
+pub literal_ext : (a b : NumberedLiteral) → a.variable ≡ b.variable → a.negated ≡ b.negated → a ≡ b
+literal_ext a b v n =
+    let first : literal a.variable a.negated ≡ literal b.variable a.negated = ap (λ x. literal x a.negated) v in
+    let second : literal b.variable a.negated ≡ literal b.variable b.negated = ap (λ x. literal b.variable x) n in
+    first ∙ second
+
+pub same-true : (a b : NumberedLiteral) → same a b ≡ true → a ≡ b
+unfolding same
+same-true a b h =
+    let parts = and_parts (a.variable == b.variable) (beq a.negated b.negated) h in
+    literal_ext a b (eqb-true a.variable b.variable parts.0) (beq-true a.negated b.negated parts.1)
+
+pub same-refl : (a : NumberedLiteral) → same a a ≡ true
+unfolding same
+same-refl a = rw (eq-eqb a.variable a.variable refl, beq-refl a.negated)
+
+pub negation-negation : (l : NumberedLiteral) → negation (negation l) ≡ l
+negation-negation l = literal_ext _ _ refl (not-not l.negated)
+
+-- one more literal
+pub has-push : (xs : List NumberedLiteral) (l k : NumberedLiteral) → has (xs ++ (l ∷ [])) k ≡ (has xs k || same l k)
+unfolding has
+has-push xs l k =
+    let split = list_any-append (λ x. same x k) xs (l ∷ []) in
+    rw split (ap (λ b. has xs k || b) (or-false (same l k)))
+
+pub has-none : (k : NumberedLiteral) → has [] k ≡ false
+unfolding has
+has-none k = refl
+
+pub has-push_old : (xs : List NumberedLiteral) (l k : NumberedLiteral) → has xs k ≡ true → has (xs ++ (l ∷ [])) k ≡ true
+has-push_old xs l k h = has-push xs l k ∙ or_left (has xs k) (same l k) h
+
+pub has-push_new : (xs : List NumberedLiteral) (l : NumberedLiteral) → has (xs ++ (l ∷ [])) l ≡ true
+has-push_new xs l = has-push xs l l ∙ or_right (has xs l) (same l l) (same-refl l)
+
+pub has-push_cases : (xs : List NumberedLiteral) (l k : NumberedLiteral) → has (xs ++ (l ∷ [])) k ≡ true → (has xs k ≡ true) ⊎ (l ≡ k)
+has-push_cases xs l k h =
+    elim (or_cases (has xs k) (same l k) (sym (has-push xs l k) ∙ h)) [
+      | inl old ↦ inl old
+      | inr new ↦ inr (same-true l k new)
+    ]
+
+pub push-within : (xs ys : List NumberedLiteral) (l : NumberedLiteral) → IsWithin xs ys → has ys l ≡ true → IsWithin (xs ++ (l ∷ [])) ys
+push-within xs ys l w here k h =
+    elim (has-push_cases xs l k h) [
+      | inl old ↦ w k old
+      | inr new ↦ rw new at here
+    ]
+
+-- a longer list opens no more
+pub open_part-falsified : (list : List NumberedLiteral) (t : Term) → has list (negation t.literal) ≡ true → open_part list t ≡ 0
+unfolding open_part
+open_part-falsified list t h = rw h
+
+pub open_part-open : (list : List NumberedLiteral) (t : Term) → has list (negation t.literal) ≡ false → open_part list t ≡ t.coefficient
+unfolding open_part
+open_part-open list t h = rw h
+
+pub open_part-within : (a b : List NumberedLiteral) → IsWithin a b → (t : Term) → open_part b t ≤ open_part a t
+open_part-within a b w t =
+    elim (cases_Bool (has b (negation t.literal))) [
+      | inl gone ↦ rw (open_part-falsified b t gone) (omega arith)
+      | inr there ↦
+          elim (cases_Bool (has a (negation t.literal))) [
+            | inl gone ↦ absurd (both_ways _ there (w (negation t.literal) gone))
+            | inr here ↦ rw (open_part-open b t there, open_part-open a t here) (omega arith)
+          ]
+    ]
+
+pub open_sum-within : (a b : List NumberedLiteral) → IsWithin a b → (terms : List Term) → open_sum b terms ≤ open_sum a terms
+open_sum-within a b w terms =
+    sum_by-le-sum_by (open_part b) (open_part a) terms (open_part-within a b w)
+
+shuffle_here : (fx gx a b : ℕ) → a ≤ b → (fx + a) + gx ≤ (gx + b) + fx
+shuffle_here fx gx a b h = omega arith
+
+shuffle_there : (fx gx a b p q : ℕ) → fx ≤ gx → a + q ≤ b + p → (fx + a) + q ≤ (gx + b) + p
+shuffle_there fx gx a b p q h k = omega arith
+
+-- if one part of a sum is lower, and no other is higher
+sum_by-lower_at : {X : Type 0} (f g : X → ℕ) → ((x : X) → f x ≤ g x) → (xs : List X) (k : ℕ) (d : X) → k < length xs → sum_by f xs + g (get_or xs k d) ≤ sum_by g xs + f (get_or xs k d)
+sum_by-lower_at f g le [] k d h = absurd (omega (arith, h))
+sum_by-lower_at f g le (x ∷ xs) zero d h =
+    let low : sum_by f xs ≤ sum_by g xs = sum_by-le-sum_by f g xs le in
+    rw (sum_by-cons f x xs, sum_by-cons g x xs) (shuffle_here (f x) (g x) (sum_by f xs) (sum_by g xs) low)
+sum_by-lower_at f g le (x ∷ xs) (suc k) d h =
+    let here : k < length xs = omega (arith, h) in
+    let more = sum_by-lower_at f g le xs k d here in
+    rw (sum_by-cons f x xs, sum_by-cons g x xs) (shuffle_there (f x) (g x) (sum_by f xs) (sum_by g xs) (f (get_or xs k d)) (g (get_or xs k d)) (le x) more)
+
+-- a literal that the longer list falsifies takes its coefficient from the open sum
+pub open_sum-lower : (a b : List NumberedLiteral) → IsWithin a b → (terms : List Term) (t : Term) → Contains terms t → has a (negation t.literal) ≡ false → has b (negation t.literal) ≡ true → open_sum b terms + t.coefficient ≤ open_sum a terms
+open_sum-lower a b w terms t (k, inside, is) opened gone =
+    let low = sum_by-lower_at (open_part b) (open_part a) (open_part-within a b w) terms k t inside in
+    let at = rw is at low in
+    let zero = open_part-falsified b t gone in
+    let all = open_part-open a t opened in
+    omega (arith, at, zero, all)
+
+-- which literals are on a list
+pub has-get : (list : List NumberedLiteral) (i : ℕ) (d : NumberedLiteral) → i < length list → has list (get_or list i d) ≡ true
+unfolding has
+has-get [] i d inside = absurd (omega (arith, inside))
+has-get (x ∷ xs) zero d inside = or_left (same x x) (list_any (λ k. same k x) xs) (same-refl x)
+has-get (x ∷ xs) (suc i) d inside = or_right (same x (get_or xs i d)) (list_any (λ k. same k (get_or xs i d)) xs) (has-get xs i d (omega (arith, inside)))

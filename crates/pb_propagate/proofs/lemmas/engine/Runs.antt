@@ -1,0 +1,285 @@
+use Rattle.std.specs.Prelude.{◌==◌, sum_by, All}
+use Rattle.std.proofs.Common.{◌≡◌, ℕ, zero, suc, ◌+◌, ◌-◌, ◌<◌, ◌≤◌, ◌⊎◌, ◌++◌, ◌∷◌, [], List, true, false, refl, sym, ◌∙◌, ap, inl, inr, arith, length, get_or, set, length-append, get_or-set_same, get_or-set_other}
+use Rattle.std.proofs.lemmas.Bool.{cases_lt, cases_Bool, cases_eq, both_ways, eq-eqb, ne_eqb, or_left, or_right, or_cases}
+use Rattle.std.proofs.lemmas.List.{get_or_append_left, get_or_push, get_or_default}
+use Rattle.std.proofs.lemmas.List.Elements.{All-push}
+use Rattle.std.proofs.lemmas.List.Sums.{sum_by-cons}
+use Rattle.pb_normal.specs.declared.numbered.NumberedLiteral.{NumberedLiteral}
+use Rattle.pb_normal.specs.meaning.Rules.{negation}
+use Rattle.pb_propagate.specs.declared.term.Term.{Term}
+use Rattle.pb_propagate.specs.engine.Engine.Lists.{Shape, same, has, open_part, open_sum, IsSettled, Weighted}
+use Rattle.pb_propagate.specs.engine.Engine.Counts.{entry_weight, weight_in, term_weight, weight_on, AreFalling, IsCalm, IsDone, ArePassed, IsAbsent, IsCounted, IsTidy, Aside, rest_open, Grown, pushed, spared}
+use Rattle.pb_propagate.proofs.lemmas.engine.Derivations.{settled-of_terms}
+use Rattle.pb_propagate.proofs.lemmas.engine.Literals.{negation-negation, has-push, has-push_old, has-push_new, same-true, same-refl, open_part-falsified, open_part-open}
+use Rattle.pb_propagate.proofs.lemmas.store.Gets.{lt_of_apart}
+
+-- the sum of two functions
+sum_by-two : {X : Type 0} (f g h : X → ℕ) → ((x : X) → f x ≡ g x + h x) → (xs : List X) → sum_by f xs ≡ sum_by g xs + sum_by h xs
+sum_by-two f g h e [] = refl
+sum_by-two f g h e (x ∷ xs) =
+    let more = sum_by-two f g h e xs in
+    rw (sum_by-cons f x xs, sum_by-cons g x xs, sum_by-cons h x xs) (regroup (f x) (g x) (h x) (sum_by f xs) (sum_by g xs) (sum_by h xs) (e x) more)
+  where
+    regroup : (a b c p q r : ℕ) → a ≡ b + c → p ≡ q + r → a + p ≡ (b + q) + (c + r)
+    regroup a b c p q r h k = omega arith
+
+pub term_weight-same : (l : NumberedLiteral) (t : Term) → same t.literal l ≡ true → term_weight l t ≡ t.coefficient
+unfolding term_weight
+term_weight-same l t h = rw h
+
+pub term_weight-other : (l : NumberedLiteral) (t : Term) → same t.literal l ≡ false → term_weight l t ≡ 0
+unfolding term_weight
+term_weight-other l t h = rw h
+
+same-negation : (k l : NumberedLiteral) → same k (negation l) ≡ false → same l (negation k) ≡ false
+same-negation k l other =
+    elim (cases_Bool (same l (negation k))) [
+      | inr apart ↦ apart
+      | inl together ↦
+          let is = same-true l (negation k) together in
+          let back : k ≡ negation l = sym (ap negation is ∙ negation-negation k) in
+          let one : same k (negation l) ≡ true = rw back (same-refl (negation l)) in
+          absurd (both_ways _ other one)
+    ]
+
+-- an assigned literal subtracts the coefficients on its negation from an open sum
+open_part-push : (list : List NumberedLiteral) (l : NumberedLiteral) → has list l ≡ false → (t : Term) → open_part list t ≡ open_part (list ++ (l ∷ [])) t + term_weight (negation l) t
+open_part-push list l absent t =
+    elim (cases_Bool (same t.literal (negation l))) [
+      | inl one ↦
+          let is = same-true t.literal (negation l) one in
+          let negated : negation t.literal ≡ l = ap negation is ∙ negation-negation l in
+          let before : open_part list t ≡ t.coefficient = open_part-open list t (rw negated absent) in
+          let after : open_part (list ++ (l ∷ [])) t ≡ 0 = open_part-falsified (list ++ (l ∷ [])) t (rw negated (has-push_new list l)) in
+          omega (arith, before, after, term_weight-same (negation l) t one)
+      | inr other ↦
+          let none = term_weight-other (negation l) t other in
+          let apart : same l (negation t.literal) ≡ false = same-negation t.literal l other in
+          elim (cases_Bool (has list (negation t.literal))) [
+            | inl gone ↦ omega (arith, none, open_part-falsified list t gone, open_part-falsified (list ++ (l ∷ [])) t (has-push_old list l (negation t.literal) gone))
+            | inr there ↦
+                let still : has (list ++ (l ∷ [])) (negation t.literal) ≡ false = has-push list l (negation t.literal) ∙ rw (there, apart) refl in
+                omega (arith, none, open_part-open list t there, open_part-open (list ++ (l ∷ [])) t still)
+          ]
+    ]
+
+pub open_sum-push : (list : List NumberedLiteral) (l : NumberedLiteral) → has list l ≡ false → (terms : List Term) → open_sum list terms ≡ open_sum (list ++ (l ∷ [])) terms + weight_on (negation l) terms
+open_sum-push list l absent terms = sum_by-two (open_part list) (open_part (list ++ (l ∷ []))) (term_weight (negation l)) (open_part-push list l absent) terms
+
+pub entry_weight-same : (s : ℕ) (e : Weighted) → e.form ≡ s → entry_weight s e ≡ e.coefficient
+unfolding entry_weight
+entry_weight-same s e h = let one : (e.form == s) ≡ true = eq-eqb e.form s h in rw one
+
+pub entry_weight-other : (s : ℕ) (e : Weighted) → (s ≡ e.form → ⊥) → entry_weight s e ≡ 0
+unfolding entry_weight
+entry_weight-other s e h = let one : (e.form == s) ≡ false = ne_eqb e.form s (λ x. h (sym x)) in rw one
+
+pub absent-push : (work : List ℕ) (x n s : ℕ) → IsAbsent (work ++ (x ∷ [])) n s → IsAbsent work n s
+absent-push work x n s h i from less at =
+    h i from (omega (arith, less, length-append work (x ∷ []))) (get_or_append_left work (x ∷ []) 0 i less ∙ at)
+
+pub absent-new : (work : List ℕ) (x n s : ℕ) → n ≤ length work → IsAbsent (work ++ (x ∷ [])) n s → s ≡ x → ⊥
+absent-new work x n s from h e =
+    h (length work) from (omega (arith, length-append work (x ∷ []))) (get_or_push work x 0 (length work) refl ∙ sym e)
+
+pub absent-more : (work : List ℕ) (x s : ℕ) → (s ≡ x → ⊥) → IsAbsent work 0 s → IsAbsent (work ++ (x ∷ [])) 0 s
+absent-more work x s apart gone i from less at = elim (cases_lt i (length work)) [
+  | inl before ↦ gone i from before (sym (get_or_append_left work (x ∷ []) 0 i before) ∙ at)
+  | inr after ↦ apart (sym at ∙ get_or_push work x 0 i (omega (arith, after, less, length-append work (x ∷ []))))
+]
+
+pub absent-cons : (x : ℕ) (xs : List ℕ) (s : ℕ) → (x ≡ s → ⊥) → IsAbsent xs 0 s → IsAbsent (x ∷ xs) 0 s
+absent-cons x xs s apart gone zero from less at = apart at
+absent-cons x xs s apart gone (suc i) from less at = gone i (omega arith) (omega (arith, less)) at
+
+done-push : (list : List NumberedLiteral) (l k : NumberedLiteral) → IsDone list k → IsDone (list ++ (l ∷ [])) k
+done-push list l k h =
+    elim (or_cases (has list k) (has list (negation k)) h) [
+      | inl on ↦ or_left (has (list ++ (l ∷ [])) k) (has (list ++ (l ∷ [])) (negation k)) (has-push_old list l k on)
+      | inr off ↦ or_right (has (list ++ (l ∷ [])) k) (has (list ++ (l ∷ [])) (negation k)) (has-push_old list l (negation k) off)
+    ]
+
+pub done-new : (list : List NumberedLiteral) (l : NumberedLiteral) → IsDone (list ++ (l ∷ [])) l
+done-new list l = or_left (has (list ++ (l ∷ [])) l) (has (list ++ (l ∷ [])) (negation l)) (has-push_new list l)
+
+-- a literal is assigned: its entries are still to be subtracted from the open sums
+pub Counted-put : (forms : List Shape) (opens : List ℕ) (list next : List NumberedLiteral) (l : NumberedLiteral) (entries : List Weighted) → next ≡ list ++ (l ∷ []) → has list l ≡ false → ((s : ℕ) (d : Shape) → s < length forms → weight_in s entries ≡ weight_on (negation l) (get_or forms s d).terms) → IsCounted forms opens list [] → IsCounted forms opens next entries
+Counted-put forms opens list next l entries e absent linked r = rw e (record {
+  each = λ s d inside.
+      let before = r.each s d inside in
+      let none : weight_in s [] ≡ 0 = refl in
+      let taken = open_sum-push list l absent (get_or forms s d).terms in
+      let link = linked s d inside in
+      omega (arith, before, none, taken, link);
+})
+
+pub Tidy-put : (aside : Aside) (forms : List Shape) (opens cands : List ℕ) (list longer : List NumberedLiteral) (work trail : List ℕ) (next busy : ℕ) (l : NumberedLiteral) → longer ≡ list ++ (l ∷ []) → IsTidy aside forms opens cands list work trail next busy → IsTidy aside forms opens cands longer work trail next busy
+Tidy-put aside forms opens cands list longer work trail next busy l e r = rw e (record {
+  calm = r.calm;
+  passed = λ s d inside k f before within. done-push list l (get_or (get_or forms s d).terms k f).literal (r.passed s d inside k f before within);
+  bounded = r.bounded;
+  clean = r.clean;
+  named = r.named;
+  marked = r.marked;
+  traced = r.traced;
+})
+
+-- an entry is subtracted from its form's open sum
+pub Counted-fits : (forms : List Shape) (opens : List ℕ) (list : List NumberedLiteral) (e : Weighted) (rest : List Weighted) (d : Shape) → e.form < length forms → IsCounted forms opens list (e ∷ rest) → e.coefficient ≤ get_or opens e.form 0
+Counted-fits forms opens list e rest d inside r =
+    let total = r.each e.form d inside in
+    let head = sum_by-cons (entry_weight e.form) e rest in
+    omega (arith, total, head, entry_weight-same e.form e refl)
+
+pub Counted-lower : (forms : List Shape) (opens lower : List ℕ) (list : List NumberedLiteral) (e : Weighted) (rest : List Weighted) → lower ≡ set opens e.form (get_or opens e.form 0 - e.coefficient) → e.form < length opens → IsCounted forms opens list (e ∷ rest) → IsCounted forms lower list rest
+Counted-lower forms opens lower list e rest is room r = rw is (record { each = λ s d inside. each_at s d inside (cases_eq s e.form) })
+  where
+    each_at : (s : ℕ) (d : Shape) → s < length forms → (s ≡ e.form) ⊎ (s ≡ e.form → ⊥) → get_or (set opens e.form (get_or opens e.form 0 - e.coefficient)) s 0 ≡ open_sum list (get_or forms s d).terms + weight_in s rest
+    each_at s d inside (inl one) =
+        let total = r.each s d inside in
+        let head = sum_by-cons (entry_weight s) e rest in
+        let part = entry_weight-same s e (sym one) in
+        let now : get_or (set opens e.form (get_or opens e.form 0 - e.coefficient)) s 0 ≡ get_or opens s 0 - e.coefficient =
+        rw one (get_or-set_same opens e.form (get_or opens e.form 0 - e.coefficient) 0 room) in
+        omega (arith, now, total, head, part)
+    each_at s d inside (inr other) =
+        let total = r.each s d inside in
+        let head = sum_by-cons (entry_weight s) e rest in
+        let part = entry_weight-other s e other in
+        let now = get_or-set_other opens e.form s (get_or opens e.form 0 - e.coefficient) 0 other in
+        omega (arith, now, total, head, part)
+
+-- the elements of a list that may grow by a number
+grown-absent : {needless : Type 0} (x : ℕ) (old new : List ℕ) (n s : ℕ) → Grown needless x old new → IsAbsent new n s → IsAbsent old n s
+grown-absent x old _ n s pushed gone = absent-push old x n s gone
+grown-absent x old _ n s (spared p) gone = gone
+
+grown-new : {needless : Type 0} (x : ℕ) (old new : List ℕ) (n s : ℕ) → n ≤ length old → s ≡ x → Grown needless x old new → IsAbsent new n s → needless
+grown-new x old _ n s within e pushed gone = absurd (absent-new old x n s within gone e)
+grown-new x old _ n s within e (spared p) gone = p
+
+grown-still : {needless : Type 0} (x : ℕ) (old new : List ℕ) (s : ℕ) → (s ≡ x → ⊥) → Grown needless x old new → IsAbsent old 0 s → IsAbsent new 0 s
+grown-still x old _ s apart (spared p) gone = gone
+grown-still x old _ s apart pushed gone = absent-more old x s apart gone
+
+grown-all : {needless : Type 0} (P : ℕ → Type 0) (x : ℕ) (old new : List ℕ) → P x → Grown needless x old new → All P old → All P new
+grown-all P x old _ this pushed all = All-push P old x all this
+grown-all P x old _ this (spared p) all = all
+
+pub grown-length : {needless : Type 0} (x : ℕ) (old new : List ℕ) → Grown needless x old new → (length old ≤ length new) × (length new ≤ length old + 1)
+grown-length x old _ pushed = (omega (arith, length-append old (x ∷ [])), omega (arith, length-append old (x ∷ [])))
+grown-length x old _ (spared p) = (omega arith, omega arith)
+
+pub grown-before : {needless : Type 0} (x : ℕ) (old new : List ℕ) (s : ℕ) → Grown needless x old new → IsAbsent new 0 s → IsAbsent old 0 s
+grown-before x old new s g gone = grown-absent x old new 0 s g gone
+
+pub Tidy-lower : (aside : Aside) (forms : List Shape) (opens lower cands : List ℕ) (list : List NumberedLiteral) (work more trail longer : List ℕ) (next busy x y : ℕ) → lower ≡ set opens x y → x < length forms → x < length opens → next ≤ length work →
+    Grown ((d : Shape) (c : ℕ) → IsCalm (get_or forms x d) y c) x work more → Grown ((d : Shape) → get_or opens x 0 ≡ rest_open aside.rests x (get_or forms x d) → ⊥) x trail longer →
+    IsTidy aside forms opens cands list work trail next busy → IsTidy aside forms lower cands list more longer next busy
+Tidy-lower aside forms opens lower cands list work more trail longer next busy x y is inside_x room within queued noted r = rw is (record {
+  calm = λ s d inside idle off gone. elim (cases_eq s x) [
+    | inl one ↦
+        let needless = grown-new x work more next s within one queued gone in
+        let now : get_or (set opens x y) s 0 ≡ y = rw one (get_or-set_same opens x y 0 room) in
+        rw (now, one) (needless d (get_or cands x 0))
+    | inr apart ↦ rw (get_or-set_other opens x s y 0 apart) (r.calm s d inside idle off (grown-absent x work more next s queued gone))
+  ];
+  passed = r.passed;
+  bounded = r.bounded;
+  clean = λ s d inside gone. elim (cases_eq s x) [
+    | inl one ↦ absurd (changed s one gone)
+    | inr apart ↦ rw (get_or-set_other opens x s y 0 apart) (r.clean s d inside (grown-absent x trail longer 0 s noted gone))
+  ];
+  named = grown-all (λ s. s < length forms) x work more inside_x queued r.named;
+  marked = grown-all (λ s. s < length forms) x trail longer inside_x noted r.marked;
+  traced = λ s gone. grown-still x work more s (λ one. changed s one gone) queued (r.traced s (grown-absent x trail longer 0 s noted gone));
+})
+  where
+    changed : (s : ℕ) → s ≡ x → IsAbsent longer 0 s → ⊥
+    changed s one gone =
+        let d : Shape = record { terms = []; degree = 0 } in
+        let before = grown-absent x trail longer 0 s noted gone in
+        grown-new x trail longer 0 s (omega arith) one noted gone d (r.clean x d inside_x (rw one at before)).0
+
+-- the busy form's candidate changes
+pub Tidy-pass : (aside : Aside) (forms : List Shape) (opens cands passed : List ℕ) (list : List NumberedLiteral) (work trail : List ℕ) (next busy c : ℕ) (terms : List Term) (e : Term) → passed ≡ set cands busy (c + 1) → c ≡ get_or cands busy 0 → busy < length cands → ((d : Shape) → busy < length forms → (get_or forms busy d).terms ≡ terms) → c < length terms → IsDone list (get_or terms c e).literal → (IsAbsent work 0 busy → ⊥) → IsTidy aside forms opens cands list work trail next busy → IsTidy aside forms opens passed list work trail next busy
+Tidy-pass aside forms opens cands passed list work trail next busy c terms e is at room same here done there r = rw is (record {
+  calm = λ s d inside idle off gone. rw (get_or-set_other cands busy s (c + 1) 0 idle) (r.calm s d inside idle off gone);
+  passed = λ s d inside k f before within. elim (cases_eq s busy) [
+    | inr other ↦
+        let kept = r.passed s d inside in
+        kept k f (rw (get_or-set_other cands busy s (c + 1) 0 other) at before) within
+    | inl one ↦
+        let old = r.passed s d inside in
+        let now : get_or (set cands busy (c + 1)) s 0 ≡ c + 1 = rw one (get_or-set_same cands busy (c + 1) 0 room) in
+        let was : get_or cands s 0 ≡ c = rw one (sym at) in
+        elim (cases_lt k c) [
+          | inl less ↦ old k f (rw was less) within
+          | inr more ↦
+              let last : k ≡ c = last_one k c more (omega (arith, now, before)) in
+              let those : (get_or forms s d).terms ≡ terms = rw one (same d (rw one at inside)) in
+              let value : get_or (get_or forms s d).terms k f ≡ get_or terms c e = rw (those, last) (get_or_default terms c f e here) in
+              rw value done
+        ]
+  ];
+  bounded = λ s d inside. elim (cases_eq s busy) [
+    | inr other ↦ rw (get_or-set_other cands busy s (c + 1) 0 other) (r.bounded s d inside)
+    | inl one ↦
+        let now : get_or (set cands busy (c + 1)) s 0 ≡ c + 1 = rw one (get_or-set_same cands busy (c + 1) 0 room) in
+        let those : (get_or forms s d).terms ≡ terms = rw one (same d (rw one at inside)) in
+        omega (arith, now, ap length those, here)
+  ];
+  clean = λ s d inside gone.
+      let apart : s ≡ busy → ⊥ = λ e. there (rw e at (r.traced s gone)) in
+      rw (get_or-set_other cands busy s (c + 1) 0 apart) (r.clean s d inside gone);
+  named = r.named;
+  marked = r.marked;
+  traced = r.traced;
+})
+  where
+    last_one : (a b : ℕ) → b ≤ a → a < b + 1 → a ≡ b
+    last_one a b h k = grind arith
+
+-- the next form of the work list is visited
+pub Tidy-next : (aside : Aside) (forms : List Shape) (opens cands : List ℕ) (list : List NumberedLiteral) (work trail : List ℕ) (next : ℕ) → IsTidy aside forms opens cands list work trail next (length forms) → IsTidy aside forms opens cands list work trail (next + 1) (get_or work next 0)
+Tidy-next aside forms opens cands list work trail next r = record {
+  calm = λ s d inside idle off gone. r.calm s d inside (λ e. absurd (omega (arith, e, inside))) off (λ i from less at. elim (cases_eq i next) [
+    | inl here ↦ idle (sym at ∙ ap (λ j. get_or work j 0) here)
+    | inr later ↦ gone i (omega (arith, lt_of_apart next i from later)) less at
+  ]);
+  passed = r.passed;
+  bounded = r.bounded;
+  clean = r.clean;
+  named = r.named;
+  marked = r.marked;
+  traced = r.traced;
+}
+
+pub Tidy-settle : (aside : Aside) (forms : List Shape) (opens cands : List ℕ) (list : List NumberedLiteral) (work trail : List ℕ) (next busy : ℕ) (e : Shape) → IsCalm (get_or forms busy e) (get_or opens busy 0) (get_or cands busy 0) → IsTidy aside forms opens cands list work trail next busy → IsTidy aside forms opens cands list work trail next (length forms)
+Tidy-settle aside forms opens cands list work trail next busy e calm r = record {
+  calm = λ s d inside idle off gone. elim (cases_eq s busy) [
+    | inl one ↦ rw (one, get_or_default forms busy d e (rw one at inside)) calm
+    | inr other ↦ r.calm s d inside other off gone
+  ];
+  passed = r.passed;
+  bounded = r.bounded;
+  clean = r.clean;
+  named = r.named;
+  marked = r.marked;
+  traced = r.traced;
+}
+
+-- a calm form is settled, since its coefficients fall
+pub calm-settled : (f : Shape) (o c : ℕ) (list : List NumberedLiteral) → AreFalling f.terms → o ≡ open_sum list f.terms → IsCalm f o c → ArePassed f.terms c list → IsSettled f list
+calm-settled f o c list falling sum calm passed =
+    settled-of_terms f list (omega (arith, sum, calm.met)) (λ k d inside low absent opened. elim (cases_lt k c) [
+      | inl before ↦ elim (or_cases (has list (get_or f.terms k d).literal) (has list (negation (get_or f.terms k d).literal)) (passed k d before inside)) [
+        | inl on ↦ both_ways _ absent on
+        | inr off ↦ both_ways _ opened off
+      ]
+      | inr after ↦
+          let here : c < length f.terms = omega (arith, after, inside) in
+          let demand = calm.waiting d here in
+          let less = falling c k d after inside in
+          omega (arith, demand, less, low, sum)
+    ])

@@ -1,0 +1,36 @@
+use Rattle.std.proofs.Common.{◌≡◌, ℕ, ◌+◌, ◌<◌, ◌⊎◌, List, sym, ◌∙◌, ap, inl, inr, arith, length, get_or, set, get_or-set_same, get_or-set_other}
+use Rattle.std.proofs.lemmas.Bool.{cases_eq}
+use Rattle.std.proofs.lemmas.List.{get_or_read, length-map}
+use Rattle.pb_propagate.specs.declared.store.stored_form.StoredForm.{StoredForm}
+use Rattle.pb_propagate.specs.declared.rests.Rests.{Rests}
+use Rattle.pb_propagate.specs.engine.Engine.Lists.{Shape, size}
+use Rattle.pb_propagate.specs.engine.Engine.Counts.{IsAbsent, IsUndone, rest_open, rest_start}
+use Rattle.pb_propagate.specs.engine.Engine.Fields.{shapes_of, kept_shape}
+use Rattle.pb_propagate.proofs.lemmas.engine.VisitSteps.{shape-at}
+use Rattle.pb_propagate.proofs.lemmas.store.Gets.{lt_of_apart}
+
+pub undo-form : (rests : Rests) (keep : List StoredForm) (opens cands work : List ℕ) (i form : ℕ) → i < length work → form ≡ get_or work i form → IsUndone rests (shapes_of keep) opens cands work i → form < length keep
+undo-form rests keep opens cands work i form inside is u =
+    let named = u.named i form inside in
+    omega (arith, named, is, length-map keep kept_shape)
+
+pub undo-next : (rests : Rests) (keep : List StoredForm) (opens cands opens' cands' work : List ℕ) (i form opened back : ℕ) (k : StoredForm) → i < length work → form ≡ get_or work i form → form < length keep → k ≡ get_or keep form k → opened ≡ get_or rests.opens.items form k.total → back ≡ get_or rests.starts.items form 0 → length opens ≡ length keep → length cands ≡ length keep → opens' ≡ set opens form opened → cands' ≡ set cands form back → IsUndone rests (shapes_of keep) opens cands work i → IsUndone rests (shapes_of keep) opens' cands' work (i + 1)
+undo-next rests keep opens cands opens' cands' work i form opened back k inside is named at whole first o c lower again u = rw (lower, again) (record { clean = λ s d in_forms gone. clean_at s d in_forms gone (cases_eq s form); named = u.named })
+  where
+    clean_at : (s : ℕ) (d : Shape) → s < length (shapes_of keep) → IsAbsent work (i + 1) s → (s ≡ form) ⊎ (s ≡ form → ⊥) → (get_or (set opens form opened) s 0 ≡ rest_open rests s (get_or (shapes_of keep) s d)) × (get_or (set cands form back) s 0 ≡ rest_start rests s)
+    clean_at s d in_forms gone (inl one) =
+        let room : form < length opens = omega (arith, named, o) in
+        let roomc : form < length cands = omega (arith, named, c) in
+        let is_open : get_or (set opens form opened) s 0 ≡ opened = rw one (get_or-set_same opens form opened 0 room) in
+        let is_start : get_or (set cands form back) s 0 ≡ back = rw one (get_or-set_same cands form back 0 roomc) in
+        let its : get_or (shapes_of keep) s d ≡ kept_shape k = rw one (shape-at keep form k named at d) in
+        let sum : k.total ≡ size (get_or (shapes_of keep) s d).terms = rw its k.sum in
+        let here : get_or rests.opens.items form k.total ≡ rest_open rests s (get_or (shapes_of keep) s d) = rw one (ap (get_or rests.opens.items form) (rw one at sum)) in
+        (is_open ∙ whole ∙ here, is_start ∙ first ∙ ap (λ x. get_or rests.starts.items x 0) (sym one))
+    clean_at s d in_forms gone (inr other) =
+        let before : IsAbsent work i s = λ j after less place. elim (cases_eq j i) [
+          | inl here ↦ other (sym place ∙ ap (λ x. get_or work x 0) here ∙ sym (get_or_read work i form inside is 0))
+          | inr later ↦ gone j (omega (arith, lt_of_apart i j after later)) less place
+        ] in
+        let kept_clean = u.clean s d in_forms before in
+        (get_or-set_other opens form s opened 0 other ∙ kept_clean.0, get_or-set_other cands form s back 0 other ∙ kept_clean.1)

@@ -1,0 +1,325 @@
+-- A form that was added comes to the root.
+use Rattle.std.specs.Prelude.{All, Contains, Option, Bool, Some, slice_get, ◌/◌}
+use Rattle.std.proofs.Common.{Vec, Global, ◌≡◌, ℕ, ◌+◌, ◌*◌, ◌<◌, ◌≤◌, ◌⊎◌, ◌++◌, ◌∷◌, [], List, true, false, refl, sym, ◌∙◌, ap, subst, inl, inr, arith, length, length-append, get_or, set, get_or-set_same, get_or-set_other}
+use Rattle.std.proofs.lemmas.Bool.{cases_eq, cases_lt, both_ways}
+use Rattle.std.proofs.lemmas.List.{length-map, get_or-map, get_or_append_left, get_or_push, get_or_default}
+use Rattle.std.proofs.lemmas.Option.{get_or_from_slice_get, slice_get-get_or, slice_get_within}
+use Rattle.pb_normal.specs.declared.numbered.NumberedLiteral.{NumberedLiteral}
+use Rattle.pb_propagate.specs.declared.rests.Rests.{Rests}
+use Rattle.pb_propagate.specs.declared.run.Run.{Run}
+use Rattle.pb_propagate.specs.declared.assignment.Assignment.{Assignment}
+use Rattle.pb_propagate.specs.declared.store.Store.{Store}
+use Rattle.pb_propagate.specs.declared.store.stored_form.StoredForm.{StoredForm}
+use Rattle.pb_propagate.specs.declared.clauses.Clauses.{Clauses}
+use Rattle.pb_propagate.specs.declared.clauses.lists.Watch.{Watch}
+use Rattle.pb_propagate.specs.engine.Engine.Lists.{Shape, open_sum, size, has}
+use Rattle.pb_propagate.specs.engine.Engine.Counts.{Grown, pushed, spared, IsAbsent, IsCalm, IsCounted, IsTidy, beside, weight_in}
+use Rattle.pb_propagate.specs.engine.Engine.Fields.{shapes_of, kept_shape}
+use Rattle.pb_propagate.specs.engine.Engine.Root.{IsRooted, IsServed, HasGained, HasReached}
+use Rattle.pb_propagate.specs.engine.Clauses.Truths.{flip, true_at, false_at}
+use Rattle.pb_propagate.specs.engine.Clauses.Links.{list_at, watch_at}
+use Rattle.pb_propagate.specs.engine.Clauses.Runs.{AreStored, AreWalked}
+use Rattle.pb_propagate.specs.engine.Clauses.Shapes.{one_term, slot_shape, joined, clauses_of, all_of}
+use Rattle.pb_propagate.specs.engine.Clauses.Walked.{walked_codes}
+use Rattle.pb_propagate.proofs.lemmas.clauses.Shapes.{joined-at, joined-length}
+use Rattle.pb_propagate.proofs.lemmas.clauses.Truths.{flip-half, flip-even, flip-flip, same-slot, not_both}
+use Rattle.pb_propagate.proofs.lemmas.engine.Rests.{element}
+use Rattle.pb_propagate.proofs.lemmas.root.Rooted.{derives-without}
+
+-- the same form in both
+same-shape : (xs ys : List StoredForm) (s : ℕ) (d : Shape) → s < length ys → slice_get xs s ≡ slice_get ys s → get_or (shapes_of xs) s d ≡ get_or (shapes_of ys) s d
+same-shape xs ys s d less same =
+    let e = element ys s less in
+    let k = e.value in
+    let at : slice_get xs s ≡ Some k = same ∙ e.got in
+    let mine : get_or (shapes_of xs) s d ≡ kept_shape k = get_or-map kept_shape xs s k d (slice_get_within xs s k at) ∙ ap kept_shape (get_or_from_slice_get xs s k k at) in
+    let theirs : get_or (shapes_of ys) s d ≡ kept_shape k = get_or-map kept_shape ys s k d less ∙ ap kept_shape (e.at k) in
+    mine ∙ sym theirs
+
+-- a slot without terms has no clause and no terms
+bare-parts : (x : Shape) (codes : List ℕ) → (slot_shape x codes).terms ≡ [] → x.terms ≡ []
+bare-parts x [] h = h
+bare-parts x (c ∷ codes) h = absurd (omega (arith, ap length h, length-map (c ∷ codes) one_term))
+
+pub bare-slot : (keep : List StoredForm) (clauses : List (List ℕ)) (s : ℕ) (d : Shape) → s < length keep → ((x : Shape) → slice_get (joined (shapes_of keep) clauses) s ≡ Some x → x.terms ≡ []) → (get_or (shapes_of keep) s d).terms ≡ []
+bare-slot keep clauses s d less bare =
+    let inside : s < length (shapes_of keep) = omega (arith, less, length-map keep kept_shape) in
+    let room : s < length (joined (shapes_of keep) clauses) = omega (arith, inside, joined-length (shapes_of keep) clauses) in
+    let x = get_or (joined (shapes_of keep) clauses) s d in
+    let none : x.terms ≡ [] = bare x (slice_get-get_or (joined (shapes_of keep) clauses) s d room) in
+    bare-parts (get_or (shapes_of keep) s d) (list_at clauses s) (ap (λ (f : Shape). f.terms) (sym (joined-at (shapes_of keep) clauses s d inside)) ∙ none)
+
+-- the lists after an entry was added for a new slot
+pub record Arrived (before store : Store) (old clauses : Clauses) (run run' : Run) (slot : ℕ) : Type 0 where
+  pub sizes : length run'.opens.items ≡ length store.kept.items
+  pub csizes : length run'.candidates.items ≡ length store.kept.items
+  pub older : (s : ℕ) → s < length store.kept.items → (s ≡ slot → ⊥) → s < length before.kept.items
+  pub opens : (s : ℕ) → s < length before.kept.items → (s ≡ slot → ⊥) → get_or run'.opens.items s 0 ≡ get_or run.opens.items s 0
+  pub cands : (s : ℕ) → s < length before.kept.items → (s ≡ slot → ⊥) → get_or run'.candidates.items s 0 ≡ get_or run.candidates.items s 0
+  pub open_none : get_or run'.opens.items slot 0 ≡ 0
+  pub cand_none : get_or run'.candidates.items slot 0 ≡ 0
+
+pub arrived : (before store : Store) (old clauses : Clauses) (run run' : Run) (rests rests' : Rests) (slot : ℕ) → slot < length store.kept.items → IsRooted before old run rests (length before.kept.items) → HasGained before old store clauses slot → HasReached run run' rests rests' slot → Arrived before store old clauses run run' slot
+arrived before store old clauses run run' rests rests' slot inside r g h = elim h.lists [
+  | inl stay ↦ by_longer stay g.longer
+  | inr grown ↦ by_new grown g.longer
+]
+  where
+    none : Shape
+    none = record { terms = []; degree = 0 }
+
+    by_longer : (slot < length run.opens.items) × (run'.opens.items ≡ run.opens.items) × (run'.candidates.items ≡ run.candidates.items) × (rests'.opens.items ≡ rests.opens.items) × (rests'.starts.items ≡ rests.starts.items) → (length store.kept.items ≡ length before.kept.items) ⊎ ((length store.kept.items ≡ length before.kept.items + 1) × (slot ≡ length before.kept.items)) → Arrived before store old clauses run run' slot
+    by_longer stay (inr new) = absurd (omega (arith, stay.0, new.1, r.open_sizes))
+    by_longer stay (inl same) =
+        let less : slot < length before.kept.items = omega (arith, inside, same) in
+        let terms = bare-slot before.kept.items (clauses_of old) slot none less g.bare in
+        let zero_open : open_sum run.assignment.list.items (get_or (shapes_of before.kept.items) slot none).terms ≡ 0 = ap (open_sum run.assignment.list.items) terms in
+        let few = r.tidy.bounded slot none (omega (arith, less, length-map before.kept.items kept_shape)) in
+        record {
+          sizes = ap length stay.1 ∙ r.open_sizes ∙ sym same;
+          csizes = ap length stay.2 ∙ r.start_sizes ∙ sym same;
+          older = λ s h n. omega (arith, h, same);
+          opens = λ s h n. ap (λ xs. get_or xs s 0) stay.1;
+          cands = λ s h n. ap (λ xs. get_or xs s 0) stay.2;
+          open_none = ap (λ xs. get_or xs slot 0) stay.1 ∙ r.counted slot none less (λ e. absurd (omega (arith, e, less))) ∙ zero_open;
+          cand_none = omega (arith, ap (λ xs. get_or xs slot 0) stay.2, few, ap length terms);
+        }
+
+    by_new : (length run.opens.items ≤ slot) × (run'.opens.items ≡ run.opens.items ++ (0 ∷ [])) × (run'.candidates.items ≡ run.candidates.items ++ (0 ∷ [])) × (rests'.opens.items ≡ rests.opens.items ++ (0 ∷ [])) × (rests'.starts.items ≡ rests.starts.items ++ (0 ∷ [])) → (length store.kept.items ≡ length before.kept.items) ⊎ ((length store.kept.items ≡ length before.kept.items + 1) × (slot ≡ length before.kept.items)) → Arrived before store old clauses run run' slot
+    by_new grown (inl same) = absurd (omega (arith, grown.0, inside, same, r.open_sizes))
+    by_new grown (inr new) = record {
+      sizes = omega (arith, ap length grown.1, length-append run.opens.items (0 ∷ []), r.open_sizes, new.0);
+      csizes = omega (arith, ap length grown.2, length-append run.candidates.items (0 ∷ []), r.start_sizes, new.0);
+      older = λ s h n. older_at s h n (cases_lt s (length before.kept.items));
+      opens = λ s h n. ap (λ xs. get_or xs s 0) grown.1 ∙ get_or_append_left run.opens.items (0 ∷ []) 0 s (omega (arith, h, r.open_sizes));
+      cands = λ s h n. ap (λ xs. get_or xs s 0) grown.2 ∙ get_or_append_left run.candidates.items (0 ∷ []) 0 s (omega (arith, h, r.start_sizes));
+      open_none = ap (λ xs. get_or xs slot 0) grown.1 ∙ get_or_push run.opens.items 0 0 slot (omega (arith, new.1, r.open_sizes));
+      cand_none = ap (λ xs. get_or xs slot 0) grown.2 ∙ get_or_push run.candidates.items 0 0 slot (omega (arith, new.1, r.start_sizes));
+    }
+      where
+        older_at : (s : ℕ) → s < length store.kept.items → (s ≡ slot → ⊥) → (s < length before.kept.items) ⊎ (length before.kept.items ≤ s) → s < length before.kept.items
+        older_at s h n (inl less) = less
+        older_at s h n (inr past) = absurd (n (omega (arith, h, past, new.0, new.1)))
+
+-- the root for all forms but the new one
+pub gained-rooted : (before store : Store) (old clauses : Clauses) (run run' : Run) (rests rests' : Rests) (slot : ℕ) → slot < length store.kept.items → IsRooted before old run rests (length before.kept.items) → HasGained before old store clauses slot → HasReached run run' rests rests' slot →
+    AreWalked run.assignment.values.items clauses.watches.items (walked_codes (length run.assignment.list.items) run.assignment.list.items) → IsRooted store clauses run' rests' slot
+gained-rooted before store old clauses run run' rests rests' slot inside r g h walked = record {
+  values = ap (λ (x : Assignment). length x.values.items) h.assignment ∙ r.values ∙ sym g.variables;
+  opens = opens_same;
+  starts = starts_same;
+  open_sizes = a.sizes;
+  start_sizes = a.csizes;
+  counted = λ s d less apart.
+      let was = a.older s less apart in
+      rw h.assignment (a.opens s was apart ∙ r.counted s d was (λ e. absurd (omega (arith, e, was))) ∙ ap (λ (f : Shape). open_sum run.assignment.list.items f.terms) (sym (shape s d was apart)));
+  tidy = record {
+    calm = λ s d less apart off gone.
+        let was = a.older s (omega (arith, less, length-map store.kept.items kept_shape)) apart in
+        let calm = r.tidy.calm s d (omega (arith, was, length-map before.kept.items kept_shape)) (λ e. absurd (omega (arith, e, was))) off gone in
+        rw (shape s d was apart, a.opens s was apart, a.cands s was apart) calm;
+    passed = λ s d less k f early within. elim (cases_eq s slot) [
+      | inl one ↦ absurd (omega (arith, early, ap (λ j. get_or run'.candidates.items j 0) one, a.cand_none))
+      | inr apart ↦
+          let was = a.older s (omega (arith, less, length-map store.kept.items kept_shape)) apart in
+          let done = r.tidy.passed s d (omega (arith, was, length-map before.kept.items kept_shape)) k f (omega (arith, early, a.cands s was apart)) (omega (arith, within, ap (λ (x : Shape). length x.terms) (shape s d was apart))) in
+          rw (shape s d was apart, h.assignment) done
+    ];
+    bounded = λ s d less. elim (cases_eq s slot) [
+      | inl one ↦ omega (arith, ap (λ j. get_or run'.candidates.items j 0) one, a.cand_none)
+      | inr apart ↦
+          let was = a.older s (omega (arith, less, length-map store.kept.items kept_shape)) apart in
+          omega (arith, r.tidy.bounded s d (omega (arith, was, length-map before.kept.items kept_shape)), a.cands s was apart, ap (λ (x : Shape). length x.terms) (shape s d was apart))
+    ];
+    clean = λ s d less gone. (
+      get_or_default run'.opens.items s 0 (size (get_or (shapes_of store.kept.items) s d).terms) (omega (arith, less, length-map store.kept.items kept_shape, a.sizes)) ∙ ap (λ xs. get_or xs s (size (get_or (shapes_of store.kept.items) s d).terms)) opens_same,
+      ap (λ xs. get_or xs s 0) starts_same,
+    );
+    named = λ i d less. absurd (omega (arith, less));
+    marked = λ i d less. absurd (omega (arith, less));
+    traced = λ s gone. gone;
+  };
+  work = ap (λ (v : Vec ℕ Global). v.items) h.work ∙ r.work;
+  trail = ap (λ (v : Vec ℕ Global). v.items) h.trail ∙ r.trail;
+  next = h.next ∙ r.next;
+  derived = rw h.assignment (derives-without (all_of before old) (all_of store clauses) [] run.assignment.list.items (λ x c. source x c) r.derived);
+  walked = rw h.assignment walked;
+}
+  where
+    a : Arrived before store old clauses run run' slot
+    a = arrived before store old clauses run run' rests rests' slot inside r g h
+
+    opens_same : run'.opens.items ≡ rests'.opens.items
+    opens_same = elim h.lists [
+      | inl stay ↦ stay.1 ∙ r.opens ∙ sym stay.3
+      | inr grown ↦ grown.1 ∙ ap (λ (xs : List ℕ). xs ++ (0 ∷ [])) r.opens ∙ sym grown.3
+    ]
+
+    starts_same : run'.candidates.items ≡ rests'.starts.items
+    starts_same = elim h.lists [
+      | inl stay ↦ stay.2 ∙ r.starts ∙ sym stay.4
+      | inr grown ↦ grown.2 ∙ ap (λ (xs : List ℕ). xs ++ (0 ∷ [])) r.starts ∙ sym grown.4
+    ]
+
+    shape : (s : ℕ) (d : Shape) → s < length before.kept.items → (s ≡ slot → ⊥) → get_or (shapes_of store.kept.items) s d ≡ get_or (shapes_of before.kept.items) s d
+    shape s d less apart = same-shape store.kept.items before.kept.items s d less (g.kept s apart)
+
+    longer : length before.kept.items ≤ length store.kept.items
+    longer = elim g.longer [
+      | inl same ↦ omega (arith, same)
+      | inr new ↦ omega (arith, new.0)
+    ]
+
+    source : (x : Shape) → Contains (all_of before old) x → (Contains (all_of store clauses) x) ⊎ ((l : NumberedLiteral) (c : ℕ) → Contains x.terms (record { literal = l; coefficient = c }) → has run.assignment.list.items l ≡ false)
+    source x (i, less, is) =
+        let room : i < length before.kept.items = omega (arith, less, joined-length (shapes_of before.kept.items) (clauses_of old), length-map before.kept.items kept_shape) in
+        elim (cases_eq i slot) [
+          | inl one ↦
+              let at : slice_get (all_of before old) i ≡ Some x = slice_get-get_or (all_of before old) i x less ∙ ap (λ y. Some y) is in
+              let none = g.bare x (ap (slice_get (all_of before old)) (sym one) ∙ at) in
+              inr (λ l c has. absurd (omega (arith, has.1, ap length none)))
+          | inr apart ↦
+              let mine : get_or (all_of store clauses) i x ≡ slot_shape (get_or (shapes_of store.kept.items) i x) (list_at (clauses_of clauses) i) = joined-at (shapes_of store.kept.items) (clauses_of clauses) i x (omega (arith, room, longer, length-map store.kept.items kept_shape)) in
+              let theirs : get_or (all_of before old) i x ≡ slot_shape (get_or (shapes_of before.kept.items) i x) (list_at (clauses_of old) i) = joined-at (shapes_of before.kept.items) (clauses_of old) i x (omega (arith, room, length-map before.kept.items kept_shape)) in
+              let same : slot_shape (get_or (shapes_of store.kept.items) i x) (list_at (clauses_of clauses) i) ≡ slot_shape (get_or (shapes_of before.kept.items) i x) (list_at (clauses_of old) i) = ap (λ f. slot_shape f (list_at (clauses_of clauses) i)) (shape i x room apart) ∙ ap (slot_shape (get_or (shapes_of before.kept.items) i x)) (g.filled i apart) in
+              inl (i, omega (arith, room, longer, joined-length (shapes_of store.kept.items) (clauses_of clauses), length-map store.kept.items kept_shape), mine ∙ same ∙ sym theirs ∙ is)
+        ]
+
+-- the watches of a slot are served, as those of the others are
+pub served-walked : (values : List (Option Bool)) (ws ws' : List Watch) (codes : List ℕ) (slot : ℕ) → ((e : ℕ) → (e / 2 ≡ slot → ⊥) → watch_at ws' e ≡ watch_at ws e) → ((e : ℕ) → e / 2 ≡ slot → (watch_at ws' e).live ≡ true → Contains codes (watch_at ws' e).literal → true_at values (watch_at ws' (flip e)).literal ≡ true) → AreWalked values ws codes → AreWalked values ws' codes
+served-walked values ws ws' codes slot same mine w = record {
+  failed = w.failed;
+  done = λ e live h. elim (cases_eq (e / 2) slot) [
+    | inl here ↦ mine e here live h
+    | inr apart ↦
+        let flipped : flip e / 2 ≡ slot → ⊥ = λ is. apart (sym (flip-half e) ∙ is) in
+        ap (λ (x : Watch). true_at values x.literal) (same (flip e) flipped) ∙ w.done e (ap (λ (x : Watch). x.live) (sym (same e apart)) ∙ live) (subst (Contains codes) (ap (λ (x : Watch). x.literal) (same e apart)) h)
+  ];
+}
+
+-- a slot without a clause has no watch
+pub no-watch : (clauses : List (List ℕ)) (ws : List Watch) (ls : List (List ℕ)) (slot e : ℕ) → AreStored clauses ws ls → list_at clauses slot ≡ [] → e / 2 ≡ slot → (watch_at ws e).live ≡ true → ⊥
+no-watch clauses ws ls slot e stored none here live =
+    let there = stored.watched e live in
+    omega (arith, there.1, ap length (ap (list_at clauses) here ∙ none))
+
+-- two served watches
+pub served-watch : (values : List (Option Bool)) (ws : List Watch) (codes : List ℕ) (slot e : ℕ) → ((x : ℕ) → Contains codes x → false_at values x ≡ true) → IsServed values ws slot → e / 2 ≡ slot → Contains codes (watch_at ws e).literal → true_at values (watch_at ws (flip e)).literal ≡ true
+served-watch values ws codes slot e failed served here h = by served (cases_eq e (2 * slot))
+  where
+    low : false_at values (watch_at ws e).literal ≡ true
+    low = failed (watch_at ws e).literal h
+
+    second : (e ≡ 2 * slot → ⊥) → e ≡ 2 * slot + 1
+    second n = same-slot e (2 * slot) (omega (arith, here)) n ∙ flip-even slot
+
+    first-flip : e ≡ 2 * slot → flip e ≡ 2 * slot + 1
+    first-flip is = ap flip is ∙ flip-even slot
+
+    second-flip : (e ≡ 2 * slot → ⊥) → flip e ≡ 2 * slot
+    second-flip n = ap flip (second n ∙ sym (flip-even slot)) ∙ flip-flip (2 * slot)
+
+    by : IsServed values ws slot → (e ≡ 2 * slot) ⊎ (e ≡ 2 * slot → ⊥) → true_at values (watch_at ws (flip e)).literal ≡ true
+    by (inl one) (inl is) = absurd (not_both values (watch_at ws e).literal (ap (λ t. true_at values (watch_at ws t).literal) is ∙ one) low)
+    by (inl one) (inr n) = ap (λ t. true_at values (watch_at ws t).literal) (second-flip n) ∙ one
+    by (inr (inl two)) (inl is) = ap (λ t. true_at values (watch_at ws t).literal) (first-flip is) ∙ two
+    by (inr (inl two)) (inr n) = absurd (not_both values (watch_at ws e).literal (ap (λ t. true_at values (watch_at ws t).literal) (second n) ∙ two) low)
+    by (inr (inr free)) (inl is) = absurd (both_ways _ (ap (λ t. false_at values (watch_at ws t).literal) is ∙ free.0) low)
+    by (inr (inr free)) (inr n) = absurd (both_ways _ (ap (λ t. false_at values (watch_at ws t).literal) (second n) ∙ free.1) low)
+
+-- a clause adds nothing to the occurrence lists
+pub clause-rooted : (store : Store) (clauses : Clauses) (run : Run) (rests : Rests) (slot : ℕ) → slot < length store.kept.items → ((d : Shape) → ((get_or (shapes_of store.kept.items) slot d).terms ≡ []) × ((get_or (shapes_of store.kept.items) slot d).degree ≡ 0)) → get_or run.opens.items slot 0 ≡ 0 → IsRooted store clauses run rests slot → IsRooted store clauses run rests (length store.kept.items)
+clause-rooted store clauses run rests slot inside bare none r = record {
+  values = r.values;
+  opens = r.opens;
+  starts = r.starts;
+  open_sizes = r.open_sizes;
+  start_sizes = r.start_sizes;
+  counted = λ s d less apart. elim (cases_eq s slot) [
+    | inl one ↦ ap (λ j. get_or run.opens.items j 0) one ∙ none ∙ sym (ap (λ j. open_sum run.assignment.list.items (get_or (shapes_of store.kept.items) j d).terms) one ∙ ap (open_sum run.assignment.list.items) (bare d).0)
+    | inr other ↦ r.counted s d less other
+  ];
+  tidy = record {
+    calm = λ s d less apart off gone. elim (cases_eq s slot) [
+      | inl one ↦
+          let terms = ap (λ j. (get_or (shapes_of store.kept.items) j d).terms) one ∙ (bare d).0 in
+          let degree = ap (λ j. (get_or (shapes_of store.kept.items) j d).degree) one ∙ (bare d).1 in
+          record { met = omega (arith, degree); waiting = λ e h. absurd (omega (arith, h, ap length terms)) }
+      | inr other ↦ r.tidy.calm s d less other off gone
+    ];
+    passed = r.tidy.passed;
+    bounded = r.tidy.bounded;
+    clean = r.tidy.clean;
+    named = r.tidy.named;
+    marked = r.tidy.marked;
+    traced = r.tidy.traced;
+  };
+  work = r.work;
+  trail = r.trail;
+  next = r.next;
+  derived = r.derived;
+  walked = r.walked;
+}
+
+-- what a propagation needs after a form was laid on the root
+pub slot-counted : (forms : List Shape) (opens lowered : List ℕ) (list : List NumberedLiteral) (n : ℕ) → n < length opens → ((s : ℕ) (d : Shape) → s < length forms → (s ≡ n → ⊥) → get_or opens s 0 ≡ open_sum list (get_or forms s d).terms) → ((d : Shape) → lowered ≡ set opens n (open_sum list (get_or forms n d).terms)) → IsCounted forms lowered list []
+slot-counted forms opens lowered list n room counted low = record {
+  each = λ s d inside.
+      let none : weight_in s [] ≡ 0 = refl in
+      elim (cases_eq s n) [
+        | inl one ↦
+            let now : get_or lowered s 0 ≡ open_sum list (get_or forms s d).terms = ap (λ xs. get_or xs s 0) (low d) ∙ rw one (get_or-set_same opens n (open_sum list (get_or forms n d).terms) 0 room) in
+            omega (arith, now, none)
+        | inr other ↦
+            let now = ap (λ xs. get_or xs s 0) (low d) ∙ get_or-set_other opens n s (open_sum list (get_or forms n d).terms) 0 other in
+            omega (arith, now, counted s d inside other, none)
+      ];
+}
+
+pub slot-tidy : (rests : Rests) (forms : List Shape) (opens cands lowered : List ℕ) (list : List NumberedLiteral) (work trail : List ℕ) (n : ℕ) → n < length forms → n < length opens → IsTidy (beside rests []) forms opens cands list [] [] 0 n → ((d : Shape) → lowered ≡ set opens n (open_sum list (get_or forms n d).terms)) →
+    Grown ((d : Shape) (c : ℕ) → IsCalm (get_or forms n d) (open_sum list (get_or forms n d).terms) c) n [] work → trail ≡ n ∷ [] → IsTidy (beside rests []) forms lowered cands list work trail 0 (length forms)
+slot-tidy rests forms opens cands lowered list work trail n inside_n room tidy low queued noted = record {
+  calm = λ s d inside idle off gone. elim (cases_eq s n) [
+    | inl one ↦
+        let calm = needless work queued gone one d (get_or cands s 0) in
+        let moved : IsCalm (get_or forms s d) (open_sum list (get_or forms s d).terms) (get_or cands s 0) = subst (λ k. IsCalm (get_or forms k d) (open_sum list (get_or forms k d).terms) (get_or cands s 0)) (sym one) calm in
+        subst (λ o. IsCalm (get_or forms s d) o (get_or cands s 0)) (sym (at_slot s d one)) moved
+    | inr other ↦ rw (open_other s d other) (tidy.calm s d inside other off (λ i from short. absurd (omega (arith, short))))
+  ];
+  passed = tidy.passed;
+  bounded = tidy.bounded;
+  clean = λ s d inside gone.
+      let other : s ≡ n → ⊥ = λ e. gone 0 (omega arith) (omega (arith, ap length noted)) (ap (λ xs. get_or xs 0 0) noted ∙ sym e) in
+      let was = tidy.clean s d inside (λ i from short. absurd (omega (arith, short))) in
+      (open_other s d other ∙ was.0, was.1);
+  named = all_work work queued;
+  marked = rw noted (one_less (λ s. s < length forms) n inside_n);
+  traced = λ s gone.
+      let other : s ≡ n → ⊥ = λ e. gone 0 (omega arith) (omega (arith, ap length noted)) (ap (λ xs. get_or xs 0 0) noted ∙ sym e) in
+      off_work work queued s other;
+}
+  where
+    at_slot : (s : ℕ) (d : Shape) → s ≡ n → get_or lowered s 0 ≡ open_sum list (get_or forms s d).terms
+    at_slot s d one = ap (λ xs. get_or xs s 0) (low d) ∙ rw one (get_or-set_same opens n (open_sum list (get_or forms n d).terms) 0 room)
+
+    open_other : (s : ℕ) (d : Shape) → (s ≡ n → ⊥) → get_or lowered s 0 ≡ get_or opens s 0
+    open_other s d other = ap (λ xs. get_or xs s 0) (low d) ∙ get_or-set_other opens n s (open_sum list (get_or forms n d).terms) 0 other
+
+    needless : (w : List ℕ) → Grown ((d : Shape) (c : ℕ) → IsCalm (get_or forms n d) (open_sum list (get_or forms n d).terms) c) n [] w → {s : ℕ} → IsAbsent w 0 s → s ≡ n → (d : Shape) (c : ℕ) → IsCalm (get_or forms n d) (open_sum list (get_or forms n d).terms) c
+    needless _ pushed gone one = absurd (gone 0 (omega arith) (omega arith) (sym one))
+    needless _ (spared calm) gone one = calm
+
+    one_less : (P : ℕ → Type 0) (x : ℕ) → P x → All P (x ∷ [])
+    one_less P x p i d less =
+        let first : 0 ≡ i = omega (arith, less) in
+        subst (λ j. P (get_or (x ∷ []) j d)) first p
+
+    all_work : (w : List ℕ) → Grown ((d : Shape) (c : ℕ) → IsCalm (get_or forms n d) (open_sum list (get_or forms n d).terms) c) n [] w → All (λ s. s < length forms) w
+    all_work _ pushed = one_less (λ s. s < length forms) n inside_n
+    all_work _ (spared calm) = λ i d less. absurd (omega (arith, less))
+
+    off_work : (w : List ℕ) → Grown ((d : Shape) (c : ℕ) → IsCalm (get_or forms n d) (open_sum list (get_or forms n d).terms) c) n [] w → (s : ℕ) → (s ≡ n → ⊥) → IsAbsent w 0 s
+    off_work _ pushed s other i from less found =
+        let first : i ≡ 0 = omega (arith, less) in
+        other (sym found ∙ ap (λ j. get_or (n ∷ []) j 0) first)
+    off_work _ (spared calm) s other i from less found = absurd (omega (arith, less))

@@ -1,0 +1,68 @@
+-- Lists to which literals were added.
+use Rattle.std.specs.Prelude.{map, count_by, true, false, Bool, ◌||◌, ◌==◌}
+use Rattle.std.proofs.Common.{◌≡◌, ℕ, ◌≤◌, ◌++◌, ◌∷◌, [], List, cond, refl, sym, ◌∙◌, ap, subst, arith, length, get_or, take, drop}
+use Rattle.std.proofs.lemmas.Bool.{both_ways}
+use Rattle.std.proofs.lemmas.List.{append-nil, append_assoc, map-append, take-append-drop}
+use Rattle.std.proofs.lemmas.List.Sums.{sum_by-cons, sum_by-append}
+use Rattle.pb_normal.specs.declared.numbered.NumberedLiteral.{NumberedLiteral}
+use Rattle.pb_normal.specs.meaning.Rules.{negation}
+use Rattle.pb_propagate.specs.engine.Engine.Lists.{Shape, Weighted, Derives, begin, put, Extends}
+use Rattle.pb_propagate.specs.engine.Engine.Counts.{place, spent}
+use Rattle.pb_propagate.specs.engine.Clauses.Walked.{has, killed, falsified_code, walked_codes}
+
+pub extends-none : (a : List NumberedLiteral) → Extends a a
+extends-none a = ([], sym (append-nil a))
+
+pub extends-then : (a b c : List NumberedLiteral) → Extends a b → Extends b c → Extends a c
+extends-then a b c (r, e) (s, f) = (r ++ s, f ∙ ap (λ xs. xs ++ s) e ∙ append_assoc a r s)
+
+pub extends-one : (a b : List NumberedLiteral) (l : NumberedLiteral) → b ≡ a ++ (l ∷ []) → Extends a b
+extends-one a b l e = (l ∷ [], e)
+
+pub derives-extends : (forms : List Shape) (a b : List NumberedLiteral) → Derives forms a b → Extends a b
+derives-extends forms a _ begin = extends-none a
+derives-extends forms a _ (put {list} l d m) = extends-then a list (list ++ (l ∷ [])) (derives-extends forms a list d) (extends-one list (list ++ (l ∷ [])) l refl)
+
+pub spent-extends : (lists : List (List Weighted)) (a b : List NumberedLiteral) → Extends a b → spent lists a ≤ spent lists b
+spent-extends lists a b (r, e) = omega (arith, ap (spent lists) e, sum_by-append (λ l. length (get_or lists (place (negation l)) [])) a r)
+
+-- more codes
+count-within : (a b : List ℕ) → ((x : ℕ) → has a x ≡ true → has b x ≡ true) → (xs : List ℕ) → count_by (λ x. has a x) xs ≤ count_by (λ x. has b x) xs
+count-within a b h [] = omega arith
+count-within a b h (x ∷ xs) =
+    let rest = count-within a b h xs in
+    let p = sum_by-cons (λ y. cond (has a y) 1 0) x xs in
+    let q = sum_by-cons (λ y. cond (has b y) 1 0) x xs in
+    omega (arith, rest, p, q, one (has a x) (has b x) (h x))
+  where
+    one : (m n : Bool) → (m ≡ true → n ≡ true) → cond m 1 0 ≤ cond n 1 0
+    one false n k = omega arith
+    one true true k = omega arith
+    one true false k = absurd (both_ways _ refl (k refl))
+
+pub killed-within : (clauses : List (List ℕ)) (a b : List ℕ) → ((x : ℕ) → has a x ≡ true → has b x ≡ true) → killed clauses a ≤ killed clauses b
+killed-within [] a b h = omega arith
+killed-within (xs ∷ clauses) a b h =
+    let rest = killed-within clauses a b h in
+    let one = count-within a b h xs in
+    let p = sum_by-cons (λ ys. count_by (λ x. has a x) ys) xs clauses in
+    let q = sum_by-cons (λ ys. count_by (λ x. has b x) ys) xs clauses in
+    omega (arith, rest, one, p, q)
+
+has-prefix : (a b : List ℕ) (x : ℕ) → has a x ≡ true → has (a ++ b) x ≡ true
+has-prefix [] b x h = absurd (both_ways _ refl h)
+has-prefix (y ∷ ys) b x h = by (y == x) (has ys x) h (has-prefix ys b x)
+  where
+    by : (m n : Bool) → (m || n) ≡ true → (n ≡ true → has (ys ++ b) x ≡ true) → (m || has (ys ++ b) x) ≡ true
+    by true n h k = refl
+    by false n h k = k h
+
+pub killed-prefix : (clauses : List (List ℕ)) (a b : List ℕ) → killed clauses a ≤ killed clauses (a ++ b)
+killed-prefix clauses a b = killed-within clauses a (a ++ b) (has-prefix a b)
+
+pub killed-extends : (clauses : List (List ℕ)) (a b : List NumberedLiteral) (n : ℕ) → Extends a b → killed clauses (walked_codes n a) ≤ killed clauses (map falsified_code b)
+killed-extends clauses a b n (r, e) =
+    let codes : map falsified_code b ≡ walked_codes n a ++ map falsified_code (drop n a ++ r) =
+    ap (map falsified_code) (e ∙ ap (λ xs. xs ++ r) (sym (take-append-drop n a)) ∙ append_assoc (take n a) (drop n a) r) ∙ map-append falsified_code (take n a) (drop n a ++ r) in
+    let prefix = killed-prefix clauses (walked_codes n a) (map falsified_code (drop n a ++ r)) in
+    subst (λ xs. killed clauses (walked_codes n a) ≤ killed clauses xs) (sym codes) prefix

@@ -1,0 +1,96 @@
+-- A form came into a slot.
+use Rattle.std.specs.Prelude.{Some, slice_get, ◌/◌}
+use Rattle.std.proofs.Common.{◌≡◌, ℕ, ◌+◌, ◌*◌, ◌<◌, ◌≤◌, ◌++◌, ◌∷◌, [], List, sym, ◌∙◌, ap, inl, inr, arith, length, length-append, get_or, set, length-set, get_or-set_other}
+use Rattle.std.proofs.lemmas.Bool.{cases_lt, cases_eq}
+use Rattle.std.proofs.lemmas.List.{length-map, get_or_append_left, get_or_past, get_or_push}
+use Rattle.std.proofs.lemmas.Option.{slice_get_within, get_or_from_slice_get}
+use Rattle.pb_propagate.specs.declared.store.stored_form.StoredForm.{StoredForm}
+use Rattle.pb_propagate.specs.declared.store.Store.{Store}
+use Rattle.pb_propagate.specs.declared.clauses.Clauses.{Clauses}
+use Rattle.pb_propagate.specs.declared.clauses.lists.Watch.{Watch}
+use Rattle.pb_propagate.specs.engine.Engine.Lists.{Shape}
+use Rattle.pb_propagate.specs.engine.Engine.Fields.{shapes_of, kept_shape}
+use Rattle.pb_propagate.specs.engine.Engine.Root.{HasWidened, HasGained}
+use Rattle.pb_propagate.specs.engine.Clauses.Links.{list_at, watch_at, idle}
+use Rattle.pb_propagate.specs.engine.Clauses.Shapes.{slot_shape, joined, clauses_of, all_of}
+use Rattle.pb_propagate.proofs.lemmas.clauses.Shapes.{joined-at, joined-length}
+use Rattle.pb_propagate.proofs.lemmas.clauses.Slots.{IsVacant}
+use Rattle.pb_propagate.proofs.lemmas.store.Gets.{get-set_other, get-push_other}
+
+-- two idle watches after the others change nothing
+pub idle-push : (ws : List Watch) (e : ℕ) → watch_at (ws ++ (idle ∷ [])) e ≡ watch_at ws e
+idle-push ws e = elim (cases_lt e (length ws)) [
+  | inl less ↦ get_or_append_left ws (idle ∷ []) idle e less
+  | inr past ↦ elim (cases_eq e (length ws)) [
+    | inl at ↦ get_or_push ws idle idle e (sym at) ∙ sym (get_or_past ws e idle past)
+    | inr apart ↦ get_or_past (ws ++ (idle ∷ [])) e idle (omega (arith, beyond e (length ws) past apart, length-append ws (idle ∷ []))) ∙ sym (get_or_past ws e idle past)
+  ]
+]
+  where
+    beyond : (a b : ℕ) → b ≤ a → (a ≡ b → ⊥) → b < a
+    beyond a b h n = elim (cases_lt b a) [
+      | inl less ↦ less
+      | inr above ↦ absurd (n (omega (arith, h, above)))
+    ]
+
+-- the two watches of a slot are set
+pub watches-apart : (ws mid new : List Watch) (slot e : ℕ) (a b : Watch) → mid ≡ set ws (2 * slot) a → new ≡ set mid (2 * slot + 1) b → (e / 2 ≡ slot → ⊥) → watch_at new e ≡ watch_at ws e
+watches-apart ws mid new slot e a b first second apart =
+    ap (λ xs. watch_at xs e) second ∙ get_or-set_other mid (2 * slot + 1) e b idle (λ is. apart (omega (arith, is))) ∙ ap (λ xs. watch_at xs e) first ∙ get_or-set_other ws (2 * slot) e a idle (λ is. apart (omega (arith, is)))
+
+-- a vacant slot has no terms
+pub vacant-bare : (xs : List Shape) (clauses : List (List ℕ)) (s : ℕ) (x : Shape) → IsVacant xs clauses s → slice_get (joined xs clauses) s ≡ Some x → x.terms ≡ []
+vacant-bare xs clauses s x v at =
+    let is : get_or (joined xs clauses) s x ≡ x = get_or_from_slice_get (joined xs clauses) s x x at in
+    let shape : get_or (joined xs clauses) s x ≡ get_or xs s x = joined-at xs clauses s x v.inside ∙ ap (slot_shape (get_or xs s x)) v.clause in
+    ap (λ (f : Shape). f.terms) (sym is ∙ shape) ∙ v.terms x
+
+-- a form in a vacant slot
+pub gained-filled : (before store : Store) (old clauses : Clauses) (slot : ℕ) (k : StoredForm) → store.variables ≡ before.variables → store.kept.items ≡ set before.kept.items slot k → ((s : ℕ) → (s ≡ slot → ⊥) → list_at (clauses_of clauses) s ≡ list_at (clauses_of old) s) → ((e : ℕ) → (e / 2 ≡ slot → ⊥) → watch_at clauses.watches.items e ≡ watch_at old.watches.items e) → IsVacant (shapes_of before.kept.items) (clauses_of old) slot → HasGained before old store clauses slot
+gained-filled before store old clauses slot k variables keeps filled watched v = record {
+  variables = variables;
+  longer = inl (ap length keeps ∙ length-set before.kept.items slot k);
+  kept = λ s apart. ap (λ xs. slice_get xs s) keeps ∙ get-set_other before.kept.items slot s k apart;
+  filled = filled;
+  bare = λ x at. vacant-bare (shapes_of before.kept.items) (clauses_of old) slot x v at;
+  watched = watched;
+}
+
+-- a slot came, and then a form
+pub gained-both : (before mid store : Store) (old between clauses : Clauses) (slot : ℕ) → mid.variables ≡ before.variables → HasWidened before old mid between slot → HasGained mid between store clauses slot → HasGained before old store clauses slot
+gained-both before mid store old between clauses slot variables w g = elim w.kept [
+  | inl same ↦ record {
+    variables = g.variables ∙ variables;
+    longer = rw same.0 at g.longer;
+    kept = λ s apart. g.kept s apart ∙ ap (λ xs. slice_get xs s) same.0;
+    filled = λ s apart. g.filled s apart ∙ ap (λ cs. list_at cs s) same.1;
+    bare = λ x at. g.bare x (ap (λ xs. slice_get (joined (shapes_of xs) (clauses_of between)) slot) same.0 ∙ ap (λ cs. slice_get (joined (shapes_of before.kept.items) cs) slot) same.1 ∙ at);
+    watched = λ e apart. g.watched e apart ∙ w.watched e;
+  }
+  | inr new ↦ record {
+    variables = g.variables ∙ variables;
+    longer = elim g.longer [
+      | inl same ↦ inr (same ∙ ap length new.2 ∙ length-append before.kept.items (new.1 ∷ []), new.0)
+      | inr more ↦ absurd (omega (arith, more.1, new.0, ap length new.2, length-append before.kept.items (new.1 ∷ [])))
+    ];
+    kept = λ s apart. g.kept s apart ∙ ap (λ xs. slice_get xs s) new.2 ∙ get-push_other before.kept.items s new.1 (λ is. apart (is ∙ sym new.0));
+    filled = λ s apart. g.filled s apart ∙ ap (λ cs. list_at cs s) new.3 ∙ none-push (clauses_of old) s;
+    bare = λ x at. absurd (omega (arith, slice_get_within (all_of before old) slot x at, new.0, joined-length (shapes_of before.kept.items) (clauses_of old), length-map before.kept.items kept_shape));
+    watched = λ e apart. g.watched e apart ∙ w.watched e;
+  }
+]
+  where
+    none-push : (cs : List (List ℕ)) (s : ℕ) → list_at (cs ++ ([] ∷ [])) s ≡ list_at cs s
+    none-push cs s = elim (cases_lt s (length cs)) [
+      | inl less ↦ get_or_append_left cs ([] ∷ []) [] s less
+      | inr past ↦ elim (cases_eq s (length cs)) [
+        | inl at ↦ get_or_push cs [] [] s (sym at) ∙ sym (get_or_past cs s [] past)
+        | inr apart ↦ get_or_past (cs ++ ([] ∷ [])) s [] (omega (arith, beyond s (length cs) past apart, length-append cs ([] ∷ []))) ∙ sym (get_or_past cs s [] past)
+      ]
+    ]
+      where
+        beyond : (a b : ℕ) → b ≤ a → (a ≡ b → ⊥) → b < a
+        beyond a b h n = elim (cases_lt b a) [
+          | inl less ↦ less
+          | inr above ↦ absurd (n (omega (arith, h, above)))
+        ]

@@ -1,0 +1,184 @@
+-- The form of a slot goes, and the root stays.
+use Rattle.std.specs.Prelude.{Contains, Option, Bool, Some, map, slice_get, ◌/◌}
+use Rattle.std.proofs.Common.{Vec, Global, ◌≡◌, ℕ, ◌<◌, ◌⊎◌, [], List, true, false, refl, sym, ◌∙◌, ap, subst, inl, inr, arith, length, get_or, set, length-set, get_or-set_same, get_or-set_other}
+use Rattle.std.proofs.lemmas.Bool.{cases_eq, both_ways}
+use Rattle.std.proofs.lemmas.List.{length-map, get_or-map, get_or_default, map-set}
+use Rattle.std.proofs.lemmas.Option.{slice_get-get_or, get_or_from_slice_get}
+use Rattle.pb_normal.specs.declared.numbered.NumberedLiteral.{NumberedLiteral}
+use Rattle.pb_normal.specs.meaning.Rules.{negation}
+use Rattle.pb_propagate.specs.declared.term.Term.{Term}
+use Rattle.pb_propagate.specs.declared.rests.Rests.{Rests}
+use Rattle.pb_propagate.specs.declared.run.Run.{Run}
+use Rattle.pb_propagate.specs.declared.assignment.Assignment.{Assignment}
+use Rattle.pb_propagate.specs.declared.store.Store.{Store}
+use Rattle.pb_propagate.specs.declared.store.stored_form.StoredForm.{StoredForm}
+use Rattle.pb_propagate.specs.declared.clauses.Clauses.{Clauses}
+use Rattle.pb_propagate.specs.engine.Engine.Lists.{Shape, has, says, open_sum, size}
+use Rattle.pb_propagate.specs.engine.Engine.Fields.{shapes_of, kept_shape}
+use Rattle.pb_propagate.specs.engine.Engine.Root.{IsRooted, IsSpare, HasOpen, HasTrue, HasVacated, HasLost, IsSameWatch}
+use Rattle.pb_propagate.specs.engine.Clauses.Truths.{flip, true_at}
+use Rattle.pb_propagate.specs.engine.Clauses.Links.{lists_of, list_at, watch_at}
+use Rattle.pb_propagate.specs.engine.Clauses.Runs.{AreReady, AreWalked}
+use Rattle.pb_propagate.specs.engine.Clauses.Shapes.{one_term, literal_at, clause_shape, slot_shape, joined, clauses_of, all_of}
+use Rattle.pb_propagate.specs.engine.Clauses.Walked.{walked_codes}
+use Rattle.pb_propagate.proofs.lemmas.clauses.Linked.{lists-length}
+use Rattle.pb_propagate.proofs.lemmas.clauses.Literals.{true-listed, false-listed}
+use Rattle.pb_propagate.proofs.lemmas.clauses.Shapes.{joined-at, two-open}
+use Rattle.pb_propagate.proofs.lemmas.clauses.Slots.{joined-cleared}
+use Rattle.pb_propagate.proofs.lemmas.clauses.Truths.{flip-half}
+use Rattle.pb_propagate.proofs.lemmas.engine.Values.{Agree}
+use Rattle.pb_propagate.proofs.lemmas.root.Admitted.{no-watch}
+use Rattle.pb_propagate.proofs.lemmas.root.Rooted.{derives-spare, only-one, unused-spare}
+
+-- a term of a clause is one of its literals, with coefficient 1
+clause-term : (codes : List ℕ) (l : NumberedLiteral) (c : ℕ) → Contains (map one_term codes) (record { literal = l; coefficient = c }) → (x : ℕ) × Contains codes x × (literal_at x ≡ l) × (c ≡ 1)
+clause-term codes l c (k, within, at) =
+    let t : Term = record { literal = l; coefficient = c } in
+    let inside : k < length codes = omega (arith, within, length-map codes one_term) in
+    let one : one_term (get_or codes k 0) ≡ t = sym (get_or-map one_term codes k 0 t inside) ∙ at in
+    (get_or codes k 0, (k, inside, get_or_default codes k (get_or codes k 0) 0 inside), ap (λ (y : Term). y.literal) one, sym (ap (λ (y : Term). y.coefficient) one))
+
+-- a clause with an open literal has put none
+pub open-spare : (values : List (Option Bool)) (list : List NumberedLiteral) (codes : List ℕ) → Agree values list → HasOpen values codes → IsSpare (clause_shape codes) list
+open-spare values list codes agree (m, among, untrue, unfalse) l earlier on within puts =
+    let whole : clause_shape codes ≡ puts.form = only-one (clause_shape codes) puts.form puts.among in
+    let term : Contains (map one_term codes) (record { literal = l; coefficient = puts.coefficient }) = subst (λ (y : Shape). Contains y.terms (record { literal = l; coefficient = puts.coefficient })) (sym whole) puts.term in
+    let x = clause-term codes l puts.coefficient term in
+    let apart : m ≡ x.0 → ⊥ = λ is. both_ways _ (sym (true-listed values list m agree) ∙ untrue) (ap (λ y. has list (literal_at y)) is ∙ ap (has list) x.2 ∙ on) in
+    let mine : has earlier (negation (literal_at x.0)) ≡ false = ap (λ k. has earlier (negation k)) x.2 ∙ puts.not_falsified in
+    let other : has earlier (negation (literal_at m)) ≡ false = not-within earlier list (negation (literal_at m)) within (sym (false-listed values list m agree) ∙ unfalse) in
+    let two = two-open earlier codes x.0 m x.1 among apart mine other in
+    omega (arith, two, puts.forced, x.3, ap (λ (y : Shape). y.degree) whole, ap (λ (y : Shape). open_sum earlier y.terms) whole)
+  where
+    not-within : (a b : List NumberedLiteral) (k : NumberedLiteral) → ((j : NumberedLiteral) → has a j ≡ true → has b j ≡ true) → has b k ≡ false → has a k ≡ false
+    not-within a b k w none = by (has a k) refl
+      where
+        by : (v : Bool) → has a k ≡ v → has a k ≡ false
+        by true h = absurd (both_ways _ none (w k h))
+        by false h = h
+
+-- a form without a true literal has put none
+pub untrue-spare : (values : List (Option Bool)) (list : List NumberedLiteral) (x : Shape) → Agree values list → (HasTrue values x.terms → ⊥) → IsSpare x list
+untrue-spare values list x agree none = unused-spare x list (λ l c h. by l c h (says values l) refl)
+  where
+    by : (l : NumberedLiteral) (c : ℕ) → Contains x.terms (record { literal = l; coefficient = c }) → (v : Bool) → says values l ≡ v → has list l ≡ false
+    by l c h true is = absurd (none (record { literal = l; coefficient = c }, h, is))
+    by l c h false is = agree l ∙ is
+
+-- the constraint of a slot
+pub slot-is : (store : Store) (clauses : Clauses) (slot : ℕ) (x : Shape) → slot < length store.kept.items → slice_get (all_of store clauses) slot ≡ Some x → x ≡ slot_shape (get_or (shapes_of store.kept.items) slot x) (list_at (clauses_of clauses) slot)
+slot-is store clauses slot x less at =
+    sym (get_or_from_slice_get (all_of store clauses) slot x x at) ∙ joined-at (shapes_of store.kept.items) (clauses_of clauses) slot x (omega (arith, less, length-map store.kept.items kept_shape))
+
+-- the walked watches are still served
+vacated-walked : (values : List (Option Bool)) (old clauses : Clauses) (codes : List ℕ) (slot : ℕ) → AreReady clauses → list_at (clauses_of clauses) slot ≡ [] → ((e : ℕ) → (e / 2 ≡ slot → ⊥) → IsSameWatch (watch_at old.watches.items e) (watch_at clauses.watches.items e)) → AreWalked values old.watches.items codes → AreWalked values clauses.watches.items codes
+vacated-walked values old clauses codes slot ready none same w = record {
+  failed = w.failed;
+  done = λ e live h. elim (cases_eq (e / 2) slot) [
+    | inl here ↦ absurd (no-watch (clauses_of clauses) clauses.watches.items (lists_of clauses.lists.items) slot e ready.stored none here live)
+    | inr apart ↦
+        let flipped : flip e / 2 ≡ slot → ⊥ = λ is. apart (sym (flip-half e) ∙ is) in
+        ap (true_at values) (same (flip e) flipped).1 ∙ w.done e (sym (same e apart).0 ∙ live) (subst (Contains codes) (same e apart).1 h)
+  ];
+}
+
+-- the root stays
+pub lost-rooted : (before store : Store) (old clauses : Clauses) (run run' : Run) (rests rests' : Rests) (slot : ℕ) → slot < length before.kept.items → slot < length old.literals.items → AreReady clauses → HasVacated before old store clauses slot → HasLost run run' rests rests' slot →
+    ((x : Shape) → slice_get (all_of before old) slot ≡ Some x → IsSpare x run.assignment.list.items) → IsRooted before old run rests (length before.kept.items) → IsRooted store clauses run' rests' (length store.kept.items)
+lost-rooted before store old clauses run run' rests rests' slot inside room ready g h spare r = record {
+  values = ap (λ (x : Assignment). length x.values.items) h.assignment ∙ r.values ∙ sym g.variables;
+  opens = h.opens ∙ ap (λ xs. set xs slot 0) r.opens ∙ sym h.rest_opens;
+  starts = h.candidates ∙ ap (λ xs. set xs slot 0) r.starts ∙ sym h.rest_starts;
+  open_sizes = ap length h.opens ∙ length-set run.opens.items slot 0 ∙ r.open_sizes ∙ sym longer;
+  start_sizes = ap length h.candidates ∙ length-set run.candidates.items slot 0 ∙ r.start_sizes ∙ sym longer;
+  counted = λ s d less off. elim (cases_eq s slot) [
+    | inl here ↦ open-here s here ∙ sym (ap (open_sum run'.assignment.list.items) (bare s d here).0)
+    | inr apart ↦ rw h.assignment (open-other s apart ∙ r.counted s d (was s less) (λ e. absurd (omega (arith, e, was s less))) ∙ ap (λ (f : Shape). open_sum run.assignment.list.items f.terms) (sym (shape s d apart)))
+  ];
+  tidy = record {
+    calm = λ s d less off away gone. elim (cases_eq s slot) [
+      | inl here ↦ record {
+        met = omega (arith, (bare s d here).1);
+        waiting = λ e few. absurd (omega (arith, few, ap length (bare s d here).0));
+      }
+      | inr apart ↦
+          let calm = r.tidy.calm s d (shorter s less) (λ e. absurd (omega (arith, e, was-shape s less))) away gone in
+          rw (shape s d apart, open-other s apart, cand-other s apart) calm
+    ];
+    passed = λ s d less k f early within. elim (cases_eq s slot) [
+      | inl here ↦ absurd (omega (arith, within, ap length (bare s d here).0))
+      | inr apart ↦
+          let done = r.tidy.passed s d (shorter s less) k f (omega (arith, early, cand-other s apart)) (omega (arith, within, ap (λ (x : Shape). length x.terms) (shape s d apart))) in
+          rw (shape s d apart, h.assignment) done
+    ];
+    bounded = λ s d less. elim (cases_eq s slot) [
+      | inl here ↦ omega (arith, cand-here s here)
+      | inr apart ↦ omega (arith, r.tidy.bounded s d (shorter s less), cand-other s apart, ap (λ (x : Shape). length x.terms) (shape s d apart))
+    ];
+    clean = λ s d less gone.
+        let opens_same = h.opens ∙ ap (λ xs. set xs slot 0) r.opens ∙ sym h.rest_opens in
+        let starts_same = h.candidates ∙ ap (λ xs. set xs slot 0) r.starts ∙ sym h.rest_starts in
+        let here : s < length run'.opens.items = omega (arith, less, length-map store.kept.items kept_shape, ap length h.opens, length-set run.opens.items slot 0, r.open_sizes, longer) in (
+          get_or_default run'.opens.items s 0 (size (get_or (shapes_of store.kept.items) s d).terms) here ∙ ap (λ xs. get_or xs s (size (get_or (shapes_of store.kept.items) s d).terms)) opens_same,
+          ap (λ xs. get_or xs s 0) starts_same,
+        );
+    named = λ i d less. absurd (omega (arith, less));
+    marked = λ i d less. absurd (omega (arith, less));
+    traced = λ s gone. gone;
+  };
+  work = ap (λ (v : Vec ℕ Global). v.items) h.work ∙ r.work;
+  trail = ap (λ (v : Vec ℕ Global). v.items) h.trail ∙ r.trail;
+  next = h.next ∙ r.next;
+  derived = rw h.assignment (derives-spare (all_of before old) (all_of store clauses) [] run.assignment.list.items source r.derived);
+  walked = rw h.assignment (vacated-walked run.assignment.values.items old clauses (walked_codes (length run.assignment.list.items) run.assignment.list.items) slot ready none_there g.watched r.walked);
+}
+  where
+    k : StoredForm
+    k = g.kept.0
+
+    longer : length store.kept.items ≡ length before.kept.items
+    longer = ap length g.kept.2 ∙ length-set before.kept.items slot k
+
+    was : (s : ℕ) → s < length store.kept.items → s < length before.kept.items
+    was s less = omega (arith, less, longer)
+
+    was-shape : (s : ℕ) → s < length (shapes_of store.kept.items) → s < length before.kept.items
+    was-shape s less = omega (arith, less, longer, length-map store.kept.items kept_shape)
+
+    shorter : (s : ℕ) → s < length (shapes_of store.kept.items) → s < length (shapes_of before.kept.items)
+    shorter s less = omega (arith, was-shape s less, length-map before.kept.items kept_shape)
+
+    shapes : shapes_of store.kept.items ≡ set (shapes_of before.kept.items) slot (kept_shape k)
+    shapes = ap shapes_of g.kept.2 ∙ map-set kept_shape before.kept.items slot k
+
+    shape : (s : ℕ) (d : Shape) → (s ≡ slot → ⊥) → get_or (shapes_of store.kept.items) s d ≡ get_or (shapes_of before.kept.items) s d
+    shape s d apart = ap (λ xs. get_or xs s d) shapes ∙ get_or-set_other (shapes_of before.kept.items) slot s (kept_shape k) d apart
+
+    bare : (s : ℕ) (d : Shape) → s ≡ slot → ((get_or (shapes_of store.kept.items) s d).terms ≡ []) × ((get_or (shapes_of store.kept.items) s d).degree ≡ 0)
+    bare s d here =
+        let is : get_or (shapes_of store.kept.items) s d ≡ kept_shape k = ap (λ xs. get_or xs s d) shapes ∙ ap (λ j. get_or (set (shapes_of before.kept.items) slot (kept_shape k)) j d) here ∙ get_or-set_same (shapes_of before.kept.items) slot (kept_shape k) d (omega (arith, inside, length-map before.kept.items kept_shape)) in
+        (ap (λ (x : Shape). x.terms) is ∙ g.kept.1.terms, ap (λ (x : Shape). x.degree) is ∙ g.kept.1.degree)
+
+    open-here : (s : ℕ) → s ≡ slot → get_or run'.opens.items s 0 ≡ 0
+    open-here s here = ap (λ xs. get_or xs s 0) h.opens ∙ ap (λ j. get_or (set run.opens.items slot 0) j 0) here ∙ get_or-set_same run.opens.items slot 0 0 (omega (arith, inside, r.open_sizes))
+
+    open-other : (s : ℕ) → (s ≡ slot → ⊥) → get_or run'.opens.items s 0 ≡ get_or run.opens.items s 0
+    open-other s apart = ap (λ xs. get_or xs s 0) h.opens ∙ get_or-set_other run.opens.items slot s 0 0 apart
+
+    cand-here : (s : ℕ) → s ≡ slot → get_or run'.candidates.items s 0 ≡ 0
+    cand-here s here = ap (λ xs. get_or xs s 0) h.candidates ∙ ap (λ j. get_or (set run.candidates.items slot 0) j 0) here ∙ get_or-set_same run.candidates.items slot 0 0 (omega (arith, inside, r.start_sizes))
+
+    cand-other : (s : ℕ) → (s ≡ slot → ⊥) → get_or run'.candidates.items s 0 ≡ get_or run.candidates.items s 0
+    cand-other s apart = ap (λ xs. get_or xs s 0) h.candidates ∙ get_or-set_other run.candidates.items slot s 0 0 apart
+
+    none_there : list_at (clauses_of clauses) slot ≡ []
+    none_there = ap (λ cs. list_at cs slot) g.emptied ∙ get_or-set_same (clauses_of old) slot [] [] (omega (arith, room, lists-length old.literals.items))
+
+    all : all_of store clauses ≡ set (all_of before old) slot (kept_shape k)
+    all = ap (λ xs. joined xs (clauses_of clauses)) shapes ∙ ap (joined (set (shapes_of before.kept.items) slot (kept_shape k))) g.emptied ∙ joined-cleared (shapes_of before.kept.items) (clauses_of old) slot (kept_shape k)
+
+    source : (x : Shape) → Contains (all_of before old) x → (Contains (all_of store clauses) x) ⊎ (IsSpare x run.assignment.list.items)
+    source x (i, less, is) = elim (cases_eq i slot) [
+      | inl here ↦ inr (spare x (ap (slice_get (all_of before old)) (sym here) ∙ slice_get-get_or (all_of before old) i x less ∙ ap (λ y. Some y) is))
+      | inr apart ↦ inl (i, omega (arith, less, ap length all, length-set (all_of before old) slot (kept_shape k)), ap (λ xs. get_or xs i x) all ∙ get_or-set_other (all_of before old) slot i (kept_shape k) x apart ∙ is)
+    ]

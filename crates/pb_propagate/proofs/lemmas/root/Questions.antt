@@ -1,0 +1,190 @@
+-- A question that continues from the root.
+use Rattle.std.specs.Prelude.{map, sum_by, Option, Bool}
+use Rattle.std.proofs.Common.{◌≡◌, ℕ, ◌+◌, ◌-◌, ◌*◌, ◌^◌, ◌<◌, ◌≤◌, ◌⊎◌, ◌++◌, ◌∷◌, [], List, sym, ◌∙◌, ap, subst, inl, inr, arith, length, length-append, get_or, set, take, drop}
+use Rattle.std.proofs.lemmas.Bool.{cases_eq, cases_lt}
+use Rattle.std.proofs.lemmas.List.{length-map, map-append, get_or_append_left, get_or_push, get_or_past, take-append-drop, length-take, get_or_default, ext_get_or}
+use Rattle.std.proofs.lemmas.List.Elements.{Contains-append_left}
+use Rattle.std.proofs.lemmas.List.Sums.{sum_by-append}
+use Rattle.std.proofs.lemmas.List.Sorted.{length_permutation}
+use Rattle.pb_normal.specs.meaning.Form.{Form}
+use Rattle.pb_normal.specs.declared.numbered.NumberedLiteral.{NumberedLiteral}
+use Rattle.pb_propagate.specs.declared.rests.Rests.{Rests}
+use Rattle.pb_propagate.specs.declared.store.stored_form.StoredForm.{StoredForm}
+use Rattle.pb_propagate.specs.declared.store.Store.{Store}
+use Rattle.pb_propagate.specs.declared.clauses.lists.Watch.{Watch}
+use Rattle.pb_propagate.specs.engine.Engine.Lists.{Shape, Derives, Extends, open_sum, size}
+use Rattle.pb_propagate.specs.engine.Engine.Counts.{AreFound, AreSingle, Grown, IsCalm, IsCounted, IsTidy, IsUndone, beside, rest_open, place, spent}
+use Rattle.pb_propagate.specs.engine.Engine.Fields.{shapes_of, spots_of, entries_of, kept_shape, IsSound, HasEntered}
+use Rattle.pb_propagate.specs.engine.Engine.Forms.{IsKeptAs, entry_of}
+use Rattle.pb_propagate.specs.engine.Clauses.Truths.{flip}
+use Rattle.pb_propagate.specs.engine.Clauses.Links.{watch_at}
+use Rattle.pb_propagate.specs.engine.Clauses.Runs.{AreWalked}
+use Rattle.pb_propagate.specs.engine.Clauses.Shapes.{AreJoined, joined}
+use Rattle.pb_propagate.specs.engine.Clauses.Walked.{falsified_code, killed}
+use Rattle.pb_propagate.proofs.lemmas.clauses.Killed.{IsOneSided, killed-both}
+use Rattle.pb_propagate.proofs.lemmas.clauses.Literals.{Agree, true-listed, false-listed}
+use Rattle.pb_propagate.proofs.lemmas.engine.Bounds.{joined-terms}
+use Rattle.pb_propagate.proofs.lemmas.root.Admitted.{slot-counted, slot-tidy}
+use Rattle.pb_propagate.proofs.lemmas.root.Extends.{killed-prefix}
+use Rattle.pb_propagate.proofs.lemmas.root.Rooted.{owned, derives-without, root-short, both-le}
+
+-- the root is no longer than the forms have terms
+pub root-few : (store : Store) (clauses : List (List ℕ)) (list : List NumberedLiteral) → IsSound store → AreJoined (shapes_of store.kept.items) clauses → AreSingle list → IsOneSided list → Derives (joined (shapes_of store.kept.items) clauses) [] list → length list ≤ sum_by (λ (f : Shape). length f.terms) (joined (shapes_of store.kept.items) clauses)
+root-few store clauses list sound j single one d =
+    let shapes = shapes_of store.kept.items in
+    let lists = entries_of shapes store.occurrences.items in
+    omega (arith, root-short shapes (spots_of store.spots.items) lists store.variables clauses list sound d, both-le lists list single one, killed-both clauses list one, sound.whole.totals, joined-terms shapes clauses j)
+
+-- the shapes with one more form
+pub entered-shapes : (g : Form) (keep keep' : List StoredForm) (opens opens' cands cands' : List ℕ) (h : HasEntered g keep keep' opens opens' cands cands') → shapes_of keep' ≡ shapes_of keep ++ (kept_shape h.kept ∷ [])
+entered-shapes g keep keep' opens opens' cands cands' h = ap shapes_of h.keeps ∙ map-append kept_shape keep (h.kept ∷ [])
+
+entered-other : (g : Form) (keep keep' : List StoredForm) (opens opens' cands cands' : List ℕ) (h : HasEntered g keep keep' opens opens' cands cands') (s : ℕ) (d : Shape) → s < length keep → get_or (shapes_of keep') s d ≡ get_or (shapes_of keep) s d
+entered-other g keep keep' opens opens' cands cands' h s d less =
+    ap (λ xs. get_or xs s d) (entered-shapes g keep keep' opens opens' cands cands' h) ∙ get_or_append_left (shapes_of keep) (kept_shape h.kept ∷ []) d s (omega (arith, less, length-map keep kept_shape))
+
+entered-length : (g : Form) (keep keep' : List StoredForm) (opens opens' cands cands' : List ℕ) (h : HasEntered g keep keep' opens opens' cands cands') → length (shapes_of keep') ≡ length keep + 1
+entered-length g keep keep' opens opens' cands cands' h = omega (arith, length-map keep' kept_shape, ap length h.keeps, length-append keep (h.kept ∷ []))
+
+-- the open sums after the goal is laid on the root
+pub laid-counted : (g : Form) (keep keep' : List StoredForm) (opens opens' cands cands' lowered : List ℕ) (list : List NumberedLiteral) (n : ℕ) → (h : HasEntered g keep keep' opens opens' cands cands') → n ≡ length keep → length opens ≡ length keep →
+    ((s : ℕ) (d : Shape) → s < length keep → get_or opens s 0 ≡ open_sum list (get_or (shapes_of keep) s d).terms) →
+    ((d : Shape) → lowered ≡ set opens' n (open_sum list (get_or (shapes_of keep') n d).terms)) → IsCounted (shapes_of keep') lowered list []
+laid-counted g keep keep' opens opens' cands cands' lowered list n h at sizes counted low =
+    slot-counted (shapes_of keep') opens' lowered list n (omega (arith, at, sizes, ap length h.opened, length-append opens (h.kept.total ∷ []))) (λ s d inside other.
+    let less : s < length keep = below s inside other (cases_lt s (length keep)) in
+    ap (λ xs. get_or xs s 0) h.opened ∙ get_or_append_left opens (h.kept.total ∷ []) 0 s (omega (arith, less, sizes)) ∙ counted s d less ∙ ap (λ (f : Shape). open_sum list f.terms) (sym (entered-other g keep keep' opens opens' cands cands' h s d less))) low
+  where
+    below : (s : ℕ) → s < length (shapes_of keep') → (s ≡ n → ⊥) → (s < length keep) ⊎ (length keep ≤ s) → s < length keep
+    below s inside other (inl less) = less
+    below s inside other (inr past) = absurd (other (omega (arith, past, inside, entered-length g keep keep' opens opens' cands cands' h, at)))
+
+-- the forms with the goal after them, which may be anything
+entered-tidy : (rests : Rests) (g : Form) (keep keep' : List StoredForm) (opens opens' cands cands' : List ℕ) (list : List NumberedLiteral) (n : ℕ) → (h : HasEntered g keep keep' opens opens' cands cands') → n ≡ length keep → length opens ≡ length keep → length cands ≡ length keep → length rests.opens.items ≡ length keep → length rests.starts.items ≡ length keep →
+    IsTidy (beside rests []) (shapes_of keep) opens cands list [] [] 0 n → IsTidy (beside rests []) (shapes_of keep') opens' cands' list [] [] 0 n
+entered-tidy rests g keep keep' opens opens' cands cands' list n h at sizes csizes rsizes ssizes tidy = record {
+  calm = λ s d inside idle off gone.
+      let less = below s inside idle in
+      rw (shape s d less, open_other s less, cand_other s less) (tidy.calm s d (omega (arith, less, length-map keep kept_shape)) idle off gone);
+  passed = λ s d inside k f before within. elim (cases_eq s n) [
+    | inl one ↦ absurd (omega (arith, before, cand_goal s one))
+    | inr other ↦
+        let less = below s inside other in
+        let was = tidy.passed s d (omega (arith, less, length-map keep kept_shape)) k f in
+        rw (shape s d less) (was (omega (arith, before, cand_other s less)) (omega (arith, within, ap (λ (x : Shape). length x.terms) (shape s d less))))
+  ];
+  bounded = λ s d inside. elim (cases_eq s n) [
+    | inl one ↦ omega (arith, cand_goal s one)
+    | inr other ↦
+        let less = below s inside other in
+        let was = tidy.bounded s d (omega (arith, less, length-map keep kept_shape)) in
+        omega (arith, was, cand_other s less, ap (λ (x : Shape). length x.terms) (shape s d less))
+  ];
+  clean = λ s d inside gone. elim (cases_eq s n) [
+    | inl one ↦ (open_goal s d one, cand_goal s one ∙ sym (get_or_past rests.starts.items s 0 (omega (arith, one, at, ssizes))))
+    | inr other ↦
+        let less = below s inside other in
+        let was = tidy.clean s d (omega (arith, less, length-map keep kept_shape)) gone in
+        (open_other s less ∙ was.0 ∙ ap (λ x. rest_open rests s x) (sym (shape s d less)), cand_other s less ∙ was.1)
+  ];
+  named = λ i d less. absurd (omega (arith, less));
+  marked = λ i d less. absurd (omega (arith, less));
+  traced = λ s gone. gone;
+}
+  where
+    long : length (shapes_of keep') ≡ length keep + 1
+    long = entered-length g keep keep' opens opens' cands cands' h
+
+    below : (s : ℕ) → s < length (shapes_of keep') → (s ≡ n → ⊥) → s < length keep
+    below s inside other = elim (cases_lt s (length keep)) [
+      | inl less ↦ less
+      | inr past ↦ absurd (other (omega (arith, past, inside, long, at)))
+    ]
+
+    shape : (s : ℕ) (d : Shape) → s < length keep → get_or (shapes_of keep') s d ≡ get_or (shapes_of keep) s d
+    shape s d less = entered-other g keep keep' opens opens' cands cands' h s d less
+
+    open_other : (s : ℕ) → s < length keep → get_or opens' s 0 ≡ get_or opens s 0
+    open_other s less = ap (λ xs. get_or xs s 0) h.opened ∙ get_or_append_left opens (h.kept.total ∷ []) 0 s (omega (arith, less, sizes))
+
+    cand_other : (s : ℕ) → s < length keep → get_or cands' s 0 ≡ get_or cands s 0
+    cand_other s less = ap (λ xs. get_or xs s 0) h.candidates ∙ get_or_append_left cands (0 ∷ []) 0 s (omega (arith, less, csizes))
+
+    cand_goal : (s : ℕ) → s ≡ n → get_or cands' s 0 ≡ 0
+    cand_goal s one = ap (λ xs. get_or xs s 0) h.candidates ∙ get_or_push cands 0 0 s (omega (arith, one, at, csizes))
+
+    open_goal : (s : ℕ) (d : Shape) → s ≡ n → get_or opens' s 0 ≡ rest_open rests s (get_or (shapes_of keep') s d)
+    open_goal s d one =
+        let total : get_or opens' s 0 ≡ h.kept.total = ap (λ xs. get_or xs s 0) h.opened ∙ get_or_push opens h.kept.total 0 s (omega (arith, one, at, sizes)) in
+        let its : get_or (shapes_of keep') s d ≡ kept_shape h.kept = ap (λ xs. get_or xs s d) (entered-shapes g keep keep' opens opens' cands cands' h) ∙ get_or_push (shapes_of keep) (kept_shape h.kept) d s (omega (arith, one, at, length-map keep kept_shape)) in
+        total ∙ h.kept.sum ∙ sym (ap (λ (x : Shape). size x.terms) its) ∙ sym (get_or_past rests.opens.items s (size (get_or (shapes_of keep') s d).terms) (omega (arith, one, at, rsizes)))
+
+-- what a propagation needs of the forms after the goal is laid on the root
+pub laid-tidy : (rests : Rests) (g : Form) (keep keep' : List StoredForm) (opens opens' cands cands' lowered : List ℕ) (list : List NumberedLiteral) (work trail : List ℕ) (n : ℕ) → (h : HasEntered g keep keep' opens opens' cands cands') → n ≡ length keep → length opens ≡ length keep → length cands ≡ length keep → length rests.opens.items ≡ length keep → length rests.starts.items ≡ length keep →
+    IsTidy (beside rests []) (shapes_of keep) opens cands list [] [] 0 n →
+    ((d : Shape) → lowered ≡ set opens' n (open_sum list (get_or (shapes_of keep') n d).terms)) →
+    Grown ((d : Shape) (c : ℕ) → IsCalm (get_or (shapes_of keep') n d) (open_sum list (get_or (shapes_of keep') n d).terms) c) n [] work → trail ≡ n ∷ [] →
+    IsTidy (beside rests []) (shapes_of keep') lowered cands' list work trail 0 (length keep')
+laid-tidy rests g keep keep' opens opens' cands cands' lowered list work trail n h at sizes csizes rsizes ssizes tidy low queued noted =
+    let long = entered-length g keep keep' opens opens' cands cands' h in
+    let entered = entered-tidy rests g keep keep' opens opens' cands cands' list n h at sizes csizes rsizes ssizes tidy in
+    let laid = slot-tidy rests (shapes_of keep') opens' cands' lowered list work trail n (omega (arith, at, long)) (omega (arith, at, sizes, ap length h.opened, length-append opens (h.kept.total ∷ []))) entered low queued noted in
+    rw (length-map keep' kept_shape) at laid
+
+-- after a question each form is as it was
+pub undone-same : (rests : Rests) (forms : List Shape) (opens cands : List ℕ) (n : ℕ) → IsUndone rests forms opens cands [] 0 → length forms ≡ n + 1 → length opens ≡ n + 1 → length cands ≡ n + 1 → length rests.opens.items ≡ n → length rests.starts.items ≡ n → (take (length opens - 1) opens ≡ rests.opens.items) × (take (length cands - 1) cands ≡ rests.starts.items)
+undone-same rests forms opens cands n u long o c r s = (
+  same_prefix opens rests.opens.items n o r (λ i less. (u.clean i none (omega (arith, less, long)) (λ j from short. absurd (omega (arith, short)))).0 ∙ default_at rests.opens.items i less r),
+  same_prefix cands rests.starts.items n c s (λ i less. (u.clean i none (omega (arith, less, long)) (λ j from short. absurd (omega (arith, short)))).1),
+)
+  where
+    none : Shape
+    none = record { terms = []; degree = 0 }
+
+    default_at : (xs : List ℕ) (i : ℕ) → i < n → length xs ≡ n → get_or xs i (size (get_or forms i none).terms) ≡ get_or xs i 0
+    default_at xs i less e = get_or_default xs i (size (get_or forms i none).terms) 0 (omega (arith, less, e))
+
+    prefix_at : (xs : List ℕ) (m i : ℕ) → i < m → get_or (take m xs) i 0 ≡ get_or xs i 0
+    prefix_at xs m i less = elim (cases_lt i (length (take m xs))) [
+      | inl inside ↦ sym (get_or_append_left (take m xs) (drop m xs) 0 i inside) ∙ ap (λ zs. get_or zs i 0) (take-append-drop m xs)
+      | inr past ↦ get_or_past (take m xs) i 0 past ∙ sym (get_or_past xs i 0 (omega (arith, past, length-take m xs, less)))
+    ]
+
+    same_prefix : (xs ys : List ℕ) (m : ℕ) → length xs ≡ m + 1 → length ys ≡ m → ((i : ℕ) → i < m → get_or xs i 0 ≡ get_or ys i 0) → take (length xs - 1) xs ≡ ys
+    same_prefix xs ys m e f h =
+        let short : length xs - 1 ≡ m = omega (arith, e) in
+        rw short (ext_get_or 0 (take m xs) ys (omega (arith, length-take m xs, e, f)) (λ i less. prefix_at xs m i (omega (arith, less, length-take m xs, e)) ∙ h i (omega (arith, less, length-take m xs, e))))
+
+-- values of one list have the same watches served
+pub walked-agree : (values values' : List (Option Bool)) (list : List NumberedLiteral) (ws : List Watch) (codes : List ℕ) → Agree values list → Agree values' list → AreWalked values ws codes → AreWalked values' ws codes
+walked-agree values values' list ws codes a b w = record {
+  failed = λ x h. false-listed values' list x b ∙ sym (false-listed values list x a) ∙ w.failed x h;
+  done = λ e live h. true-listed values' list (watch_at ws (flip e)).literal b ∙ sym (true-listed values list (watch_at ws (flip e)).literal a) ∙ w.done e live h;
+}
+
+-- the constraints that are asked about are those of the root and one more
+pub derives-entered : (shapes : List Shape) (x : Shape) (given list : List NumberedLiteral) → Derives shapes given list → Derives (shapes ++ (x ∷ [])) given list
+derives-entered shapes x given list d = derives-without shapes (shapes ++ (x ∷ [])) given list (λ f h. inl (Contains-append_left shapes (x ∷ []) f h)) d
+
+pub kept-terms : (f : Form) (x : Shape) → IsKeptAs f x → length x.terms ≡ length f.terms
+kept-terms f x k = omega (arith, length_permutation (map entry_of x.terms) f.terms k.terms, length-map x.terms entry_of)
+
+-- each literal of the list was visited
+pub found-after : (n v r : ℕ) → AreFound r n r v → n < 2 ^ 64 → n ≤ v
+found-after n v r found small = elim (cases_lt v (2 ^ 64 - 1)) [
+  | inl below ↦ let few = found below in omega (arith, few)
+  | inr top ↦ omega (arith, top, small)
+]
+
+-- the number of visits
+pub question-most : (store : Store) (clauses : List (List ℕ)) (old new : List NumberedLiteral) (v c0 r w n0 c : ℕ) → IsSound store → AreJoined (shapes_of store.kept.items) clauses → AreSingle new → IsOneSided new → Extends old new → Derives (joined (shapes_of store.kept.items) clauses) [] old → r ≡ length old → w ≤ 1 → c ≤ sum_by (λ f. length f.terms) (shapes_of store.kept.items) →
+    v + c0 ≤ r + (w - n0) + 2 * spent (entries_of (shapes_of store.kept.items) store.occurrences.items) new + c + 2 * killed clauses (map falsified_code new) + sum_by length clauses →
+    v ≤ 3 * sum_by (λ (f : Shape). length f.terms) (joined (shapes_of store.kept.items) clauses) + 1
+question-most store clauses old new v c0 r w n0 c sound j single one (more, e) d is few bounded upper =
+    let shapes = shapes_of store.kept.items in
+    let lists = entries_of shapes store.occurrences.items in
+    let short = root-short shapes (spots_of store.spots.items) lists store.variables clauses old sound d in
+    let mine : owned lists old ≤ owned lists new = omega (arith, ap (owned lists) e, sum_by-append (λ l. length (get_or lists (place l) [])) old more) in
+    let codes : map place new ≡ map place old ++ map place more = ap (map place) e ∙ map-append place old more in
+    let theirs : killed clauses (map place old) ≤ killed clauses (map place new) = subst (λ xs. killed clauses (map place old) ≤ killed clauses xs) (sym codes) (killed-prefix clauses (map place old) (map place more)) in
+    omega (arith, upper, is, few, bounded, short, mine, theirs, both-le lists new single one, killed-both clauses new one, sound.whole.totals, joined-terms shapes clauses j)

@@ -1,0 +1,197 @@
+-- Literals that forms force with nothing assumed.
+use Rattle.std.specs.Prelude.{Bool, true, false, Contains, map, sum_by, Some, slice_get, slice_index_or}
+use Rattle.std.proofs.Common.{◌≡◌, ℕ, zero, suc, ◌+◌, ◌<◌, ◌≤◌, ◌⊎◌, ◌++◌, ◌∷◌, [], List, refl, sym, ◌∙◌, ap, subst, arith, inl, inr, length, get_or, set, length-append, get_or-set_other}
+use Rattle.std.proofs.lemmas.Bool.{cases_lt, both_ways, or_left, or_right}
+use Rattle.std.proofs.lemmas.List.{get_or_past, set_past, get_or-map, length-map, get_or_default}
+use Rattle.std.proofs.lemmas.List.Sums.{sum_by-set, sum_by_push, sum_by-cons}
+use Rattle.std.proofs.lemmas.Option.{slice_get-get_or, slice_get_past}
+use Rattle.pb_normal.specs.declared.numbered.NumberedLiteral.{NumberedLiteral}
+use Rattle.pb_normal.specs.meaning.Rules.{negation}
+use Rattle.pb_propagate.specs.declared.term.Term.{Term}
+use Rattle.pb_propagate.specs.engine.Engine.Lists.{Shape, Weighted, same, has, Puts, Derives, begin, put}
+use Rattle.pb_propagate.specs.engine.Engine.Counts.{place, spent, AreSingle, none, more}
+use Rattle.pb_propagate.specs.engine.Engine.Links.{terms_at, entry_cross, term_cross, entry_at, term_at, IsStored}
+use Rattle.pb_propagate.specs.engine.Engine.Root.{IsSpare}
+use Rattle.pb_propagate.specs.engine.Clauses.Links.{list_at}
+use Rattle.pb_propagate.specs.engine.Clauses.Shapes.{one_term, joined}
+use Rattle.pb_propagate.proofs.lemmas.engine.Literals.{same-refl, negation-negation, has-push_old, has-push_new}
+use Rattle.pb_propagate.proofs.lemmas.engine.Derivations.{one_itself}
+use Rattle.pb_propagate.proofs.lemmas.store.Crosses.{to, to-none}
+use Rattle.pb_propagate.proofs.lemmas.root.Cuts.{absent-before}
+use Rattle.pb_propagate.proofs.lemmas.engine.Spent.{place-injective}
+use Rattle.pb_propagate.proofs.lemmas.clauses.Literals.{place-code}
+use Rattle.pb_propagate.proofs.lemmas.clauses.Counts.{killed, occurs}
+use Rattle.pb_propagate.proofs.lemmas.clauses.Shapes.{joined-source}
+use Rattle.pb_propagate.proofs.lemmas.clauses.Killed.{IsOneSided, killed-push, occurs-some}
+
+-- no literal of the form is on the list
+abbrev pub IsUnused : Shape → List NumberedLiteral → Type 0
+IsUnused x list = (l : NumberedLiteral) (c : ℕ) → Contains x.terms (record { literal = l; coefficient = c }) → has list l ≡ false
+
+puts-other : (a b : List Shape) (list : List NumberedLiteral) (l : NumberedLiteral) (m : Puts a list l) → Contains b m.form → Puts b list l
+puts-other a b list l m among = record {
+  absent = m.absent;
+  not_falsified = m.not_falsified;
+  form = m.form;
+  among = among;
+  coefficient = m.coefficient;
+  term = m.term;
+  forced = m.forced;
+}
+
+-- a derivation needs only the forms that have put one of its literals
+pub derives-spare : (a b : List Shape) (given list : List NumberedLiteral) → ((x : Shape) → Contains a x → (Contains b x) ⊎ (IsSpare x list)) → Derives a given list → Derives b given list
+derives-spare a b given _ h begin = begin
+derives-spare a b given _ h (put {list} l d m) = put l (derives-spare a b given list before d) (puts-other a b list l m used)
+  where
+    before : (x : Shape) → Contains a x → (Contains b x) ⊎ (IsSpare x list)
+    before x c = elim (h x c) [
+      | inl in_b ↦ inl in_b
+      | inr spare ↦ inr (λ k earlier on within puts. spare k earlier (has-push_old list l k on) (λ j at. has-push_old list l j (within j at)) puts)
+    ]
+
+    used : Contains b m.form
+    used = elim (h m.form m.among) [
+      | inl in_b ↦ in_b
+      | inr spare ↦ absurd (spare l list (has-push_new list l) (λ j at. has-push_old list l j at) (puts-other a (m.form ∷ []) list l m (one_itself m.form)))
+    ]
+
+pub only-one : (x y : Shape) → Contains (x ∷ []) y → x ≡ y
+only-one x y (zero, inside, is) = is
+only-one x y (suc i, inside, is) = absurd (omega (arith, inside))
+
+-- a form has put no literal that it lacks
+pub unused-spare : (x : Shape) (list : List NumberedLiteral) → IsUnused x list → IsSpare x list
+unused-spare x list unused l earlier on within puts =
+    let mine : Contains x.terms (record { literal = l; coefficient = puts.coefficient }) = subst (λ (y : Shape). Contains y.terms (record { literal = l; coefficient = puts.coefficient })) (sym (only-one x puts.form puts.among)) puts.term in
+    both_ways _ (unused l puts.coefficient mine) on
+
+-- a derivation needs only the forms that contain one of its literals
+pub derives-without : (a b : List Shape) (given list : List NumberedLiteral) → ((x : Shape) → Contains a x → (Contains b x) ⊎ (IsUnused x list)) → Derives a given list → Derives b given list
+derives-without a b given list h d = derives-spare a b given list
+    (λ x c. elim (h x c) [
+      | inl in_b ↦ inl in_b
+      | inr unused ↦ inr (unused-spare x list unused)
+    ]) d
+
+-- the number of entries in the lists of a list's literals
+abbrev pub owned : List (List Weighted) → List NumberedLiteral → ℕ
+owned lists list = sum_by (λ l. length (slice_index_or lists (place l) [])) list
+
+-- an entry that is named is there
+entry-inside : (lists : List (List Weighted)) (p q a b w : ℕ) → entry_at lists p q ≡ to a b w → q < length (get_or lists p [])
+entry-inside lists p q a b w is = elim (cases_lt q (length (get_or lists p []))) [
+  | inl inside ↦ inside
+  | inr past ↦ absurd (to-none a b w (sym is ∙ ap entry_cross (slice_get_past (get_or lists p []) q past)))
+]
+
+-- a literal of a stored form has an entry
+pub stored-listed : (forms : List Shape) (spots : List (List ℕ)) (lists : List (List Weighted)) (variables : ℕ) (f : Shape) (l : NumberedLiteral) (c : ℕ) → IsStored forms spots lists variables → Contains forms f → Contains f.terms (record { literal = l; coefficient = c }) → 1 ≤ length (get_or lists (place l) [])
+stored-listed forms spots lists variables f l c stored (s, inside, is) (i, within, at) =
+    let t : Term = record { literal = l; coefficient = c } in
+    let bare : Shape = record { terms = []; degree = 0 } in
+    let here : terms_at forms s ≡ f.terms = ap (λ (x : Shape). x.terms) (get_or_default forms s bare f inside ∙ is) in
+    let room : i < length (get_or spots s []) = omega (arith, stored.rooms s inside, ap length here, within) in
+    let q = get_or (get_or spots s []) i 0 in
+    let spot : slice_get (get_or spots s []) i ≡ Some q = slice_get-get_or (get_or spots s []) i 0 room in
+    let term : slice_get (terms_at forms s) i ≡ Some t = ap (λ (xs : List Term). slice_get xs i) here ∙ slice_get-get_or f.terms i t within ∙ ap (λ (x : Term). Some x) at in
+    let named : term_at forms spots s i ≡ to (place l) q c = ap (λ o. term_cross o (slice_get (get_or spots s []) i)) term ∙ ap (term_cross (Some t)) spot in
+    omega (arith, entry-inside lists (place l) q s i c ((stored.whole.crossed s i (place l) q c).0 named))
+
+-- a literal of a clause occurs
+pub clause-occurs : (clauses : List (List ℕ)) (s : ℕ) (l : NumberedLiteral) (c : ℕ) → 0 < length (list_at clauses s) → Contains (map one_term (list_at clauses s)) (record { literal = l; coefficient = c }) → 1 ≤ occurs clauses (place l)
+clause-occurs clauses s l c some (k, within, at) =
+    let codes = list_at clauses s in
+    let inside : k < length codes = omega (arith, within, length-map codes one_term) in
+    let t : Term = record { literal = l; coefficient = c } in
+    let one : one_term (get_or codes k 0) ≡ t = sym (get_or-map one_term codes k 0 t inside) ∙ at in
+    let code_is : get_or codes k 0 ≡ place l = sym (place-code (get_or codes k 0)) ∙ ap (λ (x : Term). place x.literal) one in
+    occurs-some clauses s (place l) some (k, inside, get_or_default codes k (place l) 0 inside ∙ code_is)
+
+-- a literal that was put has an entry, or occurs in a clause
+pub puts-owned : (forms : List Shape) (spots : List (List ℕ)) (lists : List (List Weighted)) (variables : ℕ) (clauses : List (List ℕ)) (list : List NumberedLiteral) (l : NumberedLiteral) → IsStored forms spots lists variables → Puts (joined forms clauses) list l → 1 ≤ length (get_or lists (place l) []) + occurs clauses (place l)
+puts-owned forms spots lists variables clauses list l stored m = elim (joined-source forms clauses m.form m.among) [
+  | inl among ↦ omega (arith, stored-listed forms spots lists variables m.form l m.coefficient stored among m.term)
+  | inr clause ↦
+      let there : Contains (map one_term (list_at clauses clause.0)) (record { literal = l; coefficient = m.coefficient }) = subst (λ (x : Shape). Contains x.terms (record { literal = l; coefficient = m.coefficient })) (sym clause.2) m.term in
+      omega (arith, clause-occurs clauses clause.0 l m.coefficient clause.1 there)
+]
+
+-- there are no more literals than entries and occurrences
+pub root-short : (forms : List Shape) (spots : List (List ℕ)) (lists : List (List Weighted)) (variables : ℕ) (clauses : List (List ℕ)) (list : List NumberedLiteral) → IsStored forms spots lists variables → Derives (joined forms clauses) [] list → length list ≤ owned lists list + killed clauses (map place list)
+root-short forms spots lists variables clauses _ stored begin = omega arith
+root-short forms spots lists variables clauses _ stored (put {list} l d m) =
+    let rest = root-short forms spots lists variables clauses list stored d in
+    let here = puts-owned forms spots lists variables clauses list l stored m in
+    let entries = sum_by_push (λ k. length (get_or lists (place k) [])) list l in
+    let killings = killed-push clauses list l m.absent in
+    omega (arith, rest, here, entries, killings, length-append list (l ∷ []))
+
+-- the lists of a list's literals and of their negations are different lists
+has-head : (x : NumberedLiteral) (xs : List NumberedLiteral) → has (x ∷ xs) x ≡ true
+unfolding has
+has-head x xs = or_left (same x x) (has xs x) (same-refl x)
+
+has-tail : (x : NumberedLiteral) (xs : List NumberedLiteral) (k : NumberedLiteral) → has xs k ≡ true → has (x ∷ xs) k ≡ true
+unfolding has
+has-tail x xs k h = or_right (same x k) (has xs k) h
+
+sum-agree : (f g : NumberedLiteral → ℕ) (list : List NumberedLiteral) → ((k : NumberedLiteral) → has list k ≡ true → f k ≡ g k) → sum_by f list ≡ sum_by g list
+sum-agree f g [] e = refl
+sum-agree f g (x ∷ xs) e =
+    let rest = sum-agree f g xs (λ k h. e k (has-tail x xs k h)) in
+    let here = e x (has-head x xs) in
+    rw (sum_by-cons f x xs, sum_by-cons g x xs) (omega (arith, rest, here))
+
+lists-clear : (lists : List (List Weighted)) (p : ℕ) → sum_by length (set lists p []) + length (get_or lists p []) ≡ sum_by length lists
+lists-clear lists p =
+    let empty : List Weighted = [] in
+    elim (cases_lt p (length lists)) [
+      | inl inside ↦
+          let change = sum_by-set (λ (xs : List Weighted). length xs) lists p empty empty inside in
+          omega (arith, change)
+      | inr past ↦
+          let zero_there = get_or_past lists p empty past in
+          let same_list : set lists p empty ≡ lists = set_past lists p empty past in
+          omega (arith, ap length zero_there, ap (sum_by length) same_list)
+    ]
+
+-- the lists of a literal and of its negation are emptied
+abbrev without : List (List Weighted) → NumberedLiteral → List (List Weighted)
+without lists l = set (set lists (place (negation l)) []) (place l) []
+
+without-other : (lists : List (List Weighted)) (l k : NumberedLiteral) → (k ≡ l → ⊥) → (k ≡ negation l → ⊥) → length (get_or lists (place k) []) ≡ length (get_or (without lists l) (place k) [])
+without-other lists l k n m =
+    let outer = get_or-set_other (set lists (place (negation l)) []) (place l) (place k) [] [] (λ e. n (place-injective k l e)) in
+    let inner = get_or-set_other lists (place (negation l)) (place k) [] [] (λ e. m (place-injective k (negation l) e)) in
+    ap length (sym (outer ∙ inner))
+
+not-itself : (l : NumberedLiteral) → place l ≡ place (negation l) → ⊥
+not-itself l = by_sign l.variable l.negated
+  where
+    by_sign : (v : ℕ) (b : Bool) → place (record { variable = v; negated = b }) ≡ place (negation (record { variable = v; negated = b })) → ⊥
+    by_sign v true e = omega (arith, e)
+    by_sign v false e = omega (arith, e)
+
+without-total : (lists : List (List Weighted)) (l : NumberedLiteral) → sum_by length (without lists l) + length (get_or lists (place (negation l)) []) + length (get_or lists (place l) []) ≡ sum_by length lists
+without-total lists l =
+    let first = lists-clear lists (place (negation l)) in
+    let second = lists-clear (set lists (place (negation l)) []) (place l) in
+    let other = ap length (get_or-set_other lists (place (negation l)) (place l) [] [] (not-itself l)) in
+    omega (arith, first, second, other)
+
+pub one_sided-before : (list : List NumberedLiteral) (l : NumberedLiteral) → IsOneSided (list ++ (l ∷ [])) → IsOneSided list
+one_sided-before list l one k h = absent-before list l (negation k) (one k (has-push_old list l k h))
+
+pub both-le : (lists : List (List Weighted)) (list : List NumberedLiteral) → AreSingle list → IsOneSided list → spent lists list + owned lists list ≤ sum_by length lists
+both-le lists _ none one = omega arith
+both-le lists _ (more {list} l d absent) one =
+    let earlier = both-le (without lists l) list d (one_sided-before list l one) in
+    let opposed : has list (negation l) ≡ false = absent-before list l (negation l) (one l (has-push_new list l)) in
+    let apart : (k : NumberedLiteral) → has list k ≡ true → k ≡ l → ⊥ = λ k h e. both_ways _ absent (ap (has list) (sym e) ∙ h) in
+    let apart' : (k : NumberedLiteral) → has list k ≡ true → k ≡ negation l → ⊥ = λ k h e. both_ways _ opposed (ap (has list) (sym e) ∙ h) in
+    let a : spent lists list ≡ spent (without lists l) list = sum-agree (λ k. length (get_or lists (place (negation k)) [])) (λ k. length (get_or (without lists l) (place (negation k)) [])) list (λ k h. without-other lists l (negation k) (λ e. apart' k h (sym (negation-negation k) ∙ ap negation e)) (λ e. apart k h (sym (negation-negation k) ∙ ap negation e ∙ negation-negation l))) in
+    let b : owned lists list ≡ owned (without lists l) list = sum-agree (λ k. length (get_or lists (place k) [])) (λ k. length (get_or (without lists l) (place k) [])) list (λ k h. without-other lists l k (apart k h) (apart' k h)) in
+    let left = sum_by_push (λ k. length (get_or lists (place (negation k)) [])) list l in
+    let right = sum_by_push (λ k. length (get_or lists (place k) [])) list l in
+    omega (arith, earlier, a, b, left, right, without-total lists l)

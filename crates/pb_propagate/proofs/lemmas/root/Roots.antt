@@ -1,0 +1,123 @@
+-- The state to which questions return becomes that of the run.
+use Rattle.std.specs.Prelude.{filter}
+use Rattle.std.proofs.Common.{◌≡◌, ℕ, ◌+◌, ◌<◌, ◌≤◌, ◌⊎◌, [], List, refl, sym, ◌∙◌, ap, inl, inr, arith, length, get_or, set, get_or-set_same, get_or-set_other}
+use Rattle.std.proofs.lemmas.Bool.{cases_eq}
+use Rattle.std.proofs.lemmas.List.{get_or_default, get_or_read, ext_get_or, length-map}
+use Rattle.pb_normal.specs.declared.numbered.NumberedLiteral.{NumberedLiteral}
+use Rattle.pb_propagate.specs.declared.rests.Rests.{Rests}
+use Rattle.pb_propagate.specs.declared.run.Run.{Run}
+use Rattle.pb_propagate.specs.declared.store.Store.{Store}
+use Rattle.pb_propagate.specs.declared.store.stored_form.StoredForm.{StoredForm}
+use Rattle.pb_propagate.specs.declared.clauses.Clauses.{Clauses}
+use Rattle.pb_propagate.specs.engine.Engine.Lists.{Shape, Derives, size}
+use Rattle.pb_propagate.specs.engine.Engine.Counts.{IsAbsent, IsCounted, IsTidy, IsUndone, beside, rest_open, rest_start, weight_in}
+use Rattle.pb_propagate.specs.engine.Engine.Fields.{shapes_of, kept_shape}
+use Rattle.pb_propagate.specs.engine.Engine.Rest.{AreAtRest, IsEager, waits}
+use Rattle.pb_propagate.specs.engine.Engine.Root.{IsRooted}
+use Rattle.pb_propagate.specs.engine.Clauses.Runs.{AreWalked}
+use Rattle.pb_propagate.specs.engine.Clauses.Shapes.{all_of}
+use Rattle.pb_propagate.specs.engine.Clauses.Walked.{walked_codes}
+use Rattle.pb_propagate.proofs.lemmas.store.Gets.{lt_of_apart}
+use Rattle.pb_propagate.proofs.lemmas.engine.VisitSteps.{open-now}
+use Rattle.pb_propagate.proofs.lemmas.engine.Rests.{rest-at, rest-lengths, eager-filter, calm-but}
+use Rattle.pb_propagate.proofs.lemmas.engine.Rested.{open_sum-empty}
+
+-- one form more
+pub keep-next : (rests rests' : Rests) (forms : List Shape) (opens cands trail : List ℕ) (i form o c : ℕ) → i < length trail → form ≡ get_or trail i form → form < length opens → form < length cands → o ≡ get_or opens form o → c ≡ get_or cands form c → length rests.opens.items ≡ length opens → length rests.starts.items ≡ length cands →
+    rests'.opens.items ≡ set rests.opens.items form o → rests'.starts.items ≡ set rests.starts.items form c → IsUndone rests forms opens cands trail i → IsUndone rests' forms opens cands trail (i + 1)
+keep-next rests rests' forms opens cands trail i form o c inside is room roomc open_is cand_is sizes ssizes opened started u = record { clean = λ s d less gone. clean_at s d less gone (cases_eq s form); named = u.named }
+  where
+    clean_at : (s : ℕ) (d : Shape) → s < length forms → IsAbsent trail (i + 1) s → (s ≡ form) ⊎ (s ≡ form → ⊥) → (get_or opens s 0 ≡ rest_open rests' s (get_or forms s d)) × (get_or cands s 0 ≡ rest_start rests' s)
+    clean_at s d less gone (inl one) =
+        let here : get_or rests'.opens.items s (size (get_or forms s d).terms) ≡ o = ap (λ xs. get_or xs s (size (get_or forms s d).terms)) opened ∙ rw one (get_or-set_same rests.opens.items form o (size (get_or forms form d).terms) (omega (arith, room, sizes))) in
+        let start : get_or rests'.starts.items s 0 ≡ c = ap (λ xs. get_or xs s 0) started ∙ rw one (get_or-set_same rests.starts.items form c 0 (omega (arith, roomc, ssizes))) in
+        (ap (λ k. get_or opens k 0) one ∙ sym (get_or_read opens form o room open_is 0) ∙ sym here, ap (λ k. get_or cands k 0) one ∙ sym (get_or_read cands form c roomc cand_is 0) ∙ sym start)
+    clean_at s d less gone (inr other) =
+        let before : IsAbsent trail i s = λ j after short at. elim (cases_eq j i) [
+          | inl here ↦ other (sym at ∙ ap (λ x. get_or trail x 0) here ∙ sym (get_or_read trail i form inside is 0))
+          | inr later ↦ gone j (omega (arith, lt_of_apart i j after later)) short at
+        ] in
+        let was = u.clean s d less before in
+        (was.0 ∙ sym (ap (λ xs. get_or xs s (size (get_or forms s d).terms)) opened ∙ get_or-set_other rests.opens.items form s o (size (get_or forms s d).terms) other), was.1 ∙ sym (ap (λ xs. get_or xs s 0) started ∙ get_or-set_other rests.starts.items form s c 0 other))
+
+-- all of them
+pub keep-all : (rests : Rests) (forms : List Shape) (opens cands trail : List ℕ) (i : ℕ) → length trail ≤ i → length forms ≡ length opens → length cands ≡ length opens → length rests.opens.items ≡ length opens → length rests.starts.items ≡ length cands → IsUndone rests forms opens cands trail i → (rests.opens.items ≡ opens) × (rests.starts.items ≡ cands)
+keep-all rests forms opens cands trail i end long sizes osizes ssizes u = (
+  ext_get_or 0 rests.opens.items opens osizes (λ s less. default_at s (omega (arith, less, osizes)) ∙ sym (clean s (omega (arith, less, osizes, long))).0),
+  ext_get_or 0 rests.starts.items cands ssizes (λ s less. sym (clean s (omega (arith, less, ssizes, long, sizes))).1),
+)
+  where
+    none : Shape
+    none = record { terms = []; degree = 0 }
+
+    default_at : (s : ℕ) → s < length opens → get_or rests.opens.items s 0 ≡ get_or rests.opens.items s (size (get_or forms s none).terms)
+    default_at s less = get_or_default rests.opens.items s 0 (size (get_or forms s none).terms) (omega (arith, less, osizes))
+
+    clean : (s : ℕ) → s < length forms → (get_or opens s 0 ≡ rest_open rests s (get_or forms s none)) × (get_or cands s 0 ≡ rest_start rests s)
+    clean s less = u.clean s none less (λ j after short. absurd (omega (arith, after, short, end)))
+
+-- with nothing left to do the run is a root
+pub kept-tidy : (rests rests' : Rests) (forms : List Shape) (opens cands : List ℕ) (list : List NumberedLiteral) (work trail : List ℕ) (next : ℕ) → length work ≤ next → length forms ≡ length opens → rests'.opens.items ≡ opens → rests'.starts.items ≡ cands → IsTidy (beside rests []) forms opens cands list work trail next (length forms) → IsTidy (beside rests' []) forms opens cands list [] [] 0 (length forms)
+kept-tidy rests rests' forms opens cands list work trail next end long opened started t = record {
+  calm = λ s d less idle off gone. t.calm s d less idle off (λ i from short. absurd (omega (arith, from, short, end)));
+  passed = t.passed;
+  bounded = t.bounded;
+  clean = λ s d less gone. (
+    get_or_default opens s 0 (size (get_or forms s d).terms) (omega (arith, less, long)) ∙ sym (ap (λ xs. get_or xs s (size (get_or forms s d).terms)) opened),
+    sym (ap (λ xs. get_or xs s 0) started),
+  );
+  named = λ i d less. absurd (omega (arith, less));
+  marked = λ i d less. absurd (omega (arith, less));
+  traced = λ s gone. gone;
+}
+
+pub kept-rooted : (store : Store) (clauses clauses' : Clauses) (run run' : Run) (rests rests' : Rests) → length run.assignment.values.items ≡ store.variables → length run.opens.items ≡ length store.kept.items → length run.candidates.items ≡ length store.kept.items → IsCounted (shapes_of store.kept.items) run.opens.items run.assignment.list.items [] →
+    IsTidy (beside rests []) (shapes_of store.kept.items) run.opens.items run.candidates.items run.assignment.list.items run.work.items run.trail.items run.next (length store.kept.items) → length run.work.items ≤ run.next →
+    Derives (all_of store clauses) [] run.assignment.list.items → AreWalked run.assignment.values.items clauses'.watches.items (walked_codes (length run.assignment.list.items) run.assignment.list.items) → clauses'.literals ≡ clauses.literals →
+    run'.opens ≡ run.opens → run'.candidates ≡ run.candidates → run'.assignment ≡ run.assignment → run'.work.items ≡ [] → run'.trail.items ≡ [] → run'.next ≡ 0 → rests'.opens.items ≡ run.opens.items → rests'.starts.items ≡ run.candidates.items →
+    IsRooted store clauses' run' rests' (length store.kept.items)
+kept-rooted store clauses clauses' run run' rests rests' values sizes csizes counted tidy end derived walked literals o c a w t n ro rs =
+    let long = length-map store.kept.items kept_shape in
+    let tidy_f : IsTidy (beside rests []) (shapes_of store.kept.items) run.opens.items run.candidates.items run.assignment.list.items run.work.items run.trail.items run.next (length (shapes_of store.kept.items)) = rw long tidy in
+    let still = kept-tidy rests rests' (shapes_of store.kept.items) run.opens.items run.candidates.items run.assignment.list.items run.work.items run.trail.items run.next end (omega (arith, long, sizes)) ro rs tidy_f in
+    let still_k : IsTidy (beside rests' []) (shapes_of store.kept.items) run.opens.items run.candidates.items run.assignment.list.items [] [] 0 (length store.kept.items) = rw (← long) still in
+    record {
+      values = rw a values;
+      opens = rw o (sym ro);
+      starts = rw c (sym rs);
+      open_sizes = rw o sizes;
+      start_sizes = rw c csizes;
+      counted = λ s d less apart. rw (o, a) (open-now (shapes_of store.kept.items) run.opens.items run.assignment.list.items s d (omega (arith, less, long)) counted);
+      tidy = rw (o, c, a) still_k;
+      work = w;
+      trail = t;
+      next = n;
+      derived = rw (literals, a) derived;
+      walked = rw a walked;
+    }
+
+-- what a propagation from nothing needs, if questions return to where it starts
+pub start-counted : (keep : List StoredForm) (opens cands : List ℕ) → AreAtRest keep opens cands → IsCounted (shapes_of keep) opens [] []
+start-counted keep opens cands r = record {
+  each = λ s d inside.
+      let at = rest-at keep opens cands r s d (omega (arith, inside, length-map keep kept_shape)) in
+      let sum = open_sum-empty (get_or (shapes_of keep) s d).terms in
+      let nothing : weight_in s [] ≡ 0 = refl in
+      omega (arith, at.0, sum, nothing);
+}
+
+pub start-tidy : (rests : Rests) (keep : List StoredForm) (eager opens cands : List ℕ) → rests.opens.items ≡ opens → rests.starts.items ≡ cands → AreAtRest keep opens cands → IsEager keep eager → IsTidy (beside rests (filter (waits keep) eager)) (shapes_of keep) opens cands [] [] [] 0 (length keep)
+start-tidy rests keep eager opens cands opened started r e = record {
+  calm = λ s d inside idle off gone.
+      let at = rest-at keep opens cands r s d (omega (arith, inside, length-map keep kept_shape)) in
+      rw (at.0, at.1) ((calm-but keep (filter (waits keep) eager) (eager-filter keep eager e)).aside s d inside off);
+  passed = λ s d inside k f before within. absurd (omega (arith, before, (rest-at keep opens cands r s d (omega (arith, inside, length-map keep kept_shape))).1));
+  bounded = λ s d inside. omega (arith, (rest-at keep opens cands r s d (omega (arith, inside, length-map keep kept_shape))).1);
+  clean = λ s d inside gone. (
+    get_or_default opens s 0 (size (get_or (shapes_of keep) s d).terms) (omega (arith, inside, length-map keep kept_shape, (rest-lengths keep opens cands r).0)) ∙ sym (ap (λ xs. get_or xs s (size (get_or (shapes_of keep) s d).terms)) opened),
+    sym (ap (λ xs. get_or xs s 0) started),
+  );
+  named = λ i d less. absurd (omega (arith, less));
+  marked = λ i d less. absurd (omega (arith, less));
+  traced = λ s gone. gone;
+}

@@ -1,0 +1,14 @@
+-- Lemmas of the store of forms: their terms, entries and slots.
+pub mod Changes
+pub mod Crosses
+pub mod Gets
+pub mod Links
+pub mod Placed
+pub mod Places
+pub mod Seats
+pub mod Slots
+pub mod Sorted
+pub mod Storages
+pub mod Unlinks
+pub mod Weights
+pub mod Options

@@ -1,0 +1,255 @@
+-- The forms by number, which are stored by slot.
+use Rattle.std.specs.Prelude.{sum_by, Option, Some, None, slice_get}
+use Rattle.std.proofs.Common.{◌≡◌, ℕ, zero, suc, ◌-◌, ◌^◌, ◌<◌, ◌≤◌, ◌⊎◌, ◌++◌, ◌∷◌, [], List, refl, sym, ◌∙◌, ap, arith, inl, inr, length, get_or, set, get_or-set_same, get_or-set_other, length-set, length-append}
+use Rattle.std.proofs.lemmas.Bool.{cases_eq, cases_lt}
+use Rattle.std.proofs.lemmas.List.{length-map, map-append, get_or-map, get_or_past, get_or_append_left, set-get_or}
+use Rattle.std.proofs.lemmas.List.Sums.{sum_by-set, sum_by_push, sum_by-cons}
+use Rattle.std.proofs.lemmas.Option.{slice_get_within, slice_get-get_or, get_or_from_slice_get}
+use Rattle.pb_normal.specs.meaning.Form.{Form}
+use Rattle.pb_propagate.specs.declared.store.stored_form.StoredForm.{StoredForm}
+use Rattle.pb_propagate.specs.engine.Engine.Fields.{forms_of}
+use Rattle.pb_propagate.specs.engine.Engine.Lists.{Shape}
+use Rattle.pb_propagate.specs.engine.Engine.Live.{Live}
+use Rattle.pb_propagate.specs.engine.Engine.Slots.{form_at, numbered, ArePlaced}
+use Rattle.pb_propagate.specs.meaning.Propagation.{With}
+use Rattle.pb_propagate.proofs.lemmas.engine.Bridge.{AreKept}
+use Rattle.pb_propagate.proofs.lemmas.store.Gets.{get-set_same, get-set_other, get-push_less, get-push_same}
+use Rattle.pb_propagate.proofs.lemmas.store.Options.{some-one, none-some}
+
+at-inside : (forms : List (Option Form)) (s : ℕ) (f : Form) → form_at forms s ≡ Some f → s < length forms
+at-inside forms s f h = elim (cases_lt s (length forms)) [
+  | inl less ↦ less
+  | inr past ↦ absurd (none-some (form_at forms s) f (get_or_past forms s None past) h)
+]
+
+at-any : (forms : List (Option Form)) (s : ℕ) (d : Option Form) → s < length forms → get_or forms s d ≡ form_at forms s
+at-any forms s d less = sym (get_or_from_slice_get forms s (get_or forms s d) None (slice_get-get_or forms s d less))
+
+-- the form of a number
+pub numbered-at : (forms : List (Option Form)) (places : List ℕ) (n s : ℕ) (d : Option Form) → slice_get places n ≡ Some s → get_or (numbered forms places) n d ≡ form_at forms s
+numbered-at forms places n s d h =
+    get_or-map (form_at forms) places n s d (slice_get_within places n s h) ∙ ap (form_at forms) (get_or_from_slice_get places n s s h)
+
+pub numbered-length : (forms : List (Option Form)) (places : List ℕ) → length (numbered forms places) ≡ length places
+numbered-length forms places = length-map places (form_at forms)
+
+-- the live forms are those of the slots
+pub live-forth : (forms : List (Option Form)) (places : List ℕ) (f : Form) → ArePlaced forms places → Live forms f → Live (numbered forms places) f
+live-forth forms places f p (i, inside, is) =
+    let at : form_at forms i ≡ Some f = sym (at-any forms i (Some f) inside) ∙ is in
+    let found = p.placed i f at in
+    (found.0, omega (arith, slice_get_within places found.0 i found.1, numbered-length forms places), numbered-at forms places found.0 i (Some f) found.1 ∙ at)
+
+pub live-back : (forms : List (Option Form)) (places : List ℕ) (f : Form) → Live (numbered forms places) f → Live forms f
+live-back forms places f (n, inside, is) =
+    let got = slice_get-get_or places n 0 (omega (arith, inside, numbered-length forms places)) in
+    let at : form_at forms (get_or places n 0) ≡ Some f = sym (numbered-at forms places n (get_or places n 0) (Some f) got) ∙ is in
+    let less = at-inside forms (get_or places n 0) f at in
+    (get_or places n 0, less, at-any forms (get_or places n 0) (Some f) less ∙ at)
+
+kept-same : (F G : Form → Type 0) (xs : List Shape) → ((f : Form) → F f → G f) → ((f : Form) → G f → F f) → AreKept F xs → AreKept G xs
+kept-same F G xs to from a = record {
+  forth = λ x c. elim (a.forth x c) [
+    | inl found ↦ inl (found.0, to found.0 found.1, found.2)
+    | inr empty ↦ inr empty
+  ];
+  back = λ f g. a.back f (from f g);
+}
+
+pub placed-kept : (forms : List (Option Form)) (places : List ℕ) (xs : List Shape) → ArePlaced forms places → AreKept (Live forms) xs → AreKept (Live (numbered forms places)) xs
+placed-kept forms places xs p a = kept-same (Live forms) (Live (numbered forms places)) xs (λ f. live-forth forms places f p) (live-back forms places) a
+
+pub placed-with : (forms : List (Option Form)) (places : List ℕ) (g : Form) (xs : List Shape) → ArePlaced forms places → AreKept (With (Live forms) g) xs → AreKept (With (Live (numbered forms places)) g) xs
+placed-with forms places g xs p a = kept-same (With (Live forms) g) (With (Live (numbered forms places)) g) xs forth back a
+  where
+    forth : (f : Form) → With (Live forms) g f → With (Live (numbered forms places)) g f
+    forth f (inl live) = inl (live-forth forms places f p live)
+    forth f (inr e) = inr e
+
+    back : (f : Form) → With (Live (numbered forms places)) g f → With (Live forms) g f
+    back f (inl live) = inl (live-back forms places f live)
+    back f (inr e) = inr e
+
+-- slots with the same forms
+pub numbered-same : (forms forms' : List (Option Form)) (places : List ℕ) → ((n s : ℕ) → slice_get places n ≡ Some s → form_at forms' s ≡ form_at forms s) → numbered forms' places ≡ numbered forms places
+numbered-same forms forms' [] h = refl
+numbered-same forms forms' (p ∷ ps) h = rw (h 0 p refl, numbered-same forms forms' ps (λ n s k. h (suc n) s k)) refl
+
+agree-sum : (w : Option Form → ℕ) → w None ≡ 0 → (xs ys : List (Option Form)) → ((s : ℕ) → form_at xs s ≡ form_at ys s) → sum_by w xs ≡ sum_by w ys
+agree-sum w z [] [] h = refl
+agree-sum w z [] (y ∷ ys) h =
+    let rest = agree-sum w z [] ys (λ s. h (suc s)) in
+    let first : None ≡ y = h 0 in
+    omega (arith, rest, sum_by-cons w y ys, ap w first, z)
+agree-sum w z (x ∷ xs) [] h =
+    let rest = agree-sum w z xs [] (λ s. h (suc s)) in
+    let first : x ≡ None = h 0 in
+    omega (arith, rest, sum_by-cons w x xs, ap w first, z)
+agree-sum w z (x ∷ xs) (y ∷ ys) h =
+    let rest = agree-sum w z xs ys (λ s. h (suc s)) in
+    let first : x ≡ y = h 0 in
+    omega (arith, rest, sum_by-cons w x xs, sum_by-cons w y ys, ap w first)
+
+pub placed-agree : (forms forms' : List (Option Form)) (places : List ℕ) → ((s : ℕ) → form_at forms' s ≡ form_at forms s) → ArePlaced forms places → ArePlaced forms' places
+placed-agree forms forms' places h p = record {
+  live = λ n s k. elim (p.live n s k) [
+    | inl none ↦ inl none
+    | inr found ↦ inr (found.0, h s ∙ found.1)
+  ];
+  single = λ m n s f j k e. p.single m n s f j k (sym (h s) ∙ e);
+  placed = λ s f e. p.placed s f (sym (h s) ∙ e);
+  alike = λ w z. ap (sum_by w) (numbered-same forms forms' places (λ n s k. h s)) ∙ p.alike w z ∙ sym (agree-sum w z forms' forms h);
+}
+
+-- a form is stored in an empty slot
+slot-empty : (forms : List (Option Form)) (slot : ℕ) → slice_get forms slot ≡ Some None → form_at forms slot ≡ None
+slot-empty forms slot h = get_or_from_slice_get forms slot None None h
+
+slot-free : (forms : List (Option Form)) (places : List ℕ) (slot n : ℕ) → slice_get forms slot ≡ Some None → slot < 2 ^ 64 - 1 → ArePlaced forms places → slice_get places n ≡ Some slot → ⊥
+slot-free forms places slot n none small p h = elim (p.live n slot h) [
+  | inl past ↦ omega (arith, past, small)
+  | inr found ↦ none-some (form_at forms slot) found.0 (slot-empty forms slot none) found.1
+]
+
+pub numbered-filled : (forms : List (Option Form)) (places : List ℕ) (slot : ℕ) (f : Form) → slice_get forms slot ≡ Some None → slot < 2 ^ 64 - 1 → ArePlaced forms places → numbered (set forms slot (Some f)) places ≡ numbered forms places
+numbered-filled forms places slot f none small p =
+    numbered-same forms (set forms slot (Some f)) places (λ n s h. get_or-set_other forms slot s (Some f) None (λ e. slot-free forms places slot n none small p (h ∙ ap (λ z. Some z) e)))
+
+pub numbered-grown : (forms : List (Option Form)) (places : List ℕ) (slot : ℕ) (f : Form) → slice_get forms slot ≡ Some None → slot < 2 ^ 64 - 1 → ArePlaced forms places → numbered (set forms slot (Some f)) (places ++ (slot ∷ [])) ≡ numbered forms places ++ (Some f ∷ [])
+numbered-grown forms places slot f none small p =
+    let here : form_at (set forms slot (Some f)) slot ≡ Some f = get_or-set_same forms slot (Some f) None (slice_get_within forms slot None none) in
+    map-append (form_at (set forms slot (Some f))) places (slot ∷ []) ∙ ap (λ (o : Option Form). numbered (set forms slot (Some f)) places ++ (o ∷ [])) here ∙ ap (λ (xs : List (Option Form)). xs ++ (Some f ∷ [])) (numbered-filled forms places slot f none small p)
+
+pub placed-filled : (forms : List (Option Form)) (places : List ℕ) (slot : ℕ) (f : Form) → slice_get forms slot ≡ Some None → slot < 2 ^ 64 - 1 → ArePlaced forms places → ArePlaced (set forms slot (Some f)) (places ++ (slot ∷ []))
+placed-filled forms places slot f none small p = record {
+  live = λ n s h. elim (which n s h) [
+    | inl old ↦ elim (p.live n s old) [
+      | inl past ↦ inl past
+      | inr found ↦ inr (found.0, get_or-set_other forms slot s (Some f) None (taken n s old) ∙ found.1)
+    ]
+    | inr new ↦ inr (f, ap (form_at (set forms slot (Some f))) new.1 ∙ here)
+  ];
+  single = λ m n s g h k e. elim (which m s h) [
+    | inl old ↦ elim (which n s k) [
+      | inl old_2 ↦ p.single m n s g old old_2 (sym (get_or-set_other forms slot s (Some f) None (taken m s old)) ∙ e)
+      | inr new ↦ absurd (taken m s old new.1)
+    ]
+    | inr new ↦ elim (which n s k) [
+      | inl old ↦ absurd (taken n s old new.1)
+      | inr new_2 ↦ new.0 ∙ sym new_2.0
+    ]
+  ];
+  placed = λ s g e. elim (cases_eq s slot) [
+    | inl same ↦ (length places, get-push_same places (length places) slot refl ∙ ap (λ z. Some z) (sym same))
+    | inr other ↦
+        let found = p.placed s g (sym (get_or-set_other forms slot s (Some f) None other) ∙ e) in
+        (found.0, get-push_less places found.0 slot (slice_get_within places found.0 s found.1) ∙ found.1)
+  ];
+  alike = λ w z.
+      let change = sum_by-set w forms slot (Some f) None inside in
+      omega (arith, ap (sum_by w) (numbered-grown forms places slot f none small p), sum_by_push w (numbered forms places) (Some f), p.alike w z, change, ap w (slot-empty forms slot none), z);
+}
+  where
+    inside : slot < length forms
+    inside = slice_get_within forms slot None none
+
+    here : form_at (set forms slot (Some f)) slot ≡ Some f
+    here = get_or-set_same forms slot (Some f) None inside
+
+    taken : (n s : ℕ) → slice_get places n ≡ Some s → s ≡ slot → ⊥
+    taken n s h e = slot-free forms places slot n none small p (h ∙ ap (λ z. Some z) e)
+
+    which : (n s : ℕ) → slice_get (places ++ (slot ∷ [])) n ≡ Some s → (slice_get places n ≡ Some s) ⊎ ((n ≡ length places) × (s ≡ slot))
+    which n s h = elim (cases_lt n (length places)) [
+      | inl less ↦ inl (sym (get-push_less places n slot less) ∙ h)
+      | inr more ↦
+          let end : n ≡ length places = omega (arith, more, slice_get_within (places ++ (slot ∷ [])) n s h, length-append places (slot ∷ [])) in
+          inr (end, some-one (slice_get (places ++ (slot ∷ [])) n) s slot h (get-push_same places n slot end))
+    ]
+
+-- a form is removed from its slot
+numbered-set : (forms forms' : List (Option Form)) (places : List ℕ) (number v : ℕ) → form_at forms' v ≡ None → ((n s : ℕ) → (n ≡ number → ⊥) → slice_get places n ≡ Some s → form_at forms' s ≡ form_at forms s) → numbered forms' (set places number v) ≡ set (numbered forms places) number None
+numbered-set forms forms' [] number v none h = refl
+numbered-set forms forms' (p ∷ ps) zero v none h = rw (none, numbered-same forms forms' ps (λ n s k. h (suc n) s (λ e. omega (arith, e)) k)) refl
+numbered-set forms forms' (p ∷ ps) (suc m) v none h = rw (h 0 p (λ e. omega (arith, e)) refl, numbered-set forms forms' ps m v none (λ n s other k. h (suc n) s (λ e. other (omega (arith, e))) k)) refl
+
+pub record IsTaken (forms : List (Option Form)) (places : List ℕ) (number slot : ℕ) : Type 0 where
+  pub form : Form
+  pub got : slice_get places number ≡ Some slot
+  pub at : form_at forms slot ≡ Some form
+  pub short : length forms ≤ 2 ^ 64 - 1
+
+pub taken-by : (forms : List (Option Form)) (places : List ℕ) (number s : ℕ) → number < length places → s ≡ get_or places number s → s < length forms → length forms ≤ 2 ^ 64 - 1 → ArePlaced forms places → IsTaken forms places number s
+taken-by forms places number s inside is less short p =
+    let got : slice_get places number ≡ Some s = slice_get-get_or places number s inside ∙ ap (λ z. Some z) (sym is) in
+    elim (p.live number s got) [
+      | inl past ↦ absurd (omega (arith, past, less, short))
+      | inr found ↦ record { form = found.0; got = got; at = found.1; short = short }
+    ]
+
+none-past : (forms : List (Option Form)) (s : ℕ) → length forms ≤ 2 ^ 64 - 1 → form_at (set forms s None) (2 ^ 64 - 1) ≡ None
+none-past forms s short = get_or_past (set forms s None) (2 ^ 64 - 1) None (omega (arith, short, length-set forms s None))
+
+pub numbered-left : (forms : List (Option Form)) (places : List ℕ) (number slot : ℕ) → (t : IsTaken forms places number slot) → ArePlaced forms places → numbered (set forms slot None) (set places number (2 ^ 64 - 1)) ≡ set (numbered forms places) number None
+numbered-left forms places number slot t p =
+    numbered-set forms (set forms slot None) places number (2 ^ 64 - 1) (none-past forms slot t.short)
+    (λ n s other h. get_or-set_other forms slot s None None (λ e. other (p.single n number slot t.form (h ∙ ap (λ z. Some z) e) t.got t.at)))
+
+pub placed-left : (forms : List (Option Form)) (places : List ℕ) (number slot : ℕ) → (t : IsTaken forms places number slot) → ArePlaced forms places → ArePlaced (set forms slot None) (set places number (2 ^ 64 - 1))
+placed-left forms places number slot t p = record {
+  live = λ n s h. elim (cases_eq n number) [
+    | inl here ↦ inl (some-one (slice_get (set places number (2 ^ 64 - 1)) n) s (2 ^ 64 - 1) h (ap (slice_get (set places number (2 ^ 64 - 1))) here ∙ get-set_same places number (2 ^ 64 - 1) inside))
+    | inr other ↦
+        let old = sym (get-set_other places number n (2 ^ 64 - 1) other) ∙ h in
+        elim (p.live n s old) [
+          | inl past ↦ inl past
+          | inr found ↦ inr (found.0, get_or-set_other forms slot s None None (λ e. other (p.single n number slot t.form (old ∙ ap (λ z. Some z) e) t.got t.at)) ∙ found.1)
+        ]
+  ];
+  single = λ m n s g h k e. p.single m n s g (still m s g h e) (still n s g k e) (before s g e);
+  placed = λ s g e.
+      let found = p.placed s g (before s g e) in
+      (found.0, get-set_other places number found.0 (2 ^ 64 - 1) (λ at. away s g e (some-one (slice_get places number) s slot (ap (slice_get places) (sym at) ∙ found.1) t.got)) ∙ found.1);
+  alike = λ w z.
+      let room : number < length (numbered forms places) = omega (arith, inside, numbered-length forms places) in
+      let one = sum_by-set w (numbered forms places) number None None room in
+      let two = sum_by-set w forms slot None None (at-inside forms slot t.form t.at) in
+      omega (arith, ap (sum_by w) (numbered-left forms places number slot t p), one, two, p.alike w z, ap w (numbered-at forms places number slot None t.got));
+}
+  where
+    inside : number < length places
+    inside = slice_get_within places number slot t.got
+
+    away : (s : ℕ) (g : Form) → form_at (set forms slot None) s ≡ Some g → s ≡ slot → ⊥
+    away s g e same = none-some (form_at (set forms slot None) s) g (ap (form_at (set forms slot None)) same ∙ get_or-set_same forms slot None None (at-inside forms slot t.form t.at)) e
+
+    before : (s : ℕ) (g : Form) → form_at (set forms slot None) s ≡ Some g → form_at forms s ≡ Some g
+    before s g e = sym (get_or-set_other forms slot s None None (away s g e)) ∙ e
+
+    still : (n s : ℕ) (g : Form) → slice_get (set places number (2 ^ 64 - 1)) n ≡ Some s → form_at (set forms slot None) s ≡ Some g → slice_get places n ≡ Some s
+    still n s g h e = elim (cases_eq n number) [
+      | inr other ↦ sym (get-set_other places number n (2 ^ 64 - 1) other) ∙ h
+      | inl here ↦
+          let past : s ≡ 2 ^ 64 - 1 = some-one (slice_get (set places number (2 ^ 64 - 1)) n) s (2 ^ 64 - 1) h (ap (slice_get (set places number (2 ^ 64 - 1))) here ∙ get-set_same places number (2 ^ 64 - 1) inside) in
+          absurd (none-some (form_at (set forms slot None) s) g (ap (form_at (set forms slot None)) past ∙ none-past forms slot t.short) e)
+    ]
+
+-- removing the form of a number without a slot changes nothing
+pub numbered-none : (forms : List (Option Form)) (places : List ℕ) (number s : ℕ) → number < length places → s ≡ get_or places number s → length forms ≤ s → numbered forms places ≡ set (numbered forms places) number None
+numbered-none forms places number s inside is past =
+    let got : slice_get places number ≡ Some s = slice_get-get_or places number s inside ∙ ap (λ z. Some z) (sym is) in
+    let none : get_or (numbered forms places) number None ≡ None = numbered-at forms places number s None got ∙ get_or_past forms s None past in
+    sym (ap (set (numbered forms places) number) (sym none) ∙ set-get_or (numbered forms places) number None)
+
+-- one more form, which no number names
+numbered-more : (forms : List (Option Form)) (o : Option Form) (places : List ℕ) → length forms < 2 ^ 64 - 1 → ArePlaced forms places → numbered (forms ++ (o ∷ [])) places ≡ numbered forms places
+numbered-more forms o places small p = numbered-same forms (forms ++ (o ∷ [])) places (λ n s h. elim (p.live n s h) [
+  | inl past ↦ get_or_past (forms ++ (o ∷ [])) s None (omega (arith, past, small, length-append forms (o ∷ []))) ∙ sym (get_or_past forms s None (omega (arith, past, small)))
+  | inr found ↦ get_or_append_left forms (o ∷ []) None s (at-inside forms s found.0 found.1)
+])
+
+pub numbered-entered : (keep keep' : List StoredForm) (k : StoredForm) (places : List ℕ) → keep' ≡ keep ++ (k ∷ []) → length keep < 2 ^ 64 - 1 → ArePlaced (forms_of keep) places → numbered (forms_of keep') places ≡ numbered (forms_of keep) places
+numbered-entered keep keep' k places same small p =
+    let form : StoredForm → Option Form = λ x. x.terms.form in
+    let more : forms_of keep' ≡ forms_of keep ++ (form k ∷ []) = ap forms_of same ∙ map-append form keep (k ∷ []) in
+    rw more (numbered-more (forms_of keep) (form k) places (omega (arith, small, length-map keep form)) p)

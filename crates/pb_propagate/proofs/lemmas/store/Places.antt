@@ -1,0 +1,147 @@
+-- Adding and removing terms, in terms of what the program reads.
+use Rattle.std.specs.Prelude.{map, Some, slice_get, swap_remove, All}
+use Rattle.std.proofs.Common.{◌≡◌, ℕ, ◌+◌, ◌-◌, ◌*◌, ◌<◌, ◌≤◌, ◌⊎◌, ◌++◌, ◌∷◌, [], List, Vec, false, Global, refl, sym, ◌∙◌, ap, subst, arith, inl, inr, length, get_or, set, length-set, get_or-set_same, get_or-set_other}
+use Rattle.std.proofs.lemmas.Bool.{cases_eq, cases_lt}
+use Rattle.std.proofs.lemmas.List.{get_or_default, map-append, map-set, length-map, get_or-map, set_past}
+use Rattle.std.proofs.lemmas.Option.{slice_get-get_or, slice_get_within, get_or_from_slice_get}
+use Rattle.pb_propagate.specs.declared.term.Term.{Term}
+use Rattle.pb_propagate.specs.declared.store.Occurrence.{Occurrence}
+use Rattle.pb_propagate.specs.engine.Engine.Lists.{Shape, Weighted, AreInside}
+use Rattle.pb_propagate.specs.engine.Engine.Counts.{place}
+use Rattle.pb_propagate.specs.engine.Engine.Fields.{entries_of, lists_of, spots_of}
+use Rattle.pb_propagate.specs.engine.Engine.Terms.{terms_of}
+use Rattle.pb_propagate.specs.engine.Engine.Links.{terms_at, weighted, Moved, none, last, IsLinked, cut}
+use Rattle.pb_propagate.proofs.lemmas.store.Gets.{get-push_same, get-push_other}
+use Rattle.pb_propagate.proofs.lemmas.store.Crosses.{Same}
+use Rattle.pb_propagate.proofs.lemmas.store.Links.{link-next}
+use Rattle.pb_propagate.proofs.lemmas.store.Unlinks.{swap-here, swap-length, unlink-next, named-spot, named-entry}
+use Rattle.pb_propagate.specs.declared.store.stored_form.StoredForm.{StoredForm}
+use Rattle.pb_propagate.specs.engine.Engine.Fields.{shapes_of, kept_shape}
+use Rattle.pb_propagate.proofs.lemmas.store.Links.{cut-length}
+use Rattle.pb_propagate.proofs.lemmas.engine.VisitSteps.{shape-at, term-inside}
+use Rattle.pb_propagate.proofs.lemmas.engine.Puts.{lists-at, entries-at, place-inside}
+use Rattle.pb_propagate.proofs.lemmas.store.Weights.{entries-size, entry-weighted, entries-taken, item-taken, shifted}
+
+pub lists-length : (occ : List (Vec Occurrence Global)) → length (lists_of occ) ≡ length occ
+lists-length occ = length-map occ (λ (v : Vec Occurrence Global). v.items)
+
+pub entries-length : (forms : List Shape) (occ : List (Vec Occurrence Global)) → length (entries_of forms occ) ≡ length occ
+entries-length forms occ = length-map occ (λ (v : Vec Occurrence Global). map (weighted forms) v.items)
+
+pub link-by : (base : List Shape) (all : List (List ℕ)) (occ : List (Vec Occurrence Global)) (form i : ℕ) (terms : List Term) (d : Term) (p : ℕ) (idx v0 v1 : Vec Occurrence Global) (spots spots' : List ℕ) (spot : ℕ) →
+    form < length base → terms_at base form ≡ terms → form < length all → i < length terms → p ≡ place (get_or terms i d).literal → p < length occ → idx ≡ get_or occ p idx → spot ≡ length idx.items → v0 ≡ get_or occ p v0 →
+    v1.items ≡ v0.items ++ (record { form = form; index = i } ∷ []) → spots' ≡ spots ++ (spot ∷ []) → length spots ≡ i →
+    IsLinked (cut base form i) (set all form spots) (entries_of base occ) → IsLinked (cut base form (i + 1)) (set all form spots') (entries_of base (set occ p v1))
+link-by base all occ form i terms d p idx v0 v1 spots spots' spot inside same wide within at room index_is spot_is value pushed longer size old =
+    let t : Term = get_or terms i d in
+    let o : Occurrence = record { form = form; index = i } in
+    let e : Weighted = weighted base o in
+    let within_base : i < length (terms_at base form) = omega (arith, within, ap length same) in
+    let is : t ≡ get_or (terms_at base form) i t = rw same (get_or_default terms i d t within) in
+    let es_v0 = entries-at base occ p p v0 room value refl in
+    let es_idx = entries-at base occ p p idx room index_is refl in
+    let room_place : place t.literal < length (entries_of base occ) = omega (arith, room, at, entries-length base occ) in
+    let zero_term : Term = record { literal = record { variable = 0; negated = false }; coefficient = 0 } in
+    let weight : e.coefficient ≡ t.coefficient = ap (λ (ts : List Term). (get_or ts i zero_term).coefficient) same ∙ ap (λ (x : Term). x.coefficient) (get_or_default terms i zero_term d within) in
+    let pushed_e : map (weighted base) v1.items ≡ map (weighted base) v0.items ++ (e ∷ []) = ap (map (weighted base)) pushed ∙ map-append (weighted base) v0.items (o ∷ []) in
+    let grown : entries_of base (set occ p v1) ≡ set (entries_of base occ) (place t.literal) (get_or (entries_of base occ) (place t.literal) [] ++ (e ∷ [])) =
+    map-set (λ (v : Vec Occurrence Global). map (weighted base) v.items) occ p v1 ∙ ap (λ xs. set (entries_of base occ) p xs) (pushed_e ∙ ap (λ xs. xs ++ (e ∷ [])) (sym es_v0)) ∙ ap (λ q. set (entries_of base occ) q (get_or (entries_of base occ) q [] ++ (e ∷ []))) at in
+    let spot_now : slice_get (get_or (set all form spots') form []) i ≡ Some (length (get_or (entries_of base occ) (place t.literal) [])) =
+    ap (λ (xs : List ℕ). slice_get xs i) (get_or-set_same all form spots' [] wide ∙ longer) ∙ get-push_same spots i spot (sym size) ∙ ap (λ n. Some n) (spot_is ∙ sym (length-map idx.items (weighted base)) ∙ ap length (sym es_idx) ∙ ap (λ q. length (get_or (entries_of base occ) q [])) at) in
+    link-next base (set all form spots) (set all form spots') (entries_of base occ) (entries_of base (set occ p v1)) form i t e inside within_base is room_place refl refl weight grown spot_now
+    (λ s j n. agree s j n (cases_eq s form))
+    (omega (arith, length-set all form spots, length-set all form spots'))
+    old
+  where
+    agree : (s j : ℕ) → (Same s j form i → ⊥) → (s ≡ form) ⊎ (s ≡ form → ⊥) → slice_get (get_or (set all form spots') s []) j ≡ slice_get (get_or (set all form spots) s []) j
+    agree s j n (inr other) = ap (λ (xs : List ℕ). slice_get xs j) (get_or-set_other all form s spots' [] other ∙ sym (get_or-set_other all form s spots [] other))
+    agree s j n (inl here) =
+        let now : get_or (set all form spots') s [] ≡ spots' = ap (λ k. get_or (set all form spots') k []) here ∙ get_or-set_same all form spots' [] wide in
+        let was : get_or (set all form spots) s [] ≡ spots = ap (λ k. get_or (set all form spots) k []) here ∙ get_or-set_same all form spots [] wide in
+        ap (λ (xs : List ℕ). slice_get xs j) (now ∙ longer) ∙ get-push_other spots j spot (λ h. n (here, h ∙ size)) ∙ sym (ap (λ (xs : List ℕ). slice_get xs j) was)
+
+-- an entry is removed
+pub taken-lists : (occ : List (Vec Occurrence Global)) (p q : ℕ) (v0 v1 : Vec Occurrence Global) (e : Occurrence) → p < length occ → v0 ≡ get_or occ p v0 → e ≡ get_or v0.items q e → v1.items ≡ swap_remove v0.items q e → (x : Occurrence) × (x ≡ get_or (get_or (lists_of occ) p []) q x) × (lists_of (set occ p v1) ≡ set (lists_of occ) p (swap_remove (get_or (lists_of occ) p []) q x))
+taken-lists occ p q v0 v1 e room value item gone =
+    let es = lists-at occ p p v0 room value refl in
+    (e, rw es item, map-set (λ (v : Vec Occurrence Global). v.items) occ p v1 ∙ ap (λ xs. set (lists_of occ) p xs) (gone ∙ ap (λ xs. swap_remove xs q e) (sym es)))
+
+pub taken-last : (occ : List (Vec Occurrence Global)) (p q : ℕ) (v0 v1 : Vec Occurrence Global) (e : Occurrence) (spots : List (List ℕ)) → p < length occ → v0 ≡ get_or occ p v0 → v1.items ≡ swap_remove v0.items q e → q < length (get_or (lists_of occ) p []) → length v1.items ≤ q → Moved (get_or (lists_of occ) p []) q spots spots
+taken-last occ p q v0 v1 e spots room value gone inside short =
+    let es = lists-at occ p p v0 room value refl in
+    let inside_v0 : q < length v0.items = omega (arith, inside, ap length es) in
+    none (omega (arith, inside, ap length es, swap-length v0.items q e inside_v0, ap length gone, short))
+
+pub taken-moved : (occ : List (Vec Occurrence Global)) (p q : ℕ) (v0 v1 : Vec Occurrence Global) (e m : Occurrence) → p < length occ → v0 ≡ get_or occ p v0 → v1.items ≡ swap_remove v0.items q e → q < length (get_or (lists_of occ) p []) → q < length v1.items → m ≡ get_or v1.items q m →
+    (q + 1 < length (get_or (lists_of occ) p [])) × (slice_get (get_or (lists_of occ) p []) (length (get_or (lists_of occ) p []) - 1) ≡ Some m)
+taken-moved occ p q v0 v1 e m room value gone inside more item =
+    let es = lists-at occ p p v0 room value refl in
+    let inside_v0 : q < length v0.items = omega (arith, inside, ap length es) in
+    let beyond : q + 1 < length v0.items = omega (arith, swap-length v0.items q e inside_v0, ap length gone, more) in
+    let last_at : slice_get v0.items (length v0.items - 1) ≡ Some (get_or v0.items (length v0.items - 1) m) = slice_get-get_or v0.items (length v0.items - 1) m (omega (arith, beyond)) in
+    let here = swap-here v0.items q e (get_or v0.items (length v0.items - 1) m) beyond last_at in
+    let read : get_or v1.items q m ≡ get_or v0.items (length v0.items - 1) m = ap (λ (xs : List Occurrence). get_or xs q m) gone ∙ get_or_from_slice_get (swap_remove v0.items q e) q (get_or v0.items (length v0.items - 1) m) m here in
+    let is : m ≡ get_or v0.items (length v0.items - 1) m = item ∙ read in
+    (rw es beyond, rw es (last_at ∙ ap (λ x. Some x) (sym is)))
+
+pub spots-moved : (spots : List (Vec ℕ Global)) (es : List Occurrence) (q : ℕ) (m : Occurrence) (w0 w1 : Vec ℕ Global) → m.form < length spots → w0 ≡ get_or spots m.form w0 → w1.items ≡ set w0.items m.index q → q + 1 < length es → slice_get es (length es - 1) ≡ Some m → Moved es q (spots_of spots) (spots_of (set spots m.form w1))
+spots-moved spots es q m w0 w1 room value put more at =
+    let those : get_or (spots_of spots) m.form [] ≡ w0.items = get_or-map (λ (v : Vec ℕ Global). v.items) spots m.form w0 [] room ∙ ap (λ (v : Vec ℕ Global). v.items) (sym value) in
+    let shape : spots_of (set spots m.form w1) ≡ set (spots_of spots) m.form (set (get_or (spots_of spots) m.form []) m.index q) =
+    map-set (λ (v : Vec ℕ Global). v.items) spots m.form w1 ∙ ap (λ xs. set (spots_of spots) m.form xs) (put ∙ ap (λ (xs : List ℕ). set xs m.index q) (sym those)) in
+    rw shape (last m more at)
+
+pub set-read : {X : Type 0} (xs : List X) (p : ℕ) (y z : X) → p < length xs → z ≡ get_or (set xs p y) p z → z ≡ y
+set-read xs p y z room is = is ∙ get_or-set_same xs p y z room
+
+pub spots-read : (spots : List (Vec ℕ Global)) (s i : ℕ) (w0 : Vec ℕ Global) → s < length spots → w0 ≡ get_or spots s w0 → i < length (get_or (spots_of spots) s []) → i < length w0.items
+spots-read spots s i w0 room value h =
+    let those : get_or (spots_of spots) s [] ≡ w0.items = get_or-map (λ (v : Vec ℕ Global). v.items) spots s w0 [] room ∙ ap (λ (v : Vec ℕ Global). v.items) (sym value) in
+    omega (arith, h, ap length those)
+
+-- what a term's removal needs and does
+pub record UnlinkRead (base : List Shape) (spots : List (List ℕ)) (occ : List (Vec Occurrence Global)) (form j q p : ℕ) : Type 0 where
+  pub room : p < length occ
+  pub spot_in : q < length (get_or (lists_of occ) p [])
+  pub named : (o : Occurrence) → slice_get (get_or (lists_of occ) p []) (length (get_or (lists_of occ) p []) - 1) ≡ Some o → (o.form < length spots) × (o.index < length (get_or spots o.form []))
+  pub next : (spots' : List (List ℕ)) (occ' : List (Vec Occurrence Global)) → ((o : Occurrence) × (o ≡ get_or (get_or (lists_of occ) p []) q o) × (lists_of occ' ≡ set (lists_of occ) p (swap_remove (get_or (lists_of occ) p []) q o))) → Moved (get_or (lists_of occ) p []) q spots spots' → IsLinked (cut base form j) spots' (entries_of base occ')
+
+pub unlink-read : (keep keep' : List StoredForm) (sp : List (Vec ℕ Global)) (occ : List (Vec Occurrence Global)) (n form left j : ℕ) (k : StoredForm) (t : Term) (w : Vec ℕ Global) (q p : ℕ) →
+    keep' ≡ keep → left ≡ j + 1 → form < length keep → k ≡ get_or keep' form k → left ≤ length (terms_at (shapes_of keep) form) → t ≡ get_or (terms_of k.terms) j t → w ≡ get_or sp form w → length (get_or (spots_of sp) form []) ≡ length (terms_at (shapes_of keep) form) → q ≡ get_or w.items j q → p ≡ place t.literal →
+    All (λ f. AreInside n f.terms) (shapes_of keep) → length occ ≡ 2 * n → IsLinked (cut (shapes_of keep) form left) (spots_of sp) (entries_of (shapes_of keep) occ) → UnlinkRead (shapes_of keep) (spots_of sp) occ form j q p
+unlink-read keep keep' sp occ n form left j k t w q p same count inside kept_is most item spots_is rooms spot_is place_is all places old =
+    let base = shapes_of keep in
+    let kept_here : k ≡ get_or keep form k = rw same at kept_is in
+    let inside_base : form < length base = omega (arith, inside, length-map keep kept_shape) in
+    let within : j < length (terms_at base form) = omega (arith, most, count) in
+    let those : terms_at base form ≡ (terms_of k.terms) = ap (λ (f : Shape). f.terms) (shape-at keep form k inside kept_here (record { terms = []; degree = 0 })) in
+    let is : t ≡ get_or (terms_at base form) j t = rw those item in
+    let inside_sp : form < length sp = omega (arith, old.sizes, cut-length base form left, inside_base, length-map sp (λ (v : Vec ℕ Global). v.items)) in
+    let spots_here : get_or (spots_of sp) form [] ≡ w.items = get_or-map (λ (v : Vec ℕ Global). v.items) sp form w [] inside_sp ∙ ap (λ (v : Vec ℕ Global). v.items) (sym spots_is) in
+    let within_w : j < length w.items = omega (arith, within, rooms, ap length spots_here) in
+    let spot : slice_get (get_or (spots_of sp) form []) j ≡ Some q = ap (λ (xs : List ℕ). slice_get xs j) spots_here ∙ slice_get-get_or w.items j q within_w ∙ ap (λ x. Some x) (sym spot_is) in
+    let linked : IsLinked (cut base form (j + 1)) (spots_of sp) (entries_of base occ) = subst (λ x. IsLinked (cut base form x) (spots_of sp) (entries_of base occ)) count old in
+    let variable : t.literal.variable < n = term-inside keep n form k (terms_of k.terms) j t inside kept_here refl (omega (arith, within, ap length those)) item all in
+    let room : place t.literal < length (entries_of base occ) = omega (arith, place-inside t.literal n variable, places, entries-length base occ) in
+    let entry = named-entry base (spots_of sp) (entries_of base occ) form j q t inside_base within is spot linked in
+    rw place_is (record {
+      room = omega (arith, room, entries-length base occ);
+      spot_in = omega (arith, slice_get_within (get_or (entries_of base occ) (place t.literal) []) q entry.entry entry.is, entries-size base occ (place t.literal));
+      named = λ o h. named-spot (cut base form (j + 1)) (spots_of sp) (entries_of base occ) (place t.literal) (length (get_or (lists_of occ) (place t.literal) []) - 1) (weighted base o) (entry-weighted base occ (place t.literal) (length (get_or (lists_of occ) (place t.literal) []) - 1) o h) linked;
+      next = λ spots' occ' taken moved. unlink-next base (spots_of sp) spots' (entries_of base occ) (entries_of base occ') form j q t (weighted base taken.0) inside_base within is spot room (item-taken base occ (place t.literal) q taken.0 taken.1) (entries-taken base occ occ' (place t.literal) q taken.0 taken.2) (shifted base occ (place t.literal) q (spots_of sp) spots' moved) linked;
+    })
+
+-- a move does not change the sizes
+pub moved-rooms : (es : List Occurrence) (q : ℕ) (spots spots' : List (List ℕ)) → Moved es q spots spots' → (s : ℕ) → length (get_or spots' s []) ≡ length (get_or spots s [])
+moved-rooms es q spots _ (none end) s = refl
+moved-rooms es q spots _ (last m more at) s = elim (cases_eq s m.form) [
+  | inr other ↦ ap length (get_or-set_other spots m.form s (set (get_or spots m.form []) m.index q) [] other)
+  | inl here ↦ elim (cases_lt m.form (length spots)) [
+    | inl inside ↦ rw here (ap length (get_or-set_same spots m.form (set (get_or spots m.form []) m.index q) [] inside) ∙ length-set (get_or spots m.form []) m.index q)
+    | inr past ↦ ap (λ (xs : List (List ℕ)). length (get_or xs s [])) (set_past spots m.form (set (get_or spots m.form []) m.index q) past)
+  ]
+]
+
+pub taken-length : (occ occ' : List (Vec Occurrence Global)) (p q : ℕ) → ((e : Occurrence) × (e ≡ get_or (get_or (lists_of occ) p []) q e) × (lists_of occ' ≡ set (lists_of occ) p (swap_remove (get_or (lists_of occ) p []) q e))) → length occ' ≡ length occ
+taken-length occ occ' p q taken =
+    omega (arith, lists-length occ, lists-length occ', ap length taken.2, length-set (lists_of occ) p (swap_remove (get_or (lists_of occ) p []) q taken.0))

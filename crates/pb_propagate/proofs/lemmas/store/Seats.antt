@@ -1,0 +1,120 @@
+-- A list of numbers, each once, and the position of each in it.
+use Rattle.std.specs.Prelude.{Some, slice_get, swap_remove}
+use Rattle.std.proofs.Common.{◌≡◌, ℕ, zero, suc, ◌+◌, ◌-◌, ◌<◌, ◌⊎◌, ◌++◌, ◌∷◌, [], List, Bool, true, false, if◌then◌else◌, sym, ◌∙◌, ap, arith, inl, inr, length, get_or, set}
+use Rattle.std.proofs.lemmas.Bool.{cases_eq, cases_lt}
+use Rattle.std.proofs.lemmas.Option.{slice_get_within, slice_get-get_or, get_or_from_slice_get}
+use Rattle.pb_propagate.specs.engine.Engine.Counts.{IsAbsent}
+use Rattle.pb_propagate.proofs.lemmas.store.Options.{some-one, none-some}
+use Rattle.pb_propagate.proofs.lemmas.store.Gets.{lt_of_apart, get-set_same, get-set_other, get-push_less, get-push_same, get-push_past}
+use Rattle.pb_propagate.proofs.lemmas.store.Unlinks.{swap-other, swap-last, swap-here, swap-length}
+
+abbrev pub AreSeated : List ℕ → List ℕ → Type 0
+AreSeated list seats = (i s : ℕ) → slice_get list i ≡ Some s → slice_get seats s ≡ Some i
+
+-- a number that is not absent has a position
+pub stands : (xs : List ℕ) (x : ℕ) → ((i : ℕ) × (slice_get xs i ≡ Some x)) ⊎ IsAbsent xs 0 x
+stands [] x = inr (λ i from less at. omega (arith, less))
+stands (y ∷ ys) x = elim (cases_eq y x) [
+  | inl here ↦ inl (0, ap (λ z. Some z) here)
+  | inr other ↦ elim (stands ys x) [
+    | inl found ↦ inl (suc found.0, found.1)
+    | inr gone ↦ inr (later gone other)
+  ]
+]
+  where
+    later : IsAbsent ys 0 x → (y ≡ x → ⊥) → IsAbsent (y ∷ ys) 0 x
+    later gone other zero from less at = other at
+    later gone other (suc i) from less at = gone i (omega arith) (omega (arith, less)) at
+
+pub found-at : (xs : List ℕ) (x : ℕ) → (IsAbsent xs 0 x → ⊥) → (i : ℕ) × (slice_get xs i ≡ Some x)
+found-at xs x there = elim (stands xs x) [
+  | inl found ↦ found
+  | inr gone ↦ absurd (there gone)
+]
+
+pub absent-get : (xs : List ℕ) (x i : ℕ) → IsAbsent xs 0 x → slice_get xs i ≡ Some x → ⊥
+absent-get xs x i gone h = gone i (omega arith) (slice_get_within xs i x h) (get_or_from_slice_get xs i x 0 h)
+
+pub get-absent : (xs : List ℕ) (x : ℕ) → ((i : ℕ) → slice_get xs i ≡ Some x → ⊥) → IsAbsent xs 0 x
+get-absent xs x none i from less at = none i (slice_get-get_or xs i 0 less ∙ ap (λ z. Some z) at)
+
+pub seated-put : (list seats : List ℕ) (form : ℕ) → form < length seats → IsAbsent list 0 form → AreSeated list seats → AreSeated (list ++ (form ∷ [])) (set seats form (length list))
+seated-put list seats form inside gone old i s h = elim (cases_lt i (length list)) [
+  | inl less ↦
+      let was : slice_get list i ≡ Some s = sym (get-push_less list i form less) ∙ h in
+      get-set_other seats form s (length list) (λ e. absent-get list form i gone (was ∙ ap (λ z. Some z) e)) ∙ old i s was
+  | inr more ↦ elim (cases_eq i (length list)) [
+    | inl here ↦
+        let same : form ≡ s = some-one (slice_get (list ++ (form ∷ [])) i) form s (get-push_same list i form here) h in
+        ap (slice_get (set seats form (length list))) (sym same) ∙ get-set_same seats form (length list) inside ∙ ap (λ z. Some z) (sym here)
+    | inr other ↦ absurd (none-some (slice_get (list ++ (form ∷ [])) i) s (get-push_past list i form (lt_of_apart (length list) i more other)) h)
+  ]
+]
+
+pub seated-moved : (list seats : List ℕ) (q d m : ℕ) → q + 1 < length list → slice_get list (length list - 1) ≡ Some m → AreSeated list seats → AreSeated (swap_remove list q d) (set seats m q)
+seated-moved list seats q d m more last old i s h = elim (cases_eq i q) [
+  | inl here ↦
+      let same : m ≡ s = some-one (slice_get (swap_remove list q d) i) m s (ap (slice_get (swap_remove list q d)) here ∙ swap-here list q d m more last) h in
+      ap (slice_get (set seats m q)) (sym same) ∙ get-set_same seats m q (slice_get_within seats m (length list - 1) (old (length list - 1) m last)) ∙ ap (λ z. Some z) (sym here)
+  | inr other ↦ elim (cases_eq i (length list - 1)) [
+    | inl end ↦ absurd (none-some (slice_get (swap_remove list q d) i) s (ap (slice_get (swap_remove list q d)) end ∙ swap-last list q d) h)
+    | inr before ↦
+        let was : slice_get list i ≡ Some s = sym (swap-other list q i d other before) ∙ h in
+        get-set_other seats m s q (λ e. before (some-one (slice_get seats s) i (length list - 1) (old i s was) (ap (slice_get seats) e ∙ old (length list - 1) m last))) ∙ old i s was
+  ]
+]
+
+pub seated-last : (list seats : List ℕ) (q d : ℕ) → q + 1 ≡ length list → AreSeated list seats → AreSeated (swap_remove list q d) seats
+seated-last list seats q d end old i s h = elim (cases_eq i q) [
+  | inl here ↦ absurd (none-some (slice_get (swap_remove list q d) i) s (ap (slice_get (swap_remove list q d)) (omega (arith, here, end)) ∙ swap-last list q d) h)
+  | inr other ↦ old i s (sym (swap-other list q i d other (λ e. other (omega (arith, e, end)))) ∙ h)
+]
+
+pub seat-inside : (list seats : List ℕ) (form : ℕ) → (IsAbsent list 0 form → ⊥) → AreSeated list seats → form < length seats
+seat-inside list seats form there old =
+    let at = found-at list form there in
+    slice_get_within seats form at.0 (old at.0 form at.1)
+
+pub seat-got : (list seats : List ℕ) (form seat : ℕ) → (IsAbsent list 0 form → ⊥) → AreSeated list seats → seat ≡ get_or seats form seat → slice_get list seat ≡ Some form
+seat-got list seats form seat there old is =
+    let at = found-at list form there in
+    let same : seat ≡ at.0 = is ∙ get_or_from_slice_get seats form at.0 seat (old at.0 form at.1) in
+    ap (slice_get list) same ∙ at.1
+
+-- the element that is removed is the form
+pub taken-is : (list : List ℕ) (seat form x : ℕ) → slice_get list seat ≡ Some form → x ≡ get_or list seat x → x ≡ form
+taken-is list seat form x got is = is ∙ get_or_from_slice_get list seat form x got
+
+-- the last number has moved
+pub moved-last : (list list' : List ℕ) (q d m : ℕ) → q < length list → list' ≡ swap_remove list q d → q < length list' → m ≡ get_or list' q m → (q + 1 < length list) × (slice_get list (length list - 1) ≡ Some m)
+moved-last list list' q d m inside gone more is =
+    let beyond : q + 1 < length list = omega (arith, swap-length list q d inside, ap length gone, more) in
+    let last = slice_get-get_or list (length list - 1) m (omega (arith, beyond)) in
+    let here = swap-here list q d (get_or list (length list - 1) m) beyond last in
+    let read : m ≡ get_or list (length list - 1) m = is ∙ ap (λ xs. get_or xs q m) gone ∙ get_or_from_slice_get (swap_remove list q d) q (get_or list (length list - 1) m) m here in
+    (beyond, last ∙ ap (λ z. Some z) (sym read))
+
+-- what is left of a list was in it at another position, and all else is left
+pub swap-from : (xs : List ℕ) (q d i t : ℕ) → q < length xs → slice_get (swap_remove xs q d) i ≡ Some t → (j : ℕ) × (slice_get xs j ≡ Some t) × (j ≡ q → ⊥)
+swap-from xs q d i t inside h = elim (cases_eq i (length xs - 1)) [
+  | inl end ↦ absurd (none-some (slice_get (swap_remove xs q d) i) t (ap (slice_get (swap_remove xs q d)) end ∙ swap-last xs q d) h)
+  | inr before ↦ elim (cases_eq i q) [
+    | inr other ↦ (i, sym (swap-other xs q i d other before) ∙ h, other)
+    | inl here ↦
+        let more : q + 1 < length xs = omega (arith, inside, here, lt_of_apart i (length xs - 1) (omega (arith, inside, here)) (λ e. before (sym e))) in
+        let last = slice_get-get_or xs (length xs - 1) d (omega (arith, more)) in
+        let same : get_or xs (length xs - 1) d ≡ t = some-one (slice_get (swap_remove xs q d) i) (get_or xs (length xs - 1) d) t (ap (slice_get (swap_remove xs q d)) here ∙ swap-here xs q d (get_or xs (length xs - 1) d) more last) h in
+        (length xs - 1, last ∙ ap (λ z. Some z) same, λ e. before (here ∙ sym e))
+  ]
+]
+
+pub swap-to : (xs : List ℕ) (q d j t : ℕ) → q < length xs → slice_get xs j ≡ Some t → (j ≡ q → ⊥) → (i : ℕ) × (slice_get (swap_remove xs q d) i ≡ Some t)
+swap-to xs q d j t inside h other = elim (cases_eq j (length xs - 1)) [
+  | inr before ↦ (j, swap-other xs q j d other before ∙ h)
+  | inl end ↦ (q, swap-here xs q d t (omega (arith, inside, end, lt_of_apart q j (omega (arith, inside, end)) other)) (ap (slice_get xs) (sym end) ∙ h))
+]
+
+-- one more number may be on the list
+pub seated-widened : (list seats seats' : List ℕ) (b : Bool) → seats' ≡ (if b then seats ++ (0 ∷ []) else seats) → AreSeated list seats → AreSeated list seats'
+seated-widened list seats seats' true e old i s h = rw e (get-push_less seats s 0 (slice_get_within seats s i (old i s h)) ∙ old i s h)
+seated-widened list seats seats' false e old i s h = rw e (old i s h)

@@ -1,0 +1,13 @@
+use Rattle.std.specs.Prelude.{Option, Some}
+use Rattle.std.proofs.Common.{ap, sym, ◌∙◌}
+use Rattle.pb_normal.specs.meaning.Form.{Form}
+use Rattle.pb_propagate.specs.declared.store.stored_form.StoredForm.{StoredForm}
+use Rattle.pb_propagate.proofs.lemmas.store.Gets.{get-map}
+use Rattle.pb_propagate.proofs.lemmas.store.Options.{none_of}
+use Rattle.pb_propagate.proofs.slots.left_slot.Goals as goal
+
+pub returns : goal.returns
+returns c =
+    let at = c.in_ok-kept.ensures.lookup in
+    let none = none_of c.in_ok-kept.kept.now.terms.form (sym c.has_form.ensures ∙ c.if-has_form.false) in
+    get-map (λ (k : StoredForm). k.terms.form) c.args.kept.now c.in_ok-slot.slot c.in_ok-kept.kept.now at.3.0 at.1 ∙ ap (λ (o : Option Form). let s : Option (Option Form) = Some o in s) none

@@ -1,0 +1,26 @@
+use Rattle.std.proofs.Common.{◌+◌, ap, arith}
+use Rattle.std.proofs.lemmas.List.Sums.{get_or-le-sum_by}
+use Rattle.pb_propagate.specs.declared.term.Term.{Term}
+use Rattle.pb_propagate.specs.engine.Engine.Terms.{terms_of}
+use Rattle.pb_propagate.proofs.lemmas.store.Sorted.{bound-calm, bound-none}
+use Rattle.pb_propagate.proofs.store.occurrence_lists.bound_of.Goals as goal
+
+pub returns-then-len-eq0-clause-first : goal.returns-then-len-eq0-clause-first
+returns-then-len-eq0-clause-first c = λ d some. absurd (omega (arith, some, c.len.ensures, c.if-len-eq0.true))
+
+pub overflow_add-result : goal.overflow_add-result
+overflow_add-result c =
+    let t = c.term-first.result in
+    let top = get_or-le-sum_by (λ (x : Term). x.coefficient) (terms_of c.args.terms.now) 0 t (omega (arith, c.len.ensures, c.if-len-eq0.false)) in
+    omega (arith, ap (λ (x : Term). x.coefficient) (c.term-first.ensures t), top, c.requires.size, c.requires.small)
+
+pub returns-clause-first : goal.returns-clause-first
+returns-clause-first c = λ d some. ap (λ (t : Term). c.args.degree + t.coefficient) (c.term-first.ensures d)
+
+pub returns-then-len-eq0-clause-calm : goal.returns-then-len-eq0-clause-calm
+returns-then-len-eq0-clause-calm c = bound-none (terms_of c.args.terms.now) c.args.degree (omega (arith, c.len.ensures, c.if-len-eq0.true))
+
+pub returns-clause-calm : goal.returns-clause-calm
+returns-clause-calm c =
+    let t = c.term-first.result in
+    bound-calm (terms_of c.args.terms.now) c.args.degree _ t c.requires.falling (omega (arith, c.len.ensures, c.if-len-eq0.false)) (ap (λ (x : Term). c.args.degree + x.coefficient) (c.term-first.ensures t))

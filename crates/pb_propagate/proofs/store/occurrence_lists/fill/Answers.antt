@@ -1,0 +1,33 @@
+use Rattle.std.proofs.Common.{get_or, refl, arith}
+use Rattle.pb_propagate.specs.engine.Engine.Fields.{shapes_of}
+use Rattle.pb_propagate.specs.engine.Engine.Terms.{terms_of}
+use Rattle.pb_propagate.proofs.lemmas.store.Places.{entries-length}
+use Rattle.pb_propagate.proofs.lemmas.engine.Puts.{place-inside}
+use Rattle.pb_propagate.proofs.lemmas.store.Storages.{kept-inside}
+use Rattle.pb_propagate.proofs.lemmas.store.Changes.{filled-stored}
+use Rattle.pb_propagate.proofs.store.occurrence_lists.fill.Goals as goal
+
+pub link-requires-clause-inside : goal.link-requires-clause-inside
+link-requires-clause-inside c = λ k d h.
+    let store = c.args.store.now in
+    let ts = terms_of c.in_ok-kept.kept.terms in
+    let variable = kept-inside ts c.args.form.terms store.variables c.in_ok-kept.ensures.is.terms c.requires.inside in
+    omega (arith, place-inside (get_or ts k d).literal store.variables (variable k d h), c.requires.sound.places, entries-length (shapes_of store.kept.items) store.occurrences.items)
+
+pub returns-clause-sound : goal.returns-clause-sound
+returns-clause-sound c =
+    let store = c.args.store.now in
+    let k = c.in_ok-kept.kept in
+    let ts = terms_of k.terms in
+    filled-stored store.kept.items k store.spots.items c.link.new.spots store.occurrences.items c.link.new.lists.items store.variables c.args.slot ts
+    c.requires.slot c.requires.empty refl c.in_ok-link.ensures.sizes c.in_ok-link.ensures.count
+    (kept-inside ts c.args.form.terms store.variables c.in_ok-kept.ensures.is.terms c.requires.inside) c.in_ok-link.ensures.linked c.requires.sound
+
+pub returns-clause-filled : goal.returns-clause-filled
+returns-clause-filled c = record {
+  kept = c.in_ok-kept.kept;
+  is = c.in_ok-kept.ensures.is;
+  form = c.in_ok-kept.ensures.form;
+  keeps = refl;
+  opened = refl;
+}

@@ -1,0 +1,41 @@
+use Rattle.std.proofs.Common.{arith, ◌∙◌, sym}
+use Rattle.pb_propagate.specs.engine.Engine.Terms.{terms_of}
+use Rattle.pb_propagate.proofs.lemmas.store.Sorted.{kept-size, degree-read}
+use Rattle.pb_propagate.proofs.store.occurrence_lists.kept_of.Goals as goal
+
+pub bound_of-bound-requires-clause-size : goal.bound_of-bound-requires-clause-size
+bound_of-bound-requires-clause-size c =
+    let size = kept-size (terms_of c.in_ok-terms.terms) c.args.form.terms c.in_ok-terms.ensures.same in
+    let normal = rw c.form-normal.ensures at c.degree.ensures.normal in
+    omega (arith, size, normal.size_in)
+
+pub bound_of-bound-requires-clause-small : goal.bound_of-bound-requires-clause-small
+bound_of-bound-requires-clause-small c =
+    let normal = rw c.form-normal.ensures at c.degree.ensures.normal in
+    omega (arith, degree-read c.unsigned_abs-degree.result c.degree.result c.args.form.degree c.unsigned_abs-degree.ensures.value (rw c.form-normal.ensures at c.degree.ensures.degree) normal.degree_in, normal.degree_in)
+
+pub invariant_of-result : goal.invariant_of-result
+invariant_of-result c =
+    let normal = rw c.form-normal.ensures at c.degree.ensures.normal in
+    let size = kept-size (terms_of c.in_ok-terms.terms) c.args.form.terms c.in_ok-terms.ensures.same in
+    record {
+      falling = c.in_ok-terms.ensures.falling;
+      sum = (rw c.form-normal.ensures at c.size-total.ensures.size) ∙ sym size;
+      small = omega (arith, size, normal.size_in);
+      low = omega (arith, degree-read c.unsigned_abs-degree.result c.degree.result c.args.form.degree c.unsigned_abs-degree.ensures.value (rw c.form-normal.ensures at c.degree.ensures.degree) normal.degree_in, normal.degree_in);
+      idle = c.bound_of-bound.ensures.calm;
+      aside = λ h. c.bound_of-bound.ensures.calm c.size-total.result 0 (c.is_below-eager.ensures.above h);
+      busy = λ h.
+          let low = c.is_below-eager.ensures.below h in
+          c.bound_of-bound.ensures.some (omega (arith, low));
+      alike = λ even i d h. omega (arith, c.bound_of-bound.ensures.first d (omega (arith, h)), c.is_even-even.ensures even i d h);
+    }
+
+pub returns-clause-is : goal.returns-clause-is
+returns-clause-is c =
+    let normal = rw c.form-normal.ensures at c.degree.ensures.normal in
+    record {
+      terms = c.in_ok-terms.ensures.same;
+      degree = degree-read c.unsigned_abs-degree.result c.degree.result c.args.form.degree c.unsigned_abs-degree.ensures.value (rw c.form-normal.ensures at c.degree.ensures.degree) normal.degree_in;
+      normal = normal;
+    }

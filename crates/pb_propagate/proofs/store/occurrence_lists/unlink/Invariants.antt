@@ -1,0 +1,17 @@
+use Rattle.std.proofs.Common.{◌≡◌, ℕ, ◌≤◌, [], get_or, length}
+use Rattle.pb_propagate.specs.engine.Engine.Fields.{shapes_of, entries_of, spots_of}
+use Rattle.pb_propagate.specs.engine.Engine.Links.{IsLinked, cut, terms_at}
+use Rattle.pb_propagate.proofs.store.occurrence_lists.unlink.Given as goal
+
+abbrev pub invariant-terms : goal.invariant-terms
+invariant-terms l = record {
+  kept : l.store.kept ≡ l.initial.store.kept;
+  variables : l.store.variables ≡ l.initial.store.variables;
+  lists : length l.store.occurrences.items ≡ length l.initial.store.occurrences.items;
+  within : l.left ≤ length (terms_at (shapes_of l.initial.store.kept.items) l.form);
+  rooms : (s : ℕ) → length (get_or (spots_of l.store.spots.items) s []) ≡ length (get_or (spots_of l.initial.store.spots.items) s []);
+  linked : IsLinked (cut (shapes_of l.initial.store.kept.items) l.form l.left) (spots_of l.store.spots.items) (entries_of (shapes_of l.initial.store.kept.items) l.store.occurrences.items);
+}
+
+abbrev pub decreases-terms : goal.decreases-terms
+decreases-terms l = l.left

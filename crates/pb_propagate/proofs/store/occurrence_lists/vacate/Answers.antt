@@ -1,0 +1,16 @@
+use Rattle.std.proofs.Common.{List, Vec, Global, ap, set}
+use Rattle.pb_propagate.specs.declared.store.stored_form.StoredForm.{StoredForm}
+use Rattle.pb_propagate.proofs.lemmas.store.Changes.{vacated-stored}
+use Rattle.pb_propagate.proofs.store.occurrence_lists.vacate.Goals as goal
+
+pub returns-clause-sound : goal.returns-clause-sound
+returns-clause-sound c =
+    let store = c.args.store.now in
+    let same = ap (λ (v : Vec StoredForm Global). v.items) c.unlink.ensures.kept in
+    rw c.unlink.ensures.variables (rw same (vacated-stored store.kept.items c.empty_kept.result c.unlink.new.store.spots.items store.spots.items c.new.result c.unlink.new.store.occurrences.items store.occurrences.items store.variables c.args.form
+    c.requires.form c.empty_kept.ensures.terms c.new.ensures.items c.unlink.ensures.lists c.unlink.ensures.rooms (rw same at c.unlink.ensures.linked) c.requires.sound))
+
+pub returns-clause-kept : goal.returns-clause-kept
+returns-clause-kept c =
+    let same = ap (λ (v : Vec StoredForm Global). v.items) c.unlink.ensures.kept in
+    (c.empty_kept.result, c.empty_kept.ensures, ap (λ (xs : List StoredForm). set xs c.args.form c.empty_kept.result) same)

@@ -1,0 +1,6 @@
+use Rattle.pb_propagate.specs.engine.Engine.Terms.{terms_of}
+use Rattle.pb_propagate.proofs.lemmas.root.Opens.{IsSummed}
+use Rattle.pb_propagate.proofs.store.opened.open_under.Given as goal
+
+abbrev pub invariant-terms : goal.invariant-terms
+invariant-terms l = IsSummed l.values (terms_of l.terms) l.i l.sum

@@ -1,0 +1,18 @@
+use Rattle.std.proofs.Common.{ap, arith}
+use Rattle.std.specs.Prelude.{sum_by}
+use Rattle.pb_normal.specs.declared.entry.Entry.{Entry}
+use Rattle.pb_propagate.proofs.lemmas.store.Sorted.{total-each}
+use Rattle.pb_propagate.proofs.store.sorted_form.SortedForm.new.Goals as goal
+
+pub order_of-requires : goal.order_of-requires
+order_of-requires c =
+    omega (arith, total-each c.form-2.result.now.terms, ap (sum_by (λ (e : Entry). e.coefficient)) c.entries.ensures.entries, c.entries.ensures.normal.size_in)
+
+pub invariant_of-result : goal.invariant_of-result
+invariant_of-result c = record { inside = rw (c.entries.ensures.entries, c.form-2.ensures) at c.in_ok-order.ensures.inside }
+
+pub returns-clause-same : goal.returns-clause-same
+returns-clause-same c = rw (c.entries.ensures.entries, c.form-2.ensures) at c.in_ok-order.ensures.same
+
+pub returns-clause-falling : goal.returns-clause-falling
+returns-clause-falling c = rw (c.entries.ensures.entries, c.form-2.ensures) at c.in_ok-order.ensures.falling

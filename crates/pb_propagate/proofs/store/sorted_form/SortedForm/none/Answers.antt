@@ -1,0 +1,6 @@
+use Rattle.std.proofs.Common.{ap, []}
+use Rattle.pb_propagate.specs.engine.Engine.Forms.{picked}
+use Rattle.pb_propagate.proofs.store.sorted_form.SortedForm.none.Goals as goal
+
+pub returns-clause-terms : goal.returns-clause-terms
+returns-clause-terms c = ap (picked []) c.new.ensures.items

@@ -1,0 +1,6 @@
+use Rattle.std.proofs.Common.{◌≡◌, ℕ, ◌<◌, get_or}
+use Rattle.pb_normal.specs.declared.entry.Entry.{Entry}
+use Rattle.pb_propagate.proofs.store.sorted_form.are_equal.Given as goal
+
+abbrev pub invariant-entries : goal.invariant-entries
+invariant-entries l = (k : ℕ) (d : Entry) → k < l.i → (get_or l.entries k d).coefficient ≡ (get_or l.entries 0 d).coefficient

@@ -1,0 +1,21 @@
+use Rattle.std.proofs.Common.{rules, ◌-◌, ◌^◌, arith}
+use Rattle.std.proofs.lemmas.List.Sorted.{All-permutation, IsNonDecreasingBy-from_sort_by_key}
+use Rattle.pb_propagate.specs.declared.term.Rank.{Rank}
+use Rattle.pb_propagate.specs.engine.Engine.Forms.{IsPlaced}
+use Rattle.pb_propagate.proofs.lemmas.store.Sorted.{ranked-same, ranked-falling}
+use Rattle.pb_propagate.proofs.store.sorted_form.ranked.Goals as goal
+
+pub returns-clause-placed : goal.returns-clause-placed
+returns-clause-placed c =
+    All-permutation (IsPlaced c.args.entries.now) c.in_ok-ranks.ranks.items c.sort_unstable_by_key.new.self.items c.sort_unstable_by_key.ensures.permutation c.in_ok-ranks.ensures.0
+
+pub returns-clause-same : goal.returns-clause-same
+returns-clause-same c =
+    ranked-same c.args.entries.now c.in_ok-ranks.ranks.items c.sort_unstable_by_key.new.self.items c.in_ok-ranks.ensures.1 c.sort_unstable_by_key.ensures.permutation
+
+pub returns-clause-falling : goal.returns-clause-falling
+returns-clause-falling c =
+    let placed = All-permutation (IsPlaced c.args.entries.now) c.in_ok-ranks.ranks.items c.sort_unstable_by_key.new.self.items c.sort_unstable_by_key.ensures.permutation c.in_ok-ranks.ensures.0 in
+    ranked-falling c.args.entries.now c.sort_unstable_by_key.new.self.items (2 ^ 128 - 1)
+    (IsNonDecreasingBy-from_sort_by_key (λ (r : Rank). (2 ^ 128 - 1) - r.coefficient) _ c.sort_unstable_by_key.ensures.sorted (λ a r q k. search rules))
+    (omega (arith, c.requires)) placed

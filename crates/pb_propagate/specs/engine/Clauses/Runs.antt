@@ -1,0 +1,110 @@
+-- A run of propagation: what it knows of the clauses, and what a visit to a watch finds.
+use Rattle.std.specs.Prelude.{◌≡◌, ℕ, ◌+◌, ◌*◌, ◌/◌, ◌<◌, ◌≤◌, ◌⊎◌, ◌++◌, ◌∷◌, true, false, [], List, length, take, drop, All, Contains, Bool, Option, Some, slice_get, slice_index_or}
+use Rattle.pb_propagate.specs.declared.clauses.lists.Watch.{Watch}
+use Rattle.pb_propagate.specs.declared.clauses.Clauses.{Clauses}
+use Rattle.pb_propagate.specs.declared.clauses.visiting.Visit.{Visit}
+use Rattle.pb_propagate.specs.declared.clauses.visiting.Visit.TheVariants.{Stays, Leaves, Forces, Falsified}
+use Rattle.pb_propagate.specs.engine.Clauses.Truths.{flip, true_at, false_at}
+use Rattle.pb_propagate.specs.engine.Clauses.Links.{lists_of, list_at, watch_at, AreLinked}
+
+-- a list from a position on, and then from its beginning
+abbrev pub turned : ℕ → List ℕ → List ℕ
+turned start xs = drop start xs ++ take start xs
+
+-- each clause in the order in which it is searched
+abbrev pub all_turned : List ℕ → List (List ℕ) → List (List ℕ)
+all_turned starts [] = []
+all_turned [] (xs ∷ clauses) = turned 0 xs ∷ all_turned [] clauses
+all_turned (start ∷ starts) (xs ∷ clauses) = turned start xs ∷ all_turned starts clauses
+
+-- each clause has two watches, on different literals of it
+pub record AreStored (clauses : List (List ℕ)) (watches : List Watch) (lists : List (List ℕ)) : Type 0 where
+  pub linked : AreLinked watches lists
+  pub pairs : length watches ≡ 2 * length clauses
+  pub watched : (e : ℕ) → (watch_at watches e).live ≡ true → Contains (list_at clauses (e / 2)) (watch_at watches e).literal
+  pub paired : (e : ℕ) → (watch_at watches e).live ≡ true → (watch_at watches (flip e)).live ≡ true
+  pub apart : (e : ℕ) → (watch_at watches e).live ≡ true → (watch_at watches (flip e)).literal ≡ (watch_at watches e).literal → ⊥
+  pub full : (s : ℕ) → 0 < length (list_at clauses s) → (watch_at watches (2 * s)).live ≡ true
+  pub inside : (s : ℕ) → All (λ x. x < length lists) (list_at clauses s)
+
+-- a watch of the slot is on the literal
+pub record IsWatched (watches : List Watch) (s x : ℕ) : Type 0 where
+  pub watch : ℕ
+  pub slot : watch / 2 ≡ s
+  pub literal : (watch_at watches watch).literal ≡ x
+
+-- the literals that a search has passed are falsified or watched
+pub record ArePassed (values : List (Option Bool)) (clauses : List (List ℕ)) (passed : List ℕ) (watches : List Watch) : Type 0 where
+  pub sizes : length passed ≡ length clauses
+  pub bounded : (s : ℕ) → slice_index_or passed s 0 ≤ length (list_at clauses s)
+  pub each : (s k d : ℕ) → k < slice_index_or passed s 0 → (false_at values (slice_index_or (list_at clauses s) k d) ≡ true) ⊎ IsWatched watches s (slice_index_or (list_at clauses s) k d)
+
+-- the slots whose search has begun are on the trail
+pub record AreNoted (passed moved : List ℕ) : Type 0 where
+  pub noted : (s : ℕ) → (slice_index_or passed s 0 ≡ 0) ⊎ Contains moved s
+  pub named : All (λ s. s < length passed) moved
+
+pub record IsRunning (values : List (Option Bool)) (c : Clauses) : Type 0 where
+  pub stored : AreStored (lists_of c.literals.items) c.watches.items (lists_of c.lists.items)
+  pub passed : ArePassed values (all_turned c.starts.items (lists_of c.literals.items)) c.passed.items c.watches.items
+  pub starts : length c.starts.items ≡ length c.literals.items
+  pub noted : AreNoted c.passed.items c.moved.items
+  pub sizes : length c.lists.items ≡ 2 * length values
+
+-- if a walked literal is watched, the other watched literal is true; in the list being walked this holds before `index`
+pub record AreServed (values : List (Option Bool)) (watches : List Watch) (walked : List ℕ) (l index : ℕ) : Type 0 where
+  pub failed : (x : ℕ) → Contains walked x → false_at values x ≡ true
+  pub now : false_at values l ≡ true
+  pub done : (e : ℕ) → (watch_at watches e).live ≡ true → Contains walked (watch_at watches e).literal → true_at values (watch_at watches (flip e)).literal ≡ true
+  pub here : (e : ℕ) → (watch_at watches e).live ≡ true → (watch_at watches e).literal ≡ l → (watch_at watches e).spot < index → true_at values (watch_at watches (flip e)).literal ≡ true
+
+-- all literals of a clause but one are falsified, and that one is open
+pub record IsUnit (values : List (Option Bool)) (clauses : List (List ℕ)) (x : ℕ) : Type 0 where
+  pub slot : ℕ
+  pub stands : Contains (list_at clauses slot) x
+  pub others : (k d : ℕ) → k < length (list_at clauses slot) → (false_at values (slice_index_or (list_at clauses slot) k d) ≡ true) ⊎ (slice_index_or (list_at clauses slot) k d ≡ x)
+  pub not_true : true_at values x ≡ false
+  pub not_false : false_at values x ≡ false
+
+-- all literals of a clause are falsified
+pub record IsBroken (values : List (Option Bool)) (clauses : List (List ℕ)) : Type 0 where
+  pub slot : ℕ
+  pub some : 0 < length (list_at clauses slot)
+  pub all : (k d : ℕ) → k < length (list_at clauses slot) → false_at values (slice_index_or (list_at clauses slot) k d) ≡ true
+
+-- the watch at a position of a list is the other one of a watch on the literal
+abbrev pub Awaits : Clauses → ℕ → ℕ → ℕ → Type 0
+Awaits c l index x = (e : ℕ) → slice_get (list_at (lists_of c.lists.items) l) index ≡ Some e → (watch_at c.watches.items (flip e)).literal ≡ x
+
+-- what a visit has found, and what it leaves
+abbrev pub HasFound : List (Option Bool) → Clauses → Clauses → ℕ → ℕ → Visit → Type 0
+HasFound values old new l index Stays = length (list_at (lists_of new.lists.items) l) ≡ length (list_at (lists_of old.lists.items) l)
+HasFound values old new l index Leaves = length (list_at (lists_of new.lists.items) l) + 1 ≡ length (list_at (lists_of old.lists.items) l)
+HasFound values old new l index (Forces x) = (length (list_at (lists_of new.lists.items) l) ≡ length (list_at (lists_of old.lists.items) l)) × IsUnit values (lists_of new.literals.items) x × Awaits new l index x
+HasFound values old new l index Falsified = IsBroken values (lists_of new.literals.items)
+
+-- the position of the next visit
+abbrev pub index_after : ℕ → Visit → ℕ
+index_after index Stays = index + 1
+index_after index Leaves = index
+index_after index (Forces x) = index
+index_after index Falsified = index
+
+-- no search has begun
+pub record AreReady (c : Clauses) : Type 0 where
+  pub stored : AreStored (lists_of c.literals.items) c.watches.items (lists_of c.lists.items)
+  pub sizes : length c.passed.items ≡ length c.literals.items
+  pub starts : length c.starts.items ≡ length c.literals.items
+  pub none : (s : ℕ) → slice_index_or c.passed.items s 0 ≡ 0
+  pub trail : c.moved.items ≡ []
+
+-- what was true or falsified still is
+pub record Grows (old new : List (Option Bool)) : Type 0 where
+  pub sizes : length new ≡ length old
+  pub met : (x : ℕ) → true_at old x ≡ true → true_at new x ≡ true
+  pub failed : (x : ℕ) → false_at old x ≡ true → false_at new x ≡ true
+
+-- if a walked literal is watched, the other watched literal is true
+pub record AreWalked (values : List (Option Bool)) (watches : List Watch) (walked : List ℕ) : Type 0 where
+  pub failed : (x : ℕ) → Contains walked x → false_at values x ≡ true
+  pub done : (e : ℕ) → (watch_at watches e).live ≡ true → Contains walked (watch_at watches e).literal → true_at values (watch_at watches (flip e)).literal ≡ true

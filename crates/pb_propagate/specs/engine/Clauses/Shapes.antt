@@ -1,0 +1,65 @@
+-- Clauses among the constraints.
+use Rattle.std.specs.Prelude.{◌≡◌, ℕ, ◌+◌, ◌*◌, ◌/◌, ◌%◌, ◌^◌, ◌<◌, ◌≤◌, ◌==◌, not, if◌then◌else◌, All, List, [], ◌∷◌, map, length, count_by, slice_index_or}
+use Rattle.pb_normal.specs.declared.entry.Entry.{Entry}
+use Rattle.pb_normal.specs.meaning.Form.{Form}
+use Rattle.pb_normal.specs.declared.numbered.NumberedLiteral.{NumberedLiteral}
+use Rattle.pb_propagate.specs.declared.term.Term.{Term}
+use Rattle.pb_propagate.specs.declared.store.Store.{Store}
+use Rattle.pb_propagate.specs.declared.clauses.Clauses.{Clauses}
+use Rattle.pb_propagate.specs.engine.Engine.Lists.{Shape}
+use Rattle.pb_propagate.specs.engine.Engine.Fields.{shapes_of}
+use Rattle.pb_propagate.specs.engine.Clauses.Links.{lists_of, list_at}
+
+-- the literal of a code
+abbrev pub literal_at : ℕ → NumberedLiteral
+literal_at c = record { variable = c / 2; negated = not (c % 2 == 0) }
+
+-- the code of a term's literal
+abbrev pub code : Entry → ℕ
+code e = 2 * e.variable + (if e.negated then 1 else 0)
+
+abbrev pub one_term : ℕ → Term
+one_term c = record { literal = literal_at c; coefficient = 1 }
+
+-- a clause as a constraint
+abbrev pub clause_shape : List ℕ → Shape
+clause_shape codes = record { terms = map one_term codes; degree = 1 }
+
+abbrev pub slot_shape : Shape → List ℕ → Shape
+slot_shape x [] = x
+slot_shape x (c ∷ codes) = clause_shape (c ∷ codes)
+
+-- the constraint of each slot: its clause, or if it has none, what the occurrence lists have
+abbrev pub joined : List Shape → List (List ℕ) → List Shape
+joined [] clauses = []
+joined (x ∷ xs) [] = x ∷ xs
+joined (x ∷ xs) (codes ∷ clauses) = slot_shape x codes ∷ joined xs clauses
+
+-- no literal occurs twice
+abbrev pub AreDifferent : List ℕ → Type 0
+AreDifferent codes = (x : ℕ) → count_by (λ y. x == y) codes ≤ 1
+
+-- no constraint is both a clause with watches and in the occurrence lists
+pub record AreJoined (shapes : List Shape) (clauses : List (List ℕ)) : Type 0 where
+  pub short : length clauses ≤ length shapes
+  pub apart : (s : ℕ) (d : Shape) → s < length shapes → 0 < length (list_at clauses s) → ((slice_index_or shapes s d).terms ≡ []) × ((slice_index_or shapes s d).degree ≡ 0)
+  pub different : (s : ℕ) → AreDifferent (list_at clauses s)
+
+-- the literals of each slot's clause
+abbrev pub clauses_of : Clauses → List (List ℕ)
+clauses_of c = lists_of c.literals.items
+
+-- the constraints of all slots
+abbrev pub all_of : Store → Clauses → List Shape
+all_of store clauses = joined (shapes_of store.kept.items) (clauses_of clauses)
+
+-- the coefficient is 1, and the code fits in 4 bytes
+pub record IsLight (e : Entry) : Type 0 where
+  pub one : e.coefficient ≡ 1
+  pub small : e.variable < 2 ^ 31
+
+-- some literal is true, and two literals can be watched
+pub record IsClause (f : Form) : Type 0 where
+  pub degree : f.degree ≡ 1
+  pub two : 2 ≤ length f.terms
+  pub light : All IsLight f.terms

@@ -1,0 +1,72 @@
+-- The engine's fields as lists.
+use Rattle.std.specs.Prelude.{◌≡◌, ℕ, false, [], ◌∷◌, ◌++◌, List, Option, Some, None, map, slice_set, Vec}
+use Rattle.std.specs.Global.{Global}
+use Rattle.pb_propagate.specs.declared.store.Occurrence.{Occurrence}
+use Rattle.pb_propagate.specs.declared.store.stored_form.StoredForm.{StoredForm}
+use Rattle.pb_propagate.specs.declared.store.Store.{Store}
+use Rattle.pb_propagate.specs.declared.store.Visited.{Visited}
+use Rattle.pb_propagate.specs.engine.Engine.Lists.{Shape, Weighted}
+use Rattle.pb_normal.specs.meaning.Form.{Form}
+use Rattle.pb_propagate.specs.engine.Engine.Forms.{IsKeptAs}
+use Rattle.pb_propagate.specs.engine.Engine.Terms.{terms_of}
+use Rattle.pb_propagate.specs.engine.Engine.Links.{IsStored, weighted}
+
+abbrev pub kept_shape : StoredForm → Shape
+kept_shape k = record { terms = terms_of k.terms; degree = k.degree }
+
+abbrev pub shapes_of : List StoredForm → List Shape
+shapes_of kept = map kept_shape kept
+
+-- the forms, none in the slot of a removed one
+abbrev pub forms_of : List StoredForm → List (Option Form)
+forms_of kept = map (λ k. k.terms.form) kept
+
+abbrev pub lists_of : List (Vec Occurrence Global) → List (List Occurrence)
+lists_of lists = map (λ v. v.items) lists
+
+-- the entry that was visited
+abbrev pub entry_at : Visited → Occurrence
+entry_at v = record { form = v.form; index = v.index }
+
+-- the lists of entries, each with the coefficient of its term
+abbrev pub entries_of : List Shape → List (Vec Occurrence Global) → List (List Weighted)
+entries_of forms lists = map (λ v. map (weighted forms) v.items) lists
+
+abbrev pub spots_of : List (Vec ℕ Global) → List (List ℕ)
+spots_of spots = map (λ v. v.items) spots
+
+-- the store's parts belong together
+abbrev pub IsSound : Store → Type 0
+IsSound s = IsStored (shapes_of s.kept.items) (spots_of s.spots.items) (entries_of (shapes_of s.kept.items) s.occurrences.items) s.variables
+
+-- a form is added after the others, with its open sum and its candidate as at rest
+pub record HasEntered (f : Form) (keep keep' : List StoredForm) (opens opens' cands cands' : List ℕ) : Type 0 where
+  pub kept : StoredForm
+  pub is : IsKeptAs f (kept_shape kept)
+  pub form : kept.terms.form ≡ Some f
+  pub keeps : keep' ≡ keep ++ (kept ∷ [])
+  pub opened : opens' ≡ opens ++ (kept.total ∷ [])
+  pub candidates : cands' ≡ cands ++ (0 ∷ [])
+
+-- a form is stored in the slot of an empty one, with its open sum as at rest
+pub record HasFilled (f : Form) (slot : ℕ) (keep keep' : List StoredForm) (opens opens' : List ℕ) : Type 0 where
+  pub kept : StoredForm
+  pub is : IsKeptAs f (kept_shape kept)
+  pub form : kept.terms.form ≡ Some f
+  pub keeps : keep' ≡ slice_set keep slot kept
+  pub opened : opens' ≡ slice_set opens slot kept.total
+
+-- the form has nothing in the occurrence lists
+pub record IsUnlisted (k : StoredForm) : Type 0 where
+  pub terms : terms_of k.terms ≡ []
+  pub degree : k.degree ≡ 0
+  pub total : k.total ≡ 0
+  pub eager : k.eager ≡ false
+
+-- an empty form
+pub record IsEmpty (k : StoredForm) : Type 0 where
+  pub form : k.terms.form ≡ None
+  pub terms : terms_of k.terms ≡ []
+  pub degree : k.degree ≡ 0
+  pub total : k.total ≡ 0
+  pub eager : k.eager ≡ false

@@ -1,0 +1,9 @@
+-- What propagation over a list of forms always does.
+use Rattle.std.specs.Prelude.{List, Contains}
+use Rattle.pb_normal.specs.meaning.Form.{Form}
+use Rattle.pb_normal.specs.declared.numbered.NumberedLiteral.{NumberedLiteral}
+use Rattle.pb_propagate.specs.meaning.Propagation.{IsCompletion}
+
+-- over a list of forms, some derivation from the given literals cannot be extended
+abbrev pub CompletionsExist : Type 0
+CompletionsExist = (fs : List Form) (given : List NumberedLiteral) → (list : List NumberedLiteral) × IsCompletion (Contains fs) given list

@@ -1,0 +1,242 @@
+//! Clauses by slots.
+
+ghost use Rattle.std.specs.Prelude.{◌≡◌, ℕ, ◌+◌, ◌*◌, ◌/◌, ◌<◌, ◌≤◌, ◌++◌, ◌∷◌, [], List, All, Bool, Option, length, slice_set, slice_index, true, false, OnOk, OnErr, IfOk};
+ghost use Rattle.pb_propagate.specs.engine.Clauses.Links.{lists_of, list_at, watch_at};
+ghost use Rattle.pb_propagate.specs.engine.Clauses.Runs.{AreReady, IsRunning};
+ghost use Rattle.pb_propagate.specs.engine.Engine.Root.{IsServed, HasOpen, IsSameWatch};
+
+pub mod lists;
+pub mod truth;
+pub mod visiting;
+
+use crate::clauses::lists::{Watch, put_in, take_out};
+use crate::clauses::truth::{is_false, is_open, is_true};
+use crate::clauses::visiting::position;
+use std::alloc::{AllocError, Global};
+
+// Whether a literal of a clause is open.
+fn some_open(literals: &[u32], values: &[Option<bool>]) -> bool
+    requires inside { All (λ x. x < 2 * length values.now) literals.now }
+    ensures yes { result ≡ true → HasOpen values.now literals.now }
+    ensures no { result ≡ false → HasOpen values.now literals.now → ⊥ }
+{
+    'literals: for i in 0..literals.len() {
+        if is_open(values, literals[i]) {
+            return true;
+        }
+    }
+    false
+}
+
+// Where the next search in a clause of `count` literals starts: where this one, after `passed` of them, has ended.
+fn next_start(start: usize, passed: usize, count: usize) -> usize {
+    if passed >= count {
+        return start;
+    }
+    position(start, passed, count)
+}
+
+/// Clauses by slots, each with two watched literals.
+#[derive(Drop)]
+pub struct Clauses {
+    // The literals of each slot's clause, none if the slot is empty.
+    literals: Vec<Vec<u32>>,
+    // Where the search in a slot's clause starts. It goes round the clause.
+    starts: Vec<usize>,
+    // How many literals from there on are falsified or watched.
+    passed: Vec<usize>,
+    // The slots whose search has begun in this run.
+    moved: Vec<usize>,
+    // Two watches for each slot.
+    watches: Vec<Watch>,
+    // For each literal, the watches on it.
+    lists: Vec<Vec<usize>>,
+}
+
+impl Clauses {
+    /// No slots, over no variables.
+    pub fn new(alloc: Global) -> Clauses
+        ensures rest { AreReady result }
+        ensures literals { result.literals.items ≡ [] }
+        ensures lists { result.lists.items ≡ [] }
+    {
+        Clauses {
+            literals: Vec::new(alloc),
+            starts: Vec::new(alloc),
+            passed: Vec::new(alloc),
+            moved: Vec::new(alloc),
+            watches: Vec::new(alloc),
+            lists: Vec::new(alloc),
+        }
+    }
+
+    /// Adds a variable.
+    pub fn widen(&mut self) -> Result<(), AllocError>
+        requires rest { AreReady self.old }
+        ensures rest { OnOk result (AreReady self.new) }
+        ensures literals { self.new.literals ≡ self.old.literals }
+        ensures lists { OnOk result (length self.new.lists.items ≡ length self.old.lists.items + 2) }
+    {
+        let alloc = *self.lists.allocator();
+        self.lists.push(Vec::new(alloc))?;
+        self.lists.push(Vec::new(alloc))?;
+        Ok(())
+    }
+
+    /// Adds an empty slot.
+    pub fn extend(&mut self) -> Result<(), AllocError>
+        requires rest { AreReady self.old }
+        ensures rest { OnOk result (AreReady self.new) }
+        ensures literals { OnOk result (lists_of self.new.literals.items ≡ lists_of self.old.literals.items ++ [] ∷ []) }
+        ensures unchanged { OnErr result (self.new.literals.items ≡ self.old.literals.items) }
+        ensures watches { OnOk result ((e : ℕ) → watch_at self.new.watches.items e ≡ watch_at self.old.watches.items e) }
+        ensures lists { self.new.lists ≡ self.old.lists }
+    {
+        let alloc = *self.lists.allocator();
+        self.starts.push(0)?;
+        self.passed.push(0)?;
+        let idle = Watch {
+            literal: 0,
+            live: false,
+            spot: 0,
+        };
+        self.watches.push(idle)?;
+        self.watches.push(idle)?;
+        self.literals.push(Vec::new(alloc))?;
+        Ok(())
+    }
+
+    /// How many watches a literal has.
+    pub fn watch_count(&self, literal: usize) -> usize
+        requires { literal < length self.now.lists.items }
+        ensures { result ≡ length (list_at (lists_of self.now.lists.items) literal) }
+    {
+        self.lists[literal].len()
+    }
+
+    /// Whether the slot holds a clause.
+    pub fn is_filled(&self, slot: usize) -> bool
+        ensures yes { result ≡ true → 0 < length (list_at (lists_of self.now.literals.items) slot) }
+        ensures no { result ≡ false → list_at (lists_of self.now.literals.items) slot ≡ [] }
+    {
+        if slot >= self.literals.len() {
+            return false;
+        }
+        let filled = self.literals[slot].len() > 0;
+        filled
+    }
+
+    /// Stores a clause in an empty slot. Its first two literals are watched.
+    pub fn fill(&mut self, slot: usize, literals: Vec<u32>) -> Result<(), AllocError>
+        requires rest { AreReady self.old }
+        requires slot { slot < length self.old.literals.items }
+        requires empty { list_at (lists_of self.old.literals.items) slot ≡ [] }
+        requires two { 2 ≤ length literals.items }
+        requires apart { slice_index literals.items 0 ≡ slice_index literals.items 1 → ⊥ }
+        requires inside { All (λ x. x < length self.old.lists.items) literals.items }
+        ensures rest { OnOk result (AreReady self.new) }
+        ensures literals { OnOk result (lists_of self.new.literals.items ≡ slice_set (lists_of self.old.literals.items) slot literals.items) }
+        ensures unchanged { OnErr result (self.new.literals ≡ self.old.literals) }
+        ensures watches { OnOk result ((e : ℕ) → (e / 2 ≡ slot → ⊥) → watch_at self.new.watches.items e ≡ watch_at self.old.watches.items e) }
+        ensures lists { OnOk result (length self.new.lists.items ≡ length self.old.lists.items) }
+    {
+        let first = literals[0];
+        let second = literals[1];
+        put_in(&mut self.lists, &mut self.watches, 2 * slot, first)?;
+        put_in(&mut self.lists, &mut self.watches, 2 * slot + 1, second)?;
+        self.literals[slot] = literals;
+        Ok(())
+    }
+
+    /// Makes a slot empty. Nothing is allocated.
+    pub fn empty(&mut self, slot: usize)
+        requires rest { AreReady self.old }
+        requires slot { slot < length self.old.literals.items }
+        ensures rest { AreReady self.new }
+        ensures literals { lists_of self.new.literals.items ≡ slice_set (lists_of self.old.literals.items) slot [] }
+        ensures lists { length self.new.lists.items ≡ length self.old.lists.items }
+        ensures watches { (e : ℕ) → (e / 2 ≡ slot → ⊥) → IsSameWatch (watch_at self.old.watches.items e) (watch_at self.new.watches.items e) }
+    {
+        if !self.is_filled(slot) {
+            return;
+        }
+        self.vacate(slot);
+    }
+
+    // Removes the clause of a slot, which is then empty.
+    fn vacate(&mut self, slot: usize)
+        requires rest { AreReady self.old }
+        requires some { 0 < length (list_at (lists_of self.old.literals.items) slot) }
+        ensures rest { AreReady self.new }
+        ensures literals { lists_of self.new.literals.items ≡ slice_set (lists_of self.old.literals.items) slot [] }
+        ensures lists { length self.new.lists.items ≡ length self.old.lists.items }
+        ensures watches { (e : ℕ) → (e / 2 ≡ slot → ⊥) → IsSameWatch (watch_at self.old.watches.items e) (watch_at self.new.watches.items e) }
+    {
+        let alloc = *self.lists.allocator();
+        let first = self.watches[2 * slot];
+        take_out(
+            &mut self.lists,
+            &mut self.watches,
+            first.literal as usize,
+            first.spot,
+        );
+        let second = self.watches[2 * slot + 1];
+        take_out(
+            &mut self.lists,
+            &mut self.watches,
+            second.literal as usize,
+            second.spot,
+        );
+        self.literals[slot] = Vec::new(alloc);
+    }
+
+    /// Whether the watches of a clause are on literals that are not falsified, or one of them is true.
+    pub fn is_served(&self, values: &[Option<bool>], slot: usize) -> bool
+        requires rest { AreReady self.now }
+        requires filled { 0 < length (list_at (lists_of self.now.literals.items) slot) }
+        requires values { length self.now.lists.items ≡ 2 * length values.now }
+        ensures { result ≡ true → IsServed values.now self.now.watches.items slot }
+    {
+        let first = self.watches[2 * slot].literal;
+        let second = self.watches[2 * slot + 1].literal;
+        if is_true(values, first) {
+            return true;
+        }
+        if is_true(values, second) {
+            return true;
+        }
+        if is_false(values, first) {
+            return false;
+        }
+        !is_false(values, second)
+    }
+
+    /// Whether a literal of a slot's clause is open.
+    pub fn has_open(&self, values: &[Option<bool>], slot: usize) -> bool
+        requires rest { AreReady self.now }
+        requires slot { slot < length self.now.literals.items }
+        requires values { length self.now.lists.items ≡ 2 * length values.now }
+        ensures yes { result ≡ true → HasOpen values.now (list_at (lists_of self.now.literals.items) slot) }
+        ensures no { result ≡ false → HasOpen values.now (list_at (lists_of self.now.literals.items) slot) → ⊥ }
+    {
+        some_open(self.literals[slot].as_slice(), values)
+    }
+
+    /// Prepares for another run, whose searches start where those of this run ended. Only the clauses in which a search has
+    /// begun are visited, and nothing is allocated.
+    pub fn rest(&mut self)
+        requires running { (values : List (Option Bool)) × IsRunning values self.old }
+        ensures rest { AreReady self.new }
+        ensures literals { self.new.literals ≡ self.old.literals }
+        ensures lists { self.new.lists ≡ self.old.lists }
+        ensures watches { self.new.watches ≡ self.old.watches }
+    {
+        'slots: for i in 0..self.moved.len() {
+            let slot = self.moved[i];
+            let count = self.literals[slot].len();
+            self.starts[slot] = next_start(self.starts[slot], self.passed[slot], count);
+            self.passed[slot] = 0;
+        }
+        self.moved.clear();
+    }
+}

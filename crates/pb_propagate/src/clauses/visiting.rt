@@ -1,0 +1,212 @@
+//! A visit to one watch of a falsified literal.
+
+ghost use Rattle.std.specs.Prelude.{◌≡◌, ℕ, ◌+◌, ◌*◌, ◌-◌, ◌^◌, ◌<◌, ◌≤◌, ◌⊎◌, ◌++◌, ◌∷◌, [], List, Bool, Option, true, false, All, length, min, sum, slice_get, slice_index_or, OnOk, IfOk, Some};
+ghost use Rattle.pb_propagate.specs.engine.Clauses.Truths.{false_at, true_at};
+ghost use Rattle.pb_propagate.specs.engine.Clauses.Links.{lists_of, list_at, watch_at, AreLinked, Remains};
+ghost use Rattle.pb_propagate.specs.engine.Clauses.Runs.{IsRunning, AreServed, AreWalked, Grows, HasFound, index_after, turned};
+
+use crate::clauses::Clauses;
+use crate::clauses::lists::{Watch, put_in, take_out};
+use crate::clauses::truth::{is_false, is_true, opposite};
+use crate::engine::visits::Visits;
+use std::alloc::AllocError;
+
+/// What a visit to a watch of a falsified literal has found.
+#[derive(Clone, Copy)]
+pub enum Visit {
+    // The other watched literal is true.
+    Stays,
+    // The watch has moved to another literal's list. The last watch of the old list, if it is another one, has its
+    // position.
+    Leaves,
+    // All literals but this one are falsified, and this one is open.
+    Forces(u32),
+    // All literals are falsified.
+    Falsified,
+}
+
+// Reads an entry of a list of watches, and counts the visit.
+fn visit_entry(lists: &[Vec<usize>], literal: usize, index: usize, visits: &mut Visits) -> usize
+    requires literal { literal < length lists.now }
+    requires index { index < length (list_at (lists_of lists.now) literal) }
+    ensures item { slice_get (list_at (lists_of lists.now) literal) index ≡ Some result }
+    ensures rising { visits.old ≤ visits.new }
+    ensures count { visits.new ≡ min (visits.old + 1) (2 ^ 64 - 1) }
+{
+    visits.count();
+    lists[literal][index]
+}
+
+// Reads the literal of the other watch, and counts the visit.
+fn visit_watch(watches: &[Watch], watch: usize, visits: &mut Visits) -> u32
+    requires { watch < length watches.now }
+    ensures item { result ≡ (watch_at watches.now watch).literal }
+    ensures rising { visits.old ≤ visits.new }
+    ensures count { visits.new ≡ min (visits.old + 1) (2 ^ 64 - 1) }
+{
+    visits.count();
+    watches[watch].literal
+}
+
+// Reads a literal of a clause, and counts the visit.
+fn visit_literal(literals: &[u32], place: usize, visits: &mut Visits) -> u32
+    requires { place < length literals.now }
+    ensures item { (d : ℕ) → result ≡ slice_index_or literals.now place d }
+    ensures rising { visits.old ≤ visits.new }
+    ensures count { visits.new ≡ min (visits.old + 1) (2 ^ 64 - 1) }
+{
+    visits.count();
+    literals[place]
+}
+
+// Whether a literal may be watched in place of a falsified one.
+fn may_watch(values: &[Option<bool>], literal: u32, other: u32) -> bool
+    requires { literal < 2 * length values.now }
+    ensures yes { result ≡ true → (false_at values.now literal ≡ false) × (literal ≡ other → ⊥) }
+    ensures no { result ≡ false → (false_at values.now literal ≡ true) ⊎ (literal ≡ other) }
+{
+    if literal == other {
+        return false;
+    }
+    !is_false(values, literal)
+}
+
+// The position of the literal that comes `after` literals past the start, round a clause of `count` literals. A start
+// outside the clause stands for its first literal.
+pub fn position(start: usize, after: usize, count: usize) -> usize
+    requires { after < count }
+    ensures inside { result < count }
+    ensures round { (xs : List ℕ) (d : ℕ) → length xs ≡ count → slice_index_or (turned start xs) after d ≡ slice_index_or xs result d }
+{
+    if start >= count {
+        return after;
+    }
+    let rest = count - start;
+    if after < rest {
+        return start + after;
+    }
+    after - rest
+}
+
+// How many literals come before the first one that may be watched, from the start on and round the clause. The first `from`
+// are passed already.
+fn search(
+    literals: &[u32],
+    start: usize,
+    from: usize,
+    other: u32,
+    values: &[Option<bool>],
+    visits: &mut Visits,
+) -> usize
+    requires from { from ≤ length literals.now }
+    requires inside { All (λ x. x < 2 * length values.now) literals.now }
+    ensures after { from ≤ result }
+    ensures within { result ≤ length literals.now }
+    ensures passed { (k d : ℕ) → from ≤ k → k < result → (false_at values.now (slice_index_or (turned start literals.now) k d) ≡ true) ⊎ (slice_index_or (turned start literals.now) k d ≡ other) }
+    ensures found { result < length literals.now → (d : ℕ) → (false_at values.now (slice_index_or (turned start literals.now) result d) ≡ false) × (slice_index_or (turned start literals.now) result d ≡ other → ⊥) }
+    ensures rising { visits.old ≤ visits.new }
+    ensures few { visits.new + from ≤ visits.old + min (result + 1) (length literals.now) }
+{
+    'places: for passed in from..literals.len() {
+        let place = position(start, passed, literals.len());
+        let literal = visit_literal(literals, place, visits);
+        if may_watch(values, literal, other) {
+            return passed;
+        }
+    }
+    literals.len()
+}
+
+// Adds a slot to the trail when its search begins.
+fn note(moved: &mut Vec<usize>, slot: usize, passed: usize) -> Result<(), AllocError>
+    ensures { OnOk result ((moved.new.items ≡ moved.old.items ++ slot ∷ []) ⊎ ((0 < passed) × (moved.new.items ≡ moved.old.items))) }
+{
+    if passed > 0 {
+        return Ok(());
+    }
+    moved.push(slot)?;
+    Ok(())
+}
+
+// Moves a watch from a position of a literal's list to another literal's list.
+fn shift(
+    lists: &mut Vec<Vec<usize>>,
+    watches: &mut Vec<Watch>,
+    watch: usize,
+    literal: usize,
+    index: usize,
+    found: u32,
+) -> Result<(), AllocError>
+    requires literal { literal < length lists.old.items }
+    requires found { found < length lists.old.items }
+    requires apart { found ≡ literal → ⊥ }
+    requires item { slice_get (list_at (lists_of lists.old.items) literal) index ≡ Some watch }
+    requires linked { AreLinked watches.old.items (lists_of lists.old.items) }
+    ensures linked { OnOk result (AreLinked watches.new.items (lists_of lists.new.items)) }
+    ensures literal { OnOk result ((watch_at watches.new.items watch).literal ≡ found) }
+    ensures live { OnOk result ((watch_at watches.new.items watch).live ≡ true) }
+    ensures others { OnOk result ((k : ℕ) → (k ≡ watch → ⊥) → Remains index (watch_at watches.old.items k) (watch_at watches.new.items k)) }
+    ensures watches { OnOk result (length watches.new.items ≡ length watches.old.items) }
+    ensures lists { OnOk result (length lists.new.items ≡ length lists.old.items) }
+    ensures shorter { OnOk result (length (list_at (lists_of lists.new.items) literal) + 1 ≡ length (list_at (lists_of lists.old.items) literal)) }
+{
+    take_out(lists, watches, literal, index);
+    put_in(lists, watches, watch, found)?;
+    Ok(())
+}
+
+/// Visits a clause by its watch on a falsified literal.
+pub fn visit_clause(
+    clauses: &mut Clauses,
+    values: &[Option<bool>],
+    literal: usize,
+    index: usize,
+    visits: &mut Visits,
+) -> Result<Visit, AllocError>
+    requires running { IsRunning values.now clauses.old }
+    requires failed { false_at values.now literal ≡ true }
+    requires literal { literal < length clauses.old.lists.items }
+    requires index { index < length (list_at (lists_of clauses.old.lists.items) literal) }
+    ensures literals { clauses.new.literals ≡ clauses.old.literals }
+    ensures lists { OnOk result (length clauses.new.lists.items ≡ length clauses.old.lists.items) }
+    ensures running { OnOk result (IsRunning values.now clauses.new) }
+    ensures served { IfOk result (λ r. (walked : List ℕ) → AreServed values.now clauses.old.watches.items walked literal index → AreServed values.now clauses.new.watches.items walked literal (index_after index r)) }
+    ensures found { IfOk result (λ r. HasFound values.now clauses.old clauses.new literal index r) }
+    ensures kept { OnOk result ((base : List (Option Bool)) (codes : List ℕ) → Grows base values.now → AreWalked base clauses.old.watches.items codes → AreWalked base clauses.new.watches.items codes) }
+
+    // Upper and lower bounds on the number of visits.
+    ensures covered { visits.new + sum clauses.old.passed.items ≤ visits.old + 2 + sum clauses.new.passed.items }
+    ensures bounded { (s : ℕ) → slice_index_or clauses.new.passed.items s 0 ≤ length (list_at (lists_of clauses.old.literals.items) s) }
+    ensures visited { visits.new < 2 ^ 64 - 1 → visits.old + 1 ≤ visits.new }
+    ensures rising { visits.old ≤ visits.new }
+{
+    let watch = visit_entry(clauses.lists.as_slice(), literal, index, visits);
+    let other = visit_watch(clauses.watches.as_slice(), opposite(watch), visits);
+    if is_true(values, other) {
+        return Ok(Visit::Stays);
+    }
+    let slot = watch / 2;
+    let from = clauses.passed[slot];
+    note(&mut clauses.moved, slot, from)?;
+    let start = clauses.starts[slot];
+    let literals = clauses.literals[slot].as_slice();
+    let passed = search(literals, start, from, other, values, visits);
+    if passed >= literals.len() {
+        clauses.passed[slot] = passed;
+        if is_false(values, other) {
+            return Ok(Visit::Falsified);
+        }
+        return Ok(Visit::Forces(other));
+    }
+    let found = literals[position(start, passed, literals.len())];
+    clauses.passed[slot] = passed + 1;
+    shift(
+        &mut clauses.lists,
+        &mut clauses.watches,
+        watch,
+        literal,
+        index,
+        found,
+    )?;
+    Ok(Visit::Leaves)
+}

@@ -1,0 +1,451 @@
+//! The engine: live forms by number, and the results of propagation over them.
+
+pub mod question;
+pub mod root;
+pub mod visits;
+
+ghost use Rattle.std.specs.Prelude.{◌≡◌, ℕ, List, Option, Some, None, ◌+◌, ◌*◌, ◌<◌, ◌≤◌, ◌++◌, ◌∷◌, [], ◌⊎◌, true, false, All, length, filter, slice_index_or, slice_get, slice_set, sum_by, OnOk, OnErr, IfOk, IfSome, IfNone, map};
+ghost use Rattle.pb_normal.specs.meaning.Form.{Form};
+ghost use Rattle.pb_normal.specs.meaning.Rules.{negation_of, negation};
+ghost use Rattle.pb_normal.specs.declared.numbered.NumberedLiteral.{NumberedLiteral};
+ghost use Rattle.pb_propagate.specs.declared.store.stored_form.StoredForm.{StoredForm};
+ghost use Rattle.pb_propagate.specs.engine.Engine.Live.{Standing, Live, Gives, terms_in, one_in};
+ghost use Rattle.pb_propagate.specs.engine.Engine.Lists.{has, IsWithin};
+ghost use Rattle.pb_propagate.specs.engine.Engine.Counts.{IsCounted, beside, IsTidy, IsUndone, AreSingle};
+ghost use Rattle.pb_propagate.specs.engine.Engine.Fields.{shapes_of, forms_of, IsSound};
+ghost use Rattle.pb_propagate.specs.meaning.Propagation.{With, MeetsConflict, IsCompletion, IsRup};
+ghost use Rattle.pb_propagate.specs.engine.Engine.Rest.{AreAtRest, IsAtRest, waits, IsRefuted, IsEnded};
+ghost use Rattle.pb_propagate.specs.engine.Engine.Root.{IsRooted, HasGained};
+ghost use Rattle.pb_propagate.specs.declared.store.Store.{Store};
+ghost use Rattle.pb_propagate.specs.declared.clauses.Clauses.{Clauses};
+ghost use Rattle.pb_propagate.specs.engine.Clauses.Runs.{AreReady, IsRunning};
+ghost use Rattle.pb_propagate.specs.engine.Clauses.Shapes.{AreJoined, clauses_of, all_of};
+
+use crate::assignment::Assignment;
+use crate::clauses::Clauses;
+use crate::eager::Eager;
+use crate::engine::question::ask;
+use crate::engine::root::Root;
+use crate::engine::visits::Visits;
+use crate::rests::Rests;
+use crate::run::{Run, choose, propagate, try_put, undo_forms};
+use crate::shared::Shared;
+use crate::slots::{occupy, quit, vacancy};
+use crate::store::Store;
+use crate::store::occurrence_lists::{enter, leave};
+use pb_normal::{Normal, NormalFault, NumberedLiteral};
+use std::alloc::{AllocError, Global};
+use std::marker::Model;
+use std::mem;
+
+/// Forms by number. Propagation over the live ones visits only what it touches.
+#[derive(Drop)]
+pub struct Engine {
+    store: Store,
+    run: Run,
+    eager: Eager,
+    clauses: Clauses,
+    root: Root,
+    // For each number the slot of its form, or no slot if the form was removed. The slot of a removed form is used
+    // again.
+    places: Vec<usize>,
+    // The slots of removed forms.
+    free: Vec<usize>,
+    // Set while a call runs. It stays set if an allocation failed in the middle of the call.
+    spent: bool,
+}
+
+impl Model for Engine {
+    ghost use Rattle.pb_propagate.specs.engine.Engine.Live.{Standing};
+
+    ghost Value = { Standing };
+
+    ghost use Rattle.std.specs.Prelude.{◌≡◌, true, false, length};
+    ghost use Rattle.pb_propagate.specs.engine.Engine.Fields.{forms_of};
+    ghost use Rattle.pb_propagate.specs.engine.Engine.Rest.{IsAtRest};
+    ghost use Rattle.pb_propagate.specs.engine.Engine.Slots.{numbered, ArePlaced};
+    ghost use Rattle.pb_propagate.specs.engine.Engine.Root.{IsRooted};
+
+    ghost view = { λ e. record { forms = numbered (forms_of e.store.kept.items) e.places.items; variables = e.store.variables; visits = e.run.visits; spent = e.spent } };
+
+    ghost invariant = { λ e. e.spent ≡ false → IsAtRest e.store e.run e.eager e.clauses (forms_of e.store.kept.items) × ArePlaced (forms_of e.store.kept.items) e.places.items × (e.root.live ≡ true → IsRooted e.store e.clauses e.root.run e.root.rests (length e.store.kept.items)) };
+}
+
+// Assigns the given literals. Returns whether two of them are opposite, or a form is then falsified.
+fn assume(
+    store: &Store,
+    rests: &Rests,
+    run: &mut Run,
+    given: &[NumberedLiteral],
+) -> Result<bool, AllocError>
+    requires store { IsSound store.now }
+    requires inside { All (λ l. l.variable < store.now.variables) given.now }
+    requires values { length run.old.assignment.values.items ≡ store.now.variables }
+    requires opens { length run.old.opens.items ≡ length store.now.kept.items }
+    requires next { run.old.next ≤ length run.old.work.items }
+    requires empty { run.old.assignment.list.items ≡ [] }
+    requires counted { IsCounted (shapes_of store.now.kept.items) run.old.opens.items run.old.assignment.list.items [] }
+    ensures values { OnOk result (length run.new.assignment.values.items ≡ length run.old.assignment.values.items) }
+    ensures opens { OnOk result (length run.new.opens.items ≡ length run.old.opens.items) }
+    ensures candidates { OnOk result (run.new.candidates ≡ run.old.candidates) }
+    ensures next { OnOk result (run.new.next ≡ run.old.next) }
+    ensures within { OnOk result (length run.old.work.items ≤ length run.new.work.items) }
+    ensures single { OnOk result (AreSingle run.new.assignment.list.items) }
+    ensures counted { IfOk result (λ found. found ≡ false → IsCounted (shapes_of store.now.kept.items) run.new.opens.items run.new.assignment.list.items []) }
+    ensures tidy { OnOk result ((aside : List ℕ) (busy : ℕ) → IsTidy (beside rests.now aside) (shapes_of store.now.kept.items) run.old.opens.items run.old.candidates.items run.old.assignment.list.items run.old.work.items run.old.trail.items run.old.next busy → IsTidy (beside rests.now aside) (shapes_of store.now.kept.items) run.new.opens.items run.new.candidates.items run.new.assignment.list.items run.new.work.items run.new.trail.items run.new.next busy) }
+    ensures refuted { IfOk result (λ found. found ≡ true → IsRefuted (shapes_of store.now.kept.items) given.now given.now) }
+    ensures same { IfOk result (λ found. found ≡ false → IsWithin run.new.assignment.list.items given.now × IsWithin given.now run.new.assignment.list.items) }
+{
+    'given: for i in 0..given.len() {
+        let literal = given[i];
+        if run.assignment.contains(literal.negation()) {
+            return Ok(true);
+        }
+        if try_put(store, rests, run, literal)? {
+            return Ok(true);
+        }
+    }
+    Ok(false)
+}
+
+// Propagates from the given literals. Returns whether a conflict is met.
+fn settle(
+    store: &Store,
+    rests: &Rests,
+    clauses: &mut Clauses,
+    run: &mut Run,
+    given: &[NumberedLiteral],
+    waiting: &[usize],
+) -> Result<bool, AllocError>
+    requires store { IsSound store.now }
+    requires inside { All (λ l. l.variable < store.now.variables) given.now }
+    requires values { length run.old.assignment.values.items ≡ store.now.variables }
+    requires opens { length run.old.opens.items ≡ length store.now.kept.items }
+    requires candidates { length run.old.candidates.items ≡ length store.now.kept.items }
+    requires next { run.old.next ≤ length run.old.work.items }
+    requires waiting { All (λ s. s < length store.now.kept.items) waiting.now }
+    requires empty { run.old.assignment.list.items ≡ [] }
+    requires counted { IsCounted (shapes_of store.now.kept.items) run.old.opens.items run.old.assignment.list.items [] }
+    requires tidy { IsTidy (beside rests.now (filter (waits store.now.kept.items) waiting.now)) (shapes_of store.now.kept.items) run.old.opens.items run.old.candidates.items run.old.assignment.list.items run.old.work.items run.old.trail.items run.old.next (length store.now.kept.items) }
+    requires joined { AreJoined (shapes_of store.now.kept.items) (clauses_of clauses.old) }
+    requires ready { AreReady clauses.old }
+    requires widths { length clauses.old.lists.items ≡ 2 * store.now.variables }
+    ensures literals { clauses.new.literals ≡ clauses.old.literals }
+    ensures running { OnOk result (IsRunning run.new.assignment.values.items clauses.new) }
+    ensures values { OnOk result (length run.new.assignment.values.items ≡ length run.old.assignment.values.items) }
+    ensures opens { OnOk result (length run.new.opens.items ≡ length store.now.kept.items) }
+    ensures candidates { OnOk result (length run.new.candidates.items ≡ length store.now.kept.items) }
+    ensures undone { OnOk result (IsUndone rests.now (shapes_of store.now.kept.items) run.new.opens.items run.new.candidates.items run.new.trail.items 0) }
+    ensures refuted { IfOk result (λ found. found ≡ true → (list : List NumberedLiteral) × IsRefuted (all_of store.now clauses.old) given.now list) }
+    ensures ended { IfOk result (λ found. found ≡ false → IsEnded (all_of store.now clauses.old) given.now run.new.assignment.list.items) }
+{
+    if assume(store, rests, run, given)? {
+        return Ok(true);
+    }
+    let found = propagate(store, rests, clauses, run, waiting, 0)?;
+    Ok(found)
+}
+
+// Undoes a propagation that began from nothing.
+fn rest(store: &Store, rests: &Rests, clauses: &mut Clauses, run: &mut Run)
+    requires opens { length run.old.opens.items ≡ length store.now.kept.items }
+    requires candidates { length run.old.candidates.items ≡ length store.now.kept.items }
+    requires undone { IsUndone rests.now (shapes_of store.now.kept.items) run.old.opens.items run.old.candidates.items run.old.trail.items 0 }
+    requires bare { (rests.now.opens.items ≡ []) × (rests.now.starts.items ≡ []) }
+    requires running { IsRunning run.old.assignment.values.items clauses.old }
+    ensures ready { AreReady clauses.new }
+    ensures literals { clauses.new.literals ≡ clauses.old.literals }
+    ensures lists { clauses.new.lists ≡ clauses.old.lists }
+    ensures rest { AreAtRest store.now.kept.items run.new.opens.items run.new.candidates.items }
+    ensures values { length run.new.assignment.values.items ≡ length run.old.assignment.values.items }
+    ensures list { run.new.assignment.list.items ≡ [] }
+    ensures work { run.new.work.items ≡ [] }
+    ensures trail { run.new.trail.items ≡ [] }
+    ensures next { run.new.next ≡ 0 }
+    ensures visits { run.new.visits ≡ run.old.visits }
+{
+    undo_forms(store, rests, run);
+    clauses.rest();
+    run.assignment.clear();
+    run.work.clear();
+    run.trail.clear();
+    run.next = 0;
+}
+
+// The root after a form was stored in a slot. It is made anew once the questions without it took eight visits for
+// each form and variable.
+fn follow(
+    store: &Store,
+    run: &Run,
+    eager: &Eager,
+    clauses: &mut Clauses,
+    root: &mut Root,
+    slot: usize,
+) -> Result<(), AllocError>
+    requires rest { IsAtRest store.now run.now eager.now clauses.old (forms_of store.now.kept.items) }
+    requires slot { slot < length store.now.kept.items }
+    requires gained { root.old.live ≡ true → (before : Store) × (old : Clauses) × IsRooted before old root.old.run root.old.rests (length before.kept.items) × HasGained before old store.now clauses.old slot }
+    ensures rest { OnOk result (IsAtRest store.now run.now eager.now clauses.new (forms_of store.now.kept.items)) }
+    ensures rooted { OnOk result (root.new.live ≡ true → IsRooted store.now clauses.new root.new.run root.new.rests (length store.now.kept.items)) }
+{
+    if root.live {
+        root.admit(store, clauses, slot)?;
+        return Ok(());
+    }
+    let size = store.kept.len().saturating_add(store.variables) as u64;
+    if root.paid / 8 < size {
+        return Ok(());
+    }
+    root.make(store, run, clauses, eager)?;
+    Ok(())
+}
+
+impl Engine {
+    /// No forms, over no variables.
+    pub fn new(alloc: Global) -> Engine
+        ensures forms { result.forms ≡ [] }
+        ensures variables { result.variables ≡ 0 }
+        ensures ready { result.spent ≡ false }
+    {
+        Engine {
+            store: Store {
+                kept: Vec::new(alloc),
+                spots: Vec::new(alloc),
+                occurrences: Vec::new(alloc),
+                variables: 0,
+            },
+            run: Run {
+                opens: Vec::new(alloc),
+                candidates: Vec::new(alloc),
+                assignment: Assignment::new(alloc),
+                work: Vec::new(alloc),
+                next: 0,
+                trail: Vec::new(alloc),
+                visits: Visits::none(),
+            },
+            eager: Eager::new(alloc),
+            clauses: Clauses::new(alloc),
+            root: Root::new(alloc),
+            places: Vec::new(alloc),
+            free: Vec::new(alloc),
+            spent: false,
+        }
+    }
+
+    /// Adds a variable.
+    pub fn widen(&mut self) -> Result<(), AllocError>
+        requires ready { self.old.spent ≡ false }
+        ensures forms { self.new.forms ≡ self.old.forms }
+        ensures variables { OnOk result (self.new.variables ≡ self.old.variables + 1) }
+        ensures visits { OnOk result (self.new.visits ≡ self.old.visits) }
+        ensures ready { OnOk result (self.new.spent ≡ false) }
+    {
+        let alloc = *self.places.allocator();
+        self.spent = true;
+        self.root.end();
+        self.store.occurrences.push(Vec::new(alloc))?;
+        self.store.occurrences.push(Vec::new(alloc))?;
+        self.run.assignment.widen()?;
+        self.clauses.widen()?;
+        self.store.variables = self.store.occurrences.len() / 2;
+        self.spent = false;
+        Ok(())
+    }
+
+    /// Adds a form after the others. It may have other owners.
+    pub fn insert(&mut self, form: Shared) -> Result<(), AllocError>
+        requires ready { self.old.spent ≡ false }
+        requires inside { All (λ t. t.variable < self.old.variables) form.terms }
+        ensures forms { OnOk result (self.new.forms ≡ self.old.forms ++ Some form ∷ []) }
+        ensures unchanged { OnErr result (self.new.forms ≡ self.old.forms) }
+        ensures variables { OnOk result (self.new.variables ≡ self.old.variables) }
+        ensures visits { OnOk result (self.new.visits ≡ self.old.visits) }
+        ensures ready { OnOk result (self.new.spent ≡ false) }
+    {
+        self.spent = true;
+        let slot = vacancy(
+            &mut self.store,
+            &mut self.run,
+            &mut self.eager,
+            &mut self.clauses,
+            &mut self.free,
+        )?;
+        occupy(
+            &mut self.store,
+            &mut self.run,
+            &mut self.eager,
+            &mut self.clauses,
+            slot,
+            form,
+        )?;
+        follow(
+            &self.store,
+            &self.run,
+            &self.eager,
+            &mut self.clauses,
+            &mut self.root,
+            slot,
+        )?;
+        self.places.push(slot)?;
+        self.spent = false;
+        Ok(())
+    }
+
+    /// Removes a form. Its number stays empty.
+    pub fn remove(&mut self, number: usize)
+        requires ready { self.old.spent ≡ false }
+        requires number { number < length self.old.forms }
+        ensures forms { self.new.forms ≡ slice_set self.old.forms number None }
+        ensures variables { self.new.variables ≡ self.old.variables }
+        ensures visits { self.new.visits ≡ self.old.visits }
+        ensures ready { self.new.spent ≡ false }
+    {
+        let slot = self.places[number];
+        if slot >= self.store.kept.len() {
+            return;
+        }
+        self.places[number] = usize::MAX;
+        self.root.lose(&self.store, &self.clauses, slot);
+        quit(
+            &mut self.store,
+            &mut self.run,
+            &mut self.eager,
+            &mut self.clauses,
+            slot,
+        );
+        let _noted = self.free.push(slot);
+    }
+
+    /// The form with this number.
+    pub fn form(&self, number: usize) -> Option<&Normal>
+        requires { number < length self.now.forms }
+        ensures some { IfSome result (λ f. slice_index_or self.now.forms number None ≡ Some f.now) }
+        ensures none { IfNone result (slice_index_or self.now.forms number None ≡ None) }
+    {
+        match self.store.kept.get(self.places[number]) {
+            Some(kept) => kept.terms.form(),
+            None => None,
+        }
+    }
+
+    /// One more owner of the form with this number.
+    pub fn shared(&self, number: usize) -> Result<Option<Shared>, AllocError>
+        requires { number < length self.now.forms }
+        ensures { IfOk result (λ f. f ≡ slice_index_or self.now.forms number None) }
+    {
+        match self.store.kept.get(self.places[number]) {
+            Some(kept) => kept.terms.shared(),
+            None => Ok(None),
+        }
+    }
+
+    /// How many numbers were given.
+    pub fn len(&self) -> usize
+        ensures { result ≡ length self.now.forms }
+    {
+        self.places.len()
+    }
+
+    /// The number of visits of the last `rup`. Visits to entries of occurrence lists, to terms, and to watches and
+    /// literals of clauses are counted.
+    pub fn visits(&self) -> u64
+        ensures { result ≡ self.now.visits }
+    {
+        self.run.visits.number()
+    }
+
+    /// Whether propagation over the live forms and the negation of the goal meets a conflict, or the goal has degree 0.
+    pub fn rup(&mut self, goal: &Normal) -> Result<bool, AllocError>
+        requires ready { self.old.spent ≡ false }
+        requires inside { All (λ t. t.variable < self.old.variables) goal.now.terms }
+        ensures forms { self.new.forms ≡ self.old.forms }
+        ensures variables { OnOk result (self.new.variables ≡ self.old.variables) }
+        ensures ready { OnOk result (self.new.spent ≡ false) }
+        ensures implied { IfOk result (λ found. found ≡ true → IsRup (Live self.old.forms) goal.now) }
+        ensures not_implied { IfOk result (λ found. found ≡ false → IsRup (Live self.old.forms) goal.now → ⊥) }
+
+        // Upper and lower bounds on the number of visits.
+        ensures unasked { goal.now.degree ≡ 0 → self.new.visits ≡ 0 }
+        ensures most { self.new.visits ≤ 3 * (sum_by terms_in self.old.forms + length goal.now.terms) + (sum_by one_in self.old.forms + 1) }
+        ensures conflict { IfOk result (λ found. found ≡ true → (goal.now.degree ≡ 0) ⊎ ((m : MeetsConflict (With (Live self.old.forms) (negation_of goal.now)) []) × (length m.list ≤ self.new.visits))) }
+        ensures completion { IfOk result (λ found. found ≡ false → (list : List NumberedLiteral) × IsCompletion (With (Live self.old.forms) (negation_of goal.now)) [] list × (length list ≤ self.new.visits)) }
+    {
+        self.run.visits = Visits::none();
+        if goal.degree() == 0 {
+            return Ok(true);
+        }
+        self.spent = true;
+        let Ok(negation) = goal.negation() else {
+            return Err(AllocError);
+        };
+        if self.root.live {
+            let answer = ask(
+                &mut self.store,
+                &mut self.clauses,
+                &mut self.root,
+                &mut self.run.visits,
+                negation,
+            )?;
+            self.spent = false;
+            return Ok(answer);
+        }
+        let rests = Rests::none(*self.places.allocator());
+        let number = self.store.kept.len();
+        enter(&mut self.store, &mut self.run, negation)?;
+        choose(&self.store, number, &mut self.run.trail)?;
+        choose(&self.store, number, &mut self.run.work)?;
+        let found = propagate(
+            &self.store,
+            &rests,
+            &mut self.clauses,
+            &mut self.run,
+            self.eager.list.as_slice(),
+            0,
+        )?;
+        rest(&self.store, &rests, &mut self.clauses, &mut self.run);
+        leave(&mut self.store, &mut self.run);
+        self.root.paid = self.root.paid.saturating_add(self.run.visits.number());
+        self.spent = false;
+        Ok(found)
+    }
+
+    /// The values of the completion of given literals over the live forms, or `None` if a conflict is met. There is one
+    /// value for each variable: `Some(true)` if the variable is true, `None` if it is open.
+    pub fn complete(
+        &mut self,
+        given: &[NumberedLiteral],
+    ) -> Result<Option<Vec<Option<bool>>>, AllocError>
+        requires ready { self.old.spent ≡ false }
+        requires inside { All (λ l. l.variable < self.old.variables) given.now }
+        ensures forms { self.new.forms ≡ self.old.forms }
+        ensures variables { OnOk result (self.new.variables ≡ self.old.variables) }
+        ensures visits { OnOk result (self.new.visits ≡ self.old.visits) }
+        ensures ready { OnOk result (self.new.spent ≡ false) }
+        ensures conflict { IfOk result (λ found. IfNone found (MeetsConflict (Live self.old.forms) given.now)) }
+        ensures no_conflict { IfOk result (λ found. IfSome found (λ values. MeetsConflict (Live self.old.forms) given.now → ⊥)) }
+        ensures count { IfOk result (λ found. IfSome found (λ values. length values.items ≡ self.old.variables)) }
+        ensures completed { IfOk result (λ found. IfSome found (λ values. (list : List NumberedLiteral) × IsCompletion (Live self.old.forms) given.now list × Gives list values.items)) }
+    {
+        let visits = mem::replace(&mut self.run.visits, Visits::none());
+        self.spent = true;
+        self.root.end();
+        let rests = Rests::none(*self.places.allocator());
+        let found = settle(
+            &self.store,
+            &rests,
+            &mut self.clauses,
+            &mut self.run,
+            given,
+            self.eager.list.as_slice(),
+        )?;
+        let mut values = Vec::new(*self.places.allocator());
+        values.extend_from_slice(self.run.assignment.values.as_slice())?;
+        rest(&self.store, &rests, &mut self.clauses, &mut self.run);
+        self.run.visits = visits;
+        self.spent = false;
+        if found {
+            return Ok(None);
+        }
+        Ok(Some(values))
+    }
+}

@@ -1,0 +1,19 @@
+//! Unit propagation over live forms by occurrence lists and by watched literals, with counted visits.
+#![tactic(auto)]
+
+mod assignment;
+mod clause;
+mod clauses;
+mod eager;
+mod engine;
+pub mod laws;
+mod rests;
+mod run;
+mod shared;
+mod slots;
+mod store;
+mod term;
+mod walk;
+
+pub use engine::Engine;
+pub use shared::{Shared, share_each};

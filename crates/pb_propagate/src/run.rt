@@ -1,0 +1,340 @@
+//! Literals are assigned, and the constraints that they touch are visited.
+
+ghost use Rattle.std.specs.Prelude.{◌≡◌, ℕ, ◌≤◌, ◌+◌, ◌-◌, ◌*◌, ◌^◌, ◌<◌, ◌++◌, ◌∷◌, [], true, false, List, Bool, Option, All, filter, map, length, OnOk, IfOk, slice_index, slice_index_or, slice_set, sum, sum_by, Contains};
+ghost use Rattle.pb_normal.specs.declared.numbered.NumberedLiteral.{NumberedLiteral};
+ghost use Rattle.pb_normal.specs.meaning.Rules.{negation};
+ghost use Rattle.pb_propagate.specs.declared.term.Term.{Term};
+ghost use Rattle.pb_propagate.specs.engine.Engine.Lists.{has, size, Extends, Derives, Conflicts, Shape, IsSettled};
+ghost use Rattle.pb_propagate.specs.engine.Engine.Counts.{place, Grown, IsCalm, IsCounted, beside, rest_open, IsTidy, IsPaid, IsAbsent, Adopted, AreFound, AreSingle, IsUndone, AreCovered, spent};
+ghost use Rattle.pb_propagate.specs.engine.Engine.Rest.{waits};
+ghost use Rattle.pb_propagate.specs.engine.Engine.Fields.{shapes_of, entries_of, IsSound};
+ghost use Rattle.pb_propagate.specs.engine.Engine.Links.{terms_at, coefficient_at};
+ghost use Rattle.pb_propagate.specs.engine.Engine.Terms.{terms_of};
+ghost use Rattle.pb_propagate.specs.engine.Clauses.Runs.{AreReady, IsRunning, AreWalked, Grows};
+ghost use Rattle.pb_propagate.specs.engine.Clauses.Walked.{killed, falsified_code, walked_codes};
+ghost use Rattle.pb_propagate.specs.engine.Clauses.Shapes.{AreJoined, clauses_of, all_of};
+
+use crate::assignment::Assignment;
+use crate::clauses::Clauses;
+use crate::engine::visits::Visits;
+use crate::rests::Rests;
+use crate::store::stored_form::is_below;
+use crate::store::{Store, Visited, visit, visit_term, weight_of};
+use crate::walk::walk;
+use pb_normal::NumberedLiteral;
+use std::alloc::AllocError;
+
+/// A propagation in progress.
+#[derive(Drop)]
+pub struct Run {
+    pub opens: Vec<u128>,
+    pub candidates: Vec<usize>,
+    pub assignment: Assignment,
+    pub work: Vec<usize>,
+    pub next: usize,
+    // The forms that the propagation has changed.
+    pub trail: Vec<usize>,
+    pub visits: Visits,
+}
+
+// Adds a form to the trail if its open sum is still the one at rest.
+fn note(trail: &mut Vec<usize>, form: usize, opened: u128, rest: u128) -> Result<(), AllocError>
+    ensures { OnOk result (Grown (opened ≡ rest → ⊥) form trail.old.items trail.new.items) }
+{
+    if opened < rest {
+        return Ok(());
+    }
+    trail.push(form)?;
+    Ok(())
+}
+
+/// Adds a form to the work list if its open sum is below its bound.
+pub fn queue(work: &mut Vec<usize>, form: usize, left: u128, bound: u128) -> Result<(), AllocError>
+    ensures { OnOk result (Grown (bound ≤ left) form work.old.items work.new.items) }
+{
+    if left >= bound {
+        return Ok(());
+    }
+    work.push(form)?;
+    Ok(())
+}
+
+/// Subtracts a visited entry from its form's open sum. Adds the form to the work list if it may then propagate or is
+/// falsified. Returns whether it is falsified.
+fn lower(store: &Store, rests: &Rests, run: &mut Run, entry: Visited) -> Result<bool, AllocError>
+    requires form { entry.form < length store.now.kept.items }
+    requires index { entry.index < length (terms_at (shapes_of store.now.kept.items) entry.form) }
+    requires inside { entry.form < length run.old.opens.items }
+    requires fits { coefficient_at (shapes_of store.now.kept.items) entry.form entry.index ≤ slice_index run.old.opens.items entry.form }
+    ensures opens { OnOk result (run.new.opens.items ≡ slice_set run.old.opens.items entry.form (slice_index run.old.opens.items entry.form - coefficient_at (shapes_of store.now.kept.items) entry.form entry.index)) }
+    ensures work { OnOk result (Grown ((d : Shape) (c : ℕ) → IsCalm (slice_index_or (shapes_of store.now.kept.items) entry.form d) (slice_index run.old.opens.items entry.form - coefficient_at (shapes_of store.now.kept.items) entry.form entry.index) c) entry.form run.old.work.items run.new.work.items) }
+    ensures trail { OnOk result (Grown ((d : Shape) → slice_index run.old.opens.items entry.form ≡ rest_open rests.now entry.form (slice_index_or (shapes_of store.now.kept.items) entry.form d) → ⊥) entry.form run.old.trail.items run.new.trail.items) }
+    ensures candidates { run.new.candidates ≡ run.old.candidates }
+    ensures assignment { run.new.assignment ≡ run.old.assignment }
+    ensures next { run.new.next ≡ run.old.next }
+    ensures visits { run.new.visits ≡ run.old.visits }
+    ensures falsified { IfOk result (λ found. found ≡ true → (d : Shape) → slice_index_or run.new.opens.items entry.form 0 < (slice_index_or (shapes_of store.now.kept.items) entry.form d).degree) }
+{
+    let kept = &store.kept[entry.form];
+    let opened = run.opens[entry.form];
+    let rest = rests.open(entry.form, kept.total);
+    note(&mut run.trail, entry.form, opened, rest)?;
+    let left = opened - weight_of(kept, &entry);
+    queue(&mut run.work, entry.form, left, kept.bound)?;
+    run.opens[entry.form] = left;
+    Ok(is_below(left, kept.degree))
+}
+
+/// The index of a literal's occurrence list.
+pub fn place_of(literal: NumberedLiteral) -> usize
+    requires fits { place literal < 2 ^ 64 }
+    ensures place { result ≡ place literal }
+{
+    if literal.negated {
+        2 * literal.variable + 1
+    } else {
+        2 * literal.variable
+    }
+}
+
+/// Assigns a literal, and subtracts the entries of its negation from the open sums, up to the first form that is then
+/// falsified. Returns whether there is one.
+pub fn put(
+    store: &Store,
+    rests: &Rests,
+    run: &mut Run,
+    literal: NumberedLiteral,
+) -> Result<bool, AllocError>
+    requires store { IsSound store.now }
+    requires inside { literal.variable < store.now.variables }
+    requires values { length run.old.assignment.values.items ≡ store.now.variables }
+    requires opens { length run.old.opens.items ≡ length store.now.kept.items }
+    requires next { run.old.next ≤ length run.old.work.items }
+    requires absent { has run.old.assignment.list.items literal ≡ false }
+    requires not_falsified { has run.old.assignment.list.items (negation literal) ≡ false }
+    requires counted { IsCounted (shapes_of store.now.kept.items) run.old.opens.items run.old.assignment.list.items [] }
+    ensures values { OnOk result (length run.new.assignment.values.items ≡ length run.old.assignment.values.items) }
+    ensures opens { OnOk result (length run.new.opens.items ≡ length run.old.opens.items) }
+    ensures next { OnOk result (run.new.next ≡ run.old.next) }
+    ensures candidates { run.new.candidates ≡ run.old.candidates }
+    ensures covered { AreCovered (entries_of (shapes_of store.now.kept.items) store.now.occurrences.items) run.old.assignment.list.items run.new.assignment.list.items run.old.candidates.items run.new.candidates.items run.old.visits run.new.visits 0 }
+    ensures single { AreSingle run.old.assignment.list.items → AreSingle run.new.assignment.list.items }
+    ensures extends { Extends run.old.assignment.list.items run.new.assignment.list.items }
+    ensures list { OnOk result (run.new.assignment.list.items ≡ run.old.assignment.list.items ++ literal ∷ []) }
+    ensures counted { IfOk result (λ found. found ≡ false → IsCounted (shapes_of store.now.kept.items) run.new.opens.items run.new.assignment.list.items []) }
+    ensures conflict { IfOk result (λ found. found ≡ true → Conflicts (shapes_of store.now.kept.items) run.new.assignment.list.items) }
+    ensures tidy { OnOk result ((aside : List ℕ) (busy : ℕ) → IsTidy (beside rests.now aside) (shapes_of store.now.kept.items) run.old.opens.items run.old.candidates.items run.old.assignment.list.items run.old.work.items run.old.trail.items run.old.next busy → IsTidy (beside rests.now aside) (shapes_of store.now.kept.items) run.new.opens.items run.new.candidates.items run.new.assignment.list.items run.new.work.items run.new.trail.items run.new.next busy) }
+    ensures paid { OnOk result (IsPaid (entries_of (shapes_of store.now.kept.items) store.now.occurrences.items) run.old.assignment.list.items run.new.assignment.list.items run.old.candidates.items run.new.candidates.items run.old.work.items run.new.work.items run.old.visits run.new.visits 0) }
+    ensures kept_work { OnOk result ((s : ℕ) → IsAbsent run.new.work.items 0 s → IsAbsent run.old.work.items 0 s) }
+    ensures longer_work { OnOk result (length run.old.work.items ≤ length run.new.work.items) }
+{
+    run.assignment.put(literal)?;
+    let entries = &store.occurrences[place_of(literal.negation())];
+    'entries: for j in 0..entries.len() {
+        let entry = visit(entries, j, &mut run.visits);
+        if lower(store, rests, run, entry)? {
+            return Ok(true);
+        }
+    }
+    Ok(false)
+}
+
+/// Assigns a literal if its variable has no value. Returns whether a form is then falsified.
+pub fn try_put(
+    store: &Store,
+    rests: &Rests,
+    run: &mut Run,
+    literal: NumberedLiteral,
+) -> Result<bool, AllocError>
+    requires store { IsSound store.now }
+    requires inside { literal.variable < store.now.variables }
+    requires values { length run.old.assignment.values.items ≡ store.now.variables }
+    requires opens { length run.old.opens.items ≡ length store.now.kept.items }
+    requires next { run.old.next ≤ length run.old.work.items }
+    requires counted { IsCounted (shapes_of store.now.kept.items) run.old.opens.items run.old.assignment.list.items [] }
+    ensures values { OnOk result (length run.new.assignment.values.items ≡ length run.old.assignment.values.items) }
+    ensures opens { OnOk result (length run.new.opens.items ≡ length run.old.opens.items) }
+    ensures next { OnOk result (run.new.next ≡ run.old.next) }
+    ensures candidates { run.new.candidates ≡ run.old.candidates }
+    ensures covered { AreCovered (entries_of (shapes_of store.now.kept.items) store.now.occurrences.items) run.old.assignment.list.items run.new.assignment.list.items run.old.candidates.items run.new.candidates.items run.old.visits run.new.visits 0 }
+    ensures single { AreSingle run.old.assignment.list.items → AreSingle run.new.assignment.list.items }
+    ensures extends { Extends run.old.assignment.list.items run.new.assignment.list.items }
+    ensures adopted { OnOk result (Adopted literal run.old.assignment.list.items run.new.assignment.list.items) }
+    ensures counted { IfOk result (λ found. found ≡ false → IsCounted (shapes_of store.now.kept.items) run.new.opens.items run.new.assignment.list.items []) }
+    ensures conflict { IfOk result (λ found. found ≡ true → Conflicts (shapes_of store.now.kept.items) run.new.assignment.list.items) }
+    ensures tidy { OnOk result ((aside : List ℕ) (busy : ℕ) → IsTidy (beside rests.now aside) (shapes_of store.now.kept.items) run.old.opens.items run.old.candidates.items run.old.assignment.list.items run.old.work.items run.old.trail.items run.old.next busy → IsTidy (beside rests.now aside) (shapes_of store.now.kept.items) run.new.opens.items run.new.candidates.items run.new.assignment.list.items run.new.work.items run.new.trail.items run.new.next busy) }
+    ensures paid { OnOk result (IsPaid (entries_of (shapes_of store.now.kept.items) store.now.occurrences.items) run.old.assignment.list.items run.new.assignment.list.items run.old.candidates.items run.new.candidates.items run.old.work.items run.new.work.items run.old.visits run.new.visits 0) }
+    ensures kept_work { OnOk result ((s : ℕ) → IsAbsent run.new.work.items 0 s → IsAbsent run.old.work.items 0 s) }
+    ensures longer_work { OnOk result (length run.old.work.items ≤ length run.new.work.items) }
+{
+    if run.assignment.contains(literal) {
+        return Ok(false);
+    }
+    if run.assignment.contains(literal.negation()) {
+        return Ok(false);
+    }
+    let found = put(store, rests, run, literal)?;
+    Ok(found)
+}
+
+/// Visits a form until its candidate requires nothing. Returns whether it or another form is falsified. Waiting forms
+/// are visited later.
+fn visit_form(
+    store: &Store,
+    rests: &Rests,
+    run: &mut Run,
+    form: usize,
+    waiting: &[usize],
+) -> Result<bool, AllocError>
+    requires store { IsSound store.now }
+    requires form { form < length store.now.kept.items }
+    requires values { length run.old.assignment.values.items ≡ store.now.variables }
+    requires opens { length run.old.opens.items ≡ length store.now.kept.items }
+    requires candidates { length run.old.candidates.items ≡ length store.now.kept.items }
+    requires next { run.old.next ≤ length run.old.work.items }
+    requires counted { IsCounted (shapes_of store.now.kept.items) run.old.opens.items run.old.assignment.list.items [] }
+    requires tidy { IsTidy (beside rests.now (filter (waits store.now.kept.items) waiting.now)) (shapes_of store.now.kept.items) run.old.opens.items run.old.candidates.items run.old.assignment.list.items run.old.work.items run.old.trail.items run.old.next form }
+    requires there { IsAbsent run.old.work.items 0 form → ⊥ }
+    ensures values { OnOk result (length run.new.assignment.values.items ≡ length run.old.assignment.values.items) }
+    ensures opens { OnOk result (length run.new.opens.items ≡ length run.old.opens.items) }
+    ensures candidates { OnOk result (length run.new.candidates.items ≡ length run.old.candidates.items) }
+    ensures next { OnOk result (run.new.next ≡ run.old.next) }
+    ensures within { OnOk result (run.new.next ≤ length run.new.work.items) }
+    ensures derived { OnOk result (Derives (shapes_of store.now.kept.items) run.old.assignment.list.items run.new.assignment.list.items) }
+    ensures counted { IfOk result (λ found. found ≡ false → IsCounted (shapes_of store.now.kept.items) run.new.opens.items run.new.assignment.list.items []) }
+    ensures bounded { sum run.new.candidates.items ≤ sum_by (λ f. length f.terms) (shapes_of store.now.kept.items) }
+    ensures covered { AreCovered (entries_of (shapes_of store.now.kept.items) store.now.occurrences.items) run.old.assignment.list.items run.new.assignment.list.items run.old.candidates.items run.new.candidates.items run.old.visits run.new.visits 1 }
+    ensures single { AreSingle run.old.assignment.list.items → AreSingle run.new.assignment.list.items }
+    ensures extends { Extends run.old.assignment.list.items run.new.assignment.list.items }
+    ensures undone { OnOk result (IsUndone rests.now (shapes_of store.now.kept.items) run.new.opens.items run.new.candidates.items run.new.trail.items 0) }
+    ensures conflict { IfOk result (λ found. found ≡ true → Conflicts (shapes_of store.now.kept.items) run.new.assignment.list.items) }
+    ensures tidy { IfOk result (λ found. found ≡ false → IsTidy (beside rests.now (filter (waits store.now.kept.items) waiting.now)) (shapes_of store.now.kept.items) run.new.opens.items run.new.candidates.items run.new.assignment.list.items run.new.work.items run.new.trail.items run.new.next (length store.now.kept.items)) }
+    ensures paid { OnOk result (IsPaid (entries_of (shapes_of store.now.kept.items) store.now.occurrences.items) run.old.assignment.list.items run.new.assignment.list.items run.old.candidates.items run.new.candidates.items run.old.work.items run.new.work.items run.old.visits run.new.visits 1) }
+    ensures found { OnOk result (AreFound (length run.old.assignment.list.items) (length run.new.assignment.list.items) run.old.visits run.new.visits) }
+{
+    let kept = &store.kept[form];
+    'terms: loop {
+        let opened = run.opens[form];
+        let falsified = is_below(opened, kept.degree);
+        if falsified {
+            return Ok(true);
+        }
+        let candidate = run.candidates[form];
+        if candidate >= kept.terms.len() {
+            return Ok(false);
+        }
+        let term = visit_term(&kept.terms, candidate, &mut run.visits);
+        let demands = is_below(opened, kept.degree + term.coefficient);
+        if !demands {
+            return Ok(false);
+        }
+        let found = try_put(store, rests, run, term.literal)?;
+        run.candidates[form] = candidate + 1;
+        if found {
+            return Ok(true);
+        }
+    }
+}
+
+/// Adds a form to the work list if it may propagate with nothing assigned.
+pub fn choose(store: &Store, form: usize, work: &mut Vec<usize>) -> Result<(), AllocError>
+    requires { form < length store.now.kept.items }
+    ensures { OnOk result (work.new.items ≡ work.old.items ++ filter (waits store.now.kept.items) (form ∷ [])) }
+{
+    if !store.kept[form].eager {
+        return Ok(());
+    }
+    work.push(form)?;
+    Ok(())
+}
+
+/// Visits the forms of the work list, then the clauses in which a falsified literal is watched. When neither is left,
+/// the next waiting form is taken, until none waits. A unit that is falsified so ends a question before further
+/// clauses are visited. The first `from` literals are walked already. Returns whether a conflict was met.
+pub fn propagate(
+    store: &Store,
+    rests: &Rests,
+    clauses: &mut Clauses,
+    run: &mut Run,
+    waiting: &[usize],
+    from: usize,
+) -> Result<bool, AllocError>
+    requires store { IsSound store.now }
+    requires values { length run.old.assignment.values.items ≡ store.now.variables }
+    requires opens { length run.old.opens.items ≡ length store.now.kept.items }
+    requires candidates { length run.old.candidates.items ≡ length store.now.kept.items }
+    requires next { run.old.next ≤ length run.old.work.items }
+    requires waiting { All (λ s. s < length store.now.kept.items) waiting.now }
+    requires single { AreSingle run.old.assignment.list.items }
+    requires counted { IsCounted (shapes_of store.now.kept.items) run.old.opens.items run.old.assignment.list.items [] }
+    requires tidy { IsTidy (beside rests.now (filter (waits store.now.kept.items) waiting.now)) (shapes_of store.now.kept.items) run.old.opens.items run.old.candidates.items run.old.assignment.list.items run.old.work.items run.old.trail.items run.old.next (length store.now.kept.items) }
+    requires joined { AreJoined (shapes_of store.now.kept.items) (clauses_of clauses.old) }
+    requires ready { AreReady clauses.old }
+    requires widths { length clauses.old.lists.items ≡ 2 * store.now.variables }
+    requires from { from ≤ length run.old.assignment.list.items }
+    requires walked { AreWalked run.old.assignment.values.items clauses.old.watches.items (walked_codes from run.old.assignment.list.items) }
+    ensures literals { clauses.new.literals ≡ clauses.old.literals }
+    ensures running { OnOk result (IsRunning run.new.assignment.values.items clauses.new) }
+    ensures walked { IfOk result (λ found. found ≡ false → AreWalked run.new.assignment.values.items clauses.new.watches.items (walked_codes (length run.new.assignment.list.items) run.new.assignment.list.items)) }
+    ensures kept { OnOk result ((base : List (Option Bool)) (codes : List ℕ) → Grows base run.old.assignment.values.items → AreWalked base clauses.old.watches.items codes → AreWalked base clauses.new.watches.items codes) }
+    ensures values { OnOk result (length run.new.assignment.values.items ≡ length run.old.assignment.values.items) }
+    ensures opens { OnOk result (length run.new.opens.items ≡ length store.now.kept.items) }
+    ensures candidates { OnOk result (length run.new.candidates.items ≡ length store.now.kept.items) }
+    ensures single { AreSingle run.new.assignment.list.items }
+    ensures extends { Extends run.old.assignment.list.items run.new.assignment.list.items }
+    ensures derived { OnOk result (Derives (all_of store.now clauses.old) run.old.assignment.list.items run.new.assignment.list.items) }
+    ensures bounded { sum run.new.candidates.items ≤ sum_by (λ f. length f.terms) (shapes_of store.now.kept.items) }
+    ensures undone { OnOk result (IsUndone rests.now (shapes_of store.now.kept.items) run.new.opens.items run.new.candidates.items run.new.trail.items 0) }
+    ensures conflict { IfOk result (λ found. found ≡ true → Conflicts (all_of store.now clauses.old) run.new.assignment.list.items) }
+    ensures settled { IfOk result (λ found. found ≡ false → (f : Shape) → Contains (all_of store.now clauses.old) f → IsSettled f run.new.assignment.list.items) }
+    ensures counted { IfOk result (λ found. found ≡ false → IsCounted (shapes_of store.now.kept.items) run.new.opens.items run.new.assignment.list.items []) }
+    ensures tidy { IfOk result (λ found. found ≡ false → IsTidy (beside rests.now []) (shapes_of store.now.kept.items) run.new.opens.items run.new.candidates.items run.new.assignment.list.items run.new.work.items run.new.trail.items run.new.next (length store.now.kept.items)) }
+    ensures done { IfOk result (λ found. found ≡ false → length run.new.work.items ≤ run.new.next) }
+    ensures upper { run.new.visits + sum run.old.candidates.items ≤ run.old.visits + ((length run.old.work.items + length (filter (waits store.now.kept.items) waiting.now)) - run.old.next) + 2 * spent (entries_of (shapes_of store.now.kept.items) store.now.occurrences.items) run.new.assignment.list.items + sum run.new.candidates.items + 2 * killed (clauses_of clauses.old) (map falsified_code run.new.assignment.list.items) + sum_by length (clauses_of clauses.old) }
+    ensures found { OnOk result (AreFound (length run.old.assignment.list.items) (length run.new.assignment.list.items) run.old.visits run.new.visits) }
+{
+    let mut taken = 0;
+    let mut walked = from;
+    'work: loop {
+        if run.next < run.work.len() {
+            let form = run.work[run.next];
+            run.next += 1;
+            if visit_form(store, rests, run, form, &waiting[taken..])? {
+                return Ok(true);
+            }
+        } else if walked < run.assignment.list.len() {
+            let literal = run.assignment.list[walked];
+            if walk(store, rests, clauses, run, place_of(literal.negation()))? {
+                return Ok(true);
+            }
+            walked += 1;
+        } else if taken < waiting.len() {
+            choose(store, waiting[taken], &mut run.trail)?;
+            choose(store, waiting[taken], &mut run.work)?;
+            taken += 1;
+        } else {
+            return Ok(false);
+        }
+    }
+}
+
+/// Restores the forms that the propagation changed. No other form is visited, and nothing is allocated.
+pub fn undo_forms(store: &Store, rests: &Rests, run: &mut Run)
+    requires opens { length run.old.opens.items ≡ length store.now.kept.items }
+    requires candidates { length run.old.candidates.items ≡ length store.now.kept.items }
+    requires undone { IsUndone rests.now (shapes_of store.now.kept.items) run.old.opens.items run.old.candidates.items run.old.trail.items 0 }
+    ensures opens { length run.new.opens.items ≡ length store.now.kept.items }
+    ensures candidates { length run.new.candidates.items ≡ length store.now.kept.items }
+    ensures work { run.new.work ≡ run.old.work }
+    ensures trail { run.new.trail ≡ run.old.trail }
+    ensures assignment { run.new.assignment ≡ run.old.assignment }
+    ensures visits { run.new.visits ≡ run.old.visits }
+    ensures undone { IsUndone rests.now (shapes_of store.now.kept.items) run.new.opens.items run.new.candidates.items run.new.trail.items (length run.new.trail.items) }
+{
+    'forms: for i in 0..run.trail.len() {
+        let form = run.trail[i];
+        let opened = rests.open(form, store.kept[form].total);
+        run.opens[form] = opened;
+        run.candidates[form] = rests.start(form);
+    }
+}

@@ -1,0 +1,130 @@
+//! Forms take slots and leave them.
+
+ghost use Rattle.std.specs.Prelude.{◌≡◌, ℕ, ◌<◌, ◌++◌, ◌∷◌, ◌⊎◌, [], All, Some, None, true, false, length, filter, slice_get, slice_set, slice_index_or, swap_remove, IfSome, IfOk, OnOk, OnErr};
+ghost use Rattle.pb_propagate.specs.engine.Engine.Counts.{IsAbsent};
+ghost use Rattle.pb_propagate.specs.engine.Engine.Fields.{forms_of};
+ghost use Rattle.pb_propagate.specs.engine.Engine.Rest.{IsAtRest, waits};
+ghost use Rattle.pb_propagate.specs.engine.Engine.Root.{HasWidened, HasGained, HasVacated};
+
+use crate::clause::is_clause;
+use crate::clauses::Clauses;
+use crate::eager::Eager;
+use crate::run::Run;
+use crate::shared::Shared;
+use crate::store::Store;
+use crate::store::occurrence_lists::{fill, vacate, watch, widen};
+use crate::store::stored_form::StoredForm;
+use std::alloc::AllocError;
+
+// The slot of a removed form.
+fn left_slot(kept: &[StoredForm], free: &mut Vec<usize>) -> Option<usize>
+    ensures { IfSome result (λ slot. slice_get (forms_of kept.now) slot ≡ Some None) }
+{
+    let slot = free.pop()?;
+    let kept = kept.get(slot)?;
+    if kept.terms.has_form() {
+        return None;
+    }
+    Some(slot)
+}
+
+/// A slot without a form: that of a removed form, or a new one.
+pub fn vacancy(
+    store: &mut Store,
+    run: &mut Run,
+    eager: &mut Eager,
+    clauses: &mut Clauses,
+    free: &mut Vec<usize>,
+) -> Result<usize, AllocError>
+    requires rest { IsAtRest store.old run.old eager.old clauses.old (forms_of store.old.kept.items) }
+    ensures rest { OnOk result (IsAtRest store.new run.new eager.new clauses.new (forms_of store.new.kept.items)) }
+    ensures slot { IfOk result (λ slot. slice_get (forms_of store.new.kept.items) slot ≡ Some None) }
+    ensures forms { (s : ℕ) → slice_index_or (forms_of store.new.kept.items) s None ≡ slice_index_or (forms_of store.old.kept.items) s None }
+    ensures widened { IfOk result (λ slot. HasWidened store.old clauses.old store.new clauses.new slot) }
+    ensures variables { store.new.variables ≡ store.old.variables }
+    ensures visits { run.new.visits ≡ run.old.visits }
+{
+    if let Some(slot) = left_slot(store.kept.as_slice(), free) {
+        return Ok(slot);
+    }
+    let slot = store.kept.len();
+    widen(store, run)?;
+    eager.widen()?;
+    clauses.extend()?;
+    // Reserves room for each slot, so that none is lost when its form is removed.
+    free.reserve(slot.saturating_add(1).saturating_sub(free.len()))?;
+    Ok(slot)
+}
+
+// Adds a form to the list of those that may propagate with nothing assigned, if it is one.
+fn seat(store: &Store, eager: &mut Eager, slot: usize) -> Result<(), AllocError>
+    requires slot { slot < length store.now.kept.items }
+    requires seats { length eager.old.seats.items ≡ length store.now.kept.items }
+    requires absent { IsAbsent eager.old.list.items 0 slot }
+    ensures list { OnOk result (eager.new.list.items ≡ eager.old.list.items ++ filter (waits store.now.kept.items) (slot ∷ [])) }
+    ensures seats { length eager.new.seats.items ≡ length eager.old.seats.items }
+{
+    if !store.kept[slot].eager {
+        return Ok(());
+    }
+    eager.put(slot)?;
+    Ok(())
+}
+
+/// Stores a form in an empty slot.
+pub fn occupy(
+    store: &mut Store,
+    run: &mut Run,
+    eager: &mut Eager,
+    clauses: &mut Clauses,
+    slot: usize,
+    form: Shared,
+) -> Result<(), AllocError>
+    requires rest { IsAtRest store.old run.old eager.old clauses.old (forms_of store.old.kept.items) }
+    requires slot { slice_get (forms_of store.old.kept.items) slot ≡ Some None }
+    requires inside { All (λ t. t.variable < store.old.variables) form.terms }
+    ensures rest { OnOk result (IsAtRest store.new run.new eager.new clauses.new (forms_of store.new.kept.items)) }
+    ensures forms { OnOk result (forms_of store.new.kept.items ≡ slice_set (forms_of store.old.kept.items) slot (Some form)) }
+    ensures gained { OnOk result (HasGained store.old clauses.old store.new clauses.new slot) }
+    // On failure the form may be in its slot, but not on the list of those that may propagate with nothing assigned.
+    ensures refused { OnErr result ((forms_of store.new.kept.items ≡ forms_of store.old.kept.items) ⊎ (forms_of store.new.kept.items ≡ slice_set (forms_of store.old.kept.items) slot (Some form))) }
+    ensures variables { store.new.variables ≡ store.old.variables }
+    ensures visits { run.new.visits ≡ run.old.visits }
+{
+    if is_clause(form.form()) {
+        watch(store, clauses, slot, form)?;
+        return Ok(());
+    }
+    fill(store, run, slot, form)?;
+    seat(store, eager, slot)?;
+    Ok(())
+}
+
+// Removes a form from the list of those that may propagate with nothing assigned, if it is one.
+fn unseat(store: &Store, eager: &mut Eager, slot: usize)
+    requires slot { slot < length store.now.kept.items }
+    requires there { waits store.now.kept.items slot ≡ true → IsAbsent eager.old.list.items 0 slot → ⊥ }
+    ensures taken { waits store.now.kept.items slot ≡ true → (seat : ℕ) × (slice_get eager.old.list.items seat ≡ Some slot) × (eager.new.list.items ≡ swap_remove eager.old.list.items seat slot) }
+    ensures same { waits store.now.kept.items slot ≡ false → eager.new.list.items ≡ eager.old.list.items }
+    ensures seats { length eager.new.seats.items ≡ length eager.old.seats.items }
+{
+    if !store.kept[slot].eager {
+        return;
+    }
+    eager.take(slot);
+}
+
+/// Removes the form of a slot, which is then empty.
+pub fn quit(store: &mut Store, run: &mut Run, eager: &mut Eager, clauses: &mut Clauses, slot: usize)
+    requires rest { IsAtRest store.old run.old eager.old clauses.old (forms_of store.old.kept.items) }
+    requires slot { slot < length store.old.kept.items }
+    ensures rest { IsAtRest store.new run.new eager.new clauses.new (forms_of store.new.kept.items) }
+    ensures forms { forms_of store.new.kept.items ≡ slice_set (forms_of store.old.kept.items) slot None }
+    ensures vacated { HasVacated store.old clauses.old store.new clauses.new slot }
+    ensures variables { store.new.variables ≡ store.old.variables }
+    ensures visits { run.new.visits ≡ run.old.visits }
+{
+    unseat(store, eager, slot);
+    clauses.empty(slot);
+    vacate(store, run, slot);
+}

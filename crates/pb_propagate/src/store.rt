@@ -1,0 +1,80 @@
+//! The stored forms and the occurrence lists.
+
+pub mod occurrence_lists;
+pub mod opened;
+pub mod sorted_form;
+pub mod stored_form;
+
+ghost use Rattle.std.specs.Prelude.{◌≡◌, ℕ, ◌≤◌, ◌+◌, ◌-◌, ◌^◌, ◌<◌, length, min, slice_index_or};
+ghost use Rattle.pb_propagate.specs.declared.term.Term.{Term};
+ghost use Rattle.pb_propagate.specs.engine.Engine.Terms.{terms_of};
+ghost use Rattle.pb_propagate.specs.engine.Engine.Fields.{entry_at};
+
+use crate::engine::visits::Visits;
+use crate::store::sorted_form::SortedForm;
+use crate::store::stored_form::StoredForm;
+use crate::term::Term;
+
+/// A form that contains a literal, and the position of its term there. The fields are private: other modules learn
+/// them only by `visit`.
+#[derive(Clone, Copy)]
+pub struct Occurrence {
+    form: usize,
+    index: usize,
+}
+
+/// An entry that was visited. Only `visit` makes one.
+#[derive(Drop)]
+pub struct Visited {
+    pub form: usize,
+    index: usize,
+}
+
+/// The stored forms, and for each literal the forms that contain it.
+#[derive(Drop)]
+pub struct Store {
+    pub kept: Vec<StoredForm>,
+    // For each form, the position of the entry of each of its terms in the list of its literal.
+    pub spots: Vec<Vec<usize>>,
+    pub occurrences: Vec<Vec<Occurrence>>,
+    pub variables: usize,
+}
+
+/// Reads an entry of an occurrence list, and counts the visit. This is also a visit to the entry's term, whose
+/// coefficient `weight_of` returns.
+pub fn visit(entries: &[Occurrence], i: usize, visits: &mut Visits) -> Visited
+    requires { i < length entries.now }
+    ensures item { entry_at result ≡ slice_index_or entries.now i (entry_at result) }
+    ensures rising { visits.old ≤ visits.new }
+    ensures count { visits.new ≡ min (visits.old + 1) (2 ^ 64 - 1) }
+{
+    visits.count();
+    let entry = entries[i];
+    Visited {
+        form: entry.form,
+        index: entry.index,
+    }
+}
+
+/// The coefficient of a visited entry's term. If all are equal, the bound gives it, and the terms need
+/// not be read.
+pub fn weight_of(kept: &StoredForm, entry: &Visited) -> u128
+    requires { entry.now.index < length (terms_of kept.now.terms) }
+    ensures { (d : Term) → result ≡ (slice_index_or (terms_of kept.now.terms) entry.now.index d).coefficient }
+{
+    if kept.even {
+        return kept.bound - kept.degree;
+    }
+    kept.terms.term(entry.index).coefficient
+}
+
+/// Reads a candidate, and counts the visit.
+pub fn visit_term(terms: &SortedForm, i: usize, visits: &mut Visits) -> Term
+    requires { i < length (terms_of terms.now) }
+    ensures item { (d : Term) → result ≡ slice_index_or (terms_of terms.now) i d }
+    ensures rising { visits.old ≤ visits.new }
+    ensures count { visits.new ≡ min (visits.old + 1) (2 ^ 64 - 1) }
+{
+    visits.count();
+    terms.term(i)
+}

@@ -1,0 +1,305 @@
+//! Forms are added and removed.
+
+ghost use Rattle.std.specs.Prelude.{◌≡◌, ℕ, List, All, Some, None, map, ◌+◌, ◌-◌, ◌*◌, ◌/◌, ◌<◌, ◌≤◌, ◌^◌, ◌++◌, ◌∷◌, [], true, length, take, sum_by, IfOk, OnOk, OnErr, slice_get, slice_index_or, slice_set, swap_remove};
+ghost use Rattle.pb_propagate.specs.declared.term.Term.{Term};
+ghost use Rattle.pb_propagate.specs.declared.store.Occurrence.{Occurrence};
+ghost use Rattle.pb_propagate.specs.declared.store.stored_form.StoredForm.{StoredForm};
+ghost use Rattle.pb_propagate.specs.engine.Engine.Lists.{Shape};
+ghost use Rattle.pb_propagate.specs.engine.Engine.Counts.{AreFalling, IsCalm, place};
+ghost use Rattle.pb_propagate.specs.engine.Engine.Forms.{IsKeptAs};
+ghost use Rattle.pb_propagate.specs.engine.Engine.Terms.{terms_of};
+ghost use Rattle.pb_propagate.specs.engine.Engine.Fields.{kept_shape, shapes_of, forms_of, spots_of, lists_of, entries_of, IsSound, HasEntered, HasFilled, IsEmpty, IsUnlisted};
+ghost use Rattle.pb_propagate.specs.engine.Engine.Links.{IsLinked, Moved, cut, terms_at};
+ghost use Rattle.pb_normal.specs.meaning.Form.{IsNormal};
+ghost use Rattle.pb_propagate.specs.engine.Clauses.Links.{list_at, watch_at};
+ghost use Rattle.pb_propagate.specs.engine.Clauses.Runs.{AreReady};
+ghost use Rattle.pb_propagate.specs.engine.Clauses.Shapes.{IsClause, clauses_of, code};
+
+use crate::clause::codes_of;
+use crate::clauses::Clauses;
+use crate::run::{Run, place_of};
+use crate::shared::Shared;
+use crate::store::sorted_form::SortedForm;
+use crate::store::stored_form::{StoredForm, is_below};
+use crate::store::{Occurrence, Store};
+use pb_normal::{Normal, NumberedLiteral};
+use std::alloc::{AllocError, Global};
+
+// The degree plus the largest coefficient. With an open sum of that size a form propagates nothing and is not
+// falsified.
+fn bound_of(terms: &SortedForm, degree: u128) -> u128
+    requires size { sum_by (λ t. t.coefficient) (terms_of terms.now) < 2 ^ 127 }
+    requires small { degree < 2 ^ 127 }
+    requires falling { AreFalling (terms_of terms.now) }
+    ensures first { (d : Term) → 0 < length (terms_of terms.now) → result ≡ degree + (slice_index_or (terms_of terms.now) 0 d).coefficient }
+    ensures calm { (opened c : ℕ) → result ≤ opened → IsCalm record { terms = terms_of terms.now; degree = degree } opened c }
+    ensures some { 0 < result → 0 < degree + length (terms_of terms.now) }
+{
+    if terms.len() == 0 {
+        return degree;
+    }
+    let first = terms.term(0);
+    degree + first.coefficient
+}
+
+// Whether all coefficients are equal.
+fn is_even(terms: &SortedForm) -> bool
+    requires { AreFalling (terms_of terms.now) }
+    ensures { result ≡ true → (i : ℕ) (d : Term) → i < length (terms_of terms.now) → (slice_index_or (terms_of terms.now) i d).coefficient ≡ (slice_index_or (terms_of terms.now) 0 d).coefficient }
+{
+    if terms.len() == 0 {
+        return true;
+    }
+    let last = terms.len() - 1;
+    let largest = terms.term(0);
+    let least = terms.term(last);
+    largest.coefficient == least.coefficient
+}
+
+// A form as the engine stores it.
+fn kept_of(alloc: Global, form: Shared) -> Result<StoredForm, AllocError>
+    ensures is { IfOk result (λ kept. IsKeptAs form (kept_shape kept)) }
+    ensures form { IfOk result (λ kept. kept.terms.form ≡ Some form) }
+{
+    let normal = form.form();
+    let degree = normal.degree().unsigned_abs();
+    let total = normal.size();
+    let terms = SortedForm::new(alloc, form)?;
+    let bound = bound_of(&terms, degree);
+    let eager = is_below(total, bound);
+    let even = is_even(&terms);
+    Ok(StoredForm {
+        terms,
+        degree,
+        total,
+        bound,
+        eager,
+        even,
+    })
+}
+
+// Adds the terms of a form to the lists of their literals, and records their positions.
+fn link(
+    terms: &SortedForm,
+    form: usize,
+    lists: &mut Vec<Vec<Occurrence>>,
+    spots: &mut Vec<usize>,
+) -> Result<(), AllocError>
+    requires inside { All (λ t. place t.literal < length lists.old.items) (terms_of terms.now) }
+    requires empty { spots.old.items ≡ [] }
+    ensures sizes { length lists.new.items ≡ length lists.old.items }
+    ensures count { OnOk result (length spots.new.items ≡ length (terms_of terms.now)) }
+    ensures linked { OnOk result ((base : List Shape) (all : List (List ℕ)) → form < length base → terms_at base form ≡ terms_of terms.now → form < length all → IsLinked (cut base form 0) (slice_set all form []) (entries_of base lists.old.items) → IsLinked (cut base form (length (terms_of terms.now))) (slice_set all form spots.new.items) (entries_of base lists.new.items)) }
+{
+    'terms: for i in 0..terms.len() {
+        let term = terms.term(i);
+        let place = place_of(term.literal);
+        let spot = lists[place].len();
+        spots.push(spot)?;
+        lists[place].push(Occurrence { form, index: i })?;
+    }
+    Ok(())
+}
+
+// Removes an entry from a list. The last entry of the list moves to its position.
+fn take_out(
+    lists: &mut Vec<Vec<Occurrence>>,
+    spots: &mut Vec<Vec<usize>>,
+    place: usize,
+    spot: usize,
+)
+    requires place { place < length lists.old.items }
+    requires spot { spot < length (slice_index_or (lists_of lists.old.items) place []) }
+    requires named { (e : Occurrence) → slice_get (slice_index_or (lists_of lists.old.items) place []) (length (slice_index_or (lists_of lists.old.items) place []) - 1) ≡ Some e → (e.form < length spots.old.items) × (e.index < length (slice_index_or (spots_of spots.old.items) e.form [])) }
+    ensures sizes { length spots.new.items ≡ length spots.old.items }
+    ensures lists { (e : Occurrence) × (e ≡ slice_index_or (slice_index_or (lists_of lists.old.items) place []) spot e) × (lists_of lists.new.items ≡ slice_set (lists_of lists.old.items) place (swap_remove (slice_index_or (lists_of lists.old.items) place []) spot e)) }
+    ensures spots { Moved (slice_index_or (lists_of lists.old.items) place []) spot (spots_of spots.old.items) (spots_of spots.new.items) }
+{
+    lists[place].swap_remove(spot);
+    if spot >= lists[place].len() {
+        return;
+    }
+    let moved = lists[place][spot];
+    spots[moved.form][moved.index] = spot;
+}
+
+// Removes the entries of a form from the lists, that of the last term first.
+fn unlink(store: &mut Store, form: usize)
+    requires sound { IsSound store.old }
+    requires form { form < length store.old.kept.items }
+    ensures kept { store.new.kept ≡ store.old.kept }
+    ensures variables { store.new.variables ≡ store.old.variables }
+    ensures lists { length store.new.occurrences.items ≡ length store.old.occurrences.items }
+    ensures rooms { (s : ℕ) → length (slice_index_or (spots_of store.new.spots.items) s []) ≡ length (slice_index_or (spots_of store.old.spots.items) s []) }
+    ensures linked { IsLinked (cut (shapes_of store.new.kept.items) form 0) (spots_of store.new.spots.items) (entries_of (shapes_of store.new.kept.items) store.new.occurrences.items) }
+{
+    let mut left = store.kept[form].terms.len();
+    'terms: while left > 0 {
+        left -= 1;
+        let term = store.kept[form].terms.term(left);
+        let spot = store.spots[form][left];
+        let place = place_of(term.literal);
+        take_out(&mut store.occurrences, &mut store.spots, place, spot);
+    }
+}
+
+// An empty form: it has no terms, and its degree is 0.
+fn empty_kept(alloc: Global) -> StoredForm
+    ensures { IsEmpty result }
+{
+    StoredForm {
+        terms: SortedForm::none(alloc),
+        degree: 0,
+        total: 0,
+        bound: 0,
+        eager: false,
+        even: true,
+    }
+}
+
+// A form that is propagated by its watches. It has no entries in the occurrence lists.
+fn watched_kept(alloc: Global, form: Shared) -> StoredForm
+    ensures form { result.terms.form ≡ Some form }
+    ensures unlisted { IsUnlisted result }
+{
+    StoredForm {
+        terms: SortedForm::unordered(alloc, form),
+        degree: 0,
+        total: 0,
+        bound: 0,
+        eager: false,
+        even: true,
+    }
+}
+
+/// Stores a clause in an empty slot. Two of its literals are watched.
+pub fn watch(
+    store: &mut Store,
+    clauses: &mut Clauses,
+    slot: usize,
+    form: Shared,
+) -> Result<(), AllocError>
+    requires ready { AreReady clauses.old }
+    requires slot { slot < length store.old.kept.items }
+    requires known { length clauses.old.literals.items ≡ length store.old.kept.items }
+    requires empty { list_at (clauses_of clauses.old) slot ≡ [] }
+    requires clause { IsClause form }
+    requires normal { IsNormal form }
+    requires inside { All (λ t. t.variable < store.old.variables) form.terms }
+    requires widths { length clauses.old.lists.items ≡ 2 * store.old.variables }
+    ensures ready { OnOk result (AreReady clauses.new) }
+    ensures literals { OnOk result (clauses_of clauses.new ≡ slice_set (clauses_of clauses.old) slot (map code form.terms)) }
+    ensures lists { OnOk result (length clauses.new.lists.items ≡ length clauses.old.lists.items) }
+    ensures watches { OnOk result ((e : ℕ) → (e / 2 ≡ slot → ⊥) → watch_at clauses.new.watches.items e ≡ watch_at clauses.old.watches.items e) }
+    ensures kept { OnOk result ((k : StoredForm) × (k.terms.form ≡ Some form) × IsUnlisted k × (store.new.kept.items ≡ slice_set store.old.kept.items slot k)) }
+    ensures unchanged { OnErr result (store.new.kept.items ≡ store.old.kept.items) }
+    ensures rest { (store.new.spots ≡ store.old.spots) × (store.new.occurrences ≡ store.old.occurrences) × (store.new.variables ≡ store.old.variables) }
+{
+    let alloc = *store.kept.allocator();
+    let codes = codes_of(alloc, form.form().entries())?;
+    clauses.fill(slot, codes)?;
+    store.kept[slot] = watched_kept(alloc, form);
+    Ok(())
+}
+
+/// Adds an empty form after the others.
+pub fn widen(store: &mut Store, run: &mut Run) -> Result<(), AllocError>
+    requires sound { IsSound store.old }
+    ensures sound { OnOk result (IsSound store.new) }
+    ensures kept { OnOk result ((k : StoredForm) × IsEmpty k × (store.new.kept.items ≡ store.old.kept.items ++ k ∷ [])) }
+    ensures unchanged { OnErr result (store.new.kept.items ≡ store.old.kept.items) }
+    ensures opens { OnOk result (run.new.opens.items ≡ run.old.opens.items ++ 0 ∷ []) }
+    ensures candidates { OnOk result (run.new.candidates.items ≡ run.old.candidates.items ++ 0 ∷ []) }
+    ensures variables { store.new.variables ≡ store.old.variables }
+    ensures trail { run.new.trail ≡ run.old.trail }
+    ensures rest { (run.new.assignment ≡ run.old.assignment) × (run.new.work ≡ run.old.work) × (run.new.next ≡ run.old.next) × (run.new.visits ≡ run.old.visits) }
+{
+    let alloc = *store.kept.allocator();
+    run.opens.push(0)?;
+    run.candidates.push(0)?;
+    store.spots.push(Vec::new(alloc))?;
+    store.kept.push(empty_kept(alloc))?;
+    Ok(())
+}
+
+/// Stores a form in the slot of an empty one.
+pub fn fill(store: &mut Store, run: &mut Run, slot: usize, form: Shared) -> Result<(), AllocError>
+    requires sound { IsSound store.old }
+    requires inside { All (λ t. t.variable < store.old.variables) form.terms }
+    requires slot { slot < length store.old.kept.items }
+    requires empty { terms_at (shapes_of store.old.kept.items) slot ≡ [] }
+    requires opens { length run.old.opens.items ≡ length store.old.kept.items }
+    ensures sound { OnOk result (IsSound store.new) }
+    ensures unchanged { OnErr result (store.new.kept.items ≡ store.old.kept.items) }
+    ensures filled { OnOk result (HasFilled form slot store.old.kept.items store.new.kept.items run.old.opens.items run.new.opens.items) }
+    ensures variables { store.new.variables ≡ store.old.variables }
+    ensures trail { run.new.trail ≡ run.old.trail }
+    ensures rest { (run.new.candidates ≡ run.old.candidates) × (run.new.assignment ≡ run.old.assignment) × (run.new.work ≡ run.old.work) × (run.new.next ≡ run.old.next) × (run.new.visits ≡ run.old.visits) }
+{
+    let alloc = *store.kept.allocator();
+    let kept = kept_of(alloc, form)?;
+    let mut spots = Vec::with_capacity(alloc, kept.terms.len())?;
+    link(&kept.terms, slot, &mut store.occurrences, &mut spots)?;
+    run.opens[slot] = kept.total;
+    store.spots[slot] = spots;
+    store.kept[slot] = kept;
+    Ok(())
+}
+
+/// Adds a form after the others.
+pub fn enter(store: &mut Store, run: &mut Run, form: Normal) -> Result<(), AllocError>
+    requires sound { IsSound store.old }
+    requires inside { All (λ t. t.variable < store.old.variables) form.terms }
+    requires opens { length run.old.opens.items ≡ length store.old.kept.items }
+    ensures sound { OnOk result (IsSound store.new) }
+    ensures unchanged { OnErr result ((s : ℕ) → slice_index_or (forms_of store.new.kept.items) s None ≡ slice_index_or (forms_of store.old.kept.items) s None) }
+    ensures entered { OnOk result (HasEntered form store.old.kept.items store.new.kept.items run.old.opens.items run.new.opens.items run.old.candidates.items run.new.candidates.items) }
+    ensures variables { store.new.variables ≡ store.old.variables }
+    ensures trail { run.new.trail ≡ run.old.trail }
+    ensures rest { (run.new.assignment ≡ run.old.assignment) × (run.new.work ≡ run.old.work) × (run.new.next ≡ run.old.next) × (run.new.visits ≡ run.old.visits) }
+{
+    let form = Shared::new(*store.kept.allocator(), form)?;
+    let slot = store.kept.len();
+    widen(store, run)?;
+    fill(store, run, slot, form)?;
+    Ok(())
+}
+
+/// Removes the last form.
+pub fn leave(store: &mut Store, run: &mut Run)
+    requires sound { IsSound store.old }
+    requires some { 0 < length store.old.kept.items }
+    ensures sound { IsSound store.new }
+    ensures kept { store.new.kept.items ≡ take (length store.old.kept.items - 1) store.old.kept.items }
+    ensures opens { run.new.opens.items ≡ take (length run.old.opens.items - 1) run.old.opens.items }
+    ensures candidates { run.new.candidates.items ≡ take (length run.old.candidates.items - 1) run.old.candidates.items }
+    ensures variables { store.new.variables ≡ store.old.variables }
+    ensures trail { run.new.trail ≡ run.old.trail }
+    ensures rest { (run.new.assignment ≡ run.old.assignment) × (run.new.work ≡ run.old.work) × (run.new.next ≡ run.old.next) × (run.new.visits ≡ run.old.visits) }
+{
+    let number = store.kept.len() - 1;
+    unlink(store, number);
+    store.kept.pop();
+    store.spots.pop();
+    run.opens.pop();
+    run.candidates.pop();
+}
+
+/// Removes a form. An empty one takes its slot.
+pub fn vacate(store: &mut Store, run: &mut Run, form: usize)
+    requires sound { IsSound store.old }
+    requires form { form < length store.old.kept.items }
+    requires opens { length run.old.opens.items ≡ length store.old.kept.items }
+    ensures sound { IsSound store.new }
+    ensures kept { (k : StoredForm) × IsEmpty k × (store.new.kept.items ≡ slice_set store.old.kept.items form k) }
+    ensures opens { run.new.opens.items ≡ slice_set run.old.opens.items form 0 }
+    ensures variables { store.new.variables ≡ store.old.variables }
+    ensures trail { run.new.trail ≡ run.old.trail }
+    ensures rest { (run.new.candidates ≡ run.old.candidates) × (run.new.assignment ≡ run.old.assignment) × (run.new.work ≡ run.old.work) × (run.new.next ≡ run.old.next) × (run.new.visits ≡ run.old.visits) }
+{
+    let alloc = *store.kept.allocator();
+    unlink(store, form);
+    store.kept[form] = empty_kept(alloc);
+    store.spots[form] = Vec::new(alloc);
+    run.opens[form] = 0;
+}

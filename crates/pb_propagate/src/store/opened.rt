@@ -1,0 +1,73 @@
+//! A form under the values of some literals, outside of questions. No visit is counted.
+
+ghost use Rattle.std.specs.Prelude.{◌≡◌, ◌≤◌, ◌<◌, ◌^◌, true, false, List, length, sum_by};
+ghost use Rattle.pb_normal.specs.declared.numbered.NumberedLiteral.{NumberedLiteral};
+ghost use Rattle.pb_normal.specs.meaning.Rules.{negation};
+ghost use Rattle.pb_propagate.specs.engine.Engine.Lists.{has, says, open_part, open_sum, AreInside};
+ghost use Rattle.pb_propagate.specs.engine.Engine.Root.{HasTrue};
+ghost use Rattle.pb_propagate.specs.engine.Engine.Terms.{terms_of};
+
+use crate::store::sorted_form::SortedForm;
+use crate::term::Term;
+use pb_normal::NumberedLiteral;
+
+// Whether a literal is falsified.
+fn is_falsified(values: &[Option<bool>], literal: NumberedLiteral) -> bool
+    requires { literal.variable < length values.now }
+    ensures { result ≡ says values.now (negation literal) }
+{
+    match values[literal.variable] {
+        Some(value) => value == literal.negated,
+        None => false,
+    }
+}
+
+// What a term adds to an open sum.
+fn part_of(values: &[Option<bool>], term: Term) -> u128
+    requires { term.literal.variable < length values.now }
+    ensures part { (list : List NumberedLiteral) → ((l : NumberedLiteral) → has list l ≡ says values.now l) → result ≡ open_part list term }
+    ensures small { result ≤ term.coefficient }
+{
+    if is_falsified(values, term.literal) {
+        return 0;
+    }
+    term.coefficient
+}
+
+/// The open sum of a form under some values.
+pub fn open_under(terms: &SortedForm, values: &[Option<bool>]) -> u128
+    requires small { sum_by (λ t. t.coefficient) (terms_of terms.now) < 2 ^ 127 }
+    requires inside { AreInside (length values.now) (terms_of terms.now) }
+    ensures { (list : List NumberedLiteral) → ((l : NumberedLiteral) → has list l ≡ says values.now l) → result ≡ open_sum list (terms_of terms.now) }
+{
+    let mut sum = 0;
+    'terms: for i in 0..terms.len() {
+        sum += part_of(values, terms.term(i));
+    }
+    sum
+}
+
+// Whether a literal is true.
+fn is_true(values: &[Option<bool>], literal: NumberedLiteral) -> bool
+    requires { literal.variable < length values.now }
+    ensures { result ≡ says values.now literal }
+{
+    match values[literal.variable] {
+        Some(value) => value != literal.negated,
+        None => false,
+    }
+}
+
+/// Whether a literal of a form is true.
+pub fn has_true(terms: &SortedForm, values: &[Option<bool>]) -> bool
+    requires inside { AreInside (length values.now) (terms_of terms.now) }
+    ensures yes { result ≡ true → HasTrue values.now (terms_of terms.now) }
+    ensures no { result ≡ false → HasTrue values.now (terms_of terms.now) → ⊥ }
+{
+    'terms: for i in 0..terms.len() {
+        if is_true(values, terms.term(i).literal) {
+            return true;
+        }
+    }
+    false
+}

@@ -1,8 +1,0 @@
--- Lists of coded literals.
-use Rattle.std.specs.Prelude.{◌<◌, length, slice_index_or}
-use Rattle.std.proofs.Common.{◌≡◌, ℕ, List}
-pub use Rattle.pb_replay.specs.engine.Clauses.Walked.{has}
-
--- no literal is on the list twice
-abbrev pub AreSingle : List ℕ → Type 0
-AreSingle list = (i j d : ℕ) → i < j → j < length list → slice_index_or list i d ≡ slice_index_or list j d → ⊥

@@ -1,9 +1,0 @@
-use Rattle.std.proofs.Common.{◌≡◌, length, drop}
-use Rattle.pb_replay.proofs.lemmas.engine.Values.{Forgotten}
-use Rattle.pb_replay.proofs.propagate.assignment.forget.Given as goal
-
-abbrev pub invariant-list : goal.invariant-list
-invariant-list l = record {
-  sizes : length l.values.items ≡ length l.initial.values.items;
-  forgotten : Forgotten l.values.items (drop l.literal-index l.list);
-}

@@ -1,9 +1,0 @@
-use Rattle.std.proofs.Common.{length}
-use Rattle.pb_replay.proofs.lemmas.root.Cuts.{IsCut}
-use Rattle.pb_replay.proofs.propagate.assignment.shorten.Given as goal
-
-abbrev pub decreases-list : goal.decreases-list
-decreases-list l = length l.list.items
-
-abbrev pub invariant-list : goal.invariant-list
-invariant-list l = IsCut l.initial.values.items l.initial.list.items l.count l.values.items l.list.items

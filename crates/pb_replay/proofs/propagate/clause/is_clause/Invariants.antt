@@ -1,7 +1,0 @@
-use Rattle.std.proofs.Common.{ℕ, ◌<◌, get_or}
-use Rattle.pb_normal.specs.declared.entry.Entry.{Entry}
-use Rattle.pb_replay.specs.engine.Clauses.Shapes.{IsLight}
-use Rattle.pb_replay.proofs.propagate.clause.is_clause.Given as goal
-
-abbrev pub invariant-entries : goal.invariant-entries
-invariant-entries l = (k : ℕ) (d : Entry) → k < l.i → IsLight (get_or l.entries k d)

@@ -1,6 +1,0 @@
-use Rattle.std.proofs.Common.{◌≡◌, ℕ, ◌<◌, ◌⊎◌, true, get_or}
-use Rattle.pb_replay.specs.engine.Clauses.Truths.{true_at, false_at}
-use Rattle.pb_replay.proofs.propagate.clauses.some_open.Given as goal
-
-abbrev pub invariant-literals : goal.invariant-literals
-invariant-literals l = (k d : ℕ) → k < l.i → (true_at l.values (get_or l.literals k d) ≡ true) ⊎ (false_at l.values (get_or l.literals k d) ≡ true)

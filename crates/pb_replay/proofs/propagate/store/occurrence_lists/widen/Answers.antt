@@ -1,8 +1,0 @@
-use Rattle.pb_replay.proofs.lemmas.store.Changes.{widened-forms}
-use Rattle.pb_replay.proofs.propagate.store.occurrence_lists.widen.Goals as goal
-
-pub returns-clause-sound : goal.returns-clause-sound
-returns-clause-sound c =
-    let store = c.args.store.now in
-    rw (c.in_ok-push-4.ensures.items, c.in_ok-push-3.ensures.items)
-    (widened-forms store.kept.items c.empty_kept.result store.spots.items c.new.result store.occurrences.items store.variables c.empty_kept.ensures.terms c.new.ensures.items c.requires.sound)

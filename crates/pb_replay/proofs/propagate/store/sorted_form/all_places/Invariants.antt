@@ -1,7 +1,0 @@
-use Rattle.std.proofs.Common.{◌≡◌, List, length}
-use Rattle.pb_normal.specs.declared.entry.Entry.{Entry}
-use Rattle.pb_replay.proofs.lemmas.store.Sorted.{ArePlaces}
-use Rattle.pb_replay.proofs.propagate.store.sorted_form.all_places.Given as goal
-
-abbrev pub invariant-places : goal.invariant-places
-invariant-places l = (es : List Entry) → length es ≡ l.count → ArePlaces es l.places.items l.place

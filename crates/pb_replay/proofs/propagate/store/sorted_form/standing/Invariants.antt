@@ -1,5 +1,0 @@
-use Rattle.pb_replay.proofs.lemmas.store.Sorted.{IsStanding}
-use Rattle.pb_replay.proofs.propagate.store.sorted_form.standing.Given as goal
-
-abbrev pub invariant-entries : goal.invariant-entries
-invariant-entries l = IsStanding l.entries l.ranks.items l.place

@@ -1,8 +1,0 @@
--- The terms of a stored form in their order.
-use Rattle.std.specs.Prelude.{List}
-use Rattle.pb_replay.specs.declared.propagate.term.Term.{Term}
-use Rattle.pb_replay.specs.declared.propagate.store.sorted_form.SortedForm.{SortedForm}
-use Rattle.pb_replay.specs.engine.Engine.Forms.{entries_in, picked}
-
-abbrev pub terms_of : SortedForm → List Term
-terms_of f = picked (entries_in f.form) f.order.items

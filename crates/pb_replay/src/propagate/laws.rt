@@ -1,8 +1,0 @@
-//! A law of propagation. The function does nothing: what it ensures is the law.
-
-ghost use Rattle.pb_replay.specs.engine.Engine.Laws.{CompletionsExist};
-
-/// Propagation over a list of constraints ends: there is a derivation that cannot be extended.
-pub fn propagation_ends()
-    ensures { CompletionsExist }
-{}
