@@ -66,9 +66,9 @@ impl Model for Engine {
     ghost use Rattle.pb_propagate.specs.engine.Engine.Slots.{numbered, ArePlaced};
     ghost use Rattle.pb_propagate.specs.engine.Engine.Root.{IsRooted};
 
-    ghost view = { λ e. record { forms = numbered (forms_of e.store.kept.items) e.places.items; variables = e.store.variables; visits = e.run.visits; spent = e.spent } };
+    ghost view = { λ e. record { forms = numbered (forms_of e.store.stored.items) e.places.items; variables = e.store.variables; visits = e.run.visits; spent = e.spent } };
 
-    ghost invariant = { λ e. e.spent ≡ false → IsAtRest e.store e.run e.eager e.clauses (forms_of e.store.kept.items) × ArePlaced (forms_of e.store.kept.items) e.places.items × (e.root.live ≡ true → IsRooted e.store e.clauses e.root.run e.root.rests (length e.store.kept.items)) };
+    ghost invariant = { λ e. e.spent ≡ false → IsAtRest e.store e.run e.eager e.clauses (forms_of e.store.stored.items) × ArePlaced (forms_of e.store.stored.items) e.places.items × (e.root.live ≡ true → IsRooted e.store e.clauses e.root.run e.root.rests (length e.store.stored.items)) };
 }
 
 // Assigns the given literals. Returns whether two of them are opposite, or a form is then falsified.
@@ -81,19 +81,19 @@ fn assume(
     requires store { IsSound store.now }
     requires inside { All (λ l. l.variable < store.now.variables) given.now }
     requires values { length run.old.assignment.values.items ≡ store.now.variables }
-    requires opens { length run.old.opens.items ≡ length store.now.kept.items }
+    requires opens { length run.old.opens.items ≡ length store.now.stored.items }
     requires next { run.old.next ≤ length run.old.work.items }
     requires empty { run.old.assignment.list.items ≡ [] }
-    requires counted { IsCounted (shapes_of store.now.kept.items) run.old.opens.items run.old.assignment.list.items [] }
+    requires counted { IsCounted (shapes_of store.now.stored.items) run.old.opens.items run.old.assignment.list.items [] }
     ensures values { OnOk result (length run.new.assignment.values.items ≡ length run.old.assignment.values.items) }
     ensures opens { OnOk result (length run.new.opens.items ≡ length run.old.opens.items) }
     ensures candidates { OnOk result (run.new.candidates ≡ run.old.candidates) }
     ensures next { OnOk result (run.new.next ≡ run.old.next) }
     ensures within { OnOk result (length run.old.work.items ≤ length run.new.work.items) }
     ensures single { OnOk result (AreSingle run.new.assignment.list.items) }
-    ensures counted { IfOk result (λ found. found ≡ false → IsCounted (shapes_of store.now.kept.items) run.new.opens.items run.new.assignment.list.items []) }
-    ensures tidy { OnOk result ((aside : List ℕ) (busy : ℕ) → IsTidy (beside rests.now aside) (shapes_of store.now.kept.items) run.old.opens.items run.old.candidates.items run.old.assignment.list.items run.old.work.items run.old.trail.items run.old.next busy → IsTidy (beside rests.now aside) (shapes_of store.now.kept.items) run.new.opens.items run.new.candidates.items run.new.assignment.list.items run.new.work.items run.new.trail.items run.new.next busy) }
-    ensures refuted { IfOk result (λ found. found ≡ true → IsRefuted (shapes_of store.now.kept.items) given.now given.now) }
+    ensures counted { IfOk result (λ found. found ≡ false → IsCounted (shapes_of store.now.stored.items) run.new.opens.items run.new.assignment.list.items []) }
+    ensures tidy { OnOk result ((aside : List ℕ) (busy : ℕ) → IsTidy (beside rests.now aside) (shapes_of store.now.stored.items) run.old.opens.items run.old.candidates.items run.old.assignment.list.items run.old.work.items run.old.trail.items run.old.next busy → IsTidy (beside rests.now aside) (shapes_of store.now.stored.items) run.new.opens.items run.new.candidates.items run.new.assignment.list.items run.new.work.items run.new.trail.items run.new.next busy) }
+    ensures refuted { IfOk result (λ found. found ≡ true → IsRefuted (shapes_of store.now.stored.items) given.now given.now) }
     ensures same { IfOk result (λ found. found ≡ false → IsWithin run.new.assignment.list.items given.now × IsWithin given.now run.new.assignment.list.items) }
 {
     'given: for i in 0..given.len() {
@@ -120,22 +120,22 @@ fn settle(
     requires store { IsSound store.now }
     requires inside { All (λ l. l.variable < store.now.variables) given.now }
     requires values { length run.old.assignment.values.items ≡ store.now.variables }
-    requires opens { length run.old.opens.items ≡ length store.now.kept.items }
-    requires candidates { length run.old.candidates.items ≡ length store.now.kept.items }
+    requires opens { length run.old.opens.items ≡ length store.now.stored.items }
+    requires candidates { length run.old.candidates.items ≡ length store.now.stored.items }
     requires next { run.old.next ≤ length run.old.work.items }
-    requires waiting { All (λ s. s < length store.now.kept.items) waiting.now }
+    requires waiting { All (λ s. s < length store.now.stored.items) waiting.now }
     requires empty { run.old.assignment.list.items ≡ [] }
-    requires counted { IsCounted (shapes_of store.now.kept.items) run.old.opens.items run.old.assignment.list.items [] }
-    requires tidy { IsTidy (beside rests.now (filter (waits store.now.kept.items) waiting.now)) (shapes_of store.now.kept.items) run.old.opens.items run.old.candidates.items run.old.assignment.list.items run.old.work.items run.old.trail.items run.old.next (length store.now.kept.items) }
-    requires joined { AreJoined (shapes_of store.now.kept.items) (clauses_of clauses.old) }
+    requires counted { IsCounted (shapes_of store.now.stored.items) run.old.opens.items run.old.assignment.list.items [] }
+    requires tidy { IsTidy (beside rests.now (filter (waits store.now.stored.items) waiting.now)) (shapes_of store.now.stored.items) run.old.opens.items run.old.candidates.items run.old.assignment.list.items run.old.work.items run.old.trail.items run.old.next (length store.now.stored.items) }
+    requires joined { AreJoined (shapes_of store.now.stored.items) (clauses_of clauses.old) }
     requires ready { AreReady clauses.old }
     requires widths { length clauses.old.lists.items ≡ 2 * store.now.variables }
     ensures literals { clauses.new.literals ≡ clauses.old.literals }
     ensures running { OnOk result (IsRunning run.new.assignment.values.items clauses.new) }
     ensures values { OnOk result (length run.new.assignment.values.items ≡ length run.old.assignment.values.items) }
-    ensures opens { OnOk result (length run.new.opens.items ≡ length store.now.kept.items) }
-    ensures candidates { OnOk result (length run.new.candidates.items ≡ length store.now.kept.items) }
-    ensures undone { OnOk result (IsUndone rests.now (shapes_of store.now.kept.items) run.new.opens.items run.new.candidates.items run.new.trail.items 0) }
+    ensures opens { OnOk result (length run.new.opens.items ≡ length store.now.stored.items) }
+    ensures candidates { OnOk result (length run.new.candidates.items ≡ length store.now.stored.items) }
+    ensures undone { OnOk result (IsUndone rests.now (shapes_of store.now.stored.items) run.new.opens.items run.new.candidates.items run.new.trail.items 0) }
     ensures refuted { IfOk result (λ found. found ≡ true → (list : List NumberedLiteral) × IsRefuted (all_of store.now clauses.old) given.now list) }
     ensures ended { IfOk result (λ found. found ≡ false → IsEnded (all_of store.now clauses.old) given.now run.new.assignment.list.items) }
 {
@@ -148,15 +148,15 @@ fn settle(
 
 // Undoes a propagation that began from nothing.
 fn rest(store: &Store, rests: &Rests, clauses: &mut Clauses, run: &mut Run)
-    requires opens { length run.old.opens.items ≡ length store.now.kept.items }
-    requires candidates { length run.old.candidates.items ≡ length store.now.kept.items }
-    requires undone { IsUndone rests.now (shapes_of store.now.kept.items) run.old.opens.items run.old.candidates.items run.old.trail.items 0 }
+    requires opens { length run.old.opens.items ≡ length store.now.stored.items }
+    requires candidates { length run.old.candidates.items ≡ length store.now.stored.items }
+    requires undone { IsUndone rests.now (shapes_of store.now.stored.items) run.old.opens.items run.old.candidates.items run.old.trail.items 0 }
     requires bare { (rests.now.opens.items ≡ []) × (rests.now.starts.items ≡ []) }
     requires running { IsRunning run.old.assignment.values.items clauses.old }
     ensures ready { AreReady clauses.new }
     ensures literals { clauses.new.literals ≡ clauses.old.literals }
     ensures lists { clauses.new.lists ≡ clauses.old.lists }
-    ensures rest { AreAtRest store.now.kept.items run.new.opens.items run.new.candidates.items }
+    ensures rest { AreAtRest store.now.stored.items run.new.opens.items run.new.candidates.items }
     ensures values { length run.new.assignment.values.items ≡ length run.old.assignment.values.items }
     ensures list { run.new.assignment.list.items ≡ [] }
     ensures work { run.new.work.items ≡ [] }
@@ -182,17 +182,17 @@ fn follow(
     root: &mut Root,
     slot: usize,
 ) -> Result<(), AllocError>
-    requires rest { IsAtRest store.now run.now eager.now clauses.old (forms_of store.now.kept.items) }
-    requires slot { slot < length store.now.kept.items }
-    requires gained { root.old.live ≡ true → (before : Store) × (old : Clauses) × IsRooted before old root.old.run root.old.rests (length before.kept.items) × HasGained before old store.now clauses.old slot }
-    ensures rest { OnOk result (IsAtRest store.now run.now eager.now clauses.new (forms_of store.now.kept.items)) }
-    ensures rooted { OnOk result (root.new.live ≡ true → IsRooted store.now clauses.new root.new.run root.new.rests (length store.now.kept.items)) }
+    requires rest { IsAtRest store.now run.now eager.now clauses.old (forms_of store.now.stored.items) }
+    requires slot { slot < length store.now.stored.items }
+    requires gained { root.old.live ≡ true → (before : Store) × (old : Clauses) × IsRooted before old root.old.run root.old.rests (length before.stored.items) × HasGained before old store.now clauses.old slot }
+    ensures rest { OnOk result (IsAtRest store.now run.now eager.now clauses.new (forms_of store.now.stored.items)) }
+    ensures rooted { OnOk result (root.new.live ≡ true → IsRooted store.now clauses.new root.new.run root.new.rests (length store.now.stored.items)) }
 {
     if root.live {
         root.admit(store, clauses, slot)?;
         return Ok(());
     }
-    let size = store.kept.len().saturating_add(store.variables) as u64;
+    let size = store.stored.len().saturating_add(store.variables) as u64;
     if root.paid / 8 < size {
         return Ok(());
     }
@@ -209,7 +209,7 @@ impl Engine {
     {
         Engine {
             store: Store {
-                kept: Vec::new(alloc),
+                stored: Vec::new(alloc),
                 spots: Vec::new(alloc),
                 occurrences: Vec::new(alloc),
                 variables: 0,
@@ -301,7 +301,7 @@ impl Engine {
         ensures ready { self.new.spent ≡ false }
     {
         let slot = self.places[number];
-        if slot >= self.store.kept.len() {
+        if slot >= self.store.stored.len() {
             return;
         }
         self.places[number] = usize::MAX;
@@ -322,7 +322,7 @@ impl Engine {
         ensures some { IfSome result (λ f. slice_index_or self.now.forms number None ≡ Some f.now) }
         ensures none { IfNone result (slice_index_or self.now.forms number None ≡ None) }
     {
-        match self.store.kept.get(self.places[number]) {
+        match self.store.stored.get(self.places[number]) {
             Some(kept) => kept.terms.form(),
             None => None,
         }
@@ -333,7 +333,7 @@ impl Engine {
         requires { number < length self.now.forms }
         ensures { IfOk result (λ f. f ≡ slice_index_or self.now.forms number None) }
     {
-        match self.store.kept.get(self.places[number]) {
+        match self.store.stored.get(self.places[number]) {
             Some(kept) => kept.terms.shared(),
             None => Ok(None),
         }
@@ -390,7 +390,7 @@ impl Engine {
             return Ok(answer);
         }
         let rests = Rests::none(*self.places.allocator());
-        let number = self.store.kept.len();
+        let number = self.store.stored.len();
         enter(&mut self.store, &mut self.run, negation)?;
         choose(&self.store, number, &mut self.run.trail)?;
         choose(&self.store, number, &mut self.run.work)?;

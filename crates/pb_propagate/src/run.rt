@@ -62,20 +62,20 @@ pub fn queue(work: &mut Vec<usize>, form: usize, left: u128, bound: u128) -> Res
 /// Subtracts a visited entry from its form's open sum. Adds the form to the work list if it may then propagate or is
 /// falsified. Returns whether it is falsified.
 fn lower(store: &Store, rests: &Rests, run: &mut Run, entry: Visited) -> Result<bool, AllocError>
-    requires form { entry.form < length store.now.kept.items }
-    requires index { entry.index < length (terms_at (shapes_of store.now.kept.items) entry.form) }
+    requires form { entry.form < length store.now.stored.items }
+    requires index { entry.index < length (terms_at (shapes_of store.now.stored.items) entry.form) }
     requires inside { entry.form < length run.old.opens.items }
-    requires fits { coefficient_at (shapes_of store.now.kept.items) entry.form entry.index ≤ slice_index run.old.opens.items entry.form }
-    ensures opens { OnOk result (run.new.opens.items ≡ slice_set run.old.opens.items entry.form (slice_index run.old.opens.items entry.form - coefficient_at (shapes_of store.now.kept.items) entry.form entry.index)) }
-    ensures work { OnOk result (Grown ((d : Shape) (c : ℕ) → IsCalm (slice_index_or (shapes_of store.now.kept.items) entry.form d) (slice_index run.old.opens.items entry.form - coefficient_at (shapes_of store.now.kept.items) entry.form entry.index) c) entry.form run.old.work.items run.new.work.items) }
-    ensures trail { OnOk result (Grown ((d : Shape) → slice_index run.old.opens.items entry.form ≡ rest_open rests.now entry.form (slice_index_or (shapes_of store.now.kept.items) entry.form d) → ⊥) entry.form run.old.trail.items run.new.trail.items) }
+    requires fits { coefficient_at (shapes_of store.now.stored.items) entry.form entry.index ≤ slice_index run.old.opens.items entry.form }
+    ensures opens { OnOk result (run.new.opens.items ≡ slice_set run.old.opens.items entry.form (slice_index run.old.opens.items entry.form - coefficient_at (shapes_of store.now.stored.items) entry.form entry.index)) }
+    ensures work { OnOk result (Grown ((d : Shape) (c : ℕ) → IsCalm (slice_index_or (shapes_of store.now.stored.items) entry.form d) (slice_index run.old.opens.items entry.form - coefficient_at (shapes_of store.now.stored.items) entry.form entry.index) c) entry.form run.old.work.items run.new.work.items) }
+    ensures trail { OnOk result (Grown ((d : Shape) → slice_index run.old.opens.items entry.form ≡ rest_open rests.now entry.form (slice_index_or (shapes_of store.now.stored.items) entry.form d) → ⊥) entry.form run.old.trail.items run.new.trail.items) }
     ensures candidates { run.new.candidates ≡ run.old.candidates }
     ensures assignment { run.new.assignment ≡ run.old.assignment }
     ensures next { run.new.next ≡ run.old.next }
     ensures visits { run.new.visits ≡ run.old.visits }
-    ensures falsified { IfOk result (λ found. found ≡ true → (d : Shape) → slice_index_or run.new.opens.items entry.form 0 < (slice_index_or (shapes_of store.now.kept.items) entry.form d).degree) }
+    ensures falsified { IfOk result (λ found. found ≡ true → (d : Shape) → slice_index_or run.new.opens.items entry.form 0 < (slice_index_or (shapes_of store.now.stored.items) entry.form d).degree) }
 {
-    let kept = &store.kept[entry.form];
+    let kept = &store.stored[entry.form];
     let opened = run.opens[entry.form];
     let rest = rests.open(entry.form, kept.total);
     note(&mut run.trail, entry.form, opened, rest)?;
@@ -108,23 +108,23 @@ pub fn put(
     requires store { IsSound store.now }
     requires inside { literal.variable < store.now.variables }
     requires values { length run.old.assignment.values.items ≡ store.now.variables }
-    requires opens { length run.old.opens.items ≡ length store.now.kept.items }
+    requires opens { length run.old.opens.items ≡ length store.now.stored.items }
     requires next { run.old.next ≤ length run.old.work.items }
     requires absent { has run.old.assignment.list.items literal ≡ false }
     requires not_falsified { has run.old.assignment.list.items (negation literal) ≡ false }
-    requires counted { IsCounted (shapes_of store.now.kept.items) run.old.opens.items run.old.assignment.list.items [] }
+    requires counted { IsCounted (shapes_of store.now.stored.items) run.old.opens.items run.old.assignment.list.items [] }
     ensures values { OnOk result (length run.new.assignment.values.items ≡ length run.old.assignment.values.items) }
     ensures opens { OnOk result (length run.new.opens.items ≡ length run.old.opens.items) }
     ensures next { OnOk result (run.new.next ≡ run.old.next) }
     ensures candidates { run.new.candidates ≡ run.old.candidates }
-    ensures covered { AreCovered (entries_of (shapes_of store.now.kept.items) store.now.occurrences.items) run.old.assignment.list.items run.new.assignment.list.items run.old.candidates.items run.new.candidates.items run.old.visits run.new.visits 0 }
+    ensures covered { AreCovered (entries_of (shapes_of store.now.stored.items) store.now.occurrences.items) run.old.assignment.list.items run.new.assignment.list.items run.old.candidates.items run.new.candidates.items run.old.visits run.new.visits 0 }
     ensures single { AreSingle run.old.assignment.list.items → AreSingle run.new.assignment.list.items }
     ensures extends { Extends run.old.assignment.list.items run.new.assignment.list.items }
     ensures list { OnOk result (run.new.assignment.list.items ≡ run.old.assignment.list.items ++ literal ∷ []) }
-    ensures counted { IfOk result (λ found. found ≡ false → IsCounted (shapes_of store.now.kept.items) run.new.opens.items run.new.assignment.list.items []) }
-    ensures conflict { IfOk result (λ found. found ≡ true → Conflicts (shapes_of store.now.kept.items) run.new.assignment.list.items) }
-    ensures tidy { OnOk result ((aside : List ℕ) (busy : ℕ) → IsTidy (beside rests.now aside) (shapes_of store.now.kept.items) run.old.opens.items run.old.candidates.items run.old.assignment.list.items run.old.work.items run.old.trail.items run.old.next busy → IsTidy (beside rests.now aside) (shapes_of store.now.kept.items) run.new.opens.items run.new.candidates.items run.new.assignment.list.items run.new.work.items run.new.trail.items run.new.next busy) }
-    ensures paid { OnOk result (IsPaid (entries_of (shapes_of store.now.kept.items) store.now.occurrences.items) run.old.assignment.list.items run.new.assignment.list.items run.old.candidates.items run.new.candidates.items run.old.work.items run.new.work.items run.old.visits run.new.visits 0) }
+    ensures counted { IfOk result (λ found. found ≡ false → IsCounted (shapes_of store.now.stored.items) run.new.opens.items run.new.assignment.list.items []) }
+    ensures conflict { IfOk result (λ found. found ≡ true → Conflicts (shapes_of store.now.stored.items) run.new.assignment.list.items) }
+    ensures tidy { OnOk result ((aside : List ℕ) (busy : ℕ) → IsTidy (beside rests.now aside) (shapes_of store.now.stored.items) run.old.opens.items run.old.candidates.items run.old.assignment.list.items run.old.work.items run.old.trail.items run.old.next busy → IsTidy (beside rests.now aside) (shapes_of store.now.stored.items) run.new.opens.items run.new.candidates.items run.new.assignment.list.items run.new.work.items run.new.trail.items run.new.next busy) }
+    ensures paid { OnOk result (IsPaid (entries_of (shapes_of store.now.stored.items) store.now.occurrences.items) run.old.assignment.list.items run.new.assignment.list.items run.old.candidates.items run.new.candidates.items run.old.work.items run.new.work.items run.old.visits run.new.visits 0) }
     ensures kept_work { OnOk result ((s : ℕ) → IsAbsent run.new.work.items 0 s → IsAbsent run.old.work.items 0 s) }
     ensures longer_work { OnOk result (length run.old.work.items ≤ length run.new.work.items) }
 {
@@ -149,21 +149,21 @@ pub fn try_put(
     requires store { IsSound store.now }
     requires inside { literal.variable < store.now.variables }
     requires values { length run.old.assignment.values.items ≡ store.now.variables }
-    requires opens { length run.old.opens.items ≡ length store.now.kept.items }
+    requires opens { length run.old.opens.items ≡ length store.now.stored.items }
     requires next { run.old.next ≤ length run.old.work.items }
-    requires counted { IsCounted (shapes_of store.now.kept.items) run.old.opens.items run.old.assignment.list.items [] }
+    requires counted { IsCounted (shapes_of store.now.stored.items) run.old.opens.items run.old.assignment.list.items [] }
     ensures values { OnOk result (length run.new.assignment.values.items ≡ length run.old.assignment.values.items) }
     ensures opens { OnOk result (length run.new.opens.items ≡ length run.old.opens.items) }
     ensures next { OnOk result (run.new.next ≡ run.old.next) }
     ensures candidates { run.new.candidates ≡ run.old.candidates }
-    ensures covered { AreCovered (entries_of (shapes_of store.now.kept.items) store.now.occurrences.items) run.old.assignment.list.items run.new.assignment.list.items run.old.candidates.items run.new.candidates.items run.old.visits run.new.visits 0 }
+    ensures covered { AreCovered (entries_of (shapes_of store.now.stored.items) store.now.occurrences.items) run.old.assignment.list.items run.new.assignment.list.items run.old.candidates.items run.new.candidates.items run.old.visits run.new.visits 0 }
     ensures single { AreSingle run.old.assignment.list.items → AreSingle run.new.assignment.list.items }
     ensures extends { Extends run.old.assignment.list.items run.new.assignment.list.items }
     ensures adopted { OnOk result (Adopted literal run.old.assignment.list.items run.new.assignment.list.items) }
-    ensures counted { IfOk result (λ found. found ≡ false → IsCounted (shapes_of store.now.kept.items) run.new.opens.items run.new.assignment.list.items []) }
-    ensures conflict { IfOk result (λ found. found ≡ true → Conflicts (shapes_of store.now.kept.items) run.new.assignment.list.items) }
-    ensures tidy { OnOk result ((aside : List ℕ) (busy : ℕ) → IsTidy (beside rests.now aside) (shapes_of store.now.kept.items) run.old.opens.items run.old.candidates.items run.old.assignment.list.items run.old.work.items run.old.trail.items run.old.next busy → IsTidy (beside rests.now aside) (shapes_of store.now.kept.items) run.new.opens.items run.new.candidates.items run.new.assignment.list.items run.new.work.items run.new.trail.items run.new.next busy) }
-    ensures paid { OnOk result (IsPaid (entries_of (shapes_of store.now.kept.items) store.now.occurrences.items) run.old.assignment.list.items run.new.assignment.list.items run.old.candidates.items run.new.candidates.items run.old.work.items run.new.work.items run.old.visits run.new.visits 0) }
+    ensures counted { IfOk result (λ found. found ≡ false → IsCounted (shapes_of store.now.stored.items) run.new.opens.items run.new.assignment.list.items []) }
+    ensures conflict { IfOk result (λ found. found ≡ true → Conflicts (shapes_of store.now.stored.items) run.new.assignment.list.items) }
+    ensures tidy { OnOk result ((aside : List ℕ) (busy : ℕ) → IsTidy (beside rests.now aside) (shapes_of store.now.stored.items) run.old.opens.items run.old.candidates.items run.old.assignment.list.items run.old.work.items run.old.trail.items run.old.next busy → IsTidy (beside rests.now aside) (shapes_of store.now.stored.items) run.new.opens.items run.new.candidates.items run.new.assignment.list.items run.new.work.items run.new.trail.items run.new.next busy) }
+    ensures paid { OnOk result (IsPaid (entries_of (shapes_of store.now.stored.items) store.now.occurrences.items) run.old.assignment.list.items run.new.assignment.list.items run.old.candidates.items run.new.candidates.items run.old.work.items run.new.work.items run.old.visits run.new.visits 0) }
     ensures kept_work { OnOk result ((s : ℕ) → IsAbsent run.new.work.items 0 s → IsAbsent run.old.work.items 0 s) }
     ensures longer_work { OnOk result (length run.old.work.items ≤ length run.new.work.items) }
 {
@@ -187,32 +187,32 @@ fn visit_form(
     waiting: &[usize],
 ) -> Result<bool, AllocError>
     requires store { IsSound store.now }
-    requires form { form < length store.now.kept.items }
+    requires form { form < length store.now.stored.items }
     requires values { length run.old.assignment.values.items ≡ store.now.variables }
-    requires opens { length run.old.opens.items ≡ length store.now.kept.items }
-    requires candidates { length run.old.candidates.items ≡ length store.now.kept.items }
+    requires opens { length run.old.opens.items ≡ length store.now.stored.items }
+    requires candidates { length run.old.candidates.items ≡ length store.now.stored.items }
     requires next { run.old.next ≤ length run.old.work.items }
-    requires counted { IsCounted (shapes_of store.now.kept.items) run.old.opens.items run.old.assignment.list.items [] }
-    requires tidy { IsTidy (beside rests.now (filter (waits store.now.kept.items) waiting.now)) (shapes_of store.now.kept.items) run.old.opens.items run.old.candidates.items run.old.assignment.list.items run.old.work.items run.old.trail.items run.old.next form }
+    requires counted { IsCounted (shapes_of store.now.stored.items) run.old.opens.items run.old.assignment.list.items [] }
+    requires tidy { IsTidy (beside rests.now (filter (waits store.now.stored.items) waiting.now)) (shapes_of store.now.stored.items) run.old.opens.items run.old.candidates.items run.old.assignment.list.items run.old.work.items run.old.trail.items run.old.next form }
     requires there { IsAbsent run.old.work.items 0 form → ⊥ }
     ensures values { OnOk result (length run.new.assignment.values.items ≡ length run.old.assignment.values.items) }
     ensures opens { OnOk result (length run.new.opens.items ≡ length run.old.opens.items) }
     ensures candidates { OnOk result (length run.new.candidates.items ≡ length run.old.candidates.items) }
     ensures next { OnOk result (run.new.next ≡ run.old.next) }
     ensures within { OnOk result (run.new.next ≤ length run.new.work.items) }
-    ensures derived { OnOk result (Derives (shapes_of store.now.kept.items) run.old.assignment.list.items run.new.assignment.list.items) }
-    ensures counted { IfOk result (λ found. found ≡ false → IsCounted (shapes_of store.now.kept.items) run.new.opens.items run.new.assignment.list.items []) }
-    ensures bounded { sum run.new.candidates.items ≤ sum_by (λ f. length f.terms) (shapes_of store.now.kept.items) }
-    ensures covered { AreCovered (entries_of (shapes_of store.now.kept.items) store.now.occurrences.items) run.old.assignment.list.items run.new.assignment.list.items run.old.candidates.items run.new.candidates.items run.old.visits run.new.visits 1 }
+    ensures derived { OnOk result (Derives (shapes_of store.now.stored.items) run.old.assignment.list.items run.new.assignment.list.items) }
+    ensures counted { IfOk result (λ found. found ≡ false → IsCounted (shapes_of store.now.stored.items) run.new.opens.items run.new.assignment.list.items []) }
+    ensures bounded { sum run.new.candidates.items ≤ sum_by (λ f. length f.terms) (shapes_of store.now.stored.items) }
+    ensures covered { AreCovered (entries_of (shapes_of store.now.stored.items) store.now.occurrences.items) run.old.assignment.list.items run.new.assignment.list.items run.old.candidates.items run.new.candidates.items run.old.visits run.new.visits 1 }
     ensures single { AreSingle run.old.assignment.list.items → AreSingle run.new.assignment.list.items }
     ensures extends { Extends run.old.assignment.list.items run.new.assignment.list.items }
-    ensures undone { OnOk result (IsUndone rests.now (shapes_of store.now.kept.items) run.new.opens.items run.new.candidates.items run.new.trail.items 0) }
-    ensures conflict { IfOk result (λ found. found ≡ true → Conflicts (shapes_of store.now.kept.items) run.new.assignment.list.items) }
-    ensures tidy { IfOk result (λ found. found ≡ false → IsTidy (beside rests.now (filter (waits store.now.kept.items) waiting.now)) (shapes_of store.now.kept.items) run.new.opens.items run.new.candidates.items run.new.assignment.list.items run.new.work.items run.new.trail.items run.new.next (length store.now.kept.items)) }
-    ensures paid { OnOk result (IsPaid (entries_of (shapes_of store.now.kept.items) store.now.occurrences.items) run.old.assignment.list.items run.new.assignment.list.items run.old.candidates.items run.new.candidates.items run.old.work.items run.new.work.items run.old.visits run.new.visits 1) }
+    ensures undone { OnOk result (IsUndone rests.now (shapes_of store.now.stored.items) run.new.opens.items run.new.candidates.items run.new.trail.items 0) }
+    ensures conflict { IfOk result (λ found. found ≡ true → Conflicts (shapes_of store.now.stored.items) run.new.assignment.list.items) }
+    ensures tidy { IfOk result (λ found. found ≡ false → IsTidy (beside rests.now (filter (waits store.now.stored.items) waiting.now)) (shapes_of store.now.stored.items) run.new.opens.items run.new.candidates.items run.new.assignment.list.items run.new.work.items run.new.trail.items run.new.next (length store.now.stored.items)) }
+    ensures paid { OnOk result (IsPaid (entries_of (shapes_of store.now.stored.items) store.now.occurrences.items) run.old.assignment.list.items run.new.assignment.list.items run.old.candidates.items run.new.candidates.items run.old.work.items run.new.work.items run.old.visits run.new.visits 1) }
     ensures found { OnOk result (AreFound (length run.old.assignment.list.items) (length run.new.assignment.list.items) run.old.visits run.new.visits) }
 {
-    let kept = &store.kept[form];
+    let kept = &store.stored[form];
     'terms: loop {
         let opened = run.opens[form];
         let falsified = is_below(opened, kept.degree);
@@ -238,10 +238,10 @@ fn visit_form(
 
 /// Adds a form to the work list if it may propagate with nothing assigned.
 pub fn choose(store: &Store, form: usize, work: &mut Vec<usize>) -> Result<(), AllocError>
-    requires { form < length store.now.kept.items }
-    ensures { OnOk result (work.new.items ≡ work.old.items ++ filter (waits store.now.kept.items) (form ∷ [])) }
+    requires { form < length store.now.stored.items }
+    ensures { OnOk result (work.new.items ≡ work.old.items ++ filter (waits store.now.stored.items) (form ∷ [])) }
 {
-    if !store.kept[form].eager {
+    if !store.stored[form].eager {
         return Ok(());
     }
     work.push(form)?;
@@ -261,14 +261,14 @@ pub fn propagate(
 ) -> Result<bool, AllocError>
     requires store { IsSound store.now }
     requires values { length run.old.assignment.values.items ≡ store.now.variables }
-    requires opens { length run.old.opens.items ≡ length store.now.kept.items }
-    requires candidates { length run.old.candidates.items ≡ length store.now.kept.items }
+    requires opens { length run.old.opens.items ≡ length store.now.stored.items }
+    requires candidates { length run.old.candidates.items ≡ length store.now.stored.items }
     requires next { run.old.next ≤ length run.old.work.items }
-    requires waiting { All (λ s. s < length store.now.kept.items) waiting.now }
+    requires waiting { All (λ s. s < length store.now.stored.items) waiting.now }
     requires single { AreSingle run.old.assignment.list.items }
-    requires counted { IsCounted (shapes_of store.now.kept.items) run.old.opens.items run.old.assignment.list.items [] }
-    requires tidy { IsTidy (beside rests.now (filter (waits store.now.kept.items) waiting.now)) (shapes_of store.now.kept.items) run.old.opens.items run.old.candidates.items run.old.assignment.list.items run.old.work.items run.old.trail.items run.old.next (length store.now.kept.items) }
-    requires joined { AreJoined (shapes_of store.now.kept.items) (clauses_of clauses.old) }
+    requires counted { IsCounted (shapes_of store.now.stored.items) run.old.opens.items run.old.assignment.list.items [] }
+    requires tidy { IsTidy (beside rests.now (filter (waits store.now.stored.items) waiting.now)) (shapes_of store.now.stored.items) run.old.opens.items run.old.candidates.items run.old.assignment.list.items run.old.work.items run.old.trail.items run.old.next (length store.now.stored.items) }
+    requires joined { AreJoined (shapes_of store.now.stored.items) (clauses_of clauses.old) }
     requires ready { AreReady clauses.old }
     requires widths { length clauses.old.lists.items ≡ 2 * store.now.variables }
     requires from { from ≤ length run.old.assignment.list.items }
@@ -278,19 +278,19 @@ pub fn propagate(
     ensures walked { IfOk result (λ found. found ≡ false → AreWalked run.new.assignment.values.items clauses.new.watches.items (walked_codes (length run.new.assignment.list.items) run.new.assignment.list.items)) }
     ensures kept { OnOk result ((base : List (Option Bool)) (codes : List ℕ) → Grows base run.old.assignment.values.items → AreWalked base clauses.old.watches.items codes → AreWalked base clauses.new.watches.items codes) }
     ensures values { OnOk result (length run.new.assignment.values.items ≡ length run.old.assignment.values.items) }
-    ensures opens { OnOk result (length run.new.opens.items ≡ length store.now.kept.items) }
-    ensures candidates { OnOk result (length run.new.candidates.items ≡ length store.now.kept.items) }
+    ensures opens { OnOk result (length run.new.opens.items ≡ length store.now.stored.items) }
+    ensures candidates { OnOk result (length run.new.candidates.items ≡ length store.now.stored.items) }
     ensures single { AreSingle run.new.assignment.list.items }
     ensures extends { Extends run.old.assignment.list.items run.new.assignment.list.items }
     ensures derived { OnOk result (Derives (all_of store.now clauses.old) run.old.assignment.list.items run.new.assignment.list.items) }
-    ensures bounded { sum run.new.candidates.items ≤ sum_by (λ f. length f.terms) (shapes_of store.now.kept.items) }
-    ensures undone { OnOk result (IsUndone rests.now (shapes_of store.now.kept.items) run.new.opens.items run.new.candidates.items run.new.trail.items 0) }
+    ensures bounded { sum run.new.candidates.items ≤ sum_by (λ f. length f.terms) (shapes_of store.now.stored.items) }
+    ensures undone { OnOk result (IsUndone rests.now (shapes_of store.now.stored.items) run.new.opens.items run.new.candidates.items run.new.trail.items 0) }
     ensures conflict { IfOk result (λ found. found ≡ true → Conflicts (all_of store.now clauses.old) run.new.assignment.list.items) }
     ensures settled { IfOk result (λ found. found ≡ false → (f : Shape) → Contains (all_of store.now clauses.old) f → IsSettled f run.new.assignment.list.items) }
-    ensures counted { IfOk result (λ found. found ≡ false → IsCounted (shapes_of store.now.kept.items) run.new.opens.items run.new.assignment.list.items []) }
-    ensures tidy { IfOk result (λ found. found ≡ false → IsTidy (beside rests.now []) (shapes_of store.now.kept.items) run.new.opens.items run.new.candidates.items run.new.assignment.list.items run.new.work.items run.new.trail.items run.new.next (length store.now.kept.items)) }
+    ensures counted { IfOk result (λ found. found ≡ false → IsCounted (shapes_of store.now.stored.items) run.new.opens.items run.new.assignment.list.items []) }
+    ensures tidy { IfOk result (λ found. found ≡ false → IsTidy (beside rests.now []) (shapes_of store.now.stored.items) run.new.opens.items run.new.candidates.items run.new.assignment.list.items run.new.work.items run.new.trail.items run.new.next (length store.now.stored.items)) }
     ensures done { IfOk result (λ found. found ≡ false → length run.new.work.items ≤ run.new.next) }
-    ensures upper { run.new.visits + sum run.old.candidates.items ≤ run.old.visits + ((length run.old.work.items + length (filter (waits store.now.kept.items) waiting.now)) - run.old.next) + 2 * spent (entries_of (shapes_of store.now.kept.items) store.now.occurrences.items) run.new.assignment.list.items + sum run.new.candidates.items + 2 * killed (clauses_of clauses.old) (map falsified_code run.new.assignment.list.items) + sum_by length (clauses_of clauses.old) }
+    ensures upper { run.new.visits + sum run.old.candidates.items ≤ run.old.visits + ((length run.old.work.items + length (filter (waits store.now.stored.items) waiting.now)) - run.old.next) + 2 * spent (entries_of (shapes_of store.now.stored.items) store.now.occurrences.items) run.new.assignment.list.items + sum run.new.candidates.items + 2 * killed (clauses_of clauses.old) (map falsified_code run.new.assignment.list.items) + sum_by length (clauses_of clauses.old) }
     ensures found { OnOk result (AreFound (length run.old.assignment.list.items) (length run.new.assignment.list.items) run.old.visits run.new.visits) }
 {
     let mut taken = 0;
@@ -320,20 +320,20 @@ pub fn propagate(
 
 /// Restores the forms that the propagation changed. No other form is visited, and nothing is allocated.
 pub fn undo_forms(store: &Store, rests: &Rests, run: &mut Run)
-    requires opens { length run.old.opens.items ≡ length store.now.kept.items }
-    requires candidates { length run.old.candidates.items ≡ length store.now.kept.items }
-    requires undone { IsUndone rests.now (shapes_of store.now.kept.items) run.old.opens.items run.old.candidates.items run.old.trail.items 0 }
-    ensures opens { length run.new.opens.items ≡ length store.now.kept.items }
-    ensures candidates { length run.new.candidates.items ≡ length store.now.kept.items }
+    requires opens { length run.old.opens.items ≡ length store.now.stored.items }
+    requires candidates { length run.old.candidates.items ≡ length store.now.stored.items }
+    requires undone { IsUndone rests.now (shapes_of store.now.stored.items) run.old.opens.items run.old.candidates.items run.old.trail.items 0 }
+    ensures opens { length run.new.opens.items ≡ length store.now.stored.items }
+    ensures candidates { length run.new.candidates.items ≡ length store.now.stored.items }
     ensures work { run.new.work ≡ run.old.work }
     ensures trail { run.new.trail ≡ run.old.trail }
     ensures assignment { run.new.assignment ≡ run.old.assignment }
     ensures visits { run.new.visits ≡ run.old.visits }
-    ensures undone { IsUndone rests.now (shapes_of store.now.kept.items) run.new.opens.items run.new.candidates.items run.new.trail.items (length run.new.trail.items) }
+    ensures undone { IsUndone rests.now (shapes_of store.now.stored.items) run.new.opens.items run.new.candidates.items run.new.trail.items (length run.new.trail.items) }
 {
     'forms: for i in 0..run.trail.len() {
         let form = run.trail[i];
-        let opened = rests.open(form, store.kept[form].total);
+        let opened = rests.open(form, store.stored[form].total);
         run.opens[form] = opened;
         run.candidates[form] = rests.start(form);
     }

@@ -36,18 +36,18 @@ pub fn vacancy(
     clauses: &mut Clauses,
     free: &mut Vec<usize>,
 ) -> Result<usize, AllocError>
-    requires rest { IsAtRest store.old run.old eager.old clauses.old (forms_of store.old.kept.items) }
-    ensures rest { OnOk result (IsAtRest store.new run.new eager.new clauses.new (forms_of store.new.kept.items)) }
-    ensures slot { IfOk result (λ slot. slice_get (forms_of store.new.kept.items) slot ≡ Some None) }
-    ensures forms { (s : ℕ) → slice_index_or (forms_of store.new.kept.items) s None ≡ slice_index_or (forms_of store.old.kept.items) s None }
+    requires rest { IsAtRest store.old run.old eager.old clauses.old (forms_of store.old.stored.items) }
+    ensures rest { OnOk result (IsAtRest store.new run.new eager.new clauses.new (forms_of store.new.stored.items)) }
+    ensures slot { IfOk result (λ slot. slice_get (forms_of store.new.stored.items) slot ≡ Some None) }
+    ensures forms { (s : ℕ) → slice_index_or (forms_of store.new.stored.items) s None ≡ slice_index_or (forms_of store.old.stored.items) s None }
     ensures widened { IfOk result (λ slot. HasWidened store.old clauses.old store.new clauses.new slot) }
     ensures variables { store.new.variables ≡ store.old.variables }
     ensures visits { run.new.visits ≡ run.old.visits }
 {
-    if let Some(slot) = left_slot(store.kept.as_slice(), free) {
+    if let Some(slot) = left_slot(store.stored.as_slice(), free) {
         return Ok(slot);
     }
-    let slot = store.kept.len();
+    let slot = store.stored.len();
     widen(store, run)?;
     eager.widen()?;
     clauses.extend()?;
@@ -58,13 +58,13 @@ pub fn vacancy(
 
 // Adds a form to the list of those that may propagate with nothing assigned, if it is one.
 fn seat(store: &Store, eager: &mut Eager, slot: usize) -> Result<(), AllocError>
-    requires slot { slot < length store.now.kept.items }
-    requires seats { length eager.old.seats.items ≡ length store.now.kept.items }
+    requires slot { slot < length store.now.stored.items }
+    requires seats { length eager.old.seats.items ≡ length store.now.stored.items }
     requires absent { IsAbsent eager.old.list.items 0 slot }
-    ensures list { OnOk result (eager.new.list.items ≡ eager.old.list.items ++ filter (waits store.now.kept.items) (slot ∷ [])) }
+    ensures list { OnOk result (eager.new.list.items ≡ eager.old.list.items ++ filter (waits store.now.stored.items) (slot ∷ [])) }
     ensures seats { length eager.new.seats.items ≡ length eager.old.seats.items }
 {
-    if !store.kept[slot].eager {
+    if !store.stored[slot].eager {
         return Ok(());
     }
     eager.put(slot)?;
@@ -80,14 +80,14 @@ pub fn occupy(
     slot: usize,
     form: Shared,
 ) -> Result<(), AllocError>
-    requires rest { IsAtRest store.old run.old eager.old clauses.old (forms_of store.old.kept.items) }
-    requires slot { slice_get (forms_of store.old.kept.items) slot ≡ Some None }
+    requires rest { IsAtRest store.old run.old eager.old clauses.old (forms_of store.old.stored.items) }
+    requires slot { slice_get (forms_of store.old.stored.items) slot ≡ Some None }
     requires inside { All (λ t. t.variable < store.old.variables) form.terms }
-    ensures rest { OnOk result (IsAtRest store.new run.new eager.new clauses.new (forms_of store.new.kept.items)) }
-    ensures forms { OnOk result (forms_of store.new.kept.items ≡ slice_set (forms_of store.old.kept.items) slot (Some form)) }
+    ensures rest { OnOk result (IsAtRest store.new run.new eager.new clauses.new (forms_of store.new.stored.items)) }
+    ensures forms { OnOk result (forms_of store.new.stored.items ≡ slice_set (forms_of store.old.stored.items) slot (Some form)) }
     ensures gained { OnOk result (HasGained store.old clauses.old store.new clauses.new slot) }
     // On failure the form may be in its slot, but not on the list of those that may propagate with nothing assigned.
-    ensures refused { OnErr result ((forms_of store.new.kept.items ≡ forms_of store.old.kept.items) ⊎ (forms_of store.new.kept.items ≡ slice_set (forms_of store.old.kept.items) slot (Some form))) }
+    ensures refused { OnErr result ((forms_of store.new.stored.items ≡ forms_of store.old.stored.items) ⊎ (forms_of store.new.stored.items ≡ slice_set (forms_of store.old.stored.items) slot (Some form))) }
     ensures variables { store.new.variables ≡ store.old.variables }
     ensures visits { run.new.visits ≡ run.old.visits }
 {
@@ -102,13 +102,13 @@ pub fn occupy(
 
 // Removes a form from the list of those that may propagate with nothing assigned, if it is one.
 fn unseat(store: &Store, eager: &mut Eager, slot: usize)
-    requires slot { slot < length store.now.kept.items }
-    requires there { waits store.now.kept.items slot ≡ true → IsAbsent eager.old.list.items 0 slot → ⊥ }
-    ensures taken { waits store.now.kept.items slot ≡ true → (seat : ℕ) × (slice_get eager.old.list.items seat ≡ Some slot) × (eager.new.list.items ≡ swap_remove eager.old.list.items seat slot) }
-    ensures same { waits store.now.kept.items slot ≡ false → eager.new.list.items ≡ eager.old.list.items }
+    requires slot { slot < length store.now.stored.items }
+    requires there { waits store.now.stored.items slot ≡ true → IsAbsent eager.old.list.items 0 slot → ⊥ }
+    ensures taken { waits store.now.stored.items slot ≡ true → (seat : ℕ) × (slice_get eager.old.list.items seat ≡ Some slot) × (eager.new.list.items ≡ swap_remove eager.old.list.items seat slot) }
+    ensures same { waits store.now.stored.items slot ≡ false → eager.new.list.items ≡ eager.old.list.items }
     ensures seats { length eager.new.seats.items ≡ length eager.old.seats.items }
 {
-    if !store.kept[slot].eager {
+    if !store.stored[slot].eager {
         return;
     }
     eager.take(slot);
@@ -116,10 +116,10 @@ fn unseat(store: &Store, eager: &mut Eager, slot: usize)
 
 /// Removes the form of a slot, which is then empty.
 pub fn quit(store: &mut Store, run: &mut Run, eager: &mut Eager, clauses: &mut Clauses, slot: usize)
-    requires rest { IsAtRest store.old run.old eager.old clauses.old (forms_of store.old.kept.items) }
-    requires slot { slot < length store.old.kept.items }
-    ensures rest { IsAtRest store.new run.new eager.new clauses.new (forms_of store.new.kept.items) }
-    ensures forms { forms_of store.new.kept.items ≡ slice_set (forms_of store.old.kept.items) slot None }
+    requires rest { IsAtRest store.old run.old eager.old clauses.old (forms_of store.old.stored.items) }
+    requires slot { slot < length store.old.stored.items }
+    ensures rest { IsAtRest store.new run.new eager.new clauses.new (forms_of store.new.stored.items) }
+    ensures forms { forms_of store.new.stored.items ≡ slice_set (forms_of store.old.stored.items) slot None }
     ensures vacated { HasVacated store.old clauses.old store.new clauses.new slot }
     ensures variables { store.new.variables ≡ store.old.variables }
     ensures visits { run.new.visits ≡ run.old.visits }

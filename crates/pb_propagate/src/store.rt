@@ -33,7 +33,7 @@ pub struct Visited {
 /// The stored forms, and for each literal the forms that contain it.
 #[derive(Drop)]
 pub struct Store {
-    pub kept: Vec<StoredForm>,
+    pub stored: Vec<StoredForm>,
     // For each form, the position of the entry of each of its terms in the list of its literal.
     pub spots: Vec<Vec<usize>>,
     pub occurrences: Vec<Vec<Occurrence>>,

@@ -38,10 +38,10 @@ pub fn walk(
 ) -> Result<bool, AllocError>
     requires store { IsSound store.now }
     requires values { length run.old.assignment.values.items ≡ store.now.variables }
-    requires opens { length run.old.opens.items ≡ length store.now.kept.items }
+    requires opens { length run.old.opens.items ≡ length store.now.stored.items }
     requires next { run.old.next ≤ length run.old.work.items }
-    requires counted { IsCounted (shapes_of store.now.kept.items) run.old.opens.items run.old.assignment.list.items [] }
-    requires joined { AreJoined (shapes_of store.now.kept.items) (clauses_of clauses.old) }
+    requires counted { IsCounted (shapes_of store.now.stored.items) run.old.opens.items run.old.assignment.list.items [] }
+    requires joined { AreJoined (shapes_of store.now.stored.items) (clauses_of clauses.old) }
     requires running { IsRunning run.old.assignment.values.items clauses.old }
     requires failed { false_at run.old.assignment.values.items literal ≡ true }
     requires literal { literal < length clauses.old.lists.items }
@@ -56,15 +56,15 @@ pub fn walk(
     ensures derived { OnOk result (Derives (all_of store.now clauses.old) run.old.assignment.list.items run.new.assignment.list.items) }
     ensures grows { OnOk result (Grows run.old.assignment.values.items run.new.assignment.values.items) }
     ensures conflict { IfOk result (λ found. found ≡ true → Conflicts (all_of store.now clauses.old) run.new.assignment.list.items) }
-    ensures counted { IfOk result (λ found. found ≡ false → IsCounted (shapes_of store.now.kept.items) run.new.opens.items run.new.assignment.list.items []) }
-    ensures tidy { OnOk result ((aside : List ℕ) (busy : ℕ) → IsTidy (beside rests.now aside) (shapes_of store.now.kept.items) run.old.opens.items run.old.candidates.items run.old.assignment.list.items run.old.work.items run.old.trail.items run.old.next busy → IsTidy (beside rests.now aside) (shapes_of store.now.kept.items) run.new.opens.items run.new.candidates.items run.new.assignment.list.items run.new.work.items run.new.trail.items run.new.next busy) }
+    ensures counted { IfOk result (λ found. found ≡ false → IsCounted (shapes_of store.now.stored.items) run.new.opens.items run.new.assignment.list.items []) }
+    ensures tidy { OnOk result ((aside : List ℕ) (busy : ℕ) → IsTidy (beside rests.now aside) (shapes_of store.now.stored.items) run.old.opens.items run.old.candidates.items run.old.assignment.list.items run.old.work.items run.old.trail.items run.old.next busy → IsTidy (beside rests.now aside) (shapes_of store.now.stored.items) run.new.opens.items run.new.candidates.items run.new.assignment.list.items run.new.work.items run.new.trail.items run.new.next busy) }
     ensures single { AreSingle run.old.assignment.list.items → AreSingle run.new.assignment.list.items }
     ensures extends { Extends run.old.assignment.list.items run.new.assignment.list.items }
     ensures longer_work { OnOk result (length run.old.work.items ≤ length run.new.work.items) }
-    ensures work { OnOk result (length run.new.work.items + spent (entries_of (shapes_of store.now.kept.items) store.now.occurrences.items) run.old.assignment.list.items ≤ length run.old.work.items + spent (entries_of (shapes_of store.now.kept.items) store.now.occurrences.items) run.new.assignment.list.items) }
+    ensures work { OnOk result (length run.new.work.items + spent (entries_of (shapes_of store.now.stored.items) store.now.occurrences.items) run.old.assignment.list.items ≤ length run.old.work.items + spent (entries_of (shapes_of store.now.stored.items) store.now.occurrences.items) run.new.assignment.list.items) }
 
     // Upper and lower bounds on the number of visits.
-    ensures covered { run.new.visits + sum clauses.old.passed.items + spent (entries_of (shapes_of store.now.kept.items) store.now.occurrences.items) run.old.assignment.list.items ≤ run.old.visits + 2 * length (list_at (lists_of clauses.old.lists.items) literal) + sum clauses.new.passed.items + spent (entries_of (shapes_of store.now.kept.items) store.now.occurrences.items) run.new.assignment.list.items }
+    ensures covered { run.new.visits + sum clauses.old.passed.items + spent (entries_of (shapes_of store.now.stored.items) store.now.occurrences.items) run.old.assignment.list.items ≤ run.old.visits + 2 * length (list_at (lists_of clauses.old.lists.items) literal) + sum clauses.new.passed.items + spent (entries_of (shapes_of store.now.stored.items) store.now.occurrences.items) run.new.assignment.list.items }
     ensures bounded { (s : ℕ) → slice_index_or clauses.new.passed.items s 0 ≤ length (list_at (clauses_of clauses.old) s) }
     ensures found { OnOk result (AreFound (length run.old.assignment.list.items) (length run.new.assignment.list.items) run.old.visits run.new.visits) }
     ensures rising { OnOk result (run.old.visits ≤ run.new.visits) }

@@ -2,7 +2,7 @@
 
 ghost use Rattle.std.specs.Prelude.{◌≡◌, ℕ, List, All, ◌≤◌, ◌+◌, ◌*◌, ◌<◌, ◌++◌, ◌∷◌, [], length, sum_by, OnOk, OnErr, IfOk};
 ghost use Rattle.pb_propagate.specs.engine.Engine.Lists.{Shape};
-ghost use Rattle.pb_propagate.specs.engine.Engine.Forms.{IsKeptAs};
+ghost use Rattle.pb_propagate.specs.engine.Engine.Forms.{IsStoredAs};
 ghost use Rattle.pb_propagate.specs.engine.Engine.Fields.{shapes_of, forms_of, IsSound};
 ghost use Rattle.pb_propagate.specs.engine.Engine.Slots.{numbered, ArePlaced};
 ghost use Rattle.pb_propagate.specs.engine.Engine.Root.{IsRooted, IsAnswered};
@@ -28,31 +28,31 @@ pub fn ask(
     visits: &mut Visits,
     form: Normal,
 ) -> Result<bool, AllocError>
-    requires rooted { IsRooted store.old clauses.old root.old.run root.old.rests (length store.old.kept.items) }
+    requires rooted { IsRooted store.old clauses.old root.old.run root.old.rests (length store.old.stored.items) }
     requires sound { IsSound store.old }
-    requires joined { AreJoined (shapes_of store.old.kept.items) (clauses_of clauses.old) }
+    requires joined { AreJoined (shapes_of store.old.stored.items) (clauses_of clauses.old) }
     requires ready { AreReady clauses.old }
     requires widths { length clauses.old.lists.items ≡ 2 * store.old.variables }
     requires inside { All (λ t. t.variable < store.old.variables) form.terms }
     ensures sound { OnOk result (IsSound store.new) }
-    ensures kept { OnOk result (store.new.kept.items ≡ store.old.kept.items) }
-    ensures forms { OnErr result ((places : List ℕ) → ArePlaced (forms_of store.old.kept.items) places → numbered (forms_of store.new.kept.items) places ≡ numbered (forms_of store.old.kept.items) places) }
+    ensures kept { OnOk result (store.new.stored.items ≡ store.old.stored.items) }
+    ensures forms { OnErr result ((places : List ℕ) → ArePlaced (forms_of store.old.stored.items) places → numbered (forms_of store.new.stored.items) places ≡ numbered (forms_of store.old.stored.items) places) }
     ensures variables { store.new.variables ≡ store.old.variables }
     ensures literals { clauses.new.literals ≡ clauses.old.literals }
     ensures ready { OnOk result (AreReady clauses.new) }
     ensures lists { OnOk result (length clauses.new.lists.items ≡ length clauses.old.lists.items) }
-    ensures rooted { OnOk result (IsRooted store.new clauses.new root.new.run root.new.rests (length store.new.kept.items)) }
+    ensures rooted { OnOk result (IsRooted store.new clauses.new root.new.run root.new.rests (length store.new.stored.items)) }
     ensures live { root.new.live ≡ root.old.live }
-    ensures asked { IfOk result (λ found. (x : Shape) × IsKeptAs form x × IsAnswered (all_of store.old clauses.old ++ x ∷ []) visits.new found) }
+    ensures asked { IfOk result (λ found. (x : Shape) × IsStoredAs form x × IsAnswered (all_of store.old clauses.old ++ x ∷ []) visits.new found) }
     ensures most { visits.new ≤ 3 * (sum_by (λ (f : Shape). length f.terms) (all_of store.old clauses.old) + length form.terms) + 1 }
 {
     let count = root.run.assignment.list.len();
     *visits = Visits::of(count);
-    let number = store.kept.len();
+    let number = store.stored.len();
     enter(store, &mut root.run, form)?;
     lay(store, &mut root.run, number)?;
     root.run.visits = Visits::of(count);
-    let none = Vec::new(*store.kept.allocator());
+    let none = Vec::new(*store.stored.allocator());
     let found = propagate(
         store,
         &root.rests,

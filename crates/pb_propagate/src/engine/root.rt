@@ -78,18 +78,18 @@ fn rests_of(alloc: Global, run: &Run) -> Result<Rests, AllocError>
 /// falsified.
 pub fn lay(store: &Store, run: &mut Run, form: usize) -> Result<(), AllocError>
     requires store { IsSound store.now }
-    requires form { form < length store.now.kept.items }
-    requires opens { length run.old.opens.items ≡ length store.now.kept.items }
+    requires form { form < length store.now.stored.items }
+    requires opens { length run.old.opens.items ≡ length store.now.stored.items }
     requires values { length run.old.assignment.values.items ≡ store.now.variables }
-    ensures opens { OnOk result ((d : Shape) → run.new.opens.items ≡ slice_set run.old.opens.items form (open_sum run.old.assignment.list.items (slice_index_or (shapes_of store.now.kept.items) form d).terms)) }
+    ensures opens { OnOk result ((d : Shape) → run.new.opens.items ≡ slice_set run.old.opens.items form (open_sum run.old.assignment.list.items (slice_index_or (shapes_of store.now.stored.items) form d).terms)) }
     ensures trail { OnOk result (run.new.trail.items ≡ run.old.trail.items ++ form ∷ []) }
-    ensures work { OnOk result (Grown ((d : Shape) (c : ℕ) → IsCalm (slice_index_or (shapes_of store.now.kept.items) form d) (open_sum run.old.assignment.list.items (slice_index_or (shapes_of store.now.kept.items) form d).terms) c) form run.old.work.items run.new.work.items) }
+    ensures work { OnOk result (Grown ((d : Shape) (c : ℕ) → IsCalm (slice_index_or (shapes_of store.now.stored.items) form d) (open_sum run.old.assignment.list.items (slice_index_or (shapes_of store.now.stored.items) form d).terms) c) form run.old.work.items run.new.work.items) }
     ensures candidates { run.new.candidates ≡ run.old.candidates }
     ensures assignment { run.new.assignment ≡ run.old.assignment }
     ensures next { run.new.next ≡ run.old.next }
     ensures visits { run.new.visits ≡ run.old.visits }
 {
-    let kept = &store.kept[form];
+    let kept = &store.stored[form];
     let opened = open_under(&kept.terms, run.assignment.values.as_slice());
     run.trail.push(form)?;
     queue(&mut run.work, form, opened, kept.bound)?;
@@ -167,10 +167,10 @@ impl Root {
     // Whether the form of a slot has forced none of the literals. A clause with an open literal has not, nor has
     // another form without a true one.
     fn is_spare(&self, store: &Store, clauses: &Clauses, slot: usize) -> bool
-        requires slot { slot < length store.now.kept.items }
+        requires slot { slot < length store.now.stored.items }
         requires sound { IsSound store.now }
         requires ready { AreReady clauses.now }
-        requires known { length clauses.now.literals.items ≡ length store.now.kept.items }
+        requires known { length clauses.now.literals.items ≡ length store.now.stored.items }
         requires widths { length clauses.now.lists.items ≡ 2 * store.now.variables }
         requires values { length self.now.run.assignment.values.items ≡ store.now.variables }
         ensures { result ≡ true → (x : Shape) → slice_get (all_of store.now clauses.now) slot ≡ Some x → IsSpare x self.now.run.assignment.list.items }
@@ -179,17 +179,17 @@ impl Root {
         if clauses.is_filled(slot) {
             return clauses.has_open(values, slot);
         }
-        !has_true(&store.kept[slot].terms, values)
+        !has_true(&store.stored[slot].terms, values)
     }
 
     /// The form of a slot goes. The root stays if the form has forced none of its literals, and ends if it may have.
     pub fn lose(&mut self, store: &Store, clauses: &Clauses, slot: usize)
-        requires slot { slot < length store.now.kept.items }
+        requires slot { slot < length store.now.stored.items }
         requires sound { IsSound store.now }
         requires ready { AreReady clauses.now }
-        requires known { length clauses.now.literals.items ≡ length store.now.kept.items }
+        requires known { length clauses.now.literals.items ≡ length store.now.stored.items }
         requires widths { length clauses.now.lists.items ≡ 2 * store.now.variables }
-        requires rooted { self.old.live ≡ true → IsRooted store.now clauses.now self.old.run self.old.rests (length store.now.kept.items) }
+        requires rooted { self.old.live ≡ true → IsRooted store.now clauses.now self.old.run self.old.rests (length store.now.stored.items) }
         ensures lost { self.new.live ≡ true → (self.old.live ≡ true) × HasLost self.old.run self.new.run self.old.rests self.new.rests slot }
         ensures spare { self.new.live ≡ true → (x : Shape) → slice_get (all_of store.now clauses.now) slot ≡ Some x → IsSpare x self.old.run.assignment.list.items }
     {
@@ -214,13 +214,13 @@ impl Root {
         clauses: &mut Clauses,
         eager: &Eager,
     ) -> Result<(), AllocError>
-        requires rest { IsAtRest store.now run.now eager.now clauses.old (forms_of store.now.kept.items) }
-        ensures rooted { OnOk result (self.new.live ≡ true → IsRooted store.now clauses.new self.new.run self.new.rests (length store.now.kept.items)) }
+        requires rest { IsAtRest store.now run.now eager.now clauses.old (forms_of store.now.stored.items) }
+        ensures rooted { OnOk result (self.new.live ≡ true → IsRooted store.now clauses.new self.new.run self.new.rests (length store.now.stored.items)) }
         ensures ready { OnOk result (AreReady clauses.new) }
         ensures literals { clauses.new.literals ≡ clauses.old.literals }
         ensures lists { OnOk result (length clauses.new.lists.items ≡ length clauses.old.lists.items) }
     {
-        let alloc = *store.kept.allocator();
+        let alloc = *store.stored.allocator();
         self.paid = 0;
         self.run = fresh(alloc, run, store.variables)?;
         self.rests = rests_of(alloc, run)?;
@@ -251,13 +251,13 @@ impl Root {
         slot: usize,
     ) -> Result<(), AllocError>
         requires store { IsSound store.now }
-        requires joined { AreJoined (shapes_of store.now.kept.items) (clauses_of clauses.old) }
+        requires joined { AreJoined (shapes_of store.now.stored.items) (clauses_of clauses.old) }
         requires ready { AreReady clauses.old }
         requires widths { length clauses.old.lists.items ≡ 2 * store.now.variables }
-        requires known { length clauses.old.literals.items ≡ length store.now.kept.items }
-        requires slot { slot < length store.now.kept.items }
-        requires gained { (before : Store) × (old : Clauses) × IsRooted before old self.old.run self.old.rests (length before.kept.items) × HasGained before old store.now clauses.old slot }
-        ensures rooted { OnOk result (self.new.live ≡ true → IsRooted store.now clauses.new self.new.run self.new.rests (length store.now.kept.items)) }
+        requires known { length clauses.old.literals.items ≡ length store.now.stored.items }
+        requires slot { slot < length store.now.stored.items }
+        requires gained { (before : Store) × (old : Clauses) × IsRooted before old self.old.run self.old.rests (length before.stored.items) × HasGained before old store.now clauses.old slot }
+        ensures rooted { OnOk result (self.new.live ≡ true → IsRooted store.now clauses.new self.new.run self.new.rests (length store.now.stored.items)) }
         ensures ready { OnOk result (AreReady clauses.new) }
         ensures literals { clauses.new.literals ≡ clauses.old.literals }
         ensures lists { OnOk result (length clauses.new.lists.items ≡ length clauses.old.lists.items) }
@@ -269,7 +269,7 @@ impl Root {
         }
         let count = self.run.assignment.list.len();
         lay(store, &mut self.run, slot)?;
-        let none = Vec::new(*store.kept.allocator());
+        let none = Vec::new(*store.stored.allocator());
         let found = propagate(
             store,
             &self.rests,
@@ -291,17 +291,17 @@ impl Root {
 
 /// Undoes a question, back to the first literals of the list.
 pub fn back(store: &Store, rests: &Rests, clauses: &mut Clauses, run: &mut Run, count: usize)
-    requires opens { length run.old.opens.items ≡ length store.now.kept.items }
-    requires candidates { length run.old.candidates.items ≡ length store.now.kept.items }
-    requires undone { IsUndone rests.now (shapes_of store.now.kept.items) run.old.opens.items run.old.candidates.items run.old.trail.items 0 }
+    requires opens { length run.old.opens.items ≡ length store.now.stored.items }
+    requires candidates { length run.old.candidates.items ≡ length store.now.stored.items }
+    requires undone { IsUndone rests.now (shapes_of store.now.stored.items) run.old.opens.items run.old.candidates.items run.old.trail.items 0 }
     requires running { IsRunning run.old.assignment.values.items clauses.old }
     ensures ready { AreReady clauses.new }
     ensures literals { clauses.new.literals ≡ clauses.old.literals }
     ensures lists { clauses.new.lists ≡ clauses.old.lists }
     ensures watches { clauses.new.watches ≡ clauses.old.watches }
-    ensures opens { length run.new.opens.items ≡ length store.now.kept.items }
-    ensures candidates { length run.new.candidates.items ≡ length store.now.kept.items }
-    ensures undone { IsUndone rests.now (shapes_of store.now.kept.items) run.new.opens.items run.new.candidates.items [] 0 }
+    ensures opens { length run.new.opens.items ≡ length store.now.stored.items }
+    ensures candidates { length run.new.candidates.items ≡ length store.now.stored.items }
+    ensures undone { IsUndone rests.now (shapes_of store.now.stored.items) run.new.opens.items run.new.candidates.items [] 0 }
     ensures values { length run.new.assignment.values.items ≡ length run.old.assignment.values.items }
     ensures list { run.new.assignment.list.items ≡ take count run.old.assignment.list.items }
     ensures work { run.new.work.items ≡ [] }

@@ -6,9 +6,9 @@ ghost use Rattle.pb_propagate.specs.declared.store.Occurrence.{Occurrence};
 ghost use Rattle.pb_propagate.specs.declared.store.stored_form.StoredForm.{StoredForm};
 ghost use Rattle.pb_propagate.specs.engine.Engine.Lists.{Shape};
 ghost use Rattle.pb_propagate.specs.engine.Engine.Counts.{AreFalling, IsCalm, place};
-ghost use Rattle.pb_propagate.specs.engine.Engine.Forms.{IsKeptAs};
+ghost use Rattle.pb_propagate.specs.engine.Engine.Forms.{IsStoredAs};
 ghost use Rattle.pb_propagate.specs.engine.Engine.Terms.{terms_of};
-ghost use Rattle.pb_propagate.specs.engine.Engine.Fields.{kept_shape, shapes_of, forms_of, spots_of, lists_of, entries_of, IsSound, HasEntered, HasFilled, IsEmpty, IsUnlisted};
+ghost use Rattle.pb_propagate.specs.engine.Engine.Fields.{stored_shape, shapes_of, forms_of, spots_of, lists_of, entries_of, IsSound, HasEntered, HasFilled, IsEmpty, IsUnlisted};
 ghost use Rattle.pb_propagate.specs.engine.Engine.Links.{IsLinked, Moved, cut, terms_at};
 ghost use Rattle.pb_normal.specs.meaning.Form.{IsNormal};
 ghost use Rattle.pb_propagate.specs.engine.Clauses.Links.{list_at, watch_at};
@@ -57,8 +57,8 @@ fn is_even(terms: &SortedForm) -> bool
 }
 
 // A form as the engine stores it.
-fn kept_of(alloc: Global, form: Shared) -> Result<StoredForm, AllocError>
-    ensures is { IfOk result (λ kept. IsKeptAs form (kept_shape kept)) }
+fn stored_of(alloc: Global, form: Shared) -> Result<StoredForm, AllocError>
+    ensures is { IfOk result (λ kept. IsStoredAs form (stored_shape kept)) }
     ensures form { IfOk result (λ kept. kept.terms.form ≡ Some form) }
 {
     let normal = form.form();
@@ -126,17 +126,17 @@ fn take_out(
 // Removes the entries of a form from the lists, that of the last term first.
 fn unlink(store: &mut Store, form: usize)
     requires sound { IsSound store.old }
-    requires form { form < length store.old.kept.items }
-    ensures kept { store.new.kept ≡ store.old.kept }
+    requires form { form < length store.old.stored.items }
+    ensures kept { store.new.stored ≡ store.old.stored }
     ensures variables { store.new.variables ≡ store.old.variables }
     ensures lists { length store.new.occurrences.items ≡ length store.old.occurrences.items }
     ensures rooms { (s : ℕ) → length (slice_index_or (spots_of store.new.spots.items) s []) ≡ length (slice_index_or (spots_of store.old.spots.items) s []) }
-    ensures linked { IsLinked (cut (shapes_of store.new.kept.items) form 0) (spots_of store.new.spots.items) (entries_of (shapes_of store.new.kept.items) store.new.occurrences.items) }
+    ensures linked { IsLinked (cut (shapes_of store.new.stored.items) form 0) (spots_of store.new.spots.items) (entries_of (shapes_of store.new.stored.items) store.new.occurrences.items) }
 {
-    let mut left = store.kept[form].terms.len();
+    let mut left = store.stored[form].terms.len();
     'terms: while left > 0 {
         left -= 1;
-        let term = store.kept[form].terms.term(left);
+        let term = store.stored[form].terms.term(left);
         let spot = store.spots[form][left];
         let place = place_of(term.literal);
         take_out(&mut store.occurrences, &mut store.spots, place, spot);
@@ -144,7 +144,7 @@ fn unlink(store: &mut Store, form: usize)
 }
 
 // An empty form: it has no terms, and its degree is 0.
-fn empty_kept(alloc: Global) -> StoredForm
+fn empty_stored(alloc: Global) -> StoredForm
     ensures { IsEmpty result }
 {
     StoredForm {
@@ -158,7 +158,7 @@ fn empty_kept(alloc: Global) -> StoredForm
 }
 
 // A form that is propagated by its watches. It has no entries in the occurrence lists.
-fn watched_kept(alloc: Global, form: Shared) -> StoredForm
+fn watched_stored(alloc: Global, form: Shared) -> StoredForm
     ensures form { result.terms.form ≡ Some form }
     ensures unlisted { IsUnlisted result }
 {
@@ -180,8 +180,8 @@ pub fn watch(
     form: Shared,
 ) -> Result<(), AllocError>
     requires ready { AreReady clauses.old }
-    requires slot { slot < length store.old.kept.items }
-    requires known { length clauses.old.literals.items ≡ length store.old.kept.items }
+    requires slot { slot < length store.old.stored.items }
+    requires known { length clauses.old.literals.items ≡ length store.old.stored.items }
     requires empty { list_at (clauses_of clauses.old) slot ≡ [] }
     requires clause { IsClause form }
     requires normal { IsNormal form }
@@ -191,14 +191,14 @@ pub fn watch(
     ensures literals { OnOk result (clauses_of clauses.new ≡ slice_set (clauses_of clauses.old) slot (map code form.terms)) }
     ensures lists { OnOk result (length clauses.new.lists.items ≡ length clauses.old.lists.items) }
     ensures watches { OnOk result ((e : ℕ) → (e / 2 ≡ slot → ⊥) → watch_at clauses.new.watches.items e ≡ watch_at clauses.old.watches.items e) }
-    ensures kept { OnOk result ((k : StoredForm) × (k.terms.form ≡ Some form) × IsUnlisted k × (store.new.kept.items ≡ slice_set store.old.kept.items slot k)) }
-    ensures unchanged { OnErr result (store.new.kept.items ≡ store.old.kept.items) }
+    ensures kept { OnOk result ((k : StoredForm) × (k.terms.form ≡ Some form) × IsUnlisted k × (store.new.stored.items ≡ slice_set store.old.stored.items slot k)) }
+    ensures unchanged { OnErr result (store.new.stored.items ≡ store.old.stored.items) }
     ensures rest { (store.new.spots ≡ store.old.spots) × (store.new.occurrences ≡ store.old.occurrences) × (store.new.variables ≡ store.old.variables) }
 {
-    let alloc = *store.kept.allocator();
+    let alloc = *store.stored.allocator();
     let codes = codes_of(alloc, form.form().entries())?;
     clauses.fill(slot, codes)?;
-    store.kept[slot] = watched_kept(alloc, form);
+    store.stored[slot] = watched_stored(alloc, form);
     Ok(())
 }
 
@@ -206,19 +206,19 @@ pub fn watch(
 pub fn widen(store: &mut Store, run: &mut Run) -> Result<(), AllocError>
     requires sound { IsSound store.old }
     ensures sound { OnOk result (IsSound store.new) }
-    ensures kept { OnOk result ((k : StoredForm) × IsEmpty k × (store.new.kept.items ≡ store.old.kept.items ++ k ∷ [])) }
-    ensures unchanged { OnErr result (store.new.kept.items ≡ store.old.kept.items) }
+    ensures kept { OnOk result ((k : StoredForm) × IsEmpty k × (store.new.stored.items ≡ store.old.stored.items ++ k ∷ [])) }
+    ensures unchanged { OnErr result (store.new.stored.items ≡ store.old.stored.items) }
     ensures opens { OnOk result (run.new.opens.items ≡ run.old.opens.items ++ 0 ∷ []) }
     ensures candidates { OnOk result (run.new.candidates.items ≡ run.old.candidates.items ++ 0 ∷ []) }
     ensures variables { store.new.variables ≡ store.old.variables }
     ensures trail { run.new.trail ≡ run.old.trail }
     ensures rest { (run.new.assignment ≡ run.old.assignment) × (run.new.work ≡ run.old.work) × (run.new.next ≡ run.old.next) × (run.new.visits ≡ run.old.visits) }
 {
-    let alloc = *store.kept.allocator();
+    let alloc = *store.stored.allocator();
     run.opens.push(0)?;
     run.candidates.push(0)?;
     store.spots.push(Vec::new(alloc))?;
-    store.kept.push(empty_kept(alloc))?;
+    store.stored.push(empty_stored(alloc))?;
     Ok(())
 }
 
@@ -226,23 +226,23 @@ pub fn widen(store: &mut Store, run: &mut Run) -> Result<(), AllocError>
 pub fn fill(store: &mut Store, run: &mut Run, slot: usize, form: Shared) -> Result<(), AllocError>
     requires sound { IsSound store.old }
     requires inside { All (λ t. t.variable < store.old.variables) form.terms }
-    requires slot { slot < length store.old.kept.items }
-    requires empty { terms_at (shapes_of store.old.kept.items) slot ≡ [] }
-    requires opens { length run.old.opens.items ≡ length store.old.kept.items }
+    requires slot { slot < length store.old.stored.items }
+    requires empty { terms_at (shapes_of store.old.stored.items) slot ≡ [] }
+    requires opens { length run.old.opens.items ≡ length store.old.stored.items }
     ensures sound { OnOk result (IsSound store.new) }
-    ensures unchanged { OnErr result (store.new.kept.items ≡ store.old.kept.items) }
-    ensures filled { OnOk result (HasFilled form slot store.old.kept.items store.new.kept.items run.old.opens.items run.new.opens.items) }
+    ensures unchanged { OnErr result (store.new.stored.items ≡ store.old.stored.items) }
+    ensures filled { OnOk result (HasFilled form slot store.old.stored.items store.new.stored.items run.old.opens.items run.new.opens.items) }
     ensures variables { store.new.variables ≡ store.old.variables }
     ensures trail { run.new.trail ≡ run.old.trail }
     ensures rest { (run.new.candidates ≡ run.old.candidates) × (run.new.assignment ≡ run.old.assignment) × (run.new.work ≡ run.old.work) × (run.new.next ≡ run.old.next) × (run.new.visits ≡ run.old.visits) }
 {
-    let alloc = *store.kept.allocator();
-    let kept = kept_of(alloc, form)?;
+    let alloc = *store.stored.allocator();
+    let kept = stored_of(alloc, form)?;
     let mut spots = Vec::with_capacity(alloc, kept.terms.len())?;
     link(&kept.terms, slot, &mut store.occurrences, &mut spots)?;
     run.opens[slot] = kept.total;
     store.spots[slot] = spots;
-    store.kept[slot] = kept;
+    store.stored[slot] = kept;
     Ok(())
 }
 
@@ -250,16 +250,16 @@ pub fn fill(store: &mut Store, run: &mut Run, slot: usize, form: Shared) -> Resu
 pub fn enter(store: &mut Store, run: &mut Run, form: Normal) -> Result<(), AllocError>
     requires sound { IsSound store.old }
     requires inside { All (λ t. t.variable < store.old.variables) form.terms }
-    requires opens { length run.old.opens.items ≡ length store.old.kept.items }
+    requires opens { length run.old.opens.items ≡ length store.old.stored.items }
     ensures sound { OnOk result (IsSound store.new) }
-    ensures unchanged { OnErr result ((s : ℕ) → slice_index_or (forms_of store.new.kept.items) s None ≡ slice_index_or (forms_of store.old.kept.items) s None) }
-    ensures entered { OnOk result (HasEntered form store.old.kept.items store.new.kept.items run.old.opens.items run.new.opens.items run.old.candidates.items run.new.candidates.items) }
+    ensures unchanged { OnErr result ((s : ℕ) → slice_index_or (forms_of store.new.stored.items) s None ≡ slice_index_or (forms_of store.old.stored.items) s None) }
+    ensures entered { OnOk result (HasEntered form store.old.stored.items store.new.stored.items run.old.opens.items run.new.opens.items run.old.candidates.items run.new.candidates.items) }
     ensures variables { store.new.variables ≡ store.old.variables }
     ensures trail { run.new.trail ≡ run.old.trail }
     ensures rest { (run.new.assignment ≡ run.old.assignment) × (run.new.work ≡ run.old.work) × (run.new.next ≡ run.old.next) × (run.new.visits ≡ run.old.visits) }
 {
-    let form = Shared::new(*store.kept.allocator(), form)?;
-    let slot = store.kept.len();
+    let form = Shared::new(*store.stored.allocator(), form)?;
+    let slot = store.stored.len();
     widen(store, run)?;
     fill(store, run, slot, form)?;
     Ok(())
@@ -268,18 +268,18 @@ pub fn enter(store: &mut Store, run: &mut Run, form: Normal) -> Result<(), Alloc
 /// Removes the last form.
 pub fn leave(store: &mut Store, run: &mut Run)
     requires sound { IsSound store.old }
-    requires some { 0 < length store.old.kept.items }
+    requires some { 0 < length store.old.stored.items }
     ensures sound { IsSound store.new }
-    ensures kept { store.new.kept.items ≡ take (length store.old.kept.items - 1) store.old.kept.items }
+    ensures kept { store.new.stored.items ≡ take (length store.old.stored.items - 1) store.old.stored.items }
     ensures opens { run.new.opens.items ≡ take (length run.old.opens.items - 1) run.old.opens.items }
     ensures candidates { run.new.candidates.items ≡ take (length run.old.candidates.items - 1) run.old.candidates.items }
     ensures variables { store.new.variables ≡ store.old.variables }
     ensures trail { run.new.trail ≡ run.old.trail }
     ensures rest { (run.new.assignment ≡ run.old.assignment) × (run.new.work ≡ run.old.work) × (run.new.next ≡ run.old.next) × (run.new.visits ≡ run.old.visits) }
 {
-    let number = store.kept.len() - 1;
+    let number = store.stored.len() - 1;
     unlink(store, number);
-    store.kept.pop();
+    store.stored.pop();
     store.spots.pop();
     run.opens.pop();
     run.candidates.pop();
@@ -288,18 +288,18 @@ pub fn leave(store: &mut Store, run: &mut Run)
 /// Removes a form. An empty one takes its slot.
 pub fn vacate(store: &mut Store, run: &mut Run, form: usize)
     requires sound { IsSound store.old }
-    requires form { form < length store.old.kept.items }
-    requires opens { length run.old.opens.items ≡ length store.old.kept.items }
+    requires form { form < length store.old.stored.items }
+    requires opens { length run.old.opens.items ≡ length store.old.stored.items }
     ensures sound { IsSound store.new }
-    ensures kept { (k : StoredForm) × IsEmpty k × (store.new.kept.items ≡ slice_set store.old.kept.items form k) }
+    ensures kept { (k : StoredForm) × IsEmpty k × (store.new.stored.items ≡ slice_set store.old.stored.items form k) }
     ensures opens { run.new.opens.items ≡ slice_set run.old.opens.items form 0 }
     ensures variables { store.new.variables ≡ store.old.variables }
     ensures trail { run.new.trail ≡ run.old.trail }
     ensures rest { (run.new.candidates ≡ run.old.candidates) × (run.new.assignment ≡ run.old.assignment) × (run.new.work ≡ run.old.work) × (run.new.next ≡ run.old.next) × (run.new.visits ≡ run.old.visits) }
 {
-    let alloc = *store.kept.allocator();
+    let alloc = *store.stored.allocator();
     unlink(store, form);
-    store.kept[form] = empty_kept(alloc);
+    store.stored[form] = empty_stored(alloc);
     store.spots[form] = Vec::new(alloc);
     run.opens[form] = 0;
 }

@@ -61,7 +61,7 @@ tried c =
     assumed-next c.args.given.now c.given.run.assignment.list.items c.try_put.new.run.assignment.list.items c.given.i d c.given-test.true free c.in_ok-try_put.ensures.adopted (record { within = i.within; covers = i.covers; single = i.single })
 
 pub returns-then-branch-clause-refuted : goal.returns-then-branch-clause-refuted
-returns-then-branch-clause-refuted c = λ found. given-refuted (shapes_of c.args.store.now.kept.items) c.args.given.now c.try_put.new.run.assignment.list.items (tried c).within (c.in_ok-try_put.ensures.conflict c.if-branch.true)
+returns-then-branch-clause-refuted c = λ found. given-refuted (shapes_of c.args.store.now.stored.items) c.args.given.now c.try_put.new.run.assignment.list.items (tried c).within (c.in_ok-try_put.ensures.conflict c.if-branch.true)
 
 pub returns-then-branch-clause-single : goal.returns-then-branch-clause-single
 returns-then-branch-clause-single c = (tried c).single

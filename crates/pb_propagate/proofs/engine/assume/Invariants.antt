@@ -12,8 +12,8 @@ invariant-given l = record {
   next : l.run.next ≡ l.initial.run.next;
   longer : length l.initial.run.work.items ≤ length l.run.work.items;
   single : AreSingle l.run.assignment.list.items;
-  counted : IsCounted (shapes_of l.store.kept.items) l.run.opens.items l.run.assignment.list.items [];
-  tidy : (aside : List ℕ) (busy : ℕ) → IsTidy (beside l.rests aside) (shapes_of l.store.kept.items) l.initial.run.opens.items l.initial.run.candidates.items l.initial.run.assignment.list.items l.initial.run.work.items l.initial.run.trail.items l.initial.run.next busy → IsTidy (beside l.rests aside) (shapes_of l.store.kept.items) l.run.opens.items l.run.candidates.items l.run.assignment.list.items l.run.work.items l.run.trail.items l.run.next busy;
+  counted : IsCounted (shapes_of l.store.stored.items) l.run.opens.items l.run.assignment.list.items [];
+  tidy : (aside : List ℕ) (busy : ℕ) → IsTidy (beside l.rests aside) (shapes_of l.store.stored.items) l.initial.run.opens.items l.initial.run.candidates.items l.initial.run.assignment.list.items l.initial.run.work.items l.initial.run.trail.items l.initial.run.next busy → IsTidy (beside l.rests aside) (shapes_of l.store.stored.items) l.run.opens.items l.run.candidates.items l.run.assignment.list.items l.run.work.items l.run.trail.items l.run.next busy;
   within : IsWithin l.run.assignment.list.items l.given;
   covers : IsWithin (take l.i l.given) l.run.assignment.list.items;
 }

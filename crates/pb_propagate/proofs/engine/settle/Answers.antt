@@ -10,7 +10,7 @@ use Rattle.pb_propagate.proofs.engine.settle.Goals as goal
 
 pub returns-then-branch-clause-refuted : goal.returns-then-branch-clause-refuted
 returns-then-branch-clause-refuted c = λ found.
-    (c.args.given.now, refuted-joined (shapes_of c.args.store.now.kept.items) (clauses_of c.args.clauses.now) c.args.given.now c.args.given.now c.requires.joined (c.in_ok-assume.ensures.refuted c.if-branch.true))
+    (c.args.given.now, refuted-joined (shapes_of c.args.store.now.stored.items) (clauses_of c.args.clauses.now) c.args.given.now c.args.given.now c.requires.joined (c.in_ok-assume.ensures.refuted c.if-branch.true))
 
 pub returns-clause-refuted : goal.returns-clause-refuted
 returns-clause-refuted c = λ found.
@@ -26,11 +26,11 @@ returns-clause-ended c = λ found.
     }
 
 pub propagate-requires-clause-tidy : goal.propagate-requires-clause-tidy
-propagate-requires-clause-tidy c = c.in_ok-assume.ensures.tidy (filter (waits c.args.store.now.kept.items) c.args.waiting.now) (length c.args.store.now.kept.items) c.requires.tidy
+propagate-requires-clause-tidy c = c.in_ok-assume.ensures.tidy (filter (waits c.args.store.now.stored.items) c.args.waiting.now) (length c.args.store.now.stored.items) c.requires.tidy
 
 pub returns-then-branch-clause-undone : goal.returns-then-branch-clause-undone
 returns-then-branch-clause-undone c =
-    let t = c.in_ok-assume.ensures.tidy (filter (waits c.args.store.now.kept.items) c.args.waiting.now) (length c.args.store.now.kept.items) c.requires.tidy in
+    let t = c.in_ok-assume.ensures.tidy (filter (waits c.args.store.now.stored.items) c.args.waiting.now) (length c.args.store.now.stored.items) c.requires.tidy in
     record { clean = t.clean; named = t.marked }
 
 pub returns-then-branch-clause-running : goal.returns-then-branch-clause-running

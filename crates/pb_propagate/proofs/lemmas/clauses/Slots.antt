@@ -10,7 +10,7 @@ use Rattle.std.proofs.lemmas.Option.{slice_get_within}
 use Rattle.pb_normal.specs.declared.entry.Entry.{Entry}
 use Rattle.pb_normal.specs.meaning.Form.{Form, IsNormal, IsRising}
 use Rattle.pb_propagate.specs.engine.Engine.Lists.{Shape}
-use Rattle.pb_propagate.specs.engine.Engine.Forms.{entry_of, IsKeptAs}
+use Rattle.pb_propagate.specs.engine.Engine.Forms.{entry_of, IsStoredAs}
 use Rattle.pb_propagate.specs.engine.Engine.Rest.{IsSlot, AreSlots}
 use Rattle.pb_propagate.specs.engine.Clauses.Links.{list_at}
 use Rattle.pb_propagate.specs.engine.Clauses.Shapes.{code, one_term, clause_shape, slot_shape, joined, AreDifferent, AreJoined, IsLight, IsClause}
@@ -174,7 +174,7 @@ codes-back (e ∷ es) all =
     let first = light-back e (all 0 e (omega arith)) in
     rw (first, rest) refl
 
-pub clause-kept : (f : Form) → IsNormal f → IsClause f → IsKeptAs f (clause_shape (map code f.terms))
+pub clause-kept : (f : Form) → IsNormal f → IsClause f → IsStoredAs f (clause_shape (map code f.terms))
 clause-kept f normal c = record {
   terms = subst (λ es. IsPermutation es f.terms) (sym (codes-back f.terms c.light)) (IsPermutation-refl f.terms);
   degree = sym c.degree;

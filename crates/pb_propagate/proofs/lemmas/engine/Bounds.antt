@@ -10,7 +10,7 @@ use Rattle.pb_propagate.specs.declared.store.stored_form.StoredForm.{StoredForm}
 use Rattle.pb_propagate.specs.engine.Engine.Lists.{Shape}
 use Rattle.pb_propagate.specs.engine.Engine.Forms.{entry_of}
 use Rattle.pb_propagate.specs.engine.Engine.Counts.{AreFound}
-use Rattle.pb_propagate.specs.engine.Engine.Fields.{shapes_of, kept_shape}
+use Rattle.pb_propagate.specs.engine.Engine.Fields.{shapes_of, stored_shape}
 use Rattle.pb_propagate.specs.engine.Engine.Terms.{terms_of}
 use Rattle.pb_propagate.specs.engine.Engine.Live.{terms_in, one_in}
 use Rattle.pb_propagate.specs.engine.Engine.Rest.{IsSlot, AreSlots, eager_one}
@@ -50,13 +50,13 @@ pub joined-terms : (xs : List Shape) (clauses : List (List ℕ)) → AreJoined x
 joined-terms xs clauses j = terms-both xs clauses j.short j.apart
 
 -- a form that may propagate with nothing assigned is live
-live-one : (p : Option Form) (x : StoredForm) → IsSlot p (kept_shape x) → eager_one x ≤ one_in p
+live-one : (p : Option Form) (x : StoredForm) → IsSlot p (stored_shape x) → eager_one x ≤ one_in p
 live-one p x s = elim (cases_Bool x.eager) [
   | inr idle ↦ rw idle (omega arith)
   | inl eager ↦ rw eager (live p s (x.busy eager))
 ]
   where
-    live : (q : Option Form) → IsSlot q (kept_shape x) → 0 < x.degree + length (terms_of x.terms) → 1 ≤ one_in q
+    live : (q : Option Form) → IsSlot q (stored_shape x) → 0 < x.degree + length (terms_of x.terms) → 1 ≤ one_in q
     live None e some = absurd (omega (arith, some, ap length e.0, e.1))
     live (Some f) e some = omega arith
 
@@ -75,9 +75,9 @@ eager-both (o ∷ os) (k ∷ ks) [] bare a =
     omega (arith, live-one o k a.0, rest, sum_by-cons eager_one k ks, sum_by-cons one_in o os)
 eager-both (o ∷ os) (k ∷ ks) (codes ∷ clauses) bare a =
     let rest = eager-both os ks clauses (λ s d less some. bare (suc s) d (omega (arith, less)) some) a.1 in
-    omega (arith, first codes a.0 (λ some. bare 0 (kept_shape k) (omega arith) some), rest, sum_by-cons eager_one k ks, sum_by-cons one_in o os)
+    omega (arith, first codes a.0 (λ some. bare 0 (stored_shape k) (omega arith) some), rest, sum_by-cons eager_one k ks, sum_by-cons one_in o os)
   where
-    first : (ys : List ℕ) → IsSlot o (slot_shape (kept_shape k) ys) → (0 < length ys → (terms_of k.terms ≡ []) × (k.degree ≡ 0)) → eager_one k ≤ one_in o
+    first : (ys : List ℕ) → IsSlot o (slot_shape (stored_shape k) ys) → (0 < length ys → (terms_of k.terms ≡ []) × (k.degree ≡ 0)) → eager_one k ≤ one_in o
     first [] s h = live-one o k s
     first (y ∷ ys) s h = let e = h (omega arith) in omega (arith, bare-none k e.0 e.1)
 

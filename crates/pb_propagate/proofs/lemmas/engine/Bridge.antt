@@ -12,7 +12,7 @@ use Rattle.pb_normal.specs.meaning.Form.{Form, IsRising, total, counted}
 use Rattle.pb_normal.specs.meaning.Rules.{only, on, negation}
 use Rattle.pb_normal.specs.declared.numbered.NumberedLiteral.{NumberedLiteral}
 use Rattle.pb_propagate.specs.declared.term.Term.{Term}
-use Rattle.pb_propagate.specs.engine.Engine.Forms.{entry_of, IsKeptAs}
+use Rattle.pb_propagate.specs.engine.Engine.Forms.{entry_of, IsStoredAs}
 use Rattle.pb_propagate.specs.engine.Engine.Lists.{Shape, same, has, open_part, open_sum, IsSettled, Puts, Derives, begin as start, put as more, Conflicts, opposed as both, broken as low}
 use Rattle.pb_propagate.specs.meaning.Propagation.{opened, MayPropagate, Derivation, begin, put, HasConflict, opposed, broken}
 use Rattle.pb_propagate.proofs.lemmas.engine.Choices.{total-has, rising-positive, only-true, only-self}
@@ -58,7 +58,7 @@ counted-open new old m t =
     counted-true : (xs : List NumberedLiteral) (u : Term) → on xs u.literal.variable (not u.literal.negated) ≡ false → counted (opened xs) (entry_of u) ≡ u.coefficient
     counted-true xs u h = rw h refl
 
-pub total-open : (f : Form) (x : Shape) (new old : List NumberedLiteral) → IsKeptAs f x → Matches new old → total (opened new) f.terms ≡ open_sum old x.terms
+pub total-open : (f : Form) (x : Shape) (new old : List NumberedLiteral) → IsStoredAs f x → Matches new old → total (opened new) f.terms ≡ open_sum old x.terms
 total-open f x new old k m =
     omega (arith, total-sum (opened new) f.terms, sum_by-IsPermutation (counted (opened new)) (map entry_of x.terms) f.terms k.terms, sum-entries (counted (opened new)) (open_part old) (counted-open new old m) x.terms)
 
@@ -99,10 +99,10 @@ rising-only n v b (x ∷ xs) r h =
 
 -- the stored forms are the set's, each perhaps in another order, and some empty ones
 pub record AreKept (F : Form → Type 0) (shapes : List Shape) : Type 0 where
-  pub forth : (x : Shape) → Contains shapes x → ((f : Form) × F f × IsKeptAs f x) ⊎ ((x.terms ≡ []) × (x.degree ≡ 0))
-  pub back : (f : Form) → F f → (x : Shape) × Contains shapes x × IsKeptAs f x
+  pub forth : (x : Shape) → Contains shapes x → ((f : Form) × F f × IsStoredAs f x) ⊎ ((x.terms ≡ []) × (x.degree ≡ 0))
+  pub back : (f : Form) → F f → (x : Shape) × Contains shapes x × IsStoredAs f x
 
-entry-contains : (f : Form) (x : Shape) (t : Term) → IsKeptAs f x → Contains x.terms t → Contains f.terms (entry_of t)
+entry-contains : (f : Form) (x : Shape) (t : Term) → IsStoredAs f x → Contains x.terms t → Contains f.terms (entry_of t)
 entry-contains f x t k (i, inside, is) =
     let mapped : Contains (map entry_of x.terms) (entry_of t) = (i, omega (arith, inside, length-map x.terms entry_of), get_or-map entry_of x.terms i t (entry_of t) inside ∙ ap entry_of is) in
     Contains-permutation (map entry_of x.terms) f.terms (entry_of t) k.terms mapped

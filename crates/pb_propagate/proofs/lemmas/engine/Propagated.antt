@@ -8,7 +8,7 @@ use Rattle.pb_normal.specs.declared.numbered.NumberedLiteral.{NumberedLiteral}
 use Rattle.pb_propagate.specs.declared.store.stored_form.StoredForm.{StoredForm}
 use Rattle.pb_propagate.specs.declared.rests.Rests.{Rests}
 use Rattle.pb_propagate.specs.engine.Engine.Lists.{Shape, Derives, begin, IsSettled, Weighted}
-use Rattle.pb_propagate.specs.engine.Engine.Fields.{shapes_of, kept_shape}
+use Rattle.pb_propagate.specs.engine.Engine.Fields.{shapes_of, stored_shape}
 use Rattle.pb_propagate.specs.engine.Engine.Counts.{Aside, beside, IsCounted, IsTidy, IsPaid, IsAbsent, AreCovered, AreFound, AreSingle, AreFalling, spent}
 use Rattle.pb_propagate.proofs.lemmas.engine.Derivations.{derivation-then}
 use Rattle.pb_propagate.proofs.lemmas.engine.Runs.{Tidy-next, calm-settled, absent-push, absent-new, absent-more, absent-cons}
@@ -157,7 +157,7 @@ Propagating-bound g p waiting forms whole lists n list0 cands0 work0 next0 visit
 
 pub Propagating-settled : (g : Rests) (p : ℕ → Bool) (waiting : List ℕ) (keep : List StoredForm) (whole : List Shape) (lists : List (List Weighted)) (list0 : List NumberedLiteral) (cands0 work0 : List ℕ) (next0 visits0 extra taken : ℕ) (opens cands : List ℕ) (list : List NumberedLiteral) (work trail : List ℕ) (next visits : ℕ) → length work ≤ next → length waiting ≤ taken → IsPropagating g p waiting (shapes_of keep) whole lists (length keep) list0 cands0 work0 next0 visits0 extra taken opens cands list work trail next visits → (f : Shape) → Contains (shapes_of keep) f → IsSettled f list
 Propagating-settled g p waiting keep whole lists list0 cands0 work0 next0 visits0 extra taken opens cands list work trail next visits all none_waits state f (s, inside, is) =
-    let from = source kept_shape keep s f inside is in
+    let from = source stored_shape keep s f inside is in
     let busy : s ≡ length keep → ⊥ = λ e. absurd (omega (arith, e, from.inside)) in
     let empty : filter p (drop taken waiting) ≡ [] = ap (filter p) (drop_all taken waiting none_waits) in
     let off : IsAbsent (filter p (drop taken waiting)) 0 s = rw empty (λ i after less at. absurd (omega (arith, less))) in

@@ -12,9 +12,9 @@ use Rattle.pb_normal.specs.declared.entry.Entry.{Entry}
 use Rattle.pb_propagate.specs.declared.store.stored_form.StoredForm.{StoredForm}
 use Rattle.pb_propagate.specs.declared.rests.Rests.{Rests}
 use Rattle.pb_propagate.specs.engine.Engine.Lists.{Shape, size}
-use Rattle.pb_propagate.specs.engine.Engine.Forms.{IsKeptAs}
+use Rattle.pb_propagate.specs.engine.Engine.Forms.{IsStoredAs}
 use Rattle.pb_propagate.specs.engine.Engine.Counts.{beside, rest_open, IsAbsent, IsCalm, IsUndone, IsTidy}
-use Rattle.pb_propagate.specs.engine.Engine.Fields.{shapes_of, kept_shape, HasEntered}
+use Rattle.pb_propagate.specs.engine.Engine.Fields.{shapes_of, stored_shape, HasEntered}
 use Rattle.pb_propagate.specs.engine.Engine.Rest.{IsSlot, AreSlots, waits, kept_waits, IsEager, AreAtRest}
 use Rattle.pb_propagate.specs.engine.Engine.Live.{Live}
 use Rattle.pb_propagate.specs.meaning.Propagation.{With}
@@ -43,13 +43,13 @@ rest-at keep opens cands r s d inside =
     let k = e.value in
     let opened : get_or opens s 0 ≡ k.total = ap (λ (xs : List ℕ). get_or xs s 0) r.opened ∙ get_or-map (λ (x : StoredForm). x.total) keep s k 0 inside ∙ ap (λ (x : StoredForm). x.total) (e.at k) in
     let passed : get_or cands s 0 ≡ 0 = ap (λ (xs : List ℕ). get_or xs s 0) r.passed ∙ get_or-map (λ (x : StoredForm). 0) keep s k 0 inside in
-    let shape : get_or (shapes_of keep) s d ≡ kept_shape k = get_or-map kept_shape keep s k d inside ∙ ap kept_shape (e.at k) in
+    let shape : get_or (shapes_of keep) s d ≡ stored_shape k = get_or-map stored_shape keep s k d inside ∙ ap stored_shape (e.at k) in
     (opened ∙ k.sum ∙ sym (ap (λ (f : Shape). size f.terms) shape), passed)
 
 pub rest-undone : (rests : Rests) (keep : List StoredForm) (opens cands : List ℕ) → rests.opens.items ≡ [] → rests.starts.items ≡ [] → AreAtRest keep opens cands → IsUndone rests (shapes_of keep) opens cands [] 0
 rest-undone rests keep opens cands bare plain r = record {
   clean = λ s d less gone.
-      let at = rest-at keep opens cands r s d (omega (arith, less, length-map keep kept_shape)) in
+      let at = rest-at keep opens cands r s d (omega (arith, less, length-map keep stored_shape)) in
       let total : rest_open rests s (get_or (shapes_of keep) s d) ≡ size (get_or (shapes_of keep) s d).terms = ap (λ xs. get_or xs s (size (get_or (shapes_of keep) s d).terms)) bare in
       (at.0 ∙ sym total, at.1 ∙ sym (ap (λ xs. get_or xs s 0) plain));
   named = λ i d h. absurd (omega (arith, h));
@@ -65,14 +65,14 @@ undone-rest rests keep opens cands work from bare plain o c all u = record {
     total_at s inside =
         let e = element keep s inside in
         let k = e.value in
-        let shape : get_or (shapes_of keep) s (kept_shape k) ≡ kept_shape k = get_or-map kept_shape keep s k (kept_shape k) inside ∙ ap kept_shape (e.at k) in
-        let clean = u.clean s (kept_shape k) (omega (arith, inside, length-map keep kept_shape)) (λ i after h. absurd (omega (arith, after, h, all))) in
-        clean.0 ∙ ap (λ xs. get_or xs s (size (get_or (shapes_of keep) s (kept_shape k)).terms)) bare ∙ ap (λ (f : Shape). size f.terms) shape ∙ sym k.sum ∙ sym (get_or-map (λ (x : StoredForm). x.total) keep s k 0 inside ∙ ap (λ (x : StoredForm). x.total) (e.at k))
+        let shape : get_or (shapes_of keep) s (stored_shape k) ≡ stored_shape k = get_or-map stored_shape keep s k (stored_shape k) inside ∙ ap stored_shape (e.at k) in
+        let clean = u.clean s (stored_shape k) (omega (arith, inside, length-map keep stored_shape)) (λ i after h. absurd (omega (arith, after, h, all))) in
+        clean.0 ∙ ap (λ xs. get_or xs s (size (get_or (shapes_of keep) s (stored_shape k)).terms)) bare ∙ ap (λ (f : Shape). size f.terms) shape ∙ sym k.sum ∙ sym (get_or-map (λ (x : StoredForm). x.total) keep s k 0 inside ∙ ap (λ (x : StoredForm). x.total) (e.at k))
 
     zero_at : (s : ℕ) → s < length keep → get_or cands s 0 ≡ get_or {A = ℕ} (map (λ (k : StoredForm). 0) keep) s 0
     zero_at s inside =
         let e = element keep s inside in
-        let clean = u.clean s (kept_shape e.value) (omega (arith, inside, length-map keep kept_shape)) (λ i after h. absurd (omega (arith, after, h, all))) in
+        let clean = u.clean s (stored_shape e.value) (omega (arith, inside, length-map keep stored_shape)) (λ i after h. absurd (omega (arith, after, h, all))) in
         clean.1 ∙ ap (λ xs. get_or xs s 0) plain ∙ sym (get_or-map (λ (x : StoredForm). 0) keep s e.value 0 inside)
 
 pub rest-lengths : (keep : List StoredForm) (opens cands : List ℕ) → AreAtRest keep opens cands → (length opens ≡ length keep) × (length cands ≡ length keep)
@@ -81,14 +81,14 @@ rest-lengths keep opens cands r = (ap length r.opened ∙ length-map keep (λ (k
 -- a form that does not wait is calm
 pub calm-but : (keep : List StoredForm) (work : List ℕ) → IsEager keep work → IsCalmBut (shapes_of keep) work
 calm-but keep work e = record {
-  named = λ i d h. let named = e.named i d h in omega (arith, named, length-map keep kept_shape);
+  named = λ i d h. let named = e.named i d h in omega (arith, named, length-map keep stored_shape);
   aside = λ s d less gone.
-      let inside : s < length keep = omega (arith, less, length-map keep kept_shape) in
+      let inside : s < length keep = omega (arith, less, length-map keep stored_shape) in
       let x = element keep s inside in
       let k = x.value in
       let idle : k.eager ≡ false = sym (ap kept_waits x.got) ∙ e.aside s inside gone in
-      let shape : get_or (shapes_of keep) s d ≡ kept_shape k = get_or-map kept_shape keep s k d inside ∙ ap kept_shape (x.at k) in
-      let calm : IsCalm (kept_shape k) (size (kept_shape k).terms) 0 = rw k.sum at k.aside idle in
+      let shape : get_or (shapes_of keep) s d ≡ stored_shape k = get_or-map stored_shape keep s k d inside ∙ ap stored_shape (x.at k) in
+      let calm : IsCalm (stored_shape k) (size (stored_shape k).terms) 0 = rw k.sum at k.aside idle in
       rw shape calm;
 }
 
@@ -182,10 +182,10 @@ slots-more (o ∷ os) (y ∷ ys) p x a k = (a.0, slots-more os ys p x a.1 k)
 
 pub slots-entered : (os : List (Option Form)) (f : Form) (keep keep' : List StoredForm) (clauses : List (List ℕ)) (opens opens' cands cands' : List ℕ) → length clauses ≤ length (shapes_of keep) → HasEntered f keep keep' opens opens' cands cands' → AreSlots os (joined (shapes_of keep) clauses) → AreSlots (os ++ (Some f ∷ [])) (joined (shapes_of keep') clauses)
 slots-entered os f keep keep' clauses opens opens' cands cands' short h a =
-    rw (h.keeps, map-append kept_shape keep (h.kept ∷ []), joined-push (shapes_of keep) clauses (kept_shape h.kept) short) (slots-more os (joined (shapes_of keep) clauses) (Some f) (kept_shape h.kept) a h.is)
+    rw (h.keeps, map-append stored_shape keep (h.kept ∷ []), joined-push (shapes_of keep) clauses (stored_shape h.kept) short) (slots-more os (joined (shapes_of keep) clauses) (Some f) (stored_shape h.kept) a h.is)
 
 pub joined-entered : (f : Form) (keep keep' : List StoredForm) (clauses : List (List ℕ)) (opens opens' cands cands' : List ℕ) → HasEntered f keep keep' opens opens' cands cands' → AreJoined (shapes_of keep) clauses → AreJoined (shapes_of keep') clauses
-joined-entered f keep keep' clauses opens opens' cands cands' h j = rw (h.keeps, map-append kept_shape keep (h.kept ∷ [])) (AreJoined-push (shapes_of keep) clauses (kept_shape h.kept) j)
+joined-entered f keep keep' clauses opens opens' cands cands' h j = rw (h.keeps, map-append stored_shape keep (h.kept ∷ [])) (AreJoined-push (shapes_of keep) clauses (stored_shape h.kept) j)
 
 pub slots-length : (os : List (Option Form)) (xs : List Shape) → AreSlots os xs → length xs ≡ length os
 slots-length [] [] a = refl
@@ -213,12 +213,12 @@ rest-left f keep keep' keep'' opens opens' cands cands' opens1 opens2 cands1 can
     )
 
 -- the stored forms and the live ones
-slots-forth : (os : List (Option Form)) (xs : List Shape) → AreSlots os xs → (x : Shape) → Contains xs x → ((f : Form) × Live os f × IsKeptAs f x) ⊎ ((x.terms ≡ []) × (x.degree ≡ 0))
+slots-forth : (os : List (Option Form)) (xs : List Shape) → AreSlots os xs → (x : Shape) → Contains xs x → ((f : Form) × Live os f × IsStoredAs f x) ⊎ ((x.terms ≡ []) × (x.degree ≡ 0))
 slots-forth [] [] a x (i, inside, is) = absurd (omega (arith, inside))
 slots-forth [] (y ∷ ys) a x c = absurd (let e : true ≡ false = a in cc)
 slots-forth (o ∷ os) [] a x c = absurd (let e : true ≡ false = a in cc)
 slots-forth (None ∷ os) (y ∷ ys) a x (zero, inside, is) = inr (ap (λ (s : Shape). s.terms) (sym is) ∙ a.0.0, ap (λ (s : Shape). s.degree) (sym is) ∙ a.0.1)
-slots-forth (Some f ∷ os) (y ∷ ys) a x (zero, inside, is) = inl (f, (0, omega arith, refl), subst (IsKeptAs f) is a.0)
+slots-forth (Some f ∷ os) (y ∷ ys) a x (zero, inside, is) = inl (f, (0, omega arith, refl), subst (IsStoredAs f) is a.0)
 slots-forth (o ∷ os) (y ∷ ys) a x (suc i, inside, is) =
     elim (slots-forth os ys a.1 x (i, omega (arith, inside), is)) [
       | inr empty ↦ inr empty
@@ -228,12 +228,12 @@ slots-forth (o ∷ os) (y ∷ ys) a x (suc i, inside, is) =
     later : (f : Form) → Live os f → Live (o ∷ os) f
     later f (j, less, at) = (suc j, omega (arith, less), at)
 
-slots-back : (os : List (Option Form)) (xs : List Shape) → AreSlots os xs → (f : Form) → Live os f → (x : Shape) × Contains xs x × IsKeptAs f x
+slots-back : (os : List (Option Form)) (xs : List Shape) → AreSlots os xs → (f : Form) → Live os f → (x : Shape) × Contains xs x × IsStoredAs f x
 slots-back [] xs a f (i, inside, is) = absurd (omega (arith, inside))
 slots-back (o ∷ os) [] a f c = absurd (let e : true ≡ false = a in cc)
 slots-back (o ∷ os) (y ∷ ys) a f (zero, inside, is) = (y, (0, omega arith, refl), mine o is a.0)
   where
-    mine : (p : Option Form) → p ≡ Some f → IsSlot p y → IsKeptAs f y
+    mine : (p : Option Form) → p ≡ Some f → IsSlot p y → IsStoredAs f y
     mine p e s = subst (λ q. IsSlot q y) e s
 slots-back (o ∷ os) (y ∷ ys) a f (suc i, inside, is) =
     let found = slots-back os ys a.1 f (i, omega (arith, inside), is) in
@@ -294,7 +294,7 @@ rest-tidy-all rests keep eager opens cands bare plain rest e =
     let waiting = filter (waits keep) eager in
     let whole : IsEager keep (waiting ++ []) = subst (IsEager keep) (sym (append-nil waiting)) (eager-filter keep eager e) in
     let tidy = rest-tidy rests waiting (shapes_of keep) opens cands [] bare plain (rest-undone rests keep opens cands bare plain rest) (λ i d less. absurd (omega (arith, less))) (calm-but keep (waiting ++ []) whole) in
-    rw (length-map keep kept_shape) at tidy
+    rw (length-map keep stored_shape) at tidy
 
 -- the same, if one of the forms is put to work first
 filter-twice : (p : ℕ → Bool) (x : ℕ) → filter p (filter p (x ∷ [])) ≡ filter p (x ∷ [])
@@ -312,6 +312,6 @@ rest-tidy-first rests keep eager opens cands work trail number bare plain inside
     let split : filter (waits keep) (eager ++ first) ≡ waiting ++ first = filter-append (waits keep) eager first ∙ ap (λ (xs : List ℕ). waiting ++ xs) once in
     let whole : IsEager keep (waiting ++ first) = subst (IsEager keep) split (eager-filter keep (eager ++ first) e) in
     let P : ℕ → Type 0 = λ s. s < length (shapes_of keep) in
-    let named = filter-all P (waits keep) (number ∷ []) (All-cons P number [] (omega (arith, inside, length-map keep kept_shape)) (All-nil P)) in
+    let named = filter-all P (waits keep) (number ∷ []) (All-cons P number [] (omega (arith, inside, length-map keep stored_shape)) (All-nil P)) in
     let tidy = rest-tidy rests waiting (shapes_of keep) opens cands first bare plain (rest-undone rests keep opens cands bare plain rest) named (calm-but keep (waiting ++ first) whole) in
-    rw (is, noted) (rw (length-map keep kept_shape) at tidy)
+    rw (is, noted) (rw (length-map keep stored_shape) at tidy)

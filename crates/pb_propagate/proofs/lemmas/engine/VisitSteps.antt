@@ -9,7 +9,7 @@ use Rattle.pb_propagate.specs.engine.Engine.Lists.{Shape, AreInside, open_sum, s
 use Rattle.pb_propagate.specs.engine.Engine.Counts.{Aside, rest_open, IsCounted, IsTidy, IsPaid, IsAbsent, Adopted, kept, added, IsCalm, IsDone, AreFound, Grown, pushed, spared, spent, weight_in}
 use Rattle.pb_propagate.specs.declared.store.stored_form.StoredForm.{StoredForm}
 use Rattle.pb_propagate.specs.declared.rests.Rests.{Rests}
-use Rattle.pb_propagate.specs.engine.Engine.Fields.{shapes_of, kept_shape}
+use Rattle.pb_propagate.specs.engine.Engine.Fields.{shapes_of, stored_shape}
 use Rattle.pb_propagate.specs.engine.Engine.Terms.{terms_of}
 use Rattle.pb_propagate.specs.engine.Engine.Links.{coefficient_at}
 use Rattle.pb_propagate.proofs.lemmas.engine.Runs.{Tidy-pass, Tidy-settle, done-new}
@@ -113,8 +113,8 @@ Visiting-conflict forms opens list form f inside is c low =
     broken (get_or forms form f) (Contains-get_or forms form f inside) (omega (arith, now, low_is))
 
 -- in terms of what the program reads
-pub shape-at : (keep : List StoredForm) (form : ℕ) (k : StoredForm) → form < length keep → k ≡ get_or keep form k → (d : Shape) → get_or (shapes_of keep) form d ≡ kept_shape k
-shape-at keep form k inside is d = get_or-map kept_shape keep form k d inside ∙ ap kept_shape (sym is)
+pub shape-at : (keep : List StoredForm) (form : ℕ) (k : StoredForm) → form < length keep → k ≡ get_or keep form k → (d : Shape) → get_or (shapes_of keep) form d ≡ stored_shape k
+shape-at keep form k inside is d = get_or-map stored_shape keep form k d inside ∙ ap stored_shape (sym is)
 
 pub Visiting-start : (aside : Aside) (forms : List Shape) (lists : List (List Weighted)) (form : ℕ) (opens cands : List ℕ) (list : List NumberedLiteral) (work trail : List ℕ) (next visits : ℕ) → IsTidy aside forms opens cands list work trail next form → (IsAbsent work 0 form → ⊥) → length opens ≡ length forms → length cands ≡ length forms → next ≤ length work → IsVisiting aside forms lists form list cands work visits opens cands list work trail next visits
 Visiting-start aside forms lists form opens cands list work trail next visits tidy there o c within = record {
@@ -144,7 +144,7 @@ pub Visiting-next_by : (aside : Aside) (keep : List StoredForm) (lists : List (L
     IsVisiting aside (shapes_of keep) lists form list0 cands0 work0 visits0 opens cands list work trail next visits →
     IsVisiting aside (shapes_of keep) lists form list0 cands0 work0 visits0 opens' cands' list' work' trail' next' visits'
 Visiting-next_by aside keep lists form list0 cands0 work0 visits0 opens cands list work trail next visits seen opens' mid cands' list' work' trail' next' visits' k items o c t inside is open_is cand_is items_is here item counted_visit rising low mid_is next_is adopted counted tidy paid gone longer sizes passed p =
-    let forms_size = length-map keep kept_shape in
+    let forms_size = length-map keep stored_shape in
     let inside_f : form < length (shapes_of keep) = omega (arith, inside, forms_size) in
     let room : form < length opens = omega (arith, inside_f, p.open_sizes) in
     let roomc : form < length cands = omega (arith, inside_f, p.candidate_sizes) in
@@ -156,9 +156,9 @@ Visiting-next_by aside keep lists form list0 cands0 work0 visits0 opens cands li
     let tidy_c : (busy : ℕ) → IsTidy aside (shapes_of keep) opens cands list work trail next busy → IsTidy aside (shapes_of keep) opens' cands list' work' trail' next busy = λ busy d. rw (← mid_is, ← next_is) (tidy busy d) in
     let paid_c : IsPaid lists list list' cands cands work work' seen visits' 0 = subst (λ (x : List ℕ). IsPaid lists list list' cands x work work' seen visits' 0) mid_is paid in
     let passed_c : cands' ≡ set cands form (c + 1) = passed ∙ ap (λ (x : List ℕ). set x form (c + 1)) mid_is in
-    rw next_is (Visiting-next aside (shapes_of keep) lists form list0 cands0 work0 visits0 opens cands list work trail next visits seen opens' cands' list' work' trail' visits' (kept_shape k) c t inside_f (shape-at keep form k inside is) cand_0 here_k item_k counted_visit rising low_0 adopted counted tidy_c paid_c gone longer sizes passed_c p)
+    rw next_is (Visiting-next aside (shapes_of keep) lists form list0 cands0 work0 visits0 opens cands list work trail next visits seen opens' cands' list' work' trail' visits' (stored_shape k) c t inside_f (shape-at keep form k inside is) cand_0 here_k item_k counted_visit rising low_0 adopted counted tidy_c paid_c gone longer sizes passed_c p)
 
-pub calm-by : (k : StoredForm) (opens cands : List ℕ) (form o c : ℕ) → form < length opens → form < length cands → o ≡ get_or opens form o → c ≡ get_or cands form c → k.degree ≤ o → ((d : Term) → c < length (terms_of k.terms) → k.degree + (get_or (terms_of k.terms) c d).coefficient ≤ o) → IsCalm (kept_shape k) (get_or opens form 0) (get_or cands form 0)
+pub calm-by : (k : StoredForm) (opens cands : List ℕ) (form o c : ℕ) → form < length opens → form < length cands → o ≡ get_or opens form o → c ≡ get_or cands form c → k.degree ≤ o → ((d : Term) → c < length (terms_of k.terms) → k.degree + (get_or (terms_of k.terms) c d).coefficient ≤ o) → IsCalm (stored_shape k) (get_or opens form 0) (get_or cands form 0)
 calm-by k opens cands form o c room roomc open_is cand_is met waiting =
     let open_0 = get_or_read opens form o room open_is 0 in
     let cand_0 = get_or_read cands form c roomc cand_is 0 in
@@ -172,8 +172,8 @@ waiting-by k items o c t items_is item low d here =
 
 pub term-inside : (keep : List StoredForm) (n form : ℕ) (k : StoredForm) (items : List Term) (c : ℕ) (t : Term) → form < length keep → k ≡ get_or keep form k → items ≡ (terms_of k.terms) → c < length items → t ≡ get_or items c t → All (λ f. AreInside n f.terms) (shapes_of keep) → t.literal.variable < n
 term-inside keep n form k items c t inside is items_is here item all =
-    let of_form = all form (kept_shape k) (omega (arith, inside, length-map keep kept_shape)) in
-    let of_kept : AreInside n (kept_shape k).terms = rw (shape-at keep form k inside is (kept_shape k)) at of_form in
+    let of_form = all form (stored_shape k) (omega (arith, inside, length-map keep stored_shape)) in
+    let of_kept : AreInside n (stored_shape k).terms = rw (shape-at keep form k inside is (stored_shape k)) at of_form in
     let item_k : t ≡ get_or (terms_of k.terms) c t = rw (← items_is) item in
     let of_term = of_kept c t (omega (arith, here, ap length items_is)) in
     rw (← item_k) at of_term

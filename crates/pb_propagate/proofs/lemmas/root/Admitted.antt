@@ -14,7 +14,7 @@ use Rattle.pb_propagate.specs.declared.clauses.Clauses.{Clauses}
 use Rattle.pb_propagate.specs.declared.clauses.lists.Watch.{Watch}
 use Rattle.pb_propagate.specs.engine.Engine.Lists.{Shape, open_sum, size, has}
 use Rattle.pb_propagate.specs.engine.Engine.Counts.{Grown, pushed, spared, IsAbsent, IsCalm, IsCounted, IsTidy, beside, weight_in}
-use Rattle.pb_propagate.specs.engine.Engine.Fields.{shapes_of, kept_shape}
+use Rattle.pb_propagate.specs.engine.Engine.Fields.{shapes_of, stored_shape}
 use Rattle.pb_propagate.specs.engine.Engine.Root.{IsRooted, IsServed, HasGained, HasReached}
 use Rattle.pb_propagate.specs.engine.Clauses.Truths.{flip, true_at, false_at}
 use Rattle.pb_propagate.specs.engine.Clauses.Links.{list_at, watch_at}
@@ -32,8 +32,8 @@ same-shape xs ys s d less same =
     let e = element ys s less in
     let k = e.value in
     let at : slice_get xs s ≡ Some k = same ∙ e.got in
-    let mine : get_or (shapes_of xs) s d ≡ kept_shape k = get_or-map kept_shape xs s k d (slice_get_within xs s k at) ∙ ap kept_shape (get_or_from_slice_get xs s k k at) in
-    let theirs : get_or (shapes_of ys) s d ≡ kept_shape k = get_or-map kept_shape ys s k d less ∙ ap kept_shape (e.at k) in
+    let mine : get_or (shapes_of xs) s d ≡ stored_shape k = get_or-map stored_shape xs s k d (slice_get_within xs s k at) ∙ ap stored_shape (get_or_from_slice_get xs s k k at) in
+    let theirs : get_or (shapes_of ys) s d ≡ stored_shape k = get_or-map stored_shape ys s k d less ∙ ap stored_shape (e.at k) in
     mine ∙ sym theirs
 
 -- a slot without terms has no clause and no terms
@@ -43,7 +43,7 @@ bare-parts x (c ∷ codes) h = absurd (omega (arith, ap length h, length-map (c 
 
 pub bare-slot : (keep : List StoredForm) (clauses : List (List ℕ)) (s : ℕ) (d : Shape) → s < length keep → ((x : Shape) → slice_get (joined (shapes_of keep) clauses) s ≡ Some x → x.terms ≡ []) → (get_or (shapes_of keep) s d).terms ≡ []
 bare-slot keep clauses s d less bare =
-    let inside : s < length (shapes_of keep) = omega (arith, less, length-map keep kept_shape) in
+    let inside : s < length (shapes_of keep) = omega (arith, less, length-map keep stored_shape) in
     let room : s < length (joined (shapes_of keep) clauses) = omega (arith, inside, joined-length (shapes_of keep) clauses) in
     let x = get_or (joined (shapes_of keep) clauses) s d in
     let none : x.terms ≡ [] = bare x (slice_get-get_or (joined (shapes_of keep) clauses) s d room) in
@@ -51,15 +51,15 @@ bare-slot keep clauses s d less bare =
 
 -- the lists after an entry was added for a new slot
 pub record Arrived (before store : Store) (old clauses : Clauses) (run run' : Run) (slot : ℕ) : Type 0 where
-  pub sizes : length run'.opens.items ≡ length store.kept.items
-  pub csizes : length run'.candidates.items ≡ length store.kept.items
-  pub older : (s : ℕ) → s < length store.kept.items → (s ≡ slot → ⊥) → s < length before.kept.items
-  pub opens : (s : ℕ) → s < length before.kept.items → (s ≡ slot → ⊥) → get_or run'.opens.items s 0 ≡ get_or run.opens.items s 0
-  pub cands : (s : ℕ) → s < length before.kept.items → (s ≡ slot → ⊥) → get_or run'.candidates.items s 0 ≡ get_or run.candidates.items s 0
+  pub sizes : length run'.opens.items ≡ length store.stored.items
+  pub csizes : length run'.candidates.items ≡ length store.stored.items
+  pub older : (s : ℕ) → s < length store.stored.items → (s ≡ slot → ⊥) → s < length before.stored.items
+  pub opens : (s : ℕ) → s < length before.stored.items → (s ≡ slot → ⊥) → get_or run'.opens.items s 0 ≡ get_or run.opens.items s 0
+  pub cands : (s : ℕ) → s < length before.stored.items → (s ≡ slot → ⊥) → get_or run'.candidates.items s 0 ≡ get_or run.candidates.items s 0
   pub open_none : get_or run'.opens.items slot 0 ≡ 0
   pub cand_none : get_or run'.candidates.items slot 0 ≡ 0
 
-pub arrived : (before store : Store) (old clauses : Clauses) (run run' : Run) (rests rests' : Rests) (slot : ℕ) → slot < length store.kept.items → IsRooted before old run rests (length before.kept.items) → HasGained before old store clauses slot → HasReached run run' rests rests' slot → Arrived before store old clauses run run' slot
+pub arrived : (before store : Store) (old clauses : Clauses) (run run' : Run) (rests rests' : Rests) (slot : ℕ) → slot < length store.stored.items → IsRooted before old run rests (length before.stored.items) → HasGained before old store clauses slot → HasReached run run' rests rests' slot → Arrived before store old clauses run run' slot
 arrived before store old clauses run run' rests rests' slot inside r g h = elim h.lists [
   | inl stay ↦ by_longer stay g.longer
   | inr grown ↦ by_new grown g.longer
@@ -68,13 +68,13 @@ arrived before store old clauses run run' rests rests' slot inside r g h = elim 
     none : Shape
     none = record { terms = []; degree = 0 }
 
-    by_longer : (slot < length run.opens.items) × (run'.opens.items ≡ run.opens.items) × (run'.candidates.items ≡ run.candidates.items) × (rests'.opens.items ≡ rests.opens.items) × (rests'.starts.items ≡ rests.starts.items) → (length store.kept.items ≡ length before.kept.items) ⊎ ((length store.kept.items ≡ length before.kept.items + 1) × (slot ≡ length before.kept.items)) → Arrived before store old clauses run run' slot
+    by_longer : (slot < length run.opens.items) × (run'.opens.items ≡ run.opens.items) × (run'.candidates.items ≡ run.candidates.items) × (rests'.opens.items ≡ rests.opens.items) × (rests'.starts.items ≡ rests.starts.items) → (length store.stored.items ≡ length before.stored.items) ⊎ ((length store.stored.items ≡ length before.stored.items + 1) × (slot ≡ length before.stored.items)) → Arrived before store old clauses run run' slot
     by_longer stay (inr new) = absurd (omega (arith, stay.0, new.1, r.open_sizes))
     by_longer stay (inl same) =
-        let less : slot < length before.kept.items = omega (arith, inside, same) in
-        let terms = bare-slot before.kept.items (clauses_of old) slot none less g.bare in
-        let zero_open : open_sum run.assignment.list.items (get_or (shapes_of before.kept.items) slot none).terms ≡ 0 = ap (open_sum run.assignment.list.items) terms in
-        let few = r.tidy.bounded slot none (omega (arith, less, length-map before.kept.items kept_shape)) in
+        let less : slot < length before.stored.items = omega (arith, inside, same) in
+        let terms = bare-slot before.stored.items (clauses_of old) slot none less g.bare in
+        let zero_open : open_sum run.assignment.list.items (get_or (shapes_of before.stored.items) slot none).terms ≡ 0 = ap (open_sum run.assignment.list.items) terms in
+        let few = r.tidy.bounded slot none (omega (arith, less, length-map before.stored.items stored_shape)) in
         record {
           sizes = ap length stay.1 ∙ r.open_sizes ∙ sym same;
           csizes = ap length stay.2 ∙ r.start_sizes ∙ sym same;
@@ -85,24 +85,24 @@ arrived before store old clauses run run' rests rests' slot inside r g h = elim 
           cand_none = omega (arith, ap (λ xs. get_or xs slot 0) stay.2, few, ap length terms);
         }
 
-    by_new : (length run.opens.items ≤ slot) × (run'.opens.items ≡ run.opens.items ++ (0 ∷ [])) × (run'.candidates.items ≡ run.candidates.items ++ (0 ∷ [])) × (rests'.opens.items ≡ rests.opens.items ++ (0 ∷ [])) × (rests'.starts.items ≡ rests.starts.items ++ (0 ∷ [])) → (length store.kept.items ≡ length before.kept.items) ⊎ ((length store.kept.items ≡ length before.kept.items + 1) × (slot ≡ length before.kept.items)) → Arrived before store old clauses run run' slot
+    by_new : (length run.opens.items ≤ slot) × (run'.opens.items ≡ run.opens.items ++ (0 ∷ [])) × (run'.candidates.items ≡ run.candidates.items ++ (0 ∷ [])) × (rests'.opens.items ≡ rests.opens.items ++ (0 ∷ [])) × (rests'.starts.items ≡ rests.starts.items ++ (0 ∷ [])) → (length store.stored.items ≡ length before.stored.items) ⊎ ((length store.stored.items ≡ length before.stored.items + 1) × (slot ≡ length before.stored.items)) → Arrived before store old clauses run run' slot
     by_new grown (inl same) = absurd (omega (arith, grown.0, inside, same, r.open_sizes))
     by_new grown (inr new) = record {
       sizes = omega (arith, ap length grown.1, length-append run.opens.items (0 ∷ []), r.open_sizes, new.0);
       csizes = omega (arith, ap length grown.2, length-append run.candidates.items (0 ∷ []), r.start_sizes, new.0);
-      older = λ s h n. older_at s h n (cases_lt s (length before.kept.items));
+      older = λ s h n. older_at s h n (cases_lt s (length before.stored.items));
       opens = λ s h n. ap (λ xs. get_or xs s 0) grown.1 ∙ get_or_append_left run.opens.items (0 ∷ []) 0 s (omega (arith, h, r.open_sizes));
       cands = λ s h n. ap (λ xs. get_or xs s 0) grown.2 ∙ get_or_append_left run.candidates.items (0 ∷ []) 0 s (omega (arith, h, r.start_sizes));
       open_none = ap (λ xs. get_or xs slot 0) grown.1 ∙ get_or_push run.opens.items 0 0 slot (omega (arith, new.1, r.open_sizes));
       cand_none = ap (λ xs. get_or xs slot 0) grown.2 ∙ get_or_push run.candidates.items 0 0 slot (omega (arith, new.1, r.start_sizes));
     }
       where
-        older_at : (s : ℕ) → s < length store.kept.items → (s ≡ slot → ⊥) → (s < length before.kept.items) ⊎ (length before.kept.items ≤ s) → s < length before.kept.items
+        older_at : (s : ℕ) → s < length store.stored.items → (s ≡ slot → ⊥) → (s < length before.stored.items) ⊎ (length before.stored.items ≤ s) → s < length before.stored.items
         older_at s h n (inl less) = less
         older_at s h n (inr past) = absurd (n (omega (arith, h, past, new.0, new.1)))
 
 -- the root for all forms but the new one
-pub gained-rooted : (before store : Store) (old clauses : Clauses) (run run' : Run) (rests rests' : Rests) (slot : ℕ) → slot < length store.kept.items → IsRooted before old run rests (length before.kept.items) → HasGained before old store clauses slot → HasReached run run' rests rests' slot →
+pub gained-rooted : (before store : Store) (old clauses : Clauses) (run run' : Run) (rests rests' : Rests) (slot : ℕ) → slot < length store.stored.items → IsRooted before old run rests (length before.stored.items) → HasGained before old store clauses slot → HasReached run run' rests rests' slot →
     AreWalked run.assignment.values.items clauses.watches.items (walked_codes (length run.assignment.list.items) run.assignment.list.items) → IsRooted store clauses run' rests' slot
 gained-rooted before store old clauses run run' rests rests' slot inside r g h walked = record {
   values = ap (λ (x : Assignment). length x.values.items) h.assignment ∙ r.values ∙ sym g.variables;
@@ -115,24 +115,24 @@ gained-rooted before store old clauses run run' rests rests' slot inside r g h w
       rw h.assignment (a.opens s was apart ∙ r.counted s d was (λ e. absurd (omega (arith, e, was))) ∙ ap (λ (f : Shape). open_sum run.assignment.list.items f.terms) (sym (shape s d was apart)));
   tidy = record {
     calm = λ s d less apart off gone.
-        let was = a.older s (omega (arith, less, length-map store.kept.items kept_shape)) apart in
-        let calm = r.tidy.calm s d (omega (arith, was, length-map before.kept.items kept_shape)) (λ e. absurd (omega (arith, e, was))) off gone in
+        let was = a.older s (omega (arith, less, length-map store.stored.items stored_shape)) apart in
+        let calm = r.tidy.calm s d (omega (arith, was, length-map before.stored.items stored_shape)) (λ e. absurd (omega (arith, e, was))) off gone in
         rw (shape s d was apart, a.opens s was apart, a.cands s was apart) calm;
     passed = λ s d less k f early within. elim (cases_eq s slot) [
       | inl one ↦ absurd (omega (arith, early, ap (λ j. get_or run'.candidates.items j 0) one, a.cand_none))
       | inr apart ↦
-          let was = a.older s (omega (arith, less, length-map store.kept.items kept_shape)) apart in
-          let done = r.tidy.passed s d (omega (arith, was, length-map before.kept.items kept_shape)) k f (omega (arith, early, a.cands s was apart)) (omega (arith, within, ap (λ (x : Shape). length x.terms) (shape s d was apart))) in
+          let was = a.older s (omega (arith, less, length-map store.stored.items stored_shape)) apart in
+          let done = r.tidy.passed s d (omega (arith, was, length-map before.stored.items stored_shape)) k f (omega (arith, early, a.cands s was apart)) (omega (arith, within, ap (λ (x : Shape). length x.terms) (shape s d was apart))) in
           rw (shape s d was apart, h.assignment) done
     ];
     bounded = λ s d less. elim (cases_eq s slot) [
       | inl one ↦ omega (arith, ap (λ j. get_or run'.candidates.items j 0) one, a.cand_none)
       | inr apart ↦
-          let was = a.older s (omega (arith, less, length-map store.kept.items kept_shape)) apart in
-          omega (arith, r.tidy.bounded s d (omega (arith, was, length-map before.kept.items kept_shape)), a.cands s was apart, ap (λ (x : Shape). length x.terms) (shape s d was apart))
+          let was = a.older s (omega (arith, less, length-map store.stored.items stored_shape)) apart in
+          omega (arith, r.tidy.bounded s d (omega (arith, was, length-map before.stored.items stored_shape)), a.cands s was apart, ap (λ (x : Shape). length x.terms) (shape s d was apart))
     ];
     clean = λ s d less gone. (
-      get_or_default run'.opens.items s 0 (size (get_or (shapes_of store.kept.items) s d).terms) (omega (arith, less, length-map store.kept.items kept_shape, a.sizes)) ∙ ap (λ xs. get_or xs s (size (get_or (shapes_of store.kept.items) s d).terms)) opens_same,
+      get_or_default run'.opens.items s 0 (size (get_or (shapes_of store.stored.items) s d).terms) (omega (arith, less, length-map store.stored.items stored_shape, a.sizes)) ∙ ap (λ xs. get_or xs s (size (get_or (shapes_of store.stored.items) s d).terms)) opens_same,
       ap (λ xs. get_or xs s 0) starts_same,
     );
     named = λ i d less. absurd (omega (arith, less));
@@ -161,10 +161,10 @@ gained-rooted before store old clauses run run' rests rests' slot inside r g h w
       | inr grown ↦ grown.2 ∙ ap (λ (xs : List ℕ). xs ++ (0 ∷ [])) r.starts ∙ sym grown.4
     ]
 
-    shape : (s : ℕ) (d : Shape) → s < length before.kept.items → (s ≡ slot → ⊥) → get_or (shapes_of store.kept.items) s d ≡ get_or (shapes_of before.kept.items) s d
-    shape s d less apart = same-shape store.kept.items before.kept.items s d less (g.kept s apart)
+    shape : (s : ℕ) (d : Shape) → s < length before.stored.items → (s ≡ slot → ⊥) → get_or (shapes_of store.stored.items) s d ≡ get_or (shapes_of before.stored.items) s d
+    shape s d less apart = same-shape store.stored.items before.stored.items s d less (g.kept s apart)
 
-    longer : length before.kept.items ≤ length store.kept.items
+    longer : length before.stored.items ≤ length store.stored.items
     longer = elim g.longer [
       | inl same ↦ omega (arith, same)
       | inr new ↦ omega (arith, new.0)
@@ -172,17 +172,17 @@ gained-rooted before store old clauses run run' rests rests' slot inside r g h w
 
     source : (x : Shape) → Contains (all_of before old) x → (Contains (all_of store clauses) x) ⊎ ((l : NumberedLiteral) (c : ℕ) → Contains x.terms (record { literal = l; coefficient = c }) → has run.assignment.list.items l ≡ false)
     source x (i, less, is) =
-        let room : i < length before.kept.items = omega (arith, less, joined-length (shapes_of before.kept.items) (clauses_of old), length-map before.kept.items kept_shape) in
+        let room : i < length before.stored.items = omega (arith, less, joined-length (shapes_of before.stored.items) (clauses_of old), length-map before.stored.items stored_shape) in
         elim (cases_eq i slot) [
           | inl one ↦
               let at : slice_get (all_of before old) i ≡ Some x = slice_get-get_or (all_of before old) i x less ∙ ap (λ y. Some y) is in
               let none = g.bare x (ap (slice_get (all_of before old)) (sym one) ∙ at) in
               inr (λ l c has. absurd (omega (arith, has.1, ap length none)))
           | inr apart ↦
-              let mine : get_or (all_of store clauses) i x ≡ slot_shape (get_or (shapes_of store.kept.items) i x) (list_at (clauses_of clauses) i) = joined-at (shapes_of store.kept.items) (clauses_of clauses) i x (omega (arith, room, longer, length-map store.kept.items kept_shape)) in
-              let theirs : get_or (all_of before old) i x ≡ slot_shape (get_or (shapes_of before.kept.items) i x) (list_at (clauses_of old) i) = joined-at (shapes_of before.kept.items) (clauses_of old) i x (omega (arith, room, length-map before.kept.items kept_shape)) in
-              let same : slot_shape (get_or (shapes_of store.kept.items) i x) (list_at (clauses_of clauses) i) ≡ slot_shape (get_or (shapes_of before.kept.items) i x) (list_at (clauses_of old) i) = ap (λ f. slot_shape f (list_at (clauses_of clauses) i)) (shape i x room apart) ∙ ap (slot_shape (get_or (shapes_of before.kept.items) i x)) (g.filled i apart) in
-              inl (i, omega (arith, room, longer, joined-length (shapes_of store.kept.items) (clauses_of clauses), length-map store.kept.items kept_shape), mine ∙ same ∙ sym theirs ∙ is)
+              let mine : get_or (all_of store clauses) i x ≡ slot_shape (get_or (shapes_of store.stored.items) i x) (list_at (clauses_of clauses) i) = joined-at (shapes_of store.stored.items) (clauses_of clauses) i x (omega (arith, room, longer, length-map store.stored.items stored_shape)) in
+              let theirs : get_or (all_of before old) i x ≡ slot_shape (get_or (shapes_of before.stored.items) i x) (list_at (clauses_of old) i) = joined-at (shapes_of before.stored.items) (clauses_of old) i x (omega (arith, room, length-map before.stored.items stored_shape)) in
+              let same : slot_shape (get_or (shapes_of store.stored.items) i x) (list_at (clauses_of clauses) i) ≡ slot_shape (get_or (shapes_of before.stored.items) i x) (list_at (clauses_of old) i) = ap (λ f. slot_shape f (list_at (clauses_of clauses) i)) (shape i x room apart) ∙ ap (slot_shape (get_or (shapes_of before.stored.items) i x)) (g.filled i apart) in
+              inl (i, omega (arith, room, longer, joined-length (shapes_of store.stored.items) (clauses_of clauses), length-map store.stored.items stored_shape), mine ∙ same ∙ sym theirs ∙ is)
         ]
 
 -- the watches of a slot are served, as those of the others are
@@ -228,7 +228,7 @@ served-watch values ws codes slot e failed served here h = by served (cases_eq e
     by (inr (inr free)) (inr n) = absurd (both_ways _ (ap (λ t. false_at values (watch_at ws t).literal) (second n) ∙ free.1) low)
 
 -- a clause adds nothing to the occurrence lists
-pub clause-rooted : (store : Store) (clauses : Clauses) (run : Run) (rests : Rests) (slot : ℕ) → slot < length store.kept.items → ((d : Shape) → ((get_or (shapes_of store.kept.items) slot d).terms ≡ []) × ((get_or (shapes_of store.kept.items) slot d).degree ≡ 0)) → get_or run.opens.items slot 0 ≡ 0 → IsRooted store clauses run rests slot → IsRooted store clauses run rests (length store.kept.items)
+pub clause-rooted : (store : Store) (clauses : Clauses) (run : Run) (rests : Rests) (slot : ℕ) → slot < length store.stored.items → ((d : Shape) → ((get_or (shapes_of store.stored.items) slot d).terms ≡ []) × ((get_or (shapes_of store.stored.items) slot d).degree ≡ 0)) → get_or run.opens.items slot 0 ≡ 0 → IsRooted store clauses run rests slot → IsRooted store clauses run rests (length store.stored.items)
 clause-rooted store clauses run rests slot inside bare none r = record {
   values = r.values;
   opens = r.opens;
@@ -236,14 +236,14 @@ clause-rooted store clauses run rests slot inside bare none r = record {
   open_sizes = r.open_sizes;
   start_sizes = r.start_sizes;
   counted = λ s d less apart. elim (cases_eq s slot) [
-    | inl one ↦ ap (λ j. get_or run.opens.items j 0) one ∙ none ∙ sym (ap (λ j. open_sum run.assignment.list.items (get_or (shapes_of store.kept.items) j d).terms) one ∙ ap (open_sum run.assignment.list.items) (bare d).0)
+    | inl one ↦ ap (λ j. get_or run.opens.items j 0) one ∙ none ∙ sym (ap (λ j. open_sum run.assignment.list.items (get_or (shapes_of store.stored.items) j d).terms) one ∙ ap (open_sum run.assignment.list.items) (bare d).0)
     | inr other ↦ r.counted s d less other
   ];
   tidy = record {
     calm = λ s d less apart off gone. elim (cases_eq s slot) [
       | inl one ↦
-          let terms = ap (λ j. (get_or (shapes_of store.kept.items) j d).terms) one ∙ (bare d).0 in
-          let degree = ap (λ j. (get_or (shapes_of store.kept.items) j d).degree) one ∙ (bare d).1 in
+          let terms = ap (λ j. (get_or (shapes_of store.stored.items) j d).terms) one ∙ (bare d).0 in
+          let degree = ap (λ j. (get_or (shapes_of store.stored.items) j d).degree) one ∙ (bare d).1 in
           record { met = omega (arith, degree); waiting = λ e h. absurd (omega (arith, h, ap length terms)) }
       | inr other ↦ r.tidy.calm s d less other off gone
     ];

@@ -9,7 +9,7 @@ use Rattle.pb_propagate.specs.declared.store.Store.{Store}
 use Rattle.pb_propagate.specs.declared.clauses.Clauses.{Clauses}
 use Rattle.pb_propagate.specs.declared.clauses.lists.Watch.{Watch}
 use Rattle.pb_propagate.specs.engine.Engine.Lists.{Shape}
-use Rattle.pb_propagate.specs.engine.Engine.Fields.{shapes_of, kept_shape}
+use Rattle.pb_propagate.specs.engine.Engine.Fields.{shapes_of, stored_shape}
 use Rattle.pb_propagate.specs.engine.Engine.Root.{HasWidened, HasGained}
 use Rattle.pb_propagate.specs.engine.Clauses.Links.{list_at, watch_at, idle}
 use Rattle.pb_propagate.specs.engine.Clauses.Shapes.{slot_shape, joined, clauses_of, all_of}
@@ -46,13 +46,13 @@ vacant-bare xs clauses s x v at =
     ap (λ (f : Shape). f.terms) (sym is ∙ shape) ∙ v.terms x
 
 -- a form in a vacant slot
-pub gained-filled : (before store : Store) (old clauses : Clauses) (slot : ℕ) (k : StoredForm) → store.variables ≡ before.variables → store.kept.items ≡ set before.kept.items slot k → ((s : ℕ) → (s ≡ slot → ⊥) → list_at (clauses_of clauses) s ≡ list_at (clauses_of old) s) → ((e : ℕ) → (e / 2 ≡ slot → ⊥) → watch_at clauses.watches.items e ≡ watch_at old.watches.items e) → IsVacant (shapes_of before.kept.items) (clauses_of old) slot → HasGained before old store clauses slot
+pub gained-filled : (before store : Store) (old clauses : Clauses) (slot : ℕ) (k : StoredForm) → store.variables ≡ before.variables → store.stored.items ≡ set before.stored.items slot k → ((s : ℕ) → (s ≡ slot → ⊥) → list_at (clauses_of clauses) s ≡ list_at (clauses_of old) s) → ((e : ℕ) → (e / 2 ≡ slot → ⊥) → watch_at clauses.watches.items e ≡ watch_at old.watches.items e) → IsVacant (shapes_of before.stored.items) (clauses_of old) slot → HasGained before old store clauses slot
 gained-filled before store old clauses slot k variables keeps filled watched v = record {
   variables = variables;
-  longer = inl (ap length keeps ∙ length-set before.kept.items slot k);
-  kept = λ s apart. ap (λ xs. slice_get xs s) keeps ∙ get-set_other before.kept.items slot s k apart;
+  longer = inl (ap length keeps ∙ length-set before.stored.items slot k);
+  kept = λ s apart. ap (λ xs. slice_get xs s) keeps ∙ get-set_other before.stored.items slot s k apart;
   filled = filled;
-  bare = λ x at. vacant-bare (shapes_of before.kept.items) (clauses_of old) slot x v at;
+  bare = λ x at. vacant-bare (shapes_of before.stored.items) (clauses_of old) slot x v at;
   watched = watched;
 }
 
@@ -64,18 +64,18 @@ gained-both before mid store old between clauses slot variables w g = elim w.kep
     longer = rw same.0 at g.longer;
     kept = λ s apart. g.kept s apart ∙ ap (λ xs. slice_get xs s) same.0;
     filled = λ s apart. g.filled s apart ∙ ap (λ cs. list_at cs s) same.1;
-    bare = λ x at. g.bare x (ap (λ xs. slice_get (joined (shapes_of xs) (clauses_of between)) slot) same.0 ∙ ap (λ cs. slice_get (joined (shapes_of before.kept.items) cs) slot) same.1 ∙ at);
+    bare = λ x at. g.bare x (ap (λ xs. slice_get (joined (shapes_of xs) (clauses_of between)) slot) same.0 ∙ ap (λ cs. slice_get (joined (shapes_of before.stored.items) cs) slot) same.1 ∙ at);
     watched = λ e apart. g.watched e apart ∙ w.watched e;
   }
   | inr new ↦ record {
     variables = g.variables ∙ variables;
     longer = elim g.longer [
-      | inl same ↦ inr (same ∙ ap length new.2 ∙ length-append before.kept.items (new.1 ∷ []), new.0)
-      | inr more ↦ absurd (omega (arith, more.1, new.0, ap length new.2, length-append before.kept.items (new.1 ∷ [])))
+      | inl same ↦ inr (same ∙ ap length new.2 ∙ length-append before.stored.items (new.1 ∷ []), new.0)
+      | inr more ↦ absurd (omega (arith, more.1, new.0, ap length new.2, length-append before.stored.items (new.1 ∷ [])))
     ];
-    kept = λ s apart. g.kept s apart ∙ ap (λ xs. slice_get xs s) new.2 ∙ get-push_other before.kept.items s new.1 (λ is. apart (is ∙ sym new.0));
+    kept = λ s apart. g.kept s apart ∙ ap (λ xs. slice_get xs s) new.2 ∙ get-push_other before.stored.items s new.1 (λ is. apart (is ∙ sym new.0));
     filled = λ s apart. g.filled s apart ∙ ap (λ cs. list_at cs s) new.3 ∙ none-push (clauses_of old) s;
-    bare = λ x at. absurd (omega (arith, slice_get_within (all_of before old) slot x at, new.0, joined-length (shapes_of before.kept.items) (clauses_of old), length-map before.kept.items kept_shape));
+    bare = λ x at. absurd (omega (arith, slice_get_within (all_of before old) slot x at, new.0, joined-length (shapes_of before.stored.items) (clauses_of old), length-map before.stored.items stored_shape));
     watched = λ e apart. g.watched e apart ∙ w.watched e;
   }
 ]

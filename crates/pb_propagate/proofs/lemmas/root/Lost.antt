@@ -14,7 +14,7 @@ use Rattle.pb_propagate.specs.declared.store.Store.{Store}
 use Rattle.pb_propagate.specs.declared.store.stored_form.StoredForm.{StoredForm}
 use Rattle.pb_propagate.specs.declared.clauses.Clauses.{Clauses}
 use Rattle.pb_propagate.specs.engine.Engine.Lists.{Shape, has, says, open_sum, size}
-use Rattle.pb_propagate.specs.engine.Engine.Fields.{shapes_of, kept_shape}
+use Rattle.pb_propagate.specs.engine.Engine.Fields.{shapes_of, stored_shape}
 use Rattle.pb_propagate.specs.engine.Engine.Root.{IsRooted, IsSpare, HasOpen, HasTrue, HasVacated, HasLost, IsSameWatch}
 use Rattle.pb_propagate.specs.engine.Clauses.Truths.{flip, true_at}
 use Rattle.pb_propagate.specs.engine.Clauses.Links.{lists_of, list_at, watch_at}
@@ -66,9 +66,9 @@ untrue-spare values list x agree none = unused-spare x list (λ l c h. by l c h 
     by l c h false is = agree l ∙ is
 
 -- the constraint of a slot
-pub slot-is : (store : Store) (clauses : Clauses) (slot : ℕ) (x : Shape) → slot < length store.kept.items → slice_get (all_of store clauses) slot ≡ Some x → x ≡ slot_shape (get_or (shapes_of store.kept.items) slot x) (list_at (clauses_of clauses) slot)
+pub slot-is : (store : Store) (clauses : Clauses) (slot : ℕ) (x : Shape) → slot < length store.stored.items → slice_get (all_of store clauses) slot ≡ Some x → x ≡ slot_shape (get_or (shapes_of store.stored.items) slot x) (list_at (clauses_of clauses) slot)
 slot-is store clauses slot x less at =
-    sym (get_or_from_slice_get (all_of store clauses) slot x x at) ∙ joined-at (shapes_of store.kept.items) (clauses_of clauses) slot x (omega (arith, less, length-map store.kept.items kept_shape))
+    sym (get_or_from_slice_get (all_of store clauses) slot x x at) ∙ joined-at (shapes_of store.stored.items) (clauses_of clauses) slot x (omega (arith, less, length-map store.stored.items stored_shape))
 
 -- the walked watches are still served
 vacated-walked : (values : List (Option Bool)) (old clauses : Clauses) (codes : List ℕ) (slot : ℕ) → AreReady clauses → list_at (clauses_of clauses) slot ≡ [] → ((e : ℕ) → (e / 2 ≡ slot → ⊥) → IsSameWatch (watch_at old.watches.items e) (watch_at clauses.watches.items e)) → AreWalked values old.watches.items codes → AreWalked values clauses.watches.items codes
@@ -83,8 +83,8 @@ vacated-walked values old clauses codes slot ready none same w = record {
 }
 
 -- the root stays
-pub lost-rooted : (before store : Store) (old clauses : Clauses) (run run' : Run) (rests rests' : Rests) (slot : ℕ) → slot < length before.kept.items → slot < length old.literals.items → AreReady clauses → HasVacated before old store clauses slot → HasLost run run' rests rests' slot →
-    ((x : Shape) → slice_get (all_of before old) slot ≡ Some x → IsSpare x run.assignment.list.items) → IsRooted before old run rests (length before.kept.items) → IsRooted store clauses run' rests' (length store.kept.items)
+pub lost-rooted : (before store : Store) (old clauses : Clauses) (run run' : Run) (rests rests' : Rests) (slot : ℕ) → slot < length before.stored.items → slot < length old.literals.items → AreReady clauses → HasVacated before old store clauses slot → HasLost run run' rests rests' slot →
+    ((x : Shape) → slice_get (all_of before old) slot ≡ Some x → IsSpare x run.assignment.list.items) → IsRooted before old run rests (length before.stored.items) → IsRooted store clauses run' rests' (length store.stored.items)
 lost-rooted before store old clauses run run' rests rests' slot inside room ready g h spare r = record {
   values = ap (λ (x : Assignment). length x.values.items) h.assignment ∙ r.values ∙ sym g.variables;
   opens = h.opens ∙ ap (λ xs. set xs slot 0) r.opens ∙ sym h.rest_opens;
@@ -118,8 +118,8 @@ lost-rooted before store old clauses run run' rests rests' slot inside room read
     clean = λ s d less gone.
         let opens_same = h.opens ∙ ap (λ xs. set xs slot 0) r.opens ∙ sym h.rest_opens in
         let starts_same = h.candidates ∙ ap (λ xs. set xs slot 0) r.starts ∙ sym h.rest_starts in
-        let here : s < length run'.opens.items = omega (arith, less, length-map store.kept.items kept_shape, ap length h.opens, length-set run.opens.items slot 0, r.open_sizes, longer) in (
-          get_or_default run'.opens.items s 0 (size (get_or (shapes_of store.kept.items) s d).terms) here ∙ ap (λ xs. get_or xs s (size (get_or (shapes_of store.kept.items) s d).terms)) opens_same,
+        let here : s < length run'.opens.items = omega (arith, less, length-map store.stored.items stored_shape, ap length h.opens, length-set run.opens.items slot 0, r.open_sizes, longer) in (
+          get_or_default run'.opens.items s 0 (size (get_or (shapes_of store.stored.items) s d).terms) here ∙ ap (λ xs. get_or xs s (size (get_or (shapes_of store.stored.items) s d).terms)) opens_same,
           ap (λ xs. get_or xs s 0) starts_same,
         );
     named = λ i d less. absurd (omega (arith, less));
@@ -136,27 +136,27 @@ lost-rooted before store old clauses run run' rests rests' slot inside room read
     k : StoredForm
     k = g.kept.0
 
-    longer : length store.kept.items ≡ length before.kept.items
-    longer = ap length g.kept.2 ∙ length-set before.kept.items slot k
+    longer : length store.stored.items ≡ length before.stored.items
+    longer = ap length g.kept.2 ∙ length-set before.stored.items slot k
 
-    was : (s : ℕ) → s < length store.kept.items → s < length before.kept.items
+    was : (s : ℕ) → s < length store.stored.items → s < length before.stored.items
     was s less = omega (arith, less, longer)
 
-    was-shape : (s : ℕ) → s < length (shapes_of store.kept.items) → s < length before.kept.items
-    was-shape s less = omega (arith, less, longer, length-map store.kept.items kept_shape)
+    was-shape : (s : ℕ) → s < length (shapes_of store.stored.items) → s < length before.stored.items
+    was-shape s less = omega (arith, less, longer, length-map store.stored.items stored_shape)
 
-    shorter : (s : ℕ) → s < length (shapes_of store.kept.items) → s < length (shapes_of before.kept.items)
-    shorter s less = omega (arith, was-shape s less, length-map before.kept.items kept_shape)
+    shorter : (s : ℕ) → s < length (shapes_of store.stored.items) → s < length (shapes_of before.stored.items)
+    shorter s less = omega (arith, was-shape s less, length-map before.stored.items stored_shape)
 
-    shapes : shapes_of store.kept.items ≡ set (shapes_of before.kept.items) slot (kept_shape k)
-    shapes = ap shapes_of g.kept.2 ∙ map-set kept_shape before.kept.items slot k
+    shapes : shapes_of store.stored.items ≡ set (shapes_of before.stored.items) slot (stored_shape k)
+    shapes = ap shapes_of g.kept.2 ∙ map-set stored_shape before.stored.items slot k
 
-    shape : (s : ℕ) (d : Shape) → (s ≡ slot → ⊥) → get_or (shapes_of store.kept.items) s d ≡ get_or (shapes_of before.kept.items) s d
-    shape s d apart = ap (λ xs. get_or xs s d) shapes ∙ get_or-set_other (shapes_of before.kept.items) slot s (kept_shape k) d apart
+    shape : (s : ℕ) (d : Shape) → (s ≡ slot → ⊥) → get_or (shapes_of store.stored.items) s d ≡ get_or (shapes_of before.stored.items) s d
+    shape s d apart = ap (λ xs. get_or xs s d) shapes ∙ get_or-set_other (shapes_of before.stored.items) slot s (stored_shape k) d apart
 
-    bare : (s : ℕ) (d : Shape) → s ≡ slot → ((get_or (shapes_of store.kept.items) s d).terms ≡ []) × ((get_or (shapes_of store.kept.items) s d).degree ≡ 0)
+    bare : (s : ℕ) (d : Shape) → s ≡ slot → ((get_or (shapes_of store.stored.items) s d).terms ≡ []) × ((get_or (shapes_of store.stored.items) s d).degree ≡ 0)
     bare s d here =
-        let is : get_or (shapes_of store.kept.items) s d ≡ kept_shape k = ap (λ xs. get_or xs s d) shapes ∙ ap (λ j. get_or (set (shapes_of before.kept.items) slot (kept_shape k)) j d) here ∙ get_or-set_same (shapes_of before.kept.items) slot (kept_shape k) d (omega (arith, inside, length-map before.kept.items kept_shape)) in
+        let is : get_or (shapes_of store.stored.items) s d ≡ stored_shape k = ap (λ xs. get_or xs s d) shapes ∙ ap (λ j. get_or (set (shapes_of before.stored.items) slot (stored_shape k)) j d) here ∙ get_or-set_same (shapes_of before.stored.items) slot (stored_shape k) d (omega (arith, inside, length-map before.stored.items stored_shape)) in
         (ap (λ (x : Shape). x.terms) is ∙ g.kept.1.terms, ap (λ (x : Shape). x.degree) is ∙ g.kept.1.degree)
 
     open-here : (s : ℕ) → s ≡ slot → get_or run'.opens.items s 0 ≡ 0
@@ -174,11 +174,11 @@ lost-rooted before store old clauses run run' rests rests' slot inside room read
     none_there : list_at (clauses_of clauses) slot ≡ []
     none_there = ap (λ cs. list_at cs slot) g.emptied ∙ get_or-set_same (clauses_of old) slot [] [] (omega (arith, room, lists-length old.literals.items))
 
-    all : all_of store clauses ≡ set (all_of before old) slot (kept_shape k)
-    all = ap (λ xs. joined xs (clauses_of clauses)) shapes ∙ ap (joined (set (shapes_of before.kept.items) slot (kept_shape k))) g.emptied ∙ joined-cleared (shapes_of before.kept.items) (clauses_of old) slot (kept_shape k)
+    all : all_of store clauses ≡ set (all_of before old) slot (stored_shape k)
+    all = ap (λ xs. joined xs (clauses_of clauses)) shapes ∙ ap (joined (set (shapes_of before.stored.items) slot (stored_shape k))) g.emptied ∙ joined-cleared (shapes_of before.stored.items) (clauses_of old) slot (stored_shape k)
 
     source : (x : Shape) → Contains (all_of before old) x → (Contains (all_of store clauses) x) ⊎ (IsSpare x run.assignment.list.items)
     source x (i, less, is) = elim (cases_eq i slot) [
       | inl here ↦ inr (spare x (ap (slice_get (all_of before old)) (sym here) ∙ slice_get-get_or (all_of before old) i x less ∙ ap (λ y. Some y) is))
-      | inr apart ↦ inl (i, omega (arith, less, ap length all, length-set (all_of before old) slot (kept_shape k)), ap (λ xs. get_or xs i x) all ∙ get_or-set_other (all_of before old) slot i (kept_shape k) x apart ∙ is)
+      | inr apart ↦ inl (i, omega (arith, less, ap length all, length-set (all_of before old) slot (stored_shape k)), ap (λ xs. get_or xs i x) all ∙ get_or-set_other (all_of before old) slot i (stored_shape k) x apart ∙ is)
     ]

@@ -14,8 +14,8 @@ use Rattle.pb_propagate.specs.declared.store.Store.{Store}
 use Rattle.pb_propagate.specs.declared.clauses.lists.Watch.{Watch}
 use Rattle.pb_propagate.specs.engine.Engine.Lists.{Shape, Derives, Extends, open_sum, size}
 use Rattle.pb_propagate.specs.engine.Engine.Counts.{AreFound, AreSingle, Grown, IsCalm, IsCounted, IsTidy, IsUndone, beside, rest_open, place, spent}
-use Rattle.pb_propagate.specs.engine.Engine.Fields.{shapes_of, spots_of, entries_of, kept_shape, IsSound, HasEntered}
-use Rattle.pb_propagate.specs.engine.Engine.Forms.{IsKeptAs, entry_of}
+use Rattle.pb_propagate.specs.engine.Engine.Fields.{shapes_of, spots_of, entries_of, stored_shape, IsSound, HasEntered}
+use Rattle.pb_propagate.specs.engine.Engine.Forms.{IsStoredAs, entry_of}
 use Rattle.pb_propagate.specs.engine.Clauses.Truths.{flip}
 use Rattle.pb_propagate.specs.engine.Clauses.Links.{watch_at}
 use Rattle.pb_propagate.specs.engine.Clauses.Runs.{AreWalked}
@@ -29,22 +29,22 @@ use Rattle.pb_propagate.proofs.lemmas.root.Extends.{killed-prefix}
 use Rattle.pb_propagate.proofs.lemmas.root.Rooted.{owned, derives-without, root-short, both-le}
 
 -- the root is no longer than the forms have terms
-pub root-few : (store : Store) (clauses : List (List ℕ)) (list : List NumberedLiteral) → IsSound store → AreJoined (shapes_of store.kept.items) clauses → AreSingle list → IsOneSided list → Derives (joined (shapes_of store.kept.items) clauses) [] list → length list ≤ sum_by (λ (f : Shape). length f.terms) (joined (shapes_of store.kept.items) clauses)
+pub root-few : (store : Store) (clauses : List (List ℕ)) (list : List NumberedLiteral) → IsSound store → AreJoined (shapes_of store.stored.items) clauses → AreSingle list → IsOneSided list → Derives (joined (shapes_of store.stored.items) clauses) [] list → length list ≤ sum_by (λ (f : Shape). length f.terms) (joined (shapes_of store.stored.items) clauses)
 root-few store clauses list sound j single one d =
-    let shapes = shapes_of store.kept.items in
+    let shapes = shapes_of store.stored.items in
     let lists = entries_of shapes store.occurrences.items in
     omega (arith, root-short shapes (spots_of store.spots.items) lists store.variables clauses list sound d, both-le lists list single one, killed-both clauses list one, sound.whole.totals, joined-terms shapes clauses j)
 
 -- the shapes with one more form
-pub entered-shapes : (g : Form) (keep keep' : List StoredForm) (opens opens' cands cands' : List ℕ) (h : HasEntered g keep keep' opens opens' cands cands') → shapes_of keep' ≡ shapes_of keep ++ (kept_shape h.kept ∷ [])
-entered-shapes g keep keep' opens opens' cands cands' h = ap shapes_of h.keeps ∙ map-append kept_shape keep (h.kept ∷ [])
+pub entered-shapes : (g : Form) (keep keep' : List StoredForm) (opens opens' cands cands' : List ℕ) (h : HasEntered g keep keep' opens opens' cands cands') → shapes_of keep' ≡ shapes_of keep ++ (stored_shape h.kept ∷ [])
+entered-shapes g keep keep' opens opens' cands cands' h = ap shapes_of h.keeps ∙ map-append stored_shape keep (h.kept ∷ [])
 
 entered-other : (g : Form) (keep keep' : List StoredForm) (opens opens' cands cands' : List ℕ) (h : HasEntered g keep keep' opens opens' cands cands') (s : ℕ) (d : Shape) → s < length keep → get_or (shapes_of keep') s d ≡ get_or (shapes_of keep) s d
 entered-other g keep keep' opens opens' cands cands' h s d less =
-    ap (λ xs. get_or xs s d) (entered-shapes g keep keep' opens opens' cands cands' h) ∙ get_or_append_left (shapes_of keep) (kept_shape h.kept ∷ []) d s (omega (arith, less, length-map keep kept_shape))
+    ap (λ xs. get_or xs s d) (entered-shapes g keep keep' opens opens' cands cands' h) ∙ get_or_append_left (shapes_of keep) (stored_shape h.kept ∷ []) d s (omega (arith, less, length-map keep stored_shape))
 
 entered-length : (g : Form) (keep keep' : List StoredForm) (opens opens' cands cands' : List ℕ) (h : HasEntered g keep keep' opens opens' cands cands') → length (shapes_of keep') ≡ length keep + 1
-entered-length g keep keep' opens opens' cands cands' h = omega (arith, length-map keep' kept_shape, ap length h.keeps, length-append keep (h.kept ∷ []))
+entered-length g keep keep' opens opens' cands cands' h = omega (arith, length-map keep' stored_shape, ap length h.keeps, length-append keep (h.kept ∷ []))
 
 -- the open sums after the goal is laid on the root
 pub laid-counted : (g : Form) (keep keep' : List StoredForm) (opens opens' cands cands' lowered : List ℕ) (list : List NumberedLiteral) (n : ℕ) → (h : HasEntered g keep keep' opens opens' cands cands') → n ≡ length keep → length opens ≡ length keep →
@@ -65,26 +65,26 @@ entered-tidy : (rests : Rests) (g : Form) (keep keep' : List StoredForm) (opens 
 entered-tidy rests g keep keep' opens opens' cands cands' list n h at sizes csizes rsizes ssizes tidy = record {
   calm = λ s d inside idle off gone.
       let less = below s inside idle in
-      rw (shape s d less, open_other s less, cand_other s less) (tidy.calm s d (omega (arith, less, length-map keep kept_shape)) idle off gone);
+      rw (shape s d less, open_other s less, cand_other s less) (tidy.calm s d (omega (arith, less, length-map keep stored_shape)) idle off gone);
   passed = λ s d inside k f before within. elim (cases_eq s n) [
     | inl one ↦ absurd (omega (arith, before, cand_goal s one))
     | inr other ↦
         let less = below s inside other in
-        let was = tidy.passed s d (omega (arith, less, length-map keep kept_shape)) k f in
+        let was = tidy.passed s d (omega (arith, less, length-map keep stored_shape)) k f in
         rw (shape s d less) (was (omega (arith, before, cand_other s less)) (omega (arith, within, ap (λ (x : Shape). length x.terms) (shape s d less))))
   ];
   bounded = λ s d inside. elim (cases_eq s n) [
     | inl one ↦ omega (arith, cand_goal s one)
     | inr other ↦
         let less = below s inside other in
-        let was = tidy.bounded s d (omega (arith, less, length-map keep kept_shape)) in
+        let was = tidy.bounded s d (omega (arith, less, length-map keep stored_shape)) in
         omega (arith, was, cand_other s less, ap (λ (x : Shape). length x.terms) (shape s d less))
   ];
   clean = λ s d inside gone. elim (cases_eq s n) [
     | inl one ↦ (open_goal s d one, cand_goal s one ∙ sym (get_or_past rests.starts.items s 0 (omega (arith, one, at, ssizes))))
     | inr other ↦
         let less = below s inside other in
-        let was = tidy.clean s d (omega (arith, less, length-map keep kept_shape)) gone in
+        let was = tidy.clean s d (omega (arith, less, length-map keep stored_shape)) gone in
         (open_other s less ∙ was.0 ∙ ap (λ x. rest_open rests s x) (sym (shape s d less)), cand_other s less ∙ was.1)
   ];
   named = λ i d less. absurd (omega (arith, less));
@@ -116,7 +116,7 @@ entered-tidy rests g keep keep' opens opens' cands cands' list n h at sizes csiz
     open_goal : (s : ℕ) (d : Shape) → s ≡ n → get_or opens' s 0 ≡ rest_open rests s (get_or (shapes_of keep') s d)
     open_goal s d one =
         let total : get_or opens' s 0 ≡ h.kept.total = ap (λ xs. get_or xs s 0) h.opened ∙ get_or_push opens h.kept.total 0 s (omega (arith, one, at, sizes)) in
-        let its : get_or (shapes_of keep') s d ≡ kept_shape h.kept = ap (λ xs. get_or xs s d) (entered-shapes g keep keep' opens opens' cands cands' h) ∙ get_or_push (shapes_of keep) (kept_shape h.kept) d s (omega (arith, one, at, length-map keep kept_shape)) in
+        let its : get_or (shapes_of keep') s d ≡ stored_shape h.kept = ap (λ xs. get_or xs s d) (entered-shapes g keep keep' opens opens' cands cands' h) ∙ get_or_push (shapes_of keep) (stored_shape h.kept) d s (omega (arith, one, at, length-map keep stored_shape)) in
         total ∙ h.kept.sum ∙ sym (ap (λ (x : Shape). size x.terms) its) ∙ sym (get_or_past rests.opens.items s (size (get_or (shapes_of keep') s d).terms) (omega (arith, one, at, rsizes)))
 
 -- what a propagation needs of the forms after the goal is laid on the root
@@ -129,7 +129,7 @@ laid-tidy rests g keep keep' opens opens' cands cands' lowered list work trail n
     let long = entered-length g keep keep' opens opens' cands cands' h in
     let entered = entered-tidy rests g keep keep' opens opens' cands cands' list n h at sizes csizes rsizes ssizes tidy in
     let laid = slot-tidy rests (shapes_of keep') opens' cands' lowered list work trail n (omega (arith, at, long)) (omega (arith, at, sizes, ap length h.opened, length-append opens (h.kept.total ∷ []))) entered low queued noted in
-    rw (length-map keep' kept_shape) at laid
+    rw (length-map keep' stored_shape) at laid
 
 -- after a question each form is as it was
 pub undone-same : (rests : Rests) (forms : List Shape) (opens cands : List ℕ) (n : ℕ) → IsUndone rests forms opens cands [] 0 → length forms ≡ n + 1 → length opens ≡ n + 1 → length cands ≡ n + 1 → length rests.opens.items ≡ n → length rests.starts.items ≡ n → (take (length opens - 1) opens ≡ rests.opens.items) × (take (length cands - 1) cands ≡ rests.starts.items)
@@ -166,7 +166,7 @@ walked-agree values values' list ws codes a b w = record {
 pub derives-entered : (shapes : List Shape) (x : Shape) (given list : List NumberedLiteral) → Derives shapes given list → Derives (shapes ++ (x ∷ [])) given list
 derives-entered shapes x given list d = derives-without shapes (shapes ++ (x ∷ [])) given list (λ f h. inl (Contains-append_left shapes (x ∷ []) f h)) d
 
-pub kept-terms : (f : Form) (x : Shape) → IsKeptAs f x → length x.terms ≡ length f.terms
+pub kept-terms : (f : Form) (x : Shape) → IsStoredAs f x → length x.terms ≡ length f.terms
 kept-terms f x k = omega (arith, length_permutation (map entry_of x.terms) f.terms k.terms, length-map x.terms entry_of)
 
 -- each literal of the list was visited
@@ -177,11 +177,11 @@ found-after n v r found small = elim (cases_lt v (2 ^ 64 - 1)) [
 ]
 
 -- the number of visits
-pub question-most : (store : Store) (clauses : List (List ℕ)) (old new : List NumberedLiteral) (v c0 r w n0 c : ℕ) → IsSound store → AreJoined (shapes_of store.kept.items) clauses → AreSingle new → IsOneSided new → Extends old new → Derives (joined (shapes_of store.kept.items) clauses) [] old → r ≡ length old → w ≤ 1 → c ≤ sum_by (λ f. length f.terms) (shapes_of store.kept.items) →
-    v + c0 ≤ r + (w - n0) + 2 * spent (entries_of (shapes_of store.kept.items) store.occurrences.items) new + c + 2 * killed clauses (map falsified_code new) + sum_by length clauses →
-    v ≤ 3 * sum_by (λ (f : Shape). length f.terms) (joined (shapes_of store.kept.items) clauses) + 1
+pub question-most : (store : Store) (clauses : List (List ℕ)) (old new : List NumberedLiteral) (v c0 r w n0 c : ℕ) → IsSound store → AreJoined (shapes_of store.stored.items) clauses → AreSingle new → IsOneSided new → Extends old new → Derives (joined (shapes_of store.stored.items) clauses) [] old → r ≡ length old → w ≤ 1 → c ≤ sum_by (λ f. length f.terms) (shapes_of store.stored.items) →
+    v + c0 ≤ r + (w - n0) + 2 * spent (entries_of (shapes_of store.stored.items) store.occurrences.items) new + c + 2 * killed clauses (map falsified_code new) + sum_by length clauses →
+    v ≤ 3 * sum_by (λ (f : Shape). length f.terms) (joined (shapes_of store.stored.items) clauses) + 1
 question-most store clauses old new v c0 r w n0 c sound j single one (more, e) d is few bounded upper =
-    let shapes = shapes_of store.kept.items in
+    let shapes = shapes_of store.stored.items in
     let lists = entries_of shapes store.occurrences.items in
     let short = root-short shapes (spots_of store.spots.items) lists store.variables clauses old sound d in
     let mine : owned lists old ≤ owned lists new = omega (arith, ap (owned lists) e, sum_by-append (λ l. length (get_or lists (place l) [])) old more) in

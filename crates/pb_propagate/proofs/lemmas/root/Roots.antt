@@ -11,7 +11,7 @@ use Rattle.pb_propagate.specs.declared.store.stored_form.StoredForm.{StoredForm}
 use Rattle.pb_propagate.specs.declared.clauses.Clauses.{Clauses}
 use Rattle.pb_propagate.specs.engine.Engine.Lists.{Shape, Derives, size}
 use Rattle.pb_propagate.specs.engine.Engine.Counts.{IsAbsent, IsCounted, IsTidy, IsUndone, beside, rest_open, rest_start, weight_in}
-use Rattle.pb_propagate.specs.engine.Engine.Fields.{shapes_of, kept_shape}
+use Rattle.pb_propagate.specs.engine.Engine.Fields.{shapes_of, stored_shape}
 use Rattle.pb_propagate.specs.engine.Engine.Rest.{AreAtRest, IsEager, waits}
 use Rattle.pb_propagate.specs.engine.Engine.Root.{IsRooted}
 use Rattle.pb_propagate.specs.engine.Clauses.Runs.{AreWalked}
@@ -71,23 +71,23 @@ kept-tidy rests rests' forms opens cands list work trail next end long opened st
   traced = λ s gone. gone;
 }
 
-pub kept-rooted : (store : Store) (clauses clauses' : Clauses) (run run' : Run) (rests rests' : Rests) → length run.assignment.values.items ≡ store.variables → length run.opens.items ≡ length store.kept.items → length run.candidates.items ≡ length store.kept.items → IsCounted (shapes_of store.kept.items) run.opens.items run.assignment.list.items [] →
-    IsTidy (beside rests []) (shapes_of store.kept.items) run.opens.items run.candidates.items run.assignment.list.items run.work.items run.trail.items run.next (length store.kept.items) → length run.work.items ≤ run.next →
+pub kept-rooted : (store : Store) (clauses clauses' : Clauses) (run run' : Run) (rests rests' : Rests) → length run.assignment.values.items ≡ store.variables → length run.opens.items ≡ length store.stored.items → length run.candidates.items ≡ length store.stored.items → IsCounted (shapes_of store.stored.items) run.opens.items run.assignment.list.items [] →
+    IsTidy (beside rests []) (shapes_of store.stored.items) run.opens.items run.candidates.items run.assignment.list.items run.work.items run.trail.items run.next (length store.stored.items) → length run.work.items ≤ run.next →
     Derives (all_of store clauses) [] run.assignment.list.items → AreWalked run.assignment.values.items clauses'.watches.items (walked_codes (length run.assignment.list.items) run.assignment.list.items) → clauses'.literals ≡ clauses.literals →
     run'.opens ≡ run.opens → run'.candidates ≡ run.candidates → run'.assignment ≡ run.assignment → run'.work.items ≡ [] → run'.trail.items ≡ [] → run'.next ≡ 0 → rests'.opens.items ≡ run.opens.items → rests'.starts.items ≡ run.candidates.items →
-    IsRooted store clauses' run' rests' (length store.kept.items)
+    IsRooted store clauses' run' rests' (length store.stored.items)
 kept-rooted store clauses clauses' run run' rests rests' values sizes csizes counted tidy end derived walked literals o c a w t n ro rs =
-    let long = length-map store.kept.items kept_shape in
-    let tidy_f : IsTidy (beside rests []) (shapes_of store.kept.items) run.opens.items run.candidates.items run.assignment.list.items run.work.items run.trail.items run.next (length (shapes_of store.kept.items)) = rw long tidy in
-    let still = kept-tidy rests rests' (shapes_of store.kept.items) run.opens.items run.candidates.items run.assignment.list.items run.work.items run.trail.items run.next end (omega (arith, long, sizes)) ro rs tidy_f in
-    let still_k : IsTidy (beside rests' []) (shapes_of store.kept.items) run.opens.items run.candidates.items run.assignment.list.items [] [] 0 (length store.kept.items) = rw (← long) still in
+    let long = length-map store.stored.items stored_shape in
+    let tidy_f : IsTidy (beside rests []) (shapes_of store.stored.items) run.opens.items run.candidates.items run.assignment.list.items run.work.items run.trail.items run.next (length (shapes_of store.stored.items)) = rw long tidy in
+    let still = kept-tidy rests rests' (shapes_of store.stored.items) run.opens.items run.candidates.items run.assignment.list.items run.work.items run.trail.items run.next end (omega (arith, long, sizes)) ro rs tidy_f in
+    let still_k : IsTidy (beside rests' []) (shapes_of store.stored.items) run.opens.items run.candidates.items run.assignment.list.items [] [] 0 (length store.stored.items) = rw (← long) still in
     record {
       values = rw a values;
       opens = rw o (sym ro);
       starts = rw c (sym rs);
       open_sizes = rw o sizes;
       start_sizes = rw c csizes;
-      counted = λ s d less apart. rw (o, a) (open-now (shapes_of store.kept.items) run.opens.items run.assignment.list.items s d (omega (arith, less, long)) counted);
+      counted = λ s d less apart. rw (o, a) (open-now (shapes_of store.stored.items) run.opens.items run.assignment.list.items s d (omega (arith, less, long)) counted);
       tidy = rw (o, c, a) still_k;
       work = w;
       trail = t;
@@ -100,7 +100,7 @@ kept-rooted store clauses clauses' run run' rests rests' values sizes csizes cou
 pub start-counted : (keep : List StoredForm) (opens cands : List ℕ) → AreAtRest keep opens cands → IsCounted (shapes_of keep) opens [] []
 start-counted keep opens cands r = record {
   each = λ s d inside.
-      let at = rest-at keep opens cands r s d (omega (arith, inside, length-map keep kept_shape)) in
+      let at = rest-at keep opens cands r s d (omega (arith, inside, length-map keep stored_shape)) in
       let sum = open_sum-empty (get_or (shapes_of keep) s d).terms in
       let nothing : weight_in s [] ≡ 0 = refl in
       omega (arith, at.0, sum, nothing);
@@ -109,12 +109,12 @@ start-counted keep opens cands r = record {
 pub start-tidy : (rests : Rests) (keep : List StoredForm) (eager opens cands : List ℕ) → rests.opens.items ≡ opens → rests.starts.items ≡ cands → AreAtRest keep opens cands → IsEager keep eager → IsTidy (beside rests (filter (waits keep) eager)) (shapes_of keep) opens cands [] [] [] 0 (length keep)
 start-tidy rests keep eager opens cands opened started r e = record {
   calm = λ s d inside idle off gone.
-      let at = rest-at keep opens cands r s d (omega (arith, inside, length-map keep kept_shape)) in
+      let at = rest-at keep opens cands r s d (omega (arith, inside, length-map keep stored_shape)) in
       rw (at.0, at.1) ((calm-but keep (filter (waits keep) eager) (eager-filter keep eager e)).aside s d inside off);
-  passed = λ s d inside k f before within. absurd (omega (arith, before, (rest-at keep opens cands r s d (omega (arith, inside, length-map keep kept_shape))).1));
-  bounded = λ s d inside. omega (arith, (rest-at keep opens cands r s d (omega (arith, inside, length-map keep kept_shape))).1);
+  passed = λ s d inside k f before within. absurd (omega (arith, before, (rest-at keep opens cands r s d (omega (arith, inside, length-map keep stored_shape))).1));
+  bounded = λ s d inside. omega (arith, (rest-at keep opens cands r s d (omega (arith, inside, length-map keep stored_shape))).1);
   clean = λ s d inside gone. (
-    get_or_default opens s 0 (size (get_or (shapes_of keep) s d).terms) (omega (arith, inside, length-map keep kept_shape, (rest-lengths keep opens cands r).0)) ∙ sym (ap (λ xs. get_or xs s (size (get_or (shapes_of keep) s d).terms)) opened),
+    get_or_default opens s 0 (size (get_or (shapes_of keep) s d).terms) (omega (arith, inside, length-map keep stored_shape, (rest-lengths keep opens cands r).0)) ∙ sym (ap (λ xs. get_or xs s (size (get_or (shapes_of keep) s d).terms)) opened),
     sym (ap (λ xs. get_or xs s 0) started),
   );
   named = λ i d less. absurd (omega (arith, less));

@@ -10,7 +10,7 @@ use Rattle.pb_propagate.specs.declared.term.Term.{Term}
 use Rattle.pb_propagate.specs.declared.store.Occurrence.{Occurrence}
 use Rattle.pb_propagate.specs.declared.store.stored_form.StoredForm.{StoredForm}
 use Rattle.pb_propagate.specs.engine.Engine.Lists.{Shape, AreInside}
-use Rattle.pb_propagate.specs.engine.Engine.Fields.{shapes_of, kept_shape, forms_of, spots_of, entries_of}
+use Rattle.pb_propagate.specs.engine.Engine.Fields.{shapes_of, stored_shape, forms_of, spots_of, entries_of}
 use Rattle.pb_propagate.specs.engine.Engine.Terms.{terms_of}
 use Rattle.pb_propagate.specs.engine.Engine.Links.{terms_at, degree_at, IsLinked, IsStored, cut}
 use Rattle.pb_propagate.proofs.lemmas.store.Gets.{lt_of_apart, last-is}
@@ -25,7 +25,7 @@ set-end xs ys n y z e at = ap (λ zs. set zs n z) e ∙ ap (λ m. set (xs ++ (y 
 
 pub empty-end : (keep keep' : List StoredForm) (k : StoredForm) (n : ℕ) → keep' ≡ keep ++ (k ∷ []) → n ≡ length keep → (terms_of k.terms) ≡ [] → terms_at (shapes_of keep') n ≡ []
 empty-end keep keep' k n e at empty =
-    rw (e, map-append kept_shape keep (k ∷ [])) (ap (λ (f : Shape). f.terms) (last-is (shapes_of keep) (kept_shape k) (record { terms = []; degree = 0 }) n (at ∙ sym (length-map keep kept_shape))) ∙ empty)
+    rw (e, map-append stored_shape keep (k ∷ [])) (ap (λ (f : Shape). f.terms) (last-is (shapes_of keep) (stored_shape k) (record { terms = []; degree = 0 }) n (at ∙ sym (length-map keep stored_shape))) ∙ empty)
 
 none_inside : (n : ℕ) (ts : List Term) → ts ≡ [] → AreInside n ts
 none_inside n ts h i d less = absurd (omega (arith, less, ap length h))
@@ -35,14 +35,14 @@ pub widened-forms : (keep : List StoredForm) (k : StoredForm) (sp : List (Vec �
     IsStored (shapes_of keep) (spots_of sp) (entries_of (shapes_of keep) occ) n → IsStored (shapes_of (keep ++ (k ∷ []))) (spots_of (sp ++ (v ∷ []))) (entries_of (shapes_of (keep ++ (k ∷ []))) occ) n
 widened-forms keep k sp v occ n empty no_spots old =
     let forms = shapes_of keep in
-    let x : Shape = kept_shape k in
+    let x : Shape = stored_shape k in
     let base = forms ++ (x ∷ []) in
     let long : length base ≡ length forms + 1 = length-append forms (x ∷ []) in
     let terms_here : terms_at base (length forms) ≡ [] = ap (λ (f : Shape). f.terms) (last-is forms x (record { terms = []; degree = 0 }) (length forms) refl) ∙ empty in
     let same : entries_of base occ ≡ entries_of forms occ = entries-apart forms base occ (length forms) (λ k n. terms-before forms x k n) (others-past forms occ (length forms) old.named) in
     let with_end : IsLinked base (spots_of sp ++ ([] ∷ [])) (entries_of forms occ) = rw (cut-all base (length forms) 0 (omega (arith, ap length terms_here))) at (link-start forms (spots_of sp) (entries_of forms occ) x old.whole) in
     let whole : IsLinked base (spots_of sp ++ ([] ∷ [])) (entries_of base occ) = subst (IsLinked base (spots_of sp ++ ([] ∷ []))) (sym same) with_end in
-    let forms_more : shapes_of (keep ++ (k ∷ [])) ≡ base = map-append kept_shape keep (k ∷ []) in
+    let forms_more : shapes_of (keep ++ (k ∷ [])) ≡ base = map-append stored_shape keep (k ∷ []) in
     let spots_more : spots_of (sp ++ (v ∷ [])) ≡ spots_of sp ++ ([] ∷ []) = map-append (λ (w : Vec ℕ Global). w.items) sp (v ∷ []) ∙ ap (λ ys. spots_of sp ++ (ys ∷ [])) no_spots in
     rw (forms_more, spots_more) (record {
       whole = whole;
@@ -68,10 +68,10 @@ pub filled-stored : (keep : List StoredForm) (k : StoredForm) (sp : List (Vec �
     IsStored (shapes_of keep) (spots_of sp) (entries_of (shapes_of keep) occ) n → IsStored (shapes_of (set keep form k)) (spots_of (set sp form v)) (entries_of (shapes_of (set keep form k)) occ') n
 filled-stored keep k sp v occ occ' n form terms room empty terms_is sizes count inside link old =
     let forms = shapes_of keep in
-    let x : Shape = kept_shape k in
+    let x : Shape = stored_shape k in
     let base = set forms form x in
     let none : Shape = record { terms = []; degree = 0 } in
-    let here : form < length forms = omega (arith, room, length-map keep kept_shape) in
+    let here : form < length forms = omega (arith, room, length-map keep stored_shape) in
     let wide : form < length (spots_of sp) = omega (arith, here, old.whole.sizes) in
     let form_in : form < length base = omega (arith, here, length-set forms form x) in
     let terms_here : terms_at base form ≡ terms = ap (λ (f : Shape). f.terms) (get_or-set_same forms form x none here) ∙ sym terms_is in
@@ -82,7 +82,7 @@ filled-stored keep k sp v occ occ' n form terms room empty terms_is sizes count 
     let start : IsLinked (cut base form 0) (set (spots_of sp) form []) (entries_of base occ) = subst (IsLinked (cut base form 0) (set (spots_of sp) form [])) (sym same) ready in
     let done : IsLinked (cut base form (length terms)) (set (spots_of sp) form v.items) (entries_of base occ') = link base (spots_of sp) form_in terms_here wide start in
     let whole : IsLinked base (set (spots_of sp) form v.items) (entries_of base occ') = rw (cut-all base form (length terms) (omega (arith, ap length terms_here))) at done in
-    let forms_set : shapes_of (set keep form k) ≡ base = map-set kept_shape keep form k in
+    let forms_set : shapes_of (set keep form k) ≡ base = map-set stored_shape keep form k in
     let spots_set : spots_of (set sp form v) ≡ set (spots_of sp) form v.items = map-set (λ (w : Vec ℕ Global). w.items) sp form v in
     rw (forms_set, spots_set) (record {
       whole = whole;
@@ -113,7 +113,7 @@ left-stored keep sp sp0 occ occ0 n number count sizes rooms linked old =
     let forms = shapes_of keep in
     let prefix = take number forms in
     let e : Shape = record { terms = []; degree = 0 } in
-    let forms_size : length forms ≡ number + 1 = length-map keep kept_shape ∙ count in
+    let forms_size : length forms ≡ number + 1 = length-map keep stored_shape ∙ count in
     let spots_size : length (spots_of sp) ≡ number + 1 = omega (arith, linked.sizes, cut-length forms number 0, forms_size) in
     let prefix_size : length prefix ≡ number = length-take-le number forms (omega (arith, forms_size)) in
     let spots_prefix : length (take number (spots_of sp)) ≡ number = length-take-le number (spots_of sp) (omega (arith, spots_size)) in
@@ -125,7 +125,7 @@ left-stored keep sp sp0 occ occ0 n number count sizes rooms linked old =
     let bare : IsLinked prefix (take number (spots_of sp)) (entries_of forms occ) = link-end prefix (take number (spots_of sp)) (entries_of forms occ) (get_or forms number e) (get_or (spots_of sp) number []) (omega (arith, prefix_size, spots_prefix)) at_end in
     let same : entries_of prefix occ ≡ entries_of forms occ = entries-apart forms prefix occ number (λ k n. terms-taken forms number k forms_size n) (others-named forms (spots_of sp) occ number (omega (arith, forms_size)) linked) in
     let whole : IsLinked prefix (take number (spots_of sp)) (entries_of prefix occ) = subst (IsLinked prefix (take number (spots_of sp))) (sym same) bare in
-    let forms_less : shapes_of (take number keep) ≡ prefix = sym (take-map kept_shape number keep) in
+    let forms_less : shapes_of (take number keep) ≡ prefix = sym (take-map stored_shape number keep) in
     let spots_less : spots_of (take number sp) ≡ take number (spots_of sp) = sym (take-map (λ (w : Vec ℕ Global). w.items) number sp) in
     rw (forms_less, spots_less) (record {
       whole = whole;
@@ -143,23 +143,23 @@ pub vacated-stored : (keep : List StoredForm) (k : StoredForm) (sp sp0 : List (V
 vacated-stored keep k sp sp0 v occ occ0 n form inside empty no_spots sizes rooms linked old =
     let forms = shapes_of keep in
     let e : Shape = record { terms = []; degree = 0 } in
-    let forms_size : length forms ≡ length keep = length-map keep kept_shape in
+    let forms_size : length forms ≡ length keep = length-map keep stored_shape in
     let here : form < length forms = omega (arith, inside, forms_size) in
     let spots_size : length (spots_of sp) ≡ length forms = omega (arith, linked.sizes, cut-length forms form 0) in
-    let forms_set : shapes_of (set keep form k) ≡ set forms form (kept_shape k) = map-set kept_shape keep form k in
+    let forms_set : shapes_of (set keep form k) ≡ set forms form (stored_shape k) = map-set stored_shape keep form k in
     let spots_set : spots_of (set sp form v) ≡ set (spots_of sp) form [] = map-set (λ (w : Vec ℕ Global). w.items) sp form v ∙ ap (λ xs. set (spots_of sp) form xs) no_spots in
-    let base = set forms form (kept_shape k) in
-    let same : entries_of base occ ≡ entries_of forms occ = entries-apart forms base occ form (λ j n. terms-set forms form (kept_shape k) j n) (others-named forms (spots_of sp) occ form here linked) in
-    let bare : IsLinked base (set (spots_of sp) form []) (entries_of forms occ) = link-vacant forms (spots_of sp) (entries_of forms occ) form (kept_shape k) here empty linked in
+    let base = set forms form (stored_shape k) in
+    let same : entries_of base occ ≡ entries_of forms occ = entries-apart forms base occ form (λ j n. terms-set forms form (stored_shape k) j n) (others-named forms (spots_of sp) occ form here linked) in
+    let bare : IsLinked base (set (spots_of sp) form []) (entries_of forms occ) = link-vacant forms (spots_of sp) (entries_of forms occ) form (stored_shape k) here empty linked in
     let whole : IsLinked base (set (spots_of sp) form []) (entries_of base occ) = subst (IsLinked base (set (spots_of sp) form [])) (sym same) bare in
     rw (forms_set, spots_set) (record {
       whole = whole;
       named = linked-named base (set (spots_of sp) form []) (entries_of base occ) whole;
       places = omega (arith, old.places, sizes, entries-length base occ, entries-length forms occ0);
-      inside = All-set (λ (f : Shape). AreInside n f.terms) forms form (kept_shape k) (none_inside n (terms_of k.terms) empty) old.inside;
+      inside = All-set (λ (f : Shape). AreInside n f.terms) forms form (stored_shape k) (none_inside n (terms_of k.terms) empty) old.inside;
       rooms = λ s less. elim (cases_eq s form) [
-        | inl at ↦ rw at (ap length (get_or-set_same (spots_of sp) form [] [] (omega (arith, here, spots_size))) ∙ sym (ap (λ (f : Shape). length f.terms) (get_or-set_same forms form (kept_shape k) e here) ∙ ap length empty))
-        | inr other ↦ ap length (get_or-set_other (spots_of sp) form s [] [] other) ∙ rooms s ∙ old.rooms s (omega (arith, less, length-set forms form (kept_shape k))) ∙ sym (ap (λ (f : Shape). length f.terms) (get_or-set_other forms form s (kept_shape k) e other))
+        | inl at ↦ rw at (ap length (get_or-set_same (spots_of sp) form [] [] (omega (arith, here, spots_size))) ∙ sym (ap (λ (f : Shape). length f.terms) (get_or-set_same forms form (stored_shape k) e here) ∙ ap length empty))
+        | inr other ↦ ap length (get_or-set_other (spots_of sp) form s [] [] other) ∙ rooms s ∙ old.rooms s (omega (arith, less, length-set forms form (stored_shape k))) ∙ sym (ap (λ (f : Shape). length f.terms) (get_or-set_other forms form s (stored_shape k) e other))
       ];
     })
 

@@ -16,7 +16,7 @@ use Rattle.pb_propagate.proofs.lemmas.store.Crosses.{Same}
 use Rattle.pb_propagate.proofs.lemmas.store.Links.{link-next}
 use Rattle.pb_propagate.proofs.lemmas.store.Unlinks.{swap-here, swap-length, unlink-next, named-spot, named-entry}
 use Rattle.pb_propagate.specs.declared.store.stored_form.StoredForm.{StoredForm}
-use Rattle.pb_propagate.specs.engine.Engine.Fields.{shapes_of, kept_shape}
+use Rattle.pb_propagate.specs.engine.Engine.Fields.{shapes_of, stored_shape}
 use Rattle.pb_propagate.proofs.lemmas.store.Links.{cut-length}
 use Rattle.pb_propagate.proofs.lemmas.engine.VisitSteps.{shape-at, term-inside}
 use Rattle.pb_propagate.proofs.lemmas.engine.Puts.{lists-at, entries-at, place-inside}
@@ -112,7 +112,7 @@ pub unlink-read : (keep keep' : List StoredForm) (sp : List (Vec ℕ Global)) (o
 unlink-read keep keep' sp occ n form left j k t w q p same count inside kept_is most item spots_is rooms spot_is place_is all places old =
     let base = shapes_of keep in
     let kept_here : k ≡ get_or keep form k = rw same at kept_is in
-    let inside_base : form < length base = omega (arith, inside, length-map keep kept_shape) in
+    let inside_base : form < length base = omega (arith, inside, length-map keep stored_shape) in
     let within : j < length (terms_at base form) = omega (arith, most, count) in
     let those : terms_at base form ≡ (terms_of k.terms) = ap (λ (f : Shape). f.terms) (shape-at keep form k inside kept_here (record { terms = []; degree = 0 })) in
     let is : t ≡ get_or (terms_at base form) j t = rw those item in

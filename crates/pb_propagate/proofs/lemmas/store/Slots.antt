@@ -13,7 +13,7 @@ use Rattle.pb_propagate.specs.declared.run.Run.{Run}
 use Rattle.pb_propagate.specs.declared.eager.Eager.{Eager}
 use Rattle.pb_propagate.specs.declared.assignment.Assignment.{Assignment}
 use Rattle.pb_propagate.specs.engine.Engine.Counts.{IsAbsent}
-use Rattle.pb_propagate.specs.engine.Engine.Fields.{shapes_of, kept_shape, IsSound, HasFilled, IsEmpty}
+use Rattle.pb_propagate.specs.engine.Engine.Fields.{shapes_of, stored_shape, IsSound, HasFilled, IsEmpty}
 use Rattle.pb_propagate.specs.engine.Engine.Links.{terms_at}
 use Rattle.pb_propagate.specs.engine.Engine.Rest.{AreSlots, waits, kept_waits, eager_one, AllWait, IsEager, IsAtRest}
 use Rattle.pb_propagate.proofs.lemmas.store.Gets.{lt_of_apart, get-set_same, get-set_other, get-push_less, get-push_same, last-is}
@@ -41,16 +41,16 @@ pub record IsBare (keep : List StoredForm) (s : ℕ) : Type 0 where
 
 pub vacant-bare : (keep : List StoredForm) (clauses : List (List ℕ)) (s : ℕ) → IsVacant (shapes_of keep) clauses s → IsBare keep s
 vacant-bare keep clauses s v =
-    let inside : s < length keep = omega (arith, v.inside, length-map keep kept_shape) in
+    let inside : s < length keep = omega (arith, v.inside, length-map keep stored_shape) in
     let e = element keep s inside in
     let k = e.value in
-    let shape : get_or (shapes_of keep) s (kept_shape k) ≡ kept_shape k = get_or-map kept_shape keep s k (kept_shape k) inside ∙ ap kept_shape (e.at k) in
+    let shape : get_or (shapes_of keep) s (stored_shape k) ≡ stored_shape k = get_or-map stored_shape keep s k (stored_shape k) inside ∙ ap stored_shape (e.at k) in
     record {
       inside = inside;
       terms = v.terms (record { terms = []; degree = 0 });
       idle = ap kept_waits e.got ∙ elim (cases_Bool k.eager) [
         | inr idle ↦ idle
-        | inl eager ↦ absurd (let some = k.busy eager in omega (arith, some, ap (λ (x : Shape). length x.terms) shape, ap (λ (x : Shape). x.degree) shape, ap length (v.terms (kept_shape k)), v.degree (kept_shape k)))
+        | inl eager ↦ absurd (let some = k.busy eager in omega (arith, some, ap (λ (x : Shape). length x.terms) shape, ap (λ (x : Shape). x.degree) shape, ap length (v.terms (stored_shape k)), v.degree (stored_shape k)))
       ];
     }
 
@@ -103,19 +103,19 @@ exact-widened keep k list e x =
       few = omega (arith, x.few, sum_by_push eager_one keep k);
     }
 
-pub rest-widened : (store store' : Store) (run run' : Run) (waiting waiting' : Eager) (clauses clauses' : Clauses) (forms : List (Option Form)) (k : StoredForm) → IsSound store' → IsEmpty k → store'.kept.items ≡ store.kept.items ++ (k ∷ []) → run'.opens.items ≡ run.opens.items ++ (0 ∷ []) → run'.candidates.items ≡ run.candidates.items ++ (0 ∷ []) →
+pub rest-widened : (store store' : Store) (run run' : Run) (waiting waiting' : Eager) (clauses clauses' : Clauses) (forms : List (Option Form)) (k : StoredForm) → IsSound store' → IsEmpty k → store'.stored.items ≡ store.stored.items ++ (k ∷ []) → run'.opens.items ≡ run.opens.items ++ (0 ∷ []) → run'.candidates.items ≡ run.candidates.items ++ (0 ∷ []) →
     store'.variables ≡ store.variables → run'.trail ≡ run.trail → ((run'.assignment ≡ run.assignment) × (run'.work ≡ run.work) × (run'.next ≡ run.next) × (run'.visits ≡ run.visits)) → waiting'.list.items ≡ waiting.list.items → length waiting'.seats.items ≡ length waiting.seats.items + 1 →
     AreReady clauses' → clauses_of clauses' ≡ clauses_of clauses ++ ([] ∷ []) → clauses'.lists ≡ clauses.lists →
     IsAtRest store run waiting clauses forms → IsAtRest store' run' waiting' clauses' (forms ++ (None ∷ []))
 rest-widened store store' run run' waiting waiting' clauses clauses' forms k sound e keeps opens cands variables trail same list seats ready literals lists r =
-    let keep = store.kept.items in
-    let sizes : length (clauses_of clauses) ≡ length (shapes_of keep) = omega (arith, lists-length clauses.literals.items, r.known, length-map keep kept_shape) in
+    let keep = store.stored.items in
+    let sizes : length (clauses_of clauses) ≡ length (shapes_of keep) = omega (arith, lists-length clauses.literals.items, r.known, length-map keep stored_shape) in
     let x = exact-widened keep k waiting.list.items e (record { eager = r.eager; exact = r.exact; few = r.few }) in
-    let y : IsExact store'.kept.items waiting'.list.items = rw (keeps, list) x in
+    let y : IsExact store'.stored.items waiting'.list.items = rw (keeps, list) x in
     record {
       sound = sound;
-      slots = rw (keeps, map-append kept_shape keep (k ∷ []), literals, joined-widen (shapes_of keep) (clauses_of clauses) (kept_shape k) sizes) (slots-more forms (joined (shapes_of keep) (clauses_of clauses)) None (kept_shape k) r.slots (e.terms, e.degree));
-      joined = rw (keeps, map-append kept_shape keep (k ∷ []), literals) (AreJoined-widen (shapes_of keep) (clauses_of clauses) (kept_shape k) r.joined);
+      slots = rw (keeps, map-append stored_shape keep (k ∷ []), literals, joined-widen (shapes_of keep) (clauses_of clauses) (stored_shape k) sizes) (slots-more forms (joined (shapes_of keep) (clauses_of clauses)) None (stored_shape k) r.slots (e.terms, e.degree));
+      joined = rw (keeps, map-append stored_shape keep (k ∷ []), literals) (AreJoined-widen (shapes_of keep) (clauses_of clauses) (stored_shape k) r.joined);
       ready = ready;
       widths = ap (λ (v : Vec (Vec ℕ Global) Global). length v.items) lists ∙ r.widths ∙ ap (λ n. 2 * n) (sym variables);
       known = omega (arith, ap length literals, length-append (clauses_of clauses) ([] ∷ []), lists-length clauses.literals.items, lists-length clauses'.literals.items, r.known, ap length keeps, length-append keep (k ∷ []));
@@ -183,19 +183,19 @@ exact-filled keep keep' k list list' s bare keeps more x = rw (more, keeps) (by_
       few = omega (arith, x.few, change, was, one-of k false e);
     })
 
-pub rest-filled : (store store' : Store) (run run' : Run) (waiting waiting' : Eager) (clauses : Clauses) (forms : List (Option Form)) (f : Form) (s : ℕ) → IsSound store' → slice_get forms s ≡ Some None → HasFilled f s store.kept.items store'.kept.items run.opens.items run'.opens.items →
-    store'.variables ≡ store.variables → run'.trail ≡ run.trail → ((run'.candidates ≡ run.candidates) × (run'.assignment ≡ run.assignment) × (run'.work ≡ run.work) × (run'.next ≡ run.next) × (run'.visits ≡ run.visits)) → waiting'.list.items ≡ waiting.list.items ++ filter (waits store'.kept.items) (s ∷ []) → length waiting'.seats.items ≡ length waiting.seats.items →
+pub rest-filled : (store store' : Store) (run run' : Run) (waiting waiting' : Eager) (clauses : Clauses) (forms : List (Option Form)) (f : Form) (s : ℕ) → IsSound store' → slice_get forms s ≡ Some None → HasFilled f s store.stored.items store'.stored.items run.opens.items run'.opens.items →
+    store'.variables ≡ store.variables → run'.trail ≡ run.trail → ((run'.candidates ≡ run.candidates) × (run'.assignment ≡ run.assignment) × (run'.work ≡ run.work) × (run'.next ≡ run.next) × (run'.visits ≡ run.visits)) → waiting'.list.items ≡ waiting.list.items ++ filter (waits store'.stored.items) (s ∷ []) → length waiting'.seats.items ≡ length waiting.seats.items →
     IsAtRest store run waiting clauses forms → IsAtRest store' run' waiting' clauses (set forms s (Some f))
 rest-filled store store' run run' waiting waiting' clauses forms f s sound none h variables trail same list seats r =
-    let keep = store.kept.items in
+    let keep = store.stored.items in
     let k = h.kept in
     let vacant = slots-vacant forms (shapes_of keep) (clauses_of clauses) s r.slots none in
     let bare = vacant-bare keep (clauses_of clauses) s vacant in
-    let y = exact-filled keep store'.kept.items k waiting.list.items waiting'.list.items s bare h.keeps list (record { eager = r.eager; exact = r.exact; few = r.few }) in
+    let y = exact-filled keep store'.stored.items k waiting.list.items waiting'.list.items s bare h.keeps list (record { eager = r.eager; exact = r.exact; few = r.few }) in
     record {
       sound = sound;
-      slots = rw (h.keeps, map-set kept_shape keep s k, joined-set (shapes_of keep) (clauses_of clauses) s (kept_shape k) vacant.clause) (slots-set forms (joined (shapes_of keep) (clauses_of clauses)) s (Some f) (kept_shape k) h.is r.slots);
-      joined = rw (h.keeps, map-set kept_shape keep s k) (AreJoined-set (shapes_of keep) (clauses_of clauses) s (kept_shape k) vacant.clause r.joined);
+      slots = rw (h.keeps, map-set stored_shape keep s k, joined-set (shapes_of keep) (clauses_of clauses) s (stored_shape k) vacant.clause) (slots-set forms (joined (shapes_of keep) (clauses_of clauses)) s (Some f) (stored_shape k) h.is r.slots);
+      joined = rw (h.keeps, map-set stored_shape keep s k) (AreJoined-set (shapes_of keep) (clauses_of clauses) s (stored_shape k) vacant.clause r.joined);
       ready = r.ready;
       widths = r.widths ∙ ap (λ n. 2 * n) (sym variables);
       known = omega (arith, r.known, ap length h.keeps, length-set keep s k);
@@ -278,31 +278,31 @@ shape-made a b p q =
 
 pub shapes-watched : (keep keep' : List StoredForm) (k : StoredForm) (clauses : List (List ℕ)) (s : ℕ) → IsVacant (shapes_of keep) clauses s → IsUnlisted k → keep' ≡ set keep s k → shapes_of keep' ≡ shapes_of keep
 shapes-watched keep keep' k clauses s v e keeps =
-    let inside : s < length keep = omega (arith, v.inside, length-map keep kept_shape) in
+    let inside : s < length keep = omega (arith, v.inside, length-map keep stored_shape) in
     let x = element keep s inside in
-    let shape : get_or (shapes_of keep) s (kept_shape k) ≡ kept_shape (get_or keep s k) = get_or-map kept_shape keep s k (kept_shape k) inside in
-    let same : kept_shape k ≡ kept_shape (get_or keep s k) = shape-made (kept_shape k) (get_or (shapes_of keep) s (kept_shape k)) (e.terms ∙ sym (v.terms (kept_shape k))) (e.degree ∙ sym (v.degree (kept_shape k))) ∙ shape in
-    ap shapes_of keeps ∙ map-set_same kept_shape keep s k k same
+    let shape : get_or (shapes_of keep) s (stored_shape k) ≡ stored_shape (get_or keep s k) = get_or-map stored_shape keep s k (stored_shape k) inside in
+    let same : stored_shape k ≡ stored_shape (get_or keep s k) = shape-made (stored_shape k) (get_or (shapes_of keep) s (stored_shape k)) (e.terms ∙ sym (v.terms (stored_shape k))) (e.degree ∙ sym (v.degree (stored_shape k))) ∙ shape in
+    ap shapes_of keeps ∙ map-set_same stored_shape keep s k k same
 
 nothing-total : (k : StoredForm) → terms_of k.terms ≡ [] → k.total ≡ 0
 nothing-total k h = k.sum ∙ ap (sum_by (λ t. t.coefficient)) h
 
-pub rest-watched : (store store' : Store) (run : Run) (waiting : Eager) (clauses clauses' : Clauses) (forms : List (Option Form)) (f : Form) (k : StoredForm) (s : ℕ) → slice_get forms s ≡ Some None → IsUnlisted k → store'.kept.items ≡ set store.kept.items s k →
+pub rest-watched : (store store' : Store) (run : Run) (waiting : Eager) (clauses clauses' : Clauses) (forms : List (Option Form)) (f : Form) (k : StoredForm) (s : ℕ) → slice_get forms s ≡ Some None → IsUnlisted k → store'.stored.items ≡ set store.stored.items s k →
     store'.spots ≡ store.spots → store'.occurrences ≡ store.occurrences → store'.variables ≡ store.variables → IsNormal f → IsClause f → AreReady clauses' → clauses_of clauses' ≡ set (clauses_of clauses) s (map code f.terms) → length clauses'.lists.items ≡ length clauses.lists.items →
     IsAtRest store run waiting clauses forms → IsAtRest store' run waiting clauses' (set forms s (Some f))
 rest-watched store store' run waiting clauses clauses' forms f k s none e keeps spots occ variables normal clause ready literals lists r =
-    let keep = store.kept.items in
+    let keep = store.stored.items in
     let codes = map code f.terms in
     let vacant = slots-vacant forms (shapes_of keep) (clauses_of clauses) s r.slots none in
     let bare = vacant-bare keep (clauses_of clauses) s vacant in
-    let same = shapes-watched keep store'.kept.items k (clauses_of clauses) s vacant e keeps in
+    let same = shapes-watched keep store'.stored.items k (clauses_of clauses) s vacant e keeps in
     let room : s < length (clauses_of clauses) = omega (arith, bare.inside, r.known, lists-length clauses.literals.items) in
     let some : 0 < length codes = omega (arith, clause.two, length-map f.terms code) in
     let x = exact-quit keep k waiting.list.items waiting.list.items waiting.seats.items s bare.inside e.eager waiting.seated (λ w. absurd (both_ways _ bare.idle w)) (λ w. refl) (record { eager = r.eager; exact = r.exact; few = r.few }) in
-    let y : IsExact store'.kept.items waiting.list.items = rw keeps x in
+    let y : IsExact store'.stored.items waiting.list.items = rw keeps x in
     let was = element keep s bare.inside in
-    let shape : get_or (shapes_of keep) s (kept_shape was.value) ≡ kept_shape was.value = get_or-map kept_shape keep s was.value (kept_shape was.value) bare.inside ∙ ap kept_shape (was.at was.value) in
-    let nothing : k.total ≡ (get_or keep s k).total = e.total ∙ sym (ap (λ (z : StoredForm). z.total) (was.at k) ∙ nothing-total was.value (sym (ap (λ (z : Shape). z.terms) shape) ∙ vacant.terms (kept_shape was.value))) in
+    let shape : get_or (shapes_of keep) s (stored_shape was.value) ≡ stored_shape was.value = get_or-map stored_shape keep s was.value (stored_shape was.value) bare.inside ∙ ap stored_shape (was.at was.value) in
+    let nothing : k.total ≡ (get_or keep s k).total = e.total ∙ sym (ap (λ (z : StoredForm). z.total) (was.at k) ∙ nothing-total was.value (sym (ap (λ (z : Shape). z.terms) shape) ∙ vacant.terms (stored_shape was.value))) in
     record {
       sound = rw (same, spots, occ, variables) r.sound;
       slots = rw (same, literals, joined-clause (shapes_of keep) (clauses_of clauses) s codes room some) (slots-set forms (joined (shapes_of keep) (clauses_of clauses)) s (Some f) (clause_shape codes) (clause-kept f normal clause) r.slots);
@@ -325,20 +325,20 @@ rest-watched store store' run waiting clauses clauses' forms f k s none e keeps 
       seats = omega (arith, r.seats, ap length keeps, length-set keep s k);
     }
 
-pub rest-quit : (store store' : Store) (run run' : Run) (waiting waiting' : Eager) (clauses clauses' : Clauses) (forms : List (Option Form)) (k : StoredForm) (s : ℕ) → s < length forms → IsSound store' → IsEmpty k → store'.kept.items ≡ set store.kept.items s k → run'.opens.items ≡ set run.opens.items s 0 →
+pub rest-quit : (store store' : Store) (run run' : Run) (waiting waiting' : Eager) (clauses clauses' : Clauses) (forms : List (Option Form)) (k : StoredForm) (s : ℕ) → s < length forms → IsSound store' → IsEmpty k → store'.stored.items ≡ set store.stored.items s k → run'.opens.items ≡ set run.opens.items s 0 →
     store'.variables ≡ store.variables → run'.trail ≡ run.trail → ((run'.candidates ≡ run.candidates) × (run'.assignment ≡ run.assignment) × (run'.work ≡ run.work) × (run'.next ≡ run.next) × (run'.visits ≡ run.visits)) →
-    (waits store.kept.items s ≡ true → (q : ℕ) × (slice_get waiting.list.items q ≡ Some s) × (waiting'.list.items ≡ swap_remove waiting.list.items q s)) → (waits store.kept.items s ≡ false → waiting'.list.items ≡ waiting.list.items) → length waiting'.seats.items ≡ length waiting.seats.items →
+    (waits store.stored.items s ≡ true → (q : ℕ) × (slice_get waiting.list.items q ≡ Some s) × (waiting'.list.items ≡ swap_remove waiting.list.items q s)) → (waits store.stored.items s ≡ false → waiting'.list.items ≡ waiting.list.items) → length waiting'.seats.items ≡ length waiting.seats.items →
     AreReady clauses' → clauses_of clauses' ≡ set (clauses_of clauses) s [] → length clauses'.lists.items ≡ length clauses.lists.items →
     IsAtRest store run waiting clauses forms → IsAtRest store' run' waiting' clauses' (set forms s None)
 rest-quit store store' run run' waiting waiting' clauses clauses' forms k s less sound e keeps opens variables trail same out still seats ready literals lists r =
-    let keep = store.kept.items in
-    let inside : s < length keep = omega (arith, less, slots-length forms (joined (shapes_of keep) (clauses_of clauses)) r.slots, joined-length (shapes_of keep) (clauses_of clauses), length-map keep kept_shape) in
+    let keep = store.stored.items in
+    let inside : s < length keep = omega (arith, less, slots-length forms (joined (shapes_of keep) (clauses_of clauses)) r.slots, joined-length (shapes_of keep) (clauses_of clauses), length-map keep stored_shape) in
     let x = exact-quit keep k waiting.list.items waiting'.list.items waiting.seats.items s inside e.eager waiting.seated out still (record { eager = r.eager; exact = r.exact; few = r.few }) in
-    let y : IsExact store'.kept.items waiting'.list.items = rw keeps x in
+    let y : IsExact store'.stored.items waiting'.list.items = rw keeps x in
     record {
       sound = sound;
-      slots = rw (keeps, map-set kept_shape keep s k, literals, joined-cleared (shapes_of keep) (clauses_of clauses) s (kept_shape k)) (slots-set forms (joined (shapes_of keep) (clauses_of clauses)) s None (kept_shape k) (e.terms, e.degree) r.slots);
-      joined = rw (keeps, map-set kept_shape keep s k, literals) (AreJoined-cleared (shapes_of keep) (clauses_of clauses) s (kept_shape k) (omega (arith, inside, r.known, lists-length clauses.literals.items)) r.joined);
+      slots = rw (keeps, map-set stored_shape keep s k, literals, joined-cleared (shapes_of keep) (clauses_of clauses) s (stored_shape k)) (slots-set forms (joined (shapes_of keep) (clauses_of clauses)) s None (stored_shape k) (e.terms, e.degree) r.slots);
+      joined = rw (keeps, map-set stored_shape keep s k, literals) (AreJoined-cleared (shapes_of keep) (clauses_of clauses) s (stored_shape k) (omega (arith, inside, r.known, lists-length clauses.literals.items)) r.joined);
       ready = ready;
       widths = omega (arith, lists, r.widths, variables);
       known = omega (arith, ap length literals, length-set (clauses_of clauses) s [], lists-length clauses.literals.items, lists-length clauses'.literals.items, r.known, ap length keeps, length-set keep s k);

@@ -9,19 +9,19 @@ use Rattle.pb_propagate.proofs.run.lower.Goals as goal
 pub weight_of-requires : goal.weight_of-requires
 weight_of-requires c =
     let e = c.args.entry in
-    let shape = shape-at c.args.store.now.kept.items e.form c.index-kept.result.now c.requires.form c.index-kept.ensures (record { terms = []; degree = 0 }) in
+    let shape = shape-at c.args.store.now.stored.items e.form c.index-kept.result.now c.requires.form c.index-kept.ensures (record { terms = []; degree = 0 }) in
     omega (arith, c.requires.index, ap (λ (f : Shape). length f.terms) shape)
 
 pub returns-clause-opens : goal.returns-clause-opens
 returns-clause-opens c =
     let opens = c.args.run.now.opens.items in
     let e = c.args.entry in
-    let weight = weight-read c.args.store.now.kept.items e.form e.index c.index-kept.result.now c.weight_of.result c.requires.form c.index-kept.ensures c.weight_of.ensures in
+    let weight = weight-read c.args.store.now.stored.items e.form e.index c.index-kept.result.now c.weight_of.result c.requires.form c.index-kept.ensures c.weight_of.ensures in
     ap (λ (o : ℕ). set opens e.form (o - c.weight_of.result)) (get_or_read opens e.form c.index-opened.result.now c.requires.inside c.index-opened.ensures 0) ∙ ap (λ (w : ℕ). set opens e.form (get_or opens e.form 0 - w)) weight
 
 pub returns-clause-work : goal.returns-clause-work
 returns-clause-work c =
-    let keep = c.args.store.now.kept.items in
+    let keep = c.args.store.now.stored.items in
     let run = c.args.run.now in
     let e = c.args.entry in
     let k = c.index-kept.result.now in
@@ -32,11 +32,11 @@ pub returns-clause-trail : goal.returns-clause-trail
 returns-clause-trail c =
     let run = c.args.run.now in
     let e = c.args.entry in
-    grown-by e.form run.trail.items _ (λ other. changed-at c.args.rests.now c.args.store.now.kept.items run.opens.items e.form c.index-kept.result.now c.index-opened.result.now c.requires.form c.index-kept.ensures c.requires.inside c.index-opened.ensures (λ e. other (e ∙ sym c.open-rest.ensures))) c.in_ok-note.ensures
+    grown-by e.form run.trail.items _ (λ other. changed-at c.args.rests.now c.args.store.now.stored.items run.opens.items e.form c.index-kept.result.now c.index-opened.result.now c.requires.form c.index-kept.ensures c.requires.inside c.index-opened.ensures (λ e. other (e ∙ sym c.open-rest.ensures))) c.in_ok-note.ensures
 
 pub returns-clause-falsified : goal.returns-clause-falsified
 returns-clause-falsified c = λ found d.
     let opens = c.args.run.now.opens.items in
     let e = c.args.entry in
-    let shape = shape-at c.args.store.now.kept.items e.form c.index-kept.result.now c.requires.form c.index-kept.ensures d in
+    let shape = shape-at c.args.store.now.stored.items e.form c.index-kept.result.now c.requires.form c.index-kept.ensures d in
     omega (arith, c.is_below.ensures.below found, ap (λ (f : Shape). f.degree) shape, get_or-set_same opens e.form (c.index-opened.result.now - c.weight_of.result) 0 c.requires.inside)

@@ -10,5 +10,5 @@ invariant-entries l = record {
   assignment : l.run.assignment ≡ l.initial.run.assignment;
   candidates : l.run.candidates ≡ l.initial.run.candidates;
   next : l.run.next ≡ l.initial.run.next;
-  putting : IsPutting l.rests (shapes_of l.store.kept.items) (get_or (entries_of (shapes_of l.store.kept.items) l.store.occurrences.items) (place (negation l.fn.literal)) []) l.initial.run.opens.items l.initial.run.candidates.items l.initial.run.assignment.list.items l.initial.run.work.items l.initial.run.trail.items l.initial.run.next l.initial.run.visits l.run.opens.items l.run.work.items l.run.trail.items l.run.visits l.j;
+  putting : IsPutting l.rests (shapes_of l.store.stored.items) (get_or (entries_of (shapes_of l.store.stored.items) l.store.occurrences.items) (place (negation l.fn.literal)) []) l.initial.run.opens.items l.initial.run.candidates.items l.initial.run.assignment.list.items l.initial.run.work.items l.initial.run.trail.items l.initial.run.next l.initial.run.visits l.run.opens.items l.run.work.items l.run.trail.items l.run.visits l.j;
 }

@@ -4,7 +4,7 @@ use Rattle.pb_propagate.proofs.run.undo_forms.Goals as goal
 
 pub forms-preserved : goal.forms-preserved
 forms-preserved c =
-    let keep = c.args.store.now.kept.items in
+    let keep = c.args.store.now.stored.items in
     let run = c.forms.run in
     let start = c.args.run.now in
     let same : run.trail.items ≡ start.trail.items = ap (λ (v : Vec ℕ Global). v.items) c.forms.invariant.trail in

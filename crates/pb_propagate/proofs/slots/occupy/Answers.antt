@@ -13,84 +13,84 @@ use Rattle.pb_propagate.proofs.slots.occupy.Goals as goal
 
 pub fill-requires-clause-slot : goal.fill-requires-clause-slot
 fill-requires-clause-slot c =
-    let bare = slots-bare (forms_of c.args.store.now.kept.items) c.args.store.now.kept.items (clauses_of c.args.clauses.now) c.args.slot c.requires.rest.slots c.requires.slot in
+    let bare = slots-bare (forms_of c.args.store.now.stored.items) c.args.store.now.stored.items (clauses_of c.args.clauses.now) c.args.slot c.requires.rest.slots c.requires.slot in
     bare.inside
 
 pub fill-requires-clause-empty : goal.fill-requires-clause-empty
 fill-requires-clause-empty c =
-    let bare = slots-bare (forms_of c.args.store.now.kept.items) c.args.store.now.kept.items (clauses_of c.args.clauses.now) c.args.slot c.requires.rest.slots c.requires.slot in
+    let bare = slots-bare (forms_of c.args.store.now.stored.items) c.args.store.now.stored.items (clauses_of c.args.clauses.now) c.args.slot c.requires.rest.slots c.requires.slot in
     bare.terms
 
 pub seat-requires-clause-slot : goal.seat-requires-clause-slot
 seat-requires-clause-slot c =
-    let keep = c.args.store.now.kept.items in
-    let bare = slots-bare (forms_of c.args.store.now.kept.items) keep (clauses_of c.args.clauses.now) c.args.slot c.requires.rest.slots c.requires.slot in
+    let keep = c.args.store.now.stored.items in
+    let bare = slots-bare (forms_of c.args.store.now.stored.items) keep (clauses_of c.args.clauses.now) c.args.slot c.requires.rest.slots c.requires.slot in
     let h = c.in_ok-fill.ensures.filled in
     omega (arith, bare.inside, ap length h.keeps, length-set keep c.args.slot h.kept)
 
 pub seat-requires-clause-absent : goal.seat-requires-clause-absent
 seat-requires-clause-absent c =
-    let keep = c.args.store.now.kept.items in
-    let bare = slots-bare (forms_of c.args.store.now.kept.items) keep (clauses_of c.args.clauses.now) c.args.slot c.requires.rest.slots c.requires.slot in
+    let keep = c.args.store.now.stored.items in
+    let bare = slots-bare (forms_of c.args.store.now.stored.items) keep (clauses_of c.args.clauses.now) c.args.slot c.requires.rest.slots c.requires.slot in
     exact-absent keep c.args.eager.now.list.items c.args.slot c.requires.rest.exact bare.idle
 
 pub returns-clause-rest : goal.returns-clause-rest
 returns-clause-rest c =
     let reported = c.in_ok-fill.ensures in
     let h = reported.filled in
-    let keep = c.args.store.now.kept.items in
-    rw (forms-filled keep c.fill.new.store.kept.items h.kept c.args.slot (Some c.args.form) h.keeps h.form)
+    let keep = c.args.store.now.stored.items in
+    rw (forms-filled keep c.fill.new.store.stored.items h.kept c.args.slot (Some c.args.form) h.keeps h.form)
     (rest-filled c.args.store.now c.fill.new.store c.args.run.now c.fill.new.run c.args.eager.now c.seat.new.eager c.args.clauses.now (forms_of keep) c.args.form c.args.slot reported.sound c.requires.slot h
     c.fill.ensures.variables c.fill.ensures.trail c.fill.ensures.rest c.in_ok-seat.ensures.list c.seat.ensures.seats c.requires.rest)
 
 pub returns-clause-forms : goal.returns-clause-forms
 returns-clause-forms c =
     let h = c.in_ok-fill.ensures.filled in
-    forms-filled c.args.store.now.kept.items c.fill.new.store.kept.items h.kept c.args.slot (Some c.args.form) h.keeps h.form
+    forms-filled c.args.store.now.stored.items c.fill.new.store.stored.items h.kept c.args.slot (Some c.args.form) h.keeps h.form
 
 pub returns-in_err-fill-clause-refused : goal.returns-in_err-fill-clause-refused
 returns-in_err-fill-clause-refused c =
-    let keep = c.args.store.now.kept.items in
-    let now = c.fill.new.store.kept.items in
+    let keep = c.args.store.now.stored.items in
+    let now = c.fill.new.store.stored.items in
     let reported : (forms_of now ≡ forms_of keep) ⊎ (forms_of now ≡ set (forms_of keep) c.args.slot (Some c.args.form)) = inl (ap forms_of c.in_err-fill.ensures.unchanged) in
     search (rules, reported)
 
 pub returns-in_err-seat-clause-refused : goal.returns-in_err-seat-clause-refused
 returns-in_err-seat-clause-refused c =
     let h = c.in_ok-fill.ensures.filled in
-    let keep = c.args.store.now.kept.items in
-    let now = c.fill.new.store.kept.items in
+    let keep = c.args.store.now.stored.items in
+    let now = c.fill.new.store.stored.items in
     let reported : (forms_of now ≡ forms_of keep) ⊎ (forms_of now ≡ set (forms_of keep) c.args.slot (Some c.args.form)) = inr (forms-filled keep now h.kept c.args.slot (Some c.args.form) h.keeps h.form) in
     search (rules, reported)
 
 pub watch-requires-clause-slot : goal.watch-requires-clause-slot
 watch-requires-clause-slot c =
-    let bare = slots-bare (forms_of c.args.store.now.kept.items) c.args.store.now.kept.items (clauses_of c.args.clauses.now) c.args.slot c.requires.rest.slots c.requires.slot in
+    let bare = slots-bare (forms_of c.args.store.now.stored.items) c.args.store.now.stored.items (clauses_of c.args.clauses.now) c.args.slot c.requires.rest.slots c.requires.slot in
     bare.inside
 
 pub watch-requires-clause-empty : goal.watch-requires-clause-empty
 watch-requires-clause-empty c =
-    (slots-vacant (forms_of c.args.store.now.kept.items) (shapes_of c.args.store.now.kept.items) (clauses_of c.args.clauses.now) c.args.slot c.requires.rest.slots c.requires.slot).clause
+    (slots-vacant (forms_of c.args.store.now.stored.items) (shapes_of c.args.store.now.stored.items) (clauses_of c.args.clauses.now) c.args.slot c.requires.rest.slots c.requires.slot).clause
 
 pub returns-then-is_clause-clause-rest : goal.returns-then-is_clause-clause-rest
 returns-then-is_clause-clause-rest c =
     let reported = c.in_ok-watch.ensures in
     let k = reported.kept in
     let rest = c.watch.ensures.rest in
-    let keep = c.args.store.now.kept.items in
-    rw (forms-filled keep c.watch.new.store.kept.items k.0 c.args.slot (Some c.args.form) k.3 k.1)
+    let keep = c.args.store.now.stored.items in
+    rw (forms-filled keep c.watch.new.store.stored.items k.0 c.args.slot (Some c.args.form) k.3 k.1)
     (rest-watched c.args.store.now c.watch.new.store c.args.run.now c.args.eager.now c.args.clauses.now c.watch.new.clauses (forms_of keep) c.args.form k.0 c.args.slot c.requires.slot k.2 k.3
     rest.0 rest.1 rest.2 (rw c.form.ensures at c.is_clause.ensures.normal) (rw c.form.ensures at (c.is_clause.ensures.yes c.if-is_clause.true)) reported.ready reported.literals reported.lists c.requires.rest)
 
 pub returns-then-is_clause-clause-forms : goal.returns-then-is_clause-clause-forms
 returns-then-is_clause-clause-forms c =
     let k = c.in_ok-watch.ensures.kept in
-    forms-filled c.args.store.now.kept.items c.watch.new.store.kept.items k.0 c.args.slot (Some c.args.form) k.3 k.1
+    forms-filled c.args.store.now.stored.items c.watch.new.store.stored.items k.0 c.args.slot (Some c.args.form) k.3 k.1
 
 pub returns-in_err-watch-clause-refused : goal.returns-in_err-watch-clause-refused
 returns-in_err-watch-clause-refused c =
-    let keep = c.args.store.now.kept.items in
-    let now = c.watch.new.store.kept.items in
+    let keep = c.args.store.now.stored.items in
+    let now = c.watch.new.store.stored.items in
     let reported : (forms_of now ≡ forms_of keep) ⊎ (forms_of now ≡ set (forms_of keep) c.args.slot (Some c.args.form)) = inl (ap forms_of c.in_err-watch.ensures.unchanged) in
     search (rules, reported)
 
@@ -98,7 +98,7 @@ pub returns-clause-gained : goal.returns-clause-gained
 returns-clause-gained c =
     let store = c.args.store.now in
     let h = c.in_ok-fill.ensures.filled in
-    let vacant = slots-vacant (forms_of store.kept.items) (shapes_of store.kept.items) (clauses_of c.args.clauses.now) c.args.slot c.requires.rest.slots c.requires.slot in
+    let vacant = slots-vacant (forms_of store.stored.items) (shapes_of store.stored.items) (clauses_of c.args.clauses.now) c.args.slot c.requires.rest.slots c.requires.slot in
     gained-filled store c.fill.new.store c.args.clauses.now c.args.clauses.now c.args.slot h.kept c.fill.ensures.variables h.keeps (λ s apart. refl) (λ e apart. refl) vacant
 
 pub returns-then-is_clause-clause-gained : goal.returns-then-is_clause-clause-gained
@@ -106,5 +106,5 @@ returns-then-is_clause-clause-gained c =
     let store = c.args.store.now in
     let reported = c.in_ok-watch.ensures in
     let k = reported.kept in
-    let vacant = slots-vacant (forms_of store.kept.items) (shapes_of store.kept.items) (clauses_of c.args.clauses.now) c.args.slot c.requires.rest.slots c.requires.slot in
+    let vacant = slots-vacant (forms_of store.stored.items) (shapes_of store.stored.items) (clauses_of c.args.clauses.now) c.args.slot c.requires.rest.slots c.requires.slot in
     gained-filled store c.watch.new.store c.args.clauses.now c.watch.new.clauses c.args.slot k.0 c.watch.ensures.rest.2 k.3 (λ s apart. ap (λ (cs : List (List ℕ)). list_at cs s) reported.literals ∙ get_or-set_other (clauses_of c.args.clauses.now) c.args.slot s (map code c.args.form.terms) [] apart) reported.watches vacant

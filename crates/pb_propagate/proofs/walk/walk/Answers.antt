@@ -16,7 +16,7 @@ use Rattle.pb_propagate.proofs.walk.walk.Goals as goal
 
 pub watches-init : goal.watches-init
 watches-init c = record {
-  walking = walking-start (shapes_of c.args.store.now.kept.items) (entries_of (shapes_of c.args.store.now.kept.items) c.args.store.now.occurrences.items) c.args.clauses.now c.args.run.now.assignment.values.items c.args.run.now.assignment.list.items c.args.literal c.args.run.now.visits c.requires.running c.requires.failed;
+  walking = walking-start (shapes_of c.args.store.now.stored.items) (entries_of (shapes_of c.args.store.now.stored.items) c.args.store.now.occurrences.items) c.args.clauses.now c.args.run.now.assignment.values.items c.args.run.now.assignment.list.items c.args.literal c.args.run.now.visits c.requires.running c.requires.failed;
   values = refl;
   opens = refl;
   candidates = refl;
@@ -33,7 +33,7 @@ watches-init c = record {
 pub watches-preserved-in-Stays : goal.watches-preserved-in-Stays
 watches-preserved-in-Stays c =
     let w = c.watches.invariant.walking in
-    let shapes = shapes_of c.args.store.now.kept.items in
+    let shapes = shapes_of c.args.store.now.stored.items in
     let lists = entries_of shapes c.args.store.now.occurrences.items in
     let values = c.watches.run.assignment.values.items in
     let room : c.args.literal < length c.watches.clauses.lists.items = omega (arith, c.requires.literal, w.sizes) in
@@ -61,7 +61,7 @@ watches-preserved-in-Stays c =
 pub watches-preserved-in-Leaves : goal.watches-preserved-in-Leaves
 watches-preserved-in-Leaves c =
     let w = c.watches.invariant.walking in
-    let shapes = shapes_of c.args.store.now.kept.items in
+    let shapes = shapes_of c.args.store.now.stored.items in
     let lists = entries_of shapes c.args.store.now.occurrences.items in
     let values = c.watches.run.assignment.values.items in
     let room : c.args.literal < length c.watches.clauses.lists.items = omega (arith, c.requires.literal, w.sizes) in
@@ -101,7 +101,7 @@ put-requires-clause-not_falsified c =
 pub watches-preserved : goal.watches-preserved
 watches-preserved c =
     let w = c.watches.invariant.walking in
-    let shapes = shapes_of c.args.store.now.kept.items in
+    let shapes = shapes_of c.args.store.now.stored.items in
     let lists = entries_of shapes c.args.store.now.occurrences.items in
     let values = c.watches.run.assignment.values.items in
     let room : c.args.literal < length c.watches.clauses.lists.items = omega (arith, c.requires.literal, w.sizes) in
@@ -135,7 +135,7 @@ watches-preserved c =
 pub returns-in-Falsified-clause-conflict : goal.returns-in-Falsified-clause-conflict
 returns-in-Falsified-clause-conflict c = λ yes.
     let w = c.watches.invariant.walking in
-    let shapes = shapes_of c.args.store.now.kept.items in
+    let shapes = shapes_of c.args.store.now.stored.items in
     let found = subst (HasFound c.watches.run.assignment.values.items c.watches.clauses c.visit_clause.new.clauses c.args.literal c.watches.index) c.in-Falsified.is (subst (λ vs. HasFound vs c.watches.clauses c.visit_clause.new.clauses c.args.literal c.watches.index c.in_ok-visit_clause.field-0) c.as_slice.ensures.value c.in_ok-visit_clause.ensures.found) in
     let same = c.in_ok-visit_clause.ensures.literals ∙ w.literals in
     broken-conflicts shapes (clauses_of c.args.clauses.now) c.watches.run.assignment.values.items c.watches.run.assignment.list.items c.requires.joined c.watches.run.assignment.agrees (subst (λ ls. IsBroken c.watches.run.assignment.values.items (lists_of ls.items)) same found)
@@ -149,10 +149,10 @@ returns-clause-walked c = λ no_conflict walked s.
     (w.served walked s)
 
 -- where a form is falsified: the literal was put
-forced : (c : goal.Then-branch) → IsWalking (shapes_of c.args.store.now.kept.items) (entries_of (shapes_of c.args.store.now.kept.items) c.args.store.now.occurrences.items) c.args.clauses.now c.visit_clause.new.clauses c.args.run.now.assignment.values.items c.put.new.run.assignment.values.items c.args.run.now.assignment.list.items c.put.new.run.assignment.list.items c.args.literal (c.watches.index + 1) c.args.run.now.visits c.put.new.run.visits
+forced : (c : goal.Then-branch) → IsWalking (shapes_of c.args.store.now.stored.items) (entries_of (shapes_of c.args.store.now.stored.items) c.args.store.now.occurrences.items) c.args.clauses.now c.visit_clause.new.clauses c.args.run.now.assignment.values.items c.put.new.run.assignment.values.items c.args.run.now.assignment.list.items c.put.new.run.assignment.list.items c.args.literal (c.watches.index + 1) c.args.run.now.visits c.put.new.run.visits
 forced c =
     let w = c.watches.invariant.walking in
-    let shapes = shapes_of c.args.store.now.kept.items in
+    let shapes = shapes_of c.args.store.now.stored.items in
     let lists = entries_of shapes c.args.store.now.occurrences.items in
     let values = c.watches.run.assignment.values.items in
     let room : c.args.literal < length c.watches.clauses.lists.items = omega (arith, c.requires.literal, w.sizes) in
@@ -181,7 +181,7 @@ returns-then-branch-clause-grows c = (forced c).grows
 
 pub returns-then-branch-clause-conflict : goal.returns-then-branch-clause-conflict
 returns-then-branch-clause-conflict c = λ found.
-    conflicts-joined (shapes_of c.args.store.now.kept.items) (clauses_of c.args.clauses.now) c.put.new.run.assignment.list.items c.requires.joined (c.in_ok-put-in-Forces.ensures.conflict c.if-branch.true)
+    conflicts-joined (shapes_of c.args.store.now.stored.items) (clauses_of c.args.clauses.now) c.put.new.run.assignment.list.items c.requires.joined (c.in_ok-put-in-Forces.ensures.conflict c.if-branch.true)
 
 pub returns-then-branch-clause-tidy : goal.returns-then-branch-clause-tidy
 returns-then-branch-clause-tidy c = λ aside busy t. c.in_ok-put-in-Forces.ensures.tidy aside busy (c.watches.invariant.tidy aside busy t)

@@ -51,7 +51,7 @@ clauses_of c = lists_of c.literals.items
 
 -- the constraints of all slots
 abbrev pub all_of : Store → Clauses → List Shape
-all_of store clauses = joined (shapes_of store.kept.items) (clauses_of clauses)
+all_of store clauses = joined (shapes_of store.stored.items) (clauses_of clauses)
 
 -- the coefficient is 1, and the code fits in 4 bytes
 pub record IsLight (e : Entry) : Type 0 where

@@ -7,15 +7,15 @@ use Rattle.pb_propagate.specs.declared.store.Store.{Store}
 use Rattle.pb_propagate.specs.declared.store.Visited.{Visited}
 use Rattle.pb_propagate.specs.engine.Engine.Lists.{Shape, Weighted}
 use Rattle.pb_normal.specs.meaning.Form.{Form}
-use Rattle.pb_propagate.specs.engine.Engine.Forms.{IsKeptAs}
+use Rattle.pb_propagate.specs.engine.Engine.Forms.{IsStoredAs}
 use Rattle.pb_propagate.specs.engine.Engine.Terms.{terms_of}
 use Rattle.pb_propagate.specs.engine.Engine.Links.{IsStored, weighted}
 
-abbrev pub kept_shape : StoredForm → Shape
-kept_shape k = record { terms = terms_of k.terms; degree = k.degree }
+abbrev pub stored_shape : StoredForm → Shape
+stored_shape k = record { terms = terms_of k.terms; degree = k.degree }
 
 abbrev pub shapes_of : List StoredForm → List Shape
-shapes_of kept = map kept_shape kept
+shapes_of kept = map stored_shape kept
 
 -- the forms, none in the slot of a removed one
 abbrev pub forms_of : List StoredForm → List (Option Form)
@@ -37,12 +37,12 @@ spots_of spots = map (λ v. v.items) spots
 
 -- the store's parts belong together
 abbrev pub IsSound : Store → Type 0
-IsSound s = IsStored (shapes_of s.kept.items) (spots_of s.spots.items) (entries_of (shapes_of s.kept.items) s.occurrences.items) s.variables
+IsSound s = IsStored (shapes_of s.stored.items) (spots_of s.spots.items) (entries_of (shapes_of s.stored.items) s.occurrences.items) s.variables
 
 -- a form is added after the others, with its open sum and its candidate as at rest
 pub record HasEntered (f : Form) (keep keep' : List StoredForm) (opens opens' cands cands' : List ℕ) : Type 0 where
   pub kept : StoredForm
-  pub is : IsKeptAs f (kept_shape kept)
+  pub is : IsStoredAs f (stored_shape kept)
   pub form : kept.terms.form ≡ Some f
   pub keeps : keep' ≡ keep ++ (kept ∷ [])
   pub opened : opens' ≡ opens ++ (kept.total ∷ [])
@@ -51,7 +51,7 @@ pub record HasEntered (f : Form) (keep keep' : List StoredForm) (opens opens' ca
 -- a form is stored in the slot of an empty one, with its open sum as at rest
 pub record HasFilled (f : Form) (slot : ℕ) (keep keep' : List StoredForm) (opens opens' : List ℕ) : Type 0 where
   pub kept : StoredForm
-  pub is : IsKeptAs f (kept_shape kept)
+  pub is : IsStoredAs f (stored_shape kept)
   pub form : kept.terms.form ≡ Some f
   pub keeps : keep' ≡ slice_set keep slot kept
   pub opened : opens' ≡ slice_set opens slot kept.total

@@ -32,7 +32,7 @@ abbrev pub AreAll : List Entry → List ℕ → Type 0
 AreAll es places = All (λ p. p < length es) places × (map entry_of (picked es places) ≡ es)
 
 -- the same terms, perhaps in another order
-pub record IsKeptAs (f : Form) (s : Shape) : Type 0 where
+pub record IsStoredAs (f : Form) (s : Shape) : Type 0 where
   pub terms : IsPermutation (map entry_of s.terms) f.terms
   pub degree : s.degree ≡ f.degree
   pub normal : IsNormal f

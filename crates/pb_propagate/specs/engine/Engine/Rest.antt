@@ -7,7 +7,7 @@ use Rattle.pb_propagate.specs.declared.store.stored_form.StoredForm.{StoredForm}
 use Rattle.pb_propagate.specs.declared.store.Store.{Store}
 use Rattle.pb_propagate.specs.declared.run.Run.{Run}
 use Rattle.pb_propagate.specs.declared.eager.Eager.{Eager}
-use Rattle.pb_propagate.specs.engine.Engine.Forms.{IsKeptAs}
+use Rattle.pb_propagate.specs.engine.Engine.Forms.{IsStoredAs}
 use Rattle.pb_propagate.specs.engine.Engine.Lists.{Shape, has, IsWithin, Derives, Conflicts, IsSettled}
 use Rattle.pb_propagate.specs.engine.Engine.Counts.{IsAbsent}
 use Rattle.pb_propagate.specs.engine.Engine.Fields.{shapes_of, IsSound}
@@ -18,7 +18,7 @@ use Rattle.pb_propagate.specs.engine.Clauses.Shapes.{AreJoined, clauses_of, all_
 -- a form as it is stored; the slot of a removed form has an empty one
 abbrev pub IsSlot : Option Form → Shape → Type 0
 IsSlot None x = (x.terms ≡ []) × (x.degree ≡ 0)
-IsSlot (Some f) x = IsKeptAs f x
+IsSlot (Some f) x = IsStoredAs f x
 
 abbrev pub AreSlots : List (Option Form) → List Shape → Type 0
 AreSlots [] [] = Unit {0}
@@ -55,20 +55,20 @@ pub record AreAtRest (keep : List StoredForm) (opens cands : List ℕ) : Type 0 
 pub record IsAtRest (store : Store) (run : Run) (waiting : Eager) (clauses : Clauses) (forms : List (Option Form)) : Type 0 where
   pub sound : IsSound store
   pub slots : AreSlots forms (all_of store clauses)
-  pub joined : AreJoined (shapes_of store.kept.items) (clauses_of clauses)
+  pub joined : AreJoined (shapes_of store.stored.items) (clauses_of clauses)
   pub ready : AreReady clauses
   pub widths : length clauses.lists.items ≡ 2 * store.variables
-  pub known : length clauses.literals.items ≡ length store.kept.items
-  pub rest : AreAtRest store.kept.items run.opens.items run.candidates.items
+  pub known : length clauses.literals.items ≡ length store.stored.items
+  pub rest : AreAtRest store.stored.items run.opens.items run.candidates.items
   pub values : length run.assignment.values.items ≡ store.variables
   pub list : run.assignment.list.items ≡ []
   pub work : run.work.items ≡ []
   pub trail : run.trail.items ≡ []
   pub next : run.next ≡ 0
-  pub eager : IsEager store.kept.items waiting.list.items
-  pub exact : AllWait store.kept.items waiting.list.items
-  pub few : length waiting.list.items ≤ sum_by eager_one store.kept.items
-  pub seats : length waiting.seats.items ≡ length store.kept.items
+  pub eager : IsEager store.stored.items waiting.list.items
+  pub exact : AllWait store.stored.items waiting.list.items
+  pub few : length waiting.list.items ≤ sum_by eager_one store.stored.items
+  pub seats : length waiting.seats.items ≡ length store.stored.items
 
 -- a derivation from the given literals, in any order
 pub record IsDerived (shapes : List Shape) (given list : List NumberedLiteral) : Type 0 where

@@ -23,10 +23,10 @@ pub record IsRooted (store : Store) (clauses : Clauses) (run : Run) (rests : Res
   pub values : length run.assignment.values.items ≡ store.variables
   pub opens : run.opens.items ≡ rests.opens.items
   pub starts : run.candidates.items ≡ rests.starts.items
-  pub open_sizes : length run.opens.items ≡ length store.kept.items
-  pub start_sizes : length run.candidates.items ≡ length store.kept.items
-  pub counted : (s : ℕ) (d : Shape) → s < length store.kept.items → (s ≡ busy → ⊥) → slice_index run.opens.items s ≡ open_sum run.assignment.list.items (slice_index_or (shapes_of store.kept.items) s d).terms
-  pub tidy : IsTidy (beside rests []) (shapes_of store.kept.items) run.opens.items run.candidates.items run.assignment.list.items [] [] 0 busy
+  pub open_sizes : length run.opens.items ≡ length store.stored.items
+  pub start_sizes : length run.candidates.items ≡ length store.stored.items
+  pub counted : (s : ℕ) (d : Shape) → s < length store.stored.items → (s ≡ busy → ⊥) → slice_index run.opens.items s ≡ open_sum run.assignment.list.items (slice_index_or (shapes_of store.stored.items) s d).terms
+  pub tidy : IsTidy (beside rests []) (shapes_of store.stored.items) run.opens.items run.candidates.items run.assignment.list.items [] [] 0 busy
   pub work : run.work.items ≡ []
   pub trail : run.trail.items ≡ []
   pub next : run.next ≡ 0
@@ -58,7 +58,7 @@ IsSameWatch old new = (new.live ≡ old.live) × (new.literal ≡ old.literal)
 -- the form of a slot went
 pub record HasVacated (before : Store) (old : Clauses) (store : Store) (clauses : Clauses) (slot : ℕ) : Type 0 where
   pub variables : store.variables ≡ before.variables
-  pub kept : (k : StoredForm) × IsEmpty k × (store.kept.items ≡ slice_set before.kept.items slot k)
+  pub kept : (k : StoredForm) × IsEmpty k × (store.stored.items ≡ slice_set before.stored.items slot k)
   pub emptied : clauses_of clauses ≡ slice_set (clauses_of old) slot []
   pub watched : (e : ℕ) → (e / 2 ≡ slot → ⊥) → IsSameWatch (watch_at old.watches.items e) (watch_at clauses.watches.items e)
 
@@ -76,8 +76,8 @@ pub record HasLost (run run' : Run) (rests rests' : Rests) (slot : ℕ) : Type 0
 -- a form came into a slot that was empty, or into a new one
 pub record HasGained (before : Store) (old : Clauses) (store : Store) (clauses : Clauses) (slot : ℕ) : Type 0 where
   pub variables : store.variables ≡ before.variables
-  pub longer : (length store.kept.items ≡ length before.kept.items) ⊎ ((length store.kept.items ≡ length before.kept.items + 1) × (slot ≡ length before.kept.items))
-  pub kept : (s : ℕ) → (s ≡ slot → ⊥) → slice_get store.kept.items s ≡ slice_get before.kept.items s
+  pub longer : (length store.stored.items ≡ length before.stored.items) ⊎ ((length store.stored.items ≡ length before.stored.items + 1) × (slot ≡ length before.stored.items))
+  pub kept : (s : ℕ) → (s ≡ slot → ⊥) → slice_get store.stored.items s ≡ slice_get before.stored.items s
   pub filled : (s : ℕ) → (s ≡ slot → ⊥) → list_at (clauses_of clauses) s ≡ list_at (clauses_of old) s
   pub bare : (x : Shape) → slice_get (all_of before old) slot ≡ Some x → x.terms ≡ []
   pub watched : (e : ℕ) → (e / 2 ≡ slot → ⊥) → watch_at clauses.watches.items e ≡ watch_at old.watches.items e
@@ -94,7 +94,7 @@ pub record HasReached (run run' : Run) (rests rests' : Rests) (slot : ℕ) : Typ
 
 -- nothing changed, or an empty slot came after the others
 pub record HasWidened (before : Store) (old : Clauses) (store : Store) (clauses : Clauses) (slot : ℕ) : Type 0 where
-  pub kept : ((store.kept.items ≡ before.kept.items) × (clauses_of clauses ≡ clauses_of old)) ⊎ ((slot ≡ length before.kept.items) × (k : StoredForm) × (store.kept.items ≡ before.kept.items ++ (k ∷ [])) × (clauses_of clauses ≡ clauses_of old ++ ([] ∷ [])))
+  pub kept : ((store.stored.items ≡ before.stored.items) × (clauses_of clauses ≡ clauses_of old)) ⊎ ((slot ≡ length before.stored.items) × (k : StoredForm) × (store.stored.items ≡ before.stored.items ++ (k ∷ [])) × (clauses_of clauses ≡ clauses_of old ++ ([] ∷ [])))
   pub watched : (e : ℕ) → watch_at clauses.watches.items e ≡ watch_at old.watches.items e
 
 -- what a propagation from nothing has found: each literal of its list was visited

@@ -15,14 +15,14 @@ settle-requires-clause-counted c =
     let e = c.self.inside in
     let both = c.self.invariant (ap (λ (v : Standing). v.spent) c.self.view_is ∙ c.requires.ready) in
     let r = both.0 in
-    rw r.list (rest-counted c.none-rests.result (shapes_of e.store.kept.items) e.run.opens.items e.run.candidates.items c.none-rests.ensures.opens (rest-undone c.none-rests.result e.store.kept.items e.run.opens.items e.run.candidates.items c.none-rests.ensures.opens c.none-rests.ensures.starts r.rest))
+    rw r.list (rest-counted c.none-rests.result (shapes_of e.store.stored.items) e.run.opens.items e.run.candidates.items c.none-rests.ensures.opens (rest-undone c.none-rests.result e.store.stored.items e.run.opens.items e.run.candidates.items c.none-rests.ensures.opens c.none-rests.ensures.starts r.rest))
 
 pub settle-requires-clause-tidy : goal.settle-requires-clause-tidy
 settle-requires-clause-tidy c =
     let e = c.self.inside in
     let both = c.self.invariant (ap (λ (v : Standing). v.spent) c.self.view_is ∙ c.requires.ready) in
     let r = both.0 in
-    let keep = e.store.kept.items in
+    let keep = e.store.stored.items in
     let tidy = rest-tidy-all c.none-rests.result keep e.eager.list.items e.run.opens.items e.run.candidates.items c.none-rests.ensures.opens c.none-rests.ensures.starts r.rest r.eager in
     rw (c.as_slice.ensures.value, r.list, r.work, r.trail, r.next) tidy
 
@@ -65,7 +65,7 @@ returns-then-found-clause-conflict c =
     let both = c.self.invariant (ap (λ (v : Standing). v.spent) c.self.view_is ∙ c.requires.ready) in
     let r = both.0 in
     let shapes = all_of e.store e.clauses in
-    rw (← c.self.view_is) (refuted-meets (Live (numbered (forms_of e.store.kept.items) e.places.items)) shapes c.args.given.now (c.in_ok-found.ensures.refuted c.if-found.true).0 (placed-kept (forms_of e.store.kept.items) e.places.items shapes both.1 (slots-kept (forms_of e.store.kept.items) shapes r.slots)) (c.in_ok-found.ensures.refuted c.if-found.true).1)
+    rw (← c.self.view_is) (refuted-meets (Live (numbered (forms_of e.store.stored.items) e.places.items)) shapes c.args.given.now (c.in_ok-found.ensures.refuted c.if-found.true).0 (placed-kept (forms_of e.store.stored.items) e.places.items shapes both.1 (slots-kept (forms_of e.store.stored.items) shapes r.slots)) (c.in_ok-found.ensures.refuted c.if-found.true).1)
 
 pub invariant_of-self-2 : goal.invariant_of-self-2
 invariant_of-self-2 c = λ ready.
@@ -102,7 +102,7 @@ returns-clause-no_conflict c =
     let r = both.0 in
     let shapes = all_of e.store e.clauses in
     let done = c.settle.new.run.assignment in
-    rw (← c.self.view_is) (ended-free (Live (numbered (forms_of e.store.kept.items) e.places.items)) shapes c.args.given.now done.list.items done.values.items (placed-kept (forms_of e.store.kept.items) e.places.items shapes both.1 (slots-kept (forms_of e.store.kept.items) shapes r.slots)) done.agrees (c.in_ok-found.ensures.ended c.if-found.false))
+    rw (← c.self.view_is) (ended-free (Live (numbered (forms_of e.store.stored.items) e.places.items)) shapes c.args.given.now done.list.items done.values.items (placed-kept (forms_of e.store.stored.items) e.places.items shapes both.1 (slots-kept (forms_of e.store.stored.items) shapes r.slots)) done.agrees (c.in_ok-found.ensures.ended c.if-found.false))
 
 pub returns-clause-completed : goal.returns-clause-completed
 returns-clause-completed c =
@@ -111,7 +111,7 @@ returns-clause-completed c =
     let r = both.0 in
     let shapes = all_of e.store e.clauses in
     let done = c.settle.new.run.assignment in
-    rw (← c.self.view_is) (ended-completion (Live (numbered (forms_of e.store.kept.items) e.places.items)) shapes c.args.given.now done.list.items done.values.items _ (placed-kept (forms_of e.store.kept.items) e.places.items shapes both.1 (slots-kept (forms_of e.store.kept.items) shapes r.slots)) done.agrees (c.in_ok-extend_from_slice.ensures.items ∙ ap (λ xs. xs ++ c.as_slice-2.result.now) c.new-values.ensures.items ∙ c.as_slice-2.ensures.value) (c.in_ok-found.ensures.ended c.if-found.false))
+    rw (← c.self.view_is) (ended-completion (Live (numbered (forms_of e.store.stored.items) e.places.items)) shapes c.args.given.now done.list.items done.values.items _ (placed-kept (forms_of e.store.stored.items) e.places.items shapes both.1 (slots-kept (forms_of e.store.stored.items) shapes r.slots)) done.agrees (c.in_ok-extend_from_slice.ensures.items ∙ ap (λ xs. xs ++ c.as_slice-2.result.now) c.new-values.ensures.items ∙ c.as_slice-2.ensures.value) (c.in_ok-found.ensures.ended c.if-found.false))
 
 pub invariant_of-self-in_err-extend_from_slice : goal.invariant_of-self-in_err-extend_from_slice
 invariant_of-self-in_err-extend_from_slice c = λ ready. absurd cc

@@ -13,9 +13,9 @@ pub invariant_of-self-2 : goal.invariant_of-self-2
 invariant_of-self-2 c = λ ready.
     let e = c.self.inside in
     let r = c.self.invariant (ap (λ (v : Standing). v.spent) c.self.view_is ∙ c.requires.ready) in
-    let keep = c.vacancy.new.store.kept in
+    let keep = c.vacancy.new.store.stored in
     let forms = forms_of keep.items in
-    let was = forms_of e.store.kept.items in
+    let was = forms_of e.store.stored.items in
     let slot = c.in_ok-slot.slot in
     let none = c.in_ok-slot.ensures.slot in
     let small : slot < 2 ^ 64 - 1 = omega (arith, slice_get_within forms slot None none, keep.ok.0, keep.ok.1, forms-length keep.items) in
@@ -25,24 +25,24 @@ invariant_of-self-2 c = λ ready.
 pub returns-in_err-slot-clause-unchanged : goal.returns-in_err-slot-clause-unchanged
 returns-in_err-slot-clause-unchanged c =
     let e = c.self.inside in
-    let was = forms_of e.store.kept.items in
-    let same : numbered (forms_of c.vacancy.new.store.kept.items) e.places.items ≡ c.args.self.now.forms =
-    numbered-same was (forms_of c.vacancy.new.store.kept.items) e.places.items (λ n s h. c.vacancy.ensures.forms s) ∙ ap (λ (v : Standing). v.forms) c.self.view_is in
+    let was = forms_of e.store.stored.items in
+    let same : numbered (forms_of c.vacancy.new.store.stored.items) e.places.items ≡ c.args.self.now.forms =
+    numbered-same was (forms_of c.vacancy.new.store.stored.items) e.places.items (λ n s h. c.vacancy.ensures.forms s) ∙ ap (λ (v : Standing). v.forms) c.self.view_is in
     search (rules, same)
 
 pub returns-in_err-occupy-clause-unchanged : goal.returns-in_err-occupy-clause-unchanged
 returns-in_err-occupy-clause-unchanged c =
     let e = c.self.inside in
     let r = c.self.invariant (ap (λ (v : Standing). v.spent) c.self.view_is ∙ c.requires.ready) in
-    let keep = c.vacancy.new.store.kept in
+    let keep = c.vacancy.new.store.stored in
     let forms = forms_of keep.items in
-    let was = forms_of e.store.kept.items in
+    let was = forms_of e.store.stored.items in
     let slot = c.in_ok-slot.slot in
     let none = c.in_ok-slot.ensures.slot in
     let small : slot < 2 ^ 64 - 1 = omega (arith, slice_get_within forms slot None none, keep.ok.0, keep.ok.1, forms-length keep.items) in
     let placed = placed-agree was forms e.places.items c.vacancy.ensures.forms r.1 in
     let same = numbered-same was forms e.places.items (λ n s h. c.vacancy.ensures.forms s) ∙ ap (λ (v : Standing). v.forms) c.self.view_is in
-    let reported : numbered (forms_of c.occupy.new.store.kept.items) e.places.items ≡ c.args.self.now.forms = elim c.in_err-occupy.ensures.refused [
+    let reported : numbered (forms_of c.occupy.new.store.stored.items) e.places.items ≡ c.args.self.now.forms = elim c.in_err-occupy.ensures.refused [
       | inl still ↦ ap (λ fs. numbered fs e.places.items) still ∙ same
       | inr filled ↦ ap (λ fs. numbered fs e.places.items) filled ∙ numbered-filled forms e.places.items slot c.args.form none small placed ∙ same
     ] in
@@ -52,9 +52,9 @@ pub returns-in_err-push-clause-unchanged : goal.returns-in_err-push-clause-uncha
 returns-in_err-push-clause-unchanged c =
     let e = c.self.inside in
     let r = c.self.invariant (ap (λ (v : Standing). v.spent) c.self.view_is ∙ c.requires.ready) in
-    let keep = c.vacancy.new.store.kept in
+    let keep = c.vacancy.new.store.stored in
     let forms = forms_of keep.items in
-    let was = forms_of e.store.kept.items in
+    let was = forms_of e.store.stored.items in
     let slot = c.in_ok-slot.slot in
     let none = c.in_ok-slot.ensures.slot in
     let small : slot < 2 ^ 64 - 1 = omega (arith, slice_get_within forms slot None none, keep.ok.0, keep.ok.1, forms-length keep.items) in
@@ -67,9 +67,9 @@ pub returns-in_err-follow-clause-unchanged : goal.returns-in_err-follow-clause-u
 returns-in_err-follow-clause-unchanged c =
     let e = c.self.inside in
     let r = c.self.invariant (ap (λ (v : Standing). v.spent) c.self.view_is ∙ c.requires.ready) in
-    let keep = c.vacancy.new.store.kept in
+    let keep = c.vacancy.new.store.stored in
     let forms = forms_of keep.items in
-    let was = forms_of e.store.kept.items in
+    let was = forms_of e.store.stored.items in
     let slot = c.in_ok-slot.slot in
     let none = c.in_ok-slot.ensures.slot in
     let small : slot < 2 ^ 64 - 1 = omega (arith, slice_get_within forms slot None none, keep.ok.0, keep.ok.1, forms-length keep.items) in
@@ -82,9 +82,9 @@ pub returns-clause-forms : goal.returns-clause-forms
 returns-clause-forms c =
     let e = c.self.inside in
     let r = c.self.invariant (ap (λ (v : Standing). v.spent) c.self.view_is ∙ c.requires.ready) in
-    let keep = c.vacancy.new.store.kept in
+    let keep = c.vacancy.new.store.stored in
     let forms = forms_of keep.items in
-    let was = forms_of e.store.kept.items in
+    let was = forms_of e.store.stored.items in
     let slot = c.in_ok-slot.slot in
     let none = c.in_ok-slot.ensures.slot in
     let small : slot < 2 ^ 64 - 1 = omega (arith, slice_get_within forms slot None none, keep.ok.0, keep.ok.1, forms-length keep.items) in

@@ -16,11 +16,11 @@ pub invariant_of-self : goal.invariant_of-self
 invariant_of-self c = λ ready.
     let e = c.self.inside in
     let r = c.self.invariant ready in
-    let inside : c.args.number < length e.places.items = omega (arith, c.requires.number, ap (λ (v : Standing). length v.forms) c.self.view_is, numbered-length (forms_of e.store.kept.items) e.places.items) in
-    let t = taken-by (forms_of e.store.kept.items) e.places.items c.args.number c.index-slot.result.now inside c.index-slot.ensures (omega (arith, c.if-slot-len.false, c.len.ensures, e.store.kept.ok.0, forms-length e.store.kept.items)) (omega (arith, e.store.kept.ok.0, e.store.kept.ok.1, forms-length e.store.kept.items)) r.1 in
-    let room : c.index-slot.result.now < length e.store.kept.items = omega (arith, c.if-slot-len.false, c.len.ensures, e.store.kept.ok.0) in (
+    let inside : c.args.number < length e.places.items = omega (arith, c.requires.number, ap (λ (v : Standing). length v.forms) c.self.view_is, numbered-length (forms_of e.store.stored.items) e.places.items) in
+    let t = taken-by (forms_of e.store.stored.items) e.places.items c.args.number c.index-slot.result.now inside c.index-slot.ensures (omega (arith, c.if-slot-len.false, c.len.ensures, e.store.stored.ok.0, forms-length e.store.stored.items)) (omega (arith, e.store.stored.ok.0, e.store.stored.ok.1, forms-length e.store.stored.items)) r.1 in
+    let room : c.index-slot.result.now < length e.store.stored.items = omega (arith, c.if-slot-len.false, c.len.ensures, e.store.stored.ok.0) in (
       c.quit.ensures.rest,
-      rw c.quit.ensures.forms (placed-left (forms_of e.store.kept.items) e.places.items c.args.number c.index-slot.result.now t r.1),
+      rw c.quit.ensures.forms (placed-left (forms_of e.store.stored.items) e.places.items c.args.number c.index-slot.result.now t r.1),
       λ live.
           let lost = c.lose.ensures.lost live in
           lost-rooted e.store c.quit.new.store e.clauses c.quit.new.clauses e.root.run c.lose.new.self.run e.root.rests c.lose.new.self.rests c.index-slot.result.now room (omega (arith, room, r.0.known)) c.quit.ensures.rest.ready c.quit.ensures.vacated lost.1 (c.lose.ensures.spare live) (r.2 lost.0),
@@ -29,13 +29,13 @@ invariant_of-self c = λ ready.
 pub returns-then-slot-len-clause-forms : goal.returns-then-slot-len-clause-forms
 returns-then-slot-len-clause-forms c =
     let e = c.self.inside in
-    let inside : c.args.number < length e.places.items = omega (arith, c.requires.number, ap (λ (v : Standing). length v.forms) c.self.view_is, numbered-length (forms_of e.store.kept.items) e.places.items) in
-    sym (ap (λ (v : Standing). v.forms) c.self.view_is) ∙ numbered-none (forms_of e.store.kept.items) e.places.items c.args.number c.index-slot.result.now inside c.index-slot.ensures (omega (arith, c.if-slot-len.true, c.len.ensures, e.store.kept.ok.0, forms-length e.store.kept.items)) ∙ ap (λ (v : Standing). set v.forms c.args.number None) c.self.view_is
+    let inside : c.args.number < length e.places.items = omega (arith, c.requires.number, ap (λ (v : Standing). length v.forms) c.self.view_is, numbered-length (forms_of e.store.stored.items) e.places.items) in
+    sym (ap (λ (v : Standing). v.forms) c.self.view_is) ∙ numbered-none (forms_of e.store.stored.items) e.places.items c.args.number c.index-slot.result.now inside c.index-slot.ensures (omega (arith, c.if-slot-len.true, c.len.ensures, e.store.stored.ok.0, forms-length e.store.stored.items)) ∙ ap (λ (v : Standing). set v.forms c.args.number None) c.self.view_is
 
 pub returns-clause-forms : goal.returns-clause-forms
 returns-clause-forms c =
     let e = c.self.inside in
     let r = c.self.invariant (ap (λ (v : Standing). v.spent) c.self.view_is ∙ c.requires.ready) in
-    let inside : c.args.number < length e.places.items = omega (arith, c.requires.number, ap (λ (v : Standing). length v.forms) c.self.view_is, numbered-length (forms_of e.store.kept.items) e.places.items) in
-    let t = taken-by (forms_of e.store.kept.items) e.places.items c.args.number c.index-slot.result.now inside c.index-slot.ensures (omega (arith, c.if-slot-len.false, c.len.ensures, e.store.kept.ok.0, forms-length e.store.kept.items)) (omega (arith, e.store.kept.ok.0, e.store.kept.ok.1, forms-length e.store.kept.items)) r.1 in
-    rw c.quit.ensures.forms (numbered-left (forms_of e.store.kept.items) e.places.items c.args.number c.index-slot.result.now t r.1 ∙ ap (λ (v : Standing). set v.forms c.args.number None) c.self.view_is)
+    let inside : c.args.number < length e.places.items = omega (arith, c.requires.number, ap (λ (v : Standing). length v.forms) c.self.view_is, numbered-length (forms_of e.store.stored.items) e.places.items) in
+    let t = taken-by (forms_of e.store.stored.items) e.places.items c.args.number c.index-slot.result.now inside c.index-slot.ensures (omega (arith, c.if-slot-len.false, c.len.ensures, e.store.stored.ok.0, forms-length e.store.stored.items)) (omega (arith, e.store.stored.ok.0, e.store.stored.ok.1, forms-length e.store.stored.items)) r.1 in
+    rw c.quit.ensures.forms (numbered-left (forms_of e.store.stored.items) e.places.items c.args.number c.index-slot.result.now t r.1 ∙ ap (λ (v : Standing). set v.forms c.args.number None) c.self.view_is)

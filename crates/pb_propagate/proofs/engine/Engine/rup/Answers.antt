@@ -45,18 +45,18 @@ choose-requires c =
     let e = c.self.inside in
     let both = c.self.invariant (ap (λ (v : Standing). v.spent) c.self.view_is ∙ c.requires.ready) in
     let r = both.0 in
-    let keep = e.store.kept.items in
+    let keep = e.store.stored.items in
     let h = c.in_ok-enter.ensures.entered in
-    omega (arith, c.len-number.ensures, e.store.kept.ok.0, ap length h.keeps, length-append keep (h.kept ∷ []))
+    omega (arith, c.len-number.ensures, e.store.stored.ok.0, ap length h.keeps, length-append keep (h.kept ∷ []))
 
 pub choose-requires-2 : goal.choose-requires-2
 choose-requires-2 c =
     let e = c.self.inside in
     let both = c.self.invariant (ap (λ (v : Standing). v.spent) c.self.view_is ∙ c.requires.ready) in
     let r = both.0 in
-    let keep = e.store.kept.items in
+    let keep = e.store.stored.items in
     let h = c.in_ok-enter.ensures.entered in
-    omega (arith, c.len-number.ensures, e.store.kept.ok.0, ap length h.keeps, length-append keep (h.kept ∷ []))
+    omega (arith, c.len-number.ensures, e.store.stored.ok.0, ap length h.keeps, length-append keep (h.kept ∷ []))
 
 pub propagate-requires-clause-opens : goal.propagate-requires-clause-opens
 propagate-requires-clause-opens c =
@@ -64,7 +64,7 @@ propagate-requires-clause-opens c =
     let both = c.self.invariant (ap (λ (v : Standing). v.spent) c.self.view_is ∙ c.requires.ready) in
     let r = both.0 in
     let new = c.enter.new in
-    (rest-lengths new.store.kept.items new.run.opens.items new.run.candidates.items (rest-entered c.in-Ok.negation e.store.kept.items new.store.kept.items e.run.opens.items new.run.opens.items e.run.candidates.items new.run.candidates.items c.in_ok-enter.ensures.entered r.rest)).0
+    (rest-lengths new.store.stored.items new.run.opens.items new.run.candidates.items (rest-entered c.in-Ok.negation e.store.stored.items new.store.stored.items e.run.opens.items new.run.opens.items e.run.candidates.items new.run.candidates.items c.in_ok-enter.ensures.entered r.rest)).0
 
 pub propagate-requires-clause-candidates : goal.propagate-requires-clause-candidates
 propagate-requires-clause-candidates c =
@@ -72,7 +72,7 @@ propagate-requires-clause-candidates c =
     let both = c.self.invariant (ap (λ (v : Standing). v.spent) c.self.view_is ∙ c.requires.ready) in
     let r = both.0 in
     let new = c.enter.new in
-    (rest-lengths new.store.kept.items new.run.opens.items new.run.candidates.items (rest-entered c.in-Ok.negation e.store.kept.items new.store.kept.items e.run.opens.items new.run.opens.items e.run.candidates.items new.run.candidates.items c.in_ok-enter.ensures.entered r.rest)).1
+    (rest-lengths new.store.stored.items new.run.opens.items new.run.candidates.items (rest-entered c.in-Ok.negation e.store.stored.items new.store.stored.items e.run.opens.items new.run.opens.items e.run.candidates.items new.run.candidates.items c.in_ok-enter.ensures.entered r.rest)).1
 
 pub propagate-requires-clause-single : goal.propagate-requires-clause-single
 propagate-requires-clause-single c =
@@ -86,26 +86,26 @@ propagate-requires-clause-counted c =
     let both = c.self.invariant (ap (λ (v : Standing). v.spent) c.self.view_is ∙ c.requires.ready) in
     let r = both.0 in
     let new = c.enter.new in
-    let rest = rest-entered c.in-Ok.negation e.store.kept.items new.store.kept.items e.run.opens.items new.run.opens.items e.run.candidates.items new.run.candidates.items c.in_ok-enter.ensures.entered r.rest in
-    rw (ap (λ (a : Assignment). a.list.items) c.enter.ensures.rest.0, r.list) (rest-counted c.none-rests.result (shapes_of new.store.kept.items) new.run.opens.items new.run.candidates.items c.none-rests.ensures.opens (rest-undone c.none-rests.result new.store.kept.items new.run.opens.items new.run.candidates.items c.none-rests.ensures.opens c.none-rests.ensures.starts rest))
+    let rest = rest-entered c.in-Ok.negation e.store.stored.items new.store.stored.items e.run.opens.items new.run.opens.items e.run.candidates.items new.run.candidates.items c.in_ok-enter.ensures.entered r.rest in
+    rw (ap (λ (a : Assignment). a.list.items) c.enter.ensures.rest.0, r.list) (rest-counted c.none-rests.result (shapes_of new.store.stored.items) new.run.opens.items new.run.candidates.items c.none-rests.ensures.opens (rest-undone c.none-rests.result new.store.stored.items new.run.opens.items new.run.candidates.items c.none-rests.ensures.opens c.none-rests.ensures.starts rest))
 
 pub propagate-requires-clause-tidy : goal.propagate-requires-clause-tidy
 propagate-requires-clause-tidy c =
     let e = c.self.inside in
     let both = c.self.invariant (ap (λ (v : Standing). v.spent) c.self.view_is ∙ c.requires.ready) in
     let r = both.0 in
-    let keep = e.store.kept.items in
+    let keep = e.store.stored.items in
     let new = c.enter.new in
     let h = c.in_ok-enter.ensures.entered in
-    let rest = rest-entered c.in-Ok.negation keep new.store.kept.items e.run.opens.items new.run.opens.items e.run.candidates.items new.run.candidates.items h r.rest in
-    let number_is : c.len-number.result ≡ length keep = omega (arith, c.len-number.ensures, e.store.kept.ok.0) in
-    let inside : c.len-number.result < length new.store.kept.items = omega (arith, number_is, ap length h.keeps, length-append keep (h.kept ∷ [])) in
+    let rest = rest-entered c.in-Ok.negation keep new.store.stored.items e.run.opens.items new.run.opens.items e.run.candidates.items new.run.candidates.items h r.rest in
+    let number_is : c.len-number.result ≡ length keep = omega (arith, c.len-number.ensures, e.store.stored.ok.0) in
+    let inside : c.len-number.result < length new.store.stored.items = omega (arith, number_is, ap length h.keeps, length-append keep (h.kept ∷ [])) in
     let work_is = ap (λ (v : Vec ℕ Global). v.items) c.enter.ensures.rest.1 ∙ r.work in
-    let first = c.in_ok-choose-2.ensures ∙ ap (λ (xs : List ℕ). xs ++ filter (waits new.store.kept.items) (c.len-number.result ∷ [])) work_is in
-    let waiting = eager-entered keep new.store.kept.items h.kept e.eager.list.items _ c.len-number.result h.keeps number_is refl r.eager in
+    let first = c.in_ok-choose-2.ensures ∙ ap (λ (xs : List ℕ). xs ++ filter (waits new.store.stored.items) (c.len-number.result ∷ [])) work_is in
+    let waiting = eager-entered keep new.store.stored.items h.kept e.eager.list.items _ c.len-number.result h.keeps number_is refl r.eager in
     let trail_is = ap (λ (v : Vec ℕ Global). v.items) c.enter.ensures.trail ∙ r.trail in
-    let noted = c.in_ok-choose.ensures ∙ ap (λ (xs : List ℕ). xs ++ filter (waits new.store.kept.items) (c.len-number.result ∷ [])) trail_is in
-    let tidy = rest-tidy-first c.none-rests.result new.store.kept.items e.eager.list.items new.run.opens.items new.run.candidates.items c.choose-2.new.work.items c.choose.new.work.items c.len-number.result c.none-rests.ensures.opens c.none-rests.ensures.starts inside first noted rest waiting in
+    let noted = c.in_ok-choose.ensures ∙ ap (λ (xs : List ℕ). xs ++ filter (waits new.store.stored.items) (c.len-number.result ∷ [])) trail_is in
+    let tidy = rest-tidy-first c.none-rests.result new.store.stored.items e.eager.list.items new.run.opens.items new.run.candidates.items c.choose-2.new.work.items c.choose.new.work.items c.len-number.result c.none-rests.ensures.opens c.none-rests.ensures.starts inside first noted rest waiting in
     rw (c.as_slice.ensures.value, ap (λ (a : Assignment). a.list.items) c.enter.ensures.rest.0, r.list, c.enter.ensures.rest.2, r.next) tidy
 
 pub invariant_of-self-2 : goal.invariant_of-self-2
@@ -113,12 +113,12 @@ invariant_of-self-2 c = λ ready.
     let e = c.self.inside in
     let both = c.self.invariant (ap (λ (v : Standing). v.spent) c.self.view_is ∙ c.requires.ready) in
     let r = both.0 in
-    let keep = e.store.kept.items in
+    let keep = e.store.stored.items in
     let new = c.enter.new in
     let h = c.in_ok-enter.ensures.entered in
     let done = c.rest.new.run in
     let last = c.leave.new in
-    let left = rest-left c.in-Ok.negation keep new.store.kept.items last.store.kept.items e.run.opens.items new.run.opens.items e.run.candidates.items new.run.candidates.items done.opens.items last.run.opens.items done.candidates.items last.run.candidates.items h c.rest.ensures.rest c.leave.ensures.kept c.leave.ensures.opens c.leave.ensures.candidates in
+    let left = rest-left c.in-Ok.negation keep new.store.stored.items last.store.stored.items e.run.opens.items new.run.opens.items e.run.candidates.items new.run.candidates.items done.opens.items last.run.opens.items done.candidates.items last.run.candidates.items h c.rest.ensures.rest c.leave.ensures.kept c.leave.ensures.opens c.leave.ensures.candidates in
     let same = c.leave.ensures.rest in
     let entered = c.enter.ensures.rest in
     let lit : clauses_of c.rest.new.clauses ≡ clauses_of e.clauses = ap (λ (v : Vec (Vec ℕ Global) Global). lists_of v.items) (c.rest.ensures.literals ∙ c.propagate.ensures.literals) in (
@@ -149,14 +149,14 @@ returns-clause-implied c = λ found.
     let e = c.self.inside in
     let both = c.self.invariant (ap (λ (v : Standing). v.spent) c.self.view_is ∙ c.requires.ready) in
     let r = both.0 in
-    let keep = e.store.kept.items in
+    let keep = e.store.stored.items in
     let new = c.enter.new in
     let h = c.in_ok-enter.ensures.entered in
     let g = c.in-Ok.negation in
-    let forms = forms_of e.store.kept.items in
+    let forms = forms_of e.store.stored.items in
     let reported = c.in_ok-found.ensures in
     let shapes = all_of new.store e.clauses in
-    let a = placed-with forms e.places.items g shapes both.1 (with-kept forms g shapes (slots-entered forms g keep new.store.kept.items (clauses_of e.clauses) e.run.opens.items new.run.opens.items e.run.candidates.items new.run.candidates.items r.joined.short h r.slots)) in
+    let a = placed-with forms e.places.items g shapes both.1 (with-kept forms g shapes (slots-entered forms g keep new.store.stored.items (clauses_of e.clauses) e.run.opens.items new.run.opens.items e.run.candidates.items new.run.candidates.items r.joined.short h r.slots)) in
     let shown = numbered forms e.places.items in
     let empty = ap (λ (x : Assignment). x.list.items) c.enter.ensures.rest.0 ∙ r.list in
     let d = derives (With (Live shown) g) shapes [] [] c.propagate.new.run.assignment.list.items a (λ v n. sym (on-none (record { variable = v; negated = n }))) (rw empty at reported.derived) in
@@ -168,15 +168,15 @@ returns-clause-not_implied c = λ found rup.
     let e = c.self.inside in
     let both = c.self.invariant (ap (λ (v : Standing). v.spent) c.self.view_is ∙ c.requires.ready) in
     let r = both.0 in
-    let keep = e.store.kept.items in
+    let keep = e.store.stored.items in
     let new = c.enter.new in
     let h = c.in_ok-enter.ensures.entered in
     let g = c.in-Ok.negation in
-    let forms = forms_of e.store.kept.items in
+    let forms = forms_of e.store.stored.items in
     let reported = c.in_ok-found.ensures in
     let run = c.propagate.new.run in
     let shapes = all_of new.store e.clauses in
-    let a = placed-with forms e.places.items g shapes both.1 (with-kept forms g shapes (slots-entered forms g keep new.store.kept.items (clauses_of e.clauses) e.run.opens.items new.run.opens.items e.run.candidates.items new.run.candidates.items r.joined.short h r.slots)) in
+    let a = placed-with forms e.places.items g shapes both.1 (with-kept forms g shapes (slots-entered forms g keep new.store.stored.items (clauses_of e.clauses) e.run.opens.items new.run.opens.items e.run.candidates.items new.run.candidates.items r.joined.short h r.slots)) in
     let shown = numbered forms e.places.items in
     let empty = ap (λ (x : Assignment). x.list.items) c.enter.ensures.rest.0 ∙ r.list in
     let d = derives (With (Live shown) g) shapes [] [] run.assignment.list.items a (λ v n. sym (on-none (record { variable = v; negated = n }))) (rw empty at reported.derived) in
@@ -195,28 +195,28 @@ returns-clause-most c =
     let e = c.self.inside in
     let both = c.self.invariant (ap (λ (v : Standing). v.spent) c.self.view_is ∙ c.requires.ready) in
     let r = both.0 in
-    let keep = e.store.kept.items in
+    let keep = e.store.stored.items in
     let new = c.enter.new in
     let h = c.in_ok-enter.ensures.entered in
     let g = c.in-Ok.negation in
-    let forms = forms_of e.store.kept.items in
+    let forms = forms_of e.store.stored.items in
     let number = c.len-number.result in
     let shapes = all_of new.store e.clauses in
-    let slots = slots-entered forms g keep new.store.kept.items (clauses_of e.clauses) e.run.opens.items new.run.opens.items e.run.candidates.items new.run.candidates.items r.joined.short h r.slots in
+    let slots = slots-entered forms g keep new.store.stored.items (clauses_of e.clauses) e.run.opens.items new.run.opens.items e.run.candidates.items new.run.candidates.items r.joined.short h r.slots in
     let terms = slots-terms (forms ++ (Some g ∷ [])) shapes slots in
-    let both_terms = joined-terms (shapes_of new.store.kept.items) (clauses_of e.clauses) (joined-entered g keep new.store.kept.items (clauses_of e.clauses) e.run.opens.items new.run.opens.items e.run.candidates.items new.run.candidates.items h r.joined) in
+    let both_terms = joined-terms (shapes_of new.store.stored.items) (clauses_of e.clauses) (joined-entered g keep new.store.stored.items (clauses_of e.clauses) e.run.opens.items new.run.opens.items e.run.candidates.items new.run.candidates.items h r.joined) in
     let more = sum_by_push terms_in forms (Some g) in
     let goal_terms : length g.terms ≡ length c.args.goal.now.terms = ap (λ (f : Form). length f.terms) c.in-Ok.ensures.negation ∙ length-map c.args.goal.now.terms opposite_entry in
-    let number_is : number ≡ length keep = omega (arith, c.len-number.ensures, e.store.kept.ok.0) in
+    let number_is : number ≡ length keep = omega (arith, c.len-number.ensures, e.store.stored.ok.0) in
     let few = slots-eager forms keep (clauses_of e.clauses) r.joined r.slots in
-    let first = filter-few (waits new.store.kept.items) (number ∷ []) in
-    let stand = filter-few (waits new.store.kept.items) e.eager.list.items in
+    let first = filter-few (waits new.store.stored.items) (number ∷ []) in
+    let stand = filter-few (waits new.store.stored.items) e.eager.list.items in
     let work_is : length new.run.work.items ≡ 0 = ap (λ (v : Vec ℕ Global). length v.items) c.enter.ensures.rest.1 ∙ ap length r.work in
-    let work = ap length c.in_ok-choose-2.ensures ∙ length-append new.run.work.items (filter (waits new.store.kept.items) (number ∷ [])) in
-    let waiting = ap (λ (xs : List ℕ). length (filter (waits new.store.kept.items) xs)) c.as_slice.ensures.value in
+    let work = ap length c.in_ok-choose-2.ensures ∙ length-append new.run.work.items (filter (waits new.store.stored.items) (number ∷ [])) in
+    let waiting = ap (λ (xs : List ℕ). length (filter (waits new.store.stored.items) xs)) c.as_slice.ensures.value in
     let same : numbered forms e.places.items ≡ c.args.self.now.forms = ap (λ (v : Standing). v.forms) c.self.view_is in
-    let visits_made = most-visits c.propagate.new.run.visits (sum new.run.candidates.items) new.run.visits (length c.choose-2.new.work.items + length (filter (waits new.store.kept.items) c.as_slice.result.now)) new.run.next (sum_by length (entries_of (shapes_of new.store.kept.items) new.store.occurrences.items)) (sum c.propagate.new.run.candidates.items) (sum_by (λ (f : Shape). length f.terms) (shapes_of new.store.kept.items)) (sum_by {X = List ℕ} length (clauses_of e.clauses)) (sum_by one_in forms + 1)
-    (omega (arith, c.propagate.ensures.upper, spent-le (entries_of (shapes_of new.store.kept.items) new.store.occurrences.items) c.propagate.new.run.assignment.list.items c.propagate.ensures.single, killed-most (clauses_of e.clauses) (map falsified_code c.propagate.new.run.assignment.list.items))) (c.enter.ensures.rest.3 ∙ c.none-self-inside.ensures) c.propagate.ensures.bounded c.in_ok-enter.ensures.sound.whole.totals (omega (arith, few, r.few, first, stand, work_is, work, waiting)) in
+    let visits_made = most-visits c.propagate.new.run.visits (sum new.run.candidates.items) new.run.visits (length c.choose-2.new.work.items + length (filter (waits new.store.stored.items) c.as_slice.result.now)) new.run.next (sum_by length (entries_of (shapes_of new.store.stored.items) new.store.occurrences.items)) (sum c.propagate.new.run.candidates.items) (sum_by (λ (f : Shape). length f.terms) (shapes_of new.store.stored.items)) (sum_by {X = List ℕ} length (clauses_of e.clauses)) (sum_by one_in forms + 1)
+    (omega (arith, c.propagate.ensures.upper, spent-le (entries_of (shapes_of new.store.stored.items) new.store.occurrences.items) c.propagate.new.run.assignment.list.items c.propagate.ensures.single, killed-most (clauses_of e.clauses) (map falsified_code c.propagate.new.run.assignment.list.items))) (c.enter.ensures.rest.3 ∙ c.none-self-inside.ensures) c.propagate.ensures.bounded c.in_ok-enter.ensures.sound.whole.totals (omega (arith, few, r.few, first, stand, work_is, work, waiting)) in
     rw (← same) (omega (arith, both.1.alike terms_in refl, both.1.alike one_in refl, visits_made, terms, both_terms, more, goal_terms, c.leave.ensures.rest.3, c.rest.ensures.visits))
 
 pub returns-in_err-found-clause-most : goal.returns-in_err-found-clause-most
@@ -224,28 +224,28 @@ returns-in_err-found-clause-most c =
     let e = c.self.inside in
     let both = c.self.invariant (ap (λ (v : Standing). v.spent) c.self.view_is ∙ c.requires.ready) in
     let r = both.0 in
-    let keep = e.store.kept.items in
+    let keep = e.store.stored.items in
     let new = c.enter.new in
     let h = c.in_ok-enter.ensures.entered in
     let g = c.in-Ok.negation in
-    let forms = forms_of e.store.kept.items in
+    let forms = forms_of e.store.stored.items in
     let number = c.len-number.result in
     let shapes = all_of new.store e.clauses in
-    let slots = slots-entered forms g keep new.store.kept.items (clauses_of e.clauses) e.run.opens.items new.run.opens.items e.run.candidates.items new.run.candidates.items r.joined.short h r.slots in
+    let slots = slots-entered forms g keep new.store.stored.items (clauses_of e.clauses) e.run.opens.items new.run.opens.items e.run.candidates.items new.run.candidates.items r.joined.short h r.slots in
     let terms = slots-terms (forms ++ (Some g ∷ [])) shapes slots in
-    let both_terms = joined-terms (shapes_of new.store.kept.items) (clauses_of e.clauses) (joined-entered g keep new.store.kept.items (clauses_of e.clauses) e.run.opens.items new.run.opens.items e.run.candidates.items new.run.candidates.items h r.joined) in
+    let both_terms = joined-terms (shapes_of new.store.stored.items) (clauses_of e.clauses) (joined-entered g keep new.store.stored.items (clauses_of e.clauses) e.run.opens.items new.run.opens.items e.run.candidates.items new.run.candidates.items h r.joined) in
     let more = sum_by_push terms_in forms (Some g) in
     let goal_terms : length g.terms ≡ length c.args.goal.now.terms = ap (λ (f : Form). length f.terms) c.in-Ok.ensures.negation ∙ length-map c.args.goal.now.terms opposite_entry in
-    let number_is : number ≡ length keep = omega (arith, c.len-number.ensures, e.store.kept.ok.0) in
+    let number_is : number ≡ length keep = omega (arith, c.len-number.ensures, e.store.stored.ok.0) in
     let few = slots-eager forms keep (clauses_of e.clauses) r.joined r.slots in
-    let first = filter-few (waits new.store.kept.items) (number ∷ []) in
-    let stand = filter-few (waits new.store.kept.items) e.eager.list.items in
+    let first = filter-few (waits new.store.stored.items) (number ∷ []) in
+    let stand = filter-few (waits new.store.stored.items) e.eager.list.items in
     let work_is : length new.run.work.items ≡ 0 = ap (λ (v : Vec ℕ Global). length v.items) c.enter.ensures.rest.1 ∙ ap length r.work in
-    let work = ap length c.in_ok-choose-2.ensures ∙ length-append new.run.work.items (filter (waits new.store.kept.items) (number ∷ [])) in
-    let waiting = ap (λ (xs : List ℕ). length (filter (waits new.store.kept.items) xs)) c.as_slice.ensures.value in
+    let work = ap length c.in_ok-choose-2.ensures ∙ length-append new.run.work.items (filter (waits new.store.stored.items) (number ∷ [])) in
+    let waiting = ap (λ (xs : List ℕ). length (filter (waits new.store.stored.items) xs)) c.as_slice.ensures.value in
     let same : numbered forms e.places.items ≡ c.args.self.now.forms = ap (λ (v : Standing). v.forms) c.self.view_is in
-    let visits_made = most-visits c.propagate.new.run.visits (sum new.run.candidates.items) new.run.visits (length c.choose-2.new.work.items + length (filter (waits new.store.kept.items) c.as_slice.result.now)) new.run.next (sum_by length (entries_of (shapes_of new.store.kept.items) new.store.occurrences.items)) (sum c.propagate.new.run.candidates.items) (sum_by (λ (f : Shape). length f.terms) (shapes_of new.store.kept.items)) (sum_by {X = List ℕ} length (clauses_of e.clauses)) (sum_by one_in forms + 1)
-    (omega (arith, c.propagate.ensures.upper, spent-le (entries_of (shapes_of new.store.kept.items) new.store.occurrences.items) c.propagate.new.run.assignment.list.items c.propagate.ensures.single, killed-most (clauses_of e.clauses) (map falsified_code c.propagate.new.run.assignment.list.items))) (c.enter.ensures.rest.3 ∙ c.none-self-inside.ensures) c.propagate.ensures.bounded c.in_ok-enter.ensures.sound.whole.totals (omega (arith, few, r.few, first, stand, work_is, work, waiting)) in
+    let visits_made = most-visits c.propagate.new.run.visits (sum new.run.candidates.items) new.run.visits (length c.choose-2.new.work.items + length (filter (waits new.store.stored.items) c.as_slice.result.now)) new.run.next (sum_by length (entries_of (shapes_of new.store.stored.items) new.store.occurrences.items)) (sum c.propagate.new.run.candidates.items) (sum_by (λ (f : Shape). length f.terms) (shapes_of new.store.stored.items)) (sum_by {X = List ℕ} length (clauses_of e.clauses)) (sum_by one_in forms + 1)
+    (omega (arith, c.propagate.ensures.upper, spent-le (entries_of (shapes_of new.store.stored.items) new.store.occurrences.items) c.propagate.new.run.assignment.list.items c.propagate.ensures.single, killed-most (clauses_of e.clauses) (map falsified_code c.propagate.new.run.assignment.list.items))) (c.enter.ensures.rest.3 ∙ c.none-self-inside.ensures) c.propagate.ensures.bounded c.in_ok-enter.ensures.sound.whole.totals (omega (arith, few, r.few, first, stand, work_is, work, waiting)) in
     rw (← same) (omega (arith, both.1.alike terms_in refl, both.1.alike one_in refl, visits_made, terms, both_terms, more, goal_terms))
 
 pub returns-clause-conflict : goal.returns-clause-conflict
@@ -253,15 +253,15 @@ returns-clause-conflict c = λ found.
     let e = c.self.inside in
     let both = c.self.invariant (ap (λ (v : Standing). v.spent) c.self.view_is ∙ c.requires.ready) in
     let r = both.0 in
-    let keep = e.store.kept.items in
+    let keep = e.store.stored.items in
     let new = c.enter.new in
     let h = c.in_ok-enter.ensures.entered in
     let g = c.in-Ok.negation in
-    let forms = forms_of e.store.kept.items in
+    let forms = forms_of e.store.stored.items in
     let reported = c.in_ok-found.ensures in
     let run = c.propagate.new.run in
     let shapes = all_of new.store e.clauses in
-    let a = placed-with forms e.places.items g shapes both.1 (with-kept forms g shapes (slots-entered forms g keep new.store.kept.items (clauses_of e.clauses) e.run.opens.items new.run.opens.items e.run.candidates.items new.run.candidates.items r.joined.short h r.slots)) in
+    let a = placed-with forms e.places.items g shapes both.1 (with-kept forms g shapes (slots-entered forms g keep new.store.stored.items (clauses_of e.clauses) e.run.opens.items new.run.opens.items e.run.candidates.items new.run.candidates.items r.joined.short h r.slots)) in
     let shown = numbered forms e.places.items in
     let empty = ap (λ (x : Assignment). x.list.items) c.enter.ensures.rest.0 ∙ r.list in
     let d = derives (With (Live shown) g) shapes [] [] run.assignment.list.items a (λ v n. sym (on-none (record { variable = v; negated = n }))) (rw empty at reported.derived) in
@@ -275,15 +275,15 @@ returns-clause-completion c = λ found.
     let e = c.self.inside in
     let both = c.self.invariant (ap (λ (v : Standing). v.spent) c.self.view_is ∙ c.requires.ready) in
     let r = both.0 in
-    let keep = e.store.kept.items in
+    let keep = e.store.stored.items in
     let new = c.enter.new in
     let h = c.in_ok-enter.ensures.entered in
     let g = c.in-Ok.negation in
-    let forms = forms_of e.store.kept.items in
+    let forms = forms_of e.store.stored.items in
     let reported = c.in_ok-found.ensures in
     let run = c.propagate.new.run in
     let shapes = all_of new.store e.clauses in
-    let a = placed-with forms e.places.items g shapes both.1 (with-kept forms g shapes (slots-entered forms g keep new.store.kept.items (clauses_of e.clauses) e.run.opens.items new.run.opens.items e.run.candidates.items new.run.candidates.items r.joined.short h r.slots)) in
+    let a = placed-with forms e.places.items g shapes both.1 (with-kept forms g shapes (slots-entered forms g keep new.store.stored.items (clauses_of e.clauses) e.run.opens.items new.run.opens.items e.run.candidates.items new.run.candidates.items r.joined.short h r.slots)) in
     let shown = numbered forms e.places.items in
     let empty = ap (λ (x : Assignment). x.list.items) c.enter.ensures.rest.0 ∙ r.list in
     let d = derives (With (Live shown) g) shapes [] [] run.assignment.list.items a (λ v n. sym (on-none (record { variable = v; negated = n }))) (rw empty at reported.derived) in
@@ -299,46 +299,46 @@ propagate-requires-clause-waiting c =
     let both = c.self.invariant (ap (λ (v : Standing). v.spent) c.self.view_is ∙ c.requires.ready) in
     let r = both.0 in
     let h = c.in_ok-enter.ensures.entered in
-    rw c.as_slice.ensures.value (λ k d less. omega (arith, r.eager.named k d less, ap length h.keeps, length-append e.store.kept.items (h.kept ∷ [])))
+    rw c.as_slice.ensures.value (λ k d less. omega (arith, r.eager.named k d less, ap length h.keeps, length-append e.store.stored.items (h.kept ∷ [])))
 
 pub returns-clause-forms : goal.returns-clause-forms
 returns-clause-forms c =
     let e = c.self.inside in
     let both = c.self.invariant (ap (λ (v : Standing). v.spent) c.self.view_is ∙ c.requires.ready) in
     let r = both.0 in
-    let keep = e.store.kept.items in
+    let keep = e.store.stored.items in
     let new = c.enter.new in
     let h = c.in_ok-enter.ensures.entered in
     let done = c.rest.new.run in
     let last = c.leave.new in
-    let left = rest-left c.in-Ok.negation keep new.store.kept.items last.store.kept.items e.run.opens.items new.run.opens.items e.run.candidates.items new.run.candidates.items done.opens.items last.run.opens.items done.candidates.items last.run.candidates.items h c.rest.ensures.rest c.leave.ensures.kept c.leave.ensures.opens c.leave.ensures.candidates in
+    let left = rest-left c.in-Ok.negation keep new.store.stored.items last.store.stored.items e.run.opens.items new.run.opens.items e.run.candidates.items new.run.candidates.items done.opens.items last.run.opens.items done.candidates.items last.run.candidates.items h c.rest.ensures.rest c.leave.ensures.kept c.leave.ensures.opens c.leave.ensures.candidates in
     rw left.0 (ap (λ (v : Standing). v.forms) c.self.view_is)
 
 pub returns-in_err-enter-clause-forms : goal.returns-in_err-enter-clause-forms
 returns-in_err-enter-clause-forms c =
     let e = c.self.inside in
-    numbered-same (forms_of e.store.kept.items) (forms_of c.enter.new.store.kept.items) e.places.items (λ n s h. c.in_err-enter.ensures.unchanged s) ∙ ap (λ (v : Standing). v.forms) c.self.view_is
+    numbered-same (forms_of e.store.stored.items) (forms_of c.enter.new.store.stored.items) e.places.items (λ n s h. c.in_err-enter.ensures.unchanged s) ∙ ap (λ (v : Standing). v.forms) c.self.view_is
 
 pub returns-in_err-choose-clause-forms : goal.returns-in_err-choose-clause-forms
 returns-in_err-choose-clause-forms c =
     let e = c.self.inside in
     let both = c.self.invariant (ap (λ (v : Standing). v.spent) c.self.view_is ∙ c.requires.ready) in
     let h = c.in_ok-enter.ensures.entered in
-    numbered-entered e.store.kept.items c.enter.new.store.kept.items h.kept e.places.items h.keeps (omega (arith, e.store.kept.ok.0, e.store.kept.ok.1)) both.1 ∙ ap (λ (v : Standing). v.forms) c.self.view_is
+    numbered-entered e.store.stored.items c.enter.new.store.stored.items h.kept e.places.items h.keeps (omega (arith, e.store.stored.ok.0, e.store.stored.ok.1)) both.1 ∙ ap (λ (v : Standing). v.forms) c.self.view_is
 
 pub returns-in_err-choose-2-clause-forms : goal.returns-in_err-choose-2-clause-forms
 returns-in_err-choose-2-clause-forms c =
     let e = c.self.inside in
     let both = c.self.invariant (ap (λ (v : Standing). v.spent) c.self.view_is ∙ c.requires.ready) in
     let h = c.in_ok-enter.ensures.entered in
-    numbered-entered e.store.kept.items c.enter.new.store.kept.items h.kept e.places.items h.keeps (omega (arith, e.store.kept.ok.0, e.store.kept.ok.1)) both.1 ∙ ap (λ (v : Standing). v.forms) c.self.view_is
+    numbered-entered e.store.stored.items c.enter.new.store.stored.items h.kept e.places.items h.keeps (omega (arith, e.store.stored.ok.0, e.store.stored.ok.1)) both.1 ∙ ap (λ (v : Standing). v.forms) c.self.view_is
 
 pub returns-in_err-found-clause-forms : goal.returns-in_err-found-clause-forms
 returns-in_err-found-clause-forms c =
     let e = c.self.inside in
     let both = c.self.invariant (ap (λ (v : Standing). v.spent) c.self.view_is ∙ c.requires.ready) in
     let h = c.in_ok-enter.ensures.entered in
-    numbered-entered e.store.kept.items c.enter.new.store.kept.items h.kept e.places.items h.keeps (omega (arith, e.store.kept.ok.0, e.store.kept.ok.1)) both.1 ∙ ap (λ (v : Standing). v.forms) c.self.view_is
+    numbered-entered e.store.stored.items c.enter.new.store.stored.items h.kept e.places.items h.keeps (omega (arith, e.store.stored.ok.0, e.store.stored.ok.1)) both.1 ∙ ap (λ (v : Standing). v.forms) c.self.view_is
 
 pub invariant_of-self-in_default : goal.invariant_of-self-in_default
 invariant_of-self-in_default c = λ ready. absurd cc
@@ -394,7 +394,7 @@ propagate-requires-clause-joined c =
     let both = c.self.invariant (ap (λ (v : Standing). v.spent) c.self.view_is ∙ c.requires.ready) in
     let r = both.0 in
     let new = c.enter.new in
-    joined-entered c.in-Ok.negation e.store.kept.items new.store.kept.items (clauses_of e.clauses) e.run.opens.items new.run.opens.items e.run.candidates.items new.run.candidates.items c.in_ok-enter.ensures.entered r.joined
+    joined-entered c.in-Ok.negation e.store.stored.items new.store.stored.items (clauses_of e.clauses) e.run.opens.items new.run.opens.items e.run.candidates.items new.run.candidates.items c.in_ok-enter.ensures.entered r.joined
 
 pub propagate-requires-clause-ready : goal.propagate-requires-clause-ready
 propagate-requires-clause-ready c =
@@ -454,7 +454,7 @@ returns-then-self-clause-implied c = λ found.
     let both = c.self.invariant (ap (λ (v : Standing). v.spent) c.self.view_is ∙ c.requires.ready) in
     let r = both.0 in
     let g = c.in-Ok.negation in
-    let forms = forms_of e.store.kept.items in
+    let forms = forms_of e.store.stored.items in
     let asked = c.in_ok-answer.ensures.asked in
     let reported = asked.2 in
     let shapes = all_of e.store e.clauses ++ (asked.0 ∷ []) in
@@ -471,7 +471,7 @@ returns-then-self-clause-not_implied c = λ found rup.
     let both = c.self.invariant (ap (λ (v : Standing). v.spent) c.self.view_is ∙ c.requires.ready) in
     let r = both.0 in
     let g = c.in-Ok.negation in
-    let forms = forms_of e.store.kept.items in
+    let forms = forms_of e.store.stored.items in
     let asked = c.in_ok-answer.ensures.asked in
     let reported = asked.2 in
     let shapes = all_of e.store e.clauses ++ (asked.0 ∷ []) in
@@ -496,7 +496,7 @@ returns-then-self-clause-conflict c = λ found.
     let both = c.self.invariant (ap (λ (v : Standing). v.spent) c.self.view_is ∙ c.requires.ready) in
     let r = both.0 in
     let g = c.in-Ok.negation in
-    let forms = forms_of e.store.kept.items in
+    let forms = forms_of e.store.stored.items in
     let asked = c.in_ok-answer.ensures.asked in
     let reported = asked.2 in
     let shapes = all_of e.store e.clauses ++ (asked.0 ∷ []) in
@@ -513,7 +513,7 @@ returns-then-self-clause-completion c = λ found.
     let both = c.self.invariant (ap (λ (v : Standing). v.spent) c.self.view_is ∙ c.requires.ready) in
     let r = both.0 in
     let g = c.in-Ok.negation in
-    let forms = forms_of e.store.kept.items in
+    let forms = forms_of e.store.stored.items in
     let asked = c.in_ok-answer.ensures.asked in
     let reported = asked.2 in
     let shapes = all_of e.store e.clauses ++ (asked.0 ∷ []) in
@@ -535,7 +535,7 @@ pub returns-then-self-clause-most : goal.returns-then-self-clause-most
 returns-then-self-clause-most c =
     let e = c.self.inside in
     let both = c.self.invariant (ap (λ (v : Standing). v.spent) c.self.view_is ∙ c.requires.ready) in
-    let forms = forms_of e.store.kept.items in
+    let forms = forms_of e.store.stored.items in
     let terms = slots-terms forms (all_of e.store e.clauses) both.0.slots in
     let goal_terms : length c.in-Ok.negation.terms ≡ length c.args.goal.now.terms = ap (λ (f : Form). length f.terms) c.in-Ok.ensures.negation ∙ length-map c.args.goal.now.terms opposite_entry in
     let same : numbered forms e.places.items ≡ c.args.self.now.forms = ap (λ (v : Standing). v.forms) c.self.view_is in
@@ -545,7 +545,7 @@ pub returns-in_err-answer-clause-most : goal.returns-in_err-answer-clause-most
 returns-in_err-answer-clause-most c =
     let e = c.self.inside in
     let both = c.self.invariant (ap (λ (v : Standing). v.spent) c.self.view_is ∙ c.requires.ready) in
-    let forms = forms_of e.store.kept.items in
+    let forms = forms_of e.store.stored.items in
     let terms = slots-terms forms (all_of e.store e.clauses) both.0.slots in
     let goal_terms : length c.in-Ok.negation.terms ≡ length c.args.goal.now.terms = ap (λ (f : Form). length f.terms) c.in-Ok.ensures.negation ∙ length-map c.args.goal.now.terms opposite_entry in
     let same : numbered forms e.places.items ≡ c.args.self.now.forms = ap (λ (v : Standing). v.forms) c.self.view_is in

@@ -24,7 +24,7 @@ use Rattle.pb_propagate.proofs.lemmas.clauses.Literals.{Agree}
 use Rattle.pb_propagate.proofs.lemmas.clauses.Walks.{grows-refl}
 use Rattle.pb_propagate.proofs.lemmas.engine.Runs.{grown-length}
 use Rattle.pb_propagate.specs.engine.Engine.Lists.{Derives, Conflicts}
-use Rattle.pb_propagate.specs.engine.Engine.Fields.{kept_shape}
+use Rattle.pb_propagate.specs.engine.Engine.Fields.{stored_shape}
 use Rattle.pb_propagate.specs.engine.Clauses.Links.{lists_of}
 use Rattle.pb_propagate.specs.engine.Clauses.Shapes.{joined}
 use Rattle.pb_propagate.proofs.lemmas.clauses.Slots.{joined-push}
@@ -54,17 +54,17 @@ returns-in_err-lay-clause-most c =
 pub returns-in_err-lay-clause-forms : goal.returns-in_err-lay-clause-forms
 returns-in_err-lay-clause-forms c =
     let h = c.in_ok-enter.ensures.entered in
-    let keep = c.args.store.now.kept in
-    let same : (places : List ℕ) → ArePlaced (forms_of keep.items) places → numbered (forms_of c.enter.new.store.kept.items) places ≡ numbered (forms_of keep.items) places = λ places p. numbered-entered keep.items c.enter.new.store.kept.items h.kept places h.keeps (omega (arith, keep.ok.0, keep.ok.1)) p in
+    let keep = c.args.store.now.stored in
+    let same : (places : List ℕ) → ArePlaced (forms_of keep.items) places → numbered (forms_of c.enter.new.store.stored.items) places ≡ numbered (forms_of keep.items) places = λ places p. numbered-entered keep.items c.enter.new.store.stored.items h.kept places h.keeps (omega (arith, keep.ok.0, keep.ok.1)) p in
     search (rules, same)
 
 pub propagate-found-requires-clause-opens : goal.propagate-found-requires-clause-opens
 propagate-found-requires-clause-opens c =
     let h = c.in_ok-enter.ensures.entered in
-    let keep = c.args.store.now.kept.items in
+    let keep = c.args.store.now.stored.items in
     let opens = c.args.root.now.run.opens.items in
     let d : Shape = record { terms = []; degree = 0 } in
-    omega (arith, ap length (c.in_ok-lay.ensures.opens d), length-set c.enter.new.run.opens.items c.len-number.result (open_sum c.enter.new.run.assignment.list.items (get_or (shapes_of c.enter.new.store.kept.items) c.len-number.result d).terms), ap length h.opened, length-append opens (h.kept.total ∷ []), c.requires.rooted.open_sizes, ap length h.keeps, length-append keep (h.kept ∷ []))
+    omega (arith, ap length (c.in_ok-lay.ensures.opens d), length-set c.enter.new.run.opens.items c.len-number.result (open_sum c.enter.new.run.assignment.list.items (get_or (shapes_of c.enter.new.store.stored.items) c.len-number.result d).terms), ap length h.opened, length-append opens (h.kept.total ∷ []), c.requires.rooted.open_sizes, ap length h.keeps, length-append keep (h.kept ∷ []))
 
 pub propagate-found-requires-clause-single : goal.propagate-found-requires-clause-single
 propagate-found-requires-clause-single c =
@@ -75,23 +75,23 @@ pub propagate-found-requires-clause-joined : goal.propagate-found-requires-claus
 propagate-found-requires-clause-joined c =
     let run = c.args.root.now.run in
     let new = c.enter.new in
-    joined-entered c.args.form c.args.store.now.kept.items new.store.kept.items (clauses_of c.args.clauses.now) run.opens.items new.run.opens.items run.candidates.items new.run.candidates.items c.in_ok-enter.ensures.entered c.requires.joined
+    joined-entered c.args.form c.args.store.now.stored.items new.store.stored.items (clauses_of c.args.clauses.now) run.opens.items new.run.opens.items run.candidates.items new.run.candidates.items c.in_ok-enter.ensures.entered c.requires.joined
 
 pub propagate-found-requires-clause-counted : goal.propagate-found-requires-clause-counted
 propagate-found-requires-clause-counted c =
-    let keep = c.args.store.now.kept.items in
+    let keep = c.args.store.now.stored.items in
     let run = c.args.root.now.run in
     let new = c.enter.new in
     let r = c.requires.rooted in
     let list_is = ap (λ (a : Assignment). a.list.items) c.enter.ensures.rest.0 in
     let laid_is = ap (λ (a : Assignment). a.list.items) (c.lay.ensures.assignment ∙ c.enter.ensures.rest.0) in
-    let number_is : c.len-number.result ≡ length keep = omega (arith, c.len-number.ensures, c.args.store.now.kept.ok.0) in
-    rw laid_is (laid-counted c.args.form keep new.store.kept.items run.opens.items new.run.opens.items run.candidates.items new.run.candidates.items c.lay.new.run.opens.items run.assignment.list.items c.len-number.result c.in_ok-enter.ensures.entered number_is r.open_sizes
-    (λ s d less. r.counted s d less (λ e. absurd (omega (arith, e, less)))) (λ d. c.in_ok-lay.ensures.opens d ∙ ap (λ (xs : List NumberedLiteral). set new.run.opens.items c.len-number.result (open_sum xs (get_or (shapes_of new.store.kept.items) c.len-number.result d).terms)) list_is))
+    let number_is : c.len-number.result ≡ length keep = omega (arith, c.len-number.ensures, c.args.store.now.stored.ok.0) in
+    rw laid_is (laid-counted c.args.form keep new.store.stored.items run.opens.items new.run.opens.items run.candidates.items new.run.candidates.items c.lay.new.run.opens.items run.assignment.list.items c.len-number.result c.in_ok-enter.ensures.entered number_is r.open_sizes
+    (λ s d less. r.counted s d less (λ e. absurd (omega (arith, e, less)))) (λ d. c.in_ok-lay.ensures.opens d ∙ ap (λ (xs : List NumberedLiteral). set new.run.opens.items c.len-number.result (open_sum xs (get_or (shapes_of new.store.stored.items) c.len-number.result d).terms)) list_is))
 
 pub propagate-found-requires-clause-tidy : goal.propagate-found-requires-clause-tidy
 propagate-found-requires-clause-tidy c =
-    let keep = c.args.store.now.kept.items in
+    let keep = c.args.store.now.stored.items in
     let run = c.args.root.now.run in
     let rests = c.args.root.now.rests in
     let new = c.enter.new in
@@ -100,26 +100,26 @@ propagate-found-requires-clause-tidy c =
     let clauses = clauses_of c.args.clauses.now in
     let list_is = ap (λ (a : Assignment). a.list.items) c.enter.ensures.rest.0 in
     let laid_is = ap (λ (a : Assignment). a.list.items) (c.lay.ensures.assignment ∙ c.enter.ensures.rest.0) in
-    let number_is : c.len-number.result ≡ length keep = omega (arith, c.len-number.ensures, c.args.store.now.kept.ok.0) in
-    let low = λ (d : Shape). c.in_ok-lay.ensures.opens d ∙ ap (λ (xs : List NumberedLiteral). set new.run.opens.items c.len-number.result (open_sum xs (get_or (shapes_of new.store.kept.items) c.len-number.result d).terms)) list_is in
+    let number_is : c.len-number.result ≡ length keep = omega (arith, c.len-number.ensures, c.args.store.now.stored.ok.0) in
+    let low = λ (d : Shape). c.in_ok-lay.ensures.opens d ∙ ap (λ (xs : List NumberedLiteral). set new.run.opens.items c.len-number.result (open_sum xs (get_or (shapes_of new.store.stored.items) c.len-number.result d).terms)) list_is in
     let work_is = ap (λ (v : Vec ℕ Global). v.items) c.enter.ensures.rest.1 ∙ r.work in
     let queued = rw (list_is, work_is) at c.in_ok-lay.ensures.work in
     let trail_is = c.in_ok-lay.ensures.trail ∙ ap (λ (xs : List ℕ). xs ++ (c.len-number.result ∷ [])) (ap (λ (v : Vec ℕ Global). v.items) c.enter.ensures.trail ∙ r.trail) in
     let before : IsTidy (beside rests []) (shapes_of keep) run.opens.items run.candidates.items run.assignment.list.items [] [] 0 c.len-number.result = rw number_is r.tidy in
-    let tidy = laid-tidy rests c.args.form keep new.store.kept.items run.opens.items new.run.opens.items run.candidates.items new.run.candidates.items c.lay.new.run.opens.items run.assignment.list.items c.lay.new.run.work.items c.lay.new.run.trail.items c.len-number.result h number_is r.open_sizes r.start_sizes (omega (arith, ap length r.opens, r.open_sizes)) (omega (arith, ap length r.starts, r.start_sizes)) before low queued trail_is in
+    let tidy = laid-tidy rests c.args.form keep new.store.stored.items run.opens.items new.run.opens.items run.candidates.items new.run.candidates.items c.lay.new.run.opens.items run.assignment.list.items c.lay.new.run.work.items c.lay.new.run.trail.items c.len-number.result h number_is r.open_sizes r.start_sizes (omega (arith, ap length r.opens, r.open_sizes)) (omega (arith, ap length r.starts, r.start_sizes)) before low queued trail_is in
     let cands_is = ap (λ (v : Vec ℕ Global). v.items) c.lay.ensures.candidates in
     rw (c.as_slice.ensures.value, c.new-none.ensures.items, laid_is, cands_is, c.lay.ensures.next ∙ c.enter.ensures.rest.2 ∙ r.next) tidy
 
 pub returns-in_err-found-clause-forms : goal.returns-in_err-found-clause-forms
 returns-in_err-found-clause-forms c =
     let h = c.in_ok-enter.ensures.entered in
-    let keep = c.args.store.now.kept in
-    let same : (places : List ℕ) → ArePlaced (forms_of keep.items) places → numbered (forms_of c.enter.new.store.kept.items) places ≡ numbered (forms_of keep.items) places = λ places p. numbered-entered keep.items c.enter.new.store.kept.items h.kept places h.keeps (omega (arith, keep.ok.0, keep.ok.1)) p in
+    let keep = c.args.store.now.stored in
+    let same : (places : List ℕ) → ArePlaced (forms_of keep.items) places → numbered (forms_of c.enter.new.store.stored.items) places ≡ numbered (forms_of keep.items) places = λ places p. numbered-entered keep.items c.enter.new.store.stored.items h.kept places h.keeps (omega (arith, keep.ok.0, keep.ok.1)) p in
     search (rules, same)
 
 pub returns-in_err-found-clause-most : goal.returns-in_err-found-clause-most
 returns-in_err-found-clause-most c =
-    let keep = c.args.store.now.kept.items in
+    let keep = c.args.store.now.stored.items in
     let run = c.args.root.now.run in
     let rests = c.args.root.now.rests in
     let new = c.enter.new in
@@ -128,25 +128,25 @@ returns-in_err-found-clause-most c =
     let clauses = clauses_of c.args.clauses.now in
     let list_is = ap (λ (a : Assignment). a.list.items) c.enter.ensures.rest.0 in
     let laid_is = ap (λ (a : Assignment). a.list.items) (c.lay.ensures.assignment ∙ c.enter.ensures.rest.0) in
-    let number_is : c.len-number.result ≡ length keep = omega (arith, c.len-number.ensures, c.args.store.now.kept.ok.0) in
-    let whole : all_of new.store c.args.clauses.now ≡ all_of c.args.store.now c.args.clauses.now ++ (kept_shape h.kept ∷ []) =
-    ap (λ xs. joined xs clauses) (entered-shapes c.args.form keep new.store.kept.items run.opens.items new.run.opens.items run.candidates.items new.run.candidates.items h) ∙ joined-push (shapes_of keep) clauses (kept_shape h.kept) c.requires.joined.short in
-    let start : Derives (all_of new.store c.args.clauses.now) [] run.assignment.list.items = rw whole (derives-entered (all_of c.args.store.now c.args.clauses.now) (kept_shape h.kept) [] run.assignment.list.items r.derived) in
+    let number_is : c.len-number.result ≡ length keep = omega (arith, c.len-number.ensures, c.args.store.now.stored.ok.0) in
+    let whole : all_of new.store c.args.clauses.now ≡ all_of c.args.store.now c.args.clauses.now ++ (stored_shape h.kept ∷ []) =
+    ap (λ xs. joined xs clauses) (entered-shapes c.args.form keep new.store.stored.items run.opens.items new.run.opens.items run.candidates.items new.run.candidates.items h) ∙ joined-push (shapes_of keep) clauses (stored_shape h.kept) c.requires.joined.short in
+    let start : Derives (all_of new.store c.args.clauses.now) [] run.assignment.list.items = rw whole (derives-entered (all_of c.args.store.now c.args.clauses.now) (stored_shape h.kept) [] run.assignment.list.items r.derived) in
     let done = c.propagate-found.new.run in
     let reported = c.propagate-found.ensures in
     let extends = rw laid_is at reported.extends in
     let work_is = ap (λ (v : Vec ℕ Global). v.items) c.enter.ensures.rest.1 ∙ r.work in
     let few = grown-length c.len-number.result c.enter.new.run.work.items c.lay.new.run.work.items c.in_ok-lay.ensures.work in
-    let none_waits : length (filter (waits new.store.kept.items) c.as_slice.result.now) ≡ 0 = ap (λ (xs : List ℕ). length (filter (waits new.store.kept.items) xs)) (c.as_slice.ensures.value ∙ c.new-none.ensures.items) in
-    let most = question-most new.store clauses run.assignment.list.items done.assignment.list.items done.visits (sum c.lay.new.run.candidates.items) c.of-root.result (length c.lay.new.run.work.items + length (filter (waits new.store.kept.items) c.as_slice.result.now)) c.lay.new.run.next (sum done.candidates.items)
-    c.in_ok-enter.ensures.sound (joined-entered c.args.form keep new.store.kept.items clauses run.opens.items new.run.opens.items run.candidates.items new.run.candidates.items h c.requires.joined) reported.single (λ l on. opposite done.assignment.values.items done.assignment.list.items l done.assignment.agrees on) extends start
+    let none_waits : length (filter (waits new.store.stored.items) c.as_slice.result.now) ≡ 0 = ap (λ (xs : List ℕ). length (filter (waits new.store.stored.items) xs)) (c.as_slice.ensures.value ∙ c.new-none.ensures.items) in
+    let most = question-most new.store clauses run.assignment.list.items done.assignment.list.items done.visits (sum c.lay.new.run.candidates.items) c.of-root.result (length c.lay.new.run.work.items + length (filter (waits new.store.stored.items) c.as_slice.result.now)) c.lay.new.run.next (sum done.candidates.items)
+    c.in_ok-enter.ensures.sound (joined-entered c.args.form keep new.store.stored.items clauses run.opens.items new.run.opens.items run.candidates.items new.run.candidates.items h c.requires.joined) reported.single (λ l on. opposite done.assignment.values.items done.assignment.list.items l done.assignment.agrees on) extends start
     (omega (arith, c.of-root.ensures, c.len-count.ensures, run.assignment.list.ok.0)) (omega (arith, few.1, ap length work_is, none_waits)) reported.bounded reported.upper in
-    let more = ap (sum_by (λ (f : Shape). length f.terms)) whole ∙ sum_by_push (λ (f : Shape). length f.terms) (all_of c.args.store.now c.args.clauses.now) (kept_shape h.kept) in
-    omega (arith, most, more, kept-terms c.args.form (kept_shape h.kept) h.is, c.replace.ensures.value)
+    let more = ap (sum_by (λ (f : Shape). length f.terms)) whole ∙ sum_by_push (λ (f : Shape). length f.terms) (all_of c.args.store.now c.args.clauses.now) (stored_shape h.kept) in
+    omega (arith, most, more, kept-terms c.args.form (stored_shape h.kept) h.is, c.replace.ensures.value)
 
 pub returns-clause-most : goal.returns-clause-most
 returns-clause-most c =
-    let keep = c.args.store.now.kept.items in
+    let keep = c.args.store.now.stored.items in
     let run = c.args.root.now.run in
     let rests = c.args.root.now.rests in
     let new = c.enter.new in
@@ -155,25 +155,25 @@ returns-clause-most c =
     let clauses = clauses_of c.args.clauses.now in
     let list_is = ap (λ (a : Assignment). a.list.items) c.enter.ensures.rest.0 in
     let laid_is = ap (λ (a : Assignment). a.list.items) (c.lay.ensures.assignment ∙ c.enter.ensures.rest.0) in
-    let number_is : c.len-number.result ≡ length keep = omega (arith, c.len-number.ensures, c.args.store.now.kept.ok.0) in
-    let whole : all_of new.store c.args.clauses.now ≡ all_of c.args.store.now c.args.clauses.now ++ (kept_shape h.kept ∷ []) =
-    ap (λ xs. joined xs clauses) (entered-shapes c.args.form keep new.store.kept.items run.opens.items new.run.opens.items run.candidates.items new.run.candidates.items h) ∙ joined-push (shapes_of keep) clauses (kept_shape h.kept) c.requires.joined.short in
-    let start : Derives (all_of new.store c.args.clauses.now) [] run.assignment.list.items = rw whole (derives-entered (all_of c.args.store.now c.args.clauses.now) (kept_shape h.kept) [] run.assignment.list.items r.derived) in
+    let number_is : c.len-number.result ≡ length keep = omega (arith, c.len-number.ensures, c.args.store.now.stored.ok.0) in
+    let whole : all_of new.store c.args.clauses.now ≡ all_of c.args.store.now c.args.clauses.now ++ (stored_shape h.kept ∷ []) =
+    ap (λ xs. joined xs clauses) (entered-shapes c.args.form keep new.store.stored.items run.opens.items new.run.opens.items run.candidates.items new.run.candidates.items h) ∙ joined-push (shapes_of keep) clauses (stored_shape h.kept) c.requires.joined.short in
+    let start : Derives (all_of new.store c.args.clauses.now) [] run.assignment.list.items = rw whole (derives-entered (all_of c.args.store.now c.args.clauses.now) (stored_shape h.kept) [] run.assignment.list.items r.derived) in
     let done = c.propagate-found.new.run in
     let reported = c.propagate-found.ensures in
     let extends = rw laid_is at reported.extends in
     let work_is = ap (λ (v : Vec ℕ Global). v.items) c.enter.ensures.rest.1 ∙ r.work in
     let few = grown-length c.len-number.result c.enter.new.run.work.items c.lay.new.run.work.items c.in_ok-lay.ensures.work in
-    let none_waits : length (filter (waits new.store.kept.items) c.as_slice.result.now) ≡ 0 = ap (λ (xs : List ℕ). length (filter (waits new.store.kept.items) xs)) (c.as_slice.ensures.value ∙ c.new-none.ensures.items) in
-    let most = question-most new.store clauses run.assignment.list.items done.assignment.list.items done.visits (sum c.lay.new.run.candidates.items) c.of-root.result (length c.lay.new.run.work.items + length (filter (waits new.store.kept.items) c.as_slice.result.now)) c.lay.new.run.next (sum done.candidates.items)
-    c.in_ok-enter.ensures.sound (joined-entered c.args.form keep new.store.kept.items clauses run.opens.items new.run.opens.items run.candidates.items new.run.candidates.items h c.requires.joined) reported.single (λ l on. opposite done.assignment.values.items done.assignment.list.items l done.assignment.agrees on) extends start
+    let none_waits : length (filter (waits new.store.stored.items) c.as_slice.result.now) ≡ 0 = ap (λ (xs : List ℕ). length (filter (waits new.store.stored.items) xs)) (c.as_slice.ensures.value ∙ c.new-none.ensures.items) in
+    let most = question-most new.store clauses run.assignment.list.items done.assignment.list.items done.visits (sum c.lay.new.run.candidates.items) c.of-root.result (length c.lay.new.run.work.items + length (filter (waits new.store.stored.items) c.as_slice.result.now)) c.lay.new.run.next (sum done.candidates.items)
+    c.in_ok-enter.ensures.sound (joined-entered c.args.form keep new.store.stored.items clauses run.opens.items new.run.opens.items run.candidates.items new.run.candidates.items h c.requires.joined) reported.single (λ l on. opposite done.assignment.values.items done.assignment.list.items l done.assignment.agrees on) extends start
     (omega (arith, c.of-root.ensures, c.len-count.ensures, run.assignment.list.ok.0)) (omega (arith, few.1, ap length work_is, none_waits)) reported.bounded reported.upper in
-    let more = ap (sum_by (λ (f : Shape). length f.terms)) whole ∙ sum_by_push (λ (f : Shape). length f.terms) (all_of c.args.store.now c.args.clauses.now) (kept_shape h.kept) in
-    omega (arith, most, more, kept-terms c.args.form (kept_shape h.kept) h.is, c.replace.ensures.value)
+    let more = ap (sum_by (λ (f : Shape). length f.terms)) whole ∙ sum_by_push (λ (f : Shape). length f.terms) (all_of c.args.store.now c.args.clauses.now) (stored_shape h.kept) in
+    omega (arith, most, more, kept-terms c.args.form (stored_shape h.kept) h.is, c.replace.ensures.value)
 
 pub returns-clause-asked : goal.returns-clause-asked
 returns-clause-asked c =
-    let keep = c.args.store.now.kept.items in
+    let keep = c.args.store.now.stored.items in
     let run = c.args.root.now.run in
     let rests = c.args.root.now.rests in
     let new = c.enter.new in
@@ -182,15 +182,15 @@ returns-clause-asked c =
     let clauses = clauses_of c.args.clauses.now in
     let list_is = ap (λ (a : Assignment). a.list.items) c.enter.ensures.rest.0 in
     let laid_is = ap (λ (a : Assignment). a.list.items) (c.lay.ensures.assignment ∙ c.enter.ensures.rest.0) in
-    let number_is : c.len-number.result ≡ length keep = omega (arith, c.len-number.ensures, c.args.store.now.kept.ok.0) in
-    let whole : all_of new.store c.args.clauses.now ≡ all_of c.args.store.now c.args.clauses.now ++ (kept_shape h.kept ∷ []) =
-    ap (λ xs. joined xs clauses) (entered-shapes c.args.form keep new.store.kept.items run.opens.items new.run.opens.items run.candidates.items new.run.candidates.items h) ∙ joined-push (shapes_of keep) clauses (kept_shape h.kept) c.requires.joined.short in
-    let start : Derives (all_of new.store c.args.clauses.now) [] run.assignment.list.items = rw whole (derives-entered (all_of c.args.store.now c.args.clauses.now) (kept_shape h.kept) [] run.assignment.list.items r.derived) in
+    let number_is : c.len-number.result ≡ length keep = omega (arith, c.len-number.ensures, c.args.store.now.stored.ok.0) in
+    let whole : all_of new.store c.args.clauses.now ≡ all_of c.args.store.now c.args.clauses.now ++ (stored_shape h.kept ∷ []) =
+    ap (λ xs. joined xs clauses) (entered-shapes c.args.form keep new.store.stored.items run.opens.items new.run.opens.items run.candidates.items new.run.candidates.items h) ∙ joined-push (shapes_of keep) clauses (stored_shape h.kept) c.requires.joined.short in
+    let start : Derives (all_of new.store c.args.clauses.now) [] run.assignment.list.items = rw whole (derives-entered (all_of c.args.store.now c.args.clauses.now) (stored_shape h.kept) [] run.assignment.list.items r.derived) in
     let done = c.propagate-found.new.run in
     let reported = c.in_ok-found.ensures in
     let derived = rw laid_is at reported.derived in
     let all = derivation-then (all_of new.store c.args.clauses.now) [] run.assignment.list.items done.assignment.list.items start derived in (
-      kept_shape h.kept,
+      stored_shape h.kept,
       h.is,
       record {
         list = done.assignment.list.items;
@@ -207,7 +207,7 @@ returns-clause-asked c =
 
 pub returns-clause-rooted : goal.returns-clause-rooted
 returns-clause-rooted c =
-    let keep = c.args.store.now.kept.items in
+    let keep = c.args.store.now.stored.items in
     let run = c.args.root.now.run in
     let rests = c.args.root.now.rests in
     let new = c.enter.new in
@@ -216,16 +216,16 @@ returns-clause-rooted c =
     let clauses = clauses_of c.args.clauses.now in
     let list_is = ap (λ (a : Assignment). a.list.items) c.enter.ensures.rest.0 in
     let laid_is = ap (λ (a : Assignment). a.list.items) (c.lay.ensures.assignment ∙ c.enter.ensures.rest.0) in
-    let number_is : c.len-number.result ≡ length keep = omega (arith, c.len-number.ensures, c.args.store.now.kept.ok.0) in
+    let number_is : c.len-number.result ≡ length keep = omega (arith, c.len-number.ensures, c.args.store.now.stored.ok.0) in
     let done = c.propagate-found.new.run in
     let reported = c.in_ok-found.ensures in
     let b = c.back.new in
     let last = c.leave.new in
     let extends = rw laid_is at c.propagate-found.ensures.extends in
     let count_is : c.len-count.result ≡ length run.assignment.list.items = omega (arith, c.len-count.ensures, run.assignment.list.ok.0) in
-    let long : length new.store.kept.items ≡ length keep + 1 = omega (arith, ap length h.keeps, length-append keep (h.kept ∷ [])) in
-    let same = undone-same rests (shapes_of new.store.kept.items) b.run.opens.items b.run.candidates.items (length keep) c.back.ensures.undone (omega (arith, long, length-map new.store.kept.items kept_shape)) (omega (arith, long, c.back.ensures.opens)) (omega (arith, long, c.back.ensures.candidates)) (omega (arith, ap length r.opens, r.open_sizes)) (omega (arith, ap length r.starts, r.start_sizes)) in
-    let kept_is : last.store.kept.items ≡ keep = c.leave.ensures.kept ∙ prefix-of new.store.kept.items keep h.kept h.keeps in
+    let long : length new.store.stored.items ≡ length keep + 1 = omega (arith, ap length h.keeps, length-append keep (h.kept ∷ [])) in
+    let same = undone-same rests (shapes_of new.store.stored.items) b.run.opens.items b.run.candidates.items (length keep) c.back.ensures.undone (omega (arith, long, length-map new.store.stored.items stored_shape)) (omega (arith, long, c.back.ensures.opens)) (omega (arith, long, c.back.ensures.candidates)) (omega (arith, ap length r.opens, r.open_sizes)) (omega (arith, ap length r.starts, r.start_sizes)) in
+    let kept_is : last.store.stored.items ≡ keep = c.leave.ensures.kept ∙ prefix-of new.store.stored.items keep h.kept h.keeps in
     let opens_is : last.run.opens.items ≡ rests.opens.items = c.leave.ensures.opens ∙ same.0 in
     let starts_is : last.run.candidates.items ≡ rests.starts.items = c.leave.ensures.candidates ∙ same.1 in
     let cut : b.run.assignment.list.items ≡ run.assignment.list.items = c.back.ensures.list ∙ ap (λ xs. take c.len-count.result xs) extends.1 ∙ ap (λ n. take n (run.assignment.list.items ++ extends.0)) count_is ∙ take-append_seam run.assignment.list.items extends.0 in

@@ -2,7 +2,7 @@ use Rattle.std.proofs.Common.{ℕ, ◌<◌, subst, sym, ap, ◌∙◌, length, g
 use Rattle.std.proofs.lemmas.List.{length-map}
 use Rattle.pb_propagate.specs.engine.Engine.Lists.{Shape, AreInside, says, open_sum}
 use Rattle.pb_propagate.specs.engine.Engine.Counts.{IsCalm}
-use Rattle.pb_propagate.specs.engine.Engine.Fields.{shapes_of, kept_shape}
+use Rattle.pb_propagate.specs.engine.Engine.Fields.{shapes_of, stored_shape}
 use Rattle.pb_propagate.specs.engine.Engine.Terms.{terms_of}
 use Rattle.pb_propagate.proofs.lemmas.engine.VisitSteps.{shape-at, grown-by}
 use Rattle.pb_propagate.proofs.engine.root.lay.Goals as goal
@@ -11,16 +11,16 @@ pub open_under-opened-requires-clause-inside : goal.open_under-opened-requires-c
 open_under-opened-requires-clause-inside c =
     let store = c.args.store.now in
     let k = c.index-kept.result.now in
-    let here : c.args.form < length (shapes_of store.kept.items) = omega (arith, c.requires.form, length-map store.kept.items kept_shape) in
-    let shape = shape-at store.kept.items c.args.form k c.requires.form c.index-kept.ensures (kept_shape k) in
-    let all = subst (λ (f : Shape). AreInside store.variables f.terms) shape (c.requires.store.inside c.args.form (kept_shape k) here) in
+    let here : c.args.form < length (shapes_of store.stored.items) = omega (arith, c.requires.form, length-map store.stored.items stored_shape) in
+    let shape = shape-at store.stored.items c.args.form k c.requires.form c.index-kept.ensures (stored_shape k) in
+    let all = subst (λ (f : Shape). AreInside store.variables f.terms) shape (c.requires.store.inside c.args.form (stored_shape k) here) in
     subst (λ n. AreInside n (terms_of k.terms)) (sym (ap length c.as_slice.ensures.value ∙ c.requires.values)) all
 
 pub returns-clause-opens : goal.returns-clause-opens
 returns-clause-opens c = λ d.
     let store = c.args.store.now in
     let run = c.args.run.now in
-    let shape = shape-at store.kept.items c.args.form c.index-kept.result.now c.requires.form c.index-kept.ensures d in
+    let shape = shape-at store.stored.items c.args.form c.index-kept.result.now c.requires.form c.index-kept.ensures d in
     let sum = c.open_under-opened.ensures run.assignment.list.items (λ l. run.assignment.agrees l ∙ ap (λ vs. says vs l) (sym c.as_slice.ensures.value)) in
     ap (λ (o : ℕ). set run.opens.items c.args.form o) (sum ∙ ap (λ (f : Shape). open_sum run.assignment.list.items f.terms) (sym shape))
 
@@ -31,6 +31,6 @@ returns-clause-work c =
     let k = c.index-kept.result.now in
     let sum = c.open_under-opened.ensures run.assignment.list.items (λ l. run.assignment.agrees l ∙ ap (λ vs. says vs l) (sym c.as_slice.ensures.value)) in
     grown-by c.args.form run.work.items _ (λ low d i.
-    let shape = shape-at store.kept.items c.args.form k c.requires.form c.index-kept.ensures d in
+    let shape = shape-at store.stored.items c.args.form k c.requires.form c.index-kept.ensures d in
     let same = sum ∙ ap (λ (f : Shape). open_sum run.assignment.list.items f.terms) (sym shape) in
-    subst (λ (o : ℕ). IsCalm (get_or (shapes_of store.kept.items) c.args.form d) o i) same (subst (λ (f : Shape). IsCalm f c.open_under-opened.result i) (sym shape) (k.idle c.open_under-opened.result i low))) c.in_ok-queue.ensures
+    subst (λ (o : ℕ). IsCalm (get_or (shapes_of store.stored.items) c.args.form d) o i) same (subst (λ (f : Shape). IsCalm f c.open_under-opened.result i) (sym shape) (k.idle c.open_under-opened.result i low))) c.in_ok-queue.ensures

@@ -5,19 +5,19 @@ use Rattle.pb_propagate.proofs.store.occurrence_lists.enter.Goals as goal
 
 pub fill-requires-clause-slot : goal.fill-requires-clause-slot
 fill-requires-clause-slot c =
-    let keep = c.args.store.now.kept.items in
+    let keep = c.args.store.now.stored.items in
     let k = c.in_ok-widen.ensures.kept in
-    omega (arith, c.len-slot.ensures, c.args.store.now.kept.ok.0, ap length k.2, length-append keep (k.0 ∷ []))
+    omega (arith, c.len-slot.ensures, c.args.store.now.stored.ok.0, ap length k.2, length-append keep (k.0 ∷ []))
 
 pub fill-requires-clause-empty : goal.fill-requires-clause-empty
 fill-requires-clause-empty c =
-    let keep = c.args.store.now.kept.items in
+    let keep = c.args.store.now.stored.items in
     let k = c.in_ok-widen.ensures.kept in
-    empty-end keep c.widen.new.store.kept.items k.0 c.len-slot.result k.2 (omega (arith, c.len-slot.ensures, c.args.store.now.kept.ok.0)) k.1.terms
+    empty-end keep c.widen.new.store.stored.items k.0 c.len-slot.result k.2 (omega (arith, c.len-slot.ensures, c.args.store.now.stored.ok.0)) k.1.terms
 
 pub fill-requires-clause-opens : goal.fill-requires-clause-opens
 fill-requires-clause-opens c =
-    let keep = c.args.store.now.kept.items in
+    let keep = c.args.store.now.stored.items in
     let opens = c.args.run.now.opens.items in
     let k = c.in_ok-widen.ensures.kept in
     omega (arith, c.requires.opens, ap length k.2, length-append keep (k.0 ∷ []), ap length c.in_ok-widen.ensures.opens, length-append opens (0 ∷ []))
@@ -25,8 +25,8 @@ fill-requires-clause-opens c =
 pub returns-in_err-fill-clause-unchanged : goal.returns-in_err-fill-clause-unchanged
 returns-in_err-fill-clause-unchanged c =
     let k = c.in_ok-widen.ensures.kept in
-    let was = c.args.store.now.kept.items in
-    let now = c.fill.new.store.kept.items in
+    let was = c.args.store.now.stored.items in
+    let now = c.fill.new.store.stored.items in
     let reported : (s : ℕ) → get_or (forms_of now) s None ≡ get_or (forms_of was) s None = λ s. forms-more was now k.0 s (c.in_err-fill.ensures.unchanged ∙ k.2) k.1.form in
     search (rules, reported)
 
@@ -36,12 +36,12 @@ returns-clause-entered c =
     let run = c.args.run.now in
     let k = c.in_ok-widen.ensures.kept in
     let h = c.in_ok-fill.ensures.filled in
-    let slot : c.len-slot.result ≡ length store.kept.items = omega (arith, c.len-slot.ensures, store.kept.ok.0) in
+    let slot : c.len-slot.result ≡ length store.stored.items = omega (arith, c.len-slot.ensures, store.stored.ok.0) in
     record {
       kept = h.kept;
       is = rw c.in_ok-form.ensures at h.is;
       form = rw c.in_ok-form.ensures at h.form;
-      keeps = h.keeps ∙ set-end store.kept.items c.widen.new.store.kept.items c.len-slot.result k.0 h.kept k.2 slot;
+      keeps = h.keeps ∙ set-end store.stored.items c.widen.new.store.stored.items c.len-slot.result k.0 h.kept k.2 slot;
       opened = h.opened ∙ set-end run.opens.items c.widen.new.run.opens.items c.len-slot.result 0 h.kept.total c.in_ok-widen.ensures.opens (slot ∙ sym c.requires.opens);
       candidates = ap (λ (v : Vec ℕ Global). v.items) c.fill.ensures.rest.0 ∙ c.in_ok-widen.ensures.candidates;
     }

@@ -12,14 +12,14 @@ link-requires-clause-inside c = λ k d h.
     let store = c.args.store.now in
     let ts = terms_of c.in_ok-kept.kept.terms in
     let variable = kept-inside ts c.args.form.terms store.variables c.in_ok-kept.ensures.is.terms c.requires.inside in
-    omega (arith, place-inside (get_or ts k d).literal store.variables (variable k d h), c.requires.sound.places, entries-length (shapes_of store.kept.items) store.occurrences.items)
+    omega (arith, place-inside (get_or ts k d).literal store.variables (variable k d h), c.requires.sound.places, entries-length (shapes_of store.stored.items) store.occurrences.items)
 
 pub returns-clause-sound : goal.returns-clause-sound
 returns-clause-sound c =
     let store = c.args.store.now in
     let k = c.in_ok-kept.kept in
     let ts = terms_of k.terms in
-    filled-stored store.kept.items k store.spots.items c.link.new.spots store.occurrences.items c.link.new.lists.items store.variables c.args.slot ts
+    filled-stored store.stored.items k store.spots.items c.link.new.spots store.occurrences.items c.link.new.lists.items store.variables c.args.slot ts
     c.requires.slot c.requires.empty refl c.in_ok-link.ensures.sizes c.in_ok-link.ensures.count
     (kept-inside ts c.args.form.terms store.variables c.in_ok-kept.ensures.is.terms c.requires.inside) c.in_ok-link.ensures.linked c.requires.sound
 

@@ -1,7 +1,7 @@
 use Rattle.std.proofs.Common.{◌≡◌, ℕ, ◌+◌, ◌-◌, ◌∙◌, Vec, Global, refl, ap, arith, length, take}
 use Rattle.std.proofs.lemmas.List.{length-map}
 use Rattle.pb_propagate.specs.declared.store.stored_form.StoredForm.{StoredForm}
-use Rattle.pb_propagate.specs.engine.Engine.Fields.{shapes_of, kept_shape}
+use Rattle.pb_propagate.specs.engine.Engine.Fields.{shapes_of, stored_shape}
 use Rattle.pb_propagate.proofs.lemmas.store.Links.{cut-length}
 use Rattle.pb_propagate.proofs.lemmas.store.Changes.{left-stored, take-at}
 use Rattle.pb_propagate.proofs.store.occurrence_lists.leave.Goals as goal
@@ -12,9 +12,9 @@ returns-clause-sound c =
     let less = c.unlink.new.store in
     let number = c.len-number.result - 1 in
     let same = ap (λ (v : Vec StoredForm Global). v.items) c.unlink.ensures.kept in
-    let count : length store.kept.items ≡ number + 1 = omega (arith, c.requires.some, c.len-number.ensures, store.kept.ok.0) in
+    let count : length store.stored.items ≡ number + 1 = omega (arith, c.requires.some, c.len-number.ensures, store.stored.ok.0) in
     let linked = rw same at c.unlink.ensures.linked in
-    let kept_is : c.pop.new.self.items ≡ take number store.kept.items = c.pop.ensures.rest ∙ take-at less.kept.items store.kept.items _ number (omega (arith, count, less.kept.ok.0, ap length same)) same in
-    let spots_is : c.pop-2.new.self.items ≡ take number less.spots.items = c.pop-2.ensures.rest ∙ take-at less.spots.items less.spots.items _ number (omega (arith, count, less.spots.ok.0, linked.sizes, cut-length (shapes_of store.kept.items) number 0, length-map store.kept.items kept_shape, length-map less.spots.items (λ (v : Vec ℕ Global). v.items))) refl in
+    let kept_is : c.pop.new.self.items ≡ take number store.stored.items = c.pop.ensures.rest ∙ take-at less.stored.items store.stored.items _ number (omega (arith, count, less.stored.ok.0, ap length same)) same in
+    let spots_is : c.pop-2.new.self.items ≡ take number less.spots.items = c.pop-2.ensures.rest ∙ take-at less.spots.items less.spots.items _ number (omega (arith, count, less.spots.ok.0, linked.sizes, cut-length (shapes_of store.stored.items) number 0, length-map store.stored.items stored_shape, length-map less.spots.items (λ (v : Vec ℕ Global). v.items))) refl in
     rw (kept_is, spots_is, c.unlink.ensures.variables)
-    (left-stored store.kept.items less.spots.items store.spots.items less.occurrences.items store.occurrences.items store.variables number count c.unlink.ensures.lists c.unlink.ensures.rooms linked c.requires.sound)
+    (left-stored store.stored.items less.spots.items store.spots.items less.occurrences.items store.occurrences.items store.variables number count c.unlink.ensures.lists c.unlink.ensures.rooms linked c.requires.sound)

@@ -5,4 +5,4 @@ pub returns-clause-sound : goal.returns-clause-sound
 returns-clause-sound c =
     let store = c.args.store.now in
     rw (c.in_ok-push-4.ensures.items, c.in_ok-push-3.ensures.items)
-    (widened-forms store.kept.items c.empty_kept.result store.spots.items c.new.result store.occurrences.items store.variables c.empty_kept.ensures.terms c.new.ensures.items c.requires.sound)
+    (widened-forms store.stored.items c.empty_stored.result store.spots.items c.new.result store.occurrences.items store.variables c.empty_stored.ensures.terms c.new.ensures.items c.requires.sound)

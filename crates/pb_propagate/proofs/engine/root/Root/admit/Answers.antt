@@ -4,7 +4,7 @@ use Rattle.pb_propagate.specs.declared.assignment.Assignment.{Assignment}
 use Rattle.pb_propagate.specs.declared.clauses.lists.Watch.{Watch}
 use Rattle.pb_propagate.specs.engine.Engine.Lists.{Shape, Derives, open_sum}
 use Rattle.pb_propagate.specs.engine.Engine.Counts.{none}
-use Rattle.pb_propagate.specs.engine.Engine.Fields.{shapes_of, kept_shape}
+use Rattle.pb_propagate.specs.engine.Engine.Fields.{shapes_of, stored_shape}
 use Rattle.pb_propagate.specs.engine.Engine.Root.{IsServed}
 use Rattle.pb_propagate.specs.engine.Clauses.Links.{lists_of}
 use Rattle.pb_propagate.specs.engine.Clauses.Shapes.{all_of, clauses_of}
@@ -31,7 +31,7 @@ returns-then-is_filled-clause-rooted c = λ live.
     let walked = served-walked run.assignment.values.items g.1.watches.items c.args.clauses.now.watches.items codes c.args.slot g.3.watched (λ e here live h. served-watch run.assignment.values.items c.args.clauses.now.watches.items codes c.args.slot e r.walked.failed served here h) r.walked in
     let rooted = gained-rooted g.0 store g.1 c.args.clauses.now run c.reach.new.run rests c.reach.new.rests c.args.slot c.requires.slot r g.3 reached walked in
     let there = arrived g.0 store g.1 c.args.clauses.now run c.reach.new.run rests c.reach.new.rests c.args.slot c.requires.slot r g.3 reached in
-    clause-rooted store c.args.clauses.now c.reach.new.run c.reach.new.rests c.args.slot c.requires.slot (λ d. c.requires.joined.apart c.args.slot d (omega (arith, c.requires.slot, length-map store.kept.items kept_shape)) filled) there.open_none rooted
+    clause-rooted store c.args.clauses.now c.reach.new.run c.reach.new.rests c.args.slot c.requires.slot (λ d. c.requires.joined.apart c.args.slot d (omega (arith, c.requires.slot, length-map store.stored.items stored_shape)) filled) there.open_none rooted
 
 pub lay-requires-clause-opens : goal.lay-requires-clause-opens
 lay-requires-clause-opens c =
@@ -77,7 +77,7 @@ propagate-requires-clause-opens c =
     let walked = served-walked run.assignment.values.items g.1.watches.items c.args.clauses.now.watches.items codes c.args.slot g.3.watched (λ e here live h. absurd (no-watch (clauses_of c.args.clauses.now) c.args.clauses.now.watches.items (lists_of c.args.clauses.now.lists.items) c.args.slot e stored none_there here live)) r.walked in
     let rooted = gained-rooted g.0 store g.1 c.args.clauses.now run c.reach.new.run rests c.reach.new.rests c.args.slot c.requires.slot r g.3 reached walked in
     let d : Shape = record { terms = []; degree = 0 } in
-    ap length (c.in_ok-lay.ensures.opens d) ∙ length-set c.reach.new.run.opens.items c.args.slot (open_sum c.reach.new.run.assignment.list.items (get_or (shapes_of store.kept.items) c.args.slot d).terms) ∙ rooted.open_sizes
+    ap length (c.in_ok-lay.ensures.opens d) ∙ length-set c.reach.new.run.opens.items c.args.slot (open_sum c.reach.new.run.assignment.list.items (get_or (shapes_of store.stored.items) c.args.slot d).terms) ∙ rooted.open_sizes
 
 pub propagate-requires-clause-candidates : goal.propagate-requires-clause-candidates
 propagate-requires-clause-candidates c =
@@ -135,7 +135,7 @@ propagate-requires-clause-counted c =
     let walked = served-walked run.assignment.values.items g.1.watches.items c.args.clauses.now.watches.items codes c.args.slot g.3.watched (λ e here live h. absurd (no-watch (clauses_of c.args.clauses.now) c.args.clauses.now.watches.items (lists_of c.args.clauses.now.lists.items) c.args.slot e stored none_there here live)) r.walked in
     let rooted = gained-rooted g.0 store g.1 c.args.clauses.now run c.reach.new.run rests c.reach.new.rests c.args.slot c.requires.slot r g.3 reached walked in
     let list_is = ap (λ (a : Assignment). a.list.items) c.lay.ensures.assignment in
-    rw list_is (slot-counted (shapes_of store.kept.items) c.reach.new.run.opens.items c.lay.new.run.opens.items c.reach.new.run.assignment.list.items c.args.slot (omega (arith, c.requires.slot, rooted.open_sizes)) (λ s d less apart. rooted.counted s d (omega (arith, less, length-map store.kept.items kept_shape)) apart) c.in_ok-lay.ensures.opens)
+    rw list_is (slot-counted (shapes_of store.stored.items) c.reach.new.run.opens.items c.lay.new.run.opens.items c.reach.new.run.assignment.list.items c.args.slot (omega (arith, c.requires.slot, rooted.open_sizes)) (λ s d less apart. rooted.counted s d (omega (arith, less, length-map store.stored.items stored_shape)) apart) c.in_ok-lay.ensures.opens)
 
 pub propagate-requires-clause-tidy : goal.propagate-requires-clause-tidy
 propagate-requires-clause-tidy c =
@@ -154,8 +154,8 @@ propagate-requires-clause-tidy c =
     let cands_is = ap (λ (v : Vec ℕ Global). v.items) c.lay.ensures.candidates in
     let queued = rw rooted.work at c.in_ok-lay.ensures.work in
     let noted = c.in_ok-lay.ensures.trail ∙ ap (λ (xs : List ℕ). xs ++ (c.args.slot ∷ [])) rooted.trail in
-    let long = length-map store.kept.items kept_shape in
-    let tidy = slot-tidy c.reach.new.rests (shapes_of store.kept.items) c.reach.new.run.opens.items c.reach.new.run.candidates.items c.lay.new.run.opens.items c.reach.new.run.assignment.list.items c.lay.new.run.work.items c.lay.new.run.trail.items c.args.slot (omega (arith, c.requires.slot, long)) (omega (arith, c.requires.slot, rooted.open_sizes)) rooted.tidy c.in_ok-lay.ensures.opens queued noted in
+    let long = length-map store.stored.items stored_shape in
+    let tidy = slot-tidy c.reach.new.rests (shapes_of store.stored.items) c.reach.new.run.opens.items c.reach.new.run.candidates.items c.lay.new.run.opens.items c.reach.new.run.assignment.list.items c.lay.new.run.work.items c.lay.new.run.trail.items c.args.slot (omega (arith, c.requires.slot, long)) (omega (arith, c.requires.slot, rooted.open_sizes)) rooted.tidy c.in_ok-lay.ensures.opens queued noted in
     rw (c.as_slice-2.ensures.value, c.new-none.ensures.items, list_is, cands_is, c.lay.ensures.next ∙ rooted.next) (rw long at tidy)
 
 pub propagate-requires-clause-walked : goal.propagate-requires-clause-walked

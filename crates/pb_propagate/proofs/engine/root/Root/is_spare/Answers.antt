@@ -2,7 +2,7 @@ use Rattle.std.proofs.Common.{◌<◌, ◌∙◌, ap, sym, subst, arith, length}
 use Rattle.std.proofs.lemmas.Bool.{not-true}
 use Rattle.std.proofs.lemmas.List.{length-map}
 use Rattle.pb_propagate.specs.engine.Engine.Lists.{Shape, AreInside}
-use Rattle.pb_propagate.specs.engine.Engine.Fields.{shapes_of, kept_shape}
+use Rattle.pb_propagate.specs.engine.Engine.Fields.{shapes_of, stored_shape}
 use Rattle.pb_propagate.specs.engine.Engine.Root.{IsSpare, HasOpen, HasTrue}
 use Rattle.pb_propagate.specs.engine.Engine.Terms.{terms_of}
 use Rattle.pb_propagate.specs.engine.Clauses.Links.{list_at}
@@ -26,9 +26,9 @@ pub has_true-requires : goal.has_true-requires
 has_true-requires c =
     let store = c.args.store.now in
     let k = c.index.result.now in
-    let here : c.args.slot < length (shapes_of store.kept.items) = omega (arith, c.requires.slot, length-map store.kept.items kept_shape) in
-    let shape = shape-at store.kept.items c.args.slot k c.requires.slot c.index.ensures (kept_shape k) in
-    let all = subst (λ (f : Shape). AreInside store.variables f.terms) shape (c.requires.sound.inside c.args.slot (kept_shape k) here) in
+    let here : c.args.slot < length (shapes_of store.stored.items) = omega (arith, c.requires.slot, length-map store.stored.items stored_shape) in
+    let shape = shape-at store.stored.items c.args.slot k c.requires.slot c.index.ensures (stored_shape k) in
+    let all = subst (λ (f : Shape). AreInside store.variables f.terms) shape (c.requires.sound.inside c.args.slot (stored_shape k) here) in
     record { inside = subst (λ n. AreInside n (terms_of k.terms)) (sym (ap length c.as_slice-values.ensures.value ∙ c.requires.values)) all }
 
 pub returns : goal.returns
@@ -38,6 +38,6 @@ returns c = λ spare x at.
     let run = c.args.self.now.run in
     let k = c.index.result.now in
     let none = c.is_filled.ensures.no c.if-is_filled.false in
-    let is = slot-is store clauses c.args.slot x c.requires.slot at ∙ ap (slot_shape _) none ∙ shape-at store.kept.items c.args.slot k c.requires.slot c.index.ensures x in
-    let untrue = λ (h : HasTrue run.assignment.values.items (kept_shape k).terms). c.has_true.ensures.no (not-true c.has_true.result spare) (subst (λ vs. HasTrue vs (terms_of k.terms)) (sym c.as_slice-values.ensures.value) h) in
-    subst (λ (y : Shape). IsSpare y run.assignment.list.items) (sym is) (untrue-spare run.assignment.values.items run.assignment.list.items (kept_shape k) run.assignment.agrees untrue)
+    let is = slot-is store clauses c.args.slot x c.requires.slot at ∙ ap (slot_shape _) none ∙ shape-at store.stored.items c.args.slot k c.requires.slot c.index.ensures x in
+    let untrue = λ (h : HasTrue run.assignment.values.items (stored_shape k).terms). c.has_true.ensures.no (not-true c.has_true.result spare) (subst (λ vs. HasTrue vs (terms_of k.terms)) (sym c.as_slice-values.ensures.value) h) in
+    subst (λ (y : Shape). IsSpare y run.assignment.list.items) (sym is) (untrue-spare run.assignment.values.items run.assignment.list.items (stored_shape k) run.assignment.agrees untrue)

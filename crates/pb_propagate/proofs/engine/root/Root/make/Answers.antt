@@ -12,13 +12,13 @@ propagate-requires-clause-single c = rw c.in_ok-self.ensures.list none
 pub propagate-requires-clause-counted : goal.propagate-requires-clause-counted
 propagate-requires-clause-counted c =
     let run = c.args.run.now in
-    rw (c.in_ok-self.ensures.opens, c.in_ok-self.ensures.list) (start-counted c.args.store.now.kept.items run.opens.items run.candidates.items c.requires.rest.rest)
+    rw (c.in_ok-self.ensures.opens, c.in_ok-self.ensures.list) (start-counted c.args.store.now.stored.items run.opens.items run.candidates.items c.requires.rest.rest)
 
 pub propagate-requires-clause-tidy : goal.propagate-requires-clause-tidy
 propagate-requires-clause-tidy c =
     let run = c.args.run.now in
     let reported = c.in_ok-self.ensures in
-    let tidy = start-tidy c.in_ok-self-2.field-0 c.args.store.now.kept.items c.args.eager.now.list.items run.opens.items run.candidates.items c.in_ok-self-2.ensures.opens c.in_ok-self-2.ensures.starts c.requires.rest.rest c.requires.rest.eager in
+    let tidy = start-tidy c.in_ok-self-2.field-0 c.args.store.now.stored.items c.args.eager.now.list.items run.opens.items run.candidates.items c.in_ok-self-2.ensures.opens c.in_ok-self-2.ensures.starts c.requires.rest.rest c.requires.rest.eager in
     rw (
       c.as_slice.ensures.value,
       reported.opens,

@@ -1,7 +1,7 @@
 use Rattle.std.proofs.Common.{arith, ◌∙◌, sym}
 use Rattle.pb_propagate.specs.engine.Engine.Terms.{terms_of}
 use Rattle.pb_propagate.proofs.lemmas.store.Sorted.{kept-size, degree-read}
-use Rattle.pb_propagate.proofs.store.occurrence_lists.kept_of.Goals as goal
+use Rattle.pb_propagate.proofs.store.occurrence_lists.stored_of.Goals as goal
 
 pub bound_of-bound-requires-clause-size : goal.bound_of-bound-requires-clause-size
 bound_of-bound-requires-clause-size c =
