@@ -1,10 +1,12 @@
 //! The list of assigned literals.
 
-ghost use Rattle.std.specs.Prelude.{◌≡◌, ℕ, ◌+◌, ◌≤◌, ◌<◌, ◌++◌, ◌∷◌, [], Bool, None, true, false, length, take, sum_by, OnOk, OnErr, IfOk, slice_index_or};
+ghost use Rattle.std.specs.Prelude.{◌≡◌, ℕ, ◌+◌, ◌*◌, ◌≤◌, ◌<◌, ◌++◌, ◌∷◌, [], Bool, None, Some, not, true, false, length, take, sum_by, OnOk, OnErr, IfOk, slice_index_or, slice_set};
 ghost use Rattle.pb_normal.specs.declared.numbered.NumberedLiteral.{NumberedLiteral};
 ghost use Rattle.pb_normal.specs.meaning.Rules.{negation};
 ghost use Rattle.pb_propagate.specs.engine.Engine.Lists.{has, says, vacancy};
+ghost use Rattle.pb_propagate.specs.engine.Clauses.Truths.{true_at, false_at, AreMarked};
 
+use crate::clauses::truth::opposite;
 use pb_normal::NumberedLiteral;
 use std::alloc::{AllocError, Global};
 
@@ -13,35 +15,72 @@ use std::alloc::{AllocError, Global};
 pub struct Assignment {
     // The value of each variable that has a literal on the list.
     pub values: Vec<Option<bool>>,
+    // Whether the literal of each code is falsified. Clauses read this in place of the values.
+    failed: Vec<bool>,
     pub list: Vec<NumberedLiteral>,
     ghost agrees: { (l : NumberedLiteral) → has list.items l ≡ says values.items l },
     ghost room: { length list.items + sum_by vacancy values.items ≡ length values.items },
+    ghost sizes: { length failed.items ≡ 2 * length values.items },
+    ghost marked: { (x : ℕ) → slice_index_or failed.items x false ≡ false_at values.items x },
+}
+
+// Gives a literal's variable the value that makes the literal true.
+fn assign(values: &mut Vec<Option<bool>>, failed: &mut Vec<bool>, literal: NumberedLiteral)
+    requires inside { literal.variable < length values.old.items }
+    requires marked { AreMarked values.old.items failed.old.items }
+    ensures values { values.new.items ≡ slice_set values.old.items literal.variable (Some (not literal.negated)) }
+    ensures marked { AreMarked values.new.items failed.new.items }
+{
+    failed[2 * literal.variable] = literal.negated;
+    failed[2 * literal.variable + 1] = !literal.negated;
+    values[literal.variable] = Some(!literal.negated);
+}
+
+// Removes a variable's value.
+fn unassign(values: &mut Vec<Option<bool>>, failed: &mut Vec<bool>, variable: usize)
+    requires inside { variable < length values.old.items }
+    requires marked { AreMarked values.old.items failed.old.items }
+    ensures values { values.new.items ≡ slice_set values.old.items variable None }
+    ensures marked { AreMarked values.new.items failed.new.items }
+{
+    failed[2 * variable] = false;
+    failed[2 * variable + 1] = false;
+    values[variable] = None;
 }
 
 // Removes the values of a list's literals.
-fn forget(values: &mut Vec<Option<bool>>, list: &[NumberedLiteral])
+fn forget(values: &mut Vec<Option<bool>>, failed: &mut Vec<bool>, list: &[NumberedLiteral])
     requires agrees { (l : NumberedLiteral) → has list.now l ≡ says values.old.items l }
+    requires marked { AreMarked values.old.items failed.old.items }
     ensures values { length values.new.items ≡ length values.old.items }
     ensures none { (k : ℕ) → slice_index_or values.new.items k None ≡ None }
+    ensures marked { AreMarked values.new.items failed.new.items }
 {
     'list: for literal in list {
-        values[literal.variable] = None;
+        unassign(values, failed, literal.variable);
     }
 }
 
 // Removes the literals after the first `count` from the list, and their values.
-fn shorten(values: &mut Vec<Option<bool>>, list: &mut Vec<NumberedLiteral>, count: usize)
+fn shorten(
+    values: &mut Vec<Option<bool>>,
+    failed: &mut Vec<bool>,
+    list: &mut Vec<NumberedLiteral>,
+    count: usize,
+)
     requires agrees { (l : NumberedLiteral) → has list.old.items l ≡ says values.old.items l }
     requires room { length list.old.items + sum_by vacancy values.old.items ≡ length values.old.items }
+    requires marked { AreMarked values.old.items failed.old.items }
     ensures agrees { (l : NumberedLiteral) → has list.new.items l ≡ says values.new.items l }
     ensures room { length list.new.items + sum_by vacancy values.new.items ≡ length values.new.items }
     ensures values { length values.new.items ≡ length values.old.items }
     ensures list { list.new.items ≡ take count list.old.items }
+    ensures marked { AreMarked values.new.items failed.new.items }
 {
     'list: while list.len() > count {
         let last = list.len() - 1;
         let literal = list[last];
-        values[literal.variable] = None;
+        unassign(values, failed, literal.variable);
         list.pop();
     }
 }
@@ -53,6 +92,7 @@ impl Assignment {
     {
         Assignment {
             values: Vec::new(alloc),
+            failed: Vec::new(alloc),
             list: Vec::new(alloc),
         }
     }
@@ -62,7 +102,10 @@ impl Assignment {
         ensures values { OnOk result (length self.new.values.items ≡ length self.old.values.items + 1) }
         ensures list { self.new.list.items ≡ self.old.list.items }
     {
+        self.failed.reserve(2)?;
         self.values.push(None)?;
+        self.failed.push_reserved(false);
+        self.failed.push_reserved(false);
         Ok(())
     }
 
@@ -71,7 +114,7 @@ impl Assignment {
         ensures values { length self.new.values.items ≡ length self.old.values.items }
         ensures list { self.new.list.items ≡ [] }
     {
-        forget(&mut self.values, self.list.as_slice());
+        forget(&mut self.values, &mut self.failed, self.list.as_slice());
         self.list.clear();
     }
 
@@ -80,7 +123,7 @@ impl Assignment {
         ensures values { length self.new.values.items ≡ length self.old.values.items }
         ensures list { self.new.list.items ≡ take count self.old.list.items }
     {
-        shorten(&mut self.values, &mut self.list, count);
+        shorten(&mut self.values, &mut self.failed, &mut self.list, count);
     }
 
     /// Whether the literal is on the list.
@@ -94,6 +137,22 @@ impl Assignment {
         }
     }
 
+    /// Whether the literal of a code is falsified.
+    pub fn falsifies(&self, code: u32) -> bool
+        requires { code < 2 * length self.now.values.items }
+        ensures { result ≡ false_at self.now.values.items code }
+    {
+        self.failed[code as usize]
+    }
+
+    /// Whether the literal of a code is true.
+    pub fn satisfies(&self, code: u32) -> bool
+        requires { code < 2 * length self.now.values.items }
+        ensures { result ≡ true_at self.now.values.items code }
+    {
+        self.failed[opposite(code as usize)]
+    }
+
     /// Adds a literal to the list.
     pub fn put(&mut self, literal: NumberedLiteral) -> Result<(), AllocError>
         requires inside { literal.variable < length self.old.values.items }
@@ -104,7 +163,7 @@ impl Assignment {
         ensures err { OnErr result (self.new.list.items ≡ self.old.list.items) }
     {
         self.list.push(literal)?;
-        self.values[literal.variable] = Some(!literal.negated);
+        assign(&mut self.values, &mut self.failed, literal);
         Ok(())
     }
 }

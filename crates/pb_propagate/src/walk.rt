@@ -72,13 +72,7 @@ pub fn walk(
     let mut index = 0;
     'watches: while index < clauses.watch_count(literal) {
         let assignment = &run.assignment;
-        match visit_clause(
-            clauses,
-            assignment.values.as_slice(),
-            literal,
-            index,
-            &mut run.visits,
-        )? {
+        match visit_clause(clauses, assignment, literal, index, &mut run.visits)? {
             Visit::Stays => {
                 index += 1;
             }

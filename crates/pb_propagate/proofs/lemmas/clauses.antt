@@ -5,6 +5,7 @@ pub mod Gets
 pub mod Killed
 pub mod Linked
 pub mod Literals
+pub mod Marks
 pub mod Members
 pub mod Shapes
 pub mod Slots

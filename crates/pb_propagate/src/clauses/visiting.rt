@@ -5,9 +5,10 @@ ghost use Rattle.pb_propagate.specs.engine.Clauses.Truths.{false_at, true_at};
 ghost use Rattle.pb_propagate.specs.engine.Clauses.Links.{lists_of, list_at, watch_at, AreLinked, Remains};
 ghost use Rattle.pb_propagate.specs.engine.Clauses.Runs.{IsRunning, AreServed, AreWalked, Grows, HasFound, index_after, turned};
 
+use crate::assignment::Assignment;
 use crate::clauses::Clauses;
 use crate::clauses::lists::{Watch, put_in, take_out};
-use crate::clauses::truth::{is_false, is_true, opposite};
+use crate::clauses::truth::opposite;
 use crate::engine::visits::Visits;
 use std::alloc::AllocError;
 
@@ -60,15 +61,15 @@ fn visit_literal(literals: &[u32], place: usize, visits: &mut Visits) -> u32
 }
 
 // Whether a literal may be watched in place of a falsified one.
-fn may_watch(values: &[Option<bool>], literal: u32, other: u32) -> bool
-    requires { literal < 2 * length values.now }
-    ensures yes { result ≡ true → (false_at values.now literal ≡ false) × (literal ≡ other → ⊥) }
-    ensures no { result ≡ false → (false_at values.now literal ≡ true) ⊎ (literal ≡ other) }
+fn may_watch(assignment: &Assignment, literal: u32, other: u32) -> bool
+    requires { literal < 2 * length assignment.now.values.items }
+    ensures yes { result ≡ true → (false_at assignment.now.values.items literal ≡ false) × (literal ≡ other → ⊥) }
+    ensures no { result ≡ false → (false_at assignment.now.values.items literal ≡ true) ⊎ (literal ≡ other) }
 {
     if literal == other {
         return false;
     }
-    !is_false(values, literal)
+    !assignment.falsifies(literal)
 }
 
 // The position of the literal that comes `after` literals past the start, round a clause of `count` literals. A start
@@ -95,22 +96,22 @@ fn search(
     start: usize,
     from: usize,
     other: u32,
-    values: &[Option<bool>],
+    assignment: &Assignment,
     visits: &mut Visits,
 ) -> usize
     requires from { from ≤ length literals.now }
-    requires inside { All (λ x. x < 2 * length values.now) literals.now }
+    requires inside { All (λ x. x < 2 * length assignment.now.values.items) literals.now }
     ensures after { from ≤ result }
     ensures within { result ≤ length literals.now }
-    ensures passed { (k d : ℕ) → from ≤ k → k < result → (false_at values.now (slice_index_or (turned start literals.now) k d) ≡ true) ⊎ (slice_index_or (turned start literals.now) k d ≡ other) }
-    ensures found { result < length literals.now → (d : ℕ) → (false_at values.now (slice_index_or (turned start literals.now) result d) ≡ false) × (slice_index_or (turned start literals.now) result d ≡ other → ⊥) }
+    ensures passed { (k d : ℕ) → from ≤ k → k < result → (false_at assignment.now.values.items (slice_index_or (turned start literals.now) k d) ≡ true) ⊎ (slice_index_or (turned start literals.now) k d ≡ other) }
+    ensures found { result < length literals.now → (d : ℕ) → (false_at assignment.now.values.items (slice_index_or (turned start literals.now) result d) ≡ false) × (slice_index_or (turned start literals.now) result d ≡ other → ⊥) }
     ensures rising { visits.old ≤ visits.new }
     ensures few { visits.new + from ≤ visits.old + min (result + 1) (length literals.now) }
 {
     'places: for passed in from..literals.len() {
         let place = position(start, passed, literals.len());
         let literal = visit_literal(literals, place, visits);
-        if may_watch(values, literal, other) {
+        if may_watch(assignment, literal, other) {
             return passed;
         }
     }
@@ -158,21 +159,21 @@ fn shift(
 /// Visits a clause by its watch on a falsified literal.
 pub fn visit_clause(
     clauses: &mut Clauses,
-    values: &[Option<bool>],
+    assignment: &Assignment,
     literal: usize,
     index: usize,
     visits: &mut Visits,
 ) -> Result<Visit, AllocError>
-    requires running { IsRunning values.now clauses.old }
-    requires failed { false_at values.now literal ≡ true }
+    requires running { IsRunning assignment.now.values.items clauses.old }
+    requires failed { false_at assignment.now.values.items literal ≡ true }
     requires literal { literal < length clauses.old.lists.items }
     requires index { index < length (list_at (lists_of clauses.old.lists.items) literal) }
     ensures literals { clauses.new.literals ≡ clauses.old.literals }
     ensures lists { OnOk result (length clauses.new.lists.items ≡ length clauses.old.lists.items) }
-    ensures running { OnOk result (IsRunning values.now clauses.new) }
-    ensures served { IfOk result (λ r. (walked : List ℕ) → AreServed values.now clauses.old.watches.items walked literal index → AreServed values.now clauses.new.watches.items walked literal (index_after index r)) }
-    ensures found { IfOk result (λ r. HasFound values.now clauses.old clauses.new literal index r) }
-    ensures kept { OnOk result ((base : List (Option Bool)) (codes : List ℕ) → Grows base values.now → AreWalked base clauses.old.watches.items codes → AreWalked base clauses.new.watches.items codes) }
+    ensures running { OnOk result (IsRunning assignment.now.values.items clauses.new) }
+    ensures served { IfOk result (λ r. (walked : List ℕ) → AreServed assignment.now.values.items clauses.old.watches.items walked literal index → AreServed assignment.now.values.items clauses.new.watches.items walked literal (index_after index r)) }
+    ensures found { IfOk result (λ r. HasFound assignment.now.values.items clauses.old clauses.new literal index r) }
+    ensures kept { OnOk result ((base : List (Option Bool)) (codes : List ℕ) → Grows base assignment.now.values.items → AreWalked base clauses.old.watches.items codes → AreWalked base clauses.new.watches.items codes) }
 
     // Upper and lower bounds on the number of visits.
     ensures covered { visits.new + sum clauses.old.passed.items ≤ visits.old + 2 + sum clauses.new.passed.items }
@@ -182,7 +183,7 @@ pub fn visit_clause(
 {
     let watch = visit_entry(clauses.lists.as_slice(), literal, index, visits);
     let other = visit_watch(clauses.watches.as_slice(), opposite(watch), visits);
-    if is_true(values, other) {
+    if assignment.satisfies(other) {
         return Ok(Visit::Stays);
     }
     let slot = watch / 2;
@@ -190,10 +191,10 @@ pub fn visit_clause(
     note(&mut clauses.moved, slot, from)?;
     let start = clauses.starts[slot];
     let literals = clauses.literals[slot].as_slice();
-    let passed = search(literals, start, from, other, values, visits);
+    let passed = search(literals, start, from, other, assignment, visits);
     if passed >= literals.len() {
         clauses.passed[slot] = passed;
-        if is_false(values, other) {
+        if assignment.falsifies(other) {
             return Ok(Visit::Falsified);
         }
         return Ok(Visit::Forces(other));

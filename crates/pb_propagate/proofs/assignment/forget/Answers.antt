@@ -1,19 +1,21 @@
 use Rattle.std.specs.Prelude.{None, false}
-use Rattle.std.proofs.Common.{refl, ◌∙◌, arith, length-set}
-use Rattle.pb_propagate.proofs.lemmas.engine.Values.{forget-next, forget-none, forget-inside}
+use Rattle.std.proofs.Common.{refl, sym, ap, subst, drop, length, ◌+◌, ◌∙◌, arith, length-set}
+use Rattle.pb_propagate.proofs.lemmas.engine.Values.{Forgotten, forget-next, forget-none, forget-inside}
 use Rattle.pb_propagate.proofs.assignment.forget.Goals as goal
 
 pub list-init : goal.list-init
-list-init c = record { sizes = refl; forgotten = λ l h. c.requires.agrees l ∙ h }
+list-init c = record { sizes = refl; forgotten = λ l h. c.requires.agrees l ∙ h; marked = c.requires.marked }
 
-pub index_mut-requires : goal.index_mut-requires
-index_mut-requires c =
-    omega (arith, c.list.values.ok.0, forget-inside c.args.values.now.items c.list.values.items c.args.list.now c.list.literal-index (record { variable = 0; negated = false }) c.list-test.true c.list.invariant.sizes c.requires.agrees)
+pub unassign-requires-clause-inside : goal.unassign-requires-clause-inside
+unassign-requires-clause-inside c =
+    forget-inside c.args.values.now.items c.list.values.items c.args.list.now c.list.literal-index (record { variable = 0; negated = false }) c.list-test.true c.list.invariant.sizes c.requires.agrees
 
 pub list-preserved : goal.list-preserved
 list-preserved c = record {
-  sizes = length-set c.list.values.items _ None ∙ c.list.invariant.sizes;
-  forgotten = forget-next c.list.values.items c.args.list.now c.list.literal-index (record { variable = 0; negated = false }) c.list-test.true c.list.invariant.forgotten;
+  sizes = ap length c.unassign.ensures.values ∙ length-set c.list.values.items _ None ∙ c.list.invariant.sizes;
+  forgotten = subst (λ vs. Forgotten vs (drop (c.list.literal-index + 1) c.args.list.now)) (sym c.unassign.ensures.values)
+      (forget-next c.list.values.items c.args.list.now c.list.literal-index (record { variable = 0; negated = false }) c.list-test.true c.list.invariant.forgotten);
+  marked = c.unassign.ensures.marked;
 }
 
 pub returns-clause-none : goal.returns-clause-none

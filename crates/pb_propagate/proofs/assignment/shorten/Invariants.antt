@@ -1,4 +1,5 @@
 use Rattle.std.proofs.Common.{length}
+use Rattle.pb_propagate.specs.engine.Clauses.Truths.{AreMarked}
 use Rattle.pb_propagate.proofs.lemmas.root.Cuts.{IsCut}
 use Rattle.pb_propagate.proofs.assignment.shorten.Given as goal
 
@@ -6,4 +7,7 @@ abbrev pub decreases-list : goal.decreases-list
 decreases-list l = length l.list.items
 
 abbrev pub invariant-list : goal.invariant-list
-invariant-list l = IsCut l.initial.values.items l.initial.list.items l.count l.values.items l.list.items
+invariant-list l = record {
+  cut : IsCut l.initial.values.items l.initial.list.items l.count l.values.items l.list.items;
+  marked : AreMarked l.values.items l.failed.items;
+}

@@ -38,12 +38,12 @@ watches-preserved-in-Stays c =
     let values = c.watches.run.assignment.values.items in
     let room : c.args.literal < length c.watches.clauses.lists.items = omega (arith, c.requires.literal, w.sizes) in
     let inside : c.watches.index < length (list_at (lists_of c.watches.clauses.lists.items) c.args.literal) = omega (arith, c.watches-test.true, c.watch_count.ensures) in
-    let found = subst (HasFound c.watches.run.assignment.values.items c.watches.clauses c.visit_clause.new.clauses c.args.literal c.watches.index) c.in-Stays.is (subst (λ vs. HasFound vs c.watches.clauses c.visit_clause.new.clauses c.args.literal c.watches.index c.in_ok-visit_clause.field-0) c.as_slice.ensures.value c.in_ok-visit_clause.ensures.found) in
+    let found = subst (HasFound c.watches.run.assignment.values.items c.watches.clauses c.visit_clause.new.clauses c.args.literal c.watches.index) c.in-Stays.is (subst (λ vs. HasFound vs c.watches.clauses c.visit_clause.new.clauses c.args.literal c.watches.index c.in_ok-visit_clause.field-0) refl c.in_ok-visit_clause.ensures.found) in
     let i = c.watches.invariant in
     record {
       walking = walking-next shapes lists c.args.clauses.now c.watches.clauses c.visit_clause.new.clauses c.args.run.now.assignment.values.items values c.args.run.now.assignment.list.items c.watches.run.assignment.list.items c.args.literal c.watches.index (c.watches.index + 1) c.args.run.now.visits c.watches.run.visits c.visit_clause.new.visits
-          c.in_ok-visit_clause.ensures.literals c.in_ok-visit_clause.ensures.lists (subst (λ vs. IsRunning vs c.visit_clause.new.clauses) c.as_slice.ensures.value c.in_ok-visit_clause.ensures.running)
-          (λ walked s. subst (λ r. AreServed c.watches.run.assignment.values.items c.visit_clause.new.clauses.watches.items walked c.args.literal (index_after c.watches.index r)) c.in-Stays.is (subst (λ vs. (xs : List ℕ) → AreServed vs c.watches.clauses.watches.items xs c.args.literal c.watches.index → AreServed vs c.visit_clause.new.clauses.watches.items xs c.args.literal (index_after c.watches.index c.in_ok-visit_clause.field-0)) c.as_slice.ensures.value c.in_ok-visit_clause.ensures.served walked s))
+          c.in_ok-visit_clause.ensures.literals c.in_ok-visit_clause.ensures.lists (subst (λ vs. IsRunning vs c.visit_clause.new.clauses) refl c.in_ok-visit_clause.ensures.running)
+          (λ walked s. subst (λ r. AreServed c.watches.run.assignment.values.items c.visit_clause.new.clauses.watches.items walked c.args.literal (index_after c.watches.index r)) c.in-Stays.is (subst (λ vs. (xs : List ℕ) → AreServed vs c.watches.clauses.watches.items xs c.args.literal c.watches.index → AreServed vs c.visit_clause.new.clauses.watches.items xs c.args.literal (index_after c.watches.index c.in_ok-visit_clause.field-0)) refl c.in_ok-visit_clause.ensures.served walked s))
           inside (omega (arith, inside, found)) (omega (arith, found)) c.in_ok-visit_clause.ensures.covered c.in_ok-visit_clause.ensures.visited c.in_ok-visit_clause.ensures.rising w;
       values = i.values;
       opens = i.opens;
@@ -52,7 +52,7 @@ watches-preserved-in-Stays c =
       longer = i.longer;
       single = i.single;
       extends = i.extends;
-      kept = λ base codes more old. (subst (λ vs. (b : List (Option Bool)) (cs : List ℕ) → Grows b vs → AreWalked b c.watches.clauses.watches.items cs → AreWalked b c.visit_clause.new.clauses.watches.items cs) c.as_slice.ensures.value c.in_ok-visit_clause.ensures.kept) base codes (grows-trans base c.args.run.now.assignment.values.items c.watches.run.assignment.values.items more c.watches.invariant.walking.grows) (c.watches.invariant.kept base codes more old);
+      kept = λ base codes more old. (subst (λ vs. (b : List (Option Bool)) (cs : List ℕ) → Grows b vs → AreWalked b c.watches.clauses.watches.items cs → AreWalked b c.visit_clause.new.clauses.watches.items cs) refl c.in_ok-visit_clause.ensures.kept) base codes (grows-trans base c.args.run.now.assignment.values.items c.watches.run.assignment.values.items more c.watches.invariant.walking.grows) (c.watches.invariant.kept base codes more old);
       counted = i.counted;
       tidy = i.tidy;
       work = i.work;
@@ -66,12 +66,12 @@ watches-preserved-in-Leaves c =
     let values = c.watches.run.assignment.values.items in
     let room : c.args.literal < length c.watches.clauses.lists.items = omega (arith, c.requires.literal, w.sizes) in
     let inside : c.watches.index < length (list_at (lists_of c.watches.clauses.lists.items) c.args.literal) = omega (arith, c.watches-test.true, c.watch_count.ensures) in
-    let found = subst (HasFound c.watches.run.assignment.values.items c.watches.clauses c.visit_clause.new.clauses c.args.literal c.watches.index) c.in-Leaves.is (subst (λ vs. HasFound vs c.watches.clauses c.visit_clause.new.clauses c.args.literal c.watches.index c.in_ok-visit_clause.field-0) c.as_slice.ensures.value c.in_ok-visit_clause.ensures.found) in
+    let found = subst (HasFound c.watches.run.assignment.values.items c.watches.clauses c.visit_clause.new.clauses c.args.literal c.watches.index) c.in-Leaves.is (subst (λ vs. HasFound vs c.watches.clauses c.visit_clause.new.clauses c.args.literal c.watches.index c.in_ok-visit_clause.field-0) refl c.in_ok-visit_clause.ensures.found) in
     let i = c.watches.invariant in
     record {
       walking = walking-next shapes lists c.args.clauses.now c.watches.clauses c.visit_clause.new.clauses c.args.run.now.assignment.values.items values c.args.run.now.assignment.list.items c.watches.run.assignment.list.items c.args.literal c.watches.index c.watches.index c.args.run.now.visits c.watches.run.visits c.visit_clause.new.visits
-          c.in_ok-visit_clause.ensures.literals c.in_ok-visit_clause.ensures.lists (subst (λ vs. IsRunning vs c.visit_clause.new.clauses) c.as_slice.ensures.value c.in_ok-visit_clause.ensures.running)
-          (λ walked s. subst (λ r. AreServed c.watches.run.assignment.values.items c.visit_clause.new.clauses.watches.items walked c.args.literal (index_after c.watches.index r)) c.in-Leaves.is (subst (λ vs. (xs : List ℕ) → AreServed vs c.watches.clauses.watches.items xs c.args.literal c.watches.index → AreServed vs c.visit_clause.new.clauses.watches.items xs c.args.literal (index_after c.watches.index c.in_ok-visit_clause.field-0)) c.as_slice.ensures.value c.in_ok-visit_clause.ensures.served walked s))
+          c.in_ok-visit_clause.ensures.literals c.in_ok-visit_clause.ensures.lists (subst (λ vs. IsRunning vs c.visit_clause.new.clauses) refl c.in_ok-visit_clause.ensures.running)
+          (λ walked s. subst (λ r. AreServed c.watches.run.assignment.values.items c.visit_clause.new.clauses.watches.items walked c.args.literal (index_after c.watches.index r)) c.in-Leaves.is (subst (λ vs. (xs : List ℕ) → AreServed vs c.watches.clauses.watches.items xs c.args.literal c.watches.index → AreServed vs c.visit_clause.new.clauses.watches.items xs c.args.literal (index_after c.watches.index c.in_ok-visit_clause.field-0)) refl c.in_ok-visit_clause.ensures.served walked s))
           inside (omega (arith, inside, found)) (omega (arith, found)) c.in_ok-visit_clause.ensures.covered c.in_ok-visit_clause.ensures.visited c.in_ok-visit_clause.ensures.rising w;
       values = i.values;
       opens = i.opens;
@@ -80,7 +80,7 @@ watches-preserved-in-Leaves c =
       longer = i.longer;
       single = i.single;
       extends = i.extends;
-      kept = λ base codes more old. (subst (λ vs. (b : List (Option Bool)) (cs : List ℕ) → Grows b vs → AreWalked b c.watches.clauses.watches.items cs → AreWalked b c.visit_clause.new.clauses.watches.items cs) c.as_slice.ensures.value c.in_ok-visit_clause.ensures.kept) base codes (grows-trans base c.args.run.now.assignment.values.items c.watches.run.assignment.values.items more c.watches.invariant.walking.grows) (c.watches.invariant.kept base codes more old);
+      kept = λ base codes more old. (subst (λ vs. (b : List (Option Bool)) (cs : List ℕ) → Grows b vs → AreWalked b c.watches.clauses.watches.items cs → AreWalked b c.visit_clause.new.clauses.watches.items cs) refl c.in_ok-visit_clause.ensures.kept) base codes (grows-trans base c.args.run.now.assignment.values.items c.watches.run.assignment.values.items more c.watches.invariant.walking.grows) (c.watches.invariant.kept base codes more old);
       counted = i.counted;
       tidy = i.tidy;
       work = i.work;
@@ -89,13 +89,13 @@ watches-preserved-in-Leaves c =
 pub put-requires-clause-absent : goal.put-requires-clause-absent
 put-requires-clause-absent c =
     let values = c.watches.run.assignment.values.items in
-    let found = subst (HasFound c.watches.run.assignment.values.items c.watches.clauses c.visit_clause.new.clauses c.args.literal c.watches.index) c.in-Forces.is (subst (λ vs. HasFound vs c.watches.clauses c.visit_clause.new.clauses c.args.literal c.watches.index c.in_ok-visit_clause.field-0) c.as_slice.ensures.value c.in_ok-visit_clause.ensures.found) in
+    let found = subst (HasFound c.watches.run.assignment.values.items c.watches.clauses c.visit_clause.new.clauses c.args.literal c.watches.index) c.in-Forces.is (subst (λ vs. HasFound vs c.watches.clauses c.visit_clause.new.clauses c.args.literal c.watches.index c.in_ok-visit_clause.field-0) refl c.in_ok-visit_clause.ensures.found) in
     ap (λ (k : NumberedLiteral). has c.watches.run.assignment.list.items k) c.literal_of.ensures ∙ sym (true-listed values c.watches.run.assignment.list.items c.in-Forces.code c.watches.run.assignment.agrees) ∙ found.1.not_true
 
 pub put-requires-clause-not_falsified : goal.put-requires-clause-not_falsified
 put-requires-clause-not_falsified c =
     let values = c.watches.run.assignment.values.items in
-    let found = subst (HasFound c.watches.run.assignment.values.items c.watches.clauses c.visit_clause.new.clauses c.args.literal c.watches.index) c.in-Forces.is (subst (λ vs. HasFound vs c.watches.clauses c.visit_clause.new.clauses c.args.literal c.watches.index c.in_ok-visit_clause.field-0) c.as_slice.ensures.value c.in_ok-visit_clause.ensures.found) in
+    let found = subst (HasFound c.watches.run.assignment.values.items c.watches.clauses c.visit_clause.new.clauses c.args.literal c.watches.index) c.in-Forces.is (subst (λ vs. HasFound vs c.watches.clauses c.visit_clause.new.clauses c.args.literal c.watches.index c.in_ok-visit_clause.field-0) refl c.in_ok-visit_clause.ensures.found) in
     ap (λ (k : NumberedLiteral). has c.watches.run.assignment.list.items (negation k)) c.literal_of.ensures ∙ sym (false-listed values c.watches.run.assignment.list.items c.in-Forces.code c.watches.run.assignment.agrees) ∙ found.1.not_false
 
 pub watches-preserved : goal.watches-preserved
@@ -106,7 +106,7 @@ watches-preserved c =
     let values = c.watches.run.assignment.values.items in
     let room : c.args.literal < length c.watches.clauses.lists.items = omega (arith, c.requires.literal, w.sizes) in
     let inside : c.watches.index < length (list_at (lists_of c.watches.clauses.lists.items) c.args.literal) = omega (arith, c.watches-test.true, c.watch_count.ensures) in
-    let found = subst (HasFound c.watches.run.assignment.values.items c.watches.clauses c.visit_clause.new.clauses c.args.literal c.watches.index) c.in-Forces.is (subst (λ vs. HasFound vs c.watches.clauses c.visit_clause.new.clauses c.args.literal c.watches.index c.in_ok-visit_clause.field-0) c.as_slice.ensures.value c.in_ok-visit_clause.ensures.found) in
+    let found = subst (HasFound c.watches.run.assignment.values.items c.watches.clauses c.visit_clause.new.clauses c.args.literal c.watches.index) c.in-Forces.is (subst (λ vs. HasFound vs c.watches.clauses c.visit_clause.new.clauses c.args.literal c.watches.index c.in_ok-visit_clause.field-0) refl c.in_ok-visit_clause.ensures.found) in
     let i = c.watches.invariant in
     let reported = c.in_ok-put-in-Forces.ensures in
     let done = c.put.new.run in
@@ -115,8 +115,8 @@ watches-preserved c =
     let same = ap (λ (v : Vec ℕ Global). sum v.items) reported.candidates in
     record {
       walking = walking-forces shapes lists c.args.clauses.now c.watches.clauses c.visit_clause.new.clauses c.args.run.now.assignment.values.items values done.assignment.values.items c.args.run.now.assignment.list.items c.watches.run.assignment.list.items done.assignment.list.items c.args.literal c.watches.index c.args.run.now.visits c.watches.run.visits c.visit_clause.new.visits done.visits c.in-Forces.code c.requires.joined
-          c.in_ok-visit_clause.ensures.literals c.in_ok-visit_clause.ensures.lists (subst (λ vs. IsRunning vs c.visit_clause.new.clauses) c.as_slice.ensures.value c.in_ok-visit_clause.ensures.running)
-          (λ walked s. subst (λ r. AreServed c.watches.run.assignment.values.items c.visit_clause.new.clauses.watches.items walked c.args.literal (index_after c.watches.index r)) c.in-Forces.is (subst (λ vs. (xs : List ℕ) → AreServed vs c.watches.clauses.watches.items xs c.args.literal c.watches.index → AreServed vs c.visit_clause.new.clauses.watches.items xs c.args.literal (index_after c.watches.index c.in_ok-visit_clause.field-0)) c.as_slice.ensures.value c.in_ok-visit_clause.ensures.served walked s))
+          c.in_ok-visit_clause.ensures.literals c.in_ok-visit_clause.ensures.lists (subst (λ vs. IsRunning vs c.visit_clause.new.clauses) refl c.in_ok-visit_clause.ensures.running)
+          (λ walked s. subst (λ r. AreServed c.watches.run.assignment.values.items c.visit_clause.new.clauses.watches.items walked c.args.literal (index_after c.watches.index r)) c.in-Forces.is (subst (λ vs. (xs : List ℕ) → AreServed vs c.watches.clauses.watches.items xs c.args.literal c.watches.index → AreServed vs c.visit_clause.new.clauses.watches.items xs c.args.literal (index_after c.watches.index c.in_ok-visit_clause.field-0)) refl c.in_ok-visit_clause.ensures.served walked s))
           inside found.0 found.1 found.2 c.in_ok-visit_clause.ensures.covered c.in_ok-visit_clause.ensures.visited c.in_ok-visit_clause.ensures.rising
           (omega (arith, paid.upper, same)) paid.rising reported.values listed c.watches.run.assignment.agrees done.assignment.agrees w;
       values = reported.values ∙ i.values;
@@ -126,7 +126,7 @@ watches-preserved c =
       longer = omega (arith, i.longer, reported.longer_work);
       single = λ s. reported.single (i.single s);
       extends = extends-then c.args.run.now.assignment.list.items c.watches.run.assignment.list.items c.put.new.run.assignment.list.items c.watches.invariant.extends c.put.ensures.extends;
-      kept = λ base codes more old. (subst (λ vs. (b : List (Option Bool)) (cs : List ℕ) → Grows b vs → AreWalked b c.watches.clauses.watches.items cs → AreWalked b c.visit_clause.new.clauses.watches.items cs) c.as_slice.ensures.value c.in_ok-visit_clause.ensures.kept) base codes (grows-trans base c.args.run.now.assignment.values.items c.watches.run.assignment.values.items more c.watches.invariant.walking.grows) (c.watches.invariant.kept base codes more old);
+      kept = λ base codes more old. (subst (λ vs. (b : List (Option Bool)) (cs : List ℕ) → Grows b vs → AreWalked b c.watches.clauses.watches.items cs → AreWalked b c.visit_clause.new.clauses.watches.items cs) refl c.in_ok-visit_clause.ensures.kept) base codes (grows-trans base c.args.run.now.assignment.values.items c.watches.run.assignment.values.items more c.watches.invariant.walking.grows) (c.watches.invariant.kept base codes more old);
       counted = reported.counted c.if-branch.false;
       tidy = λ aside busy t. reported.tidy aside busy (i.tidy aside busy t);
       work = omega (arith, i.work, paid.work);
@@ -136,7 +136,7 @@ pub returns-in-Falsified-clause-conflict : goal.returns-in-Falsified-clause-conf
 returns-in-Falsified-clause-conflict c = λ yes.
     let w = c.watches.invariant.walking in
     let shapes = shapes_of c.args.store.now.stored.items in
-    let found = subst (HasFound c.watches.run.assignment.values.items c.watches.clauses c.visit_clause.new.clauses c.args.literal c.watches.index) c.in-Falsified.is (subst (λ vs. HasFound vs c.watches.clauses c.visit_clause.new.clauses c.args.literal c.watches.index c.in_ok-visit_clause.field-0) c.as_slice.ensures.value c.in_ok-visit_clause.ensures.found) in
+    let found = subst (HasFound c.watches.run.assignment.values.items c.watches.clauses c.visit_clause.new.clauses c.args.literal c.watches.index) c.in-Falsified.is (subst (λ vs. HasFound vs c.watches.clauses c.visit_clause.new.clauses c.args.literal c.watches.index c.in_ok-visit_clause.field-0) refl c.in_ok-visit_clause.ensures.found) in
     let same = c.in_ok-visit_clause.ensures.literals ∙ w.literals in
     broken-conflicts shapes (clauses_of c.args.clauses.now) c.watches.run.assignment.values.items c.watches.run.assignment.list.items c.requires.joined c.watches.run.assignment.agrees (subst (λ ls. IsBroken c.watches.run.assignment.values.items (lists_of ls.items)) same found)
 
@@ -157,7 +157,7 @@ forced c =
     let values = c.watches.run.assignment.values.items in
     let room : c.args.literal < length c.watches.clauses.lists.items = omega (arith, c.requires.literal, w.sizes) in
     let inside : c.watches.index < length (list_at (lists_of c.watches.clauses.lists.items) c.args.literal) = omega (arith, c.watches-test.true, c.watch_count.ensures) in
-    let found = subst (HasFound c.watches.run.assignment.values.items c.watches.clauses c.visit_clause.new.clauses c.args.literal c.watches.index) c.in-Forces.is (subst (λ vs. HasFound vs c.watches.clauses c.visit_clause.new.clauses c.args.literal c.watches.index c.in_ok-visit_clause.field-0) c.as_slice.ensures.value c.in_ok-visit_clause.ensures.found) in
+    let found = subst (HasFound c.watches.run.assignment.values.items c.watches.clauses c.visit_clause.new.clauses c.args.literal c.watches.index) c.in-Forces.is (subst (λ vs. HasFound vs c.watches.clauses c.visit_clause.new.clauses c.args.literal c.watches.index c.in_ok-visit_clause.field-0) refl c.in_ok-visit_clause.ensures.found) in
     let i = c.watches.invariant in
     let reported = c.in_ok-put-in-Forces.ensures in
     let done = c.put.new.run in
@@ -165,8 +165,8 @@ forced c =
     let paid = reported.paid in
     let same = ap (λ (v : Vec ℕ Global). sum v.items) reported.candidates in
     walking-forces shapes lists c.args.clauses.now c.watches.clauses c.visit_clause.new.clauses c.args.run.now.assignment.values.items values done.assignment.values.items c.args.run.now.assignment.list.items c.watches.run.assignment.list.items done.assignment.list.items c.args.literal c.watches.index c.args.run.now.visits c.watches.run.visits c.visit_clause.new.visits done.visits c.in-Forces.code c.requires.joined
-    c.in_ok-visit_clause.ensures.literals c.in_ok-visit_clause.ensures.lists (subst (λ vs. IsRunning vs c.visit_clause.new.clauses) c.as_slice.ensures.value c.in_ok-visit_clause.ensures.running)
-    (λ walked s. subst (λ r. AreServed c.watches.run.assignment.values.items c.visit_clause.new.clauses.watches.items walked c.args.literal (index_after c.watches.index r)) c.in-Forces.is (subst (λ vs. (xs : List ℕ) → AreServed vs c.watches.clauses.watches.items xs c.args.literal c.watches.index → AreServed vs c.visit_clause.new.clauses.watches.items xs c.args.literal (index_after c.watches.index c.in_ok-visit_clause.field-0)) c.as_slice.ensures.value c.in_ok-visit_clause.ensures.served walked s))
+    c.in_ok-visit_clause.ensures.literals c.in_ok-visit_clause.ensures.lists (subst (λ vs. IsRunning vs c.visit_clause.new.clauses) refl c.in_ok-visit_clause.ensures.running)
+    (λ walked s. subst (λ r. AreServed c.watches.run.assignment.values.items c.visit_clause.new.clauses.watches.items walked c.args.literal (index_after c.watches.index r)) c.in-Forces.is (subst (λ vs. (xs : List ℕ) → AreServed vs c.watches.clauses.watches.items xs c.args.literal c.watches.index → AreServed vs c.visit_clause.new.clauses.watches.items xs c.args.literal (index_after c.watches.index c.in_ok-visit_clause.field-0)) refl c.in_ok-visit_clause.ensures.served walked s))
     inside found.0 found.1 found.2 c.in_ok-visit_clause.ensures.covered c.in_ok-visit_clause.ensures.visited c.in_ok-visit_clause.ensures.rising
     (omega (arith, paid.upper, same)) paid.rising reported.values listed c.watches.run.assignment.agrees done.assignment.agrees w
 
@@ -193,10 +193,10 @@ pub returns-then-branch-clause-extends : goal.returns-then-branch-clause-extends
 returns-then-branch-clause-extends c = extends-then c.args.run.now.assignment.list.items c.watches.run.assignment.list.items c.put.new.run.assignment.list.items c.watches.invariant.extends c.put.ensures.extends
 
 pub returns-then-branch-clause-kept : goal.returns-then-branch-clause-kept
-returns-then-branch-clause-kept c = λ base codes more old. (subst (λ vs. (b : List (Option Bool)) (cs : List ℕ) → Grows b vs → AreWalked b c.watches.clauses.watches.items cs → AreWalked b c.visit_clause.new.clauses.watches.items cs) c.as_slice.ensures.value c.in_ok-visit_clause.ensures.kept) base codes (grows-trans base c.args.run.now.assignment.values.items c.watches.run.assignment.values.items more c.watches.invariant.walking.grows) (c.watches.invariant.kept base codes more old)
+returns-then-branch-clause-kept c = λ base codes more old. (subst (λ vs. (b : List (Option Bool)) (cs : List ℕ) → Grows b vs → AreWalked b c.watches.clauses.watches.items cs → AreWalked b c.visit_clause.new.clauses.watches.items cs) refl c.in_ok-visit_clause.ensures.kept) base codes (grows-trans base c.args.run.now.assignment.values.items c.watches.run.assignment.values.items more c.watches.invariant.walking.grows) (c.watches.invariant.kept base codes more old)
 
 pub returns-in-Falsified-clause-kept : goal.returns-in-Falsified-clause-kept
-returns-in-Falsified-clause-kept c = λ base codes more old. (subst (λ vs. (b : List (Option Bool)) (cs : List ℕ) → Grows b vs → AreWalked b c.watches.clauses.watches.items cs → AreWalked b c.visit_clause.new.clauses.watches.items cs) c.as_slice.ensures.value c.in_ok-visit_clause.ensures.kept) base codes (grows-trans base c.args.run.now.assignment.values.items c.watches.run.assignment.values.items more c.watches.invariant.walking.grows) (c.watches.invariant.kept base codes more old)
+returns-in-Falsified-clause-kept c = λ base codes more old. (subst (λ vs. (b : List (Option Bool)) (cs : List ℕ) → Grows b vs → AreWalked b c.watches.clauses.watches.items cs → AreWalked b c.visit_clause.new.clauses.watches.items cs) refl c.in_ok-visit_clause.ensures.kept) base codes (grows-trans base c.args.run.now.assignment.values.items c.watches.run.assignment.values.items more c.watches.invariant.walking.grows) (c.watches.invariant.kept base codes more old)
 
 pub returns-clause-kept : goal.returns-clause-kept
 returns-clause-kept c = c.watches.invariant.kept

@@ -5,4 +5,6 @@ pub invariant_of-self : goal.invariant_of-self
 invariant_of-self c = record {
   agrees = Agree-cleared c.forget.new.values.items c.clear.new.self.items c.clear.ensures.items c.forget.ensures.none;
   room = vacancy-cleared c.forget.new.values.items c.clear.new.self.items c.clear.ensures.items c.forget.ensures.none;
+  sizes = c.forget.ensures.marked.sizes;
+  marked = c.forget.ensures.marked.each;
 }

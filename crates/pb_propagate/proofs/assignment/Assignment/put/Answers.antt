@@ -8,7 +8,10 @@ pub invariant_of-self-2 : goal.invariant_of-self-2
 invariant_of-self-2 c =
     let more = Agree-push c.args.self.now.values.items c.args.self.now.list.items c.args.literal c.args.self.now.agrees c.requires.inside c.requires.absent c.requires.not_falsified in
     let less = vacancy-push c.args.self.now.values.items c.args.self.now.list.items c.args.literal c.args.self.now.agrees c.requires.inside c.requires.absent c.requires.not_falsified in
+    let now = c.assign.ensures.values in
     record {
-      agrees = λ l. rw c.in_ok-push.ensures.items (more l);
-      room = omega (arith, less, c.args.self.now.room, length-set {A = Option Bool}, ap length c.in_ok-push.ensures.items, length-append {A = NumberedLiteral});
+      agrees = λ l. rw (c.in_ok-push.ensures.items, now) (more l);
+      room = rw now (omega (arith, less, c.args.self.now.room, length-set {A = Option Bool}, ap length c.in_ok-push.ensures.items, length-append {A = NumberedLiteral}));
+      sizes = c.assign.ensures.marked.sizes;
+      marked = c.assign.ensures.marked.each;
     }

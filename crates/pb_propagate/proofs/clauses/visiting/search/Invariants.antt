@@ -5,7 +5,7 @@ use Rattle.pb_propagate.proofs.clauses.visiting.search.Given as goal
 
 abbrev pub invariant-places : goal.invariant-places
 invariant-places l = record {
-  passed : (k d : ℕ) → l.from ≤ k → k < l.passed → (false_at l.values (get_or (turned l.start l.literals) k d) ≡ true) ⊎ (get_or (turned l.start l.literals) k d ≡ l.other);
+  passed : (k d : ℕ) → l.from ≤ k → k < l.passed → (false_at l.assignment.values.items (get_or (turned l.start l.literals) k d) ≡ true) ⊎ (get_or (turned l.start l.literals) k d ≡ l.other);
   rising : l.initial.visits ≤ l.visits;
   few : l.visits + l.from ≤ l.initial.visits + l.passed;
 }
