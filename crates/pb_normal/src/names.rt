@@ -4,7 +4,7 @@ ghost use Rattle.std.specs.Prelude.{◌≡◌, ◌↔◌, ◌<◌, [], length, I
 ghost use Rattle.std.specs.Option.{option_copied};
 ghost use Rattle.pb_normal.specs.meaning.Names.{AreDistinct, has_name, number_in, with_name};
 
-use crate::hash_keys::HashKeys;
+use crate::hash_keys::{FirstState, HashKeys};
 use indexmap::IndexSet;
 use std::alloc::{AllocError, Global};
 use std::marker::Model;
@@ -12,7 +12,7 @@ use std::marker::Model;
 /// The names that have a number, in the order of their first appearance; the first has the number 0.
 #[derive(Drop)]
 pub struct Names {
-    set: IndexSet<String, HashKeys>,
+    set: IndexSet<String, FirstState>,
     alloc: Global,
 }
 
@@ -42,7 +42,7 @@ impl Names {
         ensures { result ≡ [] }
     {
         Names {
-            set: IndexSet::with_hasher(alloc, keys),
+            set: IndexSet::with_hasher(alloc, FirstState::of(&keys)),
             alloc,
         }
     }
