@@ -20,7 +20,7 @@ pub struct Assignment {
     pub list: Vec<NumberedLiteral>,
     ghost agrees: { (l : NumberedLiteral) → has list.items l ≡ says values.items l },
     ghost room: { length list.items + sum_by vacancy values.items ≡ length values.items },
-    ghost sizes: { length failed.items ≡ 2 * length values.items },
+    ghost sizes: { length failed.items ≡ 4 * length values.items },
     ghost marked: { (x : ℕ) → slice_index_or failed.items x false ≡ false_at values.items x },
 }
 
@@ -31,8 +31,11 @@ fn assign(values: &mut Vec<Option<bool>>, failed: &mut Vec<bool>, literal: Numbe
     ensures values { values.new.items ≡ slice_set values.old.items literal.variable (Some (not literal.negated)) }
     ensures marked { AreMarked values.new.items failed.new.items }
 {
-    failed[2 * literal.variable] = literal.negated;
-    failed[2 * literal.variable + 1] = !literal.negated;
+    let first = 4 * literal.variable;
+    failed[first] = literal.negated;
+    failed[first + 1] = !literal.negated;
+    failed[first + 2] = literal.negated;
+    failed[first + 3] = !literal.negated;
     values[literal.variable] = Some(!literal.negated);
 }
 
@@ -43,8 +46,11 @@ fn unassign(values: &mut Vec<Option<bool>>, failed: &mut Vec<bool>, variable: us
     ensures values { values.new.items ≡ slice_set values.old.items variable None }
     ensures marked { AreMarked values.new.items failed.new.items }
 {
-    failed[2 * variable] = false;
-    failed[2 * variable + 1] = false;
+    let first = 4 * variable;
+    failed[first] = false;
+    failed[first + 1] = false;
+    failed[first + 2] = false;
+    failed[first + 3] = false;
     values[variable] = None;
 }
 
@@ -102,8 +108,10 @@ impl Assignment {
         ensures values { OnOk result (length self.new.values.items ≡ length self.old.values.items + 1) }
         ensures list { self.new.list.items ≡ self.old.list.items }
     {
-        self.failed.reserve(2)?;
+        self.failed.reserve(4)?;
         self.values.push(None)?;
+        self.failed.push_reserved(false);
+        self.failed.push_reserved(false);
         self.failed.push_reserved(false);
         self.failed.push_reserved(false);
         Ok(())
@@ -139,7 +147,7 @@ impl Assignment {
 
     /// Whether the literal of a code is falsified.
     pub fn falsifies(&self, code: u32) -> bool
-        requires { code < 2 * length self.now.values.items }
+        requires { code < 4 * length self.now.values.items }
         ensures { result ≡ false_at self.now.values.items code }
     {
         self.failed[code as usize]
@@ -147,7 +155,7 @@ impl Assignment {
 
     /// Whether the literal of a code is true.
     pub fn satisfies(&self, code: u32) -> bool
-        requires { code < 2 * length self.now.values.items }
+        requires { code < 4 * length self.now.values.items }
         ensures { result ≡ true_at self.now.values.items code }
     {
         self.failed[opposite(code as usize)]

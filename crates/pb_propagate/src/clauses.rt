@@ -16,7 +16,7 @@ use std::alloc::{AllocError, Global};
 
 // Whether a literal of a clause is open.
 fn some_open(literals: &[u32], values: &[Option<bool>]) -> bool
-    requires inside { All (λ x. x < 2 * length values.now) literals.now }
+    requires inside { All (λ x. x < 4 * length values.now) literals.now }
     ensures yes { result ≡ true → HasOpen values.now literals.now }
     ensures no { result ≡ false → HasOpen values.now literals.now → ⊥ }
 {
@@ -49,7 +49,7 @@ pub struct Clauses {
     moved: Vec<usize>,
     // Two watches for each slot.
     watches: Vec<Watch>,
-    // For each literal, the watches on it.
+    // For each code, the watches on it.
     lists: Vec<Vec<usize>>,
 }
 
@@ -70,7 +70,7 @@ impl Clauses {
         }
     }
 
-    /// Adds a variable.
+    /// Adds the lists of a variable's literals, in one group of clauses.
     pub fn widen(&mut self) -> Result<(), AllocError>
         requires rest { AreReady self.old }
         ensures rest { OnOk result (AreReady self.new) }
@@ -194,7 +194,7 @@ impl Clauses {
     pub fn is_served(&self, values: &[Option<bool>], slot: usize) -> bool
         requires rest { AreReady self.now }
         requires filled { 0 < length (list_at (lists_of self.now.literals.items) slot) }
-        requires values { length self.now.lists.items ≡ 2 * length values.now }
+        requires values { length self.now.lists.items ≡ 4 * length values.now }
         ensures { result ≡ true → IsServed values.now self.now.watches.items slot }
     {
         let first = self.watches[2 * slot].literal;
@@ -215,7 +215,7 @@ impl Clauses {
     pub fn has_open(&self, values: &[Option<bool>], slot: usize) -> bool
         requires rest { AreReady self.now }
         requires slot { slot < length self.now.literals.items }
-        requires values { length self.now.lists.items ≡ 2 * length values.now }
+        requires values { length self.now.lists.items ≡ 4 * length values.now }
         ensures yes { result ≡ true → HasOpen values.now (list_at (lists_of self.now.literals.items) slot) }
         ensures no { result ≡ false → HasOpen values.now (list_at (lists_of self.now.literals.items) slot) → ⊥ }
     {

@@ -129,7 +129,7 @@ fn settle(
     requires tidy { IsTidy (beside rests.now (filter (waits store.now.stored.items) waiting.now)) (shapes_of store.now.stored.items) run.old.opens.items run.old.candidates.items run.old.assignment.list.items run.old.work.items run.old.trail.items run.old.next (length store.now.stored.items) }
     requires joined { AreJoined (shapes_of store.now.stored.items) (clauses_of clauses.old) }
     requires ready { AreReady clauses.old }
-    requires widths { length clauses.old.lists.items ≡ 2 * store.now.variables }
+    requires widths { length clauses.old.lists.items ≡ 4 * store.now.variables }
     ensures literals { clauses.new.literals ≡ clauses.old.literals }
     ensures running { OnOk result (IsRunning run.new.assignment.values.items clauses.new) }
     ensures values { OnOk result (length run.new.assignment.values.items ≡ length run.old.assignment.values.items) }
@@ -246,6 +246,8 @@ impl Engine {
         self.store.occurrences.push(Vec::new(alloc))?;
         self.store.occurrences.push(Vec::new(alloc))?;
         self.run.assignment.widen()?;
+        // A literal has a list of watches for each group of clauses.
+        self.clauses.widen()?;
         self.clauses.widen()?;
         self.store.variables = self.store.occurrences.len() / 2;
         self.spent = false;

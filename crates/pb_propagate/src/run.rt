@@ -1,6 +1,6 @@
 //! Literals are assigned, and the constraints that they touch are visited.
 
-ghost use Rattle.std.specs.Prelude.{◌≡◌, ℕ, ◌≤◌, ◌+◌, ◌-◌, ◌*◌, ◌^◌, ◌<◌, ◌++◌, ◌∷◌, [], true, false, List, Bool, Option, All, filter, map, length, OnOk, IfOk, slice_index, slice_index_or, slice_set, sum, sum_by, Contains};
+ghost use Rattle.std.specs.Prelude.{◌≡◌, ℕ, ◌≤◌, ◌+◌, ◌-◌, ◌*◌, ◌^◌, ◌<◌, ◌++◌, ◌∷◌, [], true, false, List, Bool, Option, All, filter, length, OnOk, IfOk, slice_index, slice_index_or, slice_set, sum, sum_by, Contains};
 ghost use Rattle.pb_normal.specs.declared.numbered.NumberedLiteral.{NumberedLiteral};
 ghost use Rattle.pb_normal.specs.meaning.Rules.{negation};
 ghost use Rattle.pb_propagate.specs.declared.term.Term.{Term};
@@ -11,12 +11,13 @@ ghost use Rattle.pb_propagate.specs.engine.Engine.Fields.{shapes_of, entries_of,
 ghost use Rattle.pb_propagate.specs.engine.Engine.Links.{terms_at, coefficient_at};
 ghost use Rattle.pb_propagate.specs.engine.Engine.Terms.{terms_of};
 ghost use Rattle.pb_propagate.specs.engine.Clauses.Runs.{AreReady, IsRunning, AreWalked, Grows};
-ghost use Rattle.pb_propagate.specs.engine.Clauses.Walked.{killed, falsified_code, walked_codes};
+ghost use Rattle.pb_propagate.specs.engine.Clauses.Walked.{fallen, walked_codes};
 ghost use Rattle.pb_propagate.specs.engine.Clauses.Shapes.{AreJoined, clauses_of, all_of};
 
 use crate::assignment::Assignment;
 use crate::clauses::Clauses;
 use crate::engine::visits::Visits;
+use crate::heads::{Heads, next_walk};
 use crate::rests::Rests;
 use crate::store::stored_form::is_below;
 use crate::store::{Store, Visited, visit, visit_term, weight_of};
@@ -248,9 +249,9 @@ pub fn choose(store: &Store, form: usize, work: &mut Vec<usize>) -> Result<(), A
     Ok(())
 }
 
-/// Visits the forms of the work list, then the clauses in which a falsified literal is watched. When neither is left,
-/// the next waiting form is taken, until none waits. A unit that is falsified so ends a question before further
-/// clauses are visited. The first `from` literals are walked already. Returns whether a conflict was met.
+/// Visits the forms of the work list, then the short clauses in which a falsified literal is watched, then the long
+/// ones. When none is left, the next waiting form is taken, until none waits. A unit that is falsified so ends a question
+/// before further clauses are visited. The first `from` literals are walked already. Returns whether a conflict was met.
 pub fn propagate(
     store: &Store,
     rests: &Rests,
@@ -270,7 +271,7 @@ pub fn propagate(
     requires tidy { IsTidy (beside rests.now (filter (waits store.now.stored.items) waiting.now)) (shapes_of store.now.stored.items) run.old.opens.items run.old.candidates.items run.old.assignment.list.items run.old.work.items run.old.trail.items run.old.next (length store.now.stored.items) }
     requires joined { AreJoined (shapes_of store.now.stored.items) (clauses_of clauses.old) }
     requires ready { AreReady clauses.old }
-    requires widths { length clauses.old.lists.items ≡ 2 * store.now.variables }
+    requires widths { length clauses.old.lists.items ≡ 4 * store.now.variables }
     requires from { from ≤ length run.old.assignment.list.items }
     requires walked { AreWalked run.old.assignment.values.items clauses.old.watches.items (walked_codes from run.old.assignment.list.items) }
     ensures literals { clauses.new.literals ≡ clauses.old.literals }
@@ -290,11 +291,14 @@ pub fn propagate(
     ensures counted { IfOk result (λ found. found ≡ false → IsCounted (shapes_of store.now.stored.items) run.new.opens.items run.new.assignment.list.items []) }
     ensures tidy { IfOk result (λ found. found ≡ false → IsTidy (beside rests.now []) (shapes_of store.now.stored.items) run.new.opens.items run.new.candidates.items run.new.assignment.list.items run.new.work.items run.new.trail.items run.new.next (length store.now.stored.items)) }
     ensures done { IfOk result (λ found. found ≡ false → length run.new.work.items ≤ run.new.next) }
-    ensures upper { run.new.visits + sum run.old.candidates.items ≤ run.old.visits + ((length run.old.work.items + length (filter (waits store.now.stored.items) waiting.now)) - run.old.next) + 2 * spent (entries_of (shapes_of store.now.stored.items) store.now.occurrences.items) run.new.assignment.list.items + sum run.new.candidates.items + 2 * killed (clauses_of clauses.old) (map falsified_code run.new.assignment.list.items) + sum_by length (clauses_of clauses.old) }
+    ensures upper { run.new.visits + sum run.old.candidates.items ≤ run.old.visits + ((length run.old.work.items + length (filter (waits store.now.stored.items) waiting.now)) - run.old.next) + 2 * spent (entries_of (shapes_of store.now.stored.items) store.now.occurrences.items) run.new.assignment.list.items + sum run.new.candidates.items + 2 * fallen (clauses_of clauses.old) run.new.assignment.list.items + sum_by length (clauses_of clauses.old) }
     ensures found { OnOk result (AreFound (length run.old.assignment.list.items) (length run.new.assignment.list.items) run.old.visits run.new.visits) }
 {
     let mut taken = 0;
-    let mut walked = from;
+    let mut heads = Heads {
+        short: from,
+        long: from,
+    };
     'work: loop {
         if run.next < run.work.len() {
             let form = run.work[run.next];
@@ -302,12 +306,11 @@ pub fn propagate(
             if visit_form(store, rests, run, form, &waiting[taken..])? {
                 return Ok(true);
             }
-        } else if walked < run.assignment.list.len() {
-            let literal = run.assignment.list[walked];
-            if walk(store, rests, clauses, run, place_of(literal.negation()))? {
+        } else if let Some(ahead) = next_walk(heads, run.assignment.list.as_slice()) {
+            if walk(store, rests, clauses, run, ahead.code)? {
                 return Ok(true);
             }
-            walked += 1;
+            heads = ahead.heads;
         } else if taken < waiting.len() {
             choose(store, waiting[taken], &mut run.trail)?;
             choose(store, waiting[taken], &mut run.work)?;

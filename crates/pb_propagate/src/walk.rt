@@ -22,7 +22,7 @@ fn literal_of(code: u32) -> NumberedLiteral
     ensures { result ≡ literal_at code }
 {
     NumberedLiteral {
-        variable: code as usize / 2,
+        variable: code as usize / 4,
         negated: code % 2 != 0,
     }
 }

@@ -1,4 +1,5 @@
-//! Truth values of coded literals. A literal's code is twice its variable, plus 1 if it is negated.
+//! Truth values of coded literals. A literal has two codes, one for each group of clauses: four times its variable, plus 2 in
+//! long clauses, and plus 1 if it is negated.
 
 ghost use Rattle.std.specs.Prelude.{◌≡◌, ◌⊎◌, ◌*◌, ◌<◌, ◌+◌, ◌^◌, true, false, length};
 ghost use Rattle.pb_propagate.specs.engine.Clauses.Truths.{flip, true_at, false_at};
@@ -13,10 +14,10 @@ pub fn opposite(code: usize) -> usize
 
 /// Whether the literal is true.
 pub fn is_true(values: &[Option<bool>], code: u32) -> bool
-    requires { code < 2 * length values.now }
+    requires { code < 4 * length values.now }
     ensures { result ≡ true_at values.now code }
 {
-    match values[code as usize / 2] {
+    match values[code as usize / 4] {
         Some(value) => value == (code % 2 == 0),
         None => false,
     }
@@ -24,10 +25,10 @@ pub fn is_true(values: &[Option<bool>], code: u32) -> bool
 
 /// Whether the literal is falsified.
 pub fn is_false(values: &[Option<bool>], code: u32) -> bool
-    requires { code < 2 * length values.now }
+    requires { code < 4 * length values.now }
     ensures { result ≡ false_at values.now code }
 {
-    match values[code as usize / 2] {
+    match values[code as usize / 4] {
         Some(value) => value != (code % 2 == 0),
         None => false,
     }
@@ -35,7 +36,7 @@ pub fn is_false(values: &[Option<bool>], code: u32) -> bool
 
 /// Whether the literal's variable has no value.
 pub fn is_open(values: &[Option<bool>], code: u32) -> bool
-    requires { code < 2 * length values.now }
+    requires { code < 4 * length values.now }
     ensures yes { result ≡ true → (true_at values.now code ≡ false) × (false_at values.now code ≡ false) }
     ensures no { result ≡ false → (true_at values.now code ≡ true) ⊎ (false_at values.now code ≡ true) }
 {

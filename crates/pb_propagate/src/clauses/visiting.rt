@@ -1,7 +1,7 @@
 //! A visit to one watch of a falsified literal.
 
 ghost use Rattle.std.specs.Prelude.{◌≡◌, ℕ, ◌+◌, ◌*◌, ◌-◌, ◌^◌, ◌<◌, ◌≤◌, ◌⊎◌, ◌++◌, ◌∷◌, [], List, Bool, Option, true, false, All, length, min, sum, slice_get, slice_index_or, OnOk, IfOk, Some};
-ghost use Rattle.pb_propagate.specs.engine.Clauses.Truths.{false_at, true_at};
+ghost use Rattle.pb_propagate.specs.engine.Clauses.Truths.{false_at};
 ghost use Rattle.pb_propagate.specs.engine.Clauses.Links.{lists_of, list_at, watch_at, AreLinked, Remains};
 ghost use Rattle.pb_propagate.specs.engine.Clauses.Runs.{IsRunning, AreServed, AreWalked, Grows, HasFound, index_after, turned};
 
@@ -62,7 +62,7 @@ fn visit_literal(literals: &[u32], place: usize, visits: &mut Visits) -> u32
 
 // Whether a literal may be watched in place of a falsified one.
 fn may_watch(assignment: &Assignment, literal: u32, other: u32) -> bool
-    requires { literal < 2 * length assignment.now.values.items }
+    requires { literal < 4 * length assignment.now.values.items }
     ensures yes { result ≡ true → (false_at assignment.now.values.items literal ≡ false) × (literal ≡ other → ⊥) }
     ensures no { result ≡ false → (false_at assignment.now.values.items literal ≡ true) ⊎ (literal ≡ other) }
 {
@@ -100,7 +100,7 @@ fn search(
     visits: &mut Visits,
 ) -> usize
     requires from { from ≤ length literals.now }
-    requires inside { All (λ x. x < 2 * length assignment.now.values.items) literals.now }
+    requires inside { All (λ x. x < 4 * length assignment.now.values.items) literals.now }
     ensures after { from ≤ result }
     ensures within { result ≤ length literals.now }
     ensures passed { (k d : ℕ) → from ≤ k → k < result → (false_at assignment.now.values.items (slice_index_or (turned start literals.now) k d) ≡ true) ⊎ (slice_index_or (turned start literals.now) k d ≡ other) }

@@ -32,7 +32,7 @@ pub fn ask(
     requires sound { IsSound store.old }
     requires joined { AreJoined (shapes_of store.old.stored.items) (clauses_of clauses.old) }
     requires ready { AreReady clauses.old }
-    requires widths { length clauses.old.lists.items ≡ 2 * store.old.variables }
+    requires widths { length clauses.old.lists.items ≡ 4 * store.old.variables }
     requires inside { All (λ t. t.variable < store.old.variables) form.terms }
     ensures sound { OnOk result (IsSound store.new) }
     ensures kept { OnOk result (store.new.stored.items ≡ store.old.stored.items) }

@@ -171,7 +171,7 @@ impl Root {
         requires sound { IsSound store.now }
         requires ready { AreReady clauses.now }
         requires known { length clauses.now.literals.items ≡ length store.now.stored.items }
-        requires widths { length clauses.now.lists.items ≡ 2 * store.now.variables }
+        requires widths { length clauses.now.lists.items ≡ 4 * store.now.variables }
         requires values { length self.now.run.assignment.values.items ≡ store.now.variables }
         ensures { result ≡ true → (x : Shape) → slice_get (all_of store.now clauses.now) slot ≡ Some x → IsSpare x self.now.run.assignment.list.items }
     {
@@ -188,7 +188,7 @@ impl Root {
         requires sound { IsSound store.now }
         requires ready { AreReady clauses.now }
         requires known { length clauses.now.literals.items ≡ length store.now.stored.items }
-        requires widths { length clauses.now.lists.items ≡ 2 * store.now.variables }
+        requires widths { length clauses.now.lists.items ≡ 4 * store.now.variables }
         requires rooted { self.old.live ≡ true → IsRooted store.now clauses.now self.old.run self.old.rests (length store.now.stored.items) }
         ensures lost { self.new.live ≡ true → (self.old.live ≡ true) × HasLost self.old.run self.new.run self.old.rests self.new.rests slot }
         ensures spare { self.new.live ≡ true → (x : Shape) → slice_get (all_of store.now clauses.now) slot ≡ Some x → IsSpare x self.old.run.assignment.list.items }
@@ -253,7 +253,7 @@ impl Root {
         requires store { IsSound store.now }
         requires joined { AreJoined (shapes_of store.now.stored.items) (clauses_of clauses.old) }
         requires ready { AreReady clauses.old }
-        requires widths { length clauses.old.lists.items ≡ 2 * store.now.variables }
+        requires widths { length clauses.old.lists.items ≡ 4 * store.now.variables }
         requires known { length clauses.old.literals.items ≡ length store.now.stored.items }
         requires slot { slot < length store.now.stored.items }
         requires gained { (before : Store) × (old : Clauses) × IsRooted before old self.old.run self.old.rests (length before.stored.items) × HasGained before old store.now clauses.old slot }

@@ -1,6 +1,6 @@
 //! Forms are added and removed.
 
-ghost use Rattle.std.specs.Prelude.{◌≡◌, ℕ, List, All, Some, None, map, ◌+◌, ◌-◌, ◌*◌, ◌/◌, ◌<◌, ◌≤◌, ◌^◌, ◌++◌, ◌∷◌, [], true, length, take, sum_by, IfOk, OnOk, OnErr, slice_get, slice_index_or, slice_set, swap_remove};
+ghost use Rattle.std.specs.Prelude.{◌≡◌, ℕ, List, All, Some, None, ◌+◌, ◌-◌, ◌*◌, ◌/◌, ◌<◌, ◌≤◌, ◌^◌, ◌++◌, ◌∷◌, [], true, length, take, sum_by, IfOk, OnOk, OnErr, slice_get, slice_index_or, slice_set, swap_remove};
 ghost use Rattle.pb_propagate.specs.declared.term.Term.{Term};
 ghost use Rattle.pb_propagate.specs.declared.store.Occurrence.{Occurrence};
 ghost use Rattle.pb_propagate.specs.declared.store.stored_form.StoredForm.{StoredForm};
@@ -13,7 +13,7 @@ ghost use Rattle.pb_propagate.specs.engine.Engine.Links.{IsLinked, Moved, cut, t
 ghost use Rattle.pb_normal.specs.meaning.Form.{IsNormal};
 ghost use Rattle.pb_propagate.specs.engine.Clauses.Links.{list_at, watch_at};
 ghost use Rattle.pb_propagate.specs.engine.Clauses.Runs.{AreReady};
-ghost use Rattle.pb_propagate.specs.engine.Clauses.Shapes.{IsClause, clauses_of, code};
+ghost use Rattle.pb_propagate.specs.engine.Clauses.Shapes.{IsClause, clauses_of, codes_of_terms};
 
 use crate::clause::codes_of;
 use crate::clauses::Clauses;
@@ -186,9 +186,9 @@ pub fn watch(
     requires clause { IsClause form }
     requires normal { IsNormal form }
     requires inside { All (λ t. t.variable < store.old.variables) form.terms }
-    requires widths { length clauses.old.lists.items ≡ 2 * store.old.variables }
+    requires widths { length clauses.old.lists.items ≡ 4 * store.old.variables }
     ensures ready { OnOk result (AreReady clauses.new) }
-    ensures literals { OnOk result (clauses_of clauses.new ≡ slice_set (clauses_of clauses.old) slot (map code form.terms)) }
+    ensures literals { OnOk result (clauses_of clauses.new ≡ slice_set (clauses_of clauses.old) slot (codes_of_terms form.terms)) }
     ensures lists { OnOk result (length clauses.new.lists.items ≡ length clauses.old.lists.items) }
     ensures watches { OnOk result ((e : ℕ) → (e / 2 ≡ slot → ⊥) → watch_at clauses.new.watches.items e ≡ watch_at clauses.old.watches.items e) }
     ensures kept { OnOk result ((k : StoredForm) × (k.terms.form ≡ Some form) × IsUnlisted k × (store.new.stored.items ≡ slice_set store.old.stored.items slot k)) }

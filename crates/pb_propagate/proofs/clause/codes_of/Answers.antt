@@ -1,14 +1,16 @@
 use Rattle.std.specs.Prelude.{false}
-use Rattle.std.proofs.Common.{ℕ, ◌++◌, ◌∷◌, [], List, ◌∙◌, sym, ap, arith, map, take}
+use Rattle.std.proofs.Common.{◌≡◌, subst, get_or, ℕ, ◌++◌, ◌∷◌, [], List, ◌∙◌, sym, ap, arith, map, take, length}
 use Rattle.std.proofs.lemmas.List.{map_more, take_all}
 use Rattle.pb_normal.specs.declared.entry.Entry.{Entry}
-use Rattle.pb_propagate.specs.engine.Clauses.Shapes.{code}
+use Rattle.pb_propagate.specs.engine.Clauses.Shapes.{code, group_by}
 use Rattle.pb_propagate.proofs.clause.codes_of.Goals as goal
 
 pub entries-preserved : goal.entries-preserved
 entries-preserved c =
     let e : Entry = record { variable = 0; negated = false; coefficient = 0 } in
-    c.in_ok-push.ensures.items ∙ ap (λ (xs : List ℕ). xs ++ (c.code_of.result ∷ [])) c.entries.invariant ∙ ap (λ x. map code (take c.entries.i c.args.entries.now) ++ (x ∷ [])) c.code_of.ensures ∙ sym (map_more code c.args.entries.now c.entries.i e c.entries-test.true)
+    let g = group_by (length c.args.entries.now) in
+    let coded = subst (λ k. c.code_of.result ≡ code k (get_or c.args.entries.now c.entries.i e)) c.entries.invariant.0 c.code_of.ensures in
+    (c.entries.invariant.0, c.in_ok-push.ensures.items ∙ ap (λ (xs : List ℕ). xs ++ (c.code_of.result ∷ [])) c.entries.invariant.1 ∙ ap (λ x. map (code g) (take c.entries.i c.args.entries.now) ++ (x ∷ [])) coded ∙ sym (map_more (code g) c.args.entries.now c.entries.i e c.entries-test.true))
 
 pub returns : goal.returns
-returns c = c.entries.invariant ∙ ap (map code) (take_all c.entries.i c.args.entries.now (omega (arith, c.entries-test.false)))
+returns c = c.entries.invariant.1 ∙ ap (map (code (group_by (length c.args.entries.now)))) (take_all c.entries.i c.args.entries.now (omega (arith, c.entries-test.false)))

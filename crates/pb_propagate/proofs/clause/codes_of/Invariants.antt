@@ -1,6 +1,6 @@
-use Rattle.std.proofs.Common.{◌≡◌, map, take}
-use Rattle.pb_propagate.specs.engine.Clauses.Shapes.{code}
+use Rattle.std.proofs.Common.{◌≡◌, map, take, length}
+use Rattle.pb_propagate.specs.engine.Clauses.Shapes.{code, group_by}
 use Rattle.pb_propagate.proofs.clause.codes_of.Given as goal
 
 abbrev pub invariant-entries : goal.invariant-entries
-invariant-entries l = l.codes.items ≡ map code (take l.i l.entries)
+invariant-entries l = (l.group ≡ group_by (length l.entries)) × (l.codes.items ≡ map (code (group_by (length l.entries))) (take l.i l.entries))

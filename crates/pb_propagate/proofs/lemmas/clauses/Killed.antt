@@ -1,20 +1,22 @@
 -- The occurrences of the literals on a list, and of their negations.
-use Rattle.std.specs.Prelude.{◌==◌, Bool, true, false, Contains, map, sum_by, count_by}
-use Rattle.std.proofs.Common.{◌≡◌, ℕ, zero, suc, ◌+◌, ◌<◌, ◌≤◌, cond, ◌++◌, ◌∷◌, [], List, refl, sym, ◌∙◌, ap, arith, inl, inr, length, get_or, take, eq-eqb}
+use Rattle.std.specs.Prelude.{◌==◌, ◌||◌, Bool, true, false, Contains, map, sum_by, count_by}
+use Rattle.std.proofs.Common.{◌≡◌, ℕ, zero, suc, ◌+◌, ◌<◌, ◌≤◌, ◌⊎◌, cond, ◌++◌, ◌∷◌, [], List, refl, sym, ◌∙◌, ap, subst, arith, inl, inr, length, get_or, take, eq-eqb}
 use Rattle.std.proofs.lemmas.Bool.{cases_Bool, both_ways, eqb-true, or_cases, or_left, or_right}
 use Rattle.std.proofs.lemmas.List.{map-append}
 use Rattle.std.proofs.lemmas.List.Sums.{sum_by-cons, get_or-le-sum_by}
 use Rattle.pb_normal.specs.declared.numbered.NumberedLiteral.{NumberedLiteral}
 use Rattle.pb_normal.specs.meaning.Rules.{negation}
 use Rattle.pb_propagate.specs.engine.Engine.Lists.{same, has}
-use Rattle.pb_propagate.specs.engine.Engine.Counts.{place}
+use Rattle.pb_propagate.specs.declared.clause.Group.{Group}
+use Rattle.pb_propagate.specs.declared.clause.Group.TheVariants.{Short, Long}
+use Rattle.pb_propagate.specs.engine.Clauses.Shapes.{code_in}
+use Rattle.pb_propagate.specs.engine.Clauses.Walked.{fallen, falsified_code}
 use Rattle.pb_propagate.specs.engine.Clauses.Links.{list_at}
 use Rattle.pb_propagate.proofs.lemmas.engine.Literals.{same-refl}
-use Rattle.pb_propagate.proofs.lemmas.engine.Spent.{place-injective}
+use Rattle.pb_propagate.proofs.lemmas.clauses.Literals.{code-injective, groups-apart}
 use Rattle.pb_propagate.proofs.lemmas.clauses.Codes.{has as stands}
-use Rattle.pb_propagate.proofs.lemmas.clauses.Counts.{killed, killed-more, occurs}
+use Rattle.pb_propagate.proofs.lemmas.clauses.Counts.{killed, killed-more, killed-most, occurs}
 use Rattle.pb_propagate.proofs.lemmas.clauses.Stores.{slot-room}
-use Rattle.pb_propagate.proofs.lemmas.clauses.Watching.{falsified_code}
 
 -- a list and its negations have no literal in common
 abbrev pub IsOneSided : List NumberedLiteral → Type 0
@@ -29,18 +31,26 @@ stands-source f (k ∷ xs) x h = elim (or_cases (f k == x) (stands (map f xs) x)
   | inr old ↦ let w = stands-source f xs x old in (w.0, or_right (same k w.0) (has xs w.0) w.1, w.2)
 ]
 
--- the places of a list lack those of other literals
-pub fresh-place : (xs : List NumberedLiteral) (l : NumberedLiteral) → has xs l ≡ false → stands (map place xs) (place l) ≡ false
-fresh-place xs l absent = elim (cases_Bool (stands (map place xs) (place l))) [
+-- the codes of a list lack those of other literals
+fresh-code : (g : Group) (xs : List NumberedLiteral) (l : NumberedLiteral) → has xs l ≡ false → stands (map (code_in g) xs) (code_in g l) ≡ false
+fresh-code g xs l absent = elim (cases_Bool (stands (map (code_in g) xs) (code_in g l))) [
   | inl there ↦
-      let w = stands-source place xs (place l) there in
-      absurd (both_ways _ absent (ap (has xs) (sym (place-injective w.0 l w.2)) ∙ w.1))
+      let w = stands-source (code_in g) xs (code_in g l) there in
+      absurd (both_ways _ absent (ap (has xs) (sym (code-injective g w.0 l w.2)) ∙ w.1))
   | inr none_there ↦ none_there
 ]
 
+-- the occurrences, in clauses, of the literals on a list
+abbrev pub risen : List (List ℕ) → List NumberedLiteral → ℕ
+risen clauses list = killed clauses (map (code_in Short) list) + killed clauses (map (code_in Long) list)
+
 -- one more literal on the list
-pub killed-push : (clauses : List (List ℕ)) (xs : List NumberedLiteral) (l : NumberedLiteral) → has xs l ≡ false → killed clauses (map place (xs ++ (l ∷ []))) ≡ killed clauses (map place xs) + occurs clauses (place l)
-killed-push clauses xs l absent = ap (killed clauses) (map-append place xs (l ∷ [])) ∙ killed-more clauses (map place xs) (place l) (fresh-place xs l absent)
+pub risen-push : (clauses : List (List ℕ)) (xs : List NumberedLiteral) (l : NumberedLiteral) → has xs l ≡ false → risen clauses (xs ++ (l ∷ [])) ≡ risen clauses xs + (occurs clauses (code_in Short l) + occurs clauses (code_in Long l))
+risen-push clauses xs l absent =
+    omega (arith, one Short, one Long)
+  where
+    one : (g : Group) → killed clauses (map (code_in g) (xs ++ (l ∷ []))) ≡ killed clauses (map (code_in g) xs) + occurs clauses (code_in g l)
+    one g = ap (killed clauses) (map-append (code_in g) xs (l ∷ [])) ∙ killed-more clauses (map (code_in g) xs) (code_in g l) (fresh-code g xs l absent)
 
 bit-within : (a b : Bool) → (a ≡ true → b ≡ true) → cond a 1 0 ≤ cond b 1 0
 bit-within true true h = omega arith
@@ -85,16 +95,72 @@ killed-apart (xs ∷ clauses) a b h =
     let total = sum_by-cons (λ (ys : List ℕ). length ys) xs clauses in
     omega (arith, rest, here, total, sum_by-cons (λ ys. count_by (λ x. stands a x) ys) xs clauses, sum_by-cons (λ ys. count_by (λ x. stands b x) ys) xs clauses)
 
+-- what is counted by two tests that nothing passes both is counted by either
+bit-join : (a b : Bool) → (a ≡ true → b ≡ true → ⊥) → cond a 1 0 + cond b 1 0 ≤ cond (a || b) 1 0
+bit-join true true h = absurd (h refl refl)
+bit-join true false h = omega arith
+bit-join false true h = omega arith
+bit-join false false h = omega arith
+
+or-assoc : (a b c d : Bool) → b ≡ (c || d) → (a || b) ≡ ((a || c) || d)
+or-assoc true b c d h = refl
+or-assoc false b c d h = h
+
+stands-append : (a b : List ℕ) (x : ℕ) → stands (a ++ b) x ≡ (stands a x || stands b x)
+stands-append [] b x = refl
+stands-append (y ∷ ys) b x = or-assoc (y == x) (stands (ys ++ b) x) (stands ys x) (stands b x) (stands-append ys b x)
+
+count-join : (a b : List ℕ) → ((x : ℕ) → stands a x ≡ true → stands b x ≡ true → ⊥) → (xs : List ℕ) → count_by (stands a) xs + count_by (stands b) xs ≤ count_by (stands (a ++ b)) xs
+count-join a b h [] = omega arith
+count-join a b h (x ∷ xs) =
+    let rest = count-join a b h xs in
+    let here = subst (λ t. cond (stands a x) 1 0 + cond (stands b x) 1 0 ≤ cond t 1 0) (sym (stands-append a b x)) (bit-join (stands a x) (stands b x) (h x)) in
+    omega (arith, rest, here, sum_by-cons (λ y. cond (stands a y) 1 0) x xs, sum_by-cons (λ y. cond (stands b y) 1 0) x xs, sum_by-cons (λ y. cond (stands (a ++ b) y) 1 0) x xs)
+
+killed-join : (clauses : List (List ℕ)) (a b : List ℕ) → ((x : ℕ) → stands a x ≡ true → stands b x ≡ true → ⊥) → killed clauses a + killed clauses b ≤ killed clauses (a ++ b)
+killed-join [] a b h = omega arith
+killed-join (xs ∷ clauses) a b h =
+    let rest = killed-join clauses a b h in
+    let here = count-join a b h xs in
+    omega (arith, rest, here, sum_by-cons (λ ys. count_by (λ x. stands a x) ys) xs clauses, sum_by-cons (λ ys. count_by (λ x. stands b x) ys) xs clauses, sum_by-cons (λ ys. count_by (λ x. stands (a ++ b) x) ys) xs clauses)
+
 -- no code is both of a literal of the list and of a negation
-pub codes-apart : (list : List NumberedLiteral) (x : ℕ) → IsOneSided list → stands (map falsified_code list) x ≡ true → stands (map place list) x ≡ true → ⊥
-codes-apart list x one a b =
-    let l = stands-source falsified_code list x a in
-    let k = stands-source place list x b in
-    let is : negation l.0 ≡ k.0 = place-injective (negation l.0) k.0 (l.2 ∙ sym k.2) in
+codes-apart : (g : Group) (list : List NumberedLiteral) (x : ℕ) → IsOneSided list → stands (map (falsified_code g) list) x ≡ true → stands (map (code_in g) list) x ≡ true → ⊥
+codes-apart g list x one a b =
+    let l = stands-source (falsified_code g) list x a in
+    let k = stands-source (code_in g) list x b in
+    let is : negation l.0 ≡ k.0 = code-injective g (negation l.0) k.0 (l.2 ∙ sym k.2) in
     both_ways _ (one l.0 l.1) (ap (has list) is ∙ k.1)
 
-pub killed-both : (clauses : List (List ℕ)) (list : List NumberedLiteral) → IsOneSided list → killed clauses (map falsified_code list) + killed clauses (map place list) ≤ sum_by length clauses
-killed-both clauses list one = killed-apart clauses (map falsified_code list) (map place list) (λ x a b. codes-apart list x one a b)
+-- nor of both groups
+split-apart : (p q : NumberedLiteral → NumberedLiteral) (list : List NumberedLiteral) (x : ℕ) → stands (map (λ l. code_in Short (p l)) list) x ≡ true → stands (map (λ l. code_in Long (q l)) list) x ≡ true → ⊥
+split-apart p q list x a b =
+    let l = stands-source (λ y. code_in Short (p y)) list x a in
+    let k = stands-source (λ y. code_in Long (q y)) list x b in
+    groups-apart (p l.0) (q k.0) (l.2 ∙ sym k.2)
+
+pub killed-both : (clauses : List (List ℕ)) (list : List NumberedLiteral) → IsOneSided list → fallen clauses list + risen clauses list ≤ sum_by length clauses
+killed-both clauses list one =
+    let fs = map (falsified_code Short) list in
+    let fl = map (falsified_code Long) list in
+    let rs = map (code_in Short) list in
+    let rl = map (code_in Long) list in
+    let falls = killed-join clauses fs fl (λ x a b. split-apart negation negation list x a b) in
+    let rises = killed-join clauses rs rl (λ x a b. split-apart (λ l. l) (λ l. l) list x a b) in
+    let apart = killed-apart clauses (fs ++ fl) (rs ++ rl) (λ x a b. by x (or_cases (stands fs x) (stands fl x) (sym (stands-append fs fl x) ∙ a)) (or_cases (stands rs x) (stands rl x) (sym (stands-append rs rl x) ∙ b))) in
+    omega (arith, falls, rises, apart)
+  where
+    by : (x : ℕ) → (stands (map (falsified_code Short) list) x ≡ true) ⊎ (stands (map (falsified_code Long) list) x ≡ true) → (stands (map (code_in Short) list) x ≡ true) ⊎ (stands (map (code_in Long) list) x ≡ true) → ⊥
+    by x (inl a) (inl b) = codes-apart Short list x one a b
+    by x (inl a) (inr b) = split-apart negation (λ l. l) list x a b
+    by x (inr a) (inl b) = split-apart (λ l. l) negation list x b a
+    by x (inr a) (inr b) = codes-apart Long list x one a b
+
+pub fallen-most : (clauses : List (List ℕ)) (list : List NumberedLiteral) → fallen clauses list ≤ sum_by length clauses
+fallen-most clauses list =
+    let fs = map (falsified_code Short) list in
+    let fl = map (falsified_code Long) list in
+    omega (arith, killed-join clauses fs fl (λ x a b. split-apart negation negation list x a b), killed-most clauses (fs ++ fl))
 
 -- the first literals
 stands-take : (f : NumberedLiteral → ℕ) (n : ℕ) (xs : List NumberedLiteral) (x : ℕ) → stands (map f (take n xs)) x ≡ true → stands (map f xs) x ≡ true

@@ -2,7 +2,6 @@
 use Rattle.std.specs.Prelude.{◌==◌, ◌/◌, ◌%◌, not, Bool, true, false, All, map, count_by, Option, Some, None, slice_get, IsPermutation}
 use Rattle.std.proofs.Common.{◌≡◌, ℕ, zero, suc, ◌+◌, ◌*◌, ◌<◌, ◌≤◌, cond, ◌⊎◌, ◌++◌, ◌∷◌, [], List, refl, sym, ◌∙◌, ap, subst, arith, inl, inr, length, get_or, set, length-set, length-append, get_or-set_same, get_or-set_other, eq-eqb}
 use Rattle.std.proofs.lemmas.Bool.{cases_eq, cases_Bool, eqb-true}
-use Rattle.std.proofs.lemmas.Bool.Decides.{nat_tests}
 use Rattle.std.proofs.lemmas.List.{get_or_append_left}
 use Rattle.std.proofs.lemmas.List.Sorted.{IsPermutation-refl}
 use Rattle.std.proofs.lemmas.List.Sums.{sum_by-cons}
@@ -13,8 +12,11 @@ use Rattle.pb_propagate.specs.engine.Engine.Lists.{Shape}
 use Rattle.pb_propagate.specs.engine.Engine.Forms.{entry_of, IsStoredAs}
 use Rattle.pb_propagate.specs.engine.Engine.Rest.{IsSlot, AreSlots}
 use Rattle.pb_propagate.specs.engine.Clauses.Links.{list_at}
-use Rattle.pb_propagate.specs.engine.Clauses.Shapes.{code, one_term, clause_shape, slot_shape, joined, AreDifferent, AreJoined, IsLight, IsClause}
+use Rattle.pb_propagate.specs.declared.clause.Group.{Group}
+use Rattle.pb_propagate.specs.declared.clause.Group.TheVariants.{Short, Long}
+use Rattle.pb_propagate.specs.engine.Clauses.Shapes.{code, offset, group_by, codes_of_terms, one_term, clause_shape, slot_shape, joined, AreDifferent, AreJoined, IsLight, IsClause}
 use Rattle.pb_propagate.proofs.lemmas.clauses.Gets.{push-default}
+use Rattle.pb_propagate.proofs.lemmas.clauses.Literals.{half-of, parity-of}
 use Rattle.pb_propagate.proofs.lemmas.clauses.Shapes.{joined-at, joined-length, shape-some}
 use Rattle.pb_propagate.proofs.lemmas.clauses.Stores.{slot-room}
 
@@ -153,40 +155,36 @@ AreJoined-cleared xs clauses s x room j = record {
 
 -- the clause of a form
 
-half-of : (v : ℕ) (b : Bool) → (2 * v + cond b 1 0) / 2 ≡ v
-half-of v true = omega arith
-half-of v false = omega arith
-
-parity-of : (v : ℕ) (b : Bool) → not ((2 * v + cond b 1 0) % 2 == 0) ≡ b
-parity-of v true = grind (arith, nat_tests)
-parity-of v false = grind (arith, nat_tests)
-
 entry-made : (v v' : ℕ) (b b' : Bool) (c c' : ℕ) → v ≡ v' → b ≡ b' → c ≡ c' → ◌≡◌ {A = Entry} (record { variable = v; negated = b; coefficient = c }) (record { variable = v'; negated = b'; coefficient = c' })
 entry-made v v' b b' c c' p q r = rw (p, q, r) refl
 
-pub light-back : (e : Entry) → IsLight e → entry_of (one_term (code e)) ≡ e
-light-back e light = entry-made (code e / 2) e.variable (not (code e % 2 == 0)) e.negated 1 e.coefficient (half-of e.variable e.negated) (parity-of e.variable e.negated) (sym light.one)
+pub light-back : (g : Group) (e : Entry) → IsLight e → entry_of (one_term (code g e)) ≡ e
+light-back g e light = entry-made (code g e / 4) e.variable (not (code g e % 2 == 0)) e.negated 1 e.coefficient (half-of g e.variable e.negated) (parity-of g e.variable e.negated) (sym light.one)
 
-pub codes-back : (es : List Entry) → All IsLight es → map entry_of (map one_term (map code es)) ≡ es
-codes-back [] all = refl
-codes-back (e ∷ es) all =
-    let rest = codes-back es (λ k d less. all (suc k) d (omega (arith, less))) in
-    let first = light-back e (all 0 e (omega arith)) in
+pub codes-back : (g : Group) (es : List Entry) → All IsLight es → map entry_of (map one_term (map (code g) es)) ≡ es
+codes-back g [] all = refl
+codes-back g (e ∷ es) all =
+    let rest = codes-back g es (λ k d less. all (suc k) d (omega (arith, less))) in
+    let first = light-back g e (all 0 e (omega arith)) in
     rw (first, rest) refl
 
-pub clause-kept : (f : Form) → IsNormal f → IsClause f → IsStoredAs f (clause_shape (map code f.terms))
+pub clause-kept : (f : Form) → IsNormal f → IsClause f → IsStoredAs f (clause_shape (codes_of_terms f.terms))
 clause-kept f normal c = record {
-  terms = subst (λ es. IsPermutation es f.terms) (sym (codes-back f.terms c.light)) (IsPermutation-refl f.terms);
+  terms = subst (λ es. IsPermutation es f.terms) (sym (codes-back (group_by (length f.terms)) f.terms c.light)) (IsPermutation-refl f.terms);
   degree = sym c.degree;
   normal = normal;
 }
 
-code-from : (e : Entry) → (2 * e.variable ≤ code e) × (code e ≤ 2 * e.variable + 1)
-code-from e = at e.negated
+code-from : (g : Group) (e : Entry) → (4 * e.variable + offset g ≤ code g e) × (code g e ≤ 4 * e.variable + offset g + 1)
+code-from g e = at e.negated
   where
-    at : (b : Bool) → (2 * e.variable ≤ 2 * e.variable + cond b 1 0) × (2 * e.variable + cond b 1 0 ≤ 2 * e.variable + 1)
+    at : (b : Bool) → (4 * e.variable + offset g ≤ 4 * e.variable + offset g + cond b 1 0) × (4 * e.variable + offset g + cond b 1 0 ≤ 4 * e.variable + offset g + 1)
     at true = (omega arith, omega arith)
     at false = (omega arith, omega arith)
+
+offset-small : (g : Group) → offset g ≤ 2
+offset-small Short = omega arith
+offset-small Long = omega arith
 
 apart-zero : (x y : ℕ) → (x ≡ y → ⊥) → ◌≡◌ {A = ℕ} (cond (x == y) 1 0) 0
 apart-zero x y n = elim (cases_Bool (x == y)) [
@@ -194,38 +192,38 @@ apart-zero x y n = elim (cases_Bool (x == y)) [
   | inr isnt ↦ ap (λ (b : Bool). cond {A = ℕ} b 1 0) isnt
 ]
 
-rising-none : (n : ℕ) (es : List Entry) (x : ℕ) → IsRising n es → x < 2 * n → count_by (λ y. x == y) (map code es) ≡ 0
-rising-none n [] x r h = refl
-rising-none n (e ∷ es) x r h =
-    let from = code-from e in
-    let rest = rising-none (e.variable + 1) es x r.2 (omega (arith, h, r.0)) in
-    let first = apart-zero x (code e) (λ is. absurd (omega (arith, is, from.0, h, r.0))) in
-    omega (arith, rest, first, sum_by-cons (λ y. cond (x == y) 1 0) (code e) (map code es))
+rising-none : (g : Group) (n : ℕ) (es : List Entry) (x : ℕ) → IsRising n es → x < 4 * n + offset g → count_by (λ y. x == y) (map (code g) es) ≡ 0
+rising-none g n [] x r h = refl
+rising-none g n (e ∷ es) x r h =
+    let from = code-from g e in
+    let rest = rising-none g (e.variable + 1) es x r.2 (omega (arith, h, r.0)) in
+    let first = apart-zero x (code g e) (λ is. absurd (omega (arith, is, from.0, h, r.0))) in
+    omega (arith, rest, first, sum_by-cons (λ y. cond (x == y) 1 0) (code g e) (map (code g) es))
 
-pub rising-different : (n : ℕ) (es : List Entry) → IsRising n es → AreDifferent (map code es)
-rising-different n [] r x = omega arith
-rising-different n (e ∷ es) r x =
-    let split = sum_by-cons (λ y. cond (x == y) 1 0) (code e) (map code es) in
-    let from = code-from e in
-    elim (cases_eq x (code e)) [
+pub rising-different : (g : Group) (n : ℕ) (es : List Entry) → IsRising n es → AreDifferent (map (code g) es)
+rising-different g n [] r x = omega arith
+rising-different g n (e ∷ es) r x =
+    let split = sum_by-cons (λ y. cond (x == y) 1 0) (code g e) (map (code g) es) in
+    let from = code-from g e in
+    elim (cases_eq x (code g e)) [
       | inl is ↦
-          let rest = rising-none (e.variable + 1) es x r.2 (omega (arith, is, from.1)) in
-          let first : ◌≡◌ {A = ℕ} (cond (x == code e) 1 0) 1 = ap (λ (b : Bool). cond {A = ℕ} b 1 0) (eq-eqb x (code e) is) in
+          let rest = rising-none g (e.variable + 1) es x r.2 (omega (arith, is, from.1)) in
+          let first : ◌≡◌ {A = ℕ} (cond (x == code g e) 1 0) 1 = ap (λ (b : Bool). cond {A = ℕ} b 1 0) (eq-eqb x (code g e) is) in
           omega (arith, split, rest, first)
       | inr n ↦
-          let rest = rising-different (e.variable + 1) es r.2 x in
-          omega (arith, split, rest, apart-zero x (code e) n)
+          let rest = rising-different g (e.variable + 1) es r.2 x in
+          omega (arith, split, rest, apart-zero x (code g e) n)
     ]
 
-pub first-two : (n : ℕ) (es : List Entry) → IsRising n es → 2 ≤ length es → get_or (map code es) 0 0 ≡ get_or (map code es) 1 0 → ⊥
-first-two n [] r h same = absurd (omega (arith, h))
-first-two n (e ∷ []) r h same = absurd (omega (arith, h))
-first-two n (e ∷ f ∷ es) r h same =
-    let a = code-from e in
-    let b = code-from f in
+pub first-two : (g : Group) (n : ℕ) (es : List Entry) → IsRising n es → 2 ≤ length es → get_or (map (code g) es) 0 0 ≡ get_or (map (code g) es) 1 0 → ⊥
+first-two g n [] r h same = absurd (omega (arith, h))
+first-two g n (e ∷ []) r h same = absurd (omega (arith, h))
+first-two g n (e ∷ f ∷ es) r h same =
+    let a = code-from g e in
+    let b = code-from g f in
     omega (arith, same, a.1, b.0, r.2.0)
 
-pub codes-inside : (es : List Entry) (n m : ℕ) → m ≡ 2 * n → All (λ e. e.variable < n) es → All (λ x. x < m) (map code es)
-codes-inside [] n m wide all k d less = absurd (omega (arith, less))
-codes-inside (e ∷ es) n m wide all zero d less = let a = code-from e in let inside : e.variable < n = all 0 e (omega arith) in omega (arith, a.1, inside, wide)
-codes-inside (e ∷ es) n m wide all (suc k) d less = codes-inside es n m wide (λ i x h. all (suc i) x (omega (arith, h))) k d (omega (arith, less))
+pub codes-inside : (g : Group) (es : List Entry) (n m : ℕ) → m ≡ 4 * n → All (λ e. e.variable < n) es → All (λ x. x < m) (map (code g) es)
+codes-inside g [] n m wide all k d less = absurd (omega (arith, less))
+codes-inside g (e ∷ es) n m wide all zero d less = let a = code-from g e in let inside : e.variable < n = all 0 e (omega arith) in omega (arith, a.1, inside, wide, offset-small g)
+codes-inside g (e ∷ es) n m wide all (suc k) d less = codes-inside g es n m wide (λ i x h. all (suc i) x (omega (arith, h))) k d (omega (arith, less))

@@ -360,7 +360,7 @@ reading-other c l index e other r =
 pub reading-live : (c : Clauses) (values : List (Option Bool)) (l index e other : ℕ) → IsRunning values c → Reading c l index e other → (watch_at c.watches.items e).live ≡ true
 reading-live c values l index e other run r = (run.stored.linked.named e l index (reading-item c l index e other r)).live
 
-pub reading-small : (c : Clauses) (values : List (Option Bool)) (l index e other : ℕ) → IsRunning values c → Reading c l index e other → other < 2 * length values
+pub reading-small : (c : Clauses) (values : List (Option Bool)) (l index e other : ℕ) → IsRunning values c → Reading c l index e other → other < 4 * length values
 reading-small c values l index e other run r =
     let live = reading-live c values l index e other run r in
     let small = literal-within (lists_of c.literals.items) c.watches.items (lists_of c.lists.items) (flip e) run.stored (run.stored.paired e live) in
@@ -394,7 +394,7 @@ resuming-within c values l index e other from start xs run r s =
     let two = reading-slot c values l index e other run r in
     omega (arith, resuming-from c (e / 2) from start xs two.1 s, ap length (resuming-xs c (e / 2) from start xs two.0 s), run.passed.bounded (e / 2), turned-size c.starts.items (lists_of c.literals.items) (e / 2))
 
-pub resuming-inside : (c : Clauses) (values : List (Option Bool)) (l index e other from start : ℕ) (xs : List ℕ) → IsRunning values c → Reading c l index e other → Resuming c (e / 2) from start xs → All (λ x. x < 2 * length values) xs
+pub resuming-inside : (c : Clauses) (values : List (Option Bool)) (l index e other from start : ℕ) (xs : List ℕ) → IsRunning values c → Reading c l index e other → Resuming c (e / 2) from start xs → All (λ x. x < 4 * length values) xs
 resuming-inside c values l index e other from start xs run r s =
     let two = reading-slot c values l index e other run r in
     let those = resuming-xs c (e / 2) from start xs two.0 s in

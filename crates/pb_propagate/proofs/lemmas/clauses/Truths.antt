@@ -8,6 +8,10 @@ pub flip-half : (c : ℕ) → flip c / 2 ≡ c / 2
 unfolding flip
 flip-half c = grind (arith, nat_tests)
 
+pub flip-variable : (c : ℕ) → flip c / 4 ≡ c / 4
+unfolding flip
+flip-variable c = grind (arith, nat_tests)
+
 pub flip-flip : (c : ℕ) → flip (flip c) ≡ c
 unfolding flip
 flip-flip c = grind (arith, nat_tests)
@@ -35,4 +39,4 @@ met-failed (Some false) false h k = cc
 -- no literal is both true and falsified
 pub not_both : (values : List (Option Bool)) (c : ℕ) → true_at values c ≡ true → false_at values c ≡ true → ⊥
 unfolding true_at false_at
-not_both values c h k = met-failed (get_or values (c / 2) None) (c % 2 == 0) h k
+not_both values c h k = met-failed (get_or values (c / 4) None) (c % 2 == 0) h k

@@ -58,7 +58,7 @@ running-grow c old new g r = record {
   };
   starts = r.starts;
   noted = r.noted;
-  sizes = r.sizes ∙ ap (λ n. 2 * n) (sym g.sizes);
+  sizes = r.sizes ∙ ap (λ n. 4 * n) (sym g.sizes);
 }
 
 -- after the position that was visited

@@ -1,46 +1,53 @@
 -- The first literals of the list are walked.
-use Rattle.std.specs.Prelude.{Bool, true, false, Option, Contains, map, sum, sum_by, ◌/◌, ◌==◌}
+use Rattle.std.specs.Prelude.{Bool, true, false, Option, Contains, map, sum, sum_by, ◌/◌, ◌==◌, if◌then◌else◌}
 use Rattle.std.proofs.Common.{◌≡◌, ℕ, suc, ◌+◌, ◌*◌, ◌<◌, ◌≤◌, ◌++◌, ◌∷◌, [], List, refl, sym, ◌∙◌, ap, subst, arith, inl, inr, length, get_or, take, length-append}
 use Rattle.std.proofs.lemmas.Bool.{cases_eq, cases_lt, both_ways, eqb-true, or_cases, or_left, or_right}
+use Rattle.std.proofs.lemmas.List.Elements.{Contains-append_left, Contains-append_right, Contains-append_cases, Contains-push, Contains-push_cases}
 use Rattle.std.proofs.lemmas.List.{get_or-map, length-map, map-append, take-append-le, take_more, take_all, get_or_append_left}
 use Rattle.pb_normal.specs.declared.numbered.NumberedLiteral.{NumberedLiteral}
 use Rattle.pb_normal.specs.meaning.Rules.{negation}
 use Rattle.pb_propagate.specs.declared.clauses.lists.Watch.{Watch}
 use Rattle.pb_propagate.specs.declared.clauses.Clauses.{Clauses}
+use Rattle.pb_propagate.specs.declared.clause.Group.{Group}
+use Rattle.pb_propagate.specs.declared.clause.Group.TheVariants.{Short, Long}
+use Rattle.pb_propagate.specs.declared.heads.Heads.{Heads}
 use Rattle.pb_propagate.specs.engine.Engine.Lists.{Shape, same, has, Derives, begin, put, IsSettled}
-use Rattle.pb_propagate.specs.engine.Engine.Counts.{place, AreSingle, none, more}
+use Rattle.pb_propagate.specs.engine.Engine.Counts.{AreSingle, none, more}
 use Rattle.pb_propagate.specs.engine.Clauses.Truths.{flip, true_at, false_at}
 use Rattle.pb_propagate.specs.engine.Clauses.Links.{watch_at, list_at, lists_of}
 use Rattle.pb_propagate.specs.engine.Clauses.Runs.{AreStored, AreServed, AreWalked, IsRunning, AreReady, Grows}
-use Rattle.pb_propagate.specs.engine.Clauses.Shapes.{clauses_of, clause_shape, literal_at}
-pub use Rattle.pb_propagate.specs.engine.Clauses.Walked.{falsified_code, walked_codes}
+use Rattle.pb_propagate.specs.engine.Clauses.Shapes.{clauses_of, clause_shape, literal_at, offset, code_in}
+pub use Rattle.pb_propagate.specs.engine.Clauses.Walked.{falsified_code, walked_codes, reached_codes, head, advanced}
 use Rattle.pb_propagate.proofs.lemmas.engine.Literals.{same-true, same-refl, negation-negation, has-get}
-use Rattle.pb_propagate.proofs.lemmas.engine.Puts.{place-inside}
 use Rattle.pb_propagate.proofs.lemmas.engine.Values.{says-inside}
 use Rattle.pb_propagate.proofs.lemmas.store.Gets.{last-is}
-use Rattle.pb_propagate.proofs.lemmas.engine.Spent.{place-injective}
 use Rattle.pb_propagate.proofs.lemmas.clauses.Steps.{running-bounded}
 use Rattle.pb_propagate.proofs.lemmas.clauses.Turned.{turned-count}
 use Rattle.pb_propagate.proofs.lemmas.clauses.Truths.{flip-half, flip-flip}
 use Rattle.pb_propagate.proofs.lemmas.clauses.Linked.{lists-length}
 use Rattle.pb_propagate.proofs.lemmas.clauses.Codes.{has as stands}
-use Rattle.pb_propagate.proofs.lemmas.clauses.Counts.{killed, killed-more, list-short, passed-most}
-use Rattle.pb_propagate.proofs.lemmas.clauses.Literals.{Agree, false-listed, false-place, place-code}
+use Rattle.pb_propagate.proofs.lemmas.clauses.Counts.{killed, killed-more, occurs, list-short, passed-most}
+use Rattle.pb_propagate.proofs.lemmas.clauses.Literals.{Agree, false-listed, false-code, code-injective, code-of}
 use Rattle.pb_propagate.proofs.lemmas.clauses.Shapes.{Served, met, free, served-settled}
 use Rattle.pb_propagate.proofs.lemmas.clauses.Walks.{running-grow, walked-grow}
 
--- what the walks may have cost
-abbrev pub cost : Clauses → Clauses → ℕ → List NumberedLiteral → ℕ
-cost c0 c n list = 2 * killed (clauses_of c0) (walked_codes n list) + sum c.passed.items
+-- the occurrences of the codes that are walked
+abbrev pub reached : List (List ℕ) → Heads → List NumberedLiteral → ℕ
+reached clauses h list = killed clauses (map (falsified_code Short) (take h.short list)) + killed clauses (map (falsified_code Long) (take h.long list))
 
-pub record IsWatching (c0 c : Clauses) (values : List (Option Bool)) (list : List NumberedLiteral) (n : ℕ) : Type 0 where
+-- what the walks may have cost
+abbrev pub cost : Clauses → Clauses → Heads → List NumberedLiteral → ℕ
+cost c0 c h list = 2 * reached (clauses_of c0) h list + sum c.passed.items
+
+pub record IsWatching (c0 c : Clauses) (values : List (Option Bool)) (list : List NumberedLiteral) (h : Heads) : Type 0 where
   pub literals : c.literals ≡ c0.literals
   pub running : IsRunning values c
-  pub within : n ≤ length list
-  pub served : AreWalked values c.watches.items (walked_codes n list)
+  pub short : h.short ≤ length list
+  pub long : h.long ≤ length list
+  pub served : AreWalked values c.watches.items (reached_codes h list)
 
 -- between two calls
-pub ready-running : (c : Clauses) (values : List (Option Bool)) → AreReady c → length c.lists.items ≡ 2 * length values → IsRunning values c
+pub ready-running : (c : Clauses) (values : List (Option Bool)) → AreReady c → length c.lists.items ≡ 4 * length values → IsRunning values c
 ready-running c values r sizes = record {
   stored = r.stored;
   passed = record {
@@ -60,17 +67,18 @@ take-none : (list : List NumberedLiteral) → take 0 list ≡ []
 take-none [] = refl
 take-none (x ∷ xs) = refl
 
-pub watching-start : (c : Clauses) (values : List (Option Bool)) (list : List NumberedLiteral) (n : ℕ) → AreReady c → length c.lists.items ≡ 2 * length values → n ≤ length list → AreWalked values c.watches.items (walked_codes n list) → IsWatching c c values list n
+pub watching-start : (c : Clauses) (values : List (Option Bool)) (list : List NumberedLiteral) (n : ℕ) → AreReady c → length c.lists.items ≡ 4 * length values → n ≤ length list → AreWalked values c.watches.items (walked_codes n list) → IsWatching c c values list (record { short = n; long = n })
 watching-start c values list n r sizes within walked = record {
   literals = refl;
   running = ready-running c values r sizes;
-  within = within;
+  short = within;
+  long = within;
   served = walked;
 }
 
 -- nothing is walked
 pub none-walked : (c : Clauses) (values : List (Option Bool)) (list : List NumberedLiteral) → AreWalked values c.watches.items (walked_codes 0 list)
-none-walked c values list = subst (AreWalked values c.watches.items) (sym (ap (map falsified_code) (take-none list))) (record {
+none-walked c values list = subst (AreWalked values c.watches.items) (sym (ap (λ (xs : List NumberedLiteral). map (falsified_code Short) xs ++ map (falsified_code Long) xs) (take-none list))) (record {
   failed = λ x h. absurd (omega (arith, h.1));
   done = λ e live h. absurd (omega (arith, h.1));
 })
@@ -92,21 +100,70 @@ derived-take forms old _ n h begin = refl
 derived-take forms old _ n h (put {list} l d m) =
     take-append-le n list (l ∷ []) (omega (arith, h, derived-longer forms old list d)) ∙ derived-take forms old list n h d
 
-pub watching-grow : (forms : List Shape) (c0 c : Clauses) (values values' : List (Option Bool)) (list list' : List NumberedLiteral) (n : ℕ) → Grows values values' → Derives forms list list' → IsWatching c0 c values list n → IsWatching c0 c values' list' n
-watching-grow forms c0 c values values' list list' n g d w = record {
+-- the literals that are walked are the same in a longer list
+abbrev pub AreSameFirst : List NumberedLiteral → List NumberedLiteral → Type 0
+AreSameFirst list list' = (n : ℕ) → n ≤ length list → take n list' ≡ take n list
+
+pub codes-same : (h : Heads) (list list' : List NumberedLiteral) → h.short ≤ length list → h.long ≤ length list → AreSameFirst list list' → reached_codes h list' ≡ reached_codes h list
+codes-same h list list' a b same = rw (same h.short a, same h.long b) refl
+
+pub reached-same : (clauses : List (List ℕ)) (h : Heads) (list list' : List NumberedLiteral) → h.short ≤ length list → h.long ≤ length list → AreSameFirst list list' → reached clauses h list' ≡ reached clauses h list
+reached-same clauses h list list' a b same = rw (same h.short a, same h.long b) refl
+
+pub watching-grow : (forms : List Shape) (c0 c : Clauses) (values values' : List (Option Bool)) (list list' : List NumberedLiteral) (h : Heads) → Grows values values' → Derives forms list list' → IsWatching c0 c values list h → IsWatching c0 c values' list' h
+watching-grow forms c0 c values values' list list' h g d w = record {
   literals = w.literals;
   running = running-grow c values values' g w.running;
-  within = omega (arith, w.within, derived-longer forms list list' d);
-  served = subst (λ xs. AreWalked values' c.watches.items (map falsified_code xs)) (sym (derived-take forms list list' n w.within d)) (walked-grow values values' c.watches.items (walked_codes n list) g w.served);
+  short = omega (arith, w.short, derived-longer forms list list' d);
+  long = omega (arith, w.long, derived-longer forms list list' d);
+  served = subst (AreWalked values' c.watches.items) (sym (codes-same h list list' w.short w.long (λ n within. derived-take forms list list' n within d))) (walked-grow values values' c.watches.items (reached_codes h list) g w.served);
 }
 
-pub cost-grow : (forms : List Shape) (c0 c : Clauses) (list list' : List NumberedLiteral) (n : ℕ) → n ≤ length list → Derives forms list list' → cost c0 c n list' ≡ cost c0 c n list
-cost-grow forms c0 c list list' n h d = ap (λ xs. 2 * killed (clauses_of c0) (map falsified_code xs) + sum c.passed.items) (derived-take forms list list' n h d)
+pub cost-grow : (forms : List Shape) (c0 c : Clauses) (list list' : List NumberedLiteral) (h : Heads) → h.short ≤ length list → h.long ≤ length list → Derives forms list list' → cost c0 c h list' ≡ cost c0 c h list
+cost-grow forms c0 c list list' h a b d = ap (λ n. 2 * n + sum c.passed.items) (reached-same (clauses_of c0) h list list' a b (λ n within. derived-take forms list list' n within d))
 
 -- one more literal is walked
-pub next-codes : (list : List NumberedLiteral) (n : ℕ) (l : NumberedLiteral) → n < length list → l ≡ get_or list n l → walked_codes (n + 1) list ≡ walked_codes n list ++ (falsified_code l ∷ [])
-next-codes list n l inside is =
-    ap (map falsified_code) (take_more list n l inside ∙ ap (λ k. take n list ++ (k ∷ [])) (sym is)) ∙ map-append falsified_code (take n list) (l ∷ [])
+pub next-codes : (f : NumberedLiteral → ℕ) (list : List NumberedLiteral) (n : ℕ) (l : NumberedLiteral) → n < length list → l ≡ get_or list n l → map f (take (n + 1) list) ≡ map f (take n list) ++ (f l ∷ [])
+next-codes f list n l inside is =
+    ap (map f) (take_more list n l inside ∙ ap (λ k. take n list ++ (k ∷ [])) (sym is)) ∙ map-append f (take n list) (l ∷ [])
+
+pub reached-next : (g : Group) (h : Heads) (list : List NumberedLiteral) (l : NumberedLiteral) (x : ℕ) → head g h < length list → l ≡ get_or list (head g h) l → Contains (reached_codes (advanced g h) list) x → Contains (reached_codes h list ++ (falsified_code g l ∷ [])) x
+reached-next Short h list l x inside is there =
+    let short = map (falsified_code Short) (take h.short list) in
+    let long = map (falsified_code Long) (take h.long list) in
+    elim (Contains-append_cases (map (falsified_code Short) (take (h.short + 1) list)) long x there) [
+      | inl one ↦ elim (Contains-push_cases short (falsified_code Short l) x (subst (λ (xs : List ℕ). Contains xs x) (next-codes (falsified_code Short) list h.short l inside is) one)) [
+        | inl old ↦ Contains-append_left (short ++ long) (falsified_code Short l ∷ []) x (Contains-append_left short long x old)
+        | inr new ↦ subst (Contains ((short ++ long) ++ (falsified_code Short l ∷ []))) new (Contains-push (short ++ long) (falsified_code Short l))
+      ]
+      | inr other ↦ Contains-append_left (short ++ long) (falsified_code Short l ∷ []) x (Contains-append_right short long x other)
+    ]
+reached-next Long h list l x inside is there =
+    let short = map (falsified_code Short) (take h.short list) in
+    let long = map (falsified_code Long) (take h.long list) in
+    elim (Contains-append_cases short (map (falsified_code Long) (take (h.long + 1) list)) x there) [
+      | inl one ↦ Contains-append_left (short ++ long) (falsified_code Long l ∷ []) x (Contains-append_left short long x one)
+      | inr other ↦ elim (Contains-push_cases long (falsified_code Long l) x (subst (λ (xs : List ℕ). Contains xs x) (next-codes (falsified_code Long) list h.long l inside is) other)) [
+        | inl old ↦ Contains-append_left (short ++ long) (falsified_code Long l ∷ []) x (Contains-append_right short long x old)
+        | inr new ↦ subst (Contains ((short ++ long) ++ (falsified_code Long l ∷ []))) new (Contains-push (short ++ long) (falsified_code Long l))
+      ]
+    ]
+
+advanced-short : (g : Group) (h : Heads) (n : ℕ) → head g h < n → h.short ≤ n → (advanced g h).short ≤ n
+advanced-short Short h n inside within = omega (arith, inside)
+advanced-short Long h n inside within = within
+
+advanced-long : (g : Group) (h : Heads) (n : ℕ) → head g h < n → h.long ≤ n → (advanced g h).long ≤ n
+advanced-long Short h n inside within = within
+advanced-long Long h n inside within = omega (arith, inside)
+
+pub advanced-sum : (g : Group) (h : Heads) → (advanced g h).short + (advanced g h).long ≡ h.short + h.long + 1
+advanced-sum Short h = omega arith
+advanced-sum Long h = omega arith
+
+pub ahead-room : (g : Group) (h : Heads) (n : ℕ) → head g h < n → h.short ≤ n → h.long ≤ n → h.short + h.long < 2 * n
+ahead-room Short h n inside short long = omega (arith, inside, long)
+ahead-room Long h n inside short long = omega (arith, inside, short)
 
 pub start-served : (values : List (Option Bool)) (ws : List Watch) (walked : List ℕ) (x : ℕ) → false_at values x ≡ true → AreWalked values ws walked → AreServed values ws walked x 0
 start-served values ws walked x h s = record {
@@ -116,16 +173,30 @@ start-served values ws walked x h s = record {
   here = λ e live at less. absurd (omega (arith, less));
 }
 
-pub watching-next : (forms : List Shape) (c0 c c' : Clauses) (values values' : List (Option Bool)) (list list' : List NumberedLiteral) (n : ℕ) (l : NumberedLiteral) → n < length list → l ≡ get_or list n l → false_at values (falsified_code l) ≡ true →
-    c'.literals ≡ c.literals → IsRunning values' c' → Derives forms list list' →
-    ((walked : List ℕ) → AreServed values c.watches.items walked (falsified_code l) 0 → AreWalked values' c'.watches.items (walked ++ (falsified_code l ∷ []))) →
-    IsWatching c0 c values list n → IsWatching c0 c' values' list' (n + 1)
-watching-next forms c0 c c' values values' list list' n l inside is failed literals running d walked w = record {
-  literals = literals ∙ w.literals;
-  running = running;
-  within = omega (arith, inside, derived-longer forms list list' d);
-  served = subst (λ xs. AreWalked values' c'.watches.items xs) (sym (next-codes list n l inside is) ∙ ap (map falsified_code) (sym (derived-take forms list list' (n + 1) (omega (arith, inside)) d))) (walked (walked_codes n list) (start-served values c.watches.items (walked_codes n list) (falsified_code l) failed w.served));
+-- fewer codes
+walked-within : (values : List (Option Bool)) (ws : List Watch) (a b : List ℕ) → ((x : ℕ) → Contains b x → Contains a x) → AreWalked values ws a → AreWalked values ws b
+walked-within values ws a b within w = record {
+  failed = λ x there. w.failed x (within x there);
+  done = λ e live there. w.done e live (within (watch_at ws e).literal there);
 }
+
+pub watching-next : (forms : List Shape) (c0 c c' : Clauses) (values values' : List (Option Bool)) (list list' : List NumberedLiteral) (g : Group) (h : Heads) (l : NumberedLiteral) → head g h < length list → l ≡ get_or list (head g h) l → false_at values (falsified_code g l) ≡ true →
+    c'.literals ≡ c.literals → IsRunning values' c' → Derives forms list list' →
+    ((walked : List ℕ) → AreServed values c.watches.items walked (falsified_code g l) 0 → AreWalked values' c'.watches.items (walked ++ (falsified_code g l ∷ []))) →
+    IsWatching c0 c values list h → IsWatching c0 c' values' list' (advanced g h)
+watching-next forms c0 c c' values values' list list' g h l inside is failed literals running d walked w =
+    let short = advanced-short g h (length list) inside w.short in
+    let long = advanced-long g h (length list) inside w.long in
+    let longer = derived-longer forms list list' d in
+    let all = walked (reached_codes h list) (start-served values c.watches.items (reached_codes h list) (falsified_code g l) failed w.served) in
+    let mine = walked-within values' c'.watches.items (reached_codes h list ++ (falsified_code g l ∷ [])) (reached_codes (advanced g h) list) (λ x there. reached-next g h list l x inside is there) all in
+    record {
+      literals = literals ∙ w.literals;
+      running = running;
+      short = omega (arith, short, longer);
+      long = omega (arith, long, longer);
+      served = subst (AreWalked values' c'.watches.items) (sym (codes-same (advanced g h) list list' short long (λ n within. derived-take forms list list' n within d))) mine;
+    }
 
 -- the next literal is not walked yet
 stands-tail : (y : ℕ) (ys : List ℕ) (x : ℕ) → (y ≡ x → ⊥) → stands (y ∷ ys) x ≡ true → stands ys x ≡ true
@@ -134,14 +205,14 @@ stands-tail y ys x n h = elim (or_cases (y == x) (stands ys x) h) [
   | inr old ↦ old
 ]
 
-has-some : (xs : List NumberedLiteral) (l : NumberedLiteral) → stands (map falsified_code xs) (falsified_code l) ≡ true → has xs l ≡ true
+has-some : (g : Group) (xs : List NumberedLiteral) (l : NumberedLiteral) → stands (map (falsified_code g) xs) (falsified_code g l) ≡ true → has xs l ≡ true
 unfolding has
-has-some [] l h = absurd (both_ways _ refl h)
-has-some (x ∷ xs) l h = elim (cases_eq (falsified_code x) (falsified_code l)) [
+has-some g [] l h = absurd (both_ways _ refl h)
+has-some g (x ∷ xs) l h = elim (cases_eq (falsified_code g x) (falsified_code g l)) [
   | inl is ↦
-      let one : x ≡ l = sym (negation-negation x) ∙ ap negation (place-injective (negation x) (negation l) is) ∙ negation-negation l in
+      let one : x ≡ l = sym (negation-negation x) ∙ ap negation (code-injective g (negation x) (negation l) is) ∙ negation-negation l in
       or_left (same x l) (has xs l) (ap (λ k. same k l) one ∙ same-refl l)
-  | inr n ↦ or_right (same x l) (has xs l) (has-some xs l (stands-tail (falsified_code x) (map falsified_code xs) (falsified_code l) n h))
+  | inr n ↦ or_right (same x l) (has xs l) (has-some g xs l (stands-tail (falsified_code g x) (map (falsified_code g) xs) (falsified_code g l) n h))
 ]
 
 pub fresh-take : (list : List NumberedLiteral) (n : ℕ) (l : NumberedLiteral) → AreSingle list → n < length list → l ≡ get_or list n l → has (take n list) l ≡ false
@@ -154,51 +225,73 @@ fresh-take _ n l (more {list} k s absent) inside is = elim (cases_lt n (length l
       ap (λ xs. has xs l) (take-append-le n list (k ∷ []) (omega (arith, at)) ∙ ap (λ m. take m list) at ∙ take_all (length list) list (omega arith)) ∙ ap (has list) last ∙ absent
 ]
 
-fresh : (list : List NumberedLiteral) (n : ℕ) (l : NumberedLiteral) → AreSingle list → n < length list → l ≡ get_or list n l → stands (walked_codes n list) (falsified_code l) ≡ false
-fresh list n l single inside is = by (stands (walked_codes n list) (falsified_code l)) refl
+fresh : (g : Group) (list : List NumberedLiteral) (n : ℕ) (l : NumberedLiteral) → AreSingle list → n < length list → l ≡ get_or list n l → stands (map (falsified_code g) (take n list)) (falsified_code g l) ≡ false
+fresh g list n l single inside is = by (stands (map (falsified_code g) (take n list)) (falsified_code g l)) refl
   where
-    by : (b : Bool) → stands (walked_codes n list) (falsified_code l) ≡ b → stands (walked_codes n list) (falsified_code l) ≡ false
-    by true h = absurd (both_ways _ (fresh-take list n l single inside is) (has-some (take n list) l h))
+    by : (b : Bool) → stands (map (falsified_code g) (take n list)) (falsified_code g l) ≡ b → stands (map (falsified_code g) (take n list)) (falsified_code g l) ≡ false
+    by true h = absurd (both_ways _ (fresh-take list n l single inside is) (has-some g (take n list) l h))
     by false h = h
 
 -- what is known of the next literal
-pub record IsNext (values : List (Option Bool)) (list : List NumberedLiteral) (l : NumberedLiteral) : Type 0 where
-  pub failed : false_at values (falsified_code l) ≡ true
-  pub small : falsified_code l < 2 * length values
+pub record IsNext (values : List (Option Bool)) (list : List NumberedLiteral) (g : Group) (l : NumberedLiteral) : Type 0 where
+  pub failed : false_at values (falsified_code g l) ≡ true
+  pub small : falsified_code g l < 4 * length values
 
-pub next-of : (values : List (Option Bool)) (list : List NumberedLiteral) (n : ℕ) (l : NumberedLiteral) → Agree values list → n < length list → l ≡ get_or list n l → IsNext values list l
-next-of values list n l a inside is =
+code-small : (g : Group) (v n : ℕ) (b : Bool) → v < n → 4 * v + offset g + (if b then 1 else 0) < 4 * n
+code-small Short v n true h = omega (arith, h)
+code-small Short v n false h = omega (arith, h)
+code-small Long v n true h = omega (arith, h)
+code-small Long v n false h = omega (arith, h)
+
+pub next-of : (values : List (Option Bool)) (list : List NumberedLiteral) (g : Group) (n : ℕ) (l : NumberedLiteral) → Agree values list → n < length list → l ≡ get_or list n l → IsNext values list g l
+next-of values list g n l a inside is =
     let on : has list l ≡ true = ap (has list) is ∙ has-get list n l inside in
     let variable : l.variable < length values = says-inside values l (sym (a l) ∙ on) in
     record {
-      failed = false-place values list l a ∙ on;
-      small = place-inside (negation l) (length values) variable;
+      failed = false-code values list g l a ∙ on;
+      small = code-small g l.variable (length values) (negation l).negated variable;
     }
 
+-- the variable of a literal of the list has a value
+pub listed-small : (values : List (Option Bool)) (list : List NumberedLiteral) (k : ℕ) (d : NumberedLiteral) → Agree values list → k < length list → (get_or list k d).variable < length values
+listed-small values list k d a inside = says-inside values (get_or list k d) (sym (a (get_or list k d)) ∙ has-get list k d inside)
+
+-- one more code is walked
+pub reached-more : (g : Group) (clauses : List (List ℕ)) (h : Heads) (list : List NumberedLiteral) (l : NumberedLiteral) → AreSingle list → head g h < length list → l ≡ get_or list (head g h) l → reached clauses (advanced g h) list ≡ reached clauses h list + occurs clauses (falsified_code g l)
+reached-more Short clauses h list l single inside is =
+    let grown = killed-more clauses (map (falsified_code Short) (take h.short list)) (falsified_code Short l) (fresh Short list h.short l single inside is) in
+    omega (arith, grown, ap (killed clauses) (next-codes (falsified_code Short) list h.short l inside is))
+reached-more Long clauses h list l single inside is =
+    let grown = killed-more clauses (map (falsified_code Long) (take h.long list)) (falsified_code Long l) (fresh Long list h.long l single inside is) in
+    omega (arith, grown, ap (killed clauses) (next-codes (falsified_code Long) list h.long l inside is))
+
 -- what a walk costs
-pub cost-next : (c0 c c' : Clauses) (values : List (Option Bool)) (list list' : List NumberedLiteral) (n v v' s s' : ℕ) (l : NumberedLiteral) → AreSingle list → n < length list → l ≡ get_or list n l → take (n + 1) list' ≡ take (n + 1) list →
-    v' + sum c.passed.items + s ≤ v + 2 * length (list_at (lists_of c.lists.items) (falsified_code l)) + sum c'.passed.items + s' → IsWatching c0 c values list n →
-    v' + s + cost c0 c n list ≤ v + cost c0 c' (n + 1) list' + s'
-cost-next c0 c c' values list list' n v v' s s' l single inside is same covered w =
+pub cost-next : (c0 c c' : Clauses) (values : List (Option Bool)) (list list' : List NumberedLiteral) (g : Group) (h : Heads) (v v' s s' : ℕ) (l : NumberedLiteral) → AreSingle list → head g h < length list → l ≡ get_or list (head g h) l → AreSameFirst list list' →
+    v' + sum c.passed.items + s ≤ v + 2 * length (list_at (lists_of c.lists.items) (falsified_code g l)) + sum c'.passed.items + s' → IsWatching c0 c values list h →
+    v' + s + cost c0 c h list ≤ v + cost c0 c' (advanced g h) list' + s'
+cost-next c0 c c' values list list' g h v v' s s' l single inside is same covered w =
     let clauses = clauses_of c0 in
     let stored : AreStored clauses c.watches.items (lists_of c.lists.items) = subst (λ ls. AreStored (lists_of ls.items) c.watches.items (lists_of c.lists.items)) w.literals w.running.stored in
-    let short = list-short clauses c.watches.items (lists_of c.lists.items) (falsified_code l) stored in
-    let grown = killed-more clauses (walked_codes n list) (falsified_code l) (fresh list n l single inside is) in
-    let codes : walked_codes (n + 1) list' ≡ walked_codes n list ++ (falsified_code l ∷ []) = ap (map falsified_code) same ∙ next-codes list n l inside is in
-    omega (arith, covered, short, grown, ap (killed clauses) codes)
+    let few = list-short clauses c.watches.items (lists_of c.lists.items) (falsified_code g l) stored in
+    let grown = reached-more g clauses h list l single inside is in
+    let codes = reached-same clauses (advanced g h) list list' (advanced-short g h (length list) inside w.short) (advanced-long g h (length list) inside w.long) same in
+    sums v v' s s' (sum c.passed.items) (sum c'.passed.items) (reached clauses h list) (reached clauses (advanced g h) list) (reached clauses (advanced g h) list') (occurs clauses (falsified_code g l)) (length (list_at (lists_of c.lists.items) (falsified_code g l))) covered few grown codes
+  where
+    sums : (v v' s s' p p' r r' r'' o n : ℕ) → v' + p + s ≤ v + 2 * n + p' + s' → n ≤ o → r' ≡ r + o → r'' ≡ r' → v' + s + (2 * r + p) ≤ v + (2 * r'' + p') + s'
+    sums v v' s s' p p' r r' r'' o n a b d e = omega (arith, a, b, d, e)
 
 -- what a walk costs that was abandoned
-pub cost-broken : (c0 c c' : Clauses) (values : List (Option Bool)) (list : List NumberedLiteral) (n v v' s s' : ℕ) (l : NumberedLiteral) → AreSingle list → n < length list → l ≡ get_or list n l → ((t : ℕ) → get_or c'.passed.items t 0 ≤ length (list_at (clauses_of c) t)) →
-    v' + sum c.passed.items + s ≤ v + 2 * length (list_at (lists_of c.lists.items) (falsified_code l)) + sum c'.passed.items + s' → IsWatching c0 c values list n →
-    v' + s + cost c0 c n list ≤ v + s' + (2 * killed (clauses_of c0) (walked_codes (n + 1) list) + sum_by length (clauses_of c0))
-cost-broken c0 c c' values list n v v' s s' l single inside is bounded covered w =
+pub cost-broken : (c0 c c' : Clauses) (values : List (Option Bool)) (list : List NumberedLiteral) (g : Group) (h : Heads) (v v' s s' : ℕ) (l : NumberedLiteral) → AreSingle list → head g h < length list → l ≡ get_or list (head g h) l → ((t : ℕ) → get_or c'.passed.items t 0 ≤ length (list_at (clauses_of c) t)) →
+    v' + sum c.passed.items + s ≤ v + 2 * length (list_at (lists_of c.lists.items) (falsified_code g l)) + sum c'.passed.items + s' → IsWatching c0 c values list h →
+    v' + s + cost c0 c h list ≤ v + s' + (2 * reached (clauses_of c0) (advanced g h) list + sum_by length (clauses_of c0))
+cost-broken c0 c c' values list g h v v' s s' l single inside is bounded covered w =
     let clauses = clauses_of c0 in
-    let more_cost = cost-next c0 c c' values list list n v v' s s' l single inside is refl covered w in
+    let more_cost = cost-next c0 c c' values list list g h v v' s s' l single inside is (λ n within. refl) covered w in
     let bounded_0 = subst (λ ls. (t : ℕ) → get_or c'.passed.items t 0 ≤ length (list_at (lists_of ls.items) t)) w.literals bounded in
     omega (arith, more_cost, passed-most c'.passed.items clauses bounded_0)
 
-pub cost-most : (c0 c : Clauses) (values : List (Option Bool)) (list : List NumberedLiteral) (n : ℕ) → IsWatching c0 c values list n → cost c0 c n list ≤ 2 * killed (clauses_of c0) (walked_codes n list) + sum_by length (clauses_of c0)
-cost-most c0 c values list n w =
+pub cost-most : (c0 c : Clauses) (values : List (Option Bool)) (list : List NumberedLiteral) (h : Heads) → IsWatching c0 c values list h → cost c0 c h list ≤ 2 * reached (clauses_of c0) h list + sum_by length (clauses_of c0)
+cost-most c0 c values list h w =
     let clauses = clauses_of c0 in
     let bounded = subst (λ ls. (t : ℕ) → get_or c.passed.items t 0 ≤ length (list_at (lists_of ls.items) t)) w.literals (running-bounded c values w.running) in
     omega (arith, passed-most c.passed.items clauses bounded)
@@ -237,15 +330,27 @@ has-place (x ∷ xs) l h = elim (or_cases (same x l) (has xs l) h) [
   | inr old ↦ let w = has-place xs l old in (suc (w.0), omega (arith, w.1), w.2)
 ]
 
-all-walked : (values : List (Option Bool)) (list : List NumberedLiteral) (n y : ℕ) → Agree values list → length list ≤ n → false_at values y ≡ true → Contains (walked_codes n list) y
-all-walked values list n y a end h =
-    let on : has list (negation (literal_at y)) ≡ true = sym (false-listed values list y a) ∙ h in
+-- the code of a falsified literal is walked
+code-walked : (g : Group) (list : List NumberedLiteral) (n y : ℕ) → length list ≤ n → has list (negation (literal_at y)) ≡ true → code_in g (literal_at y) ≡ y → Contains (map (falsified_code g) (take n list)) y
+code-walked g list n y end on at =
     let w = has-place list (negation (literal_at y)) on in
-    let code_is : falsified_code (negation (literal_at y)) ≡ y = ap place (negation-negation (literal_at y)) ∙ place-code y in
-    let there : Contains (map falsified_code list) y = (w.0, omega (arith, w.1, length-map list falsified_code), get_or-map falsified_code list w.0 (negation (literal_at y)) y w.1 ∙ ap falsified_code w.2 ∙ code_is) in
-    subst (λ xs. Contains (map falsified_code xs) y) (sym (take_all n list end)) there
+    let code_is : falsified_code g (negation (literal_at y)) ≡ y = ap (code_in g) (negation-negation (literal_at y)) ∙ at in
+    let there : Contains (map (falsified_code g) list) y = (w.0, omega (arith, w.1, length-map list (falsified_code g)), get_or-map (falsified_code g) list w.0 (negation (literal_at y)) y w.1 ∙ ap (falsified_code g) w.2 ∙ code_is) in
+    subst (λ xs. Contains (map (falsified_code g) xs) y) (sym (take_all n list end)) there
 
-pub watching-settled : (c0 c : Clauses) (values : List (Option Bool)) (list : List NumberedLiteral) (n s : ℕ) → Agree values list → ((l : NumberedLiteral) → has list l ≡ true → has list (negation l) ≡ false) → length list ≤ n → 0 < length (list_at (clauses_of c0) s) → IsWatching c0 c values list n → IsSettled (clause_shape (list_at (clauses_of c0) s)) list
-watching-settled c0 c values list n s a one end some w =
+all-walked : (values : List (Option Bool)) (list : List NumberedLiteral) (h : Heads) (y : ℕ) → Agree values list → length list ≤ h.short → length list ≤ h.long → false_at values y ≡ true → Contains (reached_codes h list) y
+all-walked values list h y a short long failed =
+    let on : has list (negation (literal_at y)) ≡ true = sym (false-listed values list y a) ∙ failed in
+    elim (code-of y) [
+      | inl at ↦ Contains-append_left (map (falsified_code Short) (take h.short list)) (map (falsified_code Long) (take h.long list)) y (code-walked Short list h.short y short on at)
+      | inr at ↦ Contains-append_right (map (falsified_code Short) (take h.short list)) (map (falsified_code Long) (take h.long list)) y (code-walked Long list h.long y long on at)
+    ]
+
+pub watching-settled : (c0 c : Clauses) (values : List (Option Bool)) (list : List NumberedLiteral) (h : Heads) (s : ℕ) → Agree values list → ((l : NumberedLiteral) → has list l ≡ true → has list (negation l) ≡ false) → length list ≤ h.short → length list ≤ h.long → 0 < length (list_at (clauses_of c0) s) → IsWatching c0 c values list h → IsSettled (clause_shape (list_at (clauses_of c0) s)) list
+watching-settled c0 c values list h s a one short long some w =
     let stored : AreStored (clauses_of c0) c.watches.items (lists_of c.lists.items) = subst (λ ls. AreStored (lists_of ls.items) c.watches.items (lists_of c.lists.items)) w.literals w.running.stored in
-    served-settled values list (list_at (clauses_of c0) s) a one (served-by values (clauses_of c0) c.watches.items (lists_of c.lists.items) (walked_codes n list) s stored w.served (λ y h. all-walked values list n y a end h) some)
+    served-settled values list (list_at (clauses_of c0) s) a one (served-by values (clauses_of c0) c.watches.items (lists_of c.lists.items) (reached_codes h list) s stored w.served (λ y failed. all-walked values list h y a short long failed) some)
+
+-- at the end all literals are walked
+pub walked-whole : (values : List (Option Bool)) (ws : List Watch) (list : List NumberedLiteral) (h : Heads) → h.short ≡ length list → h.long ≡ length list → AreWalked values ws (reached_codes h list) → AreWalked values ws (walked_codes (length list) list)
+walked-whole values ws list h short long w = subst (λ n. AreWalked values ws (map (falsified_code Short) (take (length list) list) ++ map (falsified_code Long) (take n list))) long (subst (λ n. AreWalked values ws (map (falsified_code Short) (take n list) ++ map (falsified_code Long) (take h.long list))) short w)

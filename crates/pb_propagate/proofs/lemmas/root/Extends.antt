@@ -8,7 +8,10 @@ use Rattle.pb_normal.specs.declared.numbered.NumberedLiteral.{NumberedLiteral}
 use Rattle.pb_normal.specs.meaning.Rules.{negation}
 use Rattle.pb_propagate.specs.engine.Engine.Lists.{Shape, Weighted, Derives, begin, put, Extends}
 use Rattle.pb_propagate.specs.engine.Engine.Counts.{place, spent}
-use Rattle.pb_propagate.specs.engine.Clauses.Walked.{has, killed, falsified_code, walked_codes}
+use Rattle.pb_propagate.specs.engine.Clauses.Walked.{has, killed, fallen, falsified_code}
+use Rattle.pb_propagate.specs.declared.clause.Group.TheVariants.{Short, Long}
+use Rattle.pb_propagate.specs.declared.heads.Heads.{Heads}
+use Rattle.pb_propagate.proofs.lemmas.clauses.Watching.{reached}
 
 pub extends-none : (a : List NumberedLiteral) → Extends a a
 extends-none a = ([], sym (append-nil a))
@@ -60,9 +63,19 @@ has-prefix (y ∷ ys) b x h = by (y == x) (has ys x) h (has-prefix ys b x)
 pub killed-prefix : (clauses : List (List ℕ)) (a b : List ℕ) → killed clauses a ≤ killed clauses (a ++ b)
 killed-prefix clauses a b = killed-within clauses a (a ++ b) (has-prefix a b)
 
-pub killed-extends : (clauses : List (List ℕ)) (a b : List NumberedLiteral) (n : ℕ) → Extends a b → killed clauses (walked_codes n a) ≤ killed clauses (map falsified_code b)
-killed-extends clauses a b n (r, e) =
-    let codes : map falsified_code b ≡ walked_codes n a ++ map falsified_code (drop n a ++ r) =
-    ap (map falsified_code) (e ∙ ap (λ xs. xs ++ r) (sym (take-append-drop n a)) ∙ append_assoc (take n a) (drop n a) r) ∙ map-append falsified_code (take n a) (drop n a ++ r) in
-    let prefix = killed-prefix clauses (walked_codes n a) (map falsified_code (drop n a ++ r)) in
-    subst (λ xs. killed clauses (walked_codes n a) ≤ killed clauses xs) (sym codes) prefix
+killed-first : (clauses : List (List ℕ)) (f : NumberedLiteral → ℕ) (a b : List NumberedLiteral) (n : ℕ) → Extends a b → killed clauses (map f (take n a)) ≤ killed clauses (map f b)
+killed-first clauses f a b n (r, e) =
+    let codes : map f b ≡ map f (take n a) ++ map f (drop n a ++ r) =
+    ap (map f) (e ∙ ap (λ xs. xs ++ r) (sym (take-append-drop n a)) ∙ append_assoc (take n a) (drop n a) r) ∙ map-append f (take n a) (drop n a ++ r) in
+    let prefix = killed-prefix clauses (map f (take n a)) (map f (drop n a ++ r)) in
+    subst (λ xs. killed clauses (map f (take n a)) ≤ killed clauses xs) (sym codes) prefix
+
+pub reached-extends : (clauses : List (List ℕ)) (a b : List NumberedLiteral) (h : Heads) → Extends a b → reached clauses h a ≤ fallen clauses b
+reached-extends clauses a b h more =
+    omega (arith, killed-first clauses (falsified_code Short) a b h.short more, killed-first clauses (falsified_code Long) a b h.long more)
+
+-- more literals have more codes
+pub killed-longer : (clauses : List (List ℕ)) (f : NumberedLiteral → ℕ) (a b : List NumberedLiteral) → Extends a b → killed clauses (map f a) ≤ killed clauses (map f b)
+killed-longer clauses f a b (r, e) =
+    let codes : map f b ≡ map f a ++ map f r = ap (map f) e ∙ map-append f a r in
+    subst (λ xs. killed clauses (map f a) ≤ killed clauses xs) (sym codes) (killed-prefix clauses (map f a) (map f r))

@@ -1,6 +1,6 @@
 -- A question that continues from the root.
 use Rattle.std.specs.Prelude.{map, sum_by, Option, Bool}
-use Rattle.std.proofs.Common.{◌≡◌, ℕ, ◌+◌, ◌-◌, ◌*◌, ◌^◌, ◌<◌, ◌≤◌, ◌⊎◌, ◌++◌, ◌∷◌, [], List, sym, ◌∙◌, ap, subst, inl, inr, arith, length, length-append, get_or, set, take, drop}
+use Rattle.std.proofs.Common.{◌≡◌, ℕ, ◌+◌, ◌-◌, ◌*◌, ◌^◌, ◌<◌, ◌≤◌, ◌⊎◌, ◌++◌, ◌∷◌, [], List, sym, ◌∙◌, ap, inl, inr, arith, length, length-append, get_or, set, take, drop}
 use Rattle.std.proofs.lemmas.Bool.{cases_eq, cases_lt}
 use Rattle.std.proofs.lemmas.List.{length-map, map-append, get_or_append_left, get_or_push, get_or_past, take-append-drop, length-take, get_or_default, ext_get_or}
 use Rattle.std.proofs.lemmas.List.Elements.{Contains-append_left}
@@ -19,13 +19,14 @@ use Rattle.pb_propagate.specs.engine.Engine.Forms.{IsStoredAs, entry_of}
 use Rattle.pb_propagate.specs.engine.Clauses.Truths.{flip}
 use Rattle.pb_propagate.specs.engine.Clauses.Links.{watch_at}
 use Rattle.pb_propagate.specs.engine.Clauses.Runs.{AreWalked}
-use Rattle.pb_propagate.specs.engine.Clauses.Shapes.{AreJoined, joined}
-use Rattle.pb_propagate.specs.engine.Clauses.Walked.{falsified_code, killed}
-use Rattle.pb_propagate.proofs.lemmas.clauses.Killed.{IsOneSided, killed-both}
+use Rattle.pb_propagate.specs.engine.Clauses.Shapes.{AreJoined, joined, code_in}
+use Rattle.pb_propagate.specs.declared.clause.Group.TheVariants.{Short, Long}
+use Rattle.pb_propagate.specs.engine.Clauses.Walked.{fallen}
+use Rattle.pb_propagate.proofs.lemmas.clauses.Killed.{IsOneSided, risen, killed-both}
 use Rattle.pb_propagate.proofs.lemmas.clauses.Literals.{Agree, true-listed, false-listed}
 use Rattle.pb_propagate.proofs.lemmas.engine.Bounds.{joined-terms}
 use Rattle.pb_propagate.proofs.lemmas.root.Admitted.{slot-counted, slot-tidy}
-use Rattle.pb_propagate.proofs.lemmas.root.Extends.{killed-prefix}
+use Rattle.pb_propagate.proofs.lemmas.root.Extends.{killed-longer}
 use Rattle.pb_propagate.proofs.lemmas.root.Rooted.{owned, derives-without, root-short, both-le}
 
 -- the root is no longer than the forms have terms
@@ -178,13 +179,12 @@ found-after n v r found small = elim (cases_lt v (2 ^ 64 - 1)) [
 
 -- the number of visits
 pub question-most : (store : Store) (clauses : List (List ℕ)) (old new : List NumberedLiteral) (v c0 r w n0 c : ℕ) → IsSound store → AreJoined (shapes_of store.stored.items) clauses → AreSingle new → IsOneSided new → Extends old new → Derives (joined (shapes_of store.stored.items) clauses) [] old → r ≡ length old → w ≤ 1 → c ≤ sum_by (λ f. length f.terms) (shapes_of store.stored.items) →
-    v + c0 ≤ r + (w - n0) + 2 * spent (entries_of (shapes_of store.stored.items) store.occurrences.items) new + c + 2 * killed clauses (map falsified_code new) + sum_by length clauses →
+    v + c0 ≤ r + (w - n0) + 2 * spent (entries_of (shapes_of store.stored.items) store.occurrences.items) new + c + 2 * fallen clauses new + sum_by length clauses →
     v ≤ 3 * sum_by (λ (f : Shape). length f.terms) (joined (shapes_of store.stored.items) clauses) + 1
 question-most store clauses old new v c0 r w n0 c sound j single one (more, e) d is few bounded upper =
     let shapes = shapes_of store.stored.items in
     let lists = entries_of shapes store.occurrences.items in
     let short = root-short shapes (spots_of store.spots.items) lists store.variables clauses old sound d in
     let mine : owned lists old ≤ owned lists new = omega (arith, ap (owned lists) e, sum_by-append (λ l. length (get_or lists (place l) [])) old more) in
-    let codes : map place new ≡ map place old ++ map place more = ap (map place) e ∙ map-append place old more in
-    let theirs : killed clauses (map place old) ≤ killed clauses (map place new) = subst (λ xs. killed clauses (map place old) ≤ killed clauses xs) (sym codes) (killed-prefix clauses (map place old) (map place more)) in
+    let theirs : risen clauses old ≤ risen clauses new = omega (arith, killed-longer clauses (code_in Short) old new (more, e), killed-longer clauses (code_in Long) old new (more, e)) in
     omega (arith, upper, is, few, bounded, short, mine, theirs, both-le lists new single one, killed-both clauses new one, sound.whole.totals, joined-terms shapes clauses j)

@@ -13,16 +13,17 @@ use Rattle.pb_propagate.specs.engine.Engine.Counts.{place, spent, AreSingle, non
 use Rattle.pb_propagate.specs.engine.Engine.Links.{terms_at, entry_cross, term_cross, entry_at, term_at, IsStored}
 use Rattle.pb_propagate.specs.engine.Engine.Root.{IsSpare}
 use Rattle.pb_propagate.specs.engine.Clauses.Links.{list_at}
-use Rattle.pb_propagate.specs.engine.Clauses.Shapes.{one_term, joined}
+use Rattle.pb_propagate.specs.engine.Clauses.Shapes.{one_term, literal_at, code_in, joined}
+use Rattle.pb_propagate.specs.declared.clause.Group.TheVariants.{Short, Long}
 use Rattle.pb_propagate.proofs.lemmas.engine.Literals.{same-refl, negation-negation, has-push_old, has-push_new}
 use Rattle.pb_propagate.proofs.lemmas.engine.Derivations.{one_itself}
 use Rattle.pb_propagate.proofs.lemmas.store.Crosses.{to, to-none}
 use Rattle.pb_propagate.proofs.lemmas.root.Cuts.{absent-before}
 use Rattle.pb_propagate.proofs.lemmas.engine.Spent.{place-injective}
-use Rattle.pb_propagate.proofs.lemmas.clauses.Literals.{place-code}
-use Rattle.pb_propagate.proofs.lemmas.clauses.Counts.{killed, occurs}
+use Rattle.pb_propagate.proofs.lemmas.clauses.Literals.{code-of}
+use Rattle.pb_propagate.proofs.lemmas.clauses.Counts.{occurs}
 use Rattle.pb_propagate.proofs.lemmas.clauses.Shapes.{joined-source}
-use Rattle.pb_propagate.proofs.lemmas.clauses.Killed.{IsOneSided, killed-push, occurs-some}
+use Rattle.pb_propagate.proofs.lemmas.clauses.Killed.{IsOneSided, risen, risen-push, occurs-some}
 
 -- no literal of the form is on the list
 abbrev pub IsUnused : Shape → List NumberedLiteral → Type 0
@@ -99,17 +100,24 @@ stored-listed forms spots lists variables f l c stored (s, inside, is) (i, withi
     omega (arith, entry-inside lists (place l) q s i c ((stored.whole.crossed s i (place l) q c).0 named))
 
 -- a literal of a clause occurs
-pub clause-occurs : (clauses : List (List ℕ)) (s : ℕ) (l : NumberedLiteral) (c : ℕ) → 0 < length (list_at clauses s) → Contains (map one_term (list_at clauses s)) (record { literal = l; coefficient = c }) → 1 ≤ occurs clauses (place l)
+pub clause-occurs : (clauses : List (List ℕ)) (s : ℕ) (l : NumberedLiteral) (c : ℕ) → 0 < length (list_at clauses s) → Contains (map one_term (list_at clauses s)) (record { literal = l; coefficient = c }) → 1 ≤ occurs clauses (code_in Short l) + occurs clauses (code_in Long l)
 clause-occurs clauses s l c some (k, within, at) =
     let codes = list_at clauses s in
     let inside : k < length codes = omega (arith, within, length-map codes one_term) in
     let t : Term = record { literal = l; coefficient = c } in
     let one : one_term (get_or codes k 0) ≡ t = sym (get_or-map one_term codes k 0 t inside) ∙ at in
-    let code_is : get_or codes k 0 ≡ place l = sym (place-code (get_or codes k 0)) ∙ ap (λ (x : Term). place x.literal) one in
-    occurs-some clauses s (place l) some (k, inside, get_or_default codes k (place l) 0 inside ∙ code_is)
+    let mine : literal_at (get_or codes k 0) ≡ l = ap (λ (x : Term). x.literal) one in
+    elim (code-of (get_or codes k 0)) [
+      | inl is ↦
+          let there : get_or codes k 0 ≡ code_in Short l = sym is ∙ ap (code_in Short) mine in
+          omega (arith, occurs-some clauses s (code_in Short l) some (k, inside, get_or_default codes k (code_in Short l) 0 inside ∙ there))
+      | inr is ↦
+          let there : get_or codes k 0 ≡ code_in Long l = sym is ∙ ap (code_in Long) mine in
+          omega (arith, occurs-some clauses s (code_in Long l) some (k, inside, get_or_default codes k (code_in Long l) 0 inside ∙ there))
+    ]
 
 -- a literal that was put has an entry, or occurs in a clause
-pub puts-owned : (forms : List Shape) (spots : List (List ℕ)) (lists : List (List Weighted)) (variables : ℕ) (clauses : List (List ℕ)) (list : List NumberedLiteral) (l : NumberedLiteral) → IsStored forms spots lists variables → Puts (joined forms clauses) list l → 1 ≤ length (get_or lists (place l) []) + occurs clauses (place l)
+pub puts-owned : (forms : List Shape) (spots : List (List ℕ)) (lists : List (List Weighted)) (variables : ℕ) (clauses : List (List ℕ)) (list : List NumberedLiteral) (l : NumberedLiteral) → IsStored forms spots lists variables → Puts (joined forms clauses) list l → 1 ≤ length (get_or lists (place l) []) + (occurs clauses (code_in Short l) + occurs clauses (code_in Long l))
 puts-owned forms spots lists variables clauses list l stored m = elim (joined-source forms clauses m.form m.among) [
   | inl among ↦ omega (arith, stored-listed forms spots lists variables m.form l m.coefficient stored among m.term)
   | inr clause ↦
@@ -118,13 +126,13 @@ puts-owned forms spots lists variables clauses list l stored m = elim (joined-so
 ]
 
 -- there are no more literals than entries and occurrences
-pub root-short : (forms : List Shape) (spots : List (List ℕ)) (lists : List (List Weighted)) (variables : ℕ) (clauses : List (List ℕ)) (list : List NumberedLiteral) → IsStored forms spots lists variables → Derives (joined forms clauses) [] list → length list ≤ owned lists list + killed clauses (map place list)
+pub root-short : (forms : List Shape) (spots : List (List ℕ)) (lists : List (List Weighted)) (variables : ℕ) (clauses : List (List ℕ)) (list : List NumberedLiteral) → IsStored forms spots lists variables → Derives (joined forms clauses) [] list → length list ≤ owned lists list + risen clauses list
 root-short forms spots lists variables clauses _ stored begin = omega arith
 root-short forms spots lists variables clauses _ stored (put {list} l d m) =
     let rest = root-short forms spots lists variables clauses list stored d in
     let here = puts-owned forms spots lists variables clauses list l stored m in
     let entries = sum_by_push (λ k. length (get_or lists (place k) [])) list l in
-    let killings = killed-push clauses list l m.absent in
+    let killings = risen-push clauses list l m.absent in
     omega (arith, rest, here, entries, killings, length-append list (l ∷ []))
 
 -- the lists of a list's literals and of their negations are different lists

@@ -27,7 +27,7 @@ use Rattle.pb_propagate.specs.engine.Engine.Lists.{Shape}
 use Rattle.pb_propagate.specs.engine.Engine.Fields.{IsUnlisted}
 use Rattle.pb_propagate.specs.engine.Engine.Terms.{terms_of}
 use Rattle.pb_propagate.specs.engine.Clauses.Runs.{AreReady}
-use Rattle.pb_propagate.specs.engine.Clauses.Shapes.{code, joined, clauses_of, clause_shape, IsClause}
+use Rattle.pb_propagate.specs.engine.Clauses.Shapes.{code, group_by, codes_of_terms, joined, clauses_of, clause_shape, IsClause}
 use Rattle.pb_normal.specs.meaning.Form.{IsNormal}
 use Rattle.pb_propagate.proofs.lemmas.clauses.Linked.{lists-length}
 use Rattle.pb_propagate.proofs.lemmas.clauses.Slots.{IsVacant, slots-vacant, joined-widen, AreJoined-widen, joined-set, AreJoined-set, joined-clause, AreJoined-clause, joined-cleared, AreJoined-cleared, clause-kept, rising-different}
@@ -117,7 +117,7 @@ rest-widened store store' run run' waiting waiting' clauses clauses' forms k sou
       slots = rw (keeps, map-append stored_shape keep (k ∷ []), literals, joined-widen (shapes_of keep) (clauses_of clauses) (stored_shape k) sizes) (slots-more forms (joined (shapes_of keep) (clauses_of clauses)) None (stored_shape k) r.slots (e.terms, e.degree));
       joined = rw (keeps, map-append stored_shape keep (k ∷ []), literals) (AreJoined-widen (shapes_of keep) (clauses_of clauses) (stored_shape k) r.joined);
       ready = ready;
-      widths = ap (λ (v : Vec (Vec ℕ Global) Global). length v.items) lists ∙ r.widths ∙ ap (λ n. 2 * n) (sym variables);
+      widths = ap (λ (v : Vec (Vec ℕ Global) Global). length v.items) lists ∙ r.widths ∙ ap (λ n. 4 * n) (sym variables);
       known = omega (arith, ap length literals, length-append (clauses_of clauses) ([] ∷ []), lists-length clauses.literals.items, lists-length clauses'.literals.items, r.known, ap length keeps, length-append keep (k ∷ []));
       rest = record {
         opened = opens ∙ ap (λ (xs : List ℕ). xs ++ (0 ∷ [])) r.rest.opened ∙ ap (λ n. map (λ (z : StoredForm). z.total) keep ++ (n ∷ [])) (sym e.total) ∙ sym (ap (map (λ z. z.total)) keeps ∙ map-append (λ (z : StoredForm). z.total) keep (k ∷ []));
@@ -197,7 +197,7 @@ rest-filled store store' run run' waiting waiting' clauses forms f s sound none 
       slots = rw (h.keeps, map-set stored_shape keep s k, joined-set (shapes_of keep) (clauses_of clauses) s (stored_shape k) vacant.clause) (slots-set forms (joined (shapes_of keep) (clauses_of clauses)) s (Some f) (stored_shape k) h.is r.slots);
       joined = rw (h.keeps, map-set stored_shape keep s k) (AreJoined-set (shapes_of keep) (clauses_of clauses) s (stored_shape k) vacant.clause r.joined);
       ready = r.ready;
-      widths = r.widths ∙ ap (λ n. 2 * n) (sym variables);
+      widths = r.widths ∙ ap (λ n. 4 * n) (sym variables);
       known = omega (arith, r.known, ap length h.keeps, length-set keep s k);
       rest = record {
         opened = h.opened ∙ ap (λ (xs : List ℕ). set xs s k.total) r.rest.opened ∙ sym (ap (map (λ z. z.total)) h.keeps ∙ map-set (λ (z : StoredForm). z.total) keep s k);
@@ -288,16 +288,16 @@ nothing-total : (k : StoredForm) → terms_of k.terms ≡ [] → k.total ≡ 0
 nothing-total k h = k.sum ∙ ap (sum_by (λ t. t.coefficient)) h
 
 pub rest-watched : (store store' : Store) (run : Run) (waiting : Eager) (clauses clauses' : Clauses) (forms : List (Option Form)) (f : Form) (k : StoredForm) (s : ℕ) → slice_get forms s ≡ Some None → IsUnlisted k → store'.stored.items ≡ set store.stored.items s k →
-    store'.spots ≡ store.spots → store'.occurrences ≡ store.occurrences → store'.variables ≡ store.variables → IsNormal f → IsClause f → AreReady clauses' → clauses_of clauses' ≡ set (clauses_of clauses) s (map code f.terms) → length clauses'.lists.items ≡ length clauses.lists.items →
+    store'.spots ≡ store.spots → store'.occurrences ≡ store.occurrences → store'.variables ≡ store.variables → IsNormal f → IsClause f → AreReady clauses' → clauses_of clauses' ≡ set (clauses_of clauses) s (codes_of_terms f.terms) → length clauses'.lists.items ≡ length clauses.lists.items →
     IsAtRest store run waiting clauses forms → IsAtRest store' run waiting clauses' (set forms s (Some f))
 rest-watched store store' run waiting clauses clauses' forms f k s none e keeps spots occ variables normal clause ready literals lists r =
     let keep = store.stored.items in
-    let codes = map code f.terms in
+    let codes = codes_of_terms f.terms in
     let vacant = slots-vacant forms (shapes_of keep) (clauses_of clauses) s r.slots none in
     let bare = vacant-bare keep (clauses_of clauses) s vacant in
     let same = shapes-watched keep store'.stored.items k (clauses_of clauses) s vacant e keeps in
     let room : s < length (clauses_of clauses) = omega (arith, bare.inside, r.known, lists-length clauses.literals.items) in
-    let some : 0 < length codes = omega (arith, clause.two, length-map f.terms code) in
+    let some : 0 < length codes = omega (arith, clause.two, length-map f.terms (code (group_by (length f.terms)))) in
     let x = exact-quit keep k waiting.list.items waiting.list.items waiting.seats.items s bare.inside e.eager waiting.seated (λ w. absurd (both_ways _ bare.idle w)) (λ w. refl) (record { eager = r.eager; exact = r.exact; few = r.few }) in
     let y : IsExact store'.stored.items waiting.list.items = rw keeps x in
     let was = element keep s bare.inside in
@@ -306,7 +306,7 @@ rest-watched store store' run waiting clauses clauses' forms f k s none e keeps 
     record {
       sound = rw (same, spots, occ, variables) r.sound;
       slots = rw (same, literals, joined-clause (shapes_of keep) (clauses_of clauses) s codes room some) (slots-set forms (joined (shapes_of keep) (clauses_of clauses)) s (Some f) (clause_shape codes) (clause-kept f normal clause) r.slots);
-      joined = rw (same, literals) (AreJoined-clause (shapes_of keep) (clauses_of clauses) s codes room (λ d. (vacant.terms d, vacant.degree d)) (rising-different 0 f.terms normal.ordered) r.joined);
+      joined = rw (same, literals) (AreJoined-clause (shapes_of keep) (clauses_of clauses) s codes room (λ d. (vacant.terms d, vacant.degree d)) (rising-different (group_by (length f.terms)) 0 f.terms normal.ordered) r.joined);
       ready = ready;
       widths = omega (arith, lists, r.widths, variables);
       known = omega (arith, ap length literals, length-set (clauses_of clauses) s codes, lists-length clauses.literals.items, lists-length clauses'.literals.items, r.known, ap length keeps, length-set keep s k);

@@ -1,8 +1,8 @@
 use Rattle.std.specs.Prelude.{filter, sum, sum_by}
-use Rattle.std.proofs.Common.{◌≡◌, ◌+◌, ◌*◌, ◌<◌, ◌≤◌, ◌++◌, ◌∷◌, [], ℕ, List, Vec, Global, length, drop, get_or, refl, sym, ap, subst, inl, inr, ◌∙◌, arith}
+use Rattle.std.proofs.Common.{◌+◌, ◌*◌, ◌<◌, ◌≤◌, ◌++◌, ◌∷◌, [], ℕ, List, Vec, Global, length, drop, get_or, refl, sym, ap, subst, inl, inr, ◌∙◌, arith}
 use Rattle.std.proofs.lemmas.List.{length-map, get_or_default, take_rest, drop_all}
 use Rattle.pb_propagate.specs.engine.Engine.Lists.{Derives, Conflicts, IsSettled}
-use Rattle.pb_propagate.specs.engine.Engine.Counts.{place, beside, spent}
+use Rattle.pb_propagate.specs.engine.Engine.Counts.{beside, spent}
 use Rattle.pb_propagate.specs.engine.Engine.Fields.{shapes_of, entries_of, stored_shape}
 use Rattle.pb_propagate.specs.engine.Engine.Rest.{waits}
 use Rattle.pb_propagate.specs.engine.Clauses.Truths.{false_at}
@@ -11,13 +11,15 @@ use Rattle.pb_propagate.specs.engine.Clauses.Runs.{AreServed, AreWalked}
 use Rattle.pb_propagate.specs.engine.Clauses.Shapes.{all_of, clauses_of, joined}
 use Rattle.pb_propagate.proofs.lemmas.engine.Derivations.{derivation-then, derivation-keeps}
 use Rattle.pb_propagate.proofs.lemmas.engine.Propagated.{Propagating-start, Propagating-visit, Propagating-next, Propagating-walk, Propagating-bound, Propagating-choose, Propagating-settled, Propagating-upper}
-use Rattle.pb_propagate.proofs.lemmas.root.Extends.{extends-none, extends-then, derives-extends, spent-extends, killed-extends}
-use Rattle.pb_propagate.specs.engine.Clauses.Walked.{killed, walked_codes}
+use Rattle.pb_propagate.proofs.lemmas.root.Extends.{extends-none, extends-then, derives-extends, spent-extends, reached-extends}
+use Rattle.pb_propagate.specs.engine.Clauses.Walked.{IsAhead, head, advanced}
+use Rattle.pb_propagate.specs.declared.heads.Heads.{Heads}
+use Rattle.pb_normal.specs.declared.numbered.NumberedLiteral.{NumberedLiteral}
 use Rattle.pb_propagate.proofs.lemmas.engine.Spent.{sum-bounded, derivation-single}
 use Rattle.pb_propagate.proofs.lemmas.engine.Values.{opposite}
 use Rattle.pb_propagate.proofs.lemmas.clauses.Shapes.{derives-joined, conflicts-joined, joined-source}
 use Rattle.pb_propagate.proofs.lemmas.clauses.Walks.{grows-refl, grows-trans, grows-listed, running-grow}
-use Rattle.pb_propagate.proofs.lemmas.clauses.Watching.{falsified_code, cost, next-of, watching-start, watching-grow, watching-next, watching-settled, derived-take, cost-grow, cost-next, cost-broken, cost-most}
+use Rattle.pb_propagate.proofs.lemmas.clauses.Watching.{IsWatching, cost, reached, next-of, listed-small, ahead-room, advanced-sum, walked-whole, watching-start, watching-grow, watching-next, watching-settled, derived-take, cost-grow, cost-next, cost-broken, cost-most}
 use Rattle.pb_propagate.proofs.run.propagate.Goals as goal
 
 pub work-init : goal.work-init
@@ -30,21 +32,21 @@ work-init c =
       kept = λ base codes more old. old;
       taken = omega arith;
       watching = watching-start c.args.clauses.now run.assignment.values.items run.assignment.list.items c.args.from c.requires.ready (omega (arith, c.requires.widths, c.requires.values)) c.requires.from c.requires.walked;
-      state = Propagating-start c.args.rests.now (waits store.stored.items) c.args.waiting.now (shapes_of store.stored.items) (all_of store c.args.clauses.now) (entries_of (shapes_of store.stored.items) store.occurrences.items) (length store.stored.items) run.opens.items run.candidates.items run.assignment.list.items run.work.items run.trail.items run.next run.visits (cost c.args.clauses.now c.args.clauses.now c.args.from run.assignment.list.items) c.requires.counted c.requires.tidy c.requires.opens c.requires.candidates c.requires.next;
+      state = Propagating-start c.args.rests.now (waits store.stored.items) c.args.waiting.now (shapes_of store.stored.items) (all_of store c.args.clauses.now) (entries_of (shapes_of store.stored.items) store.occurrences.items) (length store.stored.items) run.opens.items run.candidates.items run.assignment.list.items run.work.items run.trail.items run.next run.visits (cost c.args.clauses.now c.args.clauses.now (record { short = c.args.from; long = c.args.from }) run.assignment.list.items) c.requires.counted c.requires.tidy c.requires.opens c.requires.candidates c.requires.next;
     }
 
-pub place_of-requires : goal.place_of-requires
-place_of-requires c =
-    let store = c.args.store.now in
-    let start = c.args.run.now in
+pub next_walk-requires : goal.next_walk-requires
+next_walk-requires c =
     let run = c.work.run in
-    let state = c.work.invariant.state in
     let w = c.work.invariant.watching in
-    let l = c.index-literal.result.now in
-    let inside : c.work.walked < length run.assignment.list.items = omega (arith, c.if-walked-len.true, c.len-else-run-len.ensures, run.assignment.list.ok.0) in
-    let next = next-of run.assignment.values.items run.assignment.list.items c.work.walked l run.assignment.agrees inside c.index-literal.ensures in
-    let small : place c.negation.result < 2 * length run.assignment.values.items = rw c.negation.ensures next.small in
-    record { fits = omega (arith, small, w.running.sizes, c.work.clauses.lists.ok.0, c.work.clauses.lists.ok.1) }
+    let room = c.work.clauses.lists in
+    record {
+      fits = λ k d less.
+          let inside : k < length run.assignment.list.items = omega (arith, less, ap length c.as_slice.ensures.value) in
+          let small = listed-small run.assignment.values.items run.assignment.list.items k d run.assignment.agrees inside in
+          let here = ap (λ (xs : List NumberedLiteral). get_or xs k d) c.as_slice.ensures.value in
+          omega (arith, small, ap (λ (l : NumberedLiteral). l.variable) here, w.running.sizes, room.ok.0, room.ok.1);
+    }
 
 pub walk-requires-clause-failed : goal.walk-requires-clause-failed
 walk-requires-clause-failed c =
@@ -53,11 +55,9 @@ walk-requires-clause-failed c =
     let run = c.work.run in
     let state = c.work.invariant.state in
     let w = c.work.invariant.watching in
-    let l = c.index-literal.result.now in
-    let inside : c.work.walked < length run.assignment.list.items = omega (arith, c.if-walked-len.true, c.len-else-run-len.ensures, run.assignment.list.ok.0) in
-    let read : c.place_of.result ≡ falsified_code l = c.place_of.ensures.place ∙ ap place c.negation.ensures in
-    let next = next-of run.assignment.values.items run.assignment.list.items c.work.walked l run.assignment.agrees inside c.index-literal.ensures in
-    ap (false_at run.assignment.values.items) read ∙ next.failed
+    let a = subst (λ xs. IsAhead c.work.heads xs c.in-Some.ahead) c.as_slice.ensures.value c.in-Some.ensures.some in
+    let next = next-of run.assignment.values.items run.assignment.list.items a.group (head a.group c.work.heads) a.literal run.assignment.agrees a.inside a.is in
+    ap (false_at run.assignment.values.items) a.code ∙ next.failed
 
 pub walk-requires-clause-literal : goal.walk-requires-clause-literal
 walk-requires-clause-literal c =
@@ -66,11 +66,9 @@ walk-requires-clause-literal c =
     let run = c.work.run in
     let state = c.work.invariant.state in
     let w = c.work.invariant.watching in
-    let l = c.index-literal.result.now in
-    let inside : c.work.walked < length run.assignment.list.items = omega (arith, c.if-walked-len.true, c.len-else-run-len.ensures, run.assignment.list.ok.0) in
-    let read : c.place_of.result ≡ falsified_code l = c.place_of.ensures.place ∙ ap place c.negation.ensures in
-    let next = next-of run.assignment.values.items run.assignment.list.items c.work.walked l run.assignment.agrees inside c.index-literal.ensures in
-    omega (arith, read, next.small, w.running.sizes)
+    let a = subst (λ xs. IsAhead c.work.heads xs c.in-Some.ahead) c.as_slice.ensures.value c.in-Some.ensures.some in
+    let next = next-of run.assignment.values.items run.assignment.list.items a.group (head a.group c.work.heads) a.literal run.assignment.agrees a.inside a.is in
+    omega (arith, a.code, next.small, w.running.sizes)
 
 pub returns-in_err-walk-clause-bounded : goal.returns-in_err-walk-clause-bounded
 returns-in_err-walk-clause-bounded c =
@@ -99,18 +97,16 @@ returns-in_err-walk-clause-upper c =
     let run = c.work.run in
     let state = c.work.invariant.state in
     let w = c.work.invariant.watching in
-    let l = c.index-literal.result.now in
-    let inside : c.work.walked < length run.assignment.list.items = omega (arith, c.if-walked-len.true, c.len-else-run-len.ensures, run.assignment.list.ok.0) in
-    let read : c.place_of.result ≡ falsified_code l = c.place_of.ensures.place ∙ ap place c.negation.ensures in
-    let next = next-of run.assignment.values.items run.assignment.list.items c.work.walked l run.assignment.agrees inside c.index-literal.ensures in
+    let a = subst (λ xs. IsAhead c.work.heads xs c.in-Some.ahead) c.as_slice.ensures.value c.in-Some.ensures.some in
+    let next = next-of run.assignment.values.items run.assignment.list.items a.group (head a.group c.work.heads) a.literal run.assignment.agrees a.inside a.is in
     let done = c.walk.new.run in
     let single = derivation-single (all_of store c.args.clauses.now) start.assignment.list.items run.assignment.list.items c.requires.single state.derived in
     let lists = entries_of (shapes_of store.stored.items) store.occurrences.items in
-    let covered = subst (λ t. done.visits + sum c.work.clauses.passed.items + spent (entries_of (shapes_of c.args.store.now.stored.items) c.args.store.now.occurrences.items) c.work.run.assignment.list.items ≤ c.work.run.visits + 2 * length (list_at (lists_of c.work.clauses.lists.items) t) + sum c.walk.new.clauses.passed.items + spent (entries_of (shapes_of c.args.store.now.stored.items) c.args.store.now.occurrences.items) c.walk.new.run.assignment.list.items) read c.walk.ensures.covered in
+    let covered = subst (λ t. done.visits + sum c.work.clauses.passed.items + spent (entries_of (shapes_of c.args.store.now.stored.items) c.args.store.now.occurrences.items) c.work.run.assignment.list.items ≤ c.work.run.visits + 2 * length (list_at (lists_of c.work.clauses.lists.items) t) + sum c.walk.new.clauses.passed.items + spent (entries_of (shapes_of c.args.store.now.stored.items) c.args.store.now.occurrences.items) c.walk.new.run.assignment.list.items) a.code c.walk.ensures.covered in
     let same = ap (λ (v : Vec ℕ Global). sum v.items) c.walk.ensures.candidates in
-    let broken = cost-broken c.args.clauses.now c.work.clauses c.walk.new.clauses run.assignment.values.items run.assignment.list.items c.work.walked run.visits done.visits (spent lists run.assignment.list.items) (spent lists done.assignment.list.items) l single inside c.index-literal.ensures c.walk.ensures.bounded covered w in
-    let upper = Propagating-upper c.args.rests.now (waits store.stored.items) c.args.waiting.now (shapes_of store.stored.items) (all_of store c.args.clauses.now) (entries_of (shapes_of store.stored.items) store.occurrences.items) (length store.stored.items) start.assignment.list.items start.candidates.items start.work.items start.next start.visits (cost c.args.clauses.now c.work.clauses c.work.walked run.assignment.list.items) c.work.taken run.opens.items run.candidates.items run.assignment.list.items run.work.items run.trail.items run.next run.visits done.assignment.list.items done.candidates.items done.visits (2 * killed (clauses_of c.args.clauses.now) (walked_codes (c.work.walked + 1) run.assignment.list.items) + sum_by length (clauses_of c.args.clauses.now)) 0 (spent-extends (entries_of (shapes_of store.stored.items) store.occurrences.items) run.assignment.list.items done.assignment.list.items c.walk.ensures.extends) c.requires.next state (omega (arith, state.within)) (omega (arith, broken, same)) in
-    omega (arith, upper, killed-extends (clauses_of c.args.clauses.now) run.assignment.list.items done.assignment.list.items (c.work.walked + 1) c.walk.ensures.extends)
+    let broken = cost-broken c.args.clauses.now c.work.clauses c.walk.new.clauses run.assignment.values.items run.assignment.list.items a.group c.work.heads run.visits done.visits (spent lists run.assignment.list.items) (spent lists done.assignment.list.items) a.literal single a.inside a.is c.walk.ensures.bounded covered w in
+    let upper = Propagating-upper c.args.rests.now (waits store.stored.items) c.args.waiting.now (shapes_of store.stored.items) (all_of store c.args.clauses.now) (entries_of (shapes_of store.stored.items) store.occurrences.items) (length store.stored.items) start.assignment.list.items start.candidates.items start.work.items start.next start.visits (cost c.args.clauses.now c.work.clauses c.work.heads run.assignment.list.items) c.work.taken run.opens.items run.candidates.items run.assignment.list.items run.work.items run.trail.items run.next run.visits done.assignment.list.items done.candidates.items done.visits (2 * reached (clauses_of c.args.clauses.now) (advanced a.group c.work.heads) run.assignment.list.items + sum_by length (clauses_of c.args.clauses.now)) 0 (spent-extends (entries_of (shapes_of store.stored.items) store.occurrences.items) run.assignment.list.items done.assignment.list.items c.walk.ensures.extends) c.requires.next state (omega (arith, state.within)) (omega (arith, broken, same)) in
+    omega (arith, upper, reached-extends (clauses_of c.args.clauses.now) run.assignment.list.items done.assignment.list.items (advanced a.group c.work.heads) c.walk.ensures.extends)
 
 pub returns-then-branch-2-clause-upper : goal.returns-then-branch-2-clause-upper
 returns-then-branch-2-clause-upper c =
@@ -119,18 +115,16 @@ returns-then-branch-2-clause-upper c =
     let run = c.work.run in
     let state = c.work.invariant.state in
     let w = c.work.invariant.watching in
-    let l = c.index-literal.result.now in
-    let inside : c.work.walked < length run.assignment.list.items = omega (arith, c.if-walked-len.true, c.len-else-run-len.ensures, run.assignment.list.ok.0) in
-    let read : c.place_of.result ≡ falsified_code l = c.place_of.ensures.place ∙ ap place c.negation.ensures in
-    let next = next-of run.assignment.values.items run.assignment.list.items c.work.walked l run.assignment.agrees inside c.index-literal.ensures in
+    let a = subst (λ xs. IsAhead c.work.heads xs c.in-Some.ahead) c.as_slice.ensures.value c.in-Some.ensures.some in
+    let next = next-of run.assignment.values.items run.assignment.list.items a.group (head a.group c.work.heads) a.literal run.assignment.agrees a.inside a.is in
     let done = c.walk.new.run in
     let single = derivation-single (all_of store c.args.clauses.now) start.assignment.list.items run.assignment.list.items c.requires.single state.derived in
     let lists = entries_of (shapes_of store.stored.items) store.occurrences.items in
-    let covered = subst (λ t. done.visits + sum c.work.clauses.passed.items + spent (entries_of (shapes_of c.args.store.now.stored.items) c.args.store.now.occurrences.items) c.work.run.assignment.list.items ≤ c.work.run.visits + 2 * length (list_at (lists_of c.work.clauses.lists.items) t) + sum c.walk.new.clauses.passed.items + spent (entries_of (shapes_of c.args.store.now.stored.items) c.args.store.now.occurrences.items) c.walk.new.run.assignment.list.items) read c.walk.ensures.covered in
+    let covered = subst (λ t. done.visits + sum c.work.clauses.passed.items + spent (entries_of (shapes_of c.args.store.now.stored.items) c.args.store.now.occurrences.items) c.work.run.assignment.list.items ≤ c.work.run.visits + 2 * length (list_at (lists_of c.work.clauses.lists.items) t) + sum c.walk.new.clauses.passed.items + spent (entries_of (shapes_of c.args.store.now.stored.items) c.args.store.now.occurrences.items) c.walk.new.run.assignment.list.items) a.code c.walk.ensures.covered in
     let same = ap (λ (v : Vec ℕ Global). sum v.items) c.walk.ensures.candidates in
-    let broken = cost-broken c.args.clauses.now c.work.clauses c.walk.new.clauses run.assignment.values.items run.assignment.list.items c.work.walked run.visits done.visits (spent lists run.assignment.list.items) (spent lists done.assignment.list.items) l single inside c.index-literal.ensures c.walk.ensures.bounded covered w in
-    let upper = Propagating-upper c.args.rests.now (waits store.stored.items) c.args.waiting.now (shapes_of store.stored.items) (all_of store c.args.clauses.now) (entries_of (shapes_of store.stored.items) store.occurrences.items) (length store.stored.items) start.assignment.list.items start.candidates.items start.work.items start.next start.visits (cost c.args.clauses.now c.work.clauses c.work.walked run.assignment.list.items) c.work.taken run.opens.items run.candidates.items run.assignment.list.items run.work.items run.trail.items run.next run.visits done.assignment.list.items done.candidates.items done.visits (2 * killed (clauses_of c.args.clauses.now) (walked_codes (c.work.walked + 1) run.assignment.list.items) + sum_by length (clauses_of c.args.clauses.now)) 0 (spent-extends (entries_of (shapes_of store.stored.items) store.occurrences.items) run.assignment.list.items done.assignment.list.items c.walk.ensures.extends) c.requires.next state (omega (arith, state.within)) (omega (arith, broken, same)) in
-    omega (arith, upper, killed-extends (clauses_of c.args.clauses.now) run.assignment.list.items done.assignment.list.items (c.work.walked + 1) c.walk.ensures.extends)
+    let broken = cost-broken c.args.clauses.now c.work.clauses c.walk.new.clauses run.assignment.values.items run.assignment.list.items a.group c.work.heads run.visits done.visits (spent lists run.assignment.list.items) (spent lists done.assignment.list.items) a.literal single a.inside a.is c.walk.ensures.bounded covered w in
+    let upper = Propagating-upper c.args.rests.now (waits store.stored.items) c.args.waiting.now (shapes_of store.stored.items) (all_of store c.args.clauses.now) (entries_of (shapes_of store.stored.items) store.occurrences.items) (length store.stored.items) start.assignment.list.items start.candidates.items start.work.items start.next start.visits (cost c.args.clauses.now c.work.clauses c.work.heads run.assignment.list.items) c.work.taken run.opens.items run.candidates.items run.assignment.list.items run.work.items run.trail.items run.next run.visits done.assignment.list.items done.candidates.items done.visits (2 * reached (clauses_of c.args.clauses.now) (advanced a.group c.work.heads) run.assignment.list.items + sum_by length (clauses_of c.args.clauses.now)) 0 (spent-extends (entries_of (shapes_of store.stored.items) store.occurrences.items) run.assignment.list.items done.assignment.list.items c.walk.ensures.extends) c.requires.next state (omega (arith, state.within)) (omega (arith, broken, same)) in
+    omega (arith, upper, reached-extends (clauses_of c.args.clauses.now) run.assignment.list.items done.assignment.list.items (advanced a.group c.work.heads) c.walk.ensures.extends)
 
 pub returns-then-branch-2-clause-derived : goal.returns-then-branch-2-clause-derived
 returns-then-branch-2-clause-derived c =
@@ -161,48 +155,47 @@ returns-then-branch-2-clause-conflict c =
     let w = c.work.invariant.watching in
     λ found. subst (λ ls. Conflicts (joined (shapes_of c.args.store.now.stored.items) (lists_of ls.items)) c.walk.new.run.assignment.list.items) w.literals (c.in_ok-walk.ensures.conflict c.if-branch-2.true)
 
-pub work-smaller-then-walked-len : goal.work-smaller-then-walked-len
-work-smaller-then-walked-len c =
+pub work-smaller-in-Some : goal.work-smaller-in-Some
+work-smaller-in-Some c =
     let store = c.args.store.now in
     let start = c.args.run.now in
     let run = c.work.run in
     let state = c.work.invariant.state in
     let w = c.work.invariant.watching in
-    let l = c.index-literal.result.now in
-    let inside : c.work.walked < length run.assignment.list.items = omega (arith, c.if-walked-len.true, c.len-else-run-len.ensures, run.assignment.list.ok.0) in
-    let read : c.place_of.result ≡ falsified_code l = c.place_of.ensures.place ∙ ap place c.negation.ensures in
-    let next = next-of run.assignment.values.items run.assignment.list.items c.work.walked l run.assignment.agrees inside c.index-literal.ensures in
-    let bound = Propagating-bound c.args.rests.now (waits store.stored.items) c.args.waiting.now (shapes_of store.stored.items) (all_of store c.args.clauses.now) (entries_of (shapes_of store.stored.items) store.occurrences.items) (length store.stored.items) start.assignment.list.items start.candidates.items start.work.items start.next start.visits (cost c.args.clauses.now c.work.clauses c.work.walked run.assignment.list.items) c.work.taken run.opens.items run.candidates.items run.assignment.list.items run.work.items run.trail.items run.next run.visits c.requires.single state in
-    omega (arith, bound, c.in_ok-walk.ensures.next, state.within, inside, c.work.invariant.taken, c.work.invariant.values, run.assignment.room)
+    let a = subst (λ xs. IsAhead c.work.heads xs c.in-Some.ahead) c.as_slice.ensures.value c.in-Some.ensures.some in
+    let next = next-of run.assignment.values.items run.assignment.list.items a.group (head a.group c.work.heads) a.literal run.assignment.agrees a.inside a.is in
+    let bound = Propagating-bound c.args.rests.now (waits store.stored.items) c.args.waiting.now (shapes_of store.stored.items) (all_of store c.args.clauses.now) (entries_of (shapes_of store.stored.items) store.occurrences.items) (length store.stored.items) start.assignment.list.items start.candidates.items start.work.items start.next start.visits (cost c.args.clauses.now c.work.clauses c.work.heads run.assignment.list.items) c.work.taken run.opens.items run.candidates.items run.assignment.list.items run.work.items run.trail.items run.next run.visits c.requires.single state in
+    let sum = ap (λ (h : Heads). h.short + h.long) a.after ∙ advanced-sum a.group c.work.heads in
+    omega (arith, bound, c.in_ok-walk.ensures.next, state.within, sum, w.short, w.long, ahead-room a.group c.work.heads (length run.assignment.list.items) a.inside w.short w.long, c.work.invariant.taken, c.work.invariant.values, run.assignment.room)
 
-pub work-preserved-then-walked-len : goal.work-preserved-then-walked-len
-work-preserved-then-walked-len c =
+pub work-preserved-in-Some : goal.work-preserved-in-Some
+work-preserved-in-Some c =
     let store = c.args.store.now in
     let start = c.args.run.now in
     let run = c.work.run in
     let state = c.work.invariant.state in
     let w = c.work.invariant.watching in
-    let l = c.index-literal.result.now in
-    let inside : c.work.walked < length run.assignment.list.items = omega (arith, c.if-walked-len.true, c.len-else-run-len.ensures, run.assignment.list.ok.0) in
-    let read : c.place_of.result ≡ falsified_code l = c.place_of.ensures.place ∙ ap place c.negation.ensures in
-    let next = next-of run.assignment.values.items run.assignment.list.items c.work.walked l run.assignment.agrees inside c.index-literal.ensures in
+    let a = subst (λ xs. IsAhead c.work.heads xs c.in-Some.ahead) c.as_slice.ensures.value c.in-Some.ensures.some in
+    let next = next-of run.assignment.values.items run.assignment.list.items a.group (head a.group c.work.heads) a.literal run.assignment.agrees a.inside a.is in
     let done = c.walk.new.run in
     let single = derivation-single (all_of store c.args.clauses.now) start.assignment.list.items run.assignment.list.items c.requires.single state.derived in
     let lists = entries_of (shapes_of store.stored.items) store.occurrences.items in
-    let covered = subst (λ t. done.visits + sum c.work.clauses.passed.items + spent (entries_of (shapes_of c.args.store.now.stored.items) c.args.store.now.occurrences.items) c.work.run.assignment.list.items ≤ c.work.run.visits + 2 * length (list_at (lists_of c.work.clauses.lists.items) t) + sum c.walk.new.clauses.passed.items + spent (entries_of (shapes_of c.args.store.now.stored.items) c.args.store.now.occurrences.items) c.walk.new.run.assignment.list.items) read c.walk.ensures.covered in
+    let covered = subst (λ t. done.visits + sum c.work.clauses.passed.items + spent (entries_of (shapes_of c.args.store.now.stored.items) c.args.store.now.occurrences.items) c.work.run.assignment.list.items ≤ c.work.run.visits + 2 * length (list_at (lists_of c.work.clauses.lists.items) t) + sum c.walk.new.clauses.passed.items + spent (entries_of (shapes_of c.args.store.now.stored.items) c.args.store.now.occurrences.items) c.walk.new.run.assignment.list.items) a.code c.walk.ensures.covered in
     let same = ap (λ (v : Vec ℕ Global). sum v.items) c.walk.ensures.candidates in
     let derived = subst (λ ls. Derives (joined (shapes_of c.args.store.now.stored.items) (lists_of ls.items)) c.work.run.assignment.list.items c.walk.new.run.assignment.list.items) w.literals c.in_ok-walk.ensures.derived in
     let reported = c.in_ok-walk.ensures in
-    let after = derived-take (all_of store c.args.clauses.now) run.assignment.list.items done.assignment.list.items (c.work.walked + 1) (omega (arith, inside)) derived in
-    let paid = cost-next c.args.clauses.now c.work.clauses c.walk.new.clauses run.assignment.values.items run.assignment.list.items done.assignment.list.items c.work.walked run.visits done.visits (spent lists run.assignment.list.items) (spent lists done.assignment.list.items) l single inside c.index-literal.ensures after covered w in
-    let walked = subst (λ t. (xs : List ℕ) → AreServed c.work.run.assignment.values.items c.work.clauses.watches.items xs t 0 → AreWalked c.walk.new.run.assignment.values.items c.walk.new.clauses.watches.items (xs ++ (t ∷ []))) read (reported.walked c.if-branch-2.false) in
+    let after = λ (n : ℕ) (within : n ≤ length run.assignment.list.items). derived-take (all_of store c.args.clauses.now) run.assignment.list.items done.assignment.list.items n within derived in
+    let paid = subst (λ (h : Heads). done.visits + spent lists run.assignment.list.items + cost c.args.clauses.now c.work.clauses c.work.heads run.assignment.list.items ≤ run.visits + cost c.args.clauses.now c.walk.new.clauses h done.assignment.list.items + spent lists done.assignment.list.items) (sym a.after)
+    (cost-next c.args.clauses.now c.work.clauses c.walk.new.clauses run.assignment.values.items run.assignment.list.items done.assignment.list.items a.group c.work.heads run.visits done.visits (spent lists run.assignment.list.items) (spent lists done.assignment.list.items) a.literal single a.inside a.is after covered w) in
+    let walked = subst (λ t. (xs : List ℕ) → AreServed c.work.run.assignment.values.items c.work.clauses.watches.items xs t 0 → AreWalked c.walk.new.run.assignment.values.items c.walk.new.clauses.watches.items (xs ++ (t ∷ []))) a.code (reported.walked c.if-branch-2.false) in
     record {
       values = reported.values ∙ c.work.invariant.values;
       grows = grows-trans start.assignment.values.items run.assignment.values.items done.assignment.values.items c.work.invariant.grows reported.grows;
       kept = λ base codes more old. c.in_ok-walk.ensures.kept base codes (grows-trans base c.args.run.now.assignment.values.items c.work.run.assignment.values.items more c.work.invariant.grows) (c.work.invariant.kept base codes more old);
       taken = c.work.invariant.taken;
-      watching = watching-next (all_of store c.args.clauses.now) c.args.clauses.now c.work.clauses c.walk.new.clauses run.assignment.values.items done.assignment.values.items run.assignment.list.items done.assignment.list.items c.work.walked l inside c.index-literal.ensures next.failed reported.literals reported.running derived walked w;
-      state = Propagating-walk c.args.rests.now (waits store.stored.items) c.args.waiting.now (shapes_of store.stored.items) (all_of store c.args.clauses.now) (entries_of (shapes_of store.stored.items) store.occurrences.items) (length store.stored.items) start.assignment.list.items start.candidates.items start.work.items start.next start.visits (cost c.args.clauses.now c.work.clauses c.work.walked run.assignment.list.items) (cost c.args.clauses.now c.walk.new.clauses (c.work.walked + 1) done.assignment.list.items) c.work.taken run.opens.items run.candidates.items run.assignment.list.items run.work.items run.trail.items run.next run.visits done.opens.items done.candidates.items done.assignment.list.items done.work.items done.trail.items done.next done.visits
+      watching = subst (IsWatching c.args.clauses.now c.walk.new.clauses done.assignment.values.items done.assignment.list.items) (sym a.after)
+          (watching-next (all_of store c.args.clauses.now) c.args.clauses.now c.work.clauses c.walk.new.clauses run.assignment.values.items done.assignment.values.items run.assignment.list.items done.assignment.list.items a.group c.work.heads a.literal a.inside a.is next.failed reported.literals reported.running derived walked w);
+      state = Propagating-walk c.args.rests.now (waits store.stored.items) c.args.waiting.now (shapes_of store.stored.items) (all_of store c.args.clauses.now) (entries_of (shapes_of store.stored.items) store.occurrences.items) (length store.stored.items) start.assignment.list.items start.candidates.items start.work.items start.next start.visits (cost c.args.clauses.now c.work.clauses c.work.heads run.assignment.list.items) (cost c.args.clauses.now c.walk.new.clauses c.in-Some.ahead.heads done.assignment.list.items) c.work.taken run.opens.items run.candidates.items run.assignment.list.items run.work.items run.trail.items run.next run.visits done.opens.items done.candidates.items done.assignment.list.items done.work.items done.trail.items done.next done.visits
           reported.next (ap (λ (v : Vec ℕ Global). v.items) reported.candidates) derived (reported.counted c.if-branch-2.false) (reported.tidy (filter (waits store.stored.items) (drop c.work.taken c.args.waiting.now)) (length store.stored.items) state.tidy) paid reported.work reported.rising reported.found reported.opens reported.longer_work state;
     }
 
@@ -224,9 +217,9 @@ returns-in_err-visit_form-clause-upper c =
     let w = c.work.invariant.watching in
     let done = c.visit_form.new.run in
     let inside : run.next + 1 ≤ length run.work.items = omega (arith, c.if-run-len.true, c.len.ensures, run.work.ok.0) in
-    let most = cost-most c.args.clauses.now c.work.clauses run.assignment.values.items run.assignment.list.items c.work.walked w in
-    let upper = Propagating-upper c.args.rests.now (waits store.stored.items) c.args.waiting.now (shapes_of store.stored.items) (all_of store c.args.clauses.now) (entries_of (shapes_of store.stored.items) store.occurrences.items) (length store.stored.items) start.assignment.list.items start.candidates.items start.work.items start.next start.visits (cost c.args.clauses.now c.work.clauses c.work.walked run.assignment.list.items) c.work.taken run.opens.items run.candidates.items run.assignment.list.items run.work.items run.trail.items run.next run.visits done.assignment.list.items done.candidates.items done.visits (cost c.args.clauses.now c.work.clauses c.work.walked run.assignment.list.items) 1 (spent-extends (entries_of (shapes_of store.stored.items) store.occurrences.items) run.assignment.list.items done.assignment.list.items c.visit_form.ensures.extends) c.requires.next state inside (omega (arith, c.visit_form.ensures.covered)) in
-    omega (arith, upper, most, killed-extends (clauses_of c.args.clauses.now) run.assignment.list.items done.assignment.list.items c.work.walked c.visit_form.ensures.extends)
+    let most = cost-most c.args.clauses.now c.work.clauses run.assignment.values.items run.assignment.list.items c.work.heads w in
+    let upper = Propagating-upper c.args.rests.now (waits store.stored.items) c.args.waiting.now (shapes_of store.stored.items) (all_of store c.args.clauses.now) (entries_of (shapes_of store.stored.items) store.occurrences.items) (length store.stored.items) start.assignment.list.items start.candidates.items start.work.items start.next start.visits (cost c.args.clauses.now c.work.clauses c.work.heads run.assignment.list.items) c.work.taken run.opens.items run.candidates.items run.assignment.list.items run.work.items run.trail.items run.next run.visits done.assignment.list.items done.candidates.items done.visits (cost c.args.clauses.now c.work.clauses c.work.heads run.assignment.list.items) 1 (spent-extends (entries_of (shapes_of store.stored.items) store.occurrences.items) run.assignment.list.items done.assignment.list.items c.visit_form.ensures.extends) c.requires.next state inside (omega (arith, c.visit_form.ensures.covered)) in
+    omega (arith, upper, most, reached-extends (clauses_of c.args.clauses.now) run.assignment.list.items done.assignment.list.items c.work.heads c.visit_form.ensures.extends)
 
 pub returns-then-branch-clause-upper : goal.returns-then-branch-clause-upper
 returns-then-branch-clause-upper c =
@@ -237,9 +230,9 @@ returns-then-branch-clause-upper c =
     let w = c.work.invariant.watching in
     let done = c.visit_form.new.run in
     let inside : run.next + 1 ≤ length run.work.items = omega (arith, c.if-run-len.true, c.len.ensures, run.work.ok.0) in
-    let most = cost-most c.args.clauses.now c.work.clauses run.assignment.values.items run.assignment.list.items c.work.walked w in
-    let upper = Propagating-upper c.args.rests.now (waits store.stored.items) c.args.waiting.now (shapes_of store.stored.items) (all_of store c.args.clauses.now) (entries_of (shapes_of store.stored.items) store.occurrences.items) (length store.stored.items) start.assignment.list.items start.candidates.items start.work.items start.next start.visits (cost c.args.clauses.now c.work.clauses c.work.walked run.assignment.list.items) c.work.taken run.opens.items run.candidates.items run.assignment.list.items run.work.items run.trail.items run.next run.visits done.assignment.list.items done.candidates.items done.visits (cost c.args.clauses.now c.work.clauses c.work.walked run.assignment.list.items) 1 (spent-extends (entries_of (shapes_of store.stored.items) store.occurrences.items) run.assignment.list.items done.assignment.list.items c.visit_form.ensures.extends) c.requires.next state inside (omega (arith, c.visit_form.ensures.covered)) in
-    omega (arith, upper, most, killed-extends (clauses_of c.args.clauses.now) run.assignment.list.items done.assignment.list.items c.work.walked c.visit_form.ensures.extends)
+    let most = cost-most c.args.clauses.now c.work.clauses run.assignment.values.items run.assignment.list.items c.work.heads w in
+    let upper = Propagating-upper c.args.rests.now (waits store.stored.items) c.args.waiting.now (shapes_of store.stored.items) (all_of store c.args.clauses.now) (entries_of (shapes_of store.stored.items) store.occurrences.items) (length store.stored.items) start.assignment.list.items start.candidates.items start.work.items start.next start.visits (cost c.args.clauses.now c.work.clauses c.work.heads run.assignment.list.items) c.work.taken run.opens.items run.candidates.items run.assignment.list.items run.work.items run.trail.items run.next run.visits done.assignment.list.items done.candidates.items done.visits (cost c.args.clauses.now c.work.clauses c.work.heads run.assignment.list.items) 1 (spent-extends (entries_of (shapes_of store.stored.items) store.occurrences.items) run.assignment.list.items done.assignment.list.items c.visit_form.ensures.extends) c.requires.next state inside (omega (arith, c.visit_form.ensures.covered)) in
+    omega (arith, upper, most, reached-extends (clauses_of c.args.clauses.now) run.assignment.list.items done.assignment.list.items c.work.heads c.visit_form.ensures.extends)
 
 pub returns-then-branch-clause-running : goal.returns-then-branch-clause-running
 returns-then-branch-clause-running c =
@@ -285,8 +278,8 @@ work-smaller-else-branch c =
     let w = c.work.invariant.watching in
     let done = c.visit_form.new.run in
     let inside : run.next + 1 ≤ length run.work.items = omega (arith, c.if-run-len.true, c.len.ensures, run.work.ok.0) in
-    let bound = Propagating-bound c.args.rests.now (waits store.stored.items) c.args.waiting.now (shapes_of store.stored.items) (all_of store c.args.clauses.now) (entries_of (shapes_of store.stored.items) store.occurrences.items) (length store.stored.items) start.assignment.list.items start.candidates.items start.work.items start.next start.visits (cost c.args.clauses.now c.work.clauses c.work.walked run.assignment.list.items) c.work.taken run.opens.items run.candidates.items run.assignment.list.items run.work.items run.trail.items run.next run.visits c.requires.single state in
-    omega (arith, bound, c.in_ok-visit_form.ensures.next, inside, c.work.invariant.taken, c.work.invariant.values, run.assignment.room, w.within)
+    let bound = Propagating-bound c.args.rests.now (waits store.stored.items) c.args.waiting.now (shapes_of store.stored.items) (all_of store c.args.clauses.now) (entries_of (shapes_of store.stored.items) store.occurrences.items) (length store.stored.items) start.assignment.list.items start.candidates.items start.work.items start.next start.visits (cost c.args.clauses.now c.work.clauses c.work.heads run.assignment.list.items) c.work.taken run.opens.items run.candidates.items run.assignment.list.items run.work.items run.trail.items run.next run.visits c.requires.single state in
+    omega (arith, bound, c.in_ok-visit_form.ensures.next, inside, c.work.invariant.taken, c.work.invariant.values, run.assignment.room, w.short, w.long)
 
 pub work-preserved-else-branch : goal.work-preserved-else-branch
 work-preserved-else-branch c =
@@ -306,9 +299,9 @@ work-preserved-else-branch c =
       grows = grows-trans start.assignment.values.items run.assignment.values.items done.assignment.values.items c.work.invariant.grows grows;
       kept = c.work.invariant.kept;
       taken = c.work.invariant.taken;
-      watching = watching-grow (all_of store c.args.clauses.now) c.args.clauses.now c.work.clauses run.assignment.values.items done.assignment.values.items run.assignment.list.items done.assignment.list.items c.work.walked grows derived w;
-      state = Propagating-next c.args.rests.now (waits store.stored.items) c.args.waiting.now (shapes_of store.stored.items) (all_of store c.args.clauses.now) (entries_of (shapes_of store.stored.items) store.occurrences.items) (length store.stored.items) start.assignment.list.items start.candidates.items start.work.items start.next start.visits (cost c.args.clauses.now c.work.clauses c.work.walked run.assignment.list.items) c.work.taken run.opens.items run.candidates.items run.assignment.list.items run.work.items run.trail.items run.next run.visits done.opens.items done.candidates.items done.assignment.list.items done.work.items done.trail.items done.next done.visits (cost c.args.clauses.now c.work.clauses c.work.walked done.assignment.list.items)
-          (cost-grow (all_of store c.args.clauses.now) c.args.clauses.now c.work.clauses run.assignment.list.items done.assignment.list.items c.work.walked w.within derived) reported.next derived (reported.counted c.if-branch.false) tidy reported.paid reported.found reported.opens reported.candidates reported.within state;
+      watching = watching-grow (all_of store c.args.clauses.now) c.args.clauses.now c.work.clauses run.assignment.values.items done.assignment.values.items run.assignment.list.items done.assignment.list.items c.work.heads grows derived w;
+      state = Propagating-next c.args.rests.now (waits store.stored.items) c.args.waiting.now (shapes_of store.stored.items) (all_of store c.args.clauses.now) (entries_of (shapes_of store.stored.items) store.occurrences.items) (length store.stored.items) start.assignment.list.items start.candidates.items start.work.items start.next start.visits (cost c.args.clauses.now c.work.clauses c.work.heads run.assignment.list.items) c.work.taken run.opens.items run.candidates.items run.assignment.list.items run.work.items run.trail.items run.next run.visits done.opens.items done.candidates.items done.assignment.list.items done.work.items done.trail.items done.next done.visits (cost c.args.clauses.now c.work.clauses c.work.heads done.assignment.list.items)
+          (cost-grow (all_of store c.args.clauses.now) c.args.clauses.now c.work.clauses run.assignment.list.items done.assignment.list.items c.work.heads w.short w.long derived) reported.next derived (reported.counted c.if-branch.false) tidy reported.paid reported.found reported.opens reported.candidates reported.within state;
     }
 
 pub returns-in_err-choose-clause-bounded : goal.returns-in_err-choose-clause-bounded
@@ -327,9 +320,9 @@ returns-in_err-choose-clause-upper c =
     let run = c.work.run in
     let state = c.work.invariant.state in
     let w = c.work.invariant.watching in
-    let most = cost-most c.args.clauses.now c.work.clauses run.assignment.values.items run.assignment.list.items c.work.walked w in
-    let upper = Propagating-upper c.args.rests.now (waits store.stored.items) c.args.waiting.now (shapes_of store.stored.items) (all_of store c.args.clauses.now) (entries_of (shapes_of store.stored.items) store.occurrences.items) (length store.stored.items) start.assignment.list.items start.candidates.items start.work.items start.next start.visits (cost c.args.clauses.now c.work.clauses c.work.walked run.assignment.list.items) c.work.taken run.opens.items run.candidates.items run.assignment.list.items run.work.items run.trail.items run.next run.visits run.assignment.list.items run.candidates.items run.visits (cost c.args.clauses.now c.work.clauses c.work.walked run.assignment.list.items) 0 (omega arith) c.requires.next state (omega (arith, state.within)) (omega arith) in
-    omega (arith, upper, most, killed-extends (clauses_of c.args.clauses.now) run.assignment.list.items run.assignment.list.items c.work.walked (extends-none run.assignment.list.items))
+    let most = cost-most c.args.clauses.now c.work.clauses run.assignment.values.items run.assignment.list.items c.work.heads w in
+    let upper = Propagating-upper c.args.rests.now (waits store.stored.items) c.args.waiting.now (shapes_of store.stored.items) (all_of store c.args.clauses.now) (entries_of (shapes_of store.stored.items) store.occurrences.items) (length store.stored.items) start.assignment.list.items start.candidates.items start.work.items start.next start.visits (cost c.args.clauses.now c.work.clauses c.work.heads run.assignment.list.items) c.work.taken run.opens.items run.candidates.items run.assignment.list.items run.work.items run.trail.items run.next run.visits run.assignment.list.items run.candidates.items run.visits (cost c.args.clauses.now c.work.clauses c.work.heads run.assignment.list.items) 0 (omega arith) c.requires.next state (omega (arith, state.within)) (omega arith) in
+    omega (arith, upper, most, reached-extends (clauses_of c.args.clauses.now) run.assignment.list.items run.assignment.list.items c.work.heads (extends-none run.assignment.list.items))
 
 pub returns-in_err-choose-2-clause-bounded : goal.returns-in_err-choose-2-clause-bounded
 returns-in_err-choose-2-clause-bounded c =
@@ -347,9 +340,9 @@ returns-in_err-choose-2-clause-upper c =
     let run = c.work.run in
     let state = c.work.invariant.state in
     let w = c.work.invariant.watching in
-    let most = cost-most c.args.clauses.now c.work.clauses run.assignment.values.items run.assignment.list.items c.work.walked w in
-    let upper = Propagating-upper c.args.rests.now (waits store.stored.items) c.args.waiting.now (shapes_of store.stored.items) (all_of store c.args.clauses.now) (entries_of (shapes_of store.stored.items) store.occurrences.items) (length store.stored.items) start.assignment.list.items start.candidates.items start.work.items start.next start.visits (cost c.args.clauses.now c.work.clauses c.work.walked run.assignment.list.items) c.work.taken run.opens.items run.candidates.items run.assignment.list.items run.work.items run.trail.items run.next run.visits run.assignment.list.items run.candidates.items run.visits (cost c.args.clauses.now c.work.clauses c.work.walked run.assignment.list.items) 0 (omega arith) c.requires.next state (omega (arith, state.within)) (omega arith) in
-    omega (arith, upper, most, killed-extends (clauses_of c.args.clauses.now) run.assignment.list.items run.assignment.list.items c.work.walked (extends-none run.assignment.list.items))
+    let most = cost-most c.args.clauses.now c.work.clauses run.assignment.values.items run.assignment.list.items c.work.heads w in
+    let upper = Propagating-upper c.args.rests.now (waits store.stored.items) c.args.waiting.now (shapes_of store.stored.items) (all_of store c.args.clauses.now) (entries_of (shapes_of store.stored.items) store.occurrences.items) (length store.stored.items) start.assignment.list.items start.candidates.items start.work.items start.next start.visits (cost c.args.clauses.now c.work.clauses c.work.heads run.assignment.list.items) c.work.taken run.opens.items run.candidates.items run.assignment.list.items run.work.items run.trail.items run.next run.visits run.assignment.list.items run.candidates.items run.visits (cost c.args.clauses.now c.work.clauses c.work.heads run.assignment.list.items) 0 (omega arith) c.requires.next state (omega (arith, state.within)) (omega arith) in
+    omega (arith, upper, most, reached-extends (clauses_of c.args.clauses.now) run.assignment.list.items run.assignment.list.items c.work.heads (extends-none run.assignment.list.items))
 
 pub returns-else-taken-waiting-clause-bounded : goal.returns-else-taken-waiting-clause-bounded
 returns-else-taken-waiting-clause-bounded c =
@@ -367,9 +360,9 @@ returns-else-taken-waiting-clause-upper c =
     let run = c.work.run in
     let state = c.work.invariant.state in
     let w = c.work.invariant.watching in
-    let most = cost-most c.args.clauses.now c.work.clauses run.assignment.values.items run.assignment.list.items c.work.walked w in
-    let upper = Propagating-upper c.args.rests.now (waits store.stored.items) c.args.waiting.now (shapes_of store.stored.items) (all_of store c.args.clauses.now) (entries_of (shapes_of store.stored.items) store.occurrences.items) (length store.stored.items) start.assignment.list.items start.candidates.items start.work.items start.next start.visits (cost c.args.clauses.now c.work.clauses c.work.walked run.assignment.list.items) c.work.taken run.opens.items run.candidates.items run.assignment.list.items run.work.items run.trail.items run.next run.visits run.assignment.list.items run.candidates.items run.visits (cost c.args.clauses.now c.work.clauses c.work.walked run.assignment.list.items) 0 (omega arith) c.requires.next state (omega (arith, state.within)) (omega arith) in
-    omega (arith, upper, most, killed-extends (clauses_of c.args.clauses.now) run.assignment.list.items run.assignment.list.items c.work.walked (extends-none run.assignment.list.items))
+    let most = cost-most c.args.clauses.now c.work.clauses run.assignment.values.items run.assignment.list.items c.work.heads w in
+    let upper = Propagating-upper c.args.rests.now (waits store.stored.items) c.args.waiting.now (shapes_of store.stored.items) (all_of store c.args.clauses.now) (entries_of (shapes_of store.stored.items) store.occurrences.items) (length store.stored.items) start.assignment.list.items start.candidates.items start.work.items start.next start.visits (cost c.args.clauses.now c.work.clauses c.work.heads run.assignment.list.items) c.work.taken run.opens.items run.candidates.items run.assignment.list.items run.work.items run.trail.items run.next run.visits run.assignment.list.items run.candidates.items run.visits (cost c.args.clauses.now c.work.clauses c.work.heads run.assignment.list.items) 0 (omega arith) c.requires.next state (omega (arith, state.within)) (omega arith) in
+    omega (arith, upper, most, reached-extends (clauses_of c.args.clauses.now) run.assignment.list.items run.assignment.list.items c.work.heads (extends-none run.assignment.list.items))
 
 pub work-smaller : goal.work-smaller
 work-smaller c =
@@ -378,8 +371,8 @@ work-smaller c =
     let run = c.work.run in
     let state = c.work.invariant.state in
     let w = c.work.invariant.watching in
-    let bound = Propagating-bound c.args.rests.now (waits store.stored.items) c.args.waiting.now (shapes_of store.stored.items) (all_of store c.args.clauses.now) (entries_of (shapes_of store.stored.items) store.occurrences.items) (length store.stored.items) start.assignment.list.items start.candidates.items start.work.items start.next start.visits (cost c.args.clauses.now c.work.clauses c.work.walked run.assignment.list.items) c.work.taken run.opens.items run.candidates.items run.assignment.list.items run.work.items run.trail.items run.next run.visits c.requires.single state in
-    omega (arith, bound, state.within, c.if-taken-waiting.true, w.within, c.work.invariant.values, run.assignment.room)
+    let bound = Propagating-bound c.args.rests.now (waits store.stored.items) c.args.waiting.now (shapes_of store.stored.items) (all_of store c.args.clauses.now) (entries_of (shapes_of store.stored.items) store.occurrences.items) (length store.stored.items) start.assignment.list.items start.candidates.items start.work.items start.next start.visits (cost c.args.clauses.now c.work.clauses c.work.heads run.assignment.list.items) c.work.taken run.opens.items run.candidates.items run.assignment.list.items run.work.items run.trail.items run.next run.visits c.requires.single state in
+    omega (arith, bound, state.within, c.if-taken-waiting.true, w.short, w.long, c.work.invariant.values, run.assignment.room)
 
 pub work-preserved : goal.work-preserved
 work-preserved c =
@@ -395,7 +388,7 @@ work-preserved c =
       kept = c.work.invariant.kept;
       taken = omega (arith, less);
       watching = w;
-      state = Propagating-choose c.args.rests.now (waits store.stored.items) c.args.waiting.now (shapes_of store.stored.items) (all_of store c.args.clauses.now) (entries_of (shapes_of store.stored.items) store.occurrences.items) (length store.stored.items) start.assignment.list.items start.candidates.items start.work.items start.next start.visits (cost c.args.clauses.now c.work.clauses c.work.walked run.assignment.list.items) c.work.taken run.opens.items run.candidates.items run.assignment.list.items run.work.items run.trail.items run.next run.visits (get_or c.args.waiting.now c.work.taken 0) c.choose-then-taken-waiting.new.work.items c.choose.new.work.items less (get_or_default c.args.waiting.now c.work.taken 0 _ less)
+      state = Propagating-choose c.args.rests.now (waits store.stored.items) c.args.waiting.now (shapes_of store.stored.items) (all_of store c.args.clauses.now) (entries_of (shapes_of store.stored.items) store.occurrences.items) (length store.stored.items) start.assignment.list.items start.candidates.items start.work.items start.next start.visits (cost c.args.clauses.now c.work.clauses c.work.heads run.assignment.list.items) c.work.taken run.opens.items run.candidates.items run.assignment.list.items run.work.items run.trail.items run.next run.visits (get_or c.args.waiting.now c.work.taken 0) c.choose-then-taken-waiting.new.work.items c.choose.new.work.items less (get_or_default c.args.waiting.now c.work.taken 0 _ less)
           (omega (arith, c.requires.waiting c.work.taken 0 less, length-map store.stored.items stored_shape)) c.in_ok-choose-2.ensures c.in_ok-choose.ensures state;
     }
 
@@ -409,10 +402,10 @@ returns-else-taken-waiting-clause-settled c =
     λ found f has.
     let all : length run.work.items ≤ run.next = omega (arith, c.if-run-len.false, c.len.ensures, run.work.ok.0) in
     let none_waits : length c.args.waiting.now ≤ c.work.taken = omega (arith, c.if-taken-waiting.false) in
-    let end : length run.assignment.list.items ≤ c.work.walked = omega (arith, c.if-walked-len.false, c.len-else-run-len.ensures, run.assignment.list.ok.0) in
+    let end = subst (λ (xs : List NumberedLiteral). (length xs ≤ c.work.heads.short) × (length xs ≤ c.work.heads.long)) c.as_slice.ensures.value c.in_default.ensures.none in
     elim (joined-source (shapes_of store.stored.items) (clauses_of c.args.clauses.now) f has) [
-      | inl kept ↦ Propagating-settled c.args.rests.now (waits store.stored.items) c.args.waiting.now store.stored.items (all_of store c.args.clauses.now) (entries_of (shapes_of store.stored.items) store.occurrences.items) start.assignment.list.items start.candidates.items start.work.items start.next start.visits (cost c.args.clauses.now c.work.clauses c.work.walked run.assignment.list.items) c.work.taken run.opens.items run.candidates.items run.assignment.list.items run.work.items run.trail.items run.next run.visits all none_waits state f kept
-      | inr clause ↦ subst (λ g. IsSettled g c.work.run.assignment.list.items) clause.2 (watching-settled c.args.clauses.now c.work.clauses run.assignment.values.items run.assignment.list.items c.work.walked clause.0 run.assignment.agrees (λ k on. opposite run.assignment.values.items run.assignment.list.items k run.assignment.agrees on) end clause.1 w)
+      | inl kept ↦ Propagating-settled c.args.rests.now (waits store.stored.items) c.args.waiting.now store.stored.items (all_of store c.args.clauses.now) (entries_of (shapes_of store.stored.items) store.occurrences.items) start.assignment.list.items start.candidates.items start.work.items start.next start.visits (cost c.args.clauses.now c.work.clauses c.work.heads run.assignment.list.items) c.work.taken run.opens.items run.candidates.items run.assignment.list.items run.work.items run.trail.items run.next run.visits all none_waits state f kept
+      | inr clause ↦ subst (λ g. IsSettled g c.work.run.assignment.list.items) clause.2 (watching-settled c.args.clauses.now c.work.clauses run.assignment.values.items run.assignment.list.items c.work.heads clause.0 run.assignment.agrees (λ k on. opposite run.assignment.values.items run.assignment.list.items k run.assignment.agrees on) end.0 end.1 clause.1 w)
     ]
 
 pub returns-in_err-visit_form-clause-single : goal.returns-in_err-visit_form-clause-single
@@ -440,8 +433,8 @@ pub returns-else-taken-waiting-clause-walked : goal.returns-else-taken-waiting-c
 returns-else-taken-waiting-clause-walked c = λ found.
     let run = c.work.run in
     let w = c.work.invariant.watching in
-    let all : c.work.walked ≡ length run.assignment.list.items = omega (arith, w.within, c.if-walked-len.false, c.len-else-run-len.ensures, run.assignment.list.ok.0) in
-    subst (λ n. AreWalked run.assignment.values.items c.work.clauses.watches.items (walked_codes n run.assignment.list.items)) all w.served
+    let end = subst (λ (xs : List NumberedLiteral). (length xs ≤ c.work.heads.short) × (length xs ≤ c.work.heads.long)) c.as_slice.ensures.value c.in_default.ensures.none in
+    walked-whole run.assignment.values.items c.work.clauses.watches.items run.assignment.list.items c.work.heads (omega (arith, w.short, end.0)) (omega (arith, w.long, end.1)) w.served
 
 pub returns-in_err-visit_form-clause-extends : goal.returns-in_err-visit_form-clause-extends
 returns-in_err-visit_form-clause-extends c = extends-then c.args.run.now.assignment.list.items c.work.run.assignment.list.items c.visit_form.new.run.assignment.list.items (derives-extends (all_of c.args.store.now c.args.clauses.now) c.args.run.now.assignment.list.items c.work.run.assignment.list.items c.work.invariant.state.derived) c.visit_form.ensures.extends

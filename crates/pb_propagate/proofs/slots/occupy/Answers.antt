@@ -5,8 +5,8 @@ use Rattle.pb_propagate.proofs.lemmas.store.Changes.{forms-filled}
 use Rattle.pb_propagate.specs.engine.Clauses.Shapes.{clauses_of}
 use Rattle.pb_propagate.proofs.lemmas.store.Slots.{slots-bare, exact-absent, rest-filled, rest-watched}
 use Rattle.pb_propagate.proofs.lemmas.clauses.Slots.{slots-vacant}
-use Rattle.std.proofs.Common.{ℕ, List, map, get_or-set_other}
-use Rattle.pb_propagate.specs.engine.Clauses.Shapes.{code}
+use Rattle.std.proofs.Common.{ℕ, List, get_or-set_other}
+use Rattle.pb_propagate.specs.engine.Clauses.Shapes.{codes_of_terms}
 use Rattle.pb_propagate.specs.engine.Clauses.Links.{list_at}
 use Rattle.pb_propagate.proofs.lemmas.root.Gained.{gained-filled}
 use Rattle.pb_propagate.proofs.slots.occupy.Goals as goal
@@ -107,4 +107,4 @@ returns-then-is_clause-clause-gained c =
     let reported = c.in_ok-watch.ensures in
     let k = reported.kept in
     let vacant = slots-vacant (forms_of store.stored.items) (shapes_of store.stored.items) (clauses_of c.args.clauses.now) c.args.slot c.requires.rest.slots c.requires.slot in
-    gained-filled store c.watch.new.store c.args.clauses.now c.watch.new.clauses c.args.slot k.0 c.watch.ensures.rest.2 k.3 (λ s apart. ap (λ (cs : List (List ℕ)). list_at cs s) reported.literals ∙ get_or-set_other (clauses_of c.args.clauses.now) c.args.slot s (map code c.args.form.terms) [] apart) reported.watches vacant
+    gained-filled store c.watch.new.store c.args.clauses.now c.watch.new.clauses c.args.slot k.0 c.watch.ensures.rest.2 k.3 (λ s apart. ap (λ (cs : List (List ℕ)). list_at cs s) reported.literals ∙ get_or-set_other (clauses_of c.args.clauses.now) c.args.slot s (codes_of_terms c.args.form.terms) [] apart) reported.watches vacant

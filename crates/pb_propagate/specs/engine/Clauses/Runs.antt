@@ -49,7 +49,7 @@ pub record IsRunning (values : List (Option Bool)) (c : Clauses) : Type 0 where
   pub passed : ArePassed values (all_turned c.starts.items (lists_of c.literals.items)) c.passed.items c.watches.items
   pub starts : length c.starts.items ≡ length c.literals.items
   pub noted : AreNoted c.passed.items c.moved.items
-  pub sizes : length c.lists.items ≡ 2 * length values
+  pub sizes : length c.lists.items ≡ 4 * length values
 
 -- if a walked literal is watched, the other watched literal is true; in the list being walked this holds before `index`
 pub record AreServed (values : List (Option Bool)) (watches : List Watch) (walked : List ℕ) (l index : ℕ) : Type 0 where

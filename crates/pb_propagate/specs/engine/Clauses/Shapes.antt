@@ -1,9 +1,11 @@
 -- Clauses among the constraints.
-use Rattle.std.specs.Prelude.{◌≡◌, ℕ, ◌+◌, ◌*◌, ◌/◌, ◌%◌, ◌^◌, ◌<◌, ◌≤◌, ◌==◌, not, if◌then◌else◌, All, List, [], ◌∷◌, map, length, count_by, slice_index_or}
+use Rattle.std.specs.Prelude.{◌≡◌, ℕ, ◌+◌, ◌*◌, ◌/◌, ◌%◌, ◌^◌, ◌<◌, ◌≤◌, ◌==◌, not, nat_lt, if◌then◌else◌, All, List, [], ◌∷◌, map, length, count_by, slice_index_or}
 use Rattle.pb_normal.specs.declared.entry.Entry.{Entry}
 use Rattle.pb_normal.specs.meaning.Form.{Form}
 use Rattle.pb_normal.specs.declared.numbered.NumberedLiteral.{NumberedLiteral}
 use Rattle.pb_propagate.specs.declared.term.Term.{Term}
+use Rattle.pb_propagate.specs.declared.clause.Group.{Group}
+use Rattle.pb_propagate.specs.declared.clause.Group.TheVariants.{Short, Long}
 use Rattle.pb_propagate.specs.declared.store.Store.{Store}
 use Rattle.pb_propagate.specs.declared.clauses.Clauses.{Clauses}
 use Rattle.pb_propagate.specs.engine.Engine.Lists.{Shape}
@@ -12,11 +14,28 @@ use Rattle.pb_propagate.specs.engine.Clauses.Links.{lists_of, list_at}
 
 -- the literal of a code
 abbrev pub literal_at : ℕ → NumberedLiteral
-literal_at c = record { variable = c / 2; negated = not (c % 2 == 0) }
+literal_at c = record { variable = c / 4; negated = not (c % 2 == 0) }
 
--- the code of a term's literal
-abbrev pub code : Entry → ℕ
-code e = 2 * e.variable + (if e.negated then 1 else 0)
+-- a clause of at most four literals is a short one
+abbrev pub group_by : ℕ → Group
+group_by count = if nat_lt count 5 then Short else Long
+
+-- where the codes of a variable's literals begin in a group
+abbrev pub offset : Group → ℕ
+offset Short = 0
+offset Long = 2
+
+-- the code of a literal in the clauses of a group
+abbrev pub code_in : Group → NumberedLiteral → ℕ
+code_in g l = 4 * l.variable + offset g + (if l.negated then 1 else 0)
+
+-- the code of a term's literal in the clauses of a group
+abbrev pub code : Group → Entry → ℕ
+code g e = 4 * e.variable + offset g + (if e.negated then 1 else 0)
+
+-- the codes of a clause with these terms
+abbrev pub codes_of_terms : List Entry → List ℕ
+codes_of_terms terms = map (code (group_by (length terms))) terms
 
 abbrev pub one_term : ℕ → Term
 one_term c = record { literal = literal_at c; coefficient = 1 }
@@ -53,10 +72,10 @@ clauses_of c = lists_of c.literals.items
 abbrev pub all_of : Store → Clauses → List Shape
 all_of store clauses = joined (shapes_of store.stored.items) (clauses_of clauses)
 
--- the coefficient is 1, and the code fits in 4 bytes
+-- the coefficient is 1, and the codes fit in 4 bytes
 pub record IsLight (e : Entry) : Type 0 where
   pub one : e.coefficient ≡ 1
-  pub small : e.variable < 2 ^ 31
+  pub small : e.variable < 2 ^ 30
 
 -- some literal is true, and two literals can be watched
 pub record IsClause (f : Form) : Type 0 where

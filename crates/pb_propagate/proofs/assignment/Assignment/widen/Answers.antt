@@ -7,8 +7,9 @@ use Rattle.pb_propagate.proofs.assignment.Assignment.widen.Goals as goal
 pub invariant_of-self-2 : goal.invariant_of-self-2
 invariant_of-self-2 c =
     let s = c.args.self.now in
-    let more = c.push_reserved-2.ensures.items ∙ ap (λ (bs : List Bool). bs ++ (false ∷ [])) (c.push_reserved.ensures.items ∙ ap (λ (bs : List Bool). bs ++ (false ∷ [])) c.reserve.ensures.items) in
-    let marks = marked-wider s.values.items c.push.new.self.items s.failed.items c.push_reserved-2.new.self.items c.in_ok-push.ensures.items more (record { sizes = s.sizes; each = s.marked }) in
+    let push = λ (bs : List Bool). bs ++ (false ∷ []) in
+    let more = c.push_reserved-4.ensures.items ∙ ap push (c.push_reserved-3.ensures.items ∙ ap push (c.push_reserved-2.ensures.items ∙ ap push (c.push_reserved.ensures.items ∙ ap push c.reserve.ensures.items))) in
+    let marks = marked-wider s.values.items c.push.new.self.items s.failed.items c.push_reserved-4.new.self.items c.in_ok-push.ensures.items more (record { sizes = s.sizes; each = s.marked }) in
     record {
       agrees = Agree-widen_if s.values.items c.push.new.self.items s.list.items true c.in_ok-push.ensures.items s.agrees;
       room = vacancy-widen_if s.values.items c.push.new.self.items s.list.items true c.in_ok-push.ensures.items s.room;

@@ -1,4 +1,4 @@
-use Rattle.std.specs.Prelude.{filter, map, pos, All, Some, sum, sum_by}
+use Rattle.std.specs.Prelude.{filter, pos, All, Some, sum, sum_by}
 use Rattle.std.proofs.Common.{true, false, of_z, inl, inr, Vec, Global, ℕ, subst, ◌≡◌, ◌≤◌, ◌<◌, ◌+◌, ◌*◌, ◌++◌, ◌∷◌, [], List, refl, sym, ◌∙◌, ap, length, length-append, arith}
 use Rattle.std.specs.Int.{w128}
 use Rattle.std.proofs.lemmas.List.{length-map}
@@ -25,8 +25,7 @@ use Rattle.pb_propagate.specs.engine.Clauses.Links.{lists_of}
 use Rattle.pb_propagate.specs.engine.Clauses.Shapes.{all_of, clauses_of}
 use Rattle.pb_propagate.proofs.lemmas.engine.Bounds.{joined-terms, slots-terms, slots-eager, filter-few, found-least, most-visits}
 use Rattle.pb_propagate.proofs.lemmas.engine.Spent.{spent-le}
-use Rattle.pb_propagate.proofs.lemmas.clauses.Counts.{killed-most}
-use Rattle.pb_propagate.specs.engine.Clauses.Walked.{falsified_code}
+use Rattle.pb_propagate.proofs.lemmas.clauses.Killed.{fallen-most}
 use Rattle.pb_propagate.proofs.lemmas.engine.Completing.{closed-none}
 use Rattle.pb_propagate.proofs.lemmas.engine.Rests.{slots-entered, slots-more, joined-entered, rest-entered, rest-tidy-first, rest-undone, rest-lengths, rest-left, eager-entered, with-kept, opposite-inside}
 use Rattle.pb_propagate.proofs.engine.Engine.rup.Goals as goal
@@ -127,7 +126,7 @@ invariant_of-self-2 c = λ ready.
         slots = rw (left.0, lit) r.slots;
         joined = rw (left.0, lit) r.joined;
         ready = c.rest.ensures.ready;
-        widths = ap (λ (v : Vec (Vec ℕ Global) Global). length v.items) c.rest.ensures.lists ∙ c.in_ok-found.ensures.running.sizes ∙ ap (λ n. 2 * n) (c.in_ok-found.ensures.values ∙ ap (λ (a : Assignment). length a.values.items) entered.0 ∙ r.values ∙ sym c.in_ok-enter.ensures.variables ∙ sym c.leave.ensures.variables);
+        widths = ap (λ (v : Vec (Vec ℕ Global) Global). length v.items) c.rest.ensures.lists ∙ c.in_ok-found.ensures.running.sizes ∙ ap (λ n. 4 * n) (c.in_ok-found.ensures.values ∙ ap (λ (a : Assignment). length a.values.items) entered.0 ∙ r.values ∙ sym c.in_ok-enter.ensures.variables ∙ sym c.leave.ensures.variables);
         known = ap (λ (v : Vec (Vec ℕ Global) Global). length v.items) (c.rest.ensures.literals ∙ c.propagate.ensures.literals) ∙ r.known ∙ ap length (sym left.0);
         rest = left.1;
         values = ap (λ (a : Assignment). length a.values.items) same.0 ∙ c.rest.ensures.values ∙ c.in_ok-found.ensures.values ∙ ap (λ (a : Assignment). length a.values.items) entered.0 ∙ r.values ∙ sym c.in_ok-enter.ensures.variables ∙ sym c.leave.ensures.variables;
@@ -216,7 +215,7 @@ returns-clause-most c =
     let waiting = ap (λ (xs : List ℕ). length (filter (waits new.store.stored.items) xs)) c.as_slice.ensures.value in
     let same : numbered forms e.places.items ≡ c.args.self.now.forms = ap (λ (v : Standing). v.forms) c.self.view_is in
     let visits_made = most-visits c.propagate.new.run.visits (sum new.run.candidates.items) new.run.visits (length c.choose-2.new.work.items + length (filter (waits new.store.stored.items) c.as_slice.result.now)) new.run.next (sum_by length (entries_of (shapes_of new.store.stored.items) new.store.occurrences.items)) (sum c.propagate.new.run.candidates.items) (sum_by (λ (f : Shape). length f.terms) (shapes_of new.store.stored.items)) (sum_by {X = List ℕ} length (clauses_of e.clauses)) (sum_by one_in forms + 1)
-    (omega (arith, c.propagate.ensures.upper, spent-le (entries_of (shapes_of new.store.stored.items) new.store.occurrences.items) c.propagate.new.run.assignment.list.items c.propagate.ensures.single, killed-most (clauses_of e.clauses) (map falsified_code c.propagate.new.run.assignment.list.items))) (c.enter.ensures.rest.3 ∙ c.none-self-inside.ensures) c.propagate.ensures.bounded c.in_ok-enter.ensures.sound.whole.totals (omega (arith, few, r.few, first, stand, work_is, work, waiting)) in
+    (omega (arith, c.propagate.ensures.upper, spent-le (entries_of (shapes_of new.store.stored.items) new.store.occurrences.items) c.propagate.new.run.assignment.list.items c.propagate.ensures.single, fallen-most (clauses_of e.clauses) c.propagate.new.run.assignment.list.items)) (c.enter.ensures.rest.3 ∙ c.none-self-inside.ensures) c.propagate.ensures.bounded c.in_ok-enter.ensures.sound.whole.totals (omega (arith, few, r.few, first, stand, work_is, work, waiting)) in
     rw (← same) (omega (arith, both.1.alike terms_in refl, both.1.alike one_in refl, visits_made, terms, both_terms, more, goal_terms, c.leave.ensures.rest.3, c.rest.ensures.visits))
 
 pub returns-in_err-found-clause-most : goal.returns-in_err-found-clause-most
@@ -245,7 +244,7 @@ returns-in_err-found-clause-most c =
     let waiting = ap (λ (xs : List ℕ). length (filter (waits new.store.stored.items) xs)) c.as_slice.ensures.value in
     let same : numbered forms e.places.items ≡ c.args.self.now.forms = ap (λ (v : Standing). v.forms) c.self.view_is in
     let visits_made = most-visits c.propagate.new.run.visits (sum new.run.candidates.items) new.run.visits (length c.choose-2.new.work.items + length (filter (waits new.store.stored.items) c.as_slice.result.now)) new.run.next (sum_by length (entries_of (shapes_of new.store.stored.items) new.store.occurrences.items)) (sum c.propagate.new.run.candidates.items) (sum_by (λ (f : Shape). length f.terms) (shapes_of new.store.stored.items)) (sum_by {X = List ℕ} length (clauses_of e.clauses)) (sum_by one_in forms + 1)
-    (omega (arith, c.propagate.ensures.upper, spent-le (entries_of (shapes_of new.store.stored.items) new.store.occurrences.items) c.propagate.new.run.assignment.list.items c.propagate.ensures.single, killed-most (clauses_of e.clauses) (map falsified_code c.propagate.new.run.assignment.list.items))) (c.enter.ensures.rest.3 ∙ c.none-self-inside.ensures) c.propagate.ensures.bounded c.in_ok-enter.ensures.sound.whole.totals (omega (arith, few, r.few, first, stand, work_is, work, waiting)) in
+    (omega (arith, c.propagate.ensures.upper, spent-le (entries_of (shapes_of new.store.stored.items) new.store.occurrences.items) c.propagate.new.run.assignment.list.items c.propagate.ensures.single, fallen-most (clauses_of e.clauses) c.propagate.new.run.assignment.list.items)) (c.enter.ensures.rest.3 ∙ c.none-self-inside.ensures) c.propagate.ensures.bounded c.in_ok-enter.ensures.sound.whole.totals (omega (arith, few, r.few, first, stand, work_is, work, waiting)) in
     rw (← same) (omega (arith, both.1.alike terms_in refl, both.1.alike one_in refl, visits_made, terms, both_terms, more, goal_terms))
 
 pub returns-clause-conflict : goal.returns-clause-conflict
@@ -404,7 +403,7 @@ propagate-requires-clause-ready c =
 pub propagate-requires-clause-widths : goal.propagate-requires-clause-widths
 propagate-requires-clause-widths c =
     let both = c.self.invariant (ap (λ (v : Standing). v.spent) c.self.view_is ∙ c.requires.ready) in
-    both.0.widths ∙ ap (λ n. 2 * n) (sym c.in_ok-enter.ensures.variables)
+    both.0.widths ∙ ap (λ n. 4 * n) (sym c.in_ok-enter.ensures.variables)
 
 -- a question that continues from the root
 pub ask-requires-clause-inside : goal.ask-requires-clause-inside
@@ -428,7 +427,7 @@ invariant_of-self-then-self c = λ ready.
         slots = rw (reported.kept, lit) r.slots;
         joined = rw (reported.kept, lit) r.joined;
         ready = reported.ready;
-        widths = reported.lists ∙ r.widths ∙ ap (λ n. 2 * n) (sym c.ask.ensures.variables);
+        widths = reported.lists ∙ r.widths ∙ ap (λ n. 4 * n) (sym c.ask.ensures.variables);
         known = ap (λ (v : Vec (Vec ℕ Global) Global). length v.items) c.ask.ensures.literals ∙ r.known ∙ sym (ap length reported.kept);
         rest = rw reported.kept r.rest;
         values = r.values ∙ sym c.ask.ensures.variables;
