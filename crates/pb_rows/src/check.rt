@@ -117,12 +117,23 @@ fn check_cut(alloc: Global, call: &Call, text: &[u8], cut: Cut) -> Result<Done, 
     let mut reported = page(alloc);
     match replay_for(alloc, call, instance)? {
         Ok(replay) => {
-            let mut checker = Checker::new(alloc, replay, call.longest());
-            report_checker(alloc, &mut checker, proof, cut, &mut reported)?;
+            let checker = Checker::new(alloc, replay, call.longest());
+            report_end(alloc, checker, proof, cut, &mut reported)?;
         }
         Err(_) => write_bytes(b"no replay\n", &mut reported)?,
     }
     Ok(answered(alloc, reported))
+}
+
+/// Feeds a proof to a new checker, which ends here, and reports its result.
+fn report_end(
+    alloc: Global,
+    mut checker: Checker,
+    proof: &[u8],
+    cut: Cut,
+    reported: &mut Page,
+) -> Result<(), Broken> {
+    report_checker(alloc, &mut checker, proof, cut, reported)
 }
 
 /// Feeds a proof to a checker, and reports its result.
