@@ -1,12 +1,12 @@
 //! The list of assigned literals.
 
-ghost use Rattle.std.specs.Prelude.{◌≡◌, ℕ, ◌+◌, ◌*◌, ◌≤◌, ◌<◌, ◌++◌, ◌∷◌, [], Bool, None, Some, not, true, false, length, take, sum_by, OnOk, OnErr, IfOk, slice_index_or, slice_set};
+ghost use Rattle.std.specs.Prelude.{◌≡◌, ℕ, ◌+◌, ◌*◌, ◌<◌, ◌⊎◌, ◌++◌, ◌∷◌, [], None, Some, not, true, false, length, take, sum_by, OnOk, OnErr, slice_index_or, slice_set};
 ghost use Rattle.pb_normal.specs.declared.numbered.NumberedLiteral.{NumberedLiteral};
 ghost use Rattle.pb_normal.specs.meaning.Rules.{negation};
 ghost use Rattle.pb_propagate.specs.engine.Engine.Lists.{has, says, vacancy};
 ghost use Rattle.pb_propagate.specs.engine.Clauses.Truths.{true_at, false_at, AreMarked};
 
-use crate::clauses::truth::opposite;
+use crate::clause::opposite;
 use pb_normal::NumberedLiteral;
 use std::alloc::{AllocError, Global};
 
@@ -159,6 +159,18 @@ impl Assignment {
         ensures { result ≡ true_at self.now.values.items code }
     {
         self.failed[opposite(code as usize)]
+    }
+
+    /// Whether the literal of a code has no value.
+    pub fn leaves_open(&self, code: u32) -> bool
+        requires { code < 4 * length self.now.values.items }
+        ensures yes { result ≡ true → (true_at self.now.values.items code ≡ false) × (false_at self.now.values.items code ≡ false) }
+        ensures no { result ≡ false → (true_at self.now.values.items code ≡ true) ⊎ (false_at self.now.values.items code ≡ true) }
+    {
+        if self.satisfies(code) {
+            return false;
+        }
+        !self.falsifies(code)
     }
 
     /// Adds a literal to the list.

@@ -1,10 +1,13 @@
-//! Constraints that are clauses.
+//! Constraints that are clauses, and the codes of their literals. A literal has two codes, one for each group of clauses:
+//! four times its variable, plus 2 in long clauses, and plus 1 if it is negated.
 
-ghost use Rattle.std.specs.Prelude.{◌≡◌, ◌<◌, ◌^◌, All, true, false, IfOk};
+ghost use Rattle.std.specs.Prelude.{◌≡◌, ◌+◌, ◌*◌, ◌<◌, ◌≤◌, ◌^◌, All, true, false, IfOk};
 ghost use Rattle.pb_normal.specs.meaning.Form.{IsNormal};
-ghost use Rattle.pb_propagate.specs.engine.Clauses.Shapes.{IsLight, IsClause, code, codes_of_terms, group_by, offset};
+ghost use Rattle.pb_propagate.specs.engine.Clauses.Truths.{flip};
+ghost use Rattle.pb_propagate.specs.engine.Clauses.Shapes.{IsLight, IsClause, code_in, codes_of_terms, group_by};
 
-use pb_normal::{Entry, Normal};
+use crate::store::sorted_form::term_of;
+use pb_normal::{Entry, Normal, NumberedLiteral};
 use std::alloc::{AllocError, Global};
 
 /// Two groups of clauses: the short ones, of at most four literals, and the long ones. Propagation visits the long ones
@@ -47,33 +50,36 @@ pub fn is_clause(form: &Normal) -> bool
     true
 }
 
-// The group of a clause with so many literals.
+// The group of a clause with that number of literals.
 fn group_of(count: usize) -> Group
     ensures { result ≡ group_by count }
 {
     if count < 5 { Group::Short } else { Group::Long }
 }
 
-// Where the codes of a variable's literals begin in a group.
-fn first_of(group: Group) -> u32
-    ensures { result ≡ offset group }
+/// The code of a literal in the clauses of a group.
+pub fn code_of(group: Group, literal: NumberedLiteral) -> usize
+    requires fits { 4 * literal.variable + 4 ≤ 2 ^ 64 }
+    ensures { result ≡ code_in group literal }
 {
-    match group {
-        Group::Short => 0,
-        Group::Long => 2,
-    }
+    let first = match group {
+        Group::Short => 4 * literal.variable,
+        Group::Long => 4 * literal.variable + 2,
+    };
+    if literal.negated { first + 1 } else { first }
 }
 
-// The code of a term's literal in the clauses of a group.
-fn code_of(group: Group, entry: Entry) -> u32
-    requires { entry.variable < 2 ^ 30 }
-    ensures { result ≡ code group entry }
+/// The code of a literal's negation in the same group, and the other of the two watches of a clause. It is compiled as an
+/// exclusive or with 1.
+pub fn opposite(code: usize) -> usize
+    requires { code + 1 < 2 ^ 64 }
+    ensures { result ≡ flip code }
 {
-    let even = 4 * (entry.variable as u32) + first_of(group);
-    if entry.negated {
-        return even + 1;
+    if code % 2 == 0 {
+        code + 1
+    } else {
+        code / 2 * 2
     }
-    even
 }
 
 /// The codes of the terms' literals, in the group of a clause with these terms.
@@ -84,7 +90,8 @@ pub fn codes_of(alloc: Global, entries: &[Entry]) -> Result<Vec<u32>, AllocError
     let group = group_of(entries.len());
     let mut codes = Vec::with_capacity(alloc, entries.len())?;
     'entries: for i in 0..entries.len() {
-        codes.push(code_of(group, entries[i]))?;
+        let term = term_of(entries[i]);
+        codes.push(code_of(group, term.literal) as u32)?;
     }
     Ok(codes)
 }

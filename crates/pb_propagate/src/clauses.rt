@@ -1,39 +1,31 @@
 //! Clauses by slots.
 
-ghost use Rattle.std.specs.Prelude.{◌≡◌, ℕ, ◌+◌, ◌*◌, ◌/◌, ◌<◌, ◌≤◌, ◌++◌, ◌∷◌, [], List, All, Bool, Option, length, slice_set, slice_index, true, false, OnOk, OnErr, IfOk};
+ghost use Rattle.std.specs.Prelude.{◌≡◌, ℕ, ◌+◌, ◌*◌, ◌/◌, ◌<◌, ◌≤◌, ◌++◌, ◌∷◌, [], List, All, Bool, Option, length, slice_set, slice_index, true, false, OnOk, OnErr};
 ghost use Rattle.pb_propagate.specs.engine.Clauses.Links.{lists_of, list_at, watch_at};
 ghost use Rattle.pb_propagate.specs.engine.Clauses.Runs.{AreReady, IsRunning};
 ghost use Rattle.pb_propagate.specs.engine.Engine.Root.{IsServed, HasOpen, IsSameWatch};
 
 pub mod lists;
-pub mod truth;
+pub mod search;
 pub mod visiting;
 
+use crate::assignment::Assignment;
 use crate::clauses::lists::{Watch, put_in, take_out};
-use crate::clauses::truth::{is_false, is_open, is_true};
-use crate::clauses::visiting::position;
+use crate::clauses::search::Search;
 use std::alloc::{AllocError, Global};
 
 // Whether a literal of a clause is open.
-fn some_open(literals: &[u32], values: &[Option<bool>]) -> bool
-    requires inside { All (λ x. x < 4 * length values.now) literals.now }
-    ensures yes { result ≡ true → HasOpen values.now literals.now }
-    ensures no { result ≡ false → HasOpen values.now literals.now → ⊥ }
+fn some_open(literals: &[u32], assignment: &Assignment) -> bool
+    requires inside { All (λ x. x < 4 * length assignment.now.values.items) literals.now }
+    ensures yes { result ≡ true → HasOpen assignment.now.values.items literals.now }
+    ensures no { result ≡ false → HasOpen assignment.now.values.items literals.now → ⊥ }
 {
     'literals: for i in 0..literals.len() {
-        if is_open(values, literals[i]) {
+        if assignment.leaves_open(literals[i]) {
             return true;
         }
     }
     false
-}
-
-// Where the next search in a clause of `count` literals starts: where this one, after `passed` of them, has ended.
-fn next_start(start: usize, passed: usize, count: usize) -> usize {
-    if passed >= count {
-        return start;
-    }
-    position(start, passed, count)
 }
 
 /// Clauses by slots, each with two watched literals.
@@ -41,10 +33,8 @@ fn next_start(start: usize, passed: usize, count: usize) -> usize {
 pub struct Clauses {
     // The literals of each slot's clause, none if the slot is empty.
     literals: Vec<Vec<u32>>,
-    // Where the search in a slot's clause starts. It goes round the clause.
-    starts: Vec<usize>,
-    // How many literals from there on are falsified or watched.
-    passed: Vec<usize>,
+    // The search in each slot's clause.
+    searches: Vec<Search>,
     // The slots whose search has begun in this run.
     moved: Vec<usize>,
     // Two watches for each slot.
@@ -62,8 +52,7 @@ impl Clauses {
     {
         Clauses {
             literals: Vec::new(alloc),
-            starts: Vec::new(alloc),
-            passed: Vec::new(alloc),
+            searches: Vec::new(alloc),
             moved: Vec::new(alloc),
             watches: Vec::new(alloc),
             lists: Vec::new(alloc),
@@ -93,8 +82,7 @@ impl Clauses {
         ensures lists { self.new.lists ≡ self.old.lists }
     {
         let alloc = *self.lists.allocator();
-        self.starts.push(0)?;
-        self.passed.push(0)?;
+        self.searches.push(Search::new())?;
         let idle = Watch {
             literal: 0,
             live: false,
@@ -144,6 +132,7 @@ impl Clauses {
         let second = literals[1];
         put_in(&mut self.lists, &mut self.watches, 2 * slot, first)?;
         put_in(&mut self.lists, &mut self.watches, 2 * slot + 1, second)?;
+        self.searches[slot] = Search::new();
         self.literals[slot] = literals;
         Ok(())
     }
@@ -191,38 +180,39 @@ impl Clauses {
     }
 
     /// Whether the watches of a clause are on literals that are not falsified, or one of them is true.
-    pub fn is_served(&self, values: &[Option<bool>], slot: usize) -> bool
+    pub fn is_served(&self, assignment: &Assignment, slot: usize) -> bool
         requires rest { AreReady self.now }
         requires filled { 0 < length (list_at (lists_of self.now.literals.items) slot) }
-        requires values { length self.now.lists.items ≡ 4 * length values.now }
-        ensures { result ≡ true → IsServed values.now self.now.watches.items slot }
+        requires values { length self.now.lists.items ≡ 4 * length assignment.now.values.items }
+        ensures yes { result ≡ true → IsServed assignment.now.values.items self.now.watches.items slot }
+        ensures no { result ≡ false → IsServed assignment.now.values.items self.now.watches.items slot → ⊥ }
     {
         let first = self.watches[2 * slot].literal;
         let second = self.watches[2 * slot + 1].literal;
-        if is_true(values, first) {
+        if assignment.satisfies(first) {
             return true;
         }
-        if is_true(values, second) {
+        if assignment.satisfies(second) {
             return true;
         }
-        if is_false(values, first) {
+        if assignment.falsifies(first) {
             return false;
         }
-        !is_false(values, second)
+        !assignment.falsifies(second)
     }
 
     /// Whether a literal of a slot's clause is open.
-    pub fn has_open(&self, values: &[Option<bool>], slot: usize) -> bool
+    pub fn has_open(&self, assignment: &Assignment, slot: usize) -> bool
         requires rest { AreReady self.now }
         requires slot { slot < length self.now.literals.items }
-        requires values { length self.now.lists.items ≡ 4 * length values.now }
-        ensures yes { result ≡ true → HasOpen values.now (list_at (lists_of self.now.literals.items) slot) }
-        ensures no { result ≡ false → HasOpen values.now (list_at (lists_of self.now.literals.items) slot) → ⊥ }
+        requires values { length self.now.lists.items ≡ 4 * length assignment.now.values.items }
+        ensures yes { result ≡ true → HasOpen assignment.now.values.items (list_at (lists_of self.now.literals.items) slot) }
+        ensures no { result ≡ false → HasOpen assignment.now.values.items (list_at (lists_of self.now.literals.items) slot) → ⊥ }
     {
-        some_open(self.literals[slot].as_slice(), values)
+        some_open(self.literals[slot].as_slice(), assignment)
     }
 
-    /// Prepares for another run, whose searches start where those of this run ended. Only the clauses in which a search has
+    /// Prepares for another run, whose searches go on where those of this run ended. Only the clauses in which a search has
     /// begun are visited, and nothing is allocated.
     pub fn rest(&mut self)
         requires running { (values : List (Option Bool)) × IsRunning values self.old }
@@ -233,9 +223,7 @@ impl Clauses {
     {
         'slots: for i in 0..self.moved.len() {
             let slot = self.moved[i];
-            let count = self.literals[slot].len();
-            self.starts[slot] = next_start(self.starts[slot], self.passed[slot], count);
-            self.passed[slot] = 0;
+            self.searches[slot].passed = 0;
         }
         self.moved.clear();
     }

@@ -1,10 +1,9 @@
 //! How far the literals of a list are walked in each group of clauses.
 
-ghost use Rattle.std.specs.Prelude.{◌≡◌, ◌+◌, ◌*◌, ◌^◌, ◌<◌, ◌≤◌, All, length, IfSome, IfNone};
-ghost use Rattle.pb_propagate.specs.engine.Clauses.Shapes.{code_in};
+ghost use Rattle.std.specs.Prelude.{◌+◌, ◌*◌, ◌^◌, ◌<◌, ◌≤◌, All, length, IfSome, IfNone};
 ghost use Rattle.pb_propagate.specs.engine.Clauses.Walked.{IsAhead};
 
-use crate::clause::Group;
+use crate::clause::{Group, code_of};
 use pb_normal::NumberedLiteral;
 
 /// How many literals of the list are walked in each group.
@@ -21,18 +20,6 @@ pub struct Ahead {
     pub heads: Heads,
 }
 
-// The code of a literal in the clauses of a group.
-fn code_in_group(group: Group, literal: NumberedLiteral) -> usize
-    requires fits { 4 * literal.variable + 4 ≤ 2 ^ 64 }
-    ensures { result ≡ code_in group literal }
-{
-    let first = match group {
-        Group::Short => 4 * literal.variable,
-        Group::Long => 4 * literal.variable + 2,
-    };
-    if literal.negated { first + 1 } else { first }
-}
-
 /// The next literal of the list in the short clauses, or if all are walked there, in the long ones.
 pub fn next_walk(heads: Heads, list: &[NumberedLiteral]) -> Option<Ahead>
     requires fits { All (λ l. 4 * l.variable + 4 ≤ 2 ^ 64) list.now }
@@ -40,7 +27,7 @@ pub fn next_walk(heads: Heads, list: &[NumberedLiteral]) -> Option<Ahead>
     ensures none { IfNone result ((length list.now ≤ heads.short) × (length list.now ≤ heads.long)) }
 {
     if heads.short < list.len() {
-        let code = code_in_group(Group::Short, list[heads.short].negation());
+        let code = code_of(Group::Short, list[heads.short].negation());
         let heads = Heads {
             short: heads.short + 1,
             long: heads.long,
@@ -48,7 +35,7 @@ pub fn next_walk(heads: Heads, list: &[NumberedLiteral]) -> Option<Ahead>
         return Some(Ahead { code, heads });
     }
     if heads.long < list.len() {
-        let code = code_in_group(Group::Long, list[heads.long].negation());
+        let code = code_of(Group::Long, list[heads.long].negation());
         let heads = Heads {
             short: heads.short,
             long: heads.long + 1,

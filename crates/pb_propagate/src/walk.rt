@@ -6,7 +6,7 @@ ghost use Rattle.pb_propagate.specs.engine.Engine.Counts.{IsCounted, beside, IsT
 ghost use Rattle.pb_propagate.specs.engine.Engine.Fields.{shapes_of, entries_of, IsSound};
 ghost use Rattle.pb_propagate.specs.engine.Clauses.Truths.{false_at};
 ghost use Rattle.pb_propagate.specs.engine.Clauses.Links.{lists_of, list_at};
-ghost use Rattle.pb_propagate.specs.engine.Clauses.Runs.{IsRunning, AreServed, AreWalked, Grows};
+ghost use Rattle.pb_propagate.specs.engine.Clauses.Runs.{IsRunning, AreServed, AreWalked, Grows, passed_of};
 ghost use Rattle.pb_propagate.specs.engine.Clauses.Shapes.{AreJoined, clauses_of, all_of, literal_at};
 
 use crate::clauses::Clauses;
@@ -64,8 +64,8 @@ pub fn walk(
     ensures work { OnOk result (length run.new.work.items + spent (entries_of (shapes_of store.now.stored.items) store.now.occurrences.items) run.old.assignment.list.items ≤ length run.old.work.items + spent (entries_of (shapes_of store.now.stored.items) store.now.occurrences.items) run.new.assignment.list.items) }
 
     // Upper and lower bounds on the number of visits.
-    ensures covered { run.new.visits + sum clauses.old.passed.items + spent (entries_of (shapes_of store.now.stored.items) store.now.occurrences.items) run.old.assignment.list.items ≤ run.old.visits + 2 * length (list_at (lists_of clauses.old.lists.items) literal) + sum clauses.new.passed.items + spent (entries_of (shapes_of store.now.stored.items) store.now.occurrences.items) run.new.assignment.list.items }
-    ensures bounded { (s : ℕ) → slice_index_or clauses.new.passed.items s 0 ≤ length (list_at (clauses_of clauses.old) s) }
+    ensures covered { run.new.visits + sum (passed_of clauses.old) + spent (entries_of (shapes_of store.now.stored.items) store.now.occurrences.items) run.old.assignment.list.items ≤ run.old.visits + 2 * length (list_at (lists_of clauses.old.lists.items) literal) + sum (passed_of clauses.new) + spent (entries_of (shapes_of store.now.stored.items) store.now.occurrences.items) run.new.assignment.list.items }
+    ensures bounded { (s : ℕ) → slice_index_or (passed_of clauses.new) s 0 ≤ length (list_at (clauses_of clauses.old) s) }
     ensures found { OnOk result (AreFound (length run.old.assignment.list.items) (length run.new.assignment.list.items) run.old.visits run.new.visits) }
     ensures rising { OnOk result (run.old.visits ≤ run.new.visits) }
 {

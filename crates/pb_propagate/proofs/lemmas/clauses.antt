@@ -6,7 +6,8 @@ pub mod Killed
 pub mod Linked
 pub mod Literals
 pub mod Marks
-pub mod Members
+pub mod Readings
+pub mod Searches
 pub mod Shapes
 pub mod Slots
 pub mod Steps

@@ -1,14 +1,14 @@
 //! A visit to one watch of a falsified literal.
 
-ghost use Rattle.std.specs.Prelude.{◌≡◌, ℕ, ◌+◌, ◌*◌, ◌-◌, ◌^◌, ◌<◌, ◌≤◌, ◌⊎◌, ◌++◌, ◌∷◌, [], List, Bool, Option, true, false, All, length, min, sum, slice_get, slice_index_or, OnOk, IfOk, Some};
+ghost use Rattle.std.specs.Prelude.{◌≡◌, ℕ, ◌+◌, ◌-◌, ◌^◌, ◌<◌, ◌≤◌, ◌⊎◌, ◌++◌, ◌∷◌, [], List, Bool, Option, true, All, length, min, sum, slice_get, slice_index_or, OnOk, IfOk, Some};
 ghost use Rattle.pb_propagate.specs.engine.Clauses.Truths.{false_at};
 ghost use Rattle.pb_propagate.specs.engine.Clauses.Links.{lists_of, list_at, watch_at, AreLinked, Remains};
-ghost use Rattle.pb_propagate.specs.engine.Clauses.Runs.{IsRunning, AreServed, AreWalked, Grows, HasFound, index_after, turned};
+ghost use Rattle.pb_propagate.specs.engine.Clauses.Runs.{IsRunning, AreServed, AreWalked, Grows, HasFound, index_after, passed_of};
 
 use crate::assignment::Assignment;
+use crate::clause::opposite;
 use crate::clauses::Clauses;
 use crate::clauses::lists::{Watch, put_in, take_out};
-use crate::clauses::truth::opposite;
 use crate::engine::visits::Visits;
 use std::alloc::AllocError;
 
@@ -47,75 +47,6 @@ fn visit_watch(watches: &[Watch], watch: usize, visits: &mut Visits) -> u32
 {
     visits.count();
     watches[watch].literal
-}
-
-// Reads a literal of a clause, and counts the visit.
-fn visit_literal(literals: &[u32], place: usize, visits: &mut Visits) -> u32
-    requires { place < length literals.now }
-    ensures item { (d : ℕ) → result ≡ slice_index_or literals.now place d }
-    ensures rising { visits.old ≤ visits.new }
-    ensures count { visits.new ≡ min (visits.old + 1) (2 ^ 64 - 1) }
-{
-    visits.count();
-    literals[place]
-}
-
-// Whether a literal may be watched in place of a falsified one.
-fn may_watch(assignment: &Assignment, literal: u32, other: u32) -> bool
-    requires { literal < 4 * length assignment.now.values.items }
-    ensures yes { result ≡ true → (false_at assignment.now.values.items literal ≡ false) × (literal ≡ other → ⊥) }
-    ensures no { result ≡ false → (false_at assignment.now.values.items literal ≡ true) ⊎ (literal ≡ other) }
-{
-    if literal == other {
-        return false;
-    }
-    !assignment.falsifies(literal)
-}
-
-// The position of the literal that comes `after` literals past the start, round a clause of `count` literals. A start
-// outside the clause stands for its first literal.
-pub fn position(start: usize, after: usize, count: usize) -> usize
-    requires { after < count }
-    ensures inside { result < count }
-    ensures round { (xs : List ℕ) (d : ℕ) → length xs ≡ count → slice_index_or (turned start xs) after d ≡ slice_index_or xs result d }
-{
-    if start >= count {
-        return after;
-    }
-    let rest = count - start;
-    if after < rest {
-        return start + after;
-    }
-    after - rest
-}
-
-// How many literals come before the first one that may be watched, from the start on and round the clause. The first `from`
-// are passed already.
-fn search(
-    literals: &[u32],
-    start: usize,
-    from: usize,
-    other: u32,
-    assignment: &Assignment,
-    visits: &mut Visits,
-) -> usize
-    requires from { from ≤ length literals.now }
-    requires inside { All (λ x. x < 4 * length assignment.now.values.items) literals.now }
-    ensures after { from ≤ result }
-    ensures within { result ≤ length literals.now }
-    ensures passed { (k d : ℕ) → from ≤ k → k < result → (false_at assignment.now.values.items (slice_index_or (turned start literals.now) k d) ≡ true) ⊎ (slice_index_or (turned start literals.now) k d ≡ other) }
-    ensures found { result < length literals.now → (d : ℕ) → (false_at assignment.now.values.items (slice_index_or (turned start literals.now) result d) ≡ false) × (slice_index_or (turned start literals.now) result d ≡ other → ⊥) }
-    ensures rising { visits.old ≤ visits.new }
-    ensures few { visits.new + from ≤ visits.old + min (result + 1) (length literals.now) }
-{
-    'places: for passed in from..literals.len() {
-        let place = position(start, passed, literals.len());
-        let literal = visit_literal(literals, place, visits);
-        if may_watch(assignment, literal, other) {
-            return passed;
-        }
-    }
-    literals.len()
 }
 
 // Adds a slot to the trail when its search begins.
@@ -176,8 +107,8 @@ pub fn visit_clause(
     ensures kept { OnOk result ((base : List (Option Bool)) (codes : List ℕ) → Grows base assignment.now.values.items → AreWalked base clauses.old.watches.items codes → AreWalked base clauses.new.watches.items codes) }
 
     // Upper and lower bounds on the number of visits.
-    ensures covered { visits.new + sum clauses.old.passed.items ≤ visits.old + 2 + sum clauses.new.passed.items }
-    ensures bounded { (s : ℕ) → slice_index_or clauses.new.passed.items s 0 ≤ length (list_at (lists_of clauses.old.literals.items) s) }
+    ensures covered { visits.new + sum (passed_of clauses.old) ≤ visits.old + 2 + sum (passed_of clauses.new) }
+    ensures bounded { (s : ℕ) → slice_index_or (passed_of clauses.new) s 0 ≤ length (list_at (lists_of clauses.old.literals.items) s) }
     ensures visited { visits.new < 2 ^ 64 - 1 → visits.old + 1 ≤ visits.new }
     ensures rising { visits.old ≤ visits.new }
 {
@@ -187,20 +118,19 @@ pub fn visit_clause(
         return Ok(Visit::Stays);
     }
     let slot = watch / 2;
-    let from = clauses.passed[slot];
-    note(&mut clauses.moved, slot, from)?;
-    let start = clauses.starts[slot];
+    let from = clauses.searches[slot];
+    note(&mut clauses.moved, slot, from.passed)?;
     let literals = clauses.literals[slot].as_slice();
-    let passed = search(literals, start, from, other, assignment, visits);
-    if passed >= literals.len() {
-        clauses.passed[slot] = passed;
+    let stop = from.advance(literals, other, assignment, visits);
+    if stop.passed >= literals.len() {
+        clauses.searches[slot] = stop;
         if assignment.falsifies(other) {
             return Ok(Visit::Falsified);
         }
         return Ok(Visit::Forces(other));
     }
-    let found = literals[position(start, passed, literals.len())];
-    clauses.passed[slot] = passed + 1;
+    let found = literals[stop.position];
+    clauses.searches[slot] = stop.next(literals.len());
     shift(
         &mut clauses.lists,
         &mut clauses.watches,

@@ -175,10 +175,10 @@ impl Root {
         requires values { length self.now.run.assignment.values.items ≡ store.now.variables }
         ensures { result ≡ true → (x : Shape) → slice_get (all_of store.now clauses.now) slot ≡ Some x → IsSpare x self.now.run.assignment.list.items }
     {
-        let values = self.run.assignment.values.as_slice();
         if clauses.is_filled(slot) {
-            return clauses.has_open(values, slot);
+            return clauses.has_open(&self.run.assignment, slot);
         }
+        let values = self.run.assignment.values.as_slice();
         !has_true(&store.stored[slot].terms, values)
     }
 
@@ -264,7 +264,7 @@ impl Root {
     {
         reach(&mut self.run, &mut self.rests, slot)?;
         if clauses.is_filled(slot) {
-            self.live = clauses.is_served(self.run.assignment.values.as_slice(), slot);
+            self.live = clauses.is_served(&self.run.assignment, slot);
             return Ok(());
         }
         let count = self.run.assignment.list.len();

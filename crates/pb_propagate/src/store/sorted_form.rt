@@ -18,8 +18,8 @@ pub struct SortedForm {
     pub ghost inside: { All (λ p. p < length (entries_in form)) order.items },
 }
 
-// An entry as a term.
-fn term_of(entry: Entry) -> Term
+/// An entry as a term.
+pub fn term_of(entry: Entry) -> Term
     ensures { result ≡ as_term entry }
 {
     Term {

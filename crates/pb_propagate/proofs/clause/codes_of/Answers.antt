@@ -1,15 +1,16 @@
 use Rattle.std.specs.Prelude.{false}
-use Rattle.std.proofs.Common.{◌≡◌, subst, get_or, ℕ, ◌++◌, ◌∷◌, [], List, ◌∙◌, sym, ap, arith, map, take, length}
+use Rattle.std.proofs.Common.{◌≡◌, subst, ℕ, ◌++◌, ◌∷◌, [], List, ◌∙◌, sym, ap, arith, map, take, length}
 use Rattle.std.proofs.lemmas.List.{map_more, take_all}
 use Rattle.pb_normal.specs.declared.entry.Entry.{Entry}
-use Rattle.pb_propagate.specs.engine.Clauses.Shapes.{code, group_by}
+use Rattle.pb_propagate.specs.declared.term.Term.{Term}
+use Rattle.pb_propagate.specs.engine.Clauses.Shapes.{code, code_in, group_by}
 use Rattle.pb_propagate.proofs.clause.codes_of.Goals as goal
 
 pub entries-preserved : goal.entries-preserved
 entries-preserved c =
     let e : Entry = record { variable = 0; negated = false; coefficient = 0 } in
     let g = group_by (length c.args.entries.now) in
-    let coded = subst (λ k. c.code_of.result ≡ code k (get_or c.args.entries.now c.entries.i e)) c.entries.invariant.0 c.code_of.ensures in
+    let coded = subst (λ k. c.code_of.result ≡ code_in k c.term_of-term.result.literal) c.entries.invariant.0 c.code_of.ensures ∙ ap (λ (t : Term). code_in g t.literal) c.term_of-term.ensures in
     (c.entries.invariant.0, c.in_ok-push.ensures.items ∙ ap (λ (xs : List ℕ). xs ++ (c.code_of.result ∷ [])) c.entries.invariant.1 ∙ ap (λ x. map (code g) (take c.entries.i c.args.entries.now) ++ (x ∷ [])) coded ∙ sym (map_more (code g) c.args.entries.now c.entries.i e c.entries-test.true))
 
 pub returns : goal.returns

@@ -1,6 +1,6 @@
 -- How many visits there are.
 use Rattle.std.specs.Prelude.{◌||◌, ◌==◌, Bool, true, false, Some, map, slice_get, Contains, sum, sum_by, count_by, ◌/◌}
-use Rattle.std.proofs.Common.{◌≡◌, ℕ, zero, suc, ◌+◌, ◌<◌, ◌≤◌, ◌⊎◌, ◌++◌, ◌∷◌, [], List, cond, refl, sym, ◌∙◌, ap, subst, arith, inl, inr, length, get_or, set, eq-eqb, get_or-set_other}
+use Rattle.std.proofs.Common.{◌≡◌, ℕ, suc, ◌+◌, ◌<◌, ◌≤◌, ◌⊎◌, ◌++◌, ◌∷◌, [], List, cond, refl, sym, ◌∙◌, ap, subst, arith, inl, inr, length, get_or, set, eq-eqb, get_or-set_other}
 use Rattle.std.proofs.lemmas.Bool.{cases_lt, both_ways, eqb-true}
 use Rattle.std.proofs.lemmas.List.{get_or_past, get_or-map, length-map}
 use Rattle.std.proofs.lemmas.List.Sums.{sum_by-cons, sum_by-set, sum-map, get_or-le-sum_by, count_by-le-length}
@@ -37,32 +37,11 @@ pigeons (x ∷ xs) ws single weighs =
         let old : 1 ≤ get_or ws (get_or xs i d) 0 = weighs (suc i) d (omega (arith, h)) in
         omega (arith, old, get_or-set_other ws x (get_or xs i d) 0 0 apart)
 
-ones : ℕ → List ℕ
-ones zero = []
-ones (suc n) = 1 ∷ ones n
-
-sum-ones : (n : ℕ) → sum (ones n) ≡ n
-unfolding ones
-sum-ones zero = refl
-sum-ones (suc n) = let h = sum-ones n in omega (arith, sum_by-cons (λ x. x) 1 (ones n), h)
-
-get-ones : (n x : ℕ) → x < n → get_or (ones n) x 0 ≡ 1
-unfolding ones
-get-ones zero x h = absurd (omega (arith, h))
-get-ones (suc n) zero h = refl
-get-ones (suc n) (suc x) h = get-ones n x (omega (arith, h))
-
--- different numbers below a bound: there are no more of them than the bound
-pub single-short : (xs : List ℕ) (n : ℕ) → AreSingle xs → ((i d : ℕ) → i < length xs → get_or xs i d < n) → length xs ≤ n
-single-short xs n single small =
-    let h = pigeons xs (ones n) single (λ i d inside. omega (arith, get-ones n (get_or xs i d) (small i d inside))) in
-    omega (arith, h, sum-ones n)
-
 -- how often a literal occurs
 abbrev pub occurs : List (List ℕ) → ℕ → ℕ
 occurs clauses l = sum_by (λ xs. count_by (λ x. l == x) xs) clauses
 
-count-some : (xs : List ℕ) (l : ℕ) → Contains xs l → 1 ≤ count_by (λ x. l == x) xs
+pub count-some : (xs : List ℕ) (l : ℕ) → Contains xs l → 1 ≤ count_by (λ x. l == x) xs
 count-some xs l (k, inside, is) =
     let one : ◌≡◌ {A = ℕ} (cond (l == get_or xs k l) 1 0) 1 = ap (λ (b : Bool). cond {A = ℕ} b 1 0) (eq-eqb l (get_or xs k l) (sym is)) in
     let most = get_or-le-sum_by (λ x. cond (l == x) 1 0) xs k l inside in

@@ -1,6 +1,6 @@
 -- The occurrences of the literals on a list, and of their negations.
 use Rattle.std.specs.Prelude.{◌==◌, ◌||◌, Bool, true, false, Contains, map, sum_by, count_by}
-use Rattle.std.proofs.Common.{◌≡◌, ℕ, zero, suc, ◌+◌, ◌<◌, ◌≤◌, ◌⊎◌, cond, ◌++◌, ◌∷◌, [], List, refl, sym, ◌∙◌, ap, subst, arith, inl, inr, length, get_or, take, eq-eqb}
+use Rattle.std.proofs.Common.{◌≡◌, ℕ, ◌+◌, ◌<◌, ◌≤◌, ◌⊎◌, cond, ◌++◌, ◌∷◌, [], List, refl, sym, ◌∙◌, ap, subst, arith, inl, inr, length}
 use Rattle.std.proofs.lemmas.Bool.{cases_Bool, both_ways, eqb-true, or_cases, or_left, or_right}
 use Rattle.std.proofs.lemmas.List.{map-append}
 use Rattle.std.proofs.lemmas.List.Sums.{sum_by-cons, get_or-le-sum_by}
@@ -15,7 +15,7 @@ use Rattle.pb_propagate.specs.engine.Clauses.Links.{list_at}
 use Rattle.pb_propagate.proofs.lemmas.engine.Literals.{same-refl}
 use Rattle.pb_propagate.proofs.lemmas.clauses.Literals.{code-injective, groups-apart}
 use Rattle.pb_propagate.proofs.lemmas.clauses.Codes.{has as stands}
-use Rattle.pb_propagate.proofs.lemmas.clauses.Counts.{killed, killed-more, killed-most, occurs}
+use Rattle.pb_propagate.proofs.lemmas.clauses.Counts.{killed, killed-more, killed-most, occurs, count-some}
 use Rattle.pb_propagate.proofs.lemmas.clauses.Stores.{slot-room}
 
 -- a list and its negations have no literal in common
@@ -51,27 +51,6 @@ risen-push clauses xs l absent =
   where
     one : (g : Group) → killed clauses (map (code_in g) (xs ++ (l ∷ []))) ≡ killed clauses (map (code_in g) xs) + occurs clauses (code_in g l)
     one g = ap (killed clauses) (map-append (code_in g) xs (l ∷ [])) ∙ killed-more clauses (map (code_in g) xs) (code_in g l) (fresh-code g xs l absent)
-
-bit-within : (a b : Bool) → (a ≡ true → b ≡ true) → cond a 1 0 ≤ cond b 1 0
-bit-within true true h = omega arith
-bit-within true false h = absurd (both_ways _ refl (h refl))
-bit-within false true h = omega arith
-bit-within false false h = omega arith
-
--- fewer are counted by a narrower test
-count-within : (p q : ℕ → Bool) → ((x : ℕ) → p x ≡ true → q x ≡ true) → (xs : List ℕ) → count_by p xs ≤ count_by q xs
-count-within p q h [] = omega arith
-count-within p q h (x ∷ xs) =
-    let rest = count-within p q h xs in
-    let here = bit-within (p x) (q x) (h x) in
-    omega (arith, rest, here, sum_by-cons (λ y. cond (p y) 1 0) x xs, sum_by-cons (λ y. cond (q y) 1 0) x xs)
-
-pub killed-within : (clauses : List (List ℕ)) (a b : List ℕ) → ((x : ℕ) → stands a x ≡ true → stands b x ≡ true) → killed clauses a ≤ killed clauses b
-killed-within [] a b h = omega arith
-killed-within (xs ∷ clauses) a b h =
-    let rest = killed-within clauses a b h in
-    let here = count-within (stands a) (stands b) h xs in
-    omega (arith, rest, here, sum_by-cons (λ ys. count_by (λ x. stands a x) ys) xs clauses, sum_by-cons (λ ys. count_by (λ x. stands b x) ys) xs clauses)
 
 bit-apart : (a b : Bool) → (a ≡ true → b ≡ true → ⊥) → cond a 1 0 + cond b 1 0 ≤ 1
 bit-apart true true h = absurd (h refl refl)
@@ -162,25 +141,9 @@ fallen-most clauses list =
     let fl = map (falsified_code Long) list in
     omega (arith, killed-join clauses fs fl (λ x a b. split-apart negation negation list x a b), killed-most clauses (fs ++ fl))
 
--- the first literals
-stands-take : (f : NumberedLiteral → ℕ) (n : ℕ) (xs : List NumberedLiteral) (x : ℕ) → stands (map f (take n xs)) x ≡ true → stands (map f xs) x ≡ true
-stands-take f zero [] x h = h
-stands-take f zero (k ∷ xs) x h = absurd (both_ways _ refl h)
-stands-take f (suc n) [] x h = h
-stands-take f (suc n) (k ∷ xs) x h = elim (or_cases (f k == x) (stands (map f (take n xs)) x) h) [
-  | inl is ↦ or_left (f k == x) (stands (map f xs) x) is
-  | inr old ↦ or_right (f k == x) (stands (map f xs) x) (stands-take f n xs x old)
-]
-
--- how often a literal of a clause occurs
-count-one : (xs : List ℕ) (l : ℕ) → Contains xs l → 1 ≤ count_by (λ x. l == x) xs
-count-one xs l (k, inside, is) =
-    let one : ◌≡◌ {A = ℕ} (cond (l == get_or xs k l) 1 0) 1 = ap (λ (b : Bool). cond {A = ℕ} b 1 0) (eq-eqb l (get_or xs k l) (sym is)) in
-    let most = get_or-le-sum_by (λ x. cond (l == x) 1 0) xs k l inside in
-    omega (arith, one, most)
-
+-- a literal of a clause occurs
 pub occurs-some : (clauses : List (List ℕ)) (s l : ℕ) → 0 < length (list_at clauses s) → Contains (list_at clauses s) l → 1 ≤ occurs clauses l
 occurs-some clauses s l some there =
-    let one = count-one (list_at clauses s) l there in
+    let one = count-some (list_at clauses s) l there in
     let most = get_or-le-sum_by (λ xs. count_by (λ x. l == x) xs) clauses s [] (slot-room clauses s some) in
     omega (arith, one, most)

@@ -1,20 +1,23 @@
 -- Clauses are added and removed.
-use Rattle.std.specs.Prelude.{Bool, Option, true, false, Some, slice_get, All, Contains, Vec, ◌/◌}
+use Rattle.std.specs.Prelude.{Bool, Option, true, false, Some, slice_get, All, Contains, Vec, map, ◌/◌}
 use Rattle.std.specs.Global.{Global}
-use Rattle.std.proofs.Common.{◌≡◌, ℕ, ◌+◌, ◌*◌, ◌<◌, ◌≤◌, ◌⊎◌, ◌++◌, ◌∷◌, [], List, refl, sym, ◌∙◌, ap, subst, arith, inl, inr, length, get_or, set, length-set, length-append, get_or-set_same, get_or-set_other}
+use Rattle.std.proofs.Common.{◌≡◌, ℕ, zero, suc, ◌+◌, ◌*◌, ◌<◌, ◌≤◌, ◌⊎◌, ◌++◌, ◌∷◌, [], List, refl, sym, ◌∙◌, ap, subst, arith, inl, inr, length, get_or, set, length-set, length-append, get_or-set_same, get_or-set_other}
 use Rattle.std.proofs.lemmas.Bool.{cases_eq, cases_lt, both_ways}
-use Rattle.std.proofs.lemmas.List.{get_or_past, get_or_read, map-append, map-set}
+use Rattle.std.proofs.lemmas.List.{get_or_past, get_or_read, get_or_append_left, map-append, map-set}
 use Rattle.std.proofs.lemmas.List.Elements.{Contains-get_or}
 use Rattle.std.proofs.lemmas.Option.{slice_get_within}
 use Rattle.pb_propagate.specs.declared.clauses.lists.Watch.{Watch}
+use Rattle.pb_propagate.specs.declared.clauses.search.Search.{Search}
 use Rattle.pb_propagate.specs.declared.clauses.Clauses.{Clauses}
 use Rattle.pb_propagate.specs.engine.Clauses.Truths.{flip}
 use Rattle.pb_propagate.specs.engine.Clauses.Links.{idle, watch_at, list_at, lists_of, Sits, AreLinked}
-use Rattle.pb_propagate.specs.engine.Clauses.Runs.{AreStored, AreNoted, AreReady, IsRunning}
+use Rattle.pb_propagate.specs.engine.Clauses.Runs.{AreStored, AreNoted, AreReady, IsRunning, passed_of, search_at}
 use Rattle.pb_propagate.proofs.lemmas.clauses.Linked.{list-within, lists-length}
 use Rattle.pb_propagate.proofs.lemmas.clauses.Truths.{flip-half, flip-flip, flip-even}
 use Rattle.pb_propagate.proofs.lemmas.clauses.Steps.{live-within}
+use Rattle.pb_propagate.proofs.lemmas.clauses.Readings.{running-bounded, searches-length}
 use Rattle.pb_propagate.proofs.lemmas.clauses.Gets.{push-default}
+use Rattle.pb_propagate.proofs.lemmas.clauses.Searches.{passed-at, round-inside}
 use Rattle.pb_propagate.proofs.lemmas.clauses.Turned.{turned-count}
 
 -- what is known of clauses depends only on the element at each position
@@ -67,18 +70,21 @@ left-none passed moved i end old s = elim (old.each s) [
 pub noted-slot : (values : List (Option Bool)) (c : Clauses) (moved : List ℕ) (i slot : ℕ) → IsRunning values c → moved ≡ c.moved.items → i < length moved → slot ≡ get_or moved i slot → slot < length c.literals.items
 noted-slot values c moved i slot run same inside is =
     let named = run.noted.named i slot (omega (arith, inside, ap length same)) in
-    omega (arith, named, is, ap (λ ms. get_or ms i slot) same, run.passed.sizes, turned-count c.starts.items (lists_of c.literals.items), lists-length c.literals.items)
+    omega (arith, named, is, ap (λ ms. get_or ms i slot) same, run.passed.sizes, turned-count run.starts (lists_of c.literals.items), lists-length c.literals.items)
 
 -- once no search has passed anything, the clauses are ready
-pub rest-ready : (values : List (Option Bool)) (c c' : Clauses) (i : ℕ) → IsRunning values c → c'.literals ≡ c.literals → c'.watches ≡ c.watches → c'.lists ≡ c.lists → length c'.starts.items ≡ length c.starts.items → length c'.passed.items ≡ length c.passed.items →
-    AreLeft c'.passed.items c.moved.items i → length c.moved.items ≤ i → c'.moved.items ≡ [] → AreReady c'
-rest-ready values c c' i run literals watches lists starts passed left end none =
+pub rest-ready : (values : List (Option Bool)) (c c' : Clauses) (i : ℕ) → IsRunning values c → c'.literals ≡ c.literals → c'.watches ≡ c.watches → c'.lists ≡ c.lists → length c'.searches.items ≡ length c.searches.items → ((s : ℕ) → (search_at c'.searches.items s).position ≡ (search_at c.searches.items s).position) →
+    AreLeft (passed_of c') c.moved.items i → length c.moved.items ≤ i → c'.moved.items ≡ [] → AreReady c'
+rest-ready values c c' i run literals watches lists searches positions left end none =
     let as_many : length c'.literals.items ≡ length c.literals.items = ap (λ (v : Vec (Vec ℕ Global) Global). length v.items) literals in
     record {
       stored = rw (literals, watches, lists) run.stored;
-      sizes = omega (arith, passed, as_many, run.passed.sizes, turned-count c.starts.items (lists_of c.literals.items), lists-length c.literals.items);
-      starts = omega (arith, starts, as_many, run.starts);
-      none = left-none c'.passed.items c.moved.items i end left;
+      sizes = omega (arith, searches, as_many, searches-length c values run);
+      inside = λ s some.
+          let same : length (list_at (lists_of c'.literals.items) s) ≡ length (list_at (lists_of c.literals.items) s) = ap (λ (v : Vec (Vec ℕ Global) Global). length (list_at (lists_of v.items) s)) literals in
+          let low = round-inside (get_or run.starts s 0) (search_at c.searches.items s) (length (list_at (lists_of c.literals.items) s)) (run.round s (omega (arith, some, same))) (omega (arith, running-bounded c values run s, passed-at c.searches.items s)) in
+          omega (arith, low, same, positions s);
+      none = left-none (passed_of c') c.moved.items i end left;
       trail = none;
     }
 
@@ -96,6 +102,13 @@ empty-dead clauses ws ls s e stored none slot = by (watch_at ws e).live refl
     by : (b : Bool) → (watch_at ws e).live ≡ b → (watch_at ws e).live ≡ false
     by true h = absurd (omega (arith, (stored.watched e h).1, ap length (ap (list_at clauses) slot ∙ none)))
     by false h = h
+
+-- a slot with literals is one of them
+pub slot-room : (clauses : List (List ℕ)) (s : ℕ) → 0 < length (list_at clauses s) → s < length clauses
+slot-room clauses s some = elim (cases_lt s (length clauses)) [
+  | inl inside ↦ inside
+  | inr past ↦ absurd (omega (arith, some, ap length (get_or_past clauses s [] past)))
+]
 
 -- a clause was added
 pub stored-fill : (clauses : List (List ℕ)) (ws ws' : List Watch) (ls ls' : List (List ℕ)) (s x y : ℕ) (xs : List ℕ) → AreStored clauses ws ls → AreLinked ws' ls' → s < length clauses → length ws' ≡ length ws → length ls' ≡ length ls →
@@ -223,32 +236,38 @@ lists-push occ occ' v pushed none l =
     ap (λ xs. list_at xs l) whole ∙ push-default (lists_of occ) l []
 
 pub rest-widen : (c : Clauses) (lists' : Vec (Vec ℕ Global) Global) (occ1 : List (Vec ℕ Global)) (v w : Vec ℕ Global) → AreReady c → occ1 ≡ c.lists.items ++ (v ∷ []) → lists'.items ≡ occ1 ++ (w ∷ []) → v.items ≡ [] → w.items ≡ [] →
-    AreReady (record { literals = c.literals; starts = c.starts; passed = c.passed; moved = c.moved; watches = c.watches; lists = lists' })
+    AreReady (record { literals = c.literals; searches = c.searches; moved = c.moved; watches = c.watches; lists = lists' })
 rest-widen c lists' occ1 v w r one two none_v none_w = record {
   stored = stored-same (lists_of c.literals.items) (lists_of c.literals.items) c.watches.items c.watches.items (lists_of c.lists.items) (lists_of lists'.items) (λ s. refl) (λ e. refl)
       (λ l. lists-push occ1 lists'.items w two none_w l ∙ lists-push c.lists.items occ1 v one none_v l)
       r.stored.pairs (omega (arith, lists-length c.lists.items, lists-length lists'.items, ap length one, ap length two, length-append c.lists.items (v ∷ []), length-append occ1 (w ∷ []))) r.stored;
   sizes = r.sizes;
-  starts = r.starts;
+  inside = r.inside;
   none = r.none;
   trail = r.trail;
 }
 
-pub rest-extend : (c : Clauses) (literals' : Vec (Vec ℕ Global) Global) (starts' passed' : Vec ℕ Global) (watches' : Vec Watch Global) (ws1 : List Watch) (v : Vec ℕ Global) (i : Watch) → AreReady c → i ≡ idle → literals'.items ≡ c.literals.items ++ (v ∷ []) → v.items ≡ [] → starts'.items ≡ c.starts.items ++ (0 ∷ []) → passed'.items ≡ c.passed.items ++ (0 ∷ []) → ws1 ≡ c.watches.items ++ (i ∷ []) → watches'.items ≡ ws1 ++ (i ∷ []) →
-    AreReady (record { literals = literals'; starts = starts'; passed = passed'; moved = c.moved; watches = watches'; lists = c.lists })
-rest-extend c literals' starts' passed' watches' ws1 v i r is_idle pushed none_v started passed one two =
+pub rest-extend : (c : Clauses) (literals' : Vec (Vec ℕ Global) Global) (searches' : Vec Search Global) (watches' : Vec Watch Global) (ws1 : List Watch) (v : Vec ℕ Global) (i : Watch) (x : Search) → AreReady c → i ≡ idle → x.passed ≡ 0 → literals'.items ≡ c.literals.items ++ (v ∷ []) → v.items ≡ [] → searches'.items ≡ c.searches.items ++ (x ∷ []) → ws1 ≡ c.watches.items ++ (i ∷ []) → watches'.items ≡ ws1 ++ (i ∷ []) →
+    AreReady (record { literals = literals'; searches = searches'; moved = c.moved; watches = watches'; lists = c.lists })
+rest-extend c literals' searches' watches' ws1 v i x r is_idle fresh pushed none_v searching one two =
     let one_idle : ws1 ≡ c.watches.items ++ (idle ∷ []) = one ∙ ap (λ (w : Watch). c.watches.items ++ (w ∷ [])) is_idle in
     let two_idle : watches'.items ≡ ws1 ++ (idle ∷ []) = two ∙ ap (λ (w : Watch). ws1 ++ (w ∷ [])) is_idle in
+    let same = lists-push c.literals.items literals'.items v pushed none_v in
+    let passed : map (λ (y : Search). y.passed) searches'.items ≡ passed_of c ++ (0 ∷ []) = ap (map (λ (y : Search). y.passed)) searching ∙ map-append (λ (y : Search). y.passed) c.searches.items (x ∷ []) ∙ ap (λ (n : ℕ). passed_of c ++ (n ∷ [])) fresh in
     record {
       stored = stored-same (lists_of c.literals.items) (lists_of literals'.items) c.watches.items watches'.items (lists_of c.lists.items) (lists_of c.lists.items)
-          (lists-push c.literals.items literals'.items v pushed none_v)
+          same
           (λ e. ap (λ ws. watch_at ws e) two_idle ∙ push-default ws1 e idle ∙ ap (λ ws. watch_at ws e) one_idle ∙ push-default c.watches.items e idle)
           (λ l. refl)
           (omega (arith, ap length one_idle, ap length two_idle, length-append c.watches.items (idle ∷ []), length-append ws1 (idle ∷ []), ap length pushed, length-append c.literals.items (v ∷ []), lists-length c.literals.items, lists-length literals'.items, r.stored.pairs))
           (omega arith) r.stored;
-      sizes = omega (arith, r.sizes, ap length passed, ap length pushed, length-append c.passed.items (0 ∷ []), length-append c.literals.items (v ∷ []));
-      starts = omega (arith, r.starts, ap length started, ap length pushed, length-append c.starts.items (0 ∷ []), length-append c.literals.items (v ∷ []));
-      none = λ s. ap (λ ps. get_or ps s 0) passed ∙ push-default c.passed.items s 0 ∙ r.none s;
+      sizes = omega (arith, r.sizes, ap length searching, ap length pushed, length-append c.searches.items (x ∷ []), length-append c.literals.items (v ∷ []));
+      inside = λ s some.
+          let many : 0 < length (list_at (lists_of c.literals.items) s) = omega (arith, some, ap length (same s)) in
+          let room : s < length c.searches.items = omega (arith, slot-room (lists_of c.literals.items) s many, lists-length c.literals.items, r.sizes) in
+          let old : search_at searches'.items s ≡ search_at c.searches.items s = ap (λ ss. search_at ss s) searching ∙ get_or_append_left c.searches.items (x ∷ []) (record { position = 0; passed = 0 }) s room in
+          omega (arith, r.inside s many, ap length (same s), ap (λ (y : Search). y.position) old);
+      none = λ s. ap (λ ps. get_or ps s 0) passed ∙ push-default (passed_of c) s 0 ∙ r.none s;
       trail = r.trail;
     }
 
@@ -256,11 +275,11 @@ rest-extend c literals' starts' passed' watches' ws1 v i r is_idle pushed none_v
 pub literals-set : (occ : List (Vec ℕ Global)) (s : ℕ) (v : Vec ℕ Global) → lists_of (set occ s v) ≡ set (lists_of occ) s v.items
 literals-set occ s v = map-set (λ (x : Vec ℕ Global). x.items) occ s v
 
-pub rest-fill : (c : Clauses) (literals' : Vec (Vec ℕ Global) Global) (watches' : Vec Watch Global) (lists' : Vec (Vec ℕ Global) Global) (ws1 : List Watch) (w1 w2 : Watch) (s x y : ℕ) (v : Vec ℕ Global) → AreReady c → s < length c.literals.items → list_at (lists_of c.literals.items) s ≡ [] →
+pub rest-fill : (c : Clauses) (literals' : Vec (Vec ℕ Global) Global) (watches' : Vec Watch Global) (lists' : Vec (Vec ℕ Global) Global) (ws1 : List Watch) (w1 w2 : Watch) (searches' : Vec Search Global) (f : Search) (s x y : ℕ) (v : Vec ℕ Global) → AreReady c → searches'.items ≡ set c.searches.items s f → (f.position ≡ 0) × (f.passed ≡ 0) → s < length c.literals.items → list_at (lists_of c.literals.items) s ≡ [] →
     2 ≤ length v.items → x ≡ get_or v.items 0 0 → y ≡ get_or v.items 1 0 → (get_or v.items 0 0 ≡ get_or v.items 1 0 → ⊥) → All (λ z. z < length c.lists.items) v.items →
     literals'.items ≡ set c.literals.items s v → ws1 ≡ set c.watches.items (2 * s) w1 → watches'.items ≡ set ws1 (2 * s + 1) w2 → w1.live ≡ true → w1.literal ≡ x → w2.live ≡ true → w2.literal ≡ y → AreLinked watches'.items (lists_of lists'.items) → length lists'.items ≡ length c.lists.items →
-    AreReady (record { literals = literals'; starts = c.starts; passed = c.passed; moved = c.moved; watches = watches'; lists = lists' })
-rest-fill c literals' watches' lists' ws1 w1 w2 s x y v r room empty two x_is y_is apart inside now one both live_1 at_1 live_2 at_2 linked sizes =
+    AreReady (record { literals = literals'; searches = searches'; moved = c.moved; watches = watches'; lists = lists' })
+rest-fill c literals' watches' lists' ws1 w1 w2 searches' f s x y v r searching fresh room empty two x_is y_is apart inside now one both live_1 at_1 live_2 at_2 linked sizes =
     let clauses = lists_of c.literals.items in
     let room_c : s < length clauses = omega (arith, room, lists-length c.literals.items) in
     let wide : 2 * s + 1 < length c.watches.items = omega (arith, room_c, r.stored.pairs) in
@@ -274,24 +293,53 @@ rest-fill c literals' watches' lists' ws1 w1 w2 s x y v r room empty two x_is y_
     (λ k d h. let small = inside k d h in omega (arith, small, lists-length c.lists.items))
     (ap (λ (w : Watch). w.live) first ∙ live_1) (ap (λ (w : Watch). w.literal) first ∙ at_1) (ap (λ (w : Watch). w.live) second ∙ live_2) (ap (λ (w : Watch). w.literal) second ∙ at_2)
     (λ k n. ap (λ ws. watch_at ws k) both ∙ get_or-set_other ws1 (2 * s + 1) k w2 idle (λ h. n (omega (arith, h))) ∙ ap (λ ws. watch_at ws k) one ∙ get_or-set_other c.watches.items (2 * s) k w1 idle (λ h. n (omega (arith, h)))) in
+    let filled : lists_of literals'.items ≡ set clauses s v.items = ap lists_of now ∙ literals-set c.literals.items s v in
     record {
-      stored = subst (λ cs. AreStored cs watches'.items (lists_of lists'.items)) (sym (ap lists_of now ∙ literals-set c.literals.items s v)) stored;
-      sizes = r.sizes ∙ sym (ap length now ∙ length-set c.literals.items s v);
-      starts = r.starts ∙ sym (ap length now ∙ length-set c.literals.items s v);
-      none = r.none;
+      stored = subst (λ cs. AreStored cs watches'.items (lists_of lists'.items)) (sym filled) stored;
+      sizes = omega (arith, r.sizes, ap length searching, length-set c.searches.items s f, ap length now, length-set c.literals.items s v);
+      inside = λ t some. inside-at filled t some (cases_eq t s);
+      none = λ t. none-at t (cases_eq t s);
       trail = r.trail;
     }
+  where
+    here : search_at searches'.items s ≡ f
+    here = ap (λ ss. search_at ss s) searching ∙ get_or-set_same c.searches.items s f (record { position = 0; passed = 0 }) (omega (arith, room, r.sizes))
+
+    other : (t : ℕ) → (t ≡ s → ⊥) → search_at searches'.items t ≡ search_at c.searches.items t
+    other t n = ap (λ ss. search_at ss t) searching ∙ get_or-set_other c.searches.items s t f (record { position = 0; passed = 0 }) n
+
+    inside-at : lists_of literals'.items ≡ set (lists_of c.literals.items) s v.items → (t : ℕ) → 0 < length (list_at (lists_of literals'.items) t) → (t ≡ s) ⊎ (t ≡ s → ⊥) → (search_at searches'.items t).position < length (list_at (lists_of literals'.items) t)
+    inside-at filled t some (inl is) = omega (arith, some, ap (λ u. (search_at searches'.items u).position) is, ap (λ (y : Search). y.position) here, fresh.0)
+    inside-at filled t some (inr n) =
+        let same : list_at (lists_of literals'.items) t ≡ list_at (lists_of c.literals.items) t = ap (λ cs. list_at cs t) filled ∙ get_or-set_other (lists_of c.literals.items) s t v.items [] n in
+        omega (arith, r.inside t (omega (arith, some, ap length same)), ap length same, ap (λ (y : Search). y.position) (other t n))
+
+    none-at : (t : ℕ) → (t ≡ s) ⊎ (t ≡ s → ⊥) → get_or (map (λ (y : Search). y.passed) searches'.items) t 0 ≡ 0
+    none-at t (inl is) = passed-at searches'.items t ∙ ap (λ u. (search_at searches'.items u).passed) is ∙ ap (λ (y : Search). y.passed) here ∙ fresh.1
+    none-at t (inr n) = passed-at searches'.items t ∙ ap (λ (y : Search). y.passed) (other t n) ∙ sym (passed-at c.searches.items t) ∙ r.none t
 
 -- the position of a live watch of a slot
 pub slot-sits : (clauses : List (List ℕ)) (ws : List Watch) (ls : List (List ℕ)) (s e : ℕ) → AreStored clauses ws ls → 0 < length (list_at clauses s) → (e ≡ 2 * s) ⊎ (e ≡ 2 * s + 1) → (watch_at ws e).live ≡ true
 slot-sits clauses ws ls s e stored some (inl is) = ap (λ k. (watch_at ws k).live) is ∙ stored.full s some
 slot-sits clauses ws ls s e stored some (inr is) = ap (λ k. (watch_at ws k).live) (is ∙ sym (flip-even s)) ∙ stored.paired (2 * s) (stored.full s some)
 
-pub slot-room : (clauses : List (List ℕ)) (s : ℕ) → 0 < length (list_at clauses s) → s < length clauses
-slot-room clauses s some = elim (cases_lt s (length clauses)) [
-  | inl inside ↦ inside
-  | inr past ↦ absurd (omega (arith, some, ap length (get_or_past clauses s [] past)))
-]
+-- the other searches stand inside their clauses if one clause goes
+pub vacated-inside : (c : Clauses) (literals' : List (Vec ℕ Global)) (s : ℕ) (v : Vec ℕ Global) → AreReady c → literals' ≡ set c.literals.items s v → v.items ≡ [] → (t : ℕ) → 0 < length (list_at (lists_of literals') t) → (t ≡ s) ⊎ (t ≡ s → ⊥) → (search_at c.searches.items t).position < length (list_at (lists_of literals') t)
+vacated-inside c literals' s v r now none t some by =
+    let vacated : lists_of literals' ≡ set (lists_of c.literals.items) s [] = ap lists_of now ∙ literals-set c.literals.items s v ∙ ap (set (lists_of c.literals.items) s) none in
+    elim by [
+      | inl is ↦
+          let gone : list_at (lists_of literals') t ≡ [] = ap (λ cs. list_at cs t) vacated ∙ ap (list_at (set (lists_of c.literals.items) s [])) is ∙ set-nothing (lists_of c.literals.items) s in
+          absurd (omega (arith, some, ap length gone))
+      | inr n ↦
+          let same : list_at (lists_of literals') t ≡ list_at (lists_of c.literals.items) t = ap (λ cs. list_at cs t) vacated ∙ get_or-set_other (lists_of c.literals.items) s t [] [] n in
+          omega (arith, r.inside t (omega (arith, some, ap length same)), ap length same)
+    ]
+  where
+    set-nothing : (cs : List (List ℕ)) (i : ℕ) → list_at (set cs i []) i ≡ []
+    set-nothing [] i = refl
+    set-nothing (xs ∷ cs) zero = refl
+    set-nothing (xs ∷ cs) (suc i) = set-nothing cs i
 
 -- a live watch as it is read
 pub record Stands (ws : List Watch) (ls : List (List ℕ)) (e : ℕ) (w : Watch) : Type 0 where

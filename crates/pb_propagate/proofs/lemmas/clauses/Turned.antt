@@ -1,9 +1,8 @@
 -- Clauses in the order in which they are searched.
-use Rattle.std.proofs.Common.{◌≡◌, ℕ, zero, suc, ◌+◌, ◌*◌, ◌-◌, ◌<◌, ◌≤◌, ◌⊎◌, true, List, [], ◌∷◌, ◌++◌, length, get_or, take, refl, sym, ◌∙◌, ap, subst, arith, inl, inr, length-append}
+use Rattle.std.proofs.Common.{◌≡◌, ℕ, zero, suc, ◌+◌, ◌*◌, ◌-◌, ◌<◌, ◌≤◌, ◌⊎◌, true, List, [], ◌∷◌, length, get_or, take, refl, sym, ◌∙◌, ap, subst, arith, inl, inr, length-append}
 use Rattle.std.specs.Prelude.{◌/◌, Contains, Bool, Option, drop}
-use Rattle.std.proofs.lemmas.List.{take-append-drop, length-drop, get_or-drop, get_or-take, get_or_append_left, get_or-append_right, append-nil}
+use Rattle.std.proofs.lemmas.List.{take-append-drop, length-drop, get_or-drop, get_or-take, get_or_append_left, get_or-append_right}
 use Rattle.std.proofs.lemmas.List.Elements.{All-contains, Contains-append_left, Contains-append_right, Contains-append_cases, Contains-get_or}
-use Rattle.std.proofs.Math.ListN.{drop_of_length-le}
 use Rattle.pb_propagate.specs.declared.clauses.lists.Watch.{Watch}
 use Rattle.pb_propagate.specs.engine.Clauses.Links.{list_at, watch_at}
 use Rattle.pb_propagate.specs.engine.Clauses.Truths.{false_at}
@@ -18,13 +17,6 @@ turned-early start k xs d h = get_or_append_left (drop start xs) (take start xs)
 
 pub turned-late : (start k : ℕ) (xs : List ℕ) (d : ℕ) → length xs - start ≤ k → k < length xs → get_or (turned start xs) k d ≡ get_or xs (k - (length xs - start)) d
 turned-late start k xs d h less = get_or-append_right (drop start xs) (take start xs) (length xs - start) k d (length-drop start xs) h ∙ get_or-take start xs (k - (length xs - start)) d (omega (arith, h, less))
-
--- a start past the end is the beginning
-pub turned-past : (start k : ℕ) (xs : List ℕ) (d : ℕ) → length xs ≤ start → get_or (turned start xs) k d ≡ get_or xs k d
-turned-past start k xs d h =
-    let none : drop start xs ≡ [] = drop_of_length-le xs h in
-    let all : take start xs ≡ xs = sym (ap (λ ys. take start xs ++ ys) none ∙ append-nil (take start xs)) ∙ take-append-drop start xs in
-    ap (λ ys. get_or (ys ++ take start xs) k d) none ∙ ap (λ ys. get_or ys k d) all
 
 -- they are the same literals
 pub turned-contains : (start : ℕ) (xs : List ℕ) (x : ℕ) → Contains xs x → Contains (turned start xs) x

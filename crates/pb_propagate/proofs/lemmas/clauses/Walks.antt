@@ -11,7 +11,7 @@ use Rattle.pb_propagate.specs.engine.Engine.Lists.{Shape, Weighted, has, IsWithi
 use Rattle.pb_propagate.specs.engine.Engine.Counts.{spent, AreFound}
 use Rattle.pb_propagate.specs.engine.Clauses.Truths.{flip, true_at, false_at}
 use Rattle.pb_propagate.specs.engine.Clauses.Links.{watch_at, list_at, lists_of, AreLinked}
-use Rattle.pb_propagate.specs.engine.Clauses.Runs.{AreServed, AreWalked, IsRunning, IsUnit, Grows, Awaits, all_turned}
+use Rattle.pb_propagate.specs.engine.Clauses.Runs.{AreServed, AreWalked, IsRunning, IsUnit, Grows, Awaits, all_turned, passed_of}
 use Rattle.pb_propagate.specs.engine.Clauses.Shapes.{joined, AreJoined, clauses_of, literal_at}
 use Rattle.pb_propagate.proofs.lemmas.engine.Literals.{has-push_old, has-push_new}
 use Rattle.pb_propagate.proofs.lemmas.clauses.Literals.{Agree, true-listed, false-listed}
@@ -47,16 +47,17 @@ walked-grow old new ws walked g s = record {
 
 pub running-grow : (c : Clauses) (old new : List (Option Bool)) → Grows old new → IsRunning old c → IsRunning new c
 running-grow c old new g r = record {
+  starts = r.starts;
   stored = r.stored;
   passed = record {
     sizes = r.passed.sizes;
     bounded = r.passed.bounded;
     each = λ s k d h. elim (r.passed.each s k d h) [
-      | inl f ↦ inl (g.failed (get_or (list_at (all_turned c.starts.items (lists_of c.literals.items)) s) k d) f)
+      | inl f ↦ inl (g.failed (get_or (list_at (all_turned r.starts (lists_of c.literals.items)) s) k d) f)
       | inr w ↦ inr w
     ];
   };
-  starts = r.starts;
+  round = r.round;
   noted = r.noted;
   sizes = r.sizes ∙ ap (λ n. 4 * n) (sym g.sizes);
 }
@@ -97,7 +98,7 @@ pub record IsWalking (shapes : List Shape) (lists : List (List Weighted)) (c0 c 
   pub served : (walked : List ℕ) → AreServed values0 c0.watches.items walked l 0 → AreServed values c.watches.items walked l index
   pub derived : Derives (joined shapes (clauses_of c0)) list0 list
   pub grows : Grows values0 values
-  pub covered : v + sum c0.passed.items + spent lists list0 + 2 * (length (list_at (lists_of c.lists.items) l) - index) ≤ v0 + 2 * length (list_at (lists_of c0.lists.items) l) + sum c.passed.items + spent lists list
+  pub covered : v + sum (passed_of c0) + spent lists list0 + 2 * (length (list_at (lists_of c.lists.items) l) - index) ≤ v0 + 2 * length (list_at (lists_of c0.lists.items) l) + sum (passed_of c) + spent lists list
   pub found : AreFound (length list0) (length list) v0 v
   pub rising : v0 ≤ v
 
@@ -122,7 +123,7 @@ pub walking-next : (shapes : List Shape) (lists : List (List Weighted)) (c0 c c'
     ((walked : List ℕ) → AreServed values c.watches.items walked l index → AreServed values c'.watches.items walked l index') →
     index < length (list_at (lists_of c.lists.items) l) → index' ≤ length (list_at (lists_of c'.lists.items) l) →
     length (list_at (lists_of c'.lists.items) l) + index + 1 ≡ length (list_at (lists_of c.lists.items) l) + index' →
-    v' + sum c.passed.items ≤ v + 2 + sum c'.passed.items → (v' < 2 ^ 64 - 1 → v + 1 ≤ v') → v ≤ v' →
+    v' + sum (passed_of c) ≤ v + 2 + sum (passed_of c') → (v' < 2 ^ 64 - 1 → v + 1 ≤ v') → v ≤ v' →
     IsWalking shapes lists c0 c values0 values list0 list l index v0 v → IsWalking shapes lists c0 c' values0 values list0 list l index' v0 v'
 walking-next shapes lists c0 c c' values0 values list0 list l index index' v0 v v' literals sizes running served inside within count covered visited rising w = record {
   literals = literals ∙ w.literals;
@@ -133,7 +134,7 @@ walking-next shapes lists c0 c c' values0 values list0 list l index index' v0 v 
   served = λ walked s. served walked (w.served walked s);
   derived = w.derived;
   grows = w.grows;
-  covered = paid v v' v0 (sum c0.passed.items) (sum c.passed.items) (sum c'.passed.items) (spent lists list0) (spent lists list) (length (list_at (lists_of c0.lists.items) l)) (length (list_at (lists_of c.lists.items) l)) (length (list_at (lists_of c'.lists.items) l)) index index' w.covered covered inside within count;
+  covered = paid v v' v0 (sum (passed_of c0)) (sum (passed_of c)) (sum (passed_of c')) (spent lists list0) (spent lists list) (length (list_at (lists_of c0.lists.items) l)) (length (list_at (lists_of c.lists.items) l)) (length (list_at (lists_of c'.lists.items) l)) index index' w.covered covered inside within count;
   found = λ few. let more = visited few in let old = w.found (omega (arith, few, more)) in omega (arith, old, more);
   rising = omega (arith, w.rising, rising);
 }
@@ -146,7 +147,7 @@ pub walking-forces : (shapes : List Shape) (lists : List (List Weighted)) (c0 c 
     c'.literals ≡ c.literals → length c'.lists.items ≡ length c.lists.items → IsRunning values c' →
     ((walked : List ℕ) → AreServed values c.watches.items walked l index → AreServed values c'.watches.items walked l index) →
     index < length (list_at (lists_of c.lists.items) l) → length (list_at (lists_of c'.lists.items) l) ≡ length (list_at (lists_of c.lists.items) l) → IsUnit values (lists_of c'.literals.items) x → Awaits c' l index x →
-    v' + sum c.passed.items ≤ v + 2 + sum c'.passed.items → (v' < 2 ^ 64 - 1 → v + 1 ≤ v') → v ≤ v' →
+    v' + sum (passed_of c) ≤ v + 2 + sum (passed_of c') → (v' < 2 ^ 64 - 1 → v + 1 ≤ v') → v ≤ v' →
     v'' + spent lists list ≤ v' + spent lists list' → v' ≤ v'' → length values' ≡ length values → list' ≡ list ++ (literal_at x ∷ []) → Agree values list → Agree values' list' →
     IsWalking shapes lists c0 c values0 values list0 list l index v0 v → IsWalking shapes lists c0 c' values0 values' list0 list' l (index + 1) v0 v''
 walking-forces shapes lists c0 c c' values0 values values' list0 list list' l index v0 v v' v'' x j literals sizes running served inside same unit awaits covered visited rising paid risen widths listed agree agree' w =
@@ -162,7 +163,7 @@ walking-forces shapes lists c0 c c' values0 values values' list0 list list' l in
       served = λ walked s. served-next values' c' walked l index x running.stored.linked awaits met (served-grow values values' c'.watches.items walked l index g (served walked (w.served walked s)));
       derived = subst (Derives (joined shapes (clauses_of c0)) list0) (sym listed) (put (literal_at x) w.derived (unit-puts shapes (clauses_of c0) values list x j agree unit_0));
       grows = grows-trans values0 values values' w.grows g;
-      covered = sums v v' v'' v0 (sum c0.passed.items) (sum c.passed.items) (sum c'.passed.items) (spent lists list0) (spent lists list) (spent lists list') (length (list_at (lists_of c0.lists.items) l)) (length (list_at (lists_of c.lists.items) l)) (length (list_at (lists_of c'.lists.items) l)) index w.covered covered inside same paid;
+      covered = sums v v' v'' v0 (sum (passed_of c0)) (sum (passed_of c)) (sum (passed_of c')) (spent lists list0) (spent lists list) (spent lists list') (length (list_at (lists_of c0.lists.items) l)) (length (list_at (lists_of c.lists.items) l)) (length (list_at (lists_of c'.lists.items) l)) index w.covered covered inside same paid;
       found = λ few. let more = visited (omega (arith, few, risen)) in let old = w.found (omega (arith, few, more, risen)) in omega (arith, old, more, risen, ap length listed, length-append list (literal_at x ∷ []));
       rising = omega (arith, w.rising, rising, risen);
     }

@@ -7,6 +7,7 @@ use Rattle.std.proofs.lemmas.List.{get_or-map, length-map, map-append, take-appe
 use Rattle.pb_normal.specs.declared.numbered.NumberedLiteral.{NumberedLiteral}
 use Rattle.pb_normal.specs.meaning.Rules.{negation}
 use Rattle.pb_propagate.specs.declared.clauses.lists.Watch.{Watch}
+use Rattle.pb_propagate.specs.declared.clauses.search.Search.{Search}
 use Rattle.pb_propagate.specs.declared.clauses.Clauses.{Clauses}
 use Rattle.pb_propagate.specs.declared.clause.Group.{Group}
 use Rattle.pb_propagate.specs.declared.clause.Group.TheVariants.{Short, Long}
@@ -15,13 +16,14 @@ use Rattle.pb_propagate.specs.engine.Engine.Lists.{Shape, same, has, Derives, be
 use Rattle.pb_propagate.specs.engine.Engine.Counts.{AreSingle, none, more}
 use Rattle.pb_propagate.specs.engine.Clauses.Truths.{flip, true_at, false_at}
 use Rattle.pb_propagate.specs.engine.Clauses.Links.{watch_at, list_at, lists_of}
-use Rattle.pb_propagate.specs.engine.Clauses.Runs.{AreStored, AreServed, AreWalked, IsRunning, AreReady, Grows}
+use Rattle.pb_propagate.specs.engine.Clauses.Runs.{AreStored, AreServed, AreWalked, IsRunning, AreReady, Grows, passed_of}
 use Rattle.pb_propagate.specs.engine.Clauses.Shapes.{clauses_of, clause_shape, literal_at, offset, code_in}
 pub use Rattle.pb_propagate.specs.engine.Clauses.Walked.{falsified_code, walked_codes, reached_codes, head, advanced}
 use Rattle.pb_propagate.proofs.lemmas.engine.Literals.{same-true, same-refl, negation-negation, has-get}
 use Rattle.pb_propagate.proofs.lemmas.engine.Values.{says-inside}
 use Rattle.pb_propagate.proofs.lemmas.store.Gets.{last-is}
-use Rattle.pb_propagate.proofs.lemmas.clauses.Steps.{running-bounded}
+use Rattle.pb_propagate.proofs.lemmas.clauses.Readings.{running-bounded}
+use Rattle.pb_propagate.proofs.lemmas.clauses.Searches.{ready-round, passed-at}
 use Rattle.pb_propagate.proofs.lemmas.clauses.Turned.{turned-count}
 use Rattle.pb_propagate.proofs.lemmas.clauses.Truths.{flip-half, flip-flip}
 use Rattle.pb_propagate.proofs.lemmas.clauses.Linked.{lists-length}
@@ -37,7 +39,7 @@ reached clauses h list = killed clauses (map (falsified_code Short) (take h.shor
 
 -- what the walks may have cost
 abbrev pub cost : Clauses → Clauses → Heads → List NumberedLiteral → ℕ
-cost c0 c h list = 2 * reached (clauses_of c0) h list + sum c.passed.items
+cost c0 c h list = 2 * reached (clauses_of c0) h list + sum (passed_of c)
 
 pub record IsWatching (c0 c : Clauses) (values : List (Option Bool)) (list : List NumberedLiteral) (h : Heads) : Type 0 where
   pub literals : c.literals ≡ c0.literals
@@ -49,23 +51,20 @@ pub record IsWatching (c0 c : Clauses) (values : List (Option Bool)) (list : Lis
 -- between two calls
 pub ready-running : (c : Clauses) (values : List (Option Bool)) → AreReady c → length c.lists.items ≡ 4 * length values → IsRunning values c
 ready-running c values r sizes = record {
+  starts = map (λ (x : Search). x.position) c.searches.items;
   stored = r.stored;
   passed = record {
-    sizes = r.sizes ∙ sym (lists-length c.literals.items) ∙ sym (turned-count c.starts.items (lists_of c.literals.items));
+    sizes = length-map c.searches.items (λ (x : Search). x.passed) ∙ r.sizes ∙ sym (lists-length c.literals.items) ∙ sym (turned-count (map (λ (x : Search). x.position) c.searches.items) (lists_of c.literals.items));
     bounded = λ s. omega (arith, r.none s);
     each = λ s k d h. absurd (omega (arith, h, r.none s));
   };
-  starts = r.starts;
+  round = λ s some. ready-round c.searches.items s (length (list_at (lists_of c.literals.items) s)) (sym (passed-at c.searches.items s) ∙ r.none s) (r.inside s some);
   noted = record {
     noted = λ s. inl (r.none s);
     named = λ k d h. absurd (omega (arith, h, ap length r.trail));
   };
   sizes = sizes;
 }
-
-take-none : (list : List NumberedLiteral) → take 0 list ≡ []
-take-none [] = refl
-take-none (x ∷ xs) = refl
 
 pub watching-start : (c : Clauses) (values : List (Option Bool)) (list : List NumberedLiteral) (n : ℕ) → AreReady c → length c.lists.items ≡ 4 * length values → n ≤ length list → AreWalked values c.watches.items (walked_codes n list) → IsWatching c c values list (record { short = n; long = n })
 watching-start c values list n r sizes within walked = record {
@@ -75,20 +74,6 @@ watching-start c values list n r sizes within walked = record {
   long = within;
   served = walked;
 }
-
--- nothing is walked
-pub none-walked : (c : Clauses) (values : List (Option Bool)) (list : List NumberedLiteral) → AreWalked values c.watches.items (walked_codes 0 list)
-none-walked c values list = subst (AreWalked values c.watches.items) (sym (ap (λ (xs : List NumberedLiteral). map (falsified_code Short) xs ++ map (falsified_code Long) xs) (take-none list))) (record {
-  failed = λ x h. absurd (omega (arith, h.1));
-  done = λ e live h. absurd (omega (arith, h.1));
-})
-
-pub passed-zero : (ps : List ℕ) → ((s : ℕ) → get_or ps s 0 ≡ 0) → sum ps ≡ 0
-passed-zero [] h = refl
-passed-zero (p ∷ ps) h =
-    let rest = passed-zero ps (λ s. h (suc s)) in
-    let first : p ≡ 0 = h 0 in
-    rw first rest
 
 -- the list gets longer
 pub derived-longer : (forms : List Shape) (old new : List NumberedLiteral) → Derives forms old new → length old ≤ length new
@@ -120,7 +105,7 @@ watching-grow forms c0 c values values' list list' h g d w = record {
 }
 
 pub cost-grow : (forms : List Shape) (c0 c : Clauses) (list list' : List NumberedLiteral) (h : Heads) → h.short ≤ length list → h.long ≤ length list → Derives forms list list' → cost c0 c h list' ≡ cost c0 c h list
-cost-grow forms c0 c list list' h a b d = ap (λ n. 2 * n + sum c.passed.items) (reached-same (clauses_of c0) h list list' a b (λ n within. derived-take forms list list' n within d))
+cost-grow forms c0 c list list' h a b d = ap (λ n. 2 * n + sum (passed_of c)) (reached-same (clauses_of c0) h list list' a b (λ n within. derived-take forms list list' n within d))
 
 -- one more literal is walked
 pub next-codes : (f : NumberedLiteral → ℕ) (list : List NumberedLiteral) (n : ℕ) (l : NumberedLiteral) → n < length list → l ≡ get_or list n l → map f (take (n + 1) list) ≡ map f (take n list) ++ (f l ∷ [])
@@ -267,7 +252,7 @@ reached-more Long clauses h list l single inside is =
 
 -- what a walk costs
 pub cost-next : (c0 c c' : Clauses) (values : List (Option Bool)) (list list' : List NumberedLiteral) (g : Group) (h : Heads) (v v' s s' : ℕ) (l : NumberedLiteral) → AreSingle list → head g h < length list → l ≡ get_or list (head g h) l → AreSameFirst list list' →
-    v' + sum c.passed.items + s ≤ v + 2 * length (list_at (lists_of c.lists.items) (falsified_code g l)) + sum c'.passed.items + s' → IsWatching c0 c values list h →
+    v' + sum (passed_of c) + s ≤ v + 2 * length (list_at (lists_of c.lists.items) (falsified_code g l)) + sum (passed_of c') + s' → IsWatching c0 c values list h →
     v' + s + cost c0 c h list ≤ v + cost c0 c' (advanced g h) list' + s'
 cost-next c0 c c' values list list' g h v v' s s' l single inside is same covered w =
     let clauses = clauses_of c0 in
@@ -275,26 +260,26 @@ cost-next c0 c c' values list list' g h v v' s s' l single inside is same covere
     let few = list-short clauses c.watches.items (lists_of c.lists.items) (falsified_code g l) stored in
     let grown = reached-more g clauses h list l single inside is in
     let codes = reached-same clauses (advanced g h) list list' (advanced-short g h (length list) inside w.short) (advanced-long g h (length list) inside w.long) same in
-    sums v v' s s' (sum c.passed.items) (sum c'.passed.items) (reached clauses h list) (reached clauses (advanced g h) list) (reached clauses (advanced g h) list') (occurs clauses (falsified_code g l)) (length (list_at (lists_of c.lists.items) (falsified_code g l))) covered few grown codes
+    sums v v' s s' (sum (passed_of c)) (sum (passed_of c')) (reached clauses h list) (reached clauses (advanced g h) list) (reached clauses (advanced g h) list') (occurs clauses (falsified_code g l)) (length (list_at (lists_of c.lists.items) (falsified_code g l))) covered few grown codes
   where
     sums : (v v' s s' p p' r r' r'' o n : ℕ) → v' + p + s ≤ v + 2 * n + p' + s' → n ≤ o → r' ≡ r + o → r'' ≡ r' → v' + s + (2 * r + p) ≤ v + (2 * r'' + p') + s'
     sums v v' s s' p p' r r' r'' o n a b d e = omega (arith, a, b, d, e)
 
 -- what a walk costs that was abandoned
-pub cost-broken : (c0 c c' : Clauses) (values : List (Option Bool)) (list : List NumberedLiteral) (g : Group) (h : Heads) (v v' s s' : ℕ) (l : NumberedLiteral) → AreSingle list → head g h < length list → l ≡ get_or list (head g h) l → ((t : ℕ) → get_or c'.passed.items t 0 ≤ length (list_at (clauses_of c) t)) →
-    v' + sum c.passed.items + s ≤ v + 2 * length (list_at (lists_of c.lists.items) (falsified_code g l)) + sum c'.passed.items + s' → IsWatching c0 c values list h →
+pub cost-broken : (c0 c c' : Clauses) (values : List (Option Bool)) (list : List NumberedLiteral) (g : Group) (h : Heads) (v v' s s' : ℕ) (l : NumberedLiteral) → AreSingle list → head g h < length list → l ≡ get_or list (head g h) l → ((t : ℕ) → get_or (passed_of c') t 0 ≤ length (list_at (clauses_of c) t)) →
+    v' + sum (passed_of c) + s ≤ v + 2 * length (list_at (lists_of c.lists.items) (falsified_code g l)) + sum (passed_of c') + s' → IsWatching c0 c values list h →
     v' + s + cost c0 c h list ≤ v + s' + (2 * reached (clauses_of c0) (advanced g h) list + sum_by length (clauses_of c0))
 cost-broken c0 c c' values list g h v v' s s' l single inside is bounded covered w =
     let clauses = clauses_of c0 in
     let more_cost = cost-next c0 c c' values list list g h v v' s s' l single inside is (λ n within. refl) covered w in
-    let bounded_0 = subst (λ ls. (t : ℕ) → get_or c'.passed.items t 0 ≤ length (list_at (lists_of ls.items) t)) w.literals bounded in
-    omega (arith, more_cost, passed-most c'.passed.items clauses bounded_0)
+    let bounded_0 = subst (λ ls. (t : ℕ) → get_or (passed_of c') t 0 ≤ length (list_at (lists_of ls.items) t)) w.literals bounded in
+    omega (arith, more_cost, passed-most (passed_of c') clauses bounded_0)
 
 pub cost-most : (c0 c : Clauses) (values : List (Option Bool)) (list : List NumberedLiteral) (h : Heads) → IsWatching c0 c values list h → cost c0 c h list ≤ 2 * reached (clauses_of c0) h list + sum_by length (clauses_of c0)
 cost-most c0 c values list h w =
     let clauses = clauses_of c0 in
-    let bounded = subst (λ ls. (t : ℕ) → get_or c.passed.items t 0 ≤ length (list_at (lists_of ls.items) t)) w.literals (running-bounded c values w.running) in
-    omega (arith, passed-most c.passed.items clauses bounded)
+    let bounded = subst (λ ls. (t : ℕ) → get_or (passed_of c) t 0 ≤ length (list_at (lists_of ls.items) t)) w.literals (running-bounded c values w.running) in
+    omega (arith, passed-most (passed_of c) clauses bounded)
 
 -- if all falsified literals are walked, each clause is settled
 served-by : (values : List (Option Bool)) (clauses : List (List ℕ)) (ws : List Watch) (ls : List (List ℕ)) (walked : List ℕ) (s : ℕ) → AreStored clauses ws ls → AreWalked values ws walked → ((y : ℕ) → false_at values y ≡ true → Contains walked y) → 0 < length (list_at clauses s) → Served values (list_at clauses s)

@@ -7,7 +7,7 @@ use Rattle.pb_propagate.specs.engine.Engine.Fields.{shapes_of, entries_of, store
 use Rattle.pb_propagate.specs.engine.Engine.Rest.{waits}
 use Rattle.pb_propagate.specs.engine.Clauses.Truths.{false_at}
 use Rattle.pb_propagate.specs.engine.Clauses.Links.{lists_of, list_at}
-use Rattle.pb_propagate.specs.engine.Clauses.Runs.{AreServed, AreWalked}
+use Rattle.pb_propagate.specs.engine.Clauses.Runs.{AreServed, AreWalked, passed_of}
 use Rattle.pb_propagate.specs.engine.Clauses.Shapes.{all_of, clauses_of, joined}
 use Rattle.pb_propagate.proofs.lemmas.engine.Derivations.{derivation-then, derivation-keeps}
 use Rattle.pb_propagate.proofs.lemmas.engine.Propagated.{Propagating-start, Propagating-visit, Propagating-next, Propagating-walk, Propagating-bound, Propagating-choose, Propagating-settled, Propagating-upper}
@@ -102,7 +102,7 @@ returns-in_err-walk-clause-upper c =
     let done = c.walk.new.run in
     let single = derivation-single (all_of store c.args.clauses.now) start.assignment.list.items run.assignment.list.items c.requires.single state.derived in
     let lists = entries_of (shapes_of store.stored.items) store.occurrences.items in
-    let covered = subst (λ t. done.visits + sum c.work.clauses.passed.items + spent (entries_of (shapes_of c.args.store.now.stored.items) c.args.store.now.occurrences.items) c.work.run.assignment.list.items ≤ c.work.run.visits + 2 * length (list_at (lists_of c.work.clauses.lists.items) t) + sum c.walk.new.clauses.passed.items + spent (entries_of (shapes_of c.args.store.now.stored.items) c.args.store.now.occurrences.items) c.walk.new.run.assignment.list.items) a.code c.walk.ensures.covered in
+    let covered = subst (λ t. done.visits + sum (passed_of c.work.clauses) + spent (entries_of (shapes_of c.args.store.now.stored.items) c.args.store.now.occurrences.items) c.work.run.assignment.list.items ≤ c.work.run.visits + 2 * length (list_at (lists_of c.work.clauses.lists.items) t) + sum (passed_of c.walk.new.clauses) + spent (entries_of (shapes_of c.args.store.now.stored.items) c.args.store.now.occurrences.items) c.walk.new.run.assignment.list.items) a.code c.walk.ensures.covered in
     let same = ap (λ (v : Vec ℕ Global). sum v.items) c.walk.ensures.candidates in
     let broken = cost-broken c.args.clauses.now c.work.clauses c.walk.new.clauses run.assignment.values.items run.assignment.list.items a.group c.work.heads run.visits done.visits (spent lists run.assignment.list.items) (spent lists done.assignment.list.items) a.literal single a.inside a.is c.walk.ensures.bounded covered w in
     let upper = Propagating-upper c.args.rests.now (waits store.stored.items) c.args.waiting.now (shapes_of store.stored.items) (all_of store c.args.clauses.now) (entries_of (shapes_of store.stored.items) store.occurrences.items) (length store.stored.items) start.assignment.list.items start.candidates.items start.work.items start.next start.visits (cost c.args.clauses.now c.work.clauses c.work.heads run.assignment.list.items) c.work.taken run.opens.items run.candidates.items run.assignment.list.items run.work.items run.trail.items run.next run.visits done.assignment.list.items done.candidates.items done.visits (2 * reached (clauses_of c.args.clauses.now) (advanced a.group c.work.heads) run.assignment.list.items + sum_by length (clauses_of c.args.clauses.now)) 0 (spent-extends (entries_of (shapes_of store.stored.items) store.occurrences.items) run.assignment.list.items done.assignment.list.items c.walk.ensures.extends) c.requires.next state (omega (arith, state.within)) (omega (arith, broken, same)) in
@@ -120,7 +120,7 @@ returns-then-branch-2-clause-upper c =
     let done = c.walk.new.run in
     let single = derivation-single (all_of store c.args.clauses.now) start.assignment.list.items run.assignment.list.items c.requires.single state.derived in
     let lists = entries_of (shapes_of store.stored.items) store.occurrences.items in
-    let covered = subst (λ t. done.visits + sum c.work.clauses.passed.items + spent (entries_of (shapes_of c.args.store.now.stored.items) c.args.store.now.occurrences.items) c.work.run.assignment.list.items ≤ c.work.run.visits + 2 * length (list_at (lists_of c.work.clauses.lists.items) t) + sum c.walk.new.clauses.passed.items + spent (entries_of (shapes_of c.args.store.now.stored.items) c.args.store.now.occurrences.items) c.walk.new.run.assignment.list.items) a.code c.walk.ensures.covered in
+    let covered = subst (λ t. done.visits + sum (passed_of c.work.clauses) + spent (entries_of (shapes_of c.args.store.now.stored.items) c.args.store.now.occurrences.items) c.work.run.assignment.list.items ≤ c.work.run.visits + 2 * length (list_at (lists_of c.work.clauses.lists.items) t) + sum (passed_of c.walk.new.clauses) + spent (entries_of (shapes_of c.args.store.now.stored.items) c.args.store.now.occurrences.items) c.walk.new.run.assignment.list.items) a.code c.walk.ensures.covered in
     let same = ap (λ (v : Vec ℕ Global). sum v.items) c.walk.ensures.candidates in
     let broken = cost-broken c.args.clauses.now c.work.clauses c.walk.new.clauses run.assignment.values.items run.assignment.list.items a.group c.work.heads run.visits done.visits (spent lists run.assignment.list.items) (spent lists done.assignment.list.items) a.literal single a.inside a.is c.walk.ensures.bounded covered w in
     let upper = Propagating-upper c.args.rests.now (waits store.stored.items) c.args.waiting.now (shapes_of store.stored.items) (all_of store c.args.clauses.now) (entries_of (shapes_of store.stored.items) store.occurrences.items) (length store.stored.items) start.assignment.list.items start.candidates.items start.work.items start.next start.visits (cost c.args.clauses.now c.work.clauses c.work.heads run.assignment.list.items) c.work.taken run.opens.items run.candidates.items run.assignment.list.items run.work.items run.trail.items run.next run.visits done.assignment.list.items done.candidates.items done.visits (2 * reached (clauses_of c.args.clauses.now) (advanced a.group c.work.heads) run.assignment.list.items + sum_by length (clauses_of c.args.clauses.now)) 0 (spent-extends (entries_of (shapes_of store.stored.items) store.occurrences.items) run.assignment.list.items done.assignment.list.items c.walk.ensures.extends) c.requires.next state (omega (arith, state.within)) (omega (arith, broken, same)) in
@@ -180,7 +180,7 @@ work-preserved-in-Some c =
     let done = c.walk.new.run in
     let single = derivation-single (all_of store c.args.clauses.now) start.assignment.list.items run.assignment.list.items c.requires.single state.derived in
     let lists = entries_of (shapes_of store.stored.items) store.occurrences.items in
-    let covered = subst (λ t. done.visits + sum c.work.clauses.passed.items + spent (entries_of (shapes_of c.args.store.now.stored.items) c.args.store.now.occurrences.items) c.work.run.assignment.list.items ≤ c.work.run.visits + 2 * length (list_at (lists_of c.work.clauses.lists.items) t) + sum c.walk.new.clauses.passed.items + spent (entries_of (shapes_of c.args.store.now.stored.items) c.args.store.now.occurrences.items) c.walk.new.run.assignment.list.items) a.code c.walk.ensures.covered in
+    let covered = subst (λ t. done.visits + sum (passed_of c.work.clauses) + spent (entries_of (shapes_of c.args.store.now.stored.items) c.args.store.now.occurrences.items) c.work.run.assignment.list.items ≤ c.work.run.visits + 2 * length (list_at (lists_of c.work.clauses.lists.items) t) + sum (passed_of c.walk.new.clauses) + spent (entries_of (shapes_of c.args.store.now.stored.items) c.args.store.now.occurrences.items) c.walk.new.run.assignment.list.items) a.code c.walk.ensures.covered in
     let same = ap (λ (v : Vec ℕ Global). sum v.items) c.walk.ensures.candidates in
     let derived = subst (λ ls. Derives (joined (shapes_of c.args.store.now.stored.items) (lists_of ls.items)) c.work.run.assignment.list.items c.walk.new.run.assignment.list.items) w.literals c.in_ok-walk.ensures.derived in
     let reported = c.in_ok-walk.ensures in

@@ -10,7 +10,7 @@ use Rattle.pb_propagate.specs.engine.Clauses.Shapes.{clauses_of}
 use Rattle.pb_propagate.proofs.lemmas.clauses.Literals.{true-listed, false-listed}
 use Rattle.pb_propagate.proofs.lemmas.clauses.Shapes.{broken-conflicts, conflicts-joined}
 use Rattle.pb_propagate.proofs.lemmas.clauses.Walks.{grows-trans, IsWalking, walking-start, walking-next, walking-forces, walked-end}
-use Rattle.pb_propagate.proofs.lemmas.clauses.Steps.{running-bounded}
+use Rattle.pb_propagate.proofs.lemmas.clauses.Readings.{running-bounded}
 use Rattle.pb_propagate.proofs.lemmas.root.Extends.{extends-none, extends-then}
 use Rattle.pb_propagate.proofs.walk.walk.Goals as goal
 

@@ -1,7 +1,8 @@
 -- A run of propagation: what it knows of the clauses, and what a visit to a watch finds.
-use Rattle.std.specs.Prelude.{◌≡◌, ℕ, ◌+◌, ◌*◌, ◌/◌, ◌<◌, ◌≤◌, ◌⊎◌, ◌++◌, ◌∷◌, true, false, [], List, length, take, drop, All, Contains, Bool, Option, Some, slice_get, slice_index_or}
+use Rattle.std.specs.Prelude.{◌≡◌, ℕ, ◌+◌, ◌*◌, ◌/◌, ◌<◌, ◌≤◌, ◌⊎◌, ◌++◌, ◌∷◌, ◌-◌, nat_lt, if◌then◌else◌, true, false, [], List, map, length, take, drop, All, Contains, Bool, Option, Some, slice_get, slice_index_or}
 use Rattle.pb_propagate.specs.declared.clauses.lists.Watch.{Watch}
 use Rattle.pb_propagate.specs.declared.clauses.Clauses.{Clauses}
+use Rattle.pb_propagate.specs.declared.clauses.search.Search.{Search}
 use Rattle.pb_propagate.specs.declared.clauses.visiting.Visit.{Visit}
 use Rattle.pb_propagate.specs.declared.clauses.visiting.Visit.TheVariants.{Stays, Leaves, Forces, Falsified}
 use Rattle.pb_propagate.specs.engine.Clauses.Truths.{flip, true_at, false_at}
@@ -10,6 +11,27 @@ use Rattle.pb_propagate.specs.engine.Clauses.Links.{lists_of, list_at, watch_at,
 -- a list from a position on, and then from its beginning
 abbrev pub turned : ℕ → List ℕ → List ℕ
 turned start xs = drop start xs ++ take start xs
+
+-- a position that goes round a clause of `count` literals
+abbrev pub around : ℕ → ℕ → ℕ
+around n count = if nat_lt n count then n else n - count
+
+-- the search began at `start`, in a clause of `count` literals
+pub record IsRound (start : ℕ) (search : Search) (count : ℕ) : Type 0 where
+  pub inside : start < count
+  pub is : search.position ≡ around (start + search.passed) count
+
+-- the search in the clause of a slot
+abbrev pub search_at : List Search → ℕ → Search
+search_at searches s = slice_index_or searches s record { position = 0; passed = 0 }
+
+-- the searches in some clauses began at `starts`
+abbrev pub AreRound : List ℕ → List (List ℕ) → List Search → Type 0
+AreRound starts clauses searches = (s : ℕ) → 0 < length (list_at clauses s) → IsRound (slice_index_or starts s 0) (search_at searches s) (length (list_at clauses s))
+
+-- how many literals the search of each slot has passed
+abbrev pub passed_of : Clauses → List ℕ
+passed_of c = map (λ s. s.passed) c.searches.items
 
 -- each clause in the order in which it is searched
 abbrev pub all_turned : List ℕ → List (List ℕ) → List (List ℕ)
@@ -45,10 +67,12 @@ pub record AreNoted (passed moved : List ℕ) : Type 0 where
   pub named : All (λ s. s < length passed) moved
 
 pub record IsRunning (values : List (Option Bool)) (c : Clauses) : Type 0 where
+  -- where the searches of this run began
+  pub starts : List ℕ
   pub stored : AreStored (lists_of c.literals.items) c.watches.items (lists_of c.lists.items)
-  pub passed : ArePassed values (all_turned c.starts.items (lists_of c.literals.items)) c.passed.items c.watches.items
-  pub starts : length c.starts.items ≡ length c.literals.items
-  pub noted : AreNoted c.passed.items c.moved.items
+  pub passed : ArePassed values (all_turned starts (lists_of c.literals.items)) (passed_of c) c.watches.items
+  pub round : AreRound starts (lists_of c.literals.items) c.searches.items
+  pub noted : AreNoted (passed_of c) c.moved.items
   pub sizes : length c.lists.items ≡ 4 * length values
 
 -- if a walked literal is watched, the other watched literal is true; in the list being walked this holds before `index`
@@ -93,9 +117,9 @@ index_after index Falsified = index
 -- no search has begun
 pub record AreReady (c : Clauses) : Type 0 where
   pub stored : AreStored (lists_of c.literals.items) c.watches.items (lists_of c.lists.items)
-  pub sizes : length c.passed.items ≡ length c.literals.items
-  pub starts : length c.starts.items ≡ length c.literals.items
-  pub none : (s : ℕ) → slice_index_or c.passed.items s 0 ≡ 0
+  pub sizes : length c.searches.items ≡ length c.literals.items
+  pub inside : (s : ℕ) → 0 < length (list_at (lists_of c.literals.items) s) → (search_at c.searches.items s).position < length (list_at (lists_of c.literals.items) s)
+  pub none : (s : ℕ) → slice_index_or (passed_of c) s 0 ≡ 0
   pub trail : c.moved.items ≡ []
 
 -- what was true or falsified still is

@@ -9,6 +9,7 @@ use Rattle.pb_propagate.specs.declared.clause.Group.TheVariants.{Short, Long}
 use Rattle.pb_propagate.specs.declared.store.Store.{Store}
 use Rattle.pb_propagate.specs.declared.clauses.Clauses.{Clauses}
 use Rattle.pb_propagate.specs.engine.Engine.Lists.{Shape}
+use Rattle.pb_propagate.specs.engine.Engine.Forms.{as_term}
 use Rattle.pb_propagate.specs.engine.Engine.Fields.{shapes_of}
 use Rattle.pb_propagate.specs.engine.Clauses.Links.{lists_of, list_at}
 
@@ -31,7 +32,7 @@ code_in g l = 4 * l.variable + offset g + (if l.negated then 1 else 0)
 
 -- the code of a term's literal in the clauses of a group
 abbrev pub code : Group → Entry → ℕ
-code g e = 4 * e.variable + offset g + (if e.negated then 1 else 0)
+code g e = code_in g (as_term e).literal
 
 -- the codes of a clause with these terms
 abbrev pub codes_of_terms : List Entry → List ℕ

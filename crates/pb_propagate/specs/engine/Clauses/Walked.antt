@@ -21,7 +21,7 @@ killed clauses codes = sum_by (λ xs. count_by (λ x. has codes x) xs) clauses
 abbrev pub falsified_code : Group → NumberedLiteral → ℕ
 falsified_code g l = code_in g (negation l)
 
--- the codes that the first literals of the list falsify, so many in each group
+-- the codes that the first literals of the list falsify, as many in each group as the heads say
 abbrev pub reached_codes : Heads → List NumberedLiteral → List ℕ
 reached_codes h list = map (falsified_code Short) (take h.short list) ++ map (falsified_code Long) (take h.long list)
 

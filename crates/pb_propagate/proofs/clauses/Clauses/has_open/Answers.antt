@@ -16,9 +16,9 @@ some_open-requires c =
 pub returns-clause-yes : goal.returns-clause-yes
 returns-clause-yes c = λ found.
     let same = c.as_slice.ensures.value ∙ sym (list-here c.args.self.now.literals.items c.args.slot c.index.result.now c.requires.slot c.index.ensures) in
-    subst (HasOpen c.args.values.now) same (c.some_open.ensures.yes found)
+    subst (HasOpen c.args.assignment.now.values.items) same (c.some_open.ensures.yes found)
 
 pub returns-clause-no : goal.returns-clause-no
 returns-clause-no c = λ shut found.
     let same = c.as_slice.ensures.value ∙ sym (list-here c.args.self.now.literals.items c.args.slot c.index.result.now c.requires.slot c.index.ensures) in
-    c.some_open.ensures.no shut (subst (HasOpen c.args.values.now) (sym same) found)
+    c.some_open.ensures.no shut (subst (HasOpen c.args.assignment.now.values.items) (sym same) found)

@@ -7,8 +7,8 @@ use Rattle.pb_propagate.proofs.lemmas.clauses.Linked.{lists-length}
 use Rattle.pb_propagate.proofs.lemmas.clauses.Truths.{flip-even}
 use Rattle.pb_propagate.proofs.clauses.Clauses.is_served.Goals as goal
 
-pub is_true-requires : goal.is_true-requires
-is_true-requires c =
+pub satisfies-requires : goal.satisfies-requires
+satisfies-requires c =
     let me = c.args.self.now in
     let ws = me.watches.items in
     let stored = c.requires.rest.stored in
@@ -17,8 +17,8 @@ is_true-requires c =
     let small = literal-within (lists_of me.literals.items) ws (lists_of me.lists.items) (2 * c.args.slot) stored live in
     omega (arith, ap (λ (w : Watch). w.literal) read, small, lists-length me.lists.items, c.requires.values)
 
-pub is_true-requires-2 : goal.is_true-requires-2
-is_true-requires-2 c =
+pub satisfies-requires-2 : goal.satisfies-requires-2
+satisfies-requires-2 c =
     let me = c.args.self.now in
     let ws = me.watches.items in
     let stored = c.requires.rest.stored in
@@ -28,8 +28,8 @@ is_true-requires-2 c =
     let small = literal-within (lists_of me.literals.items) ws (lists_of me.lists.items) (2 * c.args.slot + 1) stored second in
     omega (arith, ap (λ (w : Watch). w.literal) read, small, lists-length me.lists.items, c.requires.values)
 
-pub is_false-requires : goal.is_false-requires
-is_false-requires c =
+pub falsifies-requires : goal.falsifies-requires
+falsifies-requires c =
     let me = c.args.self.now in
     let ws = me.watches.items in
     let stored = c.requires.rest.stored in
@@ -38,8 +38,8 @@ is_false-requires c =
     let small = literal-within (lists_of me.literals.items) ws (lists_of me.lists.items) (2 * c.args.slot) stored live in
     omega (arith, ap (λ (w : Watch). w.literal) read, small, lists-length me.lists.items, c.requires.values)
 
-pub is_false-requires-2 : goal.is_false-requires-2
-is_false-requires-2 c =
+pub falsifies-requires-2 : goal.falsifies-requires-2
+falsifies-requires-2 c =
     let me = c.args.self.now in
     let ws = me.watches.items in
     let stored = c.requires.rest.stored in

@@ -1,4 +1,5 @@
-use Rattle.std.proofs.Common.{◌≡◌, length}
+use Rattle.std.proofs.Common.{◌≡◌, ℕ, length}
+use Rattle.pb_propagate.specs.engine.Clauses.Runs.{passed_of, search_at}
 use Rattle.pb_propagate.proofs.lemmas.clauses.Stores.{AreLeft}
 use Rattle.pb_propagate.proofs.clauses.Clauses.rest.Given as goal
 
@@ -8,7 +9,7 @@ invariant-slots l = record {
   moved : l.self.moved ≡ l.initial.self.moved;
   watches : l.self.watches ≡ l.initial.self.watches;
   lists : l.self.lists ≡ l.initial.self.lists;
-  left : AreLeft l.self.passed.items l.initial.self.moved.items l.i;
-  sizes : length l.self.passed.items ≡ length l.initial.self.passed.items;
-  starts : length l.self.starts.items ≡ length l.initial.self.starts.items;
+  left : AreLeft (passed_of l.self) l.initial.self.moved.items l.i;
+  sizes : length l.self.searches.items ≡ length l.initial.self.searches.items;
+  positions : (s : ℕ) → (search_at l.self.searches.items s).position ≡ (search_at l.initial.self.searches.items s).position;
 }

@@ -1,9 +1,10 @@
 use Rattle.std.specs.Prelude.{true, false}
 use Rattle.std.proofs.Common.{◌≡◌, ◌+◌, ◌*◌, ◌<◌, refl, sym, ◌∙◌, ap, subst, arith, length, inl, inr, set, length-set}
+use Rattle.std.proofs.lemmas.Bool.{cases_eq}
 use Rattle.pb_propagate.specs.engine.Clauses.Links.{lists_of, watch_at}
 use Rattle.pb_propagate.specs.engine.Clauses.Runs.{AreStored}
 use Rattle.pb_propagate.proofs.lemmas.clauses.Linked.{lists-length}
-use Rattle.pb_propagate.proofs.lemmas.clauses.Stores.{slot-sits, slot-room, stands-by, stored-vacate, literals-set}
+use Rattle.pb_propagate.proofs.lemmas.clauses.Stores.{slot-sits, slot-room, stands-by, stored-vacate, literals-set, vacated-inside}
 use Rattle.pb_propagate.proofs.clauses.Clauses.vacate.Goals as goal
 
 pub take_out-requires-clause-literal : goal.take_out-requires-clause-literal
@@ -73,7 +74,7 @@ returns-clause-rest c =
     record {
       stored = subst (λ cs. AreStored cs c.take_out-2.new.watches.items (lists_of c.take_out-2.new.lists.items)) (sym (literals-set me.literals.items c.args.slot c.new.result ∙ ap (set (lists_of me.literals.items) c.args.slot) c.new.ensures.items)) stored;
       sizes = c.requires.rest.sizes ∙ sym (length-set me.literals.items c.args.slot c.new.result);
-      starts = c.requires.rest.starts ∙ sym (length-set me.literals.items c.args.slot c.new.result);
+      inside = λ s some. vacated-inside me _ c.args.slot c.new.result c.requires.rest refl c.new.ensures.items s some (cases_eq s c.args.slot);
       none = c.requires.rest.none;
       trail = c.requires.rest.trail;
     }

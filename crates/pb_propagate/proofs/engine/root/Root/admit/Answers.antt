@@ -26,8 +26,8 @@ returns-then-is_filled-clause-rooted c = λ live.
     let codes = walked_codes (length run.assignment.list.items) run.assignment.list.items in
     let stored = c.requires.ready.stored in
     let filled = c.is_filled.ensures.yes c.if-is_filled.true in
-    let values_are = c.as_slice.ensures.value ∙ ap (λ (a : Assignment). a.values.items) reached.assignment in
-    let served : IsServed run.assignment.values.items c.args.clauses.now.watches.items c.args.slot = subst (λ vs. IsServed vs c.args.clauses.now.watches.items c.args.slot) values_are (c.is_served-self.ensures live) in
+    let values_are = ap (λ (a : Assignment). a.values.items) reached.assignment in
+    let served : IsServed run.assignment.values.items c.args.clauses.now.watches.items c.args.slot = subst (λ vs. IsServed vs c.args.clauses.now.watches.items c.args.slot) values_are (c.is_served-self.ensures.yes live) in
     let walked = served-walked run.assignment.values.items g.1.watches.items c.args.clauses.now.watches.items codes c.args.slot g.3.watched (λ e here live h. served-watch run.assignment.values.items c.args.clauses.now.watches.items codes c.args.slot e r.walked.failed served here h) r.walked in
     let rooted = gained-rooted g.0 store g.1 c.args.clauses.now run c.reach.new.run rests c.reach.new.rests c.args.slot c.requires.slot r g.3 reached walked in
     let there = arrived g.0 store g.1 c.args.clauses.now run c.reach.new.run rests c.reach.new.rests c.args.slot c.requires.slot r g.3 reached in
@@ -156,7 +156,7 @@ propagate-requires-clause-tidy c =
     let noted = c.in_ok-lay.ensures.trail ∙ ap (λ (xs : List ℕ). xs ++ (c.args.slot ∷ [])) rooted.trail in
     let long = length-map store.stored.items stored_shape in
     let tidy = slot-tidy c.reach.new.rests (shapes_of store.stored.items) c.reach.new.run.opens.items c.reach.new.run.candidates.items c.lay.new.run.opens.items c.reach.new.run.assignment.list.items c.lay.new.run.work.items c.lay.new.run.trail.items c.args.slot (omega (arith, c.requires.slot, long)) (omega (arith, c.requires.slot, rooted.open_sizes)) rooted.tidy c.in_ok-lay.ensures.opens queued noted in
-    rw (c.as_slice-2.ensures.value, c.new-none.ensures.items, list_is, cands_is, c.lay.ensures.next ∙ rooted.next) (rw long at tidy)
+    rw (c.as_slice.ensures.value, c.new-none.ensures.items, list_is, cands_is, c.lay.ensures.next ∙ rooted.next) (rw long at tidy)
 
 pub propagate-requires-clause-walked : goal.propagate-requires-clause-walked
 propagate-requires-clause-walked c =

@@ -3,7 +3,7 @@ use Rattle.std.proofs.lemmas.Bool.{not-true}
 use Rattle.std.proofs.lemmas.List.{length-map}
 use Rattle.pb_propagate.specs.engine.Engine.Lists.{Shape, AreInside}
 use Rattle.pb_propagate.specs.engine.Engine.Fields.{shapes_of, stored_shape}
-use Rattle.pb_propagate.specs.engine.Engine.Root.{IsSpare, HasOpen, HasTrue}
+use Rattle.pb_propagate.specs.engine.Engine.Root.{IsSpare, HasTrue}
 use Rattle.pb_propagate.specs.engine.Engine.Terms.{terms_of}
 use Rattle.pb_propagate.specs.engine.Clauses.Links.{list_at}
 use Rattle.pb_propagate.specs.engine.Clauses.Shapes.{slot_shape, clauses_of}
@@ -19,7 +19,7 @@ returns-then-is_filled c = λ found x at.
     let run = c.args.self.now.run in
     let codes = list_at (clauses_of clauses) c.args.slot in
     let is = slot-is store clauses c.args.slot x c.requires.slot at ∙ shape-some _ codes (c.is_filled.ensures.yes c.if-is_filled.true) in
-    let known = subst (λ vs. HasOpen vs codes) c.as_slice-values.ensures.value (c.has_open.ensures.yes found) in
+    let known = c.has_open.ensures.yes found in
     subst (λ (y : Shape). IsSpare y run.assignment.list.items) (sym is) (open-spare run.assignment.values.items run.assignment.list.items codes run.assignment.agrees known)
 
 pub has_true-requires : goal.has_true-requires

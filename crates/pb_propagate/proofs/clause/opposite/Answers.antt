@@ -1,7 +1,7 @@
 use Rattle.std.proofs.Common.{arith}
 use Rattle.std.proofs.lemmas.Bool.Decides.{nat_tests}
 use Rattle.pb_propagate.specs.engine.Clauses.Truths.{flip}
-use Rattle.pb_propagate.proofs.clauses.truth.opposite.Goals as goal
+use Rattle.pb_propagate.proofs.clause.opposite.Goals as goal
 
 pub returns-then-code-eq0 : goal.returns-then-code-eq0
 unfolding flip

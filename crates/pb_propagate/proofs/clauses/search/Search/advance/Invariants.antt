@@ -1,0 +1,18 @@
+use Rattle.std.proofs.Common.{◌≡◌, ℕ, ◌+◌, ◌-◌, ◌<◌, ◌≤◌, ◌⊎◌, true, length, get_or}
+use Rattle.pb_propagate.specs.engine.Clauses.Truths.{false_at}
+use Rattle.pb_propagate.specs.engine.Clauses.Runs.{turned, IsRound}
+use Rattle.pb_propagate.proofs.clauses.search.Search.advance.Given as goal
+
+abbrev pub decreases-literals : goal.decreases-literals
+decreases-literals l = length l.literals - l.at.passed
+
+abbrev pub invariant-literals : goal.invariant-literals
+invariant-literals l = record {
+  position : l.at.position < length l.literals;
+  within : l.at.passed ≤ length l.literals;
+  after : l.fn.self.passed ≤ l.at.passed;
+  round : (start : ℕ) → IsRound start l.fn.self (length l.literals) → IsRound start l.at (length l.literals);
+  passed : (start k d : ℕ) → IsRound start l.fn.self (length l.literals) → l.fn.self.passed ≤ k → k < l.at.passed → (false_at l.assignment.values.items (get_or (turned start l.literals) k d) ≡ true) ⊎ (get_or (turned start l.literals) k d ≡ l.other);
+  rising : l.initial.visits ≤ l.visits;
+  few : l.visits + l.fn.self.passed ≤ l.initial.visits + l.at.passed;
+}

@@ -1,0 +1,97 @@
+//! The search for a literal of a clause that may be watched. It goes round the clause, and goes on where the last one ended.
+
+ghost use Rattle.std.specs.Prelude.{◌≡◌, ℕ, ◌+◌, ◌*◌, ◌-◌, ◌^◌, ◌<◌, ◌≤◌, ◌⊎◌, true, false, All, length, min, slice_index_or};
+ghost use Rattle.pb_propagate.specs.engine.Clauses.Truths.{false_at};
+ghost use Rattle.pb_propagate.specs.engine.Clauses.Runs.{turned, around, IsRound};
+
+use crate::assignment::Assignment;
+use crate::engine::visits::Visits;
+
+/// A search in a clause.
+#[derive(Clone, Copy)]
+pub struct Search {
+    // The position of the next literal.
+    pub position: usize,
+    // How many literals before it, round the clause, are falsified or watched.
+    pub passed: usize,
+}
+
+// Reads a literal of a clause, and counts the visit.
+fn visit_literal(literals: &[u32], position: usize, visits: &mut Visits) -> u32
+    requires { position < length literals.now }
+    ensures item { (d : ℕ) → result ≡ slice_index_or literals.now position d }
+    ensures rising { visits.old ≤ visits.new }
+    ensures count { visits.new ≡ min (visits.old + 1) (2 ^ 64 - 1) }
+{
+    visits.count();
+    literals[position]
+}
+
+// Whether a literal may be watched in place of a falsified one.
+fn may_watch(assignment: &Assignment, literal: u32, other: u32) -> bool
+    requires { literal < 4 * length assignment.now.values.items }
+    ensures yes { result ≡ true → (false_at assignment.now.values.items literal ≡ false) × (literal ≡ other → ⊥) }
+    ensures no { result ≡ false → (false_at assignment.now.values.items literal ≡ true) ⊎ (literal ≡ other) }
+{
+    if literal == other {
+        return false;
+    }
+    !assignment.falsifies(literal)
+}
+
+impl Search {
+    /// At the first literal, with none passed.
+    pub fn new() -> Search
+        ensures { (result.position ≡ 0) × (result.passed ≡ 0) }
+    {
+        Search {
+            position: 0,
+            passed: 0,
+        }
+    }
+
+    /// One literal further, in a clause of `count` literals.
+    pub fn next(self, count: usize) -> Search
+        requires position { self.position < count }
+        requires passed { self.passed < count }
+        ensures position { result.position ≡ around (self.position + 1) count }
+        ensures passed { result.passed ≡ self.passed + 1 }
+    {
+        let further = self.position + 1;
+        Search {
+            position: if further < count { further } else { 0 },
+            passed: self.passed + 1,
+        }
+    }
+
+    /// Goes on, up to the first literal that may be watched, or until all are passed. The search began at some `start`.
+    pub fn advance(
+        self,
+        literals: &[u32],
+        other: u32,
+        assignment: &Assignment,
+        visits: &mut Visits,
+    ) -> Search
+        requires position { self.position < length literals.now }
+        requires passed { self.passed ≤ length literals.now }
+        requires inside { All (λ x. x < 4 * length assignment.now.values.items) literals.now }
+        ensures position { result.position < length literals.now }
+        ensures after { self.passed ≤ result.passed }
+        ensures within { result.passed ≤ length literals.now }
+        ensures round { (start : ℕ) → IsRound start self (length literals.now) → IsRound start result (length literals.now) }
+        ensures passed { (start k d : ℕ) → IsRound start self (length literals.now) → self.passed ≤ k → k < result.passed → (false_at assignment.now.values.items (slice_index_or (turned start literals.now) k d) ≡ true) ⊎ (slice_index_or (turned start literals.now) k d ≡ other) }
+        ensures found { result.passed < length literals.now → (d : ℕ) → (false_at assignment.now.values.items (slice_index_or literals.now result.position d) ≡ false) × (slice_index_or literals.now result.position d ≡ other → ⊥) }
+        ensures rising { visits.old ≤ visits.new }
+        ensures few { visits.new + self.passed ≤ visits.old + min (result.passed + 1) (length literals.now) }
+    {
+        let mut at = self;
+        'literals: while at.passed < literals.len() {
+            let literal = visit_literal(literals, at.position, visits);
+            if may_watch(assignment, literal, other) {
+                return at;
+            }
+            at = at.next(literals.len());
+        }
+        at
+    }
+}
