@@ -29,7 +29,7 @@ install:
 	install -D -m 644 completions/pb.fish '$(DESTDIR)$(FISHDIR)/pb.fish'
 	mkdir -p '$(DESTDIR)$(LIBDIR)/pkgconfig'
 	printf '%s\n' 'prefix=$(PREFIX)' 'libdir=$(LIBDIR)' 'includedir=$(INCLUDEDIR)' '' 'Name: pb' \
-	    'Description: A verified checker of pseudo-Boolean instances and proofs' "Version: $$(cat VERSION)" \
+	    'Description: A verified checker of pseudo-Boolean instances and proofs' "Version: $$(cat VERSION)" 'License: MIT OR Apache-2.0' \
 	    'Libs: -L$${libdir} -lpb' 'Cflags: -I$${includedir}' > '$(DESTDIR)$(LIBDIR)/pkgconfig/pb.pc'
 
 uninstall:

@@ -43,6 +43,7 @@ def described(name):
     """The files of a wheel that describe it, with their texts."""
     metadata = f"Metadata-Version: 2.1\nName: pb\nVersion: {version()}\nRequires-Python: >=3.8\n"
     metadata += "Summary: A verified checker of pseudo-Boolean instances (OPB) and proofs (VeriPB 2.0)\n"
+    metadata += "Author: the pb authors\nLicense: MIT OR Apache-2.0\n"
     tag = name.split("-", 2)[2]
     return {"METADATA": metadata, "WHEEL": f"Wheel-Version: 1.0\nGenerator: pb\nRoot-Is-Purelib: false\nTag: {tag}\n"}
 
