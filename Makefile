@@ -3,6 +3,7 @@
 # each path, as packagers expect.
 PREFIX = /usr/local
 DESTDIR =
+PROGRAM =
 BINDIR = $(PREFIX)/bin
 LIBDIR = $(PREFIX)/lib
 INCLUDEDIR = $(PREFIX)/include
@@ -15,8 +16,20 @@ INSTALLED = '$(DESTDIR)$(BINDIR)/pb' '$(DESTDIR)$(LIBDIR)/libpb.a' '$(DESTDIR)$(
 	'$(DESTDIR)$(INCLUDEDIR)/pb.h' '$(DESTDIR)$(MANDIR)/man1/pb.1' '$(DESTDIR)$(BASHDIR)/pb' '$(DESTDIR)$(ZSHDIR)/_pb' \
 	'$(DESTDIR)$(FISHDIR)/pb.fish'
 
+# The carried files if they fit, or else those that ./build makes.
 all:
+	@dist/home >/dev/null && echo 'pb: the carried files are those of these sources; `make prove` builds them anew' || ./build
+
+# Proves and builds everything from its source. This needs the command rt of the Rattle kit.
+prove:
 	./build
+
+# Every check that needs no prover, and those that take a few seconds. PROGRAM names another program, as one that is installed.
+check:
+	checks/run $(PROGRAM)
+
+quick:
+	checks/run --quick $(PROGRAM)
 
 install:
 	home=$$(dist/home || { ./build >&2 && echo out; }) && \
@@ -35,4 +48,4 @@ install:
 uninstall:
 	rm -f $(INSTALLED)
 
-.PHONY: all install uninstall
+.PHONY: all prove check quick install uninstall
