@@ -5,7 +5,9 @@ import unittest
 
 import pb
 
-EXAMPLES = os.path.join(os.path.dirname(os.path.abspath(__file__)), "../../examples")
+HERE = os.path.dirname(os.path.abspath(__file__))
+# An sdist has the examples beside this file.
+EXAMPLES = next(filter(os.path.isdir, (os.path.join(HERE, it) for it in ("examples", "../../examples"))))
 
 
 def example(name):
