@@ -21,7 +21,6 @@ SCRIPTS = cnf2opb drat2pbp opb2profile
 DOCUMENTS = README.md CHANGELOG.md LICENSE-APACHE LICENSE-MIT THIRD-PARTY.md contrib/README.md docs examples
 VERSION = $(shell cat VERSION)
 SONAME = libpb.so.$(firstword $(subst ., ,$(VERSION)))
-OUTPUT = out/packages
 
 # The carried files if they fit, or else those that ./build makes.
 all:
@@ -77,8 +76,10 @@ uninstall:
 
 # The sources of the last commit, with the carried files. The same commit gives the same bytes.
 dist:
-	mkdir -p '$(OUTPUT)'
-	git archive --format=tar --prefix='pb-$(VERSION)/' HEAD | gzip -9n > '$(OUTPUT)/pb-$(VERSION).tar.gz'
-	@echo '$(OUTPUT)/pb-$(VERSION).tar.gz'
+	packaging/run source
 
-.PHONY: all prove check quick install uninstall dist
+# Packages of the last commit in out/packages, each kind in a folder of its own.
+packages:
+	packaging/run
+
+.PHONY: all prove check quick install uninstall dist packages
