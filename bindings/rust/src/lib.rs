@@ -112,8 +112,8 @@ pub enum Status {
     Failed,
 }
 
-/// A call failed.
-#[derive(Clone, Debug, PartialEq, Eq)]
+/// A call failed. `{}` and `{:?}` show the text, so that `main` may return it as an error.
+#[derive(Clone, PartialEq, Eq)]
 pub struct Refusal {
     pub status: Status,
     /// What the call wrote. It ends in the line of the fault.
@@ -134,6 +134,15 @@ impl Refusal {
 impl fmt::Display for Refusal {
     fn fmt(&self, f: &mut fmt::Formatter<'_>) -> fmt::Result {
         f.write_str(String::from_utf8_lossy(&self.text).trim_end())
+    }
+}
+
+impl fmt::Debug for Refusal {
+    fn fmt(&self, f: &mut fmt::Formatter<'_>) -> fmt::Result {
+        f.debug_struct("Refusal")
+            .field("status", &self.status)
+            .field("text", &String::from_utf8_lossy(&self.text))
+            .finish()
     }
 }
 

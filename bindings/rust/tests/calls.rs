@@ -39,6 +39,11 @@ fn an_empty_proof_is_refused() {
     assert_eq!(refusal.status, Status::Refused);
     assert_eq!(refusal.code(), 1);
     assert_eq!(refusal.to_string(), "proof: line 1 column 1: input ended");
+    let shown = format!("{refusal:?}");
+    assert!(
+        shown.contains(r#""proof: line 1 column 1: input ended\n""#),
+        "{shown}"
+    );
 }
 
 #[test]
