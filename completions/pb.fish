@@ -10,5 +10,5 @@ complete -c pb -n '__fish_seen_subcommand_from check trace tidy show' -x -l bits
 complete -c pb -n '__fish_seen_subcommand_from check' -f -l stats -d 'Print counts after the check'
 complete -c pb -n '__fish_seen_subcommand_from check' -f -l progress -d 'Print a progress line while the check runs'
 complete -c pb -n '__fish_seen_subcommand_from tidy' -f -l normal -d 'Print normal forms'
-complete -c pb -s h -l help -d 'Print help'
-complete -c pb -s V -l version -d 'Print the version'
+complete -c pb -n 'not __fish_seen_subcommand_from help' -f -s h -l help -d 'Print help'
+complete -c pb -n __fish_use_subcommand -f -s V -l version -d 'Print the version'
