@@ -102,6 +102,8 @@ def ended(work):
         note(fault)
     except BrokenPipeError:
         pass
+    except OSError as fault:
+        note(fault)
     except MemoryError:
         note("out of memory")
     except KeyboardInterrupt:
