@@ -76,7 +76,7 @@ REFUSED = [
     ("rup +1 x1 = 1 ;\n", "line 3: an equality in `rup`"),
     ("pol -1 -5 +\n", "line 3: no constraint -5 is live"),
     ("sol ~x1 x2 x3\npol 5 1 +\n", "line 4: no constraint 5 is live"),
-    ("e 4 +1 ~x1 +1 ~x3 >= 1 ;\npol 1 +\n", "line 4: no postfix expression"),
+    ("pol 1 +\ne 5 +1 ~x1 +1 ~x3 >= 1 ;\n", "line 4: no postfix expression: `1 +`"),
     ("del spec +1 x1 >= 1 ;\n", "line 3: no live constraint is `+1 x1 >= 1`"),
     ("del range 1\n", "line 3: `del range` takes two ids"),
     ("del id 1 1\n", "line 3: constraint 1 is deleted twice"),

@@ -1,0 +1,217 @@
+"""Linear constraints of bytes, for pbp2profile: their normal form, the operations of `pol`, and implications as words of `pol`.
+
+A constraint in normal form is a pair: a dictionary from names to coefficients, negative for the negated literal, and the degree."""
+import re
+
+from streams import Rejected, shown
+
+NUMBER = re.compile(rb"[+-]?[0-9]+")
+LITERAL = re.compile(rb"~?[A-Za-z][A-Za-z0-9_\[\]{}^]*")
+
+
+class Units(dict):
+    """From a literal to its name and 1, or -1 if it is negated."""
+
+    def __missing__(self, literal):
+        if not LITERAL.fullmatch(literal):
+            raise Rejected(f"`{shown(literal)}` is no literal")
+        self[literal] = (literal[1:], -1) if literal[:1] == b"~" else (literal, 1)
+        return self[literal]
+
+
+UNITS = Units()
+
+
+def add(terms, degree, other, more):
+    """Adds another constraint to the terms; returns the degree."""
+    degree += more
+    for name, coefficient in other.items():
+        old = terms.get(name)
+        if old is None:
+            terms[name] = coefficient
+            continue
+        new = old + coefficient
+        if (old < 0) != (coefficient < 0):
+            degree -= min(abs(old), abs(coefficient))
+        if new:
+            terms[name] = new
+        else:
+            del terms[name]
+    return max(0, degree)
+
+
+def saturated(terms, degree):
+    return {name: max(-degree, min(degree, it)) for name, it in terms.items()} if degree else {}
+
+
+def normal(pairs, degree):
+    """The normal form of pairs of a coefficient and a literal, at least the degree."""
+    terms = {}
+    for coefficient, literal in pairs:
+        name, sign = UNITS[literal]
+        degree += max(0, -coefficient)
+        if coefficient:
+            old, more = terms.get(name, 0), coefficient * sign
+            if (old < 0) != (more < 0):
+                degree -= min(abs(old), abs(more))
+            terms[name] = old + more
+    return {name: it for name, it in terms.items() if it}, max(0, degree)
+
+
+def linear(text):
+    """The pairs, the relation and the degree of a constraint that is written without its `;`."""
+    for relation in (b">=", b"<=", b"="):
+        left, found, right = text.partition(relation)
+        if found:
+            break
+    words = left.split()
+    right = right.strip()
+    if not found or len(words) % 2 or not NUMBER.fullmatch(right) or not all(map(NUMBER.fullmatch, words[::2])):
+        raise Rejected(f"`{shown(text)}` is no linear constraint")
+    return list(zip(map(int, words[::2]), words[1::2])), relation, int(right)
+
+
+def value_of_text(text):
+    """The normal form of a constraint with `>=` or `<=` that is written without its `;`."""
+    left, found, right = text.partition(b">=")
+    words = left.split()
+    # A clause, or another sum of different names with coefficients 1.
+    if found and {*words[::2]} <= {b"+1", b"1"} and right.strip().isdigit():
+        terms = dict(map(UNITS.__getitem__, words[1::2]))
+        if 2 * len(terms) == len(words):
+            return terms, int(right)
+    pairs, relation, degree = linear(text)
+    if relation == b"=":
+        raise Rejected("an equality, where one side is needed")
+    return normal(pairs, degree) if relation == b">=" else normal([(-it, literal) for it, literal in pairs], -degree)
+
+
+def written(terms, degree):
+    return b"".join(b"+%d %s%s " % (abs(it), b"~" if it < 0 else b"", name) for name, it in terms.items()) + b">= %d" % degree
+
+
+def implication(given, wanted):
+    """The words that make a constraint of one that implies it, after the id of that; nothing if no way is found."""
+    for start in ([], [b"s"]):
+        words = weakening(saturated(*given) if start else given[0], given[1], *wanted)
+        if words is not None:
+            return start + words
+    return None
+
+
+def weakening(terms, degree, goal, least):
+    """Lowers what is too much, then the degree, saturates if a greater coefficient is left, and adds what is missing. A coefficient of at
+    least the degree of the goal may be greater, as saturation brings it down."""
+    terms, words, names = dict(terms), [], list(terms or goal)
+    for name, it in list(terms.items()):
+        aim = goal.get(name, 0)
+        if aim * it <= 0:
+            words += [name, b"w"]
+            degree = max(0, degree - abs(it))
+            del terms[name]
+        elif abs(aim) < abs(it) and abs(aim) < least:
+            degree = axiom(words, terms, degree, name, aim - it)
+    if degree < least:
+        return None
+    if degree > least:
+        # The axioms of x and of ~x together lower the degree by one.
+        if not names:
+            return None
+        count = degree - least
+        degree = axiom(words, terms, degree, names[0], count)
+        degree = axiom(words, terms, degree, names[0], -count)
+    if any(abs(it) > abs(goal[name]) for name, it in terms.items()):
+        words.append(b"s")
+        terms = saturated(terms, degree)
+    for name, aim in goal.items():
+        if aim != terms.get(name, 0):
+            degree = axiom(words, terms, degree, name, aim - terms.get(name, 0))
+    return words if (terms, degree) == (goal, least) else None
+
+
+def axiom(words, terms, degree, name, count):
+    """Adds the axiom of a name some times, or that of its negation."""
+    words += [b"~" + name if count < 0 else name, *([b"%d" % abs(count), b"*"] if abs(count) > 1 else []), b"+"]
+    return add(terms, degree, {name: count}, 0)
+
+
+# What `*`, `d` and `s` make of terms and degree with a factor.
+OPERATIONS = {
+    b"*": lambda terms, degree, factor: ({name: it * factor for name, it in terms.items()}, degree * factor),
+    b"d": lambda terms, degree, factor: ({name: -(-it // factor) if it > 0 else it // factor for name, it in terms.items()},
+                                         -(-degree // factor)),
+    b"s": lambda terms, degree, _: (saturated(terms, degree), degree),
+}
+
+
+def is_id(word, after):
+    """Whether a word of a postfix expression is an id: a number that is no factor of the word after it."""
+    return (word[:1].isdigit() or word[:1] == b"-") and after not in (b"*", b"d")
+
+
+def ids_of(words):
+    """Where ids stand in a postfix expression."""
+    return {at for at, (word, after) in enumerate(zip(words, [*words[1:], b""])) if is_id(word, after)}
+
+
+def computed(text, parts):
+    """The value of a postfix expression, whose ids have these values in their order. If one is not known, nothing is."""
+    words, stack, at_part = text.split(), [], 0
+    ids = ids_of(words)
+    if len(ids) == len(parts) and any(part is None for part in parts):
+        return None
+    try:
+        for at, word in enumerate(words):
+            if at in ids:
+                stack.append((*parts[at_part], False))
+                at_part += 1
+            elif word == b"+":
+                other, more, _ = stack.pop()
+                terms, degree, is_own = stack.pop()
+                terms = terms if is_own else dict(terms)
+                stack.append((terms, add(terms, degree, other, more), True))
+            elif word in OPERATIONS:
+                factor = None if word == b"s" else stack.pop()
+                terms, degree, _ = stack.pop()
+                stack.append((*OPERATIONS[word](terms, degree, factor), True))
+            elif word == b"w":
+                name = stack.pop()
+                terms, degree, is_own = stack.pop()
+                terms = terms if is_own else dict(terms)
+                stack.append((terms, max(0, degree - abs(terms.pop(name, 0))), True))
+            elif NUMBER.fullmatch(word):
+                stack.append(int(word))
+            elif words[at + 1:at + 2] == [b"w"]:
+                stack.append(word)
+            else:
+                name, sign = UNITS[word]
+                stack.append(({name: sign}, 0, False))
+        (terms, degree, _), = stack
+    except (IndexError, TypeError, ValueError, ZeroDivisionError, AttributeError):
+        raise Rejected(f"no postfix expression: `{shown(text)}`") from None
+    return terms, degree
+
+
+class Held:
+    """The value of a constraint: a normal form, its text, a postfix expression with what its ids hold, or None if it is not known."""
+
+    __slots__ = ("value", "parts")
+
+    def __init__(self, value, parts=None):
+        self.value, self.parts = value, parts
+
+    def normal(self):
+        """The normal form, or None. It is computed here at the first time, with all that it is made of."""
+        todo = [self]
+        while todo:
+            held = todo[-1]
+            if held.parts is not None:
+                more = [part for part in held.parts if isinstance(part.value, bytes)]
+                if more:
+                    todo += more
+                    continue
+                held.value, held.parts = computed(held.value, [part.value for part in held.parts]), None
+            elif isinstance(held.value, bytes):
+                held.value = value_of_text(held.value)
+            todo.pop()
+        return self.value
