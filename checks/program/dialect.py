@@ -24,6 +24,10 @@ REWRITTEN = [
     # 2 x1 + 2 x2 + x3 >= 3 in both spellings, and written as 2 x1 - 2 ~x2 + x3 >= 1.
     ("e 1 +2 x1 +2 x2 +1 x3 >= 3 ;\ne 1 : +1 x3 +2 x2 +2 x1 >= 3 ;\ne +2 x1 -2 ~x2 +1 x3 >= 1 ; 1\ne +1 x3 +2 x1 +2 x2 >= 3 ;\n", "", []),
     ("ea +2 x1 +2 x2 +1 x3 >= 3 ; 1\npol -1 4 +\n", "pol 1\npol 5 4 +\n", []),
+    # The axioms take two from the degree 1, which is then 0 and not -1.
+    ("pol 4 x1 + x3 + 1 +\ne 5 +2 x1 +2 x2 +1 x3 >= 3 ;\n", "pol 4 x1 + x3 + 1 +\n", []),
+    # Divided by 2 it is x1 + x2 + x3 >= 2; two times that is 2 x1 + 2 x2 + 2 x3 >= 4.
+    ("pol 1 2 d 2 *\ne 5 +2 x1 +2 x2 +2 x3 >= 4 ;\n", "pol 1 2 d 2 *\n", []),
     ("--ea-adds-nothing", "ea +2 x1 +2 x2 +1 x3 >= 3 ; 1\npol -1 3 +\n", "pol 4 3 +\n", []),
     # Without x3 the degree is 2; the axioms of x1 and ~x1 make it 1; saturated it is the clause.
     ("ia +1 x1 +1 x2 >= 1 ; 1\n", "pol 1 x3 w x1 + ~x1 + s\n", []),
