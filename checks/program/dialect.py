@@ -53,6 +53,7 @@ REWRITTEN = [
     ("del range 1 3\n", "del id 1 2\n", []),
     ("del range -2 -1 ;\n", "del id 3\n", []),
     ("del id 2\ndel range 1 9\n", "del id 2\ndel id 1 3 4\n", []),
+    ("del id 2 3\ndel range 1 4\n", "del id 2 3\ndel id 1\n", []),
     ("del spec +1 ~x3 +1 ~x1 >= 1 ;\n", "del id 4\n", []),
     ("rup +1 x1 +1 x2 >= 1 ;\nrup +1 x2 +1 x1 >= 1 ;\ndel find +1 x1 +1 x2 >= 1 ;\n",
      "rup +1 x1 +1 x2 >= 1 ;\nrup +1 x2 +1 x1 >= 1 ;\ndel id 6\n", []),
@@ -63,6 +64,9 @@ REWRITTEN = [
     # The negation is 5, x1 is 6, the sum is 7 and the constraint 8.
     ("red +1 x2 >= 1 ; ; begin\n  rup +1 x1 >= 1 ;\n  pol -1 4 + 5 +\nend\npol 8 1 +\n",
      "rup +1 x1 +1 x2 >= 1 ;\npol 5 4 + x2 +\nrup +1 x2 >= 1 ;\ndel id 5 6\npol 7 1 +\n", [SUBPROOF]),
+    # Without x2 the two others are true: two x2 hold the step alone.
+    ("red +1 x2 >= 1 ; ; begin\n  rup +1 x1 +1 x3 >= 2 ;\nend\n",
+     "rup +1 x1 +1 x3 +2 x2 >= 2 ;\nrup +1 x2 >= 1 ;\ndel id 5\n", [SUBPROOF]),
     # The negation 5, that of the goal 6, the step 7, and the constraint 8.
     ("red +1 x2 >= 1 ; ; begin\n  proofgoal #1\n    rup >= 1 ;\n  end -1\nend\npol 8 1 +\n", "rup +1 x2 >= 1 ;\npol 5 1 +\n", [SUBPROOF]),
 ]
