@@ -17,7 +17,8 @@ ZSHDIR = $(DATADIR)/zsh/site-functions
 FISHDIR = $(DATADIR)/fish/vendor_completions.d
 PCDIR = $(LIBDIR)/pkgconfig
 
-SCRIPTS = cnf2opb drat2pbp opb2profile
+SCRIPTS = check-cnf cnf2opb drat2pbp opb2profile pbp2profile
+MODULES = constraints.py streams.py
 DOCUMENTS = README.md CHANGELOG.md LICENSE-APACHE LICENSE-MIT THIRD-PARTY.md contrib/README.md docs examples
 VERSION = $(shell cat VERSION)
 SONAME = libpb.so.$(firstword $(subst ., ,$(VERSION)))
@@ -37,7 +38,7 @@ check:
 quick:
 	checks/run --quick $(PROGRAM)
 
-# A link goes from the folder of programs to each script, as drat2pbp loads cnf2opb from its own folder. The paths in pb.pc are those from
+# A link goes from the folder of programs to each script, as the scripts load modules and each other from their own folder. The paths in pb.pc are those from
 # the folder of pb.pc, so that what was installed may be moved.
 install:
 	home=$$(dist/home || { ./build >&2 && echo out; }) && \
@@ -59,6 +60,7 @@ install:
 	    install -D -m 755 contrib/$$name '$(DESTDIR)$(DATADIR)/pb'/$$name && \
 	    ln -srf '$(DESTDIR)$(DATADIR)/pb'/$$name '$(DESTDIR)$(BINDIR)'/pb-$$name || exit 1; \
 	done
+	for name in $(MODULES); do install -D -m 644 contrib/$$name '$(DESTDIR)$(DATADIR)/pb'/$$name || exit 1; done
 	find $(DOCUMENTS) -type f ! -name '*.pyc' -exec sh -c \
 	    'for name; do install -D -m 644 "$$name" "$$0/$$name" || exit 1; done' '$(DESTDIR)$(DOCDIR)' {} +
 	mkdir -p '$(DESTDIR)$(PCDIR)'
