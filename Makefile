@@ -25,7 +25,7 @@ SONAME = libpb.so.$(firstword $(subst ., ,$(VERSION)))
 
 # The carried files if they fit, or else those that ./build makes.
 all:
-	@dist/home >/dev/null && echo 'pb: the carried files are those of these sources; `make prove` builds them anew' || ./build
+	@dist/home >/dev/null && echo 'pb: the carried files are those of these sources; `make prove` builds them again' || ./build
 
 # Proves and builds everything from its source. This needs the command rt of the Rattle kit.
 prove:
@@ -38,8 +38,8 @@ check:
 quick:
 	checks/run --quick $(PROGRAM)
 
-# A link goes from the folder of programs to each script, as the scripts load modules and each other from their own folder. The paths in pb.pc are those from
-# the folder of pb.pc, so that what was installed may be moved.
+# A link goes from the folder of programs to each script, as the scripts load modules and each other from their own folder. The paths in
+# pb.pc are those from the folder of pb.pc, so that what was installed may be moved.
 install:
 	home=$$(dist/home || { ./build >&2 && echo out; }) && \
 	install -D -m 755 "$$home/pb" '$(DESTDIR)$(BINDIR)/pb' && \
@@ -82,7 +82,7 @@ uninstall:
 dist:
 	packaging/run source
 
-# Packages of the last commit in out/packages, each kind in a folder of its own.
+# Packages of the last commit in out/packages, each kind in a folder of its own. packaging/README.md says what they need.
 packages:
 	packaging/run
 
