@@ -33,10 +33,10 @@ prove:
 
 # Every check that needs no prover, and those that take a few seconds. PROGRAM names another program, as one that is installed.
 check:
-	checks/run $(PROGRAM)
+	checks/run $(if $(PROGRAM),'$(PROGRAM)')
 
 quick:
-	checks/run --quick $(PROGRAM)
+	checks/run --quick $(if $(PROGRAM),'$(PROGRAM)')
 
 # A link goes from the folder of programs to each script, as the scripts load modules and each other from their own folder. The paths in
 # pb.pc are those from the folder of pb.pc, so that what was installed may be moved.
