@@ -17,8 +17,8 @@ ZSHDIR = $(DATADIR)/zsh/site-functions
 FISHDIR = $(DATADIR)/fish/vendor_completions.d
 PCDIR = $(LIBDIR)/pkgconfig
 
-SCRIPTS = check-cnf cnf2opb drat2pbp opb2profile pbp2profile
-MODULES = constraints.py streams.py
+SCRIPTS = $(filter-out %.md %.py __pycache__,$(notdir $(wildcard contrib/*)))
+MODULES = $(notdir $(wildcard contrib/*.py))
 DOCUMENTS = README.md CHANGELOG.md LICENSE-APACHE LICENSE-MIT THIRD-PARTY.md contrib/README.md docs examples
 VERSION = $(shell cat VERSION)
 SONAME = libpb.so.$(firstword $(subst ., ,$(VERSION)))
