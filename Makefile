@@ -86,4 +86,8 @@ dist:
 packages:
 	packaging/run
 
-.PHONY: all prove check quick install uninstall dist packages
+# Makes the packages twice in folders of their own, compares the bytes, and tries each outside of the clone.
+check-packages:
+	checks/program/packages
+
+.PHONY: all prove check quick install uninstall dist packages check-packages
