@@ -26,18 +26,19 @@ def add(terms, degree, other, more):
     """Adds another constraint to the terms; returns the degree."""
     degree += more
     for name, coefficient in other.items():
-        old = terms.get(name)
-        if old is None:
+        if name not in terms:
             terms[name] = coefficient
             continue
-        new = old + coefficient
-        if (old < 0) != (coefficient < 0):
-            degree -= min(abs(old), abs(coefficient))
-        if new:
-            terms[name] = new
-        else:
+        old = terms[name]
+        new = terms[name] = old + coefficient
+        # What a literal and its negation have in common is taken from the degree.
+        if coefficient > 0 > old:
+            degree -= coefficient if new <= 0 else -old
+        elif coefficient < 0 < old:
+            degree -= -coefficient if new >= 0 else old
+        if not new:
             del terms[name]
-    return max(0, degree)
+    return degree if degree > 0 else 0
 
 
 def saturated(terms, degree):
@@ -145,8 +146,8 @@ OPERATIONS = {
 
 
 def is_id(word, after):
-    """Whether a word of a postfix expression is an id: a number that is no factor of the word after it."""
-    return (word[:1].isdigit() or word[:1] == b"-") and after not in (b"*", b"d")
+    """Whether a word of a postfix expression is an id: a number that is no factor of the word after it, or a label."""
+    return (word[:1].isdigit() or word[:1] in (b"-", b"@")) and after not in (b"*", b"d")
 
 
 def ids_of(words):
@@ -154,22 +155,24 @@ def ids_of(words):
     return {at for at, (word, after) in enumerate(zip(words, [*words[1:], b""])) if is_id(word, after)}
 
 
-def computed(text, parts):
-    """The value of a postfix expression, whose ids have these values in their order. If one is not known, nothing is."""
-    words, stack, at_part = text.split(), [], 0
-    ids = ids_of(words)
-    if len(ids) == len(parts) and any(part is None for part in parts):
-        return None
+def computed(words, value_of):
+    """The value of a postfix expression; `value_of` gives that of an id. If one is not known, nothing is."""
+    stack = []
     try:
-        for at, word in enumerate(words):
-            if at in ids:
-                stack.append((*parts[at_part], False))
-                at_part += 1
-            elif word == b"+":
+        for word, after in zip(words, [*words[1:], b""]):
+            if word == b"+":
                 other, more, _ = stack.pop()
                 terms, degree, is_own = stack.pop()
                 terms = terms if is_own else dict(terms)
                 stack.append((terms, add(terms, degree, other, more), True))
+            elif word.isdigit():
+                if after == b"*" or after == b"d":
+                    stack.append(int(word))
+                    continue
+                value = value_of(int(word))
+                if value is None:
+                    return None
+                stack.append((*value, False))
             elif word in OPERATIONS:
                 factor = None if word == b"s" else stack.pop()
                 terms, degree, _ = stack.pop()
@@ -179,39 +182,12 @@ def computed(text, parts):
                 terms, degree, is_own = stack.pop()
                 terms = terms if is_own else dict(terms)
                 stack.append((terms, max(0, degree - abs(terms.pop(name, 0))), True))
-            elif NUMBER.fullmatch(word):
-                stack.append(int(word))
-            elif words[at + 1:at + 2] == [b"w"]:
+            elif after == b"w":
                 stack.append(word)
             else:
                 name, sign = UNITS[word]
                 stack.append(({name: sign}, 0, False))
         (terms, degree, _), = stack
     except (IndexError, TypeError, ValueError, ZeroDivisionError, AttributeError):
-        raise Rejected(f"no postfix expression: `{shown(text)}`") from None
+        raise Rejected(f"no postfix expression: `{shown(b' '.join(words))}`") from None
     return terms, degree
-
-
-class Held:
-    """The value of a constraint: a normal form, its text, a postfix expression with what its ids hold, or None if it is not known."""
-
-    __slots__ = ("value", "parts")
-
-    def __init__(self, value, parts=None):
-        self.value, self.parts = value, parts
-
-    def normal(self):
-        """The normal form, or None. It is computed here at the first time, with all that it is made of."""
-        todo = [self]
-        while todo:
-            held = todo[-1]
-            if held.parts is not None:
-                more = [part for part in held.parts if isinstance(part.value, bytes)]
-                if more:
-                    todo += more
-                    continue
-                held.value, held.parts = computed(held.value, [part.value for part in held.parts]), None
-            elif isinstance(held.value, bytes):
-                held.value = value_of_text(held.value)
-            todo.pop()
-        return self.value

@@ -1,9 +1,12 @@
 """What the scripts of this folder share: inputs, outputs, and how a run ends. Copy it with any of them."""
 import gzip
+import importlib.machinery
+import importlib.util
 import io
 import lzma
 import os
 import sys
+import tempfile
 import zlib
 
 # Bytes that are read or written at once.
@@ -83,9 +86,46 @@ class Out:
     end = flush
 
 
+class Spool:
+    """What is written in full before any of it comes out: in memory, or in a file if it is long."""
+
+    def __init__(self):
+        self.file = tempfile.SpooledTemporaryFile(max_size=1 << 26)
+        self.write = self.file.write
+
+    def end(self):
+        pass
+
+    def copy(self, out):
+        self.file.seek(0)
+        for piece in iter(lambda: self.file.read(CHUNK), b""):
+            out.write(piece)
+        out.end()
+
+
 def note(line):
     """Writes a line about the run on standard error."""
     print(f"{os.path.basename(sys.argv[0])}: {line}", file=sys.stderr, flush=True)
+
+
+# What is said of a proof of a CNF file that stops early.
+NO_END = "the proof ends without the empty clause, so this was added; the solver may have been stopped, or found a solution"
+
+
+def missing_noted(count):
+    if count:
+        note(f"ignored {count} deletions of clauses that are not there")
+
+
+def sibling(name):
+    """Another script of this folder, as a module."""
+    path = os.path.join(os.path.dirname(os.path.realpath(__file__)), name)
+    if not os.path.isfile(path):
+        raise Refused(f"the file {name} of contrib/ has to be beside this script")
+    loader = importlib.machinery.SourceFileLoader(name, path)
+    module = importlib.util.module_from_spec(importlib.util.spec_from_loader(name, loader))
+    loader.exec_module(module)
+    return module
 
 
 def shown(text):

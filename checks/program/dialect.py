@@ -1,7 +1,4 @@
-"""What checks/program/contrib runs pbp2profile on: proofs with the text that is to come out, worked out by hand, and a way to write proofs
-of the profile with rules outside of it."""
-import random
-import re
+"""Rows for checks/program/contrib: proofs, and what pbp2profile is to make of them, worked out by hand."""
 
 INSTANCE = b"""* #variable= 3 #constraint= 3
 min: +1 x1 +2 x2 -1 x3 ;
@@ -59,8 +56,10 @@ REWRITTEN = [
      "rup +1 x1 +1 x2 >= 1 ;\nrup +1 x2 +1 x1 >= 1 ;\ndel id 6\n", []),
     ("core id 1 2\ncore range 1 3\n", "", []),
     ("# 1\nrup +1 x2 >= 1 ;\n# 0\nrup +1 x2 >= 1 ;\n#2\nrup +1 x2 >= 1 ;\nw 1\n", "rup +1 x2 >= 1 ;\n" * 3 + "del id 5 7\n", []),
+    # With x2 = 0 the first constraint makes both others 1, which the last one forbids.
+    ("red +1 x2 >= 1 ; x2 -> 1 ;\n", "rup +1 x2 >= 1 ;\n", []),
     ("red +1 x2 >= 1 ; ;\n", "rup +1 x2 >= 1 ;\n", []),
-    ("--red-as-rup", "red +1 x2 >= 1 ; x2 -> 1 ;\n", "rup +1 x2 >= 1 ;\n", []),
+    ("--red-as-rup", "red +1 x2 +1 x1 >= 1 ; x2 -> 1 ;\n", "rup +1 x2 +1 x1 >= 1 ;\n", []),
     # The negation is 5, x1 is 6, the sum is 7 and the constraint 8.
     ("red +1 x2 >= 1 ; ; begin\n  rup +1 x1 >= 1 ;\n  pol -1 4 + 5 +\nend\npol 8 1 +\n",
      "rup +1 x1 +1 x2 >= 1 ;\npol 5 4 + x2 +\nrup +1 x2 >= 1 ;\ndel id 5 6\npol 7 1 +\n", [SUBPROOF]),
@@ -73,9 +72,11 @@ REWRITTEN = [
 
 # Lines that are refused, and why.
 REFUSED = [
-    ("red +1 x2 >= 1 ; x2 -> 1 ;\n", "line 3: `red` with a witness is outside the profile"),
-    ("dom +1 x2 >= 1 ; x2 -> 1 ;\n", "line 3: `dom` is outside the profile"),
-    ("rup +1 x2 >= 1 ;\nobju new +1 x1 ;\n", "line 4: `obju` is outside the profile"),
+    # Neither x1 nor the last constraint forces anything.
+    ("red +1 ~x1 >= 1 ; x1 -> 0 ;\n", "line 3: `red` with a witness is outside the profile: `+1 ~x1 >= 1` does not follow by unit propagation"),
+    ("red +1 y1 >= 1 ; y1 -> 1\n", "line 3: `red` with a witness is outside the profile: `+1 y1 >= 1` does not follow by unit propagation"),
+    ("dom +1 x2 >= 1 ; x2 -> 1 ;\n", "line 3: `dom` (dominance) is outside the profile"),
+    ("rup +1 x2 >= 1 ;\nobju new +1 x1 ;\n", "line 4: `obju` (a change of the objective) is outside the profile"),
     ("step 1\n", "line 3: `step` is no rule that is known here"),
     ("e 1 +2 x1 >= 3 ;\n", "line 3: constraint 1 is `+2 x1 +2 x2 +1 x3 >= 3`, not `+2 x1 >= 3`"),
     ("ea +2 x1 >= 3 ;\n", "line 3: no live constraint is `+2 x1 >= 3`"),
@@ -123,158 +124,3 @@ WHOLE = [
     (INSTANCE, V2.replace("2.0", "3.0"), "", ["line 1: version 3.0 of the format; 1.0 to 2.0 are read"], None),
     (INSTANCE, "proof\n", "", ["line 1: a proof begins with `pseudo-Boolean proof version`"], None),
 ]
-
-
-def traced(text):
-    """What `pb trace` prints: for each line of a proof that adds constraints, these by id."""
-    made = {}
-    for line in text.decode().splitlines():
-        found = re.match(r"(\d+):\d+ ", line)
-        if found:
-            made[int(found[1])] = {int(number): body for number, body in re.findall(r" -> (\d+): ([^;]*);", line)}
-    return made
-
-
-class Wider:
-    """Writes a proof of the profile with rules outside of it: the same steps, and others that are true, by a seed."""
-
-    def __init__(self, trace, seed):
-        self.draw, self.trace, self.out = random.Random(seed), traced(trace), []
-        self.newest, self.ids, self.live, self.steps = 0, {}, {}, 0
-
-    def add(self, body, old=None):
-        self.newest += 1
-        self.live[self.newest] = body.strip()
-        if old:
-            self.ids[old] = self.newest
-
-    def named(self, number):
-        """An id, or the negative one that means the same."""
-        return str(number if self.draw.random() < 0.6 else number - self.newest - 1)
-
-    def shuffled(self, body):
-        """Another text of the same constraint: terms in another order, some literals negated."""
-        left, _, degree = body.partition(">=")
-        words, degree = left.split(), int(degree)
-        terms = list(zip(map(int, words[::2]), words[1::2]))
-        self.draw.shuffle(terms)
-        out = []
-        for coefficient, literal in terms:
-            if self.draw.random() < 0.2:
-                degree -= coefficient
-                coefficient, literal = -coefficient, literal[1:] if literal[0] == "~" else "~" + literal
-            out.append(f"{coefficient:+d} {literal} ")
-        return f"{''.join(out)}>= {degree}"
-
-    def weaker(self, body):
-        """A constraint that follows from one by weakening: some terms dropped or lowered, others raised, and a lower degree."""
-        left, _, degree = body.partition(">=")
-        words, degree = left.split(), int(degree)
-        out = []
-        for coefficient, literal in zip(map(int, words[::2]), words[1::2]):
-            choice = self.draw.random()
-            less = coefficient if choice < 0.15 else self.draw.randint(0, coefficient) if choice < 0.3 else 0
-            more = self.draw.randint(0, 3) if choice > 0.8 else 0
-            degree -= less
-            if coefficient - less + more:
-                out.append(f"+{coefficient - less + more} {literal} ")
-        degree = max(0, degree - (self.draw.randint(0, 2) if self.draw.random() < 0.4 else 0))
-        return f"{''.join(out)}>= {degree}"
-
-    def extra(self):
-        """A step that the proof has not."""
-        number = self.draw.choice(sorted(self.live))
-        body, choice = self.live[number], self.draw.randrange(7)
-        if choice == 0:
-            form = self.draw.choice(["e {1} {0} ;", "e {1} : {0} ;", "e {0} ; {1}", "e {0} ;"])
-            self.out.append(form.format(self.shuffled(body), self.named(number)))
-        elif choice == 1:
-            self.out.append(f"ea {self.shuffled(body)} ; {self.named(number)}")
-            self.add(body)
-        elif choice in (2, 3):
-            weaker = self.weaker(body)
-            self.out.append(self.draw.choice(["ia {0} ; {1}", "ia {1} {0} ;", "j {1} {0} ;"]).format(weaker, self.named(number)))
-            self.add(weaker)
-        elif choice == 4:
-            self.out.append(f"i {self.weaker(body)} ; {self.named(number)}")
-        elif choice == 5:
-            self.out.append(f"core id {self.named(number)}")
-        else:
-            self.out.append(f"* {body}\n")
-
-    def line(self, number, line):
-        word, _, rest = line.partition(" ")
-        made = self.trace.get(number, {})
-        if word in ("rup", "pol", "solx", "soli", "del") and self.draw.random() < 0.5:
-            self.extra()
-        if word == "f":
-            self.out.append(line)
-            for old, body in made.items():
-                self.add(body, old)
-            return
-        if word == "rup":
-            choice, body = self.draw.random(), rest.rstrip(" ;\n")
-            hints = " ".join(self.draw.choice("1 2 ~ -1 3".split()) for _ in range(self.draw.randrange(4)))
-            if choice < 0.7:
-                self.out.append(f"rup {body} ; {hints}")
-            elif choice < 0.85:
-                self.out.append(f"red {body} ; ;")
-            else:
-                self.newest += 2
-                self.out.append(f"red {body} ; ; begin\n\trup {body} ; {hints}\nend")
-        elif word == "pol":
-            words = rest.split()
-            for at, it in enumerate(words):
-                if re.fullmatch("-?[0-9]+", it) and words[at + 1:at + 2] not in (["*"], ["d"]):
-                    old = int(it)
-                    words[at] = self.named(self.ids[old if old > 0 else max(self.ids) + 1 + old])
-            self.out.append(f"pol {' '.join(words)} ;")
-        elif word == "del":
-            for old in map(int, rest.split()[1:]):
-                self.delete(self.ids[old])
-            return
-        elif word == "conclusion":
-            line = re.sub(r"(UNSAT|BOUNDS \S+) : (\d+)", lambda found: f"{found[1]} : {self.named(self.ids[int(found[2])])}", line)
-            self.out.append(line)
-        else:
-            self.out.append(line)
-        for old, body in made.items():
-            self.add(body, old)
-
-    def delete(self, number):
-        body, choice = self.live.pop(number), self.draw.random()
-        if choice < 0.3:
-            self.out.append(f"del range {number} {number + 1}")
-        elif choice < 0.6 and not any(same(body, it) for it in self.live.values()):
-            self.out.append(f"del spec {self.shuffled(body)} ;")
-        else:
-            self.out.append(f"del id {self.named(number)}")
-
-    def written(self, proof):
-        for number, line in enumerate(proof.decode().split("\n"), 1):
-            self.line(number, line)
-        return "\n".join(self.out).encode()
-
-
-def same(first, second):
-    """Whether two constraints in normal form are the same."""
-    return sorted(zip(first.split()[::2], first.split()[1::2])) == sorted(zip(second.split()[::2], second.split()[1::2]))
-
-
-def random_pols(seed):
-    """An instance and a proof with many forms of `pol`, which concludes nothing."""
-    draw = random.Random(seed)
-    names = [f"y{number}" for number in range(6)]
-    lines = []
-    for _ in range(6):
-        terms = [f"{draw.randint(-4, 5):+d} {draw.choice(('', '~'))}{name}" for name in draw.sample(names, 4)]
-        lines.append(f"{' '.join(terms)} >= {draw.randint(-3, 3)} ;\n")
-    steps = []
-    for newest in range(6, 60):
-        words = [str(draw.randint(1, newest))]
-        for _ in range(draw.randrange(1, 6)):
-            words += draw.choice([[str(draw.randint(1, newest)), "+"], [draw.choice(("", "~")) + draw.choice(names), "+"], [str(draw.randint(1, 3)), "*"],
-                                  [str(draw.randint(2, 4)), "d"], ["s"], [draw.choice(names), "w"]])
-        steps.append(f"pol {' '.join([*words, '5', 'd', 's'])}\n")
-    instance = f"* #variable= 6 #constraint= 6\n{''.join(lines)}"
-    return instance.encode(), f"pseudo-Boolean proof version 2.0\nf 6\n{''.join(steps)}{NONE}{END}".encode()
