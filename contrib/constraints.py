@@ -42,21 +42,29 @@ def add(terms, degree, other, more):
 
 
 def saturated(terms, degree):
-    return {name: max(-degree, min(degree, it)) for name, it in terms.items()} if degree else {}
+    """The terms with coefficients of at most the degree: themselves, if they have only such."""
+    if not degree or not terms:
+        return {}
+    if max(terms.values()) <= degree and min(terms.values()) >= -degree:
+        return terms
+    return {name: it if -degree <= it <= degree else degree if it > 0 else -degree for name, it in terms.items()}
 
 
 def normal(pairs, degree):
     """The normal form of pairs of a coefficient and a literal, at least the degree."""
-    terms = {}
-    for coefficient, literal in pairs:
-        name, sign = UNITS[literal]
-        degree += max(0, -coefficient)
-        if coefficient:
+    units = [(UNITS[literal], coefficient) for coefficient, literal in pairs]
+    terms = {name: coefficient * sign for (name, sign), coefficient in units}
+    degree -= sum(coefficient for _, coefficient in units if coefficient < 0)
+    if len(terms) < len(units):
+        terms = {}
+        for (name, sign), coefficient in units:
             old, more = terms.get(name, 0), coefficient * sign
             if (old < 0) != (more < 0):
                 degree -= min(abs(old), abs(more))
             terms[name] = old + more
-    return {name: it for name, it in terms.items() if it}, max(0, degree)
+    if 0 in terms.values():
+        terms = {name: it for name, it in terms.items() if it}
+    return terms, max(0, degree)
 
 
 def linear(text):
@@ -65,11 +73,14 @@ def linear(text):
         left, found, right = text.partition(relation)
         if found:
             break
-    words = left.split()
-    right = right.strip()
-    if not found or len(words) % 2 or not NUMBER.fullmatch(right) or not all(map(NUMBER.fullmatch, words[::2])):
+    words, right = left.split(), right.strip()
+    numbers = words[::2]
+    if not found or len(words) % 2 or not NUMBER.fullmatch(right) or b"".join(numbers).translate(None, b"+-0123456789"):
         raise Rejected(f"`{shown(text)}` is no linear constraint")
-    return list(zip(map(int, words[::2]), words[1::2])), relation, int(right)
+    try:
+        return list(zip(map(int, numbers), words[1::2])), relation, int(right)
+    except ValueError:
+        raise Rejected(f"`{shown(text)}` is no linear constraint") from None
 
 
 def value_of_text(text):
@@ -175,8 +186,9 @@ def computed(words, value_of):
                 stack.append((*value, False))
             elif word in OPERATIONS:
                 factor = None if word == b"s" else stack.pop()
-                terms, degree, _ = stack.pop()
-                stack.append((*OPERATIONS[word](terms, degree, factor), True))
+                terms, degree, is_own = stack.pop()
+                made, degree = OPERATIONS[word](terms, degree, factor)
+                stack.append((made, degree, is_own or made is not terms))
             elif word == b"w":
                 name = stack.pop()
                 terms, degree, is_own = stack.pop()

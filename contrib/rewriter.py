@@ -127,8 +127,7 @@ class Rewriter(Subproofs):
         if text[-2:] == b" 0":
             text = text[:-2].rstrip()
         ids = self.ids
-        counts = b"-" in text or b"@" in text
-        if counts:
+        if b"-" in text or b"@" in text:
             pairs = zip(text.split(), [*text.split()[1:], b""])
             text = b" ".join([b"%d" % ids.id_of(word) if is_id(word, after) else word for word, after in pairs])
         self.out.write(b"pol %s\n" % (text if ids.same else self.mapped(text)))
