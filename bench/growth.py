@@ -69,6 +69,18 @@ def axioms(count):
     return [clause(*terms)], [f"pol 1 {' '.join(f'~{name} +' for name in terms[:-1])}\n"]
 
 
+def divided(count):
+    """One constraint, to which a literal is added and which is divided by 1, as many times."""
+    terms = names("x", count)
+    return [clause(*terms)], [f"pol 1 {f'{terms[0]} + 1 d ' * count}\n".replace(" \n", "\n")]
+
+
+def multiplied(count):
+    """The same, multiplied by 1."""
+    terms = names("x", count)
+    return [clause(*terms)], [f"pol 1 {f'{terms[0]} + 1 * ' * count}\n".replace(" \n", "\n")]
+
+
 def deleted(count):
     """Clauses with a common literal, and a step with that literal that is deleted each time."""
     clauses = [clause("x1", "zz")] + [clause("x1", end) for end in names("y", count)]
@@ -88,7 +100,7 @@ def dropped(count):
 # The families, each with its smallest size.
 FAMILIES = {
     facts: 2_500, chain: 2_500, again: 4_000, satisfied: 20_000, copies: 10_000, sums: 8_000, weakened: 10_000, axioms: 10_000,
-    deleted: 10_000, dropped: 2_500,
+    divided: 5_000, multiplied: 5_000, deleted: 10_000, dropped: 2_500,
 }
 
 

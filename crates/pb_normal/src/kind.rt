@@ -1,9 +1,13 @@
 //! A form as a list of terms or as a tree.
 
-ghost use Rattle.std.specs.Prelude.{◌≡◌, length, IfOk};
+ghost use Rattle.std.specs.Prelude.{◌≡◌, ◌↔◌, IsTrue, length, IfOk};
+ghost use Rattle.pb_normal.specs.engine.Adds.{Cancels};
 ghost use Rattle.pb_normal.specs.engine.Growing.{listing_form, kind_form};
+ghost use Rattle.pb_normal.specs.meaning.Form.{IsNormal, size};
+ghost use Rattle.pb_normal.specs.meaning.Rules.{SumPasses};
 
 use crate::form::Normal;
+use crate::merge::cancelled;
 use crate::tree::Tree;
 use std::alloc::{AllocError, Global};
 
@@ -41,6 +45,63 @@ impl<'a> Kind<'a> {
         match self {
             Kind::Listing(listing) => listing.form().len(),
             Kind::Tree(tree) => tree.len(),
+        }
+    }
+
+    /// The sum of the coefficients. A tree keeps it.
+    pub(crate) fn size(&self) -> u128
+        ensures size { result ≡ size (kind_form self.now) }
+        ensures normal { IsNormal (kind_form self.now) }
+    {
+        match self {
+            Kind::Listing(listing) => listing.form().size(),
+            Kind::Tree(tree) => tree.size(),
+        }
+    }
+
+    /// The degree.
+    pub(crate) fn degree(&self) -> u128
+        ensures degree { result ≡ (kind_form self.now).degree }
+    {
+        match self {
+            Kind::Listing(listing) => listing.form().degree,
+            Kind::Tree(tree) => tree.degree(),
+        }
+    }
+
+    /// Whether the sum with a form exceeds a limit. It allocates nothing.
+    pub(crate) fn sum_exceeds(&self, other: &Kind<'a>, limit: u128) -> bool
+        ensures { IsTrue result ↔ SumPasses limit (kind_form self.now) (kind_form other.now) }
+    {
+        let size = self.size() + other.size();
+        let degree = self.degree() + other.degree();
+        if size <= limit && degree <= limit {
+            return false;
+        }
+        let gone = self.cancelled(other);
+        size - 2 * gone > limit || degree.saturating_sub(gone) > limit
+    }
+
+    // How much cancels in the sum with a form.
+    fn cancelled(&self, other: &Kind<'a>) -> u128
+        ensures { Cancels (kind_form self.now).terms (kind_form other.now).terms result }
+    {
+        match self {
+            Kind::Listing(listing) => other.cancelled_with(listing.form()),
+            Kind::Tree(tree) => match other {
+                Kind::Listing(listing) => tree.cancelled(listing.form()),
+                Kind::Tree(other) => tree.cancelled_in(other),
+            },
+        }
+    }
+
+    // How much cancels in the sum of a list and this form.
+    fn cancelled_with(&self, list: &Normal) -> u128
+        ensures { Cancels list.now.terms (kind_form self.now).terms result }
+    {
+        match self {
+            Kind::Listing(listing) => cancelled(list.entries(), listing.form().entries()),
+            Kind::Tree(tree) => tree.cancelled(list),
         }
     }
 

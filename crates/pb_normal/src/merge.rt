@@ -1,6 +1,6 @@
 //! The sum of two lists of terms.
 
-ghost use Rattle.std.specs.Prelude.{◌≡◌, ◌+◌, ◌<◌, ◌^◌, [], ◌∷◌, IfOk, IfSome};
+ghost use Rattle.std.specs.Prelude.{◌≡◌, ◌+◌, ◌<◌, ◌≤◌, ◌^◌, [], ◌∷◌, IfOk, IfSome};
 ghost use Rattle.std.specs.Option.{option_to_list};
 ghost use Rattle.pb_normal.specs.engine.Adds.{Adds, Cancels};
 ghost use Rattle.pb_normal.specs.meaning.Form.{total, each, IsRising};
@@ -16,6 +16,7 @@ pub(crate) fn combined(left: Entry, right: Entry) -> (Option<Entry>, u128)
     requires fits { left.coefficient + right.coefficient < 2 ^ 128 }
     ensures adds { Adds (left ∷ []) (right ∷ []) (option_to_list result.0) result.1 }
     ensures entry { IfSome result.0 (λ t. (t.variable ≡ left.variable) × (0 < t.coefficient)) }
+    ensures most { result.1 ≤ right.coefficient }
 {
     if left.negated == right.negated {
         let sum = with_coefficient(left, left.coefficient + right.coefficient);

@@ -4,6 +4,7 @@ ghost use Rattle.std.specs.Prelude.{◌≡◌, ◌*◌, ◌<◌, ◌≤◌, ◌�
 ghost use Rattle.std.specs.Int.{div_ceil};
 ghost use Rattle.std.specs.Int.RustNames.{unsigned_abs};
 ghost use Rattle.pb_text.specs.meaning.Limits.{largest};
+ghost use Rattle.pb_normal.specs.engine.Adds.{SumFits};
 ghost use Rattle.pb_normal.specs.meaning.Form.{IsNormal, IsWithin, Follows, FollowsBoth, IsOpposite, each, total};
 ghost use Rattle.pb_normal.specs.meaning.Rules.{IsSum, Passes, SumPasses, SumMeasures, SumIsContradiction, multiplied, divided, saturated, weakened, axiom_on, negation_of, with_coefficient, of_variable, opposite};
 
@@ -34,6 +35,18 @@ impl Normal {
         Ok(Normal { terms, degree })
     }
 
+    // The sum of two forms, which is normal.
+    pub(crate) fn joined(&self, other: &Normal) -> Result<Normal, AllocError>
+        requires fits { SumFits self.now other.now }
+        ensures sum { IfOk result (λ r. IsSum self.now other.now r) }
+        ensures normal { IfOk result (λ r. IsNormal r) }
+    {
+        let alloc = *self.terms.allocator();
+        let (terms, gone) = merged(alloc, self.terms.as_slice(), other.terms.as_slice())?;
+        let degree = (self.degree + other.degree).saturating_sub(gone);
+        Ok(Normal { terms, degree })
+    }
+
     /// The form with all coefficients and the degree multiplied. `Overflow` comes if and only if the sum of the
     /// coefficients or the degree of the result exceeds the limit.
     pub fn multiply(&self, factor: i128, limits: Limits) -> Result<Normal, NormalFault>
@@ -49,6 +62,16 @@ impl Normal {
         if size_of(self.terms.as_slice()) > most || self.degree > most {
             return Err(NormalFault::Overflow);
         }
+        let terms = multiplied_terms(*self.terms.allocator(), self.terms.as_slice(), k)?;
+        let degree = self.degree * k;
+        Ok(Normal { terms, degree })
+    }
+
+    // The form with all coefficients and the degree multiplied, which is normal.
+    pub(crate) fn scaled(&self, k: u128) -> Result<Normal, AllocError>
+        requires fits { IsNormal (multiplied k self.now) }
+        ensures product { IfOk result (λ r. r ≡ multiplied k self.now) }
+    {
         let terms = multiplied_terms(*self.terms.allocator(), self.terms.as_slice(), k)?;
         let degree = self.degree * k;
         Ok(Normal { terms, degree })

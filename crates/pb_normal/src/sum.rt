@@ -1,16 +1,17 @@
 //! Sums that grow.
 
-ghost use Rattle.std.specs.Prelude.{◌≡◌, ◌≤ℤ◌, pos, length, IfOk, IfErr, Err};
+ghost use Rattle.std.specs.Prelude.{◌≡◌, ◌≤ℤ◌, ◌↔◌, pos, length, IfOk, IfErr, Err};
 ghost use Rattle.std.specs.Int.RustNames.{unsigned_abs};
 ghost use Rattle.pb_text.specs.meaning.Limits.{largest};
-ghost use Rattle.pb_normal.specs.meaning.Form.{IsWithin};
+ghost use Rattle.pb_normal.specs.engine.Adds.{SumFits};
+ghost use Rattle.pb_normal.specs.meaning.Form.{IsNormal, IsWithin};
 ghost use Rattle.pb_normal.specs.meaning.Rules.{IsSum, Passes, SumPasses, multiplied, divided, saturated, weakened};
 
 use crate::fault::NormalFault;
 use crate::form::Normal;
 use crate::kind::{Kind, Listing};
 use pb_text::Limits;
-use std::alloc::Global;
+use std::alloc::{AllocError, Global};
 use std::marker::Model;
 
 /// The fewest terms for which a form becomes a tree.
@@ -78,11 +79,11 @@ impl<'a> Sum<'a> {
         }
     }
 
-    /// The sum of both. `Overflow` comes only if the sum of its coefficients or its degree exceeds the limit.
+    /// The sum of both. `Overflow` comes if and only if the sum of its coefficients or its degree exceeds the limit.
     pub fn add(self, alloc: Global, other: Sum<'a>, limits: Limits) -> Result<Sum<'a>, NormalFault>
         ensures sum { IfOk result (λ r. IsSum self.entry other.entry r) }
         ensures within { IfOk result (λ r. IsWithin (largest limits) r) }
-        ensures overflow { result ≡ Err NormalFault.Overflow → SumPasses (largest limits) self.entry other.entry }
+        ensures overflow { (result ≡ Err NormalFault.Overflow) ↔ SumPasses (largest limits) self.entry other.entry }
     {
         if self.len() < other.len() {
             return other.take(alloc, self, limits);
@@ -94,28 +95,40 @@ impl<'a> Sum<'a> {
     fn take(self, alloc: Global, other: Sum<'a>, limits: Limits) -> Result<Sum<'a>, NormalFault>
         ensures sum { IfOk result (λ r. IsSum self.entry other.entry r) }
         ensures within { IfOk result (λ r. IsWithin (largest limits) r) }
-        ensures overflow { result ≡ Err NormalFault.Overflow → SumPasses (largest limits) self.entry other.entry }
+        ensures overflow { (result ≡ Err NormalFault.Overflow) ↔ SumPasses (largest limits) self.entry other.entry }
+    {
+        if self.kind.sum_exceeds(&other.kind, limits.largest()) {
+            return Err(NormalFault::Overflow);
+        }
+        let sum = self.joined(alloc, other)?;
+        Ok(sum)
+    }
+
+    // The sum with a form that has as many terms, or fewer. It is normal.
+    fn joined(self, alloc: Global, other: Sum<'a>) -> Result<Sum<'a>, AllocError>
+        requires fits { SumFits self other }
+        ensures sum { IfOk result (λ r. IsSum self.entry other.entry r) }
     {
         let small = self.len() >= MANY && other.len() <= self.len() / 8;
         let other = other.kind.listing(alloc)?;
         let changes = counted(small, self.changes);
         if changes > LISTED {
-            let tree = self.kind.tree(alloc)?.add(other.form(), limits)?;
+            let tree = self.kind.tree(alloc)?.joined(other.form())?;
             return Ok(Sum {
                 kind: Kind::Tree(tree),
                 changes,
             });
         }
         let listing = self.kind.listing(alloc)?;
-        let sum = listing.form().add(other.form(), limits)?;
+        let sum = listing.form().joined(other.form())?;
         Ok(Sum {
             kind: Kind::Listing(Listing::Made(sum)),
             changes,
         })
     }
 
-    /// All coefficients and the degree multiplied. `Overflow` comes only if the sum of the coefficients or the degree
-    /// of the result exceeds the limit.
+    /// All coefficients and the degree multiplied. `Overflow` comes if and only if the sum of the coefficients or the
+    /// degree of the result exceeds the limit.
     pub fn multiply(
         self,
         alloc: Global,
@@ -125,19 +138,53 @@ impl<'a> Sum<'a> {
         requires { pos 1 ≤ℤ factor }
         ensures product { IfOk result (λ r. r ≡ multiplied (unsigned_abs factor) self.entry) }
         ensures within { IfOk result (λ r. IsWithin (largest limits) r) }
-        ensures overflow { result ≡ Err NormalFault.Overflow → Passes (largest limits) (multiplied (unsigned_abs factor) self.entry) }
+        ensures overflow { (result ≡ Err NormalFault.Overflow) ↔ Passes (largest limits) (multiplied (unsigned_abs factor) self.entry) }
     {
+        let k = factor.unsigned_abs();
+        let most = limits.largest() / k;
+        if self.kind.size() > most || self.kind.degree() > most {
+            return Err(NormalFault::Overflow);
+        }
+        let product = self.scaled(alloc, k)?;
+        Ok(product)
+    }
+
+    // All coefficients and the degree multiplied; the result is normal. A factor of 1 is a small change.
+    fn scaled(self, alloc: Global, k: u128) -> Result<Sum<'a>, AllocError>
+        requires fits { IsNormal (multiplied k self) }
+        ensures product { IfOk result (λ r. r ≡ multiplied k self.entry) }
+    {
+        if k == 1 {
+            return self.unchanged(alloc);
+        }
         let listing = self.kind.listing(alloc)?;
-        let product = listing.form().multiply(factor, limits)?;
+        let product = listing.form().scaled(k)?;
         Ok(Sum::made(product))
     }
 
-    /// All coefficients and the degree divided and rounded up.
+    // The same form after a small change, which may make it a tree.
+    fn unchanged(self, alloc: Global) -> Result<Sum<'a>, AllocError>
+        ensures same { IfOk result (λ r. r ≡ self.entry) }
+    {
+        let changes = counted(self.len() >= MANY, self.changes);
+        let kind = if changes > LISTED {
+            Kind::Tree(self.kind.tree(alloc)?)
+        } else {
+            self.kind
+        };
+        Ok(Sum { kind, changes })
+    }
+
+    /// All coefficients and the degree divided and rounded up. A divisor of 1 costs nothing.
     pub fn divide(self, alloc: Global, divisor: i128) -> Result<Sum<'a>, NormalFault>
         requires { pos 1 ≤ℤ divisor }
         ensures quotient { IfOk result (λ r. r ≡ divided (unsigned_abs divisor) self.entry) }
         ensures memory { IfErr result (λ e. e ≡ NormalFault.Memory) }
     {
+        let k = divisor.unsigned_abs();
+        if k == 1 {
+            return Ok(self);
+        }
         let listing = self.kind.listing(alloc)?;
         let quotient = listing.form().divide(divisor)?;
         Ok(Sum::made(quotient))

@@ -1,18 +1,15 @@
 //! Forms whose terms are found by their variables.
 
-ghost use Rattle.std.specs.Prelude.{◌≡◌, ◌+◌, ◌<◌, ◌^◌, ◌==◌, [], ◌∷◌, not, filter, IfOk, length, Err};
+ghost use Rattle.std.specs.Prelude.{◌≡◌, ◌+◌, ◌<◌, ◌^◌, ◌==◌, [], ◌∷◌, not, filter, IfOk, length};
 ghost use Rattle.std.specs.BTreeMap.{values};
-ghost use Rattle.pb_text.specs.meaning.Limits.{largest};
-ghost use Rattle.pb_normal.specs.engine.Adds.{Adds};
-ghost use Rattle.pb_normal.specs.meaning.Form.{IsNormal, IsWithin, IsRising, total, each};
-ghost use Rattle.pb_normal.specs.engine.Keyed.{IsKeyed};
-ghost use Rattle.pb_normal.specs.meaning.Rules.{IsSum, SumPasses, weakened, of_variable};
+ghost use Rattle.pb_normal.specs.engine.Adds.{Adds, Cancels, SumFits};
+ghost use Rattle.pb_normal.specs.engine.Keyed.{IsKeyed, TermCancels};
+ghost use Rattle.pb_normal.specs.meaning.Form.{IsNormal, IsRising, size, total, each};
+ghost use Rattle.pb_normal.specs.meaning.Rules.{IsSum, weakened, of_variable};
 
 use crate::entry::Entry;
-use crate::fault::NormalFault;
 use crate::form::{Normal, size_of};
 use crate::merge::combined;
-use pb_text::Limits;
 use std::alloc::{AllocError, Global};
 use std::collections::BTreeMap;
 use std::marker::Model;
@@ -66,12 +63,39 @@ impl Tree {
         Ok(Normal { terms, degree })
     }
 
-    /// The sum with a form. `Overflow` comes only if the sum of its coefficients or its degree exceeds the limit.
-    pub(crate) fn add(self, other: &Normal, limits: Limits) -> Result<Tree, NormalFault>
+    /// The sum of the coefficients.
+    pub(crate) fn size(&self) -> u128
+        ensures size { result ≡ size self.now }
+        ensures normal { IsNormal self.now }
+    {
+        self.size
+    }
+
+    /// The degree.
+    pub(crate) fn degree(&self) -> u128
+        ensures degree { result ≡ self.now.degree }
+    {
+        self.degree
+    }
+
+    /// How much cancels in the sum with a form. It allocates nothing.
+    pub(crate) fn cancelled(&self, other: &Normal) -> u128
+        ensures { Cancels self.now.terms other.now.terms result }
+    {
+        cancelled_by_list(&self.terms, other.terms.as_slice())
+    }
+
+    /// How much cancels in the sum with another tree. It allocates nothing.
+    pub(crate) fn cancelled_in(&self, other: &Tree) -> u128
+        ensures { Cancels self.now.terms other.now.terms result }
+    {
+        cancelled_by_tree(&self.terms, &other.terms)
+    }
+
+    /// The sum with a form, which is normal.
+    pub(crate) fn joined(self, other: &Normal) -> Result<Tree, AllocError>
+        requires fits { SumFits self other.now }
         ensures sum { IfOk result (λ r. IsSum self other.now r) }
-        ensures normal { IfOk result (λ r. IsNormal r) }
-        ensures within { IfOk result (λ r. IsWithin (largest limits) r) }
-        ensures overflow { result ≡ Err NormalFault.Overflow → SumPasses (largest limits) self other.now }
     {
         let Tree {
             mut terms,
@@ -81,10 +105,6 @@ impl Tree {
         let gone = put_all(&mut terms, other.terms.as_slice())?;
         let size = size + size_of(other.terms.as_slice()) - 2 * gone;
         let degree = (degree + other.degree).saturating_sub(gone);
-        let limit = limits.largest();
-        if size > limit || degree > limit {
-            return Err(NormalFault::Overflow);
-        }
         Ok(Tree {
             terms,
             size,
@@ -123,6 +143,50 @@ fn take_out(terms: &mut BTreeMap<usize, Entry>, variable: usize) -> u128
         Some(t) => t.coefficient,
         None => 0,
     }
+}
+
+// How much of a term cancels in the sum with the one on its variable.
+fn cancelled_by(terms: &BTreeMap<usize, Entry>, term: Entry) -> u128
+    requires keyed { IsKeyed terms.now }
+    requires positive { 0 < term.coefficient }
+    requires fits { total each (values terms.now) + term.coefficient < 2 ^ 128 }
+    ensures { TermCancels terms.now term result }
+{
+    let Some(before) = terms.get(&term.variable) else {
+        return 0;
+    };
+    let (_, gone) = combined(*before, term);
+    gone
+}
+
+// How much cancels in the sum with a list.
+fn cancelled_by_list(terms: &BTreeMap<usize, Entry>, list: &[Entry]) -> u128
+    requires keyed { IsKeyed terms.now }
+    requires rising { IsRising 0 (values terms.now) }
+    requires list_rising { IsRising 0 list.now }
+    requires fits { total each (values terms.now) + total each list.now < 2 ^ 128 }
+    ensures { Cancels (values terms.now) list.now result }
+{
+    let mut cancelled = 0;
+    for term in list {
+        cancelled += cancelled_by(terms, *term);
+    }
+    cancelled
+}
+
+// How much cancels in the sum with another map.
+fn cancelled_by_tree(terms: &BTreeMap<usize, Entry>, others: &BTreeMap<usize, Entry>) -> u128
+    requires keyed { IsKeyed terms.now }
+    requires rising { IsRising 0 (values terms.now) }
+    requires others_rising { IsRising 0 (values others.now) }
+    requires fits { total each (values terms.now) + total each (values others.now) < 2 ^ 128 }
+    ensures { Cancels (values terms.now) (values others.now) result }
+{
+    let mut cancelled = 0;
+    for term in others.values() {
+        cancelled += cancelled_by(terms, *term);
+    }
+    cancelled
 }
 
 // Adds a term, and returns how much of it cancels.

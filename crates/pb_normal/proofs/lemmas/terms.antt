@@ -4,6 +4,7 @@ pub mod Collecting
 pub mod Counts
 pub mod Entries
 pub mod KeyedTerms
+pub mod Lookups
 pub mod Maps
 pub mod Merging
 pub mod Positions

@@ -1,7 +1,8 @@
 -- What an addition of two lists of terms preserves, for any choice of the literals that count
 use Rattle.std.specs.Prelude.{◌≡◌, ℕ, ◌+◌, Bool, not, List}
 use Rattle.pb_normal.specs.declared.entry.Entry.{Entry}
-use Rattle.pb_normal.specs.meaning.Form.{total, negative, IsRising}
+use Rattle.pb_normal.specs.meaning.Form.{Form, total, negative, IsRising, IsNormal}
+use Rattle.pb_normal.specs.meaning.Rules.{IsSum}
 
 -- the negations of the literals that count
 abbrev pub flip : (ℕ → Bool → Bool) → ℕ → Bool → Bool
@@ -15,3 +16,7 @@ pub record Adds (xs ys rs : List Entry) (c : ℕ) : Type 0 where
 -- c is what cancels in the sum of xs and ys
 abbrev pub Cancels : List Entry → List Entry → ℕ → Type 0
 Cancels xs ys c = (rs : List Entry) × IsRising 0 rs × Adds xs ys rs c
+
+-- the sum of two forms is normal
+abbrev pub SumFits : Form → Form → Type 0
+SumFits f g = (r : Form) → IsSum f g r → IsNormal r

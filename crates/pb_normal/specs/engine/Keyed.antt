@@ -1,7 +1,10 @@
 -- Terms in a map by their variables
-use Rattle.std.specs.Prelude.{◌≡◌, ℕ, ◌<◌, All}
-use Rattle.std.specs.BTreeMap.{BTreeMap, values}
+use Rattle.std.specs.Prelude.{◌≡◌, ℕ, ◌<◌, ◌≤◌, [], ◌∷◌, Option, IfSome, All}
+use Rattle.std.specs.BTreeMap.{BTreeMap, get, values}
+use Rattle.std.specs.Option.{option_to_list}
+use Rattle.std.specs.Ordering.{nat_cmp}
 use Rattle.pb_normal.specs.declared.entry.Entry.{Entry}
+use Rattle.pb_normal.specs.engine.Adds.{Adds}
 use Rattle.pb_normal.specs.meaning.Form.{Form, IsNormal, each, total}
 
 -- the key is the variable of the term, and its coefficient is not 0
@@ -20,3 +23,8 @@ pub record IsKept (m : BTreeMap ℕ Entry) (size degree : ℕ) : Type 0 where
   pub keyed : IsKeyed m
   pub size_is : size ≡ total each (values m)
   pub normal : IsNormal (keyed_form m degree)
+
+-- g is what cancels in the sum of a term and the one on its variable, if the map has one
+abbrev pub TermCancels : BTreeMap ℕ Entry → Entry → ℕ → Type 0
+TermCancels m t g = (o : Option Entry) × Adds (option_to_list (get nat_cmp m t.variable)) (t ∷ []) (option_to_list o) g
+    × IfSome o (λ s. (s.variable ≡ t.variable) × (0 < s.coefficient)) × (g ≤ t.coefficient)

@@ -38,7 +38,7 @@ total-sum a xs ys rs h =
     balance_at (a x) (total (plain_of x) rs) (total (negated_of x) rs) (total (plain_of x) xs) (total (negated_of x) xs) (total (plain_of x) ys) (total (negated_of x) ys) (h x) in
     omega (arith, up_to-balance _ _ _ _ _ _ n each_one, total-by_variable (true_at a) rs n (omega arith), total-by_variable negative rs n (omega arith), total-by_variable (true_at a) xs n (omega arith), total-by_variable negative xs n (omega arith), total-by_variable (true_at a) ys n (omega arith), total-by_variable negative ys n (omega arith))
 
-at_least_0-le : (z : ℤ) (m k n : ℕ) → (z +ℤ pos k) ≡ pos m → m ≤ n + k → at_least_0 z ≤ n
+pub at_least_0-le : (z : ℤ) (m k n : ℕ) → (z +ℤ pos k) ≡ pos m → m ≤ n + k → at_least_0 z ≤ n
 at_least_0-le (pos i) m k n e le = omega (arith, ints)
 at_least_0-le (negsuc i) m k n e le = omega arith
 

@@ -30,7 +30,7 @@ All-put Equal k t e es rest is new here h hr =
     All-cons IsAtItsKey (e.0, t) es (sym same ∙ new.0, new.1) h
 All-put Greater k t e es rest is new here h hr = All-cons IsAtItsKey e rest here hr
 
-All-insert : (k : ℕ) (t : Entry) (es : List (ℕ × Entry)) → IsAtItsKey (k, t) → All IsAtItsKey es → All IsAtItsKey (insert_entry nat_cmp es k t)
+pub All-insert : (k : ℕ) (t : Entry) (es : List (ℕ × Entry)) → IsAtItsKey (k, t) → All IsAtItsKey es → All IsAtItsKey (insert_entry nat_cmp es k t)
 All-insert k t [] new h = All-cons IsAtItsKey (k, t) [] new h
 All-insert k t (e ∷ es) new h =
     All-put (nat_cmp k e.0) k t e es (insert_entry nat_cmp es k t) refl new (All-head IsAtItsKey e es h) (All-tail IsAtItsKey e es h) (All-insert k t es new (All-tail IsAtItsKey e es h))
@@ -39,7 +39,7 @@ All-drop : (b : Bool) (e : ℕ × Entry) (es rest : List (ℕ × Entry)) → IsA
 All-drop true e es rest here h hr = h
 All-drop false e es rest here h hr = All-cons IsAtItsKey e rest here hr
 
-All-remove : (test : ℕ → Bool) (es : List (ℕ × Entry)) → All IsAtItsKey es → All IsAtItsKey (remove_entry test es)
+pub All-remove : (test : ℕ → Bool) (es : List (ℕ × Entry)) → All IsAtItsKey es → All IsAtItsKey (remove_entry test es)
 All-remove test [] h = h
 All-remove test (e ∷ es) h =
     All-drop (test e.0) e es (remove_entry test es) (All-head IsAtItsKey e es h) (All-tail IsAtItsKey e es h) (All-remove test es (All-tail IsAtItsKey e es h))
@@ -100,17 +100,21 @@ counted-option : (p : ℕ → Bool → Bool) (o : Option Entry) → unwrap_or (o
 counted-option p None = refl
 counted-option p (Some t) = omega arith
 
+pub Replaces-put : (es : List (ℕ × Entry)) (k : ℕ) (t : Entry) → IsStrictlySortedBy nat_cmp (keys_of es) → Replaces (values_of es) (values_of (insert_entry nat_cmp es k t)) (option_to_list (lookup (is_at (nat_cmp k)) es)) (t ∷ [])
+Replaces-put es k t sorted p =
+    let sums = sum_by-insert_entry (counted p) nat_cmp_total es k t sorted in
+    omega (arith, sums, total-sum p (values_of (insert_entry nat_cmp es k t)), total-sum p (values_of es), counted-option p (lookup (is_at (nat_cmp k)) es))
+
 pub Replaces-insert : (m n : BTreeMap ℕ Entry) (k : ℕ) (t : Entry) → IsOrdered nat_cmp m → n.entries ≡ insert_entry nat_cmp m.entries k t → Replaces (values m) (values n) (option_to_list (get nat_cmp m k)) (t ∷ [])
-Replaces-insert m n k t sorted e p =
-    let sums = sum_by-insert_entry (counted p) nat_cmp_total m.entries k t sorted in
-    let new : total p (values n) ≡ sum_by (counted p) (values_of (insert_entry nat_cmp m.entries k t)) = rw e (total-sum p _) in
-    omega (arith, sums, new, total-sum p (values m), counted-option p (get nat_cmp m k))
+Replaces-insert m n k t sorted e = rw e (Replaces-put m.entries k t sorted)
+
+pub Replaces-drop : (es : List (ℕ × Entry)) (k : ℕ) → Replaces (values_of es) (values_of (remove_entry (is_at (nat_cmp k)) es)) (option_to_list (lookup (is_at (nat_cmp k)) es)) []
+Replaces-drop es k p =
+    let sums = sum_by-remove_entry (counted p) (is_at (nat_cmp k)) es in
+    omega (arith, sums, total-sum p (values_of (remove_entry (is_at (nat_cmp k)) es)), total-sum p (values_of es), counted-option p (lookup (is_at (nat_cmp k)) es))
 
 pub Replaces-remove : (m n : BTreeMap ℕ Entry) (k : ℕ) → n.entries ≡ remove_entry (is_at (nat_cmp k)) m.entries → Replaces (values m) (values n) (option_to_list (get nat_cmp m k)) []
-Replaces-remove m n k e p =
-    let sums = sum_by-remove_entry (counted p) (is_at (nat_cmp k)) m.entries in
-    let new : total p (values n) ≡ sum_by (counted p) (values_of (remove_entry (is_at (nat_cmp k)) m.entries)) = rw e (total-sum p _) in
-    omega (arith, sums, new, total-sum p (values m), counted-option p (get nat_cmp m k))
+Replaces-remove m n k e = rw e (Replaces-drop m.entries k)
 
 pub Replaces-then : (xs ys zs o i n : List Entry) → Replaces xs ys o i → Replaces ys zs i n → Replaces xs zs o n
 Replaces-then xs ys zs o i n h k p = omega (arith, h p, k p)
@@ -149,7 +153,7 @@ get-le-total m k x found =
     omega (arith, here, total-sum each (values m))
 
 -- a list is added term by term
-total-prefix : (list : List Entry) (i : ℕ) (d x : Entry) → i < length list → x ≡ get_or list i d → total each (take i list) + x.coefficient ≤ total each list
+pub total-prefix : (list : List Entry) (i : ℕ) (d x : Entry) → i < length list → x ≡ get_or list i d → total each (take i list) + x.coefficient ≤ total each list
 total-prefix list i d x lt e =
     let s = total-append each (take i list) (drop i list) in
     let t = rw (take-append-drop, drop_read list i d x lt e) at s in

@@ -33,7 +33,7 @@ removal Greater k e es rest is key rising ih =
     let gt : e.0 < k = ranked k e.0 Greater is in
     rw (ne_eqb e.1.variable k (λ same. omega arith)) (ap (λ us. e.1 ∷ us) ih)
 
-values-removed : (k n : ℕ) (es : List (ℕ × Entry)) → IsRising n (values_of es) → All IsAtItsKey es → values_of (remove_entry (is_at (nat_cmp k)) es) ≡ without k (values_of es)
+pub values-removed : (k n : ℕ) (es : List (ℕ × Entry)) → IsRising n (values_of es) → All IsAtItsKey es → values_of (remove_entry (is_at (nat_cmp k)) es) ≡ without k (values_of es)
 values-removed k n [] rising h = refl
 values-removed k n (e ∷ es) rising h =
     removal (nat_cmp k e.0) k e es (remove_entry (is_at (nat_cmp k)) es) refl (All-head IsAtItsKey e es h).0 rising.2 (values-removed k (e.1.variable + 1) es rising.2 (All-tail IsAtItsKey e es h))

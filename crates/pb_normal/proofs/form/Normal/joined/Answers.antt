@@ -1,0 +1,19 @@
+use Rattle.std.proofs.Common.{◌+◌, ◌-◌}
+use Rattle.pb_normal.specs.meaning.Rules.{IsSum}
+use Rattle.pb_normal.proofs.lemmas.rules.Sums.{IsSum-from}
+use Rattle.pb_normal.proofs.form.Normal.joined.Goals as goal
+
+-- the merged terms are those of the sum
+whole : (c : goal.After-saturating_sub-degree) → IsSum c.args.self.now c.args.other.now record { terms = c.in_ok-terms.terms.items; degree = c.self.inside.degree + c.other.inside.degree - c.in_ok-terms.gone }
+whole c =
+    let adds = rw (c.as_slice.ensures.value, c.as_slice-2.ensures.value) at c.in_ok-terms.ensures.adds in
+    rw (← c.self.view_is, ← c.other.view_is) (IsSum-from _ _ c.in_ok-terms.terms.items c.in_ok-terms.gone c.in_ok-terms.ensures.rising adds)
+
+pub returns-clause-sum : goal.returns-clause-sum
+returns-clause-sum c = rw c.saturating_sub-degree.ensures (whole c)
+
+pub invariant_of-result : goal.invariant_of-result
+invariant_of-result c = c.requires.fits _ (returns-clause-sum c)
+
+pub returns-clause-normal : goal.returns-clause-normal
+returns-clause-normal c = c.requires.fits _ (returns-clause-sum c)

@@ -1,0 +1,29 @@
+use Rattle.std.proofs.Common.{◌≡◌, ◌<◌, take, length, get_or, refl, arith}
+use Rattle.std.proofs.lemmas.List.{take-append-drop, take_all}
+use Rattle.pb_normal.proofs.lemmas.terms.KeyedTerms.{total-prefix}
+use Rattle.pb_normal.proofs.lemmas.terms.Lookups.{AllCancel-next, AllCancel-fits, Cancels-AllCancel}
+use Rattle.pb_normal.proofs.lemmas.terms.Merging.{positive-read, no_entry}
+use Rattle.pb_normal.proofs.tree.cancelled_by_list.Goals as goal
+
+pub cancelled_by-cancelled-requires-clause-positive : goal.cancelled_by-cancelled-requires-clause-positive
+cancelled_by-cancelled-requires-clause-positive c =
+    let lt : c.loop-term.term-index < length c.args.list.now = omega arith in
+    positive-read 0 (take c.loop-term.term-index c.args.list.now) c.args.list.now c.loop-term.term-index no_entry _ (rw take-append-drop c.requires.list_rising) lt refl
+
+pub cancelled_by-cancelled-requires-clause-fits : goal.cancelled_by-cancelled-requires-clause-fits
+cancelled_by-cancelled-requires-clause-fits c =
+    omega (arith, c.requires.fits, total-prefix c.args.list.now c.loop-term.term-index no_entry (get_or c.args.list.now c.loop-term.term-index no_entry) (omega arith) refl)
+
+pub overflow_add-cancelled : goal.overflow_add-cancelled
+overflow_add-cancelled c =
+    let fits = AllCancel-fits c.args.terms.now c.args.list.now c.loop-term.term-index _ _ no_entry (get_or c.args.list.now c.loop-term.term-index no_entry) c.loop-term.invariant (omega arith) refl c.cancelled_by-cancelled.ensures in
+    omega (arith, fits, c.requires.fits)
+
+pub loop-term-preserved : goal.loop-term-preserved
+loop-term-preserved c =
+    AllCancel-next c.args.terms.now c.args.list.now c.loop-term.term-index _ _ no_entry (get_or c.args.list.now c.loop-term.term-index no_entry) c.loop-term.invariant (omega arith) refl c.cancelled_by-cancelled.ensures
+
+pub returns : goal.returns
+returns c =
+    let all : take c.loop-term.term-index c.args.list.now ≡ c.args.list.now = take_all c.loop-term.term-index c.args.list.now (omega (arith, c.loop-term-test.false)) in
+    Cancels-AllCancel c.args.terms.now c.args.list.now c.loop-term.cancelled c.requires.keyed c.requires.rising c.requires.list_rising (rw all at c.loop-term.invariant)

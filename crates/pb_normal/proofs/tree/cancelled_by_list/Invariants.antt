@@ -1,0 +1,7 @@
+use Rattle.std.proofs.Common.{take}
+use Rattle.pb_normal.proofs.lemmas.terms.Lookups.{AllCancel}
+use Rattle.pb_normal.proofs.tree.cancelled_by_list.Given as goal
+
+-- the terms so far are counted
+abbrev pub invariant-loop-term : goal.invariant-loop-term
+invariant-loop-term l = AllCancel l.terms (take l.term-index l.list) l.cancelled

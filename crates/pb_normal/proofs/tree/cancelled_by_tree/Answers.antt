@@ -1,0 +1,35 @@
+use Rattle.std.proofs.Common.{◌≡◌, ◌∷◌, ◌++◌, [], arith, rules}
+use Rattle.std.specs.BTreeMap.{values}
+use Rattle.std.proofs.lemmas.List.{append-nil}
+use Rattle.pb_normal.proofs.lemmas.terms.Lookups.{AllCancel-le, AllCancel-more, Cancels-AllCancel, split-positive, split-le, split-next}
+use Rattle.pb_normal.proofs.tree.cancelled_by_tree.Goals as goal
+
+pub cancelled_by-cancelled-requires-clause-positive : goal.cancelled_by-cancelled-requires-clause-positive
+cancelled_by-cancelled-requires-clause-positive c =
+    let next : c.loop-term.term-iterator ≡ c.in-Some.term.now ∷ c.next.new.self = search rules in
+    split-positive _ c.loop-term.invariant.0 _ _ c.in-Some.term.now c.requires.others_rising c.loop-term.invariant.1 next
+
+pub cancelled_by-cancelled-requires-clause-fits : goal.cancelled_by-cancelled-requires-clause-fits
+cancelled_by-cancelled-requires-clause-fits c =
+    let next : c.loop-term.term-iterator ≡ c.in-Some.term.now ∷ c.next.new.self = search rules in
+    omega (arith, c.requires.fits, split-le _ c.loop-term.invariant.0 _ _ c.in-Some.term.now c.loop-term.invariant.1 next)
+
+pub overflow_add-cancelled : goal.overflow_add-cancelled
+overflow_add-cancelled c =
+    let next : c.loop-term.term-iterator ≡ c.in-Some.term.now ∷ c.next.new.self = search rules in
+    omega (arith, c.requires.fits, AllCancel-le c.args.terms.now c.loop-term.invariant.0 _ c.loop-term.invariant.2, c.cancelled_by-cancelled.ensures.3, split-le _ c.loop-term.invariant.0 _ _ c.in-Some.term.now c.loop-term.invariant.1 next)
+
+pub loop-term-preserved : goal.loop-term-preserved
+loop-term-preserved c =
+    let next : c.loop-term.term-iterator ≡ c.in-Some.term.now ∷ c.next.new.self = search rules in
+    (
+      c.loop-term.invariant.0 ++ c.in-Some.term.now ∷ [],
+      split-next _ c.loop-term.invariant.0 _ _ c.in-Some.term.now c.loop-term.invariant.1 next,
+      AllCancel-more c.args.terms.now c.loop-term.invariant.0 c.in-Some.term.now _ _ c.loop-term.invariant.2 c.cancelled_by-cancelled.ensures,
+    )
+
+pub returns : goal.returns
+returns c =
+    let last : c.loop-term.term-iterator ≡ [] = search rules in
+    let whole : values c.args.others.now ≡ c.loop-term.invariant.0 = rw (last, append-nil) at c.loop-term.invariant.1 in
+    Cancels-AllCancel c.args.terms.now (values c.args.others.now) c.loop-term.cancelled c.requires.keyed c.requires.rising c.requires.others_rising (rw (← whole) at c.loop-term.invariant.2)

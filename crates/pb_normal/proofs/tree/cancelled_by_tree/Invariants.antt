@@ -1,0 +1,9 @@
+use Rattle.std.proofs.Common.{◌≡◌, ◌++◌, List}
+use Rattle.std.specs.BTreeMap.{values}
+use Rattle.pb_normal.specs.declared.entry.Entry.{Entry}
+use Rattle.pb_normal.proofs.lemmas.terms.Lookups.{AllCancel}
+use Rattle.pb_normal.proofs.tree.cancelled_by_tree.Given as goal
+
+-- the terms so far are counted, and the others follow
+abbrev pub invariant-loop-term : goal.invariant-loop-term
+invariant-loop-term l = (done : List Entry) × (values l.others ≡ done ++ l.term-iterator) × AllCancel l.terms done l.cancelled
