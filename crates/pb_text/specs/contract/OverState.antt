@@ -1,5 +1,5 @@
 -- What a source or sink over a reader or a writer stores.
-use Rattle.std.specs.Prelude.{ℕ, List, Option}
+use Rattle.std.specs.Prelude.{ℕ, List, Bool, Option}
 use Rattle.pb_text.specs.declared.over.Over.{Over}
 
 abbrev pub inner_of : {T : Type 0} → Over T → T
@@ -16,3 +16,7 @@ history_of o = o.history.bytes
 -- the byte that was shown and not taken
 abbrev pub shown_of : {T : Type 0} → Over T → Option ℕ
 shown_of o = o.shown
+
+-- whether the last peek has shown the end
+abbrev pub ended_of : {T : Type 0} → Over T → Bool
+ended_of o = o.ended

@@ -11,5 +11,8 @@ returns-clause-reads g c =
     reads_reported (AcceptsItems g.M.Machine.automaton c.args.machine) c.args.longest g.G.Gather.with c.args.empty (MayAsk g.M.Machine.automaton c.args.machine) g.G.Gather.asks (g.T.Read.remaining c.args.reader) c.read_whole-read.result
     (g.T.Read.remaining o.inner) (g.T.BufRead.consumable_len o.inner) o.shown r
 
+pub returns-clause-given : goal.returns-clause-given
+returns-clause-given g c = rw c.new-source.ensures.history at c.read_whole-read.ensures.given
+
 pub returns-clause-faults : goal.returns-clause-faults
 returns-clause-faults g c = c.read_whole-read.ensures.faults ∙ ap (λ (n : ℕ). faults_after None c.read_whole-read.result n) c.new-source.ensures.failures
