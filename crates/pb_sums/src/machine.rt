@@ -116,7 +116,8 @@ impl SumMachine {
     ghost use Rattle.pb_text.specs.meaning.Asking.{AsksOnly};
     ghost use Rattle.pb_text.specs.contract.Automaton.{MayAsk};
     ghost use Rattle.pb_sums.specs.meaning.Asking.{AsksLiteral};
-    ghost use Rattle.pb_sums.specs.engine.State.{sums, first, IsOneText};
+    ghost use Rattle.pb_sums.specs.meaning.Sums.{IsOneText};
+    ghost use Rattle.pb_sums.specs.engine.State.{sums, first};
 
     /// A machine before its text. It does not allocate.
     pub fn new(alloc: Global, spaces: Spaces, part: Part, limits: Limits) -> Self

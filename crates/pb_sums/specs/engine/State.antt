@@ -1,9 +1,7 @@
 -- The states of a machine of sums, and its automaton.
 use Rattle.std.specs.Prelude.{◌≡◌, ℕ, ◌+◌, ◌-◌, ◌^◌, min, Bool, false, ◌||◌, List, [], ◌∷◌, length}
 use Rattle.pb_text.specs.contract.Automaton.{Automaton, Next, Go, End, Refuse}
-use Rattle.pb_text.specs.meaning.Spelling.{Item}
 use Rattle.pb_sums.specs.engine.Machine.{Work, Outcome, fresh, finished, step, transition, kind, letter_at, is_numeric, is_in_number, is_midway, is_done, adds, is_more, PhaseFits}
-use Rattle.pb_sums.specs.meaning.Sums.{Spells}
 use Rattle.pb_sums.specs.declared.linear.Term.{Term}
 use Rattle.pb_sums.specs.declared.linear.SumEvent.{SumEvent}
 use Rattle.pb_sums.specs.declared.sum_kind.Spaces.{Spaces}
@@ -72,9 +70,3 @@ sums = record {
 -- The invariant of a machine: a number being read is within the limit, and nothing is stored before a text and after it.
 abbrev pub IsInOrder : ℕ → Work → Type 0
 IsInOrder limit w = PhaseFits limit w.phase × (is_midway w.phase ≡ false → (w.terms ≡ []) × (w.name ≡ []))
-
--- one text of the grammar, with nothing before it
-abbrev pub IsOneText : Spaces → ℕ → Part → List (Item SumEvent) → Type 0
-IsOneText spaces limit part [] = ⊥
-IsOneText spaces limit part (i ∷ []) = (i.gap ≡ []) × Spells spaces limit part i.event i.text
-IsOneText spaces limit part (i ∷ j ∷ rest) = ⊥

@@ -1,8 +1,9 @@
 -- Names, terms, sums and linear texts.
-use Rattle.std.specs.Prelude.{ℕ, Bool, true, false, List, [], ◌∷◌, IsTrue, ◌&&◌, ◌||◌, nat_eq, codes}
+use Rattle.std.specs.Prelude.{◌≡◌, ℕ, Bool, true, false, List, [], ◌∷◌, IsTrue, ◌&&◌, ◌||◌, nat_eq, codes}
 use Rattle.pb_text.specs.meaning.Classes.{is_blank, is_letter, is_name_byte}
 use Rattle.pb_text.specs.meaning.Languages.{Language, ◌⋅◌, Empty, Byte, Bytes, Each, Many, Some}
 use Rattle.pb_text.specs.meaning.Numbers.{Number}
+use Rattle.pb_text.specs.meaning.Spelling.{Item}
 use Rattle.pb_sums.specs.declared.linear.Literal.{Literal}
 use Rattle.pb_sums.specs.declared.linear.Term.{Term}
 use Rattle.pb_sums.specs.declared.linear.Relation.{Relation}
@@ -84,3 +85,9 @@ module _ (spaces : Spaces) (limit : ℕ) where
   abbrev pub Spells : part.Part → event.SumEvent → Language
   Spells want (event.TheVariants.Sum xs) = λ t. IsTrue (reads_sums want) × (SpellsSum xs ⋅ Spaces0 ⋅ Byte 59) t
   Spells want (event.TheVariants.Linear c) = λ t. IsTrue (allows want c.relation) × SpellsLinear c t
+
+-- one text of the grammar, with nothing before it
+abbrev pub IsOneText : Spaces → ℕ → part.Part → List (Item event.SumEvent) → Type 0
+IsOneText spaces limit want [] = ⊥
+IsOneText spaces limit want (i ∷ []) = (i.gap ≡ []) × Spells spaces limit want i.event i.text
+IsOneText spaces limit want (i ∷ j ∷ rest) = ⊥

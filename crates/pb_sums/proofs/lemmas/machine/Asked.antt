@@ -13,8 +13,8 @@ use Rattle.pb_text.proofs.lemmas.machine.Walking.{Walks, reads_after}
 use Rattle.pb_text.proofs.lemmas.text.Languages.{each-append}
 use Rattle.pb_sums.specs.meaning.Asking.{EndsIn, IsNameStart, InName, AsksLiteral}
 use Rattle.pb_sums.specs.engine.Machine.{act, transition, digits, number, next_action, kind, symbol, letter_at, is_numeric, flushed, adds, is_more}
-use Rattle.pb_sums.specs.engine.State.{SumState, sums, first, over, asks, IsOneText}
-use Rattle.pb_sums.specs.meaning.Sums.{IsName, is_space, allows, reads_sums}
+use Rattle.pb_sums.specs.engine.State.{SumState, sums, first, over, asks}
+use Rattle.pb_sums.specs.meaning.Sums.{IsName, IsOneText, is_space, allows, reads_sums}
 use Rattle.pb_sums.specs.declared.sum_kind.Spaces.{Spaces}
 use Rattle.pb_sums.specs.declared.sum_kind.Part.{Part}
 use Rattle.pb_sums.specs.declared.linear.Relation.{Relation}

@@ -5,7 +5,8 @@ use Rattle.pb_text.specs.contract.Automaton.{Next, Go, End, Refuse, ReadsStateme
 use Rattle.pb_text.specs.meaning.Spelling.{Letter, Item}
 use Rattle.pb_sums.specs.declared.linear.Term.{Term}
 use Rattle.pb_sums.specs.engine.Machine.{PhaseFits, Work, Outcome, act, step, transition, kind, letter_at, is_numeric, is_in_number, is_midway, is_done, finished, flushed, is_more}
-use Rattle.pb_sums.specs.engine.State.{SumState, sums, over, first, last, with_work, units, in_hand, ready, all_units, IsInOrder, IsOneText}
+use Rattle.pb_sums.specs.engine.State.{SumState, sums, over, first, last, with_work, units, in_hand, ready, all_units, IsInOrder}
+use Rattle.pb_sums.specs.meaning.Sums.{IsOneText}
 use Rattle.pb_sums.specs.declared.linear.SumEvent.{SumEvent}
 use Rattle.pb_sums.specs.declared.phase.Kind.{Kind}
 use Rattle.pb_sums.specs.declared.phase.Phase.{Phase}
