@@ -61,6 +61,9 @@ install:
 	    ln -srf '$(DESTDIR)$(DATADIR)/pb'/$$name '$(DESTDIR)$(BINDIR)'/pb-$$name || exit 1; \
 	done
 	for name in $(MODULES); do install -D -m 644 contrib/$$name '$(DESTDIR)$(DATADIR)/pb'/$$name || exit 1; done
+	if command -v python3 >/dev/null; then \
+	    for name in $(SCRIPTS); do packaging/manual $$name '$(DESTDIR)$(MANDIR)/man1'/pb-$$name.1 || exit 1; done; \
+	else echo 'pb: there is no python3, so the manual pages of the scripts were left out' >&2; fi
 	find $(DOCUMENTS) -type f ! -name '*.pyc' -exec sh -c \
 	    'for name; do install -D -m 644 "$$name" "$$0/$$name" || exit 1; done' '$(DESTDIR)$(DOCDIR)' {} +
 	mkdir -p '$(DESTDIR)$(PCDIR)'
@@ -71,7 +74,8 @@ install:
 	    'License: MIT OR Apache-2.0' 'Libs: -L$${libdir} -lpb' 'Cflags: -I$${includedir}' > '$(DESTDIR)$(PCDIR)/pb.pc'
 
 uninstall:
-	rm -f '$(DESTDIR)$(BINDIR)/pb' $(SCRIPTS:%='$(DESTDIR)$(BINDIR)/pb-%') '$(DESTDIR)$(LIBDIR)/libpb.a' \
+	rm -f '$(DESTDIR)$(BINDIR)/pb' $(SCRIPTS:%='$(DESTDIR)$(BINDIR)/pb-%') $(SCRIPTS:%='$(DESTDIR)$(MANDIR)/man1/pb-%.1') \
+	    '$(DESTDIR)$(LIBDIR)/libpb.a' \
 	    '$(DESTDIR)$(LIBDIR)/libpb.so' '$(DESTDIR)$(LIBDIR)/$(SONAME)' '$(DESTDIR)$(LIBDIR)/libpb.so.$(VERSION)' \
 	    '$(DESTDIR)$(PCDIR)/pb.pc' '$(DESTDIR)$(INCLUDEDIR)/pb.h' '$(DESTDIR)$(MANDIR)/man1/pb.1' '$(DESTDIR)$(MANDIR)/man3/pb.h.3' \
 	    '$(DESTDIR)$(BASHDIR)/pb' \
