@@ -16,8 +16,3 @@ top_of limits = limits.top
 -- the largest magnitude of a coefficient, degree, bound or factor
 abbrev pub largest : Limits → ℕ
 largest limits = 2 ^ limits.bits - 1
-
--- limits that are as large or larger in both numbers
-pub record AreWithin (small large : Limits) : Type 0 where
-  pub magnitudes : largest small ≤ largest large
-  pub tops : top_of small ≤ top_of large

@@ -1,7 +1,7 @@
 -- Bytes of a line that are stored at once, and the run that they are.
 use Rattle.pb_text.specs.meaning.Blank.{IsInLine}
-use Rattle.std.proofs.Common.{◌≡◌, ℕ, zero, suc, ◌<◌, ◌≤◌, true, false, List, [], ◌∷◌, ◌++◌, length, take, get_or, refl, ap, subst, arith, append-nil, append_assoc}
-use Rattle.std.proofs.lemmas.Bool.{not-true, not_from_false, false_from_ne_true}
+use Rattle.std.proofs.Common.{◌≡◌, ℕ, true, false, List, [], ◌∷◌, ◌++◌, take, refl, ap, subst, append-nil, append_assoc}
+use Rattle.std.proofs.lemmas.Bool.{not-true}
 use Rattle.std.specs.Prelude.{nat_eq, Option, Some, None, IfSome}
 use Rattle.std.specs.Option.{unwrap_or}
 use Rattle.pb_text.specs.contract.Automaton.{Go, Runs}
@@ -12,15 +12,6 @@ use Rattle.pb_opb.specs.declared.phase.Phase.{Phase}
 use Rattle.pb_opb.specs.declared.phase.Phase as phase
 use Rattle.pb_opb.specs.declared.phase.Action.TheVariants.{Keep}
 use Rattle.pb_opb.proofs.lemmas.machine.States.{is_state}
-
--- no byte of the prefix is a line feed
-pub in_line : (text : List ℕ) (n : ℕ) → n ≤ length text → ((k : ℕ) → k < n → nat_eq (get_or text k 0) 10 ≡ true → ⊥) → IsInLine (take n text)
-in_line text zero h f = tt
-in_line [] (suc n) h f = absurd (omega (arith, h))
-in_line (b ∷ text) (suc n) h f = (
-  not_from_false (nat_eq b 10) (false_from_ne_true (nat_eq b 10) (f 0 (omega arith))),
-  in_line text n (omega (arith, h)) (λ k lt. f (suc k) (omega (arith, lt))),
-)
 
 abbrev pub keeping : OpbState → List ℕ → OpbState
 keeping s text = record s { text = text }

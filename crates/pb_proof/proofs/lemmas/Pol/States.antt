@@ -74,8 +74,3 @@ empties s h i =
     let (e, f) = h.1 i in
     ap (λ ws. units ws + in_hand s.work.phase + length s.work.name + ready s.work.phase) e
     ∙ (ap (λ (n : List ℕ). 0 + in_hand s.work.phase + length n + ready s.work.phase) f ∙ nothing_kept s.work.phase i)
-
-pub keeps_order : (s next : PolState) (b : ℕ) → IsPolInOrder s → pol_automaton.step s b ≡ Go next → IsPolInOrder next
-keeps_order s next b g e =
-    let (v, f, h) = next_state s next b e in
-    (subst (λ x. 0 < x.top) (sym f) g.0, λ i. absurd (true≢false (sym (ap (λ x. is_midway x.work.phase) f ∙ h.0) ∙ i)))

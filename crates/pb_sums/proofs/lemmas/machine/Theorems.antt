@@ -65,9 +65,6 @@ module _ (spaces : Spaces) (want : Part) (limit : ℕ) where
   zero_fits : (xs : List Term) (name : List ℕ) (role : Option Relation) (negative : Bool) → act xs xs name (digits limit role negative 0 0) ≡ to xs (phase.TheVariants.Digits role negative 0)
   zero_fits xs name role negative = ap (λ b. act xs xs name (cond b (To (phase.TheVariants.Digits role negative 0)) Stop)) (le-leb 0 limit (omega arith))
 
-  alive-tail : (xs : List Term) (r : Relation) (z : ℤ) → Alive (to xs (phase.TheVariants.Tail r z))
-  alive-tail xs r z = (unmarked 59 ∷ [], event.TheVariants.Linear (record { terms = xs; relation = r; degree = z }), refl)
-
   alive-degree : (xs : List Term) (r : Relation) (negative : Bool) (n : ℕ) → Alive (to xs (phase.TheVariants.Digits (Some r) negative n))
   alive-degree xs r negative n = (unmarked 59 ∷ [], event.TheVariants.Linear (record { terms = xs; relation = r; degree = signed negative n }), refl)
 

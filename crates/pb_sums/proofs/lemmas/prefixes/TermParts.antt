@@ -29,12 +29,6 @@ pub grown : {A T E : Type 0} (r : Result T E) (new more old : List A) → new �
 grown (Ok x) new more old h e = h
 grown (Err x) new more old h e = cc
 
-pub number_too : (p : Phase) → begins_term p ≡ true → begins_number p ≡ true
-number_too phase.TheVariants.Start e = refl
-number_too (phase.TheVariants.Signed None negative) e = refl
-number_too phase.TheVariants.Between e = refl
-number_too _ e = cc
-
 no-role : (p : Phase) → begins_term p ≡ true → role p ≡ None
 no-role phase.TheVariants.Start e = refl
 no-role (phase.TheVariants.Signed None negative) e = refl

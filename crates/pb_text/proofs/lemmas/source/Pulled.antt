@@ -1,10 +1,8 @@
 -- What a pull leaves in its source.
-use Rattle.std.proofs.Common.{◌≡◌, ◌≢◌, ℕ, List, [], ◌∷◌, ◌++◌, Option, Some, None, refl, sym, ap, ◌∙◌, append_assoc, subst}
+use Rattle.std.proofs.Common.{◌≡◌, ℕ, List, [], ◌∷◌, ◌++◌, Option, Some, None, refl, sym, ap, ◌∙◌, append_assoc}
 use Rattle.std.specs.Io.KnownBytes.{Keeps, Consumes}
 use Rattle.pb_text.specs.contract.Source.{StartWith, HaveEnded, LosesFirst, Lost}
-use Rattle.pb_text.specs.meaning.Pulling.{Took, faults_with}
-use Rattle.pb_text.specs.declared.place.Why.{Why}
-use Rattle.pb_text.specs.declared.place.Why.TheVariants.{Byte, TooLarge, Ended, TooLong, Read, Memory}
+use Rattle.pb_text.specs.meaning.Pulling.{Took}
 
 pub lost_nothing : (before : Option (List ℕ)) → Lost before [] before
 lost_nothing None = tt
@@ -21,13 +19,6 @@ pub lost_consumed : (before after : Option (List ℕ)) (taken : List ℕ) → Co
 lost_consumed None after taken c = tt
 lost_consumed (Some bytes) None taken c = absurd c
 lost_consumed (Some bytes) (Some rest) taken c = (rest, c, refl)
-
--- bytes taken after earlier ones
-pub lost_both : (before now last : Option (List ℕ)) (taken more : List ℕ) → Lost before taken now → Lost now more last → Lost before (taken ++ more) last
-lost_both None now last taken more l k = tt
-lost_both (Some bytes) now last taken more l k =
-    let n : Lost (Some l.0) more last = subst (λ (x : Option (List ℕ)). Lost x more last) l.2 k in
-    (n.0, l.1 ∙ (ap (λ (x : List ℕ). taken ++ x) n.1 ∙ sym (append_assoc taken more n.0)), n.2)
 
 kept : (rest : List ℕ) (now next : Option (List ℕ)) → now ≡ Some rest → Keeps now next → next ≡ Some rest
 kept rest None next e k = cc
@@ -80,15 +71,6 @@ seen_rest (Some bytes) taken now next l k = (l.0, (l.1, kept l.0 now next l.2 k)
 pub seen_after : (before : Option (List ℕ)) (taken : List ℕ) (now : Option (List ℕ)) → Lost before taken now → (seen : List ℕ) × Took before taken seen now
 seen_after None taken now l = ([], tt)
 seen_after (Some bytes) taken now l = (l.0, (l.1, l.2))
-
--- a cause other than a failed reader counts no fault
-pub faults_with_other : (why : Why) (n : ℕ) → why ≢ Read → faults_with why n ≡ n
-faults_with_other (Byte b) n h = refl
-faults_with_other TooLarge n h = refl
-faults_with_other Ended n h = refl
-faults_with_other TooLong n h = refl
-faults_with_other Read n h = absurd (h refl)
-faults_with_other Memory n h = refl
 
 -- what the calls have given, with one more byte
 pub given_byte : (given taken mid shown last : List ℕ) (b : ℕ) → mid ≡ given ++ taken → shown ≡ mid → last ≡ shown ++ b ∷ [] → last ≡ given ++ (taken ++ b ∷ [])

@@ -1,6 +1,6 @@
 -- Texts that are written consecutively. Offered to other crates.
 use Rattle.std.proofs.lemmas.List.{take_rest}
-use Rattle.std.proofs.Common.{◌≡◌, ℕ, ◌-◌, length, take, drop, take-append-drop, List, [], ◌++◌, Option, Some, None, Result, Ok, Err, refl, sym, ap, ◌∙◌, append_assoc, append-nil, subst}
+use Rattle.std.proofs.Common.{◌≡◌, ℕ, ◌-◌, length, take, drop, take-append-drop, List, [], ◌++◌, Option, Some, None, Result, Ok, Err, refl, sym, ap, ◌∙◌, append_assoc, append-nil}
 use Rattle.std.specs.Io.KnownBytes.{Appends, Keeps}
 use Rattle.pb_text.specs.meaning.Writing.{Takes, Wrote, Broke, Writes, one_more}
 use Rattle.pb_text.specs.declared.source.Failed.{Failed}
@@ -56,15 +56,3 @@ module _ {S : Type 0} (contents : S → Option (List ℕ)) (faults : S → ℕ) 
     e ∙ (ap (λ (z : List ℕ). prefix ++ z) (sym (take-append-drop n rest) ∙ ap (λ (z : List ℕ). take n rest ++ z) (sym (take_rest rest n))) ∙ sym (append_assoc prefix (take n rest) (take (length rest - n) (drop n rest)))),
     record { appends = Appends-append (contents a) (contents b) (contents c) prefix (take n rest) h.appends k.2; faults_are = k.3 ∙ h.faults_are },
   )
-
-  pub piece_broke : (a b c : S) (text prefix rest : List ℕ) (e : Failed) → text ≡ prefix ++ rest → Wrote contents faults a prefix b → Takes contents faults b rest (Err e) c → Broke contents faults a text c
-  piece_broke a b c text prefix rest e h w k = record {
-    prefix = prefix;
-    rest = rest;
-    text_is = h;
-    appends = subst (λ (z : List ℕ). Appends (contents a) (contents c) z) (append-nil prefix) (Appends-append (contents a) (contents b) (contents c) prefix [] w.appends (Keeps-appends (contents b) (contents c) k.0));
-    faults_are = k.1 ∙ ap one_more w.faults_are;
-  }
-
-  pub all_written : (a b : S) (text prefix rest : List ℕ) → text ≡ prefix ++ rest → rest ≡ [] → Wrote contents faults a prefix b → Wrote contents faults a text b
-  all_written a b text prefix rest e none w = subst (λ (z : List ℕ). Wrote contents faults a z b) (sym (e ∙ (ap (λ (z : List ℕ). prefix ++ z) none ∙ append-nil prefix))) w
