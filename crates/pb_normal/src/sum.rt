@@ -1,6 +1,6 @@
 //! Sums that grow.
 
-ghost use Rattle.std.specs.Prelude.{◌≡◌, ◌≤ℤ◌, ◌↔◌, pos, length, IfOk, IfErr, Err};
+ghost use Rattle.std.specs.Prelude.{◌≡◌, ◌≤ℤ◌, ◌↔◌, pos, length, IfOk, IfErr, IsTrue, Err};
 ghost use Rattle.std.specs.Int.RustNames.{unsigned_abs};
 ghost use Rattle.pb_text.specs.meaning.Limits.{largest};
 ghost use Rattle.pb_normal.specs.engine.Adds.{SumFits};
@@ -154,7 +154,7 @@ impl<'a> Sum<'a> {
         requires fits { IsNormal (multiplied k self) }
         ensures product { IfOk result (λ r. r ≡ multiplied k self.entry) }
     {
-        if k == 1 {
+        if is_one(k) {
             return self.unchanged(alloc);
         }
         let listing = self.kind.listing(alloc)?;
@@ -182,7 +182,7 @@ impl<'a> Sum<'a> {
         ensures memory { IfErr result (λ e. e ≡ NormalFault.Memory) }
     {
         let k = divisor.unsigned_abs();
-        if k == 1 {
+        if is_one(k) {
             return Ok(self);
         }
         let listing = self.kind.listing(alloc)?;
@@ -220,6 +220,13 @@ impl<'a> Sum<'a> {
             changes,
         })
     }
+}
+
+// Whether a factor or a divisor is 1, so that it changes nothing.
+fn is_one(k: u128) -> bool
+    ensures { IsTrue result ↔ (k ≡ 1) }
+{
+    k == 1
 }
 
 // The number of small changes in a row after one more change.

@@ -61,10 +61,6 @@ with_name-has k ks = by_test (has_name ks k) refl
     by_test true e = e
     by_test false e = list_any-last (bytes_eq k) ks k ((bytes_eq-Decides k k).1 refl)
 
-pub HasNames-with : (k : List ℕ) (ks ns : List (List ℕ)) → HasNames ks ns → HasNames (with_name ks k) ns
-HasNames-with k ks [] h = tt
-HasNames-with k ks (n ∷ ns) h = ((with_name-keeps n k ks h.0).0, HasNames-with k ks ns h.1)
-
 pub HasNames-push : (ks ns : List (List ℕ)) (k : List ℕ) → HasNames ks ns → HasNames (with_name ks k) (ns ++ k ∷ [])
 HasNames-push ks [] k h = (with_name-has k ks, tt)
 HasNames-push ks (n ∷ ns) k h = ((with_name-keeps n k ks h.0).0, HasNames-push ks ns k h.1)

@@ -3,7 +3,7 @@ use Rattle.std.proofs.lemmas.Grind.{common_steps}
 use Rattle.pb_normal.proofs.lemmas.rules.Ones.{divided-one}
 use Rattle.pb_normal.proofs.sum.Sum.divide.Goals as goal
 
-pub returns-then-k-eq1-clause-quotient : goal.returns-then-k-eq1-clause-quotient
-returns-then-k-eq1-clause-quotient c =
+pub returns-then-is_one-clause-quotient : goal.returns-then-is_one-clause-quotient
+returns-then-is_one-clause-quotient c =
     let factor : unsigned_abs c.args.divisor ≡ c.unsigned_abs-k.result = grind (arith, common_steps) in
-    rw (factor ∙ c.if-k-eq1.true) (sym (divided-one c.args.self))
+    rw (factor ∙ c.is_one.ensures.0 c.if-is_one.true) (sym (divided-one c.args.self))
