@@ -1,6 +1,6 @@
 -- Terms in a map by their variables: what an insertion and a removal change.
 use Rattle.std.proofs.Common.{◌≡◌, ℕ, ◌+◌, ◌<◌, ◌≤◌, Bool, true, false, cond, eqb, List, [], ◌∷◌, ◌++◌, Option, Some, None, refl, sym, ◌∙◌, ap, arith, take, drop, length, get_or, Ordering, Less, Equal, Greater}
-use Rattle.std.specs.List.{All, AllByRecursion, sum_by}
+use Rattle.std.specs.List.{All, AllByRecursion}
 use Rattle.std.specs.List.Sorted.{IsStrictlySortedBy}
 use Rattle.std.specs.Option.{option_map, option_to_list, unwrap_or}
 use Rattle.std.specs.Map.{keys_of, values_of, lookup, remove_entry}

@@ -92,8 +92,7 @@ WithTerm es t g = (new : List (ℕ × Entry)) × All IsAtItsKey new × IsRising 
 with_term : (es : List (ℕ × Entry)) (t : Entry) (g : ℕ) → All IsAtItsKey es → IsRising 0 (values_of es) → Crosses es t g → WithTerm es t g
 with_term es t g keyed rising (Some s, adds, entry, le) =
     let k = t.variable in
-    let changes = Replaces-put es k s (sorted 0 es keyed rising) in
-    (
+    let changes = Replaces-put es k s (sorted 0 es keyed rising) in (
       insert_entry nat_cmp es k s,
       All-insert k s es (sym entry.0, entry.1) keyed,
       rising-put 0 k s es keyed (sym entry.0) entry.1 (omega arith) rising,
@@ -101,8 +100,7 @@ with_term es t g keyed rising (Some s, adds, entry, le) =
       λ q lt. lookup-put q k s es lt,
     )
 with_term es t g keyed rising (None, adds, entry, le) =
-    let k = t.variable in
-    (
+    let k = t.variable in (
       remove_entry (is_at (nat_cmp k)) es,
       All-remove (is_at (nat_cmp k)) es keyed,
       rw (values-removed k 0 es rising keyed) (IsRising-filter _ 0 (values_of es) rising),

@@ -21,8 +21,7 @@ overflow_add-cancelled c =
 
 pub loop-term-preserved : goal.loop-term-preserved
 loop-term-preserved c =
-    let next : c.loop-term.term-iterator ≡ c.in-Some.term.now ∷ c.next.new.self = search rules in
-    (
+    let next : c.loop-term.term-iterator ≡ c.in-Some.term.now ∷ c.next.new.self = search rules in (
       c.loop-term.invariant.0 ++ c.in-Some.term.now ∷ [],
       split-next _ c.loop-term.invariant.0 _ _ c.in-Some.term.now c.loop-term.invariant.1 next,
       AllCancel-more c.args.terms.now c.loop-term.invariant.0 c.in-Some.term.now _ _ c.loop-term.invariant.2 c.cancelled_by-cancelled.ensures,
