@@ -1,17 +1,18 @@
 //! Literals are assigned, and the constraints that they touch are visited.
 
-ghost use Rattle.std.specs.Prelude.{◌≡◌, ℕ, ◌≤◌, ◌+◌, ◌-◌, ◌*◌, ◌^◌, ◌<◌, ◌++◌, ◌∷◌, [], true, false, List, Bool, Option, All, filter, length, OnOk, IfOk, slice_index, slice_index_or, slice_set, sum, sum_by, Contains};
+ghost use Rattle.std.specs.Prelude.{◌≡◌, ℕ, ◌≤◌, ◌+◌, ◌-◌, ◌*◌, ◌^◌, ◌<◌, ◌++◌, ◌∷◌, [], true, false, List, Bool, Option, All, filter, length, OnOk, OnErr, IfOk, slice_index, slice_index_or, slice_set, sum, sum_by, Contains};
 ghost use Rattle.pb_normal.specs.declared.numbered.NumberedLiteral.{NumberedLiteral};
 ghost use Rattle.pb_normal.specs.meaning.Rules.{negation};
 ghost use Rattle.pb_propagate.specs.declared.term.Term.{Term};
 ghost use Rattle.pb_propagate.specs.engine.Engine.Lists.{has, size, Extends, Derives, Conflicts, Shape, IsSettled};
 ghost use Rattle.pb_propagate.specs.engine.Engine.Counts.{place, Grown, IsCalm, IsCounted, beside, rest_open, IsTidy, IsPaid, IsAbsent, Adopted, AreFound, AreSingle, IsUndone, AreCovered, spent};
+ghost use Rattle.pb_propagate.specs.engine.Engine.Progress.{chosen, RunIsOpen, RunIsTidy, RunIsShort, RunIsUndone, RunLowers, RunCosts, RunSpends, RunAdvances, RunVisitsEach, RunStaysTidy};
 ghost use Rattle.pb_propagate.specs.engine.Engine.Rest.{waits};
 ghost use Rattle.pb_propagate.specs.engine.Engine.Fields.{shapes_of, entries_of, IsSound};
 ghost use Rattle.pb_propagate.specs.engine.Engine.Links.{terms_at, coefficient_at};
 ghost use Rattle.pb_propagate.specs.engine.Engine.Terms.{terms_of};
-ghost use Rattle.pb_propagate.specs.engine.Clauses.Runs.{AreReady, IsRunning, AreWalked, Grows};
-ghost use Rattle.pb_propagate.specs.engine.Clauses.Walked.{fallen, walked_codes};
+ghost use Rattle.pb_propagate.specs.engine.Clauses.Runs.{AreReady, IsRunning, AreWalked, KeepsWalked};
+ghost use Rattle.pb_propagate.specs.engine.Clauses.Walked.{walked_codes};
 ghost use Rattle.pb_propagate.specs.engine.Clauses.Shapes.{AreJoined, clauses_of, all_of};
 
 use crate::assignment::Assignment;
@@ -67,14 +68,12 @@ fn lower(store: &Store, rests: &Rests, run: &mut Run, entry: Visited) -> Result<
     requires index { entry.index < length (terms_at (shapes_of store.now.stored.items) entry.form) }
     requires inside { entry.form < length run.old.opens.items }
     requires fits { coefficient_at (shapes_of store.now.stored.items) entry.form entry.index ≤ slice_index run.old.opens.items entry.form }
-    ensures opens { OnOk result (run.new.opens.items ≡ slice_set run.old.opens.items entry.form (slice_index run.old.opens.items entry.form - coefficient_at (shapes_of store.now.stored.items) entry.form entry.index)) }
-    ensures work { OnOk result (Grown ((d : Shape) (c : ℕ) → IsCalm (slice_index_or (shapes_of store.now.stored.items) entry.form d) (slice_index run.old.opens.items entry.form - coefficient_at (shapes_of store.now.stored.items) entry.form entry.index) c) entry.form run.old.work.items run.new.work.items) }
-    ensures trail { OnOk result (Grown ((d : Shape) → slice_index run.old.opens.items entry.form ≡ rest_open rests.now entry.form (slice_index_or (shapes_of store.now.stored.items) entry.form d) → ⊥) entry.form run.old.trail.items run.new.trail.items) }
+    ensures lowers { OnOk result (RunLowers store.now rests.now entry run.old run.new) }
+    ensures falsified { IfOk result (λ b. b ≡ true → RunIsShort store.now rests.now entry.form run.new) }
     ensures candidates { run.new.candidates ≡ run.old.candidates }
     ensures assignment { run.new.assignment ≡ run.old.assignment }
     ensures next { run.new.next ≡ run.old.next }
     ensures visits { run.new.visits ≡ run.old.visits }
-    ensures falsified { IfOk result (λ found. found ≡ true → (d : Shape) → slice_index_or run.new.opens.items entry.form 0 < (slice_index_or (shapes_of store.now.stored.items) entry.form d).degree) }
 {
     let kept = &store.stored[entry.form];
     let opened = run.opens[entry.form];
@@ -113,21 +112,14 @@ pub fn put(
     requires next { run.old.next ≤ length run.old.work.items }
     requires absent { has run.old.assignment.list.items literal ≡ false }
     requires not_falsified { has run.old.assignment.list.items (negation literal) ≡ false }
-    requires counted { IsCounted (shapes_of store.now.stored.items) run.old.opens.items run.old.assignment.list.items [] }
-    ensures values { OnOk result (length run.new.assignment.values.items ≡ length run.old.assignment.values.items) }
-    ensures opens { OnOk result (length run.new.opens.items ≡ length run.old.opens.items) }
-    ensures next { OnOk result (run.new.next ≡ run.old.next) }
+    requires counted { RunIsOpen store.now rests.now run.old }
+    ensures advances { OnOk result (RunAdvances store.now rests.now 0 0 run.old run.new) }
+    ensures costs { OnErr result (RunCosts store.now rests.now 0 0 run.old run.new) }
     ensures candidates { run.new.candidates ≡ run.old.candidates }
-    ensures covered { AreCovered (entries_of (shapes_of store.now.stored.items) store.now.occurrences.items) run.old.assignment.list.items run.new.assignment.list.items run.old.candidates.items run.new.candidates.items run.old.visits run.new.visits 0 }
-    ensures single { AreSingle run.old.assignment.list.items → AreSingle run.new.assignment.list.items }
-    ensures extends { Extends run.old.assignment.list.items run.new.assignment.list.items }
     ensures list { OnOk result (run.new.assignment.list.items ≡ run.old.assignment.list.items ++ literal ∷ []) }
-    ensures counted { IfOk result (λ found. found ≡ false → IsCounted (shapes_of store.now.stored.items) run.new.opens.items run.new.assignment.list.items []) }
+    ensures tidy { OnOk result (RunStaysTidy store.now rests.now run.old run.new) }
+    ensures counted { IfOk result (λ found. found ≡ false → RunIsOpen store.now rests.now run.new) }
     ensures conflict { IfOk result (λ found. found ≡ true → Conflicts (shapes_of store.now.stored.items) run.new.assignment.list.items) }
-    ensures tidy { OnOk result ((aside : List ℕ) (busy : ℕ) → IsTidy (beside rests.now aside) (shapes_of store.now.stored.items) run.old.opens.items run.old.candidates.items run.old.assignment.list.items run.old.work.items run.old.trail.items run.old.next busy → IsTidy (beside rests.now aside) (shapes_of store.now.stored.items) run.new.opens.items run.new.candidates.items run.new.assignment.list.items run.new.work.items run.new.trail.items run.new.next busy) }
-    ensures paid { OnOk result (IsPaid (entries_of (shapes_of store.now.stored.items) store.now.occurrences.items) run.old.assignment.list.items run.new.assignment.list.items run.old.candidates.items run.new.candidates.items run.old.work.items run.new.work.items run.old.visits run.new.visits 0) }
-    ensures kept_work { OnOk result ((s : ℕ) → IsAbsent run.new.work.items 0 s → IsAbsent run.old.work.items 0 s) }
-    ensures longer_work { OnOk result (length run.old.work.items ≤ length run.new.work.items) }
 {
     run.assignment.put(literal)?;
     let entries = &store.occurrences[place_of(literal.negation())];
@@ -152,21 +144,14 @@ pub fn try_put(
     requires values { length run.old.assignment.values.items ≡ store.now.variables }
     requires opens { length run.old.opens.items ≡ length store.now.stored.items }
     requires next { run.old.next ≤ length run.old.work.items }
-    requires counted { IsCounted (shapes_of store.now.stored.items) run.old.opens.items run.old.assignment.list.items [] }
-    ensures values { OnOk result (length run.new.assignment.values.items ≡ length run.old.assignment.values.items) }
-    ensures opens { OnOk result (length run.new.opens.items ≡ length run.old.opens.items) }
-    ensures next { OnOk result (run.new.next ≡ run.old.next) }
+    requires counted { RunIsOpen store.now rests.now run.old }
+    ensures advances { OnOk result (RunAdvances store.now rests.now 0 0 run.old run.new) }
+    ensures costs { OnErr result (RunCosts store.now rests.now 0 0 run.old run.new) }
     ensures candidates { run.new.candidates ≡ run.old.candidates }
-    ensures covered { AreCovered (entries_of (shapes_of store.now.stored.items) store.now.occurrences.items) run.old.assignment.list.items run.new.assignment.list.items run.old.candidates.items run.new.candidates.items run.old.visits run.new.visits 0 }
-    ensures single { AreSingle run.old.assignment.list.items → AreSingle run.new.assignment.list.items }
-    ensures extends { Extends run.old.assignment.list.items run.new.assignment.list.items }
     ensures adopted { OnOk result (Adopted literal run.old.assignment.list.items run.new.assignment.list.items) }
-    ensures counted { IfOk result (λ found. found ≡ false → IsCounted (shapes_of store.now.stored.items) run.new.opens.items run.new.assignment.list.items []) }
+    ensures tidy { OnOk result (RunStaysTidy store.now rests.now run.old run.new) }
+    ensures counted { IfOk result (λ found. found ≡ false → RunIsOpen store.now rests.now run.new) }
     ensures conflict { IfOk result (λ found. found ≡ true → Conflicts (shapes_of store.now.stored.items) run.new.assignment.list.items) }
-    ensures tidy { OnOk result ((aside : List ℕ) (busy : ℕ) → IsTidy (beside rests.now aside) (shapes_of store.now.stored.items) run.old.opens.items run.old.candidates.items run.old.assignment.list.items run.old.work.items run.old.trail.items run.old.next busy → IsTidy (beside rests.now aside) (shapes_of store.now.stored.items) run.new.opens.items run.new.candidates.items run.new.assignment.list.items run.new.work.items run.new.trail.items run.new.next busy) }
-    ensures paid { OnOk result (IsPaid (entries_of (shapes_of store.now.stored.items) store.now.occurrences.items) run.old.assignment.list.items run.new.assignment.list.items run.old.candidates.items run.new.candidates.items run.old.work.items run.new.work.items run.old.visits run.new.visits 0) }
-    ensures kept_work { OnOk result ((s : ℕ) → IsAbsent run.new.work.items 0 s → IsAbsent run.old.work.items 0 s) }
-    ensures longer_work { OnOk result (length run.old.work.items ≤ length run.new.work.items) }
 {
     if run.assignment.contains(literal) {
         return Ok(false);
@@ -193,25 +178,18 @@ fn visit_form(
     requires opens { length run.old.opens.items ≡ length store.now.stored.items }
     requires candidates { length run.old.candidates.items ≡ length store.now.stored.items }
     requires next { run.old.next ≤ length run.old.work.items }
-    requires counted { IsCounted (shapes_of store.now.stored.items) run.old.opens.items run.old.assignment.list.items [] }
-    requires tidy { IsTidy (beside rests.now (filter (waits store.now.stored.items) waiting.now)) (shapes_of store.now.stored.items) run.old.opens.items run.old.candidates.items run.old.assignment.list.items run.old.work.items run.old.trail.items run.old.next form }
+    requires counted { RunIsOpen store.now rests.now run.old }
+    requires tidy { RunIsTidy store.now rests.now (chosen store.now waiting.now) form run.old }
     requires there { IsAbsent run.old.work.items 0 form → ⊥ }
-    ensures values { OnOk result (length run.new.assignment.values.items ≡ length run.old.assignment.values.items) }
-    ensures opens { OnOk result (length run.new.opens.items ≡ length run.old.opens.items) }
-    ensures candidates { OnOk result (length run.new.candidates.items ≡ length run.old.candidates.items) }
-    ensures next { OnOk result (run.new.next ≡ run.old.next) }
-    ensures within { OnOk result (run.new.next ≤ length run.new.work.items) }
+    ensures advances { OnOk result (RunAdvances store.now rests.now 0 1 run.old run.new) }
+    ensures costs { OnErr result (RunCosts store.now rests.now 0 1 run.old run.new) }
     ensures derived { OnOk result (Derives (shapes_of store.now.stored.items) run.old.assignment.list.items run.new.assignment.list.items) }
-    ensures counted { IfOk result (λ found. found ≡ false → IsCounted (shapes_of store.now.stored.items) run.new.opens.items run.new.assignment.list.items []) }
-    ensures bounded { sum run.new.candidates.items ≤ sum_by (λ f. length f.terms) (shapes_of store.now.stored.items) }
-    ensures covered { AreCovered (entries_of (shapes_of store.now.stored.items) store.now.occurrences.items) run.old.assignment.list.items run.new.assignment.list.items run.old.candidates.items run.new.candidates.items run.old.visits run.new.visits 1 }
-    ensures single { AreSingle run.old.assignment.list.items → AreSingle run.new.assignment.list.items }
-    ensures extends { Extends run.old.assignment.list.items run.new.assignment.list.items }
-    ensures undone { OnOk result (IsUndone rests.now (shapes_of store.now.stored.items) run.new.opens.items run.new.candidates.items run.new.trail.items 0) }
+    ensures counted { IfOk result (λ found. found ≡ false → RunIsOpen store.now rests.now run.new) }
+    ensures tidy { IfOk result (λ found. found ≡ false → RunIsTidy store.now rests.now (chosen store.now waiting.now) (length store.now.stored.items) run.new) }
+    ensures undone { OnOk result (RunIsUndone store.now rests.now run.new) }
     ensures conflict { IfOk result (λ found. found ≡ true → Conflicts (shapes_of store.now.stored.items) run.new.assignment.list.items) }
-    ensures tidy { IfOk result (λ found. found ≡ false → IsTidy (beside rests.now (filter (waits store.now.stored.items) waiting.now)) (shapes_of store.now.stored.items) run.new.opens.items run.new.candidates.items run.new.assignment.list.items run.new.work.items run.new.trail.items run.new.next (length store.now.stored.items)) }
-    ensures paid { OnOk result (IsPaid (entries_of (shapes_of store.now.stored.items) store.now.occurrences.items) run.old.assignment.list.items run.new.assignment.list.items run.old.candidates.items run.new.candidates.items run.old.work.items run.new.work.items run.old.visits run.new.visits 1) }
-    ensures found { OnOk result (AreFound (length run.old.assignment.list.items) (length run.new.assignment.list.items) run.old.visits run.new.visits) }
+    ensures bounded { sum run.new.candidates.items ≤ sum_by (λ f. length f.terms) (shapes_of store.now.stored.items) }
+    ensures found { OnOk result (RunVisitsEach run.old run.new) }
 {
     let kept = &store.stored[form];
     'terms: loop {
@@ -267,8 +245,8 @@ pub fn propagate(
     requires next { run.old.next ≤ length run.old.work.items }
     requires waiting { All (λ s. s < length store.now.stored.items) waiting.now }
     requires single { AreSingle run.old.assignment.list.items }
-    requires counted { IsCounted (shapes_of store.now.stored.items) run.old.opens.items run.old.assignment.list.items [] }
-    requires tidy { IsTidy (beside rests.now (filter (waits store.now.stored.items) waiting.now)) (shapes_of store.now.stored.items) run.old.opens.items run.old.candidates.items run.old.assignment.list.items run.old.work.items run.old.trail.items run.old.next (length store.now.stored.items) }
+    requires counted { RunIsOpen store.now rests.now run.old }
+    requires tidy { RunIsTidy store.now rests.now (chosen store.now waiting.now) (length store.now.stored.items) run.old }
     requires joined { AreJoined (shapes_of store.now.stored.items) (clauses_of clauses.old) }
     requires ready { AreReady clauses.old }
     requires widths { length clauses.old.lists.items ≡ 4 * store.now.variables }
@@ -277,22 +255,19 @@ pub fn propagate(
     ensures literals { clauses.new.literals ≡ clauses.old.literals }
     ensures running { OnOk result (IsRunning run.new.assignment.values.items clauses.new) }
     ensures walked { IfOk result (λ found. found ≡ false → AreWalked run.new.assignment.values.items clauses.new.watches.items (walked_codes (length run.new.assignment.list.items) run.new.assignment.list.items)) }
-    ensures kept { OnOk result ((base : List (Option Bool)) (codes : List ℕ) → Grows base run.old.assignment.values.items → AreWalked base clauses.old.watches.items codes → AreWalked base clauses.new.watches.items codes) }
+    ensures kept { OnOk result (KeepsWalked run.old.assignment.values.items clauses.old clauses.new) }
     ensures values { OnOk result (length run.new.assignment.values.items ≡ length run.old.assignment.values.items) }
     ensures opens { OnOk result (length run.new.opens.items ≡ length store.now.stored.items) }
     ensures candidates { OnOk result (length run.new.candidates.items ≡ length store.now.stored.items) }
-    ensures single { AreSingle run.new.assignment.list.items }
-    ensures extends { Extends run.old.assignment.list.items run.new.assignment.list.items }
+    ensures costs { RunSpends store.now rests.now clauses.old waiting.now run.old run.new }
     ensures derived { OnOk result (Derives (all_of store.now clauses.old) run.old.assignment.list.items run.new.assignment.list.items) }
-    ensures bounded { sum run.new.candidates.items ≤ sum_by (λ f. length f.terms) (shapes_of store.now.stored.items) }
-    ensures undone { OnOk result (IsUndone rests.now (shapes_of store.now.stored.items) run.new.opens.items run.new.candidates.items run.new.trail.items 0) }
+    ensures undone { OnOk result (RunIsUndone store.now rests.now run.new) }
     ensures conflict { IfOk result (λ found. found ≡ true → Conflicts (all_of store.now clauses.old) run.new.assignment.list.items) }
     ensures settled { IfOk result (λ found. found ≡ false → (f : Shape) → Contains (all_of store.now clauses.old) f → IsSettled f run.new.assignment.list.items) }
-    ensures counted { IfOk result (λ found. found ≡ false → IsCounted (shapes_of store.now.stored.items) run.new.opens.items run.new.assignment.list.items []) }
-    ensures tidy { IfOk result (λ found. found ≡ false → IsTidy (beside rests.now []) (shapes_of store.now.stored.items) run.new.opens.items run.new.candidates.items run.new.assignment.list.items run.new.work.items run.new.trail.items run.new.next (length store.now.stored.items)) }
+    ensures counted { IfOk result (λ found. found ≡ false → RunIsOpen store.now rests.now run.new) }
+    ensures tidy { IfOk result (λ found. found ≡ false → RunIsTidy store.now rests.now [] (length store.now.stored.items) run.new) }
     ensures done { IfOk result (λ found. found ≡ false → length run.new.work.items ≤ run.new.next) }
-    ensures upper { run.new.visits + sum run.old.candidates.items ≤ run.old.visits + ((length run.old.work.items + length (filter (waits store.now.stored.items) waiting.now)) - run.old.next) + 2 * spent (entries_of (shapes_of store.now.stored.items) store.now.occurrences.items) run.new.assignment.list.items + sum run.new.candidates.items + 2 * fallen (clauses_of clauses.old) run.new.assignment.list.items + sum_by length (clauses_of clauses.old) }
-    ensures found { OnOk result (AreFound (length run.old.assignment.list.items) (length run.new.assignment.list.items) run.old.visits run.new.visits) }
+    ensures found { OnOk result (RunVisitsEach run.old run.new) }
 {
     let mut taken = 0;
     let mut heads = Heads {

@@ -1,4 +1,5 @@
 -- Lemmas of propagation.
+pub mod Advances
 pub mod Assumed
 pub mod Bounds
 pub mod Bridge
@@ -16,6 +17,7 @@ pub mod Sources
 pub mod Spent
 pub mod Undone
 pub mod Values
+pub mod Watched
 pub mod Wider
 pub mod Choices
 pub mod Completing

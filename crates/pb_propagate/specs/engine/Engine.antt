@@ -8,5 +8,6 @@ pub mod Terms
 pub mod Live
 pub mod Rest
 pub mod Root
+pub mod Progress
 pub mod Slots
 pub mod Laws

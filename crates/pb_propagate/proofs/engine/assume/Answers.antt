@@ -39,11 +39,11 @@ given-preserved c =
     let reported = c.in_ok-try_put.ensures in
     let a = assumed-next c.args.given.now c.given.run.assignment.list.items c.try_put.new.run.assignment.list.items c.given.i d c.given-test.true free reported.adopted (record { within = i.within; covers = i.covers; single = i.single }) in
     record {
-      values = reported.values ∙ i.values;
-      opens = reported.opens ∙ i.opens;
+      values = reported.advances.values ∙ i.values;
+      opens = reported.advances.opens ∙ i.opens;
       candidates = reported.candidates ∙ i.candidates;
-      next = reported.next ∙ i.next;
-      longer = omega (arith, i.longer, reported.longer_work);
+      next = reported.advances.next ∙ i.next;
+      longer = omega (arith, i.longer, reported.advances.longer);
       single = a.single;
       counted = reported.counted c.if-branch.false;
       tidy = λ aside busy t. reported.tidy aside busy (i.tidy aside busy t);

@@ -1,5 +1,5 @@
 -- The walk over the watches of a falsified literal.
-use Rattle.std.specs.Prelude.{Bool, true, Option, sum}
+use Rattle.std.specs.Prelude.{Bool, true, Option}
 use Rattle.std.proofs.Common.{◌≡◌, ℕ, ◌+◌, ◌-◌, ◌*◌, ◌^◌, ◌<◌, ◌≤◌, ◌⊎◌, ◌++◌, ◌∷◌, [], List, refl, sym, ◌∙◌, ap, subst, arith, inl, inr, length, get_or, length-append}
 use Rattle.std.proofs.lemmas.Bool.{cases_eq}
 use Rattle.std.proofs.lemmas.List.Elements.{Contains-push_cases}
@@ -7,11 +7,13 @@ use Rattle.std.proofs.lemmas.Option.{slice_get_within}
 use Rattle.pb_normal.specs.declared.numbered.NumberedLiteral.{NumberedLiteral}
 use Rattle.pb_propagate.specs.declared.clauses.lists.Watch.{Watch}
 use Rattle.pb_propagate.specs.declared.clauses.Clauses.{Clauses}
-use Rattle.pb_propagate.specs.engine.Engine.Lists.{Shape, Weighted, has, IsWithin, Derives, begin, put}
-use Rattle.pb_propagate.specs.engine.Engine.Counts.{spent, AreFound}
+use Rattle.pb_propagate.specs.declared.clauses.visiting.Visit.{Visit}
+use Rattle.pb_propagate.specs.declared.clauses.visiting.Visit.TheVariants.{Forces}
+use Rattle.pb_propagate.specs.engine.Engine.Lists.{Shape, has, IsWithin, Derives, begin, put}
+use Rattle.pb_propagate.specs.engine.Engine.Progress.{visited_to, Progress, VisitsEach}
 use Rattle.pb_propagate.specs.engine.Clauses.Truths.{flip, true_at, false_at}
 use Rattle.pb_propagate.specs.engine.Clauses.Links.{watch_at, list_at, lists_of, AreLinked}
-use Rattle.pb_propagate.specs.engine.Clauses.Runs.{AreServed, AreWalked, IsRunning, IsUnit, Grows, Awaits, all_turned, passed_of}
+use Rattle.pb_propagate.specs.engine.Clauses.Runs.{AreServed, AreWalked, IsRunning, IsUnit, Grows, Awaits, HasVisited, KeepsWalked, all_turned, index_after}
 use Rattle.pb_propagate.specs.engine.Clauses.Shapes.{joined, AreJoined, clauses_of, literal_at}
 use Rattle.pb_propagate.proofs.lemmas.engine.Literals.{has-push_old, has-push_new}
 use Rattle.pb_propagate.proofs.lemmas.clauses.Literals.{Agree, true-listed, false-listed}
@@ -88,22 +90,21 @@ walked-end values c walked l index linked end s = record {
   ];
 }
 
--- a walk in progress; the first state is the one before it
-pub record IsWalking (shapes : List Shape) (lists : List (List Weighted)) (c0 c : Clauses) (values0 values : List (Option Bool)) (list0 list : List NumberedLiteral) (l index v0 v : ℕ) : Type 0 where
+-- a walk in progress
+pub record IsWalking (forms : List Shape) (c0 c : Clauses) (l index : ℕ) (start now : Progress) : Type 0 where
   pub literals : c.literals ≡ c0.literals
   pub sizes : length c.lists.items ≡ length c0.lists.items
-  pub running : IsRunning values c
-  pub failed : false_at values l ≡ true
+  pub running : IsRunning now.values c
+  pub failed : false_at now.values l ≡ true
   pub within : index ≤ length (list_at (lists_of c.lists.items) l)
-  pub served : (walked : List ℕ) → AreServed values0 c0.watches.items walked l 0 → AreServed values c.watches.items walked l index
-  pub derived : Derives (joined shapes (clauses_of c0)) list0 list
-  pub grows : Grows values0 values
-  pub covered : v + sum (passed_of c0) + spent lists list0 + 2 * (length (list_at (lists_of c.lists.items) l) - index) ≤ v0 + 2 * length (list_at (lists_of c0.lists.items) l) + sum (passed_of c) + spent lists list
-  pub found : AreFound (length list0) (length list) v0 v
-  pub rising : v0 ≤ v
+  pub served : (walked : List ℕ) → AreServed start.values c0.watches.items walked l 0 → AreServed now.values c.watches.items walked l index
+  pub derived : Derives (joined forms (clauses_of c0)) start.list now.list
+  pub grows : Grows start.values now.values
+  pub kept : KeepsWalked start.values c0 c
+  pub found : VisitsEach start now
 
-pub walking-start : (shapes : List Shape) (lists : List (List Weighted)) (c : Clauses) (values : List (Option Bool)) (list : List NumberedLiteral) (l v : ℕ) → IsRunning values c → false_at values l ≡ true → IsWalking shapes lists c c values values list list l 0 v v
-walking-start shapes lists c values list l v running failed = record {
+pub walking-start : (forms : List Shape) (c : Clauses) (l : ℕ) (start : Progress) → IsRunning start.values c → false_at start.values l ≡ true → IsWalking forms c c l 0 start start
+walking-start forms c l start running failed = record {
   literals = refl;
   sizes = refl;
   running = running;
@@ -111,62 +112,47 @@ walking-start shapes lists c values list l v running failed = record {
   within = omega arith;
   served = λ walked s. s;
   derived = begin;
-  grows = grows-refl values;
-  covered = omega arith;
+  grows = grows-refl start.values;
+  kept = λ base codes more old. old;
   found = λ few. omega arith;
-  rising = omega arith;
 }
+
+-- the visits that one call has counted
+pub record IsVisit (seen v : ℕ) : Type 0 where
+  pub counted : seen < 2 ^ 64 - 1 → v + 1 ≤ seen
+  pub rising : v ≤ seen
 
 -- what a visit that propagates nothing leaves
-pub walking-next : (shapes : List Shape) (lists : List (List Weighted)) (c0 c c' : Clauses) (values0 values : List (Option Bool)) (list0 list : List NumberedLiteral) (l index index' v0 v v' : ℕ) →
-    c'.literals ≡ c.literals → length c'.lists.items ≡ length c.lists.items → IsRunning values c' →
-    ((walked : List ℕ) → AreServed values c.watches.items walked l index → AreServed values c'.watches.items walked l index') →
-    index < length (list_at (lists_of c.lists.items) l) → index' ≤ length (list_at (lists_of c'.lists.items) l) →
-    length (list_at (lists_of c'.lists.items) l) + index + 1 ≡ length (list_at (lists_of c.lists.items) l) + index' →
-    v' + sum (passed_of c) ≤ v + 2 + sum (passed_of c') → (v' < 2 ^ 64 - 1 → v + 1 ≤ v') → v ≤ v' →
-    IsWalking shapes lists c0 c values0 values list0 list l index v0 v → IsWalking shapes lists c0 c' values0 values list0 list l index' v0 v'
-walking-next shapes lists c0 c c' values0 values list0 list l index index' v0 v v' literals sizes running served inside within count covered visited rising w = record {
+pub walking-next : {forms : List Shape} {c0 c : Clauses} {l index : ℕ} {start now : Progress} (c' : Clauses) (r : Visit) (seen : ℕ) → IsWalking forms c0 c l index start now → HasVisited now.values c c' l index r → c'.literals ≡ c.literals → index_after index r ≤ length (list_at (lists_of c'.lists.items) l) → IsVisit seen now.visits → IsWalking forms c0 c' l (index_after index r) start (visited_to seen now)
+walking-next {forms} {c0} {c} {l} {index} {start} {now} c' r seen w v literals within visit = record {
   literals = literals ∙ w.literals;
-  sizes = sizes ∙ w.sizes;
-  running = running;
+  sizes = v.lists ∙ w.sizes;
+  running = v.running;
   failed = w.failed;
   within = within;
-  served = λ walked s. served walked (w.served walked s);
+  served = λ walked s. v.served walked (w.served walked s);
   derived = w.derived;
   grows = w.grows;
-  covered = paid v v' v0 (sum (passed_of c0)) (sum (passed_of c)) (sum (passed_of c')) (spent lists list0) (spent lists list) (length (list_at (lists_of c0.lists.items) l)) (length (list_at (lists_of c.lists.items) l)) (length (list_at (lists_of c'.lists.items) l)) index index' w.covered covered inside within count;
-  found = λ few. let more = visited few in let old = w.found (omega (arith, few, more)) in omega (arith, old, more);
-  rising = omega (arith, w.rising, rising);
+  kept = λ base codes more old. v.kept base codes (grows-trans base start.values now.values more w.grows) (w.kept base codes more old);
+  found = λ few. let more = visit.counted few in let old = w.found (omega (arith, few, more)) in omega (arith, old, more);
 }
-  where
-    paid : (v v' v0 p0 p p' s0 s n0 n n' i i' : ℕ) → v + p0 + s0 + 2 * (n - i) ≤ v0 + 2 * n0 + p + s → v' + p ≤ v + 2 + p' → i < n → i' ≤ n' → n' + i + 1 ≡ n + i' → v' + p0 + s0 + 2 * (n' - i') ≤ v0 + 2 * n0 + p' + s
-    paid v v' v0 p0 p p' s0 s n0 n n' i i' a b inside within count = omega arith
 
 -- a visit, and the literal that it forces
-pub walking-forces : (shapes : List Shape) (lists : List (List Weighted)) (c0 c c' : Clauses) (values0 values values' : List (Option Bool)) (list0 list list' : List NumberedLiteral) (l index v0 v v' v'' x : ℕ) → AreJoined shapes (clauses_of c0) →
-    c'.literals ≡ c.literals → length c'.lists.items ≡ length c.lists.items → IsRunning values c' →
-    ((walked : List ℕ) → AreServed values c.watches.items walked l index → AreServed values c'.watches.items walked l index) →
-    index < length (list_at (lists_of c.lists.items) l) → length (list_at (lists_of c'.lists.items) l) ≡ length (list_at (lists_of c.lists.items) l) → IsUnit values (lists_of c'.literals.items) x → Awaits c' l index x →
-    v' + sum (passed_of c) ≤ v + 2 + sum (passed_of c') → (v' < 2 ^ 64 - 1 → v + 1 ≤ v') → v ≤ v' →
-    v'' + spent lists list ≤ v' + spent lists list' → v' ≤ v'' → length values' ≡ length values → list' ≡ list ++ (literal_at x ∷ []) → Agree values list → Agree values' list' →
-    IsWalking shapes lists c0 c values0 values list0 list l index v0 v → IsWalking shapes lists c0 c' values0 values' list0 list' l (index + 1) v0 v''
-walking-forces shapes lists c0 c c' values0 values values' list0 list list' l index v0 v v' v'' x j literals sizes running served inside same unit awaits covered visited rising paid risen widths listed agree agree' w =
-    let g = grows-listed values values' list list' widths agree agree' (λ k h. subst (λ xs. has xs k ≡ true) (sym listed) (has-push_old list (literal_at x) k h)) in
-    let met : true_at values' x ≡ true = true-listed values' list' x agree' ∙ ap (λ xs. has xs (literal_at x)) listed ∙ has-push_new list (literal_at x) in
-    let unit_0 : IsUnit values (clauses_of c0) x = subst (λ ls. IsUnit values (lists_of ls.items) x) (literals ∙ w.literals) unit in
+pub walking-forces : {forms : List Shape} {c0 c : Clauses} {l index : ℕ} {start now : Progress} (c' : Clauses) (seen x : ℕ) (after : Progress) → AreJoined forms (clauses_of c0) → IsWalking forms c0 c l index start now → HasVisited now.values c c' l index (Forces x) → c'.literals ≡ c.literals → index < length (list_at (lists_of c.lists.items) l) → IsVisit seen now.visits → seen ≤ after.visits → length after.values ≡ length now.values → after.list ≡ now.list ++ (literal_at x ∷ []) → Agree now.values now.list → Agree after.values after.list → IsWalking forms c0 c' l (index + 1) start after
+walking-forces {forms} {c0} {c} {l} {index} {start} {now} c' seen x after j w v literals inside visit risen widths listed agree agree' =
+    let g = grows-listed now.values after.values now.list after.list widths agree agree' (λ k h. subst (λ xs. has xs k ≡ true) (sym listed) (has-push_old now.list (literal_at x) k h)) in
+    let met : true_at after.values x ≡ true = true-listed after.values after.list x agree' ∙ ap (λ xs. has xs (literal_at x)) listed ∙ has-push_new now.list (literal_at x) in
+    let unit : IsUnit now.values (clauses_of c0) x = subst (λ ls. IsUnit now.values (lists_of ls.items) x) (literals ∙ w.literals) v.found.1 in
+    let same = v.found.0 in
     record {
       literals = literals ∙ w.literals;
-      sizes = sizes ∙ w.sizes;
-      running = running-grow c' values values' g running;
+      sizes = v.lists ∙ w.sizes;
+      running = running-grow c' now.values after.values g v.running;
       failed = g.failed l w.failed;
       within = omega (arith, inside, same);
-      served = λ walked s. served-next values' c' walked l index x running.stored.linked awaits met (served-grow values values' c'.watches.items walked l index g (served walked (w.served walked s)));
-      derived = subst (Derives (joined shapes (clauses_of c0)) list0) (sym listed) (put (literal_at x) w.derived (unit-puts shapes (clauses_of c0) values list x j agree unit_0));
-      grows = grows-trans values0 values values' w.grows g;
-      covered = sums v v' v'' v0 (sum (passed_of c0)) (sum (passed_of c)) (sum (passed_of c')) (spent lists list0) (spent lists list) (spent lists list') (length (list_at (lists_of c0.lists.items) l)) (length (list_at (lists_of c.lists.items) l)) (length (list_at (lists_of c'.lists.items) l)) index w.covered covered inside same paid;
-      found = λ few. let more = visited (omega (arith, few, risen)) in let old = w.found (omega (arith, few, more, risen)) in omega (arith, old, more, risen, ap length listed, length-append list (literal_at x ∷ []));
-      rising = omega (arith, w.rising, rising, risen);
+      served = λ walked s. served-next after.values c' walked l index x v.running.stored.linked v.found.2 met (served-grow now.values after.values c'.watches.items walked l index g (v.served walked (w.served walked s)));
+      derived = subst (Derives (joined forms (clauses_of c0)) start.list) (sym listed) (put (literal_at x) w.derived (unit-puts forms (clauses_of c0) now.values now.list x j agree unit));
+      grows = grows-trans start.values now.values after.values w.grows g;
+      kept = λ base codes more old. v.kept base codes (grows-trans base start.values now.values more w.grows) (w.kept base codes more old);
+      found = λ few. let more = visit.counted (omega (arith, few, risen)) in let old = w.found (omega (arith, few, more, risen)) in omega (arith, old, more, risen, ap length listed, length-append now.list (literal_at x ∷ []));
     }
-  where
-    sums : (v v' v'' v0 p0 p p' s0 s s' n0 n n' i : ℕ) → v + p0 + s0 + 2 * (n - i) ≤ v0 + 2 * n0 + p + s → v' + p ≤ v + 2 + p' → i < n → n' ≡ n → v'' + s ≤ v' + s' → v'' + p0 + s0 + 2 * (n' - (i + 1)) ≤ v0 + 2 * n0 + p' + s'
-    sums v v' v'' v0 p0 p p' s0 s s' n0 n n' i a b inside same c = omega arith

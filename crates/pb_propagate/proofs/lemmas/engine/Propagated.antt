@@ -6,39 +6,47 @@ use Rattle.std.proofs.lemmas.List.Filters.{length-filter_more}
 use Rattle.std.proofs.lemmas.List.{get_or_read}
 use Rattle.pb_normal.specs.declared.numbered.NumberedLiteral.{NumberedLiteral}
 use Rattle.pb_propagate.specs.declared.store.stored_form.StoredForm.{StoredForm}
+use Rattle.pb_propagate.specs.declared.store.Store.{Store}
 use Rattle.pb_propagate.specs.declared.rests.Rests.{Rests}
-use Rattle.pb_propagate.specs.engine.Engine.Lists.{Shape, Derives, begin, IsSettled, Weighted}
+use Rattle.pb_propagate.specs.engine.Engine.Lists.{Shape, Derives, Extends, begin, IsSettled}
 use Rattle.pb_propagate.specs.engine.Engine.Fields.{shapes_of, stored_shape}
-use Rattle.pb_propagate.specs.engine.Engine.Counts.{Aside, beside, IsCounted, IsTidy, IsPaid, IsAbsent, AreCovered, AreFound, AreSingle, AreFalling, spent}
+use Rattle.pb_propagate.specs.engine.Engine.Counts.{beside, IsTidy, IsAbsent, AreSingle, AreFalling, spent}
+use Rattle.pb_propagate.specs.engine.Engine.Progress.{Progress, Database, database, queued_to, taken_to, IsOpen, IsTidyAt, VisitsEach, Costs, Spends, Advances}
 use Rattle.pb_propagate.proofs.lemmas.engine.Derivations.{derivation-then}
 use Rattle.pb_propagate.proofs.lemmas.engine.Runs.{Tidy-next, calm-settled, absent-push, absent-new, absent-more, absent-cons}
 use Rattle.pb_propagate.proofs.lemmas.engine.Sources.{source}
 use Rattle.pb_propagate.proofs.lemmas.engine.VisitSteps.{open-now}
-use Rattle.pb_propagate.proofs.lemmas.engine.Spent.{spent-le, derivation-single}
+use Rattle.pb_propagate.proofs.lemmas.engine.Spent.{spent-le}
+use Rattle.pb_propagate.proofs.lemmas.engine.Advances.{costs-refl, costs-then, costs-as}
+use Rattle.pb_propagate.proofs.lemmas.root.Extends.{extends-then, spent-extends, reached-extends}
+use Rattle.pb_propagate.proofs.lemmas.clauses.Watching.{reached}
+use Rattle.pb_propagate.specs.declared.heads.Heads.{Heads}
 
 -- a propagation between two visits: `extra` is what the visits to clauses may have cost, and `whole` has the constraints of
 -- all slots
-pub record IsPropagating (g : Rests) (p : ℕ → Bool) (waiting : List ℕ) (forms whole : List Shape) (lists : List (List Weighted)) (n : ℕ) (list0 : List NumberedLiteral) (cands0 work0 : List ℕ) (next0 visits0 extra taken : ℕ) (opens cands : List ℕ) (list : List NumberedLiteral) (work trail : List ℕ) (next visits : ℕ) : Type 0 where
-  pub derived : Derives whole list0 list
-  pub counted : IsCounted forms opens list []
-  pub tidy : IsTidy (beside g (filter p (drop taken waiting))) forms opens cands list work trail next n
-  pub upper : AreCovered lists list0 list cands0 cands (visits0 + extra) visits (next - next0)
-  pub works : length work + spent lists list0 ≤ length (work0 ++ filter p (take taken waiting)) + spent lists list
-  pub started : next0 ≤ next
-  pub found : AreFound (length list0) (length list) visits0 visits
-  pub open_sizes : length opens ≡ n
-  pub candidate_sizes : length cands ≡ n
-  pub within : next ≤ length work
+pub record IsPropagating (d : Database) (whole : List Shape) (p : ℕ → Bool) (waiting : List ℕ) (n extra taken : ℕ) (start now : Progress) : Type 0 where
+  pub derived : Derives whole start.list now.list
+  pub counted : IsOpen d now
+  pub tidy : IsTidyAt d (filter p (drop taken waiting)) n now
+  pub costs : Costs d 0 (extra + (now.next - start.next)) start now
+  pub works : length now.work + spent d.lists start.list ≤ length (start.work ++ filter p (take taken waiting)) + spent d.lists now.list
+  pub started : start.next ≤ now.next
+  pub found : VisitsEach start now
+  pub values : length now.values ≡ length start.values
+  pub open_sizes : length now.opens ≡ n
+  pub candidate_sizes : length now.candidates ≡ n
+  pub within : now.next ≤ length now.work
 
-pub Propagating-start : (g : Rests) (p : ℕ → Bool) (waiting : List ℕ) (forms whole : List Shape) (lists : List (List Weighted)) (n : ℕ) (opens cands : List ℕ) (list : List NumberedLiteral) (work trail : List ℕ) (next visits extra : ℕ) → IsCounted forms opens list [] → IsTidy (beside g (filter p waiting)) forms opens cands list work trail next n → length opens ≡ n → length cands ≡ n → next ≤ length work → IsPropagating g p waiting forms whole lists n list cands work next visits extra 0 opens cands list work trail next visits
-Propagating-start g p waiting forms whole lists n opens cands list work trail next visits extra counted tidy o c within = record {
+pub propagating-start : (d : Database) (whole : List Shape) (p : ℕ → Bool) (waiting : List ℕ) (n extra : ℕ) (start : Progress) → IsOpen d start → IsTidyAt d (filter p waiting) n start → length start.opens ≡ n → length start.candidates ≡ n → start.next ≤ length start.work → IsPropagating d whole p waiting n extra 0 start start
+propagating-start d whole p waiting n extra start counted tidy o c within = record {
   derived = begin;
   counted = counted;
   tidy = tidy;
-  upper = omega arith;
-  works = omega (arith, length-append work []);
+  costs = costs-as 0 (extra + (start.next - start.next)) (omega arith) (costs-refl d start);
+  works = omega (arith, length-append start.work []);
   started = omega arith;
   found = λ few. omega arith;
+  values = refl;
   open_sizes = o;
   candidate_sizes = c;
   within = within;
@@ -57,24 +65,23 @@ choose-tidy g p rest forms opens cands list work work' trail trail' next busy x 
 })
 choose-tidy g p rest forms opens cands list work work' trail trail' next busy x false h inside within longer noted r = rw (longer, append-nil work, noted, append-nil trail) r
 
-pub Propagating-choose : (g : Rests) (p : ℕ → Bool) (waiting : List ℕ) (forms whole : List Shape) (lists : List (List Weighted)) (n : ℕ) (list0 : List NumberedLiteral) (cands0 work0 : List ℕ) (next0 visits0 extra taken : ℕ) (opens cands : List ℕ) (list : List NumberedLiteral) (work trail : List ℕ) (next visits x : ℕ) (work' trail' : List ℕ) → taken < length waiting → x ≡ get_or waiting taken x → x < length forms → work' ≡ work ++ filter p (x ∷ []) → trail' ≡ trail ++ filter p (x ∷ []) →
-    IsPropagating g p waiting forms whole lists n list0 cands0 work0 next0 visits0 extra taken opens cands list work trail next visits →
-    IsPropagating g p waiting forms whole lists n list0 cands0 work0 next0 visits0 extra (taken + 1) opens cands list work' trail' next visits
-Propagating-choose g p waiting forms whole lists n list0 cands0 work0 next0 visits0 extra taken opens cands list work trail next visits x work' trail' less is inside longer noted s =
+pub propagating-choose : {d : Database} {whole : List Shape} {p : ℕ → Bool} {waiting : List ℕ} {n extra taken : ℕ} {start now : Progress} (x : ℕ) (work trail : List ℕ) → IsPropagating d whole p waiting n extra taken start now → taken < length waiting → x ≡ get_or waiting taken x → x < length d.forms → work ≡ now.work ++ filter p (x ∷ []) → trail ≡ now.trail ++ filter p (x ∷ []) → IsPropagating d whole p waiting n extra (taken + 1) start (queued_to work trail now)
+propagating-choose {d} {whole} {p} {waiting} {n} {extra} {taken} {start} {now} x work trail s less is inside longer noted =
     let rest = drop (taken + 1) waiting in
     let ahead : drop taken waiting ≡ x ∷ rest = drop_more waiting taken x less ∙ ap (λ y. y ∷ rest) (sym is) in
-    let more : work' ≡ work ++ cond (p x) (x ∷ []) [] = longer in
-    let also : trail' ≡ trail ++ cond (p x) (x ∷ []) [] = noted in
+    let more : work ≡ now.work ++ cond (p x) (x ∷ []) [] = longer in
+    let also : trail ≡ now.trail ++ cond (p x) (x ∷ []) [] = noted in
     let counted : length (filter p (take (taken + 1) waiting)) ≡ length (filter p (take taken waiting)) + cond (p x) 1 0 = length-filter_more p waiting taken x less ∙ ap (λ y. length (filter p (take taken waiting)) + cond (p y) 1 0) (sym is) in
-    let grown : length work' ≡ length work + cond (p x) 1 0 = ap length more ∙ length-append work (cond (p x) (x ∷ []) []) ∙ ap (λ k. length work + k) (one-or-none (p x) x) in
+    let grown : length work ≡ length now.work + cond (p x) 1 0 = ap length more ∙ length-append now.work (cond (p x) (x ∷ []) []) ∙ ap (λ k. length now.work + k) (one-or-none (p x) x) in
     record {
       derived = s.derived;
       counted = s.counted;
-      tidy = choose-tidy g p rest forms opens cands list work work' trail trail' next n x (p x) refl inside s.within more also (rw ahead at s.tidy);
-      upper = s.upper;
-      works = omega (arith, s.works, grown, counted, length-append work0 (filter p (take taken waiting)), length-append work0 (filter p (take (taken + 1) waiting)));
+      tidy = choose-tidy d.rests p rest d.forms now.opens now.candidates now.list now.work work now.trail trail now.next n x (p x) refl inside s.within more also (rw ahead at s.tidy);
+      costs = record { extends = s.costs.extends; single = s.costs.single; paid = s.costs.paid };
+      works = omega (arith, s.works, grown, counted, length-append start.work (filter p (take taken waiting)), length-append start.work (filter p (take (taken + 1) waiting)));
       started = s.started;
       found = s.found;
+      values = s.values;
       open_sizes = s.open_sizes;
       candidate_sizes = s.candidate_sizes;
       within = omega (arith, s.within, grown);
@@ -84,94 +91,97 @@ Propagating-choose g p waiting forms whole lists n list0 cands0 work0 next0 visi
     one-or-none true y = refl
     one-or-none false y = refl
 
-pub Propagating-visit : (aside : Aside) (forms : List Shape) (n : ℕ) (opens cands : List ℕ) (list : List NumberedLiteral) (work trail : List ℕ) (next form : ℕ) → length forms ≡ n → next < length work → form ≡ get_or work next form → IsTidy aside forms opens cands list work trail next n → IsTidy aside forms opens cands list work trail (next + 1) form
-Propagating-visit aside forms n opens cands list work trail next form e inside is t =
-    let read = get_or_read work next form inside is 0 in
-    let busy : IsTidy aside forms opens cands list work trail next (length forms) = rw e t in
-    rw read (Tidy-next aside forms opens cands list work trail next busy)
-
-upper_on : (v w v0 m m' m0 c0 c1 c2 s0 s1 s2 : ℕ) → v + c0 + s0 ≤ v0 + (m - m0) + c1 + s1 → w + c1 + s1 ≤ v + 1 + c2 + s2 → m' ≡ m + 1 → m0 ≤ m → w + c0 + s0 ≤ v0 + (m' - m0) + c2 + s2
-upper_on v w v0 m m' m0 c0 c1 c2 s0 s1 s2 h k q r = omega arith
+pub propagating-visit : (d : Database) (aside : List ℕ) {n : ℕ} (now : Progress) (form : ℕ) → length d.forms ≡ n → now.next < length now.work → form ≡ get_or now.work now.next form → IsTidyAt d aside n now → IsTidyAt d aside form (taken_to (now.next + 1) now)
+propagating-visit d aside {n} now form e inside is t =
+    let read = get_or_read now.work now.next form inside is 0 in
+    let busy : IsTidyAt d aside (length d.forms) now = rw e t in
+    rw read (Tidy-next (beside d.rests aside) d.forms now.opens now.candidates now.list now.work now.trail now.next busy)
 
 -- after a visit to a form of the work list
-pub Propagating-next : (g : Rests) (p : ℕ → Bool) (waiting : List ℕ) (forms whole : List Shape) (lists : List (List Weighted)) (n : ℕ) (list0 : List NumberedLiteral) (cands0 work0 : List ℕ) (next0 visits0 extra taken : ℕ) (opens cands : List ℕ) (list : List NumberedLiteral) (work trail : List ℕ) (next visits : ℕ) (opens' cands' : List ℕ) (list' : List NumberedLiteral) (work' trail' : List ℕ) (next' visits' extra' : ℕ) → extra' ≡ extra →
-    next' ≡ next + 1 → Derives whole list list' → IsCounted forms opens' list' [] → IsTidy (beside g (filter p (drop taken waiting))) forms opens' cands' list' work' trail' next' n →
-    IsPaid lists list list' cands cands' work work' visits visits' 1 → AreFound (length list) (length list') visits visits' →
-    length opens' ≡ length opens → length cands' ≡ length cands → next' ≤ length work' →
-    IsPropagating g p waiting forms whole lists n list0 cands0 work0 next0 visits0 extra taken opens cands list work trail next visits →
-    IsPropagating g p waiting forms whole lists n list0 cands0 work0 next0 visits0 extra' taken opens' cands' list' work' trail' next' visits'
-Propagating-next g p waiting forms whole lists n list0 cands0 work0 next0 visits0 extra taken opens cands list work trail next visits opens' cands' list' work' trail' next' visits' extra' same e derived counted tidy paid found o c within s = record {
-  derived = derivation-then whole list0 list list' s.derived derived;
-  counted = counted;
-  tidy = tidy;
-  upper =
-      let upper = upper_on visits visits' (visits0 + extra) next next' next0 (sum cands0) (sum cands) (sum cands') (spent lists list0) (spent lists list) (spent lists list') s.upper paid.upper e s.started in
-      omega (arith, upper, same);
-  works = omega (arith, s.works, paid.work);
-  started = omega (arith, s.started, e);
-  found = λ few.
-      let here : visits < 2 ^ 64 - 1 = omega (arith, paid.rising, few) in
-      let one = s.found here in
-      let two = found few in
-      omega (arith, one, two);
-  open_sizes = o ∙ s.open_sizes;
-  candidate_sizes = c ∙ s.candidate_sizes;
-  within = within;
-}
+pub propagating-next : {d : Database} {whole : List Shape} {p : ℕ → Bool} {waiting : List ℕ} {n extra taken : ℕ} {start now after : Progress} (extra' : ℕ) → IsPropagating d whole p waiting n extra taken start now → Derives whole now.list after.list → IsOpen d after → IsTidyAt d (filter p (drop taken waiting)) n after → Advances d 0 1 (taken_to (now.next + 1) now) after → VisitsEach now after → now.next < length now.work → extra' ≡ extra → IsPropagating d whole p waiting n extra' taken start after
+propagating-next {d} {whole} {p} {waiting} {n} {extra} {taken} {start} {now} {after} extra' s derived counted tidy a found inside same =
+    let step : Costs d 0 1 now after = record { extends = a.costs.extends; single = a.costs.single; paid = a.costs.paid } in
+    record {
+      derived = derivation-then whole start.list now.list after.list s.derived derived;
+      counted = counted;
+      tidy = tidy;
+      costs = costs-as 0 (extra' + (after.next - start.next)) (omega (arith, a.next, s.started, same)) (costs-then s.costs step);
+      works = omega (arith, s.works, a.work);
+      started = omega (arith, s.started, a.next);
+      found = λ few.
+          let one = s.found (omega (arith, a.rising, few)) in
+          let two = found few in
+          omega (arith, one, two);
+      values = a.values ∙ s.values;
+      open_sizes = a.opens ∙ s.open_sizes;
+      candidate_sizes = a.candidates ∙ s.candidate_sizes;
+      within = omega (arith, inside, a.next, a.longer);
+    }
 
 -- after the walk over a literal's watches
-pub Propagating-walk : (g : Rests) (p : ℕ → Bool) (waiting : List ℕ) (forms whole : List Shape) (lists : List (List Weighted)) (n : ℕ) (list0 : List NumberedLiteral) (cands0 work0 : List ℕ) (next0 visits0 extra extra' taken : ℕ) (opens cands : List ℕ) (list : List NumberedLiteral) (work trail : List ℕ) (next visits : ℕ) (opens' cands' : List ℕ) (list' : List NumberedLiteral) (work' trail' : List ℕ) (next' visits' : ℕ) →
-    next' ≡ next → cands' ≡ cands → Derives whole list list' → IsCounted forms opens' list' [] →
-    IsTidy (beside g (filter p (drop taken waiting))) forms opens' cands' list' work' trail' next' n →
-    visits' + spent lists list + extra ≤ visits + extra' + spent lists list' → length work' + spent lists list ≤ length work + spent lists list' → visits ≤ visits' → AreFound (length list) (length list') visits visits' →
-    length opens' ≡ length opens → length work ≤ length work' →
-    IsPropagating g p waiting forms whole lists n list0 cands0 work0 next0 visits0 extra taken opens cands list work trail next visits →
-    IsPropagating g p waiting forms whole lists n list0 cands0 work0 next0 visits0 extra' taken opens' cands' list' work' trail' next' visits'
-Propagating-walk g p waiting forms whole lists n list0 cands0 work0 next0 visits0 extra extra' taken opens cands list work trail next visits opens' cands' list' work' trail' next' visits' e same derived counted tidy covered works rising found o longer s = record {
-  derived = derivation-then whole list0 list list' s.derived derived;
-  counted = counted;
-  tidy = tidy;
-  upper = sums visits visits' visits0 extra extra' next next' next0 (sum cands0) (sum cands) (sum cands') (spent lists list0) (spent lists list) (spent lists list') s.upper covered (ap sum same) e;
-  works = omega (arith, s.works, works);
-  started = omega (arith, s.started, e);
-  found = λ few.
-      let one = s.found (omega (arith, rising, few)) in
-      let two = found few in
-      omega (arith, one, two);
-  open_sizes = o ∙ s.open_sizes;
-  candidate_sizes = ap length same ∙ s.candidate_sizes;
-  within = omega (arith, s.within, longer, e);
-}
+pub propagating-walk : {d : Database} {whole : List Shape} {p : ℕ → Bool} {waiting : List ℕ} {n extra taken : ℕ} {start now after : Progress} {m k : ℕ} (extra' : ℕ) → IsPropagating d whole p waiting n extra taken start now → Derives whole now.list after.list → IsOpen d after → IsTidyAt d (filter p (drop taken waiting)) n after → Advances d m k now after → VisitsEach now after → after.candidates ≡ now.candidates → after.visits + spent d.lists now.list + extra ≤ now.visits + extra' + spent d.lists after.list → IsPropagating d whole p waiting n extra' taken start after
+propagating-walk {d} {whole} {p} {waiting} {n} {extra} {taken} {start} {now} {after} extra' s derived counted tidy a found same paid =
+    record {
+      derived = derivation-then whole start.list now.list after.list s.derived derived;
+      counted = counted;
+      tidy = tidy;
+      costs = record {
+        extends = extends-then start.list now.list after.list s.costs.extends a.costs.extends;
+        single = λ one. a.costs.single (s.costs.single one);
+        paid = sums now.visits after.visits start.visits extra extra' now.next after.next start.next (sum start.candidates) (sum now.candidates) (sum after.candidates) (spent d.lists start.list) (spent d.lists now.list) (spent d.lists after.list) s.costs.paid paid (ap sum same) a.next;
+      };
+      works = omega (arith, s.works, a.work);
+      started = omega (arith, s.started, a.next);
+      found = λ few.
+          let one = s.found (omega (arith, a.rising, few)) in
+          let two = found few in
+          omega (arith, one, two);
+      values = a.values ∙ s.values;
+      open_sizes = a.opens ∙ s.open_sizes;
+      candidate_sizes = a.candidates ∙ s.candidate_sizes;
+      within = omega (arith, s.within, a.next, a.longer);
+    }
   where
-    sums : (v w v0 x x' m m' m0 c0 c1 c2 s0 s1 s2 : ℕ) → v + c0 + s0 ≤ (v0 + x) + (m - m0) + c1 + s1 → w + s1 + x ≤ v + x' + s2 → c2 ≡ c1 → m' ≡ m → w + c0 + s0 ≤ (v0 + x') + (m' - m0) + c2 + s2
+    sums : (v w v0 x x' m m' m0 c0 c1 c2 s0 s1 s2 : ℕ) → v + 0 + c0 + s0 ≤ v0 + (x + (m - m0)) + c1 + s1 → w + s1 + x ≤ v + x' + s2 → c2 ≡ c1 → m' ≡ m → w + 0 + c0 + s0 ≤ v0 + (x' + (m' - m0)) + c2 + s2
     sums v w v0 x x' m m' m0 c0 c1 c2 s0 s1 s2 h k q r = omega arith
 
 fewer : (p : ℕ → Bool) (xs : List ℕ) (k : ℕ) → length (filter p (take k xs)) ≤ length (filter p xs)
 fewer p xs k = omega (arith, length-append (filter p (take k xs)) (filter p (drop k xs)), ap length (sym (filter-append p (take k xs) (drop k xs))), ap (λ ys. length (filter p ys)) (take-append-drop k xs))
 
 -- the work list has a bound
-pub Propagating-bound : (g : Rests) (p : ℕ → Bool) (waiting : List ℕ) (forms whole : List Shape) (lists : List (List Weighted)) (n : ℕ) (list0 : List NumberedLiteral) (cands0 work0 : List ℕ) (next0 visits0 extra taken : ℕ) (opens cands : List ℕ) (list : List NumberedLiteral) (work trail : List ℕ) (next visits : ℕ) → AreSingle list0 → IsPropagating g p waiting forms whole lists n list0 cands0 work0 next0 visits0 extra taken opens cands list work trail next visits → length work ≤ length work0 + length (filter p waiting) + sum_by length lists
-Propagating-bound g p waiting forms whole lists n list0 cands0 work0 next0 visits0 extra taken opens cands list work trail next visits single s =
-    let bound = spent-le lists list (derivation-single whole list0 list single s.derived) in
-    omega (arith, bound, s.works, length-append work0 (filter p (take taken waiting)), fewer p waiting taken)
+pub propagating-bound : {d : Database} {whole : List Shape} {p : ℕ → Bool} {waiting : List ℕ} {n extra taken : ℕ} {start now : Progress} → AreSingle start.list → IsPropagating d whole p waiting n extra taken start now → length now.work ≤ length start.work + length (filter p waiting) + sum_by length d.lists
+propagating-bound {d} {whole} {p} {waiting} {n} {extra} {taken} {start} {now} single s =
+    let bound = spent-le d.lists now.list (s.costs.single single) in
+    omega (arith, bound, s.works, length-append start.work (filter p (take taken waiting)), fewer p waiting taken)
 
-pub Propagating-settled : (g : Rests) (p : ℕ → Bool) (waiting : List ℕ) (keep : List StoredForm) (whole : List Shape) (lists : List (List Weighted)) (list0 : List NumberedLiteral) (cands0 work0 : List ℕ) (next0 visits0 extra taken : ℕ) (opens cands : List ℕ) (list : List NumberedLiteral) (work trail : List ℕ) (next visits : ℕ) → length work ≤ next → length waiting ≤ taken → IsPropagating g p waiting (shapes_of keep) whole lists (length keep) list0 cands0 work0 next0 visits0 extra taken opens cands list work trail next visits → (f : Shape) → Contains (shapes_of keep) f → IsSettled f list
-Propagating-settled g p waiting keep whole lists list0 cands0 work0 next0 visits0 extra taken opens cands list work trail next visits all none_waits state f (s, inside, is) =
+pub propagating-settled : (store : Store) (rests : Rests) {whole : List Shape} {p : ℕ → Bool} {waiting : List ℕ} {extra taken : ℕ} {start now : Progress} → IsPropagating (database store rests) whole p waiting (length store.stored.items) extra taken start now → length now.work ≤ now.next → length waiting ≤ taken → (f : Shape) → Contains (shapes_of store.stored.items) f → IsSettled f now.list
+propagating-settled store rests {whole} {p} {waiting} {extra} {taken} {start} {now} state all none_waits f (s, inside, is) =
+    let keep = store.stored.items in
     let from = source stored_shape keep s f inside is in
     let busy : s ≡ length keep → ⊥ = λ e. absurd (omega (arith, e, from.inside)) in
     let empty : filter p (drop taken waiting) ≡ [] = ap (filter p) (drop_all taken waiting none_waits) in
     let off : IsAbsent (filter p (drop taken waiting)) 0 s = rw empty (λ i after less at. absurd (omega (arith, less))) in
-    let gone : IsAbsent work next s = λ i after less at. absurd (omega (arith, after, less, all)) in
+    let gone : IsAbsent now.work now.next s = λ i after less at. absurd (omega (arith, after, less, all)) in
     let calm = rw is at (state.tidy.calm s f inside busy off gone) in
     let passed = rw is at (state.tidy.passed s f inside) in
-    let now = rw is at (open-now (shapes_of keep) opens list s f inside state.counted) in
+    let sum_now = rw is at (open-now (shapes_of keep) now.opens now.list s f inside state.counted) in
     let falling : AreFalling f.terms = rw (← from.value) from.element.falling in
-    calm-settled f (get_or opens s 0) (get_or cands s 0) list falling now calm passed
+    calm-settled f (get_or now.opens s 0) (get_or now.candidates s 0) now.list falling sum_now calm passed
 
 -- the number of visits, also if the propagation was abandoned
-pub Propagating-upper : (g : Rests) (p : ℕ → Bool) (waiting : List ℕ) (forms whole : List Shape) (lists : List (List Weighted)) (n : ℕ) (list0 : List NumberedLiteral) (cands0 work0 : List ℕ) (next0 visits0 extra taken : ℕ) (opens cands : List ℕ) (list : List NumberedLiteral) (work trail : List ℕ) (next visits : ℕ) (list' : List NumberedLiteral) (cands' : List ℕ) (visits' extra' visits_made : ℕ) → spent lists list ≤ spent lists list' → next0 ≤ length work0 → IsPropagating g p waiting forms whole lists n list0 cands0 work0 next0 visits0 extra taken opens cands list work trail next visits → next + visits_made ≤ length work → visits' + sum cands + spent lists list + extra ≤ visits + visits_made + sum cands' + spent lists list' + extra' → visits' + sum cands0 ≤ visits0 + ((length work0 + length (filter p waiting)) - next0) + 2 * spent lists list' + sum cands' + extra'
-Propagating-upper g p waiting forms whole lists n list0 cands0 work0 next0 visits0 extra taken opens cands list work trail next visits list' cands' visits' extra' visits_made more start s room covered =
-    sums visits visits' visits0 next next0 (length work0) (length (filter p waiting)) (length (filter p (take taken waiting))) (length work) (sum cands0) (sum cands) (sum cands') (spent lists list0) (spent lists list) (spent lists list') visits_made extra extra' s.upper covered (omega (arith, s.works, length-append work0 (filter p (take taken waiting)))) (fewer p waiting taken) more start s.started room
+pub propagating-upper : {d : Database} {whole : List Shape} {p : ℕ → Bool} {waiting : List ℕ} {n extra taken : ℕ} {start now : Progress} (after : Progress) (extra' made : ℕ) → IsPropagating d whole p waiting n extra taken start now → Extends now.list after.list → start.next ≤ length start.work → now.next + made ≤ length now.work → after.visits + sum now.candidates + spent d.lists now.list + extra ≤ now.visits + made + sum after.candidates + spent d.lists after.list + extra' → after.visits + sum start.candidates ≤ start.visits + ((length start.work + length (filter p waiting)) - start.next) + 2 * spent d.lists after.list + sum after.candidates + extra'
+propagating-upper {d} {whole} {p} {waiting} {n} {extra} {taken} {start} {now} after extra' made s more begun room covered =
+    sums now.visits after.visits start.visits now.next start.next (length start.work) (length (filter p waiting)) (length (filter p (take taken waiting))) (length now.work) (sum start.candidates) (sum now.candidates) (sum after.candidates) (spent d.lists start.list) (spent d.lists now.list) (spent d.lists after.list) made extra extra' s.costs.paid covered (omega (arith, s.works, length-append start.work (filter p (take taken waiting)))) (fewer p waiting taken) (spent-extends d.lists now.list after.list more) begun s.started room
   where
-    sums : (v v' v0 m m0 w0 f k w c0 c c' s0 s s' l x x' : ℕ) → v + c0 + s0 ≤ (v0 + x) + (m - m0) + c + s → v' + c + s + x ≤ v + l + c' + s' + x' → w + s0 ≤ w0 + k + s → k ≤ f → s ≤ s' → m0 ≤ w0 → m0 ≤ m → m + l ≤ w → v' + c0 ≤ v0 + ((w0 + f) - m0) + 2 * s' + c' + x'
+    sums : (v v' v0 m m0 w0 f k w c0 c c' s0 s s' l x x' : ℕ) → v + 0 + c0 + s0 ≤ v0 + (x + (m - m0)) + c + s → v' + c + s + x ≤ v + l + c' + s' + x' → w + s0 ≤ w0 + k + s → k ≤ f → s ≤ s' → m0 ≤ w0 → m0 ≤ m → m + l ≤ w → v' + c0 ≤ v0 + ((w0 + f) - m0) + 2 * s' + c' + x'
     sums v v' v0 m m0 w0 f k w c0 c c' s0 s s' l x x' a b d e h i j r = omega arith
+
+pub propagating-spends : {d : Database} {whole : List Shape} {p : ℕ → Bool} {waiting : List ℕ} {n extra taken : ℕ} {start now : Progress} (clauses : List (List ℕ)) (h : Heads) (after : Progress) (made : ℕ) → AreSingle start.list → start.next ≤ length start.work → IsPropagating d whole p waiting n extra taken start now → Extends now.list after.list → (AreSingle now.list → AreSingle after.list) → sum after.candidates ≤ sum_by (λ f. length f.terms) d.forms → now.next + made ≤ length now.work → after.visits + sum now.candidates + spent d.lists now.list + extra ≤ now.visits + made + sum after.candidates + spent d.lists after.list + (2 * reached clauses h now.list + sum_by length clauses) → Spends d clauses (filter p waiting) start after
+propagating-spends {d} {whole} {p} {waiting} {n} {extra} {taken} {start} {now} clauses h after made single begun s more one bounded room covered =
+    let upper = propagating-upper after (2 * reached clauses h now.list + sum_by length clauses) made s more begun room covered in
+    record {
+      extends = extends-then start.list now.list after.list s.costs.extends more;
+      single = one (s.costs.single single);
+      bounded = bounded;
+      upper = omega (arith, upper, reached-extends clauses now.list after.list h more);
+    }

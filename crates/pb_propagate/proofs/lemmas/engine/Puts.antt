@@ -1,62 +1,164 @@
-use Rattle.std.specs.Prelude.{All, map, Bool, true, false, if◌then◌else◌}
-use Rattle.std.proofs.Common.{◌≡◌, ℕ, ◌+◌, ◌-◌, ◌*◌, ◌^◌, ◌<◌, ◌≤◌, [], List, sym, ◌∙◌, ap, subst, arith, length, get_or, set, drop, min, length-set, Vec, Global}
+use Rattle.std.specs.Prelude.{All, map, sum, Option, Bool, true, false, if◌then◌else◌}
+use Rattle.std.proofs.Common.{◌≡◌, ℕ, ◌+◌, ◌-◌, ◌*◌, ◌^◌, ◌<◌, ◌≤◌, ◌++◌, ◌∷◌, [], List, refl, sym, ◌∙◌, ap, subst, arith, length, get_or, set, drop, min, length-set, Vec, Global}
 use Rattle.std.proofs.lemmas.List.{drop_more, get_or-map, length-map}
 use Rattle.std.proofs.lemmas.List.Elements.{Contains-get_or}
+use Rattle.std.proofs.lemmas.List.Sums.{sum_by_push}
 use Rattle.std.proofs.Math.ListN.{get_or-map as get_or-map-default}
 use Rattle.pb_normal.specs.declared.numbered.NumberedLiteral.{NumberedLiteral}
 use Rattle.pb_normal.specs.meaning.Rules.{negation}
+use Rattle.pb_propagate.specs.declared.store.Store.{Store}
+use Rattle.pb_propagate.specs.declared.store.Visited.{Visited}
 use Rattle.pb_propagate.specs.declared.store.Occurrence.{Occurrence}
 use Rattle.pb_propagate.specs.declared.rests.Rests.{Rests}
-use Rattle.pb_propagate.specs.engine.Engine.Lists.{Shape, Weighted, Conflicts, broken}
-use Rattle.pb_propagate.specs.engine.Engine.Counts.{place, beside, rest_open, IsCounted, IsTidy, IsAbsent, IsCalm, Grown}
-use Rattle.pb_propagate.specs.engine.Engine.Fields.{entries_of, lists_of}
-use Rattle.pb_propagate.specs.engine.Engine.Links.{weighted, coefficient_at}
-use Rattle.pb_propagate.proofs.lemmas.engine.Runs.{Counted-fits, Counted-lower, Tidy-lower, grown-before, grown-length}
+use Rattle.pb_propagate.specs.engine.Engine.Lists.{Shape, Weighted, has, Conflicts, broken}
+use Rattle.pb_propagate.specs.engine.Engine.Counts.{place, beside, spent, more, IsCounted, IsAbsent}
+use Rattle.pb_propagate.specs.engine.Engine.Fields.{shapes_of, entries_of, lists_of, spots_of, entry_at, IsSound}
+use Rattle.pb_propagate.specs.engine.Engine.Links.{weighted, coefficient_at, terms_at}
+use Rattle.pb_propagate.specs.engine.Engine.Progress.{assigned_to, visited_to, Progress, Database, database, entries_against, StaysTidy, Lowers, Costs, Advances}
+use Rattle.pb_propagate.proofs.lemmas.root.Extends.{extends-one}
+use Rattle.pb_propagate.proofs.lemmas.store.Weights.{index-within}
+use Rattle.pb_propagate.proofs.lemmas.engine.Runs.{Counted-fits, Counted-lower, Tidy-lower, Tidy-put, grown-before, grown-length}
 
--- the first j entries were subtracted from the open sums
-pub record IsPutting (rests : Rests) (forms : List Shape) (es : List Weighted) (opens0 cands : List ℕ) (list : List NumberedLiteral) (work0 trail0 : List ℕ) (next visits0 : ℕ) (opens work trail : List ℕ) (visits j : ℕ) : Type 0 where
-  pub counted : IsCounted forms opens list (drop j es)
-  pub tidy : (aside : List ℕ) (busy : ℕ) → IsTidy (beside rests aside) forms opens0 cands list work0 trail0 next busy → IsTidy (beside rests aside) forms opens cands list work trail next busy
-  pub longer : (s : ℕ) → IsAbsent work 0 s → IsAbsent work0 0 s
-  pub sizes : length opens ≡ length forms
-  pub grown : length work ≤ length work0 + j
-  pub kept : length work0 ≤ length work
-  pub upper : visits ≤ visits0 + j
-  pub rising : visits0 ≤ visits
+-- the literal is on the list, and nothing else has changed
+pub record Assigns (l : NumberedLiteral) (old new : Progress) : Type 0 where
+  pub list : new.list ≡ old.list ++ (l ∷ [])
+  pub absent : has old.list l ≡ false
+  pub values : length new.values ≡ length old.values
+  pub opens : new.opens ≡ old.opens
+  pub candidates : new.candidates ≡ old.candidates
+  pub work : new.work ≡ old.work
+  pub trail : new.trail ≡ old.trail
+  pub next : new.next ≡ old.next
+  pub visits : new.visits ≡ old.visits
 
-pub Putting-start : (rests : Rests) (forms : List Shape) (es : List Weighted) (opens cands : List ℕ) (list : List NumberedLiteral) (work trail : List ℕ) (next visits : ℕ) → IsCounted forms opens list es → length opens ≡ length forms → IsPutting rests forms es opens cands list work trail next visits opens work trail visits 0
-Putting-start rests forms es opens cands list work trail next visits c s = record {
-  counted = c;
-  tidy = λ aside busy t. t;
-  longer = λ s gone. gone;
-  sizes = s;
-  grown = omega arith;
-  kept = omega arith;
-  upper = omega arith;
-  rising = omega arith;
+pub assigns : (values : List (Option Bool)) (list : List NumberedLiteral) (l : NumberedLiteral) (old : Progress) → list ≡ old.list ++ (l ∷ []) → has old.list l ≡ false → length values ≡ length old.values → Assigns l old (assigned_to values list old)
+assigns values list l old listed absent sizes = record {
+  list = listed;
+  absent = absent;
+  values = sizes;
+  opens = refl;
+  candidates = refl;
+  work = refl;
+  trail = refl;
+  next = refl;
+  visits = refl;
 }
 
-pub Putting-fits : (rests : Rests) (forms : List Shape) (es : List Weighted) (opens0 cands : List ℕ) (list : List NumberedLiteral) (work0 trail0 : List ℕ) (next visits0 : ℕ) (opens work trail : List ℕ) (visits j : ℕ) (d : Weighted) (f : Shape) → j < length es → (get_or es j d).form < length forms → IsPutting rests forms es opens0 cands list work0 trail0 next visits0 opens work trail visits j → (get_or es j d).coefficient ≤ get_or opens (get_or es j d).form 0
-Putting-fits rests forms es opens0 cands list work0 trail0 next visits0 opens work trail visits j d f inside named p =
-    Counted-fits forms opens list (get_or es j d) (drop (j + 1) es) f named (subst (IsCounted forms opens list) (drop_more es j d inside) p.counted)
+-- the first j of some entries were subtracted from the open sums
+pub record IsPutting (d : Database) (es : List Weighted) (start now : Progress) (j : ℕ) : Type 0 where
+  pub within : j ≤ length es
+  pub counted : IsCounted d.forms now.opens now.list (drop j es)
+  pub tidy : StaysTidy d start now
+  pub absent : (s : ℕ) → IsAbsent now.work 0 s → IsAbsent start.work 0 s
+  pub sizes : length now.opens ≡ length d.forms
+  pub grown : length now.work ≤ length start.work + j
+  pub longer : length start.work ≤ length now.work
+  pub upper : now.visits ≤ start.visits + j
+  pub rising : start.visits ≤ now.visits
+  pub candidates : now.candidates ≡ start.candidates
+  pub values : now.values ≡ start.values
+  pub list : now.list ≡ start.list
+  pub next : now.next ≡ start.next
 
-pub Putting-next : (rests : Rests) (forms : List Shape) (es : List Weighted) (opens0 cands : List ℕ) (list : List NumberedLiteral) (work0 trail0 : List ℕ) (next visits0 : ℕ) (opens work trail : List ℕ) (visits j : ℕ) (opens' work' trail' : List ℕ) (visits' : ℕ) (d : Weighted) → j < length es → (get_or es j d).form < length forms → next ≤ length work0 → opens' ≡ set opens (get_or es j d).form (get_or opens (get_or es j d).form 0 - (get_or es j d).coefficient) → Grown ((f : Shape) (c : ℕ) → IsCalm (get_or forms (get_or es j d).form f) (get_or opens (get_or es j d).form 0 - (get_or es j d).coefficient) c) (get_or es j d).form work work' → Grown ((f : Shape) → get_or opens (get_or es j d).form 0 ≡ rest_open rests (get_or es j d).form (get_or forms (get_or es j d).form f) → ⊥) (get_or es j d).form trail trail' → visits' ≡ min (visits + 1) (2 ^ 64 - 1) → visits ≤ visits' → IsPutting rests forms es opens0 cands list work0 trail0 next visits0 opens work trail visits j → IsPutting rests forms es opens0 cands list work0 trail0 next visits0 opens' work' trail' visits' (j + 1)
-Putting-next rests forms es opens0 cands list work0 trail0 next visits0 opens work trail visits j opens' work' trail' visits' d inside named within is queued noted seen small p =
-    let e = get_or es j d in
-    let room : e.form < length opens = omega (arith, named, p.sizes) in
+pub putting-start : (d : Database) (es : List Weighted) (start : Progress) → IsCounted d.forms start.opens start.list es → length start.opens ≡ length d.forms → IsPutting d es start start 0
+putting-start d es start counted sizes = record {
+  within = omega arith;
+  counted = counted;
+  tidy = λ aside busy t. t;
+  absent = λ s gone. gone;
+  sizes = sizes;
+  grown = omega arith;
+  longer = omega arith;
+  upper = omega arith;
+  rising = omega arith;
+  candidates = refl;
+  values = refl;
+  list = refl;
+  next = refl;
+}
+
+-- the entry that was visited is the one at a position of a literal's list
+pub record IsRead (d : Database) (es : List Weighted) (e : Visited) (j : ℕ) : Type 0 where
+  pub inside : j < length es
+  pub is : weighted d.forms (entry_at e) ≡ get_or es j (weighted d.forms (entry_at e))
+  pub form : e.form < length d.forms
+  pub index : e.index < length (terms_at d.forms e.form)
+
+pub putting-fits : {d : Database} {es : List Weighted} {start now : Progress} {j : ℕ} (e : Visited) → IsRead d es e j → IsPutting d es start now j → coefficient_at d.forms e.form e.index ≤ get_or now.opens e.form 0
+putting-fits {d} {es} {start} {now} {j} e read p =
+    let entry = weighted d.forms (entry_at e) in
+    let ahead = drop_more es j entry read.inside ∙ ap (λ x. x ∷ drop (j + 1) es) (sym read.is) in
+    Counted-fits d.forms now.opens now.list entry (drop (j + 1) es) (record { terms = []; degree = 0 }) read.form (subst (IsCounted d.forms now.opens now.list) ahead p.counted)
+
+-- one more entry is subtracted
+pub putting-next : {d : Database} {es : List Weighted} {start now : Progress} {j : ℕ} (seen : ℕ) (e : Visited) (after : Progress) → IsRead d es e j → start.next ≤ length start.work → seen ≡ min (now.visits + 1) (2 ^ 64 - 1) → now.visits ≤ seen → IsPutting d es start now j → Lowers d e (visited_to seen now) after → after.values ≡ now.values → after.visits ≡ seen → IsPutting d es start after (j + 1)
+putting-next {d} {es} {start} {now} {j} seen e after read within count rising p l values visits =
+    let entry = weighted d.forms (entry_at e) in
+    let ahead = drop_more es j entry read.inside ∙ ap (λ x. x ∷ drop (j + 1) es) (sym read.is) in
+    let inside : e.form < length now.opens = omega (arith, read.form, p.sizes) in
+    let queued = grown-length e.form now.work after.work l.work in
     record {
-      counted = Counted-lower forms opens opens' list e (drop (j + 1) es) is room (subst (IsCounted forms opens list) (drop_more es j d inside) p.counted);
-      tidy = λ aside busy t. Tidy-lower (beside rests aside) forms opens opens' cands list work work' trail trail' next busy e.form (get_or opens e.form 0 - e.coefficient) is named room (omega (arith, p.kept, within)) queued noted (p.tidy aside busy t);
-      longer = λ s gone. p.longer s (grown-before e.form work work' s queued gone);
-      sizes = ap length is ∙ length-set opens e.form (get_or opens e.form 0 - e.coefficient) ∙ p.sizes;
-      grown = omega (arith, (grown-length e.form work work' queued).1, p.grown);
-      kept = omega (arith, (grown-length e.form work work' queued).0, p.kept);
-      upper = least_upper visits visits' visits0 j seen p.upper;
-      rising = omega (arith, small, p.rising);
+      within = omega (arith, read.inside);
+      counted = rw l.list (Counted-lower d.forms now.opens after.opens now.list entry (drop (j + 1) es) l.opens inside (subst (IsCounted d.forms now.opens now.list) ahead p.counted));
+      tidy = λ aside busy t. rw (l.candidates, l.list, l.next) (Tidy-lower (beside d.rests aside) d.forms now.opens after.opens now.candidates now.list now.work after.work now.trail after.trail now.next busy e.form (get_or now.opens e.form 0 - coefficient_at d.forms e.form e.index) l.opens read.form inside (omega (arith, p.longer, within, p.next)) l.work l.trail (p.tidy aside busy t));
+      absent = λ s gone. p.absent s (grown-before e.form now.work after.work s l.work gone);
+      sizes = ap length l.opens ∙ length-set now.opens e.form (get_or now.opens e.form 0 - coefficient_at d.forms e.form e.index) ∙ p.sizes;
+      grown = omega (arith, queued.1, p.grown);
+      longer = omega (arith, queued.0, p.longer);
+      upper = least_upper now.visits seen start.visits j after.visits count p.upper visits;
+      rising = omega (arith, rising, p.rising, visits);
+      candidates = l.candidates ∙ p.candidates;
+      values = values ∙ p.values;
+      list = l.list ∙ p.list;
+      next = l.next ∙ p.next;
     }
   where
-    least_upper : (v w a i : ℕ) → w ≡ min (v + 1) (2 ^ 64 - 1) → v ≤ a + i → w ≤ a + (i + 1)
-    least_upper v w a i e h = omega arith
+    least_upper : (v w a i x : ℕ) → w ≡ min (v + 1) (2 ^ 64 - 1) → v ≤ a + i → x ≡ w → x ≤ a + (i + 1)
+    least_upper v w a i x e h k = omega arith
+
+spent-push : (d : Database) (l : NumberedLiteral) (old start : Progress) → Assigns l old start → spent d.lists start.list ≡ spent d.lists old.list + length (entries_against d l)
+spent-push d l old start a = ap (spent d.lists) a.list ∙ sum_by_push (λ (k : NumberedLiteral). length (get_or d.lists (place (negation k)) [])) old.list l
+
+pub assigned-tidy : (d : Database) {l : NumberedLiteral} {old start : Progress} → Assigns l old start → StaysTidy d old start
+assigned-tidy d {l} {old} {start} a aside busy t =
+    rw (a.opens, a.candidates, a.work, a.trail, a.next) (Tidy-put (beside d.rests aside) d.forms old.opens old.candidates old.list start.list old.work old.trail old.next busy l a.list t)
+
+-- what has happened once some entries were subtracted
+pub putting-advances : {d : Database} {l : NumberedLiteral} {old start now : Progress} {j : ℕ} → Assigns l old start → length old.opens ≡ length d.forms → IsPutting d (entries_against d l) start now j → Advances d 0 0 old now
+putting-advances {d} {l} {old} {start} {now} {j} a sizes p =
+    let pushed = spent-push d l old start a in
+    let listed : now.list ≡ old.list ++ (l ∷ []) = p.list ∙ a.list in
+    let same = ap (spent d.lists) p.list in
+    let works = ap length a.work in
+    let sums = ap sum (p.candidates ∙ a.candidates) in
+    record {
+      costs = record {
+        extends = extends-one old.list now.list l listed;
+        single = λ s. rw listed (more l s a.absent);
+        paid = omega (arith, p.upper, a.visits, p.within, pushed, same, sums);
+      };
+      values = ap length p.values ∙ a.values;
+      opens = p.sizes ∙ sym sizes;
+      candidates = ap length (p.candidates ∙ a.candidates);
+      next = p.next ∙ a.next;
+      absent = λ s gone. rw a.work at (p.absent s gone);
+      longer = omega (arith, p.longer, works);
+      work = omega (arith, p.grown, works, p.within, pushed, same);
+      rising = omega (arith, p.rising, a.visits);
+    }
+
+-- an allocation failed at an entry
+pub putting-costs : {d : Database} {l : NumberedLiteral} {old start now : Progress} {j : ℕ} (new : Progress) → Assigns l old start → j < length (entries_against d l) → new.list ≡ now.list → new.candidates ≡ now.candidates → new.visits ≤ now.visits + 1 → IsPutting d (entries_against d l) start now j → Costs d 0 0 old new
+putting-costs {d} {l} {old} {start} {now} {j} new a room lists candidates visits p =
+    let pushed = spent-push d l old start a in
+    let listed : new.list ≡ old.list ++ (l ∷ []) = lists ∙ p.list ∙ a.list in
+    let same = ap (spent d.lists) (lists ∙ p.list) in
+    let sums = ap sum (candidates ∙ p.candidates ∙ a.candidates) in
+    record {
+      extends = extends-one old.list new.list l listed;
+      single = λ s. rw listed (more l s a.absent);
+      paid = omega (arith, visits, p.upper, a.visits, room, pushed, same, sums);
+    }
 
 -- a form whose open sum is too small is falsified, also while entries are still to be subtracted
 pub counted-conflict : (forms : List Shape) (opens : List ℕ) (list : List NumberedLiteral) (rest : List Weighted) (form : ℕ) → form < length forms → IsCounted forms opens list rest → ((d : Shape) → get_or opens form 0 < (get_or forms form d).degree) → Conflicts forms list
@@ -85,23 +187,6 @@ form-within forms es items j e n same is inside named =
     let less = named j entry (omega (arith, ap length same, length-map items (weighted forms), inside)) in
     omega (arith, less, form)
 
-pub Putting-fits_at : (rests : Rests) (forms : List Shape) (es : List Weighted) (items : List Occurrence) (opens0 cands : List ℕ) (list : List NumberedLiteral) (work0 trail0 : List ℕ) (next visits0 : ℕ) (opens work trail : List ℕ) (visits j : ℕ) (e : Occurrence) → es ≡ map (weighted forms) items → e ≡ get_or items j e → j < length items → All (λ x. x.form < length forms) es → IsPutting rests forms es opens0 cands list work0 trail0 next visits0 opens work trail visits j → coefficient_at forms e.form e.index ≤ get_or opens e.form 0
-Putting-fits_at rests forms es items opens0 cands list work0 trail0 next visits0 opens work trail visits j e same is inside named p =
-    let entry = weighted forms e in
-    let at : entry ≡ get_or es j entry = item-weighted forms es items j e same is in
-    let inside_es : j < length es = omega (arith, ap length same, length-map items (weighted forms), inside) in
-    subst (λ (x : Weighted). x.coefficient ≤ get_or opens x.form 0) (sym at) (Putting-fits rests forms es opens0 cands list work0 trail0 next visits0 opens work trail visits j entry (record { terms = []; degree = 0 }) inside_es (named j entry inside_es) p)
-
-pub Putting-next_at : (rests : Rests) (forms : List Shape) (es : List Weighted) (items : List Occurrence) (opens0 cands : List ℕ) (list : List NumberedLiteral) (work0 trail0 : List ℕ) (next visits0 : ℕ) (opens work trail : List ℕ) (visits j : ℕ) (opens' work' trail' : List ℕ) (visits' : ℕ) (e : Occurrence) → es ≡ map (weighted forms) items → e ≡ get_or items j e → j < length items → All (λ x. x.form < length forms) es → next ≤ length work0 → opens' ≡ set opens e.form (get_or opens e.form 0 - coefficient_at forms e.form e.index) → Grown ((f : Shape) (c : ℕ) → IsCalm (get_or forms e.form f) (get_or opens e.form 0 - coefficient_at forms e.form e.index) c) e.form work work' → Grown ((f : Shape) → get_or opens e.form 0 ≡ rest_open rests e.form (get_or forms e.form f) → ⊥) e.form trail trail' → visits' ≡ min (visits + 1) (2 ^ 64 - 1) → visits ≤ visits' → IsPutting rests forms es opens0 cands list work0 trail0 next visits0 opens work trail visits j → IsPutting rests forms es opens0 cands list work0 trail0 next visits0 opens' work' trail' visits' (j + 1)
-Putting-next_at rests forms es items opens0 cands list work0 trail0 next visits0 opens work trail visits j opens' work' trail' visits' e same is inside named within lower queued noted seen small p =
-    let entry = weighted forms e in
-    let at : entry ≡ get_or es j entry = item-weighted forms es items j e same is in
-    let inside_es : j < length es = omega (arith, ap length same, length-map items (weighted forms), inside) in
-    Putting-next rests forms es opens0 cands list work0 trail0 next visits0 opens work trail visits j opens' work' trail' visits' entry inside_es (named j entry inside_es) within
-    (subst (λ (x : Weighted). opens' ≡ set opens x.form (get_or opens x.form 0 - x.coefficient)) at lower)
-    (subst (λ (x : Weighted). Grown ((f : Shape) (c : ℕ) → IsCalm (get_or forms x.form f) (get_or opens x.form 0 - x.coefficient) c) x.form work work') at queued)
-    (subst (λ (x : Weighted). Grown ((f : Shape) → get_or opens x.form 0 ≡ rest_open rests x.form (get_or forms x.form f) → ⊥) x.form trail trail') at noted) seen small p
-
 pub place-inside : (l : NumberedLiteral) (n : ℕ) → l.variable < n → place l < 2 * n
 place-inside l n h = by_sign l.negated l.variable h
   where
@@ -112,3 +197,16 @@ place-inside l n h = by_sign l.negated l.variable h
 pub place-read : (forms : List Shape) (occ : List (Vec Occurrence Global)) (n : ℕ) (l : NumberedLiteral) (q : ℕ) → l.variable < n → q ≡ place (negation l) → length (entries_of forms occ) ≡ 2 * n → q < length occ
 place-read forms occ n l q h e sizes =
     omega (arith, place-inside (negation l) n h, e, sizes, length-map occ (λ (v : Vec Occurrence Global). map (weighted forms) v.items))
+
+pub entry-read : (store : Store) (rests : Rests) (l : NumberedLiteral) (q : ℕ) (v : Vec Occurrence Global) (items : List Occurrence) (j : ℕ) (e : Visited) → IsSound store → l.variable < store.variables → q ≡ place (negation l) → v ≡ get_or store.occurrences.items q v → items ≡ v.items → entry_at e ≡ get_or items j (entry_at e) → j < length items → IsRead (database store rests) (entries_against (database store rests) l) e j
+entry-read store rests l q v items j e sound inside at read is item less =
+    let forms = shapes_of store.stored.items in
+    let es = get_or (entries_of forms store.occurrences.items) (place (negation l)) [] in
+    let there = place-read forms store.occurrences.items store.variables l q inside at sound.places in
+    let same : es ≡ map (weighted forms) items = entries-at forms store.occurrences.items (place (negation l)) q v there read at ∙ ap (map (weighted forms)) (sym is) in
+    record {
+      inside = omega (arith, ap length same, length-map items (weighted forms), less);
+      is = item-weighted forms es items j (entry_at e) same item;
+      form = form-within forms es items j (entry_at e) (length forms) same item less (sound.named (place (negation l)));
+      index = index-within forms (spots_of store.spots.items) store.occurrences.items (place (negation l)) j items (entry_at e) same item less sound.whole;
+    }

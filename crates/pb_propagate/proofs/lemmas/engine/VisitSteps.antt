@@ -5,25 +5,36 @@ use Rattle.std.proofs.lemmas.List.Sums.{sum_by-set}
 use Rattle.std.proofs.lemmas.List.Elements.{Contains-get_or}
 use Rattle.pb_normal.specs.declared.numbered.NumberedLiteral.{NumberedLiteral}
 use Rattle.pb_propagate.specs.declared.term.Term.{Term}
-use Rattle.pb_propagate.specs.engine.Engine.Lists.{Shape, AreInside, open_sum, size, Derives, begin, put, Conflicts, broken, Weighted}
-use Rattle.pb_propagate.specs.engine.Engine.Counts.{Aside, rest_open, IsCounted, IsTidy, IsPaid, IsAbsent, Adopted, kept, added, IsCalm, IsDone, AreFound, Grown, pushed, spared, spent, weight_in}
+use Rattle.pb_propagate.specs.engine.Engine.Lists.{Shape, AreInside, open_sum, size, Derives, begin, put, Conflicts, broken}
+use Rattle.pb_propagate.specs.engine.Engine.Counts.{beside, rest_open, IsCounted, IsAbsent, Adopted, kept, added, IsCalm, IsDone, Grown, pushed, spared, weight_in}
+use Rattle.pb_propagate.specs.declared.store.Store.{Store}
+use Rattle.pb_propagate.specs.engine.Engine.Progress.{visited_to, passed_to, Progress, Database, database, IsOpen, IsTidyAt, StaysTidy, VisitsEach, Advances}
 use Rattle.pb_propagate.specs.declared.store.stored_form.StoredForm.{StoredForm}
 use Rattle.pb_propagate.specs.declared.rests.Rests.{Rests}
 use Rattle.pb_propagate.specs.engine.Engine.Fields.{shapes_of, stored_shape}
 use Rattle.pb_propagate.specs.engine.Engine.Terms.{terms_of}
 use Rattle.pb_propagate.specs.engine.Engine.Links.{coefficient_at}
+use Rattle.pb_propagate.proofs.lemmas.engine.Advances.{advances-refl, advances-then, advances-as, advances-visit, advances-pass}
 use Rattle.pb_propagate.proofs.lemmas.engine.Runs.{Tidy-pass, Tidy-settle, done-new}
 
--- a form's terms are being passed; the second state is the one before the first of them
-pub record IsVisiting (aside : Aside) (forms : List Shape) (lists : List (List Weighted)) (form : ℕ) (list0 : List NumberedLiteral) (cands0 work0 : List ℕ) (visits0 : ℕ) (opens cands : List ℕ) (list : List NumberedLiteral) (work trail : List ℕ) (next visits : ℕ) : Type 0 where
-  pub derived : Derives forms list0 list
-  pub tidy : IsTidy aside forms opens cands list work trail next form
-  pub there : IsAbsent work 0 form → ⊥
-  pub paid : IsPaid lists list0 list cands0 cands work0 work visits0 visits 0
-  pub found : AreFound (length list0) (length list) visits0 visits
-  pub open_sizes : length opens ≡ length forms
-  pub candidate_sizes : length cands ≡ length forms
-  pub within : next ≤ length work
+-- a form's terms are being passed
+pub record IsVisiting (d : Database) (aside : List ℕ) (form : ℕ) (start now : Progress) : Type 0 where
+  pub advances : Advances d 0 0 start now
+  pub derived : Derives d.forms start.list now.list
+  pub tidy : IsTidyAt d aside form now
+  pub there : IsAbsent now.work 0 form → ⊥
+  pub found : VisitsEach start now
+  pub opens : length now.opens ≡ length d.forms
+  pub candidates : length now.candidates ≡ length d.forms
+
+-- the form's candidate c, the term t, is forced
+pub record IsForced (d : Database) (form : ℕ) (now : Progress) (f : Shape) (t : Term) (c : ℕ) : Type 0 where
+  pub inside : form < length d.forms
+  pub is : (x : Shape) → get_or d.forms form x ≡ f
+  pub candidate : c ≡ get_or now.candidates form 0
+  pub here : c < length f.terms
+  pub item : t ≡ get_or f.terms c t
+  pub low : get_or now.opens form 0 < f.degree + t.coefficient
 
 sum-raise : (xs : List ℕ) (i : ℕ) → i < length xs → sum (set xs i (get_or xs i 0 + 1)) ≡ sum xs + 1
 sum-raise xs i inside =
@@ -57,54 +68,53 @@ open-now forms opens list form d inside c =
     let none : weight_in form [] ≡ 0 = refl in
     omega (arith, all, none)
 
-pub Visiting-next : (aside : Aside) (forms : List Shape) (lists : List (List Weighted)) (form : ℕ) (list0 : List NumberedLiteral) (cands0 work0 : List ℕ) (visits0 : ℕ) (opens cands : List ℕ) (list : List NumberedLiteral) (work trail : List ℕ) (next visits seen : ℕ) (opens' cands' : List ℕ) (list' : List NumberedLiteral) (work' trail' : List ℕ) (visits' : ℕ) (f : Shape) (c : ℕ) (t : Term) →
-    form < length forms → ((d : Shape) → get_or forms form d ≡ f) → c ≡ get_or cands form 0 → c < length f.terms → t ≡ get_or f.terms c t →
-    seen ≡ min (visits + 1) (2 ^ 64 - 1) → visits ≤ seen → get_or opens form 0 < f.degree + t.coefficient →
-    Adopted t.literal list list' → IsCounted forms opens list [] →
-    ((busy : ℕ) → IsTidy aside forms opens cands list work trail next busy → IsTidy aside forms opens' cands list' work' trail' next busy) →
-    IsPaid lists list list' cands cands work work' seen visits' 0 →
-    ((s : ℕ) → IsAbsent work' 0 s → IsAbsent work 0 s) → length work ≤ length work' → length opens' ≡ length opens →
-    cands' ≡ set cands form (c + 1) →
-    IsVisiting aside forms lists form list0 cands0 work0 visits0 opens cands list work trail next visits →
-    IsVisiting aside forms lists form list0 cands0 work0 visits0 opens' cands' list' work' trail' next visits'
-Visiting-next aside forms lists form list0 cands0 work0 visits0 opens cands list work trail next visits seen opens' cands' list' work' trail' visits' f c t inside is at here item counted_visit rising low adopted counted tidy paid gone longer sizes passed p =
-    let room : form < length cands = omega (arith, inside, p.candidate_sizes) in
-    let now : get_or opens form 0 ≡ open_sum list (get_or forms form f).terms = open-now forms opens list form f inside counted in
-    let now_f : get_or opens form 0 ≡ open_sum list f.terms = rw (is f) at now in
-    let low_t : open_sum list f.terms < f.degree + t.coefficient = omega (arith, now_f, low) in
-    let low_f : open_sum list f.terms < f.degree + (get_or f.terms c t).coefficient = rw (← item) low_t in
-    let low_is : open_sum list (get_or forms form f).terms < (get_or forms form f).degree + (get_or (get_or forms form f).terms c t).coefficient = rw (is f) low_f in
-    let here_is : c < length (get_or forms form f).terms = rw (is f) here in
-    let adopted_f : Adopted (get_or f.terms c t).literal list list' = rw (← item) adopted in
-    let adopted_is : Adopted (get_or (get_or forms form f).terms c t).literal list list' = rw (is f) adopted_f in
-    let raised : sum cands' ≡ sum cands + 1 = ap sum (passed ∙ ap (λ x. set cands form (x + 1)) at) ∙ sum-raise cands form room in
+pub visiting-start : (d : Database) (aside : List ℕ) (form : ℕ) (start : Progress) → IsTidyAt d aside form start → (IsAbsent start.work 0 form → ⊥) → length start.opens ≡ length d.forms → length start.candidates ≡ length d.forms → IsVisiting d aside form start start
+visiting-start d aside form start tidy there opens candidates = record {
+  advances = advances-refl d start;
+  derived = begin;
+  tidy = tidy;
+  there = there;
+  found = λ few. omega arith;
+  opens = opens;
+  candidates = candidates;
+}
+
+-- a forced literal was tried, and its term is passed
+pub visiting-next : {d : Database} {aside : List ℕ} {form : ℕ} {start now : Progress} {f : Shape} {t : Term} {c : ℕ} (seen : ℕ) (mid : Progress) (passed : List ℕ) → IsVisiting d aside form start now → IsForced d form now f t c → IsOpen d now → seen ≡ min (now.visits + 1) (2 ^ 64 - 1) → now.visits ≤ seen → Adopted t.literal now.list mid.list → Advances d 0 0 (visited_to seen now) mid → StaysTidy d (visited_to seen now) mid → mid.candidates ≡ now.candidates → passed ≡ set mid.candidates form (c + 1) → IsVisiting d aside form start (passed_to passed mid)
+visiting-next {d} {aside} {form} {start} {now} {f} {t} {c} seen mid passed p forced counted count rising adopted a tidy same is =
+    let room : form < length mid.candidates = omega (arith, forced.inside, p.candidates, ap length same) in
+    let at : c ≡ get_or mid.candidates form 0 = forced.candidate ∙ ap (λ xs. get_or xs form 0) (sym same) in
+    let sum_now : get_or now.opens form 0 ≡ open_sum now.list (get_or d.forms form f).terms = open-now d.forms now.opens now.list form f forced.inside counted in
+    let sum_f : get_or now.opens form 0 ≡ open_sum now.list f.terms = rw (forced.is f) at sum_now in
+    let low_t : open_sum now.list f.terms < f.degree + t.coefficient = omega (arith, sum_f, forced.low) in
+    let low_f : open_sum now.list f.terms < f.degree + (get_or f.terms c t).coefficient = rw (← forced.item) low_t in
+    let low_is : open_sum now.list (get_or d.forms form f).terms < (get_or d.forms form f).degree + (get_or (get_or d.forms form f).terms c t).coefficient = rw (forced.is f) low_f in
+    let here_is : c < length (get_or d.forms form f).terms = rw (forced.is f) forced.here in
+    let adopted_f : Adopted (get_or f.terms c t).literal now.list mid.list = rw (← forced.item) adopted in
+    let adopted_is : Adopted (get_or (get_or d.forms form f).terms c t).literal now.list mid.list = rw (forced.is f) adopted_f in
+    let sizes : length passed ≡ length mid.candidates = ap length is ∙ length-set mid.candidates form (c + 1) in
+    let raised : sum passed ≡ sum mid.candidates + 1 = ap sum (is ∙ ap (λ x. set mid.candidates form (x + 1)) at) ∙ sum-raise mid.candidates form room in
+    let visit = advances-visit d now seen 0 1 rising (omega (arith, count)) in
     record {
-      derived = adopted-derived forms list0 list list' form f c t inside here_is low_is adopted_is p.derived;
-      tidy = Tidy-pass aside forms opens' cands cands' list' work' trail' next form c f.terms t passed at room (λ d h. ap (λ (x : Shape). x.terms) (is d)) here (adopted-done (get_or f.terms c t).literal list list' adopted_f) (λ a. p.there (gone form a)) (tidy form p.tidy);
-      there = λ a. p.there (gone form a);
-      paid = record {
-        upper = paid_upper visits seen visits' visits0 (sum cands0) (sum cands) (sum cands') (spent lists list0) (spent lists list) (spent lists list') p.paid.upper paid.upper counted_visit raised;
-        work = omega (arith, paid.work, p.paid.work);
-        rising = omega (arith, p.paid.rising, rising, paid.rising);
-      };
-      found = λ few. found_from visits seen visits' visits0 (length list0) (length list) (length list') counted_visit paid.rising few p.found (adopted-length t.literal list list' adopted);
-      open_sizes = sizes ∙ p.open_sizes;
-      candidate_sizes = ap length passed ∙ length-set cands form (c + 1) ∙ p.candidate_sizes;
-      within = omega (arith, p.within, longer);
+      advances = advances-as 0 0 (omega arith) (advances-then p.advances (advances-then visit (advances-then a (advances-pass d mid passed sizes raised))));
+      derived = adopted-derived d.forms start.list now.list mid.list form f c t forced.inside here_is low_is adopted_is p.derived;
+      tidy = Tidy-pass (beside d.rests aside) d.forms mid.opens mid.candidates passed mid.list mid.work mid.trail mid.next form c f.terms t is at room (λ x h. ap (λ (y : Shape). y.terms) (forced.is x)) forced.here (adopted-done (get_or f.terms c t).literal now.list mid.list adopted_f) (λ gone. p.there (a.absent form gone)) (tidy aside form p.tidy);
+      there = λ gone. p.there (a.absent form gone);
+      found = λ few. found_from now.visits seen mid.visits start.visits (length start.list) (length now.list) (length mid.list) count a.rising few p.found (adopted-length t.literal now.list mid.list adopted);
+      opens = a.opens ∙ p.opens;
+      candidates = sizes ∙ ap length same ∙ p.candidates;
     }
   where
-    paid_upper : (v s w v0 c0 c1 c2 s0 s1 s2 : ℕ) → v + c0 + s0 ≤ v0 + 0 + c1 + s1 → w + c1 + s1 ≤ s + 0 + c1 + s2 → s ≡ min (v + 1) (2 ^ 64 - 1) → c2 ≡ c1 + 1 → w + c0 + s0 ≤ v0 + 0 + c2 + s2
-    paid_upper v s w v0 c0 c1 c2 s0 s1 s2 h k e r = omega arith
-
     found_from : (v s w v0 n0 n1 n2 : ℕ) → s ≡ min (v + 1) (2 ^ 64 - 1) → s ≤ w → w < 2 ^ 64 - 1 → (v < 2 ^ 64 - 1 → n1 + v0 ≤ n0 + v) → n2 ≤ n1 + 1 → n2 + v0 ≤ n0 + w
     found_from v s w v0 n0 n1 n2 e up few before one =
         let small : v < 2 ^ 64 - 1 = omega (arith, e, up, few) in
         let old = before small in
         omega (arith, e, up, few, old, one)
 
-pub Visiting-settled : (aside : Aside) (forms : List Shape) (lists : List (List Weighted)) (form : ℕ) (list0 : List NumberedLiteral) (cands0 work0 : List ℕ) (visits0 : ℕ) (opens cands : List ℕ) (list : List NumberedLiteral) (work trail : List ℕ) (next visits : ℕ) (f : Shape) → ((d : Shape) → get_or forms form d ≡ f) → IsCalm f (get_or opens form 0) (get_or cands form 0) → IsVisiting aside forms lists form list0 cands0 work0 visits0 opens cands list work trail next visits → IsTidy aside forms opens cands list work trail next (length forms)
-Visiting-settled aside forms lists form list0 cands0 work0 visits0 opens cands list work trail next visits f is calm p =
-    Tidy-settle aside forms opens cands list work trail next form f (rw (is f) calm) p.tidy
+-- the visit ends at a calm form
+pub visiting-settled : {d : Database} {aside : List ℕ} {form : ℕ} {start now : Progress} (f : Shape) (n : ℕ) → length d.forms ≡ n → ((x : Shape) → get_or d.forms form x ≡ f) → IsCalm f (get_or now.opens form 0) (get_or now.candidates form 0) → IsVisiting d aside form start now → IsTidyAt d aside n now
+visiting-settled {d} {aside} {form} {start} {now} f n e is calm p =
+    rw (← e) (Tidy-settle (beside d.rests aside) d.forms now.opens now.candidates now.list now.work now.trail now.next form f (rw (is f) calm) p.tidy)
 
 pub Visiting-conflict : (forms : List Shape) (opens : List ℕ) (list : List NumberedLiteral) (form : ℕ) (f : Shape) → form < length forms → ((d : Shape) → get_or forms form d ≡ f) → IsCounted forms opens list [] → get_or opens form 0 < f.degree → Conflicts forms list
 Visiting-conflict forms opens list form f inside is c low =
@@ -116,47 +126,19 @@ Visiting-conflict forms opens list form f inside is c low =
 pub shape-at : (keep : List StoredForm) (form : ℕ) (k : StoredForm) → form < length keep → k ≡ get_or keep form k → (d : Shape) → get_or (shapes_of keep) form d ≡ stored_shape k
 shape-at keep form k inside is d = get_or-map stored_shape keep form k d inside ∙ ap stored_shape (sym is)
 
-pub Visiting-start : (aside : Aside) (forms : List Shape) (lists : List (List Weighted)) (form : ℕ) (opens cands : List ℕ) (list : List NumberedLiteral) (work trail : List ℕ) (next visits : ℕ) → IsTidy aside forms opens cands list work trail next form → (IsAbsent work 0 form → ⊥) → length opens ≡ length forms → length cands ≡ length forms → next ≤ length work → IsVisiting aside forms lists form list cands work visits opens cands list work trail next visits
-Visiting-start aside forms lists form opens cands list work trail next visits tidy there o c within = record {
-  derived = begin;
-  tidy = tidy;
-  there = there;
-  paid = record { upper = omega arith; work = omega arith; rising = omega arith };
-  found = λ few. omega arith;
-  open_sizes = o;
-  candidate_sizes = c;
-  within = within;
-}
-
-pub Visiting-settled_by : (aside : Aside) (forms : List Shape) (lists : List (List Weighted)) (form : ℕ) (list0 : List NumberedLiteral) (cands0 work0 : List ℕ) (visits0 : ℕ) (opens cands : List ℕ) (list : List NumberedLiteral) (work trail : List ℕ) (next visits : ℕ) (f : Shape) (n : ℕ) → length forms ≡ n → ((d : Shape) → get_or forms form d ≡ f) → IsCalm f (get_or opens form 0) (get_or cands form 0) → IsVisiting aside forms lists form list0 cands0 work0 visits0 opens cands list work trail next visits → IsTidy aside forms opens cands list work trail next n
-Visiting-settled_by aside forms lists form list0 cands0 work0 visits0 opens cands list work trail next visits f n e is calm p =
-    rw (← e) (Visiting-settled aside forms lists form list0 cands0 work0 visits0 opens cands list work trail next visits f is calm p)
-
-pub Visiting-next_by : (aside : Aside) (keep : List StoredForm) (lists : List (List Weighted)) (form : ℕ) (list0 : List NumberedLiteral) (cands0 work0 : List ℕ) (visits0 : ℕ) (opens cands : List ℕ) (list : List NumberedLiteral) (work trail : List ℕ) (next visits seen : ℕ) (opens' mid cands' : List ℕ) (list' : List NumberedLiteral) (work' trail' : List ℕ) (next' visits' : ℕ) (k : StoredForm) (items : List Term) (o c : ℕ) (t : Term) →
-    form < length keep → k ≡ get_or keep form k → o ≡ get_or opens form o → c ≡ get_or cands form c → items ≡ (terms_of k.terms) → c < length items → t ≡ get_or items c t →
-    seen ≡ min (visits + 1) (2 ^ 64 - 1) → visits ≤ seen → o < k.degree + t.coefficient →
-    mid ≡ cands → next' ≡ next →
-    Adopted t.literal list list' → IsCounted (shapes_of keep) opens list [] →
-    ((busy : ℕ) → IsTidy aside (shapes_of keep) opens cands list work trail next busy → IsTidy aside (shapes_of keep) opens' mid list' work' trail' next' busy) →
-    IsPaid lists list list' cands mid work work' seen visits' 0 →
-    ((s : ℕ) → IsAbsent work' 0 s → IsAbsent work 0 s) → length work ≤ length work' → length opens' ≡ length opens →
-    cands' ≡ set mid form (c + 1) →
-    IsVisiting aside (shapes_of keep) lists form list0 cands0 work0 visits0 opens cands list work trail next visits →
-    IsVisiting aside (shapes_of keep) lists form list0 cands0 work0 visits0 opens' cands' list' work' trail' next' visits'
-Visiting-next_by aside keep lists form list0 cands0 work0 visits0 opens cands list work trail next visits seen opens' mid cands' list' work' trail' next' visits' k items o c t inside is open_is cand_is items_is here item counted_visit rising low mid_is next_is adopted counted tidy paid gone longer sizes passed p =
-    let forms_size = length-map keep stored_shape in
-    let inside_f : form < length (shapes_of keep) = omega (arith, inside, forms_size) in
-    let room : form < length opens = omega (arith, inside_f, p.open_sizes) in
-    let roomc : form < length cands = omega (arith, inside_f, p.candidate_sizes) in
-    let open_0 = get_or_read opens form o room open_is 0 in
-    let cand_0 = get_or_read cands form c roomc cand_is 0 in
-    let low_0 : get_or opens form 0 < k.degree + t.coefficient = omega (arith, open_0, low) in
-    let here_k : c < length (terms_of k.terms) = omega (arith, ap length items_is, here) in
-    let item_k : t ≡ get_or (terms_of k.terms) c t = rw (← items_is) item in
-    let tidy_c : (busy : ℕ) → IsTidy aside (shapes_of keep) opens cands list work trail next busy → IsTidy aside (shapes_of keep) opens' cands list' work' trail' next busy = λ busy d. rw (← mid_is, ← next_is) (tidy busy d) in
-    let paid_c : IsPaid lists list list' cands cands work work' seen visits' 0 = subst (λ (x : List ℕ). IsPaid lists list list' cands x work work' seen visits' 0) mid_is paid in
-    let passed_c : cands' ≡ set cands form (c + 1) = passed ∙ ap (λ (x : List ℕ). set x form (c + 1)) mid_is in
-    rw next_is (Visiting-next aside (shapes_of keep) lists form list0 cands0 work0 visits0 opens cands list work trail next visits seen opens' cands' list' work' trail' visits' (stored_shape k) c t inside_f (shape-at keep form k inside is) cand_0 here_k item_k counted_visit rising low_0 adopted counted tidy_c paid_c gone longer sizes passed_c p)
+pub forced-read : (store : Store) (rests : Rests) (form : ℕ) (now : Progress) (k : StoredForm) (o c : ℕ) (t : Term) → form < length store.stored.items → k ≡ get_or store.stored.items form k → length now.opens ≡ length (shapes_of store.stored.items) → length now.candidates ≡ length (shapes_of store.stored.items) → o ≡ get_or now.opens form o → c ≡ get_or now.candidates form c → c < length (terms_of k.terms) → t ≡ get_or (terms_of k.terms) c t → o < k.degree + t.coefficient → IsForced (database store rests) form now (stored_shape k) t c
+forced-read store rests form now k o c t inside is opens candidates open_is cand_is here item low =
+    let size = length-map store.stored.items stored_shape in
+    let room : form < length now.opens = omega (arith, inside, size, opens) in
+    let roomc : form < length now.candidates = omega (arith, inside, size, candidates) in
+    record {
+      inside = omega (arith, inside, size);
+      is = shape-at store.stored.items form k inside is;
+      candidate = get_or_read now.candidates form c roomc cand_is 0;
+      here = here;
+      item = item;
+      low = omega (arith, get_or_read now.opens form o room open_is 0, low);
+    }
 
 pub calm-by : (k : StoredForm) (opens cands : List ℕ) (form o c : ℕ) → form < length opens → form < length cands → o ≡ get_or opens form o → c ≡ get_or cands form c → k.degree ≤ o → ((d : Term) → c < length (terms_of k.terms) → k.degree + (get_or (terms_of k.terms) c d).coefficient ≤ o) → IsCalm (stored_shape k) (get_or opens form 0) (get_or cands form 0)
 calm-by k opens cands form o c room roomc open_is cand_is met waiting =

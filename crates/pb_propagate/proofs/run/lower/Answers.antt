@@ -1,4 +1,4 @@
-use Rattle.std.proofs.Common.{ℕ, [], ◌-◌, ◌∙◌, sym, set, get_or, length, ap, subst, arith}
+use Rattle.std.proofs.Common.{ℕ, [], ◌-◌, ◌∙◌, refl, sym, set, get_or, length, ap, subst, arith}
 use Rattle.std.proofs.lemmas.List.{get_or_read, get_or-set_same}
 use Rattle.pb_propagate.specs.engine.Engine.Lists.{Shape}
 use Rattle.pb_propagate.specs.engine.Engine.Counts.{IsCalm}
@@ -12,27 +12,22 @@ weight_of-requires c =
     let shape = shape-at c.args.store.now.stored.items e.form c.index-kept.result.now c.requires.form c.index-kept.ensures (record { terms = []; degree = 0 }) in
     omega (arith, c.requires.index, ap (λ (f : Shape). length f.terms) shape)
 
-pub returns-clause-opens : goal.returns-clause-opens
-returns-clause-opens c =
-    let opens = c.args.run.now.opens.items in
-    let e = c.args.entry in
-    let weight = weight-read c.args.store.now.stored.items e.form e.index c.index-kept.result.now c.weight_of.result c.requires.form c.index-kept.ensures c.weight_of.ensures in
-    ap (λ (o : ℕ). set opens e.form (o - c.weight_of.result)) (get_or_read opens e.form c.index-opened.result.now c.requires.inside c.index-opened.ensures 0) ∙ ap (λ (w : ℕ). set opens e.form (get_or opens e.form 0 - w)) weight
-
-pub returns-clause-work : goal.returns-clause-work
-returns-clause-work c =
+pub returns-clause-lowers : goal.returns-clause-lowers
+returns-clause-lowers c =
     let keep = c.args.store.now.stored.items in
     let run = c.args.run.now in
+    let opens = run.opens.items in
     let e = c.args.entry in
     let k = c.index-kept.result.now in
     let weight = weight-read keep e.form e.index k c.weight_of.result c.requires.form c.index-kept.ensures c.weight_of.ensures in
-    grown-by e.form run.work.items _ (λ low d i. subst (λ (w : ℕ). IsCalm (get_or (shapes_of keep) e.form d) (get_or run.opens.items e.form 0 - w) i) weight (idle-at keep run.opens.items e.form k c.index-opened.result.now c.weight_of.result c.requires.form c.index-kept.ensures c.requires.inside c.index-opened.ensures low d i)) c.in_ok-queue.ensures
-
-pub returns-clause-trail : goal.returns-clause-trail
-returns-clause-trail c =
-    let run = c.args.run.now in
-    let e = c.args.entry in
-    grown-by e.form run.trail.items _ (λ other. changed-at c.args.rests.now c.args.store.now.stored.items run.opens.items e.form c.index-kept.result.now c.index-opened.result.now c.requires.form c.index-kept.ensures c.requires.inside c.index-opened.ensures (λ e. other (e ∙ sym c.open-rest.ensures))) c.in_ok-note.ensures
+    record {
+      opens = ap (λ (o : ℕ). set opens e.form (o - c.weight_of.result)) (get_or_read opens e.form c.index-opened.result.now c.requires.inside c.index-opened.ensures 0) ∙ ap (λ (w : ℕ). set opens e.form (get_or opens e.form 0 - w)) weight;
+      work = grown-by e.form run.work.items _ (λ low d i. subst (λ (w : ℕ). IsCalm (get_or (shapes_of keep) e.form d) (get_or run.opens.items e.form 0 - w) i) weight (idle-at keep run.opens.items e.form k c.index-opened.result.now c.weight_of.result c.requires.form c.index-kept.ensures c.requires.inside c.index-opened.ensures low d i)) c.in_ok-queue.ensures;
+      trail = grown-by e.form run.trail.items _ (λ other. changed-at c.args.rests.now keep run.opens.items e.form k c.index-opened.result.now c.requires.form c.index-kept.ensures c.requires.inside c.index-opened.ensures (λ e. other (e ∙ sym c.open-rest.ensures))) c.in_ok-note.ensures;
+      candidates = refl;
+      list = refl;
+      next = refl;
+    }
 
 pub returns-clause-falsified : goal.returns-clause-falsified
 returns-clause-falsified c = λ found d.

@@ -10,12 +10,14 @@ use Rattle.pb_propagate.specs.engine.Clauses.Links.{lists_of, list_at}
 use Rattle.pb_propagate.specs.engine.Clauses.Runs.{AreServed, AreWalked, passed_of}
 use Rattle.pb_propagate.specs.engine.Clauses.Shapes.{all_of, clauses_of, joined}
 use Rattle.pb_propagate.proofs.lemmas.engine.Derivations.{derivation-then, derivation-keeps}
-use Rattle.pb_propagate.proofs.lemmas.engine.Propagated.{Propagating-start, Propagating-visit, Propagating-next, Propagating-walk, Propagating-bound, Propagating-choose, Propagating-settled, Propagating-upper}
-use Rattle.pb_propagate.proofs.lemmas.root.Extends.{extends-none, extends-then, derives-extends, spent-extends, reached-extends}
-use Rattle.pb_propagate.specs.engine.Clauses.Walked.{IsAhead, head, advanced}
+use Rattle.pb_propagate.proofs.lemmas.engine.Propagated.{propagating-start, propagating-visit, propagating-next, propagating-walk, propagating-bound, propagating-choose, propagating-settled, propagating-spends}
+use Rattle.pb_propagate.proofs.lemmas.engine.Watched.{walk-covered}
+use Rattle.pb_propagate.specs.engine.Engine.Progress.{progress, database, queued_to}
+use Rattle.pb_propagate.proofs.lemmas.root.Extends.{extends-none}
+use Rattle.pb_propagate.specs.engine.Clauses.Walked.{IsAhead, head, advanced, falsified_code}
 use Rattle.pb_propagate.specs.declared.heads.Heads.{Heads}
 use Rattle.pb_normal.specs.declared.numbered.NumberedLiteral.{NumberedLiteral}
-use Rattle.pb_propagate.proofs.lemmas.engine.Spent.{sum-bounded, derivation-single}
+use Rattle.pb_propagate.proofs.lemmas.engine.Spent.{sum-bounded}
 use Rattle.pb_propagate.proofs.lemmas.engine.Values.{opposite}
 use Rattle.pb_propagate.proofs.lemmas.clauses.Shapes.{derives-joined, conflicts-joined, joined-source}
 use Rattle.pb_propagate.proofs.lemmas.clauses.Walks.{grows-refl, grows-trans, grows-listed, running-grow}
@@ -27,12 +29,11 @@ work-init c =
     let store = c.args.store.now in
     let run = c.args.run.now in
     record {
-      values = refl;
       grows = grows-refl run.assignment.values.items;
       kept = λ base codes more old. old;
       taken = omega arith;
       watching = watching-start c.args.clauses.now run.assignment.values.items run.assignment.list.items c.args.from c.requires.ready (omega (arith, c.requires.widths, c.requires.values)) c.requires.from c.requires.walked;
-      state = Propagating-start c.args.rests.now (waits store.stored.items) c.args.waiting.now (shapes_of store.stored.items) (all_of store c.args.clauses.now) (entries_of (shapes_of store.stored.items) store.occurrences.items) (length store.stored.items) run.opens.items run.candidates.items run.assignment.list.items run.work.items run.trail.items run.next run.visits (cost c.args.clauses.now c.args.clauses.now (record { short = c.args.from; long = c.args.from }) run.assignment.list.items) c.requires.counted c.requires.tidy c.requires.opens c.requires.candidates c.requires.next;
+      state = propagating-start (database c.args.store.now c.args.rests.now) (all_of store c.args.clauses.now) (waits store.stored.items) c.args.waiting.now (length store.stored.items) (cost c.args.clauses.now c.args.clauses.now (record { short = c.args.from; long = c.args.from }) run.assignment.list.items) (progress run) c.requires.counted c.requires.tidy c.requires.opens c.requires.candidates c.requires.next;
     }
 
 pub next_walk-requires : goal.next_walk-requires
@@ -51,7 +52,6 @@ next_walk-requires c =
 pub walk-requires-clause-failed : goal.walk-requires-clause-failed
 walk-requires-clause-failed c =
     let store = c.args.store.now in
-    let start = c.args.run.now in
     let run = c.work.run in
     let state = c.work.invariant.state in
     let w = c.work.invariant.watching in
@@ -62,7 +62,6 @@ walk-requires-clause-failed c =
 pub walk-requires-clause-literal : goal.walk-requires-clause-literal
 walk-requires-clause-literal c =
     let store = c.args.store.now in
-    let start = c.args.run.now in
     let run = c.work.run in
     let state = c.work.invariant.state in
     let w = c.work.invariant.watching in
@@ -70,61 +69,37 @@ walk-requires-clause-literal c =
     let next = next-of run.assignment.values.items run.assignment.list.items a.group (head a.group c.work.heads) a.literal run.assignment.agrees a.inside a.is in
     omega (arith, a.code, next.small, w.running.sizes)
 
-pub returns-in_err-walk-clause-bounded : goal.returns-in_err-walk-clause-bounded
-returns-in_err-walk-clause-bounded c =
+pub returns-in_err-walk-clause-costs : goal.returns-in_err-walk-clause-costs
+returns-in_err-walk-clause-costs c =
     let store = c.args.store.now in
-    let start = c.args.run.now in
-    let run = c.work.run in
-    let state = c.work.invariant.state in
-    let w = c.work.invariant.watching in
-    let all = sum-bounded (shapes_of store.stored.items) run.candidates.items (state.candidate_sizes ∙ sym (length-map store.stored.items stored_shape)) state.tidy.bounded in
-    omega (arith, all, ap (λ (v : Vec ℕ Global). sum v.items) c.walk.ensures.candidates)
-
-pub returns-then-branch-2-clause-bounded : goal.returns-then-branch-2-clause-bounded
-returns-then-branch-2-clause-bounded c =
-    let store = c.args.store.now in
-    let start = c.args.run.now in
-    let run = c.work.run in
-    let state = c.work.invariant.state in
-    let w = c.work.invariant.watching in
-    let all = sum-bounded (shapes_of store.stored.items) run.candidates.items (state.candidate_sizes ∙ sym (length-map store.stored.items stored_shape)) state.tidy.bounded in
-    omega (arith, all, ap (λ (v : Vec ℕ Global). sum v.items) c.walk.ensures.candidates)
-
-pub returns-in_err-walk-clause-upper : goal.returns-in_err-walk-clause-upper
-returns-in_err-walk-clause-upper c =
-    let store = c.args.store.now in
-    let start = c.args.run.now in
     let run = c.work.run in
     let state = c.work.invariant.state in
     let w = c.work.invariant.watching in
     let a = subst (λ xs. IsAhead c.work.heads xs c.in-Some.ahead) c.as_slice.ensures.value c.in-Some.ensures.some in
-    let next = next-of run.assignment.values.items run.assignment.list.items a.group (head a.group c.work.heads) a.literal run.assignment.agrees a.inside a.is in
     let done = c.walk.new.run in
-    let single = derivation-single (all_of store c.args.clauses.now) start.assignment.list.items run.assignment.list.items c.requires.single state.derived in
+    let costs = c.in_err-walk.ensures.costs in
     let lists = entries_of (shapes_of store.stored.items) store.occurrences.items in
-    let covered = subst (λ t. done.visits + sum (passed_of c.work.clauses) + spent (entries_of (shapes_of c.args.store.now.stored.items) c.args.store.now.occurrences.items) c.work.run.assignment.list.items ≤ c.work.run.visits + 2 * length (list_at (lists_of c.work.clauses.lists.items) t) + sum (passed_of c.walk.new.clauses) + spent (entries_of (shapes_of c.args.store.now.stored.items) c.args.store.now.occurrences.items) c.walk.new.run.assignment.list.items) a.code c.walk.ensures.covered in
-    let same = ap (λ (v : Vec ℕ Global). sum v.items) c.walk.ensures.candidates in
-    let broken = cost-broken c.args.clauses.now c.work.clauses c.walk.new.clauses run.assignment.values.items run.assignment.list.items a.group c.work.heads run.visits done.visits (spent lists run.assignment.list.items) (spent lists done.assignment.list.items) a.literal single a.inside a.is c.walk.ensures.bounded covered w in
-    let upper = Propagating-upper c.args.rests.now (waits store.stored.items) c.args.waiting.now (shapes_of store.stored.items) (all_of store c.args.clauses.now) (entries_of (shapes_of store.stored.items) store.occurrences.items) (length store.stored.items) start.assignment.list.items start.candidates.items start.work.items start.next start.visits (cost c.args.clauses.now c.work.clauses c.work.heads run.assignment.list.items) c.work.taken run.opens.items run.candidates.items run.assignment.list.items run.work.items run.trail.items run.next run.visits done.assignment.list.items done.candidates.items done.visits (2 * reached (clauses_of c.args.clauses.now) (advanced a.group c.work.heads) run.assignment.list.items + sum_by length (clauses_of c.args.clauses.now)) 0 (spent-extends (entries_of (shapes_of store.stored.items) store.occurrences.items) run.assignment.list.items done.assignment.list.items c.walk.ensures.extends) c.requires.next state (omega (arith, state.within)) (omega (arith, broken, same)) in
-    omega (arith, upper, reached-extends (clauses_of c.args.clauses.now) run.assignment.list.items done.assignment.list.items (advanced a.group c.work.heads) c.walk.ensures.extends)
+    let same = ap (λ (v : Vec ℕ Global). v.items) c.walk.ensures.candidates in
+    let covered = walk-covered (database c.args.store.now c.args.rests.now) c.work.clauses c.walk.new.clauses c.in-Some.ahead.code (falsified_code a.group a.literal) same a.code costs in
+    let bounded = sum-bounded (shapes_of store.stored.items) run.candidates.items (state.candidate_sizes ∙ sym (length-map store.stored.items stored_shape)) state.tidy.bounded in
+    let broken = cost-broken c.args.clauses.now c.work.clauses c.walk.new.clauses run.assignment.values.items run.assignment.list.items a.group c.work.heads run.visits done.visits (spent lists run.assignment.list.items) (spent lists done.assignment.list.items) a.literal (state.costs.single c.requires.single) a.inside a.is c.walk.ensures.bounded covered w in
+    propagating-spends (clauses_of c.args.clauses.now) (advanced a.group c.work.heads) (progress done) 0 c.requires.single c.requires.next state costs.extends costs.single (omega (arith, bounded, ap sum same)) (omega (arith, state.within)) (omega (arith, broken, ap sum same))
 
-pub returns-then-branch-2-clause-upper : goal.returns-then-branch-2-clause-upper
-returns-then-branch-2-clause-upper c =
+pub returns-then-branch-2-clause-costs : goal.returns-then-branch-2-clause-costs
+returns-then-branch-2-clause-costs c =
     let store = c.args.store.now in
-    let start = c.args.run.now in
     let run = c.work.run in
     let state = c.work.invariant.state in
     let w = c.work.invariant.watching in
     let a = subst (λ xs. IsAhead c.work.heads xs c.in-Some.ahead) c.as_slice.ensures.value c.in-Some.ensures.some in
-    let next = next-of run.assignment.values.items run.assignment.list.items a.group (head a.group c.work.heads) a.literal run.assignment.agrees a.inside a.is in
     let done = c.walk.new.run in
-    let single = derivation-single (all_of store c.args.clauses.now) start.assignment.list.items run.assignment.list.items c.requires.single state.derived in
+    let costs = c.in_ok-walk.ensures.advances.costs in
     let lists = entries_of (shapes_of store.stored.items) store.occurrences.items in
-    let covered = subst (λ t. done.visits + sum (passed_of c.work.clauses) + spent (entries_of (shapes_of c.args.store.now.stored.items) c.args.store.now.occurrences.items) c.work.run.assignment.list.items ≤ c.work.run.visits + 2 * length (list_at (lists_of c.work.clauses.lists.items) t) + sum (passed_of c.walk.new.clauses) + spent (entries_of (shapes_of c.args.store.now.stored.items) c.args.store.now.occurrences.items) c.walk.new.run.assignment.list.items) a.code c.walk.ensures.covered in
-    let same = ap (λ (v : Vec ℕ Global). sum v.items) c.walk.ensures.candidates in
-    let broken = cost-broken c.args.clauses.now c.work.clauses c.walk.new.clauses run.assignment.values.items run.assignment.list.items a.group c.work.heads run.visits done.visits (spent lists run.assignment.list.items) (spent lists done.assignment.list.items) a.literal single a.inside a.is c.walk.ensures.bounded covered w in
-    let upper = Propagating-upper c.args.rests.now (waits store.stored.items) c.args.waiting.now (shapes_of store.stored.items) (all_of store c.args.clauses.now) (entries_of (shapes_of store.stored.items) store.occurrences.items) (length store.stored.items) start.assignment.list.items start.candidates.items start.work.items start.next start.visits (cost c.args.clauses.now c.work.clauses c.work.heads run.assignment.list.items) c.work.taken run.opens.items run.candidates.items run.assignment.list.items run.work.items run.trail.items run.next run.visits done.assignment.list.items done.candidates.items done.visits (2 * reached (clauses_of c.args.clauses.now) (advanced a.group c.work.heads) run.assignment.list.items + sum_by length (clauses_of c.args.clauses.now)) 0 (spent-extends (entries_of (shapes_of store.stored.items) store.occurrences.items) run.assignment.list.items done.assignment.list.items c.walk.ensures.extends) c.requires.next state (omega (arith, state.within)) (omega (arith, broken, same)) in
-    omega (arith, upper, reached-extends (clauses_of c.args.clauses.now) run.assignment.list.items done.assignment.list.items (advanced a.group c.work.heads) c.walk.ensures.extends)
+    let same = ap (λ (v : Vec ℕ Global). v.items) c.walk.ensures.candidates in
+    let covered = walk-covered (database c.args.store.now c.args.rests.now) c.work.clauses c.walk.new.clauses c.in-Some.ahead.code (falsified_code a.group a.literal) same a.code costs in
+    let bounded = sum-bounded (shapes_of store.stored.items) run.candidates.items (state.candidate_sizes ∙ sym (length-map store.stored.items stored_shape)) state.tidy.bounded in
+    let broken = cost-broken c.args.clauses.now c.work.clauses c.walk.new.clauses run.assignment.values.items run.assignment.list.items a.group c.work.heads run.visits done.visits (spent lists run.assignment.list.items) (spent lists done.assignment.list.items) a.literal (state.costs.single c.requires.single) a.inside a.is c.walk.ensures.bounded covered w in
+    propagating-spends (clauses_of c.args.clauses.now) (advanced a.group c.work.heads) (progress done) 0 c.requires.single c.requires.next state costs.extends costs.single (omega (arith, bounded, ap sum same)) (omega (arith, state.within)) (omega (arith, broken, ap sum same))
 
 pub returns-then-branch-2-clause-derived : goal.returns-then-branch-2-clause-derived
 returns-then-branch-2-clause-derived c =
@@ -139,7 +114,6 @@ returns-then-branch-2-clause-derived c =
 pub returns-then-branch-2-clause-undone : goal.returns-then-branch-2-clause-undone
 returns-then-branch-2-clause-undone c =
     let store = c.args.store.now in
-    let start = c.args.run.now in
     let run = c.work.run in
     let state = c.work.invariant.state in
     let w = c.work.invariant.watching in
@@ -149,54 +123,90 @@ returns-then-branch-2-clause-undone c =
 pub returns-then-branch-2-clause-conflict : goal.returns-then-branch-2-clause-conflict
 returns-then-branch-2-clause-conflict c =
     let store = c.args.store.now in
-    let start = c.args.run.now in
     let run = c.work.run in
     let state = c.work.invariant.state in
     let w = c.work.invariant.watching in
     λ found. subst (λ ls. Conflicts (joined (shapes_of c.args.store.now.stored.items) (lists_of ls.items)) c.walk.new.run.assignment.list.items) w.literals (c.in_ok-walk.ensures.conflict c.if-branch-2.true)
 
+pub returns-then-branch-2-clause-values : goal.returns-then-branch-2-clause-values
+returns-then-branch-2-clause-values c =
+    c.in_ok-walk.ensures.advances.values ∙ c.work.invariant.state.values
+
+pub returns-then-branch-2-clause-opens : goal.returns-then-branch-2-clause-opens
+returns-then-branch-2-clause-opens c =
+    c.in_ok-walk.ensures.advances.opens ∙ c.work.invariant.state.open_sizes
+
+pub returns-then-branch-2-clause-candidates : goal.returns-then-branch-2-clause-candidates
+returns-then-branch-2-clause-candidates c =
+    c.in_ok-walk.ensures.advances.candidates ∙ c.work.invariant.state.candidate_sizes
+
+pub returns-then-branch-2-clause-found : goal.returns-then-branch-2-clause-found
+returns-then-branch-2-clause-found c =
+    λ few.
+    let two = c.in_ok-walk.ensures.found few in
+    let one = c.work.invariant.state.found (omega (arith, few, c.in_ok-walk.ensures.advances.rising)) in
+    omega (arith, one, two)
+
+pub returns-then-branch-clause-values : goal.returns-then-branch-clause-values
+returns-then-branch-clause-values c =
+    c.in_ok-visit_form.ensures.advances.values ∙ c.work.invariant.state.values
+
+pub returns-then-branch-clause-opens : goal.returns-then-branch-clause-opens
+returns-then-branch-clause-opens c =
+    c.in_ok-visit_form.ensures.advances.opens ∙ c.work.invariant.state.open_sizes
+
+pub returns-then-branch-clause-candidates : goal.returns-then-branch-clause-candidates
+returns-then-branch-clause-candidates c =
+    c.in_ok-visit_form.ensures.advances.candidates ∙ c.work.invariant.state.candidate_sizes
+
+pub returns-then-branch-clause-found : goal.returns-then-branch-clause-found
+returns-then-branch-clause-found c =
+    λ few.
+    let two = c.in_ok-visit_form.ensures.found few in
+    let one = c.work.invariant.state.found (omega (arith, few, c.in_ok-visit_form.ensures.advances.rising)) in
+    omega (arith, one, two)
+
+pub returns-else-taken-waiting-clause-values : goal.returns-else-taken-waiting-clause-values
+returns-else-taken-waiting-clause-values c =
+    c.work.invariant.state.values
+
 pub work-smaller-in-Some : goal.work-smaller-in-Some
 work-smaller-in-Some c =
     let store = c.args.store.now in
-    let start = c.args.run.now in
     let run = c.work.run in
     let state = c.work.invariant.state in
     let w = c.work.invariant.watching in
     let a = subst (λ xs. IsAhead c.work.heads xs c.in-Some.ahead) c.as_slice.ensures.value c.in-Some.ensures.some in
-    let next = next-of run.assignment.values.items run.assignment.list.items a.group (head a.group c.work.heads) a.literal run.assignment.agrees a.inside a.is in
-    let bound = Propagating-bound c.args.rests.now (waits store.stored.items) c.args.waiting.now (shapes_of store.stored.items) (all_of store c.args.clauses.now) (entries_of (shapes_of store.stored.items) store.occurrences.items) (length store.stored.items) start.assignment.list.items start.candidates.items start.work.items start.next start.visits (cost c.args.clauses.now c.work.clauses c.work.heads run.assignment.list.items) c.work.taken run.opens.items run.candidates.items run.assignment.list.items run.work.items run.trail.items run.next run.visits c.requires.single state in
+    let bound = propagating-bound c.requires.single state in
     let sum = ap (λ (h : Heads). h.short + h.long) a.after ∙ advanced-sum a.group c.work.heads in
-    omega (arith, bound, c.in_ok-walk.ensures.next, state.within, sum, w.short, w.long, ahead-room a.group c.work.heads (length run.assignment.list.items) a.inside w.short w.long, c.work.invariant.taken, c.work.invariant.values, run.assignment.room)
+    omega (arith, bound, c.in_ok-walk.ensures.advances.next, state.within, sum, w.short, w.long, ahead-room a.group c.work.heads (length run.assignment.list.items) a.inside w.short w.long, c.work.invariant.taken, state.values, run.assignment.room)
 
 pub work-preserved-in-Some : goal.work-preserved-in-Some
 work-preserved-in-Some c =
     let store = c.args.store.now in
-    let start = c.args.run.now in
     let run = c.work.run in
     let state = c.work.invariant.state in
     let w = c.work.invariant.watching in
     let a = subst (λ xs. IsAhead c.work.heads xs c.in-Some.ahead) c.as_slice.ensures.value c.in-Some.ensures.some in
+    let start = c.args.run.now in
     let next = next-of run.assignment.values.items run.assignment.list.items a.group (head a.group c.work.heads) a.literal run.assignment.agrees a.inside a.is in
     let done = c.walk.new.run in
-    let single = derivation-single (all_of store c.args.clauses.now) start.assignment.list.items run.assignment.list.items c.requires.single state.derived in
     let lists = entries_of (shapes_of store.stored.items) store.occurrences.items in
-    let covered = subst (λ t. done.visits + sum (passed_of c.work.clauses) + spent (entries_of (shapes_of c.args.store.now.stored.items) c.args.store.now.occurrences.items) c.work.run.assignment.list.items ≤ c.work.run.visits + 2 * length (list_at (lists_of c.work.clauses.lists.items) t) + sum (passed_of c.walk.new.clauses) + spent (entries_of (shapes_of c.args.store.now.stored.items) c.args.store.now.occurrences.items) c.walk.new.run.assignment.list.items) a.code c.walk.ensures.covered in
-    let same = ap (λ (v : Vec ℕ Global). sum v.items) c.walk.ensures.candidates in
-    let derived = subst (λ ls. Derives (joined (shapes_of c.args.store.now.stored.items) (lists_of ls.items)) c.work.run.assignment.list.items c.walk.new.run.assignment.list.items) w.literals c.in_ok-walk.ensures.derived in
     let reported = c.in_ok-walk.ensures in
+    let same = ap (λ (v : Vec ℕ Global). v.items) c.walk.ensures.candidates in
+    let covered = walk-covered (database c.args.store.now c.args.rests.now) c.work.clauses c.walk.new.clauses c.in-Some.ahead.code (falsified_code a.group a.literal) same a.code reported.advances.costs in
+    let derived = subst (λ ls. Derives (joined (shapes_of c.args.store.now.stored.items) (lists_of ls.items)) c.work.run.assignment.list.items c.walk.new.run.assignment.list.items) w.literals reported.derived in
     let after = λ (n : ℕ) (within : n ≤ length run.assignment.list.items). derived-take (all_of store c.args.clauses.now) run.assignment.list.items done.assignment.list.items n within derived in
     let paid = subst (λ (h : Heads). done.visits + spent lists run.assignment.list.items + cost c.args.clauses.now c.work.clauses c.work.heads run.assignment.list.items ≤ run.visits + cost c.args.clauses.now c.walk.new.clauses h done.assignment.list.items + spent lists done.assignment.list.items) (sym a.after)
-    (cost-next c.args.clauses.now c.work.clauses c.walk.new.clauses run.assignment.values.items run.assignment.list.items done.assignment.list.items a.group c.work.heads run.visits done.visits (spent lists run.assignment.list.items) (spent lists done.assignment.list.items) a.literal single a.inside a.is after covered w) in
+    (cost-next c.args.clauses.now c.work.clauses c.walk.new.clauses run.assignment.values.items run.assignment.list.items done.assignment.list.items a.group c.work.heads run.visits done.visits (spent lists run.assignment.list.items) (spent lists done.assignment.list.items) a.literal (state.costs.single c.requires.single) a.inside a.is after covered w) in
     let walked = subst (λ t. (xs : List ℕ) → AreServed c.work.run.assignment.values.items c.work.clauses.watches.items xs t 0 → AreWalked c.walk.new.run.assignment.values.items c.walk.new.clauses.watches.items (xs ++ (t ∷ []))) a.code (reported.walked c.if-branch-2.false) in
     record {
-      values = reported.values ∙ c.work.invariant.values;
       grows = grows-trans start.assignment.values.items run.assignment.values.items done.assignment.values.items c.work.invariant.grows reported.grows;
-      kept = λ base codes more old. c.in_ok-walk.ensures.kept base codes (grows-trans base c.args.run.now.assignment.values.items c.work.run.assignment.values.items more c.work.invariant.grows) (c.work.invariant.kept base codes more old);
+      kept = λ base codes more old. reported.kept base codes (grows-trans base start.assignment.values.items run.assignment.values.items more c.work.invariant.grows) (c.work.invariant.kept base codes more old);
       taken = c.work.invariant.taken;
       watching = subst (IsWatching c.args.clauses.now c.walk.new.clauses done.assignment.values.items done.assignment.list.items) (sym a.after)
           (watching-next (all_of store c.args.clauses.now) c.args.clauses.now c.work.clauses c.walk.new.clauses run.assignment.values.items done.assignment.values.items run.assignment.list.items done.assignment.list.items a.group c.work.heads a.literal a.inside a.is next.failed reported.literals reported.running derived walked w);
-      state = Propagating-walk c.args.rests.now (waits store.stored.items) c.args.waiting.now (shapes_of store.stored.items) (all_of store c.args.clauses.now) (entries_of (shapes_of store.stored.items) store.occurrences.items) (length store.stored.items) start.assignment.list.items start.candidates.items start.work.items start.next start.visits (cost c.args.clauses.now c.work.clauses c.work.heads run.assignment.list.items) (cost c.args.clauses.now c.walk.new.clauses c.in-Some.ahead.heads done.assignment.list.items) c.work.taken run.opens.items run.candidates.items run.assignment.list.items run.work.items run.trail.items run.next run.visits done.opens.items done.candidates.items done.assignment.list.items done.work.items done.trail.items done.next done.visits
-          reported.next (ap (λ (v : Vec ℕ Global). v.items) reported.candidates) derived (reported.counted c.if-branch-2.false) (reported.tidy (filter (waits store.stored.items) (drop c.work.taken c.args.waiting.now)) (length store.stored.items) state.tidy) paid reported.work reported.rising reported.found reported.opens reported.longer_work state;
+      state = propagating-walk (cost c.args.clauses.now c.walk.new.clauses c.in-Some.ahead.heads done.assignment.list.items) state derived (reported.counted c.if-branch-2.false) (reported.tidy (filter (waits store.stored.items) (drop c.work.taken c.args.waiting.now)) (length store.stored.items) state.tidy) reported.advances reported.found same paid;
     }
 
 pub visit_form-requires-clause-tidy : goal.visit_form-requires-clause-tidy
@@ -204,198 +214,143 @@ visit_form-requires-clause-tidy c =
     let keep = c.args.store.now.stored.items in
     let run = c.work.run in
     let inside : run.next < length run.work.items = omega (arith, c.if-run-len.true, c.len.ensures, run.work.ok.0) in
-    let p = waits keep in
     let all = take_rest c.args.waiting.now c.work.taken in
-    rw all (Propagating-visit (beside c.args.rests.now (filter p (drop c.work.taken c.args.waiting.now))) (shapes_of keep) (length keep) run.opens.items run.candidates.items run.assignment.list.items run.work.items run.trail.items run.next c.index-form.result.now (length-map keep stored_shape) inside c.index-form.ensures c.work.invariant.state.tidy)
+    rw all (propagating-visit (database c.args.store.now c.args.rests.now) (filter (waits keep) (drop c.work.taken c.args.waiting.now)) (progress run) c.index-form.result.now (length-map keep stored_shape) inside c.index-form.ensures c.work.invariant.state.tidy)
 
-pub returns-in_err-visit_form-clause-upper : goal.returns-in_err-visit_form-clause-upper
-returns-in_err-visit_form-clause-upper c =
+pub returns-in_err-visit_form-clause-costs : goal.returns-in_err-visit_form-clause-costs
+returns-in_err-visit_form-clause-costs c =
     let store = c.args.store.now in
-    let start = c.args.run.now in
     let run = c.work.run in
     let state = c.work.invariant.state in
     let w = c.work.invariant.watching in
-    let done = c.visit_form.new.run in
     let inside : run.next + 1 ≤ length run.work.items = omega (arith, c.if-run-len.true, c.len.ensures, run.work.ok.0) in
     let most = cost-most c.args.clauses.now c.work.clauses run.assignment.values.items run.assignment.list.items c.work.heads w in
-    let upper = Propagating-upper c.args.rests.now (waits store.stored.items) c.args.waiting.now (shapes_of store.stored.items) (all_of store c.args.clauses.now) (entries_of (shapes_of store.stored.items) store.occurrences.items) (length store.stored.items) start.assignment.list.items start.candidates.items start.work.items start.next start.visits (cost c.args.clauses.now c.work.clauses c.work.heads run.assignment.list.items) c.work.taken run.opens.items run.candidates.items run.assignment.list.items run.work.items run.trail.items run.next run.visits done.assignment.list.items done.candidates.items done.visits (cost c.args.clauses.now c.work.clauses c.work.heads run.assignment.list.items) 1 (spent-extends (entries_of (shapes_of store.stored.items) store.occurrences.items) run.assignment.list.items done.assignment.list.items c.visit_form.ensures.extends) c.requires.next state inside (omega (arith, c.visit_form.ensures.covered)) in
-    omega (arith, upper, most, reached-extends (clauses_of c.args.clauses.now) run.assignment.list.items done.assignment.list.items c.work.heads c.visit_form.ensures.extends)
+    let costs = c.in_err-visit_form.ensures.costs in
+    propagating-spends (clauses_of c.args.clauses.now) c.work.heads (progress c.visit_form.new.run) 1 c.requires.single c.requires.next state costs.extends costs.single c.visit_form.ensures.bounded inside (omega (arith, costs.paid, most))
 
-pub returns-then-branch-clause-upper : goal.returns-then-branch-clause-upper
-returns-then-branch-clause-upper c =
+pub returns-then-branch-clause-costs : goal.returns-then-branch-clause-costs
+returns-then-branch-clause-costs c =
     let store = c.args.store.now in
-    let start = c.args.run.now in
     let run = c.work.run in
     let state = c.work.invariant.state in
     let w = c.work.invariant.watching in
-    let done = c.visit_form.new.run in
     let inside : run.next + 1 ≤ length run.work.items = omega (arith, c.if-run-len.true, c.len.ensures, run.work.ok.0) in
     let most = cost-most c.args.clauses.now c.work.clauses run.assignment.values.items run.assignment.list.items c.work.heads w in
-    let upper = Propagating-upper c.args.rests.now (waits store.stored.items) c.args.waiting.now (shapes_of store.stored.items) (all_of store c.args.clauses.now) (entries_of (shapes_of store.stored.items) store.occurrences.items) (length store.stored.items) start.assignment.list.items start.candidates.items start.work.items start.next start.visits (cost c.args.clauses.now c.work.clauses c.work.heads run.assignment.list.items) c.work.taken run.opens.items run.candidates.items run.assignment.list.items run.work.items run.trail.items run.next run.visits done.assignment.list.items done.candidates.items done.visits (cost c.args.clauses.now c.work.clauses c.work.heads run.assignment.list.items) 1 (spent-extends (entries_of (shapes_of store.stored.items) store.occurrences.items) run.assignment.list.items done.assignment.list.items c.visit_form.ensures.extends) c.requires.next state inside (omega (arith, c.visit_form.ensures.covered)) in
-    omega (arith, upper, most, reached-extends (clauses_of c.args.clauses.now) run.assignment.list.items done.assignment.list.items c.work.heads c.visit_form.ensures.extends)
+    let costs = c.in_ok-visit_form.ensures.advances.costs in
+    propagating-spends (clauses_of c.args.clauses.now) c.work.heads (progress c.visit_form.new.run) 1 c.requires.single c.requires.next state costs.extends costs.single c.visit_form.ensures.bounded inside (omega (arith, costs.paid, most))
 
 pub returns-then-branch-clause-running : goal.returns-then-branch-clause-running
 returns-then-branch-clause-running c =
     let store = c.args.store.now in
-    let start = c.args.run.now in
     let run = c.work.run in
     let state = c.work.invariant.state in
     let w = c.work.invariant.watching in
     let done = c.visit_form.new.run in
-    let inside : run.next + 1 ≤ length run.work.items = omega (arith, c.if-run-len.true, c.len.ensures, run.work.ok.0) in
     let derived = derives-joined (shapes_of store.stored.items) (clauses_of c.args.clauses.now) run.assignment.list.items done.assignment.list.items c.requires.joined c.in_ok-visit_form.ensures.derived in
-    let grows = grows-listed run.assignment.values.items done.assignment.values.items run.assignment.list.items done.assignment.list.items c.in_ok-visit_form.ensures.values run.assignment.agrees done.assignment.agrees (derivation-keeps (all_of store c.args.clauses.now) run.assignment.list.items done.assignment.list.items derived) in
+    let grows = grows-listed run.assignment.values.items done.assignment.values.items run.assignment.list.items done.assignment.list.items c.in_ok-visit_form.ensures.advances.values run.assignment.agrees done.assignment.agrees (derivation-keeps (all_of store c.args.clauses.now) run.assignment.list.items done.assignment.list.items derived) in
     running-grow c.work.clauses run.assignment.values.items done.assignment.values.items grows w.running
 
 pub returns-then-branch-clause-derived : goal.returns-then-branch-clause-derived
 returns-then-branch-clause-derived c =
     let store = c.args.store.now in
-    let start = c.args.run.now in
     let run = c.work.run in
     let state = c.work.invariant.state in
-    let w = c.work.invariant.watching in
     let done = c.visit_form.new.run in
-    let inside : run.next + 1 ≤ length run.work.items = omega (arith, c.if-run-len.true, c.len.ensures, run.work.ok.0) in
     let derived = derives-joined (shapes_of store.stored.items) (clauses_of c.args.clauses.now) run.assignment.list.items done.assignment.list.items c.requires.joined c.in_ok-visit_form.ensures.derived in
-    let grows = grows-listed run.assignment.values.items done.assignment.values.items run.assignment.list.items done.assignment.list.items c.in_ok-visit_form.ensures.values run.assignment.agrees done.assignment.agrees (derivation-keeps (all_of store c.args.clauses.now) run.assignment.list.items done.assignment.list.items derived) in
-    derivation-then (all_of store c.args.clauses.now) start.assignment.list.items run.assignment.list.items done.assignment.list.items state.derived derived
+    derivation-then (all_of store c.args.clauses.now) c.args.run.now.assignment.list.items run.assignment.list.items done.assignment.list.items state.derived derived
 
 pub returns-then-branch-clause-conflict : goal.returns-then-branch-clause-conflict
 returns-then-branch-clause-conflict c =
-    let store = c.args.store.now in
-    let start = c.args.run.now in
-    let run = c.work.run in
-    let state = c.work.invariant.state in
-    let w = c.work.invariant.watching in
-    λ found. conflicts-joined (shapes_of store.stored.items) (clauses_of c.args.clauses.now) c.visit_form.new.run.assignment.list.items c.requires.joined (c.in_ok-visit_form.ensures.conflict c.if-branch.true)
+    λ found. conflicts-joined (shapes_of c.args.store.now.stored.items) (clauses_of c.args.clauses.now) c.visit_form.new.run.assignment.list.items c.requires.joined (c.in_ok-visit_form.ensures.conflict c.if-branch.true)
 
 pub work-smaller-else-branch : goal.work-smaller-else-branch
 work-smaller-else-branch c =
     let store = c.args.store.now in
-    let start = c.args.run.now in
     let run = c.work.run in
     let state = c.work.invariant.state in
     let w = c.work.invariant.watching in
-    let done = c.visit_form.new.run in
     let inside : run.next + 1 ≤ length run.work.items = omega (arith, c.if-run-len.true, c.len.ensures, run.work.ok.0) in
-    let bound = Propagating-bound c.args.rests.now (waits store.stored.items) c.args.waiting.now (shapes_of store.stored.items) (all_of store c.args.clauses.now) (entries_of (shapes_of store.stored.items) store.occurrences.items) (length store.stored.items) start.assignment.list.items start.candidates.items start.work.items start.next start.visits (cost c.args.clauses.now c.work.clauses c.work.heads run.assignment.list.items) c.work.taken run.opens.items run.candidates.items run.assignment.list.items run.work.items run.trail.items run.next run.visits c.requires.single state in
-    omega (arith, bound, c.in_ok-visit_form.ensures.next, inside, c.work.invariant.taken, c.work.invariant.values, run.assignment.room, w.short, w.long)
+    let bound = propagating-bound c.requires.single state in
+    omega (arith, bound, c.in_ok-visit_form.ensures.advances.next, inside, c.work.invariant.taken, state.values, run.assignment.room, w.short, w.long)
 
 pub work-preserved-else-branch : goal.work-preserved-else-branch
 work-preserved-else-branch c =
     let store = c.args.store.now in
-    let start = c.args.run.now in
     let run = c.work.run in
     let state = c.work.invariant.state in
     let w = c.work.invariant.watching in
     let done = c.visit_form.new.run in
     let inside : run.next + 1 ≤ length run.work.items = omega (arith, c.if-run-len.true, c.len.ensures, run.work.ok.0) in
     let derived = derives-joined (shapes_of store.stored.items) (clauses_of c.args.clauses.now) run.assignment.list.items done.assignment.list.items c.requires.joined c.in_ok-visit_form.ensures.derived in
-    let grows = grows-listed run.assignment.values.items done.assignment.values.items run.assignment.list.items done.assignment.list.items c.in_ok-visit_form.ensures.values run.assignment.agrees done.assignment.agrees (derivation-keeps (all_of store c.args.clauses.now) run.assignment.list.items done.assignment.list.items derived) in
+    let grows = grows-listed run.assignment.values.items done.assignment.values.items run.assignment.list.items done.assignment.list.items c.in_ok-visit_form.ensures.advances.values run.assignment.agrees done.assignment.agrees (derivation-keeps (all_of store c.args.clauses.now) run.assignment.list.items done.assignment.list.items derived) in
     let reported = c.in_ok-visit_form.ensures in
     let tidy = rw (take_rest c.args.waiting.now c.work.taken) at (reported.tidy c.if-branch.false) in
     record {
-      values = reported.values ∙ c.work.invariant.values;
-      grows = grows-trans start.assignment.values.items run.assignment.values.items done.assignment.values.items c.work.invariant.grows grows;
+      grows = grows-trans c.args.run.now.assignment.values.items run.assignment.values.items done.assignment.values.items c.work.invariant.grows grows;
       kept = c.work.invariant.kept;
       taken = c.work.invariant.taken;
       watching = watching-grow (all_of store c.args.clauses.now) c.args.clauses.now c.work.clauses run.assignment.values.items done.assignment.values.items run.assignment.list.items done.assignment.list.items c.work.heads grows derived w;
-      state = Propagating-next c.args.rests.now (waits store.stored.items) c.args.waiting.now (shapes_of store.stored.items) (all_of store c.args.clauses.now) (entries_of (shapes_of store.stored.items) store.occurrences.items) (length store.stored.items) start.assignment.list.items start.candidates.items start.work.items start.next start.visits (cost c.args.clauses.now c.work.clauses c.work.heads run.assignment.list.items) c.work.taken run.opens.items run.candidates.items run.assignment.list.items run.work.items run.trail.items run.next run.visits done.opens.items done.candidates.items done.assignment.list.items done.work.items done.trail.items done.next done.visits (cost c.args.clauses.now c.work.clauses c.work.heads done.assignment.list.items)
-          (cost-grow (all_of store c.args.clauses.now) c.args.clauses.now c.work.clauses run.assignment.list.items done.assignment.list.items c.work.heads w.short w.long derived) reported.next derived (reported.counted c.if-branch.false) tidy reported.paid reported.found reported.opens reported.candidates reported.within state;
+      state = propagating-next (cost c.args.clauses.now c.work.clauses c.work.heads done.assignment.list.items) state derived (reported.counted c.if-branch.false) tidy reported.advances reported.found (omega (arith, inside)) (cost-grow (all_of store c.args.clauses.now) c.args.clauses.now c.work.clauses run.assignment.list.items done.assignment.list.items c.work.heads w.short w.long derived);
     }
 
-pub returns-in_err-choose-clause-bounded : goal.returns-in_err-choose-clause-bounded
-returns-in_err-choose-clause-bounded c =
+pub returns-in_err-choose-clause-costs : goal.returns-in_err-choose-clause-costs
+returns-in_err-choose-clause-costs c =
     let store = c.args.store.now in
-    let start = c.args.run.now in
-    let run = c.work.run in
-    let state = c.work.invariant.state in
-    let w = c.work.invariant.watching in
-    sum-bounded (shapes_of store.stored.items) run.candidates.items (state.candidate_sizes ∙ sym (length-map store.stored.items stored_shape)) state.tidy.bounded
-
-pub returns-in_err-choose-clause-upper : goal.returns-in_err-choose-clause-upper
-returns-in_err-choose-clause-upper c =
-    let store = c.args.store.now in
-    let start = c.args.run.now in
     let run = c.work.run in
     let state = c.work.invariant.state in
     let w = c.work.invariant.watching in
     let most = cost-most c.args.clauses.now c.work.clauses run.assignment.values.items run.assignment.list.items c.work.heads w in
-    let upper = Propagating-upper c.args.rests.now (waits store.stored.items) c.args.waiting.now (shapes_of store.stored.items) (all_of store c.args.clauses.now) (entries_of (shapes_of store.stored.items) store.occurrences.items) (length store.stored.items) start.assignment.list.items start.candidates.items start.work.items start.next start.visits (cost c.args.clauses.now c.work.clauses c.work.heads run.assignment.list.items) c.work.taken run.opens.items run.candidates.items run.assignment.list.items run.work.items run.trail.items run.next run.visits run.assignment.list.items run.candidates.items run.visits (cost c.args.clauses.now c.work.clauses c.work.heads run.assignment.list.items) 0 (omega arith) c.requires.next state (omega (arith, state.within)) (omega arith) in
-    omega (arith, upper, most, reached-extends (clauses_of c.args.clauses.now) run.assignment.list.items run.assignment.list.items c.work.heads (extends-none run.assignment.list.items))
+    let bounded = sum-bounded (shapes_of store.stored.items) run.candidates.items (state.candidate_sizes ∙ sym (length-map store.stored.items stored_shape)) state.tidy.bounded in
+    propagating-spends (clauses_of c.args.clauses.now) c.work.heads (queued_to run.work.items c.choose.new.work.items (progress run)) 0 c.requires.single c.requires.next state (extends-none run.assignment.list.items) (λ s. s) bounded (omega (arith, state.within)) (omega (arith, most))
 
-pub returns-in_err-choose-2-clause-bounded : goal.returns-in_err-choose-2-clause-bounded
-returns-in_err-choose-2-clause-bounded c =
+pub returns-in_err-choose-2-clause-costs : goal.returns-in_err-choose-2-clause-costs
+returns-in_err-choose-2-clause-costs c =
     let store = c.args.store.now in
-    let start = c.args.run.now in
-    let run = c.work.run in
-    let state = c.work.invariant.state in
-    let w = c.work.invariant.watching in
-    sum-bounded (shapes_of store.stored.items) run.candidates.items (state.candidate_sizes ∙ sym (length-map store.stored.items stored_shape)) state.tidy.bounded
-
-pub returns-in_err-choose-2-clause-upper : goal.returns-in_err-choose-2-clause-upper
-returns-in_err-choose-2-clause-upper c =
-    let store = c.args.store.now in
-    let start = c.args.run.now in
     let run = c.work.run in
     let state = c.work.invariant.state in
     let w = c.work.invariant.watching in
     let most = cost-most c.args.clauses.now c.work.clauses run.assignment.values.items run.assignment.list.items c.work.heads w in
-    let upper = Propagating-upper c.args.rests.now (waits store.stored.items) c.args.waiting.now (shapes_of store.stored.items) (all_of store c.args.clauses.now) (entries_of (shapes_of store.stored.items) store.occurrences.items) (length store.stored.items) start.assignment.list.items start.candidates.items start.work.items start.next start.visits (cost c.args.clauses.now c.work.clauses c.work.heads run.assignment.list.items) c.work.taken run.opens.items run.candidates.items run.assignment.list.items run.work.items run.trail.items run.next run.visits run.assignment.list.items run.candidates.items run.visits (cost c.args.clauses.now c.work.clauses c.work.heads run.assignment.list.items) 0 (omega arith) c.requires.next state (omega (arith, state.within)) (omega arith) in
-    omega (arith, upper, most, reached-extends (clauses_of c.args.clauses.now) run.assignment.list.items run.assignment.list.items c.work.heads (extends-none run.assignment.list.items))
+    let bounded = sum-bounded (shapes_of store.stored.items) run.candidates.items (state.candidate_sizes ∙ sym (length-map store.stored.items stored_shape)) state.tidy.bounded in
+    propagating-spends (clauses_of c.args.clauses.now) c.work.heads (queued_to c.choose-then-taken-waiting.new.work.items c.choose.new.work.items (progress run)) 0 c.requires.single c.requires.next state (extends-none run.assignment.list.items) (λ s. s) bounded (omega (arith, state.within)) (omega (arith, most))
 
-pub returns-else-taken-waiting-clause-bounded : goal.returns-else-taken-waiting-clause-bounded
-returns-else-taken-waiting-clause-bounded c =
+pub returns-else-taken-waiting-clause-costs : goal.returns-else-taken-waiting-clause-costs
+returns-else-taken-waiting-clause-costs c =
     let store = c.args.store.now in
-    let start = c.args.run.now in
-    let run = c.work.run in
-    let state = c.work.invariant.state in
-    let w = c.work.invariant.watching in
-    sum-bounded (shapes_of store.stored.items) run.candidates.items (state.candidate_sizes ∙ sym (length-map store.stored.items stored_shape)) state.tidy.bounded
-
-pub returns-else-taken-waiting-clause-upper : goal.returns-else-taken-waiting-clause-upper
-returns-else-taken-waiting-clause-upper c =
-    let store = c.args.store.now in
-    let start = c.args.run.now in
     let run = c.work.run in
     let state = c.work.invariant.state in
     let w = c.work.invariant.watching in
     let most = cost-most c.args.clauses.now c.work.clauses run.assignment.values.items run.assignment.list.items c.work.heads w in
-    let upper = Propagating-upper c.args.rests.now (waits store.stored.items) c.args.waiting.now (shapes_of store.stored.items) (all_of store c.args.clauses.now) (entries_of (shapes_of store.stored.items) store.occurrences.items) (length store.stored.items) start.assignment.list.items start.candidates.items start.work.items start.next start.visits (cost c.args.clauses.now c.work.clauses c.work.heads run.assignment.list.items) c.work.taken run.opens.items run.candidates.items run.assignment.list.items run.work.items run.trail.items run.next run.visits run.assignment.list.items run.candidates.items run.visits (cost c.args.clauses.now c.work.clauses c.work.heads run.assignment.list.items) 0 (omega arith) c.requires.next state (omega (arith, state.within)) (omega arith) in
-    omega (arith, upper, most, reached-extends (clauses_of c.args.clauses.now) run.assignment.list.items run.assignment.list.items c.work.heads (extends-none run.assignment.list.items))
+    let bounded = sum-bounded (shapes_of store.stored.items) run.candidates.items (state.candidate_sizes ∙ sym (length-map store.stored.items stored_shape)) state.tidy.bounded in
+    propagating-spends (clauses_of c.args.clauses.now) c.work.heads (progress run) 0 c.requires.single c.requires.next state (extends-none run.assignment.list.items) (λ s. s) bounded (omega (arith, state.within)) (omega (arith, most))
 
 pub work-smaller : goal.work-smaller
 work-smaller c =
     let store = c.args.store.now in
-    let start = c.args.run.now in
     let run = c.work.run in
     let state = c.work.invariant.state in
     let w = c.work.invariant.watching in
-    let bound = Propagating-bound c.args.rests.now (waits store.stored.items) c.args.waiting.now (shapes_of store.stored.items) (all_of store c.args.clauses.now) (entries_of (shapes_of store.stored.items) store.occurrences.items) (length store.stored.items) start.assignment.list.items start.candidates.items start.work.items start.next start.visits (cost c.args.clauses.now c.work.clauses c.work.heads run.assignment.list.items) c.work.taken run.opens.items run.candidates.items run.assignment.list.items run.work.items run.trail.items run.next run.visits c.requires.single state in
-    omega (arith, bound, state.within, c.if-taken-waiting.true, w.short, w.long, c.work.invariant.values, run.assignment.room)
+    let bound = propagating-bound c.requires.single state in
+    omega (arith, bound, state.within, c.if-taken-waiting.true, w.short, w.long, state.values, run.assignment.room)
 
 pub work-preserved : goal.work-preserved
 work-preserved c =
     let store = c.args.store.now in
-    let start = c.args.run.now in
     let run = c.work.run in
     let state = c.work.invariant.state in
     let w = c.work.invariant.watching in
     let less : c.work.taken < length c.args.waiting.now = omega (arith, c.if-taken-waiting.true) in
     record {
-      values = c.work.invariant.values;
       grows = c.work.invariant.grows;
       kept = c.work.invariant.kept;
       taken = omega (arith, less);
       watching = w;
-      state = Propagating-choose c.args.rests.now (waits store.stored.items) c.args.waiting.now (shapes_of store.stored.items) (all_of store c.args.clauses.now) (entries_of (shapes_of store.stored.items) store.occurrences.items) (length store.stored.items) start.assignment.list.items start.candidates.items start.work.items start.next start.visits (cost c.args.clauses.now c.work.clauses c.work.heads run.assignment.list.items) c.work.taken run.opens.items run.candidates.items run.assignment.list.items run.work.items run.trail.items run.next run.visits (get_or c.args.waiting.now c.work.taken 0) c.choose-then-taken-waiting.new.work.items c.choose.new.work.items less (get_or_default c.args.waiting.now c.work.taken 0 _ less)
-          (omega (arith, c.requires.waiting c.work.taken 0 less, length-map store.stored.items stored_shape)) c.in_ok-choose-2.ensures c.in_ok-choose.ensures state;
+      state = propagating-choose (get_or c.args.waiting.now c.work.taken 0) c.choose-then-taken-waiting.new.work.items c.choose.new.work.items state less (get_or_default c.args.waiting.now c.work.taken 0 _ less)
+          (omega (arith, c.requires.waiting c.work.taken 0 less, length-map store.stored.items stored_shape)) c.in_ok-choose-2.ensures c.in_ok-choose.ensures;
     }
 
 pub returns-else-taken-waiting-clause-settled : goal.returns-else-taken-waiting-clause-settled
 returns-else-taken-waiting-clause-settled c =
     let store = c.args.store.now in
-    let start = c.args.run.now in
     let run = c.work.run in
     let state = c.work.invariant.state in
     let w = c.work.invariant.watching in
@@ -404,30 +359,9 @@ returns-else-taken-waiting-clause-settled c =
     let none_waits : length c.args.waiting.now ≤ c.work.taken = omega (arith, c.if-taken-waiting.false) in
     let end = subst (λ (xs : List NumberedLiteral). (length xs ≤ c.work.heads.short) × (length xs ≤ c.work.heads.long)) c.as_slice.ensures.value c.in_default.ensures.none in
     elim (joined-source (shapes_of store.stored.items) (clauses_of c.args.clauses.now) f has) [
-      | inl kept ↦ Propagating-settled c.args.rests.now (waits store.stored.items) c.args.waiting.now store.stored.items (all_of store c.args.clauses.now) (entries_of (shapes_of store.stored.items) store.occurrences.items) start.assignment.list.items start.candidates.items start.work.items start.next start.visits (cost c.args.clauses.now c.work.clauses c.work.heads run.assignment.list.items) c.work.taken run.opens.items run.candidates.items run.assignment.list.items run.work.items run.trail.items run.next run.visits all none_waits state f kept
+      | inl kept ↦ propagating-settled store c.args.rests.now state all none_waits f kept
       | inr clause ↦ subst (λ g. IsSettled g c.work.run.assignment.list.items) clause.2 (watching-settled c.args.clauses.now c.work.clauses run.assignment.values.items run.assignment.list.items c.work.heads clause.0 run.assignment.agrees (λ k on. opposite run.assignment.values.items run.assignment.list.items k run.assignment.agrees on) end.0 end.1 clause.1 w)
     ]
-
-pub returns-in_err-visit_form-clause-single : goal.returns-in_err-visit_form-clause-single
-returns-in_err-visit_form-clause-single c = c.visit_form.ensures.single (derivation-single (all_of c.args.store.now c.args.clauses.now) c.args.run.now.assignment.list.items c.work.run.assignment.list.items c.requires.single c.work.invariant.state.derived)
-
-pub returns-then-branch-clause-single : goal.returns-then-branch-clause-single
-returns-then-branch-clause-single c = c.visit_form.ensures.single (derivation-single (all_of c.args.store.now c.args.clauses.now) c.args.run.now.assignment.list.items c.work.run.assignment.list.items c.requires.single c.work.invariant.state.derived)
-
-pub returns-in_err-walk-clause-single : goal.returns-in_err-walk-clause-single
-returns-in_err-walk-clause-single c = c.walk.ensures.single (derivation-single (all_of c.args.store.now c.args.clauses.now) c.args.run.now.assignment.list.items c.work.run.assignment.list.items c.requires.single c.work.invariant.state.derived)
-
-pub returns-then-branch-2-clause-single : goal.returns-then-branch-2-clause-single
-returns-then-branch-2-clause-single c = c.walk.ensures.single (derivation-single (all_of c.args.store.now c.args.clauses.now) c.args.run.now.assignment.list.items c.work.run.assignment.list.items c.requires.single c.work.invariant.state.derived)
-
-pub returns-in_err-choose-clause-single : goal.returns-in_err-choose-clause-single
-returns-in_err-choose-clause-single c = derivation-single (all_of c.args.store.now c.args.clauses.now) c.args.run.now.assignment.list.items c.work.run.assignment.list.items c.requires.single c.work.invariant.state.derived
-
-pub returns-in_err-choose-2-clause-single : goal.returns-in_err-choose-2-clause-single
-returns-in_err-choose-2-clause-single c = derivation-single (all_of c.args.store.now c.args.clauses.now) c.args.run.now.assignment.list.items c.work.run.assignment.list.items c.requires.single c.work.invariant.state.derived
-
-pub returns-else-taken-waiting-clause-single : goal.returns-else-taken-waiting-clause-single
-returns-else-taken-waiting-clause-single c = derivation-single (all_of c.args.store.now c.args.clauses.now) c.args.run.now.assignment.list.items c.work.run.assignment.list.items c.requires.single c.work.invariant.state.derived
 
 pub returns-else-taken-waiting-clause-walked : goal.returns-else-taken-waiting-clause-walked
 returns-else-taken-waiting-clause-walked c = λ found.
@@ -435,27 +369,6 @@ returns-else-taken-waiting-clause-walked c = λ found.
     let w = c.work.invariant.watching in
     let end = subst (λ (xs : List NumberedLiteral). (length xs ≤ c.work.heads.short) × (length xs ≤ c.work.heads.long)) c.as_slice.ensures.value c.in_default.ensures.none in
     walked-whole run.assignment.values.items c.work.clauses.watches.items run.assignment.list.items c.work.heads (omega (arith, w.short, end.0)) (omega (arith, w.long, end.1)) w.served
-
-pub returns-in_err-visit_form-clause-extends : goal.returns-in_err-visit_form-clause-extends
-returns-in_err-visit_form-clause-extends c = extends-then c.args.run.now.assignment.list.items c.work.run.assignment.list.items c.visit_form.new.run.assignment.list.items (derives-extends (all_of c.args.store.now c.args.clauses.now) c.args.run.now.assignment.list.items c.work.run.assignment.list.items c.work.invariant.state.derived) c.visit_form.ensures.extends
-
-pub returns-then-branch-clause-extends : goal.returns-then-branch-clause-extends
-returns-then-branch-clause-extends c = extends-then c.args.run.now.assignment.list.items c.work.run.assignment.list.items c.visit_form.new.run.assignment.list.items (derives-extends (all_of c.args.store.now c.args.clauses.now) c.args.run.now.assignment.list.items c.work.run.assignment.list.items c.work.invariant.state.derived) c.visit_form.ensures.extends
-
-pub returns-in_err-walk-clause-extends : goal.returns-in_err-walk-clause-extends
-returns-in_err-walk-clause-extends c = extends-then c.args.run.now.assignment.list.items c.work.run.assignment.list.items c.walk.new.run.assignment.list.items (derives-extends (all_of c.args.store.now c.args.clauses.now) c.args.run.now.assignment.list.items c.work.run.assignment.list.items c.work.invariant.state.derived) c.walk.ensures.extends
-
-pub returns-then-branch-2-clause-extends : goal.returns-then-branch-2-clause-extends
-returns-then-branch-2-clause-extends c = extends-then c.args.run.now.assignment.list.items c.work.run.assignment.list.items c.walk.new.run.assignment.list.items (derives-extends (all_of c.args.store.now c.args.clauses.now) c.args.run.now.assignment.list.items c.work.run.assignment.list.items c.work.invariant.state.derived) c.walk.ensures.extends
-
-pub returns-in_err-choose-clause-extends : goal.returns-in_err-choose-clause-extends
-returns-in_err-choose-clause-extends c = derives-extends (all_of c.args.store.now c.args.clauses.now) c.args.run.now.assignment.list.items c.work.run.assignment.list.items c.work.invariant.state.derived
-
-pub returns-in_err-choose-2-clause-extends : goal.returns-in_err-choose-2-clause-extends
-returns-in_err-choose-2-clause-extends c = derives-extends (all_of c.args.store.now c.args.clauses.now) c.args.run.now.assignment.list.items c.work.run.assignment.list.items c.work.invariant.state.derived
-
-pub returns-else-taken-waiting-clause-extends : goal.returns-else-taken-waiting-clause-extends
-returns-else-taken-waiting-clause-extends c = derives-extends (all_of c.args.store.now c.args.clauses.now) c.args.run.now.assignment.list.items c.work.run.assignment.list.items c.work.invariant.state.derived
 
 pub returns-then-branch-clause-kept : goal.returns-then-branch-clause-kept
 returns-then-branch-clause-kept c = c.work.invariant.kept

@@ -1,7 +1,5 @@
-use Rattle.std.proofs.Common.{◌≡◌, [], get_or}
-use Rattle.pb_normal.specs.meaning.Rules.{negation}
-use Rattle.pb_propagate.specs.engine.Engine.Counts.{place}
-use Rattle.pb_propagate.specs.engine.Engine.Fields.{shapes_of, entries_of}
+use Rattle.std.proofs.Common.{◌≡◌}
+use Rattle.pb_propagate.specs.engine.Engine.Progress.{progress, database, entries_against}
 use Rattle.pb_propagate.proofs.lemmas.engine.Puts.{IsPutting}
 use Rattle.pb_propagate.proofs.run.put.Given as goal
 
@@ -10,5 +8,5 @@ invariant-entries l = record {
   assignment : l.run.assignment ≡ l.initial.run.assignment;
   candidates : l.run.candidates ≡ l.initial.run.candidates;
   next : l.run.next ≡ l.initial.run.next;
-  putting : IsPutting l.rests (shapes_of l.store.stored.items) (get_or (entries_of (shapes_of l.store.stored.items) l.store.occurrences.items) (place (negation l.fn.literal)) []) l.initial.run.opens.items l.initial.run.candidates.items l.initial.run.assignment.list.items l.initial.run.work.items l.initial.run.trail.items l.initial.run.next l.initial.run.visits l.run.opens.items l.run.work.items l.run.trail.items l.run.visits l.j;
+  putting : IsPutting (database l.store l.rests) (entries_against (database l.store l.rests) l.fn.literal) (progress l.initial.run) (progress l.run) l.j;
 }

@@ -3,6 +3,8 @@ use Rattle.std.proofs.lemmas.Bool.{or_left, or_right}
 use Rattle.pb_normal.specs.meaning.Rules.{negation}
 use Rattle.pb_propagate.specs.engine.Engine.Lists.{has}
 use Rattle.pb_propagate.specs.engine.Engine.Counts.{kept, added}
+use Rattle.pb_propagate.specs.engine.Engine.Progress.{progress, database}
+use Rattle.pb_propagate.proofs.lemmas.engine.Advances.{advances-refl}
 use Rattle.pb_propagate.proofs.run.try_put.Goals as goal
 
 pub returns-then-contains-clause-adopted : goal.returns-then-contains-clause-adopted
@@ -20,3 +22,9 @@ returns-clause-adopted c =
     let absent : has c.args.run.now.assignment.list.items c.args.literal ≡ false = cc (c.contains.ensures, c.if-contains.false) in
     let opened : has c.args.run.now.assignment.list.items (negation c.args.literal) ≡ false = cc (c.contains-2.ensures, c.if-contains-2.false, c.negation.ensures) in
     rw c.in_ok-found.ensures.list (added absent opened)
+
+pub returns-then-contains-clause-advances : goal.returns-then-contains-clause-advances
+returns-then-contains-clause-advances c = advances-refl (database c.args.store.now c.args.rests.now) (progress c.args.run.now)
+
+pub returns-then-contains-2-clause-advances : goal.returns-then-contains-2-clause-advances
+returns-then-contains-2-clause-advances c = advances-refl (database c.args.store.now c.args.rests.now) (progress c.args.run.now)

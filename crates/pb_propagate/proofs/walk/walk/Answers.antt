@@ -1,174 +1,134 @@
 use Rattle.std.specs.Prelude.{Bool, Option, sum}
-use Rattle.std.proofs.Common.{Vec, Global, ◌<◌, ◌+◌, ◌++◌, ◌∷◌, [], ℕ, List, refl, sym, ◌∙◌, ap, subst, length, arith}
+use Rattle.std.proofs.Common.{Vec, Global, ◌<◌, ◌≤◌, ◌+◌, ◌++◌, ◌∷◌, [], ℕ, List, refl, sym, ◌∙◌, ap, subst, length, arith}
 use Rattle.pb_normal.specs.declared.numbered.NumberedLiteral.{NumberedLiteral}
 use Rattle.pb_normal.specs.meaning.Rules.{negation}
+use Rattle.pb_propagate.specs.declared.clauses.visiting.Visit.TheVariants.{Stays, Leaves, Forces, Falsified}
 use Rattle.pb_propagate.specs.engine.Engine.Lists.{has}
-use Rattle.pb_propagate.specs.engine.Engine.Fields.{shapes_of, entries_of}
+use Rattle.pb_propagate.specs.engine.Engine.Fields.{shapes_of}
+use Rattle.pb_propagate.specs.engine.Engine.Progress.{progress, database, visited_to}
 use Rattle.pb_propagate.specs.engine.Clauses.Links.{lists_of, list_at}
-use Rattle.pb_propagate.specs.engine.Clauses.Runs.{AreWalked, Grows, HasFound, AreServed, index_after, IsBroken, IsRunning}
+use Rattle.pb_propagate.specs.engine.Clauses.Runs.{AreServed, AreWalked, Grows, HasFound, HasVisited, IsBroken, IsRunning, index_after}
 use Rattle.pb_propagate.specs.engine.Clauses.Shapes.{clauses_of}
 use Rattle.pb_propagate.proofs.lemmas.clauses.Literals.{true-listed, false-listed}
 use Rattle.pb_propagate.proofs.lemmas.clauses.Shapes.{broken-conflicts, conflicts-joined}
 use Rattle.pb_propagate.proofs.lemmas.clauses.Walks.{grows-trans, IsWalking, walking-start, walking-next, walking-forces, walked-end}
 use Rattle.pb_propagate.proofs.lemmas.clauses.Readings.{running-bounded}
-use Rattle.pb_propagate.proofs.lemmas.root.Extends.{extends-none, extends-then}
+use Rattle.pb_propagate.proofs.lemmas.engine.Watched.{walk-start, walk-next, walk-ends, walk-then, walk-costs, walk-done}
+use Rattle.pb_propagate.proofs.lemmas.engine.Advances.{on-err}
 use Rattle.pb_propagate.proofs.walk.walk.Goals as goal
 
 pub watches-init : goal.watches-init
-watches-init c = record {
-  walking = walking-start (shapes_of c.args.store.now.stored.items) (entries_of (shapes_of c.args.store.now.stored.items) c.args.store.now.occurrences.items) c.args.clauses.now c.args.run.now.assignment.values.items c.args.run.now.assignment.list.items c.args.literal c.args.run.now.visits c.requires.running c.requires.failed;
-  values = refl;
-  opens = refl;
-  candidates = refl;
-  next = refl;
-  longer = omega arith;
-  single = λ s. s;
-  extends = extends-none c.args.run.now.assignment.list.items;
-  kept = λ base codes more old. old;
-  counted = c.requires.counted;
-  tidy = λ aside busy t. t;
-  work = omega arith;
-}
+watches-init c =
+    let run = progress c.args.run.now in
+    record {
+      walking = walking-start (shapes_of c.args.store.now.stored.items) c.args.clauses.now c.args.literal run c.requires.running c.requires.failed;
+      advances = walk-start (database c.args.store.now c.args.rests.now) c.args.clauses.now c.args.literal run;
+      candidates = refl;
+      counted = c.requires.counted;
+      tidy = λ aside busy t. t;
+    }
 
 pub watches-preserved-in-Stays : goal.watches-preserved-in-Stays
 watches-preserved-in-Stays c =
-    let w = c.watches.invariant.walking in
-    let shapes = shapes_of c.args.store.now.stored.items in
-    let lists = entries_of shapes c.args.store.now.occurrences.items in
-    let values = c.watches.run.assignment.values.items in
-    let room : c.args.literal < length c.watches.clauses.lists.items = omega (arith, c.requires.literal, w.sizes) in
-    let inside : c.watches.index < length (list_at (lists_of c.watches.clauses.lists.items) c.args.literal) = omega (arith, c.watches-test.true, c.watch_count.ensures) in
-    let found = subst (HasFound c.watches.run.assignment.values.items c.watches.clauses c.visit_clause.new.clauses c.args.literal c.watches.index) c.in-Stays.is (subst (λ vs. HasFound vs c.watches.clauses c.visit_clause.new.clauses c.args.literal c.watches.index c.in_ok-visit_clause.field-0) refl c.in_ok-visit_clause.ensures.found) in
     let i = c.watches.invariant in
+    let inside : c.watches.index < length (list_at (lists_of c.watches.clauses.lists.items) c.args.literal) = omega (arith, c.watches-test.true, c.watch_count.ensures) in
+    let first : HasVisited c.watches.run.assignment.values.items c.watches.clauses c.visit_clause.new.clauses c.args.literal c.watches.index c.in_ok-visit_clause.field-0 = record {
+      lists = c.in_ok-visit_clause.ensures.lists;
+      running = subst (λ vs. IsRunning vs c.visit_clause.new.clauses) refl c.in_ok-visit_clause.ensures.running;
+      served = subst (λ vs. (xs : List ℕ) → AreServed vs c.watches.clauses.watches.items xs c.args.literal c.watches.index → AreServed vs c.visit_clause.new.clauses.watches.items xs c.args.literal (index_after c.watches.index c.in_ok-visit_clause.field-0)) refl c.in_ok-visit_clause.ensures.served;
+      found = subst (λ vs. HasFound vs c.watches.clauses c.visit_clause.new.clauses c.args.literal c.watches.index c.in_ok-visit_clause.field-0) refl c.in_ok-visit_clause.ensures.found;
+      kept = subst (λ vs. (b : List (Option Bool)) (cs : List ℕ) → Grows b vs → AreWalked b c.watches.clauses.watches.items cs → AreWalked b c.visit_clause.new.clauses.watches.items cs) refl c.in_ok-visit_clause.ensures.kept;
+    } in
+    let v : HasVisited c.watches.run.assignment.values.items c.watches.clauses c.visit_clause.new.clauses c.args.literal c.watches.index Stays = subst (HasVisited c.watches.run.assignment.values.items c.watches.clauses c.visit_clause.new.clauses c.args.literal c.watches.index) c.in-Stays.is first in
     record {
-      walking = walking-next shapes lists c.args.clauses.now c.watches.clauses c.visit_clause.new.clauses c.args.run.now.assignment.values.items values c.args.run.now.assignment.list.items c.watches.run.assignment.list.items c.args.literal c.watches.index (c.watches.index + 1) c.args.run.now.visits c.watches.run.visits c.visit_clause.new.visits
-          c.in_ok-visit_clause.ensures.literals c.in_ok-visit_clause.ensures.lists (subst (λ vs. IsRunning vs c.visit_clause.new.clauses) refl c.in_ok-visit_clause.ensures.running)
-          (λ walked s. subst (λ r. AreServed c.watches.run.assignment.values.items c.visit_clause.new.clauses.watches.items walked c.args.literal (index_after c.watches.index r)) c.in-Stays.is (subst (λ vs. (xs : List ℕ) → AreServed vs c.watches.clauses.watches.items xs c.args.literal c.watches.index → AreServed vs c.visit_clause.new.clauses.watches.items xs c.args.literal (index_after c.watches.index c.in_ok-visit_clause.field-0)) refl c.in_ok-visit_clause.ensures.served walked s))
-          inside (omega (arith, inside, found)) (omega (arith, found)) c.in_ok-visit_clause.ensures.covered c.in_ok-visit_clause.ensures.visited c.in_ok-visit_clause.ensures.rising w;
-      values = i.values;
-      opens = i.opens;
+      walking = walking-next c.visit_clause.new.clauses Stays c.visit_clause.new.visits i.walking v c.visit_clause.ensures.literals (omega (arith, inside, v.found)) (record { counted = c.visit_clause.ensures.visited; rising = c.visit_clause.ensures.rising });
+      advances = walk-next (database c.args.store.now c.args.rests.now) c.args.clauses.now c.watches.clauses c.visit_clause.new.clauses c.args.literal c.watches.index (c.watches.index + 1) c.visit_clause.new.visits inside (omega (arith, inside, v.found)) (omega (arith, v.found)) c.visit_clause.ensures.covered c.visit_clause.ensures.rising i.advances;
       candidates = i.candidates;
-      next = i.next;
-      longer = i.longer;
-      single = i.single;
-      extends = i.extends;
-      kept = λ base codes more old. (subst (λ vs. (b : List (Option Bool)) (cs : List ℕ) → Grows b vs → AreWalked b c.watches.clauses.watches.items cs → AreWalked b c.visit_clause.new.clauses.watches.items cs) refl c.in_ok-visit_clause.ensures.kept) base codes (grows-trans base c.args.run.now.assignment.values.items c.watches.run.assignment.values.items more c.watches.invariant.walking.grows) (c.watches.invariant.kept base codes more old);
       counted = i.counted;
       tidy = i.tidy;
-      work = i.work;
     }
 
 pub watches-preserved-in-Leaves : goal.watches-preserved-in-Leaves
 watches-preserved-in-Leaves c =
-    let w = c.watches.invariant.walking in
-    let shapes = shapes_of c.args.store.now.stored.items in
-    let lists = entries_of shapes c.args.store.now.occurrences.items in
-    let values = c.watches.run.assignment.values.items in
-    let room : c.args.literal < length c.watches.clauses.lists.items = omega (arith, c.requires.literal, w.sizes) in
-    let inside : c.watches.index < length (list_at (lists_of c.watches.clauses.lists.items) c.args.literal) = omega (arith, c.watches-test.true, c.watch_count.ensures) in
-    let found = subst (HasFound c.watches.run.assignment.values.items c.watches.clauses c.visit_clause.new.clauses c.args.literal c.watches.index) c.in-Leaves.is (subst (λ vs. HasFound vs c.watches.clauses c.visit_clause.new.clauses c.args.literal c.watches.index c.in_ok-visit_clause.field-0) refl c.in_ok-visit_clause.ensures.found) in
     let i = c.watches.invariant in
+    let inside : c.watches.index < length (list_at (lists_of c.watches.clauses.lists.items) c.args.literal) = omega (arith, c.watches-test.true, c.watch_count.ensures) in
+    let first : HasVisited c.watches.run.assignment.values.items c.watches.clauses c.visit_clause.new.clauses c.args.literal c.watches.index c.in_ok-visit_clause.field-0 = record {
+      lists = c.in_ok-visit_clause.ensures.lists;
+      running = subst (λ vs. IsRunning vs c.visit_clause.new.clauses) refl c.in_ok-visit_clause.ensures.running;
+      served = subst (λ vs. (xs : List ℕ) → AreServed vs c.watches.clauses.watches.items xs c.args.literal c.watches.index → AreServed vs c.visit_clause.new.clauses.watches.items xs c.args.literal (index_after c.watches.index c.in_ok-visit_clause.field-0)) refl c.in_ok-visit_clause.ensures.served;
+      found = subst (λ vs. HasFound vs c.watches.clauses c.visit_clause.new.clauses c.args.literal c.watches.index c.in_ok-visit_clause.field-0) refl c.in_ok-visit_clause.ensures.found;
+      kept = subst (λ vs. (b : List (Option Bool)) (cs : List ℕ) → Grows b vs → AreWalked b c.watches.clauses.watches.items cs → AreWalked b c.visit_clause.new.clauses.watches.items cs) refl c.in_ok-visit_clause.ensures.kept;
+    } in
+    let v : HasVisited c.watches.run.assignment.values.items c.watches.clauses c.visit_clause.new.clauses c.args.literal c.watches.index Leaves = subst (HasVisited c.watches.run.assignment.values.items c.watches.clauses c.visit_clause.new.clauses c.args.literal c.watches.index) c.in-Leaves.is first in
     record {
-      walking = walking-next shapes lists c.args.clauses.now c.watches.clauses c.visit_clause.new.clauses c.args.run.now.assignment.values.items values c.args.run.now.assignment.list.items c.watches.run.assignment.list.items c.args.literal c.watches.index c.watches.index c.args.run.now.visits c.watches.run.visits c.visit_clause.new.visits
-          c.in_ok-visit_clause.ensures.literals c.in_ok-visit_clause.ensures.lists (subst (λ vs. IsRunning vs c.visit_clause.new.clauses) refl c.in_ok-visit_clause.ensures.running)
-          (λ walked s. subst (λ r. AreServed c.watches.run.assignment.values.items c.visit_clause.new.clauses.watches.items walked c.args.literal (index_after c.watches.index r)) c.in-Leaves.is (subst (λ vs. (xs : List ℕ) → AreServed vs c.watches.clauses.watches.items xs c.args.literal c.watches.index → AreServed vs c.visit_clause.new.clauses.watches.items xs c.args.literal (index_after c.watches.index c.in_ok-visit_clause.field-0)) refl c.in_ok-visit_clause.ensures.served walked s))
-          inside (omega (arith, inside, found)) (omega (arith, found)) c.in_ok-visit_clause.ensures.covered c.in_ok-visit_clause.ensures.visited c.in_ok-visit_clause.ensures.rising w;
-      values = i.values;
-      opens = i.opens;
+      walking = walking-next c.visit_clause.new.clauses Leaves c.visit_clause.new.visits i.walking v c.visit_clause.ensures.literals (omega (arith, inside, v.found)) (record { counted = c.visit_clause.ensures.visited; rising = c.visit_clause.ensures.rising });
+      advances = walk-next (database c.args.store.now c.args.rests.now) c.args.clauses.now c.watches.clauses c.visit_clause.new.clauses c.args.literal c.watches.index c.watches.index c.visit_clause.new.visits inside (omega (arith, inside, v.found)) (omega (arith, v.found)) c.visit_clause.ensures.covered c.visit_clause.ensures.rising i.advances;
       candidates = i.candidates;
-      next = i.next;
-      longer = i.longer;
-      single = i.single;
-      extends = i.extends;
-      kept = λ base codes more old. (subst (λ vs. (b : List (Option Bool)) (cs : List ℕ) → Grows b vs → AreWalked b c.watches.clauses.watches.items cs → AreWalked b c.visit_clause.new.clauses.watches.items cs) refl c.in_ok-visit_clause.ensures.kept) base codes (grows-trans base c.args.run.now.assignment.values.items c.watches.run.assignment.values.items more c.watches.invariant.walking.grows) (c.watches.invariant.kept base codes more old);
       counted = i.counted;
       tidy = i.tidy;
-      work = i.work;
+    }
+
+pub watches-preserved : goal.watches-preserved
+watches-preserved c =
+    let i = c.watches.invariant in
+    let inside : c.watches.index < length (list_at (lists_of c.watches.clauses.lists.items) c.args.literal) = omega (arith, c.watches-test.true, c.watch_count.ensures) in
+    let first : HasVisited c.watches.run.assignment.values.items c.watches.clauses c.visit_clause.new.clauses c.args.literal c.watches.index c.in_ok-visit_clause.field-0 = record {
+      lists = c.in_ok-visit_clause.ensures.lists;
+      running = subst (λ vs. IsRunning vs c.visit_clause.new.clauses) refl c.in_ok-visit_clause.ensures.running;
+      served = subst (λ vs. (xs : List ℕ) → AreServed vs c.watches.clauses.watches.items xs c.args.literal c.watches.index → AreServed vs c.visit_clause.new.clauses.watches.items xs c.args.literal (index_after c.watches.index c.in_ok-visit_clause.field-0)) refl c.in_ok-visit_clause.ensures.served;
+      found = subst (λ vs. HasFound vs c.watches.clauses c.visit_clause.new.clauses c.args.literal c.watches.index c.in_ok-visit_clause.field-0) refl c.in_ok-visit_clause.ensures.found;
+      kept = subst (λ vs. (b : List (Option Bool)) (cs : List ℕ) → Grows b vs → AreWalked b c.watches.clauses.watches.items cs → AreWalked b c.visit_clause.new.clauses.watches.items cs) refl c.in_ok-visit_clause.ensures.kept;
+    } in
+    let v : HasVisited c.watches.run.assignment.values.items c.watches.clauses c.visit_clause.new.clauses c.args.literal c.watches.index (Forces c.in-Forces.code) = subst (HasVisited c.watches.run.assignment.values.items c.watches.clauses c.visit_clause.new.clauses c.args.literal c.watches.index) c.in-Forces.is first in
+    let reported = c.in_ok-put-in-Forces.ensures in
+    record {
+      walking = walking-forces c.visit_clause.new.clauses c.visit_clause.new.visits c.in-Forces.code (progress c.put.new.run) c.requires.joined c.watches.invariant.walking v c.visit_clause.ensures.literals inside (record { counted = c.visit_clause.ensures.visited; rising = c.visit_clause.ensures.rising }) reported.advances.rising reported.advances.values (reported.list ∙ ap (λ k. c.watches.run.assignment.list.items ++ (k ∷ [])) c.literal_of.ensures) c.watches.run.assignment.agrees c.put.new.run.assignment.agrees;
+      advances = walk-then (walk-next (database c.args.store.now c.args.rests.now) c.args.clauses.now c.watches.clauses c.visit_clause.new.clauses c.args.literal c.watches.index (c.watches.index + 1) c.visit_clause.new.visits inside (omega (arith, inside, v.found.0)) (omega (arith, v.found.0)) c.visit_clause.ensures.covered c.visit_clause.ensures.rising i.advances) reported.advances;
+      candidates = reported.candidates ∙ i.candidates;
+      counted = reported.counted c.if-branch.false;
+      tidy = λ aside busy t. reported.tidy aside busy (i.tidy aside busy t);
     }
 
 pub put-requires-clause-absent : goal.put-requires-clause-absent
 put-requires-clause-absent c =
     let values = c.watches.run.assignment.values.items in
-    let found = subst (HasFound c.watches.run.assignment.values.items c.watches.clauses c.visit_clause.new.clauses c.args.literal c.watches.index) c.in-Forces.is (subst (λ vs. HasFound vs c.watches.clauses c.visit_clause.new.clauses c.args.literal c.watches.index c.in_ok-visit_clause.field-0) refl c.in_ok-visit_clause.ensures.found) in
-    ap (λ (k : NumberedLiteral). has c.watches.run.assignment.list.items k) c.literal_of.ensures ∙ sym (true-listed values c.watches.run.assignment.list.items c.in-Forces.code c.watches.run.assignment.agrees) ∙ found.1.not_true
+    let first : HasVisited c.watches.run.assignment.values.items c.watches.clauses c.visit_clause.new.clauses c.args.literal c.watches.index c.in_ok-visit_clause.field-0 = record {
+      lists = c.in_ok-visit_clause.ensures.lists;
+      running = subst (λ vs. IsRunning vs c.visit_clause.new.clauses) refl c.in_ok-visit_clause.ensures.running;
+      served = subst (λ vs. (xs : List ℕ) → AreServed vs c.watches.clauses.watches.items xs c.args.literal c.watches.index → AreServed vs c.visit_clause.new.clauses.watches.items xs c.args.literal (index_after c.watches.index c.in_ok-visit_clause.field-0)) refl c.in_ok-visit_clause.ensures.served;
+      found = subst (λ vs. HasFound vs c.watches.clauses c.visit_clause.new.clauses c.args.literal c.watches.index c.in_ok-visit_clause.field-0) refl c.in_ok-visit_clause.ensures.found;
+      kept = subst (λ vs. (b : List (Option Bool)) (cs : List ℕ) → Grows b vs → AreWalked b c.watches.clauses.watches.items cs → AreWalked b c.visit_clause.new.clauses.watches.items cs) refl c.in_ok-visit_clause.ensures.kept;
+    } in
+    let v : HasVisited c.watches.run.assignment.values.items c.watches.clauses c.visit_clause.new.clauses c.args.literal c.watches.index (Forces c.in-Forces.code) = subst (HasVisited c.watches.run.assignment.values.items c.watches.clauses c.visit_clause.new.clauses c.args.literal c.watches.index) c.in-Forces.is first in
+    ap (λ (k : NumberedLiteral). has c.watches.run.assignment.list.items k) c.literal_of.ensures ∙ sym (true-listed values c.watches.run.assignment.list.items c.in-Forces.code c.watches.run.assignment.agrees) ∙ v.found.1.not_true
 
 pub put-requires-clause-not_falsified : goal.put-requires-clause-not_falsified
 put-requires-clause-not_falsified c =
     let values = c.watches.run.assignment.values.items in
-    let found = subst (HasFound c.watches.run.assignment.values.items c.watches.clauses c.visit_clause.new.clauses c.args.literal c.watches.index) c.in-Forces.is (subst (λ vs. HasFound vs c.watches.clauses c.visit_clause.new.clauses c.args.literal c.watches.index c.in_ok-visit_clause.field-0) refl c.in_ok-visit_clause.ensures.found) in
-    ap (λ (k : NumberedLiteral). has c.watches.run.assignment.list.items (negation k)) c.literal_of.ensures ∙ sym (false-listed values c.watches.run.assignment.list.items c.in-Forces.code c.watches.run.assignment.agrees) ∙ found.1.not_false
-
-pub watches-preserved : goal.watches-preserved
-watches-preserved c =
-    let w = c.watches.invariant.walking in
-    let shapes = shapes_of c.args.store.now.stored.items in
-    let lists = entries_of shapes c.args.store.now.occurrences.items in
-    let values = c.watches.run.assignment.values.items in
-    let room : c.args.literal < length c.watches.clauses.lists.items = omega (arith, c.requires.literal, w.sizes) in
-    let inside : c.watches.index < length (list_at (lists_of c.watches.clauses.lists.items) c.args.literal) = omega (arith, c.watches-test.true, c.watch_count.ensures) in
-    let found = subst (HasFound c.watches.run.assignment.values.items c.watches.clauses c.visit_clause.new.clauses c.args.literal c.watches.index) c.in-Forces.is (subst (λ vs. HasFound vs c.watches.clauses c.visit_clause.new.clauses c.args.literal c.watches.index c.in_ok-visit_clause.field-0) refl c.in_ok-visit_clause.ensures.found) in
-    let i = c.watches.invariant in
-    let reported = c.in_ok-put-in-Forces.ensures in
-    let done = c.put.new.run in
-    let listed = reported.list ∙ ap (λ k. c.watches.run.assignment.list.items ++ (k ∷ [])) c.literal_of.ensures in
-    let paid = reported.paid in
-    let same = ap (λ (v : Vec ℕ Global). sum v.items) reported.candidates in
-    record {
-      walking = walking-forces shapes lists c.args.clauses.now c.watches.clauses c.visit_clause.new.clauses c.args.run.now.assignment.values.items values done.assignment.values.items c.args.run.now.assignment.list.items c.watches.run.assignment.list.items done.assignment.list.items c.args.literal c.watches.index c.args.run.now.visits c.watches.run.visits c.visit_clause.new.visits done.visits c.in-Forces.code c.requires.joined
-          c.in_ok-visit_clause.ensures.literals c.in_ok-visit_clause.ensures.lists (subst (λ vs. IsRunning vs c.visit_clause.new.clauses) refl c.in_ok-visit_clause.ensures.running)
-          (λ walked s. subst (λ r. AreServed c.watches.run.assignment.values.items c.visit_clause.new.clauses.watches.items walked c.args.literal (index_after c.watches.index r)) c.in-Forces.is (subst (λ vs. (xs : List ℕ) → AreServed vs c.watches.clauses.watches.items xs c.args.literal c.watches.index → AreServed vs c.visit_clause.new.clauses.watches.items xs c.args.literal (index_after c.watches.index c.in_ok-visit_clause.field-0)) refl c.in_ok-visit_clause.ensures.served walked s))
-          inside found.0 found.1 found.2 c.in_ok-visit_clause.ensures.covered c.in_ok-visit_clause.ensures.visited c.in_ok-visit_clause.ensures.rising
-          (omega (arith, paid.upper, same)) paid.rising reported.values listed c.watches.run.assignment.agrees done.assignment.agrees w;
-      values = reported.values ∙ i.values;
-      opens = reported.opens ∙ i.opens;
-      candidates = reported.candidates ∙ i.candidates;
-      next = reported.next ∙ i.next;
-      longer = omega (arith, i.longer, reported.longer_work);
-      single = λ s. reported.single (i.single s);
-      extends = extends-then c.args.run.now.assignment.list.items c.watches.run.assignment.list.items c.put.new.run.assignment.list.items c.watches.invariant.extends c.put.ensures.extends;
-      kept = λ base codes more old. (subst (λ vs. (b : List (Option Bool)) (cs : List ℕ) → Grows b vs → AreWalked b c.watches.clauses.watches.items cs → AreWalked b c.visit_clause.new.clauses.watches.items cs) refl c.in_ok-visit_clause.ensures.kept) base codes (grows-trans base c.args.run.now.assignment.values.items c.watches.run.assignment.values.items more c.watches.invariant.walking.grows) (c.watches.invariant.kept base codes more old);
-      counted = reported.counted c.if-branch.false;
-      tidy = λ aside busy t. reported.tidy aside busy (i.tidy aside busy t);
-      work = omega (arith, i.work, paid.work);
-    }
-
-pub returns-in-Falsified-clause-conflict : goal.returns-in-Falsified-clause-conflict
-returns-in-Falsified-clause-conflict c = λ yes.
-    let w = c.watches.invariant.walking in
-    let shapes = shapes_of c.args.store.now.stored.items in
-    let found = subst (HasFound c.watches.run.assignment.values.items c.watches.clauses c.visit_clause.new.clauses c.args.literal c.watches.index) c.in-Falsified.is (subst (λ vs. HasFound vs c.watches.clauses c.visit_clause.new.clauses c.args.literal c.watches.index c.in_ok-visit_clause.field-0) refl c.in_ok-visit_clause.ensures.found) in
-    let same = c.in_ok-visit_clause.ensures.literals ∙ w.literals in
-    broken-conflicts shapes (clauses_of c.args.clauses.now) c.watches.run.assignment.values.items c.watches.run.assignment.list.items c.requires.joined c.watches.run.assignment.agrees (subst (λ ls. IsBroken c.watches.run.assignment.values.items (lists_of ls.items)) same found)
-
-pub returns-clause-walked : goal.returns-clause-walked
-returns-clause-walked c = λ no_conflict walked s.
-    let w = c.watches.invariant.walking in
-    let room : c.args.literal < length c.watches.clauses.lists.items = omega (arith, c.requires.literal, w.sizes) in
-    walked-end c.watches.run.assignment.values.items c.watches.clauses walked c.args.literal c.watches.index w.running.stored.linked
-    (omega (arith, c.watches-test.false, c.watch_count.ensures))
-    (w.served walked s)
+    let first : HasVisited c.watches.run.assignment.values.items c.watches.clauses c.visit_clause.new.clauses c.args.literal c.watches.index c.in_ok-visit_clause.field-0 = record {
+      lists = c.in_ok-visit_clause.ensures.lists;
+      running = subst (λ vs. IsRunning vs c.visit_clause.new.clauses) refl c.in_ok-visit_clause.ensures.running;
+      served = subst (λ vs. (xs : List ℕ) → AreServed vs c.watches.clauses.watches.items xs c.args.literal c.watches.index → AreServed vs c.visit_clause.new.clauses.watches.items xs c.args.literal (index_after c.watches.index c.in_ok-visit_clause.field-0)) refl c.in_ok-visit_clause.ensures.served;
+      found = subst (λ vs. HasFound vs c.watches.clauses c.visit_clause.new.clauses c.args.literal c.watches.index c.in_ok-visit_clause.field-0) refl c.in_ok-visit_clause.ensures.found;
+      kept = subst (λ vs. (b : List (Option Bool)) (cs : List ℕ) → Grows b vs → AreWalked b c.watches.clauses.watches.items cs → AreWalked b c.visit_clause.new.clauses.watches.items cs) refl c.in_ok-visit_clause.ensures.kept;
+    } in
+    let v : HasVisited c.watches.run.assignment.values.items c.watches.clauses c.visit_clause.new.clauses c.args.literal c.watches.index (Forces c.in-Forces.code) = subst (HasVisited c.watches.run.assignment.values.items c.watches.clauses c.visit_clause.new.clauses c.args.literal c.watches.index) c.in-Forces.is first in
+    ap (λ (k : NumberedLiteral). has c.watches.run.assignment.list.items (negation k)) c.literal_of.ensures ∙ sym (false-listed values c.watches.run.assignment.list.items c.in-Forces.code c.watches.run.assignment.agrees) ∙ v.found.1.not_false
 
 -- where a form is falsified: the literal was put
-forced : (c : goal.Then-branch) → IsWalking (shapes_of c.args.store.now.stored.items) (entries_of (shapes_of c.args.store.now.stored.items) c.args.store.now.occurrences.items) c.args.clauses.now c.visit_clause.new.clauses c.args.run.now.assignment.values.items c.put.new.run.assignment.values.items c.args.run.now.assignment.list.items c.put.new.run.assignment.list.items c.args.literal (c.watches.index + 1) c.args.run.now.visits c.put.new.run.visits
+forced : (c : goal.Then-branch) → IsWalking (shapes_of c.args.store.now.stored.items) c.args.clauses.now c.visit_clause.new.clauses c.args.literal (c.watches.index + 1) (progress c.args.run.now) (progress c.put.new.run)
 forced c =
-    let w = c.watches.invariant.walking in
-    let shapes = shapes_of c.args.store.now.stored.items in
-    let lists = entries_of shapes c.args.store.now.occurrences.items in
-    let values = c.watches.run.assignment.values.items in
-    let room : c.args.literal < length c.watches.clauses.lists.items = omega (arith, c.requires.literal, w.sizes) in
     let inside : c.watches.index < length (list_at (lists_of c.watches.clauses.lists.items) c.args.literal) = omega (arith, c.watches-test.true, c.watch_count.ensures) in
-    let found = subst (HasFound c.watches.run.assignment.values.items c.watches.clauses c.visit_clause.new.clauses c.args.literal c.watches.index) c.in-Forces.is (subst (λ vs. HasFound vs c.watches.clauses c.visit_clause.new.clauses c.args.literal c.watches.index c.in_ok-visit_clause.field-0) refl c.in_ok-visit_clause.ensures.found) in
-    let i = c.watches.invariant in
+    let first : HasVisited c.watches.run.assignment.values.items c.watches.clauses c.visit_clause.new.clauses c.args.literal c.watches.index c.in_ok-visit_clause.field-0 = record {
+      lists = c.in_ok-visit_clause.ensures.lists;
+      running = subst (λ vs. IsRunning vs c.visit_clause.new.clauses) refl c.in_ok-visit_clause.ensures.running;
+      served = subst (λ vs. (xs : List ℕ) → AreServed vs c.watches.clauses.watches.items xs c.args.literal c.watches.index → AreServed vs c.visit_clause.new.clauses.watches.items xs c.args.literal (index_after c.watches.index c.in_ok-visit_clause.field-0)) refl c.in_ok-visit_clause.ensures.served;
+      found = subst (λ vs. HasFound vs c.watches.clauses c.visit_clause.new.clauses c.args.literal c.watches.index c.in_ok-visit_clause.field-0) refl c.in_ok-visit_clause.ensures.found;
+      kept = subst (λ vs. (b : List (Option Bool)) (cs : List ℕ) → Grows b vs → AreWalked b c.watches.clauses.watches.items cs → AreWalked b c.visit_clause.new.clauses.watches.items cs) refl c.in_ok-visit_clause.ensures.kept;
+    } in
+    let v : HasVisited c.watches.run.assignment.values.items c.watches.clauses c.visit_clause.new.clauses c.args.literal c.watches.index (Forces c.in-Forces.code) = subst (HasVisited c.watches.run.assignment.values.items c.watches.clauses c.visit_clause.new.clauses c.args.literal c.watches.index) c.in-Forces.is first in
     let reported = c.in_ok-put-in-Forces.ensures in
-    let done = c.put.new.run in
-    let listed = reported.list ∙ ap (λ k. c.watches.run.assignment.list.items ++ (k ∷ [])) c.literal_of.ensures in
-    let paid = reported.paid in
-    let same = ap (λ (v : Vec ℕ Global). sum v.items) reported.candidates in
-    walking-forces shapes lists c.args.clauses.now c.watches.clauses c.visit_clause.new.clauses c.args.run.now.assignment.values.items values done.assignment.values.items c.args.run.now.assignment.list.items c.watches.run.assignment.list.items done.assignment.list.items c.args.literal c.watches.index c.args.run.now.visits c.watches.run.visits c.visit_clause.new.visits done.visits c.in-Forces.code c.requires.joined
-    c.in_ok-visit_clause.ensures.literals c.in_ok-visit_clause.ensures.lists (subst (λ vs. IsRunning vs c.visit_clause.new.clauses) refl c.in_ok-visit_clause.ensures.running)
-    (λ walked s. subst (λ r. AreServed c.watches.run.assignment.values.items c.visit_clause.new.clauses.watches.items walked c.args.literal (index_after c.watches.index r)) c.in-Forces.is (subst (λ vs. (xs : List ℕ) → AreServed vs c.watches.clauses.watches.items xs c.args.literal c.watches.index → AreServed vs c.visit_clause.new.clauses.watches.items xs c.args.literal (index_after c.watches.index c.in_ok-visit_clause.field-0)) refl c.in_ok-visit_clause.ensures.served walked s))
-    inside found.0 found.1 found.2 c.in_ok-visit_clause.ensures.covered c.in_ok-visit_clause.ensures.visited c.in_ok-visit_clause.ensures.rising
-    (omega (arith, paid.upper, same)) paid.rising reported.values listed c.watches.run.assignment.agrees done.assignment.agrees w
+    walking-forces c.visit_clause.new.clauses c.visit_clause.new.visits c.in-Forces.code (progress c.put.new.run) c.requires.joined c.watches.invariant.walking v c.visit_clause.ensures.literals inside (record { counted = c.visit_clause.ensures.visited; rising = c.visit_clause.ensures.rising }) reported.advances.rising reported.advances.values (reported.list ∙ ap (λ k. c.watches.run.assignment.list.items ++ (k ∷ [])) c.literal_of.ensures) c.watches.run.assignment.agrees c.put.new.run.assignment.agrees
 
 pub returns-then-branch-clause-running : goal.returns-then-branch-clause-running
 returns-then-branch-clause-running c = (forced c).running
@@ -179,6 +139,26 @@ returns-then-branch-clause-derived c = (forced c).derived
 pub returns-then-branch-clause-grows : goal.returns-then-branch-clause-grows
 returns-then-branch-clause-grows c = (forced c).grows
 
+pub returns-then-branch-clause-kept : goal.returns-then-branch-clause-kept
+returns-then-branch-clause-kept c = (forced c).kept
+
+pub returns-then-branch-clause-found : goal.returns-then-branch-clause-found
+returns-then-branch-clause-found c = (forced c).found
+
+pub returns-then-branch-clause-advances : goal.returns-then-branch-clause-advances
+returns-then-branch-clause-advances c =
+    let i = c.watches.invariant in
+    let inside : c.watches.index < length (list_at (lists_of c.watches.clauses.lists.items) c.args.literal) = omega (arith, c.watches-test.true, c.watch_count.ensures) in
+    let first : HasVisited c.watches.run.assignment.values.items c.watches.clauses c.visit_clause.new.clauses c.args.literal c.watches.index c.in_ok-visit_clause.field-0 = record {
+      lists = c.in_ok-visit_clause.ensures.lists;
+      running = subst (λ vs. IsRunning vs c.visit_clause.new.clauses) refl c.in_ok-visit_clause.ensures.running;
+      served = subst (λ vs. (xs : List ℕ) → AreServed vs c.watches.clauses.watches.items xs c.args.literal c.watches.index → AreServed vs c.visit_clause.new.clauses.watches.items xs c.args.literal (index_after c.watches.index c.in_ok-visit_clause.field-0)) refl c.in_ok-visit_clause.ensures.served;
+      found = subst (λ vs. HasFound vs c.watches.clauses c.visit_clause.new.clauses c.args.literal c.watches.index c.in_ok-visit_clause.field-0) refl c.in_ok-visit_clause.ensures.found;
+      kept = subst (λ vs. (b : List (Option Bool)) (cs : List ℕ) → Grows b vs → AreWalked b c.watches.clauses.watches.items cs → AreWalked b c.visit_clause.new.clauses.watches.items cs) refl c.in_ok-visit_clause.ensures.kept;
+    } in
+    let v : HasVisited c.watches.run.assignment.values.items c.watches.clauses c.visit_clause.new.clauses c.args.literal c.watches.index (Forces c.in-Forces.code) = subst (HasVisited c.watches.run.assignment.values.items c.watches.clauses c.visit_clause.new.clauses c.args.literal c.watches.index) c.in-Forces.is first in
+    walk-then (walk-ends (database c.args.store.now c.args.rests.now) c.args.clauses.now c.watches.clauses c.visit_clause.new.clauses c.args.literal c.watches.index c.visit_clause.new.visits inside c.visit_clause.ensures.covered c.visit_clause.ensures.rising i.advances) c.in_ok-put-in-Forces.ensures.advances
+
 pub returns-then-branch-clause-conflict : goal.returns-then-branch-clause-conflict
 returns-then-branch-clause-conflict c = λ found.
     conflicts-joined (shapes_of c.args.store.now.stored.items) (clauses_of c.args.clauses.now) c.put.new.run.assignment.list.items c.requires.joined (c.in_ok-put-in-Forces.ensures.conflict c.if-branch.true)
@@ -186,20 +166,101 @@ returns-then-branch-clause-conflict c = λ found.
 pub returns-then-branch-clause-tidy : goal.returns-then-branch-clause-tidy
 returns-then-branch-clause-tidy c = λ aside busy t. c.in_ok-put-in-Forces.ensures.tidy aside busy (c.watches.invariant.tidy aside busy t)
 
-pub returns-in_err-put-in-Forces-clause-extends : goal.returns-in_err-put-in-Forces-clause-extends
-returns-in_err-put-in-Forces-clause-extends c = extends-then c.args.run.now.assignment.list.items c.watches.run.assignment.list.items c.put.new.run.assignment.list.items c.watches.invariant.extends c.put.ensures.extends
+pub returns-in-Falsified-clause-conflict : goal.returns-in-Falsified-clause-conflict
+returns-in-Falsified-clause-conflict c = λ yes.
+    let shapes = shapes_of c.args.store.now.stored.items in
+    let first : HasVisited c.watches.run.assignment.values.items c.watches.clauses c.visit_clause.new.clauses c.args.literal c.watches.index c.in_ok-visit_clause.field-0 = record {
+      lists = c.in_ok-visit_clause.ensures.lists;
+      running = subst (λ vs. IsRunning vs c.visit_clause.new.clauses) refl c.in_ok-visit_clause.ensures.running;
+      served = subst (λ vs. (xs : List ℕ) → AreServed vs c.watches.clauses.watches.items xs c.args.literal c.watches.index → AreServed vs c.visit_clause.new.clauses.watches.items xs c.args.literal (index_after c.watches.index c.in_ok-visit_clause.field-0)) refl c.in_ok-visit_clause.ensures.served;
+      found = subst (λ vs. HasFound vs c.watches.clauses c.visit_clause.new.clauses c.args.literal c.watches.index c.in_ok-visit_clause.field-0) refl c.in_ok-visit_clause.ensures.found;
+      kept = subst (λ vs. (b : List (Option Bool)) (cs : List ℕ) → Grows b vs → AreWalked b c.watches.clauses.watches.items cs → AreWalked b c.visit_clause.new.clauses.watches.items cs) refl c.in_ok-visit_clause.ensures.kept;
+    } in
+    let v : HasVisited c.watches.run.assignment.values.items c.watches.clauses c.visit_clause.new.clauses c.args.literal c.watches.index Falsified = subst (HasVisited c.watches.run.assignment.values.items c.watches.clauses c.visit_clause.new.clauses c.args.literal c.watches.index) c.in-Falsified.is first in
+    let same = c.visit_clause.ensures.literals ∙ c.watches.invariant.walking.literals in
+    broken-conflicts shapes (clauses_of c.args.clauses.now) c.watches.run.assignment.values.items c.watches.run.assignment.list.items c.requires.joined c.watches.run.assignment.agrees (subst (λ ls. IsBroken c.watches.run.assignment.values.items (lists_of ls.items)) same v.found)
 
-pub returns-then-branch-clause-extends : goal.returns-then-branch-clause-extends
-returns-then-branch-clause-extends c = extends-then c.args.run.now.assignment.list.items c.watches.run.assignment.list.items c.put.new.run.assignment.list.items c.watches.invariant.extends c.put.ensures.extends
-
-pub returns-then-branch-clause-kept : goal.returns-then-branch-clause-kept
-returns-then-branch-clause-kept c = λ base codes more old. (subst (λ vs. (b : List (Option Bool)) (cs : List ℕ) → Grows b vs → AreWalked b c.watches.clauses.watches.items cs → AreWalked b c.visit_clause.new.clauses.watches.items cs) refl c.in_ok-visit_clause.ensures.kept) base codes (grows-trans base c.args.run.now.assignment.values.items c.watches.run.assignment.values.items more c.watches.invariant.walking.grows) (c.watches.invariant.kept base codes more old)
+pub returns-in-Falsified-clause-running : goal.returns-in-Falsified-clause-running
+returns-in-Falsified-clause-running c =
+    let first : HasVisited c.watches.run.assignment.values.items c.watches.clauses c.visit_clause.new.clauses c.args.literal c.watches.index c.in_ok-visit_clause.field-0 = record {
+      lists = c.in_ok-visit_clause.ensures.lists;
+      running = subst (λ vs. IsRunning vs c.visit_clause.new.clauses) refl c.in_ok-visit_clause.ensures.running;
+      served = subst (λ vs. (xs : List ℕ) → AreServed vs c.watches.clauses.watches.items xs c.args.literal c.watches.index → AreServed vs c.visit_clause.new.clauses.watches.items xs c.args.literal (index_after c.watches.index c.in_ok-visit_clause.field-0)) refl c.in_ok-visit_clause.ensures.served;
+      found = subst (λ vs. HasFound vs c.watches.clauses c.visit_clause.new.clauses c.args.literal c.watches.index c.in_ok-visit_clause.field-0) refl c.in_ok-visit_clause.ensures.found;
+      kept = subst (λ vs. (b : List (Option Bool)) (cs : List ℕ) → Grows b vs → AreWalked b c.watches.clauses.watches.items cs → AreWalked b c.visit_clause.new.clauses.watches.items cs) refl c.in_ok-visit_clause.ensures.kept;
+    } in
+    let v : HasVisited c.watches.run.assignment.values.items c.watches.clauses c.visit_clause.new.clauses c.args.literal c.watches.index Falsified = subst (HasVisited c.watches.run.assignment.values.items c.watches.clauses c.visit_clause.new.clauses c.args.literal c.watches.index) c.in-Falsified.is first in
+    v.running
 
 pub returns-in-Falsified-clause-kept : goal.returns-in-Falsified-clause-kept
-returns-in-Falsified-clause-kept c = λ base codes more old. (subst (λ vs. (b : List (Option Bool)) (cs : List ℕ) → Grows b vs → AreWalked b c.watches.clauses.watches.items cs → AreWalked b c.visit_clause.new.clauses.watches.items cs) refl c.in_ok-visit_clause.ensures.kept) base codes (grows-trans base c.args.run.now.assignment.values.items c.watches.run.assignment.values.items more c.watches.invariant.walking.grows) (c.watches.invariant.kept base codes more old)
+returns-in-Falsified-clause-kept c =
+    let first : HasVisited c.watches.run.assignment.values.items c.watches.clauses c.visit_clause.new.clauses c.args.literal c.watches.index c.in_ok-visit_clause.field-0 = record {
+      lists = c.in_ok-visit_clause.ensures.lists;
+      running = subst (λ vs. IsRunning vs c.visit_clause.new.clauses) refl c.in_ok-visit_clause.ensures.running;
+      served = subst (λ vs. (xs : List ℕ) → AreServed vs c.watches.clauses.watches.items xs c.args.literal c.watches.index → AreServed vs c.visit_clause.new.clauses.watches.items xs c.args.literal (index_after c.watches.index c.in_ok-visit_clause.field-0)) refl c.in_ok-visit_clause.ensures.served;
+      found = subst (λ vs. HasFound vs c.watches.clauses c.visit_clause.new.clauses c.args.literal c.watches.index c.in_ok-visit_clause.field-0) refl c.in_ok-visit_clause.ensures.found;
+      kept = subst (λ vs. (b : List (Option Bool)) (cs : List ℕ) → Grows b vs → AreWalked b c.watches.clauses.watches.items cs → AreWalked b c.visit_clause.new.clauses.watches.items cs) refl c.in_ok-visit_clause.ensures.kept;
+    } in
+    let v : HasVisited c.watches.run.assignment.values.items c.watches.clauses c.visit_clause.new.clauses c.args.literal c.watches.index Falsified = subst (HasVisited c.watches.run.assignment.values.items c.watches.clauses c.visit_clause.new.clauses c.args.literal c.watches.index) c.in-Falsified.is first in
+    λ base codes more old. v.kept base codes (grows-trans base c.args.run.now.assignment.values.items c.watches.run.assignment.values.items more c.watches.invariant.walking.grows) (c.watches.invariant.walking.kept base codes more old)
+
+pub returns-in-Falsified-clause-derived : goal.returns-in-Falsified-clause-derived
+returns-in-Falsified-clause-derived c = c.watches.invariant.walking.derived
+
+pub returns-in-Falsified-clause-grows : goal.returns-in-Falsified-clause-grows
+returns-in-Falsified-clause-grows c = c.watches.invariant.walking.grows
+
+pub returns-in-Falsified-clause-tidy : goal.returns-in-Falsified-clause-tidy
+returns-in-Falsified-clause-tidy c = c.watches.invariant.tidy
+
+pub returns-in-Falsified-clause-found : goal.returns-in-Falsified-clause-found
+returns-in-Falsified-clause-found c = λ few.
+    let more = c.visit_clause.ensures.visited few in
+    let old = c.watches.invariant.walking.found (omega (arith, few, more)) in
+    omega (arith, old, more)
+
+pub returns-in-Falsified-clause-advances : goal.returns-in-Falsified-clause-advances
+returns-in-Falsified-clause-advances c =
+    let inside : c.watches.index < length (list_at (lists_of c.watches.clauses.lists.items) c.args.literal) = omega (arith, c.watches-test.true, c.watch_count.ensures) in
+    walk-ends (database c.args.store.now c.args.rests.now) c.args.clauses.now c.watches.clauses c.visit_clause.new.clauses c.args.literal c.watches.index c.visit_clause.new.visits inside c.visit_clause.ensures.covered c.visit_clause.ensures.rising c.watches.invariant.advances
+
+pub returns-in_err-visit_clause-clause-costs : goal.returns-in_err-visit_clause-clause-costs
+returns-in_err-visit_clause-clause-costs c =
+    let inside : c.watches.index < length (list_at (lists_of c.watches.clauses.lists.items) c.args.literal) = omega (arith, c.watches-test.true, c.watch_count.ensures) in
+    on-err _ ((walk-ends (database c.args.store.now c.args.rests.now) c.args.clauses.now c.watches.clauses c.visit_clause.new.clauses c.args.literal c.watches.index c.visit_clause.new.visits inside c.visit_clause.ensures.covered c.visit_clause.ensures.rising c.watches.invariant.advances).costs)
+
+pub returns-in_err-put-in-Forces-clause-costs : goal.returns-in_err-put-in-Forces-clause-costs
+returns-in_err-put-in-Forces-clause-costs c =
+    let inside : c.watches.index < length (list_at (lists_of c.watches.clauses.lists.items) c.args.literal) = omega (arith, c.watches-test.true, c.watch_count.ensures) in
+    on-err _ (walk-costs (walk-ends (database c.args.store.now c.args.rests.now) c.args.clauses.now c.watches.clauses c.visit_clause.new.clauses c.args.literal c.watches.index c.visit_clause.new.visits inside c.visit_clause.ensures.covered c.visit_clause.ensures.rising c.watches.invariant.advances).costs c.in_err-put-in-Forces.ensures.costs)
+
+pub returns-clause-advances : goal.returns-clause-advances
+returns-clause-advances c = walk-done (database c.args.store.now c.args.rests.now) c.args.clauses.now c.watches.clauses c.args.literal c.watches.index c.watches.invariant.advances
+
+pub returns-clause-walked : goal.returns-clause-walked
+returns-clause-walked c = λ no_conflict walked s.
+    let w = c.watches.invariant.walking in
+    walked-end c.watches.run.assignment.values.items c.watches.clauses walked c.args.literal c.watches.index w.running.stored.linked
+    (omega (arith, c.watches-test.false, c.watch_count.ensures))
+    (w.served walked s)
+
+pub returns-clause-running : goal.returns-clause-running
+returns-clause-running c = c.watches.invariant.walking.running
 
 pub returns-clause-kept : goal.returns-clause-kept
-returns-clause-kept c = c.watches.invariant.kept
+returns-clause-kept c = c.watches.invariant.walking.kept
+
+pub returns-clause-derived : goal.returns-clause-derived
+returns-clause-derived c = c.watches.invariant.walking.derived
+
+pub returns-clause-grows : goal.returns-clause-grows
+returns-clause-grows c = c.watches.invariant.walking.grows
+
+pub returns-clause-found : goal.returns-clause-found
+returns-clause-found c = c.watches.invariant.walking.found
+
+pub returns-clause-tidy : goal.returns-clause-tidy
+returns-clause-tidy c = c.watches.invariant.tidy
 
 pub returns-clause-bounded : goal.returns-clause-bounded
 returns-clause-bounded c = λ s.

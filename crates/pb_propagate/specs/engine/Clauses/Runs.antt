@@ -132,3 +132,15 @@ pub record Grows (old new : List (Option Bool)) : Type 0 where
 pub record AreWalked (values : List (Option Bool)) (watches : List Watch) (walked : List ℕ) : Type 0 where
   pub failed : (x : ℕ) → Contains walked x → false_at values x ≡ true
   pub done : (e : ℕ) → (watch_at watches e).live ≡ true → Contains walked (watch_at watches e).literal → true_at values (watch_at watches (flip e)).literal ≡ true
+
+-- what was walked, at a state that has only grown since, stays so
+abbrev pub KeepsWalked : List (Option Bool) → Clauses → Clauses → Type 0
+KeepsWalked values old new = (base : List (Option Bool)) (codes : List ℕ) → Grows base values → AreWalked base old.watches.items codes → AreWalked base new.watches.items codes
+
+-- what a visit to the watch at a position of a list leaves, and what it has found
+pub record HasVisited (values : List (Option Bool)) (old new : Clauses) (l index : ℕ) (r : Visit) : Type 0 where
+  pub lists : length new.lists.items ≡ length old.lists.items
+  pub running : IsRunning values new
+  pub served : (walked : List ℕ) → AreServed values old.watches.items walked l index → AreServed values new.watches.items walked l (index_after index r)
+  pub found : HasFound values old new l index r
+  pub kept : KeepsWalked values old new

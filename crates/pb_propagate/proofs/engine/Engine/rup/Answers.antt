@@ -215,7 +215,7 @@ returns-clause-most c =
     let waiting = ap (λ (xs : List ℕ). length (filter (waits new.store.stored.items) xs)) c.as_slice.ensures.value in
     let same : numbered forms e.places.items ≡ c.args.self.now.forms = ap (λ (v : Standing). v.forms) c.self.view_is in
     let visits_made = most-visits c.propagate.new.run.visits (sum new.run.candidates.items) new.run.visits (length c.choose-2.new.work.items + length (filter (waits new.store.stored.items) c.as_slice.result.now)) new.run.next (sum_by length (entries_of (shapes_of new.store.stored.items) new.store.occurrences.items)) (sum c.propagate.new.run.candidates.items) (sum_by (λ (f : Shape). length f.terms) (shapes_of new.store.stored.items)) (sum_by {X = List ℕ} length (clauses_of e.clauses)) (sum_by one_in forms + 1)
-    (omega (arith, c.propagate.ensures.upper, spent-le (entries_of (shapes_of new.store.stored.items) new.store.occurrences.items) c.propagate.new.run.assignment.list.items c.propagate.ensures.single, fallen-most (clauses_of e.clauses) c.propagate.new.run.assignment.list.items)) (c.enter.ensures.rest.3 ∙ c.none-self-inside.ensures) c.propagate.ensures.bounded c.in_ok-enter.ensures.sound.whole.totals (omega (arith, few, r.few, first, stand, work_is, work, waiting)) in
+    (omega (arith, c.propagate.ensures.costs.upper, spent-le (entries_of (shapes_of new.store.stored.items) new.store.occurrences.items) c.propagate.new.run.assignment.list.items c.propagate.ensures.costs.single, fallen-most (clauses_of e.clauses) c.propagate.new.run.assignment.list.items)) (c.enter.ensures.rest.3 ∙ c.none-self-inside.ensures) c.propagate.ensures.costs.bounded c.in_ok-enter.ensures.sound.whole.totals (omega (arith, few, r.few, first, stand, work_is, work, waiting)) in
     rw (← same) (omega (arith, both.1.alike terms_in refl, both.1.alike one_in refl, visits_made, terms, both_terms, more, goal_terms, c.leave.ensures.rest.3, c.rest.ensures.visits))
 
 pub returns-in_err-found-clause-most : goal.returns-in_err-found-clause-most
@@ -244,7 +244,7 @@ returns-in_err-found-clause-most c =
     let waiting = ap (λ (xs : List ℕ). length (filter (waits new.store.stored.items) xs)) c.as_slice.ensures.value in
     let same : numbered forms e.places.items ≡ c.args.self.now.forms = ap (λ (v : Standing). v.forms) c.self.view_is in
     let visits_made = most-visits c.propagate.new.run.visits (sum new.run.candidates.items) new.run.visits (length c.choose-2.new.work.items + length (filter (waits new.store.stored.items) c.as_slice.result.now)) new.run.next (sum_by length (entries_of (shapes_of new.store.stored.items) new.store.occurrences.items)) (sum c.propagate.new.run.candidates.items) (sum_by (λ (f : Shape). length f.terms) (shapes_of new.store.stored.items)) (sum_by {X = List ℕ} length (clauses_of e.clauses)) (sum_by one_in forms + 1)
-    (omega (arith, c.propagate.ensures.upper, spent-le (entries_of (shapes_of new.store.stored.items) new.store.occurrences.items) c.propagate.new.run.assignment.list.items c.propagate.ensures.single, fallen-most (clauses_of e.clauses) c.propagate.new.run.assignment.list.items)) (c.enter.ensures.rest.3 ∙ c.none-self-inside.ensures) c.propagate.ensures.bounded c.in_ok-enter.ensures.sound.whole.totals (omega (arith, few, r.few, first, stand, work_is, work, waiting)) in
+    (omega (arith, c.propagate.ensures.costs.upper, spent-le (entries_of (shapes_of new.store.stored.items) new.store.occurrences.items) c.propagate.new.run.assignment.list.items c.propagate.ensures.costs.single, fallen-most (clauses_of e.clauses) c.propagate.new.run.assignment.list.items)) (c.enter.ensures.rest.3 ∙ c.none-self-inside.ensures) c.propagate.ensures.costs.bounded c.in_ok-enter.ensures.sound.whole.totals (omega (arith, few, r.few, first, stand, work_is, work, waiting)) in
     rw (← same) (omega (arith, both.1.alike terms_in refl, both.1.alike one_in refl, visits_made, terms, both_terms, more, goal_terms))
 
 pub returns-clause-conflict : goal.returns-clause-conflict

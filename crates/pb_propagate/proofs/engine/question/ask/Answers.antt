@@ -134,13 +134,13 @@ returns-in_err-found-clause-most c =
     let start : Derives (all_of new.store c.args.clauses.now) [] run.assignment.list.items = rw whole (derives-entered (all_of c.args.store.now c.args.clauses.now) (stored_shape h.kept) [] run.assignment.list.items r.derived) in
     let done = c.propagate-found.new.run in
     let reported = c.propagate-found.ensures in
-    let extends = rw laid_is at reported.extends in
+    let extends = rw laid_is at reported.costs.extends in
     let work_is = ap (λ (v : Vec ℕ Global). v.items) c.enter.ensures.rest.1 ∙ r.work in
     let few = grown-length c.len-number.result c.enter.new.run.work.items c.lay.new.run.work.items c.in_ok-lay.ensures.work in
     let none_waits : length (filter (waits new.store.stored.items) c.as_slice.result.now) ≡ 0 = ap (λ (xs : List ℕ). length (filter (waits new.store.stored.items) xs)) (c.as_slice.ensures.value ∙ c.new-none.ensures.items) in
     let most = question-most new.store clauses run.assignment.list.items done.assignment.list.items done.visits (sum c.lay.new.run.candidates.items) c.of-root.result (length c.lay.new.run.work.items + length (filter (waits new.store.stored.items) c.as_slice.result.now)) c.lay.new.run.next (sum done.candidates.items)
-    c.in_ok-enter.ensures.sound (joined-entered c.args.form keep new.store.stored.items clauses run.opens.items new.run.opens.items run.candidates.items new.run.candidates.items h c.requires.joined) reported.single (λ l on. opposite done.assignment.values.items done.assignment.list.items l done.assignment.agrees on) extends start
-    (omega (arith, c.of-root.ensures, c.len-count.ensures, run.assignment.list.ok.0)) (omega (arith, few.1, ap length work_is, none_waits)) reported.bounded reported.upper in
+    c.in_ok-enter.ensures.sound (joined-entered c.args.form keep new.store.stored.items clauses run.opens.items new.run.opens.items run.candidates.items new.run.candidates.items h c.requires.joined) reported.costs.single (λ l on. opposite done.assignment.values.items done.assignment.list.items l done.assignment.agrees on) extends start
+    (omega (arith, c.of-root.ensures, c.len-count.ensures, run.assignment.list.ok.0)) (omega (arith, few.1, ap length work_is, none_waits)) reported.costs.bounded reported.costs.upper in
     let more = ap (sum_by (λ (f : Shape). length f.terms)) whole ∙ sum_by_push (λ (f : Shape). length f.terms) (all_of c.args.store.now c.args.clauses.now) (stored_shape h.kept) in
     omega (arith, most, more, kept-terms c.args.form (stored_shape h.kept) h.is, c.replace.ensures.value)
 
@@ -161,13 +161,13 @@ returns-clause-most c =
     let start : Derives (all_of new.store c.args.clauses.now) [] run.assignment.list.items = rw whole (derives-entered (all_of c.args.store.now c.args.clauses.now) (stored_shape h.kept) [] run.assignment.list.items r.derived) in
     let done = c.propagate-found.new.run in
     let reported = c.propagate-found.ensures in
-    let extends = rw laid_is at reported.extends in
+    let extends = rw laid_is at reported.costs.extends in
     let work_is = ap (λ (v : Vec ℕ Global). v.items) c.enter.ensures.rest.1 ∙ r.work in
     let few = grown-length c.len-number.result c.enter.new.run.work.items c.lay.new.run.work.items c.in_ok-lay.ensures.work in
     let none_waits : length (filter (waits new.store.stored.items) c.as_slice.result.now) ≡ 0 = ap (λ (xs : List ℕ). length (filter (waits new.store.stored.items) xs)) (c.as_slice.ensures.value ∙ c.new-none.ensures.items) in
     let most = question-most new.store clauses run.assignment.list.items done.assignment.list.items done.visits (sum c.lay.new.run.candidates.items) c.of-root.result (length c.lay.new.run.work.items + length (filter (waits new.store.stored.items) c.as_slice.result.now)) c.lay.new.run.next (sum done.candidates.items)
-    c.in_ok-enter.ensures.sound (joined-entered c.args.form keep new.store.stored.items clauses run.opens.items new.run.opens.items run.candidates.items new.run.candidates.items h c.requires.joined) reported.single (λ l on. opposite done.assignment.values.items done.assignment.list.items l done.assignment.agrees on) extends start
-    (omega (arith, c.of-root.ensures, c.len-count.ensures, run.assignment.list.ok.0)) (omega (arith, few.1, ap length work_is, none_waits)) reported.bounded reported.upper in
+    c.in_ok-enter.ensures.sound (joined-entered c.args.form keep new.store.stored.items clauses run.opens.items new.run.opens.items run.candidates.items new.run.candidates.items h c.requires.joined) reported.costs.single (λ l on. opposite done.assignment.values.items done.assignment.list.items l done.assignment.agrees on) extends start
+    (omega (arith, c.of-root.ensures, c.len-count.ensures, run.assignment.list.ok.0)) (omega (arith, few.1, ap length work_is, none_waits)) reported.costs.bounded reported.costs.upper in
     let more = ap (sum_by (λ (f : Shape). length f.terms)) whole ∙ sum_by_push (λ (f : Shape). length f.terms) (all_of c.args.store.now c.args.clauses.now) (stored_shape h.kept) in
     omega (arith, most, more, kept-terms c.args.form (stored_shape h.kept) h.is, c.replace.ensures.value)
 
@@ -221,7 +221,7 @@ returns-clause-rooted c =
     let reported = c.in_ok-found.ensures in
     let b = c.back.new in
     let last = c.leave.new in
-    let extends = rw laid_is at c.propagate-found.ensures.extends in
+    let extends = rw laid_is at c.propagate-found.ensures.costs.extends in
     let count_is : c.len-count.result ≡ length run.assignment.list.items = omega (arith, c.len-count.ensures, run.assignment.list.ok.0) in
     let long : length new.store.stored.items ≡ length keep + 1 = omega (arith, ap length h.keeps, length-append keep (h.kept ∷ [])) in
     let same = undone-same rests (shapes_of new.store.stored.items) b.run.opens.items b.run.candidates.items (length keep) c.back.ensures.undone (omega (arith, long, length-map new.store.stored.items stored_shape)) (omega (arith, long, c.back.ensures.opens)) (omega (arith, long, c.back.ensures.candidates)) (omega (arith, ap length r.opens, r.open_sizes)) (omega (arith, ap length r.starts, r.start_sizes)) in

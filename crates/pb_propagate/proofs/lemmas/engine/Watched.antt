@@ -1,0 +1,59 @@
+-- What a walk over the watches of a literal costs.
+use Rattle.std.specs.Prelude.{sum}
+use Rattle.std.proofs.Common.{◌≡◌, ℕ, ◌+◌, ◌-◌, ◌*◌, ◌<◌, ◌≤◌, List, length, ap, arith}
+use Rattle.pb_propagate.specs.declared.clauses.Clauses.{Clauses}
+use Rattle.pb_propagate.specs.engine.Clauses.Links.{lists_of, list_at}
+use Rattle.pb_propagate.specs.engine.Clauses.Runs.{passed_of}
+use Rattle.pb_propagate.specs.engine.Engine.Counts.{spent}
+use Rattle.pb_propagate.specs.engine.Engine.Progress.{Progress, Database, visited_to, Costs, Advances}
+use Rattle.pb_propagate.proofs.lemmas.engine.Advances.{costs-as, costs-then, advances-refl, advances-as, advances-then, advances-visit}
+
+-- the length of a literal's list of watches
+abbrev pub size_at : Clauses → ℕ → ℕ
+size_at c l = length (list_at (lists_of c.lists.items) l)
+
+-- two visits are left for each watch from a position on
+abbrev pub WalkIsAt : Database → Clauses → Clauses → ℕ → ℕ → Progress → Progress → Type 0
+WalkIsAt d c0 c l index start now = Advances d (sum (passed_of c0) + 2 * (size_at c l - index)) (2 * size_at c0 l + sum (passed_of c)) start now
+
+abbrev pub WalkIsDone : Database → Clauses → Clauses → ℕ → Progress → Progress → Type 0
+WalkIsDone d c0 c l start now = Advances d (sum (passed_of c0)) (2 * size_at c0 l + sum (passed_of c)) start now
+
+pub walk-start : (d : Database) (c : Clauses) (l : ℕ) (start : Progress) → WalkIsAt d c c l 0 start start
+walk-start d c l start = advances-as (sum (passed_of c) + 2 * (size_at c l - 0)) (2 * size_at c l + sum (passed_of c)) (omega arith) (advances-refl d start)
+
+-- a visit to the watch at a position
+pub walk-next : (d : Database) (c0 c c' : Clauses) (l index index' seen : ℕ) {start now : Progress} → index < size_at c l → index' ≤ size_at c' l → size_at c' l + index + 1 ≡ size_at c l + index' → seen + sum (passed_of c) ≤ now.visits + 2 + sum (passed_of c') → now.visits ≤ seen → WalkIsAt d c0 c l index start now → WalkIsAt d c0 c' l index' start (visited_to seen now)
+walk-next d c0 c c' l index index' seen {start} {now} inside within count covered rising a =
+    advances-as (sum (passed_of c0) + 2 * (size_at c' l - index')) (2 * size_at c0 l + sum (passed_of c'))
+    (left (sum (passed_of c0)) (sum (passed_of c)) (sum (passed_of c')) (size_at c0 l) (size_at c l) (size_at c' l) index index' inside within count)
+    (advances-then a (advances-visit d now seen (sum (passed_of c)) (2 + sum (passed_of c')) rising (omega (arith, covered))))
+  where
+    left : (p0 p p' n0 n n' i i' : ℕ) → i < n → i' ≤ n' → n' + i + 1 ≡ n + i' → ((2 * n0 + p) + (2 + p')) + (p0 + 2 * (n' - i')) ≤ (2 * n0 + p') + ((p0 + 2 * (n - i)) + p)
+    left p0 p p' n0 n n' i i' inside within count = omega arith
+
+-- a visit that ends the walk
+pub walk-ends : (d : Database) (c0 c c' : Clauses) (l index seen : ℕ) {start now : Progress} → index < size_at c l → seen + sum (passed_of c) ≤ now.visits + 2 + sum (passed_of c') → now.visits ≤ seen → WalkIsAt d c0 c l index start now → WalkIsDone d c0 c' l start (visited_to seen now)
+walk-ends d c0 c c' l index seen {start} {now} inside covered rising a =
+    advances-as (sum (passed_of c0)) (2 * size_at c0 l + sum (passed_of c'))
+    (left (sum (passed_of c0)) (sum (passed_of c)) (sum (passed_of c')) (size_at c0 l) (size_at c l) index inside)
+    (advances-then a (advances-visit d now seen (sum (passed_of c)) (2 + sum (passed_of c')) rising (omega (arith, covered))))
+  where
+    left : (p0 p p' n0 n i : ℕ) → i < n → ((2 * n0 + p) + (2 + p')) + p0 ≤ (2 * n0 + p') + ((p0 + 2 * (n - i)) + p)
+    left p0 p p' n0 n i inside = omega arith
+
+-- what costs nothing more
+pub walk-then : {d : Database} {m n : ℕ} {start now after : Progress} → Advances d m n start now → Advances d 0 0 now after → Advances d m n start after
+walk-then {d} {m} {n} a b = advances-as m n (omega arith) (advances-then a b)
+
+-- at the end of the list
+pub walk-done : (d : Database) (c0 c : Clauses) (l index : ℕ) {start now : Progress} → WalkIsAt d c0 c l index start now → WalkIsDone d c0 c l start now
+walk-done d c0 c l index a = advances-as (sum (passed_of c0)) (2 * size_at c0 l + sum (passed_of c)) (omega arith) a
+
+pub walk-costs : {d : Database} {m n : ℕ} {start now after : Progress} → Costs d m n start now → Costs d 0 0 now after → Costs d m n start after
+walk-costs {d} {m} {n} a b = costs-as m n (omega arith) (costs-then a b)
+
+-- what a walk costs if no candidate was passed
+pub walk-covered : (d : Database) (c c' : Clauses) (l code : ℕ) {now after : Progress} → after.candidates ≡ now.candidates → l ≡ code → Costs d (sum (passed_of c)) (2 * size_at c l + sum (passed_of c')) now after → after.visits + sum (passed_of c) + spent d.lists now.list ≤ now.visits + 2 * size_at c code + sum (passed_of c') + spent d.lists after.list
+walk-covered d c c' l code {now} {after} same is costs =
+    rw (← is) (omega (arith, costs.paid, ap sum same))

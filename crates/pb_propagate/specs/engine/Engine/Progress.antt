@@ -1,0 +1,219 @@
+-- A run of propagation as lists, and what each function of propagation does to it.
+use Rattle.std.specs.Prelude.{◌≡◌, ℕ, ◌+◌, ◌-◌, ◌*◌, ◌<◌, ◌≤◌, [], List, Bool, Option, filter, length, sum, sum_by, slice_set, slice_index, slice_index_or}
+use Rattle.pb_normal.specs.declared.numbered.NumberedLiteral.{NumberedLiteral}
+use Rattle.pb_normal.specs.meaning.Rules.{negation}
+use Rattle.pb_propagate.specs.declared.store.Store.{Store}
+use Rattle.pb_propagate.specs.declared.store.Visited.{Visited}
+use Rattle.pb_propagate.specs.declared.rests.Rests.{Rests}
+use Rattle.pb_propagate.specs.declared.run.Run.{Run}
+use Rattle.pb_propagate.specs.declared.clauses.Clauses.{Clauses}
+use Rattle.pb_propagate.specs.engine.Engine.Lists.{Shape, Weighted, Extends}
+use Rattle.pb_propagate.specs.engine.Engine.Counts.{place, Grown, IsCalm, IsCounted, IsTidy, IsAbsent, IsUndone, AreFound, AreSingle, beside, rest_open, spent}
+use Rattle.pb_propagate.specs.engine.Engine.Fields.{shapes_of, entries_of}
+use Rattle.pb_propagate.specs.engine.Engine.Rest.{waits}
+use Rattle.pb_propagate.specs.engine.Engine.Links.{coefficient_at}
+use Rattle.pb_propagate.specs.engine.Clauses.Links.{lists_of, list_at}
+use Rattle.pb_propagate.specs.engine.Clauses.Runs.{passed_of}
+use Rattle.pb_propagate.specs.engine.Clauses.Walked.{fallen}
+use Rattle.pb_propagate.specs.engine.Clauses.Shapes.{clauses_of}
+
+-- the state of a run
+pub record Progress : Type 0 where
+  pub opens : List ℕ
+  pub candidates : List ℕ
+  pub work : List ℕ
+  pub trail : List ℕ
+  pub values : List (Option Bool)
+  pub list : List NumberedLiteral
+  pub next : ℕ
+  pub visits : ℕ
+
+abbrev pub progress : Run → Progress
+progress r = record {
+  opens = r.opens.items;
+  candidates = r.candidates.items;
+  work = r.work.items;
+  trail = r.trail.items;
+  values = r.assignment.values.items;
+  list = r.assignment.list.items;
+  next = r.next;
+  visits = r.visits;
+}
+
+-- a run with other values and literals, another count of visits, other candidates, another work list and trail, or another
+-- next form
+abbrev pub assigned_to : List (Option Bool) → List NumberedLiteral → Progress → Progress
+assigned_to values list p = record {
+  opens = p.opens;
+  candidates = p.candidates;
+  work = p.work;
+  trail = p.trail;
+  values = values;
+  list = list;
+  next = p.next;
+  visits = p.visits;
+}
+
+abbrev pub visited_to : ℕ → Progress → Progress
+visited_to visits p = record {
+  opens = p.opens;
+  candidates = p.candidates;
+  work = p.work;
+  trail = p.trail;
+  values = p.values;
+  list = p.list;
+  next = p.next;
+  visits = visits;
+}
+
+abbrev pub passed_to : List ℕ → Progress → Progress
+passed_to candidates p = record {
+  opens = p.opens;
+  candidates = candidates;
+  work = p.work;
+  trail = p.trail;
+  values = p.values;
+  list = p.list;
+  next = p.next;
+  visits = p.visits;
+}
+
+abbrev pub queued_to : List ℕ → List ℕ → Progress → Progress
+queued_to work trail p = record {
+  opens = p.opens;
+  candidates = p.candidates;
+  work = work;
+  trail = trail;
+  values = p.values;
+  list = p.list;
+  next = p.next;
+  visits = p.visits;
+}
+
+abbrev pub taken_to : ℕ → Progress → Progress
+taken_to next p = record {
+  opens = p.opens;
+  candidates = p.candidates;
+  work = p.work;
+  trail = p.trail;
+  values = p.values;
+  list = p.list;
+  next = next;
+  visits = p.visits;
+}
+
+-- what a run reads: forms, the entries of each literal, and the state to which forms return
+pub record Database : Type 0 where
+  pub forms : List Shape
+  pub lists : List (List Weighted)
+  pub rests : Rests
+
+abbrev pub database : Store → Rests → Database
+database store rests = record {
+  forms = shapes_of store.stored.items;
+  lists = entries_of (shapes_of store.stored.items) store.occurrences.items;
+  rests = rests;
+}
+
+-- the entries that are subtracted when a literal is assigned
+abbrev pub entries_against : Database → NumberedLiteral → List Weighted
+entries_against d l = slice_index_or d.lists (place (negation l)) []
+
+-- the open sums are those of the list
+abbrev pub IsOpen : Database → Progress → Type 0
+IsOpen d p = IsCounted d.forms p.opens p.list []
+
+-- forms are calm, except those set aside, the one that is visited, and those on the work list
+abbrev pub IsTidyAt : Database → List ℕ → ℕ → Progress → Type 0
+IsTidyAt d aside busy p = IsTidy (beside d.rests aside) d.forms p.opens p.candidates p.list p.work p.trail p.next busy
+
+-- what was calm still is
+abbrev pub StaysTidy : Database → Progress → Progress → Type 0
+StaysTidy d old new = (aside : List ℕ) (busy : ℕ) → IsTidyAt d aside busy old → IsTidyAt d aside busy new
+
+-- An entry is subtracted from its form's open sum. The form is then on the work list unless it is calm, and on the trail
+-- unless its open sum was already another one than at rest.
+pub record Lowers (d : Database) (e : Visited) (old new : Progress) : Type 0 where
+  pub opens : new.opens ≡ slice_set old.opens e.form (slice_index old.opens e.form - coefficient_at d.forms e.form e.index)
+  pub work : Grown ((f : Shape) (c : ℕ) → IsCalm (slice_index_or d.forms e.form f) (slice_index old.opens e.form - coefficient_at d.forms e.form e.index) c) e.form old.work new.work
+  pub trail : Grown ((f : Shape) → slice_index old.opens e.form ≡ rest_open d.rests e.form (slice_index_or d.forms e.form f) → ⊥) e.form old.trail new.trail
+  pub candidates : new.candidates ≡ old.candidates
+  pub list : new.list ≡ old.list
+  pub next : new.next ≡ old.next
+
+-- the forms on a list that may propagate with nothing assigned
+abbrev pub chosen : Store → List ℕ → List ℕ
+chosen store list = filter (waits store.stored.items) list
+
+-- the form's open sum is below its degree
+abbrev pub IsShort : Database → ℕ → Progress → Type 0
+IsShort d form p = (f : Shape) → slice_index p.opens form < (slice_index_or d.forms form f).degree
+
+-- What a part of a run costs, also if an allocation ends it. Each visit is paid by an entry that was subtracted, by a term
+-- that was passed, or by the difference of `after` and `before`.
+pub record Costs (d : Database) (before after : ℕ) (old new : Progress) : Type 0 where
+  pub extends : Extends old.list new.list
+  pub single : AreSingle old.list → AreSingle new.list
+  pub paid : new.visits + before + sum old.candidates + spent d.lists old.list ≤ old.visits + after + sum new.candidates + spent d.lists new.list
+
+-- what a part of a run does: each list stays as long, or grows, and each new entry of the work list is paid by one that
+-- was subtracted
+pub record Advances (d : Database) (before after : ℕ) (old new : Progress) : Type 0 where
+  pub costs : Costs d before after old new
+  pub values : length new.values ≡ length old.values
+  pub opens : length new.opens ≡ length old.opens
+  pub candidates : length new.candidates ≡ length old.candidates
+  pub next : new.next ≡ old.next
+  pub absent : (s : ℕ) → IsAbsent new.work 0 s → IsAbsent old.work 0 s
+  pub longer : length old.work ≤ length new.work
+  pub work : length new.work + spent d.lists old.list ≤ length old.work + spent d.lists new.list
+  pub rising : old.visits ≤ new.visits
+
+-- the cost of a whole propagation, also of one that an allocation ends
+pub record Spends (d : Database) (clauses : List (List ℕ)) (waiting : List ℕ) (old new : Progress) : Type 0 where
+  pub extends : Extends old.list new.list
+  pub single : AreSingle new.list
+  pub bounded : sum new.candidates ≤ sum_by (λ f. length f.terms) d.forms
+  pub upper : new.visits + sum old.candidates ≤ old.visits + ((length old.work + length waiting) - old.next) + 2 * spent d.lists new.list + sum new.candidates + 2 * fallen clauses new.list + sum_by length clauses
+
+-- the list has gained no more literals than there were visits
+abbrev pub VisitsEach : Progress → Progress → Type 0
+VisitsEach old new = AreFound (length old.list) (length new.list) old.visits new.visits
+
+-- the same of the program's values
+abbrev pub RunIsOpen : Store → Rests → Run → Type 0
+RunIsOpen store rests run = IsOpen (database store rests) (progress run)
+
+abbrev pub RunIsTidy : Store → Rests → List ℕ → ℕ → Run → Type 0
+RunIsTidy store rests aside busy run = IsTidyAt (database store rests) aside busy (progress run)
+
+abbrev pub RunStaysTidy : Store → Rests → Run → Run → Type 0
+RunStaysTidy store rests old new = StaysTidy (database store rests) (progress old) (progress new)
+
+abbrev pub RunIsUndone : Store → Rests → Run → Type 0
+RunIsUndone store rests run = IsUndone rests (shapes_of store.stored.items) run.opens.items run.candidates.items run.trail.items 0
+
+abbrev pub RunVisitsEach : Run → Run → Type 0
+RunVisitsEach old new = VisitsEach (progress old) (progress new)
+
+abbrev pub RunIsShort : Store → Rests → ℕ → Run → Type 0
+RunIsShort store rests form run = IsShort (database store rests) form (progress run)
+
+abbrev pub RunLowers : Store → Rests → Visited → Run → Run → Type 0
+RunLowers store rests e old new = Lowers (database store rests) e (progress old) (progress new)
+
+abbrev pub RunCosts : Store → Rests → ℕ → ℕ → Run → Run → Type 0
+RunCosts store rests before after old new = Costs (database store rests) before after (progress old) (progress new)
+
+abbrev pub RunAdvances : Store → Rests → ℕ → ℕ → Run → Run → Type 0
+RunAdvances store rests before after old new = Advances (database store rests) before after (progress old) (progress new)
+
+-- the same for a walk over the watches of a literal: two visits for each watch, and one for each literal that a search passed
+abbrev pub WalkCosts : Store → Rests → Clauses → Clauses → ℕ → Run → Run → Type 0
+WalkCosts store rests c c' literal old new = RunCosts store rests (sum (passed_of c)) (2 * length (list_at (lists_of c.lists.items) literal) + sum (passed_of c')) old new
+
+abbrev pub WalkAdvances : Store → Rests → Clauses → Clauses → ℕ → Run → Run → Type 0
+WalkAdvances store rests c c' literal old new = RunAdvances store rests (sum (passed_of c)) (2 * length (list_at (lists_of c.lists.items) literal) + sum (passed_of c')) old new
+
+abbrev pub RunSpends : Store → Rests → Clauses → List ℕ → Run → Run → Type 0
+RunSpends store rests c waiting old new = Spends (database store rests) (clauses_of c) (chosen store waiting) (progress old) (progress new)
