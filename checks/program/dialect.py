@@ -66,6 +66,19 @@ REWRITTEN = [
     # Without x2 the two others are true: two x2 hold the step alone.
     ("red +1 x2 >= 1 ; ; begin\n  rup +1 x1 +1 x3 >= 2 ;\nend\n",
      "rup +1 x1 +1 x3 +2 x2 >= 2 ;\nrup +1 x2 >= 1 ;\ndel id 5\n", [SUBPROOF]),
+    # Labels: one that is given again means the newest, and one of a subproof its step.
+    ("@a rup +1 x2 >= 1 ;\npol @a 1 +\n@a rup +1 x2 +1 x1 >= 1 ;\npol @a 2 *\ne @a +1 x1 +1 x2 >= 1 ;\ndel id @a -3\n",
+     "rup +1 x2 >= 1 ;\npol 5 1 +\nrup +1 x2 +1 x1 >= 1 ;\npol 7 2 *\ndel id 7 6\n", []),
+    ("@a red +1 x2 >= 1 ; ; begin\n  @b rup +1 x1 >= 1 ;\n  pol @b 4 + 5 +\nend\npol @a 1 +\n",
+     "rup +1 x1 +1 x2 >= 1 ;\npol 5 4 + x2 +\nrup +1 x2 >= 1 ;\ndel id 5 6\npol 7 1 +\n", [SUBPROOF]),
+    # The negation forces ~x2, against the step before.
+    ("rup +1 x2 >= 1 ;\npol 2 3 + 4 +\nred +2 x2 +1 x1 >= 2 ; x1 -> 1\n", "rup +1 x2 >= 1 ;\npol 2 3 + 4 +\nrup +2 x2 +1 x1 >= 2 ;\n", []),
+    # A label says nothing before a line that adds nothing.
+    ("@a e 1 +2 x1 +2 x2 +1 x3 >= 3 ;\nrup +1 x2 >= 1 ;\n", "rup +1 x2 >= 1 ;\n", []),
+    ("ia >= 0 ; 4\ni >= 0 ; 4\n", "pol 4 x1 w x3 w\n", []),
+    ("del range 2 2\ndel range 9 3\n", "", []),
+    # 4 x1 + ~x1 >= 0 is 3 x1 >= -1, whose degree becomes 0; x1 + ~x1 >= 0 has no terms.
+    ("pol x1 4 * ~x1 +\ne 5 +3 x1 >= -1 ;\npol x1 ~x1 +\ne 6 >= -1 ;\n", "pol x1 4 * ~x1 +\npol x1 ~x1 +\n", []),
     # The negation 5, that of the goal 6, the step 7, and the constraint 8.
     ("red +1 x2 >= 1 ; ; begin\n  proofgoal #1\n    rup >= 1 ;\n  end -1\nend\npol 8 1 +\n", "rup +1 x2 >= 1 ;\npol 5 1 +\n", [SUBPROOF]),
 ]
@@ -74,6 +87,13 @@ REWRITTEN = [
 REFUSED = [
     # Neither x1 nor the last constraint forces anything.
     ("red +1 ~x1 >= 1 ; x1 -> 0 ;\n", "line 3: `red` with a witness is outside the profile: `+1 ~x1 >= 1` does not follow by unit propagation"),
+    ("pol @b\n", "line 3: `@b` is no id"),
+    ("@a rup +1 x2 >= 1 ;\ndel id @a\npol @a\n", "line 5: no constraint @a is live"),
+    ("pol 9\ne 5 +1 x2 >= 1 ;\n", "line 4: no constraint 9 is live in `9`"),
+    ("pol 5\ne 5 +1 x2 >= 1 ;\n", "line 4: no constraint 5 is live in `5`"),
+    # Nothing follows from a constraint that is deleted.
+    ("red +1 x2 >= 1 ; x2 -> 1\ndel id 1\ndel id 2 3 5\nred +1 x2 +1 x1 >= 1 ; x2 -> 1\n",
+     "line 6: `red` with a witness is outside the profile: `+1 x2 +1 x1 >= 1` does not follow by unit propagation"),
     ("red +1 y1 >= 1 ; y1 -> 1\n", "line 3: `red` with a witness is outside the profile: `+1 y1 >= 1` does not follow by unit propagation"),
     ("dom +1 x2 >= 1 ; x2 -> 1 ;\n", "line 3: `dom` (dominance) is outside the profile"),
     ("rup +1 x2 >= 1 ;\nobju new +1 x1 ;\n", "line 4: `obju` (a change of the objective) is outside the profile"),
@@ -120,6 +140,16 @@ WHOLE = [
     (INSTANCE, V2 + "sol ~x1 x2 x3\nrup +1 x2 >= 1 ; 1 4\nrup +1 x1 +2 x2 -1 x3 >= 1 ; -1\noutput NONE ;\nconclusion BOUNDS 1:-1 1: ~x1 x2 x3 ;\n" + END,
      F + "solx ~x1 x2 x3\ndel id 5\nrup +1 x2 >= 1 ;\nrup +1 x1 +2 x2 -1 x3 >= 1 ;\noutput NONE\nconclusion BOUNDS 1 : 7 1 : ~x1 x2 x3\n" + END,
      [], b"verified BOUNDS 1 1\n"),
+    # Only if `ea` adds nothing is the constraint 5 that one; only if the ids of a subproof are given again.
+    (INSTANCE, V2 + "ea +2 x1 +2 x2 +1 x3 >= 3 ; 1\nrup +1 x2 >= 1 ;\ne 5 +1 x2 >= 1 ;\n" + NONE + END, F + "rup +1 x2 >= 1 ;\n" + NONE + END,
+     ["read as by --ea-adds-nothing, as otherwise: line 5: constraint 5 is `+2 x1 +2 x2 +1 x3 >= 3`, not `+1 x2 >= 1`"], b"verified NONE\n"),
+    (INSTANCE, V2 + "red +1 x2 >= 1 ; ; begin\n  rup +1 x1 >= 1 ;\nend\ne 5 +1 x2 >= 1 ;\npol -1 1 +\n" + NONE + END,
+     F + "rup +1 x1 +1 x2 >= 1 ;\nrup +1 x2 >= 1 ;\ndel id 5\npol 6 1 +\n" + NONE + END,
+     ["read as by --scoped-ids, as otherwise: line 6: no constraint 5 is live", SUBPROOF], b"verified NONE\n"),
+    (INSTANCE, V2 + "ea +2 x1 +2 x2 +1 x3 >= 3 ; 1\ne 9 +1 x2 >= 1 ;\n" + NONE + END, "", ["line 4: no constraint 9 is live"], None),
+    # Labels of an instance, which pb does not read.
+    (b"* #variable= 2 #constraint= 3\n@one +1 x1 >= 1 ;\n@two +1 x2 = 1 ;\n@three +1 x2 +1 x1 >= 1 ;\n",
+     "pseudo-Boolean proof version 2.0\nf 4\npol @three @one +\n" + NONE + END, "pseudo-Boolean proof version 2.0\nf 4\npol 4 1 +\n" + NONE + END, [], b""),
     (INSTANCE, V2 + "red +1 x2 >= 1 ; ; begin\n", "", [SUBPROOF, "the proof ends within a subproof"], None),
     (INSTANCE, V2.replace("2.0", "3.0"), "", ["line 1: version 3.0 of the format; 1.0 to 2.0 are read"], None),
     (INSTANCE, "proof\n", "", ["line 1: a proof begins with `pseudo-Boolean proof version`"], None),
