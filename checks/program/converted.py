@@ -80,6 +80,11 @@ RUNS = [
      b"* #variable= 1 #constraint= 102\n" + b"-1 x1 >= -5 ;\n" * 102,
      [*(f"line {line}: `<` turned into `>=`" for line in range(2, 102)), "and 2 more: `<` turned into `>=`"]),
     ("opb2profile", b"+1 x1 >= 1 ;\nmin: +1 x1 ;", 1, b"", ["line 2: an objective after a constraint or another objective; put it first"]),
+    ("opb2profile", b"+1 x1 +3 >= 1 ;", 1, b"", ["line 1: a coefficient without a literal"]),
+    ("opb2profile", b"+3 * * x1 >= 1 ;", 1, b"", ["line 1: `*` between a coefficient and its name dropped", "line 1: `*` is out of order"]),
+    ("opb2profile", b"+3*a.b +2*c.d >= 1 ;", 0, b"* #variable= 2 #constraint= 1\n+3 a_b +2 c_d >= 1 ;\n",
+     [*["line 1: `*` between a coefficient and its name dropped"] * 2, "line 1: the name `a.b` is `a_b`", "line 1: the name `c.d` is `c_d`",
+      "line 1: the header `* #variable= 2 #constraint= 1` written"]),
     ("opb2profile", b"+1.5 x1 >= 1 ;", 1, b"", ["line 1: `1.5 x1 >= 1` is no term, relation or whole number"]),
     ("opb2profile", b"+1 x1 >= 1 ;\n+1 x2", 1, b"", ["line 2: the file ends within a statement"]),
 ]
@@ -114,6 +119,29 @@ PROOFS = [
      HEAD + b"f 4\nrup +1 x1 +1 x2 >= 1 ;\ndel id 5\ndel id 1\nrup +1 x2 >= 1 ;\nrup >= 1 ;\n" + TAIL % 7, []),
     (b"p cnf 2 2\n1 0\n-1\n0", b"d 3 1 0\n", [], 0, HEAD + b"f 2\nrup >= 1 ;\n" + TAIL % 3,
      [ADDED, "ignored 1 deletions of clauses that are not there"]),
+    # Lines of other forms after the first: two steps on a line, a step over lines, two spaces, an empty line, a tab, a blank, zeros, a sign.
+    (SQUARE, b"2 1 0\n2 2 1 0\n-1 2 0 1 -2 0\n1\n2 0\n-1  2 0\n\n1\t2 0\n1 -2 0 \n02 1 0\nd 1 2 1 0\n+1 2 0\nd 1 \n-2 0\n0\n", [], 0,
+     HEAD + b"f 4\n" + b"".join(b"rup %s>= 1 ;\n" % it for it in (
+         b"+1 x2 +1 x1 ", b"+1 x2 +1 x1 ", b"+1 ~x1 +1 x2 ", b"+1 x1 +1 ~x2 ", b"+1 x1 +1 x2 ", b"+1 ~x1 +1 x2 ", b"+1 x1 +1 x2 ", b"+1 x1 +1 ~x2 ",
+         b"+1 x2 +1 x1 ")) + b"del id 13\nrup +1 x1 +1 x2 >= 1 ;\ndel id 12\nrup >= 1 ;\n" + TAIL % 15, []),
+    (SQUARE, b"2 1 0\n2 00\n0\n", [], 1, b"", ["proof line 3: not a clause that ends with 0"]),
+    (SQUARE, b"2 1 0\n-1 2 0\n2 3 0\n", [], 1, b"", ["step 3, clause 2 3 0: a RAT step: variable 3 is new; pb has no rule for it"]),
+    (SQUARE, b"2 1 0\nd 3 1 0\n2 -13 0\n", [], 1, b"", ["step 3, clause 2 -13 0: a RAT step: variable 13 is new; pb has no rule for it"]),
+    (SQUARE, b"a\x04\x02\0a\x04\x06\0", [], 1, b"", ["step 2, clause 2 3 0: a RAT step: variable 3 is new; pb has no rule for it"]),
+    (SQUARE, b"2 1 0\n-1 2 0\n2 x 0\n", [], 1, b"", ["proof line 3: not a clause that ends with 0"]),
+    (SQUARE, b"2 1 0\n-1 2 0\n2 1-2 0\n", [], 1, b"", ["proof line 3: not a clause that ends with 0"]),
+    (SQUARE, b"2 1 0\n-1 2 0\n2 1d 0\n", [], 1, b"", ["proof line 3: not a clause that ends with 0"]),
+    (SQUARE, b"2 1 0\n-1 2 0\n5 d 2 0\n", [], 1, b"", [LRAT.replace("1", "3", 1)]),
+    (SQUARE, b"2 1 0\n-1 2 0\nd 2 -1 0\nd -1 2 0\n2 0\n", ["--check"], 1, b"",
+     ["step 5, clause 2 0: does not follow by unit propagation: a RAT step, or a wrong one"]),
+    (SQUARE, b"a\x04\x02\0d\x04\x02\0a\x04\0a\0", ["--check"], 0,
+     HEAD + b"f 4\nrup +1 x2 +1 x1 >= 1 ;\ndel id 5\nrup +1 x2 >= 1 ;\nrup >= 1 ;\n" + TAIL % 7, []),
+    # The variable 64 in two groups of seven bits.
+    (b"p cnf 64 2\n64 1 0\n-64 0\n", b"a\x81\x01\x80\x01\0d\x02\x80\x01\0a\x02\0", [], 0,
+     HEAD + b"f 2\nrup +1 ~x64 +1 x64 >= 1 ;\ndel id 1\nrup +1 x1 >= 1 ;\nrup >= 1 ;\n" + TAIL % 5, [ADDED]),
+    (SQUARE, b"", [], 0, HEAD + b"f 4\nrup >= 1 ;\n" + TAIL % 5, [ADDED]),
+    (SQUARE, b"o 1 1 2 0\nr 3 4\na 5 2 0 l 1 2 0\nl 9\na 6 1 2 0 l 4 0\nd 6 2 1 0\na 7 0\n", [], 0,
+     HEAD + b"f 4\nrup +1 x2 >= 1 ;\nrup +1 x1 +1 x2 >= 1 ;\ndel id 6\nrup >= 1 ;\n" + TAIL % 7, []),
     (SQUARE, b"a\x04\0\x02\x04\0", [], 1, b"", ["proof byte 3: 0x02 begins no step; if this is binary LRAT, use lrat2pbp"]),
     (SQUARE, b"a\x04\0a\x84\0", [], 1, b"", ["proof byte 5: 0x00 within a number"]),
     (SQUARE, b"a\x04\0a\x84", [], 1, b"", ["the proof ends within a step"]),
@@ -199,5 +227,10 @@ CHECKED = [
     (["short.cnf", "a.drat"], b"", 1, "", None),
     (["--pb", "none", "a.cnf", "a.drat"], b"", 1, "", "check-cnf: none: no such program; name it by --pb\n"),
     (["-"], b"", 2, "", None),
+    # pb ends at the first step, and then nothing reads what the script writes.
+    (["sat.cnf"], b"1 0\n" * 99999, 1, "", None),
+    # Where a script fails, pb says that its input ended; that is not shown.
+    (["a.cnf"], b"x 0\n", 1, "", f"drat2pbp: proof line 1: not a clause that ends with 0\n{NOT_VERIFIED}"),
+    (["."], b"0\n", 1, "", f"cnf2opb: .: Is a directory\ndrat2pbp: .: Is a directory\n{NOT_VERIFIED.replace('a.cnf', '.')}"),
     (["a.cnf", "none.drat"], b"", 1, "", None),
 ]
