@@ -5,7 +5,7 @@ from constraints import computed, is_id, linear, normal, value_of_text
 from propagation import Propagator
 from streams import Rejected, shown
 
-# How many postfix expressions may wait to be computed: some 200 bytes and their text for each.
+# How many postfix expressions may wait to be computed, and how many deleted constraints may stay for them: some 200 bytes and the text for each.
 WAITING = 500000
 
 
@@ -65,15 +65,22 @@ class Values:
         if value.__class__ is Postfix:
             self.waiting += 1
             if self.waiting > WAITING:
-                for it in self.live:
-                    self.normal(it)
-                self.waiting = 0
-                self.deleted.clear()
+                self.settle()
 
     def delete(self, number):
         value = self.live.pop(number)
         if self.waiting:
             self.deleted[number] = value
+            if len(self.deleted) > WAITING:
+                self.settle()
+
+    def settle(self):
+        """Computes the postfix expressions that are live, so that nothing that is deleted has to stay."""
+        for number, value in self.live.items():
+            if value.__class__ is Postfix:
+                self.normal(number)
+        self.waiting = 0
+        self.deleted.clear()
 
     def normal(self, number):
         """The normal form of a constraint, or None. It is computed here at the first time, with all that it is made of."""
