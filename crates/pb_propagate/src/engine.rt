@@ -4,17 +4,15 @@ pub mod question;
 pub mod root;
 pub mod visits;
 
-ghost use Rattle.std.specs.Prelude.{◌≡◌, ℕ, List, Option, Some, None, ◌+◌, ◌*◌, ◌<◌, ◌≤◌, ◌++◌, ◌∷◌, [], ◌⊎◌, true, false, All, length, filter, slice_index_or, slice_get, slice_set, sum_by, OnOk, OnErr, IfOk, IfSome, IfNone, map};
-ghost use Rattle.pb_normal.specs.meaning.Form.{Form};
+ghost use Rattle.std.specs.Prelude.{◌≡◌, List, Option, Some, None, ◌+◌, ◌*◌, ◌<◌, ◌≤◌, ◌++◌, ◌∷◌, [], ◌⊎◌, true, false, All, length, slice_index_or, slice_set, sum_by, OnOk, OnErr, IfOk, IfSome, IfNone};
 ghost use Rattle.pb_normal.specs.meaning.Rules.{negation_of, negation};
 ghost use Rattle.pb_normal.specs.declared.numbered.NumberedLiteral.{NumberedLiteral};
-ghost use Rattle.pb_propagate.specs.declared.store.stored_form.StoredForm.{StoredForm};
 ghost use Rattle.pb_propagate.specs.engine.Engine.Live.{Standing, Live, Gives, terms_in, one_in};
 ghost use Rattle.pb_propagate.specs.engine.Engine.Lists.{has, IsWithin};
-ghost use Rattle.pb_propagate.specs.engine.Engine.Counts.{IsCounted, beside, IsTidy, IsUndone, AreSingle};
+ghost use Rattle.pb_propagate.specs.engine.Engine.Progress.{chosen, IfFound, IfNotFound, RunIsOpen, RunStaysTidy, shapes_in, list_of, values_of, RunIsCalm, RunIsUndone, RunAdvances};
 ghost use Rattle.pb_propagate.specs.engine.Engine.Fields.{shapes_of, forms_of, IsSound};
 ghost use Rattle.pb_propagate.specs.meaning.Propagation.{With, MeetsConflict, IsCompletion, IsRup};
-ghost use Rattle.pb_propagate.specs.engine.Engine.Rest.{AreAtRest, IsAtRest, waits, IsRefuted, IsEnded};
+ghost use Rattle.pb_propagate.specs.engine.Engine.Rest.{AreAtRest, IsAtRest, IsRefuted, IsEnded};
 ghost use Rattle.pb_propagate.specs.engine.Engine.Root.{IsRooted, HasGained};
 ghost use Rattle.pb_propagate.specs.declared.store.Store.{Store};
 ghost use Rattle.pb_propagate.specs.declared.clauses.Clauses.{Clauses};
@@ -80,21 +78,17 @@ fn assume(
 ) -> Result<bool, AllocError>
     requires store { IsSound store.now }
     requires inside { All (λ l. l.variable < store.now.variables) given.now }
-    requires values { length run.old.assignment.values.items ≡ store.now.variables }
+    requires values { length (values_of run.old) ≡ store.now.variables }
     requires opens { length run.old.opens.items ≡ length store.now.stored.items }
     requires next { run.old.next ≤ length run.old.work.items }
-    requires empty { run.old.assignment.list.items ≡ [] }
-    requires counted { IsCounted (shapes_of store.now.stored.items) run.old.opens.items run.old.assignment.list.items [] }
-    ensures values { OnOk result (length run.new.assignment.values.items ≡ length run.old.assignment.values.items) }
-    ensures opens { OnOk result (length run.new.opens.items ≡ length run.old.opens.items) }
-    ensures candidates { OnOk result (run.new.candidates ≡ run.old.candidates) }
-    ensures next { OnOk result (run.new.next ≡ run.old.next) }
-    ensures within { OnOk result (length run.old.work.items ≤ length run.new.work.items) }
-    ensures single { OnOk result (AreSingle run.new.assignment.list.items) }
-    ensures counted { IfOk result (λ found. found ≡ false → IsCounted (shapes_of store.now.stored.items) run.new.opens.items run.new.assignment.list.items []) }
-    ensures tidy { OnOk result ((aside : List ℕ) (busy : ℕ) → IsTidy (beside rests.now aside) (shapes_of store.now.stored.items) run.old.opens.items run.old.candidates.items run.old.assignment.list.items run.old.work.items run.old.trail.items run.old.next busy → IsTidy (beside rests.now aside) (shapes_of store.now.stored.items) run.new.opens.items run.new.candidates.items run.new.assignment.list.items run.new.work.items run.new.trail.items run.new.next busy) }
-    ensures refuted { IfOk result (λ found. found ≡ true → IsRefuted (shapes_of store.now.stored.items) given.now given.now) }
-    ensures same { IfOk result (λ found. found ≡ false → IsWithin run.new.assignment.list.items given.now × IsWithin given.now run.new.assignment.list.items) }
+    requires empty { list_of run.old ≡ [] }
+    requires counted { RunIsOpen store.now rests.now run.old }
+    ensures advances { OnOk result (RunAdvances store.now rests.now 0 0 run.old run.new) }
+    ensures counted { IfNotFound result (RunIsOpen store.now rests.now run.new) }
+    ensures tidy { OnOk result (RunStaysTidy store.now rests.now run.old run.new) }
+    ensures refuted { IfFound result (IsRefuted (shapes_in store.now) given.now given.now) }
+    ensures same { IfNotFound result (
+        IsWithin (list_of run.new) given.now × IsWithin given.now (list_of run.new)) }
 {
     'given: for i in 0..given.len() {
         let literal = given[i];
@@ -119,25 +113,28 @@ fn settle(
 ) -> Result<bool, AllocError>
     requires store { IsSound store.now }
     requires inside { All (λ l. l.variable < store.now.variables) given.now }
-    requires values { length run.old.assignment.values.items ≡ store.now.variables }
+    requires values { length (values_of run.old) ≡ store.now.variables }
     requires opens { length run.old.opens.items ≡ length store.now.stored.items }
     requires candidates { length run.old.candidates.items ≡ length store.now.stored.items }
     requires next { run.old.next ≤ length run.old.work.items }
     requires waiting { All (λ s. s < length store.now.stored.items) waiting.now }
-    requires empty { run.old.assignment.list.items ≡ [] }
-    requires counted { IsCounted (shapes_of store.now.stored.items) run.old.opens.items run.old.assignment.list.items [] }
-    requires tidy { IsTidy (beside rests.now (filter (waits store.now.stored.items) waiting.now)) (shapes_of store.now.stored.items) run.old.opens.items run.old.candidates.items run.old.assignment.list.items run.old.work.items run.old.trail.items run.old.next (length store.now.stored.items) }
+    requires empty { list_of run.old ≡ [] }
+    requires counted { RunIsOpen store.now rests.now run.old }
+    requires tidy { RunIsCalm store.now rests.now (chosen store.now waiting.now) run.old }
     requires joined { AreJoined (shapes_of store.now.stored.items) (clauses_of clauses.old) }
     requires ready { AreReady clauses.old }
     requires widths { length clauses.old.lists.items ≡ 4 * store.now.variables }
     ensures literals { clauses.new.literals ≡ clauses.old.literals }
-    ensures running { OnOk result (IsRunning run.new.assignment.values.items clauses.new) }
-    ensures values { OnOk result (length run.new.assignment.values.items ≡ length run.old.assignment.values.items) }
+    ensures running { OnOk result (IsRunning (values_of run.new) clauses.new) }
+    ensures values { OnOk result (length (values_of run.new) ≡ length (values_of run.old)) }
     ensures opens { OnOk result (length run.new.opens.items ≡ length store.now.stored.items) }
-    ensures candidates { OnOk result (length run.new.candidates.items ≡ length store.now.stored.items) }
-    ensures undone { OnOk result (IsUndone rests.now (shapes_of store.now.stored.items) run.new.opens.items run.new.candidates.items run.new.trail.items 0) }
-    ensures refuted { IfOk result (λ found. found ≡ true → (list : List NumberedLiteral) × IsRefuted (all_of store.now clauses.old) given.now list) }
-    ensures ended { IfOk result (λ found. found ≡ false → IsEnded (all_of store.now clauses.old) given.now run.new.assignment.list.items) }
+    ensures candidates { OnOk result (
+        length run.new.candidates.items ≡ length store.now.stored.items) }
+    ensures undone { OnOk result (RunIsUndone store.now rests.now 0 run.new) }
+    ensures refuted { IfFound result (
+        (list : List NumberedLiteral) × IsRefuted (all_of store.now clauses.old) given.now list) }
+    ensures ended { IfNotFound result (
+        IsEnded (all_of store.now clauses.old) given.now (list_of run.new)) }
 {
     if assume(store, rests, run, given)? {
         return Ok(true);
@@ -150,15 +147,15 @@ fn settle(
 fn rest(store: &Store, rests: &Rests, clauses: &mut Clauses, run: &mut Run)
     requires opens { length run.old.opens.items ≡ length store.now.stored.items }
     requires candidates { length run.old.candidates.items ≡ length store.now.stored.items }
-    requires undone { IsUndone rests.now (shapes_of store.now.stored.items) run.old.opens.items run.old.candidates.items run.old.trail.items 0 }
+    requires undone { RunIsUndone store.now rests.now 0 run.old }
     requires bare { (rests.now.opens.items ≡ []) × (rests.now.starts.items ≡ []) }
-    requires running { IsRunning run.old.assignment.values.items clauses.old }
+    requires running { IsRunning (values_of run.old) clauses.old }
     ensures ready { AreReady clauses.new }
     ensures literals { clauses.new.literals ≡ clauses.old.literals }
     ensures lists { clauses.new.lists ≡ clauses.old.lists }
     ensures rest { AreAtRest store.now.stored.items run.new.opens.items run.new.candidates.items }
-    ensures values { length run.new.assignment.values.items ≡ length run.old.assignment.values.items }
-    ensures list { run.new.assignment.list.items ≡ [] }
+    ensures values { length (values_of run.new) ≡ length (values_of run.old) }
+    ensures list { list_of run.new ≡ [] }
     ensures work { run.new.work.items ≡ [] }
     ensures trail { run.new.trail.items ≡ [] }
     ensures next { run.new.next ≡ 0 }
@@ -185,8 +182,10 @@ fn follow(
     requires rest { IsAtRest store.now run.now eager.now clauses.old (forms_of store.now.stored.items) }
     requires slot { slot < length store.now.stored.items }
     requires gained { root.old.live ≡ true → (before : Store) × (old : Clauses) × IsRooted before old root.old.run root.old.rests (length before.stored.items) × HasGained before old store.now clauses.old slot }
-    ensures rest { OnOk result (IsAtRest store.now run.now eager.now clauses.new (forms_of store.now.stored.items)) }
-    ensures rooted { OnOk result (root.new.live ≡ true → IsRooted store.now clauses.new root.new.run root.new.rests (length store.now.stored.items)) }
+    ensures rest { OnOk result (
+        IsAtRest store.now run.now eager.now clauses.new (forms_of store.now.stored.items)) }
+    ensures rooted { OnOk result (
+        root.new.live ≡ true → IsRooted store.now clauses.new root.new.run root.new.rests (length store.now.stored.items)) }
 {
     if root.live {
         root.admit(store, clauses, slot)?;

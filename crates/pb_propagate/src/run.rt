@@ -1,18 +1,15 @@
 //! Literals are assigned, and the constraints that they touch are visited.
 
-ghost use Rattle.std.specs.Prelude.{◌≡◌, ℕ, ◌≤◌, ◌+◌, ◌-◌, ◌*◌, ◌^◌, ◌<◌, ◌++◌, ◌∷◌, [], true, false, List, Bool, Option, All, filter, length, OnOk, OnErr, IfOk, slice_index, slice_index_or, slice_set, sum, sum_by, Contains};
+ghost use Rattle.std.specs.Prelude.{◌≡◌, ◌≤◌, ◌+◌, ◌-◌, ◌*◌, ◌^◌, ◌<◌, ◌++◌, ◌∷◌, [], true, false, All, length, OnOk, OnErr, sum, sum_by};
 ghost use Rattle.pb_normal.specs.declared.numbered.NumberedLiteral.{NumberedLiteral};
 ghost use Rattle.pb_normal.specs.meaning.Rules.{negation};
-ghost use Rattle.pb_propagate.specs.declared.term.Term.{Term};
-ghost use Rattle.pb_propagate.specs.engine.Engine.Lists.{has, size, Extends, Derives, Conflicts, Shape, IsSettled};
-ghost use Rattle.pb_propagate.specs.engine.Engine.Counts.{place, Grown, IsCalm, IsCounted, beside, rest_open, IsTidy, IsPaid, IsAbsent, Adopted, AreFound, AreSingle, IsUndone, AreCovered, spent};
-ghost use Rattle.pb_propagate.specs.engine.Engine.Progress.{chosen, RunIsOpen, RunIsTidy, RunIsShort, RunIsUndone, RunLowers, RunCosts, RunSpends, RunAdvances, RunVisitsEach, RunStaysTidy};
+ghost use Rattle.pb_propagate.specs.engine.Engine.Lists.{has, Conflicts};
+ghost use Rattle.pb_propagate.specs.engine.Engine.Counts.{place, Grown, IsAbsent, Adopted, AreSingle};
+ghost use Rattle.pb_propagate.specs.engine.Engine.Progress.{progress, chosen, IfFound, IfNotFound, AreSettled, RunIsOpen, RunIsTidy, RunStaysTidy, shapes_in, list_of, values_of, RunIsCalm, RunIsUndone, RunVisitsEach, RunIsShort, RunFits, RunDerives, RunLowers, RunCosts, RunAdvances, RunSpends, RunIsWalked};
 ghost use Rattle.pb_propagate.specs.engine.Engine.Rest.{waits};
-ghost use Rattle.pb_propagate.specs.engine.Engine.Fields.{shapes_of, entries_of, IsSound};
-ghost use Rattle.pb_propagate.specs.engine.Engine.Links.{terms_at, coefficient_at};
-ghost use Rattle.pb_propagate.specs.engine.Engine.Terms.{terms_of};
-ghost use Rattle.pb_propagate.specs.engine.Clauses.Runs.{AreReady, IsRunning, AreWalked, KeepsWalked};
-ghost use Rattle.pb_propagate.specs.engine.Clauses.Walked.{walked_codes};
+ghost use Rattle.pb_propagate.specs.engine.Engine.Fields.{shapes_of, IsSound};
+ghost use Rattle.pb_propagate.specs.engine.Engine.Links.{terms_at};
+ghost use Rattle.pb_propagate.specs.engine.Clauses.Runs.{AreReady, IsRunning, KeepsWalked};
 ghost use Rattle.pb_propagate.specs.engine.Clauses.Shapes.{AreJoined, clauses_of, all_of};
 
 use crate::assignment::Assignment;
@@ -67,9 +64,9 @@ fn lower(store: &Store, rests: &Rests, run: &mut Run, entry: Visited) -> Result<
     requires form { entry.form < length store.now.stored.items }
     requires index { entry.index < length (terms_at (shapes_of store.now.stored.items) entry.form) }
     requires inside { entry.form < length run.old.opens.items }
-    requires fits { coefficient_at (shapes_of store.now.stored.items) entry.form entry.index ≤ slice_index run.old.opens.items entry.form }
+    requires fits { RunFits store.now entry run.old }
     ensures lowers { OnOk result (RunLowers store.now rests.now entry run.old run.new) }
-    ensures falsified { IfOk result (λ b. b ≡ true → RunIsShort store.now rests.now entry.form run.new) }
+    ensures falsified { IfFound result (RunIsShort store.now rests.now entry.form run.new) }
     ensures candidates { run.new.candidates ≡ run.old.candidates }
     ensures assignment { run.new.assignment ≡ run.old.assignment }
     ensures next { run.new.next ≡ run.old.next }
@@ -107,19 +104,19 @@ pub fn put(
 ) -> Result<bool, AllocError>
     requires store { IsSound store.now }
     requires inside { literal.variable < store.now.variables }
-    requires values { length run.old.assignment.values.items ≡ store.now.variables }
+    requires values { length (values_of run.old) ≡ store.now.variables }
     requires opens { length run.old.opens.items ≡ length store.now.stored.items }
     requires next { run.old.next ≤ length run.old.work.items }
-    requires absent { has run.old.assignment.list.items literal ≡ false }
-    requires not_falsified { has run.old.assignment.list.items (negation literal) ≡ false }
+    requires absent { has (list_of run.old) literal ≡ false }
+    requires not_falsified { has (list_of run.old) (negation literal) ≡ false }
     requires counted { RunIsOpen store.now rests.now run.old }
     ensures advances { OnOk result (RunAdvances store.now rests.now 0 0 run.old run.new) }
     ensures costs { OnErr result (RunCosts store.now rests.now 0 0 run.old run.new) }
     ensures candidates { run.new.candidates ≡ run.old.candidates }
-    ensures list { OnOk result (run.new.assignment.list.items ≡ run.old.assignment.list.items ++ literal ∷ []) }
+    ensures list { OnOk result ((list_of run.new) ≡ list_of run.old ++ literal ∷ []) }
     ensures tidy { OnOk result (RunStaysTidy store.now rests.now run.old run.new) }
-    ensures counted { IfOk result (λ found. found ≡ false → RunIsOpen store.now rests.now run.new) }
-    ensures conflict { IfOk result (λ found. found ≡ true → Conflicts (shapes_of store.now.stored.items) run.new.assignment.list.items) }
+    ensures counted { IfNotFound result (RunIsOpen store.now rests.now run.new) }
+    ensures conflict { IfFound result (Conflicts (shapes_in store.now) (list_of run.new)) }
 {
     run.assignment.put(literal)?;
     let entries = &store.occurrences[place_of(literal.negation())];
@@ -141,17 +138,17 @@ pub fn try_put(
 ) -> Result<bool, AllocError>
     requires store { IsSound store.now }
     requires inside { literal.variable < store.now.variables }
-    requires values { length run.old.assignment.values.items ≡ store.now.variables }
+    requires values { length (values_of run.old) ≡ store.now.variables }
     requires opens { length run.old.opens.items ≡ length store.now.stored.items }
     requires next { run.old.next ≤ length run.old.work.items }
     requires counted { RunIsOpen store.now rests.now run.old }
     ensures advances { OnOk result (RunAdvances store.now rests.now 0 0 run.old run.new) }
     ensures costs { OnErr result (RunCosts store.now rests.now 0 0 run.old run.new) }
     ensures candidates { run.new.candidates ≡ run.old.candidates }
-    ensures adopted { OnOk result (Adopted literal run.old.assignment.list.items run.new.assignment.list.items) }
+    ensures adopted { OnOk result (Adopted literal (list_of run.old) (list_of run.new)) }
     ensures tidy { OnOk result (RunStaysTidy store.now rests.now run.old run.new) }
-    ensures counted { IfOk result (λ found. found ≡ false → RunIsOpen store.now rests.now run.new) }
-    ensures conflict { IfOk result (λ found. found ≡ true → Conflicts (shapes_of store.now.stored.items) run.new.assignment.list.items) }
+    ensures counted { IfNotFound result (RunIsOpen store.now rests.now run.new) }
+    ensures conflict { IfFound result (Conflicts (shapes_in store.now) (list_of run.new)) }
 {
     if run.assignment.contains(literal) {
         return Ok(false);
@@ -174,7 +171,7 @@ fn visit_form(
 ) -> Result<bool, AllocError>
     requires store { IsSound store.now }
     requires form { form < length store.now.stored.items }
-    requires values { length run.old.assignment.values.items ≡ store.now.variables }
+    requires values { length (values_of run.old) ≡ store.now.variables }
     requires opens { length run.old.opens.items ≡ length store.now.stored.items }
     requires candidates { length run.old.candidates.items ≡ length store.now.stored.items }
     requires next { run.old.next ≤ length run.old.work.items }
@@ -183,11 +180,12 @@ fn visit_form(
     requires there { IsAbsent run.old.work.items 0 form → ⊥ }
     ensures advances { OnOk result (RunAdvances store.now rests.now 0 1 run.old run.new) }
     ensures costs { OnErr result (RunCosts store.now rests.now 0 1 run.old run.new) }
-    ensures derived { OnOk result (Derives (shapes_of store.now.stored.items) run.old.assignment.list.items run.new.assignment.list.items) }
-    ensures counted { IfOk result (λ found. found ≡ false → RunIsOpen store.now rests.now run.new) }
-    ensures tidy { IfOk result (λ found. found ≡ false → RunIsTidy store.now rests.now (chosen store.now waiting.now) (length store.now.stored.items) run.new) }
-    ensures undone { OnOk result (RunIsUndone store.now rests.now run.new) }
-    ensures conflict { IfOk result (λ found. found ≡ true → Conflicts (shapes_of store.now.stored.items) run.new.assignment.list.items) }
+    ensures derived { OnOk result (RunDerives (shapes_in store.now) run.old run.new) }
+    ensures counted { IfNotFound result (RunIsOpen store.now rests.now run.new) }
+    ensures tidy { IfNotFound result (
+        RunIsCalm store.now rests.now (chosen store.now waiting.now) run.new) }
+    ensures undone { OnOk result (RunIsUndone store.now rests.now 0 run.new) }
+    ensures conflict { IfFound result (Conflicts (shapes_in store.now) (list_of run.new)) }
     ensures bounded { sum run.new.candidates.items ≤ sum_by (λ f. length f.terms) (shapes_of store.now.stored.items) }
     ensures found { OnOk result (RunVisitsEach run.old run.new) }
 {
@@ -218,7 +216,7 @@ fn visit_form(
 /// Adds a form to the work list if it may propagate with nothing assigned.
 pub fn choose(store: &Store, form: usize, work: &mut Vec<usize>) -> Result<(), AllocError>
     requires { form < length store.now.stored.items }
-    ensures { OnOk result (work.new.items ≡ work.old.items ++ filter (waits store.now.stored.items) (form ∷ [])) }
+    ensures { OnOk result (work.new.items ≡ work.old.items ++ chosen store.now (form ∷ [])) }
 {
     if !store.stored[form].eager {
         return Ok(());
@@ -239,34 +237,37 @@ pub fn propagate(
     from: usize,
 ) -> Result<bool, AllocError>
     requires store { IsSound store.now }
-    requires values { length run.old.assignment.values.items ≡ store.now.variables }
+    requires values { length (values_of run.old) ≡ store.now.variables }
     requires opens { length run.old.opens.items ≡ length store.now.stored.items }
     requires candidates { length run.old.candidates.items ≡ length store.now.stored.items }
     requires next { run.old.next ≤ length run.old.work.items }
     requires waiting { All (λ s. s < length store.now.stored.items) waiting.now }
-    requires single { AreSingle run.old.assignment.list.items }
+    requires single { AreSingle (list_of run.old) }
     requires counted { RunIsOpen store.now rests.now run.old }
-    requires tidy { RunIsTidy store.now rests.now (chosen store.now waiting.now) (length store.now.stored.items) run.old }
+    requires tidy { RunIsCalm store.now rests.now (chosen store.now waiting.now) run.old }
     requires joined { AreJoined (shapes_of store.now.stored.items) (clauses_of clauses.old) }
     requires ready { AreReady clauses.old }
     requires widths { length clauses.old.lists.items ≡ 4 * store.now.variables }
-    requires from { from ≤ length run.old.assignment.list.items }
-    requires walked { AreWalked run.old.assignment.values.items clauses.old.watches.items (walked_codes from run.old.assignment.list.items) }
+    requires from { from ≤ length (list_of run.old) }
+    requires walked { RunIsWalked from clauses.old run.old }
     ensures literals { clauses.new.literals ≡ clauses.old.literals }
-    ensures running { OnOk result (IsRunning run.new.assignment.values.items clauses.new) }
-    ensures walked { IfOk result (λ found. found ≡ false → AreWalked run.new.assignment.values.items clauses.new.watches.items (walked_codes (length run.new.assignment.list.items) run.new.assignment.list.items)) }
-    ensures kept { OnOk result (KeepsWalked run.old.assignment.values.items clauses.old clauses.new) }
-    ensures values { OnOk result (length run.new.assignment.values.items ≡ length run.old.assignment.values.items) }
+    ensures running { OnOk result (IsRunning (values_of run.new) clauses.new) }
+    ensures walked { IfNotFound result (
+        RunIsWalked (length (list_of run.new)) clauses.new run.new) }
+    ensures kept { OnOk result (KeepsWalked (values_of run.old) clauses.old clauses.new) }
+    ensures values { OnOk result (length (values_of run.new) ≡ length (values_of run.old)) }
     ensures opens { OnOk result (length run.new.opens.items ≡ length store.now.stored.items) }
-    ensures candidates { OnOk result (length run.new.candidates.items ≡ length store.now.stored.items) }
+    ensures candidates { OnOk result (
+        length run.new.candidates.items ≡ length store.now.stored.items) }
     ensures costs { RunSpends store.now rests.now clauses.old waiting.now run.old run.new }
-    ensures derived { OnOk result (Derives (all_of store.now clauses.old) run.old.assignment.list.items run.new.assignment.list.items) }
-    ensures undone { OnOk result (RunIsUndone store.now rests.now run.new) }
-    ensures conflict { IfOk result (λ found. found ≡ true → Conflicts (all_of store.now clauses.old) run.new.assignment.list.items) }
-    ensures settled { IfOk result (λ found. found ≡ false → (f : Shape) → Contains (all_of store.now clauses.old) f → IsSettled f run.new.assignment.list.items) }
-    ensures counted { IfOk result (λ found. found ≡ false → RunIsOpen store.now rests.now run.new) }
-    ensures tidy { IfOk result (λ found. found ≡ false → RunIsTidy store.now rests.now [] (length store.now.stored.items) run.new) }
-    ensures done { IfOk result (λ found. found ≡ false → length run.new.work.items ≤ run.new.next) }
+    ensures derived { OnOk result (RunDerives (all_of store.now clauses.old) run.old run.new) }
+    ensures undone { OnOk result (RunIsUndone store.now rests.now 0 run.new) }
+    ensures conflict { IfFound result (Conflicts (all_of store.now clauses.old) (list_of run.new)) }
+    ensures settled { IfNotFound result (
+        AreSettled (all_of store.now clauses.old) (list_of run.new)) }
+    ensures counted { IfNotFound result (RunIsOpen store.now rests.now run.new) }
+    ensures tidy { IfNotFound result (RunIsCalm store.now rests.now [] run.new) }
+    ensures done { IfNotFound result (length run.new.work.items ≤ run.new.next) }
     ensures found { OnOk result (RunVisitsEach run.old run.new) }
 {
     let mut taken = 0;
@@ -300,14 +301,14 @@ pub fn propagate(
 pub fn undo_forms(store: &Store, rests: &Rests, run: &mut Run)
     requires opens { length run.old.opens.items ≡ length store.now.stored.items }
     requires candidates { length run.old.candidates.items ≡ length store.now.stored.items }
-    requires undone { IsUndone rests.now (shapes_of store.now.stored.items) run.old.opens.items run.old.candidates.items run.old.trail.items 0 }
+    requires undone { RunIsUndone store.now rests.now 0 run.old }
     ensures opens { length run.new.opens.items ≡ length store.now.stored.items }
     ensures candidates { length run.new.candidates.items ≡ length store.now.stored.items }
     ensures work { run.new.work ≡ run.old.work }
     ensures trail { run.new.trail ≡ run.old.trail }
     ensures assignment { run.new.assignment ≡ run.old.assignment }
     ensures visits { run.new.visits ≡ run.old.visits }
-    ensures undone { IsUndone rests.now (shapes_of store.now.stored.items) run.new.opens.items run.new.candidates.items run.new.trail.items (length run.new.trail.items) }
+    ensures undone { RunIsUndone store.now rests.now (length run.new.trail.items) run.new }
 {
     'forms: for i in 0..run.trail.len() {
         let form = run.trail[i];

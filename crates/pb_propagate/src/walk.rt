@@ -1,12 +1,11 @@
 //! Visits to the clauses in which a falsified literal is watched.
 
-ghost use Rattle.std.specs.Prelude.{◌≡◌, ℕ, ◌≤◌, ◌+◌, ◌*◌, ◌<◌, ◌++◌, ◌∷◌, [], true, false, List, Bool, Option, length, OnOk, OnErr, IfOk, slice_index_or};
-ghost use Rattle.pb_propagate.specs.engine.Engine.Lists.{Derives, Conflicts};
-ghost use Rattle.pb_propagate.specs.engine.Engine.Progress.{RunIsOpen, RunVisitsEach, RunStaysTidy, WalkAdvances, WalkCosts};
-ghost use Rattle.pb_propagate.specs.engine.Engine.Fields.{shapes_of, entries_of, IsSound};
+ghost use Rattle.std.specs.Prelude.{◌≡◌, ◌≤◌, ◌+◌, ◌<◌, true, false, length, OnOk, OnErr};
+ghost use Rattle.pb_propagate.specs.engine.Engine.Lists.{Conflicts};
+ghost use Rattle.pb_propagate.specs.engine.Engine.Progress.{IfFound, IfNotFound, RunIsOpen, RunStaysTidy, list_of, values_of, RunVisitsEach, RunDerives, WalkCosts, WalkAdvances, HasWalked};
+ghost use Rattle.pb_propagate.specs.engine.Engine.Fields.{shapes_of, IsSound};
 ghost use Rattle.pb_propagate.specs.engine.Clauses.Truths.{false_at};
-ghost use Rattle.pb_propagate.specs.engine.Clauses.Links.{lists_of, list_at};
-ghost use Rattle.pb_propagate.specs.engine.Clauses.Runs.{IsRunning, AreServed, AreWalked, KeepsWalked, Grows, passed_of};
+ghost use Rattle.pb_propagate.specs.engine.Clauses.Runs.{AreWithin, IsRunning, KeepsWalked, Grows, passed_of};
 ghost use Rattle.pb_propagate.specs.engine.Clauses.Shapes.{AreJoined, clauses_of, all_of, literal_at};
 
 use crate::clauses::Clauses;
@@ -37,27 +36,29 @@ pub fn walk(
     literal: usize,
 ) -> Result<bool, AllocError>
     requires store { IsSound store.now }
-    requires values { length run.old.assignment.values.items ≡ store.now.variables }
+    requires values { length (values_of run.old) ≡ store.now.variables }
     requires opens { length run.old.opens.items ≡ length store.now.stored.items }
     requires next { run.old.next ≤ length run.old.work.items }
     requires counted { RunIsOpen store.now rests.now run.old }
     requires joined { AreJoined (shapes_of store.now.stored.items) (clauses_of clauses.old) }
-    requires running { IsRunning run.old.assignment.values.items clauses.old }
-    requires failed { false_at run.old.assignment.values.items literal ≡ true }
+    requires running { IsRunning (values_of run.old) clauses.old }
+    requires failed { false_at (values_of run.old) literal ≡ true }
     requires literal { literal < length clauses.old.lists.items }
     ensures literals { clauses.new.literals ≡ clauses.old.literals }
     ensures candidates { run.new.candidates ≡ run.old.candidates }
-    ensures advances { OnOk result (WalkAdvances store.now rests.now clauses.old clauses.new literal run.old run.new) }
-    ensures costs { OnErr result (WalkCosts store.now rests.now clauses.old clauses.new literal run.old run.new) }
-    ensures running { OnOk result (IsRunning run.new.assignment.values.items clauses.new) }
-    ensures walked { IfOk result (λ found. found ≡ false → (walked : List ℕ) → AreServed run.old.assignment.values.items clauses.old.watches.items walked literal 0 → AreWalked run.new.assignment.values.items clauses.new.watches.items (walked ++ literal ∷ [])) }
-    ensures kept { OnOk result (KeepsWalked run.old.assignment.values.items clauses.old clauses.new) }
-    ensures derived { OnOk result (Derives (all_of store.now clauses.old) run.old.assignment.list.items run.new.assignment.list.items) }
-    ensures grows { OnOk result (Grows run.old.assignment.values.items run.new.assignment.values.items) }
-    ensures conflict { IfOk result (λ found. found ≡ true → Conflicts (all_of store.now clauses.old) run.new.assignment.list.items) }
-    ensures counted { IfOk result (λ found. found ≡ false → RunIsOpen store.now rests.now run.new) }
+    ensures advances { OnOk result (
+        WalkAdvances store.now rests.now clauses.old clauses.new literal run.old run.new) }
+    ensures costs { OnErr result (
+        WalkCosts store.now rests.now clauses.old clauses.new literal run.old run.new) }
+    ensures running { OnOk result (IsRunning (values_of run.new) clauses.new) }
+    ensures walked { IfNotFound result (HasWalked clauses.old clauses.new literal run.old run.new) }
+    ensures kept { OnOk result (KeepsWalked (values_of run.old) clauses.old clauses.new) }
+    ensures derived { OnOk result (RunDerives (all_of store.now clauses.old) run.old run.new) }
+    ensures grows { OnOk result (Grows (values_of run.old) (values_of run.new)) }
+    ensures conflict { IfFound result (Conflicts (all_of store.now clauses.old) (list_of run.new)) }
+    ensures counted { IfNotFound result (RunIsOpen store.now rests.now run.new) }
     ensures tidy { OnOk result (RunStaysTidy store.now rests.now run.old run.new) }
-    ensures bounded { (s : ℕ) → slice_index_or (passed_of clauses.new) s 0 ≤ length (list_at (clauses_of clauses.old) s) }
+    ensures bounded { AreWithin (passed_of clauses.new) (clauses_of clauses.old) }
     ensures found { OnOk result (RunVisitsEach run.old run.new) }
 {
     let mut index = 0;

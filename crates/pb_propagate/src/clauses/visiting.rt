@@ -1,9 +1,9 @@
 //! A visit to one watch of a falsified literal.
 
-ghost use Rattle.std.specs.Prelude.{◌≡◌, ℕ, ◌+◌, ◌-◌, ◌^◌, ◌<◌, ◌≤◌, ◌⊎◌, ◌++◌, ◌∷◌, [], List, Bool, Option, true, All, length, min, sum, slice_get, slice_index_or, OnOk, IfOk, Some};
+ghost use Rattle.std.specs.Prelude.{◌≡◌, ℕ, ◌+◌, ◌-◌, ◌^◌, ◌<◌, ◌≤◌, ◌⊎◌, ◌++◌, ◌∷◌, [], true, All, length, min, sum, slice_get, OnOk, IfOk, Some};
 ghost use Rattle.pb_propagate.specs.engine.Clauses.Truths.{false_at};
 ghost use Rattle.pb_propagate.specs.engine.Clauses.Links.{lists_of, list_at, watch_at, AreLinked, Remains};
-ghost use Rattle.pb_propagate.specs.engine.Clauses.Runs.{IsRunning, AreServed, AreWalked, Grows, HasFound, index_after, passed_of};
+ghost use Rattle.pb_propagate.specs.engine.Clauses.Runs.{AreWithin, IsRunning, HasVisited, passed_of};
 
 use crate::assignment::Assignment;
 use crate::clause::opposite;
@@ -100,16 +100,13 @@ pub fn visit_clause(
     requires literal { literal < length clauses.old.lists.items }
     requires index { index < length (list_at (lists_of clauses.old.lists.items) literal) }
     ensures literals { clauses.new.literals ≡ clauses.old.literals }
-    ensures lists { OnOk result (length clauses.new.lists.items ≡ length clauses.old.lists.items) }
-    ensures running { OnOk result (IsRunning assignment.now.values.items clauses.new) }
-    ensures served { IfOk result (λ r. (walked : List ℕ) → AreServed assignment.now.values.items clauses.old.watches.items walked literal index → AreServed assignment.now.values.items clauses.new.watches.items walked literal (index_after index r)) }
-    ensures found { IfOk result (λ r. HasFound assignment.now.values.items clauses.old clauses.new literal index r) }
-    ensures kept { OnOk result ((base : List (Option Bool)) (codes : List ℕ) → Grows base assignment.now.values.items → AreWalked base clauses.old.watches.items codes → AreWalked base clauses.new.watches.items codes) }
+    ensures watch { IfOk result (
+        λ r. HasVisited assignment.now.values.items clauses.old clauses.new literal index r) }
 
     // Upper and lower bounds on the number of visits.
     ensures covered { visits.new + sum (passed_of clauses.old) ≤ visits.old + 2 + sum (passed_of clauses.new) }
-    ensures bounded { (s : ℕ) → slice_index_or (passed_of clauses.new) s 0 ≤ length (list_at (lists_of clauses.old.literals.items) s) }
-    ensures visited { visits.new < 2 ^ 64 - 1 → visits.old + 1 ≤ visits.new }
+    ensures bounded { AreWithin (passed_of clauses.new) (lists_of clauses.old.literals.items) }
+    ensures counted { visits.new < 2 ^ 64 - 1 → visits.old + 1 ≤ visits.new }
     ensures rising { visits.old ≤ visits.new }
 {
     let watch = visit_entry(clauses.lists.as_slice(), literal, index, visits);

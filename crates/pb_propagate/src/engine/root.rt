@@ -1,9 +1,10 @@
 //! The root: what the live forms force with nothing assumed.
 
-ghost use Rattle.std.specs.Prelude.{◌≡◌, ℕ, List, Bool, Option, ◌≤◌, ◌+◌, ◌*◌, ◌<◌, ◌++◌, ◌∷◌, ◌↔◌, [], true, false, length, take, slice_get, slice_set, slice_index_or, Some, OnOk, IfOk};
+ghost use Rattle.std.specs.Prelude.{◌≡◌, ℕ, List, ◌+◌, ◌*◌, ◌<◌, ◌++◌, ◌∷◌, [], true, false, length, take, slice_get, slice_set, slice_index_or, Some, OnOk, IfOk};
 ghost use Rattle.pb_propagate.specs.declared.store.Store.{Store};
 ghost use Rattle.pb_propagate.specs.declared.clauses.Clauses.{Clauses};
 ghost use Rattle.pb_propagate.specs.engine.Engine.Lists.{Shape, open_sum};
+ghost use Rattle.pb_propagate.specs.engine.Engine.Progress.{RunIsUndone};
 ghost use Rattle.pb_propagate.specs.engine.Engine.Counts.{Grown, IsCalm, IsUndone};
 ghost use Rattle.pb_propagate.specs.engine.Engine.Fields.{shapes_of, forms_of, IsSound};
 ghost use Rattle.pb_propagate.specs.engine.Engine.Rest.{IsAtRest};
@@ -293,7 +294,7 @@ impl Root {
 pub fn back(store: &Store, rests: &Rests, clauses: &mut Clauses, run: &mut Run, count: usize)
     requires opens { length run.old.opens.items ≡ length store.now.stored.items }
     requires candidates { length run.old.candidates.items ≡ length store.now.stored.items }
-    requires undone { IsUndone rests.now (shapes_of store.now.stored.items) run.old.opens.items run.old.candidates.items run.old.trail.items 0 }
+    requires undone { RunIsUndone store.now rests.now 0 run.old }
     requires running { IsRunning run.old.assignment.values.items clauses.old }
     ensures ready { AreReady clauses.new }
     ensures literals { clauses.new.literals ≡ clauses.old.literals }

@@ -7,15 +7,13 @@ use Rattle.pb_propagate.specs.engine.Engine.Fields.{shapes_of}
 use Rattle.pb_propagate.specs.engine.Engine.Rest.{opposite}
 use Rattle.pb_propagate.proofs.lemmas.engine.Literals.{has-get}
 use Rattle.pb_propagate.proofs.lemmas.engine.Assumed.{Assumed, assumed-next, given-refuted, within-none}
+use Rattle.pb_propagate.specs.engine.Engine.Progress.{progress, database}
+use Rattle.pb_propagate.proofs.lemmas.engine.Advances.{advances-refl, advances-then}
 use Rattle.pb_propagate.proofs.engine.assume.Goals as goal
 
 pub given-init : goal.given-init
 given-init c = record {
-  values = refl;
-  opens = refl;
-  candidates = refl;
-  next = refl;
-  longer = omega arith;
+  advances = advances-refl (database c.args.store.now c.args.rests.now) (progress c.args.run.now);
   single = rw c.requires.empty none;
   counted = c.requires.counted;
   tidy = λ aside busy t. t;
@@ -39,11 +37,7 @@ given-preserved c =
     let reported = c.in_ok-try_put.ensures in
     let a = assumed-next c.args.given.now c.given.run.assignment.list.items c.try_put.new.run.assignment.list.items c.given.i d c.given-test.true free reported.adopted (record { within = i.within; covers = i.covers; single = i.single }) in
     record {
-      values = reported.advances.values ∙ i.values;
-      opens = reported.advances.opens ∙ i.opens;
-      candidates = reported.candidates ∙ i.candidates;
-      next = reported.advances.next ∙ i.next;
-      longer = omega (arith, i.longer, reported.advances.longer);
+      advances = advances-then i.advances reported.advances;
       single = a.single;
       counted = reported.counted c.if-branch.false;
       tidy = λ aside busy t. reported.tidy aside busy (i.tidy aside busy t);
@@ -63,8 +57,25 @@ tried c =
 pub returns-then-branch-clause-refuted : goal.returns-then-branch-clause-refuted
 returns-then-branch-clause-refuted c = λ found. given-refuted (shapes_of c.args.store.now.stored.items) c.args.given.now c.try_put.new.run.assignment.list.items (tried c).within (c.in_ok-try_put.ensures.conflict c.if-branch.true)
 
-pub returns-then-branch-clause-single : goal.returns-then-branch-clause-single
-returns-then-branch-clause-single c = (tried c).single
+pub returns-then-branch-clause-advances : goal.returns-then-branch-clause-advances
+returns-then-branch-clause-advances c = advances-then c.given.invariant.advances c.in_ok-try_put.ensures.advances
 
 pub returns-then-branch-clause-tidy : goal.returns-then-branch-clause-tidy
 returns-then-branch-clause-tidy c = λ aside busy t. c.in_ok-try_put.ensures.tidy aside busy (c.given.invariant.tidy aside busy t)
+
+pub returns-then-contains-clause-advances : goal.returns-then-contains-clause-advances
+returns-then-contains-clause-advances c = c.given.invariant.advances
+
+pub returns-clause-advances : goal.returns-clause-advances
+returns-clause-advances c = c.given.invariant.advances
+
+pub try_put-requires-clause-values : goal.try_put-requires-clause-values
+try_put-requires-clause-values c = c.given.invariant.advances.values ∙ c.requires.values
+
+pub try_put-requires-clause-opens : goal.try_put-requires-clause-opens
+try_put-requires-clause-opens c = c.given.invariant.advances.opens ∙ c.requires.opens
+
+pub try_put-requires-clause-next : goal.try_put-requires-clause-next
+try_put-requires-clause-next c =
+    let a = c.given.invariant.advances in
+    omega (arith, a.next, a.longer, c.requires.next)

@@ -1,5 +1,6 @@
 use Rattle.std.specs.Prelude.{filter}
-use Rattle.std.proofs.Common.{length, arith}
+use Rattle.std.proofs.Common.{length, ◌∙◌, arith}
+use Rattle.pb_propagate.specs.engine.Engine.Counts.{none}
 use Rattle.pb_propagate.proofs.lemmas.clauses.Watching.{ready-running}
 use Rattle.pb_propagate.specs.engine.Engine.Rest.{waits}
 use Rattle.pb_propagate.specs.engine.Engine.Fields.{shapes_of}
@@ -34,4 +35,33 @@ returns-then-branch-clause-undone c =
     record { clean = t.clean; named = t.marked }
 
 pub returns-then-branch-clause-running : goal.returns-then-branch-clause-running
-returns-then-branch-clause-running c = ready-running c.args.clauses.now c.assume.new.run.assignment.values.items c.requires.ready (omega (arith, c.requires.widths, c.requires.values, c.in_ok-assume.ensures.values))
+returns-then-branch-clause-running c = ready-running c.args.clauses.now c.assume.new.run.assignment.values.items c.requires.ready (omega (arith, c.requires.widths, c.requires.values, c.in_ok-assume.ensures.advances.values))
+
+pub propagate-requires-clause-single : goal.propagate-requires-clause-single
+propagate-requires-clause-single c = c.in_ok-assume.ensures.advances.costs.single (rw c.requires.empty none)
+
+pub propagate-requires-clause-values : goal.propagate-requires-clause-values
+propagate-requires-clause-values c = c.in_ok-assume.ensures.advances.values ∙ c.requires.values
+
+pub propagate-requires-clause-opens : goal.propagate-requires-clause-opens
+propagate-requires-clause-opens c = c.in_ok-assume.ensures.advances.opens ∙ c.requires.opens
+
+pub propagate-requires-clause-candidates : goal.propagate-requires-clause-candidates
+propagate-requires-clause-candidates c = c.in_ok-assume.ensures.advances.candidates ∙ c.requires.candidates
+
+pub propagate-requires-clause-next : goal.propagate-requires-clause-next
+propagate-requires-clause-next c =
+    let a = c.in_ok-assume.ensures.advances in
+    omega (arith, a.next, a.longer, c.requires.next)
+
+pub returns-then-branch-clause-values : goal.returns-then-branch-clause-values
+returns-then-branch-clause-values c = c.in_ok-assume.ensures.advances.values
+
+pub returns-then-branch-clause-opens : goal.returns-then-branch-clause-opens
+returns-then-branch-clause-opens c = c.in_ok-assume.ensures.advances.opens ∙ c.requires.opens
+
+pub returns-then-branch-clause-candidates : goal.returns-then-branch-clause-candidates
+returns-then-branch-clause-candidates c = c.in_ok-assume.ensures.advances.candidates ∙ c.requires.candidates
+
+pub returns-clause-values : goal.returns-clause-values
+returns-clause-values c = c.in_ok-found.ensures.values ∙ c.in_ok-assume.ensures.advances.values

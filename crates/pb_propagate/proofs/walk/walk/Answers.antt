@@ -7,7 +7,7 @@ use Rattle.pb_propagate.specs.engine.Engine.Lists.{has}
 use Rattle.pb_propagate.specs.engine.Engine.Fields.{shapes_of}
 use Rattle.pb_propagate.specs.engine.Engine.Progress.{progress, database, visited_to}
 use Rattle.pb_propagate.specs.engine.Clauses.Links.{lists_of, list_at}
-use Rattle.pb_propagate.specs.engine.Clauses.Runs.{AreServed, AreWalked, Grows, HasFound, HasVisited, IsBroken, IsRunning, index_after}
+use Rattle.pb_propagate.specs.engine.Clauses.Runs.{HasVisited, IsBroken}
 use Rattle.pb_propagate.specs.engine.Clauses.Shapes.{clauses_of}
 use Rattle.pb_propagate.proofs.lemmas.clauses.Literals.{true-listed, false-listed}
 use Rattle.pb_propagate.proofs.lemmas.clauses.Shapes.{broken-conflicts, conflicts-joined}
@@ -32,16 +32,9 @@ pub watches-preserved-in-Stays : goal.watches-preserved-in-Stays
 watches-preserved-in-Stays c =
     let i = c.watches.invariant in
     let inside : c.watches.index < length (list_at (lists_of c.watches.clauses.lists.items) c.args.literal) = omega (arith, c.watches-test.true, c.watch_count.ensures) in
-    let first : HasVisited c.watches.run.assignment.values.items c.watches.clauses c.visit_clause.new.clauses c.args.literal c.watches.index c.in_ok-visit_clause.field-0 = record {
-      lists = c.in_ok-visit_clause.ensures.lists;
-      running = subst (λ vs. IsRunning vs c.visit_clause.new.clauses) refl c.in_ok-visit_clause.ensures.running;
-      served = subst (λ vs. (xs : List ℕ) → AreServed vs c.watches.clauses.watches.items xs c.args.literal c.watches.index → AreServed vs c.visit_clause.new.clauses.watches.items xs c.args.literal (index_after c.watches.index c.in_ok-visit_clause.field-0)) refl c.in_ok-visit_clause.ensures.served;
-      found = subst (λ vs. HasFound vs c.watches.clauses c.visit_clause.new.clauses c.args.literal c.watches.index c.in_ok-visit_clause.field-0) refl c.in_ok-visit_clause.ensures.found;
-      kept = subst (λ vs. (b : List (Option Bool)) (cs : List ℕ) → Grows b vs → AreWalked b c.watches.clauses.watches.items cs → AreWalked b c.visit_clause.new.clauses.watches.items cs) refl c.in_ok-visit_clause.ensures.kept;
-    } in
-    let v : HasVisited c.watches.run.assignment.values.items c.watches.clauses c.visit_clause.new.clauses c.args.literal c.watches.index Stays = subst (HasVisited c.watches.run.assignment.values.items c.watches.clauses c.visit_clause.new.clauses c.args.literal c.watches.index) c.in-Stays.is first in
+    let v : HasVisited c.watches.run.assignment.values.items c.watches.clauses c.visit_clause.new.clauses c.args.literal c.watches.index Stays = subst (HasVisited c.watches.run.assignment.values.items c.watches.clauses c.visit_clause.new.clauses c.args.literal c.watches.index) c.in-Stays.is c.in_ok-visit_clause.ensures.watch in
     record {
-      walking = walking-next c.visit_clause.new.clauses Stays c.visit_clause.new.visits i.walking v c.visit_clause.ensures.literals (omega (arith, inside, v.found)) (record { counted = c.visit_clause.ensures.visited; rising = c.visit_clause.ensures.rising });
+      walking = walking-next c.visit_clause.new.clauses Stays c.visit_clause.new.visits i.walking v c.visit_clause.ensures.literals (omega (arith, inside, v.found)) (record { counted = c.visit_clause.ensures.counted; rising = c.visit_clause.ensures.rising });
       advances = walk-next (database c.args.store.now c.args.rests.now) c.args.clauses.now c.watches.clauses c.visit_clause.new.clauses c.args.literal c.watches.index (c.watches.index + 1) c.visit_clause.new.visits inside (omega (arith, inside, v.found)) (omega (arith, v.found)) c.visit_clause.ensures.covered c.visit_clause.ensures.rising i.advances;
       candidates = i.candidates;
       counted = i.counted;
@@ -52,16 +45,9 @@ pub watches-preserved-in-Leaves : goal.watches-preserved-in-Leaves
 watches-preserved-in-Leaves c =
     let i = c.watches.invariant in
     let inside : c.watches.index < length (list_at (lists_of c.watches.clauses.lists.items) c.args.literal) = omega (arith, c.watches-test.true, c.watch_count.ensures) in
-    let first : HasVisited c.watches.run.assignment.values.items c.watches.clauses c.visit_clause.new.clauses c.args.literal c.watches.index c.in_ok-visit_clause.field-0 = record {
-      lists = c.in_ok-visit_clause.ensures.lists;
-      running = subst (λ vs. IsRunning vs c.visit_clause.new.clauses) refl c.in_ok-visit_clause.ensures.running;
-      served = subst (λ vs. (xs : List ℕ) → AreServed vs c.watches.clauses.watches.items xs c.args.literal c.watches.index → AreServed vs c.visit_clause.new.clauses.watches.items xs c.args.literal (index_after c.watches.index c.in_ok-visit_clause.field-0)) refl c.in_ok-visit_clause.ensures.served;
-      found = subst (λ vs. HasFound vs c.watches.clauses c.visit_clause.new.clauses c.args.literal c.watches.index c.in_ok-visit_clause.field-0) refl c.in_ok-visit_clause.ensures.found;
-      kept = subst (λ vs. (b : List (Option Bool)) (cs : List ℕ) → Grows b vs → AreWalked b c.watches.clauses.watches.items cs → AreWalked b c.visit_clause.new.clauses.watches.items cs) refl c.in_ok-visit_clause.ensures.kept;
-    } in
-    let v : HasVisited c.watches.run.assignment.values.items c.watches.clauses c.visit_clause.new.clauses c.args.literal c.watches.index Leaves = subst (HasVisited c.watches.run.assignment.values.items c.watches.clauses c.visit_clause.new.clauses c.args.literal c.watches.index) c.in-Leaves.is first in
+    let v : HasVisited c.watches.run.assignment.values.items c.watches.clauses c.visit_clause.new.clauses c.args.literal c.watches.index Leaves = subst (HasVisited c.watches.run.assignment.values.items c.watches.clauses c.visit_clause.new.clauses c.args.literal c.watches.index) c.in-Leaves.is c.in_ok-visit_clause.ensures.watch in
     record {
-      walking = walking-next c.visit_clause.new.clauses Leaves c.visit_clause.new.visits i.walking v c.visit_clause.ensures.literals (omega (arith, inside, v.found)) (record { counted = c.visit_clause.ensures.visited; rising = c.visit_clause.ensures.rising });
+      walking = walking-next c.visit_clause.new.clauses Leaves c.visit_clause.new.visits i.walking v c.visit_clause.ensures.literals (omega (arith, inside, v.found)) (record { counted = c.visit_clause.ensures.counted; rising = c.visit_clause.ensures.rising });
       advances = walk-next (database c.args.store.now c.args.rests.now) c.args.clauses.now c.watches.clauses c.visit_clause.new.clauses c.args.literal c.watches.index c.watches.index c.visit_clause.new.visits inside (omega (arith, inside, v.found)) (omega (arith, v.found)) c.visit_clause.ensures.covered c.visit_clause.ensures.rising i.advances;
       candidates = i.candidates;
       counted = i.counted;
@@ -72,17 +58,10 @@ pub watches-preserved : goal.watches-preserved
 watches-preserved c =
     let i = c.watches.invariant in
     let inside : c.watches.index < length (list_at (lists_of c.watches.clauses.lists.items) c.args.literal) = omega (arith, c.watches-test.true, c.watch_count.ensures) in
-    let first : HasVisited c.watches.run.assignment.values.items c.watches.clauses c.visit_clause.new.clauses c.args.literal c.watches.index c.in_ok-visit_clause.field-0 = record {
-      lists = c.in_ok-visit_clause.ensures.lists;
-      running = subst (λ vs. IsRunning vs c.visit_clause.new.clauses) refl c.in_ok-visit_clause.ensures.running;
-      served = subst (λ vs. (xs : List ℕ) → AreServed vs c.watches.clauses.watches.items xs c.args.literal c.watches.index → AreServed vs c.visit_clause.new.clauses.watches.items xs c.args.literal (index_after c.watches.index c.in_ok-visit_clause.field-0)) refl c.in_ok-visit_clause.ensures.served;
-      found = subst (λ vs. HasFound vs c.watches.clauses c.visit_clause.new.clauses c.args.literal c.watches.index c.in_ok-visit_clause.field-0) refl c.in_ok-visit_clause.ensures.found;
-      kept = subst (λ vs. (b : List (Option Bool)) (cs : List ℕ) → Grows b vs → AreWalked b c.watches.clauses.watches.items cs → AreWalked b c.visit_clause.new.clauses.watches.items cs) refl c.in_ok-visit_clause.ensures.kept;
-    } in
-    let v : HasVisited c.watches.run.assignment.values.items c.watches.clauses c.visit_clause.new.clauses c.args.literal c.watches.index (Forces c.in-Forces.code) = subst (HasVisited c.watches.run.assignment.values.items c.watches.clauses c.visit_clause.new.clauses c.args.literal c.watches.index) c.in-Forces.is first in
+    let v : HasVisited c.watches.run.assignment.values.items c.watches.clauses c.visit_clause.new.clauses c.args.literal c.watches.index (Forces c.in-Forces.code) = subst (HasVisited c.watches.run.assignment.values.items c.watches.clauses c.visit_clause.new.clauses c.args.literal c.watches.index) c.in-Forces.is c.in_ok-visit_clause.ensures.watch in
     let reported = c.in_ok-put-in-Forces.ensures in
     record {
-      walking = walking-forces c.visit_clause.new.clauses c.visit_clause.new.visits c.in-Forces.code (progress c.put.new.run) c.requires.joined c.watches.invariant.walking v c.visit_clause.ensures.literals inside (record { counted = c.visit_clause.ensures.visited; rising = c.visit_clause.ensures.rising }) reported.advances.rising reported.advances.values (reported.list ∙ ap (λ k. c.watches.run.assignment.list.items ++ (k ∷ [])) c.literal_of.ensures) c.watches.run.assignment.agrees c.put.new.run.assignment.agrees;
+      walking = walking-forces c.visit_clause.new.clauses c.visit_clause.new.visits c.in-Forces.code (progress c.put.new.run) c.requires.joined c.watches.invariant.walking v c.visit_clause.ensures.literals inside (record { counted = c.visit_clause.ensures.counted; rising = c.visit_clause.ensures.rising }) reported.advances.rising reported.advances.values (reported.list ∙ ap (λ k. c.watches.run.assignment.list.items ++ (k ∷ [])) c.literal_of.ensures) c.watches.run.assignment.agrees c.put.new.run.assignment.agrees;
       advances = walk-then (walk-next (database c.args.store.now c.args.rests.now) c.args.clauses.now c.watches.clauses c.visit_clause.new.clauses c.args.literal c.watches.index (c.watches.index + 1) c.visit_clause.new.visits inside (omega (arith, inside, v.found.0)) (omega (arith, v.found.0)) c.visit_clause.ensures.covered c.visit_clause.ensures.rising i.advances) reported.advances;
       candidates = reported.candidates ∙ i.candidates;
       counted = reported.counted c.if-branch.false;
@@ -92,43 +71,22 @@ watches-preserved c =
 pub put-requires-clause-absent : goal.put-requires-clause-absent
 put-requires-clause-absent c =
     let values = c.watches.run.assignment.values.items in
-    let first : HasVisited c.watches.run.assignment.values.items c.watches.clauses c.visit_clause.new.clauses c.args.literal c.watches.index c.in_ok-visit_clause.field-0 = record {
-      lists = c.in_ok-visit_clause.ensures.lists;
-      running = subst (λ vs. IsRunning vs c.visit_clause.new.clauses) refl c.in_ok-visit_clause.ensures.running;
-      served = subst (λ vs. (xs : List ℕ) → AreServed vs c.watches.clauses.watches.items xs c.args.literal c.watches.index → AreServed vs c.visit_clause.new.clauses.watches.items xs c.args.literal (index_after c.watches.index c.in_ok-visit_clause.field-0)) refl c.in_ok-visit_clause.ensures.served;
-      found = subst (λ vs. HasFound vs c.watches.clauses c.visit_clause.new.clauses c.args.literal c.watches.index c.in_ok-visit_clause.field-0) refl c.in_ok-visit_clause.ensures.found;
-      kept = subst (λ vs. (b : List (Option Bool)) (cs : List ℕ) → Grows b vs → AreWalked b c.watches.clauses.watches.items cs → AreWalked b c.visit_clause.new.clauses.watches.items cs) refl c.in_ok-visit_clause.ensures.kept;
-    } in
-    let v : HasVisited c.watches.run.assignment.values.items c.watches.clauses c.visit_clause.new.clauses c.args.literal c.watches.index (Forces c.in-Forces.code) = subst (HasVisited c.watches.run.assignment.values.items c.watches.clauses c.visit_clause.new.clauses c.args.literal c.watches.index) c.in-Forces.is first in
+    let v : HasVisited c.watches.run.assignment.values.items c.watches.clauses c.visit_clause.new.clauses c.args.literal c.watches.index (Forces c.in-Forces.code) = subst (HasVisited c.watches.run.assignment.values.items c.watches.clauses c.visit_clause.new.clauses c.args.literal c.watches.index) c.in-Forces.is c.in_ok-visit_clause.ensures.watch in
     ap (λ (k : NumberedLiteral). has c.watches.run.assignment.list.items k) c.literal_of.ensures ∙ sym (true-listed values c.watches.run.assignment.list.items c.in-Forces.code c.watches.run.assignment.agrees) ∙ v.found.1.not_true
 
 pub put-requires-clause-not_falsified : goal.put-requires-clause-not_falsified
 put-requires-clause-not_falsified c =
     let values = c.watches.run.assignment.values.items in
-    let first : HasVisited c.watches.run.assignment.values.items c.watches.clauses c.visit_clause.new.clauses c.args.literal c.watches.index c.in_ok-visit_clause.field-0 = record {
-      lists = c.in_ok-visit_clause.ensures.lists;
-      running = subst (λ vs. IsRunning vs c.visit_clause.new.clauses) refl c.in_ok-visit_clause.ensures.running;
-      served = subst (λ vs. (xs : List ℕ) → AreServed vs c.watches.clauses.watches.items xs c.args.literal c.watches.index → AreServed vs c.visit_clause.new.clauses.watches.items xs c.args.literal (index_after c.watches.index c.in_ok-visit_clause.field-0)) refl c.in_ok-visit_clause.ensures.served;
-      found = subst (λ vs. HasFound vs c.watches.clauses c.visit_clause.new.clauses c.args.literal c.watches.index c.in_ok-visit_clause.field-0) refl c.in_ok-visit_clause.ensures.found;
-      kept = subst (λ vs. (b : List (Option Bool)) (cs : List ℕ) → Grows b vs → AreWalked b c.watches.clauses.watches.items cs → AreWalked b c.visit_clause.new.clauses.watches.items cs) refl c.in_ok-visit_clause.ensures.kept;
-    } in
-    let v : HasVisited c.watches.run.assignment.values.items c.watches.clauses c.visit_clause.new.clauses c.args.literal c.watches.index (Forces c.in-Forces.code) = subst (HasVisited c.watches.run.assignment.values.items c.watches.clauses c.visit_clause.new.clauses c.args.literal c.watches.index) c.in-Forces.is first in
+    let v : HasVisited c.watches.run.assignment.values.items c.watches.clauses c.visit_clause.new.clauses c.args.literal c.watches.index (Forces c.in-Forces.code) = subst (HasVisited c.watches.run.assignment.values.items c.watches.clauses c.visit_clause.new.clauses c.args.literal c.watches.index) c.in-Forces.is c.in_ok-visit_clause.ensures.watch in
     ap (λ (k : NumberedLiteral). has c.watches.run.assignment.list.items (negation k)) c.literal_of.ensures ∙ sym (false-listed values c.watches.run.assignment.list.items c.in-Forces.code c.watches.run.assignment.agrees) ∙ v.found.1.not_false
 
 -- where a form is falsified: the literal was put
 forced : (c : goal.Then-branch) → IsWalking (shapes_of c.args.store.now.stored.items) c.args.clauses.now c.visit_clause.new.clauses c.args.literal (c.watches.index + 1) (progress c.args.run.now) (progress c.put.new.run)
 forced c =
     let inside : c.watches.index < length (list_at (lists_of c.watches.clauses.lists.items) c.args.literal) = omega (arith, c.watches-test.true, c.watch_count.ensures) in
-    let first : HasVisited c.watches.run.assignment.values.items c.watches.clauses c.visit_clause.new.clauses c.args.literal c.watches.index c.in_ok-visit_clause.field-0 = record {
-      lists = c.in_ok-visit_clause.ensures.lists;
-      running = subst (λ vs. IsRunning vs c.visit_clause.new.clauses) refl c.in_ok-visit_clause.ensures.running;
-      served = subst (λ vs. (xs : List ℕ) → AreServed vs c.watches.clauses.watches.items xs c.args.literal c.watches.index → AreServed vs c.visit_clause.new.clauses.watches.items xs c.args.literal (index_after c.watches.index c.in_ok-visit_clause.field-0)) refl c.in_ok-visit_clause.ensures.served;
-      found = subst (λ vs. HasFound vs c.watches.clauses c.visit_clause.new.clauses c.args.literal c.watches.index c.in_ok-visit_clause.field-0) refl c.in_ok-visit_clause.ensures.found;
-      kept = subst (λ vs. (b : List (Option Bool)) (cs : List ℕ) → Grows b vs → AreWalked b c.watches.clauses.watches.items cs → AreWalked b c.visit_clause.new.clauses.watches.items cs) refl c.in_ok-visit_clause.ensures.kept;
-    } in
-    let v : HasVisited c.watches.run.assignment.values.items c.watches.clauses c.visit_clause.new.clauses c.args.literal c.watches.index (Forces c.in-Forces.code) = subst (HasVisited c.watches.run.assignment.values.items c.watches.clauses c.visit_clause.new.clauses c.args.literal c.watches.index) c.in-Forces.is first in
+    let v : HasVisited c.watches.run.assignment.values.items c.watches.clauses c.visit_clause.new.clauses c.args.literal c.watches.index (Forces c.in-Forces.code) = subst (HasVisited c.watches.run.assignment.values.items c.watches.clauses c.visit_clause.new.clauses c.args.literal c.watches.index) c.in-Forces.is c.in_ok-visit_clause.ensures.watch in
     let reported = c.in_ok-put-in-Forces.ensures in
-    walking-forces c.visit_clause.new.clauses c.visit_clause.new.visits c.in-Forces.code (progress c.put.new.run) c.requires.joined c.watches.invariant.walking v c.visit_clause.ensures.literals inside (record { counted = c.visit_clause.ensures.visited; rising = c.visit_clause.ensures.rising }) reported.advances.rising reported.advances.values (reported.list ∙ ap (λ k. c.watches.run.assignment.list.items ++ (k ∷ [])) c.literal_of.ensures) c.watches.run.assignment.agrees c.put.new.run.assignment.agrees
+    walking-forces c.visit_clause.new.clauses c.visit_clause.new.visits c.in-Forces.code (progress c.put.new.run) c.requires.joined c.watches.invariant.walking v c.visit_clause.ensures.literals inside (record { counted = c.visit_clause.ensures.counted; rising = c.visit_clause.ensures.rising }) reported.advances.rising reported.advances.values (reported.list ∙ ap (λ k. c.watches.run.assignment.list.items ++ (k ∷ [])) c.literal_of.ensures) c.watches.run.assignment.agrees c.put.new.run.assignment.agrees
 
 pub returns-then-branch-clause-running : goal.returns-then-branch-clause-running
 returns-then-branch-clause-running c = (forced c).running
@@ -149,14 +107,7 @@ pub returns-then-branch-clause-advances : goal.returns-then-branch-clause-advanc
 returns-then-branch-clause-advances c =
     let i = c.watches.invariant in
     let inside : c.watches.index < length (list_at (lists_of c.watches.clauses.lists.items) c.args.literal) = omega (arith, c.watches-test.true, c.watch_count.ensures) in
-    let first : HasVisited c.watches.run.assignment.values.items c.watches.clauses c.visit_clause.new.clauses c.args.literal c.watches.index c.in_ok-visit_clause.field-0 = record {
-      lists = c.in_ok-visit_clause.ensures.lists;
-      running = subst (λ vs. IsRunning vs c.visit_clause.new.clauses) refl c.in_ok-visit_clause.ensures.running;
-      served = subst (λ vs. (xs : List ℕ) → AreServed vs c.watches.clauses.watches.items xs c.args.literal c.watches.index → AreServed vs c.visit_clause.new.clauses.watches.items xs c.args.literal (index_after c.watches.index c.in_ok-visit_clause.field-0)) refl c.in_ok-visit_clause.ensures.served;
-      found = subst (λ vs. HasFound vs c.watches.clauses c.visit_clause.new.clauses c.args.literal c.watches.index c.in_ok-visit_clause.field-0) refl c.in_ok-visit_clause.ensures.found;
-      kept = subst (λ vs. (b : List (Option Bool)) (cs : List ℕ) → Grows b vs → AreWalked b c.watches.clauses.watches.items cs → AreWalked b c.visit_clause.new.clauses.watches.items cs) refl c.in_ok-visit_clause.ensures.kept;
-    } in
-    let v : HasVisited c.watches.run.assignment.values.items c.watches.clauses c.visit_clause.new.clauses c.args.literal c.watches.index (Forces c.in-Forces.code) = subst (HasVisited c.watches.run.assignment.values.items c.watches.clauses c.visit_clause.new.clauses c.args.literal c.watches.index) c.in-Forces.is first in
+    let v : HasVisited c.watches.run.assignment.values.items c.watches.clauses c.visit_clause.new.clauses c.args.literal c.watches.index (Forces c.in-Forces.code) = subst (HasVisited c.watches.run.assignment.values.items c.watches.clauses c.visit_clause.new.clauses c.args.literal c.watches.index) c.in-Forces.is c.in_ok-visit_clause.ensures.watch in
     walk-then (walk-ends (database c.args.store.now c.args.rests.now) c.args.clauses.now c.watches.clauses c.visit_clause.new.clauses c.args.literal c.watches.index c.visit_clause.new.visits inside c.visit_clause.ensures.covered c.visit_clause.ensures.rising i.advances) c.in_ok-put-in-Forces.ensures.advances
 
 pub returns-then-branch-clause-conflict : goal.returns-then-branch-clause-conflict
@@ -169,39 +120,18 @@ returns-then-branch-clause-tidy c = λ aside busy t. c.in_ok-put-in-Forces.ensur
 pub returns-in-Falsified-clause-conflict : goal.returns-in-Falsified-clause-conflict
 returns-in-Falsified-clause-conflict c = λ yes.
     let shapes = shapes_of c.args.store.now.stored.items in
-    let first : HasVisited c.watches.run.assignment.values.items c.watches.clauses c.visit_clause.new.clauses c.args.literal c.watches.index c.in_ok-visit_clause.field-0 = record {
-      lists = c.in_ok-visit_clause.ensures.lists;
-      running = subst (λ vs. IsRunning vs c.visit_clause.new.clauses) refl c.in_ok-visit_clause.ensures.running;
-      served = subst (λ vs. (xs : List ℕ) → AreServed vs c.watches.clauses.watches.items xs c.args.literal c.watches.index → AreServed vs c.visit_clause.new.clauses.watches.items xs c.args.literal (index_after c.watches.index c.in_ok-visit_clause.field-0)) refl c.in_ok-visit_clause.ensures.served;
-      found = subst (λ vs. HasFound vs c.watches.clauses c.visit_clause.new.clauses c.args.literal c.watches.index c.in_ok-visit_clause.field-0) refl c.in_ok-visit_clause.ensures.found;
-      kept = subst (λ vs. (b : List (Option Bool)) (cs : List ℕ) → Grows b vs → AreWalked b c.watches.clauses.watches.items cs → AreWalked b c.visit_clause.new.clauses.watches.items cs) refl c.in_ok-visit_clause.ensures.kept;
-    } in
-    let v : HasVisited c.watches.run.assignment.values.items c.watches.clauses c.visit_clause.new.clauses c.args.literal c.watches.index Falsified = subst (HasVisited c.watches.run.assignment.values.items c.watches.clauses c.visit_clause.new.clauses c.args.literal c.watches.index) c.in-Falsified.is first in
+    let v : HasVisited c.watches.run.assignment.values.items c.watches.clauses c.visit_clause.new.clauses c.args.literal c.watches.index Falsified = subst (HasVisited c.watches.run.assignment.values.items c.watches.clauses c.visit_clause.new.clauses c.args.literal c.watches.index) c.in-Falsified.is c.in_ok-visit_clause.ensures.watch in
     let same = c.visit_clause.ensures.literals ∙ c.watches.invariant.walking.literals in
     broken-conflicts shapes (clauses_of c.args.clauses.now) c.watches.run.assignment.values.items c.watches.run.assignment.list.items c.requires.joined c.watches.run.assignment.agrees (subst (λ ls. IsBroken c.watches.run.assignment.values.items (lists_of ls.items)) same v.found)
 
 pub returns-in-Falsified-clause-running : goal.returns-in-Falsified-clause-running
 returns-in-Falsified-clause-running c =
-    let first : HasVisited c.watches.run.assignment.values.items c.watches.clauses c.visit_clause.new.clauses c.args.literal c.watches.index c.in_ok-visit_clause.field-0 = record {
-      lists = c.in_ok-visit_clause.ensures.lists;
-      running = subst (λ vs. IsRunning vs c.visit_clause.new.clauses) refl c.in_ok-visit_clause.ensures.running;
-      served = subst (λ vs. (xs : List ℕ) → AreServed vs c.watches.clauses.watches.items xs c.args.literal c.watches.index → AreServed vs c.visit_clause.new.clauses.watches.items xs c.args.literal (index_after c.watches.index c.in_ok-visit_clause.field-0)) refl c.in_ok-visit_clause.ensures.served;
-      found = subst (λ vs. HasFound vs c.watches.clauses c.visit_clause.new.clauses c.args.literal c.watches.index c.in_ok-visit_clause.field-0) refl c.in_ok-visit_clause.ensures.found;
-      kept = subst (λ vs. (b : List (Option Bool)) (cs : List ℕ) → Grows b vs → AreWalked b c.watches.clauses.watches.items cs → AreWalked b c.visit_clause.new.clauses.watches.items cs) refl c.in_ok-visit_clause.ensures.kept;
-    } in
-    let v : HasVisited c.watches.run.assignment.values.items c.watches.clauses c.visit_clause.new.clauses c.args.literal c.watches.index Falsified = subst (HasVisited c.watches.run.assignment.values.items c.watches.clauses c.visit_clause.new.clauses c.args.literal c.watches.index) c.in-Falsified.is first in
+    let v : HasVisited c.watches.run.assignment.values.items c.watches.clauses c.visit_clause.new.clauses c.args.literal c.watches.index Falsified = subst (HasVisited c.watches.run.assignment.values.items c.watches.clauses c.visit_clause.new.clauses c.args.literal c.watches.index) c.in-Falsified.is c.in_ok-visit_clause.ensures.watch in
     v.running
 
 pub returns-in-Falsified-clause-kept : goal.returns-in-Falsified-clause-kept
 returns-in-Falsified-clause-kept c =
-    let first : HasVisited c.watches.run.assignment.values.items c.watches.clauses c.visit_clause.new.clauses c.args.literal c.watches.index c.in_ok-visit_clause.field-0 = record {
-      lists = c.in_ok-visit_clause.ensures.lists;
-      running = subst (λ vs. IsRunning vs c.visit_clause.new.clauses) refl c.in_ok-visit_clause.ensures.running;
-      served = subst (λ vs. (xs : List ℕ) → AreServed vs c.watches.clauses.watches.items xs c.args.literal c.watches.index → AreServed vs c.visit_clause.new.clauses.watches.items xs c.args.literal (index_after c.watches.index c.in_ok-visit_clause.field-0)) refl c.in_ok-visit_clause.ensures.served;
-      found = subst (λ vs. HasFound vs c.watches.clauses c.visit_clause.new.clauses c.args.literal c.watches.index c.in_ok-visit_clause.field-0) refl c.in_ok-visit_clause.ensures.found;
-      kept = subst (λ vs. (b : List (Option Bool)) (cs : List ℕ) → Grows b vs → AreWalked b c.watches.clauses.watches.items cs → AreWalked b c.visit_clause.new.clauses.watches.items cs) refl c.in_ok-visit_clause.ensures.kept;
-    } in
-    let v : HasVisited c.watches.run.assignment.values.items c.watches.clauses c.visit_clause.new.clauses c.args.literal c.watches.index Falsified = subst (HasVisited c.watches.run.assignment.values.items c.watches.clauses c.visit_clause.new.clauses c.args.literal c.watches.index) c.in-Falsified.is first in
+    let v : HasVisited c.watches.run.assignment.values.items c.watches.clauses c.visit_clause.new.clauses c.args.literal c.watches.index Falsified = subst (HasVisited c.watches.run.assignment.values.items c.watches.clauses c.visit_clause.new.clauses c.args.literal c.watches.index) c.in-Falsified.is c.in_ok-visit_clause.ensures.watch in
     λ base codes more old. v.kept base codes (grows-trans base c.args.run.now.assignment.values.items c.watches.run.assignment.values.items more c.watches.invariant.walking.grows) (c.watches.invariant.walking.kept base codes more old)
 
 pub returns-in-Falsified-clause-derived : goal.returns-in-Falsified-clause-derived
@@ -215,7 +145,7 @@ returns-in-Falsified-clause-tidy c = c.watches.invariant.tidy
 
 pub returns-in-Falsified-clause-found : goal.returns-in-Falsified-clause-found
 returns-in-Falsified-clause-found c = λ few.
-    let more = c.visit_clause.ensures.visited few in
+    let more = c.visit_clause.ensures.counted few in
     let old = c.watches.invariant.walking.found (omega (arith, few, more)) in
     omega (arith, old, more)
 

@@ -33,6 +33,10 @@ AreRound starts clauses searches = (s : ℕ) → 0 < length (list_at clauses s) 
 abbrev pub passed_of : Clauses → List ℕ
 passed_of c = map (λ s. s.passed) c.searches.items
 
+-- no search has passed more than its clause
+abbrev pub AreWithin : List ℕ → List (List ℕ) → Type 0
+AreWithin passed clauses = (s : ℕ) → slice_index_or passed s 0 ≤ length (list_at clauses s)
+
 -- each clause in the order in which it is searched
 abbrev pub all_turned : List ℕ → List (List ℕ) → List (List ℕ)
 all_turned starts [] = []

@@ -91,17 +91,6 @@ pub record IsTidy (aside : Aside) (forms : List Shape) (opens candidates : List 
 abbrev pub spent : List (List Weighted) → List NumberedLiteral → ℕ
 spent lists list = sum_by (λ l. length (slice_index_or lists (place (negation l)) [])) list
 
--- each visit is paid by an entry that was subtracted, by a term that was passed, or by one of `visits_made`
-abbrev pub AreCovered : List (List Weighted) → List NumberedLiteral → List NumberedLiteral → List ℕ → List ℕ → ℕ → ℕ → ℕ → Type 0
-AreCovered lists list0 list1 cands0 cands1 visits0 visits1 visits_made =
-    visits1 + sum cands0 + spent lists list0 ≤ visits0 + visits_made + sum cands1 + spent lists list1
-
--- the cost of a part of a propagation: its visits, and at most one form added to the work list for each subtracted entry
-pub record IsPaid (lists : List (List Weighted)) (list0 list1 : List NumberedLiteral) (cands0 cands1 work0 work1 : List ℕ) (visits0 visits1 visits_made : ℕ) : Type 0 where
-  pub upper : AreCovered lists list0 list1 cands0 cands1 visits0 visits1 visits_made
-  pub work : length work1 + spent lists list0 ≤ length work0 + spent lists list1
-  pub rising : visits0 ≤ visits1
-
 -- what trying a literal does to the list
 pub data Adopted (l : NumberedLiteral) (old : List NumberedLiteral) : List NumberedLiteral → Type 0 where
   kept : IsDone old l → Adopted l old old

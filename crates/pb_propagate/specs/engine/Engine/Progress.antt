@@ -1,5 +1,5 @@
 -- A run of propagation as lists, and what each function of propagation does to it.
-use Rattle.std.specs.Prelude.{◌≡◌, ℕ, ◌+◌, ◌-◌, ◌*◌, ◌<◌, ◌≤◌, [], List, Bool, Option, filter, length, sum, sum_by, slice_set, slice_index, slice_index_or}
+use Rattle.std.specs.Prelude.{◌≡◌, ℕ, ◌+◌, ◌-◌, ◌*◌, ◌<◌, ◌≤◌, ◌++◌, ◌∷◌, [], true, false, Contains, Result, IfOk, List, Bool, Option, filter, length, sum, sum_by, slice_set, slice_index, slice_index_or}
 use Rattle.pb_normal.specs.declared.numbered.NumberedLiteral.{NumberedLiteral}
 use Rattle.pb_normal.specs.meaning.Rules.{negation}
 use Rattle.pb_propagate.specs.declared.store.Store.{Store}
@@ -7,14 +7,14 @@ use Rattle.pb_propagate.specs.declared.store.Visited.{Visited}
 use Rattle.pb_propagate.specs.declared.rests.Rests.{Rests}
 use Rattle.pb_propagate.specs.declared.run.Run.{Run}
 use Rattle.pb_propagate.specs.declared.clauses.Clauses.{Clauses}
-use Rattle.pb_propagate.specs.engine.Engine.Lists.{Shape, Weighted, Extends}
+use Rattle.pb_propagate.specs.engine.Engine.Lists.{Shape, Weighted, Extends, Derives, IsSettled}
 use Rattle.pb_propagate.specs.engine.Engine.Counts.{place, Grown, IsCalm, IsCounted, IsTidy, IsAbsent, IsUndone, AreFound, AreSingle, beside, rest_open, spent}
 use Rattle.pb_propagate.specs.engine.Engine.Fields.{shapes_of, entries_of}
 use Rattle.pb_propagate.specs.engine.Engine.Rest.{waits}
 use Rattle.pb_propagate.specs.engine.Engine.Links.{coefficient_at}
 use Rattle.pb_propagate.specs.engine.Clauses.Links.{lists_of, list_at}
-use Rattle.pb_propagate.specs.engine.Clauses.Runs.{passed_of}
-use Rattle.pb_propagate.specs.engine.Clauses.Walked.{fallen}
+use Rattle.pb_propagate.specs.engine.Clauses.Runs.{AreServed, AreWalked, passed_of}
+use Rattle.pb_propagate.specs.engine.Clauses.Walked.{fallen, walked_codes}
 use Rattle.pb_propagate.specs.engine.Clauses.Shapes.{clauses_of}
 
 -- the state of a run
@@ -43,64 +43,19 @@ progress r = record {
 -- a run with other values and literals, another count of visits, other candidates, another work list and trail, or another
 -- next form
 abbrev pub assigned_to : List (Option Bool) → List NumberedLiteral → Progress → Progress
-assigned_to values list p = record {
-  opens = p.opens;
-  candidates = p.candidates;
-  work = p.work;
-  trail = p.trail;
-  values = values;
-  list = list;
-  next = p.next;
-  visits = p.visits;
-}
+assigned_to values list p = record { opens = p.opens; candidates = p.candidates; work = p.work; trail = p.trail; values = values; list = list; next = p.next; visits = p.visits }
 
 abbrev pub visited_to : ℕ → Progress → Progress
-visited_to visits p = record {
-  opens = p.opens;
-  candidates = p.candidates;
-  work = p.work;
-  trail = p.trail;
-  values = p.values;
-  list = p.list;
-  next = p.next;
-  visits = visits;
-}
+visited_to visits p = record { opens = p.opens; candidates = p.candidates; work = p.work; trail = p.trail; values = p.values; list = p.list; next = p.next; visits = visits }
 
 abbrev pub passed_to : List ℕ → Progress → Progress
-passed_to candidates p = record {
-  opens = p.opens;
-  candidates = candidates;
-  work = p.work;
-  trail = p.trail;
-  values = p.values;
-  list = p.list;
-  next = p.next;
-  visits = p.visits;
-}
+passed_to candidates p = record { opens = p.opens; candidates = candidates; work = p.work; trail = p.trail; values = p.values; list = p.list; next = p.next; visits = p.visits }
 
 abbrev pub queued_to : List ℕ → List ℕ → Progress → Progress
-queued_to work trail p = record {
-  opens = p.opens;
-  candidates = p.candidates;
-  work = work;
-  trail = trail;
-  values = p.values;
-  list = p.list;
-  next = p.next;
-  visits = p.visits;
-}
+queued_to work trail p = record { opens = p.opens; candidates = p.candidates; work = work; trail = trail; values = p.values; list = p.list; next = p.next; visits = p.visits }
 
 abbrev pub taken_to : ℕ → Progress → Progress
-taken_to next p = record {
-  opens = p.opens;
-  candidates = p.candidates;
-  work = p.work;
-  trail = p.trail;
-  values = p.values;
-  list = p.list;
-  next = next;
-  visits = p.visits;
-}
+taken_to next p = record { opens = p.opens; candidates = p.candidates; work = p.work; trail = p.trail; values = p.values; list = p.list; next = next; visits = p.visits }
 
 -- what a run reads: forms, the entries of each literal, and the state to which forms return
 pub record Database : Type 0 where
@@ -180,6 +135,17 @@ pub record Spends (d : Database) (clauses : List (List ℕ)) (waiting : List ℕ
 abbrev pub VisitsEach : Progress → Progress → Type 0
 VisitsEach old new = AreFound (length old.list) (length new.list) old.visits new.visits
 
+-- whether an answer is yes or no, without a failed allocation
+abbrev pub IfFound : {E : Type 0} → Result Bool E → Type 0 → Type 0
+IfFound result P = IfOk result (λ found. found ≡ true → P)
+
+abbrev pub IfNotFound : {E : Type 0} → Result Bool E → Type 0 → Type 0
+IfNotFound result P = IfOk result (λ found. found ≡ false → P)
+
+-- no form is falsified, and none forces a literal
+abbrev pub AreSettled : List Shape → List NumberedLiteral → Type 0
+AreSettled forms list = (f : Shape) → Contains forms f → IsSettled f list
+
 -- the same of the program's values
 abbrev pub RunIsOpen : Store → Rests → Run → Type 0
 RunIsOpen store rests run = IsOpen (database store rests) (progress run)
@@ -190,14 +156,34 @@ RunIsTidy store rests aside busy run = IsTidyAt (database store rests) aside bus
 abbrev pub RunStaysTidy : Store → Rests → Run → Run → Type 0
 RunStaysTidy store rests old new = StaysTidy (database store rests) (progress old) (progress new)
 
-abbrev pub RunIsUndone : Store → Rests → Run → Type 0
-RunIsUndone store rests run = IsUndone rests (shapes_of store.stored.items) run.opens.items run.candidates.items run.trail.items 0
+abbrev pub shapes_in : Store → List Shape
+shapes_in store = shapes_of store.stored.items
+
+abbrev pub list_of : Run → List NumberedLiteral
+list_of run = run.assignment.list.items
+
+abbrev pub values_of : Run → List (Option Bool)
+values_of run = run.assignment.values.items
+
+-- no form is being visited
+abbrev pub RunIsCalm : Store → Rests → List ℕ → Run → Type 0
+RunIsCalm store rests aside run = RunIsTidy store rests aside (length store.stored.items) run
+
+abbrev pub RunIsUndone : Store → Rests → ℕ → Run → Type 0
+RunIsUndone store rests from run = IsUndone rests (shapes_of store.stored.items) run.opens.items run.candidates.items run.trail.items from
 
 abbrev pub RunVisitsEach : Run → Run → Type 0
 RunVisitsEach old new = VisitsEach (progress old) (progress new)
 
 abbrev pub RunIsShort : Store → Rests → ℕ → Run → Type 0
 RunIsShort store rests form run = IsShort (database store rests) form (progress run)
+
+-- the entry's coefficient can be subtracted
+abbrev pub RunFits : Store → Visited → Run → Type 0
+RunFits store e run = coefficient_at (shapes_in store) e.form e.index ≤ slice_index run.opens.items e.form
+
+abbrev pub RunDerives : List Shape → Run → Run → Type 0
+RunDerives forms old new = Derives forms old.assignment.list.items new.assignment.list.items
 
 abbrev pub RunLowers : Store → Rests → Visited → Run → Run → Type 0
 RunLowers store rests e old new = Lowers (database store rests) e (progress old) (progress new)
@@ -217,3 +203,11 @@ WalkAdvances store rests c c' literal old new = RunAdvances store rests (sum (pa
 
 abbrev pub RunSpends : Store → Rests → Clauses → List ℕ → Run → Run → Type 0
 RunSpends store rests c waiting old new = Spends (database store rests) (clauses_of c) (chosen store waiting) (progress old) (progress new)
+
+-- the watches of the first literals of the list were walked
+abbrev pub RunIsWalked : ℕ → Clauses → Run → Type 0
+RunIsWalked count c run = AreWalked run.assignment.values.items c.watches.items (walked_codes count run.assignment.list.items)
+
+-- the watches of one more literal were walked
+abbrev pub HasWalked : Clauses → Clauses → ℕ → Run → Run → Type 0
+HasWalked c c' literal old new = (walked : List ℕ) → AreServed old.assignment.values.items c.watches.items walked literal 0 → AreWalked new.assignment.values.items c'.watches.items (walked ++ literal ∷ [])
