@@ -8,7 +8,7 @@ _pb() {
     elif [ "$before" = --longest ] || [ "$before" = --bits ]; then
         COMPREPLY=()
     elif [[ $word == -* ]]; then
-        local options='--longest --bits --help'
+        local options='--longest --bits --quiet --help'
         [ "$command" = tidy ] && options="$options --normal"
         [ "$command" = check ] && options="$options --stats --progress"
         mapfile -t COMPREPLY < <(compgen -W "$options" -- "$word")

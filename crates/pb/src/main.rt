@@ -23,8 +23,7 @@ use crate::origin::is_standard;
 use crate::texts::{show_over, tidy_over};
 use crate::tracing::trace_over;
 use crate::watching::Asked;
-use pb_tool::{Input, ToolFault, limits_of};
-use pb_words::Job;
+use pb_tool::{Input, Job, ToolFault, limits_of};
 use std::io::{self, IsTerminal, Write};
 use std::process::ExitCode;
 use std::random::RandomSource;
@@ -120,6 +119,7 @@ where
             file,
             longest,
             bits,
+            ..
         } => {
             let input = opened(rt, path_of(file), Input::File)?;
             show_over(
@@ -135,6 +135,7 @@ where
             file,
             longest,
             bits,
+            ..
         } => tidy_over(
             rt,
             opened(rt, path_of(file), Input::File)?,
@@ -149,6 +150,7 @@ where
             progress,
             longest,
             bits,
+            ..
         } => {
             let asked = Asked {
                 stats: *stats,
@@ -164,6 +166,7 @@ where
             proof,
             longest,
             bits,
+            ..
         } => {
             let (instance, proof) = open_both(rt, instance.as_str(), path_of(proof))?;
             trace_over(

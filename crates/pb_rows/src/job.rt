@@ -27,20 +27,22 @@ fn report_job(job: &Job, reported: &mut Page) -> Result<(), Broken> {
             file,
             longest,
             bits,
+            quiet,
         } => {
             write_bytes(b"show", reported)?;
             report_name(b" file=", file, reported)?;
-            report_numbers(*longest, *bits, reported)
+            report_flags(*longest, *bits, *quiet, reported)
         }
         Job::Tidy {
             normal,
             file,
             longest,
             bits,
+            quiet,
         } => {
             report_either(*normal, b"tidy normal", b"tidy", reported)?;
             report_name(b" file=", file, reported)?;
-            report_numbers(*longest, *bits, reported)
+            report_flags(*longest, *bits, *quiet, reported)
         }
         Job::Check {
             instance,
@@ -49,20 +51,22 @@ fn report_job(job: &Job, reported: &mut Page) -> Result<(), Broken> {
             progress,
             longest,
             bits,
+            quiet,
         } => {
             report_files(b"check instance=", instance.as_str(), proof, reported)?;
             report_either(*stats, b" stats", b"", reported)?;
             report_either(*progress, b" progress", b"", reported)?;
-            report_numbers(*longest, *bits, reported)
+            report_flags(*longest, *bits, *quiet, reported)
         }
         Job::Trace {
             instance,
             proof,
             longest,
             bits,
+            quiet,
         } => {
             report_files(b"trace instance=", instance.as_str(), proof, reported)?;
-            report_numbers(*longest, *bits, reported)
+            report_flags(*longest, *bits, *quiet, reported)
         }
     }
 }
@@ -88,14 +92,20 @@ fn report_name(label: &[u8], name: &Option<String>, reported: &mut Page) -> Resu
     Ok(())
 }
 
-/// Reports the numbers of a job.
-fn report_numbers(longest: Option<u64>, bits: u32, reported: &mut Page) -> Result<(), Broken> {
+/// Reports the flags that each job has.
+fn report_flags(
+    longest: Option<u64>,
+    bits: u32,
+    quiet: bool,
+    reported: &mut Page,
+) -> Result<(), Broken> {
     if let Some(longest) = longest {
         write_bytes(b" longest=", reported)?;
         report_count(longest, b"", reported)?;
     }
     write_bytes(b" bits=", reported)?;
-    report_count(bits as u64, b"\n", reported)?;
+    report_count(bits as u64, b"", reported)?;
+    report_either(quiet, b" quiet\n", b"\n", reported)?;
     Ok(())
 }
 

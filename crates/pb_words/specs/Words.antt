@@ -13,7 +13,7 @@ use Rattle.pb_words.specs.declared.words.fault.WordsFault.TheVariants.{Words, Me
 
 -- ---- The command: `pb show`, `pb tidy`, `pb check` and `pb trace`. `show` and `tidy` take FILE, and `tidy` also takes `--normal`.
 -- ---- `check` and `trace` take INSTANCE and PROOF, and `check` also takes `--stats` and `--progress`.
--- ---- Each of the four takes `--longest` and `--bits`.
+-- ---- Each of the four takes `--longest`, `--bits` and `--quiet`.
 
 -- an argument that takes a value
 abbrev pub value_rule : Text → Rule
@@ -35,11 +35,13 @@ flag_rule name = record (value_rule name) { long = Some name }
 abbrev pub switch_rule : Text → Rule
 switch_rule name = record (new_rule name) { long = Some name; action = Some SetTrue }
 
-abbrev pub with_numbers : App → App
-with_numbers command = with_rule (with_rule command (flag_rule (codes "longest"))) (flag_rule (codes "bits"))
+-- with the flags that each of the four takes
+abbrev pub with_shared : App → App
+with_shared command =
+    with_rule (with_rule (with_rule command (flag_rule (codes "longest"))) (flag_rule (codes "bits"))) (switch_rule (codes "quiet"))
 
 abbrev pub reader_command : Text → App
-reader_command name = with_numbers (with_rule (new_app name) file_rule)
+reader_command name = with_shared (with_rule (new_app name) file_rule)
 
 abbrev pub show_command : App
 show_command = reader_command (codes "show")
@@ -48,7 +50,7 @@ abbrev pub tidy_command : App
 tidy_command = with_rule (reader_command (codes "tidy")) (switch_rule (codes "normal"))
 
 abbrev pub checker_command : Text → App
-checker_command name = with_numbers (with_rule (with_rule (new_app name) instance_rule) proof_rule)
+checker_command name = with_shared (with_rule (with_rule (new_app name) instance_rule) proof_rule)
 
 abbrev pub check_command : App
 check_command = with_rule (with_rule (checker_command (codes "check")) (switch_rule (codes "stats"))) (switch_rule (codes "progress"))
@@ -85,10 +87,14 @@ IsSwitch text on = IsTrue on ↔ (text ≡ Some (codes "true"))
 abbrev pub AreNumbersOf : List Row → Option ℕ → ℕ → Type 0
 AreNumbersOf rows longest bits = IsFlag 1 (2 ^ 40) (first_of (codes "longest") rows) longest × IsFlagOr 127 31 127 (first_of (codes "bits") rows) bits
 
--- the entries of a subcommand are FILE and the two flags with numbers
-pub record HasEntries (rows : List Row) (file : Option (String Global)) (longest : Option ℕ) (bits : ℕ) : Type 0 where
+-- the flags that each of the four takes
+abbrev pub AreSharedOf : List Row → Option ℕ → ℕ → Bool → Type 0
+AreSharedOf rows longest bits quiet = AreNumbersOf rows longest bits × IsSwitch (first_of (codes "quiet") rows) quiet
+
+-- the entries of a subcommand are FILE and the flags that each of the four takes
+pub record HasEntries (rows : List Row) (file : Option (String Global)) (longest : Option ℕ) (bits : ℕ) (quiet : Bool) : Type 0 where
   pub file_is : option_map string_bytes file ≡ first_of (codes "file") rows
-  pub numbers_are : AreNumbersOf rows longest bits
+  pub shared_are : AreSharedOf rows longest bits quiet
 
 -- the files of `check` and `trace`: INSTANCE is given, and PROOF may be
 abbrev pub AreFilesOf : List Row → String Global → Option (String Global) → Type 0
@@ -106,23 +112,23 @@ IsReader name = (name ≡ codes "show") ⊎ ((name ≡ codes "tidy") ⊎ IsCheck
 -- the subcommand that the arguments name, with its entries, asks for the job
 abbrev pub AsksFor : Option (Text × List Row) → Job → Type 0
 AsksFor None job = ⊥
-AsksFor (Some named) (Show file longest bits) = (named.0 ≡ codes "show") × HasEntries named.1 file longest bits
-AsksFor (Some named) (Tidy normal file longest bits) =
-    (named.0 ≡ codes "tidy") × IsSwitch (first_of (codes "normal") named.1) normal × HasEntries named.1 file longest bits
-AsksFor (Some named) (Check instance proof stats progress longest bits) =
+AsksFor (Some named) (Show file longest bits quiet) = (named.0 ≡ codes "show") × HasEntries named.1 file longest bits quiet
+AsksFor (Some named) (Tidy normal file longest bits quiet) =
+    (named.0 ≡ codes "tidy") × IsSwitch (first_of (codes "normal") named.1) normal × HasEntries named.1 file longest bits quiet
+AsksFor (Some named) (Check instance proof stats progress longest bits quiet) =
     (named.0 ≡ codes "check") × AreFilesOf named.1 instance proof × IsSwitch (first_of (codes "stats") named.1) stats
-    × IsSwitch (first_of (codes "progress") named.1) progress × AreNumbersOf named.1 longest bits
-AsksFor (Some named) (Trace instance proof longest bits) =
-    (named.0 ≡ codes "trace") × AreFilesOf named.1 instance proof × AreNumbersOf named.1 longest bits
+    × IsSwitch (first_of (codes "progress") named.1) progress × AreSharedOf named.1 longest bits quiet
+AsksFor (Some named) (Trace instance proof longest bits quiet) =
+    (named.0 ≡ codes "trace") × AreFilesOf named.1 instance proof × AreSharedOf named.1 longest bits quiet
 
 abbrev pub AreInRange : Option ℕ → ℕ → Type 0
 AreInRange longest bits = IfSome longest (λ n. (1 ≤ n) × (n ≤ 2 ^ 40)) × (31 ≤ bits) × (bits ≤ 127)
 
 abbrev pub HasRanges : Job → Type 0
-HasRanges (Show file longest bits) = AreInRange longest bits
-HasRanges (Tidy normal file longest bits) = AreInRange longest bits
-HasRanges (Check instance proof stats progress longest bits) = AreInRange longest bits
-HasRanges (Trace instance proof longest bits) = AreInRange longest bits
+HasRanges (Show file longest bits quiet) = AreInRange longest bits
+HasRanges (Tidy normal file longest bits quiet) = AreInRange longest bits
+HasRanges (Check instance proof stats progress longest bits quiet) = AreInRange longest bits
+HasRanges (Trace instance proof longest bits quiet) = AreInRange longest bits
 
 -- ---- why a parse finds nothing
 

@@ -25,7 +25,8 @@ use std::alloc::{AllocError, Global};
 const MOST_BYTES: u64 = 1 << 40;
 
 /// What the arguments ask for. `longest` is the maximum number of bytes of a statement, 1 to `2^40`, if there is such a
-/// limit. `bits` is the number of bits of the largest magnitude of a number, 31 to 127.
+/// limit. `bits` is the number of bits of the largest magnitude of a number, 31 to 127. If `quiet` is true, no hint
+/// follows the line of a fault.
 #[derive(Debug, Drop)]
 pub enum Job {
     /// Print each statement of the file, or of standard input, with its position.
@@ -33,6 +34,7 @@ pub enum Job {
         file: Option<String>,
         longest: Option<u64>,
         bits: u32,
+        quiet: bool,
     },
     /// Print the canonical text of the file, or of standard input. If `normal` is true, it is an instance, and each
     /// constraint is printed in normal form.
@@ -41,6 +43,7 @@ pub enum Job {
         file: Option<String>,
         longest: Option<u64>,
         bits: u32,
+        quiet: bool,
     },
     /// Check whether the proof, or standard input, proves what it claims about the instance. If `stats` is true, counts
     /// are printed after the check. If `progress` is true, a progress line is printed while it runs.
@@ -51,6 +54,7 @@ pub enum Job {
         progress: bool,
         longest: Option<u64>,
         bits: u32,
+        quiet: bool,
     },
     /// Check the proof, or standard input, and print each statement with the constraints that it adds.
     Trace {
@@ -58,6 +62,7 @@ pub enum Job {
         proof: Option<String>,
         longest: Option<u64>,
         bits: u32,
+        quiet: bool,
     },
 }
 
@@ -85,17 +90,20 @@ fn job_of(alloc: Global, name: &str, given: &ArgMatches<'_>) -> Result<Job, Word
     ensures err { IfErr result (IsEntryFault (name.now, rows_of (found_of given.now))) }
 {
     let (longest, bits) = numbers_of(alloc, name, given)?;
+    let quiet = is_given(given, "quiet");
     match name {
         "show" => Ok(Job::Show {
             file: file_name(alloc, given, "file")?,
             longest,
             bits,
+            quiet,
         }),
         "tidy" => Ok(Job::Tidy {
             normal: is_given(given, "normal"),
             file: file_name(alloc, given, "file")?,
             longest,
             bits,
+            quiet,
         }),
         "check" => {
             let (instance, proof) = files_of(alloc, name, given)?;
@@ -106,6 +114,7 @@ fn job_of(alloc: Global, name: &str, given: &ArgMatches<'_>) -> Result<Job, Word
                 progress: is_given(given, "progress"),
                 longest,
                 bits,
+                quiet,
             })
         }
         _ => {
@@ -115,6 +124,7 @@ fn job_of(alloc: Global, name: &str, given: &ArgMatches<'_>) -> Result<Job, Word
                 proof,
                 longest,
                 bits,
+                quiet,
             })
         }
     }

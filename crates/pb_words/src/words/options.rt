@@ -6,7 +6,7 @@ ghost use Rattle.clap.specs.declared.builder.Command.TheViews.{out-Command as fi
 ghost use Rattle.pb_words.specs.Words.{check_command, checker_command, flag_rule, instance_rule};
 ghost use Rattle.pb_words.specs.Words.{pb_command, pb_program, reader_command, show_command};
 ghost use Rattle.pb_words.specs.Words.{switch_rule, tidy_command, trace_command, value_rule};
-ghost use Rattle.pb_words.specs.Words.{with_numbers as with_number_rules};
+ghost use Rattle.pb_words.specs.Words.{with_shared as with_shared_rules};
 
 use clap::error::ErrorKind;
 use clap::{Arg, ArgAction, Command};
@@ -16,6 +16,8 @@ use std::alloc::{AllocError, Global};
 const VERSION: &str = "0.1.0";
 
 const PB_HELP: &str = "\
+pb COMMAND --help and pb help COMMAND print the options of a command, with an example.
+
 Example: pb tidy instance.opb
 prints the canonical text of the instance, or reports on standard error where and why the text
 is no instance. A file that begins with p is treated as a proof. A file named - is standard
@@ -249,7 +251,7 @@ fn checker<'a>(
             "PROOF",
             "The proof, in VeriPB 2.0; standard input if absent or -",
         ))?;
-    with_numbers(alloc, command)
+    with_shared(alloc, command)
 }
 
 /// A subcommand that reads one file.
@@ -271,13 +273,13 @@ fn reader<'a>(
             "FILE",
             "The file to read; standard input if absent or -",
         ))?;
-    with_numbers(alloc, command)
+    with_shared(alloc, command)
 }
 
-/// A subcommand with the flags `--longest` and `--bits` after its other arguments.
-fn with_numbers<'a>(alloc: Global, command: Command<'a>) -> Result<Command<'a>, AllocError>
+/// A subcommand with the flags that each of the four takes, after its other arguments.
+fn with_shared<'a>(alloc: Global, command: Command<'a>) -> Result<Command<'a>, AllocError>
     requires { (fields_of command).has_globals ≡ false }
-    ensures app { IfOk result (λ c. app_of c ≡ with_number_rules (app_of command.entry)) }
+    ensures app { IfOk result (λ c. app_of c ≡ with_shared_rules (app_of command.entry)) }
     ensures local { IfOk result (λ c. (fields_of c).has_globals ≡ false) }
 {
     command
@@ -292,6 +294,11 @@ fn with_numbers<'a>(alloc: Global, command: Command<'a>) -> Result<Command<'a>, 
             "bits",
             "K",
             "Reject numbers past 2^K - 1, K from 31 to 127; 127 if absent",
+        ))?
+        .arg(switch(
+            alloc,
+            "quiet",
+            "After a fault, print no hint on standard error",
         ))
 }
 
