@@ -103,7 +103,10 @@ class Values:
 
     def parts(self, words, number):
         """The constraints that a postfix expression for this one is made of."""
-        parts = [int(word) for word, after in zip(words, [*words[1:], b""]) if is_id(word, after)]
+        try:
+            parts = [int(word) for word, after in zip(words, [*words[1:], b""]) if is_id(word, after)]
+        except ValueError:
+            raise Rejected(f"no postfix expression: `{shown(b' '.join(words))}`") from None
         for part in parts:
             if part >= number or part not in self.live and part not in self.deleted:
                 raise Rejected(f"no constraint {part} is live in `{shown(b' '.join(words))}`")
@@ -154,7 +157,7 @@ class Database:
         """The id of the old proof that a word means; it is live."""
         if word[:1] == b"@" and word in self.labels:
             number = self.labels[word]
-        elif not re.fullmatch(b"-?[0-9]+", word):
+        elif not re.fullmatch(b"-?[0-9]{1,18}", word):
             raise Rejected(f"`{shown(word)}` is no id")
         else:
             number = int(word)

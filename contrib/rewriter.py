@@ -42,6 +42,8 @@ class Rewriter(Subproofs):
                     self.statement(line)
             except Rejected as fault:
                 raise Rejected(f"line {self.line}: {fault}") from None
+            except ValueError:
+                raise Rejected(f"line {self.line}: a number is too long, or none") from None
             if self.closed:
                 break
         self.finish()

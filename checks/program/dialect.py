@@ -89,6 +89,8 @@ REFUSED = [
     ("red +1 ~x1 >= 1 ; x1 -> 0 ;\n", "line 3: `red` with a witness is outside the profile: `+1 ~x1 >= 1` does not follow by unit propagation"),
     ("pol @b\n", "line 3: `@b` is no id"),
     ("@a rup +1 x2 >= 1 ;\ndel id @a\npol @a\n", "line 5: no constraint @a is live"),
+    ("pol 1 5}d +\ne 5 +1 x2 >= 1 ;\n", "line 4: no postfix expression: `1 5}d +`"),
+    ("del id " + "9" * 5000 + "\n", f"line 3: `{'9' * 40}..` is no id"),
     ("pol 9\ne 5 +1 x2 >= 1 ;\n", "line 4: no constraint 9 is live in `9`"),
     ("pol 5\ne 5 +1 x2 >= 1 ;\n", "line 4: no constraint 5 is live in `5`"),
     # Nothing follows from a constraint that is deleted.
