@@ -195,6 +195,8 @@ LRATS = [
 # Commands in a folder with files, and their status, output and error text.
 STREAMS = [
     ("a closed pipe", "cnf2opb many.cnf | head -c 9", 0, b"* #variab", b""),
+    ("what comes out before a fault", "{ cat many.cnf; yes 1 0 | head -n 99999; echo x 0; } | cnf2opb >out; head -c 9 out", 0, b"* #variab",
+     b"cnf2opb: line 200000: `x` is no literal\n"),
     ("a full disk", "cnf2opb many.cnf >/dev/full", 1, b"", b"cnf2opb: standard output: No space left on device\n"),
     ("a proof from standard input", "drat2pbp a.cnf - <a.drat", 0, PROOFS[0][4], b""),
     ("a CNF file from standard input", "drat2pbp - a.drat <a.cnf", 0, PROOFS[0][4], b""),
