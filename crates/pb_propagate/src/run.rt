@@ -186,7 +186,8 @@ fn visit_form(
         RunIsCalm store.now rests.now (chosen store.now waiting.now) run.new) }
     ensures undone { OnOk result (RunIsUndone store.now rests.now 0 run.new) }
     ensures conflict { IfFound result (Conflicts (shapes_in store.now) (list_of run.new)) }
-    ensures bounded { sum run.new.candidates.items ≤ sum_by (λ f. length f.terms) (shapes_of store.now.stored.items) }
+    ensures bounded { sum run.new.candidates.items ≤
+        sum_by (λ f. length f.terms) (shapes_in store.now) }
     ensures found { OnOk result (RunVisitsEach run.old run.new) }
 {
     let kept = &store.stored[form];

@@ -83,6 +83,8 @@ impl Search {
         ensures found { result.passed < length literals.now → (d : ℕ) → (false_at assignment.now.values.items (slice_index_or literals.now result.position d) ≡ false) × (slice_index_or literals.now result.position d ≡ other → ⊥) }
         ensures rising { visits.old ≤ visits.new }
         ensures few { visits.new + self.passed ≤ visits.old + min (result.passed + 1) (length literals.now) }
+        ensures count { visits.new < 2 ^ 64 - 1 →
+            visits.new + self.passed ≡ visits.old + min (result.passed + 1) (length literals.now) }
     {
         let mut at = self;
         'literals: while at.passed < literals.len() {

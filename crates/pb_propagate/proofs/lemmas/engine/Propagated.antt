@@ -1,11 +1,10 @@
 use Rattle.std.specs.Prelude.{Contains, sum, sum_by, filter, Bool, true, false}
-use Rattle.std.proofs.Common.{◌≡◌, ℕ, ◌+◌, ◌-◌, ◌*◌, ◌^◌, ◌<◌, ◌≤◌, ◌++◌, ◌∷◌, [], List, cond, refl, sym, ◌∙◌, ap, arith, take, drop, length, length-append, get_or}
+use Rattle.std.proofs.Common.{◌≡◌, ℕ, ◌+◌, ◌-◌, ◌*◌, ◌<◌, ◌≤◌, ◌++◌, ◌∷◌, [], List, cond, refl, sym, ◌∙◌, ap, arith, take, drop, length, length-append, get_or}
 use Rattle.std.proofs.lemmas.List.{append-nil, drop_more, drop_all, take-append-drop}
 use Rattle.std.proofs.lemmas.List.Elements.{All-push, filter-append}
 use Rattle.std.proofs.lemmas.List.Filters.{length-filter_more}
 use Rattle.std.proofs.lemmas.List.{get_or_read}
 use Rattle.pb_normal.specs.declared.numbered.NumberedLiteral.{NumberedLiteral}
-use Rattle.pb_propagate.specs.declared.store.stored_form.StoredForm.{StoredForm}
 use Rattle.pb_propagate.specs.declared.store.Store.{Store}
 use Rattle.pb_propagate.specs.declared.rests.Rests.{Rests}
 use Rattle.pb_propagate.specs.engine.Engine.Lists.{Shape, Derives, Extends, begin, IsSettled}

@@ -1,5 +1,5 @@
 use Rattle.std.specs.Prelude.{sum, All}
-use Rattle.std.proofs.Common.{◌≡◌, ℕ, ◌+◌, ◌-◌, ◌^◌, ◌<◌, ◌≤◌, ◌∷◌, [], List, false, refl, sym, ◌∙◌, ap, subst, arith, length, get_or, set, min, length-append, length-set}
+use Rattle.std.proofs.Common.{◌≡◌, ℕ, ◌+◌, ◌-◌, ◌^◌, ◌<◌, ◌≤◌, ◌∷◌, [], List, false, refl, sym, ◌∙◌, ap, arith, length, get_or, set, min, length-append, length-set}
 use Rattle.std.proofs.lemmas.List.{get_or_default, get_or-map, get_or_read, length-map}
 use Rattle.std.proofs.lemmas.List.Sums.{sum_by-set}
 use Rattle.std.proofs.lemmas.List.Elements.{Contains-get_or}

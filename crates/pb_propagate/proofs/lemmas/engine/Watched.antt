@@ -1,6 +1,6 @@
 -- What a walk over the watches of a literal costs.
 use Rattle.std.specs.Prelude.{sum}
-use Rattle.std.proofs.Common.{◌≡◌, ℕ, ◌+◌, ◌-◌, ◌*◌, ◌<◌, ◌≤◌, List, length, ap, arith}
+use Rattle.std.proofs.Common.{◌≡◌, ℕ, ◌+◌, ◌-◌, ◌*◌, ◌<◌, ◌≤◌, length, ap, arith}
 use Rattle.pb_propagate.specs.declared.clauses.Clauses.{Clauses}
 use Rattle.pb_propagate.specs.engine.Clauses.Links.{lists_of, list_at}
 use Rattle.pb_propagate.specs.engine.Clauses.Runs.{passed_of}

@@ -1,13 +1,13 @@
-use Rattle.std.specs.Prelude.{filter, sum, sum_by}
-use Rattle.std.proofs.Common.{◌+◌, ◌*◌, ◌<◌, ◌≤◌, ◌++◌, ◌∷◌, [], ℕ, List, Vec, Global, length, drop, get_or, refl, sym, ap, subst, inl, inr, ◌∙◌, arith}
+use Rattle.std.specs.Prelude.{filter, sum}
+use Rattle.std.proofs.Common.{◌+◌, ◌<◌, ◌≤◌, ◌++◌, ◌∷◌, [], ℕ, List, Vec, Global, length, drop, get_or, sym, ap, subst, inl, inr, ◌∙◌, arith}
 use Rattle.std.proofs.lemmas.List.{length-map, get_or_default, take_rest, drop_all}
 use Rattle.pb_propagate.specs.engine.Engine.Lists.{Derives, Conflicts, IsSettled}
-use Rattle.pb_propagate.specs.engine.Engine.Counts.{beside, spent}
+use Rattle.pb_propagate.specs.engine.Engine.Counts.{spent}
 use Rattle.pb_propagate.specs.engine.Engine.Fields.{shapes_of, entries_of, stored_shape}
 use Rattle.pb_propagate.specs.engine.Engine.Rest.{waits}
 use Rattle.pb_propagate.specs.engine.Clauses.Truths.{false_at}
-use Rattle.pb_propagate.specs.engine.Clauses.Links.{lists_of, list_at}
-use Rattle.pb_propagate.specs.engine.Clauses.Runs.{AreServed, AreWalked, passed_of}
+use Rattle.pb_propagate.specs.engine.Clauses.Links.{lists_of}
+use Rattle.pb_propagate.specs.engine.Clauses.Runs.{AreServed, AreWalked}
 use Rattle.pb_propagate.specs.engine.Clauses.Shapes.{all_of, clauses_of, joined}
 use Rattle.pb_propagate.proofs.lemmas.engine.Derivations.{derivation-then, derivation-keeps}
 use Rattle.pb_propagate.proofs.lemmas.engine.Propagated.{propagating-start, propagating-visit, propagating-next, propagating-walk, propagating-bound, propagating-choose, propagating-settled, propagating-spends}
@@ -21,7 +21,7 @@ use Rattle.pb_propagate.proofs.lemmas.engine.Spent.{sum-bounded}
 use Rattle.pb_propagate.proofs.lemmas.engine.Values.{opposite}
 use Rattle.pb_propagate.proofs.lemmas.clauses.Shapes.{derives-joined, conflicts-joined, joined-source}
 use Rattle.pb_propagate.proofs.lemmas.clauses.Walks.{grows-refl, grows-trans, grows-listed, running-grow}
-use Rattle.pb_propagate.proofs.lemmas.clauses.Watching.{IsWatching, cost, reached, next-of, listed-small, ahead-room, advanced-sum, walked-whole, watching-start, watching-grow, watching-next, watching-settled, derived-take, cost-grow, cost-next, cost-broken, cost-most}
+use Rattle.pb_propagate.proofs.lemmas.clauses.Watching.{IsWatching, cost, next-of, listed-small, ahead-room, advanced-sum, walked-whole, watching-start, watching-grow, watching-next, watching-settled, derived-take, cost-grow, cost-next, cost-broken, cost-most}
 use Rattle.pb_propagate.proofs.run.propagate.Goals as goal
 
 pub work-init : goal.work-init

@@ -1,7 +1,7 @@
-use Rattle.std.specs.Prelude.{Bool, Option, sum_by, filter}
+use Rattle.std.specs.Prelude.{sum_by, filter}
 use Rattle.pb_propagate.specs.engine.Clauses.Runs.{KeepsWalked, Grows}
 use Rattle.pb_propagate.specs.engine.Engine.Progress.{progress, database}
-use Rattle.std.proofs.Common.{ℕ, List, ◌≡◌, ◌+◌, ◌*◌, ◌-◌, ◌≤◌, length}
+use Rattle.std.proofs.Common.{◌+◌, ◌*◌, ◌-◌, ◌≤◌, length}
 use Rattle.pb_propagate.specs.engine.Engine.Rest.{waits}
 use Rattle.pb_propagate.specs.engine.Engine.Fields.{shapes_of, entries_of}
 use Rattle.pb_propagate.specs.engine.Clauses.Shapes.{all_of}

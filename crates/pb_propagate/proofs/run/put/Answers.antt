@@ -1,14 +1,11 @@
-use Rattle.std.specs.Prelude.{map}
-use Rattle.std.proofs.Common.{Vec, Global, ℕ, ◌<◌, ◌+◌, length, refl, ap, sym, ◌∙◌, arith}
+use Rattle.std.proofs.Common.{Vec, Global, ℕ, ◌+◌, refl, ap, sym, ◌∙◌, arith}
 use Rattle.std.proofs.lemmas.List.{length-map}
-use Rattle.pb_normal.specs.declared.numbered.NumberedLiteral.{NumberedLiteral}
 use Rattle.pb_normal.specs.meaning.Rules.{negation}
 use Rattle.pb_propagate.specs.declared.assignment.Assignment.{Assignment}
 use Rattle.pb_propagate.specs.engine.Engine.Counts.{place}
 use Rattle.pb_propagate.specs.engine.Engine.Fields.{shapes_of, stored_shape}
 use Rattle.pb_propagate.specs.engine.Engine.Progress.{assigned_to, progress, database, entries_against}
 use Rattle.pb_propagate.proofs.lemmas.store.Places.{entries-length}
-use Rattle.pb_propagate.proofs.lemmas.store.Weights.{index-within}
 use Rattle.pb_propagate.proofs.lemmas.engine.Runs.{Counted-put}
 use Rattle.pb_propagate.proofs.lemmas.engine.Advances.{costs-none, on-err}
 use Rattle.pb_propagate.proofs.lemmas.engine.Puts.{assigns, IsPutting, putting-start, putting-fits, putting-next, putting-advances, putting-costs, assigned-tidy, counted-conflict, entry-read, place-read, place-inside}

@@ -1,11 +1,10 @@
-use Rattle.std.specs.Prelude.{Bool, Option, sum}
-use Rattle.std.proofs.Common.{Vec, Global, ◌<◌, ◌≤◌, ◌+◌, ◌++◌, ◌∷◌, [], ℕ, List, refl, sym, ◌∙◌, ap, subst, length, arith}
+use Rattle.std.proofs.Common.{Vec, Global, ◌<◌, ◌+◌, ◌++◌, ◌∷◌, [], ℕ, refl, sym, ◌∙◌, ap, subst, length, arith}
 use Rattle.pb_normal.specs.declared.numbered.NumberedLiteral.{NumberedLiteral}
 use Rattle.pb_normal.specs.meaning.Rules.{negation}
 use Rattle.pb_propagate.specs.declared.clauses.visiting.Visit.TheVariants.{Stays, Leaves, Forces, Falsified}
 use Rattle.pb_propagate.specs.engine.Engine.Lists.{has}
 use Rattle.pb_propagate.specs.engine.Engine.Fields.{shapes_of}
-use Rattle.pb_propagate.specs.engine.Engine.Progress.{progress, database, visited_to}
+use Rattle.pb_propagate.specs.engine.Engine.Progress.{progress, database}
 use Rattle.pb_propagate.specs.engine.Clauses.Links.{lists_of, list_at}
 use Rattle.pb_propagate.specs.engine.Clauses.Runs.{HasVisited, IsBroken}
 use Rattle.pb_propagate.specs.engine.Clauses.Shapes.{clauses_of}

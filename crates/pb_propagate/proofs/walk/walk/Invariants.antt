@@ -1,5 +1,4 @@
-use Rattle.std.specs.Prelude.{sum}
-use Rattle.std.proofs.Common.{◌≡◌, ◌+◌, ◌*◌, ◌-◌, length}
+use Rattle.std.proofs.Common.{◌≡◌, ◌-◌, length}
 use Rattle.pb_propagate.specs.engine.Engine.Fields.{shapes_of}
 use Rattle.pb_propagate.specs.engine.Engine.Progress.{progress, database, IsOpen, StaysTidy}
 use Rattle.pb_propagate.specs.engine.Clauses.Links.{lists_of, list_at}

@@ -14,6 +14,7 @@ literals-preserved c =
       round = λ start r. round-next start c.literals.at c.next-at.result (length xs) (c.literals.invariant.round start r) less c.next-at.ensures.position c.next-at.ensures.passed;
       passed = λ start k d r from below. passed-next c.args.assignment.now.values.items start k d c.literals.at xs c.args.other c.visit_literal-literal.result (c.literals.invariant.round start r) less (c.visit_literal-literal.ensures.item d) (c.may_watch.ensures.no c.if-may_watch.false) (λ old. c.literals.invariant.passed start k d r from old) (omega (arith, below, c.next-at.ensures.passed));
       rising = omega (arith, c.literals.invariant.rising, c.visit_literal-literal.ensures.rising);
+      count = λ small. omega (arith, small, c.literals.invariant.count (omega (arith, small, c.visit_literal-literal.ensures.count)), c.visit_literal-literal.ensures.count, c.next-at.ensures.passed);
       few = omega (arith, c.literals.invariant.few, c.visit_literal-literal.ensures.count, c.next-at.ensures.passed);
     }
 
@@ -25,3 +26,12 @@ returns-then-may_watch-clause-found c = λ less d.
 
 pub returns-then-may_watch-clause-few : goal.returns-then-may_watch-clause-few
 returns-then-may_watch-clause-few c = omega (arith, c.literals.invariant.few, c.literals-test.true, c.visit_literal-literal.ensures.count)
+
+pub returns-then-may_watch-clause-count : goal.returns-then-may_watch-clause-count
+returns-then-may_watch-clause-count c = λ small.
+    let before = c.literals.invariant.count (omega (arith, small, c.visit_literal-literal.ensures.count)) in
+    omega (arith, small, before, c.literals-test.true, c.visit_literal-literal.ensures.count)
+
+pub returns-clause-count : goal.returns-clause-count
+returns-clause-count c = λ small.
+    omega (arith, c.literals.invariant.count small, c.literals-test.false, c.literals.invariant.within)

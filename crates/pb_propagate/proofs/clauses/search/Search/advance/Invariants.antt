@@ -1,4 +1,4 @@
-use Rattle.std.proofs.Common.{◌≡◌, ℕ, ◌+◌, ◌-◌, ◌<◌, ◌≤◌, ◌⊎◌, true, length, get_or}
+use Rattle.std.proofs.Common.{◌≡◌, ℕ, ◌+◌, ◌-◌, ◌^◌, ◌<◌, ◌≤◌, ◌⊎◌, true, length, get_or}
 use Rattle.pb_propagate.specs.engine.Clauses.Truths.{false_at}
 use Rattle.pb_propagate.specs.engine.Clauses.Runs.{turned, IsRound}
 use Rattle.pb_propagate.proofs.clauses.search.Search.advance.Given as goal
@@ -14,5 +14,6 @@ invariant-literals l = record {
   round : (start : ℕ) → IsRound start l.fn.self (length l.literals) → IsRound start l.at (length l.literals);
   passed : (start k d : ℕ) → IsRound start l.fn.self (length l.literals) → l.fn.self.passed ≤ k → k < l.at.passed → (false_at l.assignment.values.items (get_or (turned start l.literals) k d) ≡ true) ⊎ (get_or (turned start l.literals) k d ≡ l.other);
   rising : l.initial.visits ≤ l.visits;
+  count : l.visits < 2 ^ 64 - 1 → l.visits + l.fn.self.passed ≡ l.initial.visits + l.at.passed;
   few : l.visits + l.fn.self.passed ≤ l.initial.visits + l.at.passed;
 }
