@@ -2,6 +2,7 @@
 use Rattle.std.specs.Prelude.{◌≡◌, ℕ, ◌-◌, ◌^◌, List, ◌++◌}
 use Rattle.pb_text.specs.meaning.Spelling.{Item, bytes_of}
 use Rattle.pb_text.specs.meaning.Whole.{events_of}
+use Rattle.pb_opb.specs.contract.Canonical.{instance_bytes}
 use Rattle.pb_opb.specs.meaning.Instances.{IsInstance}
 use Rattle.pb_opb.specs.meaning.Values.{IsValueOf}
 use Rattle.pb_opb.specs.declared.Instance.{Instance}
@@ -12,11 +13,13 @@ abbrev pub IsTextOf : Instance → List ℕ → Type 0
 IsTextOf v bytes =
     (items : List (Item OpbEvent)) × IsInstance (2 ^ 127 - 1) (2 ^ 63 - 1) items × (bytes_of items ≡ bytes) × IsValueOf (events_of items) v
 
--- The first text begins with a text of an instance, and the second is a text of the same instance.
+-- The first text begins with a text of an instance, and the second is its canonical text, which is a text of the same
+-- instance.
 pub record IsRewritten (text bytes : List ℕ) : Type 0 where
   pub instance : Instance
   pub used : List ℕ
   pub rest : List ℕ
   pub text_is : text ≡ used ++ rest
   pub read : IsTextOf instance used
+  pub canonical : bytes ≡ instance_bytes instance
   pub written : IsTextOf instance bytes

@@ -44,6 +44,7 @@ module _ (limit top : ℕ) (l : limit ≡ 2 ^ 127 - 1) (t : top ≡ 2 ^ 63 - 1) 
         rest = seen;
         text_is = took.0;
         read = text_of m.event s.items used s.spelled s.used_are read.value;
+        canonical = written;
         written = text_of m.event items bytes spelled (are ∙ sym written) value;
       }
 
