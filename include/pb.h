@@ -42,7 +42,8 @@ uint32_t pb_version(void);
 ** PB_MISUSE   The options are not allowed. Nothing was read.
 ** PB_FAILED   Memory ran out. Nothing is known of the text.
 **
-** Where memory runs out for the text that is written, the line is "output: write fault".
+** If memory runs out for the text that is written, the line is "output: write fault". If it runs out for the line of a fault
+** too, the result is PB_FAILED whatever the fault was, and a prefix of that line is written, maybe no byte of it.
 */
 #define PB_OK 0
 #define PB_REFUSED 1
@@ -52,15 +53,16 @@ uint32_t pb_version(void);
 /*
 ** CAPI: Options
 **
-** Set every member, or begin with one of the two values below.
+** Set every member, or begin with one of the two values below. Members that are 0 have the meaning given here, so {0} is
+** allowed: it is the same as PB_OPTIONS_FIXED.
 **
 ** longest     The most bytes of one statement, or 0 for no such limit. A text with a longer statement is refused, and so is one
 **             of more than 2^40 bytes. Memory for a statement is allocated before all of it was read, so set a limit for texts
-**             from strangers.
+**             from untrusted sources.
 ** key0, key1  The keys of the hashes of names. No answer depends on them, but time does: whoever knows them can write an
-**             instance whose names collide. Draw them at random for texts from strangers.
-** bits        The bits of the magnitude of a coefficient, a degree, a bound or a factor, from 31 to 127. A larger number is
-**             refused. The limit on counts and ids is the lesser of 2^63 - 1 and 2^bits - 1.
+**             instance whose names collide. Draw them at random for untrusted texts.
+** bits        The bits of the magnitude of a coefficient, a degree, a bound or a factor, from 31 to 127, or 0 for 127. A larger
+**             number is refused. The limit on counts and ids is the lesser of 2^63 - 1 and 2^bits - 1.
 **
 ** PB_OPTIONS_FIXED has no limit on statements, 127 bits, and keys that are always the same. It is for texts of your own.
 ** pb_options() has the same with keys drawn at random.
@@ -83,11 +85,13 @@ typedef struct pb_options_t {
 ** the text as fits, from its first byte on. The last parameter points to the length of the whole text. So the text is whole
 ** where that length is at most the room, and else a prefix of it. The rest of the room stays as it was: no zero byte is
 ** added. A call with a room of 0 bytes asks for the length alone, and the same call again writes the same text, unless
-** memory runs out. Where memory runs out for the line of a fault, the text is a prefix of that line.
+** memory runs out.
 **
-** Pointers. No pointer may be null, not even where the number of bytes beside it is 0. No text, room or object may be larger
-** than PTRDIFF_MAX bytes. What a call writes to, the room and the length, may not overlap anything else that it is given.
-** While a call runs, no other thread may write to the texts or the options, or read or write the room or the length.
+** Pointers. No pointer may be null, not even if the number of bytes beside it is 0: the compiled code may rely on that. Pass
+** the address of any byte for an empty text or room, as "" is. In C++ the data() of an empty std::vector, std::string_view or
+** std::span may be null; that of a std::string is not. No text, room or object may be larger than PTRDIFF_MAX bytes. What a
+** call writes to, the room and the length, may not overlap anything else that it is given. While a call runs, no other thread
+** may write to the texts or the options, or read or write the room or the length.
 **
 ** Memory. The library allocates by malloc(), realloc() and free() of the program, and frees all of it before a call returns.
 ** These three have to belong to one allocator. They have to align a block to each power of two up to 16 that divides its
@@ -142,7 +146,8 @@ uint8_t pb_tidy(const uint8_t *text, size_t text_len, bool normal,
 **
 ** Reads a text, a proof if its first byte is `p` and else an instance, and writes a line for each of its statements. It has the
 ** line and the column where the statement begins, and its canonical text, as in `2:1 +1 x1 >= 1 ;`. At any result but PB_OK
-** the line of the fault follows, after the lines of all statements that were read.
+** the line of the fault follows, after the lines of all statements that were read. If memory runs out for these lines, the
+** last of them is cut, and "output: write fault" stands directly after its last byte, on the same line.
 */
 uint8_t pb_show(const uint8_t *text, size_t text_len,
                 const pb_options_t *options,

@@ -18,7 +18,7 @@ use Rattle.pb_tool.specs.meaning.Tidy.{IsInstanceFile}
 use Rattle.pb_tool.specs.meaning.Verified.{CheckCall, Returns, verdict_line}
 use Rattle.pb_tool.specs.declared.fault.ToolFault.{ToolFault}
 use Rattle.pb_tool.specs.declared.fault.ToolFault.TheVariants.{Text, Open, Overflow, Memory, Write, Step}
-use Rattle.pb_c.specs.Answers.{AnswersCheck, IsTextOf, empty, faults, status_of, written}
+use Rattle.pb_c.specs.Answers.{AnswersCheck, Ends, empty, faults, written}
 use Rattle.pb_c.specs.Options.{IsAsked}
 use Rattle.pb_c.specs.Buffer.{Puts}
 use Rattle.pb_c.specs.Unsat.{ShowsTruth, ShowsUnsat}
@@ -66,9 +66,9 @@ written_alone old new w bare wrote = (subst (λ (x : Page). Wrote written faults
 module _ (law : VerdictsAreTrue) (limits : Limits) (longest : ℕ) where
   -- with status 0, the text is the line of a verdict that holds for the instance
   of_answer : (i text old new : List ℕ) (status whole : ℕ) (c : CheckCall (Option (List ℕ)) Page) (result : Result Verdict ToolFault)
-      → c.instance ≡ Some i → c.out ≡ empty → Returns limits longest written faults c result → IsTextOf result c.out_after.text text → status ≡ status_of result → Puts text old new whole → status ≡ 0
+      → c.instance ≡ Some i → c.out ≡ empty → Returns limits longest written faults c result → Ends result c.out_after empty text status → Puts text old new whole → status ≡ 0
       → (after : Option (List ℕ)) × (v : Instance) × IsInstanceFile limits longest (Some i) after v × (w : Verdict) × Puts (verdict_line w) old new whole × MeansWritten v w
-  of_answer i text old new status whole c (Ok w) one bare (v, file, q, proof, verified, wrote) line ended put zero = (
+  of_answer i text old new status whole c (Ok w) one bare (v, file, q, proof, verified, wrote) (line, ended) put zero = (
     c.instance_after,
     v,
     subst (λ (x : Option (List ℕ)). IsInstanceFile limits longest x c.instance_after v) one file,
@@ -76,12 +76,13 @@ module _ (law : VerdictsAreTrue) (limits : Limits) (longest : ℕ) where
     subst (λ (t : List ℕ). Puts t old new whole) (line ∙ written_alone c.out c.out_after w bare wrote) put,
     law limits longest v q w c.proof c.proof_after proof verified,
   )
-  of_answer i text old new status whole c (Err e) one bare checks line ended put zero = absurd (no_fault e (sym ended ∙ zero))
+  of_answer i text old new status whole c (Err e) one bare checks (after, inl (line, ended), is) put zero = absurd (no_fault e (sym ended ∙ zero))
+  of_answer i text old new status whole c (Err e) one bare checks (after, inr (line, ended), is) put zero = absurd (omega (arith, ended, zero))
 
 pub shows_truth : VerdictsAreTrue → (o : Options) (i p old new : List ℕ) (status whole : ℕ) → AnswersCheck o i p old status new whole → ShowsTruth o i old status new whole
 shows_truth law o i p old new status whole (text, put, inl (wrong, line, two)) zero = absurd (omega (arith, two, zero))
 shows_truth law o i p old new status whole (text, put, inr (limits, longest, asked, a)) zero =
-    let (after, v, file, w, reported, true) = of_answer law limits (unwrap_or longest (2 ^ 40)) i text old new status whole a.call a.call.result a.texts.0 a.begins_empty a.checks a.line_is a.status_is put zero in
+    let (after, v, file, w, reported, true) = of_answer law limits (unwrap_or longest (2 ^ 40)) i text old new status whole a.call a.call.result a.texts.0 a.begins_empty a.checks a.ends put zero in
     (limits, longest, asked, after, v, file, w, reported, true)
 
 -- the line of UNSAT differs from the others in its length

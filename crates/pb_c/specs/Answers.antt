@@ -1,5 +1,6 @@
 -- What a call returns, in terms of what the tool returns for the same texts.
 use Rattle.std.specs.Prelude.{◌≡◌, ◌⊎◌, ◌^◌, ℕ, List, [], codes, Bool, Option, Some, Result, Ok, Err, unwrap_or}
+use Rattle.pb_text.specs.meaning.Writing.{Wrote, Broke}
 use Rattle.pb_text.specs.declared.Limits.{Limits}
 use Rattle.pb_tool.specs.contract.Faults.{exit_status, fault_line}
 use Rattle.pb_tool.specs.meaning.Decided.{IsOfTexts}
@@ -7,7 +8,7 @@ use Rattle.pb_tool.specs.meaning.Files.{ShowsFile, TidiesFile}
 use Rattle.pb_tool.specs.meaning.Verified.{CheckCall, ChecksFiles}
 use Rattle.pb_tool.specs.declared.fault.ToolFault.{ToolFault}
 use Rattle.pb_c.specs.Options.{AreWrong, IsAsked}
-use Rattle.pb_c.specs.Buffer.{IsPrefixOf, Puts}
+use Rattle.pb_c.specs.Buffer.{Puts}
 use Rattle.pb_c.specs.declared.options.Options.{Options}
 use Rattle.pb_c.specs.declared.page.Page.{Page}
 
@@ -21,48 +22,42 @@ written page = Some page.text
 abbrev pub faults : Page → ℕ
 faults page = page.failures
 
--- 0, or the exit status of the fault
-abbrev pub status_of : {V : Type 0} → Result V ToolFault → ℕ
-status_of (Ok v) = 0
-status_of (Err e) = exit_status e
+-- After a page comes the whole line of the fault, with its exit status. If the page failed while the line was written, a
+-- prefix of the line comes, and the status is 3.
+abbrev pub EndsIn : Page → ToolFault → Page → ℕ → Type 0
+EndsIn old e new status =
+    (Wrote written faults old (fault_line e) new × (status ≡ exit_status e))
+    ⊎ (Broke written faults old (fault_line e) new × (status ≡ 3))
 
--- what was written, or the line of the fault in its place
-abbrev pub IsTextOf : {V : Type 0} → Result V ToolFault → List ℕ → List ℕ → Type 0
-IsTextOf (Ok v) page text = text ≡ page
-IsTextOf (Err e) page text = IsPrefixOf [] (fault_line e) text
-
--- what was written, followed by the line of the fault if there is one
-abbrev pub IsWholeOf : {V : Type 0} → Result V ToolFault → List ℕ → List ℕ → Type 0
-IsWholeOf (Ok v) page text = text ≡ page
-IsWholeOf (Err e) page text = IsPrefixOf page (fault_line e) text
+-- What was written, with status 0; or what comes after this page for the fault.
+abbrev pub Ends : {V : Type 0} → Result V ToolFault → Page → Page → List ℕ → ℕ → Type 0
+Ends (Ok v) page before text status = (text ≡ page.text) × (status ≡ 0)
+Ends (Err e) page before text status = (after : Page) × EndsIn before e after status × (text ≡ after.text)
 
 module _ (limits : Limits) (longest : ℕ) where
-  -- `check` has this result for the two texts, and this is its line and its status.
+  -- `check` has this result for the two texts, and this is its line and its status. The line of a fault stands alone.
   pub record AnswerOfCheck (i p line : List ℕ) (status : ℕ) : Type 0 where
     pub call : CheckCall (Option (List ℕ)) Page
     pub texts : IsOfTexts i p call
     pub begins_empty : call.out ≡ empty
     pub checks : ChecksFiles limits longest written faults call
-    pub line_is : IsTextOf call.result call.out_after.text line
-    pub status_is : status ≡ status_of call.result
+    pub ends : Ends call.result call.out_after empty line status
 
-  -- `tidy` has this result for the text.
+  -- `tidy` has this result for the text. The line of a fault stands alone.
   pub record AnswerOfTidy (normal : Bool) (input text : List ℕ) (status : ℕ) : Type 0 where
     pub answer : Result Unit ToolFault
     pub left : Option (List ℕ)
     pub page : Page
     pub tidies : TidiesFile limits longest written faults normal (Some input) empty answer left page
-    pub text_is : IsTextOf answer page.text text
-    pub status_is : status ≡ status_of answer
+    pub ends : Ends answer page empty text status
 
-  -- `show` has this result for the text.
+  -- `show` has this result for the text. The line of a fault comes after what was written.
   pub record AnswerOfShow (input text : List ℕ) (status : ℕ) : Type 0 where
     pub answer : Result Unit ToolFault
     pub left : Option (List ℕ)
     pub page : Page
     pub shows : ShowsFile limits longest written faults (Some input) empty answer left page
-    pub text_is : IsWholeOf answer page.text text
-    pub status_is : status ≡ status_of answer
+    pub ends : Ends answer page page text status
 
 -- the line of options that are not allowed
 abbrev pub wrong_line : List ℕ

@@ -5,7 +5,3 @@ use Rattle.std.specs.Prelude.{◌≡◌, ℕ, List, ◌++◌, length, take, drop
 -- text.
 abbrev pub Puts : List ℕ → List ℕ → List ℕ → ℕ → Type 0
 Puts text old new whole = (new ≡ take (length old) text ++ drop (length text) old) × (whole ≡ length text)
-
--- after a text comes a prefix of the line, which is the whole line unless memory runs out
-abbrev pub IsPrefixOf : List ℕ → List ℕ → List ℕ → Type 0
-IsPrefixOf text line all = (begun : List ℕ) × (rest : List ℕ) × (line ≡ begun ++ rest) × (all ≡ text ++ begun)

@@ -1,15 +1,17 @@
 //! What the tool returns for texts in memory: a text and a status.
 
 ghost use Rattle.std.specs.Prelude.{◌≡◌, ◌<◌, ◌^◌, IfSome, unwrap_or};
-ghost use Rattle.pb_tool.specs.contract.Faults.{exit_status, fault_line};
-ghost use Rattle.pb_c.specs.Answers.{AnswerOfCheck, AnswerOfShow, AnswerOfTidy};
-ghost use Rattle.pb_c.specs.Buffer.{IsPrefixOf};
+ghost use Rattle.pb_c.specs.Answers.{AnswerOfCheck, AnswerOfShow, AnswerOfTidy, EndsIn};
+ghost use Rattle.pb_c.specs.declared.page.Page.{Page as APage};
 
 use crate::options::Asked;
 use crate::page::{Page, Text};
-use pb_text::Over;
+use pb_text::{Failed, Over};
 use pb_tool::{ToolFault, check_with_hasher, show, status, tidy_with_hasher, write_fault};
 use std::alloc::Global;
+
+/// The status of a fault whose line could not be stored, the same as if memory ran out.
+const FAILED: u8 = 3;
 
 /// What a call returns.
 #[derive(Drop)]
@@ -92,14 +94,23 @@ pub(crate) fn shown(alloc: Global, text: &[u8], asked: Asked) -> Answer
 }
 
 /// The text of a page, followed by the line of a fault, and the status of the fault. If memory runs out, a prefix of
-/// the line follows.
+/// the line follows, and the status says so.
 fn fault_answer(mut page: Page, fault: &ToolFault) -> Answer
-    ensures text { IsPrefixOf page.text (fault_line fault.now) result.text }
-    ensures status { result.status ≡ exit_status fault.now }
+    ensures { (after : APage) × EndsIn page fault.now after result.status × (result.text ≡ after.text) }
 {
-    let _ = write_fault(fault, &mut page);
+    let status = write_end(&mut page, fault);
     Answer {
         text: page.into_text(),
-        status: status(fault),
+        status,
+    }
+}
+
+/// Writes the line of a fault to a page. Returns the status of the fault, or that memory ran out for its line.
+fn write_end(page: &mut Page, fault: &ToolFault) -> u8
+    ensures { EndsIn page.old fault.now page.new result }
+{
+    match write_fault(fault, page) {
+        Ok(()) => status(fault),
+        Err(Failed) => FAILED,
     }
 }

@@ -1,7 +1,7 @@
 //! What a caller passes in addition to its texts.
 
 ghost use Rattle.std.specs.Prelude.{◌≡◌, ◌<◌, ◌≤◌, ◌⊎◌, ℕ, Option, IfSome, IsSome, None, OnSome};
-ghost use Rattle.pb_c.specs.Options.{AreWrong, IsAsked, longest_of};
+ghost use Rattle.pb_c.specs.Options.{AreWrong, IsAsked, bits_asked, longest_of};
 
 use pb_normal::HashKeys;
 use pb_text::Limits;
@@ -25,7 +25,7 @@ pub struct Options {
     pub key0: u64,
     /// The second of these words.
     pub key1: u64,
-    /// The bits of a coefficient's magnitude, 31 to 127.
+    /// The bits of a coefficient's magnitude, 31 to 127, or 0 for 127.
     pub bits: u32,
 }
 
@@ -43,15 +43,23 @@ impl Options {
         ensures asked { IfSome result (λ asked. IsAsked self.now asked.longest asked.limits) }
         ensures wrong { result ≡ None → AreWrong self.now }
     {
-        if self.bits < 31 || self.bits > 127 {
+        let bits = bits(self.bits);
+        if bits < 31 || bits > 127 {
             return None;
         }
         Some(Asked {
             longest: longest(self.longest),
-            limits: limits_of(self.bits),
+            limits: limits_of(bits),
             keys: keys(self.key0, self.key1),
         })
     }
+}
+
+/// The bits of a magnitude, where 0 stands for 127.
+fn bits(bits: u32) -> u32
+    ensures { result ≡ bits_asked bits }
+{
+    if bits == 0 { 127 } else { bits }
 }
 
 /// The limit on statements, if there is one.

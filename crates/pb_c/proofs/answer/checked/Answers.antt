@@ -11,8 +11,7 @@ returns-in-Ok c = record {
   );
   begins_empty = c.new-page.ensures;
   checks = c.in-Ok.ensures.checks;
-  line_is = c.into_text.ensures;
-  status_is = refl;
+  ends = (c.into_text.ensures, refl);
 }
 
 pub returns-in-Err : goal.returns-in-Err
@@ -24,6 +23,5 @@ returns-in-Err c = record {
   );
   begins_empty = c.new-page.ensures;
   checks = c.in-Err.ensures.checks;
-  line_is = rw c.new.ensures at c.fault_answer.ensures.text;
-  status_is = c.fault_answer.ensures.status;
+  ends = rw c.new.ensures at c.fault_answer.ensures;
 }

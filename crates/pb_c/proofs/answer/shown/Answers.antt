@@ -8,8 +8,7 @@ returns-in-Ok c = record {
   left = _;
   page = c.show.new.out;
   shows = of_show c.args.asked.limits _ c.args.text.now _ c.new-page.result c.show.new.out (Ok tt) _ (whole c.new-input.result c.args.text c.new-input.ensures.inner c.new-input.ensures.shown) c.new-page.ensures c.in-Ok.ensures.shows;
-  text_is = c.into_text.ensures;
-  status_is = refl;
+  ends = (c.into_text.ensures, refl);
 }
 
 pub returns-in-Err : goal.returns-in-Err
@@ -18,6 +17,5 @@ returns-in-Err c = record {
   left = _;
   page = c.show.new.out;
   shows = of_show c.args.asked.limits _ c.args.text.now _ c.new-page.result c.show.new.out (Err c.in-Err.fault) _ (whole c.new-input.result c.args.text c.new-input.ensures.inner c.new-input.ensures.shown) c.new-page.ensures c.in-Err.ensures.shows;
-  text_is = c.fault_answer.ensures.text;
-  status_is = c.fault_answer.ensures.status;
+  ends = c.fault_answer.ensures;
 }

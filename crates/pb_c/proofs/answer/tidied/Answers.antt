@@ -8,8 +8,7 @@ returns-in-Ok c = record {
   left = _;
   page = c.tidy_with_hasher.new.out;
   tidies = of_tidy c.args.asked.limits _ c.args.normal c.args.text.now _ c.new-page.result c.tidy_with_hasher.new.out (Ok tt) _ (whole c.new-input.result c.args.text c.new-input.ensures.inner c.new-input.ensures.shown) c.new-page.ensures c.in-Ok.ensures.tidies;
-  text_is = c.into_text.ensures;
-  status_is = refl;
+  ends = (c.into_text.ensures, refl);
 }
 
 pub returns-in-Err : goal.returns-in-Err
@@ -18,6 +17,5 @@ returns-in-Err c = record {
   left = _;
   page = c.tidy_with_hasher.new.out;
   tidies = of_tidy c.args.asked.limits _ c.args.normal c.args.text.now _ c.new-page.result c.tidy_with_hasher.new.out (Err c.in-Err.fault) _ (whole c.new-input.result c.args.text c.new-input.ensures.inner c.new-input.ensures.shown) c.new-page.ensures c.in-Err.ensures.tidies;
-  text_is = rw c.new.ensures at c.fault_answer.ensures.text;
-  status_is = c.fault_answer.ensures.status;
+  ends = rw c.new.ensures at c.fault_answer.ensures;
 }
