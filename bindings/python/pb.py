@@ -31,7 +31,8 @@ class Options(ctypes.Structure):
 
 
 class Refusal(Exception):
-    """A call failed: its status, and the text that it wrote, which ends in the line of the fault."""
+    """A call failed: its status, and the text that it wrote. It ends in the line of the fault, or in a prefix of that line if memory ran
+    out for it."""
 
     def __init__(self, status, text):
         super().__init__(text.decode("utf-8", "replace").rstrip("\n"))

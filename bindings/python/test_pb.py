@@ -31,10 +31,17 @@ class Calls(unittest.TestCase):
         self.assertEqual(str(it.exception), "proof: line 1 column 1: input ended")
 
     def test_misuse(self):
-        for bits in (0, 30, 128, 2**32 - 1):
+        for bits in (1, 30, 128, 2**32 - 1):
             with self.assertRaises(pb.Refusal) as it:
                 pb.check(b"", b"", pb.options(bits=bits))
             self.assertEqual(it.exception.status, pb.MISUSE)
+
+    def test_no_bits_are_127(self):
+        text = b"* #variable= 1 #constraint= 1\n+%d x1 >= 1 ;\n"
+        self.assertEqual(pb.tidy(text % (2**127 - 1), opts=pb.options(bits=0)), text % (2**127 - 1))
+        with self.assertRaises(pb.Refusal) as it:
+            pb.tidy(text % 2**127, opts=pb.options(bits=0))
+        self.assertEqual(it.exception.status, pb.REFUSED)
 
     def test_long_text(self):
         instance = b"* #variable= 1 #constraint= 1000\n" + b"+1 x1 >= 1 ;\n" * 1000

@@ -65,7 +65,7 @@ pub fn version() -> u32 {
 pub struct Options {
     /// The most bytes of one statement, or 0 for no such limit.
     pub longest: u64,
-    /// The bits of the magnitude of a coefficient, 31 to 127.
+    /// The bits of the magnitude of a coefficient, 31 to 127, or 0 for 127.
     pub bits: u32,
     /// The keys of the hashes of names. No answer depends on them.
     pub keys: [u64; 2],
@@ -116,7 +116,7 @@ pub enum Status {
 #[derive(Clone, PartialEq, Eq)]
 pub struct Refusal {
     pub status: Status,
-    /// What the call wrote. It ends in the line of the fault.
+    /// What the call wrote. It ends in the line of the fault, or in a prefix of that line if memory ran out for it.
     pub text: Vec<u8>,
 }
 

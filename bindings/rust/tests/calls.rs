@@ -67,6 +67,19 @@ fn wrong_options_are_misuse() {
 }
 
 #[test]
+fn no_bits_are_127() {
+    let options = Options {
+        bits: 0,
+        ..Options::default()
+    };
+    let texts = (example("refutation.opb"), example("refutation.pbp"));
+    let verdict = check_with(&texts.0, &texts.1, &options).expect("a verdict");
+    assert!(verdict.is_unsat());
+    let refusal = check_with(b"", b"", &options).expect_err("a refusal");
+    assert_eq!(refusal.status, Status::Refused);
+}
+
+#[test]
 fn a_text_longer_than_the_first_room_comes_whole() {
     let mut instance = b"* #variable= 1 #constraint= 1000\n".to_vec();
     for _ in 0..1000 {
