@@ -144,20 +144,39 @@ fn report_checker(
     cut: Cut,
     reported: &mut Page,
 ) -> Result<(), Broken> {
-    let end = feed_to_end(checker, proof, cut);
+    let mut is_stored = false;
+    let end = feed_to_end(checker, proof, cut, &mut is_stored);
     report_result(alloc, checker, end, reported)?;
+    if is_stored {
+        write_bytes(b"stored after a line\n", reported)?;
+    }
     report_again(checker, end, reported)?;
     Ok(())
 }
 
-/// Feeds a proof piece by piece up to the first fault, and finishes it if there was none.
-fn feed_to_end(checker: &mut Checker, proof: &[u8], cut: Cut) -> Result<Verdict, CheckFault> {
+/// Feeds a proof piece by piece up to the first fault, and finishes it if there was none. Notes whether something was
+/// stored after a whole line, with which each statement ends.
+fn feed_to_end(
+    checker: &mut Checker,
+    proof: &[u8],
+    cut: Cut,
+    is_stored: &mut bool,
+) -> Result<Verdict, CheckFault> {
     let (prefix, rest) = proof.split_at(cut.first.min(proof.len()));
-    let _used = checker.feed(prefix)?;
+    feed_piece(checker, prefix, is_stored)?;
     for piece in rest.chunks(cut.size.max(1)) {
-        let _used = checker.feed(piece)?;
+        feed_piece(checker, piece, is_stored)?;
     }
     checker.finish()
+}
+
+/// Feeds a piece, and notes whether something is stored after it, if it ends with a whole line.
+fn feed_piece(checker: &mut Checker, piece: &[u8], is_stored: &mut bool) -> Result<(), CheckFault> {
+    let _used = checker.feed(piece)?;
+    if piece.ends_with(b"\n") && checker.held() > 0 {
+        *is_stored = true;
+    }
+    Ok(())
 }
 
 /// Makes the calls of a finished checker again. They must return its fault; or use no byte of a piece, and return the
