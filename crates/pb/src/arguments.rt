@@ -27,7 +27,15 @@ pub(crate) fn job_of(alloc: Global, words: &[String]) -> Result<Job, WordsFault>
     ensures { IfOk result HasRanges }
 {
     let texts: Vec<&str> = words.iter().map(|word| word.as_str()).collect(alloc)?;
+    if is_help_of_help(texts.as_slice()) {
+        return read_words(alloc, &["pb", "help", "help"]);
+    }
     read_words(alloc, texts.as_slice())
+}
+
+/// Whether the arguments are `help --help`. clap knows no flag of `help`, so they are read as `help help`.
+fn is_help_of_help(words: &[&str]) -> bool {
+    words.len() == 3 && words[1] == "help" && (words[2] == "--help" || words[2] == "-h")
 }
 
 /// Reports on arguments that give no job, and returns the exit status.

@@ -11,7 +11,8 @@ use std::io::{self, BufReader, BufWriter, Read, Write};
 use std::random::RandomSource;
 use std::time::Clock;
 
-/// Checks a proof of an instance, and writes on standard error what is asked for.
+/// Checks a proof of an instance, and writes on standard error what is asked for. The progress line ends before the
+/// verdict is written.
 pub(crate) fn check_asked<R, I, E>(
     rt: &R,
     texts: (I, I),
@@ -26,27 +27,6 @@ where
     E: Write,
     requires { IfSome longest (λ n. 0 < n) }
 {
-    let (instance, proof) = texts;
-    if !asked.stats && !asked.progress {
-        return check_over(rt, instance, proof, &mut Unwatched, longest, limits);
-    }
-    let mut watching = Watching::new(rt, errors, asked);
-    let done = check_over(rt, instance, proof, &mut watching, longest, limits);
-    watching.end();
-    done
-}
-
-/// Checks the proof from one reader against the instance from another.
-fn check_over<R: Print + RandomSource + AllocGlobal, I: Read + Drop, P: Read + Drop, V: Watch>(
-    rt: &R,
-    instance: I,
-    proof: P,
-    watch: &mut V,
-    longest: Option<u64>,
-    limits: Limits,
-) -> Result<(), ToolFault>
-    requires { IfSome longest (λ n. 0 < n) }
-{
     let Ok(mut out) = BufWriter::with_capacity(
         rt.alloc(),
         CAPACITY,
@@ -54,6 +34,30 @@ fn check_over<R: Print + RandomSource + AllocGlobal, I: Read + Drop, P: Read + D
     ) else {
         return Err(ToolFault::Memory(Input::Instance));
     };
+    if !asked.stats && !asked.progress {
+        let done = check_over(rt, texts, &mut out, &mut Unwatched, longest, limits);
+        return flushed(done, &mut out);
+    }
+    let mut watching = Watching::new(rt, errors, asked);
+    let done = check_over(rt, texts, &mut out, &mut watching, longest, limits);
+    watching.end_line();
+    let done = flushed(done, &mut out);
+    watching.end();
+    done
+}
+
+/// Checks the proof from one reader against the instance from another. The verdict is not flushed yet.
+fn check_over<R: RandomSource + AllocGlobal, I: Read + Drop, O: Write, V: Watch>(
+    rt: &R,
+    texts: (I, I),
+    out: &mut O,
+    watch: &mut V,
+    longest: Option<u64>,
+    limits: Limits,
+) -> Result<(), ToolFault>
+    requires { IfSome longest (λ n. 0 < n) }
+{
+    let (instance, proof) = texts;
     let Ok(instance) = BufReader::with_capacity(rt.alloc(), CAPACITY, instance) else {
         return Err(ToolFault::Memory(Input::Instance));
     };
@@ -65,10 +69,10 @@ fn check_over<R: Print + RandomSource + AllocGlobal, I: Read + Drop, P: Read + D
         keys_of(rt),
         &mut Over::new(instance),
         &mut Over::new(proof),
-        &mut Over::new(&mut out),
+        &mut Over::new(out),
         watch,
         longest,
         limits,
     );
-    flushed(unit_of(checked), &mut out)
+    unit_of(checked)
 }

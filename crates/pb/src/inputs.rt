@@ -1,13 +1,16 @@
 //! The files of a job, or standard input.
 
+use crate::asked::named;
+use crate::failure::Failure;
 use crate::origin::{Origin, is_standard};
 use crate::until::UntilEnd;
-use pb_tool::{Input, ToolFault};
+use pb_tool::Input;
+use std::fs;
+use std::io::Read;
 use std::rt::Files;
-use std::{fs, io};
 
 /// A reader of a file or of standard input.
-pub(crate) type Opened<R> = UntilEnd<Origin<<R as Files>::File, <R as io::Input>::Reader>>;
+pub(crate) type Opened<R, S> = UntilEnd<Origin<<R as Files>::File, S>>;
 
 /// The name of a file, or `None` for standard input.
 pub(crate) fn path_of(file: &Option<String>) -> Option<&str> {
@@ -18,33 +21,30 @@ pub(crate) fn path_of(file: &Option<String>) -> Option<&str> {
 }
 
 /// Opens a file for reading, or takes standard input if no file is named.
-pub(crate) fn opened<R: Files + io::Input>(
+pub(crate) fn opened<R: Files, S: Read + Copy>(
     rt: &R,
+    standard: S,
     path: Option<&str>,
     input: Input,
-) -> Result<UntilEnd<Origin<R::File, R::Reader>>, ToolFault> {
+) -> Result<UntilEnd<Origin<R::File, S>>, Failure> {
     match path {
         Some(path) => match fs::open(rt, path) {
             Ok(file) => Ok(UntilEnd::new(Origin::File(file))),
-            Err(_) => Err(ToolFault::Open(input)),
+            Err(reason) => Err(Failure::unopened(input, reason)),
         },
-        None => Ok(UntilEnd::new(Origin::Standard(rt.reader()))),
+        None => Ok(UntilEnd::new(Origin::Standard(standard))),
     }
 }
 
 /// Opens an instance and a proof of it. Both are opened before either is read.
-pub(crate) fn open_both<R: Files + io::Input>(
+pub(crate) fn open_both<R: Files, S: Read + Copy>(
     rt: &R,
+    standard: S,
     instance: &str,
     proof: Option<&str>,
-) -> Result<(Opened<R>, Opened<R>), ToolFault> {
-    let path = if is_standard(instance) {
-        None
-    } else {
-        Some(instance)
-    };
-    let instance = opened(rt, path, Input::Instance)?;
-    let proof = opened(rt, proof, Input::Proof)?;
+) -> Result<(Opened<R, S>, Opened<R, S>), Failure> {
+    let instance = opened(rt, standard, named(instance), Input::Instance)?;
+    let proof = opened(rt, standard, proof, Input::Proof)?;
     Ok((instance, proof))
 }
 

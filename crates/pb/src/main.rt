@@ -5,7 +5,10 @@ ghost use Rattle.pb_words.specs.Words.{HasRanges};
 
 mod answers;
 mod arguments;
+mod asked;
 mod checking;
+mod failure;
+mod hints;
 mod inputs;
 mod origin;
 mod output;
@@ -17,14 +20,16 @@ mod watching;
 
 use crate::answers::{USAGE, answer_fault};
 use crate::arguments::{answer_no_words, answer_words, job_of, words_of};
+use crate::asked::{is_quiet, reads_one_input_twice};
 use crate::checking::check_asked;
+use crate::failure::Failure;
+use crate::hints::{write_hint, write_waiting};
 use crate::inputs::{open_both, opened, path_of, size_of};
-use crate::origin::is_standard;
 use crate::texts::{show_over, tidy_over};
 use crate::tracing::trace_over;
 use crate::watching::Asked;
-use pb_tool::{Input, Job, ToolFault, limits_of};
-use std::io::{self, IsTerminal, Write};
+use pb_tool::{Input, Job, limits_of};
+use std::io::{self, IsTerminal, Read, Write};
 use std::process::ExitCode;
 use std::random::RandomSource;
 use std::rt::{Env, Files};
@@ -47,18 +52,19 @@ For more information, try '--help'.
 ";
 
 fn main(rt: HostRuntime) -> ExitCode {
-    ExitCode::from(run(&rt, &mut rt.stderr()))
+    ExitCode::from(run(&rt, rt.stdin(), &mut rt.stderr()))
 }
 
 /// Reads the arguments, runs their job and returns the exit status.
-fn run<R, E>(rt: &R, errors: &mut E) -> u8
+fn run<R, S, E>(rt: &R, standard: S, errors: &mut E) -> u8
 where
-    R: Env + Files + io::Input + Print + RandomSource + Clock + AllocGlobal,
+    R: Env + Files + Print + RandomSource + Clock + AllocGlobal,
+    S: Read + IsTerminal + Copy,
     E: Write + IsTerminal,
 {
     match words_of(rt) {
         Ok(words) => match job_of(rt.alloc(), words.as_slice()) {
-            Ok(job) => answer_job(rt, &job, errors),
+            Ok(job) => answer_job(rt, standard, &job, errors),
             Err(fault) => answer_words(rt, words.as_slice(), &fault, errors),
         },
         Err(error) => answer_no_words(rt, &error, errors),
@@ -66,9 +72,10 @@ where
 }
 
 /// Runs a job and returns the exit status.
-fn answer_job<R, E>(rt: &R, job: &Job, errors: &mut E) -> u8
+fn answer_job<R, S, E>(rt: &R, standard: S, job: &Job, errors: &mut E) -> u8
 where
-    R: Files + io::Input + Print + RandomSource + Clock + AllocGlobal,
+    R: Files + Print + RandomSource + Clock + AllocGlobal,
+    S: Read + IsTerminal + Copy,
     E: Write + IsTerminal,
     requires { HasRanges job.now }
 {
@@ -76,26 +83,18 @@ where
         let _ = errors.write_all(twice_of(job));
         return USAGE;
     }
-    match do_job(rt, job, errors) {
-        Ok(()) => 0,
-        Err(fault) => answer_fault(&fault, errors),
+    if !is_quiet(job) && standard.is_terminal() {
+        write_waiting(job, errors);
     }
-}
-
-/// Whether a job reads both its instance and its proof from standard input.
-fn reads_one_input_twice(job: &Job) -> bool {
-    match job {
-        Job::Check {
-            instance,
-            proof,
-            ..
+    match do_job(rt, standard, job, errors) {
+        Ok(()) => 0,
+        Err(failure) => {
+            let status = answer_fault(&failure.fault, errors);
+            if !is_quiet(job) {
+                write_hint(rt, job, &failure, errors);
+            }
+            status
         }
-        | Job::Trace {
-            instance,
-            proof,
-            ..
-        } => is_standard(instance.as_str()) && path_of(proof).is_none(),
-        _ => false,
     }
 }
 
@@ -108,9 +107,10 @@ fn twice_of(job: &Job) -> &'static [u8] {
 }
 
 /// Opens the files of a job and runs it.
-fn do_job<R, E>(rt: &R, job: &Job, errors: &mut E) -> Result<(), ToolFault>
+fn do_job<R, S, E>(rt: &R, standard: S, job: &Job, errors: &mut E) -> Result<(), Failure>
 where
-    R: Files + io::Input + Print + RandomSource + Clock + AllocGlobal,
+    R: Files + Print + RandomSource + Clock + AllocGlobal,
+    S: Read + IsTerminal + Copy,
     E: Write + IsTerminal,
     requires { HasRanges job.now }
 {
@@ -121,14 +121,9 @@ where
             bits,
             ..
         } => {
-            let input = opened(rt, path_of(file), Input::File)?;
-            show_over(
-                rt.alloc(),
-                input,
-                io::writer(rt),
-                *longest,
-                limits_of(*bits),
-            )
+            let input = opened(rt, standard, path_of(file), Input::File)?;
+            let limits = limits_of(*bits);
+            show_over(rt.alloc(), input, io::writer(rt), *longest, limits)?;
         }
         Job::Tidy {
             normal,
@@ -136,13 +131,10 @@ where
             longest,
             bits,
             ..
-        } => tidy_over(
-            rt,
-            opened(rt, path_of(file), Input::File)?,
-            *normal,
-            *longest,
-            limits_of(*bits),
-        ),
+        } => {
+            let input = opened(rt, standard, path_of(file), Input::File)?;
+            tidy_over(rt, input, *normal, *longest, limits_of(*bits))?;
+        }
         Job::Check {
             instance,
             proof,
@@ -158,8 +150,8 @@ where
                 is_terminal: errors.is_terminal(),
                 bytes: size_of(rt, path_of(proof)),
             };
-            let texts = open_both(rt, instance.as_str(), path_of(proof))?;
-            check_asked(rt, texts, *longest, limits_of(*bits), asked, errors)
+            let texts = open_both(rt, standard, instance.as_str(), path_of(proof))?;
+            check_asked(rt, texts, *longest, limits_of(*bits), asked, errors)?;
         }
         Job::Trace {
             instance,
@@ -168,15 +160,9 @@ where
             bits,
             ..
         } => {
-            let (instance, proof) = open_both(rt, instance.as_str(), path_of(proof))?;
-            trace_over(
-                rt,
-                instance,
-                proof,
-                io::writer(rt),
-                *longest,
-                limits_of(*bits),
-            )
+            let texts = open_both(rt, standard, instance.as_str(), path_of(proof))?;
+            trace_over(rt, texts, io::writer(rt), *longest, limits_of(*bits))?;
         }
     }
+    Ok(())
 }

@@ -17,10 +17,9 @@ const LINE: usize = 256;
 
 /// Checks the proof from one reader against the instance from another, and writes a line for each statement. What was
 /// written is flushed before more of the proof is read.
-pub(crate) fn trace_over<R, I, P, O>(
+pub(crate) fn trace_over<R, I, O>(
     rt: &R,
-    instance: I,
-    proof: P,
+    texts: (I, I),
     out: O,
     longest: Option<u64>,
     limits: Limits,
@@ -28,10 +27,10 @@ pub(crate) fn trace_over<R, I, P, O>(
 where
     R: RandomSource + AllocGlobal,
     I: Read + Drop,
-    P: Read + Drop,
     O: Write + Drop,
     requires { IfSome longest (λ n. 0 < n) }
 {
+    let (instance, proof) = texts;
     let out = match BufWriter::with_capacity(rt.alloc(), CAPACITY, UntilFault::new(out)) {
         Ok(out) => RefCell::new(out),
         Err(_) => return Err(ToolFault::Memory(Input::Instance)),

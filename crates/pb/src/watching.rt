@@ -31,6 +31,7 @@ pub(crate) struct Watching<'a, R, E> {
     errors: &'a mut E,
     asked: Asked,
     stats: Stats,
+    start: Option<Instant>,
     last: Option<Instant>,
     is_written: bool,
 }
@@ -38,24 +39,46 @@ pub(crate) struct Watching<'a, R, E> {
 impl<'a, R: Clock, E: Write> Watching<'a, R, E> {
     /// Before any statement.
     pub(crate) fn new(clock: &'a R, errors: &'a mut E, asked: Asked) -> Self {
+        let start = Instant::now(clock).ok();
         Watching {
             clock,
             errors,
             asked,
             stats: Stats::new(),
-            last: Instant::now(clock).ok(),
+            start,
+            last: start,
             is_written: false,
         }
     }
 
-    /// Ends the line, and writes the counts if they are asked for. If standard error cannot be written, nothing reports
-    /// it.
-    pub(crate) fn end(&mut self) {
+    /// Ends the line, so that what follows on the same terminal begins a new one. If standard error cannot be written,
+    /// nothing reports it.
+    pub(crate) fn end_line(&mut self) {
         if self.is_written && self.asked.is_terminal {
             let _ = self.errors.write_all(b"\n");
         }
-        if self.asked.stats {
-            write_stats(&self.stats, self.errors);
+    }
+
+    /// Writes the counts and the seconds if they are asked for. If standard error cannot be written, nothing reports it.
+    pub(crate) fn end(&mut self) {
+        if !self.asked.stats {
+            return;
+        }
+        write_stats(&self.stats, self.errors);
+        if let Some(millis) = self.millis() {
+            let (seconds, rest) = (millis / 1000, millis % 1000);
+            let _ = write!(self.errors, "seconds: {seconds}.{rest:03}\n");
+        }
+    }
+
+    /// The milliseconds since the check began, if the system has a clock.
+    fn millis(&self) -> Option<u128> {
+        match self.start {
+            Some(start) => match start.elapsed(self.clock) {
+                Ok(passed) => Some(passed.as_millis()),
+                Err(_) => None,
+            },
+            None => None,
         }
     }
 
@@ -80,27 +103,31 @@ impl<'a, R: Clock, E: Write> Watching<'a, R, E> {
         true
     }
 
-    /// Writes how far the check is.
+    /// Writes how far the check is. On a terminal the line may be one or two bytes shorter than the one before it, so it
+    /// ends in two blanks: the bytes so far never decrease, so a rate with fewer digits comes with more seconds.
     fn write_line(&mut self)
         ensures { self.new.stats ≡ self.old.stats }
     {
         let (bytes, statements) = (self.stats.bytes(), self.stats.statements());
         let (begin, end) = if self.asked.is_terminal {
-            ("\r", "")
+            ("\r", "  ")
         } else {
             ("", "\n")
         };
+        let millis = self.millis().unwrap_or(0);
+        let (seconds, tenths) = (millis / 1000, millis / 100 % 10);
+        let rate = bytes as u128 * 1000 / millis.max(1);
         let _ = match self.asked.bytes {
             Some(all) => {
                 let percent = bytes as u128 * 100 / all.max(1) as u128;
                 write!(
                     self.errors,
-                    "{begin}proof: {bytes} of {all} bytes, {percent} %, {statements} statements{end}"
+                    "{begin}proof: {bytes} of {all} bytes, {percent} %, {statements} statements, {seconds}.{tenths} s, {rate} bytes/s{end}"
                 )
             }
             None => write!(
                 self.errors,
-                "{begin}proof: {bytes} bytes, {statements} statements{end}"
+                "{begin}proof: {bytes} bytes, {statements} statements, {seconds}.{tenths} s, {rate} bytes/s{end}"
             ),
         };
         self.is_written = true;
