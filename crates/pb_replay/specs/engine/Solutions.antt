@@ -12,6 +12,10 @@ pub record AreTotal (given : List (Option Bool)) (names : ℕ) (values : List Bo
   pub count : length values ≡ names
   pub each : (k : ℕ) → k < names → get_or given k None ≡ Some (get_or values k false)
 
+-- each of this many names has a value
+abbrev pub AreValued : List (Option Bool) → ℕ → Type 0
+AreValued given names = (k : ℕ) → k < names → IsSome (get_or given k None)
+
 -- the values, if each of this many names has one
 abbrev pub Given : List (Option Bool) → ℕ → Answer (List Bool)
 Given given names = each_below (λ k. IsSome (get_or given k None)) names NotTotal (some (AreTotal given names) gives)

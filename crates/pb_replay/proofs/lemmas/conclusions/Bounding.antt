@@ -93,12 +93,6 @@ module _ (r : Running) (b : ℤ) where
   objective-ok f goal (Err e) made (inl memory) = inl memory
   objective-ok f goal (Err e) made (inr (is, none)) = inr (λ o has. let k = form-of (largest r.limits) r.names (problem_of r).objective least b goal made o has in inl (k.0, (goal, k.1, inr (none, let to : Fault → Result Unit Fault = λ d. Err d in ap to is))))
 
-  pub objective-err : (f : Option Form) (e : Fault) → (e ≡ Memory) ⊎ HasObjective (largest r.limits) r.names (problem_of r).objective least b (Err e) → ObjectiveShown r f b (Err e)
-  objective-err f e (inl memory) = inl memory
-  objective-err f e (inr (inl (p, is, inl (fits, (g, made, same))))) = ok_or_err (sym same)
-  objective-err f e (inr (inl (p, is, inr (late, same)))) = inr (λ o has. inr (subst (λ (ts : List Term). Fits (largest r.limits) (objective_with ts b) → ⊥) (same_Some _ _ (sym is ∙ has)) late, err-moved same))
-  objective-err f e (inr (inr (none, same))) = inr (λ o has. absurd (none o has))
-
   module _ (id : Option ℤ) where
     pub lower-late : (IsBelow r.best b → ⊥) → Lower r (Finite b) id (Err NotBound)
     lower-late late = inr (λ logged o best has. inr (λ all. late (below-back logged r.best b best all), refl))
@@ -169,10 +163,6 @@ module _ (old m : Running) (lower : Bound) (id : Option ℤ) (upper : Bound) (gi
   both-ok named proper kept low (Err e) (inl memory) = inl memory
   both-ok named proper kept low (Err e) (inr up) = inr (λ logged o best has.
       inr (low logged o best has, subst (λ (v : Problem). upper_of v logged upper given (Err e)) (same_problem old m proper kept) (up logged (subst (λ (x : Option ℤ). IsBest logged x) (sym named.best) best))))
-
-  pub both-err : (e : Fault) → Lower old lower id (Err e) → Both old lower id upper given (Err e)
-  both-err e (inl memory) = inl memory
-  both-err e (inr low) = inr (λ logged o best has. inl (low logged o best has))
 
 module _ (old m new : Running) (lower : Bound) (id : Option ℤ) (upper : Bound) (given : Option (List NumberedLiteral)) (written : Option (List Literal)) (numbers : given ≡ option_map (numbered old.names) written) (o : List Term) (has : (problem_of old).objective ≡ Some o) where
   pub bounds-ok : HasNamed [] old m → new.engine.forms ≡ m.engine.forms → new.names ≡ m.names → new.best ≡ m.best → new.next ≡ Closing → new.concluded ≡ Some (verdict.Bounds lower upper) → Both old lower id upper given (Ok tt) → GoesAt old (Conclude (Bounds lower id upper written)) (Ok tt) new

@@ -1,5 +1,5 @@
 use Rattle.std.proofs.Common.{◌≡◌, ◌<◌, ℕ, false, length, get_or, Some, None}
-use Rattle.pb_replay.proofs.state.solution.valued.Given as goal
+use Rattle.pb_replay.proofs.state.solution.listed.Given as goal
 
 -- each name so far has its value
 abbrev pub invariant-loop-number : goal.invariant-loop-number
