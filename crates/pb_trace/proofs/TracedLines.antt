@@ -26,7 +26,7 @@ module _ {S : Type 0} (contents : S → Option (List ℕ)) (faults : S → ℕ) 
       let same : mid ≡ old = first.ended h in
       stays calls mid new (subst (λ (x : Tracing S). IsErr x.end) (sym same) h) rest ∙ same
   stays (Rejected m r f ∷ calls) old new h (mid, first, rest) =
-      let same : mid ≡ old = first h in
+      let same : mid ≡ old = first.ended h in
       stays calls mid new (subst (λ (x : Tracing S). IsErr x.end) (sym same) h) rest ∙ same
 
   failed_stays : (calls : List Call) (old new : Tracing S) (f : ToolFault) → old.end ≡ Err f → new.end ≡ Ok tt → GotEach (TracesCall contents faults) old calls new → ⊥

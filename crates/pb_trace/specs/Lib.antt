@@ -1,4 +1,5 @@
 pub mod Changes
 pub mod Counted
 pub mod Laws
+pub mod Rejected
 pub mod Traced

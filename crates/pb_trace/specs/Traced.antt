@@ -14,10 +14,12 @@ use Rattle.pb_normal.specs.meaning.Form.{Form}
 use Rattle.pb_replay.specs.contract.ReplayModel.{Replaying}
 use Rattle.pb_replay.specs.meaning.Replay.{place}
 use Rattle.pb_tool.specs.contract.Watched.{Call, Accepted, Rejected}
+use Rattle.pb_tool.specs.declared.CheckFault.{CheckFault}
 use Rattle.pb_tool.specs.declared.Input.TheVariants.{Proof}
 use Rattle.pb_tool.specs.declared.ToolFault.{ToolFault}
 use Rattle.pb_tool.specs.declared.ToolFault.TheVariants.{Memory as NoMemory, Write as NotWritten}
 use Rattle.pb_trace.specs.Changes.{change_bytes}
+use Rattle.pb_trace.specs.Rejected.{IsWrong, Rejects}
 use Rattle.pb_trace.specs.declared.broken.Broken.{Broken}
 use Rattle.pb_trace.specs.declared.broken.Broken.TheVariants.{Memory, Write}
 use Rattle.pb_trace.specs.declared.stored.Stored.{Stored}
@@ -127,6 +129,14 @@ module _ {S : Type 0} (contents : S → Option (List ℕ)) (faults : S → ℕ) 
     pub stored : old.end ≡ Ok tt → new.end ≡ Ok tt → new.stored ≡ stored_after (extended old.stored replay.live) read.event
     pub ended : IsErr old.end → new ≡ old
 
+  -- What a rejected statement adds: its line, and lines that begin with two spaces. Nothing is written if memory ran out
+  -- for the statement, as it may be right then.
+  pub record ShowsRejection (old : Tracing S) (read : Spanned Statement) (replay : Replaying) (fault : CheckFault) (new : Tracing S) : Type 0 where
+    pub text : IsWrong fault → old.end ≡ Ok tt → Rejects contents faults old.out replay.names read new.end new.out
+    pub silent : (IsWrong fault → ⊥) → new ≡ old
+    pub stored : new.stored ≡ old.stored
+    pub ended : IsErr old.end → new ≡ old
+
   abbrev pub TracesCall : Tracing S → Call → Tracing S → Type 0
   TracesCall old (Accepted read replay) new = ShowsLine old read replay new
-  TracesCall old (Rejected read replay fault) new = IsErr old.end → new ≡ old
+  TracesCall old (Rejected read replay fault) new = ShowsRejection old read replay fault new

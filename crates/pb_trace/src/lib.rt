@@ -7,6 +7,7 @@ mod line;
 mod pol;
 mod propagation;
 mod reasons;
+mod rejected;
 mod stats;
 mod stored;
 mod trace;

@@ -1,9 +1,8 @@
 //! Propagation with reasons, over all constraints in turn. It is slow, and runs once, after a rejection.
 
-use crate::broken::Broken;
 use crate::stored::Stored;
 use pb_normal::{Entry, Normal};
-use std::alloc::Global;
+use std::alloc::{AllocError, Global};
 
 /// What forces a literal.
 #[derive(Clone, Copy)]
@@ -35,7 +34,7 @@ pub(crate) struct Propagation {
 
 impl Propagation {
     /// No values for so many variables.
-    pub(crate) fn new(alloc: Global, variables: usize) -> Result<Propagation, Broken> {
+    pub(crate) fn new(alloc: Global, variables: usize) -> Result<Propagation, AllocError> {
         let mut values = Vec::with_capacity(alloc, variables)?;
         for _ in 0..variables {
             values.push(None)?;
@@ -61,7 +60,7 @@ impl Propagation {
         variable: usize,
         negated: bool,
         reason: Reason,
-    ) -> Result<(), Broken> {
+    ) -> Result<(), AllocError> {
         if let Some(value) = self.values.get_mut(variable)
             && value.is_none()
         {
@@ -80,7 +79,7 @@ impl Propagation {
         &mut self,
         negation: Option<&Normal>,
         constraints: &[Stored],
-    ) -> Result<(), Broken> {
+    ) -> Result<(), AllocError> {
         for _ in 0..self.values.len().saturating_add(1) {
             let before = self.forced.len();
             self.visit_all(negation, constraints)?;
@@ -95,7 +94,7 @@ impl Propagation {
         &mut self,
         negation: Option<&Normal>,
         constraints: &[Stored],
-    ) -> Result<(), Broken> {
+    ) -> Result<(), AllocError> {
         if let Some(form) = negation {
             self.visit(form, Reason::Negation)?;
         }
@@ -110,7 +109,7 @@ impl Propagation {
     }
 
     /// Makes the literals true that a constraint forces, or notes that it is falsified.
-    fn visit(&mut self, form: &Normal, reason: Reason) -> Result<(), Broken> {
+    fn visit(&mut self, form: &Normal, reason: Reason) -> Result<(), AllocError> {
         if self.conflict.is_some() {
             return Ok(());
         }

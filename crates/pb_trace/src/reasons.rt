@@ -1,23 +1,39 @@
-//! Why a statement was rejected, in lines of a trace.
+//! Why a statement was rejected, as far as the stored constraints show it.
 
-use crate::broken::Broken;
+ghost use Rattle.std.specs.Prelude.{◌≡◌};
+ghost use Rattle.pb_trace.specs.Rejected.{words_of};
+
 use crate::pol::overflowing;
 use crate::propagation::{Propagation, Reason};
 use crate::stored::Constraints;
-use crate::write::{Named, write_change, write_form, write_numbered, write_word};
 use pb_normal::{Names, Normal, NormalFault, Side};
 use pb_proof::{Conclusion, PolWord, Statement};
 use pb_replay::{Fault, Replay};
-use pb_sums::{Linear, Literal, write_count};
-use pb_text::{Limits, Sink, write_bytes};
-use std::alloc::Global;
+use pb_sums::{Linear, Literal};
+use pb_text::Limits;
+use std::alloc::{AllocError, Global};
 
-impl Named for Names {
-    ghost names = { λ n. n };
+/// What is known of a rejection.
+#[derive(Drop)]
+pub(crate) enum Why {
+    /// Nothing.
+    Unknown,
+    /// What propagates.
+    Propagated(Propagated),
+    /// The id of the constraint that a conclusion names.
+    Named(u64),
+    /// The position, counted from 1, of the word of `pol` whose result exceeds the limit.
+    Exceeded(usize),
+}
 
-    fn text_of(&self, number: usize) -> Option<&str> {
-        self.name_of(number)
-    }
+/// What propagates over the live constraints from a negation, or from the literals of a solution.
+#[derive(Drop)]
+pub(crate) struct Propagated {
+    /// The negation of the constraint of a `rup`.
+    pub(crate) negation: Option<Normal>,
+    pub(crate) propagation: Propagation,
+    /// The id of a constraint of the instance that a solution violates.
+    pub(crate) violated: Option<u64>,
 }
 
 /// What the reasons are made of.
@@ -30,7 +46,7 @@ pub(crate) struct Scene<'a> {
 }
 
 /// The names of a replay, each with its number there.
-pub(crate) fn names_of(alloc: Global, replay: &Replay) -> Result<Names, Broken> {
+pub(crate) fn names_of(alloc: Global, replay: &Replay) -> Result<Names, AllocError> {
     let mut names = Names::new(alloc);
     for number in 0..usize::MAX {
         match replay.name_of(number) {
@@ -43,58 +59,69 @@ pub(crate) fn names_of(alloc: Global, replay: &Replay) -> Result<Names, Broken> 
     Ok(names)
 }
 
+/// The words of a `pol`, and none for other statements.
+pub(crate) fn words_in(statement: &Statement) -> &[PolWord]
+    ensures { result.now ≡ words_of statement.now }
+{
+    match statement {
+        Statement::Pol(words) => words.as_slice(),
+        Statement::Header
+        | Statement::F(_)
+        | Statement::Rup(_)
+        | Statement::Soli(_)
+        | Statement::Solx(_)
+        | Statement::Delete(_)
+        | Statement::Output
+        | Statement::Conclude(_)
+        | Statement::End => &[],
+    }
+}
+
 impl Scene<'_> {
-    /// Writes the reasons for a fault of a statement, a line each.
-    pub(crate) fn write<S: Sink>(
-        &mut self,
-        statement: &Statement,
-        fault: Fault,
-        out: &mut S,
-    ) -> Result<(), Broken> {
+    /// What is known of a fault of a statement.
+    pub(crate) fn find(&mut self, statement: &Statement, fault: Fault) -> Result<Why, AllocError> {
         match (fault, statement) {
-            (Fault::NotImplied, Statement::Rup(goal)) => self.write_not_implied(goal, out),
-            (Fault::Overflow, Statement::Pol(words)) => self.write_overflow(words.as_slice(), out),
+            (Fault::NotImplied, Statement::Rup(goal)) => self.not_implied(goal),
+            (Fault::Overflow, Statement::Pol(words)) => Ok(self.overflow(words.as_slice())),
             (
                 Fault::NotContradiction,
                 Statement::Conclude(
                     Conclusion::Unsat(Some(id)) | Conclusion::Bounds { id: Some(id), .. },
                 ),
-            ) => self.write_named(*id, out),
+            ) => Ok(self.named(*id)),
             (
                 Fault::Conflict | Fault::NotTotal(_) | Fault::Violates(_),
                 Statement::Soli(given) | Statement::Solx(given),
-            ) => self.write_solution(given.as_slice(), fault, out),
-            _ => Ok(()),
+            ) => self.solution(given.as_slice(), fault),
+            _ => Ok(Why::Unknown),
         }
     }
 
     /// The negation of the goal, and what it propagates.
-    fn write_not_implied<S: Sink>(&mut self, goal: &Linear, out: &mut S) -> Result<(), Broken> {
+    fn not_implied(&mut self, goal: &Linear) -> Result<Why, AllocError> {
         let side = Side::AtLeast;
         let form = match Normal::from_linear(self.alloc, &mut self.names, goal, side, self.limits) {
             Ok(form) => form,
-            Err(NormalFault::Overflow) => return Ok(()),
-            Err(NormalFault::Memory) => return Err(Broken::Memory),
+            Err(NormalFault::Overflow) => return Ok(Why::Unknown),
+            Err(NormalFault::Memory) => return Err(AllocError),
         };
         if form.degree() < 1 {
-            return Ok(());
+            return Ok(Why::Unknown);
         }
-        let negation = form.negation()?;
-        write_bytes(b"  negation: ", out)?;
-        write_form(&negation, &self.names, out)?;
-        write_bytes(b"\n", out)?;
+        let Ok(negation) = form.negation() else {
+            return Err(AllocError);
+        };
         let mut propagation = Propagation::new(self.alloc, self.names.len())?;
         propagation.propagate(Some(&negation), self.constraints.all())?;
-        self.write_propagation(&propagation, out)
+        Ok(Why::Propagated(Propagated {
+            negation: Some(negation),
+            propagation,
+            violated: None,
+        }))
     }
 
-    /// What the literals of a solution propagate, and then the constraint that is falsified or violated.
-    fn write_solution<S: Sink>(
-        &mut self,
-        given: &[Literal],
-        fault: Fault,
-        out: &mut S,
-    ) -> Result<(), Broken> {
+    /// What the literals of a solution propagate, and the constraint that it violates.
+    fn solution(&mut self, given: &[Literal], fault: Fault) -> Result<Why, AllocError> {
         let mut propagation = Propagation::new(self.alloc, self.names.len())?;
         for literal in given {
             if let Some(number) = self.names.number_of(literal.name.as_str()) {
@@ -105,82 +132,31 @@ impl Scene<'_> {
             }
         }
         propagation.propagate(None, self.constraints.all())?;
-        self.write_propagation(&propagation, out)?;
-        match fault {
-            Fault::Violates(id) => self.write_violated(id, out),
-            _ => Ok(()),
-        }
-    }
-
-    /// The literals that became true, each with its reason, and the constraint that is falsified.
-    fn write_propagation<S: Sink>(
-        &self,
-        propagation: &Propagation,
-        out: &mut S,
-    ) -> Result<(), Broken> {
-        for forced in propagation.forced.as_slice() {
-            write_bytes(b"  ", out)?;
-            write_numbered(forced.variable, forced.negated, &self.names, out)?;
-            write_reason(b" by ", forced.reason, out)?;
-        }
-        match propagation.conflict {
-            Some(Reason::Id(id)) => self.write_stored(b"  falsified ", id, out),
-            Some(reason) => write_reason(b"  falsified: ", reason, out),
-            None => Ok(()),
-        }
-    }
-
-    /// A constraint by its id.
-    fn write_stored<S: Sink>(&self, label: &[u8], id: u64, out: &mut S) -> Result<(), Broken> {
-        if let Some(stored) = self.constraints.find(id) {
-            write_change(label, id, &stored.form, &self.names, out)?;
-            write_bytes(b"\n", out)?;
-        }
-        Ok(())
-    }
-
-    /// A constraint of the instance, which may be deleted.
-    fn write_violated<S: Sink>(&self, id: u64, out: &mut S) -> Result<(), Broken> {
-        if id > self.constraints.loaded().len() as u64 {
-            return Ok(());
-        }
-        self.write_stored(b"  violated ", id, out)
+        let violated = match fault {
+            Fault::Violates(id) if id <= self.constraints.loaded().len() as u64 => Some(id),
+            _ => None,
+        };
+        Ok(Why::Propagated(Propagated {
+            negation: None,
+            propagation,
+            violated,
+        }))
     }
 
     /// The constraint that a conclusion names.
-    fn write_named<S: Sink>(&self, id: i64, out: &mut S) -> Result<(), Broken> {
+    fn named(&self, id: i64) -> Why {
         match self.constraints.find_written(id) {
-            Some((id, _)) => self.write_stored(b"  ", id, out),
-            None => Ok(()),
+            Some((id, _)) => Why::Named(id),
+            None => Why::Unknown,
         }
     }
 
     /// The word of `pol` at which the limit is exceeded.
-    fn write_overflow<S: Sink>(&self, words: &[PolWord], out: &mut S) -> Result<(), Broken> {
+    fn overflow(&self, words: &[PolWord]) -> Why {
         let constraints = self.constraints;
-        let found = overflowing(self.alloc, words, constraints, &self.names, self.limits);
-        let Some(position) = found else {
-            return Ok(());
-        };
-        if let Some(word) = words.get(position.saturating_sub(1)) {
-            write_bytes(b"  word ", out)?;
-            write_count(position as u64, out)?;
-            write_bytes(b": ", out)?;
-            write_word(word, out)?;
-            write_bytes(b"\n", out)?;
+        match overflowing(self.alloc, words, constraints, &self.names, self.limits) {
+            Some(position) => Why::Exceeded(position),
+            None => Why::Unknown,
         }
-        Ok(())
     }
-}
-
-/// What forces a literal, and a line feed.
-fn write_reason<S: Sink>(label: &[u8], reason: Reason, out: &mut S) -> Result<(), Broken> {
-    write_bytes(label, out)?;
-    match reason {
-        Reason::Given => write_bytes(b"the statement", out)?,
-        Reason::Negation => write_bytes(b"the negation", out)?,
-        Reason::Id(id) => write_count(id, out)?,
-    }
-    write_bytes(b"\n", out)?;
-    Ok(())
 }

@@ -1,18 +1,19 @@
 //! `pb trace`: the statements of a check, each with what it adds.
 
 ghost use Rattle.std.specs.Prelude.{◌≡◌, [], OnOk};
+ghost use Rattle.pb_trace.specs.Rejected.{IsWrong, Rejects};
 ghost use Rattle.pb_trace.specs.Traced.{Traces, TracesCall, broken_by, end_of, extended, line_bytes, stored_after};
 
 use crate::broken::Broken;
 use crate::line::write_line;
-use crate::reasons::{Scene, names_of};
+use crate::reasons::{Scene, Why, names_of, words_in};
+use crate::rejected::{write_rejected_line, write_why};
 use crate::stored::Constraints;
-use crate::write::write_read;
 use pb_proof::Statement;
 use pb_replay::{Fault, Replay};
-use pb_text::{Sink, Spanned, write_bytes};
+use pb_text::{Sink, Spanned};
 use pb_tool::{CheckFault, Input, ToolFault, Watch};
-use std::alloc::Global;
+use std::alloc::{AllocError, Global};
 use std::marker::Model;
 
 /// Writes a line for each accepted statement: its position, its canonical text, and each constraint that it adds, as in
@@ -75,28 +76,60 @@ impl<S: Sink> Trace<S> {
         Ok(())
     }
 
-    /// Writes the line of a rejected statement, and the reasons. If memory ran out, the statement may be right.
+    /// Writes the line of a rejected statement, and the reasons. If memory ran out, the statement may be right, and
+    /// nothing is written.
     fn write_rejected(
         &mut self,
         read: &Spanned<Statement>,
         replay: &Replay,
         fault: CheckFault,
-    ) -> Result<(), Broken> {
+    ) -> Result<(), Broken>
+        ensures text { IsWrong fault → Rejects S.contents S.faults self.old.out replay.now.names read.now (end_of (broken_by result)) self.new.out }
+        ensures silent { (IsWrong fault → ⊥) → (self.new ≡ self.old) × (result ≡ Ok tt) }
+        ensures stored { self.new.stored ≡ self.old.stored }
+        ensures end { self.new.end ≡ self.old.end }
+    {
         let CheckFault::Step(_, fault) = fault else {
             return Ok(());
         };
-        if fault == Fault::Memory {
-            return Ok(());
+        match fault {
+            Fault::Memory => Ok(()),
+            _ => self.write_wrong(read, replay, fault),
         }
-        write_read(read, &mut self.out)?;
-        write_bytes(b" -> rejected\n", &mut self.out)?;
+    }
+
+    /// Writes the line of a wrong statement, and the reasons.
+    fn write_wrong(
+        &mut self,
+        read: &Spanned<Statement>,
+        replay: &Replay,
+        fault: Fault,
+    ) -> Result<(), Broken>
+        ensures text { Rejects S.contents S.faults self.old.out replay.now.names read.now (end_of (broken_by result)) self.new.out }
+        ensures stored { self.new.stored ≡ self.old.stored }
+        ensures end { self.new.end ≡ self.old.end }
+    {
+        write_rejected_line(read, &mut self.out)?;
+        let why = self.find_why(&read.event, replay, fault)?;
+        let words = words_in(&read.event);
+        write_why(&why, words, &self.constraints, replay, &mut self.out)?;
+        Ok(())
+    }
+
+    /// What is known of a fault of a statement.
+    fn find_why(
+        &self,
+        statement: &Statement,
+        replay: &Replay,
+        fault: Fault,
+    ) -> Result<Why, AllocError> {
         let mut scene = Scene {
             alloc: self.alloc,
             constraints: &self.constraints,
             names: names_of(self.alloc, replay)?,
             limits: replay.limits(),
         };
-        scene.write(&read.event, fault, &mut self.out)
+        scene.find(statement, fault)
     }
 }
 
