@@ -1,8 +1,8 @@
 /* Calls the library again after memory ran out: again INSTANCE PROOF
 **
 ** For each call it first counts the requests for memory. Then it makes the call once for each request, with that request refused,
-** and once more with none refused. The first of the two ends with PB_FAILED or as with memory at hand. The second one always ends as
-** with memory at hand. It prints how many pairs of calls there were. The status is 1 if one was wrong. Its options are all 0, which is
+** and once more with none refused. The first of the two ends with PB_FAILED or as with enough memory. The second one always ends as
+** with enough memory. It prints how many pairs of calls there were. The status is 1 if one was wrong. Its options are all 0, which is
 ** allowed. */
 
 #include <stdbool.h>
