@@ -5,8 +5,8 @@ use std::str;
 
 const REWRITTEN: &str = "pb-pbp2profile (in a clone contrib/pbp2profile) rewrites it";
 
-const WITHOUT_WITNESS: &str =
-    "pb-pbp2profile (in a clone contrib/pbp2profile) rewrites it if it has no witness";
+const IF_PROPAGATED: &str =
+    "pb-pbp2profile (in a clone contrib/pbp2profile) rewrites it if unit propagation shows it";
 
 const OUTSIDE: &str = "no script rewrites it";
 
@@ -25,7 +25,7 @@ pub(crate) fn rule_hint(line: &[u8], before: &[u8]) -> Option<Hint> {
         return Some(Hint::Rule(rule, REWRITTEN));
     }
     if word == "red" {
-        return Some(Hint::Rule("red", WITHOUT_WITNESS));
+        return Some(Hint::Rule("red", IF_PROPAGATED));
     }
     let rule = outside(word)?;
     Some(Hint::Rule(rule, OUTSIDE))
