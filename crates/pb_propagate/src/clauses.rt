@@ -1,9 +1,9 @@
 //! Clauses by slots.
 
-ghost use Rattle.std.specs.Prelude.{◌≡◌, ℕ, ◌+◌, ◌*◌, ◌/◌, ◌<◌, ◌≤◌, ◌++◌, ◌∷◌, [], List, All, Bool, Option, length, slice_set, slice_index, true, false, OnOk, OnErr};
+ghost use Rattle.std.specs.Prelude.{◌≡◌, ℕ, ◌+◌, ◌*◌, ◌/◌, ◌<◌, ◌≤◌, ◌++◌, ◌∷◌, [], List, All, Bool, Option, length, slice_set, slice_index, true, false, OnOk, OnErr, IfSome};
 ghost use Rattle.pb_propagate.specs.engine.Clauses.Links.{lists_of, list_at, watch_at};
 ghost use Rattle.pb_propagate.specs.engine.Clauses.Runs.{AreReady, IsRunning};
-ghost use Rattle.pb_propagate.specs.engine.Engine.Root.{IsServed, HasOpen, IsSameWatch};
+ghost use Rattle.pb_propagate.specs.engine.Engine.Root.{IsServed, IsFree, HasOther, IsLast, IsSameWatch};
 
 pub mod lists;
 pub mod search;
@@ -11,17 +11,30 @@ pub mod visiting;
 
 use crate::assignment::Assignment;
 use crate::clauses::lists::{Watch, put_in, take_out};
-use crate::clauses::search::Search;
+use crate::clauses::search::{Search, may_watch};
 use std::alloc::{AllocError, Global};
 
-// Whether a literal of a clause is open.
-fn some_open(literals: &[u32], assignment: &Assignment) -> bool
+// A literal of a clause that is not falsified.
+fn free_literal(literals: &[u32], assignment: &Assignment) -> Option<u32>
     requires inside { All (λ x. x < 4 * length assignment.now.values.items) literals.now }
-    ensures yes { result ≡ true → HasOpen assignment.now.values.items literals.now }
-    ensures no { result ≡ false → HasOpen assignment.now.values.items literals.now → ⊥ }
+    ensures some { IfSome result (IsFree assignment.now.values.items literals.now) }
 {
     'literals: for i in 0..literals.len() {
-        if assignment.leaves_open(literals[i]) {
+        if !assignment.falsifies(literals[i]) {
+            return Some(literals[i]);
+        }
+    }
+    None
+}
+
+// Whether a literal other than this one is not falsified.
+fn has_other(literals: &[u32], assignment: &Assignment, literal: u32) -> bool
+    requires inside { All (λ x. x < 4 * length assignment.now.values.items) literals.now }
+    ensures yes { result ≡ true → HasOther assignment.now.values.items literals.now literal }
+    ensures no { result ≡ false → IsLast assignment.now.values.items literals.now literal }
+{
+    'literals: for i in 0..literals.len() {
+        if may_watch(assignment, literals[i], literal) {
             return true;
         }
     }
@@ -64,6 +77,7 @@ impl Clauses {
         requires rest { AreReady self.old }
         ensures rest { OnOk result (AreReady self.new) }
         ensures literals { self.new.literals ≡ self.old.literals }
+        ensures watches { self.new.watches ≡ self.old.watches }
         ensures lists { OnOk result (length self.new.lists.items ≡ length self.old.lists.items + 2) }
     {
         let alloc = *self.lists.allocator();
@@ -201,15 +215,26 @@ impl Clauses {
         !assignment.falsifies(second)
     }
 
-    /// Whether a literal of a slot's clause is open.
-    pub fn has_open(&self, assignment: &Assignment, slot: usize) -> bool
+    /// A literal of a slot's clause that is not falsified.
+    pub fn free_literal(&self, assignment: &Assignment, slot: usize) -> Option<u32>
         requires rest { AreReady self.now }
         requires slot { slot < length self.now.literals.items }
         requires values { length self.now.lists.items ≡ 4 * length assignment.now.values.items }
-        ensures yes { result ≡ true → HasOpen assignment.now.values.items (list_at (lists_of self.now.literals.items) slot) }
-        ensures no { result ≡ false → HasOpen assignment.now.values.items (list_at (lists_of self.now.literals.items) slot) → ⊥ }
+        ensures some { IfSome result (
+            IsFree assignment.now.values.items (list_at (lists_of self.now.literals.items) slot)) }
     {
-        some_open(self.literals[slot].as_slice(), assignment)
+        free_literal(self.literals[slot].as_slice(), assignment)
+    }
+
+    /// Whether a literal of a slot's clause, other than this one, is not falsified.
+    pub fn has_other(&self, assignment: &Assignment, slot: usize, literal: u32) -> bool
+        requires rest { AreReady self.now }
+        requires slot { slot < length self.now.literals.items }
+        requires values { length self.now.lists.items ≡ 4 * length assignment.now.values.items }
+        ensures yes { result ≡ true → HasOther assignment.now.values.items (list_at (lists_of self.now.literals.items) slot) literal }
+        ensures no { result ≡ false → IsLast assignment.now.values.items (list_at (lists_of self.now.literals.items) slot) literal }
+    {
+        has_other(self.literals[slot].as_slice(), assignment, literal)
     }
 
     /// Prepares for another run, whose searches go on where those of this run ended. Only the clauses in which a search has

@@ -1,7 +1,8 @@
 //! The forms that may propagate with nothing assigned.
 
-ghost use Rattle.std.specs.Prelude.{◌≡◌, ℕ, ◌<◌, ◌+◌, ◌++◌, ◌∷◌, [], Some, length, slice_get, swap_remove, OnOk};
+ghost use Rattle.std.specs.Prelude.{◌≡◌, ℕ, ◌<◌, ◌+◌, ◌++◌, ◌∷◌, [], Some, length, slice_get, swap_remove, true, false, OnOk, IfOk};
 ghost use Rattle.pb_propagate.specs.engine.Engine.Counts.{IsAbsent};
+ghost use Rattle.pb_propagate.specs.engine.Engine.Waiting.{IsWithout};
 
 use std::alloc::{AllocError, Global};
 
@@ -45,6 +46,49 @@ impl Eager {
         self.list.push(form)?;
         self.seats[form] = seat;
         Ok(())
+    }
+
+    /// Whether the form is on the list.
+    pub fn contains(&self, form: usize) -> bool
+        requires inside { form < length self.now.seats.items }
+        ensures yes { result ≡ true → IsAbsent self.now.list.items 0 form → ⊥ }
+        ensures no { result ≡ false → IsAbsent self.now.list.items 0 form }
+    {
+        match self.list.get(self.seats[form]) {
+            Some(other) => *other == form,
+            None => false,
+        }
+    }
+
+    /// Removes a form from the list if it is there.
+    pub fn remove(&mut self, form: usize)
+        requires inside { form < length self.old.seats.items }
+        ensures left { IsWithout form self.old.list.items self.new.list.items }
+        ensures seats { length self.new.seats.items ≡ length self.old.seats.items }
+    {
+        if self.contains(form) {
+            self.take(form);
+        }
+    }
+
+    /// Removes all forms from the list.
+    pub fn clear(&mut self)
+        ensures list { self.new.list.items ≡ [] }
+        ensures seats { self.new.seats ≡ self.old.seats }
+    {
+        self.list.clear();
+    }
+
+    /// The same forms, in a list of their own.
+    pub fn copy(&self, alloc: Global) -> Result<Eager, AllocError>
+        ensures list { IfOk result (λ e. e.list.items ≡ self.now.list.items) }
+        ensures seats { IfOk result (λ e. e.seats.items ≡ self.now.seats.items) }
+    {
+        let mut list = Vec::with_capacity(alloc, self.list.len())?;
+        list.extend_from_slice(self.list.as_slice())?;
+        let mut seats = Vec::with_capacity(alloc, self.seats.len())?;
+        seats.extend_from_slice(self.seats.as_slice())?;
+        Ok(Eager { list, seats })
     }
 
     /// Removes a form from the list. The last one moves to its position.

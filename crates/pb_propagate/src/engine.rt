@@ -9,11 +9,11 @@ ghost use Rattle.pb_normal.specs.meaning.Rules.{negation_of, negation};
 ghost use Rattle.pb_normal.specs.declared.numbered.NumberedLiteral.{NumberedLiteral};
 ghost use Rattle.pb_propagate.specs.engine.Engine.Live.{Standing, Live, Gives, terms_in, one_in};
 ghost use Rattle.pb_propagate.specs.engine.Engine.Lists.{has, IsWithin};
-ghost use Rattle.pb_propagate.specs.engine.Engine.Progress.{chosen, IfFound, IfNotFound, RunIsOpen, RunStaysTidy, shapes_in, list_of, values_of, RunIsCalm, RunIsUndone, RunAdvances};
+ghost use Rattle.pb_propagate.specs.engine.Engine.Progress.{IfFound, IfNotFound, RunIsOpen, RunStaysTidy, shapes_in, list_of, values_of, RunIsCalm, RunIsUndone, RunAdvances};
 ghost use Rattle.pb_propagate.specs.engine.Engine.Fields.{shapes_of, forms_of, IsSound};
 ghost use Rattle.pb_propagate.specs.meaning.Propagation.{With, MeetsConflict, IsCompletion, IsRup};
 ghost use Rattle.pb_propagate.specs.engine.Engine.Rest.{AreAtRest, IsAtRest, IsRefuted, IsEnded};
-ghost use Rattle.pb_propagate.specs.engine.Engine.Root.{IsRooted, HasGained};
+ghost use Rattle.pb_propagate.specs.engine.Engine.Root.{IsRootOf, WasRootOf};
 ghost use Rattle.pb_propagate.specs.declared.store.Store.{Store};
 ghost use Rattle.pb_propagate.specs.declared.clauses.Clauses.{Clauses};
 ghost use Rattle.pb_propagate.specs.engine.Clauses.Runs.{AreReady, IsRunning};
@@ -62,11 +62,11 @@ impl Model for Engine {
     ghost use Rattle.pb_propagate.specs.engine.Engine.Fields.{forms_of};
     ghost use Rattle.pb_propagate.specs.engine.Engine.Rest.{IsAtRest};
     ghost use Rattle.pb_propagate.specs.engine.Engine.Slots.{numbered, ArePlaced};
-    ghost use Rattle.pb_propagate.specs.engine.Engine.Root.{IsRooted};
+    ghost use Rattle.pb_propagate.specs.engine.Engine.Root.{IsRootOf};
 
     ghost view = { λ e. record { forms = numbered (forms_of e.store.stored.items) e.places.items; variables = e.store.variables; visits = e.run.visits; spent = e.spent } };
 
-    ghost invariant = { λ e. e.spent ≡ false → IsAtRest e.store e.run e.eager e.clauses (forms_of e.store.stored.items) × ArePlaced (forms_of e.store.stored.items) e.places.items × (e.root.live ≡ true → IsRooted e.store e.clauses e.root.run e.root.rests (length e.store.stored.items)) };
+    ghost invariant = { λ e. e.spent ≡ false → IsAtRest e.store e.run e.eager e.clauses (forms_of e.store.stored.items) × ArePlaced (forms_of e.store.stored.items) e.places.items × (e.root.live ≡ true → IsRootOf e.store e.clauses e.root) };
 }
 
 // Assigns the given literals. Returns whether two of them are opposite, or a form is then falsified.
@@ -120,7 +120,7 @@ fn settle(
     requires waiting { All (λ s. s < length store.now.stored.items) waiting.now }
     requires empty { list_of run.old ≡ [] }
     requires counted { RunIsOpen store.now rests.now run.old }
-    requires tidy { RunIsCalm store.now rests.now (chosen store.now waiting.now) run.old }
+    requires tidy { RunIsCalm store.now rests.now waiting.now run.old }
     requires joined { AreJoined (shapes_of store.now.stored.items) (clauses_of clauses.old) }
     requires ready { AreReady clauses.old }
     requires widths { length clauses.old.lists.items ≡ 4 * store.now.variables }
@@ -169,24 +169,22 @@ fn rest(store: &Store, rests: &Rests, clauses: &mut Clauses, run: &mut Run)
     run.next = 0;
 }
 
-// The root after a form was stored in a slot. It is made anew once the questions without it took eight visits for
+// The root after a form was stored in a slot. It begins anew once the questions without it took eight visits for
 // each form and variable.
 fn follow(
     store: &Store,
     run: &Run,
     eager: &Eager,
-    clauses: &mut Clauses,
+    clauses: &Clauses,
     root: &mut Root,
     slot: usize,
 ) -> Result<(), AllocError>
-    requires rest { IsAtRest store.now run.now eager.now clauses.old (forms_of store.now.stored.items) }
+    requires rest { IsAtRest store.now run.now eager.now clauses.now (forms_of store.now.stored.items) }
     requires slot { slot < length store.now.stored.items }
-    requires gained { root.old.live ≡ true → (before : Store) × (old : Clauses) × IsRooted before old root.old.run root.old.rests (length before.stored.items) × HasGained before old store.now clauses.old slot }
-    ensures rest { OnOk result (
-        IsAtRest store.now run.now eager.now clauses.new (forms_of store.now.stored.items)) }
-    ensures rooted { OnOk result (
-        root.new.live ≡ true → IsRooted store.now clauses.new root.new.run root.new.rests (length store.now.stored.items)) }
+    requires gained { root.old.live ≡ true → WasRootOf store.now clauses.now slot root.old }
+    ensures rooted { OnOk result (root.new.live ≡ true → IsRootOf store.now clauses.now root.new) }
 {
+    root.note(store, slot);
     if root.live {
         root.admit(store, clauses, slot)?;
         return Ok(());
@@ -195,7 +193,7 @@ fn follow(
     if root.paid / 8 < size {
         return Ok(());
     }
-    root.make(store, run, clauses, eager)?;
+    root.begin(store, run, clauses, eager)?;
     Ok(())
 }
 
@@ -241,13 +239,16 @@ impl Engine {
     {
         let alloc = *self.places.allocator();
         self.spent = true;
-        self.root.end();
         self.store.occurrences.push(Vec::new(alloc))?;
         self.store.occurrences.push(Vec::new(alloc))?;
         self.run.assignment.widen()?;
         // A literal has a list of watches for each group of clauses.
         self.clauses.widen()?;
         self.clauses.widen()?;
+        // The root forces nothing more.
+        self.root.run.assignment.widen()?;
+        self.root.units.push(usize::MAX)?;
+        self.root.units.push(usize::MAX)?;
         self.store.variables = self.store.occurrences.len() / 2;
         self.spent = false;
         Ok(())
@@ -283,7 +284,7 @@ impl Engine {
             &self.store,
             &self.run,
             &self.eager,
-            &mut self.clauses,
+            &self.clauses,
             &mut self.root,
             slot,
         )?;
@@ -348,7 +349,7 @@ impl Engine {
     }
 
     /// The number of visits of the last `rup`. Visits to entries of occurrence lists, to terms, and to watches and
-    /// literals of clauses are counted.
+    /// literals of clauses are counted. A literal that was kept from earlier questions counts as one.
     pub fn visits(&self) -> u64
         ensures { result ≡ self.now.visits }
     {

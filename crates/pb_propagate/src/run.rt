@@ -5,11 +5,11 @@ ghost use Rattle.pb_normal.specs.declared.numbered.NumberedLiteral.{NumberedLite
 ghost use Rattle.pb_normal.specs.meaning.Rules.{negation};
 ghost use Rattle.pb_propagate.specs.engine.Engine.Lists.{has, Conflicts};
 ghost use Rattle.pb_propagate.specs.engine.Engine.Counts.{place, Grown, IsAbsent, Adopted, AreSingle};
-ghost use Rattle.pb_propagate.specs.engine.Engine.Progress.{progress, chosen, IfFound, IfNotFound, AreSettled, RunIsOpen, RunIsTidy, RunStaysTidy, shapes_in, list_of, values_of, RunIsCalm, RunIsUndone, RunVisitsEach, RunIsShort, RunFits, RunDerives, RunLowers, RunCosts, RunAdvances, RunSpends, RunIsWalked};
+ghost use Rattle.pb_propagate.specs.engine.Engine.Progress.{progress, chosen, IfFound, IfNotFound, AreSettled, RunIsOpen, RunIsTidy, RunStaysTidy, shapes_in, list_of, values_of, RunIsCalm, RunIsUndone, RunVisitsEach, RunIsShort, RunFits, RunDerives, RunLowers, RunCosts, RunAdvances, RunSpends, RunPays, RunIsWalked};
 ghost use Rattle.pb_propagate.specs.engine.Engine.Rest.{waits};
 ghost use Rattle.pb_propagate.specs.engine.Engine.Fields.{shapes_of, IsSound};
 ghost use Rattle.pb_propagate.specs.engine.Engine.Links.{terms_at};
-ghost use Rattle.pb_propagate.specs.engine.Clauses.Runs.{AreReady, IsRunning, KeepsWalked};
+ghost use Rattle.pb_propagate.specs.engine.Clauses.Runs.{IsRunning, KeepsWalked};
 ghost use Rattle.pb_propagate.specs.engine.Clauses.Shapes.{AreJoined, clauses_of, all_of};
 
 use crate::assignment::Assignment;
@@ -176,14 +176,14 @@ fn visit_form(
     requires candidates { length run.old.candidates.items ≡ length store.now.stored.items }
     requires next { run.old.next ≤ length run.old.work.items }
     requires counted { RunIsOpen store.now rests.now run.old }
-    requires tidy { RunIsTidy store.now rests.now (chosen store.now waiting.now) form run.old }
+    requires tidy { RunIsTidy store.now rests.now waiting.now form run.old }
     requires there { IsAbsent run.old.work.items 0 form → ⊥ }
     ensures advances { OnOk result (RunAdvances store.now rests.now 0 1 run.old run.new) }
     ensures costs { OnErr result (RunCosts store.now rests.now 0 1 run.old run.new) }
     ensures derived { OnOk result (RunDerives (shapes_in store.now) run.old run.new) }
     ensures counted { IfNotFound result (RunIsOpen store.now rests.now run.new) }
     ensures tidy { IfNotFound result (
-        RunIsCalm store.now rests.now (chosen store.now waiting.now) run.new) }
+        RunIsCalm store.now rests.now waiting.now run.new) }
     ensures undone { OnOk result (RunIsUndone store.now rests.now 0 run.new) }
     ensures conflict { IfFound result (Conflicts (shapes_in store.now) (list_of run.new)) }
     ensures bounded { sum run.new.candidates.items ≤
@@ -245,10 +245,9 @@ pub fn propagate(
     requires waiting { All (λ s. s < length store.now.stored.items) waiting.now }
     requires single { AreSingle (list_of run.old) }
     requires counted { RunIsOpen store.now rests.now run.old }
-    requires tidy { RunIsCalm store.now rests.now (chosen store.now waiting.now) run.old }
+    requires tidy { RunIsCalm store.now rests.now waiting.now run.old }
     requires joined { AreJoined (shapes_of store.now.stored.items) (clauses_of clauses.old) }
-    requires ready { AreReady clauses.old }
-    requires widths { length clauses.old.lists.items ≡ 4 * store.now.variables }
+    requires running { IsRunning (values_of run.old) clauses.old }
     requires from { from ≤ length (list_of run.old) }
     requires walked { RunIsWalked from clauses.old run.old }
     ensures literals { clauses.new.literals ≡ clauses.old.literals }
@@ -260,7 +259,9 @@ pub fn propagate(
     ensures opens { OnOk result (length run.new.opens.items ≡ length store.now.stored.items) }
     ensures candidates { OnOk result (
         length run.new.candidates.items ≡ length store.now.stored.items) }
-    ensures costs { RunSpends store.now rests.now clauses.old waiting.now run.old run.new }
+    ensures costs { RunSpends store.now rests.now clauses.old from waiting.now run.old run.new }
+    ensures pays { IfNotFound result (
+        RunPays store.now rests.now clauses.old clauses.new from waiting.now run.old run.new) }
     ensures derived { OnOk result (RunDerives (all_of store.now clauses.old) run.old run.new) }
     ensures undone { OnOk result (RunIsUndone store.now rests.now 0 run.new) }
     ensures conflict { IfFound result (Conflicts (all_of store.now clauses.old) (list_of run.new)) }
@@ -270,6 +271,7 @@ pub fn propagate(
     ensures tidy { IfNotFound result (RunIsCalm store.now rests.now [] run.new) }
     ensures done { IfNotFound result (length run.new.work.items ≤ run.new.next) }
     ensures found { OnOk result (RunVisitsEach run.old run.new) }
+    ensures rising { OnOk result (run.old.visits ≤ run.new.visits) }
 {
     let mut taken = 0;
     let mut heads = Heads {
@@ -289,8 +291,8 @@ pub fn propagate(
             }
             heads = ahead.heads;
         } else if taken < waiting.len() {
-            choose(store, waiting[taken], &mut run.trail)?;
-            choose(store, waiting[taken], &mut run.work)?;
+            run.trail.push(waiting[taken])?;
+            run.work.push(waiting[taken])?;
             taken += 1;
         } else {
             return Ok(false);

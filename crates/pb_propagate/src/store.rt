@@ -4,6 +4,7 @@ pub mod occurrence_lists;
 pub mod opened;
 pub mod sorted_form;
 pub mod stored_form;
+pub mod units;
 
 ghost use Rattle.std.specs.Prelude.{◌≡◌, ℕ, ◌≤◌, ◌+◌, ◌-◌, ◌^◌, ◌<◌, length, min, slice_index_or};
 ghost use Rattle.pb_propagate.specs.declared.term.Term.{Term};

@@ -16,8 +16,8 @@ use crate::store::Store;
 use pb_normal::NumberedLiteral;
 use std::alloc::AllocError;
 
-// The literal of a code.
-fn literal_of(code: u32) -> NumberedLiteral
+/// The literal of a code.
+pub fn literal_of(code: u32) -> NumberedLiteral
     ensures { result ≡ literal_at code }
 {
     NumberedLiteral {

@@ -167,7 +167,7 @@ impl Replay {
     }
 
     /// The number of visits of the last `rup`. Visits to entries of occurrence lists, to terms, and to watches and
-    /// literals of clauses are counted.
+    /// literals of clauses are counted. A literal that was kept from earlier steps counts as one.
     pub fn visits(&self) -> u64
         ensures { result ≡ self.now.visits }
     {

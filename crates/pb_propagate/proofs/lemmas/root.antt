@@ -2,10 +2,10 @@
 pub mod Admitted
 pub mod Cuts
 pub mod Extends
-pub mod Follows
 pub mod Gained
 pub mod Lost
 pub mod Opens
 pub mod Questions
 pub mod Rooted
 pub mod Roots
+pub mod Asked

@@ -12,3 +12,4 @@ pub mod Storages
 pub mod Unlinks
 pub mod Weights
 pub mod Options
+pub mod Longer

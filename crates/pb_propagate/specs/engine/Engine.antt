@@ -7,6 +7,7 @@ pub mod Forms
 pub mod Terms
 pub mod Live
 pub mod Rest
+pub mod Waiting
 pub mod Root
 pub mod Progress
 pub mod Slots

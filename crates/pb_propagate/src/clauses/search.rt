@@ -27,8 +27,8 @@ fn visit_literal(literals: &[u32], position: usize, visits: &mut Visits) -> u32
     literals[position]
 }
 
-// Whether a literal may be watched in place of a falsified one.
-fn may_watch(assignment: &Assignment, literal: u32, other: u32) -> bool
+/// Whether a literal may be watched in place of a falsified one: it is not falsified, and it is not the other watched one.
+pub fn may_watch(assignment: &Assignment, literal: u32, other: u32) -> bool
     requires { literal < 4 * length assignment.now.values.items }
     ensures yes { result ≡ true → (false_at assignment.now.values.items literal ≡ false) × (literal ≡ other → ⊥) }
     ensures no { result ≡ false → (false_at assignment.now.values.items literal ≡ true) ⊎ (literal ≡ other) }

@@ -1,14 +1,16 @@
 //! The root: what the live forms force with nothing assumed.
 
-ghost use Rattle.std.specs.Prelude.{◌≡◌, ℕ, List, ◌+◌, ◌*◌, ◌<◌, ◌++◌, ◌∷◌, [], true, false, length, take, slice_get, slice_set, slice_index_or, Some, OnOk, IfOk};
+ghost use Rattle.std.specs.Prelude.{◌≡◌, ℕ, List, ◌+◌, ◌*◌, ◌^◌, ◌<◌, ◌⊎◌, ◌++◌, ◌∷◌, [], true, false, length, take, slice_get, slice_set, slice_index_or, Some, OnOk, IfOk};
 ghost use Rattle.pb_propagate.specs.declared.store.Store.{Store};
 ghost use Rattle.pb_propagate.specs.declared.clauses.Clauses.{Clauses};
-ghost use Rattle.pb_propagate.specs.engine.Engine.Lists.{Shape, open_sum};
-ghost use Rattle.pb_propagate.specs.engine.Engine.Progress.{RunIsUndone};
-ghost use Rattle.pb_propagate.specs.engine.Engine.Counts.{Grown, IsCalm, IsUndone};
+ghost use Rattle.pb_propagate.specs.engine.Engine.Lists.{Shape, Derives, Conflicts, open_sum};
+ghost use Rattle.pb_propagate.specs.engine.Engine.Progress.{RunIsUndone, RunSpends, RunPays, RunVisitsEach, IfFound, IfNotFound, list_of, values_of};
+ghost use Rattle.pb_propagate.specs.engine.Engine.Waiting.{IsWithout};
+ghost use Rattle.pb_propagate.specs.engine.Engine.Counts.{Grown, IsAbsent, IsCalm, IsUndone};
 ghost use Rattle.pb_propagate.specs.engine.Engine.Fields.{shapes_of, forms_of, IsSound};
 ghost use Rattle.pb_propagate.specs.engine.Engine.Rest.{IsAtRest};
-ghost use Rattle.pb_propagate.specs.engine.Engine.Root.{IsRooted, HasGained, HasReached, HasLost, IsSpare};
+ghost use Rattle.pb_propagate.specs.engine.Engine.Root.{IsRootOf, WasRootOf, HasReached, HasLost, HasUnit, IsReplaced};
+ghost use Rattle.pb_propagate.specs.engine.Engine.Counts.{place};
 ghost use Rattle.pb_propagate.specs.engine.Clauses.Runs.{AreReady, IsRunning};
 ghost use Rattle.pb_propagate.specs.engine.Clauses.Shapes.{AreJoined, clauses_of, all_of};
 
@@ -17,19 +19,26 @@ use crate::clauses::Clauses;
 use crate::eager::Eager;
 use crate::engine::visits::Visits;
 use crate::rests::Rests;
-use crate::run::{Run, propagate, queue, undo_forms};
+use crate::run::{Run, place_of, propagate, queue, undo_forms};
 use crate::store::Store;
 use crate::store::opened::{has_true, open_under};
+use crate::store::units::{is_unit, only_literal};
+use crate::walk::literal_of;
+use pb_normal::NumberedLiteral;
 use std::alloc::{AllocError, Global};
 
 /// The literals that the live forms force with nothing assumed, and the state of each form under them. Questions
-/// continue from there.
+/// extend it to the forms that were added since the last one, and continue from there.
 #[derive(Drop)]
 pub struct Root {
     pub run: Run,
     pub rests: Rests,
-    // Whether the forms are still those that it was made of.
+    // The forms that may force something, or are falsified. No question has visited them since they were added.
+    pub waiting: Eager,
+    // Whether all its literals still follow from the live forms.
     pub live: bool,
+    // For each literal, by its occurrence list, the last slot that took a form of one term for it.
+    pub units: Vec<usize>,
     // The visits of the questions that were asked without it.
     pub paid: u64,
 }
@@ -99,8 +108,14 @@ pub fn lay(store: &Store, run: &mut Run, form: usize) -> Result<(), AllocError>
 }
 
 // Adds an entry to each list if the slot is new.
-fn reach(run: &mut Run, rests: &mut Rests, slot: usize) -> Result<(), AllocError>
-    ensures { OnOk result (HasReached run.old run.new rests.old rests.new slot) }
+fn reach(
+    run: &mut Run,
+    rests: &mut Rests,
+    waiting: &mut Eager,
+    slot: usize,
+) -> Result<(), AllocError>
+    ensures { OnOk result (
+        HasReached run.old run.new rests.old rests.new waiting.old waiting.new slot) }
 {
     if slot < run.opens.len() {
         return Ok(());
@@ -109,6 +124,23 @@ fn reach(run: &mut Run, rests: &mut Rests, slot: usize) -> Result<(), AllocError
     run.candidates.push(0)?;
     rests.opens.push(0)?;
     rests.starts.push(0)?;
+    waiting.widen()?;
+    Ok(())
+}
+
+// The form waits if it is on the work list.
+fn defer(waiting: &mut Eager, work: &[usize], slot: usize) -> Result<(), AllocError>
+    requires inside { slot < length waiting.old.seats.items }
+    requires absent { IsAbsent waiting.old.list.items 0 slot }
+    ensures list { OnOk result (
+        ((work.now ≡ []) × (waiting.new.list.items ≡ waiting.old.list.items)) ⊎
+        (waiting.new.list.items ≡ waiting.old.list.items ++ slot ∷ [])) }
+    ensures seats { length waiting.new.seats.items ≡ length waiting.old.seats.items }
+{
+    if work.is_empty() {
+        return Ok(());
+    }
+    waiting.put(slot)?;
     Ok(())
 }
 
@@ -153,46 +185,98 @@ impl Root {
                 visits: Visits::none(),
             },
             rests: Rests::none(alloc),
+            waiting: Eager::new(alloc),
             live: false,
+            units: Vec::new(alloc),
             paid: 0,
         }
     }
 
     /// Ends the root: its forms are no longer the live ones.
     pub fn end(&mut self)
-        ensures { self.new.live ≡ false }
+        ensures live { self.new.live ≡ false }
+        ensures run { self.new.run ≡ self.old.run }
     {
         self.live = false;
     }
 
-    // Whether the form of a slot has forced none of the literals. A clause with an open literal has not, nor has
-    // another form without a true one.
+    /// Remembers the form of a slot as the unit of its literal, if it has one term.
+    pub fn note(&mut self, store: &Store, slot: usize)
+        requires slot { slot < length store.now.stored.items }
+        requires sound { IsSound store.now }
+        ensures kept { (self.new.run ≡ self.old.run) × (self.new.rests ≡ self.old.rests) ×
+            (self.new.waiting ≡ self.old.waiting) }
+        ensures live { self.new.live ≡ self.old.live }
+    {
+        let Some(literal) = only_literal(&store.stored[slot].terms) else {
+            return;
+        };
+        if let Some(unit) = self.units.get_mut(place_of(literal)) {
+            *unit = slot;
+        }
+    }
+
+    // Whether another slot has a unit of the literal. Only the last unit that was added is looked at.
+    fn has_unit(&self, store: &Store, slot: usize, literal: NumberedLiteral) -> bool
+        requires fits { place literal < 2 ^ 64 }
+        ensures { result ≡ true → HasUnit (shapes_of store.now.stored.items) slot literal }
+    {
+        let Some(unit) = self.units.get(place_of(literal)) else {
+            return false;
+        };
+        if *unit == slot {
+            return false;
+        }
+        match store.stored.get(*unit) {
+            Some(kept) => is_unit(kept, literal),
+            None => false,
+        }
+    }
+
+    // Whether the literals follow without the form of a slot. A clause with two literals that are not falsified has forced
+    // none. One with a single such literal may have forced it, and a unit of the literal does the same. Another form
+    // without a true literal has forced none.
     fn is_spare(&self, store: &Store, clauses: &Clauses, slot: usize) -> bool
         requires slot { slot < length store.now.stored.items }
         requires sound { IsSound store.now }
+        requires joined { AreJoined (shapes_of store.now.stored.items) (clauses_of clauses.now) }
         requires ready { AreReady clauses.now }
         requires known { length clauses.now.literals.items ≡ length store.now.stored.items }
         requires widths { length clauses.now.lists.items ≡ 4 * store.now.variables }
         requires values { length self.now.run.assignment.values.items ≡ store.now.variables }
-        ensures { result ≡ true → (x : Shape) → slice_get (all_of store.now clauses.now) slot ≡ Some x → IsSpare x self.now.run.assignment.list.items }
+        ensures { result ≡ true →
+            IsReplaced (all_of store.now clauses.now) slot (list_of self.now.run) }
     {
-        if clauses.is_filled(slot) {
-            return clauses.has_open(&self.run.assignment, slot);
+        if !clauses.is_filled(slot) {
+            let values = self.run.assignment.values.as_slice();
+            return !has_true(&store.stored[slot].terms, values);
         }
-        let values = self.run.assignment.values.as_slice();
-        !has_true(&store.stored[slot].terms, values)
+        let Some(code) = clauses.free_literal(&self.run.assignment, slot) else {
+            return false;
+        };
+        if clauses.has_other(&self.run.assignment, slot, code) {
+            return true;
+        }
+        self.has_unit(store, slot, literal_of(code))
     }
 
-    /// The form of a slot goes. The root stays if the form has forced none of its literals, and ends if it may have.
+    /// The form of a slot goes. The root stays if its literals follow without the form, and ends otherwise.
     pub fn lose(&mut self, store: &Store, clauses: &Clauses, slot: usize)
         requires slot { slot < length store.now.stored.items }
         requires sound { IsSound store.now }
+        requires joined { AreJoined (shapes_of store.now.stored.items) (clauses_of clauses.now) }
         requires ready { AreReady clauses.now }
         requires known { length clauses.now.literals.items ≡ length store.now.stored.items }
         requires widths { length clauses.now.lists.items ≡ 4 * store.now.variables }
-        requires rooted { self.old.live ≡ true → IsRooted store.now clauses.now self.old.run self.old.rests (length store.now.stored.items) }
-        ensures lost { self.new.live ≡ true → (self.old.live ≡ true) × HasLost self.old.run self.new.run self.old.rests self.new.rests slot }
-        ensures spare { self.new.live ≡ true → (x : Shape) → slice_get (all_of store.now clauses.now) slot ≡ Some x → IsSpare x self.old.run.assignment.list.items }
+        requires rooted { self.old.live ≡ true → IsRootOf store.now clauses.now self.old }
+        ensures lost { self.new.live ≡ true → (self.old.live ≡ true) ×
+            HasLost self.old.run self.new.run self.old.rests self.new.rests slot }
+        ensures waiting { self.new.live ≡ true →
+            IsWithout slot self.old.waiting.list.items self.new.waiting.list.items }
+        ensures seats { self.new.live ≡ true →
+            length self.new.waiting.seats.items ≡ length self.old.waiting.seats.items }
+        ensures spare { self.new.live ≡ true →
+            IsReplaced (all_of store.now clauses.now) slot (list_of self.old.run) }
     {
         if !self.live {
             return;
@@ -205,88 +289,93 @@ impl Root {
         self.run.candidates[slot] = 0;
         self.rests.opens[slot] = 0;
         self.rests.starts[slot] = 0;
+        self.waiting.remove(slot);
     }
 
-    /// Propagates from nothing. Nothing is kept if a conflict is met.
-    pub fn make(
+    /// No literal is forced yet: all forms that may force something with nothing assigned wait.
+    pub fn begin(
         &mut self,
         store: &Store,
         run: &Run,
-        clauses: &mut Clauses,
+        clauses: &Clauses,
         eager: &Eager,
     ) -> Result<(), AllocError>
-        requires rest { IsAtRest store.now run.now eager.now clauses.old (forms_of store.now.stored.items) }
-        ensures rooted { OnOk result (self.new.live ≡ true → IsRooted store.now clauses.new self.new.run self.new.rests (length store.now.stored.items)) }
-        ensures ready { OnOk result (AreReady clauses.new) }
-        ensures literals { clauses.new.literals ≡ clauses.old.literals }
-        ensures lists { OnOk result (length clauses.new.lists.items ≡ length clauses.old.lists.items) }
+        requires rest { IsAtRest store.now run.now eager.now clauses.now (forms_of store.now.stored.items) }
+        ensures rooted { OnOk result (IsRootOf store.now clauses.now self.new) }
     {
         let alloc = *store.stored.allocator();
         self.paid = 0;
         self.run = fresh(alloc, run, store.variables)?;
         self.rests = rests_of(alloc, run)?;
-        let found = propagate(
-            store,
-            &self.rests,
-            clauses,
-            &mut self.run,
-            eager.list.as_slice(),
-            0,
-        )?;
-        clauses.rest();
-        if found {
-            self.end();
-            return Ok(());
-        }
-        keep(&mut self.run, &mut self.rests);
+        self.waiting = eager.copy(alloc)?;
         self.live = true;
         Ok(())
     }
 
-    /// Propagates a form that was added, after what is kept. Nothing is kept if a conflict is met, or if the form is
-    /// a clause with a falsified literal that is watched.
-    pub fn admit(
-        &mut self,
-        store: &Store,
-        clauses: &mut Clauses,
-        slot: usize,
-    ) -> Result<(), AllocError>
+    /// A form that was added waits for the next question. The root ends if the form is a clause in which a falsified
+    /// literal is watched.
+    pub fn admit(&mut self, store: &Store, clauses: &Clauses, slot: usize) -> Result<(), AllocError>
         requires store { IsSound store.now }
-        requires joined { AreJoined (shapes_of store.now.stored.items) (clauses_of clauses.old) }
-        requires ready { AreReady clauses.old }
-        requires widths { length clauses.old.lists.items ≡ 4 * store.now.variables }
-        requires known { length clauses.old.literals.items ≡ length store.now.stored.items }
+        requires joined { AreJoined (shapes_of store.now.stored.items) (clauses_of clauses.now) }
+        requires ready { AreReady clauses.now }
+        requires widths { length clauses.now.lists.items ≡ 4 * store.now.variables }
+        requires known { length clauses.now.literals.items ≡ length store.now.stored.items }
         requires slot { slot < length store.now.stored.items }
-        requires gained { (before : Store) × (old : Clauses) × IsRooted before old self.old.run self.old.rests (length before.stored.items) × HasGained before old store.now clauses.old slot }
-        ensures rooted { OnOk result (self.new.live ≡ true → IsRooted store.now clauses.new self.new.run self.new.rests (length store.now.stored.items)) }
-        ensures ready { OnOk result (AreReady clauses.new) }
-        ensures literals { clauses.new.literals ≡ clauses.old.literals }
-        ensures lists { OnOk result (length clauses.new.lists.items ≡ length clauses.old.lists.items) }
+        requires gained { WasRootOf store.now clauses.now slot self.old }
+        ensures rooted { OnOk result (self.new.live ≡ true → IsRootOf store.now clauses.now self.new) }
     {
-        reach(&mut self.run, &mut self.rests, slot)?;
+        reach(&mut self.run, &mut self.rests, &mut self.waiting, slot)?;
         if clauses.is_filled(slot) {
             self.live = clauses.is_served(&self.run.assignment, slot);
             return Ok(());
         }
-        let count = self.run.assignment.list.len();
         lay(store, &mut self.run, slot)?;
-        let none = Vec::new(*store.stored.allocator());
+        defer(&mut self.waiting, self.run.work.as_slice(), slot)?;
+        keep(&mut self.run, &mut self.rests);
+        Ok(())
+    }
+
+    /// Propagates the forms that wait. Returns whether a conflict is met. Then the root ends.
+    pub fn update(&mut self, store: &Store, clauses: &mut Clauses) -> Result<bool, AllocError>
+        requires store { IsSound store.now }
+        requires joined { AreJoined (shapes_of store.now.stored.items) (clauses_of clauses.old) }
+        requires ready { AreReady clauses.old }
+        requires widths { length clauses.old.lists.items ≡ 4 * store.now.variables }
+        requires rooted { IsRootOf store.now clauses.old self.old }
+        ensures literals { clauses.new.literals ≡ clauses.old.literals }
+        ensures running { OnOk result (IsRunning (values_of self.new.run) clauses.new) }
+        ensures lists { OnOk result (
+            length clauses.new.lists.items ≡ length clauses.old.lists.items) }
+        ensures costs { RunSpends store.now self.old.rests clauses.old (length (list_of self.old.run))
+            self.old.waiting.list.items self.old.run self.new.run }
+        ensures pays { IfNotFound result (
+            RunPays store.now self.old.rests clauses.old clauses.new (length (list_of self.old.run))
+            self.old.waiting.list.items self.old.run self.new.run) }
+        ensures derived { OnOk result (Derives (all_of store.now clauses.old) [] (list_of self.new.run)) }
+        ensures conflict { IfFound result (
+            Conflicts (all_of store.now clauses.old) (list_of self.new.run)) }
+        ensures found { OnOk result (RunVisitsEach self.old.run self.new.run) }
+        ensures ended { IfFound result (self.new.live ≡ false) }
+        ensures rooted { IfNotFound result (IsRootOf store.now clauses.new self.new) }
+        ensures none { IfNotFound result (self.new.waiting.list.items ≡ []) }
+        ensures live { IfNotFound result (self.new.live ≡ self.old.live) }
+    {
+        let count = self.run.assignment.list.len();
         let found = propagate(
             store,
             &self.rests,
             clauses,
             &mut self.run,
-            none.as_slice(),
+            self.waiting.list.as_slice(),
             count,
         )?;
-        clauses.rest();
         if found {
             self.end();
-            return Ok(());
+            return Ok(true);
         }
         keep(&mut self.run, &mut self.rests);
-        self.live = true;
-        Ok(())
+        self.waiting.clear();
+        Ok(false)
     }
 }
 

@@ -8,7 +8,7 @@ ghost use Rattle.pb_propagate.specs.engine.Engine.Lists.{Shape};
 ghost use Rattle.pb_propagate.specs.engine.Engine.Counts.{AreFalling, IsCalm, place};
 ghost use Rattle.pb_propagate.specs.engine.Engine.Forms.{IsStoredAs};
 ghost use Rattle.pb_propagate.specs.engine.Engine.Terms.{terms_of};
-ghost use Rattle.pb_propagate.specs.engine.Engine.Fields.{stored_shape, shapes_of, forms_of, spots_of, lists_of, entries_of, IsSound, HasEntered, HasFilled, IsEmpty, IsUnlisted};
+ghost use Rattle.pb_propagate.specs.engine.Engine.Fields.{stored_shape, shapes_of, forms_of, spots_of, lists_of, entries_of, IsSound, HasEntered, HasFilled, IsEmpty, IsUnlisted, AreLonger};
 ghost use Rattle.pb_propagate.specs.engine.Engine.Links.{IsLinked, Moved, cut, terms_at};
 ghost use Rattle.pb_normal.specs.meaning.Form.{IsNormal};
 ghost use Rattle.pb_propagate.specs.engine.Clauses.Links.{list_at, watch_at};
@@ -88,6 +88,7 @@ fn link(
     requires inside { All (λ t. place t.literal < length lists.old.items) (terms_of terms.now) }
     requires empty { spots.old.items ≡ [] }
     ensures sizes { length lists.new.items ≡ length lists.old.items }
+    ensures longer { OnOk result (AreLonger lists.old.items lists.new.items) }
     ensures count { OnOk result (length spots.new.items ≡ length (terms_of terms.now)) }
     ensures linked { OnOk result ((base : List Shape) (all : List (List ℕ)) → form < length base → terms_at base form ≡ terms_of terms.now → form < length all → IsLinked (cut base form 0) (slice_set all form []) (entries_of base lists.old.items) → IsLinked (cut base form (length (terms_of terms.now))) (slice_set all form spots.new.items) (entries_of base lists.new.items)) }
 {
@@ -210,6 +211,7 @@ pub fn widen(store: &mut Store, run: &mut Run) -> Result<(), AllocError>
     ensures unchanged { OnErr result (store.new.stored.items ≡ store.old.stored.items) }
     ensures opens { OnOk result (run.new.opens.items ≡ run.old.opens.items ++ 0 ∷ []) }
     ensures candidates { OnOk result (run.new.candidates.items ≡ run.old.candidates.items ++ 0 ∷ []) }
+    ensures occurrences { store.new.occurrences ≡ store.old.occurrences }
     ensures variables { store.new.variables ≡ store.old.variables }
     ensures trail { run.new.trail ≡ run.old.trail }
     ensures rest { (run.new.assignment ≡ run.old.assignment) × (run.new.work ≡ run.old.work) × (run.new.next ≡ run.old.next) × (run.new.visits ≡ run.old.visits) }
@@ -232,6 +234,8 @@ pub fn fill(store: &mut Store, run: &mut Run, slot: usize, form: Shared) -> Resu
     ensures sound { OnOk result (IsSound store.new) }
     ensures unchanged { OnErr result (store.new.stored.items ≡ store.old.stored.items) }
     ensures filled { OnOk result (HasFilled form slot store.old.stored.items store.new.stored.items run.old.opens.items run.new.opens.items) }
+    ensures longer { OnOk result (
+        AreLonger store.old.occurrences.items store.new.occurrences.items) }
     ensures variables { store.new.variables ≡ store.old.variables }
     ensures trail { run.new.trail ≡ run.old.trail }
     ensures rest { (run.new.candidates ≡ run.old.candidates) × (run.new.assignment ≡ run.old.assignment) × (run.new.work ≡ run.old.work) × (run.new.next ≡ run.old.next) × (run.new.visits ≡ run.old.visits) }
@@ -254,6 +258,8 @@ pub fn enter(store: &mut Store, run: &mut Run, form: Normal) -> Result<(), Alloc
     ensures sound { OnOk result (IsSound store.new) }
     ensures unchanged { OnErr result ((s : ℕ) → slice_index_or (forms_of store.new.stored.items) s None ≡ slice_index_or (forms_of store.old.stored.items) s None) }
     ensures entered { OnOk result (HasEntered form store.old.stored.items store.new.stored.items run.old.opens.items run.new.opens.items run.old.candidates.items run.new.candidates.items) }
+    ensures longer { OnOk result (
+        AreLonger store.old.occurrences.items store.new.occurrences.items) }
     ensures variables { store.new.variables ≡ store.old.variables }
     ensures trail { run.new.trail ≡ run.old.trail }
     ensures rest { (run.new.assignment ≡ run.old.assignment) × (run.new.work ≡ run.old.work) × (run.new.next ≡ run.old.next) × (run.new.visits ≡ run.old.visits) }

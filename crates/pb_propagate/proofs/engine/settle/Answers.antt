@@ -1,8 +1,6 @@
-use Rattle.std.specs.Prelude.{filter}
 use Rattle.std.proofs.Common.{length, ◌∙◌, arith}
 use Rattle.pb_propagate.specs.engine.Engine.Counts.{none}
 use Rattle.pb_propagate.proofs.lemmas.clauses.Watching.{ready-running}
-use Rattle.pb_propagate.specs.engine.Engine.Rest.{waits}
 use Rattle.pb_propagate.specs.engine.Engine.Fields.{shapes_of}
 use Rattle.pb_propagate.specs.engine.Engine.Rest.{derived}
 use Rattle.pb_propagate.specs.engine.Clauses.Shapes.{clauses_of}
@@ -27,11 +25,11 @@ returns-clause-ended c = λ found.
     }
 
 pub propagate-requires-clause-tidy : goal.propagate-requires-clause-tidy
-propagate-requires-clause-tidy c = c.in_ok-assume.ensures.tidy (filter (waits c.args.store.now.stored.items) c.args.waiting.now) (length c.args.store.now.stored.items) c.requires.tidy
+propagate-requires-clause-tidy c = c.in_ok-assume.ensures.tidy c.args.waiting.now (length c.args.store.now.stored.items) c.requires.tidy
 
 pub returns-then-branch-clause-undone : goal.returns-then-branch-clause-undone
 returns-then-branch-clause-undone c =
-    let t = c.in_ok-assume.ensures.tidy (filter (waits c.args.store.now.stored.items) c.args.waiting.now) (length c.args.store.now.stored.items) c.requires.tidy in
+    let t = c.in_ok-assume.ensures.tidy c.args.waiting.now (length c.args.store.now.stored.items) c.requires.tidy in
     record { clean = t.clean; named = t.marked }
 
 pub returns-then-branch-clause-running : goal.returns-then-branch-clause-running
@@ -65,3 +63,6 @@ returns-then-branch-clause-candidates c = c.in_ok-assume.ensures.advances.candid
 
 pub returns-clause-values : goal.returns-clause-values
 returns-clause-values c = c.in_ok-found.ensures.values ∙ c.in_ok-assume.ensures.advances.values
+
+pub propagate-requires-clause-running : goal.propagate-requires-clause-running
+propagate-requires-clause-running c = ready-running c.args.clauses.now c.assume.new.run.assignment.values.items c.requires.ready (omega (arith, c.requires.widths, c.requires.values, c.in_ok-assume.ensures.advances.values))

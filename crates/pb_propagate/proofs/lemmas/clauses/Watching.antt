@@ -66,10 +66,10 @@ ready-running c values r sizes = record {
   sizes = sizes;
 }
 
-pub watching-start : (c : Clauses) (values : List (Option Bool)) (list : List NumberedLiteral) (n : ℕ) → AreReady c → length c.lists.items ≡ 4 * length values → n ≤ length list → AreWalked values c.watches.items (walked_codes n list) → IsWatching c c values list (record { short = n; long = n })
-watching-start c values list n r sizes within walked = record {
+pub watching-start : (c : Clauses) (values : List (Option Bool)) (list : List NumberedLiteral) (n : ℕ) → IsRunning values c → n ≤ length list → AreWalked values c.watches.items (walked_codes n list) → IsWatching c c values list (record { short = n; long = n })
+watching-start c values list n running within walked = record {
   literals = refl;
-  running = ready-running c values r sizes;
+  running = running;
   short = within;
   long = within;
   served = walked;

@@ -1,9 +1,9 @@
 -- The number of visits of a propagation, in terms of the live forms.
-use Rattle.std.specs.Prelude.{sum_by, map, Option, Some, None, filter}
-use Rattle.std.proofs.Common.{suc, get_or, sym, subst, ◌≡◌, ℕ, ◌+◌, ◌-◌, ◌*◌, ◌^◌, ◌<◌, ◌≤◌, ◌∷◌, [], List, Bool, true, false, refl, ap, arith, inl, inr, length}
+use Rattle.std.specs.Prelude.{sum_by, map, Option, Some, None, filter, slice_get}
+use Rattle.std.proofs.Common.{zero, suc, get_or, set, get_or-set_other, sym, ◌∙◌, subst, ◌≡◌, ℕ, ◌+◌, ◌-◌, ◌*◌, ◌^◌, ◌<◌, ◌≤◌, ◌∷◌, [], List, Bool, true, false, refl, ap, arith, inl, inr, length}
 use Rattle.std.proofs.lemmas.Bool.{cases_lt, cases_Bool}
 use Rattle.std.proofs.lemmas.List.{length-map}
-use Rattle.std.proofs.lemmas.List.Sums.{sum_by-cons}
+use Rattle.std.proofs.lemmas.List.Sums.{sum_by-cons, sum_by-set}
 use Rattle.std.proofs.lemmas.List.Sorted.{length_permutation}
 use Rattle.pb_normal.specs.meaning.Form.{Form}
 use Rattle.pb_propagate.specs.declared.store.stored_form.StoredForm.{StoredForm}
@@ -13,7 +13,8 @@ use Rattle.pb_propagate.specs.engine.Engine.Counts.{AreFound}
 use Rattle.pb_propagate.specs.engine.Engine.Fields.{shapes_of, stored_shape}
 use Rattle.pb_propagate.specs.engine.Engine.Terms.{terms_of}
 use Rattle.pb_propagate.specs.engine.Engine.Live.{terms_in, one_in}
-use Rattle.pb_propagate.specs.engine.Engine.Rest.{IsSlot, AreSlots, eager_one}
+use Rattle.pb_propagate.specs.engine.Engine.Rest.{IsSlot, AreSlots, eager_one, waits}
+use Rattle.pb_propagate.specs.engine.Engine.Slots.{form_at}
 use Rattle.pb_propagate.specs.engine.Clauses.Links.{list_at}
 use Rattle.pb_propagate.specs.engine.Clauses.Shapes.{one_term, slot_shape, joined, AreJoined}
 use Rattle.pb_propagate.proofs.lemmas.clauses.Slots.{joined-none}
@@ -83,6 +84,42 @@ eager-both (o ∷ os) (k ∷ ks) (codes ∷ clauses) bare a =
 
 pub slots-eager : (os : List (Option Form)) (keep : List StoredForm) (clauses : List (List ℕ)) → AreJoined (shapes_of keep) clauses → AreSlots os (joined (shapes_of keep) clauses) → sum_by eager_one keep ≤ sum_by one_in os
 slots-eager os keep clauses j a = eager-both os keep clauses j.apart a
+
+-- a form that may propagate with nothing assigned is in its slot
+pub waits-form : (os : List (Option Form)) (keep : List StoredForm) (clauses : List (List ℕ)) (s : ℕ) → AreSlots os (joined (shapes_of keep) clauses) → waits keep s ≡ true → (f : Form) × (form_at os s ≡ Some f)
+waits-form os [] clauses s a w = absurd (let e : false ≡ true = w in cc)
+waits-form [] (k ∷ ks) [] s a w = absurd (let e : true ≡ false = a in cc)
+waits-form [] (k ∷ ks) (codes ∷ clauses) s a w = absurd (let e : true ≡ false = a in cc)
+waits-form (o ∷ os) (k ∷ ks) [] (suc s) a w = waits-form os ks [] s (subst (AreSlots os) (sym (joined-none (shapes_of ks))) a.1) w
+waits-form (o ∷ os) (k ∷ ks) (codes ∷ clauses) (suc s) a w = waits-form os ks clauses s a.1 w
+waits-form (o ∷ os) (k ∷ ks) [] zero a w = its o [] a.0 w
+  where
+    its : (p : Option Form) (codes : List ℕ) → IsSlot p (slot_shape (stored_shape k) codes) → k.eager ≡ true → (f : Form) × (p ≡ Some f)
+    its (Some f) codes e eager = (f, refl)
+    its None [] e eager = absurd (let some = k.busy eager in omega (arith, some, ap length e.0, e.1))
+    its None (x ∷ codes) e eager = absurd (omega (arith, ap length e.0, length-map (x ∷ codes) one_term))
+waits-form (o ∷ os) (k ∷ ks) (codes ∷ clauses) zero a w = its o codes a.0 w
+  where
+    its : (p : Option Form) (xs : List ℕ) → IsSlot p (slot_shape (stored_shape k) xs) → k.eager ≡ true → (f : Form) × (p ≡ Some f)
+    its (Some f) xs e eager = (f, refl)
+    its None [] e eager = absurd (let some = k.busy eager in omega (arith, some, ap length e.0, e.1))
+    its None (x ∷ xs) e eager = absurd (omega (arith, ap length e.0, length-map (x ∷ xs) one_term))
+
+-- a form is in one of the slots
+pub form-inside : (os : List (Option Form)) (n : ℕ) (f : Form) → form_at os n ≡ Some f → n < length os
+form-inside [] n f h = absurd (let e : None ≡ Some f = h in cc)
+form-inside (o ∷ os) zero f h = omega arith
+form-inside (o ∷ os) (suc n) f h = let less = form-inside os n f h in omega (arith, less)
+
+-- no more slots have a form than there are forms
+pub listed-few : (os : List (Option Form)) (list : List ℕ) → ((i j s : ℕ) → slice_get list i ≡ Some s → slice_get list j ≡ Some s → i ≡ j) → ((i s : ℕ) → slice_get list i ≡ Some s → (f : Form) × (form_at os s ≡ Some f)) → length list ≤ sum_by one_in os
+listed-few os [] apart live = omega arith
+listed-few os (x ∷ xs) apart live =
+    let f = live 0 x refl in
+    let inside : x < length os = form-inside os x f.0 f.1 in
+    let change = sum_by-set one_in os x None None inside in
+    let rest = listed-few (set os x None) xs (λ i j s h k. let same = apart (suc i) (suc j) s h k in omega (arith, same)) (λ i s h. let g = live (suc i) s h in (g.0, get_or-set_other os x s None None (λ e. absurd (let same = apart 0 (suc i) s (ap (λ y. Some y) (sym e)) h in omega (arith, same))) ∙ g.1)) in
+    omega (arith, rest, change, ap one_in f.1)
 
 -- no more forms wait than are on the list
 pub filter-few : (p : ℕ → Bool) (xs : List ℕ) → length (filter p xs) ≤ length xs

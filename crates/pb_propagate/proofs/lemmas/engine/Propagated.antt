@@ -1,8 +1,7 @@
-use Rattle.std.specs.Prelude.{Contains, sum, sum_by, filter, Bool, true, false}
-use Rattle.std.proofs.Common.{◌≡◌, ℕ, ◌+◌, ◌-◌, ◌*◌, ◌<◌, ◌≤◌, ◌++◌, ◌∷◌, [], List, cond, refl, sym, ◌∙◌, ap, arith, take, drop, length, length-append, get_or}
-use Rattle.std.proofs.lemmas.List.{append-nil, drop_more, drop_all, take-append-drop}
-use Rattle.std.proofs.lemmas.List.Elements.{All-push, filter-append}
-use Rattle.std.proofs.lemmas.List.Filters.{length-filter_more}
+use Rattle.std.specs.Prelude.{Contains, sum, sum_by}
+use Rattle.std.proofs.Common.{◌≡◌, ℕ, ◌+◌, ◌-◌, ◌*◌, ◌<◌, ◌≤◌, ◌++◌, ◌∷◌, [], List, refl, sym, ◌∙◌, ap, arith, take, drop, length, length-append, get_or}
+use Rattle.std.proofs.lemmas.List.{drop_more, drop_all, length-take}
+use Rattle.std.proofs.lemmas.List.Elements.{All-push}
 use Rattle.std.proofs.lemmas.List.{get_or_read}
 use Rattle.pb_normal.specs.declared.numbered.NumberedLiteral.{NumberedLiteral}
 use Rattle.pb_propagate.specs.declared.store.Store.{Store}
@@ -10,7 +9,7 @@ use Rattle.pb_propagate.specs.declared.rests.Rests.{Rests}
 use Rattle.pb_propagate.specs.engine.Engine.Lists.{Shape, Derives, Extends, begin, IsSettled}
 use Rattle.pb_propagate.specs.engine.Engine.Fields.{shapes_of, stored_shape}
 use Rattle.pb_propagate.specs.engine.Engine.Counts.{beside, IsTidy, IsAbsent, AreSingle, AreFalling, spent}
-use Rattle.pb_propagate.specs.engine.Engine.Progress.{Progress, Database, database, queued_to, taken_to, IsOpen, IsTidyAt, VisitsEach, Costs, Spends, Advances}
+use Rattle.pb_propagate.specs.engine.Engine.Progress.{Progress, Database, database, queued_to, taken_to, IsOpen, IsTidyAt, VisitsEach, Costs, Spends, Advances, queued}
 use Rattle.pb_propagate.proofs.lemmas.engine.Derivations.{derivation-then}
 use Rattle.pb_propagate.proofs.lemmas.engine.Runs.{Tidy-next, calm-settled, absent-push, absent-new, absent-more, absent-cons}
 use Rattle.pb_propagate.proofs.lemmas.engine.Sources.{source}
@@ -19,32 +18,35 @@ use Rattle.pb_propagate.proofs.lemmas.engine.Spent.{spent-le}
 use Rattle.pb_propagate.proofs.lemmas.engine.Advances.{costs-refl, costs-then, costs-as}
 use Rattle.pb_propagate.proofs.lemmas.root.Extends.{extends-then, spent-extends, reached-extends}
 use Rattle.pb_propagate.proofs.lemmas.clauses.Watching.{reached}
+use Rattle.pb_propagate.specs.engine.Clauses.Walked.{fallen}
 use Rattle.pb_propagate.specs.declared.heads.Heads.{Heads}
 
--- a propagation between two visits: `extra` is what the visits to clauses may have cost, and `whole` has the constraints of
--- all slots
-pub record IsPropagating (d : Database) (whole : List Shape) (p : ℕ → Bool) (waiting : List ℕ) (n extra taken : ℕ) (start now : Progress) : Type 0 where
+-- a propagation between two visits: `extra` is what the visits to clauses may have cost, `before` what those had cost that
+-- were made at its start, and `whole` has the constraints of all slots
+pub record IsPropagating (d : Database) (whole : List Shape) (waiting : List ℕ) (n before extra taken : ℕ) (start now : Progress) : Type 0 where
   pub derived : Derives whole start.list now.list
   pub counted : IsOpen d now
-  pub tidy : IsTidyAt d (filter p (drop taken waiting)) n now
-  pub costs : Costs d 0 (extra + (now.next - start.next)) start now
-  pub works : length now.work + spent d.lists start.list ≤ length (start.work ++ filter p (take taken waiting)) + spent d.lists now.list
+  pub tidy : IsTidyAt d (drop taken waiting) n now
+  pub costs : Costs d before (extra + (now.next - start.next)) start now
+  pub works : length now.work + spent d.lists start.list ≤ length (start.work ++ take taken waiting) + spent d.lists now.list
   pub started : start.next ≤ now.next
   pub found : VisitsEach start now
+  pub rising : start.visits ≤ now.visits
   pub values : length now.values ≡ length start.values
   pub open_sizes : length now.opens ≡ n
   pub candidate_sizes : length now.candidates ≡ n
   pub within : now.next ≤ length now.work
 
-pub propagating-start : (d : Database) (whole : List Shape) (p : ℕ → Bool) (waiting : List ℕ) (n extra : ℕ) (start : Progress) → IsOpen d start → IsTidyAt d (filter p waiting) n start → length start.opens ≡ n → length start.candidates ≡ n → start.next ≤ length start.work → IsPropagating d whole p waiting n extra 0 start start
-propagating-start d whole p waiting n extra start counted tidy o c within = record {
+pub propagating-start : (d : Database) (whole : List Shape) (waiting : List ℕ) (n before : ℕ) (start : Progress) → IsOpen d start → IsTidyAt d waiting n start → length start.opens ≡ n → length start.candidates ≡ n → start.next ≤ length start.work → IsPropagating d whole waiting n before before 0 start start
+propagating-start d whole waiting n before start counted tidy o c within = record {
   derived = begin;
   counted = counted;
   tidy = tidy;
-  costs = costs-as 0 (extra + (start.next - start.next)) (omega arith) (costs-refl d start);
+  costs = costs-as before (before + (start.next - start.next)) (omega arith) (costs-refl d start);
   works = omega (arith, length-append start.work []);
   started = omega arith;
   found = λ few. omega arith;
+  rising = omega arith;
   values = refl;
   open_sizes = o;
   candidate_sizes = c;
@@ -52,43 +54,36 @@ propagating-start d whole p waiting n extra start counted tidy o c within = reco
 }
 
 -- a waiting form is put to work
-choose-tidy : (g : Rests) (p : ℕ → Bool) (rest : List ℕ) (forms : List Shape) (opens cands : List ℕ) (list : List NumberedLiteral) (work work' trail trail' : List ℕ) (next busy x : ℕ) (b : Bool) → p x ≡ b → x < length forms → next ≤ length work → work' ≡ work ++ cond b (x ∷ []) [] → trail' ≡ trail ++ cond b (x ∷ []) [] → IsTidy (beside g (cond b (x ∷ filter p rest) (filter p rest))) forms opens cands list work trail next busy → IsTidy (beside g (filter p rest)) forms opens cands list work' trail' next busy
-choose-tidy g p rest forms opens cands list work work' trail trail' next busy x true h inside within longer noted r = rw (longer, noted) (record {
-  calm = λ s d room idle off gone. r.calm s d room idle (absent-cons x (filter p rest) s (λ e. absent-new work x next s within gone (sym e)) off) (absent-push work x next s gone);
+taken-tidy : (g : Rests) (rest : List ℕ) (forms : List Shape) (opens cands : List ℕ) (list : List NumberedLiteral) (work trail : List ℕ) (next busy x : ℕ) → x < length forms → next ≤ length work → IsTidy (beside g (x ∷ rest)) forms opens cands list work trail next busy → IsTidy (beside g rest) forms opens cands list (work ++ (x ∷ [])) (trail ++ (x ∷ [])) next busy
+taken-tidy g rest forms opens cands list work trail next busy x inside within r = record {
+  calm = λ s d room idle off gone. r.calm s d room idle (absent-cons x rest s (λ e. absent-new work x next s within gone (sym e)) off) (absent-push work x next s gone);
   passed = r.passed;
   bounded = r.bounded;
   clean = λ s d room gone. r.clean s d room (absent-push trail x 0 s gone);
   named = All-push (λ s. s < length forms) work x r.named inside;
   marked = All-push (λ s. s < length forms) trail x r.marked inside;
   traced = λ s gone. absent-more work x s (absent-new trail x 0 s (omega arith) gone) (r.traced s (absent-push trail x 0 s gone));
-})
-choose-tidy g p rest forms opens cands list work work' trail trail' next busy x false h inside within longer noted r = rw (longer, append-nil work, noted, append-nil trail) r
+}
 
-pub propagating-choose : {d : Database} {whole : List Shape} {p : ℕ → Bool} {waiting : List ℕ} {n extra taken : ℕ} {start now : Progress} (x : ℕ) (work trail : List ℕ) → IsPropagating d whole p waiting n extra taken start now → taken < length waiting → x ≡ get_or waiting taken x → x < length d.forms → work ≡ now.work ++ filter p (x ∷ []) → trail ≡ now.trail ++ filter p (x ∷ []) → IsPropagating d whole p waiting n extra (taken + 1) start (queued_to work trail now)
-propagating-choose {d} {whole} {p} {waiting} {n} {extra} {taken} {start} {now} x work trail s less is inside longer noted =
+pub propagating-take : {d : Database} {whole : List Shape} {waiting : List ℕ} {n before extra taken : ℕ} {start now : Progress} (x : ℕ) (work trail : List ℕ) → IsPropagating d whole waiting n before extra taken start now → taken < length waiting → x ≡ get_or waiting taken x → x < length d.forms → work ≡ now.work ++ (x ∷ []) → trail ≡ now.trail ++ (x ∷ []) → IsPropagating d whole waiting n before extra (taken + 1) start (queued_to work trail now)
+propagating-take {d} {whole} {waiting} {n} {before} {extra} {taken} {start} {now} x work trail s less is inside longer noted =
     let rest = drop (taken + 1) waiting in
     let ahead : drop taken waiting ≡ x ∷ rest = drop_more waiting taken x less ∙ ap (λ y. y ∷ rest) (sym is) in
-    let more : work ≡ now.work ++ cond (p x) (x ∷ []) [] = longer in
-    let also : trail ≡ now.trail ++ cond (p x) (x ∷ []) [] = noted in
-    let counted : length (filter p (take (taken + 1) waiting)) ≡ length (filter p (take taken waiting)) + cond (p x) 1 0 = length-filter_more p waiting taken x less ∙ ap (λ y. length (filter p (take taken waiting)) + cond (p y) 1 0) (sym is) in
-    let grown : length work ≡ length now.work + cond (p x) 1 0 = ap length more ∙ length-append now.work (cond (p x) (x ∷ []) []) ∙ ap (λ k. length now.work + k) (one-or-none (p x) x) in
+    let grown : length work ≡ length now.work + 1 = ap length longer ∙ length-append now.work (x ∷ []) in
     record {
       derived = s.derived;
       counted = s.counted;
-      tidy = choose-tidy d.rests p rest d.forms now.opens now.candidates now.list now.work work now.trail trail now.next n x (p x) refl inside s.within more also (rw ahead at s.tidy);
+      tidy = rw (longer, noted) (taken-tidy d.rests rest d.forms now.opens now.candidates now.list now.work now.trail now.next n x inside s.within (rw ahead at s.tidy));
       costs = record { extends = s.costs.extends; single = s.costs.single; paid = s.costs.paid };
-      works = omega (arith, s.works, grown, counted, length-append start.work (filter p (take taken waiting)), length-append start.work (filter p (take (taken + 1) waiting)));
+      works = omega (arith, s.works, grown, length-append start.work (take taken waiting), length-append start.work (take (taken + 1) waiting), length-take taken waiting, length-take (taken + 1) waiting, less);
       started = s.started;
       found = s.found;
+      rising = s.rising;
       values = s.values;
       open_sizes = s.open_sizes;
       candidate_sizes = s.candidate_sizes;
       within = omega (arith, s.within, grown);
     }
-  where
-    one-or-none : (b : Bool) (y : ℕ) → length (cond b (y ∷ []) []) ≡ cond b 1 0
-    one-or-none true y = refl
-    one-or-none false y = refl
 
 pub propagating-visit : (d : Database) (aside : List ℕ) {n : ℕ} (now : Progress) (form : ℕ) → length d.forms ≡ n → now.next < length now.work → form ≡ get_or now.work now.next form → IsTidyAt d aside n now → IsTidyAt d aside form (taken_to (now.next + 1) now)
 propagating-visit d aside {n} now form e inside is t =
@@ -97,20 +92,21 @@ propagating-visit d aside {n} now form e inside is t =
     rw read (Tidy-next (beside d.rests aside) d.forms now.opens now.candidates now.list now.work now.trail now.next busy)
 
 -- after a visit to a form of the work list
-pub propagating-next : {d : Database} {whole : List Shape} {p : ℕ → Bool} {waiting : List ℕ} {n extra taken : ℕ} {start now after : Progress} (extra' : ℕ) → IsPropagating d whole p waiting n extra taken start now → Derives whole now.list after.list → IsOpen d after → IsTidyAt d (filter p (drop taken waiting)) n after → Advances d 0 1 (taken_to (now.next + 1) now) after → VisitsEach now after → now.next < length now.work → extra' ≡ extra → IsPropagating d whole p waiting n extra' taken start after
-propagating-next {d} {whole} {p} {waiting} {n} {extra} {taken} {start} {now} {after} extra' s derived counted tidy a found inside same =
+pub propagating-next : {d : Database} {whole : List Shape} {waiting : List ℕ} {n before extra taken : ℕ} {start now after : Progress} (extra' : ℕ) → IsPropagating d whole waiting n before extra taken start now → Derives whole now.list after.list → IsOpen d after → IsTidyAt d (drop taken waiting) n after → Advances d 0 1 (taken_to (now.next + 1) now) after → VisitsEach now after → now.next < length now.work → extra' ≡ extra → IsPropagating d whole waiting n before extra' taken start after
+propagating-next {d} {whole} {waiting} {n} {before} {extra} {taken} {start} {now} {after} extra' s derived counted tidy a found inside same =
     let step : Costs d 0 1 now after = record { extends = a.costs.extends; single = a.costs.single; paid = a.costs.paid } in
     record {
       derived = derivation-then whole start.list now.list after.list s.derived derived;
       counted = counted;
       tidy = tidy;
-      costs = costs-as 0 (extra' + (after.next - start.next)) (omega (arith, a.next, s.started, same)) (costs-then s.costs step);
+      costs = costs-as before (extra' + (after.next - start.next)) (omega (arith, a.next, s.started, same)) (costs-then s.costs step);
       works = omega (arith, s.works, a.work);
       started = omega (arith, s.started, a.next);
       found = λ few.
           let one = s.found (omega (arith, a.rising, few)) in
           let two = found few in
           omega (arith, one, two);
+      rising = omega (arith, s.rising, a.rising);
       values = a.values ∙ s.values;
       open_sizes = a.opens ∙ s.open_sizes;
       candidate_sizes = a.candidates ∙ s.candidate_sizes;
@@ -118,8 +114,8 @@ propagating-next {d} {whole} {p} {waiting} {n} {extra} {taken} {start} {now} {af
     }
 
 -- after the walk over a literal's watches
-pub propagating-walk : {d : Database} {whole : List Shape} {p : ℕ → Bool} {waiting : List ℕ} {n extra taken : ℕ} {start now after : Progress} {m k : ℕ} (extra' : ℕ) → IsPropagating d whole p waiting n extra taken start now → Derives whole now.list after.list → IsOpen d after → IsTidyAt d (filter p (drop taken waiting)) n after → Advances d m k now after → VisitsEach now after → after.candidates ≡ now.candidates → after.visits + spent d.lists now.list + extra ≤ now.visits + extra' + spent d.lists after.list → IsPropagating d whole p waiting n extra' taken start after
-propagating-walk {d} {whole} {p} {waiting} {n} {extra} {taken} {start} {now} {after} extra' s derived counted tidy a found same paid =
+pub propagating-walk : {d : Database} {whole : List Shape} {waiting : List ℕ} {n before extra taken : ℕ} {start now after : Progress} {m k : ℕ} (extra' : ℕ) → IsPropagating d whole waiting n before extra taken start now → Derives whole now.list after.list → IsOpen d after → IsTidyAt d (drop taken waiting) n after → Advances d m k now after → VisitsEach now after → after.candidates ≡ now.candidates → after.visits + spent d.lists now.list + extra ≤ now.visits + extra' + spent d.lists after.list → IsPropagating d whole waiting n before extra' taken start after
+propagating-walk {d} {whole} {waiting} {n} {before} {extra} {taken} {start} {now} {after} extra' s derived counted tidy a found same paid =
     record {
       derived = derivation-then whole start.list now.list after.list s.derived derived;
       counted = counted;
@@ -127,7 +123,7 @@ propagating-walk {d} {whole} {p} {waiting} {n} {extra} {taken} {start} {now} {af
       costs = record {
         extends = extends-then start.list now.list after.list s.costs.extends a.costs.extends;
         single = λ one. a.costs.single (s.costs.single one);
-        paid = sums now.visits after.visits start.visits extra extra' now.next after.next start.next (sum start.candidates) (sum now.candidates) (sum after.candidates) (spent d.lists start.list) (spent d.lists now.list) (spent d.lists after.list) s.costs.paid paid (ap sum same) a.next;
+        paid = sums now.visits after.visits start.visits before extra extra' now.next after.next start.next (sum start.candidates) (sum now.candidates) (sum after.candidates) (spent d.lists start.list) (spent d.lists now.list) (spent d.lists after.list) s.costs.paid paid (ap sum same) a.next;
       };
       works = omega (arith, s.works, a.work);
       started = omega (arith, s.started, a.next);
@@ -135,31 +131,29 @@ propagating-walk {d} {whole} {p} {waiting} {n} {extra} {taken} {start} {now} {af
           let one = s.found (omega (arith, a.rising, few)) in
           let two = found few in
           omega (arith, one, two);
+      rising = omega (arith, s.rising, a.rising);
       values = a.values ∙ s.values;
       open_sizes = a.opens ∙ s.open_sizes;
       candidate_sizes = a.candidates ∙ s.candidate_sizes;
       within = omega (arith, s.within, a.next, a.longer);
     }
   where
-    sums : (v w v0 x x' m m' m0 c0 c1 c2 s0 s1 s2 : ℕ) → v + 0 + c0 + s0 ≤ v0 + (x + (m - m0)) + c1 + s1 → w + s1 + x ≤ v + x' + s2 → c2 ≡ c1 → m' ≡ m → w + 0 + c0 + s0 ≤ v0 + (x' + (m' - m0)) + c2 + s2
-    sums v w v0 x x' m m' m0 c0 c1 c2 s0 s1 s2 h k q r = omega arith
-
-fewer : (p : ℕ → Bool) (xs : List ℕ) (k : ℕ) → length (filter p (take k xs)) ≤ length (filter p xs)
-fewer p xs k = omega (arith, length-append (filter p (take k xs)) (filter p (drop k xs)), ap length (sym (filter-append p (take k xs) (drop k xs))), ap (λ ys. length (filter p ys)) (take-append-drop k xs))
+    sums : (v w v0 b x x' m m' m0 c0 c1 c2 s0 s1 s2 : ℕ) → v + b + c0 + s0 ≤ v0 + (x + (m - m0)) + c1 + s1 → w + s1 + x ≤ v + x' + s2 → c2 ≡ c1 → m' ≡ m → w + b + c0 + s0 ≤ v0 + (x' + (m' - m0)) + c2 + s2
+    sums v w v0 b x x' m m' m0 c0 c1 c2 s0 s1 s2 h k q r = omega arith
 
 -- the work list has a bound
-pub propagating-bound : {d : Database} {whole : List Shape} {p : ℕ → Bool} {waiting : List ℕ} {n extra taken : ℕ} {start now : Progress} → AreSingle start.list → IsPropagating d whole p waiting n extra taken start now → length now.work ≤ length start.work + length (filter p waiting) + sum_by length d.lists
-propagating-bound {d} {whole} {p} {waiting} {n} {extra} {taken} {start} {now} single s =
+pub propagating-bound : {d : Database} {whole : List Shape} {waiting : List ℕ} {n before extra taken : ℕ} {start now : Progress} → AreSingle start.list → IsPropagating d whole waiting n before extra taken start now → length now.work ≤ length start.work + length waiting + sum_by length d.lists
+propagating-bound {d} {whole} {waiting} {n} {before} {extra} {taken} {start} {now} single s =
     let bound = spent-le d.lists now.list (s.costs.single single) in
-    omega (arith, bound, s.works, length-append start.work (filter p (take taken waiting)), fewer p waiting taken)
+    omega (arith, bound, s.works, length-append start.work (take taken waiting), length-take taken waiting)
 
-pub propagating-settled : (store : Store) (rests : Rests) {whole : List Shape} {p : ℕ → Bool} {waiting : List ℕ} {extra taken : ℕ} {start now : Progress} → IsPropagating (database store rests) whole p waiting (length store.stored.items) extra taken start now → length now.work ≤ now.next → length waiting ≤ taken → (f : Shape) → Contains (shapes_of store.stored.items) f → IsSettled f now.list
-propagating-settled store rests {whole} {p} {waiting} {extra} {taken} {start} {now} state all none_waits f (s, inside, is) =
+pub propagating-settled : (store : Store) (rests : Rests) {whole : List Shape} {waiting : List ℕ} {before extra taken : ℕ} {start now : Progress} → IsPropagating (database store rests) whole waiting (length store.stored.items) before extra taken start now → length now.work ≤ now.next → length waiting ≤ taken → (f : Shape) → Contains (shapes_of store.stored.items) f → IsSettled f now.list
+propagating-settled store rests {whole} {waiting} {before} {extra} {taken} {start} {now} state all none_waits f (s, inside, is) =
     let keep = store.stored.items in
     let from = source stored_shape keep s f inside is in
     let busy : s ≡ length keep → ⊥ = λ e. absurd (omega (arith, e, from.inside)) in
-    let empty : filter p (drop taken waiting) ≡ [] = ap (filter p) (drop_all taken waiting none_waits) in
-    let off : IsAbsent (filter p (drop taken waiting)) 0 s = rw empty (λ i after less at. absurd (omega (arith, less))) in
+    let empty : drop taken waiting ≡ [] = drop_all taken waiting none_waits in
+    let off : IsAbsent (drop taken waiting) 0 s = rw empty (λ i after less at. absurd (omega (arith, less))) in
     let gone : IsAbsent now.work now.next s = λ i after less at. absurd (omega (arith, after, less, all)) in
     let calm = rw is at (state.tidy.calm s f inside busy off gone) in
     let passed = rw is at (state.tidy.passed s f inside) in
@@ -168,19 +162,22 @@ propagating-settled store rests {whole} {p} {waiting} {extra} {taken} {start} {n
     calm-settled f (get_or now.opens s 0) (get_or now.candidates s 0) now.list falling sum_now calm passed
 
 -- the number of visits, also if the propagation was abandoned
-pub propagating-upper : {d : Database} {whole : List Shape} {p : ℕ → Bool} {waiting : List ℕ} {n extra taken : ℕ} {start now : Progress} (after : Progress) (extra' made : ℕ) → IsPropagating d whole p waiting n extra taken start now → Extends now.list after.list → start.next ≤ length start.work → now.next + made ≤ length now.work → after.visits + sum now.candidates + spent d.lists now.list + extra ≤ now.visits + made + sum after.candidates + spent d.lists after.list + extra' → after.visits + sum start.candidates ≤ start.visits + ((length start.work + length (filter p waiting)) - start.next) + 2 * spent d.lists after.list + sum after.candidates + extra'
-propagating-upper {d} {whole} {p} {waiting} {n} {extra} {taken} {start} {now} after extra' made s more begun room covered =
-    sums now.visits after.visits start.visits now.next start.next (length start.work) (length (filter p waiting)) (length (filter p (take taken waiting))) (length now.work) (sum start.candidates) (sum now.candidates) (sum after.candidates) (spent d.lists start.list) (spent d.lists now.list) (spent d.lists after.list) made extra extra' s.costs.paid covered (omega (arith, s.works, length-append start.work (filter p (take taken waiting)))) (fewer p waiting taken) (spent-extends d.lists now.list after.list more) begun s.started room
+pub propagating-upper : {d : Database} {whole : List Shape} {waiting : List ℕ} {n before extra taken : ℕ} {start now : Progress} (extra' : ℕ) (after : Progress) (made : ℕ) → AreSingle start.list → start.next ≤ length start.work → IsPropagating d whole waiting n before extra taken start now → Extends now.list after.list → (AreSingle now.list → AreSingle after.list) → sum after.candidates ≤ sum_by (λ f. length f.terms) d.forms → now.next + made ≤ length now.work → after.visits + sum now.candidates + spent d.lists now.list + extra ≤ now.visits + made + sum after.candidates + spent d.lists after.list + extra' → Spends d before (queued waiting start + extra') start after
+propagating-upper {d} {whole} {waiting} {n} {before} {extra} {taken} {start} {now} extra' after made single begun s more one bounded room covered = record {
+  extends = extends-then start.list now.list after.list s.costs.extends more;
+  single = one (s.costs.single single);
+  bounded = bounded;
+  upper = sums now.visits after.visits start.visits now.next start.next (length start.work) (length waiting) (length (take taken waiting)) (length now.work) (sum start.candidates) (sum now.candidates) (sum after.candidates) (spent d.lists start.list) (spent d.lists now.list) (spent d.lists after.list) made before extra extra' s.costs.paid covered (omega (arith, s.works, length-append start.work (take taken waiting))) (omega (arith, length-take taken waiting)) (spent-extends d.lists now.list after.list more) begun s.started room;
+}
   where
-    sums : (v v' v0 m m0 w0 f k w c0 c c' s0 s s' l x x' : ℕ) → v + 0 + c0 + s0 ≤ v0 + (x + (m - m0)) + c + s → v' + c + s + x ≤ v + l + c' + s' + x' → w + s0 ≤ w0 + k + s → k ≤ f → s ≤ s' → m0 ≤ w0 → m0 ≤ m → m + l ≤ w → v' + c0 ≤ v0 + ((w0 + f) - m0) + 2 * s' + c' + x'
-    sums v v' v0 m m0 w0 f k w c0 c c' s0 s s' l x x' a b d e h i j r = omega arith
+    sums : (v v' v0 m m0 w0 f k w c0 c c' s0 s s' l b x x' : ℕ) → v + b + c0 + s0 ≤ v0 + (x + (m - m0)) + c + s → v' + c + s + x ≤ v + l + c' + s' + x' → w + s0 ≤ w0 + k + s → k ≤ f → s ≤ s' → m0 ≤ w0 → m0 ≤ m → m + l ≤ w → v' + b + c0 + 2 * s0 ≤ v0 + (((w0 + f) - m0) + x') + c' + 2 * s'
+    sums v v' v0 m m0 w0 f k w c0 c c' s0 s s' l b x x' a z d e h i j r = omega arith
 
-pub propagating-spends : {d : Database} {whole : List Shape} {p : ℕ → Bool} {waiting : List ℕ} {n extra taken : ℕ} {start now : Progress} (clauses : List (List ℕ)) (h : Heads) (after : Progress) (made : ℕ) → AreSingle start.list → start.next ≤ length start.work → IsPropagating d whole p waiting n extra taken start now → Extends now.list after.list → (AreSingle now.list → AreSingle after.list) → sum after.candidates ≤ sum_by (λ f. length f.terms) d.forms → now.next + made ≤ length now.work → after.visits + sum now.candidates + spent d.lists now.list + extra ≤ now.visits + made + sum after.candidates + spent d.lists after.list + (2 * reached clauses h now.list + sum_by length clauses) → Spends d clauses (filter p waiting) start after
-propagating-spends {d} {whole} {p} {waiting} {n} {extra} {taken} {start} {now} clauses h after made single begun s more one bounded room covered =
-    let upper = propagating-upper after (2 * reached clauses h now.list + sum_by length clauses) made s more begun room covered in
-    record {
-      extends = extends-then start.list now.list after.list s.costs.extends more;
-      single = one (s.costs.single single);
-      bounded = bounded;
-      upper = omega (arith, upper, reached-extends clauses now.list after.list h more);
-    }
+-- visits that were paid more dearly
+pub spends-as : {d : Database} {m n k : ℕ} {a b : Progress} → n ≤ k → Spends d m n a b → Spends d m k a b
+spends-as h s = record { extends = s.extends; single = s.single; bounded = s.bounded; upper = omega (arith, s.upper, h) }
+
+-- the same for the clauses that were visited
+pub propagating-spends : {d : Database} {whole : List Shape} {waiting : List ℕ} {n before extra taken : ℕ} {start now : Progress} (clauses : List (List ℕ)) (h : Heads) (searched : ℕ) (after : Progress) (made : ℕ) → AreSingle start.list → start.next ≤ length start.work → IsPropagating d whole waiting n before extra taken start now → Extends now.list after.list → (AreSingle now.list → AreSingle after.list) → sum after.candidates ≤ sum_by (λ f. length f.terms) d.forms → now.next + made ≤ length now.work → after.visits + sum now.candidates + spent d.lists now.list + extra ≤ now.visits + made + sum after.candidates + spent d.lists after.list + (2 * reached clauses h now.list + searched) → Spends d before (queued waiting start + (2 * fallen clauses after.list + searched)) start after
+propagating-spends {d} {whole} {waiting} {n} {before} {extra} {taken} {start} {now} clauses h searched after made single begun s more one bounded room covered =
+    spends-as (omega (arith, reached-extends clauses now.list after.list h more)) (propagating-upper (2 * reached clauses h now.list + searched) after made single begun s more one bounded room covered)

@@ -1,11 +1,11 @@
 -- The engine between two calls: what a call finds, and what it leaves.
 use Rattle.std.specs.Prelude.{All, map, filter, Option, Some, None, slice_get, Contains}
 use Rattle.std.proofs.Common.{◌≡◌, ℕ, zero, suc, ◌+◌, ◌-◌, ◌<◌, ◌≤◌, ◌⊎◌, ◌++◌, ◌∷◌, [], List, Bool, true, false, refl, sym, ◌∙◌, ap, subst, arith, inl, inr, length, get_or, take, set, length-append}
-use Rattle.std.proofs.lemmas.Bool.{cases_lt, cases_Bool, both_ways}
+use Rattle.std.proofs.lemmas.Bool.{cases_lt}
 use Rattle.std.proofs.Math.Seq.{take-append_seam}
 use Rattle.std.proofs.lemmas.Option.{same_Some}
 use Rattle.std.proofs.lemmas.List.{ext_get_or, get_or-map, length-map, map-append, get_or_append_left, append-nil}
-use Rattle.std.proofs.lemmas.List.Elements.{Contains-push_cases, Contains-append_left, All-nil, All-cons, filter-append}
+use Rattle.std.proofs.lemmas.List.Elements.{Contains-push_cases, Contains-append_left, All-nil, All-cons}
 use Rattle.pb_normal.specs.meaning.Form.{Form}
 use Rattle.pb_normal.specs.meaning.Rules.{opposite}
 use Rattle.pb_normal.specs.declared.entry.Entry.{Entry}
@@ -92,19 +92,6 @@ calm-but keep work e = record {
       rw shape calm;
 }
 
--- only the forms that wait stay on the list
-filter-tail : (p : ℕ → Bool) (x : ℕ) (xs : List ℕ) (s : ℕ) (b : Bool) → p x ≡ b → IsAbsent (filter p (x ∷ xs)) 0 s → IsAbsent (filter p xs) 0 s
-filter-tail p x xs s true e gone i from less at = gone (suc i) (omega arith) (rw e (omega (arith, less))) (rw e at)
-filter-tail p x xs s false e gone i from less at = gone i from (rw e less) (rw e at)
-
-filter-head : (p : ℕ → Bool) (x : ℕ) (xs : List ℕ) (s : ℕ) → p x ≡ true → IsAbsent (filter p (x ∷ xs)) 0 s → x ≡ s → ⊥
-filter-head p x xs s e gone same = gone 0 (omega arith) (rw e (omega arith)) (rw e same)
-
-filter-has : (p : ℕ → Bool) (xs : List ℕ) (s : ℕ) → p s ≡ true → IsAbsent (filter p xs) 0 s → IsAbsent xs 0 s
-filter-has p [] s h gone i from less at = omega (arith, less)
-filter-has p (x ∷ xs) s h gone zero from less at = filter-head p x xs s (ap p at ∙ h) gone at
-filter-has p (x ∷ xs) s h gone (suc i) from less at = filter-has p xs s h (filter-tail p x xs s (p x) refl gone) i (omega arith) (omega (arith, less)) at
-
 filter-all : (P : ℕ → Type 0) (p : ℕ → Bool) (xs : List ℕ) → All P xs → All P (filter p xs)
 filter-all P p [] all = all
 filter-all P p (x ∷ xs) all = by_head (p x) refl (filter-all P p xs (λ i d h. all (suc i) d (omega (arith, h))))
@@ -116,16 +103,6 @@ filter-all P p (x ∷ xs) all = by_head (p x) refl (filter-all P p xs (λ i d h.
     by_head : (b : Bool) → p x ≡ b → All P (filter p xs) → All P (filter p (x ∷ xs))
     by_head true e a = rw e (grown (filter p xs) a)
     by_head false e a = rw e a
-
--- the list without the forms that were removed
-pub eager-filter : (keep : List StoredForm) (eager : List ℕ) → IsEager keep eager → IsEager keep (filter (waits keep) eager)
-eager-filter keep eager e = record {
-  named = filter-all (λ s. s < length keep) (waits keep) eager e.named;
-  aside = λ s less gone. elim (cases_Bool (waits keep s)) [
-    | inr idle ↦ idle
-    | inl waiting ↦ absurd (both_ways _ (e.aside s less (filter-has (waits keep) eager s waiting gone)) waiting)
-  ];
-}
 
 -- a form was added
 pub waits-before : (keep : List StoredForm) (k : StoredForm) (s : ℕ) → s < length keep → waits (keep ++ (k ∷ [])) s ≡ waits keep s
@@ -289,29 +266,17 @@ opposite-inside es n all k d h =
     omega (arith, ap (λ (x : Entry). x.variable) is, ap (λ (x : Entry). x.variable) (e.at e.value), small)
 
 -- what a propagation from no literals needs at its start, if all forms that may propagate with nothing assigned wait
-pub rest-tidy-all : (rests : Rests) (keep : List StoredForm) (eager opens cands : List ℕ) → rests.opens.items ≡ [] → rests.starts.items ≡ [] → AreAtRest keep opens cands → IsEager keep eager → IsTidy (beside rests (filter (waits keep) eager)) (shapes_of keep) opens cands [] [] [] 0 (length keep)
+pub rest-tidy-all : (rests : Rests) (keep : List StoredForm) (eager opens cands : List ℕ) → rests.opens.items ≡ [] → rests.starts.items ≡ [] → AreAtRest keep opens cands → IsEager keep eager → IsTidy (beside rests eager) (shapes_of keep) opens cands [] [] [] 0 (length keep)
 rest-tidy-all rests keep eager opens cands bare plain rest e =
-    let waiting = filter (waits keep) eager in
-    let whole : IsEager keep (waiting ++ []) = subst (IsEager keep) (sym (append-nil waiting)) (eager-filter keep eager e) in
-    let tidy = rest-tidy rests waiting (shapes_of keep) opens cands [] bare plain (rest-undone rests keep opens cands bare plain rest) (λ i d less. absurd (omega (arith, less))) (calm-but keep (waiting ++ []) whole) in
+    let whole : IsEager keep (eager ++ []) = subst (IsEager keep) (sym (append-nil eager)) e in
+    let tidy = rest-tidy rests eager (shapes_of keep) opens cands [] bare plain (rest-undone rests keep opens cands bare plain rest) (λ i d less. absurd (omega (arith, less))) (calm-but keep (eager ++ []) whole) in
     rw (length-map keep stored_shape) at tidy
 
 -- the same, if one of the forms is put to work first
-filter-twice : (p : ℕ → Bool) (x : ℕ) → filter p (filter p (x ∷ [])) ≡ filter p (x ∷ [])
-filter-twice p x = at (p x) refl
-  where
-    at : (b : Bool) → p x ≡ b → filter p (filter p (x ∷ [])) ≡ filter p (x ∷ [])
-    at true e = rw (e, e) refl
-    at false e = rw e refl
-
-pub rest-tidy-first : (rests : Rests) (keep : List StoredForm) (eager opens cands work trail : List ℕ) (number : ℕ) → rests.opens.items ≡ [] → rests.starts.items ≡ [] → number < length keep → work ≡ filter (waits keep) (number ∷ []) → trail ≡ filter (waits keep) (number ∷ []) → AreAtRest keep opens cands → IsEager keep (eager ++ filter (waits keep) (number ∷ [])) → IsTidy (beside rests (filter (waits keep) eager)) (shapes_of keep) opens cands [] work trail 0 (length keep)
+pub rest-tidy-first : (rests : Rests) (keep : List StoredForm) (eager opens cands work trail : List ℕ) (number : ℕ) → rests.opens.items ≡ [] → rests.starts.items ≡ [] → number < length keep → work ≡ filter (waits keep) (number ∷ []) → trail ≡ filter (waits keep) (number ∷ []) → AreAtRest keep opens cands → IsEager keep (eager ++ filter (waits keep) (number ∷ [])) → IsTidy (beside rests eager) (shapes_of keep) opens cands [] work trail 0 (length keep)
 rest-tidy-first rests keep eager opens cands work trail number bare plain inside is noted rest e =
-    let waiting = filter (waits keep) eager in
     let first = filter (waits keep) (number ∷ []) in
-    let once : filter (waits keep) first ≡ first = filter-twice (waits keep) number in
-    let split : filter (waits keep) (eager ++ first) ≡ waiting ++ first = filter-append (waits keep) eager first ∙ ap (λ (xs : List ℕ). waiting ++ xs) once in
-    let whole : IsEager keep (waiting ++ first) = subst (IsEager keep) split (eager-filter keep (eager ++ first) e) in
     let P : ℕ → Type 0 = λ s. s < length (shapes_of keep) in
     let named = filter-all P (waits keep) (number ∷ []) (All-cons P number [] (omega (arith, inside, length-map keep stored_shape)) (All-nil P)) in
-    let tidy = rest-tidy rests waiting (shapes_of keep) opens cands first bare plain (rest-undone rests keep opens cands bare plain rest) named (calm-but keep (waiting ++ first) whole) in
+    let tidy = rest-tidy rests eager (shapes_of keep) opens cands first bare plain (rest-undone rests keep opens cands bare plain rest) named (calm-but keep (eager ++ first) e) in
     rw (is, noted) (rw (length-map keep stored_shape) at tidy)

@@ -1,6 +1,6 @@
 -- A form that was added comes to the root.
-use Rattle.std.specs.Prelude.{All, Contains, Option, Bool, Some, slice_get, ◌/◌}
-use Rattle.std.proofs.Common.{Vec, Global, ◌≡◌, ℕ, ◌+◌, ◌*◌, ◌<◌, ◌≤◌, ◌⊎◌, ◌++◌, ◌∷◌, [], List, true, false, refl, sym, ◌∙◌, ap, subst, inl, inr, arith, length, length-append, get_or, set, get_or-set_same, get_or-set_other}
+use Rattle.std.specs.Prelude.{All, Contains, Option, Bool, Some, None, slice_get, ◌/◌}
+use Rattle.std.proofs.Common.{Vec, Global, ◌≡◌, ℕ, zero, suc, ◌+◌, ◌*◌, ◌<◌, ◌≤◌, ◌⊎◌, ◌++◌, ◌∷◌, [], List, true, false, refl, sym, ◌∙◌, ap, subst, inl, inr, arith, length, length-append, get_or, set, get_or-set_same, get_or-set_other}
 use Rattle.std.proofs.lemmas.Bool.{cases_eq, cases_lt, both_ways}
 use Rattle.std.proofs.lemmas.List.{length-map, get_or-map, get_or_append_left, get_or_push, get_or_default}
 use Rattle.std.proofs.lemmas.Option.{get_or_from_slice_get, slice_get-get_or, slice_get_within}
@@ -14,11 +14,14 @@ use Rattle.pb_propagate.specs.declared.clauses.Clauses.{Clauses}
 use Rattle.pb_propagate.specs.declared.clauses.lists.Watch.{Watch}
 use Rattle.pb_propagate.specs.engine.Engine.Lists.{Shape, open_sum, size, has}
 use Rattle.pb_propagate.specs.engine.Engine.Counts.{Grown, pushed, spared, IsAbsent, IsCalm, IsCounted, IsTidy, beside, weight_in}
-use Rattle.pb_propagate.specs.engine.Engine.Fields.{shapes_of, stored_shape}
-use Rattle.pb_propagate.specs.engine.Engine.Root.{IsRooted, IsServed, HasGained, HasReached}
+use Rattle.pb_propagate.specs.engine.Engine.Fields.{shapes_of, forms_of, stored_shape}
+use Rattle.pb_propagate.specs.engine.Engine.Root.{IsRooted, IsServed, HasForm, HasGained, HasReached}
+use Rattle.pb_propagate.specs.engine.Engine.Slots.{form_at}
+use Rattle.pb_propagate.specs.declared.eager.Eager.{Eager}
+use Rattle.pb_normal.specs.meaning.Form.{Form}
 use Rattle.pb_propagate.specs.engine.Clauses.Truths.{flip, true_at, false_at}
-use Rattle.pb_propagate.specs.engine.Clauses.Links.{list_at, watch_at}
-use Rattle.pb_propagate.specs.engine.Clauses.Runs.{AreStored, AreWalked}
+use Rattle.pb_propagate.specs.engine.Clauses.Links.{lists_of, list_at, watch_at}
+use Rattle.pb_propagate.specs.engine.Clauses.Runs.{AreStored, AreReady, AreWalked}
 use Rattle.pb_propagate.specs.engine.Clauses.Shapes.{one_term, slot_shape, joined, clauses_of, all_of}
 use Rattle.pb_propagate.specs.engine.Clauses.Walked.{walked_codes}
 use Rattle.pb_propagate.proofs.lemmas.clauses.Shapes.{joined-at, joined-length}
@@ -59,8 +62,8 @@ pub record Arrived (before store : Store) (old clauses : Clauses) (run run' : Ru
   pub open_none : get_or run'.opens.items slot 0 ≡ 0
   pub cand_none : get_or run'.candidates.items slot 0 ≡ 0
 
-pub arrived : (before store : Store) (old clauses : Clauses) (run run' : Run) (rests rests' : Rests) (slot : ℕ) → slot < length store.stored.items → IsRooted before old run rests (length before.stored.items) → HasGained before old store clauses slot → HasReached run run' rests rests' slot → Arrived before store old clauses run run' slot
-arrived before store old clauses run run' rests rests' slot inside r g h = elim h.lists [
+pub arrived : (before store : Store) (old clauses : Clauses) (run run' : Run) (rests rests' : Rests) (waiting waiting' : Eager) (slot : ℕ) → slot < length store.stored.items → IsRooted before old run rests waiting (length before.stored.items) → HasGained before old store clauses slot → HasReached run run' rests rests' waiting waiting' slot → Arrived before store old clauses run run' slot
+arrived before store old clauses run run' rests rests' waiting waiting' slot inside r g h = elim h.lists [
   | inl stay ↦ by_longer stay g.longer
   | inr grown ↦ by_new grown g.longer
 ]
@@ -101,10 +104,26 @@ arrived before store old clauses run run' rests rests' slot inside r g h = elim 
         older_at s h n (inl less) = less
         older_at s h n (inr past) = absurd (n (omega (arith, h, past, new.0, new.1)))
 
+-- a form that stays in its slot
+pub form-kept : (before store : Store) (s : ℕ) {X : Type 0} → X → (X → slice_get store.stored.items s ≡ slice_get before.stored.items s) → HasForm before s → HasForm store s
+form-kept before store s x kept h = (h.0, form-of store.stored.items before.stored.items s (kept x) ∙ h.1)
+  where
+    form-of : (xs ys : List StoredForm) (n : ℕ) → slice_get xs n ≡ slice_get ys n → form_at (forms_of xs) n ≡ form_at (forms_of ys) n
+    form-of xs ys n same = form-read xs n ∙ ap form-in same ∙ sym (form-read ys n)
+      where
+        form-in : Option StoredForm → Option Form
+        form-in None = None
+        form-in (Some k) = k.terms.form
+
+        form-read : (zs : List StoredForm) (m : ℕ) → form_at (forms_of zs) m ≡ form-in (slice_get zs m)
+        form-read [] m = refl
+        form-read (z ∷ zs) zero = refl
+        form-read (z ∷ zs) (suc m) = form-read zs m
+
 -- the root for all forms but the new one
-pub gained-rooted : (before store : Store) (old clauses : Clauses) (run run' : Run) (rests rests' : Rests) (slot : ℕ) → slot < length store.stored.items → IsRooted before old run rests (length before.stored.items) → HasGained before old store clauses slot → HasReached run run' rests rests' slot →
-    AreWalked run.assignment.values.items clauses.watches.items (walked_codes (length run.assignment.list.items) run.assignment.list.items) → IsRooted store clauses run' rests' slot
-gained-rooted before store old clauses run run' rests rests' slot inside r g h walked = record {
+pub gained-rooted : (before store : Store) (old clauses : Clauses) (run run' : Run) (rests rests' : Rests) (waiting waiting' : Eager) (slot : ℕ) → slot < length store.stored.items → IsRooted before old run rests waiting (length before.stored.items) → HasGained before old store clauses slot → HasReached run run' rests rests' waiting waiting' slot →
+    AreWalked run.assignment.values.items clauses.watches.items (walked_codes (length run.assignment.list.items) run.assignment.list.items) → IsRooted store clauses run' rests' waiting' slot
+gained-rooted before store old clauses run run' rests rests' waiting waiting' slot inside r g h walked = record {
   values = ap (λ (x : Assignment). length x.values.items) h.assignment ∙ r.values ∙ sym g.variables;
   opens = opens_same;
   starts = starts_same;
@@ -116,7 +135,7 @@ gained-rooted before store old clauses run run' rests rests' slot inside r g h w
   tidy = record {
     calm = λ s d less apart off gone.
         let was = a.older s (omega (arith, less, length-map store.stored.items stored_shape)) apart in
-        let calm = r.tidy.calm s d (omega (arith, was, length-map before.stored.items stored_shape)) (λ e. absurd (omega (arith, e, was))) off gone in
+        let calm = r.tidy.calm s d (omega (arith, was, length-map before.stored.items stored_shape)) (λ e. absurd (omega (arith, e, was))) (rw h.waits at off) gone in
         rw (shape s d was apart, a.opens s was apart, a.cands s was apart) calm;
     passed = λ s d less k f early within. elim (cases_eq s slot) [
       | inl one ↦ absurd (omega (arith, early, ap (λ j. get_or run'.candidates.items j 0) one, a.cand_none))
@@ -144,10 +163,12 @@ gained-rooted before store old clauses run run' rests rests' slot inside r g h w
   next = h.next ∙ r.next;
   derived = rw h.assignment (derives-without (all_of before old) (all_of store clauses) [] run.assignment.list.items (λ x c. source x c) r.derived);
   walked = rw h.assignment walked;
+  seats = h.seats (r.seats ∙ sym r.open_sizes) ∙ a.sizes;
+  live = λ i s at. form-kept before store s (λ one. g.empty (subst (HasForm before) one (r.live i s (rw h.waits at at)))) (g.kept s) (r.live i s (rw h.waits at at));
 }
   where
     a : Arrived before store old clauses run run' slot
-    a = arrived before store old clauses run run' rests rests' slot inside r g h
+    a = arrived before store old clauses run run' rests rests' waiting waiting' slot inside r g h
 
     opens_same : run'.opens.items ≡ rests'.opens.items
     opens_same = elim h.lists [
@@ -203,6 +224,14 @@ no-watch clauses ws ls slot e stored none here live =
     let there = stored.watched e live in
     omega (arith, there.1, ap length (ap (list_at clauses) here ∙ none))
 
+-- the root for all forms but the new one, which is no clause
+pub admitted-rooted : (before store : Store) (old clauses : Clauses) (run run' : Run) (rests rests' : Rests) (waiting waiting' : Eager) (slot : ℕ) → slot < length store.stored.items → IsRooted before old run rests waiting (length before.stored.items) → HasGained before old store clauses slot → HasReached run run' rests rests' waiting waiting' slot →
+    AreReady clauses → list_at (clauses_of clauses) slot ≡ [] → IsRooted store clauses run' rests' waiting' slot
+admitted-rooted before store old clauses run run' rests rests' waiting waiting' slot inside r g h ready none =
+    let codes = walked_codes (length run.assignment.list.items) run.assignment.list.items in
+    let walked = served-walked run.assignment.values.items old.watches.items clauses.watches.items codes slot g.watched (λ e here live k. absurd (no-watch (clauses_of clauses) clauses.watches.items (lists_of clauses.lists.items) slot e ready.stored none here live)) r.walked in
+    gained-rooted before store old clauses run run' rests rests' waiting waiting' slot inside r g h walked
+
 -- two served watches
 pub served-watch : (values : List (Option Bool)) (ws : List Watch) (codes : List ℕ) (slot e : ℕ) → ((x : ℕ) → Contains codes x → false_at values x ≡ true) → IsServed values ws slot → e / 2 ≡ slot → Contains codes (watch_at ws e).literal → true_at values (watch_at ws (flip e)).literal ≡ true
 served-watch values ws codes slot e failed served here h = by served (cases_eq e (2 * slot))
@@ -228,8 +257,8 @@ served-watch values ws codes slot e failed served here h = by served (cases_eq e
     by (inr (inr free)) (inr n) = absurd (both_ways _ (ap (λ t. false_at values (watch_at ws t).literal) (second n) ∙ free.1) low)
 
 -- a clause adds nothing to the occurrence lists
-pub clause-rooted : (store : Store) (clauses : Clauses) (run : Run) (rests : Rests) (slot : ℕ) → slot < length store.stored.items → ((d : Shape) → ((get_or (shapes_of store.stored.items) slot d).terms ≡ []) × ((get_or (shapes_of store.stored.items) slot d).degree ≡ 0)) → get_or run.opens.items slot 0 ≡ 0 → IsRooted store clauses run rests slot → IsRooted store clauses run rests (length store.stored.items)
-clause-rooted store clauses run rests slot inside bare none r = record {
+pub clause-rooted : (store : Store) (clauses : Clauses) (run : Run) (rests : Rests) (waiting : Eager) (slot : ℕ) → slot < length store.stored.items → ((d : Shape) → ((get_or (shapes_of store.stored.items) slot d).terms ≡ []) × ((get_or (shapes_of store.stored.items) slot d).degree ≡ 0)) → get_or run.opens.items slot 0 ≡ 0 → IsRooted store clauses run rests waiting slot → IsRooted store clauses run rests waiting (length store.stored.items)
+clause-rooted store clauses run rests waiting slot inside bare none r = record {
   values = r.values;
   opens = r.opens;
   starts = r.starts;
@@ -259,6 +288,8 @@ clause-rooted store clauses run rests slot inside bare none r = record {
   next = r.next;
   derived = r.derived;
   walked = r.walked;
+  seats = r.seats;
+  live = r.live;
 }
 
 -- what a propagation needs after a form was laid on the root
@@ -276,9 +307,16 @@ slot-counted forms opens lowered list n room counted low = record {
       ];
 }
 
-pub slot-tidy : (rests : Rests) (forms : List Shape) (opens cands lowered : List ℕ) (list : List NumberedLiteral) (work trail : List ℕ) (n : ℕ) → n < length forms → n < length opens → IsTidy (beside rests []) forms opens cands list [] [] 0 n → ((d : Shape) → lowered ≡ set opens n (open_sum list (get_or forms n d).terms)) →
-    Grown ((d : Shape) (c : ℕ) → IsCalm (get_or forms n d) (open_sum list (get_or forms n d).terms) c) n [] work → trail ≡ n ∷ [] → IsTidy (beside rests []) forms lowered cands list work trail 0 (length forms)
-slot-tidy rests forms opens cands lowered list work trail n inside_n room tidy low queued noted = record {
+-- the work list after a form was put to it if it needs that
+pub grown-off : {P : Type 0} (n : ℕ) (w : List ℕ) → Grown P n [] w → (s : ℕ) → (s ≡ n → ⊥) → IsAbsent w 0 s
+grown-off n _ pushed s other i from less found =
+    let first : i ≡ 0 = omega (arith, less) in
+    other (sym found ∙ ap (λ j. get_or (n ∷ []) j 0) first)
+grown-off n _ (spared calm) s other i from less found = absurd (omega (arith, less))
+
+pub slot-tidy : (rests : Rests) (aside : List ℕ) (forms : List Shape) (opens cands lowered : List ℕ) (list : List NumberedLiteral) (work trail : List ℕ) (n : ℕ) → n < length forms → n < length opens → IsTidy (beside rests aside) forms opens cands list [] [] 0 n → ((d : Shape) → lowered ≡ set opens n (open_sum list (get_or forms n d).terms)) →
+    Grown ((d : Shape) (c : ℕ) → IsCalm (get_or forms n d) (open_sum list (get_or forms n d).terms) c) n [] work → trail ≡ n ∷ [] → IsTidy (beside rests aside) forms lowered cands list work trail 0 (length forms)
+slot-tidy rests aside forms opens cands lowered list work trail n inside_n room tidy low queued noted = record {
   calm = λ s d inside idle off gone. elim (cases_eq s n) [
     | inl one ↦
         let calm = needless work queued gone one d (get_or cands s 0) in
@@ -296,7 +334,7 @@ slot-tidy rests forms opens cands lowered list work trail n inside_n room tidy l
   marked = rw noted (one_less (λ s. s < length forms) n inside_n);
   traced = λ s gone.
       let other : s ≡ n → ⊥ = λ e. gone 0 (omega arith) (omega (arith, ap length noted)) (ap (λ xs. get_or xs 0 0) noted ∙ sym e) in
-      off_work work queued s other;
+      grown-off n work queued s other;
 }
   where
     at_slot : (s : ℕ) (d : Shape) → s ≡ n → get_or lowered s 0 ≡ open_sum list (get_or forms s d).terms
@@ -317,9 +355,3 @@ slot-tidy rests forms opens cands lowered list work trail n inside_n room tidy l
     all_work : (w : List ℕ) → Grown ((d : Shape) (c : ℕ) → IsCalm (get_or forms n d) (open_sum list (get_or forms n d).terms) c) n [] w → All (λ s. s < length forms) w
     all_work _ pushed = one_less (λ s. s < length forms) n inside_n
     all_work _ (spared calm) = λ i d less. absurd (omega (arith, less))
-
-    off_work : (w : List ℕ) → Grown ((d : Shape) (c : ℕ) → IsCalm (get_or forms n d) (open_sum list (get_or forms n d).terms) c) n [] w → (s : ℕ) → (s ≡ n → ⊥) → IsAbsent w 0 s
-    off_work _ pushed s other i from less found =
-        let first : i ≡ 0 = omega (arith, less) in
-        other (sym found ∙ ap (λ j. get_or (n ∷ []) j 0) first)
-    off_work _ (spared calm) s other i from less found = absurd (omega (arith, less))

@@ -1,6 +1,6 @@
 -- A form came into a slot.
-use Rattle.std.specs.Prelude.{Some, slice_get, ◌/◌}
-use Rattle.std.proofs.Common.{◌≡◌, ℕ, ◌+◌, ◌*◌, ◌<◌, ◌≤◌, ◌++◌, ◌∷◌, [], List, sym, ◌∙◌, ap, inl, inr, arith, length, length-append, get_or, set, length-set, get_or-set_other}
+use Rattle.std.specs.Prelude.{Some, None, slice_get, ◌/◌}
+use Rattle.std.proofs.Common.{◌≡◌, ℕ, ◌+◌, ◌*◌, ◌<◌, ◌≤◌, ◌++◌, ◌∷◌, [], List, sym, ◌∙◌, ap, inl, inr, arith, length, length-append, get_or, set, length-set, get_or-set_same, get_or-set_other}
 use Rattle.std.proofs.lemmas.Bool.{cases_lt, cases_eq}
 use Rattle.std.proofs.lemmas.List.{length-map, get_or_append_left, get_or_past, get_or_push}
 use Rattle.std.proofs.lemmas.Option.{slice_get_within, get_or_from_slice_get}
@@ -9,7 +9,10 @@ use Rattle.pb_propagate.specs.declared.store.Store.{Store}
 use Rattle.pb_propagate.specs.declared.clauses.Clauses.{Clauses}
 use Rattle.pb_propagate.specs.declared.clauses.lists.Watch.{Watch}
 use Rattle.pb_propagate.specs.engine.Engine.Lists.{Shape}
-use Rattle.pb_propagate.specs.engine.Engine.Fields.{shapes_of, stored_shape}
+use Rattle.pb_propagate.specs.engine.Engine.Fields.{shapes_of, forms_of, stored_shape}
+use Rattle.pb_propagate.specs.engine.Engine.Slots.{form_at}
+use Rattle.pb_normal.specs.meaning.Form.{Form}
+use Rattle.pb_propagate.proofs.lemmas.store.Changes.{forms-filled, forms-length}
 use Rattle.pb_propagate.specs.engine.Engine.Root.{HasWidened, HasGained}
 use Rattle.pb_propagate.specs.engine.Clauses.Links.{list_at, watch_at, idle}
 use Rattle.pb_propagate.specs.engine.Clauses.Shapes.{slot_shape, joined, clauses_of, all_of}
@@ -46,13 +49,15 @@ vacant-bare xs clauses s x v at =
     ap (λ (f : Shape). f.terms) (sym is ∙ shape) ∙ v.terms x
 
 -- a form in a vacant slot
-pub gained-filled : (before store : Store) (old clauses : Clauses) (slot : ℕ) (k : StoredForm) → store.variables ≡ before.variables → store.stored.items ≡ set before.stored.items slot k → ((s : ℕ) → (s ≡ slot → ⊥) → list_at (clauses_of clauses) s ≡ list_at (clauses_of old) s) → ((e : ℕ) → (e / 2 ≡ slot → ⊥) → watch_at clauses.watches.items e ≡ watch_at old.watches.items e) → IsVacant (shapes_of before.stored.items) (clauses_of old) slot → HasGained before old store clauses slot
-gained-filled before store old clauses slot k variables keeps filled watched v = record {
+pub gained-filled : (before store : Store) (old clauses : Clauses) (slot : ℕ) (k : StoredForm) → store.variables ≡ before.variables → store.stored.items ≡ set before.stored.items slot k → ((s : ℕ) → (s ≡ slot → ⊥) → list_at (clauses_of clauses) s ≡ list_at (clauses_of old) s) → ((e : ℕ) → (e / 2 ≡ slot → ⊥) → watch_at clauses.watches.items e ≡ watch_at old.watches.items e) → IsVacant (shapes_of before.stored.items) (clauses_of old) slot → slice_get (forms_of before.stored.items) slot ≡ Some None → (f : Form) → k.terms.form ≡ Some f → HasGained before old store clauses slot
+gained-filled before store old clauses slot k variables keeps filled watched v none f some = record {
   variables = variables;
   longer = inl (ap length keeps ∙ length-set before.stored.items slot k);
   kept = λ s apart. ap (λ xs. slice_get xs s) keeps ∙ get-set_other before.stored.items slot s k apart;
   filled = filled;
   bare = λ x at. vacant-bare (shapes_of before.stored.items) (clauses_of old) slot x v at;
+  empty = λ h. absurd (let e : None ≡ Some h.0 = sym (get_or_from_slice_get (forms_of before.stored.items) slot None None none) ∙ h.1 in cc);
+  full = (f, ap (λ fs. form_at fs slot) (forms-filled before.stored.items store.stored.items k slot (Some f) keeps some) ∙ get_or-set_same (forms_of before.stored.items) slot (Some f) None (slice_get_within (forms_of before.stored.items) slot None none));
   watched = watched;
 }
 
@@ -65,6 +70,8 @@ gained-both before mid store old between clauses slot variables w g = elim w.kep
     kept = λ s apart. g.kept s apart ∙ ap (λ xs. slice_get xs s) same.0;
     filled = λ s apart. g.filled s apart ∙ ap (λ cs. list_at cs s) same.1;
     bare = λ x at. g.bare x (ap (λ xs. slice_get (joined (shapes_of xs) (clauses_of between)) slot) same.0 ∙ ap (λ cs. slice_get (joined (shapes_of before.stored.items) cs) slot) same.1 ∙ at);
+    empty = λ h. g.empty (h.0, ap (λ xs. form_at (forms_of xs) slot) same.0 ∙ h.1);
+    full = g.full;
     watched = λ e apart. g.watched e apart ∙ w.watched e;
   }
   | inr new ↦ record {
@@ -76,6 +83,8 @@ gained-both before mid store old between clauses slot variables w g = elim w.kep
     kept = λ s apart. g.kept s apart ∙ ap (λ xs. slice_get xs s) new.2 ∙ get-push_other before.stored.items s new.1 (λ is. apart (is ∙ sym new.0));
     filled = λ s apart. g.filled s apart ∙ ap (λ cs. list_at cs s) new.3 ∙ none-push (clauses_of old) s;
     bare = λ x at. absurd (omega (arith, slice_get_within (all_of before old) slot x at, new.0, joined-length (shapes_of before.stored.items) (clauses_of old), length-map before.stored.items stored_shape));
+    empty = λ h. absurd (let e : None ≡ Some h.0 = sym (get_or_past (forms_of before.stored.items) slot None (omega (arith, new.0, forms-length before.stored.items))) ∙ h.1 in cc);
+    full = g.full;
     watched = λ e apart. g.watched e apart ∙ w.watched e;
   }
 ]

@@ -1,9 +1,9 @@
 -- The form of a slot goes, and the root stays.
 use Rattle.std.specs.Prelude.{Contains, Option, Bool, Some, map, slice_get, ◌/◌}
-use Rattle.std.proofs.Common.{Vec, Global, ◌≡◌, ℕ, ◌<◌, ◌⊎◌, [], List, true, false, refl, sym, ◌∙◌, ap, subst, inl, inr, arith, length, get_or, set, length-set, get_or-set_same, get_or-set_other}
+use Rattle.std.proofs.Common.{Vec, Global, ◌≡◌, ℕ, ◌<◌, ◌⊎◌, ◌∷◌, [], List, true, false, refl, sym, ◌∙◌, ap, subst, inl, inr, arith, length, get_or, set, length-set, get_or-set_same, get_or-set_other}
 use Rattle.std.proofs.lemmas.Bool.{cases_eq, both_ways}
 use Rattle.std.proofs.lemmas.List.{length-map, get_or-map, get_or_default, map-set}
-use Rattle.std.proofs.lemmas.Option.{slice_get-get_or, get_or_from_slice_get}
+use Rattle.std.proofs.lemmas.Option.{slice_get-get_or, get_or_from_slice_get, slice_get_within}
 use Rattle.pb_normal.specs.declared.numbered.NumberedLiteral.{NumberedLiteral}
 use Rattle.pb_normal.specs.meaning.Rules.{negation}
 use Rattle.pb_propagate.specs.declared.term.Term.{Term}
@@ -13,22 +13,27 @@ use Rattle.pb_propagate.specs.declared.assignment.Assignment.{Assignment}
 use Rattle.pb_propagate.specs.declared.store.Store.{Store}
 use Rattle.pb_propagate.specs.declared.store.stored_form.StoredForm.{StoredForm}
 use Rattle.pb_propagate.specs.declared.clauses.Clauses.{Clauses}
-use Rattle.pb_propagate.specs.engine.Engine.Lists.{Shape, has, says, open_sum, size}
+use Rattle.pb_propagate.specs.engine.Engine.Lists.{Shape, Puts, IsWithin, has, says, open_part, open_sum, size}
 use Rattle.pb_propagate.specs.engine.Engine.Fields.{shapes_of, stored_shape}
-use Rattle.pb_propagate.specs.engine.Engine.Root.{IsRooted, IsSpare, HasOpen, HasTrue, HasVacated, HasLost, IsSameWatch}
+use Rattle.pb_propagate.specs.engine.Engine.Root.{IsRooted, IsSpare, IsFree, IsReplaced, HasUnit, HasTrue, HasVacated, HasLost, IsSameWatch}
 use Rattle.pb_propagate.specs.engine.Clauses.Truths.{flip, true_at}
 use Rattle.pb_propagate.specs.engine.Clauses.Links.{lists_of, list_at, watch_at}
 use Rattle.pb_propagate.specs.engine.Clauses.Runs.{AreReady, AreWalked}
-use Rattle.pb_propagate.specs.engine.Clauses.Shapes.{one_term, literal_at, clause_shape, slot_shape, joined, clauses_of, all_of}
+use Rattle.pb_propagate.specs.engine.Clauses.Shapes.{AreJoined, one_term, literal_at, clause_shape, slot_shape, joined, clauses_of, all_of}
 use Rattle.pb_propagate.specs.engine.Clauses.Walked.{walked_codes}
 use Rattle.pb_propagate.proofs.lemmas.clauses.Linked.{lists-length}
-use Rattle.pb_propagate.proofs.lemmas.clauses.Literals.{true-listed, false-listed}
-use Rattle.pb_propagate.proofs.lemmas.clauses.Shapes.{joined-at, two-open}
+use Rattle.pb_propagate.proofs.lemmas.clauses.Literals.{false-listed}
+use Rattle.pb_propagate.proofs.lemmas.clauses.Shapes.{joined-at, joined-length, two-open}
 use Rattle.pb_propagate.proofs.lemmas.clauses.Slots.{joined-cleared}
 use Rattle.pb_propagate.proofs.lemmas.clauses.Truths.{flip-half}
 use Rattle.pb_propagate.proofs.lemmas.engine.Values.{Agree}
-use Rattle.pb_propagate.proofs.lemmas.root.Admitted.{no-watch}
-use Rattle.pb_propagate.proofs.lemmas.root.Rooted.{derives-spare, only-one, unused-spare}
+use Rattle.pb_propagate.proofs.lemmas.root.Admitted.{no-watch, form-kept}
+use Rattle.pb_propagate.specs.engine.Engine.Waiting.{IsWithout}
+use Rattle.pb_propagate.specs.declared.eager.Eager.{Eager}
+use Rattle.pb_propagate.proofs.lemmas.store.Gets.{get-set_other}
+use Rattle.pb_propagate.proofs.lemmas.root.Rooted.{derives-spare, IsPutBy, puts-other, only-one, unused-spare}
+use Rattle.pb_propagate.proofs.lemmas.engine.Literals.{open_part-open}
+use Rattle.std.proofs.lemmas.List.Sums.{sum_by-cons}
 
 -- a term of a clause is one of its literals, with coefficient 1
 clause-term : (codes : List ℕ) (l : NumberedLiteral) (c : ℕ) → Contains (map one_term codes) (record { literal = l; coefficient = c }) → (x : ℕ) × Contains codes x × (literal_at x ≡ l) × (c ≡ 1)
@@ -38,24 +43,69 @@ clause-term codes l c (k, within, at) =
     let one : one_term (get_or codes k 0) ≡ t = sym (get_or-map one_term codes k 0 t inside) ∙ at in
     (get_or codes k 0, (k, inside, get_or_default codes k (get_or codes k 0) 0 inside), ap (λ (y : Term). y.literal) one, sym (ap (λ (y : Term). y.coefficient) one))
 
--- a clause with an open literal has put none
-pub open-spare : (values : List (Option Bool)) (list : List NumberedLiteral) (codes : List ℕ) → Agree values list → HasOpen values codes → IsSpare (clause_shape codes) list
-open-spare values list codes agree (m, among, untrue, unfalse) l earlier on within puts =
+not-within : (a b : List NumberedLiteral) (k : NumberedLiteral) → ((j : NumberedLiteral) → has a j ≡ true → has b j ≡ true) → has b k ≡ false → has a k ≡ false
+not-within a b k w none = by (has a k) refl
+  where
+    by : (v : Bool) → has a k ≡ v → has a k ≡ false
+    by true h = absurd (both_ways _ none (w k h))
+    by false h = h
+
+-- a literal that a clause has put, at any time before, is the only one that is not falsified
+pub put-code : (values : List (Option Bool)) (list : List NumberedLiteral) (codes : List ℕ) → Agree values list → (l : NumberedLiteral) (earlier : List NumberedLiteral) → IsWithin earlier list → Puts (clause_shape codes ∷ []) earlier l → (x : ℕ) × (literal_at x ≡ l) × ((m : ℕ) → IsFree values codes m → m ≡ x)
+put-code values list codes agree l earlier within puts =
     let whole : clause_shape codes ≡ puts.form = only-one (clause_shape codes) puts.form puts.among in
     let term : Contains (map one_term codes) (record { literal = l; coefficient = puts.coefficient }) = subst (λ (y : Shape). Contains y.terms (record { literal = l; coefficient = puts.coefficient })) (sym whole) puts.term in
-    let x = clause-term codes l puts.coefficient term in
-    let apart : m ≡ x.0 → ⊥ = λ is. both_ways _ (sym (true-listed values list m agree) ∙ untrue) (ap (λ y. has list (literal_at y)) is ∙ ap (has list) x.2 ∙ on) in
-    let mine : has earlier (negation (literal_at x.0)) ≡ false = ap (λ k. has earlier (negation k)) x.2 ∙ puts.not_falsified in
-    let other : has earlier (negation (literal_at m)) ≡ false = not-within earlier list (negation (literal_at m)) within (sym (false-listed values list m agree) ∙ unfalse) in
-    let two = two-open earlier codes x.0 m x.1 among apart mine other in
-    omega (arith, two, puts.forced, x.3, ap (λ (y : Shape). y.degree) whole, ap (λ (y : Shape). open_sum earlier y.terms) whole)
+    let x = clause-term codes l puts.coefficient term in (
+      x.0,
+      x.2,
+      λ m free. elim (cases_eq m x.0) [
+        | inl is ↦ is
+        | inr apart ↦
+            let mine : has earlier (negation (literal_at x.0)) ≡ false = ap (λ k. has earlier (negation k)) x.2 ∙ puts.not_falsified in
+            let other : has earlier (negation (literal_at m)) ≡ false = not-within earlier list (negation (literal_at m)) within (sym (false-listed values list m agree) ∙ free.1) in
+            let two = two-open earlier codes x.0 m x.1 free.0 apart mine other in
+            absurd (omega (arith, two, puts.forced, x.3, ap (λ (y : Shape). y.degree) whole, ap (λ (y : Shape). open_sum earlier y.terms) whole))
+      ],
+    )
+
+-- a clause with two literals that are not falsified has put none
+pub two-spare : (values : List (Option Bool)) (list : List NumberedLiteral) (codes : List ℕ) (m n : ℕ) → Agree values list → IsFree values codes m → IsFree values codes n → (n ≡ m → ⊥) → IsSpare (clause_shape codes) list
+two-spare values list codes m n agree free_m free_n apart l earlier on within puts =
+    let put = put-code values list codes agree l earlier within puts in
+    apart (put.2 n free_n ∙ sym (put.2 m free_m))
+
+-- a unit puts its literal
+pub unit-puts : (forms : List Shape) (slot : ℕ) (l : NumberedLiteral) (earlier : List NumberedLiteral) (x : Shape) → (u : HasUnit forms slot l) → Puts (x ∷ []) earlier l → Puts (get_or forms u.unit x ∷ []) earlier l
+unit-puts forms slot l earlier x u puts =
+    let y = get_or forms u.unit x in
+    let only = u.only x in
+    let t : Term = record { literal = l; coefficient = only.0 } in
+    let free : open_part earlier t ≡ only.0 = open_part-open earlier t puts.not_falsified in
+    let sum = ap (open_sum earlier) only.1 in
+    let one = sum_by-cons (open_part earlier) t [] in
+    record {
+      absent = puts.absent;
+      not_falsified = puts.not_falsified;
+      form = y;
+      among = (0, omega arith, refl);
+      coefficient = only.0;
+      term = subst (λ ts. Contains ts t) (sym only.1) (0, omega arith, refl);
+      forced = let positive = u.positive x in omega (arith, sum, one, free, positive);
+    }
+
+-- the same among the constraints of all slots
+pub unit-replaces : (store : Store) (clauses : Clauses) (slot : ℕ) (l : NumberedLiteral) (earlier : List NumberedLiteral) (x : Shape) → AreJoined (shapes_of store.stored.items) (clauses_of clauses) → HasUnit (shapes_of store.stored.items) slot l → Puts (x ∷ []) earlier l → (s : ℕ) × (s ≡ slot → ⊥) × (y : Shape) × (slice_get (all_of store clauses) s ≡ Some y) × Puts (y ∷ []) earlier l
+unit-replaces store clauses slot l earlier x joined u puts =
+    let shapes = shapes_of store.stored.items in
+    let y = get_or shapes u.unit x in
+    let bare : list_at (clauses_of clauses) u.unit ≡ [] = none-there (list_at (clauses_of clauses) u.unit) (λ some. let e = (joined.apart u.unit x u.inside some).0 in omega (arith, ap length (sym e ∙ (u.only x).1))) in
+    let is : get_or (all_of store clauses) u.unit x ≡ y = joined-at shapes (clauses_of clauses) u.unit x u.inside ∙ ap (slot_shape y) bare in
+    let inside : u.unit < length (all_of store clauses) = omega (arith, u.inside, joined-length shapes (clauses_of clauses)) in
+    (u.unit, u.apart, y, slice_get-get_or (all_of store clauses) u.unit x inside ∙ ap (λ z. Some z) is, unit-puts shapes slot l earlier x u puts)
   where
-    not-within : (a b : List NumberedLiteral) (k : NumberedLiteral) → ((j : NumberedLiteral) → has a j ≡ true → has b j ≡ true) → has b k ≡ false → has a k ≡ false
-    not-within a b k w none = by (has a k) refl
-      where
-        by : (v : Bool) → has a k ≡ v → has a k ≡ false
-        by true h = absurd (both_ways _ none (w k h))
-        by false h = h
+    none-there : (xs : List ℕ) → (0 < length xs → ⊥) → xs ≡ []
+    none-there [] n = refl
+    none-there (z ∷ zs) n = absurd (n (omega arith))
 
 -- a form without a true literal has put none
 pub untrue-spare : (values : List (Option Bool)) (list : List NumberedLiteral) (x : Shape) → Agree values list → (HasTrue values x.terms → ⊥) → IsSpare x list
@@ -83,9 +133,9 @@ vacated-walked values old clauses codes slot ready none same w = record {
 }
 
 -- the root stays
-pub lost-rooted : (before store : Store) (old clauses : Clauses) (run run' : Run) (rests rests' : Rests) (slot : ℕ) → slot < length before.stored.items → slot < length old.literals.items → AreReady clauses → HasVacated before old store clauses slot → HasLost run run' rests rests' slot →
-    ((x : Shape) → slice_get (all_of before old) slot ≡ Some x → IsSpare x run.assignment.list.items) → IsRooted before old run rests (length before.stored.items) → IsRooted store clauses run' rests' (length store.stored.items)
-lost-rooted before store old clauses run run' rests rests' slot inside room ready g h spare r = record {
+pub lost-rooted : (before store : Store) (old clauses : Clauses) (run run' : Run) (rests rests' : Rests) (waiting waiting' : Eager) (slot : ℕ) → slot < length before.stored.items → slot < length old.literals.items → AreReady clauses → HasVacated before old store clauses slot → HasLost run run' rests rests' slot → IsWithout slot waiting.list.items waiting'.list.items → length waiting'.seats.items ≡ length waiting.seats.items →
+    IsReplaced (all_of before old) slot run.assignment.list.items → IsRooted before old run rests waiting (length before.stored.items) → IsRooted store clauses run' rests' waiting' (length store.stored.items)
+lost-rooted before store old clauses run run' rests rests' waiting waiting' slot inside room ready g h without seats spare r = record {
   values = ap (λ (x : Assignment). length x.values.items) h.assignment ∙ r.values ∙ sym g.variables;
   opens = h.opens ∙ ap (λ xs. set xs slot 0) r.opens ∙ sym h.rest_opens;
   starts = h.candidates ∙ ap (λ xs. set xs slot 0) r.starts ∙ sym h.rest_starts;
@@ -102,7 +152,7 @@ lost-rooted before store old clauses run run' rests rests' slot inside room read
         waiting = λ e few. absurd (omega (arith, few, ap length (bare s d here).0));
       }
       | inr apart ↦
-          let calm = r.tidy.calm s d (shorter s less) (λ e. absurd (omega (arith, e, was-shape s less))) away gone in
+          let calm = r.tidy.calm s d (shorter s less) (λ e. absurd (omega (arith, e, was-shape s less))) (without.others s apart away) gone in
           rw (shape s d apart, open-other s apart, cand-other s apart) calm
     ];
     passed = λ s d less k f early within. elim (cases_eq s slot) [
@@ -131,6 +181,10 @@ lost-rooted before store old clauses run run' rests rests' slot inside room read
   next = h.next ∙ r.next;
   derived = rw h.assignment (derives-spare (all_of before old) (all_of store clauses) [] run.assignment.list.items source r.derived);
   walked = rw h.assignment (vacated-walked run.assignment.values.items old clauses (walked_codes (length run.assignment.list.items) run.assignment.list.items) slot ready none_there g.watched r.walked);
+  seats = seats ∙ r.seats ∙ sym longer;
+  live = λ i s at.
+      let w = without.older i s at in
+      form-kept before store s w.0 (λ apart. ap (λ xs. slice_get xs s) g.kept.2 ∙ get-set_other before.stored.items slot s k apart) (r.live w.1 s w.2);
 }
   where
     k : StoredForm
@@ -177,8 +231,17 @@ lost-rooted before store old clauses run run' rests rests' slot inside room read
     all : all_of store clauses ≡ set (all_of before old) slot (stored_shape k)
     all = ap (λ xs. joined xs (clauses_of clauses)) shapes ∙ ap (joined (set (shapes_of before.stored.items) slot (stored_shape k))) g.emptied ∙ joined-cleared (shapes_of before.stored.items) (clauses_of old) slot (stored_shape k)
 
-    source : (x : Shape) → Contains (all_of before old) x → (Contains (all_of store clauses) x) ⊎ (IsSpare x run.assignment.list.items)
+    source : (x : Shape) → Contains (all_of before old) x → (Contains (all_of store clauses) x) ⊎ (IsPutBy (all_of store clauses) x run.assignment.list.items)
     source x (i, less, is) = elim (cases_eq i slot) [
-      | inl here ↦ inr (spare x (ap (slice_get (all_of before old)) (sym here) ∙ slice_get-get_or (all_of before old) i x less ∙ ap (λ y. Some y) is))
+      | inl here ↦ inr (λ l earlier on within puts.
+          let at : slice_get (all_of before old) slot ≡ Some x = ap (slice_get (all_of before old)) (sym here) ∙ slice_get-get_or (all_of before old) i x less ∙ ap (λ y. Some y) is in
+          let by = spare x l earlier at on within puts in
+          puts-other (by.2 ∷ []) (all_of store clauses) earlier l by.4 (moved by.2 by.0 by.1 by.3 by.4))
       | inr apart ↦ inl (i, omega (arith, less, ap length all, length-set (all_of before old) slot (stored_shape k)), ap (λ xs. get_or xs i x) all ∙ get_or-set_other (all_of before old) slot i (stored_shape k) x apart ∙ is)
     ]
+      where
+        moved : (y : Shape) (t : ℕ) → (t ≡ slot → ⊥) → slice_get (all_of before old) t ≡ Some y → {earlier : List NumberedLiteral} {l : NumberedLiteral} (p : Puts (y ∷ []) earlier l) → Contains (all_of store clauses) p.form
+        moved y t apart at p =
+            let one : y ≡ p.form = only-one y p.form p.among in
+            let inside = slice_get_within (all_of before old) t y at in
+            subst (Contains (all_of store clauses)) one (t, omega (arith, inside, ap length all, length-set (all_of before old) slot (stored_shape k)), ap (λ xs. get_or xs t y) all ∙ get_or-set_other (all_of before old) slot t (stored_shape k) y apart ∙ get_or_from_slice_get (all_of before old) t y y at)

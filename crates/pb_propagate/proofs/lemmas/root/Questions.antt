@@ -1,29 +1,31 @@
 -- A question that continues from the root.
-use Rattle.std.specs.Prelude.{map, sum_by, Option, Bool}
-use Rattle.std.proofs.Common.{◌≡◌, ℕ, ◌+◌, ◌-◌, ◌*◌, ◌^◌, ◌<◌, ◌≤◌, ◌⊎◌, ◌++◌, ◌∷◌, [], List, sym, ◌∙◌, ap, inl, inr, arith, length, length-append, get_or, set, take, drop}
+use Rattle.std.specs.Prelude.{map, sum, sum_by}
+use Rattle.std.proofs.Common.{◌≡◌, ℕ, Vec, Global, zero, suc, refl, ◌+◌, ◌-◌, ◌*◌, ◌^◌, ◌<◌, ◌≤◌, ◌⊎◌, ◌++◌, ◌∷◌, [], List, sym, ◌∙◌, ap, inl, inr, arith, length, length-append, get_or, set, take, drop}
 use Rattle.std.proofs.lemmas.Bool.{cases_eq, cases_lt}
-use Rattle.std.proofs.lemmas.List.{length-map, map-append, get_or_append_left, get_or_push, get_or_past, take-append-drop, length-take, get_or_default, ext_get_or}
+use Rattle.std.proofs.lemmas.List.{length-map, map-append, get_or_append_left, get_or_push, get_or_past, take-append-drop, length-take, get_or_default, ext_get_or, take_all}
 use Rattle.std.proofs.lemmas.List.Elements.{Contains-append_left}
-use Rattle.std.proofs.lemmas.List.Sums.{sum_by-append}
+use Rattle.std.proofs.lemmas.List.Sums.{sum_by-append, sum_by-cons}
 use Rattle.std.proofs.lemmas.List.Sorted.{length_permutation}
 use Rattle.pb_normal.specs.meaning.Form.{Form}
 use Rattle.pb_normal.specs.declared.numbered.NumberedLiteral.{NumberedLiteral}
 use Rattle.pb_propagate.specs.declared.rests.Rests.{Rests}
 use Rattle.pb_propagate.specs.declared.store.stored_form.StoredForm.{StoredForm}
 use Rattle.pb_propagate.specs.declared.store.Store.{Store}
-use Rattle.pb_propagate.specs.declared.clauses.lists.Watch.{Watch}
+use Rattle.pb_propagate.specs.declared.run.Run.{Run}
+use Rattle.pb_propagate.specs.declared.clauses.Clauses.{Clauses}
+use Rattle.pb_propagate.specs.engine.Engine.Progress.{RunSpends, RunPays}
+use Rattle.pb_propagate.proofs.lemmas.engine.Values.{opposite}
 use Rattle.pb_propagate.specs.engine.Engine.Lists.{Shape, Derives, Extends, open_sum, size}
 use Rattle.pb_propagate.specs.engine.Engine.Counts.{AreFound, AreSingle, Grown, IsCalm, IsCounted, IsTidy, IsUndone, beside, rest_open, place, spent}
-use Rattle.pb_propagate.specs.engine.Engine.Fields.{shapes_of, spots_of, entries_of, stored_shape, IsSound, HasEntered}
+use Rattle.pb_propagate.specs.engine.Engine.Fields.{shapes_of, lists_of, spots_of, entries_of, stored_shape, IsSound, HasEntered, AreLonger}
+use Rattle.pb_propagate.specs.engine.Engine.Links.{weighted}
+use Rattle.pb_propagate.specs.declared.store.Occurrence.{Occurrence}
+use Rattle.pb_normal.specs.meaning.Rules.{negation}
 use Rattle.pb_propagate.specs.engine.Engine.Forms.{IsStoredAs, entry_of}
-use Rattle.pb_propagate.specs.engine.Clauses.Truths.{flip}
-use Rattle.pb_propagate.specs.engine.Clauses.Links.{watch_at}
-use Rattle.pb_propagate.specs.engine.Clauses.Runs.{AreWalked}
-use Rattle.pb_propagate.specs.engine.Clauses.Shapes.{AreJoined, joined, code_in}
+use Rattle.pb_propagate.specs.engine.Clauses.Shapes.{AreJoined, joined, code_in, clauses_of, all_of}
 use Rattle.pb_propagate.specs.declared.clause.Group.TheVariants.{Short, Long}
 use Rattle.pb_propagate.specs.engine.Clauses.Walked.{fallen}
 use Rattle.pb_propagate.proofs.lemmas.clauses.Killed.{IsOneSided, risen, killed-both}
-use Rattle.pb_propagate.proofs.lemmas.clauses.Literals.{Agree, true-listed, false-listed}
 use Rattle.pb_propagate.proofs.lemmas.engine.Bounds.{joined-terms}
 use Rattle.pb_propagate.proofs.lemmas.root.Admitted.{slot-counted, slot-tidy}
 use Rattle.pb_propagate.proofs.lemmas.root.Extends.{killed-longer}
@@ -129,7 +131,7 @@ pub laid-tidy : (rests : Rests) (g : Form) (keep keep' : List StoredForm) (opens
 laid-tidy rests g keep keep' opens opens' cands cands' lowered list work trail n h at sizes csizes rsizes ssizes tidy low queued noted =
     let long = entered-length g keep keep' opens opens' cands cands' h in
     let entered = entered-tidy rests g keep keep' opens opens' cands cands' list n h at sizes csizes rsizes ssizes tidy in
-    let laid = slot-tidy rests (shapes_of keep') opens' cands' lowered list work trail n (omega (arith, at, long)) (omega (arith, at, sizes, ap length h.opened, length-append opens (h.kept.total ∷ []))) entered low queued noted in
+    let laid = slot-tidy rests [] (shapes_of keep') opens' cands' lowered list work trail n (omega (arith, at, long)) (omega (arith, at, sizes, ap length h.opened, length-append opens (h.kept.total ∷ []))) entered low queued noted in
     rw (length-map keep' stored_shape) at laid
 
 -- after a question each form is as it was
@@ -156,13 +158,6 @@ undone-same rests forms opens cands n u long o c r s = (
         let short : length xs - 1 ≡ m = omega (arith, e) in
         rw short (ext_get_or 0 (take m xs) ys (omega (arith, length-take m xs, e, f)) (λ i less. prefix_at xs m i (omega (arith, less, length-take m xs, e)) ∙ h i (omega (arith, less, length-take m xs, e))))
 
--- values of one list have the same watches served
-pub walked-agree : (values values' : List (Option Bool)) (list : List NumberedLiteral) (ws : List Watch) (codes : List ℕ) → Agree values list → Agree values' list → AreWalked values ws codes → AreWalked values' ws codes
-walked-agree values values' list ws codes a b w = record {
-  failed = λ x h. false-listed values' list x b ∙ sym (false-listed values list x a) ∙ w.failed x h;
-  done = λ e live h. true-listed values' list (watch_at ws (flip e)).literal b ∙ sym (true-listed values list (watch_at ws (flip e)).literal a) ∙ w.done e live h;
-}
-
 -- the constraints that are asked about are those of the root and one more
 pub derives-entered : (shapes : List Shape) (x : Shape) (given list : List NumberedLiteral) → Derives shapes given list → Derives (shapes ++ (x ∷ [])) given list
 derives-entered shapes x given list d = derives-without shapes (shapes ++ (x ∷ [])) given list (λ f h. inl (Contains-append_left shapes (x ∷ []) f h)) d
@@ -177,14 +172,56 @@ found-after n v r found small = elim (cases_lt v (2 ^ 64 - 1)) [
   | inr top ↦ omega (arith, top, small)
 ]
 
--- the number of visits
-pub question-most : (store : Store) (clauses : List (List ℕ)) (old new : List NumberedLiteral) (v c0 r w n0 c : ℕ) → IsSound store → AreJoined (shapes_of store.stored.items) clauses → AreSingle new → IsOneSided new → Extends old new → Derives (joined (shapes_of store.stored.items) clauses) [] old → r ≡ length old → w ≤ 1 → c ≤ sum_by (λ f. length f.terms) (shapes_of store.stored.items) →
-    v + c0 ≤ r + (w - n0) + 2 * spent (entries_of (shapes_of store.stored.items) store.occurrences.items) new + c + 2 * fallen clauses new + sum_by length clauses →
-    v ≤ 3 * sum_by (λ (f : Shape). length f.terms) (joined (shapes_of store.stored.items) clauses) + 1
-question-most store clauses old new v c0 r w n0 c sound j single one (more, e) d is few bounded upper =
+-- The number of visits: the literals of the root are true terms of the forms that forced them, and no true term is
+-- falsified later.
+pub question-most : (store : Store) (clauses : List (List ℕ)) (old new : List NumberedLiteral) (v w c : ℕ) → IsSound store → AreJoined (shapes_of store.stored.items) clauses → AreSingle new → IsOneSided new → Extends old new → Derives (joined (shapes_of store.stored.items) clauses) [] old → c ≤ sum_by (λ f. length f.terms) (shapes_of store.stored.items) →
+    v ≤ length old + w + c + 2 * spent (entries_of (shapes_of store.stored.items) store.occurrences.items) new + 2 * fallen clauses new + sum_by length clauses →
+    v ≤ 3 * sum_by (λ (f : Shape). length f.terms) (joined (shapes_of store.stored.items) clauses) + w
+question-most store clauses old new v w c sound j single one (more, e) d bounded upper =
     let shapes = shapes_of store.stored.items in
     let lists = entries_of shapes store.occurrences.items in
     let short = root-short shapes (spots_of store.spots.items) lists store.variables clauses old sound d in
     let mine : owned lists old ≤ owned lists new = omega (arith, ap (owned lists) e, sum_by-append (λ l. length (get_or lists (place l) [])) old more) in
     let theirs : risen clauses old ≤ risen clauses new = omega (arith, killed-longer clauses (code_in Short) old new (more, e), killed-longer clauses (code_in Long) old new (more, e)) in
-    omega (arith, upper, is, few, bounded, short, mine, theirs, both-le lists new single one, killed-both clauses new one, sound.whole.totals, joined-terms shapes clauses j)
+    omega (arith, upper, bounded, short, mine, theirs, both-le lists new single one, killed-both clauses new one, sound.whole.totals, joined-terms shapes clauses j)
+
+-- the same of a run in two parts
+pub found-both : (n0 n1 n1' n2 v0 v1 v1' v2 : ℕ) → v0 ≡ n0 → n1' ≡ n1 → v1' ≡ v1 → AreFound n0 n1 v0 v1 → AreFound n1' n2 v1' v2 → v1' ≤ v2 → AreFound n0 n2 n0 v2
+found-both n0 n1 n1' n2 v0 v1 v1' v2 begun same visits first second rising few =
+    let two = second few in
+    let one = first (omega (arith, few, rising, visits)) in
+    omega (arith, one, two, begun, same, visits)
+
+-- as many entries are against a list of literals if lists got longer
+pub spent-longer : (forms forms' : List Shape) (occ occ' : List (Vec Occurrence Global)) (list : List NumberedLiteral) → AreLonger occ occ' → spent (entries_of forms occ) list ≤ spent (entries_of forms' occ') list
+spent-longer forms forms' occ occ' [] h = omega arith
+spent-longer forms forms' occ occ' (l ∷ list) h =
+    let rest = spent-longer forms forms' occ occ' list h in
+    let p = sum_by-cons (λ k. length (get_or (entries_of forms occ) (place (negation k)) [])) l list in
+    let q = sum_by-cons (λ k. length (get_or (entries_of forms' occ') (place (negation k)) [])) l list in
+    omega (arith, rest, p, q, h (place (negation l)), count-at forms occ (place (negation l)), count-at forms' occ' (place (negation l)))
+  where
+    count-at : (fs : List Shape) (xs : List (Vec Occurrence Global)) (n : ℕ) → length (get_or (entries_of fs xs) n []) ≡ length (get_or (lists_of xs) n [])
+    count-at fs [] n = refl
+    count-at fs (x ∷ xs) zero = length-map x.items (weighted fs)
+    count-at fs (x ∷ xs) (suc n) = count-at fs xs n
+
+-- the number of visits, if only the forms that wait were visited
+pub updated-most : (store : Store) (clauses : Clauses) (rests : Rests) (waiting : List ℕ) (old new : Run) → IsSound store → AreJoined (shapes_of store.stored.items) (clauses_of clauses) → Derives (all_of store clauses) [] old.assignment.list.items → old.work.items ≡ [] → old.visits ≡ length old.assignment.list.items →
+    RunSpends store rests clauses (length old.assignment.list.items) waiting old new → new.visits ≤ 3 * sum_by (λ (f : Shape). length f.terms) (all_of store clauses) + length waiting
+updated-most store clauses rests waiting old new sound j d work visits s =
+    question-most store (clauses_of clauses) old.assignment.list.items new.assignment.list.items new.visits (length waiting) (sum new.candidates.items) sound j s.single (λ l on. opposite new.assignment.values.items new.assignment.list.items l new.assignment.agrees on) s.extends d s.bounded (omega (arith, s.upper, visits, ap length work))
+
+-- The visits of both parts of a question: what the first has read is not paid again.
+pub both-parts : (store store' : Store) (clauses between : Clauses) (rests rests' : Rests) (waiting : List ℕ) (old mid laid new : Run) → clauses_of between ≡ clauses_of clauses → AreLonger store.occurrences.items store'.occurrences.items → laid.assignment.list.items ≡ mid.assignment.list.items → sum laid.candidates.items ≡ sum mid.candidates.items → laid.visits ≡ mid.visits →
+    old.work.items ≡ [] → length laid.work.items ≤ 1 → old.visits ≡ length old.assignment.list.items →
+    RunPays store rests clauses between (length old.assignment.list.items) waiting old mid → RunSpends store' rests' between (length mid.assignment.list.items) [] laid new →
+    new.visits ≤ length old.assignment.list.items + (length waiting + 1) + sum new.candidates.items + 2 * spent (entries_of (shapes_of store'.stored.items) store'.occurrences.items) new.assignment.list.items + 2 * fallen (clauses_of clauses) new.assignment.list.items + sum_by length (clauses_of clauses)
+both-parts store store' clauses between rests rests' waiting old mid laid new same longer list cands visits work few begun first second =
+    let more = spent-longer (shapes_of store.stored.items) (shapes_of store'.stored.items) store.occurrences.items store'.occurrences.items mid.assignment.list.items longer in
+    let now = ap (spent (entries_of (shapes_of store'.stored.items) store'.occurrences.items)) list in
+    let walked : take (length mid.assignment.list.items) laid.assignment.list.items ≡ mid.assignment.list.items = ap (take (length mid.assignment.list.items)) list ∙ take_all (length mid.assignment.list.items) mid.assignment.list.items (omega arith) in
+    let seen_mid : fallen (clauses_of between) (take (length mid.assignment.list.items) laid.assignment.list.items) ≡ fallen (clauses_of clauses) mid.assignment.list.items = ap (λ cs. fallen cs (take (length mid.assignment.list.items) laid.assignment.list.items)) same ∙ ap (fallen (clauses_of clauses)) walked in
+    let seen_new : fallen (clauses_of between) new.assignment.list.items ≡ fallen (clauses_of clauses) new.assignment.list.items = ap (λ cs. fallen cs new.assignment.list.items) same in
+    let sizes : sum_by length (clauses_of between) ≡ sum_by length (clauses_of clauses) = ap (sum_by length) same in
+    omega (arith, first.upper, second.upper, more, now, seen_mid, seen_new, sizes, cands, visits, ap length work, few, begun)

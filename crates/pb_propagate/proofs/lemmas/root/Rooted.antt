@@ -8,7 +8,7 @@ use Rattle.std.proofs.lemmas.Option.{slice_get-get_or, slice_get_past}
 use Rattle.pb_normal.specs.declared.numbered.NumberedLiteral.{NumberedLiteral}
 use Rattle.pb_normal.specs.meaning.Rules.{negation}
 use Rattle.pb_propagate.specs.declared.term.Term.{Term}
-use Rattle.pb_propagate.specs.engine.Engine.Lists.{Shape, Weighted, same, has, Puts, Derives, begin, put}
+use Rattle.pb_propagate.specs.engine.Engine.Lists.{Shape, Weighted, same, has, Puts, Derives, begin, put, IsWithin}
 use Rattle.pb_propagate.specs.engine.Engine.Counts.{place, spent, AreSingle, none, more}
 use Rattle.pb_propagate.specs.engine.Engine.Links.{terms_at, entry_cross, term_cross, entry_at, term_at, IsStored}
 use Rattle.pb_propagate.specs.engine.Engine.Root.{IsSpare}
@@ -29,7 +29,7 @@ use Rattle.pb_propagate.proofs.lemmas.clauses.Killed.{IsOneSided, risen, risen-p
 abbrev pub IsUnused : Shape → List NumberedLiteral → Type 0
 IsUnused x list = (l : NumberedLiteral) (c : ℕ) → Contains x.terms (record { literal = l; coefficient = c }) → has list l ≡ false
 
-puts-other : (a b : List Shape) (list : List NumberedLiteral) (l : NumberedLiteral) (m : Puts a list l) → Contains b m.form → Puts b list l
+pub puts-other : (a b : List Shape) (list : List NumberedLiteral) (l : NumberedLiteral) (m : Puts a list l) → Contains b m.form → Puts b list l
 puts-other a b list l m among = record {
   absent = m.absent;
   not_falsified = m.not_falsified;
@@ -40,21 +40,25 @@ puts-other a b list l m among = record {
   forced = m.forced;
 }
 
--- a derivation needs only the forms that have put one of its literals
-pub derives-spare : (a b : List Shape) (given list : List NumberedLiteral) → ((x : Shape) → Contains a x → (Contains b x) ⊎ (IsSpare x list)) → Derives a given list → Derives b given list
+-- each literal that the form has put, at any time before, may be put by one of the others
+abbrev pub IsPutBy : List Shape → Shape → List NumberedLiteral → Type 0
+IsPutBy others x list = (l : NumberedLiteral) (earlier : List NumberedLiteral) → has list l ≡ true → IsWithin earlier list → Puts (x ∷ []) earlier l → Puts others earlier l
+
+-- a derivation needs only the forms that have put one of its literals and have no substitute
+pub derives-spare : (a b : List Shape) (given list : List NumberedLiteral) → ((x : Shape) → Contains a x → (Contains b x) ⊎ (IsPutBy b x list)) → Derives a given list → Derives b given list
 derives-spare a b given _ h begin = begin
-derives-spare a b given _ h (put {list} l d m) = put l (derives-spare a b given list before d) (puts-other a b list l m used)
+derives-spare a b given _ h (put {list} l d m) = put l (derives-spare a b given list before d) used
   where
-    before : (x : Shape) → Contains a x → (Contains b x) ⊎ (IsSpare x list)
+    before : (x : Shape) → Contains a x → (Contains b x) ⊎ (IsPutBy b x list)
     before x c = elim (h x c) [
       | inl in_b ↦ inl in_b
       | inr spare ↦ inr (λ k earlier on within puts. spare k earlier (has-push_old list l k on) (λ j at. has-push_old list l j (within j at)) puts)
     ]
 
-    used : Contains b m.form
+    used : Puts b list l
     used = elim (h m.form m.among) [
-      | inl in_b ↦ in_b
-      | inr spare ↦ absurd (spare l list (has-push_new list l) (λ j at. has-push_old list l j at) (puts-other a (m.form ∷ []) list l m (one_itself m.form)))
+      | inl in_b ↦ puts-other a b list l m in_b
+      | inr spare ↦ spare l list (has-push_new list l) (λ j at. has-push_old list l j at) (puts-other a (m.form ∷ []) list l m (one_itself m.form))
     ]
 
 pub only-one : (x y : Shape) → Contains (x ∷ []) y → x ≡ y
@@ -72,7 +76,7 @@ pub derives-without : (a b : List Shape) (given list : List NumberedLiteral) →
 derives-without a b given list h d = derives-spare a b given list
     (λ x c. elim (h x c) [
       | inl in_b ↦ inl in_b
-      | inr unused ↦ inr (unused-spare x list unused)
+      | inr unused ↦ inr (λ l earlier on within puts. absurd (unused-spare x list unused l earlier on within puts))
     ]) d
 
 -- the number of entries in the lists of a list's literals

@@ -1,25 +1,31 @@
 -- The state to which questions return becomes that of the run.
-use Rattle.std.specs.Prelude.{filter}
-use Rattle.std.proofs.Common.{◌≡◌, ℕ, ◌+◌, ◌<◌, ◌≤◌, ◌⊎◌, [], List, refl, sym, ◌∙◌, ap, inl, inr, arith, length, get_or, set, get_or-set_same, get_or-set_other}
+use Rattle.std.specs.Prelude.{Option, Bool, Some, slice_get}
+use Rattle.std.proofs.Common.{◌≡◌, ℕ, ◌+◌, ◌<◌, ◌≤◌, ◌⊎◌, [], List, refl, subst, sym, ◌∙◌, ap, inl, inr, arith, length, get_or, set, get_or-set_same, get_or-set_other}
 use Rattle.std.proofs.lemmas.Bool.{cases_eq}
 use Rattle.std.proofs.lemmas.List.{get_or_default, get_or_read, ext_get_or, length-map}
 use Rattle.pb_normal.specs.declared.numbered.NumberedLiteral.{NumberedLiteral}
 use Rattle.pb_propagate.specs.declared.rests.Rests.{Rests}
+use Rattle.pb_propagate.specs.declared.assignment.Assignment.{Assignment}
+use Rattle.pb_propagate.specs.engine.Clauses.Truths.{flip}
+use Rattle.pb_propagate.specs.engine.Clauses.Links.{watch_at}
+use Rattle.pb_propagate.proofs.lemmas.clauses.Literals.{Agree, true-listed, false-listed}
 use Rattle.pb_propagate.specs.declared.run.Run.{Run}
+use Rattle.pb_propagate.specs.declared.eager.Eager.{Eager}
 use Rattle.pb_propagate.specs.declared.store.Store.{Store}
 use Rattle.pb_propagate.specs.declared.store.stored_form.StoredForm.{StoredForm}
 use Rattle.pb_propagate.specs.declared.clauses.Clauses.{Clauses}
+use Rattle.pb_propagate.specs.declared.clauses.lists.Watch.{Watch}
 use Rattle.pb_propagate.specs.engine.Engine.Lists.{Shape, Derives, size}
 use Rattle.pb_propagate.specs.engine.Engine.Counts.{IsAbsent, IsCounted, IsTidy, IsUndone, beside, rest_open, rest_start, weight_in}
 use Rattle.pb_propagate.specs.engine.Engine.Fields.{shapes_of, stored_shape}
-use Rattle.pb_propagate.specs.engine.Engine.Rest.{AreAtRest, IsEager, waits}
-use Rattle.pb_propagate.specs.engine.Engine.Root.{IsRooted}
+use Rattle.pb_propagate.specs.engine.Engine.Rest.{AreAtRest, IsEager}
+use Rattle.pb_propagate.specs.engine.Engine.Root.{IsRooted, HasForm}
 use Rattle.pb_propagate.specs.engine.Clauses.Runs.{AreWalked}
 use Rattle.pb_propagate.specs.engine.Clauses.Shapes.{all_of}
 use Rattle.pb_propagate.specs.engine.Clauses.Walked.{walked_codes}
 use Rattle.pb_propagate.proofs.lemmas.store.Gets.{lt_of_apart}
 use Rattle.pb_propagate.proofs.lemmas.engine.VisitSteps.{open-now}
-use Rattle.pb_propagate.proofs.lemmas.engine.Rests.{rest-at, rest-lengths, eager-filter, calm-but}
+use Rattle.pb_propagate.proofs.lemmas.engine.Rests.{rest-at, rest-lengths, calm-but}
 use Rattle.pb_propagate.proofs.lemmas.engine.Rested.{open_sum-empty}
 
 -- one form more
@@ -56,10 +62,10 @@ keep-all rests forms opens cands trail i end long sizes osizes ssizes u = (
     clean : (s : ℕ) → s < length forms → (get_or opens s 0 ≡ rest_open rests s (get_or forms s none)) × (get_or cands s 0 ≡ rest_start rests s)
     clean s less = u.clean s none less (λ j after short. absurd (omega (arith, after, short, end)))
 
--- with nothing left to do the run is a root
-pub kept-tidy : (rests rests' : Rests) (forms : List Shape) (opens cands : List ℕ) (list : List NumberedLiteral) (work trail : List ℕ) (next : ℕ) → length work ≤ next → length forms ≡ length opens → rests'.opens.items ≡ opens → rests'.starts.items ≡ cands → IsTidy (beside rests []) forms opens cands list work trail next (length forms) → IsTidy (beside rests' []) forms opens cands list [] [] 0 (length forms)
-kept-tidy rests rests' forms opens cands list work trail next end long opened started t = record {
-  calm = λ s d less idle off gone. t.calm s d less idle off (λ i from short. absurd (omega (arith, from, short, end)));
+-- with nothing left to do but to visit the forms that wait, the run is a root
+pub kept-tidy : (rests rests' : Rests) (aside aside' : List ℕ) (forms : List Shape) (opens cands : List ℕ) (list : List NumberedLiteral) (work trail : List ℕ) (next : ℕ) → ((s : ℕ) → IsAbsent aside' 0 s → IsAbsent aside 0 s × IsAbsent work next s) → length forms ≡ length opens → rests'.opens.items ≡ opens → rests'.starts.items ≡ cands → IsTidy (beside rests aside) forms opens cands list work trail next (length forms) → IsTidy (beside rests' aside') forms opens cands list [] [] 0 (length forms)
+kept-tidy rests rests' aside aside' forms opens cands list work trail next waits long opened started t = record {
+  calm = λ s d less idle off gone. let w = waits s off in t.calm s d less idle w.0 w.1;
   passed = t.passed;
   bounded = t.bounded;
   clean = λ s d less gone. (
@@ -71,29 +77,51 @@ kept-tidy rests rests' forms opens cands list work trail next end long opened st
   traced = λ s gone. gone;
 }
 
-pub kept-rooted : (store : Store) (clauses clauses' : Clauses) (run run' : Run) (rests rests' : Rests) → length run.assignment.values.items ≡ store.variables → length run.opens.items ≡ length store.stored.items → length run.candidates.items ≡ length store.stored.items → IsCounted (shapes_of store.stored.items) run.opens.items run.assignment.list.items [] →
-    IsTidy (beside rests []) (shapes_of store.stored.items) run.opens.items run.candidates.items run.assignment.list.items run.work.items run.trail.items run.next (length store.stored.items) → length run.work.items ≤ run.next →
-    Derives (all_of store clauses) [] run.assignment.list.items → AreWalked run.assignment.values.items clauses'.watches.items (walked_codes (length run.assignment.list.items) run.assignment.list.items) → clauses'.literals ≡ clauses.literals →
-    run'.opens ≡ run.opens → run'.candidates ≡ run.candidates → run'.assignment ≡ run.assignment → run'.work.items ≡ [] → run'.trail.items ≡ [] → run'.next ≡ 0 → rests'.opens.items ≡ run.opens.items → rests'.starts.items ≡ run.candidates.items →
-    IsRooted store clauses' run' rests' (length store.stored.items)
-kept-rooted store clauses clauses' run run' rests rests' values sizes csizes counted tidy end derived walked literals o c a w t n ro rs =
+-- what is read of the run and of the state to which questions return
+pub record IsKept (run run' : Run) (rests' : Rests) : Type 0 where
+  pub opens : run'.opens ≡ run.opens
+  pub candidates : run'.candidates ≡ run.candidates
+  pub assignment : run'.assignment ≡ run.assignment
+  pub work : run'.work.items ≡ []
+  pub trail : run'.trail.items ≡ []
+  pub next : run'.next ≡ 0
+  pub rest_opens : rests'.opens.items ≡ run.opens.items
+  pub rest_starts : rests'.starts.items ≡ run.candidates.items
+
+-- the parts of a root that lists of forms that wait do not touch
+pub record IsEnded (store : Store) (clauses : Clauses) (run : Run) : Type 0 where
+  pub values : length run.assignment.values.items ≡ store.variables
+  pub opens : length run.opens.items ≡ length store.stored.items
+  pub candidates : length run.candidates.items ≡ length store.stored.items
+  pub counted : IsCounted (shapes_of store.stored.items) run.opens.items run.assignment.list.items []
+  pub derived : Derives (all_of store clauses) [] run.assignment.list.items
+  pub walked : AreWalked run.assignment.values.items clauses.watches.items (walked_codes (length run.assignment.list.items) run.assignment.list.items)
+
+pub kept-rooted : (store : Store) (clauses : Clauses) (run run' : Run) (rests rests' : Rests) (aside : List ℕ) (waiting' : Eager) → IsEnded store clauses run →
+    IsTidy (beside rests aside) (shapes_of store.stored.items) run.opens.items run.candidates.items run.assignment.list.items run.work.items run.trail.items run.next (length store.stored.items) →
+    ((s : ℕ) → IsAbsent waiting'.list.items 0 s → IsAbsent aside 0 s × IsAbsent run.work.items run.next s) → IsKept run run' rests' →
+    length waiting'.seats.items ≡ length store.stored.items → ((i s : ℕ) → slice_get waiting'.list.items i ≡ Some s → HasForm store s) →
+    IsRooted store clauses run' rests' waiting' (length store.stored.items)
+kept-rooted store clauses run run' rests rests' aside waiting' e tidy waits k seats live =
     let long = length-map store.stored.items stored_shape in
-    let tidy_f : IsTidy (beside rests []) (shapes_of store.stored.items) run.opens.items run.candidates.items run.assignment.list.items run.work.items run.trail.items run.next (length (shapes_of store.stored.items)) = rw long tidy in
-    let still = kept-tidy rests rests' (shapes_of store.stored.items) run.opens.items run.candidates.items run.assignment.list.items run.work.items run.trail.items run.next end (omega (arith, long, sizes)) ro rs tidy_f in
-    let still_k : IsTidy (beside rests' []) (shapes_of store.stored.items) run.opens.items run.candidates.items run.assignment.list.items [] [] 0 (length store.stored.items) = rw (← long) still in
+    let tidy_f : IsTidy (beside rests aside) (shapes_of store.stored.items) run.opens.items run.candidates.items run.assignment.list.items run.work.items run.trail.items run.next (length (shapes_of store.stored.items)) = rw long tidy in
+    let still = kept-tidy rests rests' aside waiting'.list.items (shapes_of store.stored.items) run.opens.items run.candidates.items run.assignment.list.items run.work.items run.trail.items run.next waits (omega (arith, long, e.opens)) k.rest_opens k.rest_starts tidy_f in
+    let still_k : IsTidy (beside rests' waiting'.list.items) (shapes_of store.stored.items) run.opens.items run.candidates.items run.assignment.list.items [] [] 0 (length store.stored.items) = rw (← long) still in
     record {
-      values = rw a values;
-      opens = rw o (sym ro);
-      starts = rw c (sym rs);
-      open_sizes = rw o sizes;
-      start_sizes = rw c csizes;
-      counted = λ s d less apart. rw (o, a) (open-now (shapes_of store.stored.items) run.opens.items run.assignment.list.items s d (omega (arith, less, long)) counted);
-      tidy = rw (o, c, a) still_k;
-      work = w;
-      trail = t;
-      next = n;
-      derived = rw (literals, a) derived;
-      walked = rw a walked;
+      values = rw k.assignment e.values;
+      opens = rw k.opens (sym k.rest_opens);
+      starts = rw k.candidates (sym k.rest_starts);
+      open_sizes = rw k.opens e.opens;
+      start_sizes = rw k.candidates e.candidates;
+      counted = λ s d less apart. rw (k.opens, k.assignment) (open-now (shapes_of store.stored.items) run.opens.items run.assignment.list.items s d (omega (arith, less, long)) e.counted);
+      tidy = rw (k.opens, k.candidates, k.assignment) still_k;
+      work = k.work;
+      trail = k.trail;
+      next = k.next;
+      derived = rw k.assignment e.derived;
+      walked = rw k.assignment e.walked;
+      seats = seats;
+      live = live;
     }
 
 -- what a propagation from nothing needs, if questions return to where it starts
@@ -106,11 +134,11 @@ start-counted keep opens cands r = record {
       omega (arith, at.0, sum, nothing);
 }
 
-pub start-tidy : (rests : Rests) (keep : List StoredForm) (eager opens cands : List ℕ) → rests.opens.items ≡ opens → rests.starts.items ≡ cands → AreAtRest keep opens cands → IsEager keep eager → IsTidy (beside rests (filter (waits keep) eager)) (shapes_of keep) opens cands [] [] [] 0 (length keep)
+pub start-tidy : (rests : Rests) (keep : List StoredForm) (eager opens cands : List ℕ) → rests.opens.items ≡ opens → rests.starts.items ≡ cands → AreAtRest keep opens cands → IsEager keep eager → IsTidy (beside rests eager) (shapes_of keep) opens cands [] [] [] 0 (length keep)
 start-tidy rests keep eager opens cands opened started r e = record {
   calm = λ s d inside idle off gone.
       let at = rest-at keep opens cands r s d (omega (arith, inside, length-map keep stored_shape)) in
-      rw (at.0, at.1) ((calm-but keep (filter (waits keep) eager) (eager-filter keep eager e)).aside s d inside off);
+      rw (at.0, at.1) ((calm-but keep eager e).aside s d inside off);
   passed = λ s d inside k f before within. absurd (omega (arith, before, (rest-at keep opens cands r s d (omega (arith, inside, length-map keep stored_shape))).1));
   bounded = λ s d inside. omega (arith, (rest-at keep opens cands r s d (omega (arith, inside, length-map keep stored_shape))).1);
   clean = λ s d inside gone. (
@@ -121,3 +149,59 @@ start-tidy rests keep eager opens cands opened started r e = record {
   marked = λ i d less. absurd (omega (arith, less));
   traced = λ s gone. gone;
 }
+
+-- no literal is walked yet
+pub none-walked : (values : List (Option Bool)) (ws : List Watch) → AreWalked values ws (walked_codes 0 [])
+none-walked values ws = record {
+  failed = λ x there. absurd (omega (arith, there.1));
+  done = λ e live there. absurd (omega (arith, there.1));
+}
+
+-- a run with another count of visits
+pub rooted-counted : {store : Store} {clauses : Clauses} {run : Run} {rests : Rests} {waiting : Eager} {busy : ℕ} (visits : ℕ) → IsRooted store clauses run rests waiting busy → IsRooted store clauses (record { opens = run.opens; candidates = run.candidates; assignment = run.assignment; work = run.work; next = run.next; trail = run.trail; visits = visits }) rests waiting busy
+rooted-counted visits r = record {
+  values = r.values;
+  opens = r.opens;
+  starts = r.starts;
+  open_sizes = r.open_sizes;
+  start_sizes = r.start_sizes;
+  counted = r.counted;
+  tidy = r.tidy;
+  work = r.work;
+  trail = r.trail;
+  next = r.next;
+  derived = r.derived;
+  walked = r.walked;
+  seats = r.seats;
+  live = r.live;
+}
+
+-- values of one list have the same watches served
+pub walked-agree : (values values' : List (Option Bool)) (list : List NumberedLiteral) (ws : List Watch) (codes : List ℕ) → Agree values list → Agree values' list → AreWalked values ws codes → AreWalked values' ws codes
+walked-agree values values' list ws codes a b w = record {
+  failed = λ x h. false-listed values' list x b ∙ sym (false-listed values list x a) ∙ w.failed x h;
+  done = λ e live h. true-listed values' list (watch_at ws (flip e)).literal b ∙ sym (true-listed values list (watch_at ws (flip e)).literal a) ∙ w.done e live h;
+}
+
+-- one more variable, which has no value
+pub widened-rooted : (store store' : Store) (clauses clauses' : Clauses) (run : Run) (assignment : Assignment) (rests : Rests) (waiting : Eager) → store'.stored ≡ store.stored → store'.variables ≡ store.variables + 1 → clauses'.literals ≡ clauses.literals → clauses'.watches ≡ clauses.watches → assignment.list.items ≡ run.assignment.list.items → length assignment.values.items ≡ length run.assignment.values.items + 1 →
+    IsRooted store clauses run rests waiting (length store.stored.items) → IsRooted store' clauses' (record { opens = run.opens; candidates = run.candidates; assignment = assignment; work = run.work; next = run.next; trail = run.trail; visits = run.visits }) rests waiting (length store'.stored.items)
+widened-rooted store store' clauses clauses' run assignment rests waiting stored variables literals watches list values r =
+    let agrees : Agree assignment.values.items run.assignment.list.items = subst (Agree assignment.values.items) list assignment.agrees in
+    let walked = walked-agree run.assignment.values.items assignment.values.items run.assignment.list.items clauses.watches.items (walked_codes (length run.assignment.list.items) run.assignment.list.items) run.assignment.agrees agrees r.walked in
+    record {
+      values = omega (arith, values, r.values, variables);
+      opens = r.opens;
+      starts = r.starts;
+      open_sizes = rw stored r.open_sizes;
+      start_sizes = rw stored r.start_sizes;
+      counted = rw (stored, list) r.counted;
+      tidy = rw (stored, list) r.tidy;
+      work = r.work;
+      trail = r.trail;
+      next = r.next;
+      derived = rw (stored, literals, list) r.derived;
+      walked = rw (list, watches) walked;
+      seats = rw stored r.seats;
+      live = rw stored r.live;
+    }

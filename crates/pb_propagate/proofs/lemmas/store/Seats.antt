@@ -4,6 +4,7 @@ use Rattle.std.proofs.Common.{◌≡◌, ℕ, zero, suc, ◌+◌, ◌-◌, ◌<�
 use Rattle.std.proofs.lemmas.Bool.{cases_eq, cases_lt}
 use Rattle.std.proofs.lemmas.Option.{slice_get_within, slice_get-get_or, get_or_from_slice_get}
 use Rattle.pb_propagate.specs.engine.Engine.Counts.{IsAbsent}
+use Rattle.pb_propagate.specs.engine.Engine.Waiting.{IsWithout}
 use Rattle.pb_propagate.proofs.lemmas.store.Options.{some-one, none-some}
 use Rattle.pb_propagate.proofs.lemmas.store.Gets.{lt_of_apart, get-set_same, get-set_other, get-push_less, get-push_same, get-push_past}
 use Rattle.pb_propagate.proofs.lemmas.store.Unlinks.{swap-other, swap-last, swap-here, swap-length}
@@ -118,3 +119,35 @@ swap-to xs q d j t inside h other = elim (cases_eq j (length xs - 1)) [
 pub seated-widened : (list seats seats' : List ℕ) (b : Bool) → seats' ≡ (if b then seats ++ (0 ∷ []) else seats) → AreSeated list seats → AreSeated list seats'
 seated-widened list seats seats' true e old i s h = rw e (get-push_less seats s 0 (slice_get_within seats s i (old i s h)) ∙ old i s h)
 seated-widened list seats seats' false e old i s h = rw e (old i s h)
+
+-- what is on a list with one number more, and is another one, was there before
+pub push-older : (xs : List ℕ) (x i s : ℕ) → (s ≡ x → ⊥) → slice_get (xs ++ (x ∷ [])) i ≡ Some s → slice_get xs i ≡ Some s
+push-older xs x i s other h = elim (cases_lt i (length xs)) [
+  | inl less ↦ sym (get-push_less xs i x less) ∙ h
+  | inr more ↦ elim (cases_eq i (length xs)) [
+    | inl here ↦ absurd (other (some-one (slice_get (xs ++ (x ∷ [])) i) s x h (get-push_same xs i x here)))
+    | inr past ↦ absurd (none-some (slice_get (xs ++ (x ∷ [])) i) s (get-push_past xs i x (lt_of_apart (length xs) i more past)) h)
+  ]
+]
+
+-- a list without one of its numbers
+pub swap-without : (xs ys seats : List ℕ) (q x : ℕ) → AreSeated xs seats → slice_get xs q ≡ Some x → ys ≡ swap_remove xs q x → IsWithout x xs ys
+swap-without xs ys seats q x seated got is = record {
+  others = λ s other gone. get-absent xs s (λ i at.
+      let inside = slice_get_within xs q x got in
+      let to = swap-to xs q x i s inside at (λ same. other (some-one (slice_get xs i) s x at (ap (slice_get xs) same ∙ got))) in
+      absent-get ys s to.0 gone (ap (λ zs. slice_get zs to.0) is ∙ to.1));
+  older = λ i s at.
+      let inside = slice_get_within xs q x got in
+      let from = swap-from xs q x i s inside (ap (λ zs. slice_get zs i) (sym is) ∙ at) in
+      (λ same. from.2 (some-one (slice_get seats s) from.0 q (seated from.0 s from.1) (ap (slice_get seats) same ∙ seated q x got)), from.0, from.1);
+}
+
+-- a list that does not have the number
+pub same-without : (xs ys : List ℕ) (x : ℕ) → IsAbsent xs 0 x → ys ≡ xs → IsWithout x xs ys
+same-without xs ys x gone is = record {
+  others = λ s other h. rw is at h;
+  older = λ i s at.
+      let there = ap (λ zs. slice_get zs i) (sym is) ∙ at in
+      (λ same. absent-get xs x i gone (there ∙ ap (λ z. Some z) same), i, there);
+}

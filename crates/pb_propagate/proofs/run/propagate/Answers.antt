@@ -1,16 +1,15 @@
-use Rattle.std.specs.Prelude.{filter, sum}
+use Rattle.std.specs.Prelude.{sum, sum_by}
 use Rattle.std.proofs.Common.{◌+◌, ◌<◌, ◌≤◌, ◌++◌, ◌∷◌, [], ℕ, List, Vec, Global, length, drop, get_or, sym, ap, subst, inl, inr, ◌∙◌, arith}
 use Rattle.std.proofs.lemmas.List.{length-map, get_or_default, take_rest, drop_all}
 use Rattle.pb_propagate.specs.engine.Engine.Lists.{Derives, Conflicts, IsSettled}
 use Rattle.pb_propagate.specs.engine.Engine.Counts.{spent}
 use Rattle.pb_propagate.specs.engine.Engine.Fields.{shapes_of, entries_of, stored_shape}
-use Rattle.pb_propagate.specs.engine.Engine.Rest.{waits}
 use Rattle.pb_propagate.specs.engine.Clauses.Truths.{false_at}
 use Rattle.pb_propagate.specs.engine.Clauses.Links.{lists_of}
-use Rattle.pb_propagate.specs.engine.Clauses.Runs.{AreServed, AreWalked}
+use Rattle.pb_propagate.specs.engine.Clauses.Runs.{AreServed, AreWalked, passed_of}
 use Rattle.pb_propagate.specs.engine.Clauses.Shapes.{all_of, clauses_of, joined}
 use Rattle.pb_propagate.proofs.lemmas.engine.Derivations.{derivation-then, derivation-keeps}
-use Rattle.pb_propagate.proofs.lemmas.engine.Propagated.{propagating-start, propagating-visit, propagating-next, propagating-walk, propagating-bound, propagating-choose, propagating-settled, propagating-spends}
+use Rattle.pb_propagate.proofs.lemmas.engine.Propagated.{propagating-start, propagating-visit, propagating-next, propagating-walk, propagating-bound, propagating-take, propagating-settled, propagating-spends}
 use Rattle.pb_propagate.proofs.lemmas.engine.Watched.{walk-covered}
 use Rattle.pb_propagate.specs.engine.Engine.Progress.{progress, database, queued_to}
 use Rattle.pb_propagate.proofs.lemmas.root.Extends.{extends-none}
@@ -32,8 +31,8 @@ work-init c =
       grows = grows-refl run.assignment.values.items;
       kept = λ base codes more old. old;
       taken = omega arith;
-      watching = watching-start c.args.clauses.now run.assignment.values.items run.assignment.list.items c.args.from c.requires.ready (omega (arith, c.requires.widths, c.requires.values)) c.requires.from c.requires.walked;
-      state = propagating-start (database c.args.store.now c.args.rests.now) (all_of store c.args.clauses.now) (waits store.stored.items) c.args.waiting.now (length store.stored.items) (cost c.args.clauses.now c.args.clauses.now (record { short = c.args.from; long = c.args.from }) run.assignment.list.items) (progress run) c.requires.counted c.requires.tidy c.requires.opens c.requires.candidates c.requires.next;
+      watching = watching-start c.args.clauses.now run.assignment.values.items run.assignment.list.items c.args.from c.requires.running c.requires.from c.requires.walked;
+      state = propagating-start (database c.args.store.now c.args.rests.now) (all_of store c.args.clauses.now) c.args.waiting.now (length store.stored.items) (cost c.args.clauses.now c.args.clauses.now (record { short = c.args.from; long = c.args.from }) run.assignment.list.items) (progress run) c.requires.counted c.requires.tidy c.requires.opens c.requires.candidates c.requires.next;
     }
 
 pub next_walk-requires : goal.next_walk-requires
@@ -83,7 +82,7 @@ returns-in_err-walk-clause-costs c =
     let covered = walk-covered (database c.args.store.now c.args.rests.now) c.work.clauses c.walk.new.clauses c.in-Some.ahead.code (falsified_code a.group a.literal) same a.code costs in
     let bounded = sum-bounded (shapes_of store.stored.items) run.candidates.items (state.candidate_sizes ∙ sym (length-map store.stored.items stored_shape)) state.tidy.bounded in
     let broken = cost-broken c.args.clauses.now c.work.clauses c.walk.new.clauses run.assignment.values.items run.assignment.list.items a.group c.work.heads run.visits done.visits (spent lists run.assignment.list.items) (spent lists done.assignment.list.items) a.literal (state.costs.single c.requires.single) a.inside a.is c.walk.ensures.bounded covered w in
-    propagating-spends (clauses_of c.args.clauses.now) (advanced a.group c.work.heads) (progress done) 0 c.requires.single c.requires.next state costs.extends costs.single (omega (arith, bounded, ap sum same)) (omega (arith, state.within)) (omega (arith, broken, ap sum same))
+    propagating-spends (clauses_of c.args.clauses.now) (advanced a.group c.work.heads) (sum_by length (clauses_of c.args.clauses.now)) (progress done) 0 c.requires.single c.requires.next state costs.extends costs.single (omega (arith, bounded, ap sum same)) (omega (arith, state.within)) (omega (arith, broken, ap sum same))
 
 pub returns-then-branch-2-clause-costs : goal.returns-then-branch-2-clause-costs
 returns-then-branch-2-clause-costs c =
@@ -99,7 +98,7 @@ returns-then-branch-2-clause-costs c =
     let covered = walk-covered (database c.args.store.now c.args.rests.now) c.work.clauses c.walk.new.clauses c.in-Some.ahead.code (falsified_code a.group a.literal) same a.code costs in
     let bounded = sum-bounded (shapes_of store.stored.items) run.candidates.items (state.candidate_sizes ∙ sym (length-map store.stored.items stored_shape)) state.tidy.bounded in
     let broken = cost-broken c.args.clauses.now c.work.clauses c.walk.new.clauses run.assignment.values.items run.assignment.list.items a.group c.work.heads run.visits done.visits (spent lists run.assignment.list.items) (spent lists done.assignment.list.items) a.literal (state.costs.single c.requires.single) a.inside a.is c.walk.ensures.bounded covered w in
-    propagating-spends (clauses_of c.args.clauses.now) (advanced a.group c.work.heads) (progress done) 0 c.requires.single c.requires.next state costs.extends costs.single (omega (arith, bounded, ap sum same)) (omega (arith, state.within)) (omega (arith, broken, ap sum same))
+    propagating-spends (clauses_of c.args.clauses.now) (advanced a.group c.work.heads) (sum_by length (clauses_of c.args.clauses.now)) (progress done) 0 c.requires.single c.requires.next state costs.extends costs.single (omega (arith, bounded, ap sum same)) (omega (arith, state.within)) (omega (arith, broken, ap sum same))
 
 pub returns-then-branch-2-clause-derived : goal.returns-then-branch-2-clause-derived
 returns-then-branch-2-clause-derived c =
@@ -117,7 +116,7 @@ returns-then-branch-2-clause-undone c =
     let run = c.work.run in
     let state = c.work.invariant.state in
     let w = c.work.invariant.watching in
-    let tidy = c.in_ok-walk.ensures.tidy (filter (waits store.stored.items) (drop c.work.taken c.args.waiting.now)) (length store.stored.items) state.tidy in
+    let tidy = c.in_ok-walk.ensures.tidy (drop c.work.taken c.args.waiting.now) (length store.stored.items) state.tidy in
     record { clean = tidy.clean; named = tidy.marked }
 
 pub returns-then-branch-2-clause-conflict : goal.returns-then-branch-2-clause-conflict
@@ -206,7 +205,7 @@ work-preserved-in-Some c =
       taken = c.work.invariant.taken;
       watching = subst (IsWatching c.args.clauses.now c.walk.new.clauses done.assignment.values.items done.assignment.list.items) (sym a.after)
           (watching-next (all_of store c.args.clauses.now) c.args.clauses.now c.work.clauses c.walk.new.clauses run.assignment.values.items done.assignment.values.items run.assignment.list.items done.assignment.list.items a.group c.work.heads a.literal a.inside a.is next.failed reported.literals reported.running derived walked w);
-      state = propagating-walk (cost c.args.clauses.now c.walk.new.clauses c.in-Some.ahead.heads done.assignment.list.items) state derived (reported.counted c.if-branch-2.false) (reported.tidy (filter (waits store.stored.items) (drop c.work.taken c.args.waiting.now)) (length store.stored.items) state.tidy) reported.advances reported.found same paid;
+      state = propagating-walk (cost c.args.clauses.now c.walk.new.clauses c.in-Some.ahead.heads done.assignment.list.items) state derived (reported.counted c.if-branch-2.false) (reported.tidy (drop c.work.taken c.args.waiting.now) (length store.stored.items) state.tidy) reported.advances reported.found same paid;
     }
 
 pub visit_form-requires-clause-tidy : goal.visit_form-requires-clause-tidy
@@ -215,7 +214,7 @@ visit_form-requires-clause-tidy c =
     let run = c.work.run in
     let inside : run.next < length run.work.items = omega (arith, c.if-run-len.true, c.len.ensures, run.work.ok.0) in
     let all = take_rest c.args.waiting.now c.work.taken in
-    rw all (propagating-visit (database c.args.store.now c.args.rests.now) (filter (waits keep) (drop c.work.taken c.args.waiting.now)) (progress run) c.index-form.result.now (length-map keep stored_shape) inside c.index-form.ensures c.work.invariant.state.tidy)
+    rw all (propagating-visit (database c.args.store.now c.args.rests.now) (drop c.work.taken c.args.waiting.now) (progress run) c.index-form.result.now (length-map keep stored_shape) inside c.index-form.ensures c.work.invariant.state.tidy)
 
 pub returns-in_err-visit_form-clause-costs : goal.returns-in_err-visit_form-clause-costs
 returns-in_err-visit_form-clause-costs c =
@@ -226,7 +225,7 @@ returns-in_err-visit_form-clause-costs c =
     let inside : run.next + 1 ≤ length run.work.items = omega (arith, c.if-run-len.true, c.len.ensures, run.work.ok.0) in
     let most = cost-most c.args.clauses.now c.work.clauses run.assignment.values.items run.assignment.list.items c.work.heads w in
     let costs = c.in_err-visit_form.ensures.costs in
-    propagating-spends (clauses_of c.args.clauses.now) c.work.heads (progress c.visit_form.new.run) 1 c.requires.single c.requires.next state costs.extends costs.single c.visit_form.ensures.bounded inside (omega (arith, costs.paid, most))
+    propagating-spends (clauses_of c.args.clauses.now) c.work.heads (sum_by length (clauses_of c.args.clauses.now)) (progress c.visit_form.new.run) 1 c.requires.single c.requires.next state costs.extends costs.single c.visit_form.ensures.bounded inside (omega (arith, costs.paid, most))
 
 pub returns-then-branch-clause-costs : goal.returns-then-branch-clause-costs
 returns-then-branch-clause-costs c =
@@ -237,7 +236,7 @@ returns-then-branch-clause-costs c =
     let inside : run.next + 1 ≤ length run.work.items = omega (arith, c.if-run-len.true, c.len.ensures, run.work.ok.0) in
     let most = cost-most c.args.clauses.now c.work.clauses run.assignment.values.items run.assignment.list.items c.work.heads w in
     let costs = c.in_ok-visit_form.ensures.advances.costs in
-    propagating-spends (clauses_of c.args.clauses.now) c.work.heads (progress c.visit_form.new.run) 1 c.requires.single c.requires.next state costs.extends costs.single c.visit_form.ensures.bounded inside (omega (arith, costs.paid, most))
+    propagating-spends (clauses_of c.args.clauses.now) c.work.heads (sum_by length (clauses_of c.args.clauses.now)) (progress c.visit_form.new.run) 1 c.requires.single c.requires.next state costs.extends costs.single c.visit_form.ensures.bounded inside (omega (arith, costs.paid, most))
 
 pub returns-then-branch-clause-running : goal.returns-then-branch-clause-running
 returns-then-branch-clause-running c =
@@ -293,25 +292,25 @@ work-preserved-else-branch c =
       state = propagating-next (cost c.args.clauses.now c.work.clauses c.work.heads done.assignment.list.items) state derived (reported.counted c.if-branch.false) tidy reported.advances reported.found (omega (arith, inside)) (cost-grow (all_of store c.args.clauses.now) c.args.clauses.now c.work.clauses run.assignment.list.items done.assignment.list.items c.work.heads w.short w.long derived);
     }
 
-pub returns-in_err-choose-clause-costs : goal.returns-in_err-choose-clause-costs
-returns-in_err-choose-clause-costs c =
+pub returns-in_err-push-clause-costs : goal.returns-in_err-push-clause-costs
+returns-in_err-push-clause-costs c =
     let store = c.args.store.now in
     let run = c.work.run in
     let state = c.work.invariant.state in
     let w = c.work.invariant.watching in
     let most = cost-most c.args.clauses.now c.work.clauses run.assignment.values.items run.assignment.list.items c.work.heads w in
     let bounded = sum-bounded (shapes_of store.stored.items) run.candidates.items (state.candidate_sizes ∙ sym (length-map store.stored.items stored_shape)) state.tidy.bounded in
-    propagating-spends (clauses_of c.args.clauses.now) c.work.heads (queued_to run.work.items c.choose.new.work.items (progress run)) 0 c.requires.single c.requires.next state (extends-none run.assignment.list.items) (λ s. s) bounded (omega (arith, state.within)) (omega (arith, most))
+    propagating-spends (clauses_of c.args.clauses.now) c.work.heads (sum_by length (clauses_of c.args.clauses.now)) (queued_to run.work.items c.push.new.self.items (progress run)) 0 c.requires.single c.requires.next state (extends-none run.assignment.list.items) (λ s. s) bounded (omega (arith, state.within)) (omega (arith, most))
 
-pub returns-in_err-choose-2-clause-costs : goal.returns-in_err-choose-2-clause-costs
-returns-in_err-choose-2-clause-costs c =
+pub returns-in_err-push-2-clause-costs : goal.returns-in_err-push-2-clause-costs
+returns-in_err-push-2-clause-costs c =
     let store = c.args.store.now in
     let run = c.work.run in
     let state = c.work.invariant.state in
     let w = c.work.invariant.watching in
     let most = cost-most c.args.clauses.now c.work.clauses run.assignment.values.items run.assignment.list.items c.work.heads w in
     let bounded = sum-bounded (shapes_of store.stored.items) run.candidates.items (state.candidate_sizes ∙ sym (length-map store.stored.items stored_shape)) state.tidy.bounded in
-    propagating-spends (clauses_of c.args.clauses.now) c.work.heads (queued_to c.choose-then-taken-waiting.new.work.items c.choose.new.work.items (progress run)) 0 c.requires.single c.requires.next state (extends-none run.assignment.list.items) (λ s. s) bounded (omega (arith, state.within)) (omega (arith, most))
+    propagating-spends (clauses_of c.args.clauses.now) c.work.heads (sum_by length (clauses_of c.args.clauses.now)) (queued_to c.push-then-taken-waiting.new.self.items c.push.new.self.items (progress run)) 0 c.requires.single c.requires.next state (extends-none run.assignment.list.items) (λ s. s) bounded (omega (arith, state.within)) (omega (arith, most))
 
 pub returns-else-taken-waiting-clause-costs : goal.returns-else-taken-waiting-clause-costs
 returns-else-taken-waiting-clause-costs c =
@@ -321,7 +320,7 @@ returns-else-taken-waiting-clause-costs c =
     let w = c.work.invariant.watching in
     let most = cost-most c.args.clauses.now c.work.clauses run.assignment.values.items run.assignment.list.items c.work.heads w in
     let bounded = sum-bounded (shapes_of store.stored.items) run.candidates.items (state.candidate_sizes ∙ sym (length-map store.stored.items stored_shape)) state.tidy.bounded in
-    propagating-spends (clauses_of c.args.clauses.now) c.work.heads (progress run) 0 c.requires.single c.requires.next state (extends-none run.assignment.list.items) (λ s. s) bounded (omega (arith, state.within)) (omega (arith, most))
+    propagating-spends (clauses_of c.args.clauses.now) c.work.heads (sum_by length (clauses_of c.args.clauses.now)) (progress run) 0 c.requires.single c.requires.next state (extends-none run.assignment.list.items) (λ s. s) bounded (omega (arith, state.within)) (omega (arith, most))
 
 pub work-smaller : goal.work-smaller
 work-smaller c =
@@ -344,8 +343,8 @@ work-preserved c =
       kept = c.work.invariant.kept;
       taken = omega (arith, less);
       watching = w;
-      state = propagating-choose (get_or c.args.waiting.now c.work.taken 0) c.choose-then-taken-waiting.new.work.items c.choose.new.work.items state less (get_or_default c.args.waiting.now c.work.taken 0 _ less)
-          (omega (arith, c.requires.waiting c.work.taken 0 less, length-map store.stored.items stored_shape)) c.in_ok-choose-2.ensures c.in_ok-choose.ensures;
+      state = propagating-take (get_or c.args.waiting.now c.work.taken 0) c.push-then-taken-waiting.new.self.items c.push.new.self.items state less (get_or_default c.args.waiting.now c.work.taken 0 _ less)
+          (omega (arith, c.requires.waiting c.work.taken 0 less, length-map store.stored.items stored_shape)) c.in_ok-push-2.ensures.items c.in_ok-push.ensures.items;
     }
 
 pub returns-else-taken-waiting-clause-settled : goal.returns-else-taken-waiting-clause-settled
@@ -385,10 +384,26 @@ returns-else-taken-waiting-clause-counted c = λ found. c.work.invariant.state.c
 pub returns-else-taken-waiting-clause-tidy : goal.returns-else-taken-waiting-clause-tidy
 returns-else-taken-waiting-clause-tidy c = λ found.
     let none_waits : length c.args.waiting.now ≤ c.work.taken = omega (arith, c.if-taken-waiting.false) in
-    let nothing = ap (filter (waits c.args.store.now.stored.items)) (drop_all c.work.taken c.args.waiting.now none_waits) in
-    rw nothing at c.work.invariant.state.tidy
+    rw (drop_all c.work.taken c.args.waiting.now none_waits) at c.work.invariant.state.tidy
 
 pub returns-else-taken-waiting-clause-done : goal.returns-else-taken-waiting-clause-done
 returns-else-taken-waiting-clause-done c = λ found.
     let run = c.work.run in
     omega (arith, c.if-run-len.false, c.len.ensures, run.work.ok.0)
+
+pub returns-else-taken-waiting-clause-pays : goal.returns-else-taken-waiting-clause-pays
+returns-else-taken-waiting-clause-pays c = λ found.
+    let store = c.args.store.now in
+    let run = c.work.run in
+    let state = c.work.invariant.state in
+    let bounded = sum-bounded (shapes_of store.stored.items) run.candidates.items (state.candidate_sizes ∙ sym (length-map store.stored.items stored_shape)) state.tidy.bounded in
+    propagating-spends (clauses_of c.args.clauses.now) c.work.heads (sum (passed_of c.work.clauses)) (progress run) 0 c.requires.single c.requires.next state (extends-none run.assignment.list.items) (λ s. s) bounded (omega (arith, state.within)) (omega arith)
+
+pub returns-then-branch-clause-rising : goal.returns-then-branch-clause-rising
+returns-then-branch-clause-rising c = omega (arith, c.work.invariant.state.rising, c.in_ok-visit_form.ensures.advances.rising)
+
+pub returns-then-branch-2-clause-rising : goal.returns-then-branch-2-clause-rising
+returns-then-branch-2-clause-rising c = omega (arith, c.work.invariant.state.rising, c.in_ok-walk.ensures.advances.rising)
+
+pub returns-else-taken-waiting-clause-rising : goal.returns-else-taken-waiting-clause-rising
+returns-else-taken-waiting-clause-rising c = c.work.invariant.state.rising

@@ -1,8 +1,7 @@
-use Rattle.std.specs.Prelude.{sum_by, filter}
-use Rattle.pb_propagate.specs.engine.Clauses.Runs.{KeepsWalked, Grows}
-use Rattle.pb_propagate.specs.engine.Engine.Progress.{progress, database}
+use Rattle.std.specs.Prelude.{sum, sum_by, take}
+use Rattle.pb_propagate.specs.engine.Clauses.Runs.{KeepsWalked, Grows, passed_of}
+use Rattle.pb_propagate.specs.engine.Engine.Progress.{progress, database, seen}
 use Rattle.std.proofs.Common.{◌+◌, ◌*◌, ◌-◌, ◌≤◌, length}
-use Rattle.pb_propagate.specs.engine.Engine.Rest.{waits}
 use Rattle.pb_propagate.specs.engine.Engine.Fields.{shapes_of, entries_of}
 use Rattle.pb_propagate.specs.engine.Clauses.Shapes.{all_of}
 use Rattle.pb_propagate.proofs.lemmas.engine.Propagated.{IsPropagating}
@@ -15,8 +14,8 @@ invariant-work l = record {
   watching : IsWatching l.initial.clauses l.clauses l.run.assignment.values.items l.run.assignment.list.items l.heads;
   grows : Grows l.initial.run.assignment.values.items l.run.assignment.values.items;
   kept : KeepsWalked l.initial.run.assignment.values.items l.initial.clauses l.clauses;
-  state : IsPropagating (database l.store l.rests) (all_of l.store l.initial.clauses) (waits l.store.stored.items) l.waiting (length l.store.stored.items) (cost l.initial.clauses l.clauses l.heads l.run.assignment.list.items) l.taken (progress l.initial.run) (progress l.run);
+  state : IsPropagating (database l.store l.rests) (all_of l.store l.initial.clauses) l.waiting (length l.store.stored.items) (seen l.initial.clauses (take l.from l.initial.run.assignment.list.items) (sum (passed_of l.initial.clauses))) (cost l.initial.clauses l.clauses l.heads l.run.assignment.list.items) l.taken (progress l.initial.run) (progress l.run);
 }
 
 abbrev pub decreases-work : goal.decreases-work
-decreases-work l = (length l.initial.run.work.items + length (filter (waits l.store.stored.items) l.waiting) + sum_by length (entries_of (shapes_of l.store.stored.items) l.store.occurrences.items) + length l.waiting + 2 * length l.initial.run.assignment.values.items) - (l.run.next + l.taken + (l.heads.short + l.heads.long))
+decreases-work l = (length l.initial.run.work.items + length l.waiting + sum_by length (entries_of (shapes_of l.store.stored.items) l.store.occurrences.items) + length l.waiting + 2 * length l.initial.run.assignment.values.items) - (l.run.next + l.taken + (l.heads.short + l.heads.long))

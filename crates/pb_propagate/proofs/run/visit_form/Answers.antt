@@ -4,7 +4,7 @@ use Rattle.std.proofs.lemmas.List.{length-map, get_or_read}
 use Rattle.std.proofs.lemmas.List.Sums.{get_or-le-sum_by}
 use Rattle.pb_propagate.specs.declared.term.Term.{Term}
 use Rattle.pb_propagate.specs.engine.Engine.Fields.{shapes_of, stored_shape}
-use Rattle.pb_propagate.specs.engine.Engine.Progress.{passed_to, progress, database, chosen}
+use Rattle.pb_propagate.specs.engine.Engine.Progress.{passed_to, progress, database}
 use Rattle.pb_propagate.specs.engine.Engine.Terms.{terms_of}
 use Rattle.pb_propagate.proofs.lemmas.engine.Advances.{advances-visit, advances-then, advances-as, costs-then, on-err}
 use Rattle.pb_propagate.proofs.lemmas.engine.VisitSteps.{IsVisiting, visiting-start, visiting-next, forced-read, calm-by, waiting-by, visiting-settled, Visiting-conflict, shape-at, term-inside}
@@ -17,7 +17,7 @@ terms-init c =
     let sizes = length-map store.stored.items stored_shape in
     record {
       counted = c.requires.counted;
-      in_visit = visiting-start (database store c.args.rests.now) (chosen store c.args.waiting.now) c.args.form (progress c.args.run.now) c.requires.tidy c.requires.there (c.requires.opens ∙ sym sizes) (c.requires.candidates ∙ sym sizes);
+      in_visit = visiting-start (database store c.args.rests.now) c.args.waiting.now c.args.form (progress c.args.run.now) c.requires.tidy c.requires.there (c.requires.opens ∙ sym sizes) (c.requires.candidates ∙ sym sizes);
     }
 
 pub terms-preserved : goal.terms-preserved
@@ -32,7 +32,7 @@ terms-preserved c =
     }
 
 -- where a further form is falsified: the term is passed
-passed : (c : goal.Then-found) → IsVisiting (database c.args.store.now c.args.rests.now) (chosen c.args.store.now c.args.waiting.now) c.args.form (progress c.args.run.now) (passed_to (set c.try_put.new.run.candidates.items c.args.form (c.index-candidate.result.now + 1)) (progress c.try_put.new.run))
+passed : (c : goal.Then-found) → IsVisiting (database c.args.store.now c.args.rests.now) c.args.waiting.now c.args.form (progress c.args.run.now) (passed_to (set c.try_put.new.run.candidates.items c.args.form (c.index-candidate.result.now + 1)) (progress c.try_put.new.run))
 passed c =
     let in_visit = c.terms.invariant.in_visit in
     let reported = c.in_ok-found.ensures in

@@ -99,7 +99,7 @@ returns-clause-gained c =
     let store = c.args.store.now in
     let h = c.in_ok-fill.ensures.filled in
     let vacant = slots-vacant (forms_of store.stored.items) (shapes_of store.stored.items) (clauses_of c.args.clauses.now) c.args.slot c.requires.rest.slots c.requires.slot in
-    gained-filled store c.fill.new.store c.args.clauses.now c.args.clauses.now c.args.slot h.kept c.fill.ensures.variables h.keeps (λ s apart. refl) (λ e apart. refl) vacant
+    gained-filled store c.fill.new.store c.args.clauses.now c.args.clauses.now c.args.slot h.kept c.fill.ensures.variables h.keeps (λ s apart. refl) (λ e apart. refl) vacant c.requires.slot c.args.form h.form
 
 pub returns-then-is_clause-clause-gained : goal.returns-then-is_clause-clause-gained
 returns-then-is_clause-clause-gained c =
@@ -107,4 +107,4 @@ returns-then-is_clause-clause-gained c =
     let reported = c.in_ok-watch.ensures in
     let k = reported.kept in
     let vacant = slots-vacant (forms_of store.stored.items) (shapes_of store.stored.items) (clauses_of c.args.clauses.now) c.args.slot c.requires.rest.slots c.requires.slot in
-    gained-filled store c.watch.new.store c.args.clauses.now c.watch.new.clauses c.args.slot k.0 c.watch.ensures.rest.2 k.3 (λ s apart. ap (λ (cs : List (List ℕ)). list_at cs s) reported.literals ∙ get_or-set_other (clauses_of c.args.clauses.now) c.args.slot s (codes_of_terms c.args.form.terms) [] apart) reported.watches vacant
+    gained-filled store c.watch.new.store c.args.clauses.now c.watch.new.clauses c.args.slot k.0 c.watch.ensures.rest.2 k.3 (λ s apart. ap (λ (cs : List (List ℕ)). list_at cs s) reported.literals ∙ get_or-set_other (clauses_of c.args.clauses.now) c.args.slot s (codes_of_terms c.args.form.terms) [] apart) reported.watches vacant c.requires.slot c.args.form k.1

@@ -1,5 +1,5 @@
 -- The engine's fields as lists.
-use Rattle.std.specs.Prelude.{◌≡◌, ℕ, false, [], ◌∷◌, ◌++◌, List, Option, Some, None, map, slice_set, Vec}
+use Rattle.std.specs.Prelude.{◌≡◌, ℕ, ◌≤◌, false, [], ◌∷◌, ◌++◌, List, Option, Some, None, map, length, slice_index_or, slice_set, Vec}
 use Rattle.std.specs.Global.{Global}
 use Rattle.pb_propagate.specs.declared.store.Occurrence.{Occurrence}
 use Rattle.pb_propagate.specs.declared.store.stored_form.StoredForm.{StoredForm}
@@ -23,6 +23,10 @@ forms_of kept = map (λ k. k.terms.form) kept
 
 abbrev pub lists_of : List (Vec Occurrence Global) → List (List Occurrence)
 lists_of lists = map (λ v. v.items) lists
+
+-- no list got shorter
+abbrev pub AreLonger : List (Vec Occurrence Global) → List (Vec Occurrence Global) → Type 0
+AreLonger old new = (p : ℕ) → length (slice_index_or (lists_of old) p []) ≤ length (slice_index_or (lists_of new) p [])
 
 -- the entry that was visited
 abbrev pub entry_at : Visited → Occurrence

@@ -1,5 +1,5 @@
 -- A run of propagation as lists, and what each function of propagation does to it.
-use Rattle.std.specs.Prelude.{◌≡◌, ℕ, ◌+◌, ◌-◌, ◌*◌, ◌<◌, ◌≤◌, ◌++◌, ◌∷◌, [], true, false, Contains, Result, IfOk, List, Bool, Option, filter, length, sum, sum_by, slice_set, slice_index, slice_index_or}
+use Rattle.std.specs.Prelude.{◌≡◌, ℕ, ◌+◌, ◌-◌, ◌*◌, ◌<◌, ◌≤◌, ◌++◌, ◌∷◌, [], true, false, Contains, Result, IfOk, List, Bool, Option, filter, length, sum, sum_by, take, slice_set, slice_index, slice_index_or}
 use Rattle.pb_normal.specs.declared.numbered.NumberedLiteral.{NumberedLiteral}
 use Rattle.pb_normal.specs.meaning.Rules.{negation}
 use Rattle.pb_propagate.specs.declared.store.Store.{Store}
@@ -124,12 +124,21 @@ pub record Advances (d : Database) (before after : ℕ) (old new : Progress) : T
   pub work : length new.work + spent d.lists old.list ≤ length old.work + spent d.lists new.list
   pub rising : old.visits ≤ new.visits
 
--- the cost of a whole propagation, also of one that an allocation ends
-pub record Spends (d : Database) (clauses : List (List ℕ)) (waiting : List ℕ) (old new : Progress) : Type 0 where
+-- The cost of a whole propagation, also of one that an allocation ends. Two visits are paid by each entry that was
+-- subtracted, one by each term that was passed, and the others by the difference of `after` and `before`.
+pub record Spends (d : Database) (before after : ℕ) (old new : Progress) : Type 0 where
   pub extends : Extends old.list new.list
   pub single : AreSingle new.list
   pub bounded : sum new.candidates ≤ sum_by (λ f. length f.terms) d.forms
-  pub upper : new.visits + sum old.candidates ≤ old.visits + ((length old.work + length waiting) - old.next) + 2 * spent d.lists new.list + sum new.candidates + 2 * fallen clauses new.list + sum_by length clauses
+  pub upper : new.visits + before + sum old.candidates + 2 * spent d.lists old.list ≤ old.visits + after + sum new.candidates + 2 * spent d.lists new.list
+
+-- how many forms are on the work list, or wait
+abbrev pub queued : List ℕ → Progress → ℕ
+queued waiting p = (length p.work + length waiting) - p.next
+
+-- two visits for each watch of the literals, and one for each literal that a search passed
+abbrev pub seen : Clauses → List NumberedLiteral → ℕ → ℕ
+seen c list searched = 2 * fallen (clauses_of c) list + searched
 
 -- the list has gained no more literals than there were visits
 abbrev pub VisitsEach : Progress → Progress → Type 0
@@ -201,8 +210,15 @@ WalkCosts store rests c c' literal old new = RunCosts store rests (sum (passed_o
 abbrev pub WalkAdvances : Store → Rests → Clauses → Clauses → ℕ → Run → Run → Type 0
 WalkAdvances store rests c c' literal old new = RunAdvances store rests (sum (passed_of c)) (2 * length (list_at (lists_of c.lists.items) literal) + sum (passed_of c')) old new
 
-abbrev pub RunSpends : Store → Rests → Clauses → List ℕ → Run → Run → Type 0
-RunSpends store rests c waiting old new = Spends (database store rests) (clauses_of c) (chosen store waiting) (progress old) (progress new)
+-- the first `from` literals were walked before; all clauses may have been searched to their ends
+abbrev pub RunSpends : Store → Rests → Clauses → ℕ → List ℕ → Run → Run → Type 0
+RunSpends store rests c from waiting old new =
+    Spends (database store rests) (seen c (take from (list_of old)) (sum (passed_of c))) (queued waiting (progress old) + seen c (list_of new) (sum_by length (clauses_of c))) (progress old) (progress new)
+
+-- the same of a propagation that has ended: the clauses were searched as far as is known
+abbrev pub RunPays : Store → Rests → Clauses → Clauses → ℕ → List ℕ → Run → Run → Type 0
+RunPays store rests c c' from waiting old new =
+    Spends (database store rests) (seen c (take from (list_of old)) (sum (passed_of c))) (queued waiting (progress old) + seen c (list_of new) (sum (passed_of c'))) (progress old) (progress new)
 
 -- the watches of the first literals of the list were walked
 abbrev pub RunIsWalked : ℕ → Clauses → Run → Type 0

@@ -1,37 +1,61 @@
 -- The root: a propagation from nothing that has ended without a conflict, to which questions return.
-use Rattle.std.specs.Prelude.{◌≡◌, ℕ, ◌+◌, ◌*◌, ◌/◌, ◌<◌, ◌≤◌, ◌⊎◌, ◌++◌, ◌∷◌, Contains, true, false, List, [], Bool, Option, Some, length, slice_get, slice_set, slice_index, slice_index_or}
+use Rattle.std.specs.Prelude.{◌≡◌, ℕ, ◌+◌, ◌*◌, ◌/◌, ◌<◌, ◌≤◌, ◌⊎◌, ◌++◌, ◌∷◌, Contains, true, false, List, [], Bool, Option, Some, length, sum_by, slice_get, slice_set, slice_index, slice_index_or}
 use Rattle.pb_normal.specs.declared.numbered.NumberedLiteral.{NumberedLiteral}
 use Rattle.pb_normal.specs.meaning.Rules.{negation}
 use Rattle.pb_propagate.specs.declared.store.stored_form.StoredForm.{StoredForm}
 use Rattle.pb_propagate.specs.declared.store.Store.{Store}
 use Rattle.pb_propagate.specs.declared.run.Run.{Run}
+use Rattle.pb_propagate.specs.declared.engine.root.Root.{Root}
 use Rattle.pb_propagate.specs.declared.rests.Rests.{Rests}
+use Rattle.pb_propagate.specs.declared.eager.Eager.{Eager}
+use Rattle.pb_normal.specs.meaning.Form.{Form}
 use Rattle.pb_propagate.specs.declared.clauses.Clauses.{Clauses}
 use Rattle.pb_propagate.specs.declared.clauses.lists.Watch.{Watch}
 use Rattle.pb_propagate.specs.declared.term.Term.{Term}
 use Rattle.pb_propagate.specs.engine.Engine.Lists.{Shape, Puts, Derives, Conflicts, IsSettled, IsWithin, has, says, open_sum}
 use Rattle.pb_propagate.specs.engine.Engine.Counts.{IsTidy, beside}
-use Rattle.pb_propagate.specs.engine.Engine.Fields.{shapes_of, IsEmpty}
+use Rattle.pb_propagate.specs.engine.Engine.Fields.{shapes_of, forms_of, IsEmpty}
+use Rattle.pb_propagate.specs.engine.Engine.Forms.{IsStoredAs}
+use Rattle.pb_propagate.specs.engine.Engine.Slots.{form_at, numbered, ArePlaced}
 use Rattle.pb_propagate.specs.engine.Clauses.Truths.{true_at, false_at}
 use Rattle.pb_propagate.specs.engine.Clauses.Links.{list_at, watch_at}
 use Rattle.pb_propagate.specs.engine.Clauses.Runs.{AreWalked}
 use Rattle.pb_propagate.specs.engine.Clauses.Shapes.{clauses_of, all_of}
 use Rattle.pb_propagate.specs.engine.Clauses.Walked.{walked_codes}
 
--- The state of the forms under the literals that they force. One form may be left out: none is if `busy` is no form's number.
-pub record IsRooted (store : Store) (clauses : Clauses) (run : Run) (rests : Rests) (busy : ℕ) : Type 0 where
+-- the slot has a form
+abbrev pub HasForm : Store → ℕ → Type 0
+HasForm store s = (f : Form) × (form_at (forms_of store.stored.items) s ≡ Some f)
+
+-- The state of the forms under the literals that they force. The forms that wait may force more. One form may be left out:
+-- none is if `busy` is no form's number.
+pub record IsRooted (store : Store) (clauses : Clauses) (run : Run) (rests : Rests) (waiting : Eager) (busy : ℕ) : Type 0 where
   pub values : length run.assignment.values.items ≡ store.variables
   pub opens : run.opens.items ≡ rests.opens.items
   pub starts : run.candidates.items ≡ rests.starts.items
   pub open_sizes : length run.opens.items ≡ length store.stored.items
   pub start_sizes : length run.candidates.items ≡ length store.stored.items
   pub counted : (s : ℕ) (d : Shape) → s < length store.stored.items → (s ≡ busy → ⊥) → slice_index run.opens.items s ≡ open_sum run.assignment.list.items (slice_index_or (shapes_of store.stored.items) s d).terms
-  pub tidy : IsTidy (beside rests []) (shapes_of store.stored.items) run.opens.items run.candidates.items run.assignment.list.items [] [] 0 busy
+  pub tidy : IsTidy (beside rests waiting.list.items) (shapes_of store.stored.items) run.opens.items run.candidates.items run.assignment.list.items [] [] 0 busy
   pub work : run.work.items ≡ []
   pub trail : run.trail.items ≡ []
   pub next : run.next ≡ 0
   pub derived : Derives (all_of store clauses) [] run.assignment.list.items
   pub walked : AreWalked run.assignment.values.items clauses.watches.items (walked_codes (length run.assignment.list.items) run.assignment.list.items)
+  pub seats : length waiting.seats.items ≡ length store.stored.items
+  pub live : (i s : ℕ) → slice_get waiting.list.items i ≡ Some s → HasForm store s
+
+-- the same of the program's root, with no form left out
+abbrev pub IsRootOf : Store → Clauses → Root → Type 0
+IsRootOf store clauses root = IsRooted store clauses root.run root.rests root.waiting (length store.stored.items)
+
+-- the number of terms of all constraints
+abbrev pub terms_of_all : Store → Clauses → ℕ
+terms_of_all store clauses = sum_by (λ (f : Shape). length f.terms) (all_of store clauses)
+
+-- each number has the same form
+abbrev pub HasSameForms : Store → Store → Type 0
+HasSameForms old new = (places : List ℕ) → ArePlaced (forms_of old.stored.items) places → numbered (forms_of new.stored.items) places ≡ numbered (forms_of old.stored.items) places
 
 -- a watched literal is true, or none of the two is falsified
 abbrev pub IsServed : List (Option Bool) → List Watch → ℕ → Type 0
@@ -39,9 +63,17 @@ IsServed values watches s =
     (true_at values (watch_at watches (2 * s)).literal ≡ true) ⊎ (true_at values (watch_at watches (2 * s + 1)).literal ≡ true) ⊎
     ((false_at values (watch_at watches (2 * s)).literal ≡ false) × (false_at values (watch_at watches (2 * s + 1)).literal ≡ false))
 
--- a literal of the clause is open
-abbrev pub HasOpen : List (Option Bool) → List ℕ → Type 0
-HasOpen values codes = (x : ℕ) × Contains codes x × (true_at values x ≡ false) × (false_at values x ≡ false)
+-- a literal of the clause is not falsified
+abbrev pub IsFree : List (Option Bool) → List ℕ → ℕ → Type 0
+IsFree values codes x = Contains codes x × (false_at values x ≡ false)
+
+-- a literal of the clause other than this one is not falsified
+abbrev pub HasOther : List (Option Bool) → List ℕ → ℕ → Type 0
+HasOther values codes x = (y : ℕ) × (y ≡ x → ⊥) × IsFree values codes y
+
+-- all literals of the clause but this one are falsified
+abbrev pub IsLast : List (Option Bool) → List ℕ → ℕ → Type 0
+IsLast values codes x = (k d : ℕ) → k < length codes → (false_at values (slice_index_or codes k d) ≡ true) ⊎ (slice_index_or codes k d ≡ x)
 
 -- a literal of the form is true
 abbrev pub HasTrue : List (Option Bool) → List Term → Type 0
@@ -50,6 +82,22 @@ HasTrue values terms = (t : Term) × Contains terms t × (says values t.literal 
 -- the form has put no literal of the list, at any time before
 abbrev pub IsSpare : Shape → List NumberedLiteral → Type 0
 IsSpare x list = (l : NumberedLiteral) (earlier : List NumberedLiteral) → has list l ≡ true → IsWithin earlier list → Puts (x ∷ []) earlier l → ⊥
+
+-- each literal of the list that the form of a slot has put may be put by that of another slot
+abbrev pub IsReplaced : List Shape → ℕ → List NumberedLiteral → Type 0
+IsReplaced forms slot list = (x : Shape) (l : NumberedLiteral) (earlier : List NumberedLiteral) → slice_get forms slot ≡ Some x → has list l ≡ true → IsWithin earlier list → Puts (x ∷ []) earlier l → (s : ℕ) × (s ≡ slot → ⊥) × (y : Shape) × (slice_get forms s ≡ Some y) × Puts (y ∷ []) earlier l
+
+-- the literal is that of the only term
+abbrev pub IsOnly : List Term → NumberedLiteral → Type 0
+IsOnly terms l = (c : ℕ) × (terms ≡ record { literal = l; coefficient = c } ∷ [])
+
+-- a slot other than this one has a form that is a unit of the literal
+pub record HasUnit (forms : List Shape) (slot : ℕ) (l : NumberedLiteral) : Type 0 where
+  pub unit : ℕ
+  pub apart : unit ≡ slot → ⊥
+  pub inside : unit < length forms
+  pub only : (d : Shape) → IsOnly (slice_index_or forms unit d).terms l
+  pub positive : (d : Shape) → 0 < (slice_index_or forms unit d).degree
 
 -- the same literal is watched
 abbrev pub IsSameWatch : Watch → Watch → Type 0
@@ -80,10 +128,18 @@ pub record HasGained (before : Store) (old : Clauses) (store : Store) (clauses :
   pub kept : (s : ℕ) → (s ≡ slot → ⊥) → slice_get store.stored.items s ≡ slice_get before.stored.items s
   pub filled : (s : ℕ) → (s ≡ slot → ⊥) → list_at (clauses_of clauses) s ≡ list_at (clauses_of old) s
   pub bare : (x : Shape) → slice_get (all_of before old) slot ≡ Some x → x.terms ≡ []
+  pub empty : HasForm before slot → ⊥
+  pub full : HasForm store slot
   pub watched : (e : ℕ) → (e / 2 ≡ slot → ⊥) → watch_at clauses.watches.items e ≡ watch_at old.watches.items e
 
+-- the root is that of the forms before one came into the slot
+abbrev pub WasRootOf : Store → Clauses → ℕ → Root → Type 0
+WasRootOf store clauses slot root = (before : Store) × (old : Clauses) × IsRootOf before old root × HasGained before old store clauses slot
+
 -- each list has an entry for the slot
-pub record HasReached (run run' : Run) (rests rests' : Rests) (slot : ℕ) : Type 0 where
+pub record HasReached (run run' : Run) (rests rests' : Rests) (waiting waiting' : Eager) (slot : ℕ) : Type 0 where
+  pub waits : waiting'.list.items ≡ waiting.list.items
+  pub seats : length waiting.seats.items ≡ length run.opens.items → length waiting'.seats.items ≡ length run'.opens.items
   pub assignment : run'.assignment ≡ run.assignment
   pub work : run'.work ≡ run.work
   pub trail : run'.trail ≡ run.trail
@@ -105,3 +161,8 @@ pub record IsAnswered (shapes : List Shape) (visits : ℕ) (found : Bool) : Type
   pub one_sided : (l : NumberedLiteral) → has list l ≡ true → has list (negation l) ≡ false
   pub conflict : found ≡ true → Conflicts shapes list
   pub settled : found ≡ false → (f : Shape) → Contains shapes f → IsSettled f list
+
+-- What a question has found: a conflict of the constraints that are live, or what follows with the form that was asked about.
+pub data IsAsked (form : Form) (shapes : List Shape) (visits : ℕ) (found : Bool) : Type 0 where
+  alone : found ≡ true → IsAnswered shapes visits true → IsAsked form shapes visits found
+  posed : (x : Shape) → IsStoredAs form x → IsAnswered (shapes ++ (x ∷ [])) visits found → IsAsked form shapes visits found

@@ -56,7 +56,7 @@ invariant_of-self-then-found c = λ ready.
         seats = r.seats;
       },
       both.1,
-      λ live. absurd (let e : false ≡ true = sym c.end.ensures ∙ live in cc),
+      λ live. absurd (let e : false ≡ true = sym c.end.ensures.live ∙ live in cc),
     )
 
 pub returns-then-found-clause-conflict : goal.returns-then-found-clause-conflict
@@ -92,7 +92,7 @@ invariant_of-self-2 c = λ ready.
         seats = r.seats;
       },
       both.1,
-      λ live. absurd (let e : false ≡ true = sym c.end.ensures ∙ live in cc),
+      λ live. absurd (let e : false ≡ true = sym c.end.ensures.live ∙ live in cc),
     )
 
 pub returns-clause-no_conflict : goal.returns-clause-no_conflict

@@ -20,7 +20,7 @@ invariant_of-self-2 c = λ ready.
     let none = c.in_ok-slot.ensures.slot in
     let small : slot < 2 ^ 64 - 1 = omega (arith, slice_get_within forms slot None none, keep.ok.0, keep.ok.1, forms-length keep.items) in
     let placed = placed-agree was forms e.places.items c.vacancy.ensures.forms r.1 in
-    (c.in_ok-follow.ensures.rest, rw (c.in_ok-occupy.ensures.forms, c.in_ok-push.ensures.items) (placed-filled forms e.places.items slot c.args.form none small placed), c.in_ok-follow.ensures.rooted)
+    (c.in_ok-occupy.ensures.rest, rw (c.in_ok-occupy.ensures.forms, c.in_ok-push.ensures.items) (placed-filled forms e.places.items slot c.args.form none small placed), c.in_ok-follow.ensures.rooted)
 
 pub returns-in_err-slot-clause-unchanged : goal.returns-in_err-slot-clause-unchanged
 returns-in_err-slot-clause-unchanged c =

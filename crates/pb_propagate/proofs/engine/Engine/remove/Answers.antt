@@ -23,7 +23,7 @@ invariant_of-self c = λ ready.
       rw c.quit.ensures.forms (placed-left (forms_of e.store.stored.items) e.places.items c.args.number c.index-slot.result.now t r.1),
       λ live.
           let lost = c.lose.ensures.lost live in
-          lost-rooted e.store c.quit.new.store e.clauses c.quit.new.clauses e.root.run c.lose.new.self.run e.root.rests c.lose.new.self.rests c.index-slot.result.now room (omega (arith, room, r.0.known)) c.quit.ensures.rest.ready c.quit.ensures.vacated lost.1 (c.lose.ensures.spare live) (r.2 lost.0),
+          lost-rooted e.store c.quit.new.store e.clauses c.quit.new.clauses e.root.run c.lose.new.self.run e.root.rests c.lose.new.self.rests e.root.waiting c.lose.new.self.waiting c.index-slot.result.now room (omega (arith, room, r.0.known)) c.quit.ensures.rest.ready c.quit.ensures.vacated lost.1 (c.lose.ensures.waiting live) (c.lose.ensures.seats live) (c.lose.ensures.spare live) (r.2 lost.0),
     )
 
 pub returns-then-slot-len-clause-forms : goal.returns-then-slot-len-clause-forms

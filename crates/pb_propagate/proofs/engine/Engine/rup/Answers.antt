@@ -27,7 +27,9 @@ use Rattle.pb_propagate.proofs.lemmas.engine.Bounds.{joined-terms, slots-terms, 
 use Rattle.pb_propagate.proofs.lemmas.engine.Spent.{spent-le}
 use Rattle.pb_propagate.proofs.lemmas.clauses.Killed.{fallen-most}
 use Rattle.pb_propagate.proofs.lemmas.engine.Completing.{closed-none}
-use Rattle.pb_propagate.proofs.lemmas.engine.Rests.{slots-entered, slots-more, joined-entered, rest-entered, rest-tidy-first, rest-undone, rest-lengths, rest-left, eager-entered, with-kept, opposite-inside}
+use Rattle.pb_propagate.proofs.lemmas.root.Asked.{asked-meets, asked-free}
+use Rattle.pb_propagate.proofs.lemmas.clauses.Watching.{ready-running}
+use Rattle.pb_propagate.proofs.lemmas.engine.Rests.{slots-entered, joined-entered, rest-entered, rest-tidy-first, rest-undone, rest-lengths, rest-left, eager-entered, with-kept, opposite-inside}
 use Rattle.pb_propagate.proofs.engine.Engine.rup.Goals as goal
 
 pub enter-requires-clause-inside : goal.enter-requires-clause-inside
@@ -209,13 +211,12 @@ returns-clause-most c =
     let number_is : number ≡ length keep = omega (arith, c.len-number.ensures, e.store.stored.ok.0) in
     let few = slots-eager forms keep (clauses_of e.clauses) r.joined r.slots in
     let first = filter-few (waits new.store.stored.items) (number ∷ []) in
-    let stand = filter-few (waits new.store.stored.items) e.eager.list.items in
     let work_is : length new.run.work.items ≡ 0 = ap (λ (v : Vec ℕ Global). length v.items) c.enter.ensures.rest.1 ∙ ap length r.work in
     let work = ap length c.in_ok-choose-2.ensures ∙ length-append new.run.work.items (filter (waits new.store.stored.items) (number ∷ [])) in
-    let waiting = ap (λ (xs : List ℕ). length (filter (waits new.store.stored.items) xs)) c.as_slice.ensures.value in
+    let waiting = ap length c.as_slice.ensures.value in
     let same : numbered forms e.places.items ≡ c.args.self.now.forms = ap (λ (v : Standing). v.forms) c.self.view_is in
-    let visits_made = most-visits c.propagate.new.run.visits (sum new.run.candidates.items) new.run.visits (length c.choose-2.new.work.items + length (filter (waits new.store.stored.items) c.as_slice.result.now)) new.run.next (sum_by length (entries_of (shapes_of new.store.stored.items) new.store.occurrences.items)) (sum c.propagate.new.run.candidates.items) (sum_by (λ (f : Shape). length f.terms) (shapes_of new.store.stored.items)) (sum_by {X = List ℕ} length (clauses_of e.clauses)) (sum_by one_in forms + 1)
-    (omega (arith, c.propagate.ensures.costs.upper, spent-le (entries_of (shapes_of new.store.stored.items) new.store.occurrences.items) c.propagate.new.run.assignment.list.items c.propagate.ensures.costs.single, fallen-most (clauses_of e.clauses) c.propagate.new.run.assignment.list.items)) (c.enter.ensures.rest.3 ∙ c.none-self-inside.ensures) c.propagate.ensures.costs.bounded c.in_ok-enter.ensures.sound.whole.totals (omega (arith, few, r.few, first, stand, work_is, work, waiting)) in
+    let visits_made = most-visits c.propagate.new.run.visits (sum new.run.candidates.items) new.run.visits (length c.choose-2.new.work.items + length c.as_slice.result.now) new.run.next (sum_by length (entries_of (shapes_of new.store.stored.items) new.store.occurrences.items)) (sum c.propagate.new.run.candidates.items) (sum_by (λ (f : Shape). length f.terms) (shapes_of new.store.stored.items)) (sum_by {X = List ℕ} length (clauses_of e.clauses)) (sum_by one_in forms + 1)
+    (omega (arith, c.propagate.ensures.costs.upper, spent-le (entries_of (shapes_of new.store.stored.items) new.store.occurrences.items) c.propagate.new.run.assignment.list.items c.propagate.ensures.costs.single, fallen-most (clauses_of e.clauses) c.propagate.new.run.assignment.list.items)) (c.enter.ensures.rest.3 ∙ c.none-self-inside.ensures) c.propagate.ensures.costs.bounded c.in_ok-enter.ensures.sound.whole.totals (omega (arith, few, r.few, first, work_is, work, waiting)) in
     rw (← same) (omega (arith, both.1.alike terms_in refl, both.1.alike one_in refl, visits_made, terms, both_terms, more, goal_terms, c.leave.ensures.rest.3, c.rest.ensures.visits))
 
 pub returns-in_err-found-clause-most : goal.returns-in_err-found-clause-most
@@ -238,13 +239,12 @@ returns-in_err-found-clause-most c =
     let number_is : number ≡ length keep = omega (arith, c.len-number.ensures, e.store.stored.ok.0) in
     let few = slots-eager forms keep (clauses_of e.clauses) r.joined r.slots in
     let first = filter-few (waits new.store.stored.items) (number ∷ []) in
-    let stand = filter-few (waits new.store.stored.items) e.eager.list.items in
     let work_is : length new.run.work.items ≡ 0 = ap (λ (v : Vec ℕ Global). length v.items) c.enter.ensures.rest.1 ∙ ap length r.work in
     let work = ap length c.in_ok-choose-2.ensures ∙ length-append new.run.work.items (filter (waits new.store.stored.items) (number ∷ [])) in
-    let waiting = ap (λ (xs : List ℕ). length (filter (waits new.store.stored.items) xs)) c.as_slice.ensures.value in
+    let waiting = ap length c.as_slice.ensures.value in
     let same : numbered forms e.places.items ≡ c.args.self.now.forms = ap (λ (v : Standing). v.forms) c.self.view_is in
-    let visits_made = most-visits c.propagate.new.run.visits (sum new.run.candidates.items) new.run.visits (length c.choose-2.new.work.items + length (filter (waits new.store.stored.items) c.as_slice.result.now)) new.run.next (sum_by length (entries_of (shapes_of new.store.stored.items) new.store.occurrences.items)) (sum c.propagate.new.run.candidates.items) (sum_by (λ (f : Shape). length f.terms) (shapes_of new.store.stored.items)) (sum_by {X = List ℕ} length (clauses_of e.clauses)) (sum_by one_in forms + 1)
-    (omega (arith, c.propagate.ensures.costs.upper, spent-le (entries_of (shapes_of new.store.stored.items) new.store.occurrences.items) c.propagate.new.run.assignment.list.items c.propagate.ensures.costs.single, fallen-most (clauses_of e.clauses) c.propagate.new.run.assignment.list.items)) (c.enter.ensures.rest.3 ∙ c.none-self-inside.ensures) c.propagate.ensures.costs.bounded c.in_ok-enter.ensures.sound.whole.totals (omega (arith, few, r.few, first, stand, work_is, work, waiting)) in
+    let visits_made = most-visits c.propagate.new.run.visits (sum new.run.candidates.items) new.run.visits (length c.choose-2.new.work.items + length c.as_slice.result.now) new.run.next (sum_by length (entries_of (shapes_of new.store.stored.items) new.store.occurrences.items)) (sum c.propagate.new.run.candidates.items) (sum_by (λ (f : Shape). length f.terms) (shapes_of new.store.stored.items)) (sum_by {X = List ℕ} length (clauses_of e.clauses)) (sum_by one_in forms + 1)
+    (omega (arith, c.propagate.ensures.costs.upper, spent-le (entries_of (shapes_of new.store.stored.items) new.store.occurrences.items) c.propagate.new.run.assignment.list.items c.propagate.ensures.costs.single, fallen-most (clauses_of e.clauses) c.propagate.new.run.assignment.list.items)) (c.enter.ensures.rest.3 ∙ c.none-self-inside.ensures) c.propagate.ensures.costs.bounded c.in_ok-enter.ensures.sound.whole.totals (omega (arith, few, r.few, first, work_is, work, waiting)) in
     rw (← same) (omega (arith, both.1.alike terms_in refl, both.1.alike one_in refl, visits_made, terms, both_terms, more, goal_terms))
 
 pub returns-clause-conflict : goal.returns-clause-conflict
@@ -395,15 +395,11 @@ propagate-requires-clause-joined c =
     let new = c.enter.new in
     joined-entered c.in-Ok.negation e.store.stored.items new.store.stored.items (clauses_of e.clauses) e.run.opens.items new.run.opens.items e.run.candidates.items new.run.candidates.items c.in_ok-enter.ensures.entered r.joined
 
-pub propagate-requires-clause-ready : goal.propagate-requires-clause-ready
-propagate-requires-clause-ready c =
+pub propagate-requires-clause-running : goal.propagate-requires-clause-running
+propagate-requires-clause-running c =
     let both = c.self.invariant (ap (λ (v : Standing). v.spent) c.self.view_is ∙ c.requires.ready) in
-    both.0.ready
-
-pub propagate-requires-clause-widths : goal.propagate-requires-clause-widths
-propagate-requires-clause-widths c =
-    let both = c.self.invariant (ap (λ (v : Standing). v.spent) c.self.view_is ∙ c.requires.ready) in
-    both.0.widths ∙ ap (λ n. 4 * n) (sym c.in_ok-enter.ensures.variables)
+    let values_is : length c.enter.new.run.assignment.values.items ≡ c.self.inside.store.variables = ap (λ (a : Assignment). length a.values.items) c.enter.ensures.rest.0 ∙ both.0.values in
+    ready-running c.self.inside.clauses c.enter.new.run.assignment.values.items both.0.ready (both.0.widths ∙ ap (λ n. 4 * n) (sym values_is))
 
 -- a question that continues from the root
 pub ask-requires-clause-inside : goal.ask-requires-clause-inside
@@ -441,7 +437,7 @@ invariant_of-self-then-self c = λ ready.
         seats = rw reported.kept r.seats;
       },
       rw reported.kept both.1,
-      λ live. reported.rooted,
+      reported.rooted,
     )
 
 pub returns-then-self-clause-forms : goal.returns-then-self-clause-forms
@@ -451,38 +447,21 @@ pub returns-then-self-clause-implied : goal.returns-then-self-clause-implied
 returns-then-self-clause-implied c = λ found.
     let e = c.self.inside in
     let both = c.self.invariant (ap (λ (v : Standing). v.spent) c.self.view_is ∙ c.requires.ready) in
-    let r = both.0 in
-    let g = c.in-Ok.negation in
     let forms = forms_of e.store.stored.items in
-    let asked = c.in_ok-answer.ensures.asked in
-    let reported = asked.2 in
-    let shapes = all_of e.store e.clauses ++ (asked.0 ∷ []) in
-    let a = placed-with forms e.places.items g shapes both.1 (with-kept forms g shapes (slots-more forms (all_of e.store e.clauses) (Some g) asked.0 r.slots asked.1)) in
-    let shown = numbered forms e.places.items in
-    let d = derives (With (Live shown) g) shapes [] [] reported.list a (λ v n. sym (on-none (record { variable = v; negated = n }))) reported.derived in
-    let small : length d.list ≤ c.ask.new.visits = omega (arith, reported.few, d.count) in
-    let meets : MeetsConflict (With (Live shown) g) [] = record { list = d.list; derived = d.derived; conflict = conflicts (With (Live shown) g) shapes d.list reported.list a d.matches (reported.conflict found) } in
-    rw (← c.self.view_is) (inr (rw c.in-Ok.ensures.negation at meets))
+    let g = c.in-Ok.negation in
+    let meets = asked-meets forms e.places.items (all_of e.store e.clauses) g c.ask.new.visits c.in_ok-answer.answer both.1 both.0.slots found c.in_ok-answer.ensures.asked in
+    rw (← c.self.view_is) (inr (rw c.in-Ok.ensures.negation at meets.0))
 
 pub returns-then-self-clause-not_implied : goal.returns-then-self-clause-not_implied
 returns-then-self-clause-not_implied c = λ found rup.
     let e = c.self.inside in
     let both = c.self.invariant (ap (λ (v : Standing). v.spent) c.self.view_is ∙ c.requires.ready) in
-    let r = both.0 in
-    let g = c.in-Ok.negation in
     let forms = forms_of e.store.stored.items in
-    let asked = c.in_ok-answer.ensures.asked in
-    let reported = asked.2 in
-    let shapes = all_of e.store e.clauses ++ (asked.0 ∷ []) in
-    let a = placed-with forms e.places.items g shapes both.1 (with-kept forms g shapes (slots-more forms (all_of e.store e.clauses) (Some g) asked.0 r.slots asked.1)) in
+    let g = c.in-Ok.negation in
+    let free = asked-free forms e.places.items (all_of e.store e.clauses) g c.ask.new.visits c.in_ok-answer.answer both.1 both.0.slots found c.in_ok-answer.ensures.asked in
     let shown = numbered forms e.places.items in
-    let d = derives (With (Live shown) g) shapes [] [] reported.list a (λ v n. sym (on-none (record { variable = v; negated = n }))) reported.derived in
-    let small : length d.list ≤ c.ask.new.visits = omega (arith, reported.few, d.count) in
-    let free : MeetsConflict (With (Live shown) g) [] → ⊥ = closed-none (With (Live shown) g) [] d.list d.derived
-    (is-closed (With (Live shown) g) shapes d.list reported.list a d.matches (reported.settled found))
-    (has-none (With (Live shown) g) shapes d.list reported.list a d.matches reported.one_sided
-    (reported.settled found)) in
-    let free_goal : MeetsConflict (With (Live shown) (negation_of c.args.goal.now)) [] → ⊥ = rw c.in-Ok.ensures.negation at free in
+    let none : MeetsConflict (With (Live shown) g) [] → ⊥ = free.none in
+    let free_goal : MeetsConflict (With (Live shown) (negation_of c.args.goal.now)) [] → ⊥ = rw c.in-Ok.ensures.negation at none in
     let same : shown ≡ c.args.self.now.forms = ap (λ (v : Standing). v.forms) c.self.view_is in
     elim rup [
       | inl nothing ↦ c.if-degree-eq0.false (ap (of_z w128) (c.degree.ensures.degree ∙ ap pos nothing))
@@ -493,35 +472,19 @@ pub returns-then-self-clause-conflict : goal.returns-then-self-clause-conflict
 returns-then-self-clause-conflict c = λ found.
     let e = c.self.inside in
     let both = c.self.invariant (ap (λ (v : Standing). v.spent) c.self.view_is ∙ c.requires.ready) in
-    let r = both.0 in
-    let g = c.in-Ok.negation in
     let forms = forms_of e.store.stored.items in
-    let asked = c.in_ok-answer.ensures.asked in
-    let reported = asked.2 in
-    let shapes = all_of e.store e.clauses ++ (asked.0 ∷ []) in
-    let a = placed-with forms e.places.items g shapes both.1 (with-kept forms g shapes (slots-more forms (all_of e.store e.clauses) (Some g) asked.0 r.slots asked.1)) in
-    let shown = numbered forms e.places.items in
-    let d = derives (With (Live shown) g) shapes [] [] reported.list a (λ v n. sym (on-none (record { variable = v; negated = n }))) reported.derived in
-    let small : length d.list ≤ c.ask.new.visits = omega (arith, reported.few, d.count) in
-    let meets : (m : MeetsConflict (With (Live shown) g) []) × (length m.list ≤ c.ask.new.visits) = (record { list = d.list; derived = d.derived; conflict = conflicts (With (Live shown) g) shapes d.list reported.list a d.matches (reported.conflict found) }, small) in
+    let g = c.in-Ok.negation in
+    let meets = asked-meets forms e.places.items (all_of e.store e.clauses) g c.ask.new.visits c.in_ok-answer.answer both.1 both.0.slots found c.in_ok-answer.ensures.asked in
     rw (← c.self.view_is) (inr (rw c.in-Ok.ensures.negation at meets))
 
 pub returns-then-self-clause-completion : goal.returns-then-self-clause-completion
 returns-then-self-clause-completion c = λ found.
     let e = c.self.inside in
     let both = c.self.invariant (ap (λ (v : Standing). v.spent) c.self.view_is ∙ c.requires.ready) in
-    let r = both.0 in
-    let g = c.in-Ok.negation in
     let forms = forms_of e.store.stored.items in
-    let asked = c.in_ok-answer.ensures.asked in
-    let reported = asked.2 in
-    let shapes = all_of e.store e.clauses ++ (asked.0 ∷ []) in
-    let a = placed-with forms e.places.items g shapes both.1 (with-kept forms g shapes (slots-more forms (all_of e.store e.clauses) (Some g) asked.0 r.slots asked.1)) in
-    let shown = numbered forms e.places.items in
-    let d = derives (With (Live shown) g) shapes [] [] reported.list a (λ v n. sym (on-none (record { variable = v; negated = n }))) reported.derived in
-    let small : length d.list ≤ c.ask.new.visits = omega (arith, reported.few, d.count) in
-    let done : IsCompletion (With (Live shown) g) [] d.list = record { derived = d.derived; closed = is-closed (With (Live shown) g) shapes d.list reported.list a d.matches (reported.settled found) } in
-    let whole : (list : List NumberedLiteral) × IsCompletion (With (Live shown) g) [] list × (length list ≤ c.ask.new.visits) = (d.list, done, small) in
+    let g = c.in-Ok.negation in
+    let free = asked-free forms e.places.items (all_of e.store e.clauses) g c.ask.new.visits c.in_ok-answer.answer both.1 both.0.slots found c.in_ok-answer.ensures.asked in
+    let whole : (list : List NumberedLiteral) × IsCompletion (With (Live (numbered forms e.places.items)) g) [] list × (length list ≤ c.ask.new.visits) = (free.list, free.complete, free.few) in
     rw (← c.self.view_is) (rw c.in-Ok.ensures.negation at whole)
 
 pub returns-in_err-answer-clause-forms : goal.returns-in_err-answer-clause-forms
@@ -538,7 +501,7 @@ returns-then-self-clause-most c =
     let terms = slots-terms forms (all_of e.store e.clauses) both.0.slots in
     let goal_terms : length c.in-Ok.negation.terms ≡ length c.args.goal.now.terms = ap (λ (f : Form). length f.terms) c.in-Ok.ensures.negation ∙ length-map c.args.goal.now.terms opposite_entry in
     let same : numbered forms e.places.items ≡ c.args.self.now.forms = ap (λ (v : Standing). v.forms) c.self.view_is in
-    rw (← same) (omega (arith, c.ask.ensures.most, terms, goal_terms, both.1.alike terms_in refl))
+    rw (← same) (omega (arith, c.ask.ensures.most, terms, goal_terms, both.1.alike terms_in refl, both.1.alike one_in refl))
 
 pub returns-in_err-answer-clause-most : goal.returns-in_err-answer-clause-most
 returns-in_err-answer-clause-most c =
@@ -548,4 +511,4 @@ returns-in_err-answer-clause-most c =
     let terms = slots-terms forms (all_of e.store e.clauses) both.0.slots in
     let goal_terms : length c.in-Ok.negation.terms ≡ length c.args.goal.now.terms = ap (λ (f : Form). length f.terms) c.in-Ok.ensures.negation ∙ length-map c.args.goal.now.terms opposite_entry in
     let same : numbered forms e.places.items ≡ c.args.self.now.forms = ap (λ (v : Standing). v.forms) c.self.view_is in
-    rw (← same) (omega (arith, c.ask.ensures.most, terms, goal_terms, both.1.alike terms_in refl))
+    rw (← same) (omega (arith, c.ask.ensures.most, terms, goal_terms, both.1.alike terms_in refl, both.1.alike one_in refl))

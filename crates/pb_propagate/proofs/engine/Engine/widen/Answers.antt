@@ -1,10 +1,11 @@
-use Rattle.std.proofs.Common.{true, false, Vec, Global, ℕ, ◌≡◌, ◌∷◌, [], ◌∙◌, ap, length, length-append, arith, sym}
+use Rattle.std.proofs.Common.{Vec, Global, refl, ℕ, ◌≡◌, ◌∷◌, [], ◌∙◌, ap, length, length-append, arith}
 use Rattle.pb_propagate.specs.engine.Engine.Live.{Standing}
 use Rattle.pb_propagate.specs.engine.Engine.Fields.{shapes_of, spots_of}
 use Rattle.pb_propagate.specs.engine.Clauses.Links.{lists_of}
 use Rattle.pb_propagate.specs.engine.Clauses.Shapes.{clauses_of}
 use Rattle.pb_propagate.proofs.lemmas.store.Places.{entries-length}
 use Rattle.pb_propagate.proofs.lemmas.engine.Wider.{widened-stored, half}
+use Rattle.pb_propagate.proofs.lemmas.root.Roots.{widened-rooted}
 use Rattle.pb_propagate.proofs.engine.Engine.widen.Goals as goal
 
 pub invariant_of-self-2 : goal.invariant_of-self-2
@@ -35,7 +36,7 @@ invariant_of-self-2 c = λ ready.
         seats = r.seats;
       },
       both.1,
-      λ live. absurd (let e : false ≡ true = sym c.end.ensures ∙ live in cc),
+      λ live. widened-rooted e.store _ e.clauses c.widen-3.new.self e.root.run c.widen-4.new.self e.root.rests e.root.waiting refl count (c.widen-3.ensures.literals ∙ c.widen-2.ensures.literals) (c.widen-3.ensures.watches ∙ c.widen-2.ensures.watches) c.widen-4.ensures.list c.in_ok-widen-4.ensures.values (both.2 live),
     )
 
 pub returns-clause-variables : goal.returns-clause-variables

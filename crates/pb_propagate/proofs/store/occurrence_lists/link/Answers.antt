@@ -1,8 +1,9 @@
-use Rattle.std.proofs.Common.{[], ◌∷◌, ◌≡◌, ◌<◌, ◌∙◌, get_or, ap, arith, length, length-append, length-set}
+use Rattle.std.proofs.Common.{[], ◌∷◌, ◌≡◌, ◌<◌, refl, ◌∙◌, get_or, ap, arith, length, length-append, length-set}
 use Rattle.pb_propagate.specs.declared.term.Term.{Term}
 use Rattle.pb_propagate.specs.engine.Engine.Counts.{place}
 use Rattle.pb_propagate.specs.engine.Engine.Terms.{terms_of}
 use Rattle.pb_propagate.proofs.lemmas.store.Places.{link-by}
+use Rattle.pb_propagate.proofs.lemmas.store.Longer.{longer-push, longer-then}
 use Rattle.pb_propagate.proofs.store.occurrence_lists.link.Goals as goal
 
 pub place_of-place-requires : goal.place_of-place-requires
@@ -31,6 +32,7 @@ terms-preserved c =
     let at : c.place_of-place.result ≡ place (get_or ts c.terms.i t).literal = c.place_of-place.ensures.place ∙ ap (λ (x : Term). place x.literal) (c.term-term.ensures t) in
     record {
       sizes = length-set c.terms.lists.items c.place_of-place.result c.push-in-terms.new.self ∙ c.terms.invariant.sizes;
+      longer = longer-then c.args.lists.now.items c.terms.lists.items _ c.terms.invariant.longer (longer-push c.terms.lists.items _ c.place_of-place.result c.index_mut.result.now c.push-in-terms.new.self _ (omega (arith, c.requires.inside c.terms.i t within, at, c.terms.invariant.sizes)) c.index_mut.ensures.value refl c.in_ok-push-2.ensures.items);
       count = omega (arith, ap length c.in_ok-push.ensures.items, length-append c.terms.spots.items (c.len-spot.result ∷ []), c.terms.invariant.count);
       linked = λ base rows inside same wide old.
           link-by base rows c.terms.lists.items c.args.form c.terms.i ts t c.place_of-place.result c.index.result.now c.index_mut.result.now c.push-in-terms.new.self c.terms.spots.items c.push.new.self.items c.len-spot.result

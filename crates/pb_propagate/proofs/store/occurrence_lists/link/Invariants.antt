@@ -1,6 +1,6 @@
 use Rattle.std.proofs.Common.{◌≡◌, ℕ, ◌<◌, [], List, length, set}
 use Rattle.pb_propagate.specs.engine.Engine.Lists.{Shape}
-use Rattle.pb_propagate.specs.engine.Engine.Fields.{entries_of}
+use Rattle.pb_propagate.specs.engine.Engine.Fields.{entries_of, AreLonger}
 use Rattle.pb_propagate.specs.engine.Engine.Links.{IsLinked, cut, terms_at}
 use Rattle.pb_propagate.specs.engine.Engine.Terms.{terms_of}
 use Rattle.pb_propagate.proofs.store.occurrence_lists.link.Given as goal
@@ -8,6 +8,7 @@ use Rattle.pb_propagate.proofs.store.occurrence_lists.link.Given as goal
 abbrev pub invariant-terms : goal.invariant-terms
 invariant-terms l = record {
   sizes : length l.lists.items ≡ length l.initial.lists.items;
+  longer : AreLonger l.initial.lists.items l.lists.items;
   count : length l.spots.items ≡ l.i;
   linked : (base : List Shape) (all : List (List ℕ)) → l.form < length base → terms_at base l.form ≡ terms_of l.terms → l.form < length all → IsLinked (cut base l.form 0) (set all l.form []) (entries_of base l.initial.lists.items) → IsLinked (cut base l.form l.i) (set all l.form l.spots.items) (entries_of base l.lists.items);
 }

@@ -1,199 +1,167 @@
-use Rattle.std.proofs.Common.{◌≡◌, ℕ, ◌++◌, ◌∷◌, [], List, Vec, Global, subst, ◌∙◌, ap, length, length-set, get_or, arith}
+use Rattle.std.specs.Prelude.{slice_get}
+use Rattle.std.proofs.Common.{◌≡◌, ℕ, ◌++◌, ◌∷◌, [], List, Vec, Global, subst, sym, ◌∙◌, ap, inl, inr, length, length-set, get_or, arith}
 use Rattle.std.proofs.lemmas.List.{length-map}
+use Rattle.std.proofs.lemmas.Bool.{cases_eq}
 use Rattle.pb_propagate.specs.declared.assignment.Assignment.{Assignment}
-use Rattle.pb_propagate.specs.declared.clauses.lists.Watch.{Watch}
-use Rattle.pb_propagate.specs.engine.Engine.Lists.{Shape, Derives, open_sum}
-use Rattle.pb_propagate.specs.engine.Engine.Counts.{none}
+use Rattle.pb_propagate.specs.engine.Engine.Lists.{Shape, open_sum}
+use Rattle.pb_propagate.specs.engine.Engine.Counts.{IsTidy, beside}
 use Rattle.pb_propagate.specs.engine.Engine.Fields.{shapes_of, stored_shape}
-use Rattle.pb_propagate.specs.engine.Engine.Root.{IsServed}
-use Rattle.pb_propagate.specs.engine.Clauses.Links.{lists_of}
-use Rattle.pb_propagate.specs.engine.Clauses.Shapes.{all_of, clauses_of}
+use Rattle.pb_propagate.specs.engine.Engine.Root.{IsServed, HasForm}
 use Rattle.pb_propagate.specs.engine.Clauses.Walked.{walked_codes}
-use Rattle.pb_propagate.proofs.lemmas.engine.Spent.{derivation-single}
-use Rattle.pb_propagate.proofs.lemmas.engine.Derivations.{derivation-then}
 use Rattle.pb_propagate.proofs.lemmas.root.Roots.{kept-rooted}
-use Rattle.pb_propagate.proofs.lemmas.root.Admitted.{arrived, gained-rooted, served-walked, no-watch, served-watch, clause-rooted, slot-counted, slot-tidy}
+use Rattle.pb_propagate.proofs.lemmas.root.Admitted.{arrived, gained-rooted, admitted-rooted, served-walked, served-watch, clause-rooted, slot-counted, slot-tidy, grown-off}
+use Rattle.pb_propagate.proofs.lemmas.engine.Runs.{absent-push, absent-new}
+use Rattle.pb_propagate.proofs.lemmas.store.Seats.{get-absent, push-older}
 use Rattle.pb_propagate.proofs.engine.root.Root.admit.Goals as goal
 
-pub returns-then-is_filled-clause-rooted : goal.returns-then-is_filled-clause-rooted
-returns-then-is_filled-clause-rooted c = λ live.
+pub returns-then-is_filled : goal.returns-then-is_filled
+returns-then-is_filled c =
     let store = c.args.store.now in
     let g = c.requires.gained in
-    let run = c.args.self.now.run in
-    let rests = c.args.self.now.rests in
+    let me = c.args.self.now in
+    let run = me.run in
     let r = g.2 in
     let reached = c.in_ok-reach.ensures in
     let codes = walked_codes (length run.assignment.list.items) run.assignment.list.items in
-    let stored = c.requires.ready.stored in
     let filled = c.is_filled.ensures.yes c.if-is_filled.true in
     let values_are = ap (λ (a : Assignment). a.values.items) reached.assignment in
-    let served : IsServed run.assignment.values.items c.args.clauses.now.watches.items c.args.slot = subst (λ vs. IsServed vs c.args.clauses.now.watches.items c.args.slot) values_are (c.is_served-self.ensures.yes live) in
-    let walked = served-walked run.assignment.values.items g.1.watches.items c.args.clauses.now.watches.items codes c.args.slot g.3.watched (λ e here live h. served-watch run.assignment.values.items c.args.clauses.now.watches.items codes c.args.slot e r.walked.failed served here h) r.walked in
-    let rooted = gained-rooted g.0 store g.1 c.args.clauses.now run c.reach.new.run rests c.reach.new.rests c.args.slot c.requires.slot r g.3 reached walked in
-    let there = arrived g.0 store g.1 c.args.clauses.now run c.reach.new.run rests c.reach.new.rests c.args.slot c.requires.slot r g.3 reached in
-    clause-rooted store c.args.clauses.now c.reach.new.run c.reach.new.rests c.args.slot c.requires.slot (λ d. c.requires.joined.apart c.args.slot d (omega (arith, c.requires.slot, length-map store.stored.items stored_shape)) filled) there.open_none rooted
+    record {
+      rooted = λ live.
+          let served : IsServed run.assignment.values.items c.args.clauses.now.watches.items c.args.slot = subst (λ vs. IsServed vs c.args.clauses.now.watches.items c.args.slot) values_are (c.is_served-self.ensures.yes live) in
+          let walked = served-walked run.assignment.values.items g.1.watches.items c.args.clauses.now.watches.items codes c.args.slot g.3.watched (λ e here live h. served-watch run.assignment.values.items c.args.clauses.now.watches.items codes c.args.slot e r.walked.failed served here h) r.walked in
+          let rooted = gained-rooted g.0 store g.1 c.args.clauses.now run c.reach.new.run me.rests c.reach.new.rests me.waiting c.reach.new.waiting c.args.slot c.requires.slot r g.3 reached walked in
+          let there = arrived g.0 store g.1 c.args.clauses.now run c.reach.new.run me.rests c.reach.new.rests me.waiting c.reach.new.waiting c.args.slot c.requires.slot r g.3 reached in
+          clause-rooted store c.args.clauses.now c.reach.new.run c.reach.new.rests c.reach.new.waiting c.args.slot c.requires.slot (λ d. c.requires.joined.apart c.args.slot d (omega (arith, c.requires.slot, length-map store.stored.items stored_shape)) filled) there.open_none rooted;
+    }
 
 pub lay-requires-clause-opens : goal.lay-requires-clause-opens
 lay-requires-clause-opens c =
     let store = c.args.store.now in
     let g = c.requires.gained in
-    let run = c.args.self.now.run in
-    let rests = c.args.self.now.rests in
-    let r = g.2 in
-    let reached = c.in_ok-reach.ensures in
-    let codes = walked_codes (length run.assignment.list.items) run.assignment.list.items in
-    let stored = c.requires.ready.stored in
-    let none_there = c.is_filled.ensures.no c.if-is_filled.false in
-    let walked = served-walked run.assignment.values.items g.1.watches.items c.args.clauses.now.watches.items codes c.args.slot g.3.watched (λ e here live h. absurd (no-watch (clauses_of c.args.clauses.now) c.args.clauses.now.watches.items (lists_of c.args.clauses.now.lists.items) c.args.slot e stored none_there here live)) r.walked in
-    let rooted = gained-rooted g.0 store g.1 c.args.clauses.now run c.reach.new.run rests c.reach.new.rests c.args.slot c.requires.slot r g.3 reached walked in
-    rooted.open_sizes
+    let me = c.args.self.now in
+    let r = admitted-rooted g.0 store g.1 c.args.clauses.now me.run c.reach.new.run me.rests c.reach.new.rests me.waiting c.reach.new.waiting c.args.slot c.requires.slot g.2 g.3 c.in_ok-reach.ensures c.requires.ready (c.is_filled.ensures.no c.if-is_filled.false) in
+    r.open_sizes
 
 pub lay-requires-clause-values : goal.lay-requires-clause-values
 lay-requires-clause-values c =
     let store = c.args.store.now in
     let g = c.requires.gained in
-    let run = c.args.self.now.run in
-    let rests = c.args.self.now.rests in
-    let r = g.2 in
-    let reached = c.in_ok-reach.ensures in
-    let codes = walked_codes (length run.assignment.list.items) run.assignment.list.items in
-    let stored = c.requires.ready.stored in
-    let none_there = c.is_filled.ensures.no c.if-is_filled.false in
-    let walked = served-walked run.assignment.values.items g.1.watches.items c.args.clauses.now.watches.items codes c.args.slot g.3.watched (λ e here live h. absurd (no-watch (clauses_of c.args.clauses.now) c.args.clauses.now.watches.items (lists_of c.args.clauses.now.lists.items) c.args.slot e stored none_there here live)) r.walked in
-    let rooted = gained-rooted g.0 store g.1 c.args.clauses.now run c.reach.new.run rests c.reach.new.rests c.args.slot c.requires.slot r g.3 reached walked in
-    rooted.values
+    let me = c.args.self.now in
+    let r = admitted-rooted g.0 store g.1 c.args.clauses.now me.run c.reach.new.run me.rests c.reach.new.rests me.waiting c.reach.new.waiting c.args.slot c.requires.slot g.2 g.3 c.in_ok-reach.ensures c.requires.ready (c.is_filled.ensures.no c.if-is_filled.false) in
+    r.values
 
-pub propagate-requires-clause-opens : goal.propagate-requires-clause-opens
-propagate-requires-clause-opens c =
+pub defer-requires-clause-inside : goal.defer-requires-clause-inside
+defer-requires-clause-inside c =
     let store = c.args.store.now in
     let g = c.requires.gained in
-    let run = c.args.self.now.run in
-    let rests = c.args.self.now.rests in
-    let r = g.2 in
-    let reached = c.in_ok-reach.ensures in
-    let codes = walked_codes (length run.assignment.list.items) run.assignment.list.items in
-    let stored = c.requires.ready.stored in
-    let none_there = c.is_filled.ensures.no c.if-is_filled.false in
-    let walked = served-walked run.assignment.values.items g.1.watches.items c.args.clauses.now.watches.items codes c.args.slot g.3.watched (λ e here live h. absurd (no-watch (clauses_of c.args.clauses.now) c.args.clauses.now.watches.items (lists_of c.args.clauses.now.lists.items) c.args.slot e stored none_there here live)) r.walked in
-    let rooted = gained-rooted g.0 store g.1 c.args.clauses.now run c.reach.new.run rests c.reach.new.rests c.args.slot c.requires.slot r g.3 reached walked in
+    let me = c.args.self.now in
+    let r = admitted-rooted g.0 store g.1 c.args.clauses.now me.run c.reach.new.run me.rests c.reach.new.rests me.waiting c.reach.new.waiting c.args.slot c.requires.slot g.2 g.3 c.in_ok-reach.ensures c.requires.ready (c.is_filled.ensures.no c.if-is_filled.false) in
+    omega (arith, c.requires.slot, r.seats)
+
+pub defer-requires-clause-absent : goal.defer-requires-clause-absent
+defer-requires-clause-absent c =
+    let g = c.requires.gained in
+    get-absent c.reach.new.waiting.list.items c.args.slot (λ i at. g.3.empty (g.2.live i c.args.slot (rw c.in_ok-reach.ensures.waits at at)))
+
+pub keep-requires-clause-opens : goal.keep-requires-clause-opens
+keep-requires-clause-opens c =
+    let store = c.args.store.now in
+    let g = c.requires.gained in
+    let me = c.args.self.now in
+    let r = admitted-rooted g.0 store g.1 c.args.clauses.now me.run c.reach.new.run me.rests c.reach.new.rests me.waiting c.reach.new.waiting c.args.slot c.requires.slot g.2 g.3 c.in_ok-reach.ensures c.requires.ready (c.is_filled.ensures.no c.if-is_filled.false) in
     let d : Shape = record { terms = []; degree = 0 } in
-    ap length (c.in_ok-lay.ensures.opens d) ∙ length-set c.reach.new.run.opens.items c.args.slot (open_sum c.reach.new.run.assignment.list.items (get_or (shapes_of store.stored.items) c.args.slot d).terms) ∙ rooted.open_sizes
+    let opens_now = ap length (c.in_ok-lay.ensures.opens d) ∙ length-set c.reach.new.run.opens.items c.args.slot (open_sum c.reach.new.run.assignment.list.items (get_or (shapes_of store.stored.items) c.args.slot d).terms) ∙ r.open_sizes in
+    sym (ap length r.opens) ∙ r.open_sizes ∙ sym opens_now
 
-pub propagate-requires-clause-candidates : goal.propagate-requires-clause-candidates
-propagate-requires-clause-candidates c =
+pub keep-requires-clause-starts : goal.keep-requires-clause-starts
+keep-requires-clause-starts c =
     let store = c.args.store.now in
     let g = c.requires.gained in
-    let run = c.args.self.now.run in
-    let rests = c.args.self.now.rests in
-    let r = g.2 in
-    let reached = c.in_ok-reach.ensures in
-    let codes = walked_codes (length run.assignment.list.items) run.assignment.list.items in
-    let stored = c.requires.ready.stored in
-    let none_there = c.is_filled.ensures.no c.if-is_filled.false in
-    let walked = served-walked run.assignment.values.items g.1.watches.items c.args.clauses.now.watches.items codes c.args.slot g.3.watched (λ e here live h. absurd (no-watch (clauses_of c.args.clauses.now) c.args.clauses.now.watches.items (lists_of c.args.clauses.now.lists.items) c.args.slot e stored none_there here live)) r.walked in
-    let rooted = gained-rooted g.0 store g.1 c.args.clauses.now run c.reach.new.run rests c.reach.new.rests c.args.slot c.requires.slot r g.3 reached walked in
-    ap (λ (v : Vec ℕ Global). length v.items) c.lay.ensures.candidates ∙ rooted.start_sizes
+    let me = c.args.self.now in
+    let r = admitted-rooted g.0 store g.1 c.args.clauses.now me.run c.reach.new.run me.rests c.reach.new.rests me.waiting c.reach.new.waiting c.args.slot c.requires.slot g.2 g.3 c.in_ok-reach.ensures c.requires.ready (c.is_filled.ensures.no c.if-is_filled.false) in
+    sym (ap length r.starts) ∙ ap (λ (v : Vec ℕ Global). length v.items) (sym c.lay.ensures.candidates)
 
-pub propagate-requires-clause-values : goal.propagate-requires-clause-values
-propagate-requires-clause-values c =
+pub keep-requires-clause-sizes : goal.keep-requires-clause-sizes
+keep-requires-clause-sizes c =
     let store = c.args.store.now in
     let g = c.requires.gained in
-    let run = c.args.self.now.run in
-    let rests = c.args.self.now.rests in
-    let r = g.2 in
-    let reached = c.in_ok-reach.ensures in
-    let codes = walked_codes (length run.assignment.list.items) run.assignment.list.items in
-    let stored = c.requires.ready.stored in
-    let none_there = c.is_filled.ensures.no c.if-is_filled.false in
-    let walked = served-walked run.assignment.values.items g.1.watches.items c.args.clauses.now.watches.items codes c.args.slot g.3.watched (λ e here live h. absurd (no-watch (clauses_of c.args.clauses.now) c.args.clauses.now.watches.items (lists_of c.args.clauses.now.lists.items) c.args.slot e stored none_there here live)) r.walked in
-    let rooted = gained-rooted g.0 store g.1 c.args.clauses.now run c.reach.new.run rests c.reach.new.rests c.args.slot c.requires.slot r g.3 reached walked in
-    ap (λ (a : Assignment). length a.values.items) c.lay.ensures.assignment ∙ rooted.values
+    let me = c.args.self.now in
+    let r = admitted-rooted g.0 store g.1 c.args.clauses.now me.run c.reach.new.run me.rests c.reach.new.rests me.waiting c.reach.new.waiting c.args.slot c.requires.slot g.2 g.3 c.in_ok-reach.ensures c.requires.ready (c.is_filled.ensures.no c.if-is_filled.false) in
+    let d : Shape = record { terms = []; degree = 0 } in
+    let opens_now = ap length (c.in_ok-lay.ensures.opens d) ∙ length-set c.reach.new.run.opens.items c.args.slot (open_sum c.reach.new.run.assignment.list.items (get_or (shapes_of store.stored.items) c.args.slot d).terms) ∙ r.open_sizes in
+    ap (λ (v : Vec ℕ Global). length v.items) c.lay.ensures.candidates ∙ r.start_sizes ∙ sym opens_now
 
-pub propagate-requires-clause-single : goal.propagate-requires-clause-single
-propagate-requires-clause-single c =
+pub keep-requires-clause-undone : goal.keep-requires-clause-undone
+keep-requires-clause-undone c =
     let store = c.args.store.now in
     let g = c.requires.gained in
-    let run = c.args.self.now.run in
-    let rests = c.args.self.now.rests in
-    let r = g.2 in
-    let reached = c.in_ok-reach.ensures in
-    let codes = walked_codes (length run.assignment.list.items) run.assignment.list.items in
-    let stored = c.requires.ready.stored in
-    rw (ap (λ (a : Assignment). a.list.items) (c.lay.ensures.assignment ∙ reached.assignment)) (derivation-single (all_of g.0 g.1) [] run.assignment.list.items none r.derived)
-
-pub propagate-requires-clause-counted : goal.propagate-requires-clause-counted
-propagate-requires-clause-counted c =
-    let store = c.args.store.now in
-    let g = c.requires.gained in
-    let run = c.args.self.now.run in
-    let rests = c.args.self.now.rests in
-    let r = g.2 in
-    let reached = c.in_ok-reach.ensures in
-    let codes = walked_codes (length run.assignment.list.items) run.assignment.list.items in
-    let stored = c.requires.ready.stored in
-    let none_there = c.is_filled.ensures.no c.if-is_filled.false in
-    let walked = served-walked run.assignment.values.items g.1.watches.items c.args.clauses.now.watches.items codes c.args.slot g.3.watched (λ e here live h. absurd (no-watch (clauses_of c.args.clauses.now) c.args.clauses.now.watches.items (lists_of c.args.clauses.now.lists.items) c.args.slot e stored none_there here live)) r.walked in
-    let rooted = gained-rooted g.0 store g.1 c.args.clauses.now run c.reach.new.run rests c.reach.new.rests c.args.slot c.requires.slot r g.3 reached walked in
-    let list_is = ap (λ (a : Assignment). a.list.items) c.lay.ensures.assignment in
-    rw list_is (slot-counted (shapes_of store.stored.items) c.reach.new.run.opens.items c.lay.new.run.opens.items c.reach.new.run.assignment.list.items c.args.slot (omega (arith, c.requires.slot, rooted.open_sizes)) (λ s d less apart. rooted.counted s d (omega (arith, less, length-map store.stored.items stored_shape)) apart) c.in_ok-lay.ensures.opens)
-
-pub propagate-requires-clause-tidy : goal.propagate-requires-clause-tidy
-propagate-requires-clause-tidy c =
-    let store = c.args.store.now in
-    let g = c.requires.gained in
-    let run = c.args.self.now.run in
-    let rests = c.args.self.now.rests in
-    let r = g.2 in
-    let reached = c.in_ok-reach.ensures in
-    let codes = walked_codes (length run.assignment.list.items) run.assignment.list.items in
-    let stored = c.requires.ready.stored in
-    let none_there = c.is_filled.ensures.no c.if-is_filled.false in
-    let walked = served-walked run.assignment.values.items g.1.watches.items c.args.clauses.now.watches.items codes c.args.slot g.3.watched (λ e here live h. absurd (no-watch (clauses_of c.args.clauses.now) c.args.clauses.now.watches.items (lists_of c.args.clauses.now.lists.items) c.args.slot e stored none_there here live)) r.walked in
-    let rooted = gained-rooted g.0 store g.1 c.args.clauses.now run c.reach.new.run rests c.reach.new.rests c.args.slot c.requires.slot r g.3 reached walked in
+    let me = c.args.self.now in
+    let r = admitted-rooted g.0 store g.1 c.args.clauses.now me.run c.reach.new.run me.rests c.reach.new.rests me.waiting c.reach.new.waiting c.args.slot c.requires.slot g.2 g.3 c.in_ok-reach.ensures c.requires.ready (c.is_filled.ensures.no c.if-is_filled.false) in
+    let d : Shape = record { terms = []; degree = 0 } in
+    let opens_now = ap length (c.in_ok-lay.ensures.opens d) ∙ length-set c.reach.new.run.opens.items c.args.slot (open_sum c.reach.new.run.assignment.list.items (get_or (shapes_of store.stored.items) c.args.slot d).terms) ∙ r.open_sizes in
+    let run = c.lay.new.run in
     let list_is = ap (λ (a : Assignment). a.list.items) c.lay.ensures.assignment in
     let cands_is = ap (λ (v : Vec ℕ Global). v.items) c.lay.ensures.candidates in
-    let queued = rw rooted.work at c.in_ok-lay.ensures.work in
-    let noted = c.in_ok-lay.ensures.trail ∙ ap (λ (xs : List ℕ). xs ++ (c.args.slot ∷ [])) rooted.trail in
+    let queued = rw r.work at c.in_ok-lay.ensures.work in
+    let noted = c.in_ok-lay.ensures.trail ∙ ap (λ (xs : List ℕ). xs ++ (c.args.slot ∷ [])) r.trail in
     let long = length-map store.stored.items stored_shape in
-    let tidy = slot-tidy c.reach.new.rests (shapes_of store.stored.items) c.reach.new.run.opens.items c.reach.new.run.candidates.items c.lay.new.run.opens.items c.reach.new.run.assignment.list.items c.lay.new.run.work.items c.lay.new.run.trail.items c.args.slot (omega (arith, c.requires.slot, long)) (omega (arith, c.requires.slot, rooted.open_sizes)) rooted.tidy c.in_ok-lay.ensures.opens queued noted in
-    rw (c.as_slice.ensures.value, c.new-none.ensures.items, list_is, cands_is, c.lay.ensures.next ∙ rooted.next) (rw long at tidy)
+    let aside = c.reach.new.waiting.list.items in
+    let tidy = slot-tidy c.reach.new.rests aside (shapes_of store.stored.items) c.reach.new.run.opens.items c.reach.new.run.candidates.items run.opens.items c.reach.new.run.assignment.list.items run.work.items run.trail.items c.args.slot (omega (arith, c.requires.slot, long)) (omega (arith, c.requires.slot, r.open_sizes)) r.tidy c.in_ok-lay.ensures.opens queued noted in
+    let laid : IsTidy (beside c.reach.new.rests aside) (shapes_of store.stored.items) run.opens.items run.candidates.items run.assignment.list.items run.work.items run.trail.items run.next (length store.stored.items) = rw (list_is, cands_is, c.lay.ensures.next ∙ r.next) (rw long at tidy) in
+    (shapes_of store.stored.items, long ∙ sym opens_now, record { clean = laid.clean; named = laid.marked })
 
-pub propagate-requires-clause-walked : goal.propagate-requires-clause-walked
-propagate-requires-clause-walked c =
+pub returns : goal.returns
+returns c =
     let store = c.args.store.now in
     let g = c.requires.gained in
-    let run = c.args.self.now.run in
-    let rests = c.args.self.now.rests in
-    let r = g.2 in
-    let reached = c.in_ok-reach.ensures in
-    let codes = walked_codes (length run.assignment.list.items) run.assignment.list.items in
-    let stored = c.requires.ready.stored in
-    let none_there = c.is_filled.ensures.no c.if-is_filled.false in
-    let walked = served-walked run.assignment.values.items g.1.watches.items c.args.clauses.now.watches.items codes c.args.slot g.3.watched (λ e here live h. absurd (no-watch (clauses_of c.args.clauses.now) c.args.clauses.now.watches.items (lists_of c.args.clauses.now.lists.items) c.args.slot e stored none_there here live)) r.walked in
-    let rooted = gained-rooted g.0 store g.1 c.args.clauses.now run c.reach.new.run rests c.reach.new.rests c.args.slot c.requires.slot r g.3 reached walked in
-    let same = c.lay.ensures.assignment in
-    let count_is : c.len-count.result ≡ length c.reach.new.run.assignment.list.items = omega (arith, c.len-count.ensures, c.reach.new.run.assignment.list.ok.0) in
-    rw (same, count_is) rooted.walked
-
-pub returns-clause-rooted : goal.returns-clause-rooted
-returns-clause-rooted c = λ live.
-    let store = c.args.store.now in
-    let g = c.requires.gained in
-    let run = c.args.self.now.run in
-    let rests = c.args.self.now.rests in
-    let r = g.2 in
-    let reached = c.in_ok-reach.ensures in
-    let codes = walked_codes (length run.assignment.list.items) run.assignment.list.items in
-    let stored = c.requires.ready.stored in
-    let none_there = c.is_filled.ensures.no c.if-is_filled.false in
-    let walked = served-walked run.assignment.values.items g.1.watches.items c.args.clauses.now.watches.items codes c.args.slot g.3.watched (λ e here live h. absurd (no-watch (clauses_of c.args.clauses.now) c.args.clauses.now.watches.items (lists_of c.args.clauses.now.lists.items) c.args.slot e stored none_there here live)) r.walked in
-    let rooted = gained-rooted g.0 store g.1 c.args.clauses.now run c.reach.new.run rests c.reach.new.rests c.args.slot c.requires.slot r g.3 reached walked in
-    let done = c.propagate.new.run in
-    let reported = c.in_ok-found.ensures in
-    let end = c.if-found.false in
+    let me = c.args.self.now in
+    let r = admitted-rooted g.0 store g.1 c.args.clauses.now me.run c.reach.new.run me.rests c.reach.new.rests me.waiting c.reach.new.waiting c.args.slot c.requires.slot g.2 g.3 c.in_ok-reach.ensures c.requires.ready (c.is_filled.ensures.no c.if-is_filled.false) in
+    let d : Shape = record { terms = []; degree = 0 } in
+    let opens_now = ap length (c.in_ok-lay.ensures.opens d) ∙ length-set c.reach.new.run.opens.items c.args.slot (open_sum c.reach.new.run.assignment.list.items (get_or (shapes_of store.stored.items) c.args.slot d).terms) ∙ r.open_sizes in
+    let run = c.lay.new.run in
     let list_is = ap (λ (a : Assignment). a.list.items) c.lay.ensures.assignment in
-    let next = rw list_is at reported.derived in
-    let derived : Derives (all_of store c.args.clauses.now) [] done.assignment.list.items = derivation-then (all_of store c.args.clauses.now) [] c.reach.new.run.assignment.list.items done.assignment.list.items rooted.derived next in
-    let watches = ap (λ (v : Vec Watch Global). v.items) c.rest.ensures.watches in
-    kept-rooted store c.args.clauses.now c.rest.new.self done c.keep.new.run c.reach.new.rests c.keep.new.rests (reported.values ∙ ap (λ (a : Assignment). length a.values.items) c.lay.ensures.assignment ∙ rooted.values) reported.opens reported.candidates (reported.counted end) (reported.tidy end) (reported.done end) derived (rw watches (reported.walked end)) (c.rest.ensures.literals ∙ c.propagate.ensures.literals)
-    c.keep.ensures.opens c.keep.ensures.candidates c.keep.ensures.assignment c.keep.ensures.work c.keep.ensures.trail c.keep.ensures.next c.keep.ensures.rests.0 c.keep.ensures.rests.1
+    let cands_is = ap (λ (v : Vec ℕ Global). v.items) c.lay.ensures.candidates in
+    let queued = rw r.work at c.in_ok-lay.ensures.work in
+    let noted = c.in_ok-lay.ensures.trail ∙ ap (λ (xs : List ℕ). xs ++ (c.args.slot ∷ [])) r.trail in
+    let long = length-map store.stored.items stored_shape in
+    let aside = c.reach.new.waiting.list.items in
+    let tidy = slot-tidy c.reach.new.rests aside (shapes_of store.stored.items) c.reach.new.run.opens.items c.reach.new.run.candidates.items run.opens.items c.reach.new.run.assignment.list.items run.work.items run.trail.items c.args.slot (omega (arith, c.requires.slot, long)) (omega (arith, c.requires.slot, r.open_sizes)) r.tidy c.in_ok-lay.ensures.opens queued noted in
+    let laid : IsTidy (beside c.reach.new.rests aside) (shapes_of store.stored.items) run.opens.items run.candidates.items run.assignment.list.items run.work.items run.trail.items run.next (length store.stored.items) = rw (list_is, cands_is, c.lay.ensures.next ∙ r.next) (rw long at tidy) in
+    let waiting = c.defer.new.waiting in
+    record {
+      rooted = λ live. kept-rooted store c.args.clauses.now run c.keep.new.run c.reach.new.rests c.keep.new.rests aside waiting
+          (record {
+            values = rw c.lay.ensures.assignment r.values;
+            opens = opens_now;
+            candidates = ap (λ (v : Vec ℕ Global). length v.items) c.lay.ensures.candidates ∙ r.start_sizes;
+            counted = rw list_is (slot-counted (shapes_of store.stored.items) c.reach.new.run.opens.items run.opens.items c.reach.new.run.assignment.list.items c.args.slot (omega (arith, c.requires.slot, r.open_sizes)) (λ s e less apart. r.counted s e (omega (arith, less, long)) apart) c.in_ok-lay.ensures.opens);
+            derived = rw c.lay.ensures.assignment r.derived;
+            walked = rw c.lay.ensures.assignment r.walked;
+          })
+          laid
+          (λ s off. elim c.in_ok-defer.ensures.list [
+            | inl same ↦ (rw same.1 at off, λ i from less found. absurd (omega (arith, less, ap length (sym c.as_slice.ensures.value ∙ same.0))))
+            | inr more ↦
+                let pushed = rw more at off in
+                let other : s ≡ c.args.slot → ⊥ = λ here. absent-new aside c.args.slot 0 s (omega arith) pushed here in
+                (absent-push aside c.args.slot 0 s pushed, rw (c.lay.ensures.next ∙ r.next) (grown-off c.args.slot run.work.items queued s other))
+          ])
+          (record {
+            opens = c.keep.ensures.opens;
+            candidates = c.keep.ensures.candidates;
+            assignment = c.keep.ensures.assignment;
+            work = c.keep.ensures.work;
+            trail = c.keep.ensures.trail;
+            next = c.keep.ensures.next;
+            rest_opens = c.keep.ensures.rests.0;
+            rest_starts = c.keep.ensures.rests.1;
+          })
+          (c.defer.ensures.seats ∙ r.seats)
+          (λ i s at. elim c.in_ok-defer.ensures.list [
+            | inl same ↦ r.live i s (ap (λ xs. slice_get xs i) (sym same.1) ∙ at)
+            | inr more ↦ elim (cases_eq s c.args.slot) [
+              | inl here ↦ subst (HasForm store) (sym here) g.3.full
+              | inr other ↦ r.live i s (push-older aside c.args.slot i s other (ap (λ xs. slice_get xs i) (sym more) ∙ at))
+            ]
+          ]);
+    }

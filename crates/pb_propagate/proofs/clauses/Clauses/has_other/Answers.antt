@@ -1,10 +1,10 @@
 use Rattle.std.proofs.Common.{◌∙◌, ap, sym, subst, arith, length, get_or}
-use Rattle.pb_propagate.specs.engine.Engine.Root.{HasOpen}
+use Rattle.pb_propagate.specs.engine.Engine.Root.{HasOther, IsLast}
 use Rattle.pb_propagate.proofs.lemmas.clauses.Linked.{lists-length, list-here}
-use Rattle.pb_propagate.proofs.clauses.Clauses.has_open.Goals as goal
+use Rattle.pb_propagate.proofs.clauses.Clauses.has_other.Goals as goal
 
-pub some_open-requires : goal.some_open-requires
-some_open-requires c =
+pub has_other-requires : goal.has_other-requires
+has_other-requires c =
     let me = c.args.self.now in
     let same = c.as_slice.ensures.value ∙ sym (list-here me.literals.items c.args.slot c.index.result.now c.requires.slot c.index.ensures) in
     record {
@@ -16,9 +16,9 @@ some_open-requires c =
 pub returns-clause-yes : goal.returns-clause-yes
 returns-clause-yes c = λ found.
     let same = c.as_slice.ensures.value ∙ sym (list-here c.args.self.now.literals.items c.args.slot c.index.result.now c.requires.slot c.index.ensures) in
-    subst (HasOpen c.args.assignment.now.values.items) same (c.some_open.ensures.yes found)
+    subst (λ xs. HasOther c.args.assignment.now.values.items xs c.args.literal) same (c.has_other.ensures.yes found)
 
 pub returns-clause-no : goal.returns-clause-no
-returns-clause-no c = λ shut found.
+returns-clause-no c = λ none.
     let same = c.as_slice.ensures.value ∙ sym (list-here c.args.self.now.literals.items c.args.slot c.index.result.now c.requires.slot c.index.ensures) in
-    c.some_open.ensures.no shut (subst (HasOpen c.args.assignment.now.values.items) (sym same) found)
+    subst (λ xs. IsLast c.args.assignment.now.values.items xs c.args.literal) same (c.has_other.ensures.no none)

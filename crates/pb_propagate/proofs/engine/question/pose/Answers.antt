@@ -1,0 +1,324 @@
+use Rattle.std.specs.Prelude.{sum, sum_by, Contains}
+use Rattle.std.proofs.Common.{rules, ◌≡◌, ℕ, ◌+◌, ◌++◌, ◌∷◌, [], List, Vec, Global, refl, ap, subst, sym, ◌∙◌, arith, length, length-append, length-set, get_or, set, take}
+use Rattle.std.proofs.Math.Seq.{take-append_seam}
+use Rattle.std.proofs.lemmas.List.{length-map}
+use Rattle.std.proofs.lemmas.List.Sums.{sum_by_push}
+use Rattle.pb_normal.specs.declared.numbered.NumberedLiteral.{NumberedLiteral}
+use Rattle.pb_propagate.specs.declared.assignment.Assignment.{Assignment}
+use Rattle.pb_propagate.specs.declared.clauses.lists.Watch.{Watch}
+use Rattle.pb_propagate.specs.engine.Engine.Lists.{Shape, Derives, Conflicts, open_sum}
+use Rattle.pb_propagate.specs.engine.Engine.Counts.{none, IsTidy, beside}
+use Rattle.pb_propagate.specs.engine.Engine.Fields.{shapes_of, forms_of, stored_shape}
+use Rattle.pb_propagate.specs.engine.Engine.Root.{alone, posed}
+use Rattle.pb_propagate.specs.engine.Engine.Slots.{numbered, ArePlaced}
+use Rattle.pb_propagate.specs.engine.Clauses.Links.{lists_of}
+use Rattle.pb_propagate.specs.engine.Clauses.Runs.{Grows}
+use Rattle.pb_propagate.specs.engine.Clauses.Shapes.{all_of, clauses_of, joined}
+use Rattle.pb_propagate.specs.engine.Clauses.Walked.{walked_codes}
+use Rattle.pb_propagate.proofs.lemmas.clauses.Literals.{Agree}
+use Rattle.pb_propagate.proofs.lemmas.clauses.Slots.{joined-push}
+use Rattle.pb_propagate.proofs.lemmas.clauses.Walks.{grows-refl}
+use Rattle.pb_propagate.proofs.lemmas.engine.Derivations.{derivation-then}
+use Rattle.pb_propagate.proofs.lemmas.engine.Rests.{joined-entered, prefix-of}
+use Rattle.pb_propagate.proofs.lemmas.engine.Runs.{grown-length}
+use Rattle.pb_propagate.proofs.lemmas.engine.Spent.{derivation-single}
+use Rattle.pb_propagate.proofs.lemmas.engine.Values.{opposite}
+use Rattle.pb_propagate.proofs.lemmas.root.Extends.{extends-then}
+use Rattle.pb_propagate.proofs.lemmas.root.Questions.{entered-shapes, laid-counted, laid-tidy, undone-same, derives-entered, kept-terms, found-after, found-both, question-most, updated-most, both-parts}
+use Rattle.pb_propagate.proofs.lemmas.root.Roots.{walked-agree}
+use Rattle.pb_propagate.proofs.lemmas.store.Placed.{numbered-entered}
+use Rattle.pb_propagate.proofs.engine.question.pose.Goals as goal
+
+pub returns-in_err-update-clause-most : goal.returns-in_err-update-clause-most
+returns-in_err-update-clause-most c =
+    let most = updated-most c.args.store.now c.args.clauses.now c.args.root.now.rests c.args.root.now.waiting.list.items c.args.root.now.run c.update.new.self.run c.requires.sound c.requires.joined c.requires.rooted.derived c.requires.rooted.work c.requires.visits c.update.ensures.costs in
+    omega (arith, most)
+
+pub returns-then-branch-clause-most : goal.returns-then-branch-clause-most
+returns-then-branch-clause-most c =
+    let most = updated-most c.args.store.now c.args.clauses.now c.args.root.now.rests c.args.root.now.waiting.list.items c.args.root.now.run c.update.new.self.run c.requires.sound c.requires.joined c.requires.rooted.derived c.requires.rooted.work c.requires.visits c.update.ensures.costs in
+    omega (arith, most)
+
+pub returns-in_err-enter-clause-most : goal.returns-in_err-enter-clause-most
+returns-in_err-enter-clause-most c =
+    let most = updated-most c.args.store.now c.args.clauses.now c.args.root.now.rests c.args.root.now.waiting.list.items c.args.root.now.run c.update.new.self.run c.requires.sound c.requires.joined c.requires.rooted.derived c.requires.rooted.work c.requires.visits c.update.ensures.costs in
+    omega (arith, most, c.enter.ensures.rest.3)
+
+pub returns-in_err-lay-clause-most : goal.returns-in_err-lay-clause-most
+returns-in_err-lay-clause-most c =
+    let most = updated-most c.args.store.now c.args.clauses.now c.args.root.now.rests c.args.root.now.waiting.list.items c.args.root.now.run c.update.new.self.run c.requires.sound c.requires.joined c.requires.rooted.derived c.requires.rooted.work c.requires.visits c.update.ensures.costs in
+    omega (arith, most, c.enter.ensures.rest.3, c.lay.ensures.visits)
+
+pub returns-in_err-lay-clause-forms : goal.returns-in_err-lay-clause-forms
+returns-in_err-lay-clause-forms c =
+    let keep = c.args.store.now.stored.items in
+    let h = c.in_ok-enter.ensures.entered in
+    let same : (places : List ℕ) → ArePlaced (forms_of keep) places → numbered (forms_of c.enter.new.store.stored.items) places ≡ numbered (forms_of keep) places = λ places p. numbered-entered keep c.enter.new.store.stored.items h.kept places h.keeps (omega (arith, c.args.store.now.stored.ok.0, c.args.store.now.stored.ok.1)) p in
+    search (rules, same)
+
+pub returns-in_err-found-clause-forms : goal.returns-in_err-found-clause-forms
+returns-in_err-found-clause-forms c =
+    let keep = c.args.store.now.stored.items in
+    let h = c.in_ok-enter.ensures.entered in
+    let same : (places : List ℕ) → ArePlaced (forms_of keep) places → numbered (forms_of c.enter.new.store.stored.items) places ≡ numbered (forms_of keep) places = λ places p. numbered-entered keep c.enter.new.store.stored.items h.kept places h.keeps (omega (arith, c.args.store.now.stored.ok.0, c.args.store.now.stored.ok.1)) p in
+    search (rules, same)
+
+pub returns-then-branch-clause-asked : goal.returns-then-branch-clause-asked
+returns-then-branch-clause-asked c =
+    let done = c.update.new.self.run in
+    let reported = c.in_ok-update.ensures in
+    alone refl (record {
+      list = done.assignment.list.items;
+      derived = reported.derived;
+      few = found-after (length done.assignment.list.items) done.visits (length c.args.root.now.run.assignment.list.items) (rw c.requires.visits at reported.found) (omega (arith, done.assignment.list.ok.0, done.assignment.list.ok.1));
+      one_sided = λ l on. opposite done.assignment.values.items done.assignment.list.items l done.assignment.agrees on;
+      conflict = λ found. reported.conflict c.if-branch.true;
+      settled = λ found. absurd cc;
+    })
+
+pub returns-then-branch-clause-rooted : goal.returns-then-branch-clause-rooted
+returns-then-branch-clause-rooted c = λ live. absurd (let e = sym live ∙ c.in_ok-update.ensures.ended c.if-branch.true in cc)
+
+pub enter-requires-clause-opens : goal.enter-requires-clause-opens
+enter-requires-clause-opens c = (c.in_ok-update.ensures.rooted c.if-branch.false).open_sizes
+
+pub propagate-requires-clause-opens : goal.propagate-requires-clause-opens
+propagate-requires-clause-opens c =
+    let store = c.args.store.now in
+    let keep = store.stored.items in
+    let root = c.update.new.self in
+    let run = root.run in
+    let rests = root.rests in
+    let between = c.update.new.clauses in
+    let r = c.in_ok-update.ensures.rooted c.if-branch.false in
+    let new = c.enter.new in
+    let h = c.in_ok-enter.ensures.entered in
+    let list_is = ap (λ (a : Assignment). a.list.items) c.enter.ensures.rest.0 in
+    let opens = run.opens.items in
+    let d : Shape = record { terms = []; degree = 0 } in
+    omega (arith, ap length (c.in_ok-lay.ensures.opens d), length-set c.enter.new.run.opens.items c.len-number.result (open_sum c.enter.new.run.assignment.list.items (get_or (shapes_of c.enter.new.store.stored.items) c.len-number.result d).terms), ap length h.opened, length-append opens (h.kept.total ∷ []), r.open_sizes, ap length h.keeps, length-append keep (h.kept ∷ []))
+
+pub propagate-requires-clause-single : goal.propagate-requires-clause-single
+propagate-requires-clause-single c =
+    let store = c.args.store.now in
+    let keep = store.stored.items in
+    let root = c.update.new.self in
+    let run = root.run in
+    let rests = root.rests in
+    let between = c.update.new.clauses in
+    let r = c.in_ok-update.ensures.rooted c.if-branch.false in
+    let new = c.enter.new in
+    let h = c.in_ok-enter.ensures.entered in
+    let list_is = ap (λ (a : Assignment). a.list.items) c.enter.ensures.rest.0 in
+    let laid_is = ap (λ (a : Assignment). a.list.items) (c.lay.ensures.assignment ∙ c.enter.ensures.rest.0) in
+    let number_is : c.len-number.result ≡ length keep = omega (arith, c.len-number.ensures, store.stored.ok.0) in
+    rw laid_is (derivation-single (all_of store between) [] run.assignment.list.items none r.derived)
+
+pub propagate-requires-clause-joined : goal.propagate-requires-clause-joined
+propagate-requires-clause-joined c =
+    let store = c.args.store.now in
+    let keep = store.stored.items in
+    let root = c.update.new.self in
+    let run = root.run in
+    let rests = root.rests in
+    let between = c.update.new.clauses in
+    let r = c.in_ok-update.ensures.rooted c.if-branch.false in
+    let new = c.enter.new in
+    let h = c.in_ok-enter.ensures.entered in
+    let list_is = ap (λ (a : Assignment). a.list.items) c.enter.ensures.rest.0 in
+    let lit : clauses_of between ≡ clauses_of c.args.clauses.now = ap (λ (v : Vec (Vec ℕ Global) Global). lists_of v.items) c.update.ensures.literals in
+    rw lit (joined-entered c.args.form keep new.store.stored.items (clauses_of c.args.clauses.now) run.opens.items new.run.opens.items run.candidates.items new.run.candidates.items h c.requires.joined)
+
+pub propagate-requires-clause-counted : goal.propagate-requires-clause-counted
+propagate-requires-clause-counted c =
+    let store = c.args.store.now in
+    let keep = store.stored.items in
+    let root = c.update.new.self in
+    let run = root.run in
+    let rests = root.rests in
+    let between = c.update.new.clauses in
+    let r = c.in_ok-update.ensures.rooted c.if-branch.false in
+    let new = c.enter.new in
+    let h = c.in_ok-enter.ensures.entered in
+    let list_is = ap (λ (a : Assignment). a.list.items) c.enter.ensures.rest.0 in
+    let laid_is = ap (λ (a : Assignment). a.list.items) (c.lay.ensures.assignment ∙ c.enter.ensures.rest.0) in
+    let number_is : c.len-number.result ≡ length keep = omega (arith, c.len-number.ensures, store.stored.ok.0) in
+    rw laid_is (laid-counted c.args.form keep new.store.stored.items run.opens.items new.run.opens.items run.candidates.items new.run.candidates.items c.lay.new.run.opens.items run.assignment.list.items c.len-number.result h number_is r.open_sizes
+    (λ s d less. r.counted s d less (λ e. absurd (omega (arith, e, less)))) (λ d. c.in_ok-lay.ensures.opens d ∙ ap (λ (xs : List NumberedLiteral). set new.run.opens.items c.len-number.result (open_sum xs (get_or (shapes_of new.store.stored.items) c.len-number.result d).terms)) list_is))
+
+pub propagate-requires-clause-tidy : goal.propagate-requires-clause-tidy
+propagate-requires-clause-tidy c =
+    let store = c.args.store.now in
+    let keep = store.stored.items in
+    let root = c.update.new.self in
+    let run = root.run in
+    let rests = root.rests in
+    let between = c.update.new.clauses in
+    let r = c.in_ok-update.ensures.rooted c.if-branch.false in
+    let new = c.enter.new in
+    let h = c.in_ok-enter.ensures.entered in
+    let list_is = ap (λ (a : Assignment). a.list.items) c.enter.ensures.rest.0 in
+    let laid_is = ap (λ (a : Assignment). a.list.items) (c.lay.ensures.assignment ∙ c.enter.ensures.rest.0) in
+    let number_is : c.len-number.result ≡ length keep = omega (arith, c.len-number.ensures, store.stored.ok.0) in
+    let low = λ (d : Shape). c.in_ok-lay.ensures.opens d ∙ ap (λ (xs : List NumberedLiteral). set new.run.opens.items c.len-number.result (open_sum xs (get_or (shapes_of new.store.stored.items) c.len-number.result d).terms)) list_is in
+    let work_is = ap (λ (v : Vec ℕ Global). v.items) c.enter.ensures.rest.1 ∙ r.work in
+    let queued = rw (list_is, work_is) at c.in_ok-lay.ensures.work in
+    let trail_is = c.in_ok-lay.ensures.trail ∙ ap (λ (xs : List ℕ). xs ++ (c.len-number.result ∷ [])) (ap (λ (v : Vec ℕ Global). v.items) c.enter.ensures.trail ∙ r.trail) in
+    let none_waits = c.in_ok-update.ensures.none c.if-branch.false in
+    let before : IsTidy (beside rests []) (shapes_of keep) run.opens.items run.candidates.items run.assignment.list.items [] [] 0 c.len-number.result = rw number_is (rw none_waits at r.tidy) in
+    let tidy = laid-tidy rests c.args.form keep new.store.stored.items run.opens.items new.run.opens.items run.candidates.items new.run.candidates.items c.lay.new.run.opens.items run.assignment.list.items c.lay.new.run.work.items c.lay.new.run.trail.items c.len-number.result h number_is r.open_sizes r.start_sizes (omega (arith, ap length r.opens, r.open_sizes)) (omega (arith, ap length r.starts, r.start_sizes)) before low queued trail_is in
+    let cands_is = ap (λ (v : Vec ℕ Global). v.items) c.lay.ensures.candidates in
+    rw (c.as_slice.ensures.value, c.new-none.ensures.items, laid_is, cands_is, c.lay.ensures.next ∙ c.enter.ensures.rest.2 ∙ r.next) tidy
+
+pub propagate-requires-clause-running : goal.propagate-requires-clause-running
+propagate-requires-clause-running c =
+    let values_is = ap (λ (a : Assignment). a.values.items) (c.lay.ensures.assignment ∙ c.enter.ensures.rest.0) in
+    rw values_is c.in_ok-update.ensures.running
+
+pub returns-in_err-found-clause-most : goal.returns-in_err-found-clause-most
+returns-in_err-found-clause-most c =
+    let store = c.args.store.now in
+    let keep = store.stored.items in
+    let root = c.update.new.self in
+    let run = root.run in
+    let rests = root.rests in
+    let between = c.update.new.clauses in
+    let r = c.in_ok-update.ensures.rooted c.if-branch.false in
+    let new = c.enter.new in
+    let h = c.in_ok-enter.ensures.entered in
+    let list_is = ap (λ (a : Assignment). a.list.items) c.enter.ensures.rest.0 in
+    let laid_is = ap (λ (a : Assignment). a.list.items) (c.lay.ensures.assignment ∙ c.enter.ensures.rest.0) in
+    let number_is : c.len-number.result ≡ length keep = omega (arith, c.len-number.ensures, store.stored.ok.0) in
+    let lit : clauses_of between ≡ clauses_of c.args.clauses.now = ap (λ (v : Vec (Vec ℕ Global) Global). lists_of v.items) c.update.ensures.literals in
+    let count_is : c.len-count.result ≡ length run.assignment.list.items = omega (arith, c.len-count.ensures, run.assignment.list.ok.0) in
+    let clauses = clauses_of c.args.clauses.now in
+    let whole : all_of new.store c.args.clauses.now ≡ all_of store c.args.clauses.now ++ (stored_shape h.kept ∷ []) =
+    ap (λ xs. joined xs clauses) (entered-shapes c.args.form keep new.store.stored.items run.opens.items new.run.opens.items run.candidates.items new.run.candidates.items h) ∙ joined-push (shapes_of keep) clauses (stored_shape h.kept) c.requires.joined.short in
+    let start : Derives (all_of new.store c.args.clauses.now) [] c.args.root.now.run.assignment.list.items = rw whole (derives-entered (all_of store c.args.clauses.now) (stored_shape h.kept) [] c.args.root.now.run.assignment.list.items c.requires.rooted.derived) in
+    let done = c.propagate.new.run in
+    let work_is = ap (λ (v : Vec ℕ Global). v.items) c.enter.ensures.rest.1 ∙ r.work in
+    let few = grown-length c.len-number.result c.enter.new.run.work.items c.lay.new.run.work.items c.in_ok-lay.ensures.work in
+    let spends = rw (count_is, c.as_slice.ensures.value ∙ c.new-none.ensures.items) at c.propagate.ensures.costs in
+    let cands = ap (λ (v : Vec ℕ Global). sum v.items) c.lay.ensures.candidates ∙ ap sum h.candidates ∙ sum_by_push (λ (n : ℕ). n) run.candidates.items 0 in
+    let upper = both-parts store new.store c.args.clauses.now between c.args.root.now.rests rests c.args.root.now.waiting.list.items c.args.root.now.run run c.lay.new.run done lit c.in_ok-enter.ensures.longer laid_is (omega (arith, cands)) (c.lay.ensures.visits ∙ c.enter.ensures.rest.3) c.requires.rooted.work (omega (arith, few.1, ap length work_is)) c.requires.visits (c.in_ok-update.ensures.pays c.if-branch.false) spends in
+    let extends = extends-then c.args.root.now.run.assignment.list.items run.assignment.list.items done.assignment.list.items c.update.ensures.costs.extends (rw laid_is at spends.extends) in
+    let most = question-most new.store clauses c.args.root.now.run.assignment.list.items done.assignment.list.items done.visits (length c.args.root.now.waiting.list.items + 1) (sum done.candidates.items) c.in_ok-enter.ensures.sound
+    (joined-entered c.args.form keep new.store.stored.items clauses run.opens.items new.run.opens.items run.candidates.items new.run.candidates.items h c.requires.joined) spends.single (λ l on. opposite done.assignment.values.items done.assignment.list.items l done.assignment.agrees on) extends start spends.bounded upper in
+    let more = ap (sum_by (λ (f : Shape). length f.terms)) whole ∙ sum_by_push (λ (f : Shape). length f.terms) (all_of store c.args.clauses.now) (stored_shape h.kept) in
+    omega (arith, most, more, kept-terms c.args.form (stored_shape h.kept) h.is)
+
+pub returns-clause-most : goal.returns-clause-most
+returns-clause-most c =
+    let store = c.args.store.now in
+    let keep = store.stored.items in
+    let root = c.update.new.self in
+    let run = root.run in
+    let rests = root.rests in
+    let between = c.update.new.clauses in
+    let r = c.in_ok-update.ensures.rooted c.if-branch.false in
+    let new = c.enter.new in
+    let h = c.in_ok-enter.ensures.entered in
+    let list_is = ap (λ (a : Assignment). a.list.items) c.enter.ensures.rest.0 in
+    let laid_is = ap (λ (a : Assignment). a.list.items) (c.lay.ensures.assignment ∙ c.enter.ensures.rest.0) in
+    let number_is : c.len-number.result ≡ length keep = omega (arith, c.len-number.ensures, store.stored.ok.0) in
+    let lit : clauses_of between ≡ clauses_of c.args.clauses.now = ap (λ (v : Vec (Vec ℕ Global) Global). lists_of v.items) c.update.ensures.literals in
+    let count_is : c.len-count.result ≡ length run.assignment.list.items = omega (arith, c.len-count.ensures, run.assignment.list.ok.0) in
+    let clauses = clauses_of c.args.clauses.now in
+    let whole : all_of new.store c.args.clauses.now ≡ all_of store c.args.clauses.now ++ (stored_shape h.kept ∷ []) =
+    ap (λ xs. joined xs clauses) (entered-shapes c.args.form keep new.store.stored.items run.opens.items new.run.opens.items run.candidates.items new.run.candidates.items h) ∙ joined-push (shapes_of keep) clauses (stored_shape h.kept) c.requires.joined.short in
+    let start : Derives (all_of new.store c.args.clauses.now) [] c.args.root.now.run.assignment.list.items = rw whole (derives-entered (all_of store c.args.clauses.now) (stored_shape h.kept) [] c.args.root.now.run.assignment.list.items c.requires.rooted.derived) in
+    let done = c.propagate.new.run in
+    let work_is = ap (λ (v : Vec ℕ Global). v.items) c.enter.ensures.rest.1 ∙ r.work in
+    let few = grown-length c.len-number.result c.enter.new.run.work.items c.lay.new.run.work.items c.in_ok-lay.ensures.work in
+    let spends = rw (count_is, c.as_slice.ensures.value ∙ c.new-none.ensures.items) at c.propagate.ensures.costs in
+    let cands = ap (λ (v : Vec ℕ Global). sum v.items) c.lay.ensures.candidates ∙ ap sum h.candidates ∙ sum_by_push (λ (n : ℕ). n) run.candidates.items 0 in
+    let upper = both-parts store new.store c.args.clauses.now between c.args.root.now.rests rests c.args.root.now.waiting.list.items c.args.root.now.run run c.lay.new.run done lit c.in_ok-enter.ensures.longer laid_is (omega (arith, cands)) (c.lay.ensures.visits ∙ c.enter.ensures.rest.3) c.requires.rooted.work (omega (arith, few.1, ap length work_is)) c.requires.visits (c.in_ok-update.ensures.pays c.if-branch.false) spends in
+    let extends = extends-then c.args.root.now.run.assignment.list.items run.assignment.list.items done.assignment.list.items c.update.ensures.costs.extends (rw laid_is at spends.extends) in
+    let most = question-most new.store clauses c.args.root.now.run.assignment.list.items done.assignment.list.items done.visits (length c.args.root.now.waiting.list.items + 1) (sum done.candidates.items) c.in_ok-enter.ensures.sound
+    (joined-entered c.args.form keep new.store.stored.items clauses run.opens.items new.run.opens.items run.candidates.items new.run.candidates.items h c.requires.joined) spends.single (λ l on. opposite done.assignment.values.items done.assignment.list.items l done.assignment.agrees on) extends start spends.bounded upper in
+    let more = ap (sum_by (λ (f : Shape). length f.terms)) whole ∙ sum_by_push (λ (f : Shape). length f.terms) (all_of store c.args.clauses.now) (stored_shape h.kept) in
+    omega (arith, most, more, kept-terms c.args.form (stored_shape h.kept) h.is, c.back.ensures.visits, c.leave.ensures.rest.3)
+
+pub returns-clause-asked : goal.returns-clause-asked
+returns-clause-asked c =
+    let store = c.args.store.now in
+    let keep = store.stored.items in
+    let root = c.update.new.self in
+    let run = root.run in
+    let rests = root.rests in
+    let between = c.update.new.clauses in
+    let r = c.in_ok-update.ensures.rooted c.if-branch.false in
+    let new = c.enter.new in
+    let h = c.in_ok-enter.ensures.entered in
+    let list_is = ap (λ (a : Assignment). a.list.items) c.enter.ensures.rest.0 in
+    let laid_is = ap (λ (a : Assignment). a.list.items) (c.lay.ensures.assignment ∙ c.enter.ensures.rest.0) in
+    let number_is : c.len-number.result ≡ length keep = omega (arith, c.len-number.ensures, store.stored.ok.0) in
+    let lit : clauses_of between ≡ clauses_of c.args.clauses.now = ap (λ (v : Vec (Vec ℕ Global) Global). lists_of v.items) c.update.ensures.literals in
+    let clauses = clauses_of c.args.clauses.now in
+    let whole : all_of new.store c.args.clauses.now ≡ all_of store c.args.clauses.now ++ (stored_shape h.kept ∷ []) =
+    ap (λ xs. joined xs clauses) (entered-shapes c.args.form keep new.store.stored.items run.opens.items new.run.opens.items run.candidates.items new.run.candidates.items h) ∙ joined-push (shapes_of keep) clauses (stored_shape h.kept) c.requires.joined.short in
+    let whole_now : all_of new.store between ≡ all_of store c.args.clauses.now ++ (stored_shape h.kept ∷ []) = ap (joined (shapes_of new.store.stored.items)) lit ∙ whole in
+    let start : Derives (all_of new.store c.args.clauses.now) [] run.assignment.list.items = rw whole (derives-entered (all_of store c.args.clauses.now) (stored_shape h.kept) [] run.assignment.list.items c.in_ok-update.ensures.derived) in
+    let done = c.propagate.new.run in
+    let reported = c.in_ok-found.ensures in
+    let derived : Derives (all_of new.store c.args.clauses.now) run.assignment.list.items done.assignment.list.items = rw (laid_is, lit) at reported.derived in
+    let all = derivation-then (all_of new.store c.args.clauses.now) [] run.assignment.list.items done.assignment.list.items start derived in
+    posed (stored_shape h.kept) h.is (record {
+      list = done.assignment.list.items;
+      derived = rw whole at all;
+      few = omega (arith, found-after (length done.assignment.list.items) done.visits (length c.args.root.now.run.assignment.list.items) (found-both (length c.args.root.now.run.assignment.list.items) (length run.assignment.list.items) (length c.lay.new.run.assignment.list.items) (length done.assignment.list.items) c.args.root.now.run.visits run.visits c.lay.new.run.visits done.visits c.requires.visits (ap length laid_is) (c.lay.ensures.visits ∙ c.enter.ensures.rest.3) c.in_ok-update.ensures.found reported.found c.in_ok-found.ensures.rising) (omega (arith, done.assignment.list.ok.0, done.assignment.list.ok.1)), c.back.ensures.visits, c.leave.ensures.rest.3);
+      one_sided = λ l on. opposite done.assignment.values.items done.assignment.list.items l done.assignment.agrees on;
+      conflict = λ found. subst (λ xs. Conflicts xs done.assignment.list.items) (whole_now) (reported.conflict found);
+      settled = λ found f has. reported.settled found f (subst (λ xs. Contains xs f) (sym whole_now) has);
+    })
+
+pub returns-clause-rooted : goal.returns-clause-rooted
+returns-clause-rooted c = λ live.
+    let store = c.args.store.now in
+    let keep = store.stored.items in
+    let root = c.update.new.self in
+    let run = root.run in
+    let rests = root.rests in
+    let between = c.update.new.clauses in
+    let r = c.in_ok-update.ensures.rooted c.if-branch.false in
+    let new = c.enter.new in
+    let h = c.in_ok-enter.ensures.entered in
+    let list_is = ap (λ (a : Assignment). a.list.items) c.enter.ensures.rest.0 in
+    let laid_is = ap (λ (a : Assignment). a.list.items) (c.lay.ensures.assignment ∙ c.enter.ensures.rest.0) in
+    let number_is : c.len-number.result ≡ length keep = omega (arith, c.len-number.ensures, store.stored.ok.0) in
+    let count_is : c.len-count.result ≡ length run.assignment.list.items = omega (arith, c.len-count.ensures, run.assignment.list.ok.0) in
+    let done = c.propagate.new.run in
+    let reported = c.in_ok-found.ensures in
+    let b = c.back.new in
+    let last = c.leave.new in
+    let extends = rw laid_is at c.propagate.ensures.costs.extends in
+    let long : length new.store.stored.items ≡ length keep + 1 = omega (arith, ap length h.keeps, length-append keep (h.kept ∷ [])) in
+    let same = undone-same rests (shapes_of new.store.stored.items) b.run.opens.items b.run.candidates.items (length keep) c.back.ensures.undone (omega (arith, long, length-map new.store.stored.items stored_shape)) (omega (arith, long, c.back.ensures.opens)) (omega (arith, long, c.back.ensures.candidates)) (omega (arith, ap length r.opens, r.open_sizes)) (omega (arith, ap length r.starts, r.start_sizes)) in
+    let kept_is : last.store.stored.items ≡ keep = c.leave.ensures.kept ∙ prefix-of new.store.stored.items keep h.kept h.keeps in
+    let opens_is : last.run.opens.items ≡ rests.opens.items = c.leave.ensures.opens ∙ same.0 in
+    let starts_is : last.run.candidates.items ≡ rests.starts.items = c.leave.ensures.candidates ∙ same.1 in
+    let cut : b.run.assignment.list.items ≡ run.assignment.list.items = c.back.ensures.list ∙ ap (λ xs. take c.len-count.result xs) extends.1 ∙ ap (λ n. take n (run.assignment.list.items ++ extends.0)) count_is ∙ take-append_seam run.assignment.list.items extends.0 in
+    let end_is : last.run.assignment.list.items ≡ run.assignment.list.items = ap (λ (a : Assignment). a.list.items) c.leave.ensures.rest.0 ∙ cut in
+    let lit : clauses_of b.clauses ≡ clauses_of between = ap (λ (v : Vec (Vec ℕ Global) Global). lists_of v.items) (c.back.ensures.literals ∙ c.propagate.ensures.literals) in
+    let values_is = ap (λ (a : Assignment). a.values.items) (c.lay.ensures.assignment ∙ c.enter.ensures.rest.0) in
+    let codes = walked_codes (length run.assignment.list.items) run.assignment.list.items in
+    let served = reported.kept run.assignment.values.items codes (subst (λ vs. Grows run.assignment.values.items vs) (sym values_is) (grows-refl run.assignment.values.items)) r.walked in
+    let watches_is = ap (λ (v : Vec Watch Global). v.items) c.back.ensures.watches in
+    let agrees : Agree last.run.assignment.values.items run.assignment.list.items = subst (λ xs. Agree last.run.assignment.values.items xs) end_is last.run.assignment.agrees in
+    let walked = walked-agree run.assignment.values.items last.run.assignment.values.items run.assignment.list.items c.propagate.new.clauses.watches.items codes run.assignment.agrees agrees served in
+    record {
+      values = ap (λ (a : Assignment). length a.values.items) c.leave.ensures.rest.0 ∙ c.back.ensures.values ∙ reported.values ∙ ap (λ (a : Assignment). length a.values.items) (c.lay.ensures.assignment ∙ c.enter.ensures.rest.0) ∙ r.values ∙ sym (c.leave.ensures.variables ∙ c.enter.ensures.variables);
+      opens = opens_is;
+      starts = starts_is;
+      open_sizes = ap length (opens_is ∙ sym r.opens) ∙ r.open_sizes ∙ sym (ap length kept_is);
+      start_sizes = ap length (starts_is ∙ sym r.starts) ∙ r.start_sizes ∙ sym (ap length kept_is);
+      counted = rw (kept_is, opens_is ∙ sym r.opens, end_is) r.counted;
+      tidy = rw (kept_is, opens_is ∙ sym r.opens, starts_is ∙ sym r.starts, end_is) r.tidy;
+      work = ap (λ (v : Vec ℕ Global). v.items) c.leave.ensures.rest.1 ∙ c.back.ensures.work;
+      trail = ap (λ (v : Vec ℕ Global). v.items) c.leave.ensures.trail ∙ c.back.ensures.trail;
+      next = c.leave.ensures.rest.2 ∙ c.back.ensures.next;
+      derived = rw (kept_is, lit, end_is) r.derived;
+      walked = rw (end_is, watches_is) walked;
+      seats = r.seats ∙ sym (ap length kept_is);
+      live = rw kept_is r.live;
+    }
