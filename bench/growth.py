@@ -22,11 +22,15 @@ def names(letter, count):
     return [f"{letter}{i}" for i in range(10, count + 10)]
 
 
+def implied(units, ends):
+    """Clauses in which two neighbouring units force an end."""
+    return [clause(f"~{one}", f"~{other}", end) for one, other, end in zip(units, units[1:], ends)]
+
+
 def facts(count):
     """Units u, clauses ~u ~u a, and each a as a step."""
     units, ends = names("u", count), names("a", count)
-    clauses = [clause(f"~{one}", f"~{other}", end) for one, other, end in zip(units, units[1:], ends)]
-    return [clause(one) for one in units] + clauses, rups(clause(end) for end in ends[: count - 1])
+    return [clause(one) for one in units] + implied(units, ends), rups(clause(end) for end in ends[: count - 1])
 
 
 def chain(count):
@@ -97,10 +101,33 @@ def dropped(count):
     return [clause(one) for one in units] + clauses, steps
 
 
+def reasons(count):
+    """A chain from a unit. Each of its literals is a step, the clause that forced it is deleted, and a step needs both units."""
+    links, ends = names("x", count), names("a", count)
+    chained = [clause(links[0])] + [clause(f"~{one}", other) for one, other in zip(links, links[1:])]
+    steps = [f"rup {clause(link)}del id {i}\nrup {clause(end)}" for i, (link, end) in enumerate(zip(links[1:], ends), 2)]
+    return chained + implied(links, ends), steps
+
+
+def pairs(count):
+    """Units, and clauses with two of their literals, which are deleted one by one, and a step that needs both units."""
+    units, ends = names("u", count), names("a", count)
+    clauses = [clause(one, other) for one, other in zip(units, units[1:])]
+    steps = [f"del id {count + i}\nrup {clause(end)}" for i, end in enumerate(ends[: count - 1], 1)]
+    return [clause(one) for one in units] + clauses + implied(units, ends), steps
+
+
+def news(count):
+    """A chain from a unit, and its end with a new name as a step, as many times."""
+    links = names("x", count)
+    chained = [clause(links[0])] + [clause(f"~{one}", other) for one, other in zip(links, links[1:])]
+    return chained, rups(clause(links[-1], new) for new in names("n", count))
+
+
 # The families, each with its smallest size.
 FAMILIES = {
     facts: 2_500, chain: 2_500, again: 4_000, satisfied: 20_000, copies: 10_000, sums: 8_000, weakened: 10_000, axioms: 10_000,
-    divided: 5_000, multiplied: 5_000, deleted: 10_000, dropped: 2_500,
+    divided: 5_000, multiplied: 5_000, deleted: 10_000, dropped: 2_500, reasons: 2_500, pairs: 2_500, news: 2_500,
 }
 
 
