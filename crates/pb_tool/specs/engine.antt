@@ -4,4 +4,5 @@ pub mod InstanceText
 pub mod NormalText
 pub mod Opening
 pub mod ProofText
+pub mod Running
 pub mod Single

@@ -1,4 +1,5 @@
 -- Lemmas of `pb check` and of a checker.
+pub mod CheckerRuns
 pub mod CheckerSteps
 pub mod GivenProof
 pub mod Headline

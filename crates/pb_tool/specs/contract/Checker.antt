@@ -1,6 +1,7 @@
 -- How a checker relates to the text that it was fed.
 use Rattle.std.specs.Prelude.{◌≡◌, ℕ, List, false, Option, Some, None, Result, Ok, Err}
 use Rattle.pb_text.specs.meaning.Limits.{largest, top_of}
+use Rattle.pb_text.specs.contract.Automaton.{MayAsk}
 use Rattle.pb_text.specs.contract.Feeding.{StandsAt, place_of, halt_of, is_complete}
 use Rattle.pb_text.specs.meaning.Reading.{Reads}
 use Rattle.pb_text.specs.declared.Limits.{Limits}
@@ -16,6 +17,7 @@ use Rattle.pb_replay.specs.contract.ReplayModel.{StandsFor}
 use Rattle.pb_replay.specs.declared.fault.Fault.{Fault}
 use Rattle.pb_text.specs.meaning.Whole.{events_at}
 use Rattle.pb_tool.specs.contract.Checks.{Checks, IsRefusedAt, KeepsNamesOf, LeadsTo, StepsTo, Rejects}
+use Rattle.pb_tool.specs.meaning.Files.{AsksInProofText}
 use Rattle.pb_tool.specs.declared.commands.check.checker.CheckFault.{CheckFault}
 use Rattle.pb_tool.specs.declared.commands.check.checker.CheckFault.TheVariants.{Text, Step}
 
@@ -59,11 +61,15 @@ module _ (limits : Limits) (longest : ℕ) (v : Problem) (first : Result State F
   ChecksSoFar f r (Some (Step begins e)) =
       (refused : IsRefusedAt limits longest v first input (place_of f) begins e) × KeepsNamesOf refused.before r.names e
 
+-- The machine of proofs may allocate only at a byte that may allocate in the text of a proof.
+abbrev pub AsksAsText : Limits → Type 0
+AsksAsText limits = (used : List ℕ) (b : ℕ) → MayAsk proofs (begin (largest limits) (top_of limits)) used b → AsksInProofText limits used b
+
 -- This holds for every checker: it was fed some text.
 abbrev pub IsSomewhere : ProofFeeder → Replaying → Option CheckFault → Type 0
 IsSomewhere f r e =
     (limits : Limits) × (longest : ℕ) × (v : Problem) × (first : Result State Fault) × (input : List ℕ)
-    × ChecksSoFar limits longest v first input f r e
+    × AsksAsText limits × ChecksSoFar limits longest v first input f r e
 
 -- If `StandsAt` holds of a feeder of proofs and an input, the feeder has read that input.
 abbrev pub TextsAreRead : Type 0

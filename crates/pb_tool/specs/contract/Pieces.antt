@@ -1,8 +1,7 @@
 -- What a feed says of a checker.
 use Rattle.std.specs.Prelude.{◌≡◌, ◌≢◌, ◌≤◌, ℕ, List, [], ◌∷◌, ◌++◌, take, Bool, true, false, Option, Some, None, Result, Ok, Err}
 use Rattle.std.specs.List.{flat_map}
-use Rattle.pb_text.specs.contract.Automaton.{MayAsk}
-use Rattle.pb_text.specs.contract.Feeding.{place_of, is_complete}
+use Rattle.pb_text.specs.contract.Feeding.{place_of, state_of, is_complete}
 use Rattle.pb_text.specs.meaning.Limits.{largest, top_of}
 use Rattle.pb_text.specs.meaning.Reading.{HasOpen, IsPrefix}
 use Rattle.pb_text.specs.meaning.Spelling.{Item, bytes_of, place_after}
@@ -11,13 +10,14 @@ use Rattle.pb_text.specs.declared.Limits.{Limits}
 use Rattle.pb_text.specs.declared.Place.{Place}
 use Rattle.pb_text.specs.declared.place.Why.TheVariants.{Read, Memory}
 use Rattle.pb_proof.specs.meaning.Proofs.{IsProof}
-use Rattle.pb_proof.specs.engine.Machine.State.{begin, proofs}
+use Rattle.pb_proof.specs.engine.Machine.State.{proofs}
 use Rattle.pb_proof.specs.declared.Statement.{Statement}
 use Rattle.pb_replay.specs.meaning.Problem.{Problem}
 use Rattle.pb_replay.specs.meaning.Replay.{State}
 use Rattle.pb_replay.specs.declared.fault.Fault.{Fault}
 use Rattle.pb_tool.specs.contract.Checker.{Checking, ChecksSoFar}
 use Rattle.pb_tool.specs.contract.Checks.{Checks}
+use Rattle.pb_tool.specs.meaning.Files.{AsksInProofText}
 use Rattle.pb_tool.specs.declared.commands.check.checker.Went.{Went}
 use Rattle.pb_tool.specs.declared.commands.check.checker.CheckFault.{CheckFault}
 use Rattle.pb_tool.specs.declared.commands.check.checker.CheckFault.TheVariants.{Text, Step}
@@ -29,6 +29,10 @@ fault_of c = c.fault
 -- the position of the next byte
 abbrev pub place_in : Checking → Place
 place_in c = place_of c.feeder
+
+-- how much of the current statement is stored
+abbrev pub held_in : Checking → ℕ
+held_in c = proofs.kept (state_of c.feeder)
 
 -- the text of the proof is complete
 abbrev pub is_whole : Checking → Bool
@@ -93,7 +97,7 @@ IsNoReadFault (Step begins e) = Unit {0}
 abbrev pub AllocatesAt : Limits → List ℕ → CheckFault → Type 0
 AllocatesAt limits input (Text s) = s.why ≡ Memory →
     (used : List ℕ) × (b : ℕ) × (more : List ℕ) × (input ≡ used ++ b ∷ more) × (s.place ≡ place_after used)
-    × MayAsk proofs (begin (largest limits) (top_of limits)) used b
+    × AsksInProofText limits used b
 AllocatesAt limits input (Step begins e) = Unit {0}
 
 -- the bytes of the piece that were consumed: if a statement ended, those through its last byte

@@ -38,8 +38,9 @@ use Rattle.pb_replay.specs.declared.fault.Fault.TheVariants.{Memory, NotTotal}
 use Rattle.pb_replay.specs.declared.verdict.Verdict.{Verdict}
 use Rattle.std.specs.Prelude.{IsSome, not, is_some}
 use Rattle.pb_text.proofs.lemmas.source.Wholes.{spans_events}
-use Rattle.pb_tool.specs.contract.Checker.{Checking, ProofFeeder, IsAt, IsAccepting, ChecksSoFar, StepsFrom, TextsAreRead}
+use Rattle.pb_tool.specs.contract.Checker.{Checking, ProofFeeder, AsksAsText, IsAt, IsAccepting, IsSomewhere, ChecksSoFar, StepsFrom, TextsAreRead}
 use Rattle.pb_tool.specs.contract.Checks.{Checks, IsReplayed, KeepsNames, KeepsNamesOf, LeadsTo, StepsTo, Rejects}
+use Rattle.pb_tool.specs.engine.Running.{Begins}
 use Rattle.pb_tool.specs.contract.Pieces.{AnyCutting, bytes_to, ChecksAt, ChecksOnce, MayGoOn, IsNoReadFault, FeedsInTurn, AllocatesAt, joined, fault_of, is_whole, place_in}
 use Rattle.pb_tool.specs.declared.commands.check.checker.CheckFault.{CheckFault}
 use Rattle.pb_tool.specs.declared.commands.check.checker.CheckFault.TheVariants.{Text, Step}
@@ -216,17 +217,16 @@ module _ (read : TextsAreRead) (limits : Limits) (longest : ℕ) (v : Problem) (
       let (t, same, some) = there whole limits longest v first input text.used text.spans (place_of f) now.now text.reads text.accepted in
       some (sym (shown_at r t (subst (λ (x : Result State Fault). IsAt r x) same now.at)) ∙ sym is)
 
-  -- ---- a feed and a step
-  module _ (piece : List ℕ) (n : ProofFeeder) where
-    owed : IsOpenText f.stop
-    owed = subst IsOpenText (sym now.running) tt
+  -- ---- more bytes, and the statement that ended in them
+  module _ (more : List ℕ) (n : ProofFeeder) where
+    abbrev pub StandsOn : List (Spanned Statement) → Type 0
+    StandsOn spans = StandsAt longest (begin (largest limits) (top_of limits)) (input ++ more) spans n
 
-    pub quiet : (fed : Fed Statement) → fed.event ≡ None → FeedsOnce f piece (Ok fed) n → halt_of n ≡ None → ChecksSoFar limits longest v first (input ++ piece) n r e
-    quiet fed event feeds running =
-        let feeds : FeedsOnce f piece (Ok (record { used = fed.used; event = None })) n = subst (λ (x : Fed Statement). FeedsOnce f piece (Ok x) n) (fed_with fed None event) feeds in
-        stands_at limits longest v first (input ++ piece) n r e none (record {
+    pub quiet_on : StandsOn now.spans → halt_of n ≡ None → ChecksSoFar limits longest v first (input ++ more) n r e
+    quiet_on stands running =
+        stands_at limits longest v first (input ++ more) n r e none (record {
           spans = now.spans;
-          stands = rw append-nil at (feeds.0 longest (begin (largest limits) (top_of limits)) input now.spans owed now.stands);
+          stands = stands;
           running = running;
           limits_are = now.limits_are;
           problem = now.problem;
@@ -235,44 +235,26 @@ module _ (read : TextsAreRead) (limits : Limits) (longest : ℕ) (v : Problem) (
           accepted = now.accepted;
         })
 
-    stands_stopped : (s : Stop) → FeedsOnce f piece (Err s) n → StandsAt longest (begin (largest limits) (top_of limits)) (input ++ piece) now.spans n
-    stands_stopped s feeds = rw append-nil at (feeds.0 longest (begin (largest limits) (top_of limits)) input now.spans owed now.stands)
-
-    pub halted : (s : Stop) → FeedsOnce f piece (Err s) n → halt_of n ≡ Some s → Checks limits longest v first (input ++ piece) (place_of n) false (Some (Text s))
-    halted s feeds halts =
-        let (used, reads) = text_read read limits longest (input ++ piece) now.spans n (Some s) (stands_stopped s feeds) halts in (
+    pub halted_on : (s : Stop) → StandsOn now.spans → halt_of n ≡ Some s → Checks limits longest v first (input ++ more) (place_of n) false (Some (Text s))
+    halted_on s stands halts =
+        let (used, reads) = text_read read limits longest (input ++ more) now.spans n (Some s) stands halts in (
           now.now,
           record {
             used = used;
             spans = now.spans;
-            reads = stopped (largest limits) (top_of limits) longest (input ++ piece) used now.spans (place_of n) (is_complete n) s reads;
+            reads = stopped (largest limits) (top_of limits) longest (input ++ more) used now.spans (place_of n) (is_complete n) s reads;
             accepted = now.accepted;
           },
         )
 
-    -- the byte at which memory ran out is one that may allocate
-    pub wanted : (s : Stop) → FeedsOnce f piece (Err s) n → halt_of n ≡ Some s → AllocatesAt limits (input ++ piece) (Text s)
-    wanted s feeds halts memory =
-        let k = (stands_stopped s feeds).1 in
-        let waits : Waits proofs n.machine (end_of longest n.first) k.letters k.left n.place (Some s) = subst (λ (x : Option Stop). Waits proofs n.machine (end_of longest n.first) k.letters k.left n.place x) halts k.waits in
-        let stops : Halts proofs n.machine (end_of longest n.first) k.letters k.left reason.Memory = subst (λ (x : Why). Halts proofs n.machine (end_of longest n.first) k.letters k.left x) memory waits.2 in
-        let (b, more, left, admits, asks, room) = stops in
-        (bytes k.letters, b, more, k.input_is ∙ ap (λ (x : List ℕ). bytes k.letters ++ x) left, waits.1 ∙ k.place_is, (n.machine, k.leads, asks))
+    module _ (m : Spanned Statement) (stands : StandsOn (now.spans ++ m ∷ [])) (running : halt_of n ≡ None) where
+      said : (u : List ℕ) × Reads (IsProof (largest limits) (top_of limits)) longest (input ++ more) u (now.spans ++ m ∷ []) (place_of n) (is_complete n) None
+      said = text_read read limits longest (input ++ more) (now.spans ++ m ∷ []) n None stands running
 
-    module _ (fed : Fed Statement) (m : Spanned Statement) (event : fed.event ≡ Some m) (fs : FeedsOnce f piece (Ok fed) n) (running : halt_of n ≡ None) where
-      feeds : FeedsOnce f piece (Ok (record { used = fed.used; event = Some m })) n
-      feeds = subst (λ (x : Fed Statement). FeedsOnce f piece (Ok x) n) (fed_with fed (Some m) event) fs
+      pub value_on : ReadStatements → IsStatementValue (largest r.limits) (top_of r.limits) m.event
+      value_on values = subst (λ (x : Limits). IsStatementValue (largest x) (top_of x) m.event) (sym now.limits_are) (last_is_value values (largest limits) (top_of limits) longest (input ++ more) said.0 now.spans m (place_of n) (is_complete n) said.1)
 
-      stands : StandsAt longest (begin (largest limits) (top_of limits)) (input ++ take fed.used piece) (now.spans ++ m ∷ []) n
-      stands = feeds.0 longest (begin (largest limits) (top_of limits)) input now.spans owed now.stands
-
-      said : (u : List ℕ) × Reads (IsProof (largest limits) (top_of limits)) longest (input ++ take fed.used piece) u (now.spans ++ m ∷ []) (place_of n) (is_complete n) None
-      said = text_read read limits longest (input ++ take fed.used piece) (now.spans ++ m ∷ []) n None stands running
-
-      pub is_value : ReadStatements → IsStatementValue (largest r.limits) (top_of r.limits) m.event
-      is_value values = subst (λ (x : Limits). IsStatementValue (largest x) (top_of x) m.event) (sym now.limits_are) (last_is_value values (largest limits) (top_of limits) longest (input ++ take fed.used piece) said.0 now.spans m (place_of n) (is_complete n) said.1)
-
-      running_on : (t : Replaying) → StepsFrom r.limits r.problem now.now m (Ok tt) t → t.limits ≡ r.limits → t.problem ≡ r.problem → IsAccepting limits longest v first (input ++ take fed.used piece) n t
+      running_on : (t : Replaying) → StepsFrom r.limits r.problem now.now m (Ok tt) t → t.limits ≡ r.limits → t.problem ≡ r.problem → IsAccepting limits longest v first (input ++ more) n t
       running_on t (s, at, takes) limited problem = record {
         spans = now.spans ++ m ∷ [];
         stands = stands;
@@ -284,24 +266,24 @@ module _ (read : TextsAreRead) (limits : Limits) (longest : ℕ) (v : Problem) (
         accepted = leads_more limits v first now.spans m now.now s now.accepted (subst (λ (x : Problem). StepsTo limits x now.now m.event s) now.problem (subst (λ (x : Limits). StepsTo x r.problem now.now m.event s) now.limits_are takes));
       }
 
-      pub stepped : (t : Replaying) → ((before : Result State Fault) → IsAt r before → StepsFrom r.limits r.problem before m (Ok tt) t) → t.limits ≡ r.limits → t.problem ≡ r.problem → ChecksSoFar limits longest v first (input ++ take fed.used piece) n t e
-      stepped t steps limited problem = stands_at limits longest v first (input ++ take fed.used piece) n t e none (running_on t (steps now.now now.at) limited problem)
+      pub stepped_on : (t : Replaying) → ((before : Result State Fault) → IsAt r before → StepsFrom r.limits r.problem before m (Ok tt) t) → t.limits ≡ r.limits → t.problem ≡ r.problem → ChecksSoFar limits longest v first (input ++ more) n t e
+      stepped_on t steps limited problem = stands_at limits longest v first (input ++ more) n t e none (running_on t (steps now.now now.at) limited problem)
 
       kept_by : (t : Replaying) (why : Fault) → IsNamePrefix r.names t.names → ((n : ℕ) → why ≡ NotTotal n → n < length r.names) → (x : Result State Fault) → IsAt r x → KeepsNamesOf x t.names why
       kept_by t why prefix old (Ok s) at = subst (λ (y : List (List ℕ)). KeepsNames y t.names why) (sym at.1.names) (prefix, old)
       kept_by t why prefix old (Err e) at = tt
 
-      refused_by : (t : Replaying) (why : Fault) → Rejects r.limits r.problem now.now m.event why → IsNamePrefix r.names t.names → ((n : ℕ) → why ≡ NotTotal n → n < length r.names) → ChecksSoFar limits longest v first (input ++ piece) n t (Some (Step m.first why))
-      refused_by t why refuses prefix old = (
+      refused_by : (rest : List ℕ) (t : Replaying) (why : Fault) → Rejects r.limits r.problem now.now m.event why → IsNamePrefix r.names t.names → ((n : ℕ) → why ≡ NotTotal n → n < length r.names) → ChecksSoFar limits longest v first ((input ++ more) ++ rest) n t (Some (Step m.first why))
+      refused_by rest t why refuses prefix old = (
         record {
           used = said.0;
-          left = said.1.left ++ drop fed.used piece;
+          left = said.1.left ++ rest;
           spans = now.spans;
           last = m;
           before = now.now;
           done = is_complete n;
-          input_is = ap (λ (x : List ℕ). input ++ x) (sym (take-append-drop fed.used piece)) ∙ (sym (append_assoc input (take fed.used piece) (drop fed.used piece)) ∙ (ap (λ (x : List ℕ). x ++ drop fed.used piece) said.1.input_is ∙ append_assoc said.0 said.1.left (drop fed.used piece)));
-          reads = used_alone (largest limits) (top_of limits) longest (input ++ take fed.used piece) said.0 (now.spans ++ m ∷ []) (place_of n) (is_complete n) said.1;
+          input_is = ap (λ (x : List ℕ). x ++ rest) said.1.input_is ∙ append_assoc said.0 said.1.left rest;
+          reads = used_alone (largest limits) (top_of limits) longest (input ++ more) said.0 (now.spans ++ m ∷ []) (place_of n) (is_complete n) said.1;
           begins_is = refl;
           accepted = now.accepted;
           refused = subst (λ (x : Problem). Rejects limits x now.now m.event why) now.problem (subst (λ (x : Limits). Rejects x r.problem now.now m.event why) now.limits_are refuses);
@@ -309,20 +291,77 @@ module _ (read : TextsAreRead) (limits : Limits) (longest : ℕ) (v : Problem) (
         kept_by t why prefix old now.now now.at,
       )
 
-      abbrev Refusing : Replaying → CheckFault → Type 0
+      abbrev pub Refusing : Replaying → CheckFault → Type 0
       Refusing t x = (before : Result State Fault) → IsAt r before → StepsFrom r.limits r.problem before m (Err x) t
 
-      pub refused : (t : Replaying) (x : CheckFault) → Refusing t x → IsNamePrefix r.names t.names → ReportsOld r x → ChecksSoFar limits longest v first (input ++ piece) n t (Some x)
-      refused t x steps prefix old =
+      pub refused_on : (rest : List ℕ) (t : Replaying) (x : CheckFault) → Refusing t x → IsNamePrefix r.names t.names → ReportsOld r x → ChecksSoFar limits longest v first ((input ++ more) ++ rest) n t (Some x)
+      refused_on rest t x steps prefix old =
           let (why, is, refuses) = steps now.now now.at in
-          subst (λ (y : CheckFault). ChecksSoFar limits longest v first (input ++ piece) n t (Some y)) (sym is)
-          (refused_by t why refuses prefix (λ k h. old m.first k (ap (λ (y : CheckFault). failed y) (is ∙ ap (λ (z : Fault). Step m.first z) h))))
+          subst (λ (y : CheckFault). ChecksSoFar limits longest v first ((input ++ more) ++ rest) n t (Some y)) (sym is)
+          (refused_by rest t why refuses prefix (λ k h. old m.first k (ap (λ (y : CheckFault). failed y) (is ∙ ap (λ (z : Fault). Step m.first z) h))))
 
-      pub unread_step : (t : Replaying) (x : CheckFault) → Refusing t x → IsNoReadFault x
+  -- ---- a feed and a step
+  module _ (piece : List ℕ) (n : ProofFeeder) where
+    pub owed : IsOpenText f.stop
+    owed = subst IsOpenText (sym now.running) tt
+
+    stands_quiet : (fed : Fed Statement) → fed.event ≡ None → FeedsOnce f piece (Ok fed) n → StandsAt longest (begin (largest limits) (top_of limits)) (input ++ piece) now.spans n
+    stands_quiet fed event feeds =
+        let feeds : FeedsOnce f piece (Ok (record { used = fed.used; event = None })) n = subst (λ (x : Fed Statement). FeedsOnce f piece (Ok x) n) (fed_with fed None event) feeds in
+        rw append-nil at (feeds.0 longest (begin (largest limits) (top_of limits)) input now.spans owed now.stands)
+
+    pub quiet : (fed : Fed Statement) → fed.event ≡ None → FeedsOnce f piece (Ok fed) n → halt_of n ≡ None → ChecksSoFar limits longest v first (input ++ piece) n r e
+    quiet fed event feeds running = quiet_on piece n (stands_quiet fed event feeds) running
+
+    stands_stopped : (s : Stop) → FeedsOnce f piece (Err s) n → StandsAt longest (begin (largest limits) (top_of limits)) (input ++ piece) now.spans n
+    stands_stopped s feeds = rw append-nil at (feeds.0 longest (begin (largest limits) (top_of limits)) input now.spans owed now.stands)
+
+    pub halted : (s : Stop) → FeedsOnce f piece (Err s) n → halt_of n ≡ Some s → Checks limits longest v first (input ++ piece) (place_of n) false (Some (Text s))
+    halted s feeds halts = halted_on piece n s (stands_stopped s feeds) halts
+
+    -- the byte at which memory ran out is one that may allocate
+    pub wanted : AsksAsText limits → (s : Stop) → FeedsOnce f piece (Err s) n → halt_of n ≡ Some s → AllocatesAt limits (input ++ piece) (Text s)
+    wanted may s feeds halts memory =
+        let k = (stands_stopped s feeds).1 in
+        let waits : Waits proofs n.machine (end_of longest n.first) k.letters k.left n.place (Some s) = subst (λ (x : Option Stop). Waits proofs n.machine (end_of longest n.first) k.letters k.left n.place x) halts k.waits in
+        let stops : Halts proofs n.machine (end_of longest n.first) k.letters k.left reason.Memory = subst (λ (x : Why). Halts proofs n.machine (end_of longest n.first) k.letters k.left x) memory waits.2 in
+        let (b, more, left, admits, asks, room) = stops in
+        (bytes k.letters, b, more, k.input_is ∙ ap (λ (x : List ℕ). bytes k.letters ++ x) left, waits.1 ∙ k.place_is, may (bytes k.letters) b (n.machine, k.leads, asks))
+
+    module _ (fed : Fed Statement) (m : Spanned Statement) (event : fed.event ≡ Some m) (fs : FeedsOnce f piece (Ok fed) n) (running : halt_of n ≡ None) where
+      feeds : FeedsOnce f piece (Ok (record { used = fed.used; event = Some m })) n
+      feeds = subst (λ (x : Fed Statement). FeedsOnce f piece (Ok x) n) (fed_with fed (Some m) event) fs
+
+      stands : StandsAt longest (begin (largest limits) (top_of limits)) (input ++ take fed.used piece) (now.spans ++ m ∷ []) n
+      stands = feeds.0 longest (begin (largest limits) (top_of limits)) input now.spans owed now.stands
+
+      pub is_value : ReadStatements → IsStatementValue (largest r.limits) (top_of r.limits) m.event
+      is_value = value_on (take fed.used piece) n m stands running
+
+      pub stepped : (t : Replaying) → ((before : Result State Fault) → IsAt r before → StepsFrom r.limits r.problem before m (Ok tt) t) → t.limits ≡ r.limits → t.problem ≡ r.problem → ChecksSoFar limits longest v first (input ++ take fed.used piece) n t e
+      stepped = stepped_on (take fed.used piece) n m stands running
+
+      abbrev Refuses : Replaying → CheckFault → Type 0
+      Refuses t x = (before : Result State Fault) → IsAt r before → StepsFrom r.limits r.problem before m (Err x) t
+
+      pub refused : (t : Replaying) (x : CheckFault) → Refuses t x → IsNamePrefix r.names t.names → ReportsOld r x → ChecksSoFar limits longest v first (input ++ piece) n t (Some x)
+      refused t x steps prefix old =
+          subst (λ (y : List ℕ). ChecksSoFar limits longest v first y n t (Some x))
+          (append_assoc input (take fed.used piece) (drop fed.used piece) ∙ ap (λ (y : List ℕ). input ++ y) (take-append-drop fed.used piece))
+          (refused_on (take fed.used piece) n m stands running (drop fed.used piece) t x steps prefix old)
+
+      pub unread_step : (t : Replaying) (x : CheckFault) → Refuses t x → IsNoReadFault x
       unread_step t x steps = let (why, is, refuses) = steps now.now now.at in subst IsNoReadFault (sym is) tt
 
-      pub wanted_step : (t : Replaying) (x : CheckFault) → Refusing t x → AllocatesAt limits (input ++ piece) x
+      pub wanted_step : (t : Replaying) (x : CheckFault) → Refuses t x → AllocatesAt limits (input ++ piece) x
       wanted_step t x steps = let (why, is, refuses) = steps now.now now.at in subst (AllocatesAt limits (input ++ piece)) (sym is) tt
+
+-- what a checker knows of the bytes that may allocate
+pub asks_here : (f : ProofFeeder) (r : Replaying) (e : Option CheckFault) → e ≡ None → IsSomewhere f r e → (limits : Limits) (longest : ℕ) (v : Problem) (first : Result State Fault) (input : List ℕ) → ChecksSoFar limits longest v first input f r e → AsksAsText limits
+asks_here f r e none (limits, longest, v, first, input, asks, h) limits' longest' v' first' input' h' =
+    let one = running_at limits longest v first input f r e none h in
+    let two = running_at limits' longest' v' first' input' f r e none h' in
+    subst AsksAsText (sym one.limits_are ∙ two.limits_are) asks
 
 -- ---- input after a fault
 module _ (limit top longest : ℕ) (used left piece : List ℕ) where
@@ -418,3 +457,17 @@ somewhere r sound = by r.fault refl
 pub leads_none : (limits : Limits) (v : Problem) (first : Result State Fault) → LeadsTo limits v first [] first
 leads_none limits v (Ok s) = (s, refl, refl)
 leads_none limits v (Err e) = (refl, refl)
+
+-- ---- a checker that was fed nothing yet
+pub begun_checks : (longest : ℕ) (r : Replaying) (c : Checking) → Begins longest r c → fault_of c ≡ None → (first : Result State Fault) → IsAt r first → ChecksAt r.limits longest r.problem first [] c
+begun_checks longest r c b none first at =
+    stands_at r.limits longest r.problem first [] c.feeder c.replay c.fault none (record {
+      spans = [];
+      stands = b.stands;
+      running = b.running;
+      limits_are = ap (λ (x : Replaying). x.limits) b.replay;
+      problem = ap (λ (x : Replaying). x.problem) b.replay;
+      now = first;
+      at = subst (λ (x : Replaying). IsAt x first) (sym b.replay) at;
+      accepted = leads_none r.limits r.problem first;
+    })

@@ -5,7 +5,7 @@ use Rattle.pb_text.specs.declared.Place.{Place}
 use Rattle.pb_replay.specs.meaning.Problem.{Problem}
 use Rattle.pb_replay.specs.meaning.Replay.{State}
 use Rattle.pb_replay.specs.declared.fault.Fault.{Fault}
-use Rattle.pb_tool.specs.contract.Runs.{IsNoReplay, IsReportedAs, Replays}
+use Rattle.pb_tool.specs.contract.Runs.{IsNoReplay, IsReportedAs, Replays, faults_of_proof}
 use Rattle.pb_tool.specs.contract.Seen.{SawNoInstance, SawNoProof}
 use Rattle.pb_tool.specs.declared.fault.ToolFault.{ToolFault}
 use Rattle.pb_tool.specs.declared.fault.ToolFault.TheVariants.{Text, Open, Overflow, Memory, Write, Step}
@@ -43,3 +43,12 @@ module _ (shown : Option ℕ) (ended : Bool) where
   report_unseen names place e (Overflow i) h = absurd h
   report_unseen names place e (Memory i) h = absurd h
   report_unseen names place e Write h = absurd h
+
+-- for a rejected statement the source has not failed
+pub report_faults : (A : Type 0) (names : List (List ℕ)) (place : Place) (e : Fault) (f : ToolFault) → IsReportedAs names place e f → (k n : ℕ) → k ≡ n → k ≡ faults_of_proof {A = A} (Err f) n
+report_faults A names place e (Step at x name) h k n same = same
+report_faults A names place e (Text i s) h k n same = absurd h
+report_faults A names place e (Open i) h k n same = absurd h
+report_faults A names place e (Overflow i) h k n same = absurd h
+report_faults A names place e (Memory i) h k n same = absurd h
+report_faults A names place e Write h k n same = absurd h

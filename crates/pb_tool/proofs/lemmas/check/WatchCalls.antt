@@ -24,6 +24,7 @@ use Rattle.pb_tool.specs.contract.Checks.{KeepsNames, StepsTo}
 use Rattle.pb_tool.specs.meaning.Files.{IsProofText}
 use Rattle.pb_tool.specs.contract.Runs.{IsNoReplay, IsReplayOf, IsReportedAs}
 use Rattle.pb_tool.specs.meaning.Verified.{IsReported}
+use Rattle.pb_tool.specs.engine.Running.{HasShown}
 use Rattle.pb_tool.specs.contract.Watched.{Call, Accepted, Rejected, GotEach, HasSeen, HasSeenUpTo, HasSeenWhole, IsWatched, ShowsEach, ShowsProof, ShowsRun}
 use Rattle.pb_tool.specs.declared.commands.check.checker.CheckFault.{CheckFault}
 use Rattle.pb_tool.specs.declared.commands.check.checker.CheckFault.TheVariants as check
@@ -56,12 +57,6 @@ module _ (limits : Limits) (v : Problem) where
   shows_more s (n ∷ spans) (Rejected k q f ∷ calls) t m r u h out at none = absurd h
   shows_more s (n ∷ spans) (Accepted k q ∷ calls) t m r u (same, a, does, is, runs, rest) out at none =
       (same, a, does, is, runs, shows_more a spans calls t m r u rest out at none)
-
--- The watch got a call for each statement so far.
-abbrev pub HasShown : {V : Type 0} → (V → Call → V → Type 0) → V → Replaying → List (Spanned Statement) → V → Replaying → Type 0
-HasShown got old began spans new r =
-    (calls : List Call) × GotEach got old calls new
-    × ((first : State) → StandsFor began first → (t : State) × StandsFor r t × ShowsEach began.limits began.problem first spans calls t)
 
 module _ {V : Type 0} (got : V → Call → V → Type 0) (old : V) (began : Replaying) where
   pub shown_first : HasShown got old began [] old began

@@ -1,8 +1,8 @@
 -- Statements that are shown one after another, for the bytes that the calls of a source have given.
-use Rattle.std.proofs.Common.{◌≡◌, ℕ, List, [], ◌∷◌, ◌++◌, length, true, false, Option, Some, None, Result, Ok, Err, refl, sym, ap, ◌∙◌, subst, append_assoc, length-append, arith}
+use Rattle.std.proofs.Common.{◌≡◌, ℕ, List, [], ◌∷◌, ◌++◌, true, false, Option, Some, None, Result, Ok, Err, refl, sym, ap, ◌∙◌, subst, append_assoc, length-append, arith}
 use Rattle.std.proofs.lemmas.List.{append_cancel_right}
 use Rattle.pb_text.specs.contract.Automaton.{AcceptsItems}
-use Rattle.pb_text.specs.contract.Feeding.{StandsAt, place_of, halt_of, stop_of, is_complete}
+use Rattle.pb_text.specs.contract.Feeding.{place_of, halt_of, stop_of, is_complete}
 use Rattle.pb_text.specs.meaning.Pulling.{OfGiven, Pulls}
 use Rattle.pb_text.specs.meaning.Stopping.{IsAsking}
 use Rattle.pb_text.specs.meaning.PullsInARow.{PullsOn, TookAll, TookSoFar}
@@ -15,15 +15,12 @@ use Rattle.pb_text.specs.declared.Spanned.{Spanned}
 use Rattle.pb_text.specs.declared.Stop.{Stop}
 use Rattle.pb_text.proofs.lemmas.source.PullsInARow.{row}
 use Rattle.pb_tool.specs.contract.Show.{shown, shown_line, EndsAt, InText, ShowsLines}
+use Rattle.pb_tool.specs.engine.Running.{HasGiven}
 use Rattle.pb_tool.specs.declared.fault.ToolFault.{ToolFault}
 use Rattle.pb_tool.specs.declared.fault.ToolFault.TheVariants.{Text, Write}
 use Rattle.pb_tool.specs.declared.fault.Input.TheVariants.{File}
 use Rattle.pb_text.proofs.lemmas.source.Wholes.{given_both}
 use Rattle.pb_tool.proofs.lemmas.show.ShownStatements.{shows_end}
-
--- The feeder began with this machine and has not stopped. It was fed what the calls have given since a history.
-abbrev pub HasGiven : {M E : Type 0} {g : Ghosts M E} → ℕ → M → List ℕ → List (Spanned E) → Feeder M E g → List ℕ → Type 0
-HasGiven longest start before spans f now = (given : List ℕ) × (now ≡ before ++ given) × ((place_of f).offset ≡ length given) × StandsAt longest start given spans f × (halt_of f ≡ None)
 
 module _ {M E : Type 0} {g : Ghosts M E} (longest : ℕ) (start : M) (before mid after : List ℕ) (spans : List (Spanned E)) (old new : Feeder M E g) (h : HasGiven longest start before spans old mid) (left rest : Option (List ℕ)) where
   -- the result of one more pull

@@ -6,16 +6,17 @@ ghost use Rattle.pb_replay.specs.declared.fault.Fault.{Fault as AFault};
 ghost use Rattle.pb_replay.specs.meaning.Meaning.{IsNamePrefix};
 ghost use Rattle.pb_tool.specs.contract.Checker.{IsAt, TextsAreRead};
 ghost use Rattle.pb_tool.specs.contract.Faults.{check_fault_text};
+ghost use Rattle.pb_tool.specs.contract.Seen.{SawText};
 
 use crate::commands::check::step::step_watched;
-use crate::commands::check::watch::Unwatched;
+use crate::commands::check::watch::{Unwatched, Watch};
 use pb_proof::ProofMachine;
 use pb_proof::laws::values::reads_are_of_proofs;
 use pb_proof::laws::{prefix_free, proofs_are_exact};
 use pb_replay::laws::whole_proofs_conclude;
 use pb_replay::{Fault, Replay, Verdict};
 use pb_text::laws::standing_is_reading;
-use pb_text::{BYTE_LIMIT, Feeder, Place, Stop, Why};
+use pb_text::{BYTE_LIMIT, Feeder, Place, Source, Stop, Why, pull};
 use std::alloc::Global;
 use std::error::Error;
 use std::fmt;
@@ -74,15 +75,16 @@ impl Model for Checker {
 }
 
 impl Checker {
-    ghost use Rattle.pb_text.specs.contract.Feeding.{state_of};
-    ghost use Rattle.pb_proof.specs.engine.Machine.State.{proofs};
-    ghost use Rattle.std.specs.Prelude.{◌+◌, ◌<◌, ◌≤◌, ◌++◌, [], ℕ, OnOk, List, None, Some, Err, IfErr, IfOk, IfSome, length, slice_get, unwrap_or, true, ◌^◌};
+    ghost use Rattle.std.specs.Prelude.{◌+◌, ◌<◌, ◌≤◌, ◌++◌, [], ℕ, OnOk, List, Option, None, Some, Ok, Err, IfErr, IfOk, IfSome, length, slice_get, unwrap_or, true, ◌^◌};
     ghost use Rattle.std.specs.Option.{option_copied};
     ghost use Rattle.pb_text.specs.meaning.Blank.{IsInReach};
     ghost use Rattle.pb_text.specs.declared.Limits.{Limits};
+    ghost use Rattle.pb_replay.specs.contract.ReplayModel.{Replaying};
     ghost use Rattle.pb_replay.specs.meaning.Problem.{Problem};
     ghost use Rattle.pb_tool.specs.contract.Checks.{Ends};
-    ghost use Rattle.pb_tool.specs.contract.Pieces.{ChecksAt, ChecksOnce, EndsStatement, HoldsOpen, MayGoOn, IsNoReadFault, AllocatesAt, bytes_gone, fault_in, fault_of, is_whole, place_in};
+    ghost use Rattle.pb_tool.specs.contract.Pieces.{ChecksAt, ChecksOnce, EndsStatement, HoldsOpen, MayGoOn, IsNoReadFault, AllocatesAt, bytes_gone, fault_in, fault_of, held_in, is_whole, place_in};
+    ghost use Rattle.pb_tool.specs.contract.Runs.{faults_of_text};
+    ghost use Rattle.pb_tool.specs.engine.Running.{Begins, HasRun, RunsOn};
     ghost use Rattle.pb_tool.specs.declared.commands.check.checker.CheckFault.{CheckFault as ACheckFault};
 
     /// A checker of a proof for the replay, in whatever state the replay is. It stops at a statement that has not ended
@@ -95,10 +97,20 @@ impl Checker {
         ensures place { place_in result ≡ Place.START }
         ensures replay { result.replay ≡ replay }
     {
+        Checker::begin(alloc, replay, longest.unwrap_or(BYTE_LIMIT))
+    }
+
+    /// The same, with a limit.
+    pub(crate) fn begin(alloc: Global, replay: Replay, longest: u64) -> Checker
+        requires { 0 < longest }
+        ensures begins { Begins longest replay result }
+        ensures running { fault_of result ≡ None }
+        ensures place { place_in result ≡ Place.START }
+    {
         replay.report_sound();
         let machine = ProofMachine::new(alloc, replay.limits());
         Checker {
-            feeder: Feeder::within(machine, longest.unwrap_or(BYTE_LIMIT)),
+            feeder: Feeder::within(machine, longest),
             replay,
             fault: None,
         }
@@ -121,7 +133,7 @@ impl Checker {
 
     /// How much of the current statement is stored.
     pub fn held(&self) -> usize
-        ensures kept { result ≡ proofs.kept (state_of self.now.feeder) }
+        ensures kept { result ≡ held_in self.now }
         ensures few { (limits : Limits) (longest : ℕ) (v : Problem) (first : Result State AFault) (input : List ℕ)
             → fault_of self.now ≡ None
             → ChecksAt limits longest v first input self.now
@@ -212,6 +224,47 @@ impl Checker {
             Err(fault) => {
                 self.fault = Some(fault);
                 Err(fault)
+            }
+        }
+    }
+
+    /// Steps through the next statement of a source, and shows it to the watch. After the last one it returns what the
+    /// proof has shown.
+    pub(crate) fn pull<S: Source, V: Watch>(
+        &mut self,
+        input: &mut S,
+        watch: &mut V,
+    ) -> Result<Option<Verdict>, CheckFault>
+        requires { fault_of self.old ≡ None }
+        ensures runs { (longest : ℕ) (began : Replaying) (before : Option (List ℕ)) (since : List ℕ) (unshown : V)
+            → HasRun longest began V.got before since unshown self.old (S.left input.old) (S.history input.old) watch.old
+            → RunsOn longest began V.got before since unshown result self.new (S.left input.new) (S.history input.new) watch.new }
+        ensures fault { fault_of self.new ≡ fault_in result }
+        ensures onward { result ≡ Ok None → (place_in self.old).offset < (place_in self.new).offset }
+        ensures within { result ≡ Ok None → (place_in self.new).offset ≤ 2 ^ 40 }
+        ensures seen { IfErr result (SawText (S.shown input.new) (S.ended input.new)) }
+        ensures faults { S.faults input.new ≡ faults_of_text result (S.faults input.old) }
+    {
+        proofs_are_exact();
+        texts_are_read();
+        reads_are_of_proofs();
+        whole_proofs_conclude();
+        match pull(input, &mut self.feeder) {
+            Ok(Some(read)) => match step_watched(&mut self.replay, read, watch) {
+                Ok(()) => Ok(None),
+                Err(rejected) => {
+                    self.fault = Some(rejected);
+                    Err(rejected)
+                }
+            },
+            Ok(None) => match self.replay.verdict() {
+                Some(verdict) => Ok(Some(verdict)),
+                None => unreachable!(),
+            },
+            Err(stop) => {
+                let stopped = CheckFault::Text(stop);
+                self.fault = Some(stopped);
+                Err(stopped)
             }
         }
     }

@@ -8,9 +8,9 @@ none_of (Some x) h = absurd (h x refl)
 
 pub invariant_of-self : goal.invariant_of-self
 invariant_of-self c =
-    let (limits, longest, v, first, input, h) = c.self.invariant in
+    let (limits, longest, v, first, input, asks, h) = c.self.invariant in
     let t = rw c.in-Err.is at c.feed.ensures in
-    (limits, longest, v, first, _, checked.halted c.texts_are_read.ensures limits longest v first input c.self.inside.feeder c.self.inside.replay c.self.inside.fault (rw (← c.self.view_is) at c.requires) h c.args.piece.now c.feed.new.self c.in-Err.stop t.feeds t.stop)
+    (limits, longest, v, first, _, asks, checked.halted c.texts_are_read.ensures limits longest v first input c.self.inside.feeder c.self.inside.replay c.self.inside.fault (rw (← c.self.view_is) at c.requires) h c.args.piece.now c.feed.new.self c.in-Err.stop t.feeds t.stop)
 
 pub returns-in-Err-clause-stands : goal.returns-in-Err-clause-stands
 returns-in-Err-clause-stands c limits longest v first input h =
@@ -19,9 +19,9 @@ returns-in-Err-clause-stands c limits longest v first input h =
 
 pub invariant_of-self-in_default : goal.invariant_of-self-in_default
 invariant_of-self-in_default c =
-    let (limits, longest, v, first, input, h) = c.self.invariant in
+    let (limits, longest, v, first, input, asks, h) = c.self.invariant in
     let t = rw c.in-Ok.is at c.feed.ensures in
-    (limits, longest, v, first, _, checked.quiet c.texts_are_read.ensures limits longest v first input c.self.inside.feeder c.self.inside.replay c.self.inside.fault (rw (← c.self.view_is) at c.requires) h c.args.piece.now c.feed.new.self c.in-Ok.fed (none_of c.in-Ok.fed.event c.in_default.not-Some) t.feeds t.stop)
+    (limits, longest, v, first, _, asks, checked.quiet c.texts_are_read.ensures limits longest v first input c.self.inside.feeder c.self.inside.replay c.self.inside.fault (rw (← c.self.view_is) at c.requires) h c.args.piece.now c.feed.new.self c.in-Ok.fed (none_of c.in-Ok.fed.event c.in_default.not-Some) t.feeds t.stop)
 
 pub returns-in_default-clause-stands : goal.returns-in_default-clause-stands
 returns-in_default-clause-stands c limits longest v first input h =
@@ -30,23 +30,23 @@ returns-in_default-clause-stands c limits longest v first input h =
 
 pub step_watched-requires : goal.step_watched-requires
 step_watched-requires c =
-    let (limits, longest, v, first, input, h) = c.self.invariant in
+    let (limits, longest, v, first, input, asks, h) = c.self.invariant in
     let t = rw c.in-Ok.is at c.feed.ensures in
     rw c.in-Some.is (checked.is_value c.texts_are_read.ensures limits longest v first input c.self.inside.feeder c.self.inside.replay c.self.inside.fault (rw (← c.self.view_is) at c.requires) h c.args.piece.now c.feed.new.self c.in-Ok.fed c.in-Some.read c.in-Some.is t.feeds t.stop c.reads_are_of_proofs.ensures)
 
 pub invariant_of-self-in-Ok-step_watched : goal.invariant_of-self-in-Ok-step_watched
 invariant_of-self-in-Ok-step_watched c =
-    let (limits, longest, v, first, input, h) = c.self.invariant in
+    let (limits, longest, v, first, input, asks, h) = c.self.invariant in
     let t = rw c.in-Ok.is at c.feed.ensures in
     let u = rw (c.in-Ok-step_watched.is, c.in-Some.is) at c.step_watched.ensures in
-    (limits, longest, v, first, _, checked.stepped c.texts_are_read.ensures limits longest v first input c.self.inside.feeder c.self.inside.replay c.self.inside.fault (rw (← c.self.view_is) at c.requires) h c.args.piece.now c.feed.new.self c.in-Ok.fed c.in-Some.read c.in-Some.is t.feeds t.stop c.step_watched.new.replay u.steps u.limits u.problem)
+    (limits, longest, v, first, _, asks, checked.stepped c.texts_are_read.ensures limits longest v first input c.self.inside.feeder c.self.inside.replay c.self.inside.fault (rw (← c.self.view_is) at c.requires) h c.args.piece.now c.feed.new.self c.in-Ok.fed c.in-Some.read c.in-Some.is t.feeds t.stop c.step_watched.new.replay u.steps u.limits u.problem)
 
 pub invariant_of-self-in-Err-step_watched : goal.invariant_of-self-in-Err-step_watched
 invariant_of-self-in-Err-step_watched c =
-    let (limits, longest, v, first, input, h) = c.self.invariant in
+    let (limits, longest, v, first, input, asks, h) = c.self.invariant in
     let t = rw c.in-Ok.is at c.feed.ensures in
     let u = rw (c.in-Err-step_watched.is, c.in-Some.is) at c.step_watched.ensures in
-    (limits, longest, v, first, _, checked.refused c.texts_are_read.ensures limits longest v first input c.self.inside.feeder c.self.inside.replay c.self.inside.fault (rw (← c.self.view_is) at c.requires) h c.args.piece.now c.feed.new.self c.in-Ok.fed c.in-Some.read c.in-Some.is t.feeds t.stop c.step_watched.new.replay c.in-Err-step_watched.fault u.steps u.names u.unvalued)
+    (limits, longest, v, first, _, asks, checked.refused c.texts_are_read.ensures limits longest v first input c.self.inside.feeder c.self.inside.replay c.self.inside.fault (rw (← c.self.view_is) at c.requires) h c.args.piece.now c.feed.new.self c.in-Ok.fed c.in-Some.read c.in-Some.is t.feeds t.stop c.step_watched.new.replay c.in-Err-step_watched.fault u.steps u.names u.unvalued)
 
 pub returns-in-Ok-step_watched-clause-stands : goal.returns-in-Ok-step_watched-clause-stands
 returns-in-Ok-step_watched-clause-stands c limits longest v first input h =
@@ -62,18 +62,21 @@ returns-in-Err-step_watched-clause-stands c limits longest v first input h =
 
 pub returns-in-Err-clause-unread : goal.returns-in-Err-clause-unread
 returns-in-Err-clause-unread c =
-    let (limits, longest, v, first, input, h) = c.self.invariant in
+    let (limits, longest, v, first, input, asks, h) = c.self.invariant in
     let t = rw c.in-Err.is at c.feed.ensures in
     t.unread (checked.running_text c.texts_are_read.ensures limits longest v first input c.self.inside.feeder c.self.inside.replay c.self.inside.fault (rw (← c.self.view_is) at c.requires) h)
 
 pub returns-in-Err-clause-memory : goal.returns-in-Err-clause-memory
 returns-in-Err-clause-memory c limits longest v first input h =
     let t = rw c.in-Err.is at c.feed.ensures in
-    checked.wanted c.texts_are_read.ensures limits longest v first input c.self.inside.feeder c.self.inside.replay c.self.inside.fault (rw (← c.self.view_is) at c.requires) (rw (← c.self.view_is) at h) c.args.piece.now c.feed.new.self c.in-Err.stop t.feeds t.stop
+    let none = rw (← c.self.view_is) at c.requires in
+    let here = rw (← c.self.view_is) at h in
+    let asks = checked.asks_here c.self.inside.feeder c.self.inside.replay c.self.inside.fault none c.self.invariant limits longest v first input here in
+    checked.wanted c.texts_are_read.ensures limits longest v first input c.self.inside.feeder c.self.inside.replay c.self.inside.fault none here c.args.piece.now c.feed.new.self asks c.in-Err.stop t.feeds t.stop
 
 pub returns-in-Err-step_watched-clause-unread : goal.returns-in-Err-step_watched-clause-unread
 returns-in-Err-step_watched-clause-unread c =
-    let (limits, longest, v, first, input, h) = c.self.invariant in
+    let (limits, longest, v, first, input, asks, h) = c.self.invariant in
     let t = rw c.in-Ok.is at c.feed.ensures in
     let u = rw (c.in-Err-step_watched.is, c.in-Some.is) at c.step_watched.ensures in
     checked.unread_step c.texts_are_read.ensures limits longest v first input c.self.inside.feeder c.self.inside.replay c.self.inside.fault (rw (← c.self.view_is) at c.requires) h c.args.piece.now c.feed.new.self c.in-Ok.fed c.in-Some.read c.in-Some.is t.feeds t.stop c.step_watched.new.replay c.in-Err-step_watched.fault u.steps

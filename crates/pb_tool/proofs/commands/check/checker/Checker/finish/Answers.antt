@@ -4,18 +4,19 @@ use Rattle.pb_tool.proofs.commands.check.checker.Checker.finish.Goals as goal
 
 pub unreachable-requires : goal.unreachable-requires
 unreachable-requires c =
-    let (limits, longest, v, first, input, h) = c.self.invariant in
+    let (limits, longest, v, first, input, asks, h) = c.self.invariant in
     checked.no_verdict c.texts_are_read.ensures limits longest v first input c.self.inside.feeder c.self.inside.replay c.self.inside.fault c.in_default.is h
     c.whole_proofs_conclude.ensures (sym c.is_done.ensures.done ∙ c.if-is_done.true) (sym c.in-None.is ∙ c.verdict.ensures.verdict)
 
 pub invariant_of-self : goal.invariant_of-self
 invariant_of-self c =
-    let (limits, longest, v, first, input, h) = c.self.invariant in (
+    let (limits, longest, v, first, input, asks, h) = c.self.invariant in (
       limits,
       longest,
       v,
       first,
       input,
+      asks,
       rw c.place.ensures.place (checked.cut_text c.texts_are_read.ensures limits longest v first input c.self.inside.feeder c.self.inside.replay c.self.inside.fault c.in_default.is h
           (sym c.is_done.ensures.done ∙ c.if-is_done.false)),
     )

@@ -1,8 +1,10 @@
-use Rattle.std.proofs.Common.{[], refl}
-use Rattle.pb_tool.proofs.lemmas.check.CheckerSteps.{leads_none, somewhere}
+use Rattle.pb_tool.proofs.lemmas.check.CheckerSteps.{begun_checks}
 use Rattle.pb_tool.proofs.commands.check.checker.Checker.new.Goals as goal
 
-pub invariant_of-result : goal.invariant_of-result
-invariant_of-result c =
-    let (first, at) = somewhere c.args.replay c.report_sound.ensures.sound in
-    (c.args.replay.limits, _, c.args.replay.problem, first, [], record { spans = []; stands = rw (c.new-machine.ensures.begins, c.limits.ensures) at c.within.ensures.stands; running = c.within.ensures.running; limits_are = refl; problem = refl; now = first; at = at; accepted = leads_none c.args.replay.limits c.args.replay.problem first })
+pub returns-clause-stands : goal.returns-clause-stands
+returns-clause-stands c first at =
+    let begins = rw c.unwrap_or.ensures at c.begin.ensures.begins in
+    begun_checks _ c.args.replay c.begin.result begins c.begin.ensures.running first at
+
+pub returns-clause-replay : goal.returns-clause-replay
+returns-clause-replay c = c.begin.ensures.begins.replay

@@ -1,0 +1,17 @@
+use Rattle.std.proofs.Common.{[], ap, refl}
+use Rattle.pb_text.specs.declared.Place.{Place}
+use Rattle.pb_tool.proofs.lemmas.check.CheckerSteps.{leads_none, somewhere}
+use Rattle.pb_tool.proofs.commands.check.checker.Checker.begin.Goals as goal
+
+pub invariant_of-result : goal.invariant_of-result
+invariant_of-result c =
+    let (first, at) = somewhere c.args.replay c.report_sound.ensures.sound in
+    (c.args.replay.limits, _, c.args.replay.problem, first, [], rw (c.new-machine.ensures.begins, c.limits.ensures) at c.new-machine.ensures.asks, record { spans = []; stands = rw (c.new-machine.ensures.begins, c.limits.ensures) at c.within.ensures.stands; running = c.within.ensures.running; limits_are = refl; problem = refl; now = first; at = at; accepted = leads_none c.args.replay.limits c.args.replay.problem first })
+
+pub returns-clause-begins : goal.returns-clause-begins
+returns-clause-begins c = record {
+  stands = rw (c.new-machine.ensures.begins, c.limits.ensures) at c.within.ensures.stands;
+  running = c.within.ensures.running;
+  start = ap (λ (p : Place). p.offset) c.within.ensures.place;
+  replay = refl;
+}

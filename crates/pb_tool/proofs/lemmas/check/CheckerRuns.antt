@@ -1,0 +1,217 @@
+-- A checker that pulls a statement from a source, and steps through it.
+use Rattle.std.proofs.Common.{◌≡◌, ℕ, ◌≤◌, ◌^◌, List, [], ◌∷◌, ◌++◌, length, Bool, true, Option, Some, None, Result, Ok, Err, refl, sym, ap, ◌∙◌, subst, append-nil, arith}
+use Rattle.pb_text.specs.contract.Feeding.{StandsAt, place_of, halt_of, stop_of, is_complete}
+use Rattle.pb_text.specs.contract.Standing.{IsOpen as IsOpenText}
+use Rattle.pb_text.specs.engine.SpentBytes.{end_of}
+use Rattle.pb_text.specs.meaning.Limits.{largest, top_of}
+use Rattle.pb_text.specs.meaning.Pulling.{OfGiven, Pulls}
+use Rattle.pb_text.specs.meaning.PullsInARow.{PullsOn}
+use Rattle.pb_text.specs.meaning.Spelling.{bytes}
+use Rattle.pb_text.specs.declared.Limits.{Limits}
+use Rattle.pb_text.specs.declared.Place.{Place}
+use Rattle.pb_text.specs.declared.Spanned.{Spanned}
+use Rattle.pb_text.specs.declared.Stop.{Stop}
+use Rattle.pb_text.proofs.lemmas.text.Lists.{length-bytes}
+use Rattle.pb_text.proofs.lemmas.text.Short.{end_limit, place_after-offset}
+use Rattle.pb_proof.specs.contract.Formats.{ReadsProofs}
+use Rattle.pb_proof.specs.contract.ValueLaws.{ReadStatements}
+use Rattle.pb_proof.specs.contract.Values.{IsStatementValue}
+use Rattle.pb_proof.specs.engine.Machine.State.{ProofState, begin}
+use Rattle.pb_proof.specs.declared.Statement.{Statement}
+use Rattle.pb_replay.specs.contract.Laws.{WholeProofsConclude}
+use Rattle.pb_replay.specs.contract.ReplayModel.{Replaying, StandsFor, verdict_in}
+use Rattle.pb_replay.specs.meaning.Meaning.{IsNamePrefix}
+use Rattle.pb_replay.specs.meaning.Problem.{Problem}
+use Rattle.pb_replay.specs.meaning.Replay.{State}
+use Rattle.pb_replay.specs.declared.fault.Fault.{Fault}
+use Rattle.pb_replay.specs.declared.verdict.Verdict.{Verdict}
+use Rattle.pb_tool.specs.contract.Checker.{Checking, ProofFeeder, AsksAsText, IsAt, IsSomewhere, ChecksSoFar, StepsFrom, TextsAreRead}
+use Rattle.pb_tool.specs.contract.Runs.{faults_of_text}
+use Rattle.pb_tool.specs.contract.Seen.{SawText}
+use Rattle.pb_tool.specs.contract.Watched.{Call, Accepted, Rejected}
+use Rattle.pb_tool.specs.engine.Running.{Begins, HasRun, HasShown, RunsTo}
+use Rattle.pb_tool.specs.declared.commands.check.checker.CheckFault.{CheckFault}
+use Rattle.pb_tool.specs.declared.commands.check.checker.CheckFault.TheVariants as check
+use Rattle.pb_tool.proofs.lemmas.check.CheckerSteps as checked
+use Rattle.pb_tool.proofs.lemmas.check.CheckerSteps.{ReportsOld, running_at}
+use Rattle.pb_tool.proofs.lemmas.check.GivenProof.{given_ended, given_step, given_stopped}
+use Rattle.pb_tool.proofs.lemmas.check.ReplayRuns as replayed
+use Rattle.pb_tool.proofs.lemmas.check.WatchCalls.{shown_ended, shown_ended_given, shown_first, shown_next, shown_rejected, shown_rejected_given, shown_stopped, shown_stopped_given}
+use Rattle.pb_tool.proofs.lemmas.show.GivenStatements.{given_next, given_row, given_so_far}
+use Rattle.pb_tool.proofs.lemmas.show.ShownStatements.{first_pull}
+
+-- what a pull ensures, whatever the feeder was fed before
+abbrev pub PullsFrom : ProofFeeder → Option (List ℕ) → Result (Option (Spanned Statement)) Stop → ProofFeeder → Option (List ℕ) → List ℕ → List ℕ → Type 0
+PullsFrom f left result n rest given given' =
+    (longest : ℕ) (start : ProofState) (input : List ℕ) (spans : List (Spanned Statement)) → IsOpenText (halt_of f) → StandsAt longest start input spans f → Pulls longest start input spans f left result n rest given given'
+
+-- the result of a step, from any state of the replay
+abbrev Answers : Replaying → Spanned Statement → Result Unit CheckFault → Replaying → Type 0
+Answers old m result new = (before : Result State Fault) → IsAt old before → StepsFrom old.limits old.problem before m result new
+
+-- what was read ends within the limit on all bytes
+pub in_reach : (longest : ℕ) (start : ProofState) (input : List ℕ) (spans : List (Spanned Statement)) (f : ProofFeeder) → StandsAt longest start input spans f → (place_of f).offset ≤ 2 ^ 40
+in_reach longest start input spans f s =
+    let k = s.1 in
+    let offset : (place_of f).offset ≡ length (bytes k.letters) = ap (λ (p : Place). p.offset) k.place_is ∙ place_after-offset (bytes k.letters) in
+    let limit : end_of longest f.first ≤ 2 ^ 40 = end_limit longest f.first in
+    omega (arith, offset, length-bytes k.letters, k.within, limit)
+
+-- ---- a checker is still one that was fed some text
+
+module _ (read : TextsAreRead) (f : ProofFeeder) (r : Replaying) (e : Option CheckFault) (none : e ≡ None) (n : ProofFeeder) (left rest : Option (List ℕ)) (given given' : List ℕ) where
+  pub stopped_somewhere : IsSomewhere f r e → (s : Stop) → PullsFrom f left (Err s) n rest given given' → halt_of n ≡ Some s → IsSomewhere n r (Some (check.Text s))
+  stopped_somewhere (limits, longest, v, first, input, asks, h) s pulls halts =
+      let here = running_at limits longest v first input f r e none h in
+      let p = pulls longest (begin (largest limits) (top_of limits)) input here.spans (subst IsOpenText (sym here.running) tt) here.stands in
+      (limits, longest, v, first, input ++ (p.taken ++ p.seen), asks, checked.halted_on read limits longest v first input f r e none h (p.taken ++ p.seen) n s (rw append-nil at p.stands) halts)
+
+  -- the proof has ended
+  ended_so_far : (limits : Limits) (longest : ℕ) (v : Problem) (first : Result State Fault) (input : List ℕ) → ChecksSoFar limits longest v first input f r e → PullsFrom f left (Ok None) n rest given given' → halt_of n ≡ None → (more : List ℕ) × ChecksSoFar limits longest v first more n r e
+  ended_so_far limits longest v first input h pulls running =
+      let here = running_at limits longest v first input f r e none h in
+      let p = pulls longest (begin (largest limits) (top_of limits)) input here.spans (subst IsOpenText (sym here.running) tt) here.stands in
+      (input ++ (p.taken ++ p.seen), checked.quiet_on read limits longest v first input f r e none h (p.taken ++ p.seen) n (rw append-nil at p.stands) running)
+
+  pub ended_somewhere : IsSomewhere f r e → PullsFrom f left (Ok None) n rest given given' → halt_of n ≡ None → IsSomewhere n r e
+  ended_somewhere (limits, longest, v, first, input, asks, h) pulls running =
+      let (more, so_far) = ended_so_far limits longest v first input h pulls running in
+      (limits, longest, v, first, more, asks, so_far)
+
+  -- at its end there is a verdict
+  pub ends_with_verdict : IsSomewhere f r e → PullsFrom f left (Ok None) n rest given given' → halt_of n ≡ None → WholeProofsConclude → is_complete n ≡ true → None ≡ verdict_in r → ⊥
+  ends_with_verdict (limits, longest, v, first, input, asks, h) pulls running whole done is =
+      let (more, so_far) = ended_so_far limits longest v first input h pulls running in
+      checked.no_verdict read limits longest v first more n r e none so_far whole done is
+
+  module _ (m : Spanned Statement) (pulls : PullsFrom f left (Ok (Some m)) n rest given given') (running : halt_of n ≡ None) where
+    pub value_here : IsSomewhere f r e → ReadStatements → IsStatementValue (largest r.limits) (top_of r.limits) m.event
+    value_here (limits, longest, v, first, input, asks, h) values =
+        let here = running_at limits longest v first input f r e none h in
+        let p = pulls longest (begin (largest limits) (top_of limits)) input here.spans (subst IsOpenText (sym here.running) tt) here.stands in
+        checked.value_on read limits longest v first input f r e none h p.taken n m p.stands running values
+
+    pub within_reach : IsSomewhere f r e → (place_of n).offset ≤ 2 ^ 40
+    within_reach (limits, longest, v, first, input, asks, h) =
+        let here = running_at limits longest v first input f r e none h in
+        let p = pulls longest (begin (largest limits) (top_of limits)) input here.spans (subst IsOpenText (sym here.running) tt) here.stands in
+        in_reach longest (begin (largest limits) (top_of limits)) (input ++ p.taken) (here.spans ++ m ∷ []) n p.stands
+
+    pub stepped_somewhere : IsSomewhere f r e → (t : Replaying) → Answers r m (Ok tt) t → t.limits ≡ r.limits → t.problem ≡ r.problem → IsSomewhere n t e
+    stepped_somewhere (limits, longest, v, first, input, asks, h) t steps limited problem =
+        let here = running_at limits longest v first input f r e none h in
+        let p = pulls longest (begin (largest limits) (top_of limits)) input here.spans (subst IsOpenText (sym here.running) tt) here.stands in
+        (limits, longest, v, first, input ++ p.taken, asks, checked.stepped_on read limits longest v first input f r e none h p.taken n m p.stands running t steps limited problem)
+
+    pub refused_somewhere : IsSomewhere f r e → (t : Replaying) (x : CheckFault) → Answers r m (Err x) t → IsNamePrefix r.names t.names → ReportsOld r x → IsSomewhere n t (Some x)
+    refused_somewhere (limits, longest, v, first, input, asks, h) t x steps names reports =
+        let here = running_at limits longest v first input f r e none h in
+        let p = pulls longest (begin (largest limits) (top_of limits)) input here.spans (subst IsOpenText (sym here.running) tt) here.stands in
+        (limits, longest, v, first, (input ++ p.taken) ++ [], asks, checked.refused_on read limits longest v first input f r e none h p.taken n m p.stands running [] t x steps names reports)
+
+-- ---- what a step says that needs no text
+
+-- the feeder had not stopped
+pub was_running : (f : ProofFeeder) (r : Replaying) (e : Option CheckFault) → e ≡ None → IsSomewhere f r e → halt_of f ≡ None
+was_running f r e none (limits, longest, v, first, input, asks, h) = (running_at limits longest v first input f r e none h).running
+
+-- what it knows of the bytes that may allocate
+pub asks_now : (f : ProofFeeder) (r : Replaying) (e : Option CheckFault) → e ≡ None → IsSomewhere f r e → AsksAsText r.limits
+asks_now f r e none (limits, longest, v, first, input, asks, h) = subst AsksAsText (sym (running_at limits longest v first input f r e none h).limits_are) asks
+
+module _ (f : ProofFeeder) (r : Replaying) (e : Option CheckFault) (none : e ≡ None) (m : Spanned Statement) (t : Replaying) where
+  -- an accepted statement leaves the replay without a fault
+  pub unspent_on : IsSomewhere f r e → Answers r m (Ok tt) t → t.fault ≡ None
+  unspent_on (limits, longest, v, first, input, asks, h) steps =
+      let here = running_at limits longest v first input f r e none h in
+      (steps here.now here.at).1.0
+
+  module _ (x : CheckFault) (steps : Answers r m (Err x) t) where
+    -- a rejected statement is not a text that stopped the reader
+    pub unseen_on : IsSomewhere f r e → (shown : Option ℕ) (ended : Bool) → SawText shown ended x
+    unseen_on (limits, longest, v, first, input, asks, h) shown ended =
+        let here = running_at limits longest v first input f r e none h in
+        let (why, is, refuses) = steps here.now here.at in
+        subst (SawText shown ended) (sym is) tt
+
+    pub faults_on : (A : Type 0) → IsSomewhere f r e → (k l : ℕ) → k ≡ l → k ≡ faults_of_text {A = A} (Err x) l
+    faults_on A (limits, longest, v, first, input, asks, h) k l same =
+        let here = running_at limits longest v first input f r e none h in
+        let (why, is, refuses) = steps here.now here.at in
+        subst (λ (y : CheckFault). k ≡ faults_of_text {A = A} (Err y) l) (sym is) same
+
+-- ---- a run through the statements of a source
+
+-- nothing was pulled yet
+pub run_begins : (longest : ℕ) (began : Replaying) {V : Type 0} (got : V → Call → V → Type 0) (c : Checking) → Begins longest began c → c.replay.fault ≡ None → (left : Option (List ℕ)) (given : List ℕ) (old : V) → HasRun longest began got left given old c left given old
+run_begins longest began {V} got c b unspent left given old = record {
+  spans = [];
+  unspent = unspent;
+  limited = ap (λ (x : Replaying). x.limits) b.replay;
+  problem = ap (λ (x : Replaying). x.problem) b.replay;
+  pulled = first_pull longest (begin (largest began.limits) (top_of began.limits)) left c.feeder b.stands b.running b.start;
+  led = λ first at. (first, subst (λ (x : Replaying). StandsFor x first) (sym b.replay) at, refl);
+  given = ([], sym (append-nil given), b.start, b.stands, b.running);
+  shown = subst (λ (x : Replaying). HasShown got old began [] old x) (sym b.replay) (shown_first got old began);
+}
+
+abbrev start_of : Replaying → ProofState
+start_of began = begin (largest began.limits) (top_of began.limits)
+
+module _ (exact : ReadsProofs) (longest : ℕ) (began : Replaying) {V : Type 0} (got : V → Call → V → Type 0) (before : Option (List ℕ)) (since : List ℕ) (old : V)
+    (f : ProofFeeder) (r : Replaying) (e : Option CheckFault) (left : Option (List ℕ)) (given : List ℕ) (mid : V) (i : HasRun longest began got before since old (record { feeder = f; replay = r; fault = e }) left given mid)
+    (n : ProofFeeder) (rest : Option (List ℕ)) (given' : List ℕ) where
+  -- one more pull is part of a read of what the calls have given
+  row_given : (result : Result (Option (Spanned Statement)) Stop) → PullsFrom f left result n rest given given' → halt_of n ≡ stop_of result → (result ≡ Ok None → is_complete n ≡ true) → ((m : Spanned Statement) → result ≡ Ok (Some m) → m.past ≡ place_of n)
+      → OfGiven (λ text end. PullsOn longest (start_of began) text i.spans result n end) since given'
+  row_given result pulls stop last past =
+      given_row longest (start_of began) since given given' i.spans f n i.given left rest result (pulls longest (start_of began) i.given.0 i.spans (subst IsOpenText (sym i.given.4) tt) i.given.3) stop last past
+
+  -- one statement more
+  pub runs_more : (m : Spanned Statement) → PullsOn longest (start_of began) before i.spans (Ok (Some m)) n rest → PullsFrom f left (Ok (Some m)) n rest given given' → halt_of n ≡ None → (t : Replaying) → t.fault ≡ None → Answers r m (Ok tt) t → t.limits ≡ r.limits → t.problem ≡ r.problem
+      → (new : V) → got mid (Accepted m t) new → HasRun longest began got before since old (record { feeder = n; replay = t; fault = e }) rest given' new
+  runs_more m row pulls running t unspent steps limited problem new call = record {
+    spans = i.spans ++ m ∷ [];
+    unspent = unspent;
+    limited = limited ∙ i.limited;
+    problem = problem ∙ i.problem;
+    pulled = row.0;
+    led = λ first at. replayed.led_more exact began.limits longest before rest began.problem first r i.spans (i.led first at) i.unspent t m i.limited i.problem steps;
+    given = given_next longest (start_of began) since given given' i.spans f n i.given left rest m (pulls longest (start_of began) i.given.0 i.spans (subst IsOpenText (sym i.given.4) tt) i.given.3) running;
+    shown = shown_next got old began i.spans mid r i.shown m t new i.unspent i.limited i.problem steps call;
+  }
+
+  -- a rejected statement
+  pub runs_refused : (m : Spanned Statement) → PullsOn longest (start_of began) before i.spans (Ok (Some m)) n rest → PullsFrom f left (Ok (Some m)) n rest given given' → halt_of n ≡ None → ((k : Spanned Statement) → ◌≡◌ {A = Result (Option (Spanned Statement)) Stop} (Ok (Some m)) (Ok (Some k)) → k.past ≡ place_of n)
+      → (t : Replaying) (x : CheckFault) → Answers r m (Err x) t → IsNamePrefix r.names t.names → ReportsOld r x → (new : V) → got mid (Rejected m t x) new → RunsTo longest began got before since old (Err x) t rest given' new
+  runs_refused m row pulls running past t x steps names reports new call first at =
+      let so_far = given_so_far longest (start_of began) since given given' i.spans f n i.given left rest m (row_given (Ok (Some m)) pulls running (λ is. absurd (cc is)) past) in
+      record {
+        runs = replayed.refused_run exact began.limits longest before rest began.problem first r i.spans (i.led first at) i.unspent t m i.limited i.problem x steps names reports row.1;
+        given = given_step exact began.limits longest since given' began.problem first r i.spans (i.led first at) t i.unspent m i.limited i.problem x steps names reports so_far;
+        shown = shown_rejected got old began i.spans mid r i.shown m t new i.unspent i.limited i.problem exact longest first at x before rest steps names reports call row.1;
+        shown_given = shown_rejected_given got old began i.spans mid r i.shown m t new i.unspent i.limited i.problem exact longest first at x since given' steps names reports call so_far;
+      }
+
+  -- a text that stopped
+  pub runs_stopped : AsksAsText began.limits → (s : Stop) → PullsOn longest (start_of began) before i.spans (Err s) n rest → PullsFrom f left (Err s) n rest given given' → halt_of n ≡ Some s → RunsTo longest began got before since old (Err (check.Text s)) r rest given' mid
+  runs_stopped asks s row pulls halts first at =
+      let all = row_given (Err s) pulls halts (λ is. absurd (cc is)) (λ m is. absurd (cc is)) in
+      record {
+        runs = replayed.stopped exact began.limits longest before rest began.problem first r i.spans (i.led first at) asks s row;
+        given = given_stopped exact began.limits longest since given' began.problem first r i.spans (i.led first at) r asks s all;
+        shown = shown_stopped got old began exact longest first at i.spans mid r i.shown before rest s row;
+        shown_given = shown_stopped_given got old began exact longest first at i.spans mid r i.shown since given' s all;
+      }
+
+  -- a proof that has ended
+  pub runs_ended : (w : Verdict) → Some w ≡ verdict_in r → PullsOn longest (start_of began) before i.spans (Ok None) n rest → PullsFrom f left (Ok None) n rest given given' → halt_of n ≡ None → is_complete n ≡ true
+      → RunsTo longest began got before since old (Ok (w, place_of n)) r rest given' mid
+  runs_ended w is row pulls running done first at =
+      let all = row_given (Ok None) pulls running (λ _. done) (λ m bad. absurd (cc bad)) in
+      record {
+        runs = replayed.ended exact began.limits longest before rest began.problem first r i.spans (i.led first at) i.unspent (place_of n) w row is;
+        given = given_ended exact began.limits longest since given' began.problem first r i.spans (i.led first at) r i.unspent (place_of n) (place_of n) w refl is all;
+        shown = shown_ended got old began exact longest first at i.spans mid r i.shown before rest (place_of n) (place_of n) w refl row;
+        shown_given = shown_ended_given got old began exact longest first at i.spans mid r i.shown since given' (place_of n) (place_of n) w refl all;
+      }
