@@ -5,12 +5,13 @@ _pb() {
         mapfile -t COMPREPLY < <(compgen -W 'check trace tidy show help --help --version' -- "$word")
     elif [ "$command" = help ]; then
         mapfile -t COMPREPLY < <(compgen -W 'check trace tidy show' -- "$word")
-    elif [ "$before" = --longest ] || [ "$before" = --bits ]; then
+    elif [[ $before =~ ^--(longest|bits|last|from|to)$ ]]; then
         COMPREPLY=()
     elif [[ $word == -* ]]; then
         local options='--longest --bits --quiet --help'
         [ "$command" = tidy ] && options="$options --normal"
-        [ "$command" = check ] && options="$options --stats --progress"
+        [ "$command" = check ] && options="$options --stats --progress --explain"
+        [ "$command" = trace ] && options="$options --last --from --to --ids --progress"
         mapfile -t COMPREPLY < <(compgen -W "$options" -- "$word")
     else
         mapfile -t COMPREPLY < <(compgen -f -- "$word")

@@ -6,12 +6,17 @@ ghost use Rattle.pb_words.specs.Words.{HasRanges};
 mod answers;
 mod arguments;
 mod asked;
+mod both;
 mod checking;
+mod described;
+mod explaining;
 mod failure;
 mod hints;
 mod inputs;
 mod origin;
 mod output;
+mod recent;
+mod recorded;
 mod texts;
 mod tied;
 mod tracing;
@@ -22,11 +27,12 @@ use crate::answers::{USAGE, answer_fault};
 use crate::arguments::{answer_no_words, answer_words, job_of, words_of};
 use crate::asked::{is_quiet, reads_one_input_twice};
 use crate::checking::check_asked;
+use crate::explaining::{can_repeat, write_reasons};
 use crate::failure::Failure;
 use crate::hints::{write_hint, write_waiting};
 use crate::inputs::{open_both, opened, path_of, size_of};
 use crate::texts::{show_over, tidy_over};
-use crate::tracing::trace_over;
+use crate::tracing::trace_asked;
 use crate::watching::Asked;
 use pb_tool::{Input, Job, limits_of};
 use std::io::{self, IsTerminal, Read, Write};
@@ -90,6 +96,7 @@ where
         Ok(()) => 0,
         Err(failure) => {
             let status = answer_fault(&failure.fault, errors);
+            write_reasons(rt, standard, job, &failure, errors);
             if !is_quiet(job) {
                 write_hint(rt, job, &failure, errors);
             }
@@ -140,6 +147,7 @@ where
             proof,
             stats,
             progress,
+            explain,
             longest,
             bits,
             ..
@@ -147,6 +155,7 @@ where
             let asked = Asked {
                 stats: *stats,
                 progress: *progress,
+                explain: *explain && !can_repeat(rt, instance.as_str(), proof),
                 is_terminal: errors.is_terminal(),
                 bytes: size_of(rt, path_of(proof)),
             };
@@ -156,12 +165,22 @@ where
         Job::Trace {
             instance,
             proof,
+            selection,
+            progress,
             longest,
             bits,
             ..
         } => {
+            let asked = Asked {
+                stats: false,
+                progress: *progress,
+                explain: false,
+                is_terminal: errors.is_terminal(),
+                bytes: size_of(rt, path_of(proof)),
+            };
             let texts = open_both(rt, standard, instance.as_str(), path_of(proof))?;
-            trace_over(rt, texts, io::writer(rt), *longest, limits_of(*bits))?;
+            let limits = limits_of(*bits);
+            trace_asked(rt, texts, *selection, *longest, limits, asked, errors)?;
         }
     }
     Ok(())

@@ -18,6 +18,8 @@ pub(crate) struct Asked {
     pub(crate) stats: bool,
     /// A line on how far the check is.
     pub(crate) progress: bool,
+    /// The reasons of a rejection, found while the check runs.
+    pub(crate) explain: bool,
     /// Whether standard error is a terminal, where that line is written over.
     pub(crate) is_terminal: bool,
     /// The bytes of the proof, if its size is known.

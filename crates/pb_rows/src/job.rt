@@ -5,7 +5,7 @@ use crate::name::lines_of;
 use crate::page::{Done, Page, answered, page, report_count, report_either};
 use clap::error::ErrorKind;
 use pb_text::write_bytes;
-use pb_words::{Job, WordsFault, read_words};
+use pb_words::{Job, Selection, WordsFault, read_words};
 use std::alloc::Global;
 
 /// Reads the lines of the input as the words of a command line. Reports the job that they ask for, or else the kind of
@@ -49,6 +49,7 @@ fn report_job(job: &Job, reported: &mut Page) -> Result<(), Broken> {
             proof,
             stats,
             progress,
+            explain,
             longest,
             bits,
             quiet,
@@ -56,16 +57,21 @@ fn report_job(job: &Job, reported: &mut Page) -> Result<(), Broken> {
             report_files(b"check instance=", instance.as_str(), proof, reported)?;
             report_either(*stats, b" stats", b"", reported)?;
             report_either(*progress, b" progress", b"", reported)?;
+            report_either(*explain, b" explain", b"", reported)?;
             report_flags(*longest, *bits, *quiet, reported)
         }
         Job::Trace {
             instance,
             proof,
+            selection,
+            progress,
             longest,
             bits,
             quiet,
         } => {
             report_files(b"trace instance=", instance.as_str(), proof, reported)?;
+            report_selection(*selection, reported)?;
+            report_either(*progress, b" progress", b"", reported)?;
             report_flags(*longest, *bits, *quiet, reported)
         }
     }
@@ -92,6 +98,24 @@ fn report_name(label: &[u8], name: &Option<String>, reported: &mut Page) -> Resu
     Ok(())
 }
 
+/// Reports what a trace selects.
+fn report_selection(selection: Selection, reported: &mut Page) -> Result<(), Broken> {
+    report_number(b" last=", selection.last, reported)?;
+    report_number(b" from=", selection.from, reported)?;
+    report_number(b" to=", selection.to, reported)?;
+    report_either(selection.ids, b" ids", b"", reported)?;
+    Ok(())
+}
+
+/// Reports a number after a label, if there is one.
+fn report_number(label: &[u8], number: Option<u64>, reported: &mut Page) -> Result<(), Broken> {
+    if let Some(number) = number {
+        write_bytes(label, reported)?;
+        report_count(number, b"", reported)?;
+    }
+    Ok(())
+}
+
 /// Reports the flags that each job has.
 fn report_flags(
     longest: Option<u64>,
@@ -99,10 +123,7 @@ fn report_flags(
     quiet: bool,
     reported: &mut Page,
 ) -> Result<(), Broken> {
-    if let Some(longest) = longest {
-        write_bytes(b" longest=", reported)?;
-        report_count(longest, b"", reported)?;
-    }
+    report_number(b" longest=", longest, reported)?;
     write_bytes(b" bits=", reported)?;
     report_count(bits as u64, b"", reported)?;
     report_either(quiet, b" quiet\n", b"\n", reported)?;

@@ -15,4 +15,4 @@ pub use commands::show::show;
 pub use commands::tidy::{tidy, tidy_with_hasher};
 pub use fault::{Input, ToolFault, status, write_fault};
 pub use limits::limits_of;
-pub use pb_words::{Job, WordsFault, read_words};
+pub use pb_words::{Job, Selection, WordsFault, read_words};

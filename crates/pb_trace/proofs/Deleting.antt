@@ -1,5 +1,5 @@
 -- The constraints that a statement deletes, one after another.
-use Rattle.std.proofs.Common.{◌≡◌, ℕ, suc, ℤ, ◌+◌, ◌<◌, List, [], ◌∷◌, ◌++◌, take, drop, length, get_or, Option, refl, sym, ap, ◌∙◌, append_assoc, take-append-drop}
+use Rattle.std.proofs.Common.{◌≡◌, ℕ, Bool, suc, ℤ, ◌+◌, ◌<◌, List, [], ◌∷◌, ◌++◌, take, drop, length, get_or, Option, refl, sym, ap, ◌∙◌, append_assoc, take-append-drop}
 use Rattle.std.proofs.lemmas.List.{append-nil, take_more}
 use Rattle.std.proofs.Math.Seq.{drop-cons}
 use Rattle.pb_normal.specs.meaning.Form.{Form}
@@ -12,23 +12,23 @@ without_all-append live (x ∷ xs) ys = without_all-append (without live x) xs y
 pub without_more : (live : List (Option Form)) (xs : List ℤ) (i : ℕ) (d : ℤ) → i < length xs → without_all live (take (i + 1) xs) ≡ without (without_all live (take i xs)) (get_or xs i d)
 without_more live xs i d h = ap (without_all live) (take_more xs i d h) ∙ without_all-append live (take i xs) (get_or xs i d ∷ [])
 
-module _ (names : List (List ℕ)) where
-  deleted-append : (live : List (Option Form)) (xs ys : List ℤ) → deleted_bytes names live (xs ++ ys) ≡ deleted_bytes names live xs ++ deleted_bytes names (without_all live xs) ys
+module _ (ids : Bool) (lines : List ℕ) (names : List (List ℕ)) where
+  deleted-append : (live : List (Option Form)) (xs ys : List ℤ) → deleted_bytes ids lines names live (xs ++ ys) ≡ deleted_bytes ids lines names live xs ++ deleted_bytes ids lines names (without_all live xs) ys
   deleted-append live [] ys = refl
   deleted-append live (x ∷ xs) ys =
-      ap (λ z. deletion_bytes names live x ++ z) (deleted-append (without live x) xs ys)
-      ∙ sym (append_assoc (deletion_bytes names live x) (deleted_bytes names (without live x) xs) (deleted_bytes names (without_all (without live x) xs) ys))
+      ap (λ z. deletion_bytes ids lines names live x ++ z) (deleted-append (without live x) xs ys)
+      ∙ sym (append_assoc (deletion_bytes ids lines names live x) (deleted_bytes ids lines names (without live x) xs) (deleted_bytes ids lines names (without_all (without live x) xs) ys))
 
   pub deleted_more : (live : List (Option Form)) (xs : List ℤ) (i : ℕ) (d : ℤ) → i < length xs →
-      deleted_bytes names live (take (i + 1) xs) ≡ deleted_bytes names live (take i xs) ++ deletion_bytes names (without_all live (take i xs)) (get_or xs i d)
+      deleted_bytes ids lines names live (take (i + 1) xs) ≡ deleted_bytes ids lines names live (take i xs) ++ deletion_bytes ids lines names (without_all live (take i xs)) (get_or xs i d)
   deleted_more live xs i d h =
-      ap (deleted_bytes names live) (take_more xs i d h)
+      ap (deleted_bytes ids lines names live) (take_more xs i d h)
       ∙ (deleted-append live (take i xs) (get_or xs i d ∷ [])
-      ∙ ap (λ z. deleted_bytes names live (take i xs) ++ z) (append-nil (deletion_bytes names (without_all live (take i xs)) (get_or xs i d))))
+      ∙ ap (λ z. deleted_bytes ids lines names live (take i xs) ++ z) (append-nil (deletion_bytes ids lines names (without_all live (take i xs)) (get_or xs i d))))
 
-  pub deleted_at : (live : List (Option Form)) (xs : List ℤ) (i : ℕ) (d : ℤ) → i < length xs → deleted_bytes names live xs
-      ≡ deleted_bytes names live (take i xs) ++ (deletion_bytes names (without_all live (take i xs)) (get_or xs i d) ++ deleted_bytes names (without (without_all live (take i xs)) (get_or xs i d)) (drop (suc i) xs))
+  pub deleted_at : (live : List (Option Form)) (xs : List ℤ) (i : ℕ) (d : ℤ) → i < length xs → deleted_bytes ids lines names live xs
+      ≡ deleted_bytes ids lines names live (take i xs) ++ (deletion_bytes ids lines names (without_all live (take i xs)) (get_or xs i d) ++ deleted_bytes ids lines names (without (without_all live (take i xs)) (get_or xs i d)) (drop (suc i) xs))
   deleted_at live xs i d h =
-      ap (deleted_bytes names live) (sym (take-append-drop i xs))
+      ap (deleted_bytes ids lines names live) (sym (take-append-drop i xs))
       ∙ (deleted-append live (take i xs) (drop i xs)
-      ∙ ap (λ z. deleted_bytes names live (take i xs) ++ deleted_bytes names (without_all live (take i xs)) z) (drop-cons xs i d h))
+      ∙ ap (λ z. deleted_bytes ids lines names live (take i xs) ++ deleted_bytes ids lines names (without_all live (take i xs)) z) (drop-cons xs i d h))

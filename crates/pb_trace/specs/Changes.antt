@@ -1,5 +1,5 @@
 -- Forms in a trace, and what adds or deletes them.
-use Rattle.std.specs.Prelude.{ℕ, pos, List, ◌++◌, map, get_or, decimal, codes}
+use Rattle.std.specs.Prelude.{ℕ, pos, ◌-◌, Bool, true, false, List, [], ◌++◌, map, get_or, slice_get, decimal, codes, Option, Some, None}
 use Rattle.pb_sums.specs.declared.linear.Term.{Term}
 use Rattle.pb_sums.specs.declared.linear.Linear.{Linear}
 use Rattle.pb_sums.specs.declared.linear.Relation.TheVariants.{AtLeast}
@@ -27,3 +27,17 @@ form_bytes names f = linear_bytes (form_shown names f)
 -- an id and its form after an arrow, as in ` -> 3: +1 x1 >= 1 ;`
 abbrev pub change_bytes : List ℕ → List (List ℕ) → ℕ → Form → List ℕ
 change_bytes arrow names id f = arrow ++ (decimal id ++ (codes ": " ++ form_bytes names f))
+
+-- the line of the instance in which a constraint is written, if it is known
+abbrev pub origin_bytes : Option ℕ → List ℕ
+origin_bytes None = []
+origin_bytes (Some line) = codes " (instance line " ++ (decimal line ++ codes ")")
+
+-- an id after an arrow, with its form unless only ids are shown
+abbrev pub id_bytes : Bool → List ℕ → List (List ℕ) → ℕ → Form → List ℕ
+id_bytes true arrow names id f = arrow ++ decimal id
+id_bytes false arrow names id f = change_bytes arrow names id f
+
+-- the same, with the line of the instance
+abbrev pub constraint_bytes : Bool → List ℕ → List ℕ → List (List ℕ) → ℕ → Form → List ℕ
+constraint_bytes ids lines arrow names id f = id_bytes ids arrow names id f ++ origin_bytes (slice_get lines (id - 1))

@@ -1,5 +1,5 @@
 -- The line of an accepted statement.
-use Rattle.std.specs.Prelude.{◌≡◌, ℕ, zero, suc, ◌+◌, ◌-◌, ℤ, if◌then◌else◌, List, [], ◌∷◌, ◌++◌, length, drop, map, get_or, set, codes, Option, Some, None, Result, Ok, Err}
+use Rattle.std.specs.Prelude.{◌≡◌, ◌⊎◌, ℕ, ◌+◌, ◌-◌, ℤ, Bool, List, [], ◌∷◌, ◌++◌, length, drop, get_or, set, codes, Option, Some, None, Result, Ok, Err}
 use Rattle.std.specs.Fmt.{signed_decimal}
 use Rattle.std.specs.List.{flat_map, range_with_len}
 use Rattle.std.specs.Result.{IsErr}
@@ -18,44 +18,55 @@ use Rattle.pb_tool.specs.declared.CheckFault.{CheckFault}
 use Rattle.pb_tool.specs.declared.Input.TheVariants.{Proof}
 use Rattle.pb_tool.specs.declared.ToolFault.{ToolFault}
 use Rattle.pb_tool.specs.declared.ToolFault.TheVariants.{Memory as NoMemory, Write as NotWritten}
-use Rattle.pb_trace.specs.Changes.{change_bytes}
-use Rattle.pb_trace.specs.Rejected.{IsWrong, Rejects}
+use Rattle.pb_trace.specs.Changes.{constraint_bytes}
+use Rattle.pb_trace.specs.Rejected.{IsWrong, Rejects, rejected_line, words_of}
 use Rattle.pb_trace.specs.declared.broken.Broken.{Broken}
 use Rattle.pb_trace.specs.declared.broken.Broken.TheVariants.{Memory, Write}
-use Rattle.pb_trace.specs.declared.stored.Stored.{Stored}
-
--- The stored constraints as a replay has its own: that with id i is at index i - 1, and a deleted one is `None`.
-abbrev pub live_in : List Stored → List (Option Form)
-live_in forms = map (λ s. if s.is_live then Some s.form else None) forms
 
 -- the stored constraints and those of a replay that are newer
 abbrev pub extended : List (Option Form) → List (Option Form) → List (Option Form)
 extended stored live = stored ++ drop (length stored) live
 
--- an id and its constraint after an arrow, if it is live
-abbrev pub found_bytes : List ℕ → List (List ℕ) → ℕ → Option Form → List ℕ
-found_bytes arrow names id None = []
-found_bytes arrow names id (Some f) = change_bytes arrow names id f
+-- the start of what a statement adds: `f` has a line for each constraint
+abbrev pub arrow_of : Statement → List ℕ
+arrow_of Header = codes " -> "
+arrow_of (F count) = codes "\n  -> "
+arrow_of (Pol ws) = codes " -> "
+arrow_of (Rup c) = codes " -> "
+arrow_of (Soli ls) = codes " -> "
+arrow_of (Solx ls) = codes " -> "
+arrow_of (Delete ids) = codes " -> "
+arrow_of Output = codes " -> "
+arrow_of (Conclude c) = codes " -> "
+arrow_of End = codes " -> "
 
--- the live constraints with the next so many ids, in order
-abbrev pub added_bytes : List (List ℕ) → List (Option Form) → ℕ → ℕ → List ℕ
-added_bytes names live newest more = flat_map (λ i. found_bytes (codes " -> ") names (i + 1) (get_or live i None)) (range_with_len newest more)
+-- `ids`: only ids are shown. `lines`: the lines in which the constraints of the instance are written.
+module _ (ids : Bool) (lines : List ℕ) where
+  -- an id and its constraint after an arrow, if it is live
+  abbrev pub found_bytes : List ℕ → List (List ℕ) → ℕ → Option Form → List ℕ
+  found_bytes arrow names id None = []
+  found_bytes arrow names id (Some f) = constraint_bytes ids lines arrow names id f
+
+  -- the live constraints with the next so many ids, in order
+  abbrev pub added_bytes : List ℕ → List (List ℕ) → List (Option Form) → ℕ → ℕ → List ℕ
+  added_bytes arrow names live newest more = flat_map (λ i. found_bytes arrow names (i + 1) (get_or live i None)) (range_with_len newest more)
 
 -- the constraints after one is deleted by its id as written
 abbrev pub without : List (Option Form) → ℤ → List (Option Form)
 without live id = set live (place (length live) id) None
 
-abbrev pub deletion_bytes : List (List ℕ) → List (Option Form) → ℤ → List ℕ
-deletion_bytes names live id =
-    let index = place (length live) id in found_bytes (codes " -> no ") names (index + 1) (get_or live index None)
+module _ (ids : Bool) (lines : List ℕ) where
+  abbrev pub deletion_bytes : List (List ℕ) → List (Option Form) → ℤ → List ℕ
+  deletion_bytes names live id =
+      let index = place (length live) id in found_bytes ids lines (codes "\n  -> no ") names (index + 1) (get_or live index None)
 
 -- the same for ids in turn, and what is written of it
 abbrev pub without_all : List (Option Form) → List ℤ → List (Option Form)
 without_all = gathered without
 
-abbrev pub deleted_bytes : List (List ℕ) → List (Option Form) → List ℤ → List ℕ
-deleted_bytes names live [] = []
-deleted_bytes names live (id ∷ ids) = deletion_bytes names live id ++ deleted_bytes names (without live id) ids
+abbrev pub deleted_bytes : Bool → List ℕ → List (List ℕ) → List (Option Form) → List ℤ → List ℕ
+deleted_bytes ids lines names live [] = []
+deleted_bytes ids lines names live (x ∷ xs) = deletion_bytes ids lines names live x ++ deleted_bytes ids lines names (without live x) xs
 
 -- the best value of the objective, if there is one
 abbrev pub best_bytes : Option ℤ → List ℕ
@@ -63,17 +74,17 @@ best_bytes None = []
 best_bytes (Some value) = codes " best " ++ signed_decimal value
 
 -- what follows the added constraints
-abbrev pub tail_bytes : List (Option Form) → Replaying → Statement → List ℕ
-tail_bytes stored replay Header = []
-tail_bytes stored replay (F count) = []
-tail_bytes stored replay (Pol ws) = []
-tail_bytes stored replay (Rup c) = []
-tail_bytes stored replay (Soli ls) = best_bytes replay.best
-tail_bytes stored replay (Solx ls) = []
-tail_bytes stored replay (Delete ids) = deleted_bytes replay.names stored ids
-tail_bytes stored replay Output = []
-tail_bytes stored replay (Conclude c) = []
-tail_bytes stored replay End = []
+abbrev pub tail_bytes : Bool → List ℕ → List (Option Form) → Replaying → Statement → List ℕ
+tail_bytes ids lines stored replay Header = []
+tail_bytes ids lines stored replay (F count) = []
+tail_bytes ids lines stored replay (Pol ws) = []
+tail_bytes ids lines stored replay (Rup c) = []
+tail_bytes ids lines stored replay (Soli ls) = best_bytes replay.best
+tail_bytes ids lines stored replay (Solx ls) = []
+tail_bytes ids lines stored replay (Delete xs) = deleted_bytes ids lines replay.names stored xs
+tail_bytes ids lines stored replay Output = []
+tail_bytes ids lines stored replay (Conclude c) = []
+tail_bytes ids lines stored replay End = []
 
 -- the stored constraints after a statement
 abbrev pub stored_after : List (Option Form) → Statement → List (Option Form)
@@ -88,15 +99,17 @@ stored_after stored Output = stored
 stored_after stored (Conclude c) = stored
 stored_after stored End = stored
 
--- The position, the statement, the constraints after an id, what else there is to say, and a line feed.
-abbrev pub line_after : ℕ → List (Option Form) → Spanned Statement → Replaying → List ℕ
-line_after newest stored read replay =
-    (place_bytes read.first ++ statement_bytes read.event)
-    ++ (added_bytes replay.names replay.live newest (length replay.live - newest) ++ (tail_bytes stored replay read.event ++ codes "\n"))
+module _ (ids : Bool) (lines : List ℕ) where
+  -- The position, the statement, the constraints after an id, what else there is to say, and a line feed.
+  abbrev pub line_after : ℕ → List (Option Form) → Spanned Statement → Replaying → List ℕ
+  line_after newest stored read replay =
+      (place_bytes read.first ++ statement_bytes read.event)
+      ++ (added_bytes ids lines (arrow_of read.event) replay.names replay.live newest (length replay.live - newest)
+      ++ (tail_bytes ids lines stored replay read.event ++ codes "\n"))
 
--- the line of a statement, from what was stored before it and from the replay after it
-abbrev pub line_bytes : List (Option Form) → Spanned Statement → Replaying → List ℕ
-line_bytes stored read replay = line_after (length stored) (extended stored replay.live) read replay
+  -- the line of a statement, from what was stored before it and from the replay after it
+  abbrev pub line_bytes : List (Option Form) → Spanned Statement → Replaying → List ℕ
+  line_bytes stored read replay = line_after (length stored) (extended stored replay.live) read replay
 
 abbrev pub broken_by : Result Unit Broken → Option Broken
 broken_by (Ok _) = None
@@ -108,11 +121,18 @@ end_of None = Ok tt
 end_of (Some Memory) = Err (NoMemory Proof)
 end_of (Some Write) = Err NotWritten
 
--- what a trace holds: its sink, the constraints as the replay has them, and how it ends
+-- what a trace holds: its sink, the constraints as the replay has them, how it ends, whether it shows only ids, and the
+-- lines in which the constraints of the instance are written
 pub record Tracing (S : Type 0) : Type 0 where
   pub out : S
   pub stored : List (Option Form)
   pub end : Result Unit ToolFault
+  pub ids : Bool
+  pub lines : List ℕ
+
+-- The trace shows constraints as before.
+abbrev pub ShowsAlike : {S : Type 0} → Tracing S → Tracing S → Type 0
+ShowsAlike old new = (new.ids ≡ old.ids) × (new.lines ≡ old.lines)
 
 module _ {S : Type 0} (contents : S → Option (List ℕ)) (faults : S → ℕ) where
   -- What a line leaves in its sink: the whole line; a prefix of it, and one fault; or nothing, if memory ran out.
@@ -125,18 +145,37 @@ module _ {S : Type 0} (contents : S → Option (List ℕ)) (faults : S → ℕ) 
   -- What a call does to a trace. An accepted statement adds its line, and what is stored of the constraints is again
   -- what the replay has. Once a line could not be written, nothing changes.
   pub record ShowsLine (old : Tracing S) (read : Spanned Statement) (replay : Replaying) (new : Tracing S) : Type 0 where
-    pub text : old.end ≡ Ok tt → Traces old.out (line_bytes old.stored read replay) new.end new.out
+    pub text : old.end ≡ Ok tt → Traces old.out (line_bytes old.ids old.lines old.stored read replay) new.end new.out
     pub stored : old.end ≡ Ok tt → new.end ≡ Ok tt → new.stored ≡ stored_after (extended old.stored replay.live) read.event
+    pub alike : ShowsAlike old new
     pub ended : IsErr old.end → new ≡ old
 
-  -- What a rejected statement adds: its line, and lines that begin with two spaces. Nothing is written if memory ran out
-  -- for the statement, as it may be right then.
-  pub record ShowsRejection (old : Tracing S) (read : Spanned Statement) (replay : Replaying) (fault : CheckFault) (new : Tracing S) : Type 0 where
-    pub text : IsWrong fault → old.end ≡ Ok tt → Rejects contents faults old.out replay.names read new.end new.out
+  -- The same without the line: only what is stored changes.
+  pub record FollowsLine (old : Tracing S) (read : Spanned Statement) (replay : Replaying) (new : Tracing S) : Type 0 where
+    pub out : new.out ≡ old.out
+    pub stored : old.end ≡ Ok tt → new.end ≡ Ok tt → new.stored ≡ stored_after (extended old.stored replay.live) read.event
+    pub memory : old.end ≡ Ok tt → (new.end ≡ Ok tt) ⊎ (new.end ≡ Err (NoMemory Proof))
+    pub alike : ShowsAlike old new
+    pub ended : IsErr old.end → new ≡ old
+
+  -- What a rejected statement adds after these bytes: lines that begin with two spaces. Nothing is written if memory ran
+  -- out for the statement, as it may be right then.
+  pub record ShowsReasons (start : List ℕ) (old : Tracing S) (read : Spanned Statement) (replay : Replaying) (fault : CheckFault) (new : Tracing S) : Type 0 where
+    pub text : IsWrong fault → old.end ≡ Ok tt → Rejects contents faults start old.out replay.names old.stored (words_of read.event) new.end new.out
     pub silent : (IsWrong fault → ⊥) → new ≡ old
     pub stored : new.stored ≡ old.stored
+    pub alike : ShowsAlike old new
     pub ended : IsErr old.end → new ≡ old
+
+  -- what a rejected statement adds to a trace: its line, and then the reasons
+  abbrev pub ShowsRejection : Tracing S → Spanned Statement → Replaying → CheckFault → Tracing S → Type 0
+  ShowsRejection old read replay fault new = ShowsReasons (rejected_line read) old read replay fault new
 
   abbrev pub TracesCall : Tracing S → Call → Tracing S → Type 0
   TracesCall old (Accepted read replay) new = ShowsLine old read replay new
   TracesCall old (Rejected read replay fault) new = ShowsRejection old read replay fault new
+
+  -- the same for the reasons alone
+  abbrev pub ExplainsCall : Tracing S → Call → Tracing S → Type 0
+  ExplainsCall old (Accepted read replay) new = FollowsLine old read replay new
+  ExplainsCall old (Rejected read replay fault) new = ShowsReasons [] old read replay fault new

@@ -2,9 +2,11 @@
 #![tactic(auto)]
 
 mod broken;
+mod explained;
+mod instance_text;
 pub mod laws;
 mod line;
-mod pol;
+mod piece;
 mod propagation;
 mod reasons;
 mod rejected;
@@ -13,5 +15,7 @@ mod stored;
 mod trace;
 mod write;
 
+pub use explained::Explained;
+pub use instance_text::InstanceText;
 pub use stats::Stats;
 pub use trace::Trace;

@@ -3,10 +3,11 @@
 ghost use Rattle.std.specs.Prelude.{◌≡◌, ◌-◌, OnOk, codes, length};
 ghost use Rattle.std.specs.Option.{option_copied};
 ghost use Rattle.pb_text.specs.meaning.Writing.{Writes};
-ghost use Rattle.pb_trace.specs.Traced.{added_bytes, best_bytes, deleted_bytes, deletion_bytes, found_bytes, line_after, live_in, stored_after, tail_bytes, without, without_all};
+ghost use Rattle.pb_trace.specs.Live.{live_in};
+ghost use Rattle.pb_trace.specs.Traced.{added_bytes, arrow_of, best_bytes, deleted_bytes, deletion_bytes, found_bytes, line_after, stored_after, tail_bytes, without, without_all};
 
 use crate::stored::Constraints;
-use crate::write::{Named, write_change, write_read};
+use crate::write::{Named, Style, write_constraint, write_read};
 use pb_normal::Normal;
 use pb_proof::Statement;
 use pb_replay::Replay;
@@ -24,59 +25,105 @@ impl Named for Replay {
 /// Writes the line of an accepted statement, with the constraints after an id. What the statement deletes is deleted
 /// from the stored constraints.
 pub(crate) fn write_line<S: Sink>(
+    style: Style<'_>,
     read: &Spanned<Statement>,
     newest: u64,
     constraints: &mut Constraints,
     replay: &Replay,
     out: &mut S,
 ) -> Result<(), Failed>
-    ensures text { Writes S.contents S.faults out.old (line_after newest (live_in constraints.old.forms.items) read.now replay.now) result out.new }
+    ensures text { Writes S.contents S.faults out.old
+        (line_after style.entry.ids style.entry.lines.now newest (live_in constraints.old.forms.items) read.now replay.now) result out.new }
     ensures stored { OnOk result (live_in constraints.new.forms.items ≡ stored_after (live_in constraints.old.forms.items) read.now.event) }
 {
     write_read(read, out)?;
-    write_added(newest, replay, out)?;
-    write_tail(&read.event, constraints, replay, out)?;
+    write_added(style, arrow_of(&read.event), newest, replay, out)?;
+    write_tail(style, read, constraints, replay, out)?;
     write_bytes(b"\n", out)?;
     Ok(())
 }
 
+/// What a trace writes before each constraint that a statement adds. Those of `f` are on lines of their own.
+fn arrow_of(statement: &Statement) -> &'static [u8]
+    ensures { result.now ≡ arrow_of statement.now }
+{
+    match statement {
+        Statement::F(_) => b"\n  -> ",
+        Statement::Header
+        | Statement::Pol(_)
+        | Statement::Rup(_)
+        | Statement::Soli(_)
+        | Statement::Solx(_)
+        | Statement::Delete(_)
+        | Statement::Output
+        | Statement::Conclude(_)
+        | Statement::End => b" -> ",
+    }
+}
+
 /// Writes the constraints after an id.
-fn write_added<S: Sink>(newest: u64, replay: &Replay, out: &mut S) -> Result<(), Failed>
-    ensures { Writes S.contents S.faults out.old (added_bytes replay.now.names replay.now.live newest (length replay.now.live - newest)) result out.new }
+fn write_added<S: Sink>(
+    style: Style<'_>,
+    arrow: &[u8],
+    newest: u64,
+    replay: &Replay,
+    out: &mut S,
+) -> Result<(), Failed>
+    ensures { Writes S.contents S.faults out.old
+        (added_bytes style.entry.ids style.entry.lines.now arrow.now replay.now.names replay.now.live newest (length replay.now.live - newest)) result out.new }
 {
     for index in newest..replay.newest() {
-        write_found(index + 1, replay.constraint(index + 1), replay, out)?;
+        write_found(
+            style,
+            arrow,
+            index + 1,
+            replay.constraint(index + 1),
+            replay,
+            out,
+        )?;
     }
     Ok(())
 }
 
 /// Writes an id and its constraint after an arrow, if there is one.
 fn write_found<S: Sink>(
+    style: Style<'_>,
+    arrow: &[u8],
     id: u64,
     form: Option<&Normal>,
     replay: &Replay,
     out: &mut S,
 ) -> Result<(), Failed>
-    ensures { Writes S.contents S.faults out.old (found_bytes (codes " -> ") replay.now.names id (option_copied form.entry)) result out.new }
+    ensures { Writes S.contents S.faults out.old
+        (found_bytes style.entry.ids style.entry.lines.now arrow.now replay.now.names id (option_copied form.entry)) result out.new }
 {
     match form {
-        Some(form) => write_change(b" -> ", id, form, replay, out),
+        Some(form) => write_constraint(style, arrow, id, form, replay, out),
         None => Ok(()),
     }
 }
 
 /// Writes what follows the added constraints.
 fn write_tail<S: Sink>(
-    statement: &Statement,
+    style: Style<'_>,
+    read: &Spanned<Statement>,
     constraints: &mut Constraints,
     replay: &Replay,
     out: &mut S,
 ) -> Result<(), Failed>
-    ensures text { Writes S.contents S.faults out.old (tail_bytes (live_in constraints.old.forms.items) replay.now statement.now) result out.new }
-    ensures stored { OnOk result (live_in constraints.new.forms.items ≡ stored_after (live_in constraints.old.forms.items) statement.now) }
+    ensures text { Writes S.contents S.faults out.old
+        (tail_bytes style.entry.ids style.entry.lines.now (live_in constraints.old.forms.items) replay.now read.now.event) result out.new }
+    ensures stored { OnOk result (live_in constraints.new.forms.items ≡ stored_after (live_in constraints.old.forms.items) read.now.event) }
 {
-    match statement {
-        Statement::Delete(ids) => write_deleted(ids.as_slice(), constraints, replay, out),
+    match &read.event {
+        Statement::Delete(ids) => write_deleted(
+            style,
+            ids.as_slice(),
+            read.first.line,
+            constraints,
+            replay,
+            out,
+        ),
         Statement::Soli(_) => write_best(replay.best(), out),
         Statement::Header
         | Statement::F(_)
@@ -89,37 +136,44 @@ fn write_tail<S: Sink>(
     }
 }
 
-/// Deletes stored constraints by their ids, and writes each.
+/// Deletes stored constraints by their ids, in a line of the proof, and writes each.
 fn write_deleted<S: Sink>(
+    style: Style<'_>,
     ids: &[i64],
+    line: u64,
     constraints: &mut Constraints,
     replay: &Replay,
     out: &mut S,
 ) -> Result<(), Failed>
-    ensures text { Writes S.contents S.faults out.old (deleted_bytes replay.now.names (live_in constraints.old.forms.items) ids.now) result out.new }
+    ensures text { Writes S.contents S.faults out.old
+        (deleted_bytes style.entry.ids style.entry.lines.now replay.now.names (live_in constraints.old.forms.items) ids.now) result out.new }
     ensures stored { OnOk result (live_in constraints.new.forms.items ≡ without_all (live_in constraints.old.forms.items) ids.now) }
 {
     for id in ids {
-        write_deletion(*id, constraints, replay, out)?;
+        write_deletion(style, *id, line, constraints, replay, out)?;
     }
     Ok(())
 }
 
-/// Deletes a stored constraint by its id, and writes it. If there is no such constraint, it does nothing.
+/// Deletes a stored constraint by its id, in a line of the proof, and writes it. If there is no such constraint, it does
+/// nothing.
 fn write_deletion<S: Sink>(
+    style: Style<'_>,
     id: i64,
+    line: u64,
     constraints: &mut Constraints,
     replay: &Replay,
     out: &mut S,
 ) -> Result<(), Failed>
-    ensures text { Writes S.contents S.faults out.old (deletion_bytes replay.now.names (live_in constraints.old.forms.items) id) result out.new }
+    ensures text { Writes S.contents S.faults out.old
+        (deletion_bytes style.entry.ids style.entry.lines.now replay.now.names (live_in constraints.old.forms.items) id) result out.new }
     ensures stored { OnOk result (live_in constraints.new.forms.items ≡ without (live_in constraints.old.forms.items) id) }
 {
     let Some((found, form)) = constraints.find_written(id) else {
         return Ok(());
     };
-    write_change(b" -> no ", found, form, replay, out)?;
-    constraints.delete(found);
+    write_constraint(style, b"\n  -> no ", found, form, replay, out)?;
+    constraints.delete(found, line);
     Ok(())
 }
 

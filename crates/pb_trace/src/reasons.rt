@@ -1,48 +1,33 @@
 //! Why a statement was rejected, as far as the stored constraints show it.
 
-ghost use Rattle.std.specs.Prelude.{◌≡◌};
-ghost use Rattle.pb_trace.specs.Rejected.{words_of};
+mod conclusion;
+mod ids;
+mod near;
+mod pol;
+mod propagated;
 
-use crate::pol::overflowing;
-use crate::propagation::{Propagation, Reason};
+use crate::instance_text::InstanceText;
+use crate::piece::{Line, Piece};
 use crate::stored::Constraints;
-use pb_normal::{Names, Normal, NormalFault, Side};
-use pb_proof::{Conclusion, PolWord, Statement};
+use pb_normal::{Names, Normal};
+use pb_proof::{Conclusion, Statement};
 use pb_replay::{Fault, Replay};
-use pb_sums::{Linear, Literal};
 use pb_text::Limits;
 use std::alloc::{AllocError, Global};
 
-/// What is known of a rejection.
-#[derive(Drop)]
-pub(crate) enum Why {
-    /// Nothing.
-    Unknown,
-    /// What propagates.
-    Propagated(Propagated),
-    /// The id of the constraint that a conclusion names.
-    Named(u64),
-    /// The position, counted from 1, of the word of `pol` whose result exceeds the limit.
-    Exceeded(usize),
-}
-
-/// What propagates over the live constraints from a negation, or from the literals of a solution.
-#[derive(Drop)]
-pub(crate) struct Propagated {
-    /// The negation of the constraint of a `rup`.
-    pub(crate) negation: Option<Normal>,
-    pub(crate) propagation: Propagation,
-    /// The id of a constraint of the instance that a solution violates.
-    pub(crate) violated: Option<u64>,
-}
-
-/// What the reasons are made of.
+/// What the reasons are made of, and the lines so far.
 #[derive(Drop)]
 pub(crate) struct Scene<'a> {
     pub(crate) alloc: Global,
     pub(crate) constraints: &'a Constraints,
+    pub(crate) text: &'a InstanceText,
     pub(crate) names: Names,
     pub(crate) limits: Limits,
+    /// The best logged value.
+    pub(crate) best: Option<i128>,
+    /// The line of the last statement that logged a solution, or 0.
+    pub(crate) logged: u64,
+    pub(crate) lines: Vec<Line>,
 }
 
 /// The names of a replay, each with its number there.
@@ -59,104 +44,170 @@ pub(crate) fn names_of(alloc: Global, replay: &Replay) -> Result<Names, AllocErr
     Ok(names)
 }
 
-/// The words of a `pol`, and none for other statements.
-pub(crate) fn words_in(statement: &Statement) -> &[PolWord]
-    ensures { result.now ≡ words_of statement.now }
-{
-    match statement {
-        Statement::Pol(words) => words.as_slice(),
-        Statement::Header
-        | Statement::F(_)
-        | Statement::Rup(_)
-        | Statement::Soli(_)
-        | Statement::Solx(_)
-        | Statement::Delete(_)
-        | Statement::Output
-        | Statement::Conclude(_)
-        | Statement::End => &[],
-    }
-}
-
 impl Scene<'_> {
-    /// What is known of a fault of a statement.
-    pub(crate) fn find(&mut self, statement: &Statement, fault: Fault) -> Result<Why, AllocError> {
+    /// Finds the reasons for a fault of a statement.
+    pub(crate) fn find(&mut self, statement: &Statement, fault: Fault) -> Result<(), AllocError> {
         match (fault, statement) {
-            (Fault::NotImplied, Statement::Rup(goal)) => self.not_implied(goal),
-            (Fault::Overflow, Statement::Pol(words)) => Ok(self.overflow(words.as_slice())),
-            (
-                Fault::NotContradiction,
-                Statement::Conclude(
-                    Conclusion::Unsat(Some(id)) | Conclusion::Bounds { id: Some(id), .. },
-                ),
-            ) => Ok(self.named(*id)),
+            (Fault::FormulaCount(count), _) => self.say_count(count),
+            (Fault::NoSuchId(_) | Fault::Overflow, Statement::Pol(words)) => {
+                self.say_words(words.as_slice())?;
+                self.say_fault(fault)
+            }
+            (Fault::NotImplied, Statement::Rup(goal)) => self.say_not_implied(goal),
             (
                 Fault::Conflict | Fault::NotTotal(_) | Fault::Violates(_),
                 Statement::Soli(given) | Statement::Solx(given),
-            ) => self.solution(given.as_slice(), fault),
-            _ => Ok(Why::Unknown),
+            ) => self.say_solution(given.as_slice(), fault),
+            (Fault::NotContradiction, Statement::Conclude(conclusion)) => self.say_no_contradiction(
+                conclusion,
+            ),
+            (
+                Fault::NotBound,
+                Statement::Conclude(
+                    Conclusion::Bounds {
+                        lower,
+                        id,
+                        upper,
+                        shown,
+                    },
+                ),
+            ) => self.say_no_bound(*lower, *id, *upper, shown),
+            (
+                Fault::NoSolution,
+                Statement::Conclude(Conclusion::Sat(shown) | Conclusion::Bounds { shown, .. }),
+            ) => self.say_no_solution(shown),
+            _ => self.say_fault(fault),
         }
     }
 
-    /// The negation of the goal, and what it propagates.
-    fn not_implied(&mut self, goal: &Linear) -> Result<Why, AllocError> {
-        let side = Side::AtLeast;
-        let form = match Normal::from_linear(self.alloc, &mut self.names, goal, side, self.limits) {
-            Ok(form) => form,
-            Err(NormalFault::Overflow) => return Ok(Why::Unknown),
-            Err(NormalFault::Memory) => return Err(AllocError),
-        };
-        if form.degree() < 1 {
-            return Ok(Why::Unknown);
-        }
-        let Ok(negation) = form.negation() else {
-            return Err(AllocError);
-        };
-        let mut propagation = Propagation::new(self.alloc, self.names.len())?;
-        propagation.propagate(Some(&negation), self.constraints.all())?;
-        Ok(Why::Propagated(Propagated {
-            negation: Some(negation),
-            propagation,
-            violated: None,
-        }))
-    }
-
-    /// What the literals of a solution propagate, and the constraint that it violates.
-    fn solution(&mut self, given: &[Literal], fault: Fault) -> Result<Why, AllocError> {
-        let mut propagation = Propagation::new(self.alloc, self.names.len())?;
-        for literal in given {
-            if let Some(number) = self.names.number_of(literal.name.as_str()) {
-                if propagation.value(number) == Some(literal.negated) {
-                    propagation.conflict = Some(Reason::Given);
-                }
-                propagation.force(number, literal.negated, Reason::Given)?;
+    /// Finds the reasons that do not depend on the statement.
+    fn say_fault(&mut self, fault: Fault) -> Result<(), AllocError> {
+        match fault {
+            Fault::NoSuchId(id) => self.say_no_id(id),
+            Fault::Overflow => {
+                let bits = self.limits.bits() as u64;
+                self.say(vec![in self.alloc;
+                    Piece::Text(
+                        b"the sum of the coefficients, or the degree, exceeds the limit 2^"
+                    ),
+                    Piece::Count(bits),
+                    Piece::Text(b" - 1"),
+                ]?)
             }
+            Fault::SolutionLogged => self.say_logged(),
+            Fault::NoObjective => {
+                self.say_text(
+                    b"the instance has no objective: no line min: is before its constraints",
+                )?;
+                self.say_text(b"accepted: solx, and a conclusion of SAT, UNSAT or NONE")
+            }
+            Fault::IdsSpent => {
+                let top = self.limits.top();
+                self.say(vec![in self.alloc;
+                    Piece::Text(b"the largest id is "),
+                    Piece::Count(top),
+                ]?)
+            }
+            _ => Ok(()),
         }
-        propagation.propagate(None, self.constraints.all())?;
-        let violated = match fault {
-            Fault::Violates(id) if id <= self.constraints.loaded().len() as u64 => Some(id),
-            _ => None,
+    }
+
+    /// How many constraints an instance has.
+    fn say_count(&mut self, count: u64) -> Result<(), AllocError> {
+        let (written, equalities) = (self.text.written, self.text.equalities);
+        if written > 0 {
+            self.say(vec![in self.alloc;
+                Piece::Text(b"constraints that the instance has: "),
+                Piece::Count(written),
+                Piece::Text(b"; equalities among them, which count twice: "),
+                Piece::Count(equalities),
+            ]?)?;
+        }
+        self.say(vec![in self.alloc;
+            Piece::Text(b"accepted: f "),
+            Piece::Count(count),
+            Piece::Text(b", or f"),
+        ]?)
+    }
+
+    /// That a solution was logged.
+    fn say_logged(&mut self) -> Result<(), AllocError> {
+        let mut pieces = vec![in self.alloc;
+            Piece::Text(b"a solution was logged in proof line "),
+            Piece::Count(self.logged),
+        ]?;
+        if let (Some(best), Some(_)) = (self.best, &self.text.objective) {
+            pieces.push(Piece::Text(b", the best value is "))?;
+            pieces.push(Piece::Number(best))?;
+        }
+        self.say(pieces)?;
+        self.say_text(b"accepted: a conclusion of SAT, or of BOUNDS with a finite lower bound")
+    }
+
+    /// Adds a line.
+    fn say(&mut self, pieces: Vec<Piece>) -> Result<(), AllocError> {
+        self.lines.push(Line { pieces })?;
+        Ok(())
+    }
+
+    /// Adds a line of words.
+    fn say_text(&mut self, text: &'static [u8]) -> Result<(), AllocError> {
+        let pieces = vec![in self.alloc; Piece::Text(text)]?;
+        self.say(pieces)
+    }
+
+    /// Adds a line with a constraint after a label and its id.
+    fn say_constraint(&mut self, label: &'static [u8], id: u64) -> Result<(), AllocError> {
+        let mut pieces = vec![in self.alloc; Piece::Text(label)]?;
+        self.push_constraint(&mut pieces, id)?;
+        self.say(pieces)
+    }
+
+    /// Adds a constraint after its id, with the lines where it was added and deleted.
+    fn push_constraint(&self, pieces: &mut Vec<Piece>, id: u64) -> Result<(), AllocError> {
+        let Some(stored) = self.constraints.find(id) else {
+            return Ok(());
         };
-        Ok(Why::Propagated(Propagated {
-            negation: None,
-            propagation,
-            violated,
-        }))
-    }
-
-    /// The constraint that a conclusion names.
-    fn named(&self, id: i64) -> Why {
-        match self.constraints.find_written(id) {
-            Some((id, _)) => Why::Named(id),
-            None => Why::Unknown,
+        pieces.push(Piece::Count(id))?;
+        pieces.push(Piece::Text(b": "))?;
+        pieces.push(Piece::Constraint(id))?;
+        let is_loaded = id <= self.constraints.loaded().len() as u64;
+        match (
+            is_loaded,
+            self.text.lines.get(id.saturating_sub(1) as usize),
+        ) {
+            (true, Some(line)) => push_counted(pieces, b" (instance line ", *line)?,
+            (true, None) => pieces.push(Piece::Text(b" (instance"))?,
+            (false, _) => push_counted(pieces, b" (proof line ", stored.added)?,
         }
-    }
-
-    /// The word of `pol` at which the limit is exceeded.
-    fn overflow(&self, words: &[PolWord]) -> Why {
-        let constraints = self.constraints;
-        match overflowing(self.alloc, words, constraints, &self.names, self.limits) {
-            Some(position) => Why::Exceeded(position),
-            None => Why::Unknown,
+        if stored.deleted > 0 {
+            push_counted(pieces, b", deleted in proof line ", stored.deleted)?;
         }
+        pieces.push(Piece::Text(b")"))?;
+        Ok(())
     }
+}
+
+/// Adds a count after a label.
+fn push_counted(
+    pieces: &mut Vec<Piece>,
+    label: &'static [u8],
+    count: u64,
+) -> Result<(), AllocError> {
+    pieces.push(Piece::Text(label))?;
+    pieces.push(Piece::Count(count))?;
+    Ok(())
+}
+
+/// A copy of a form.
+fn copied(form: &Normal) -> Result<Normal, AllocError> {
+    match form.copy() {
+        Ok(form) => Ok(form),
+        Err(_) => Err(AllocError),
+    }
+}
+
+/// A number of at most 127 bits.
+fn number(value: u128) -> Piece {
+    Piece::Number(value.min(i128::MAX as u128) as i128)
 }

@@ -1,20 +1,16 @@
 //! The lines of a rejected statement.
 
-ghost use Rattle.std.specs.Prelude.{◌≡◌, ◌-◌, ℕ, List, Option, Some, slice_get};
+ghost use Rattle.std.specs.Prelude.{◌≡◌, ◌-◌, slice_get};
 ghost use Rattle.std.specs.Option.{option_copied};
-ghost use Rattle.pb_normal.specs.meaning.Form.{Form};
 ghost use Rattle.pb_text.specs.meaning.Writing.{Writes};
-ghost use Rattle.pb_proof.specs.declared.PolWord.{PolWord as AWord};
-ghost use Rattle.pb_trace.specs.Rejected.{WritesReasons, cause_line, constraint_line, forced_line, negation_line, reason_bytes, rejected_line, word_line};
+ghost use Rattle.pb_trace.specs.Rejected.{WritesPieces, WritesReasons, piece_bytes, rejected_line, stored_bytes, word_shown, words_of};
 
-use crate::propagation::{Forced, Reason};
-use crate::reasons::{Propagated, Why};
-use crate::stored::Constraints;
-use crate::write::{write_change, write_form, write_numbered, write_read, write_word};
-use pb_normal::Normal;
+use crate::piece::{Line, Piece};
+use crate::stored::Stored;
+use crate::write::{write_form, write_numbered, write_read, write_word};
 use pb_proof::{PolWord, Statement};
 use pb_replay::Replay;
-use pb_sums::write_count;
+use pb_sums::{write_count, write_number};
 use pb_text::{Failed, Sink, Spanned, write_bytes};
 
 /// Writes the line of a rejected statement.
@@ -28,183 +24,117 @@ pub(crate) fn write_rejected_line<S: Sink>(
     write_bytes(b" -> rejected\n", out)
 }
 
-/// Writes what is known of a rejection, a line each. The words are those of the statement.
-pub(crate) fn write_why<S: Sink>(
-    why: &Why,
+/// The words of a `pol`, and none for other statements.
+pub(crate) fn words_in(statement: &Statement) -> &[PolWord]
+    ensures { result.now ≡ words_of statement.now }
+{
+    match statement {
+        Statement::Pol(words) => words.as_slice(),
+        Statement::Header
+        | Statement::F(_)
+        | Statement::Rup(_)
+        | Statement::Soli(_)
+        | Statement::Solx(_)
+        | Statement::Delete(_)
+        | Statement::Output
+        | Statement::Conclude(_)
+        | Statement::End => &[],
+    }
+}
+
+/// Writes reasons, a line each.
+pub(crate) fn write_reasons<S: Sink>(
+    lines: &[Line],
+    stored: &[Stored],
     words: &[PolWord],
-    constraints: &Constraints,
     replay: &Replay,
     out: &mut S,
 ) -> Result<(), Failed>
-    ensures { WritesReasons S.contents S.faults replay.now.names words.now out.old result out.new }
+    ensures { WritesReasons S.contents S.faults replay.now.names stored.now words.now out.old result out.new }
 {
-    match why {
-        Why::Unknown => Ok(()),
-        Why::Propagated(found) => write_propagated(found, constraints, replay, out),
-        Why::Named(id) => write_named(*id, constraints, replay, out),
-        Why::Exceeded(position) => write_exceeded(*position, words, out),
-    }
-}
-
-/// Writes what propagates: the negation, the literals that became true, and the constraint that is falsified or
-/// violated.
-fn write_propagated<S: Sink>(
-    found: &Propagated,
-    constraints: &Constraints,
-    replay: &Replay,
-    out: &mut S,
-) -> Result<(), Failed>
-    ensures { (words : List AWord) → WritesReasons S.contents S.faults replay.now.names words out.old result out.new }
-{
-    write_negation(&found.negation, replay, out)?;
-    write_all_forced(found.propagation.forced.as_slice(), replay, out)?;
-    write_falsified(found.propagation.conflict, constraints, replay, out)?;
-    write_violated(found.violated, constraints, replay, out)
-}
-
-/// Writes the negation of a constraint, if there is one.
-fn write_negation<S: Sink>(
-    negation: &Option<Normal>,
-    replay: &Replay,
-    out: &mut S,
-) -> Result<(), Failed>
-    ensures { (words : List AWord) → WritesReasons S.contents S.faults replay.now.names words out.old result out.new }
-{
-    match negation {
-        Some(form) => write_negated(form, replay, out),
-        None => Ok(()),
-    }
-}
-
-fn write_negated<S: Sink>(form: &Normal, replay: &Replay, out: &mut S) -> Result<(), Failed>
-    ensures { Writes S.contents S.faults out.old (negation_line replay.now.names form.now) result out.new }
-{
-    write_bytes(b"  negation: ", out)?;
-    write_form(form, replay, out)?;
-    write_bytes(b"\n", out)
-}
-
-/// Writes the literals that became true, each with its reason.
-fn write_all_forced<S: Sink>(
-    literals: &[Forced],
-    replay: &Replay,
-    out: &mut S,
-) -> Result<(), Failed>
-    ensures { (words : List AWord) → WritesReasons S.contents S.faults replay.now.names words out.old result out.new }
-{
-    for forced in literals {
-        write_forced(*forced, replay, out)?;
+    for line in lines {
+        write_reason(line, stored, words, replay, out)?;
     }
     Ok(())
 }
 
-/// Writes a literal that became true, with its reason.
-fn write_forced<S: Sink>(forced: Forced, replay: &Replay, out: &mut S) -> Result<(), Failed>
-    ensures { (words : List AWord) → WritesReasons S.contents S.faults replay.now.names words out.old result out.new }
-{
-    write_became(forced, replay, out)
-}
-
-fn write_became<S: Sink>(forced: Forced, replay: &Replay, out: &mut S) -> Result<(), Failed>
-    ensures { Writes S.contents S.faults out.old (forced_line replay.now.names forced) result out.new }
+/// Writes a line of the reasons.
+fn write_reason<S: Sink>(
+    line: &Line,
+    stored: &[Stored],
+    words: &[PolWord],
+    replay: &Replay,
+    out: &mut S,
+) -> Result<(), Failed>
+    ensures { WritesReasons S.contents S.faults replay.now.names stored.now words.now out.old result out.new }
 {
     write_bytes(b"  ", out)?;
-    write_numbered(forced.variable, forced.negated, replay, out)?;
-    write_cause(b" by ", forced.reason, out)
-}
-
-/// Writes what is falsified, if a conflict was met.
-fn write_falsified<S: Sink>(
-    conflict: Option<Reason>,
-    constraints: &Constraints,
-    replay: &Replay,
-    out: &mut S,
-) -> Result<(), Failed>
-    ensures { (words : List AWord) → WritesReasons S.contents S.faults replay.now.names words out.old result out.new }
-{
-    match conflict {
-        Some(reason) => write_met(reason, constraints, replay, out),
-        None => Ok(()),
-    }
-}
-
-/// Writes what is falsified: a constraint, the negation or the statement.
-fn write_met<S: Sink>(
-    reason: Reason,
-    constraints: &Constraints,
-    replay: &Replay,
-    out: &mut S,
-) -> Result<(), Failed>
-    ensures { (words : List AWord) → WritesReasons S.contents S.faults replay.now.names words out.old result out.new }
-{
-    match reason {
-        Reason::Id(id) => write_constraint(b"  falsified ", id, constraints, replay, out),
-        Reason::Given | Reason::Negation => write_cause(b"  falsified: ", reason, out),
-    }
-}
-
-/// Writes a constraint of the instance, which may be deleted.
-fn write_violated<S: Sink>(
-    violated: Option<u64>,
-    constraints: &Constraints,
-    replay: &Replay,
-    out: &mut S,
-) -> Result<(), Failed>
-    ensures { (words : List AWord) → WritesReasons S.contents S.faults replay.now.names words out.old result out.new }
-{
-    match violated {
-        Some(id) => write_constraint(b"  violated ", id, constraints, replay, out),
-        None => Ok(()),
-    }
-}
-
-/// Writes the constraint that a conclusion names.
-fn write_named<S: Sink>(
-    id: u64,
-    constraints: &Constraints,
-    replay: &Replay,
-    out: &mut S,
-) -> Result<(), Failed>
-    ensures { (words : List AWord) → WritesReasons S.contents S.faults replay.now.names words out.old result out.new }
-{
-    write_constraint(b"  ", id, constraints, replay, out)
-}
-
-/// Writes a constraint after its id, if there is one.
-fn write_constraint<S: Sink>(
-    label: &[u8],
-    id: u64,
-    constraints: &Constraints,
-    replay: &Replay,
-    out: &mut S,
-) -> Result<(), Failed>
-    ensures { (found : Option Form) × Writes S.contents S.faults out.old (constraint_line label.now replay.now.names id found) result out.new }
-{
-    match constraints.find(id) {
-        Some(stored) => write_shown(label, id, &stored.form, replay, out),
-        None => Ok(()),
-    }
-}
-
-fn write_shown<S: Sink>(
-    label: &[u8],
-    id: u64,
-    form: &Normal,
-    replay: &Replay,
-    out: &mut S,
-) -> Result<(), Failed>
-    ensures { Writes S.contents S.faults out.old (constraint_line label.now replay.now.names id (Some form.now)) result out.new }
-{
-    write_change(label, id, form, replay, out)?;
+    write_pieces(line.pieces.as_slice(), stored, words, replay, out)?;
     write_bytes(b"\n", out)
 }
 
-/// Writes the word with a position, counted from 1, if there is one.
-fn write_exceeded<S: Sink>(position: usize, words: &[PolWord], out: &mut S) -> Result<(), Failed>
-    ensures { (names : List (List ℕ)) → WritesReasons S.contents S.faults names words.now out.old result out.new }
+/// Writes the parts of a line.
+fn write_pieces<S: Sink>(
+    pieces: &[Piece],
+    stored: &[Stored],
+    words: &[PolWord],
+    replay: &Replay,
+    out: &mut S,
+) -> Result<(), Failed>
+    ensures { WritesPieces S.contents S.faults replay.now.names stored.now words.now out.old result out.new }
 {
-    match word_at(words, position) {
-        Some(word) => write_at(position, word, out),
+    for piece in pieces {
+        write_piece(piece, stored, words, replay, out)?;
+    }
+    Ok(())
+}
+
+/// Writes a part of a line.
+fn write_piece<S: Sink>(
+    piece: &Piece,
+    stored: &[Stored],
+    words: &[PolWord],
+    replay: &Replay,
+    out: &mut S,
+) -> Result<(), Failed>
+    ensures { WritesPieces S.contents S.faults replay.now.names stored.now words.now out.old result out.new }
+{
+    write_part(piece, stored, words, replay, out)
+}
+
+fn write_part<S: Sink>(
+    piece: &Piece,
+    stored: &[Stored],
+    words: &[PolWord],
+    replay: &Replay,
+    out: &mut S,
+) -> Result<(), Failed>
+    ensures { Writes S.contents S.faults out.old (piece_bytes replay.now.names stored.now words.now piece.now) result out.new }
+{
+    match piece {
+        Piece::Text(text) => write_bytes(text, out),
+        Piece::Count(count) => write_count(*count, out),
+        Piece::Number(number) => write_number(*number, out),
+        Piece::Literal(variable, negated) => write_numbered(*variable, *negated, replay, out),
+        Piece::Constraint(id) => write_stored(stored_at(stored, *id), replay, out),
+        Piece::Form(form) => write_form(form, replay, out),
+        Piece::Word(position) => write_word_shown(word_at(words, *position), out),
+    }
+}
+
+/// The stored constraint with an id.
+fn stored_at(stored: &[Stored], id: u64) -> Option<&Stored>
+    ensures { option_copied result ≡ slice_get stored.now (id - 1) }
+{
+    stored.get(id.saturating_sub(1) as usize)
+}
+
+/// Writes a stored constraint, if there is one.
+fn write_stored<S: Sink>(found: Option<&Stored>, replay: &Replay, out: &mut S) -> Result<(), Failed>
+    ensures { Writes S.contents S.faults out.old (stored_bytes replay.now.names (option_copied found.entry)) result out.new }
+{
+    match found {
+        Some(found) => write_form(&found.form, replay, out),
         None => Ok(()),
     }
 }
@@ -216,31 +146,12 @@ fn word_at(words: &[PolWord], position: usize) -> Option<&PolWord>
     words.get(position.saturating_sub(1))
 }
 
-fn write_at<S: Sink>(position: usize, word: &PolWord, out: &mut S) -> Result<(), Failed>
-    ensures { Writes S.contents S.faults out.old (word_line position word.now) result out.new }
+/// Writes a word, if there is one.
+fn write_word_shown<S: Sink>(found: Option<&PolWord>, out: &mut S) -> Result<(), Failed>
+    ensures { Writes S.contents S.faults out.old (word_shown (option_copied found.entry)) result out.new }
 {
-    write_bytes(b"  word ", out)?;
-    write_count(position as u64, out)?;
-    write_bytes(b": ", out)?;
-    write_word(word, out)?;
-    write_bytes(b"\n", out)
-}
-
-/// Writes what forces a literal after a label, and a line feed.
-fn write_cause<S: Sink>(label: &[u8], reason: Reason, out: &mut S) -> Result<(), Failed>
-    ensures { Writes S.contents S.faults out.old (cause_line label.now reason) result out.new }
-{
-    write_bytes(label, out)?;
-    write_reason(reason, out)?;
-    write_bytes(b"\n", out)
-}
-
-fn write_reason<S: Sink>(reason: Reason, out: &mut S) -> Result<(), Failed>
-    ensures { Writes S.contents S.faults out.old (reason_bytes reason) result out.new }
-{
-    match reason {
-        Reason::Given => write_bytes(b"the statement", out),
-        Reason::Negation => write_bytes(b"the negation", out),
-        Reason::Id(id) => write_count(id, out),
+    match found {
+        Some(word) => write_word(word, out),
+        None => Ok(()),
     }
 }

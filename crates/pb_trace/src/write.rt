@@ -1,6 +1,6 @@
 //! Lines of a trace.
 
-ghost use Rattle.std.specs.Prelude.{◌≡◌, ◌<◌, ◌^◌, ◌∷◌, ◌++◌, List, ℕ, All, length, map, slice_get, decimal, codes};
+ghost use Rattle.std.specs.Prelude.{◌≡◌, ◌<◌, ◌^◌, ◌-◌, ◌∷◌, ◌++◌, List, ℕ, All, length, map, slice_get, decimal, codes};
 ghost use Rattle.std.specs.Fmt.{signed_decimal};
 ghost use Rattle.std.specs.Option.{option_copied};
 ghost use Rattle.pb_text.specs.meaning.Writing.{Writes};
@@ -10,7 +10,7 @@ ghost use Rattle.pb_proof.specs.meaning.Canonical.{statement_bytes, word_bytes};
 ghost use Rattle.pb_normal.specs.meaning.Form.{total, each};
 ghost use Rattle.pb_normal.specs.meaning.Written.{linear_of};
 ghost use Rattle.pb_trace.specs.Counted.{count_line};
-ghost use Rattle.pb_trace.specs.Changes.{name_shown, term_shown, form_bytes, change_bytes};
+ghost use Rattle.pb_trace.specs.Changes.{name_shown, term_shown, form_bytes, change_bytes, constraint_bytes, id_bytes, origin_bytes};
 
 use pb_normal::{Entry, Normal};
 use pb_proof::{PolWord, Statement, write_statement};
@@ -25,6 +25,15 @@ pub(crate) trait Named {
     /// The name with a number, if there is one.
     fn text_of(&self, number: usize) -> Option<&str>
         ensures { option_copied result ≡ slice_get (names self.now) number };
+}
+
+/// How a trace shows constraints.
+#[derive(Clone, Copy)]
+pub(crate) struct Style<'a> {
+    /// Whether it shows their ids alone.
+    pub(crate) ids: bool,
+    /// The lines in which the constraints of the instance are written.
+    pub(crate) lines: &'a [u64],
 }
 
 /// Writes a count after its name, as a line.
@@ -59,6 +68,73 @@ pub(crate) fn write_change<S: Sink, N: Named>(
     write_count(id, out)?;
     write_bytes(b": ", out)?;
     write_form(form, names, out)
+}
+
+/// Writes an id and its constraint after an arrow, with the line of the instance in which it is written.
+pub(crate) fn write_constraint<S: Sink, N: Named>(
+    style: Style<'_>,
+    arrow: &[u8],
+    id: u64,
+    form: &Normal,
+    names: &N,
+    out: &mut S,
+) -> Result<(), Failed>
+    ensures { Writes S.contents S.faults out.old (constraint_bytes style.entry.ids style.entry.lines.now arrow.now (N.names names.now) id form.now) result out.new }
+{
+    write_id(style.ids, arrow, id, form, names, out)?;
+    write_origin(line_of(style.lines, id), out)
+}
+
+/// Writes an id after an arrow, and its constraint unless only ids are shown.
+fn write_id<S: Sink, N: Named>(
+    ids: bool,
+    arrow: &[u8],
+    id: u64,
+    form: &Normal,
+    names: &N,
+    out: &mut S,
+) -> Result<(), Failed>
+    ensures { Writes S.contents S.faults out.old (id_bytes ids arrow.now (N.names names.now) id form.now) result out.new }
+{
+    if ids {
+        write_numbered_arrow(arrow, id, out)
+    } else {
+        write_change(arrow, id, form, names, out)
+    }
+}
+
+/// Writes an id after an arrow.
+fn write_numbered_arrow<S: Sink>(arrow: &[u8], id: u64, out: &mut S) -> Result<(), Failed>
+    ensures { Writes S.contents S.faults out.old (arrow.now ++ decimal id) result out.new }
+{
+    write_bytes(arrow, out)?;
+    write_count(id, out)
+}
+
+/// The line of the instance in which the constraint with an id is written, if it is known.
+fn line_of(lines: &[u64], id: u64) -> Option<u64>
+    ensures { result ≡ slice_get lines.now (id - 1) }
+{
+    lines.get(id.saturating_sub(1) as usize).copied()
+}
+
+/// Writes the line of the instance in which a constraint is written, if it is known.
+fn write_origin<S: Sink>(line: Option<u64>, out: &mut S) -> Result<(), Failed>
+    ensures { Writes S.contents S.faults out.old (origin_bytes line) result out.new }
+{
+    match line {
+        Some(line) => write_instance_line(line, out),
+        None => Ok(()),
+    }
+}
+
+/// Writes a line of the instance, in parentheses.
+fn write_instance_line<S: Sink>(line: u64, out: &mut S) -> Result<(), Failed>
+    ensures { Writes S.contents S.faults out.old (codes " (instance line " ++ (decimal line ++ codes ")")) result out.new }
+{
+    write_bytes(b" (instance line ", out)?;
+    write_count(line, out)?;
+    write_bytes(b")", out)
 }
 
 /// Writes a form as `tidy --normal` does: `+2 x1 +1 ~x2 >= 2 ;`.

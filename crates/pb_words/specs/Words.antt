@@ -6,13 +6,15 @@ use Rattle.clap.specs.Words.{App, HasKind, IsUnsignedIn, Row, Rule, Text, fault_
 use Rattle.clap.specs.Simple.{on_top}
 use Rattle.clap.specs.declared.error.ErrorKind.TheVariants.{ValueValidation, MissingRequiredArgument}
 use Rattle.clap.specs.declared.builder.action.ArgAction.TheVariants.{SetTrue}
+use Rattle.pb_words.specs.declared.words.Selection.{Selection}
 use Rattle.pb_words.specs.declared.words.Job.{Job}
 use Rattle.pb_words.specs.declared.words.Job.TheVariants.{Show, Tidy, Check, Trace}
 use Rattle.pb_words.specs.declared.words.fault.WordsFault.{WordsFault}
 use Rattle.pb_words.specs.declared.words.fault.WordsFault.TheVariants.{Words, Memory}
 
 -- ---- The command: `pb show`, `pb tidy`, `pb check` and `pb trace`. `show` and `tidy` take FILE, and `tidy` also takes `--normal`.
--- ---- `check` and `trace` take INSTANCE and PROOF, and `check` also takes `--stats` and `--progress`.
+-- ---- `check` and `trace` take INSTANCE, PROOF and `--progress`. `check` also takes `--stats` and `--explain`, and `trace`
+-- ---- `--last`, `--from`, `--to` and `--ids`.
 -- ---- Each of the four takes `--longest`, `--bits` and `--quiet`.
 
 -- an argument that takes a value
@@ -53,10 +55,16 @@ abbrev pub checker_command : Text → App
 checker_command name = with_shared (with_rule (with_rule (new_app name) instance_rule) proof_rule)
 
 abbrev pub check_command : App
-check_command = with_rule (with_rule (checker_command (codes "check")) (switch_rule (codes "stats"))) (switch_rule (codes "progress"))
+check_command =
+    with_rule (with_rule (with_rule (checker_command (codes "check")) (switch_rule (codes "stats"))) (switch_rule (codes "progress"))) (switch_rule (codes "explain"))
+
+-- with the flags that select what a trace prints
+abbrev pub with_selection : App → App
+with_selection command =
+    with_rule (with_rule (with_rule (with_rule command (flag_rule (codes "last"))) (flag_rule (codes "from"))) (flag_rule (codes "to"))) (switch_rule (codes "ids"))
 
 abbrev pub trace_command : App
-trace_command = checker_command (codes "trace")
+trace_command = with_rule (with_selection (checker_command (codes "trace"))) (switch_rule (codes "progress"))
 
 -- the program without its subcommands
 abbrev pub pb_program : App
@@ -101,6 +109,13 @@ abbrev pub AreFilesOf : List Row → String Global → Option (String Global) �
 AreFilesOf rows instance proof =
     (Some (string_bytes instance) ≡ first_of (codes "instance") rows) × (option_map string_bytes proof ≡ first_of (codes "proof") rows)
 
+-- the flags that select what a trace prints
+pub record IsSelection (rows : List Row) (selection : Selection) : Type 0 where
+  pub last_is : IsFlag 0 (2 ^ 40) (first_of (codes "last") rows) selection.last
+  pub from_is : IsFlag 1 (2 ^ 40) (first_of (codes "from") rows) selection.from
+  pub to_is : IsFlag 1 (2 ^ 40) (first_of (codes "to") rows) selection.to
+  pub ids_is : IsSwitch (first_of (codes "ids") rows) selection.ids
+
 -- the name of a subcommand that checks a proof
 abbrev pub IsChecker : Text → Type 0
 IsChecker name = (name ≡ codes "check") ⊎ (name ≡ codes "trace")
@@ -115,11 +130,13 @@ AsksFor None job = ⊥
 AsksFor (Some named) (Show file longest bits quiet) = (named.0 ≡ codes "show") × HasEntries named.1 file longest bits quiet
 AsksFor (Some named) (Tidy normal file longest bits quiet) =
     (named.0 ≡ codes "tidy") × IsSwitch (first_of (codes "normal") named.1) normal × HasEntries named.1 file longest bits quiet
-AsksFor (Some named) (Check instance proof stats progress longest bits quiet) =
+AsksFor (Some named) (Check instance proof stats progress explain longest bits quiet) =
     (named.0 ≡ codes "check") × AreFilesOf named.1 instance proof × IsSwitch (first_of (codes "stats") named.1) stats
+    × IsSwitch (first_of (codes "progress") named.1) progress × IsSwitch (first_of (codes "explain") named.1) explain
+    × AreSharedOf named.1 longest bits quiet
+AsksFor (Some named) (Trace instance proof selection progress longest bits quiet) =
+    (named.0 ≡ codes "trace") × AreFilesOf named.1 instance proof × IsSelection named.1 selection
     × IsSwitch (first_of (codes "progress") named.1) progress × AreSharedOf named.1 longest bits quiet
-AsksFor (Some named) (Trace instance proof longest bits quiet) =
-    (named.0 ≡ codes "trace") × AreFilesOf named.1 instance proof × AreSharedOf named.1 longest bits quiet
 
 abbrev pub AreInRange : Option ℕ → ℕ → Type 0
 AreInRange longest bits = IfSome longest (λ n. (1 ≤ n) × (n ≤ 2 ^ 40)) × (31 ≤ bits) × (bits ≤ 127)
@@ -127,8 +144,8 @@ AreInRange longest bits = IfSome longest (λ n. (1 ≤ n) × (n ≤ 2 ^ 40)) × 
 abbrev pub HasRanges : Job → Type 0
 HasRanges (Show file longest bits quiet) = AreInRange longest bits
 HasRanges (Tidy normal file longest bits quiet) = AreInRange longest bits
-HasRanges (Check instance proof stats progress longest bits quiet) = AreInRange longest bits
-HasRanges (Trace instance proof longest bits quiet) = AreInRange longest bits
+HasRanges (Check instance proof stats progress explain longest bits quiet) = AreInRange longest bits
+HasRanges (Trace instance proof selection progress longest bits quiet) = AreInRange longest bits
 
 -- ---- why a parse finds nothing
 
@@ -151,9 +168,22 @@ abbrev pub IsInstanceFault : List Row → WordsFault → Type 0
 IsInstanceFault rows (Words e) = (kind_of e ≡ MissingRequiredArgument) × (first_of (codes "instance") rows ≡ None)
 IsInstanceFault rows Memory = Unit {0}
 
--- a number of the subcommand is wrong, or `check` or `trace` has no INSTANCE, or memory ran out
+-- memory ran out, or a number of what a trace selects is wrong
+abbrev pub HasWrongSelection : List Row → Type 0
+HasWrongSelection rows =
+    IsSomeAnd (first_of (codes "last") rows) (λ t. ¬ IsUnsignedIn 0 (2 ^ 40) t)
+    ⊎ (IsSomeAnd (first_of (codes "from") rows) (λ t. ¬ IsUnsignedIn 1 (2 ^ 40) t)
+    ⊎ IsSomeAnd (first_of (codes "to") rows) (λ t. ¬ IsUnsignedIn 1 (2 ^ 40) t))
+
+abbrev pub IsSelectionFault : List Row → WordsFault → Type 0
+IsSelectionFault rows (Words e) = (kind_of e ≡ ValueValidation) × HasWrongSelection rows
+IsSelectionFault rows Memory = Unit {0}
+
+-- a number of the subcommand is wrong, or one that `trace` selects by, or `check` or `trace` has no INSTANCE, or memory
+-- ran out
 abbrev pub IsEntryFault : Text × List Row → WordsFault → Type 0
-IsEntryFault named fault = IsNumberFault named.1 fault ⊎ (IsChecker named.0 × IsInstanceFault named.1 fault)
+IsEntryFault named fault =
+    IsNumberFault named.1 fault ⊎ (((named.0 ≡ codes "trace") × IsSelectionFault named.1 fault) ⊎ (IsChecker named.0 × IsInstanceFault named.1 fault))
 
 -- The arguments ask for help, are not valid for the command, or give a wrong number or no instance. Or memory ran out;
 -- `Memory` means that this was after they were found to be valid.

@@ -3,4 +3,4 @@
 
 mod words;
 
-pub use words::{Job, WordsFault, read_words};
+pub use words::{Job, Selection, WordsFault, read_words};

@@ -9,7 +9,8 @@ ghost use Rattle.clap.specs.Words.{subcommand_of};
 ghost use Rattle.clap.specs.Walk.{texts};
 ghost use Rattle.pb_words.specs.Words.{AreFilesOf, AreInRange, AreNumbersOf, AsksFor, ExplainsWords};
 ghost use Rattle.pb_words.specs.Words.{HasRanges, IsEntryFault, IsFlag, IsFlagFault, IsInstanceFault};
-ghost use Rattle.pb_words.specs.Words.{IsNumberFault, IsReader, IsSwitch, pb_command};
+ghost use Rattle.pb_words.specs.Words.{IsNumberFault, IsReader, IsSelection, IsSelectionFault, IsSwitch};
+ghost use Rattle.pb_words.specs.Words.{pb_command};
 
 mod fault;
 mod options;
@@ -23,6 +24,20 @@ use std::alloc::{AllocError, Global};
 
 /// The largest number that `--longest` allows.
 const MOST_BYTES: u64 = 1 << 40;
+
+/// The largest number that `--last`, `--from` and `--to` allow.
+const MOST_LINES: u64 = 1 << 40;
+
+/// Which accepted statements a trace prints, and how. If `from` or `to` is given, they begin in these lines of the proof,
+/// 1 to `2^40`. If `last` is given, only so many of them are printed, the last ones, 0 to `2^40`. If `ids` is true, the ids
+/// of constraints are printed without the constraints.
+#[derive(Clone, Copy, Debug)]
+pub struct Selection {
+    pub last: Option<u64>,
+    pub from: Option<u64>,
+    pub to: Option<u64>,
+    pub ids: bool,
+}
 
 /// What the arguments ask for. `longest` is the maximum number of bytes of a statement, 1 to `2^40`, if there is such a
 /// limit. `bits` is the number of bits of the largest magnitude of a number, 31 to 127. If `quiet` is true, no hint
@@ -46,20 +61,25 @@ pub enum Job {
         quiet: bool,
     },
     /// Check whether the proof, or standard input, proves what it claims about the instance. If `stats` is true, counts
-    /// are printed after the check. If `progress` is true, a progress line is printed while it runs.
+    /// are printed after the check. If `progress` is true, a progress line is printed while it runs. If `explain` is true,
+    /// the reasons are printed if a statement is rejected.
     Check {
         instance: String,
         proof: Option<String>,
         stats: bool,
         progress: bool,
+        explain: bool,
         longest: Option<u64>,
         bits: u32,
         quiet: bool,
     },
-    /// Check the proof, or standard input, and print each statement with the constraints that it adds.
+    /// Check the proof, or standard input, and print the selected statements with the constraints that they add, and the
+    /// reasons if a statement is rejected. If `progress` is true, a progress line is printed while it runs.
     Trace {
         instance: String,
         proof: Option<String>,
+        selection: Selection,
+        progress: bool,
         longest: Option<u64>,
         bits: u32,
         quiet: bool,
@@ -82,7 +102,7 @@ pub fn read_words(alloc: Global, words: &[&str]) -> Result<Job, WordsFault>
 }
 
 /// What a subcommand with these entries asks for.
-#[tactic(auto, using(crate::proofs::lemmas::Entries::wrong_number, crate::proofs::lemmas::Entries::lacks_instance))]
+#[tactic(auto, using(crate::proofs::lemmas::Entries::wrong_number, crate::proofs::lemmas::Entries::lacks_instance, crate::proofs::lemmas::Entries::wrong_selection))]
 fn job_of(alloc: Global, name: &str, given: &ArgMatches<'_>) -> Result<Job, WordsFault>
     requires { IsReader name.now }
     ensures ok { IfOk result (AsksFor (Some (name.now, rows_of (found_of given.now)))) }
@@ -112,16 +132,21 @@ fn job_of(alloc: Global, name: &str, given: &ArgMatches<'_>) -> Result<Job, Word
                 proof,
                 stats: is_given(given, "stats"),
                 progress: is_given(given, "progress"),
+                explain: is_given(given, "explain"),
                 longest,
                 bits,
                 quiet,
             })
         }
         _ => {
+            let selection = selection_of(alloc, name, given)?;
             let (instance, proof) = files_of(alloc, name, given)?;
+            let progress = is_given(given, "progress");
             Ok(Job::Trace {
                 instance,
                 proof,
+                selection,
+                progress,
                 longest,
                 bits,
                 quiet,
@@ -153,6 +178,23 @@ fn longest_of(alloc: Global, name: &str, given: &ArgMatches<'_>) -> Result<Optio
         (IsFlagFault 1 (2 ^ 40) (first_of (codes "longest") (rows_of (found_of given.now)))) }
 {
     flag_number(alloc, name, given, "longest", 1, MOST_BYTES)
+}
+
+/// What the flags of `trace` select.
+fn selection_of(alloc: Global, name: &str, given: &ArgMatches<'_>) -> Result<Selection, WordsFault>
+    ensures ok { IfOk result (IsSelection (rows_of (found_of given.now))) }
+    ensures err { IfErr result (IsSelectionFault (rows_of (found_of given.now))) }
+{
+    let last = flag_number(alloc, name, given, "last", 0, MOST_LINES)?;
+    let from = flag_number(alloc, name, given, "from", 1, MOST_LINES)?;
+    let to = flag_number(alloc, name, given, "to", 1, MOST_LINES)?;
+    let ids = is_given(given, "ids");
+    Ok(Selection {
+        last,
+        from,
+        to,
+        ids,
+    })
 }
 
 /// The names of the instance and, if one is given, of the proof, for the subcommand with this name.

@@ -7,7 +7,7 @@ use Rattle.std.specs.Str.Parse.{digits_value, without_leading_plus}
 use Rattle.clap.specs.Words.{IsUnsignedIn}
 use Rattle.clap.specs.Walk.{Row}
 use Rattle.pb_words.specs.declared.words.fault.WordsFault.{WordsFault}
-use Rattle.pb_words.specs.Words.{IsChecker, IsEntryFault, IsFlag, IsInstanceFault, IsNumberFault, IsSwitch}
+use Rattle.pb_words.specs.Words.{IsChecker, IsEntryFault, IsFlag, IsInstanceFault, IsNumberFault, IsSelectionFault, IsSwitch}
 
 pub absent : (low high : ℕ) (found : Option (List ℕ)) → None ≡ found → IsFlag low high found None
 absent low high found e = subst (λ (t : Option (List ℕ)). IsFlag low high t None) e refl
@@ -38,4 +38,7 @@ pub wrong_number : (name : List ℕ) (rows : List Row) (fault : WordsFault) → 
 wrong_number name rows fault is = inl is
 
 pub lacks_instance : (name : List ℕ) (rows : List Row) (fault : WordsFault) → IsChecker name → IsInstanceFault rows fault → IsEntryFault (name, rows) fault
-lacks_instance name rows fault named is = inr (named, is)
+lacks_instance name rows fault named is = inr (inr (named, is))
+
+pub wrong_selection : (name : List ℕ) (rows : List Row) (fault : WordsFault) → name ≡ codes "trace" → IsSelectionFault rows fault → IsEntryFault (name, rows) fault
+wrong_selection name rows fault named is = inr (inl (named, is))

@@ -6,6 +6,7 @@ ghost use Rattle.clap.specs.declared.builder.Command.TheViews.{out-Command as fi
 ghost use Rattle.pb_words.specs.Words.{check_command, checker_command, flag_rule, instance_rule};
 ghost use Rattle.pb_words.specs.Words.{pb_command, pb_program, reader_command, show_command};
 ghost use Rattle.pb_words.specs.Words.{switch_rule, tidy_command, trace_command, value_rule};
+ghost use Rattle.pb_words.specs.Words.{with_selection as with_selection_rules};
 ghost use Rattle.pb_words.specs.Words.{with_shared as with_shared_rules};
 
 use clap::error::ErrorKind;
@@ -48,7 +49,8 @@ With --stats it also prints counts on standard error.
 Exit status:
   0  the proof was verified
   1  the instance or the proof was rejected: standard error has the reason, and the position
-     if there is one, and nothing was printed
+     if there is one, and nothing was printed. With --explain further lines say why a statement
+     was rejected, as pb trace prints them
   2  usage error
   3  a file could not be opened or read, the output could not be written, or memory ran out";
 
@@ -66,7 +68,9 @@ and proof.pbp has the lines
   end pseudo-Boolean proof
 pb trace instance.opb proof.pbp prints
   1:1 pseudo-Boolean proof version 2.0
-  2:1 f 2 -> 1: +1 x1 >= 1 ; -> 2: +1 ~x1 >= 1 ;
+  2:1 f 2
+    -> 1: +1 x1 >= 1 ; (instance line 2)
+    -> 2: +1 ~x1 >= 1 ; (instance line 3)
   3:1 pol 1 2 + -> 3: >= 1 ;
   4:1 output NONE
   5:1 conclusion UNSAT : 3
@@ -77,8 +81,8 @@ Exit status:
   0  the proof was verified
   1  the instance or the proof was rejected: standard error has the reason, and the position
      if there is one, and the statements before that position were printed. After a rejected
-     statement come lines that say why: the literals that are propagated, each with the id of the
-     constraint that forces it, and the constraint that is falsified or violated
+     statement come lines that say why: what was looked at, with the lines where it is written,
+     and for a rup each literal that is propagated, with the constraint that forces it
   2  usage error
   3  a file could not be opened or read, the output could not be written, or memory ran out";
 
@@ -216,6 +220,11 @@ fn check<'a>(alloc: Global) -> Result<Command<'a>, AllocError>
         alloc,
         "progress",
         "While the check runs, print a progress line on standard error",
+    ))?
+    .arg(switch(
+        alloc,
+        "explain",
+        "If a statement is rejected, print the reasons on standard error, after the line of the fault",
     ))
 }
 
@@ -223,12 +232,49 @@ fn trace<'a>(alloc: Global) -> Result<Command<'a>, AllocError>
     ensures app { IfOk result (λ c. app_of c ≡ trace_command) }
     ensures local { IfOk result (λ c. (fields_of c).has_globals ≡ false) }
 {
-    checker(
+    let command = checker(
         alloc,
         "trace",
         "Check a proof as check does, and print each statement with the constraints that it adds; if a statement is rejected, print why",
         TRACE_HELP,
-    )
+    )?;
+    with_selection(alloc, command)?.arg(switch(
+        alloc,
+        "progress",
+        "While the check runs, print a progress line on standard error",
+    ))
+}
+
+/// A subcommand with the flags that select what a trace prints, after its other arguments.
+fn with_selection<'a>(alloc: Global, command: Command<'a>) -> Result<Command<'a>, AllocError>
+    requires { (fields_of command).has_globals ≡ false }
+    ensures app { IfOk result (λ c. app_of c ≡ with_selection_rules (app_of command.entry)) }
+    ensures local { IfOk result (λ c. (fields_of c).has_globals ≡ false) }
+{
+    command
+        .arg(flag(
+            alloc,
+            "last",
+            "N",
+            "Print only the last N accepted statements",
+        ))?
+        .arg(flag(
+            alloc,
+            "from",
+            "LINE",
+            "Print only accepted statements that begin in this line of the proof or after it",
+        ))?
+        .arg(flag(
+            alloc,
+            "to",
+            "LINE",
+            "Print only accepted statements that begin in this line of the proof or before it",
+        ))?
+        .arg(switch(
+            alloc,
+            "ids",
+            "Print the ids of constraints without the constraints",
+        ))
 }
 
 /// A subcommand that checks a proof of an instance.

@@ -3,7 +3,7 @@ use mir.Val.{SFits}
 use Rattle.std.specs.Int.{w64}
 use Rattle.std.proofs.lemmas.Int.{to_z-of_z}
 use Rattle.pb_text.proofs.lemmas.text.Parts.{part_then, part_broke, part_wrote}
-use Rattle.pb_trace.specs.Traced.{live_in}
+use Rattle.pb_trace.specs.Live.{live_in}
 use Rattle.pb_trace.proofs.Deleting.{deleted_at, deleted_more, without_more}
 use Rattle.pb_trace.proofs.line.write_deleted.Goals as goal
 
@@ -11,7 +11,7 @@ pub returns-in_err-write_deletion-clause-text : goal.returns-in_err-write_deleti
 returns-in_err-write_deletion-clause-text g c =
     let id : ℤ = get_or c.args.ids.now c.loop-id.id-index (pos 0) in
     let fits : SFits w64 id = search rules in
-    part_then g.S.Sink.contents g.S.Sink.faults _ _ _ _ _ _ _ (deleted_at c.args.replay.now.names (live_in c.args.constraints.now.forms.items) c.args.ids.now c.loop-id.id-index (pos 0) (omega arith)) c.loop-id.invariant.0
+    part_then g.S.Sink.contents g.S.Sink.faults _ _ _ _ _ _ _ (deleted_at c.args.style.ids c.args.style.lines.now c.args.replay.now.names (live_in c.args.constraints.now.forms.items) c.args.ids.now c.loop-id.id-index (pos 0) (omega arith)) c.loop-id.invariant.0
     (part_broke g.S.Sink.contents g.S.Sink.faults _ _ _ _ _ _ refl c.from_residual.ensures.0
     (rw (to_z-of_z w64 id fits, c.loop-id.invariant.1) at c.in_err-write_deletion.ensures.text))
 
@@ -21,7 +21,7 @@ loop-id-preserved g c =
     let fits : SFits w64 id = search rules in
     let names = c.args.replay.now.names in
     let live = live_in c.args.constraints.now.forms.items in (
-      part_wrote g.S.Sink.contents g.S.Sink.faults _ _ _ _ _ _ (deleted_more names live c.args.ids.now c.loop-id.id-index (pos 0) (omega arith)) c.loop-id.invariant.0
+      part_wrote g.S.Sink.contents g.S.Sink.faults _ _ _ _ _ _ (deleted_more c.args.style.ids c.args.style.lines.now names live c.args.ids.now c.loop-id.id-index (pos 0) (omega arith)) c.loop-id.invariant.0
           (rw (to_z-of_z w64 id fits, c.loop-id.invariant.1) at c.in_ok-write_deletion.ensures.text),
       (rw (to_z-of_z w64 id fits, c.loop-id.invariant.1) at c.in_ok-write_deletion.ensures.stored)
           ∙ sym (without_more live c.args.ids.now c.loop-id.id-index (pos 0) (omega arith)),

@@ -1,10 +1,11 @@
 use Rattle.std.proofs.Common.{◌≡◌, take}
 use Rattle.pb_text.specs.meaning.Writing.{Wrote}
-use Rattle.pb_trace.specs.Traced.{deleted_bytes, live_in, without_all}
+use Rattle.pb_trace.specs.Traced.{deleted_bytes, without_all}
+use Rattle.pb_trace.specs.Live.{live_in}
 use Rattle.pb_trace.proofs.line.write_deleted.Given as goal
 
 -- the constraints so far are written and deleted
 abbrev pub invariant-loop-id : goal.invariant-loop-id
 invariant-loop-id g l =
-    Wrote g.S.Sink.contents g.S.Sink.faults l.initial.out (deleted_bytes l.replay.names (live_in l.initial.constraints.forms.items) (take l.id-index l.ids)) l.out
+    Wrote g.S.Sink.contents g.S.Sink.faults l.initial.out (deleted_bytes l.style.ids l.style.lines.now l.replay.names (live_in l.initial.constraints.forms.items) (take l.id-index l.ids)) l.out
     × (live_in l.constraints.forms.items ≡ without_all (live_in l.initial.constraints.forms.items) (take l.id-index l.ids))

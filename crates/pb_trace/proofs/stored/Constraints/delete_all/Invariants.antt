@@ -1,0 +1,8 @@
+use Rattle.std.proofs.Common.{◌≡◌, take}
+use Rattle.pb_trace.specs.Live.{live_in}
+use Rattle.pb_trace.specs.Traced.{without_all}
+use Rattle.pb_trace.proofs.stored.Constraints.delete_all.Given as goal
+
+-- the constraints so far are deleted
+abbrev pub invariant-loop-id : goal.invariant-loop-id
+invariant-loop-id l = live_in l.self.forms.items ≡ without_all (live_in l.initial.self.forms.items) (take l.id-index l.ids)

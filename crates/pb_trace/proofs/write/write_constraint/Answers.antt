@@ -1,0 +1,12 @@
+use Rattle.std.proofs.Common.{refl}
+use Rattle.pb_text.proofs.lemmas.text.Parts.{part_then, part_broke}
+use Rattle.pb_trace.proofs.write.write_constraint.Goals as goal
+
+pub returns-in_err-write_id : goal.returns-in_err-write_id
+returns-in_err-write_id g c =
+    part_broke g.S.Sink.contents g.S.Sink.faults _ _ _ _ _ _ refl c.from_residual.ensures.0 c.in_err-write_id.ensures
+
+pub returns : goal.returns
+returns g c =
+    part_then g.S.Sink.contents g.S.Sink.faults _ _ _ _ _ _ _ refl c.in_ok-write_id.ensures
+    (rw c.line_of.ensures at c.write_origin.ensures)

@@ -1,0 +1,200 @@
+//! What came near to a conflict, and what would lead to one.
+
+use crate::piece::Piece;
+use crate::propagation::{Forced, Propagation, Reason};
+use crate::reasons::{Scene, number};
+use pb_normal::Normal;
+use std::alloc::AllocError;
+
+/// How many of the constraints that came nearest to a conflict are shown.
+const NEAREST: usize = 5;
+
+/// How many literals are shown with which a clause would be implied.
+const LACKING: usize = 20;
+
+/// How many literals are tried for that, or a few more.
+const TRIED: usize = 2000;
+
+/// A constraint near to a conflict: how near, how many of its literals are open, and its id.
+#[derive(Clone, Copy)]
+pub(crate) struct Near {
+    distance: u128,
+    open: usize,
+    id: u64,
+}
+
+impl Near {
+    /// Whether it is nearer than another one. Of two that are as near, the newer one is.
+    fn is_before(&self, other: &Near) -> bool {
+        if self.distance != other.distance {
+            return self.distance < other.distance;
+        }
+        if self.open != other.open {
+            return self.open < other.open;
+        }
+        self.id > other.id
+    }
+}
+
+impl Scene<'_> {
+    /// The live constraints that came nearest to a conflict.
+    pub(crate) fn say_near(
+        &mut self,
+        propagation: &Propagation,
+        nearest: &[Near],
+    ) -> Result<(), AllocError> {
+        if nearest.is_empty() {
+            return self.say_text(b"no conflict: no live constraint with an open literal is left");
+        }
+        self.say_text(b"no conflict: these live constraints came nearest to one")?;
+        for near in nearest {
+            let Some(stored) = self.constraints.find(near.id) else {
+                continue;
+            };
+            let slack = propagation
+                .open_sum(&stored.form)
+                .saturating_sub(stored.form.degree().unsigned_abs());
+            let mut pieces = vec![in self.alloc; Piece::Text(b"near ")]?;
+            self.push_constraint(&mut pieces, near.id)?;
+            pieces.push(Piece::Text(b", slack "))?;
+            pieces.push(number(slack))?;
+            pieces.push(Piece::Text(b", open"))?;
+            for entry in stored.form.entries() {
+                if propagation.value(entry.variable).is_none() {
+                    pieces.push(Piece::Text(b" "))?;
+                    pieces.push(Piece::Literal(entry.variable, entry.negated))?;
+                }
+            }
+            self.say(pieces)?;
+        }
+        Ok(())
+    }
+
+    /// The literals with which, as a further one, a clause would be implied. Those of the constraints nearest to a
+    /// conflict come first.
+    pub(crate) fn say_lacking(
+        &mut self,
+        propagation: &Propagation,
+        negation: &Normal,
+        nearest: &[Near],
+    ) -> Result<(), AllocError> {
+        let mut pieces = vec![in self.alloc; Piece::Text(b"implied with one more literal:")]?;
+        let mut found: Vec<(usize, bool)> = Vec::new(self.alloc);
+        for literal in self.open_literals(propagation, nearest)?.as_slice() {
+            if found.len() >= LACKING {
+                break;
+            }
+            let (variable, negated) = *literal;
+            if !found.contains(literal) && self.is_lacking(propagation, negation, *literal)? {
+                found.push(*literal)?;
+                pieces.push(Piece::Text(b" "))?;
+                pieces.push(Piece::Literal(variable, negated))?;
+            }
+        }
+        if found.is_empty() {
+            return Ok(());
+        }
+        self.say(pieces)
+    }
+
+    /// Whether a conflict follows if a literal is false.
+    fn is_lacking(
+        &self,
+        propagation: &Propagation,
+        negation: &Normal,
+        literal: (usize, bool),
+    ) -> Result<bool, AllocError> {
+        let (variable, negated) = literal;
+        let forced = Forced {
+            variable,
+            negated: !negated,
+            reason: Reason::Given,
+            slack: 0,
+        };
+        propagation.conflicts_with(forced, Some(negation), self.constraints.all())
+    }
+
+    /// Literals without a value, not too many: those of some constraints, and then others.
+    fn open_literals(
+        &self,
+        propagation: &Propagation,
+        nearest: &[Near],
+    ) -> Result<Vec<(usize, bool)>, AllocError> {
+        let mut literals = Vec::new(self.alloc);
+        for near in nearest {
+            if let Some(stored) = self.constraints.find(near.id) {
+                for entry in stored.form.entries() {
+                    if propagation.value(entry.variable).is_none() {
+                        literals.push((entry.variable, entry.negated))?;
+                    }
+                }
+            }
+        }
+        for variable in 0..self.names.len() {
+            if literals.len() >= TRIED {
+                break;
+            }
+            if propagation.value(variable).is_none() {
+                literals.push((variable, true))?;
+                literals.push((variable, false))?;
+            }
+        }
+        Ok(literals)
+    }
+
+    /// At most five live constraints, those nearest to a conflict first.
+    pub(crate) fn nearest(&self, propagation: &Propagation) -> Result<Vec<Near>, AllocError> {
+        let mut nearest: Vec<Near> = Vec::new(self.alloc);
+        let mut id = 0u64;
+        for stored in self.constraints.all() {
+            id = id.saturating_add(1);
+            if !stored.is_live {
+                continue;
+            }
+            if let Some(near) = near_of(propagation, &stored.form, id) {
+                keep_near(&mut nearest, near)?;
+            }
+        }
+        Ok(nearest)
+    }
+}
+
+/// How near a constraint came to a conflict, if a literal of it is open and it is not satisfied: its slack over the least
+/// coefficient of an open literal.
+fn near_of(propagation: &Propagation, form: &Normal, id: u64) -> Option<Near> {
+    let degree = form.degree().unsigned_abs();
+    if propagation.true_sum(form) >= degree {
+        return None;
+    }
+    let mut open = 0usize;
+    let mut least = u128::MAX;
+    for entry in form.entries() {
+        if propagation.value(entry.variable).is_none() {
+            open = open.saturating_add(1);
+            least = least.min(entry.coefficient);
+        }
+    }
+    if open == 0 {
+        return None;
+    }
+    let slack = propagation.open_sum(form).saturating_sub(degree);
+    let distance = slack.checked_div(least).unwrap_or(slack);
+    Some(Near { distance, open, id })
+}
+
+/// Keeps a constraint among the nearest ones, in order.
+fn keep_near(nearest: &mut Vec<Near>, near: Near) -> Result<(), AllocError> {
+    let mut at = nearest.len();
+    for index in 0..nearest.len() {
+        if near.is_before(&nearest[index]) {
+            at = index;
+            break;
+        }
+    }
+    if at >= NEAREST {
+        return Ok(());
+    }
+    nearest.insert(at.min(nearest.len()), near)?;
+    nearest.truncate(NEAREST);
+    Ok(())
+}

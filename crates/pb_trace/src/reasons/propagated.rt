@@ -1,0 +1,252 @@
+//! What propagates from the negation of a goal, or from the literals of a solution.
+
+use crate::piece::Piece;
+use crate::propagation::{Forced, Over, Propagation, Reason};
+use crate::reasons::{Scene, copied, number};
+use pb_normal::{Normal, NormalFault, Side};
+use pb_replay::Fault;
+use pb_sums::{Linear, Literal};
+use std::alloc::AllocError;
+
+impl Scene<'_> {
+    /// Why propagation does not show the constraint of a `rup`.
+    pub(crate) fn say_not_implied(&mut self, goal: &Linear) -> Result<(), AllocError> {
+        match self.form_of(goal)? {
+            Some(form) => self.say_not_shown(&form),
+            None => Ok(()),
+        }
+    }
+
+    /// The form of a written constraint, if it is within the limits.
+    pub(crate) fn form_of(&mut self, goal: &Linear) -> Result<Option<Normal>, AllocError> {
+        let side = Side::AtLeast;
+        match Normal::from_linear(self.alloc, &mut self.names, goal, side, self.limits) {
+            Ok(form) => Ok(Some(form)),
+            Err(NormalFault::Overflow) => Ok(None),
+            Err(NormalFault::Memory) => Err(AllocError),
+        }
+    }
+
+    /// The negation of a goal, what it propagates, and what came nearest to a conflict.
+    pub(crate) fn say_not_shown(&mut self, goal: &Normal) -> Result<(), AllocError> {
+        if goal.degree() < 1 {
+            return Ok(());
+        }
+        let Ok(negation) = goal.negation() else {
+            return Err(AllocError);
+        };
+        self.say(vec![in self.alloc;
+            Piece::Text(b"negation: "),
+            Piece::Form(copied(&negation)?),
+        ]?)?;
+        let mut propagation = Propagation::new(self.alloc, self.names.len())?;
+        propagation.propagate(Some(&negation), self.constraints.all(), Over::Live)?;
+        self.say_propagation(&propagation)?;
+        if propagation.conflict.is_none() {
+            let nearest = self.nearest(&propagation)?;
+            self.say_near(&propagation, nearest.as_slice())?;
+            if goal.degree() == 1 {
+                self.say_lacking(&propagation, &negation, nearest.as_slice())?;
+            }
+            self.say_with_deleted(&negation)?;
+        }
+        Ok(())
+    }
+
+    /// Whether a goal is shown by propagation over the live constraints.
+    pub(crate) fn is_shown(&self, goal: &Normal) -> Result<bool, AllocError> {
+        if goal.degree() < 1 {
+            return Ok(true);
+        }
+        let Ok(negation) = goal.negation() else {
+            return Err(AllocError);
+        };
+        let mut propagation = Propagation::new(self.alloc, self.names.len())?;
+        propagation.propagate(Some(&negation), self.constraints.all(), Over::Live)?;
+        Ok(propagation.conflict.is_some())
+    }
+
+    /// What the literals of a solution propagate over the live constraints, and what that violates.
+    pub(crate) fn say_solution(
+        &mut self,
+        given: &[Literal],
+        fault: Fault,
+    ) -> Result<(), AllocError> {
+        let propagation = self.say_given(given, Over::Live)?;
+        let count = self.names.len();
+        match fault {
+            Fault::NotTotal(_) => self.say_open(&propagation, count),
+            Fault::Violates(id) => self.say_violated(&propagation, id),
+            _ => Ok(()),
+        }
+    }
+
+    /// What the literals of a solution propagate.
+    pub(crate) fn say_given(
+        &mut self,
+        given: &[Literal],
+        over: Over,
+    ) -> Result<Propagation, AllocError> {
+        let mut propagation = Propagation::new(self.alloc, self.names.len())?;
+        for literal in given {
+            if let Some(number) = self.names.number_of(literal.name.as_str()) {
+                if propagation.value(number) == Some(literal.negated) {
+                    propagation.conflict = Some(Reason::Given);
+                }
+                propagation.force(Forced {
+                    variable: number,
+                    negated: literal.negated,
+                    reason: Reason::Given,
+                    slack: 0,
+                })?;
+            }
+        }
+        propagation.propagate(None, self.constraints.all(), over)?;
+        self.say_propagation(&propagation)?;
+        Ok(propagation)
+    }
+
+    /// The literals that became true, each with its reason, and what is falsified.
+    fn say_propagation(&mut self, propagation: &Propagation) -> Result<(), AllocError> {
+        for forced in propagation.forced.as_slice() {
+            self.say_forced(*forced)?;
+        }
+        match propagation.conflict {
+            None => Ok(()),
+            Some(Reason::Given) => self.say_text(b"falsified: the statement"),
+            Some(Reason::Negation) => self.say_text(b"falsified: the negation"),
+            Some(Reason::Id(id)) => self.say_constraint(b"falsified ", id),
+        }
+    }
+
+    /// A literal that became true, with what forced it.
+    fn say_forced(&mut self, forced: Forced) -> Result<(), AllocError> {
+        let mut pieces = vec![in self.alloc;
+            Piece::Literal(forced.variable, forced.negated),
+            Piece::Text(b" by "),
+        ]?;
+        match forced.reason {
+            Reason::Given => pieces.push(Piece::Text(b"the statement"))?,
+            Reason::Negation => {
+                pieces.push(Piece::Text(b"the negation, slack "))?;
+                pieces.push(number(forced.slack))?;
+            }
+            Reason::Id(id) => {
+                self.push_constraint(&mut pieces, id)?;
+                pieces.push(Piece::Text(b", slack "))?;
+                pieces.push(number(forced.slack))?;
+            }
+        }
+        self.say(pieces)
+    }
+
+    /// The names without a value, of so many.
+    pub(crate) fn say_open(
+        &mut self,
+        propagation: &Propagation,
+        names: usize,
+    ) -> Result<(), AllocError> {
+        let mut pieces = vec![in self.alloc; Piece::Text(b"no value:")]?;
+        for variable in 0..names {
+            if propagation.value(variable).is_none() {
+                pieces.push(Piece::Text(b" "))?;
+                pieces.push(Piece::Literal(variable, false))?;
+            }
+        }
+        self.say(pieces)
+    }
+
+    /// A constraint of the instance that is violated, and what its true literals sum to.
+    pub(crate) fn say_violated(
+        &mut self,
+        propagation: &Propagation,
+        id: u64,
+    ) -> Result<(), AllocError> {
+        let Some(stored) = self.constraints.find(id) else {
+            return Ok(());
+        };
+        let sum = propagation.true_sum(&stored.form);
+        let mut pieces = vec![in self.alloc; Piece::Text(b"violated ")]?;
+        self.push_constraint(&mut pieces, id)?;
+        pieces.push(Piece::Text(b", its true literals sum to "))?;
+        pieces.push(number(sum))?;
+        self.say(pieces)
+    }
+
+    /// Whether the goal would be shown with the deleted constraints back, and by which of them.
+    fn say_with_deleted(&mut self, negation: &Normal) -> Result<(), AllocError> {
+        if !self
+            .constraints
+            .all()
+            .iter()
+            .any(|stored| stored.deleted > 0)
+        {
+            return Ok(());
+        }
+        let mut propagation = Propagation::new(self.alloc, self.names.len())?;
+        propagation.propagate(Some(negation), self.constraints.all(), Over::All)?;
+        let Some(conflict) = propagation.conflict else {
+            return self.say_text(b"not implied either with the deleted constraints back");
+        };
+        self.say_text(b"implied with these deleted constraints back")?;
+        for id in self.used(negation, &propagation, conflict)?.as_slice() {
+            if let Some(stored) = self.constraints.find(*id)
+                && !stored.is_live
+            {
+                self.say_constraint(b"deleted ", *id)?;
+            }
+        }
+        Ok(())
+    }
+
+    /// The ids of the constraints that a conflict needs, the last one first.
+    fn used(
+        &self,
+        negation: &Normal,
+        propagation: &Propagation,
+        conflict: Reason,
+    ) -> Result<Vec<u64>, AllocError> {
+        let mut ids = Vec::new(self.alloc);
+        let mut needed: Vec<bool> = Vec::new(self.alloc);
+        for _ in 0..self.names.len() {
+            needed.push(false)?;
+        }
+        self.need(negation, propagation, conflict, &mut needed, &mut ids)?;
+        for forced in propagation.forced.iter().rev() {
+            if let Some(true) = needed.get(forced.variable) {
+                self.need(negation, propagation, forced.reason, &mut needed, &mut ids)?;
+            }
+        }
+        Ok(ids)
+    }
+
+    /// Notes a constraint, and that its false literals are needed.
+    fn need(
+        &self,
+        negation: &Normal,
+        propagation: &Propagation,
+        reason: Reason,
+        needed: &mut Vec<bool>,
+        ids: &mut Vec<u64>,
+    ) -> Result<(), AllocError> {
+        let form = match reason {
+            Reason::Given => return Ok(()),
+            Reason::Negation => negation,
+            Reason::Id(id) => match self.constraints.find(id) {
+                Some(stored) => {
+                    ids.push(id)?;
+                    &stored.form
+                }
+                None => return Ok(()),
+            },
+        };
+        for entry in form.entries() {
+            if propagation.is_false(entry)
+                && let Some(needs) = needed.get_mut(entry.variable)
+            {
+                *needs = true;
+            }
+        }
+        Ok(())
+    }
+}
