@@ -1,10 +1,11 @@
 /*
 ** pb: pseudo-Boolean instances (OPB) and proofs (VeriPB 2.0), read, written and checked.
 **
-** This file declares the functions of libpb.a. Each does for bytes in memory what the command of its name does for files:
-** pb_check() what `pb check` does, pb_tidy() what `pb tidy` does, and pb_show() what `pb show` does. Each is proved against
-** its contract in crates/pb_c. The proof relies on the toolchain, and on callers that keep the rules for pointers, rooms and
-** memory below.
+** This file declares the functions of libpb.a. Three do for bytes in memory what the command of that name does for files:
+** pb_check() what `pb check` does, pb_tidy() what `pb tidy` does, and pb_show() what `pb show` does. A pb_checker_t checks a
+** proof in the pieces in which it is written, and a pb_instance_t has an instance as arrays. Each function is proved against its
+** contract in crates/pb_c. The proof relies on the toolchain, and on callers that keep the rules for pointers, rooms and memory
+** below.
 */
 #ifndef PB_H
 #define PB_H
@@ -39,7 +40,7 @@ uint32_t pb_version(void);
 ** PB_OK       All was read and accepted. For pb_check(): the proof is verified, and the line has the verdict.
 ** PB_REFUSED  A text is refused, and the line says where and why. It is no instance, or no proof, or a statement of the proof
 **             is wrong, or a number exceeds its limit.
-** PB_MISUSE   The options are not allowed. Nothing was read.
+** PB_MISUSE   The options are not allowed, or a checker is closed. Nothing was read.
 ** PB_FAILED   Memory ran out. Nothing is known of the text.
 **
 ** If memory runs out for the text that is written, the line is "output: write fault". If it runs out for the line of a fault
@@ -93,10 +94,11 @@ typedef struct pb_options_t {
 ** call writes to, the room and the length, may not overlap anything else that it is given. While a call runs, no other thread
 ** may write to the texts or the options, or read or write the room or the length.
 **
-** Memory. The library allocates by malloc(), realloc() and free() of the program, and frees all of it before a call returns.
-** These three have to belong to one allocator. They have to align a block to each power of two up to 16 that divides its
-** size. Calls keep no state, and may run at the same time in several threads. No call may be made from a signal handler, nor
-** between fork() and exec() in a child of a process that had several threads.
+** Memory. The library allocates by malloc(), realloc() and free() of the program. It frees all of it before a call returns,
+** except what a checker or an instance stores until it is closed. These three have to belong to one allocator. They have to
+** align a block to each power of two up to 16 that divides its size. Calls keep no other state, and may run at the same time in
+** several threads. No call may be made from a signal handler, nor between fork() and exec() in a child of a process that had
+** several threads.
 **
 ** Nothing else is done: no call reads or writes a file, prints, or ends the program.
 */
@@ -152,6 +154,242 @@ uint8_t pb_tidy(const uint8_t *text, size_t text_len, bool normal,
 uint8_t pb_show(const uint8_t *text, size_t text_len,
                 const pb_options_t *options,
                 uint8_t *out, size_t out_room, size_t *out_len);
+
+/*
+** CAPI: A Checker In Pieces
+**
+** A checker checks the proof of one instance while the proof is written. It is fed with pieces of the proof, cut anywhere. Each
+** statement is checked as soon as its last byte has come. The answer is that of pb_check() for the instance and the joined
+** pieces.
+**
+**     pb_checker_t checker = PB_CHECKER_CLOSED;
+**     pb_report_t report;
+**     pb_claim_t claim;
+**     size_t used;
+**     status = pb_checker_open(instance, instance_len, &options, &checker, &report);
+**     while (status == PB_OK && next_piece(&piece, &piece_len))
+**         status = pb_checker_feed(&checker, piece, piece_len, &used, &report);
+**     if (status == PB_OK)
+**         status = pb_checker_finish(&checker, &claim, &report);
+**     pb_checker_close(&checker);
+**
+** A pb_checker_t is closed, or it owns a checker. Begin with PB_CHECKER_CLOSED, and change nothing in it. A copy owns nothing:
+** do not use it after a call was made with the original, nor the original after one with the copy. Any number may be open at
+** the same time. A checker belongs to the thread that opened it, and each call with it has to be made there. No two calls with
+** the same pb_checker_t may run at the same time.
+**
+** pb_checker_open() reads an instance, and opens a checker for proofs of it. It first closes what the pb_checker_t owned. The
+** bytes of the instance are not needed after the call. At any result but PB_OK the pb_checker_t is closed.
+**
+** pb_checker_feed() takes a piece of the proof. It sets `used` to the number of its bytes that belong to the proof: all of them
+** until the proof has ended, and none after that. The bytes after the proof are stored for pb_checker_finish(). At any result
+** but PB_OK `used` is 0. After the first rejection each call returns the same result and report.
+**
+** pb_checker_finish() says what the proof shows if it ends here. Only white space and comments may follow its last statement.
+** With PB_OK it changes nothing in the checker. A proof that has not ended is rejected with PB_ENDED, and so is each later
+** piece.
+**
+** pb_checker_place() sets the position of the next byte of the proof. After its last statement the position stays.
+**
+** pb_checker_held() sets how much of the current statement is stored. That is at most the number of its bytes so far, and 0
+** between two statements.
+**
+** pb_checker_name() writes the name with a number, as of PB_NOT_TOTAL, into a room, as pb_tidy() writes its text. If there is no
+** such name, it writes nothing and returns PB_MISUSE.
+**
+** pb_checker_close() frees what the pb_checker_t owns. It may be called on a closed one.
+**
+** Each call with a closed pb_checker_t but pb_checker_open() and pb_checker_close() returns PB_MISUSE.
+**
+** Report. `line`, `column` and `offset` are a position. Lines and columns count from 1, columns and offsets are in bytes. `input`
+** is PB_IN_INSTANCE or PB_IN_PROOF, the text in which it is. With PB_OK `reason` is 0, and the position is that of the next byte
+** of the proof. Otherwise it is where the rejected statement begins, or the rejected byte, or 0, 0, 0 if the reason has no
+** position. `number` and `id` are what a reason is about, and else 0:
+**
+**     PB_BYTE              the byte `number` may not come here
+**     PB_TOO_LARGE         a number exceeds its limit
+**     PB_ENDED             the text has ended too soon
+**     PB_TOO_LONG          the text or the statement is too long
+**     PB_MEMORY            memory ran out (the result is PB_FAILED)
+**     PB_OVERFLOW          a result exceeds the limit
+**     PB_FORMULA_COUNT     `f` does not give the number of constraints, which is `number`
+**     PB_NO_SUCH_ID        `id`, as written, is not that of a live constraint
+**     PB_NOT_IMPLIED       propagation meets no conflict
+**     PB_CONFLICT          the literals of a solution lead to a conflict
+**     PB_NOT_TOTAL         the name with the number `number` gets no value
+**     PB_VIOLATES          the constraint of the instance with the id `number` is violated
+**     PB_NO_OBJECTIVE      there is no objective
+**     PB_NO_CONTRADICTION  the named constraint is no contradiction, or no live one is
+**     PB_SOLUTION_LOGGED   a solution was logged
+**     PB_NO_SOLUTION       no solution was logged, or none is given
+**     PB_NOT_BOUND         a bound was not shown
+**     PB_IDS_SPENT         the next id would exceed its limit
+**     PB_ORDER             the statement may not come here
+**     PB_MISUSED           the options are not allowed, or the pb_checker_t is closed (the result is PB_MISUSE, `input` is 0)
+**
+** Claim. `kind` is PB_CLAIM_NONE, PB_CLAIM_UNSAT, PB_CLAIM_SAT or PB_CLAIM_BOUNDS, as the lines of pb_check(). With
+** PB_CLAIM_BOUNDS a bound that is finite is 2^64 times its high word plus its low word. At any result but PB_OK the claim has no
+** meaning.
+**
+** These are proved (crates/pb_c/src/checker.rt). pb_checker_finish() returns PB_OK only if the instance that was opened and the
+** joined pieces are an instance and a proof that the rules accept with the claim, as for pb_check(). If the claim is
+** PB_CLAIM_UNSAT, no assignment of its names solves the instance. The status and the report are those of the first fault in the
+** joined pieces, whatever their cut. A pb_checker_t owns a checker or nothing, so no call uses memory that was freed.
+*/
+#define PB_BYTE 1
+#define PB_TOO_LARGE 2
+#define PB_ENDED 3
+#define PB_TOO_LONG 4
+#define PB_MEMORY 6
+#define PB_OVERFLOW 10
+#define PB_FORMULA_COUNT 11
+#define PB_NO_SUCH_ID 12
+#define PB_NOT_IMPLIED 13
+#define PB_CONFLICT 14
+#define PB_NOT_TOTAL 15
+#define PB_VIOLATES 16
+#define PB_NO_OBJECTIVE 17
+#define PB_NO_CONTRADICTION 18
+#define PB_SOLUTION_LOGGED 19
+#define PB_NO_SOLUTION 20
+#define PB_NOT_BOUND 21
+#define PB_IDS_SPENT 22
+#define PB_ORDER 23
+#define PB_MISUSED 32
+
+#define PB_IN_INSTANCE 1
+#define PB_IN_PROOF 2
+
+#define PB_CLAIM_NONE 0
+#define PB_CLAIM_UNSAT 1
+#define PB_CLAIM_SAT 2
+#define PB_CLAIM_BOUNDS 3
+
+typedef struct pb_checker_t {
+    void *inner;
+} pb_checker_t;
+
+#define PB_CHECKER_CLOSED {NULL}
+
+typedef struct pb_place_t {
+    uint64_t line;
+    uint64_t column;
+    uint64_t offset;
+} pb_place_t;
+
+typedef struct pb_report_t {
+    uint64_t line;
+    uint64_t column;
+    uint64_t offset;
+    uint64_t number;
+    int64_t id;
+    uint32_t reason;
+    uint32_t input;
+} pb_report_t;
+
+typedef struct pb_claim_t {
+    uint64_t lower_low;
+    int64_t lower_high;
+    uint64_t upper_low;
+    int64_t upper_high;
+    uint32_t kind;
+    bool lower_finite;
+    bool upper_finite;
+} pb_claim_t;
+
+uint8_t pb_checker_open(const uint8_t *instance, size_t instance_len,
+                        const pb_options_t *options,
+                        pb_checker_t *checker, pb_report_t *report);
+uint8_t pb_checker_feed(pb_checker_t *checker,
+                        const uint8_t *piece, size_t piece_len,
+                        size_t *used, pb_report_t *report);
+uint8_t pb_checker_finish(pb_checker_t *checker,
+                          pb_claim_t *claim, pb_report_t *report);
+uint8_t pb_checker_place(pb_checker_t *checker, pb_place_t *place);
+uint8_t pb_checker_held(pb_checker_t *checker, size_t *held);
+uint8_t pb_checker_name(pb_checker_t *checker, size_t number,
+                        uint8_t *out, size_t out_room, size_t *out_len);
+void pb_checker_close(pb_checker_t *checker);
+
+/*
+** CAPI: An Instance As Arrays
+**
+** pb_instance_read() reads an instance, after which only white space and comments may follow. The other calls then copy it to
+** arrays of the caller, so that no text has to be parsed.
+**
+**     pb_instance_t instance = PB_INSTANCE_CLOSED;
+**     status = pb_instance_read(text, text_len, &options, &instance, &report);
+**     if (status == PB_OK) {
+**         pb_instance_sizes(&instance, &sizes);
+**         ... allocate arrays of these sizes ...
+**         pb_instance_terms(&instance, numbers, sizes.terms, negated, sizes.terms, lows, sizes.terms, highs, sizes.terms);
+**         pb_instance_rows(&instance, kinds, sizes.rows, ends, sizes.rows, degree_lows, sizes.rows, degree_highs, sizes.rows);
+**     }
+**     pb_instance_close(&instance);
+**
+** A pb_instance_t is closed, or it owns arrays. It is used as a pb_checker_t is: it begins as PB_INSTANCE_CLOSED, a copy owns
+** nothing, and it belongs to the thread that read it. Each call with a closed one but pb_instance_read() and
+** pb_instance_close() returns PB_MISUSE. With PB_OK the report of pb_instance_read() has no position and the reason 0.
+**
+** A row is the objective, if there is one, or a constraint. The rows come in the order of the text. The terms of all rows stand
+** one after another in the same order. Names are numbered from 0 in the order in which they first appear. Comments, and what
+** follows the counts in the header, are left out.
+**
+** pb_instance_terms() copies for each term the number of its name, 1 if the name is negated and else 0, and the coefficient: it
+** is 2^64 times the high word plus the low word. A coefficient fits 64 bits if its high word is 0 or -1 and has the sign of the
+** low word.
+**
+** pb_instance_rows() copies for each row PB_OBJECTIVE, PB_AT_LEAST or PB_EQUAL, the number of all terms up to the end of the
+** row, and the degree in two words. So the terms of row k begin at ends[k - 1], or at 0 for the first row. The degree of an
+** objective is 0.
+**
+** pb_instance_places() copies for each row the line, the column and the offset of its first byte, and the offset past its last.
+**
+** Each array has a pointer and a number of elements, which has to be the one of pb_instance_sizes(). Otherwise nothing is
+** written, and the result is PB_MISUSE.
+**
+** pb_instance_name() writes the name with a number into a room, as pb_checker_name() does.
+**
+** It is proved (crates/pb_c/src/arrays.rt) that the arrays are those of the statements of the text, and that a report is right.
+*/
+#define PB_OBJECTIVE 0
+#define PB_AT_LEAST 1
+#define PB_EQUAL 2
+
+typedef struct pb_instance_t {
+    void *inner;
+} pb_instance_t;
+
+#define PB_INSTANCE_CLOSED {NULL}
+
+typedef struct pb_sizes_t {
+    size_t rows;
+    size_t terms;
+    size_t names;
+} pb_sizes_t;
+
+uint8_t pb_instance_read(const uint8_t *text, size_t text_len,
+                         const pb_options_t *options,
+                         pb_instance_t *instance, pb_report_t *report);
+uint8_t pb_instance_sizes(pb_instance_t *instance, pb_sizes_t *sizes);
+uint8_t pb_instance_terms(pb_instance_t *instance,
+                          uint64_t *numbers, size_t numbers_len,
+                          uint8_t *negated, size_t negated_len,
+                          uint64_t *lows, size_t lows_len,
+                          int64_t *highs, size_t highs_len);
+uint8_t pb_instance_rows(pb_instance_t *instance,
+                         uint8_t *kinds, size_t kinds_len,
+                         uint64_t *ends, size_t ends_len,
+                         uint64_t *lows, size_t lows_len,
+                         int64_t *highs, size_t highs_len);
+uint8_t pb_instance_places(pb_instance_t *instance,
+                           uint64_t *lines, size_t lines_len,
+                           uint64_t *columns, size_t columns_len,
+                           uint64_t *firsts, size_t firsts_len,
+                           uint64_t *pasts, size_t pasts_len);
+uint8_t pb_instance_name(pb_instance_t *instance, size_t number,
+                         uint8_t *out, size_t out_room, size_t *out_len);
+void pb_instance_close(pb_instance_t *instance);
 
 #ifdef __cplusplus
 }

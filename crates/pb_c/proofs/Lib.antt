@@ -1,3 +1,6 @@
 mod Answered
 mod Buffer
+mod CheckerSteps
+mod Claims
+mod InstanceSteps
 mod Unsat

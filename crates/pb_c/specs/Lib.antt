@@ -1,4 +1,9 @@
 pub mod Answers
+pub mod Arrays
+pub mod Checker
+pub mod Claim
+pub mod Handle
 pub mod Options
 pub mod Buffer
+pub mod Report
 pub mod Unsat

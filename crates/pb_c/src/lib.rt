@@ -2,8 +2,14 @@
 #![tactic(auto)]
 
 mod answer;
+mod arrays;
+mod checker;
+mod claim;
+mod handle;
+mod instance_handle;
 mod options;
 mod page;
+mod report;
 mod room;
 
 ghost use Rattle.std.specs.Prelude.{◌≡◌, codes};
@@ -13,8 +19,13 @@ ghost use Rattle.pb_c.specs.Unsat.{ShowsTruth, ShowsUnsat};
 use crate::answer::{checked, shown, tidied};
 use crate::options::{BAD_OPTIONS, WRONG_WORDS};
 use crate::room::put;
+pub use arrays::Sizes;
+pub use claim::Claim;
+pub use handle::CheckerHandle;
+pub use instance_handle::InstanceHandle;
 pub use options::Options;
 use pb_tool::laws::check::verified_is_true;
+pub use report::{Position, Report};
 use std::alloc::Global;
 
 /// The version: three numbers, as millions, thousands and units.

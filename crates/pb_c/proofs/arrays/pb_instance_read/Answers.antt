@@ -1,0 +1,63 @@
+use Rattle.std.proofs.Common.{rules, ◌≡◌, ◌∙◌, ◌^◌, ℕ, List, Bor, Option, Some, None, Result, Ok, Err, ap, inl, inr, refl, subst, sym}
+use Rattle.std.specs.Prelude.{unwrap_or}
+use Rattle.pb_text.specs.contract.Over.{reported}
+use Rattle.pb_text.specs.contract.OverState.{inner_of, shown_of}
+use Rattle.pb_text.specs.meaning.Limits.{largest, top_of}
+use Rattle.pb_text.specs.meaning.Spelling.{Item}
+use Rattle.pb_text.specs.declared.Stop.{Stop}
+use Rattle.pb_text.specs.declared.over.Over.{Over}
+use Rattle.pb_opb.specs.meaning.Instances.{IsInstance}
+use Rattle.pb_opb.specs.declared.OpbEvent.{OpbEvent}
+use Rattle.pb_pieces.specs.Reading.{IsFlatBy, IsNotFlat}
+use Rattle.pb_pieces.specs.declared.instance.Flat.{Flat}
+use Rattle.pb_c.proofs.Answered.{whole}
+use Rattle.pb_c.proofs.arrays.pb_instance_read.Goals as goal
+
+moved : (format : List (Item OpbEvent) → Type 0) (within longest : ℕ) (text : List ℕ) (f : Flat) {before after : Option (List ℕ)} → before ≡ Some text → within ≡ longest → IsFlatBy format within before after f → IsFlatBy format longest (Some text) after f
+moved format within longest text f {before} {after} is same h = subst (λ (x : Option (List ℕ)). IsFlatBy format longest x after f) is (subst (λ (n : ℕ). IsFlatBy format n before after f) same h)
+
+moved_not : (format : List (Item OpbEvent) → Type 0) (within longest : ℕ) (text : List ℕ) (s : Stop) {before after : Option (List ℕ)} → before ≡ Some text → within ≡ longest → IsNotFlat format within before after s → IsNotFlat format longest (Some text) after s
+moved_not format within longest text s {before} {after} is same h = subst (λ (x : Option (List ℕ)). IsNotFlat format longest x after s) is (subst (λ (n : ℕ). IsNotFlat format n before after s) same h)
+
+pub returns-in-Ok-new : goal.returns-in-Ok-new
+returns-in-Ok-new c =
+    let kept : c.of.result.value ≡ Some c.in-Ok.flat = search rules in
+    let limits = c.in-Some.asked.limits in
+    let longest = c.in-Some.asked.longest in
+    inl (
+      c.in-Ok.flat,
+      kept,
+      (
+        limits,
+        longest,
+        c.in-Some.ensures.asked,
+        (
+          _,
+          moved (IsInstance (largest limits) (top_of limits)) c.unwrap_or-within.result (unwrap_or longest (2 ^ 40)) c.args.text.now c.in-Ok.flat (whole c.new-source.result c.args.text c.new-source.ensures.inner c.new-source.ensures.shown) c.unwrap_or-within.ensures c.in-Ok.ensures.read,
+        ),
+      ),
+      refl,
+      c.of_instance.ensures,
+    )
+
+pub returns : goal.returns
+returns c =
+    let limits = c.in-Some.asked.limits in
+    let longest = c.in-Some.asked.longest in
+    inr (
+      c.take.ensures.left,
+      inr (inr (
+        c.in-Err.stop,
+        (
+          limits,
+          longest,
+          c.in-Some.ensures.asked,
+          (
+            _,
+            moved_not (IsInstance (largest limits) (top_of limits)) c.unwrap_or-within.result (unwrap_or longest (2 ^ 40)) c.args.text.now c.in-Err.stop (whole c.new-source.result c.args.text c.new-source.ensures.inner c.new-source.ensures.shown) c.unwrap_or-within.ensures c.in-Err.ensures.refused,
+          ),
+        ),
+        c.why_status.ensures,
+        c.of_stop.ensures,
+      )),
+    )

@@ -1,0 +1,16 @@
+-- What a handle owns: a box, or nothing.
+use Rattle.std.specs.Prelude.{Option, Some, None}
+use base.Fml.{Fml, ftrue, ffalse}
+use denote.RattleType.{RattleType}
+use denote.RawPtr.{Ptr, block_ptr, null_ptr}
+use Rattle.std.specs.declared.alloc.Global.{Global}
+use Rattle.std.specs.contracts.impls.GlobalAllocator.TheImpl.{ghosts}
+use Rattle.std.specs.Box.Ownership.{box_owns}
+
+module _ (R : RattleType) (a : Global) where
+  -- at null nothing, and else the box with the value
+  abbrev pub held_owns : Ptr → Option R.Denot → Fml
+  held_owns null_ptr None = ftrue
+  held_owns null_ptr (Some x) = ffalse
+  held_owns (block_ptr b o) None = ffalse
+  held_owns (block_ptr b o) (Some x) = box_owns (ghosts.dealloc_token a) R (block_ptr b o) x

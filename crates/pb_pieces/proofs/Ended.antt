@@ -1,0 +1,186 @@
+-- A session at its end, and at its beginning.
+use Rattle.std.proofs.Common.{◌≡◌, ◌∙◌, ℕ, List, [], ◌++◌, length, drop, true, Bor, Option, Some, None, Result, Ok, Err, refl, sym, ap, subst, inl, inr, append-nil}
+use Rattle.std.proofs.Math.Seq.{drop-append_seam, drop-nil}
+use Rattle.std.specs.declared.alloc.Global.{Global}
+use Rattle.std.proofs.Common.{Vec}
+use Rattle.pb_text.specs.contract.Over.{reported}
+use Rattle.pb_text.specs.contract.OverState.{inner_of, shown_of}
+use Rattle.pb_text.specs.meaning.Blank.{ReadsBlank}
+use Rattle.pb_text.specs.meaning.Limits.{largest, top_of}
+use Rattle.pb_text.specs.meaning.Reading.{Reads}
+use Rattle.pb_text.specs.meaning.Whole.{IsRead, events_at}
+use Rattle.pb_text.proofs.lemmas.text.Short.{place_after-offset}
+use Rattle.pb_text.specs.declared.Limits.{Limits}
+use Rattle.pb_text.specs.declared.Place.{Place}
+use Rattle.pb_text.specs.declared.Spanned.{Spanned}
+use Rattle.pb_text.specs.declared.Stop.{Stop}
+use Rattle.pb_text.specs.declared.over.Over.{Over}
+use Rattle.pb_opb.specs.meaning.Reading.{ReadsInstance}
+use Rattle.pb_opb.specs.meaning.Values.{IsValueOf}
+use Rattle.pb_opb.specs.declared.Instance.{Instance}
+use Rattle.pb_proof.specs.declared.Stage.{Stage}
+use Rattle.pb_proof.specs.declared.Stage.TheVariants.{Opening, Formula, Steps, Concluding, Closing, Complete}
+use Rattle.pb_replay.specs.contract.ReplayModel.{Replaying, StandsFor, verdict_at}
+use Rattle.pb_replay.specs.meaning.Problem.{Opened, Problem}
+use Rattle.pb_replay.specs.meaning.Replay.{State, first_state}
+use Rattle.pb_replay.specs.declared.fault.Fault.{Fault}
+use Rattle.pb_replay.specs.declared.verdict.Verdict.{Verdict}
+use Rattle.pb_tool.specs.contract.Checker.{Checking, IsAt}
+use Rattle.pb_tool.specs.contract.Checks.{Ends}
+use Rattle.pb_tool.specs.contract.Pieces.{ChecksAt, fault_of, place_in}
+use Rattle.pb_tool.specs.contract.Runs.{Replays}
+use Rattle.pb_tool.specs.meaning.Decided.{AreVerified}
+use Rattle.pb_tool.specs.meaning.Files.{IsProofFile}
+use Rattle.pb_tool.specs.meaning.Headline.{VerdictsAreTrue}
+use Rattle.pb_tool.specs.meaning.Tidy.{IsInstanceFile, IsInstanceText, IsNoInstanceFile}
+use Rattle.pb_tool.specs.meaning.Tidy.IsRefused.{InText, InRest}
+use Rattle.pb_tool.specs.meaning.Verified.{AfterProof, IsAccepted}
+use Rattle.pb_tool.specs.declared.commands.check.checker.CheckFault.{CheckFault}
+use Rattle.pb_tool.specs.declared.commands.check.checker.CheckFault.TheVariants as check
+use Rattle.pb_pieces.proofs.Fed.{running}
+use Rattle.pb_pieces.proofs.Texts.{file_then_blank, whole_file}
+use Rattle.pb_pieces.specs.Session.{IsInstanceOf, IsRejected, IsRunning, IsSession}
+use Rattle.pb_pieces.specs.declared.session.Session.{Session}
+
+-- a source over a slice has the bytes of the slice left
+pub whole : (o : Over (Bor (List ℕ))) (s : Bor (List ℕ)) → inner_of o ≡ s → shown_of o ≡ None → reported (Some o.inner.now) None o.shown ≡ Some s.now
+whole o s is none = ap (λ (x : Option ℕ). reported (Some o.inner.now) None x) none ∙ ap (λ (x : Bor (List ℕ)). Some x.now) is
+
+-- a complete proof has the verdict of its conclusion
+concluded_as : (next : Stage) (concluded : Option Verdict) (w : Verdict) → verdict_at next concluded ≡ Some w → concluded ≡ Some w
+concluded_as Complete concluded w e = e
+concluded_as Opening concluded w e = absurd cc
+concluded_as Formula concluded w e = absurd cc
+concluded_as Steps concluded w e = absurd cc
+concluded_as Concluding concluded w e = absurd cc
+concluded_as Closing concluded w e = absurd cc
+
+same_state : {s t : State} → ◌≡◌ {A = Result State Fault} (Ok s) (Ok t) → s ≡ t
+same_state e = cc
+
+module _ (limits : Limits) (longest : ℕ) where
+  -- ---- the end
+  module _ (v : Problem) (fed : List ℕ) (place : Place) (w : Verdict) (ends : Ends limits longest v (Ok (first_state v)) fed place (Ok w)) where
+    abbrev left : List ℕ
+    left = ends.1.reads.left
+
+    accepted : IsAccepted limits longest v (first_state v) (Some fed) (Some left) place true None ends.0
+    accepted =
+        let (t, replayed, is) = ends in
+        let (u, same, steps) = replayed.accepted in
+        record {
+          spans = replayed.spans;
+          took = record {
+            used = replayed.used;
+            seen = replayed.reads.left;
+            took = (replayed.reads.input_is, refl);
+            reads = subst (λ (x : List ℕ). Reads (Rattle.pb_tool.specs.meaning.Files.IsProofText limits) longest x replayed.used replayed.spans place true None) replayed.reads.input_is replayed.reads;
+          };
+          accepted = subst (λ (x : State). Rattle.pb_replay.specs.meaning.Statements.Accepts (largest limits) (top_of limits) v (first_state v) (events_at replayed.spans) x) (sym (same_state same)) steps;
+        }
+
+    left_is : drop place.offset fed ≡ left
+    left_is =
+        let r = ends.1.reads in
+        ap (λ (k : ℕ). drop k fed) (ap (λ (p : Place). p.offset) r.place_is ∙ place_after-offset ends.1.used) ∙ (ap (λ (x : List ℕ). drop (length ends.1.used) x) r.input_is ∙ drop-append_seam ends.1.used r.left)
+
+    pub replays : (rest : List ℕ) (before after : Option (List ℕ)) → rest ≡ drop place.offset fed → before ≡ Some rest → ReadsBlank place before (Ok tt) after → Replays limits longest v (first_state v) (Some fed) (Ok w) (Some [])
+    replays rest before after is one blank =
+        let b = subst (λ (x : Option (List ℕ)). ReadsBlank place x (Ok tt) after) (one ∙ ap (λ (x : List ℕ). Some x) (is ∙ left_is)) blank in
+        let f = whole_file limits longest v (first_state v) (Some fed) (Some left) after place ends.0 w accepted (concluded_as ends.0.next ends.0.concluded w ends.2) b in
+        subst (λ (x : Option (List ℕ)). Replays limits longest v (first_state v) (Some fed) (Ok w) x) b.1.1 f
+
+    -- a rest that is not blank
+    pub stray : (rest : List ℕ) (before after : Option (List ℕ)) (s : Stop) → rest ≡ drop place.offset fed → before ≡ Some rest → ReadsBlank place before (Err s) after → IsRejected limits longest v fed (check.Text s)
+    stray rest before after s is one blank =
+        inr (fed, [], sym (append-nil fed), inr (after, AfterProof (Some left) place ends.0 w accepted (concluded_as ends.0.next ends.0.concluded w ends.2) (subst (λ (x : Option (List ℕ)). ReadsBlank place x (Err s) after) (one ∙ ap (λ (x : List ℕ). Some x) (is ∙ left_is)) blank)))
+
+  module _ (i fed : List ℕ) (old : Session) (new : Checking) (none : old.fault ≡ None) (s : IsSession limits longest i fed old) where
+    now : IsRunning limits longest s.problem fed old
+    now = running limits longest i fed old none s
+
+    -- the session is the same, as its checker is
+    pub still : new ≡ old.checker → IsSession limits longest i fed (record { checker = new; rest = old.rest; fault = old.fault })
+    still e =
+        subst (λ (x : Option CheckFault). IsSession limits longest i fed (record { checker = new; rest = old.rest; fault = x })) (sym none) (record {
+          instance = s.instance;
+          file = s.file;
+          problem = s.problem;
+          opened = s.opened;
+          stands = record {
+            checks = subst (λ (c : Checking). ChecksAt limits longest s.problem (Ok (first_state s.problem)) fed c) (sym e) now.checks;
+            running = ap (λ (c : Checking). fault_of c) e ∙ now.running;
+            rest_is = now.rest_is ∙ ap (λ (c : Checking). drop (place_in c).offset fed) (sym e);
+          };
+        })
+
+    with_fault : (f : CheckFault) → IsRejected limits longest s.problem fed f → IsSession limits longest i fed (record { checker = new; rest = old.rest; fault = Some f })
+    with_fault f h = record { instance = s.instance; file = s.file; problem = s.problem; opened = s.opened; stands = h }
+
+    -- the proof is rejected at its end
+    pub ended : (f : CheckFault)
+        → ((l : Limits) (n : ℕ) (v : Problem) (first : Result State Fault) (input : List ℕ) → fault_of old.checker ≡ None → ChecksAt l n v first input old.checker → Ends l n v first input (place_in new) (Err f))
+        → IsSession limits longest i fed (record { checker = new; rest = old.rest; fault = Some f })
+    ended f ends =
+        with_fault f (inr (fed, [], sym (append-nil fed), inl (place_in new, ends limits longest s.problem (Ok (first_state s.problem)) fed now.running now.checks)))
+
+    pub strays : (w : Verdict)
+        → ((l : Limits) (n : ℕ) (v : Problem) (first : Result State Fault) (input : List ℕ) → fault_of old.checker ≡ None → ChecksAt l n v first input old.checker → Ends l n v first input (place_in new) (Ok w))
+        → place_in new ≡ place_in old.checker → (place : Place) → place ≡ place_in new → (before after : Option (List ℕ)) → before ≡ Some old.rest.items → (stop : Stop) → ReadsBlank place before (Err stop) after
+        → IsSession limits longest i fed (record { checker = new; rest = old.rest; fault = Some (check.Text stop) })
+    strays w ends still place at before after one stop blank =
+        with_fault (check.Text stop)
+        (stray s.problem fed (place_in new) w (ends limits longest s.problem (Ok (first_state s.problem)) fed now.running now.checks) old.rest.items before after stop
+        (now.rest_is ∙ ap (λ (p : Place). drop p.offset fed) (sym still)) one (subst (λ (p : Place). ReadsBlank p before (Err stop) after) at blank))
+
+    module _ (w : Verdict)
+        (ends : (l : Limits) (n : ℕ) (v : Problem) (first : Result State Fault) (input : List ℕ) → fault_of old.checker ≡ None → ChecksAt l n v first input old.checker → Ends l n v first input (place_in new) (Ok w))
+        (still : place_in new ≡ place_in old.checker) (place : Place) (at : place ≡ place_in new) (before after : Option (List ℕ)) (one : before ≡ Some old.rest.items) (blank : ReadsBlank place before (Ok tt) after) where
+      pub verified : AreVerified limits longest i fed w
+      verified =
+          let (q, file, t, accepted_all, claimed) = replays s.problem fed (place_in new) w (ends limits longest s.problem (Ok (first_state s.problem)) fed now.running now.checks) old.rest.items before after
+          (now.rest_is ∙ ap (λ (p : Place). drop p.offset fed) (sym still)) one (subst (λ (p : Place). ReadsBlank p before (Ok tt) after) at blank) in
+          record {
+            instance = s.instance;
+            first = s.file;
+            proof = q;
+            second = file;
+            verified = record { problem = s.problem; opened = s.opened; last = t; accepted = accepted_all; claimed = claimed };
+          }
+
+      pub true_of : VerdictsAreTrue → IsInstanceOf limits longest i w
+      true_of law = let a = verified in (a.instance, a.first, law limits longest a.instance a.proof w (Some fed) (Some []) a.second a.verified)
+
+  -- ---- the beginning
+  module _ (text : List ℕ) (before : Option (List ℕ)) (one : before ≡ Some text) (within : ℕ) (is : within ≡ longest) where
+    pub no_text : (s : Stop) (after : Option (List ℕ)) → ReadsInstance (largest limits) (top_of limits) within before (Err s) after → (a : Option (List ℕ)) × IsNoInstanceFile limits longest (Some text) a s
+    no_text s after reads =
+        (after, InText (subst (λ (x : Option (List ℕ)). ReadsInstance (largest limits) (top_of limits) longest x (Err s) after) one (subst (λ (n : ℕ). ReadsInstance (largest limits) (top_of limits) n before (Err s) after) is reads)))
+
+    instance_read : (m : Spanned Instance) (mid : Option (List ℕ)) → ReadsInstance (largest limits) (top_of limits) within before (Ok m) mid → ReadsInstance (largest limits) (top_of limits) longest (Some text) (Ok m) mid
+    instance_read m mid reads = subst (λ (x : Option (List ℕ)). ReadsInstance (largest limits) (top_of limits) longest x (Ok m) mid) one (subst (λ (n : ℕ). ReadsInstance (largest limits) (top_of limits) n before (Ok m) mid) is reads)
+
+    pub no_rest : (m : Spanned Instance) (mid after : Option (List ℕ)) (s : Stop) → ReadsInstance (largest limits) (top_of limits) within before (Ok m) mid → ReadsBlank m.past mid (Err s) after → (a : Option (List ℕ)) × IsNoInstanceFile limits longest (Some text) a s
+    no_rest m mid after s reads stray = (after, InRest m mid (instance_read m mid reads) stray)
+
+    pub file : (m : Spanned Instance) (mid after : Option (List ℕ)) → ReadsInstance (largest limits) (top_of limits) within before (Ok m) mid → ReadsBlank m.past mid (Ok tt) after → IsInstanceFile limits longest (Some text) (Some []) m.event
+    file m mid after reads blank =
+        let (used, seen, took, read) = instance_read m mid reads in
+        let f = file_then_blank (IsRead (IsInstanceText limits) longest IsValueOf) m (Some text) mid after used seen took read read.past blank in
+        subst (λ (x : Option (List ℕ)). IsInstanceFile limits longest (Some text) x m.event) f.took.1 f
+
+    pub opened : (m : Spanned Instance) (mid after : Option (List ℕ)) (r : Replaying) (c : Checking) (rest : Vec ℕ Global) → ReadsInstance (largest limits) (top_of limits) within before (Ok m) mid → ReadsBlank m.past mid (Ok tt) after
+        → Opened (largest limits) m.event (Ok r.problem) → r.limits ≡ limits → StandsFor r (first_state r.problem) → r.fault ≡ None
+        → ((first : Result State Fault) → IsAt r first → ChecksAt r.limits longest r.problem first [] c) → fault_of c ≡ None → rest.items ≡ []
+        → IsSession limits longest text [] (record { checker = c; rest = rest; fault = None })
+    opened m mid after r c rest reads blank opens limited first unspent stands running none = record {
+      instance = m.event;
+      file = file m mid after reads blank;
+      problem = r.problem;
+      opened = opens;
+      stands = record {
+        checks = subst (λ (l : Limits). ChecksAt l longest r.problem (Ok (first_state r.problem)) [] c) limited (stands (Ok (first_state r.problem)) (unspent, first));
+        running = running;
+        rest_is = none ∙ sym (drop-nil (place_in c).offset);
+      };
+    }

@@ -1,0 +1,6 @@
+mod Ended
+mod Fed
+mod Numbers
+mod Pulled
+mod Statements
+mod Texts

@@ -1,0 +1,8 @@
+use Rattle.std.proofs.Common.{List, ◌++◌, take}
+use Rattle.pb_sums.specs.declared.Term.{Term}
+use Rattle.pb_pieces.specs.Flat.{HoldNamed}
+use Rattle.pb_pieces.proofs.flat.Named.extend.Given as goal
+
+-- The first terms of the list were added.
+abbrev pub invariant-loop-term : goal.invariant-loop-term
+invariant-loop-term l = (terms : List Term) → HoldNamed terms l.fn.self → HoldNamed (terms ++ take l.term-index l.items) l.self

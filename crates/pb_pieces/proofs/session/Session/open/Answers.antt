@@ -1,0 +1,35 @@
+use Rattle.std.proofs.Common.{rules, Err, ◌∙◌, ap}
+use Rattle.pb_pieces.proofs.Ended.{file, no_rest, no_text, opened, whole}
+use Rattle.pb_pieces.proofs.session.Session.open.Goals as goal
+
+pub returns-in-Err-clause-refused : goal.returns-in-Err-clause-refused
+returns-in-Err-clause-refused c =
+    no_text c.args.limits _ c.args.text.now _ (whole c.new-source.result c.args.text c.new-source.ensures.inner c.new-source.ensures.shown) c.unwrap_or-within.result c.unwrap_or-within.ensures c.in-Err.stop _ c.in-Err.ensures.reads
+
+pub returns-in-Err-rest_is_blank-clause-refused : goal.returns-in-Err-rest_is_blank-clause-refused
+returns-in-Err-rest_is_blank-clause-refused c =
+    no_rest c.args.limits _ c.args.text.now _ (whole c.new-source.result c.args.text c.new-source.ensures.inner c.new-source.ensures.shown) c.unwrap_or-within.result c.unwrap_or-within.ensures c.in-Ok.read _ _ c.in-Err-rest_is_blank.stop c.in-Ok.ensures.reads c.in-Err-rest_is_blank.ensures.blank
+
+pub returns-in-Ok-with_hasher-clause-opened : goal.returns-in-Ok-with_hasher-clause-opened
+returns-in-Ok-with_hasher-clause-opened c =
+    opened c.args.limits _ c.args.text.now _ (whole c.new-source.result c.args.text c.new-source.ensures.inner c.new-source.ensures.shown) c.unwrap_or-within.result c.unwrap_or-within.ensures c.in-Ok.read _ _ c.in-Ok-with_hasher.replay c.new.result c.new-in-Ok-with_hasher.result
+    c.in-Ok.ensures.reads c.in-Ok-rest_is_blank.ensures.blank c.in-Ok-with_hasher.ensures.opened c.in-Ok-with_hasher.ensures.limits c.in-Ok-with_hasher.ensures.first c.in-Ok-with_hasher.ensures.running
+    c.new.ensures.stands c.new.ensures.running c.new-in-Ok-with_hasher.ensures.items
+
+pub returns-in-Err-Memory-clause-refused : goal.returns-in-Err-Memory-clause-refused
+returns-in-Err-Memory-clause-refused c = (
+  c.in-Ok.read.event,
+  file c.args.limits _ c.args.text.now _ (whole c.new-source.result c.args.text c.new-source.ensures.inner c.new-source.ensures.shown) c.unwrap_or-within.result c.unwrap_or-within.ensures c.in-Ok.read _ _ c.in-Ok.ensures.reads c.in-Ok-rest_is_blank.ensures.blank,
+  c.with_hasher.ensures.memory (c.in-Err-Memory.is ∙ ap Err c.in-Err-Memory.field-0-is),
+)
+
+pub returns : goal.returns
+returns c = record {
+  opened = tt;
+  running = tt;
+  refused = (
+    c.in-Ok.read.event,
+    file c.args.limits _ c.args.text.now _ (whole c.new-source.result c.args.text c.new-source.ensures.inner c.new-source.ensures.shown) c.unwrap_or-within.result c.unwrap_or-within.ensures c.in-Ok.read _ _ c.in-Ok.ensures.reads c.in-Ok-rest_is_blank.ensures.blank,
+    search rules,
+  );
+}
