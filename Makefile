@@ -51,6 +51,7 @@ install:
 	    ln -sf $(SONAME) '$(DESTDIR)$(LIBDIR)/libpb.so'; \
 	else echo 'pb: there is no $(firstword $(CC)), so the shared library was left out' >&2; fi
 	install -D -m 644 include/pb.h '$(DESTDIR)$(INCLUDEDIR)/pb.h'
+	install -D -m 644 include/pb.hpp '$(DESTDIR)$(INCLUDEDIR)/pb.hpp'
 	install -D -m 644 man/pb.1 '$(DESTDIR)$(MANDIR)/man1/pb.1'
 	install -D -m 644 man/pb.h.3 '$(DESTDIR)$(MANDIR)/man3/pb.h.3'
 	install -D -m 644 completions/pb.bash '$(DESTDIR)$(BASHDIR)/pb'
@@ -77,7 +78,7 @@ uninstall:
 	rm -f '$(DESTDIR)$(BINDIR)/pb' $(SCRIPTS:%='$(DESTDIR)$(BINDIR)/pb-%') $(SCRIPTS:%='$(DESTDIR)$(MANDIR)/man1/pb-%.1') \
 	    '$(DESTDIR)$(LIBDIR)/libpb.a' \
 	    '$(DESTDIR)$(LIBDIR)/libpb.so' '$(DESTDIR)$(LIBDIR)/$(SONAME)' '$(DESTDIR)$(LIBDIR)/libpb.so.$(VERSION)' \
-	    '$(DESTDIR)$(PCDIR)/pb.pc' '$(DESTDIR)$(INCLUDEDIR)/pb.h' '$(DESTDIR)$(MANDIR)/man1/pb.1' '$(DESTDIR)$(MANDIR)/man3/pb.h.3' \
+	    '$(DESTDIR)$(PCDIR)/pb.pc' '$(DESTDIR)$(INCLUDEDIR)/pb.h' '$(DESTDIR)$(INCLUDEDIR)/pb.hpp' '$(DESTDIR)$(MANDIR)/man1/pb.1' '$(DESTDIR)$(MANDIR)/man3/pb.h.3' \
 	    '$(DESTDIR)$(BASHDIR)/pb' \
 	    '$(DESTDIR)$(ZSHDIR)/_pb' '$(DESTDIR)$(FISHDIR)/pb.fish'
 	rm -rf '$(DESTDIR)$(DATADIR)/pb' '$(DESTDIR)$(DOCDIR)'

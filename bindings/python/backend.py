@@ -27,7 +27,7 @@ TOP = HERE / "../.."
 CARRIED = TOP / "dist/x86_64-linux-gnu"
 LIBRARY = "pb.libs/libpb.so"
 LICENCES = ("LICENSE-APACHE", "LICENSE-MIT", "THIRD-PARTY.md")
-EXAMPLES = ("refutation.opb", "refutation.pbp", "optimum.opb", "optimum.pbp")
+EXAMPLES = ("refutation.opb", "refutation.pbp", "optimum.opb", "optimum.pbp", "solution.opb", "solution.pbp")
 
 METADATA = """Metadata-Version: 2.1
 Name: pb

@@ -1,6 +1,7 @@
 """The calls on the repository's examples: python3 -m unittest. checks/program/bindings compares many more files."""
 
 import os
+import threading
 import unittest
 
 import pb
@@ -59,6 +60,111 @@ class Calls(unittest.TestCase):
         with self.assertRaises(pb.Refusal) as it:
             pb.tidy(b"\0")
         self.assertEqual(it.exception.text, b"file: line 1 column 1: byte 0x00\n")
+
+    def test_the_parts_of_a_verdict(self):
+        verdict = pb.check(example("refutation.opb"), example("refutation.pbp"))
+        self.assertEqual((verdict.verdict, verdict.bounds), ("UNSAT", None))
+        verdict = pb.check(example("optimum.opb"), example("optimum.pbp"))
+        self.assertEqual((verdict.verdict, verdict.bounds), ("BOUNDS", (1, 1)))
+
+
+class Pieces(unittest.TestCase):
+    def checked(self, instance, proof, size):
+        with pb.Checker(instance) as checker:
+            for first in range(0, len(proof), size):
+                checker.feed(proof[first : first + size])
+            return checker.finish()
+
+    def test_any_size(self):
+        for name, line in (("refutation", "verified UNSAT\n"), ("optimum", "verified BOUNDS 1 1\n"), ("solution", "verified SAT\n")):
+            for size in (1, 7, 4096):
+                self.assertEqual(self.checked(example(f"{name}.opb"), example(f"{name}.pbp"), size), line)
+
+    def test_a_fault_has_its_parts(self):
+        proof = b"pseudo-Boolean proof version 2.0\nf 2\nrup +1 x1 >= 1 ;\ndel id 9 ;\n"
+        instance = b"* #variable= 1 #constraint= 2\n+1 x1 >= 1 ;\n-1 x1 >= 0 ;\n"
+        with pb.Checker(instance) as checker:
+            for _ in range(2):
+                with self.assertRaises(pb.Fault) as it:
+                    checker.feed(proof)
+                fault = it.exception
+                self.assertEqual((fault.status, fault.input, fault.line, fault.column, fault.offset), (pb.REFUSED, "proof", 4, 1, 54))
+                self.assertEqual((fault.reason, fault.id, fault.number, fault.name), (pb.Reason.NO_SUCH_ID, 9, 0, ""))
+                self.assertEqual(str(fault), "proof: line 4 column 1: no such id 9")
+
+    def test_a_name_without_a_value(self):
+        instance = b"* #variable= 2 #constraint= 1\n+1 x1 +1 second >= 1 ;\n"
+        proof = b"pseudo-Boolean proof version 2.0\nf 1\nsolx x1\n"
+        with pb.Checker(instance) as checker, self.assertRaises(pb.Fault) as it:
+            checker.feed(proof)
+        self.assertEqual((it.exception.reason, it.exception.name), (pb.Reason.NOT_TOTAL, "second"))
+
+    def test_a_rejected_instance(self):
+        with self.assertRaises(pb.Fault) as it:
+            pb.Checker(b"1x1 >= 1 ;\n")
+        self.assertEqual((it.exception.input, it.exception.reason, it.exception.number), ("instance", pb.Reason.BYTE, ord("1")))
+
+    def test_position_and_what_is_held(self):
+        header = b"pseudo-Boolean proof version 2.0\n"
+        with pb.Checker(example("refutation.opb")) as checker:
+            self.assertEqual(checker.feed(header), len(header))
+            self.assertEqual((checker.place.line, checker.place.column, checker.place.offset), (2, 1, 33))
+            self.assertEqual(checker.held, 0)
+
+    def test_bytes_after_the_end_are_not_used(self):
+        proof = example("refutation.pbp").rstrip(b"\n")
+        with pb.Checker(example("refutation.opb")) as checker:
+            self.assertEqual(checker.feed(proof), len(proof))
+            self.assertEqual(checker.feed(b"\n* the end\n"), 0)
+            self.assertEqual(checker.finish().verdict, "UNSAT")
+
+    def test_a_closed_checker(self):
+        checker = pb.Checker(example("refutation.opb"))
+        checker.close()
+        checker.close()
+        for call in (lambda: checker.feed(b""), checker.finish, lambda: checker.place, lambda: checker.held):
+            with self.assertRaises(pb.Fault) as it:
+                call()
+            self.assertEqual((it.exception.status, it.exception.reason), (pb.MISUSE, pb.Reason.MISUSED))
+
+    def test_another_thread(self):
+        checker, found = pb.Checker(example("refutation.opb")), []
+        def call():
+            try:
+                checker.feed(b"")
+            except RuntimeError as it:
+                found.append(str(it))
+        thread = threading.Thread(target=call)
+        thread.start()
+        thread.join()
+        self.assertEqual(found, ["a checker belongs to the thread that made it"])
+
+
+class Arrays(unittest.TestCase):
+    def test_an_instance(self):
+        text = b"* #variable= 2 #constraint= 2\nmin: -2 x1 ;\n* between\n+1 x1 -%d ~x2 >= -1 ;\n+3 x2 = 3 ;\n" % (2**100)
+        found = pb.read_instance(text)
+        self.assertEqual(found.names, ["x1", "x2"])
+        self.assertEqual(found.objective, [(-2, "x1", False)])
+        first, second = found.constraints
+        self.assertEqual(first, ([(1, "x1", False), (-(2**100), "x2", True)], ">=", -1, 4, 1))
+        self.assertEqual(second, ([(3, "x2", False)], "=", 3, 5, 1))
+        self.assertEqual([*found.numbers], [0, 0, 1, 1])
+        self.assertEqual([*found.ends], [1, 3, 4])
+        self.assertEqual(memoryview(found.kinds).tobytes(), bytes([pb.Instance.OBJECTIVE, pb.Instance.AT_LEAST, pb.Instance.EQUAL]))
+        self.assertEqual(text[found.firsts[2] : found.pasts[2]], b"+3 x2 = 3 ;")
+
+    def test_no_rows(self):
+        found = pb.read_instance(b"* #variable= 0 #constraint= 0\n")
+        self.assertEqual((found.names, found.objective, [*found.constraints]), ([], None, []))
+
+    def test_a_rejected_instance(self):
+        with self.assertRaises(pb.Fault) as it:
+            pb.read_instance(b"* #variable= 1 #constraint= 1\n1x1 >= 1 ;\n")
+        self.assertEqual((it.exception.line, it.exception.column, it.exception.number), (2, 2, ord("x")))
+        with self.assertRaises(pb.Fault) as it:
+            pb.read_instance(b"", pb.options(bits=30))
+        self.assertEqual(it.exception.status, pb.MISUSE)
 
 
 if __name__ == "__main__":

@@ -12,7 +12,7 @@ fn main() -> io::Result<ExitCode> {
     };
     match pb::check(&fs::read(instance)?, &fs::read(proof)?) {
         Ok(verdict) => {
-            io::stdout().write_all(verdict.line.as_bytes())?;
+            writeln!(io::stdout(), "{verdict}")?;
             Ok(ExitCode::SUCCESS)
         }
         Err(refusal) => {

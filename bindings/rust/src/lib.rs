@@ -1,10 +1,11 @@
 //! The verified checker pb, from Rust: `check`, `tidy` and `show` do for bytes in memory what the commands of these names do for
-//! files. `include/pb.h` states the promises of each call, and which of them are proved.
+//! files. A [`Checker`] checks a proof in the pieces in which it is written,
+//! and an [`Instance`] has an instance as values. `include/pb.h` states the promises of each call, and which of them are proved.
 //!
 //! ```no_run
 //! let (instance, proof) = (std::fs::read("p.opb")?, std::fs::read("p.pbp")?);
 //! let verdict = pb::check(&instance, &proof)?;
-//! println!("{}", if verdict.is_unsat() { "no solution" } else { &verdict.line });
+//! println!("{verdict}");
 //! # Ok::<(), Box<dyn std::error::Error>>(())
 //! ```
 
@@ -13,46 +14,12 @@ use std::error::Error;
 use std::fmt;
 use std::hash::{BuildHasher, Hasher};
 
-mod c {
-    #[repr(C)]
-    pub struct Options {
-        pub longest: u64,
-        pub key0: u64,
-        pub key1: u64,
-        pub bits: u32,
-    }
+mod c;
+mod checker;
+mod instance;
 
-    extern "C" {
-        pub fn pb_version() -> u32;
-        pub fn pb_check(
-            instance: *const u8,
-            instance_len: usize,
-            proof: *const u8,
-            proof_len: usize,
-            options: *const Options,
-            line: *mut u8,
-            line_room: usize,
-            line_len: *mut usize,
-        ) -> u8;
-        pub fn pb_tidy(
-            text: *const u8,
-            text_len: usize,
-            normal: bool,
-            options: *const Options,
-            out: *mut u8,
-            out_room: usize,
-            out_len: *mut usize,
-        ) -> u8;
-        pub fn pb_show(
-            text: *const u8,
-            text_len: usize,
-            options: *const Options,
-            out: *mut u8,
-            out_room: usize,
-            out_len: *mut usize,
-        ) -> u8;
-    }
-}
+pub use checker::{Checker, Fault, Input, Place, Reason};
+pub use instance::{Constraint, Instance, Relation, Term};
 
 /// The version of the linked library as one number, 1002003 for 1.2.3.
 pub fn version() -> u32 {
@@ -87,17 +54,61 @@ fn random() -> u64 {
     RandomState::new().build_hasher().finish()
 }
 
-/// The verdict of a verified proof.
-#[derive(Clone, Debug, PartialEq, Eq)]
-pub struct Verdict {
-    /// The line that `pb check` prints, with its line feed.
-    pub line: String,
+/// What a verified proof has shown. `{}` is the line that `pb check` prints, without its line feed.
+#[derive(Clone, Copy, Debug, PartialEq, Eq)]
+pub enum Verdict {
+    /// The steps are right, and nothing is claimed.
+    NoClaim,
+    /// No assignment solves the instance.
+    Unsat,
+    /// Some assignment solves the instance.
+    Sat,
+    /// Each solution has an objective of the first number or more, and one has the second number or less. With no first
+    /// number there is no solution, and with no second one there is no claim of an upper bound.
+    Bounds(Option<i128>, Option<i128>),
 }
 
 impl Verdict {
     /// No assignment solves the instance.
     pub fn is_unsat(&self) -> bool {
-        self.line == "verified UNSAT\n"
+        *self == Verdict::Unsat
+    }
+
+    /// The verdict of a line.
+    fn of_line(line: &str) -> Option<Verdict> {
+        let words: Vec<_> = line.strip_suffix('\n')?.split(' ').collect();
+        match words[..] {
+            ["verified", "NONE"] => Some(Verdict::NoClaim),
+            ["verified", "UNSAT"] => Some(Verdict::Unsat),
+            ["verified", "SAT"] => Some(Verdict::Sat),
+            ["verified", "BOUNDS", lower, upper] => {
+                Some(Verdict::Bounds(bound_of(lower)?, bound_of(upper)?))
+            }
+            _ => None,
+        }
+    }
+}
+
+/// The number that a word is, or `None` for `INF`, if it is one of these.
+fn bound_of(word: &str) -> Option<Option<i128>> {
+    if word == "INF" {
+        Some(None)
+    } else {
+        word.parse().ok().map(Some)
+    }
+}
+
+impl fmt::Display for Verdict {
+    fn fmt(&self, f: &mut fmt::Formatter<'_>) -> fmt::Result {
+        let word = |bound: &Option<i128>| bound.map_or("INF".to_string(), |it| it.to_string());
+        match self {
+            Verdict::NoClaim => f.write_str("verified NONE"),
+            Verdict::Unsat => f.write_str("verified UNSAT"),
+            Verdict::Sat => f.write_str("verified SAT"),
+            Verdict::Bounds(lower, upper) => {
+                write!(f, "verified BOUNDS {} {}", word(lower), word(upper))
+            }
+        }
     }
 }
 
@@ -112,6 +123,27 @@ pub enum Status {
     Failed,
 }
 
+impl Status {
+    /// The number of the status, which is the exit status of the command.
+    pub fn code(self) -> u8 {
+        match self {
+            Status::Refused => 1,
+            Status::Misuse => 2,
+            Status::Failed => 3,
+        }
+    }
+
+    /// The status with a number, or `None` for success.
+    fn of(number: u8) -> Option<Status> {
+        match number {
+            0 => None,
+            1 => Some(Status::Refused),
+            2 => Some(Status::Misuse),
+            _ => Some(Status::Failed),
+        }
+    }
+}
+
 /// A call failed. `{}` and `{:?}` show the text, so that `main` may return it as an error.
 #[derive(Clone, PartialEq, Eq)]
 pub struct Refusal {
@@ -123,11 +155,7 @@ pub struct Refusal {
 impl Refusal {
     /// The number of the status, which is the exit status of the command.
     pub fn code(&self) -> u8 {
-        match self.status {
-            Status::Refused => 1,
-            Status::Misuse => 2,
-            Status::Failed => 3,
-        }
+        self.status.code()
     }
 }
 
@@ -174,13 +202,12 @@ pub fn check_with(instance: &[u8], proof: &[u8], options: &Options) -> Result<Ve
 
 /// The verdict that a line states.
 fn verdict_of(answer: Result<Vec<u8>, Refusal>) -> Result<Verdict, Refusal> {
-    match String::from_utf8(answer?) {
-        Ok(line) => Ok(Verdict { line }),
-        Err(line) => Err(Refusal {
-            status: Status::Failed,
-            text: line.into_bytes(),
-        }),
-    }
+    let line = answer?;
+    let verdict = std::str::from_utf8(&line).ok().and_then(Verdict::of_line);
+    verdict.ok_or(Refusal {
+        status: Status::Failed,
+        text: line,
+    })
 }
 
 /// The canonical text of an instance or a proof, or with `normal` the normal form of an instance.
@@ -250,11 +277,8 @@ fn answer(
 
 /// The text of a call, or its refusal, by its status.
 fn ended(status: u8, text: Vec<u8>) -> Result<Vec<u8>, Refusal> {
-    let status = match status {
-        0 => return Ok(text),
-        1 => Status::Refused,
-        2 => Status::Misuse,
-        _ => Status::Failed,
-    };
-    Err(Refusal { status, text })
+    match Status::of(status) {
+        None => Ok(text),
+        Some(status) => Err(Refusal { status, text }),
+    }
 }

@@ -1,6 +1,6 @@
 //! The calls on the repository's examples. `checks/program/bindings` compares many more files with what the program prints.
 
-use pb::{check, check_with, show, tidy, Options, Status};
+use pb::{check, check_with, show, tidy, Options, Status, Verdict};
 use std::fs;
 use std::path::Path;
 
@@ -23,13 +23,14 @@ fn the_version_is_that_of_the_crate() {
 fn a_refutation_is_verified() {
     let verdict = check(&example("refutation.opb"), &example("refutation.pbp")).expect("a verdict");
     assert!(verdict.is_unsat());
-    assert_eq!(verdict.line, "verified UNSAT\n");
+    assert_eq!(verdict.to_string(), "verified UNSAT");
 }
 
 #[test]
 fn another_verdict_is_reported() {
     let verdict = check(&example("optimum.opb"), &example("optimum.pbp")).expect("a verdict");
-    assert_eq!(verdict.line, "verified BOUNDS 1 1\n");
+    assert_eq!(verdict, Verdict::Bounds(Some(1), Some(1)));
+    assert_eq!(verdict.to_string(), "verified BOUNDS 1 1");
     assert!(!verdict.is_unsat());
 }
 

@@ -1,0 +1,424 @@
+// pb.hpp: the functions of pb.h for C++17. A fault is an exception with its position, a checker frees what it owns, and an instance has
+// vectors.
+//
+//     pb::Checker checker(instance);
+//     while (next(piece))
+//         checker.feed(piece);
+//     if (checker.finish().kind() == pb::Kind::Unsat)
+//         ...
+//
+// The rules of pb.h for memory and threads hold here too. No pointer that is passed is null, also for an empty text.
+#ifndef PB_HPP
+#define PB_HPP
+
+#include <pb.h>
+
+#include <cstdint>
+#include <optional>
+#include <stdexcept>
+#include <string>
+#include <string_view>
+#include <utility>
+#include <vector>
+
+namespace pb {
+
+// Why a text is rejected. The values are the numbers of pb.h, where each is explained.
+enum class Reason : std::uint32_t {
+    None = 0,
+    Byte = PB_BYTE,
+    TooLarge = PB_TOO_LARGE,
+    Ended = PB_ENDED,
+    TooLong = PB_TOO_LONG,
+    Memory = PB_MEMORY,
+    Overflow = PB_OVERFLOW,
+    FormulaCount = PB_FORMULA_COUNT,
+    NoSuchId = PB_NO_SUCH_ID,
+    NotImplied = PB_NOT_IMPLIED,
+    Conflict = PB_CONFLICT,
+    NotTotal = PB_NOT_TOTAL,
+    Violates = PB_VIOLATES,
+    NoObjective = PB_NO_OBJECTIVE,
+    NoContradiction = PB_NO_CONTRADICTION,
+    SolutionLogged = PB_SOLUTION_LOGGED,
+    NoSolution = PB_NO_SOLUTION,
+    NotBound = PB_NOT_BOUND,
+    IdsSpent = PB_IDS_SPENT,
+    Order = PB_ORDER,
+    Misused = PB_MISUSED,
+};
+
+enum class Input : std::uint32_t { None = 0, Instance = PB_IN_INSTANCE, Proof = PB_IN_PROOF };
+
+enum class Kind : std::uint32_t { None = PB_CLAIM_NONE, Unsat = PB_CLAIM_UNSAT, Sat = PB_CLAIM_SAT, Bounds = PB_CLAIM_BOUNDS };
+
+// A position: lines and columns from 1, columns and offsets in bytes.
+using Place = pb_place_t;
+
+// An integer of 128 bits: 2^64 times the high word plus the low word.
+struct Wide {
+    std::uint64_t low = 0;
+    std::int64_t high = 0;
+
+    friend bool operator==(const Wide &one, const Wide &other) { return one.low == other.low && one.high == other.high; }
+    friend bool operator!=(const Wide &one, const Wide &other) { return !(one == other); }
+
+    // Its decimal digits, after a `-` if it is negative.
+    std::string str() const
+    {
+        const bool negative = high < 0;
+        std::uint64_t upper = static_cast<std::uint64_t>(high), lower = low;
+        if (negative) {
+            upper = lower == 0 ? 0 - upper : ~upper;
+            lower = 0 - lower;
+        }
+        std::uint64_t words[4] = {upper >> 32, upper & 0xffffffffu, lower >> 32, lower & 0xffffffffu};
+        std::string digits;
+        do {
+            std::uint64_t rest = 0;
+            for (std::uint64_t &word : words) {
+                rest = (rest << 32) + word;
+                word = rest / 10;
+                rest %= 10;
+            }
+            digits.insert(digits.begin(), static_cast<char>('0' + rest));
+        } while ((words[0] | words[1] | words[2] | words[3]) != 0);
+        return negative ? "-" + digits : digits;
+    }
+};
+
+// The options of a call. The keys are drawn at random; PB_OPTIONS_FIXED has fixed ones.
+#ifndef PB_NO_RANDOM
+inline pb_options_t random_options()
+{
+    pb_options_t options;
+    pb_options(&options);
+    return options;
+}
+#endif
+
+// A call failed. what() is the line that the command prints, without its line feed.
+class Fault : public std::runtime_error {
+public:
+    Fault(std::uint8_t status, const pb_report_t &report, std::string name)
+        : std::runtime_error(line_of(report, name)), status_(status), report_(report), name_(std::move(name))
+    {
+    }
+
+    // PB_REFUSED, PB_MISUSE or PB_FAILED.
+    std::uint8_t status() const noexcept { return status_; }
+    Reason reason() const noexcept { return static_cast<Reason>(report_.reason); }
+    Input input() const noexcept { return static_cast<Input>(report_.input); }
+    // The position: 0, 0, 0 if the reason has none.
+    std::uint64_t line() const noexcept { return report_.line; }
+    std::uint64_t column() const noexcept { return report_.column; }
+    std::uint64_t offset() const noexcept { return report_.offset; }
+    // The byte, the count, the number of the name or the id that the reason is about.
+    std::uint64_t number() const noexcept { return report_.number; }
+    // The id of Reason::NoSuchId, as written.
+    std::int64_t id() const noexcept { return report_.id; }
+    // The name of Reason::NotTotal.
+    const std::string &name() const noexcept { return name_; }
+
+private:
+    static std::string reason_of(const pb_report_t &report, const std::string &name)
+    {
+        switch (static_cast<Reason>(report.reason)) {
+        case Reason::None:
+            return "no fault";
+        case Reason::Byte: {
+            const char *digits = "0123456789abcdef";
+            return std::string("byte 0x") + digits[report.number / 16 % 16] + digits[report.number % 16];
+        }
+        case Reason::TooLarge:
+            return "number too large";
+        case Reason::Ended:
+            return "input ended";
+        case Reason::TooLong:
+            return "input too long";
+        case Reason::Memory:
+            return "out of memory";
+        case Reason::Overflow:
+            return "overflow";
+        case Reason::FormulaCount:
+            return "formula has " + std::to_string(report.number) + " constraints";
+        case Reason::NoSuchId:
+            return "no such id " + std::to_string(report.id);
+        case Reason::NotImplied:
+            return "not implied";
+        case Reason::Conflict:
+            return "conflict";
+        case Reason::NotTotal:
+            return "no value for " + name;
+        case Reason::Violates:
+            return "violates constraint " + std::to_string(report.number);
+        case Reason::NoObjective:
+            return "no objective";
+        case Reason::NoContradiction:
+            return "not a contradiction";
+        case Reason::SolutionLogged:
+            return "a solution was logged";
+        case Reason::NoSolution:
+            return "no solution";
+        case Reason::NotBound:
+            return "not a bound";
+        case Reason::IdsSpent:
+            return "ids spent";
+        case Reason::Order:
+            return "out of order";
+        case Reason::Misused:
+            return "options that are not allowed, or a checker that is closed";
+        }
+        return "reason " + std::to_string(report.reason);
+    }
+
+    static std::string line_of(const pb_report_t &report, const std::string &name)
+    {
+        std::string line;
+        if (report.input != 0)
+            line = report.input == PB_IN_PROOF ? "proof: " : "instance: ";
+        if (report.line != 0)
+            line += "line " + std::to_string(report.line) + " column " + std::to_string(report.column) + ": ";
+        return line + reason_of(report, name);
+    }
+
+    std::uint8_t status_;
+    pb_report_t report_;
+    std::string name_;
+};
+
+// What a proof has shown.
+class Verdict {
+public:
+    explicit Verdict(const pb_claim_t &claim) : claim_(claim) {}
+
+    Kind kind() const noexcept { return static_cast<Kind>(claim_.kind); }
+    // The bounds of Kind::Bounds. There is none if it is infinite.
+    std::optional<Wide> lower() const { return bound(claim_.lower_finite, claim_.lower_low, claim_.lower_high); }
+    std::optional<Wide> upper() const { return bound(claim_.upper_finite, claim_.upper_low, claim_.upper_high); }
+
+    // The line that the command prints, without its line feed.
+    std::string str() const
+    {
+        switch (kind()) {
+        case Kind::None:
+            return "verified NONE";
+        case Kind::Unsat:
+            return "verified UNSAT";
+        case Kind::Sat:
+            return "verified SAT";
+        case Kind::Bounds:
+            break;
+        }
+        return "verified BOUNDS " + (lower() ? lower()->str() : "INF") + " " + (upper() ? upper()->str() : "INF");
+    }
+
+private:
+    static std::optional<Wide> bound(bool finite, std::uint64_t low, std::int64_t high)
+    {
+        return finite ? std::optional<Wide>(Wide{low, high}) : std::nullopt;
+    }
+
+    pb_claim_t claim_;
+};
+
+// Checks the proof of one instance while the proof is written. It belongs to the thread that made it. Each call may throw a Fault.
+class Checker {
+public:
+    Checker(std::string_view instance, const pb_options_t &options)
+    {
+        pb_report_t report;
+        answer(pb_checker_open(bytes(instance), instance.size(), &options, &checker_, &report), report);
+    }
+#ifndef PB_NO_RANDOM
+    explicit Checker(std::string_view instance) : Checker(instance, random_options()) {}
+#endif
+    Checker(Checker &&other) noexcept : checker_(std::exchange(other.checker_, pb_checker_t PB_CHECKER_CLOSED)) {}
+    Checker &operator=(Checker &&other) noexcept
+    {
+        std::swap(checker_, other.checker_);
+        return *this;
+    }
+    Checker(const Checker &) = delete;
+    Checker &operator=(const Checker &) = delete;
+    ~Checker() { pb_checker_close(&checker_); }
+
+    // Takes a piece of the proof, cut anywhere. Returns how many of its bytes belong to the proof.
+    std::size_t feed(std::string_view piece)
+    {
+        pb_report_t report;
+        std::size_t used = 0;
+        answer(pb_checker_feed(&checker_, bytes(piece), piece.size(), &used, &report), report);
+        return used;
+    }
+
+    // What the proof shows if it ends here.
+    Verdict finish()
+    {
+        pb_report_t report;
+        pb_claim_t claim;
+        answer(pb_checker_finish(&checker_, &claim, &report), report);
+        return Verdict(claim);
+    }
+
+    // The position of the next byte of the proof.
+    Place place()
+    {
+        Place place;
+        closed(pb_checker_place(&checker_, &place));
+        return place;
+    }
+
+    // How much of the current statement is stored.
+    std::size_t held()
+    {
+        std::size_t held = 0;
+        closed(pb_checker_held(&checker_, &held));
+        return held;
+    }
+
+private:
+    static const std::uint8_t *bytes(std::string_view text)
+    {
+        return reinterpret_cast<const std::uint8_t *>(text.empty() ? "" : text.data());
+    }
+
+    std::string name_of(const pb_report_t &report)
+    {
+        std::string name(64, '\0');
+        std::size_t length = 0;
+        for (;;) {
+            const auto number = static_cast<std::size_t>(report.number);
+            pb_checker_name(&checker_, number, reinterpret_cast<std::uint8_t *>(&name[0]), name.size(), &length);
+            const bool fits = length <= name.size();
+            name.resize(length);
+            if (fits)
+                return name;
+        }
+    }
+
+    void answer(std::uint8_t status, const pb_report_t &report)
+    {
+        if (status != PB_OK)
+            throw Fault(status, report, report.reason == PB_NOT_TOTAL ? name_of(report) : std::string());
+    }
+
+    void closed(std::uint8_t status)
+    {
+        if (status != PB_OK)
+            throw Fault(status, pb_report_t{0, 0, 0, 0, 0, PB_MISUSED, 0}, std::string());
+    }
+
+    pb_checker_t checker_ = PB_CHECKER_CLOSED;
+};
+
+// An instance as arrays. Name k is names[k]. Term t has the coefficient coefficients[t] on the name numbers[t], or on its negation if
+// negated[t] is 1. A row is the objective, if there is one, or a constraint. Row k has the terms from ends[k - 1], or 0 for the first row, to
+// ends[k], kinds[k] is PB_OBJECTIVE, PB_AT_LEAST or PB_EQUAL, and its first byte is at places[k].
+class Instance {
+public:
+    std::vector<std::string> names;
+    std::vector<std::uint64_t> numbers;
+    std::vector<std::uint8_t> negated;
+    std::vector<Wide> coefficients;
+    std::vector<std::uint8_t> kinds;
+    std::vector<std::uint64_t> ends;
+    std::vector<Wide> degrees;
+    std::vector<Place> places;
+
+    // Reads an instance. Throws a Fault.
+    static Instance read(std::string_view text, const pb_options_t &options)
+    {
+        Arrays arrays;
+        pb_report_t report;
+        const std::uint8_t *bytes = reinterpret_cast<const std::uint8_t *>(text.empty() ? "" : text.data());
+        const std::uint8_t status = pb_instance_read(bytes, text.size(), &options, &arrays.instance, &report);
+        if (status != PB_OK)
+            throw Fault(status, report, std::string());
+        return Instance(&arrays.instance);
+    }
+#ifndef PB_NO_RANDOM
+    static Instance read(std::string_view text) { return read(text, random_options()); }
+#endif
+
+private:
+    struct Arrays {
+        pb_instance_t instance = PB_INSTANCE_CLOSED;
+        Arrays() = default;
+        Arrays(const Arrays &) = delete;
+        Arrays &operator=(const Arrays &) = delete;
+        ~Arrays() { pb_instance_close(&instance); }
+    };
+
+    explicit Instance(pb_instance_t *instance)
+    {
+        pb_sizes_t sizes;
+        pb_instance_sizes(instance, &sizes);
+        read_names(instance, sizes.names);
+        read_terms(instance, sizes.terms);
+        read_rows(instance, sizes.rows);
+    }
+
+    void read_names(pb_instance_t *instance, std::size_t count)
+    {
+        std::string room(64, '\0');
+        for (std::size_t number = 0; number < count; number++) {
+            for (;;) {
+                std::size_t length = 0;
+                pb_instance_name(instance, number, reinterpret_cast<std::uint8_t *>(&room[0]), room.size(), &length);
+                if (length <= room.size()) {
+                    names.push_back(room.substr(0, length));
+                    break;
+                }
+                room.resize(length);
+            }
+        }
+    }
+
+    // One element more than there are, so that no pointer is null.
+    template <typename T> static std::vector<T> room_for(std::size_t count) { return std::vector<T>(count + 1); }
+
+    void read_terms(pb_instance_t *instance, std::size_t count)
+    {
+        auto lows = room_for<std::uint64_t>(count);
+        auto highs = room_for<std::int64_t>(count);
+        numbers = room_for<std::uint64_t>(count);
+        negated = room_for<std::uint8_t>(count);
+        pb_instance_terms(instance, numbers.data(), count, negated.data(), count, lows.data(), count, highs.data(), count);
+        numbers.resize(count);
+        negated.resize(count);
+        for (std::size_t term = 0; term < count; term++)
+            coefficients.push_back(Wide{lows[term], highs[term]});
+    }
+
+    void read_rows(pb_instance_t *instance, std::size_t count)
+    {
+        auto lows = room_for<std::uint64_t>(count), lines = lows, columns = lows, firsts = lows, pasts = lows;
+        auto highs = room_for<std::int64_t>(count);
+        kinds = room_for<std::uint8_t>(count);
+        ends = room_for<std::uint64_t>(count);
+        pb_instance_rows(instance, kinds.data(), count, ends.data(), count, lows.data(), count, highs.data(), count);
+        pb_instance_places(instance, lines.data(), count, columns.data(), count, firsts.data(), count, pasts.data(), count);
+        kinds.resize(count);
+        ends.resize(count);
+        for (std::size_t row = 0; row < count; row++) {
+            degrees.push_back(Wide{lows[row], highs[row]});
+            places.push_back(Place{lines[row], columns[row], firsts[row]});
+        }
+    }
+};
+
+// Checks a proof of an instance, both in memory.
+inline Verdict check(std::string_view instance, std::string_view proof, const pb_options_t &options)
+{
+    Checker checker(instance, options);
+    checker.feed(proof);
+    return checker.finish();
+}
+#ifndef PB_NO_RANDOM
+inline Verdict check(std::string_view instance, std::string_view proof) { return check(instance, proof, random_options()); }
+#endif
+
+} // namespace pb
+
+#endif
