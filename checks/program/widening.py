@@ -7,11 +7,13 @@ from dialect import END
 
 def traced(text):
     """What `pb trace` prints: for each line of a proof that adds constraints, these by id."""
-    made = {}
+    made, here = {}, {}
     for line in text.decode().splitlines():
         found = re.match(r"(\d+):\d+ ", line)
         if found:
-            made[int(found[1])] = {int(number): body for number, body in re.findall(r" -> (\d+): ([^;]*);", line)}
+            here = made[int(found[1])] = {}
+        # The constraints of the instance have a line each, below that of `f`.
+        here.update((int(number), body) for number, body in re.findall(r" -> (\d+): ([^;]*);", line))
     return made
 
 
