@@ -104,8 +104,9 @@ class Spool:
 
 
 def note(line):
-    """Writes a line about the run on standard error."""
-    print(f"{os.path.basename(sys.argv[0])}: {line}", file=sys.stderr, flush=True)
+    """Writes a line about the run on standard error, at once: another program may write there too."""
+    sys.stderr.write(f"{os.path.basename(sys.argv[0])}: {line}\n")
+    sys.stderr.flush()
 
 
 # What is said of a proof of a CNF file that stops early.
