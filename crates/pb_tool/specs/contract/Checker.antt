@@ -1,5 +1,5 @@
 -- How a checker relates to the text that it was fed.
-use Rattle.std.specs.Prelude.{◌≡◌, ℕ, List, false, Option, Some, None, Result, Ok, Err}
+use Rattle.std.specs.Prelude.{◌≡◌, ℕ, List, length, false, Option, Some, None, Result, Ok, Err}
 use Rattle.pb_text.specs.meaning.Limits.{largest, top_of}
 use Rattle.pb_text.specs.contract.Automaton.{MayAsk}
 use Rattle.pb_text.specs.contract.Feeding.{StandsAt, place_of, halt_of, is_complete}
@@ -60,6 +60,16 @@ module _ (limits : Limits) (longest : ℕ) (v : Problem) (first : Result State F
   ChecksSoFar f r (Some (Text s)) = Checks limits longest v first input (place_of f) false (Some (Text s))
   ChecksSoFar f r (Some (Step begins e)) =
       (refused : IsRefusedAt limits longest v first input (place_of f) begins e) × KeepsNamesOf refused.before r.names e
+
+  -- how many statements were accepted: all that end in the input, or those before the fault
+  abbrev pub accepted_by : (f : ProofFeeder) (r : Replaying) (e : Option CheckFault) → ChecksSoFar f r e → ℕ
+  accepted_by f r None h = length h.spans
+  accepted_by f r (Some (Text s)) h = length h.1.spans
+  accepted_by f r (Some (Step begins e)) h = length h.0.spans
+
+  -- The same as `ChecksSoFar`, and n statements were accepted.
+  abbrev pub CountsSoFar : ℕ → ProofFeeder → Replaying → Option CheckFault → Type 0
+  CountsSoFar n f r e = (so_far : ChecksSoFar f r e) × (accepted_by f r e so_far ≡ n)
 
 -- The machine of proofs may allocate only at a byte that may allocate in the text of a proof.
 abbrev pub AsksAsText : Limits → Type 0

@@ -70,6 +70,7 @@ module _ (limits : Limits) (longest : ℕ) (v : Problem) (first : Result State F
     pub input_is : input ≡ used ++ left
     pub reads : Reads (IsProof (largest limits) (top_of limits)) longest used used (spans ++ last ∷ []) place done None
     pub begins_is : begins ≡ last.first
+    pub past_is : last.past ≡ place
     pub accepted : LeadsTo limits v first (events_at spans) before
     pub refused : Rejects limits v before last.event e
 
@@ -83,3 +84,14 @@ module _ (limits : Limits) (longest : ℕ) (v : Problem) (first : Result State F
   abbrev pub Ends : List ℕ → Place → Result Verdict CheckFault → Type 0
   Ends input place (Ok w) = (t : State) × IsReplayed input place true None (Ok t) × (verdict_at t.next t.concluded ≡ Some w)
   Ends input place (Err f) = Checks input place false (Some f)
+
+  -- how many statements were accepted: all that were read, or those before the fault
+  abbrev pub accepted_in : (input : List ℕ) (place : Place) (done : Bool) (e : Option CheckFault) → Checks input place done e → ℕ
+  accepted_in input place done None here = length here.1.spans
+  accepted_in input place done (Some (Text stop)) here = length here.1.spans
+  accepted_in input place done (Some (Step begins e)) here = length here.spans
+
+  -- The same as `Ends`, and n statements were accepted.
+  abbrev pub EndsAfter : List ℕ → ℕ → Place → Result Verdict CheckFault → Type 0
+  EndsAfter input n place (Ok w) = (t : State) × (all : IsReplayed input place true None (Ok t)) × (verdict_at t.next t.concluded ≡ Some w) × (length all.spans ≡ n)
+  EndsAfter input n place (Err f) = (here : Checks input place false (Some f)) × (accepted_in input place false (Some f) here ≡ n)

@@ -1,5 +1,5 @@
 -- What a feed says of a checker.
-use Rattle.std.specs.Prelude.{◌≡◌, ◌≢◌, ◌≤◌, ℕ, List, [], ◌∷◌, ◌++◌, take, Bool, true, false, Option, Some, None, Result, Ok, Err}
+use Rattle.std.specs.Prelude.{◌≡◌, ◌≢◌, ◌≤◌, ℕ, List, [], ◌∷◌, ◌+◌, ◌++◌, cond, take, Bool, true, false, Option, Some, None, Result, Ok, Err}
 use Rattle.std.specs.List.{flat_map}
 use Rattle.pb_text.specs.contract.Feeding.{place_of, state_of, is_complete}
 use Rattle.pb_text.specs.meaning.Limits.{largest, top_of}
@@ -15,7 +15,7 @@ use Rattle.pb_proof.specs.declared.Statement.{Statement}
 use Rattle.pb_replay.specs.meaning.Problem.{Problem}
 use Rattle.pb_replay.specs.meaning.Replay.{State}
 use Rattle.pb_replay.specs.declared.fault.Fault.{Fault}
-use Rattle.pb_tool.specs.contract.Checker.{Checking, ChecksSoFar}
+use Rattle.pb_tool.specs.contract.Checker.{Checking, ChecksSoFar, CountsSoFar}
 use Rattle.pb_tool.specs.contract.Checks.{Checks}
 use Rattle.pb_tool.specs.meaning.Files.{AsksInProofText}
 use Rattle.pb_tool.specs.declared.commands.check.checker.Went.{Went}
@@ -43,6 +43,10 @@ is_whole c = is_complete c.feeder
 abbrev pub ChecksAt : Limits → ℕ → Problem → Result State Fault → List ℕ → Checking → Type 0
 ChecksAt limits longest v first input c = ChecksSoFar limits longest v first input c.feeder c.replay c.fault
 
+-- The same, and n statements were accepted: all that end in the input, or those before the fault.
+abbrev pub CountsAt : Limits → ℕ → Problem → Result State Fault → List ℕ → ℕ → Checking → Type 0
+CountsAt limits longest v first input n c = CountsSoFar limits longest v first input n c.feeder c.replay c.fault
+
 -- Later input still counts: the text was not said to have ended.
 abbrev pub MayGoOn : Option CheckFault → Type 0
 MayGoOn None = Unit {0}
@@ -58,6 +62,13 @@ abbrev pub ChecksOnce : Checking → List ℕ → Checking → Type 0
 ChecksOnce old piece new =
     ((limits : Limits) (longest : ℕ) (v : Problem) (first : Result State Fault) (input : List ℕ) →
     MayGoOn old.fault → ChecksAt limits longest v first input old → ChecksAt limits longest v first (input ++ piece) new)
+    × (MayGoOn old.fault → MayGoOn new.fault)
+
+-- The same of one step, which accepted so many statements.
+abbrev pub CountsOnce : Checking → List ℕ → ℕ → Checking → Type 0
+CountsOnce old piece more new =
+    ((limits : Limits) (longest : ℕ) (v : Problem) (first : Result State Fault) (input : List ℕ) (n : ℕ) →
+    MayGoOn old.fault → CountsAt limits longest v first input n old → CountsAt limits longest v first (input ++ piece) (n + more) new)
     × (MayGoOn old.fault → MayGoOn new.fault)
 
 -- feeds in a row
@@ -106,5 +117,10 @@ bytes_to true used piece = take used piece
 bytes_to false used piece = piece
 
 abbrev pub bytes_gone : Result Went CheckFault → List ℕ → List ℕ
-bytes_gone (Ok w) piece = bytes_to w.more w.used piece
+bytes_gone (Ok w) piece = bytes_to w.accepted w.used piece
 bytes_gone (Err e) piece = piece
+
+-- how many statements a step accepted
+abbrev pub statements_in : Result Went CheckFault → ℕ
+statements_in (Ok w) = cond w.accepted 1 0
+statements_in (Err e) = 0

@@ -64,14 +64,14 @@ module _ (read : TextsAreRead) (f : ProofFeeder) (r : Replaying) (e : Option Che
   stopped_somewhere (limits, longest, v, first, input, asks, h) s pulls halts =
       let here = running_at limits longest v first input f r e none h in
       let p = pulls longest (begin (largest limits) (top_of limits)) input here.spans (subst IsOpenText (sym here.running) tt) here.stands in
-      (limits, longest, v, first, input ++ (p.taken ++ p.seen), asks, checked.halted_on read limits longest v first input f r e none h (p.taken ++ p.seen) n s (rw append-nil at p.stands) halts)
+      (limits, longest, v, first, input ++ (p.taken ++ p.seen), asks, (checked.halted_on read limits longest v first input f r e none h (p.taken ++ p.seen) n s (rw append-nil at p.stands) halts).0)
 
   -- the proof has ended
   ended_so_far : (limits : Limits) (longest : ℕ) (v : Problem) (first : Result State Fault) (input : List ℕ) → ChecksSoFar limits longest v first input f r e → PullsFrom f left (Ok None) n rest given given' → halt_of n ≡ None → (more : List ℕ) × ChecksSoFar limits longest v first more n r e
   ended_so_far limits longest v first input h pulls running =
       let here = running_at limits longest v first input f r e none h in
       let p = pulls longest (begin (largest limits) (top_of limits)) input here.spans (subst IsOpenText (sym here.running) tt) here.stands in
-      (input ++ (p.taken ++ p.seen), checked.quiet_on read limits longest v first input f r e none h (p.taken ++ p.seen) n (rw append-nil at p.stands) running)
+      (input ++ (p.taken ++ p.seen), (checked.quiet_on read limits longest v first input f r e none h (p.taken ++ p.seen) n (rw append-nil at p.stands) running).0)
 
   pub ended_somewhere : IsSomewhere f r e → PullsFrom f left (Ok None) n rest given given' → halt_of n ≡ None → IsSomewhere n r e
   ended_somewhere (limits, longest, v, first, input, asks, h) pulls running =
@@ -101,13 +101,13 @@ module _ (read : TextsAreRead) (f : ProofFeeder) (r : Replaying) (e : Option Che
     stepped_somewhere (limits, longest, v, first, input, asks, h) t steps limited problem =
         let here = running_at limits longest v first input f r e none h in
         let p = pulls longest (begin (largest limits) (top_of limits)) input here.spans (subst IsOpenText (sym here.running) tt) here.stands in
-        (limits, longest, v, first, input ++ p.taken, asks, checked.stepped_on read limits longest v first input f r e none h p.taken n m p.stands running t steps limited problem)
+        (limits, longest, v, first, input ++ p.taken, asks, (checked.stepped_on read limits longest v first input f r e none h p.taken n m p.stands running t steps limited problem).0)
 
-    pub refused_somewhere : IsSomewhere f r e → (t : Replaying) (x : CheckFault) → Answers r m (Err x) t → IsNamePrefix r.names t.names → ReportsOld r x → IsSomewhere n t (Some x)
-    refused_somewhere (limits, longest, v, first, input, asks, h) t x steps names reports =
+    pub refused_somewhere : m.past ≡ place_of n → IsSomewhere f r e → (t : Replaying) (x : CheckFault) → Answers r m (Err x) t → IsNamePrefix r.names t.names → ReportsOld r x → IsSomewhere n t (Some x)
+    refused_somewhere past (limits, longest, v, first, input, asks, h) t x steps names reports =
         let here = running_at limits longest v first input f r e none h in
         let p = pulls longest (begin (largest limits) (top_of limits)) input here.spans (subst IsOpenText (sym here.running) tt) here.stands in
-        (limits, longest, v, first, (input ++ p.taken) ++ [], asks, checked.refused_on read limits longest v first input f r e none h p.taken n m p.stands running [] t x steps names reports)
+        (limits, longest, v, first, (input ++ p.taken) ++ [], asks, (checked.refused_on read limits longest v first input f r e none h p.taken n m p.stands running past [] t x steps names reports).0)
 
 -- ---- what a step says that needs no text
 

@@ -1,5 +1,5 @@
--- The state of a checker after a feed and a step.
-use Rattle.std.proofs.Common.{◌≡◌, ℕ, ◌+◌, ◌-◌, List, [], ◌∷◌, ◌++◌, length, take, drop, ◌<◌, if◌then◌else◌, Bool, true, false, Option, Some, None, Result, Ok, Err, refl, sym, ap, ◌∙◌, subst, append-nil, append_assoc, take-append-drop, All, ◌⊎◌, inl, inr}
+-- The state of a checker after a feed and a step. Offered to other crates.
+use Rattle.std.proofs.Common.{◌≡◌, ℕ, ◌+◌, ◌-◌, List, [], ◌∷◌, ◌++◌, length, take, drop, ◌<◌, if◌then◌else◌, Bool, true, false, Option, Some, None, Result, Ok, Err, refl, sym, ap, ◌∙◌, subst, add-zero, append-nil, append_assoc, length-append, take-append-drop, All, ◌⊎◌, inl, inr}
 use Rattle.std.proofs.lemmas.List.Elements.{All-head, All-tail}
 use Rattle.pb_text.specs.meaning.Limits.{largest, top_of}
 use Rattle.pb_text.specs.contract.Automaton.{AcceptsItems as AcceptsBytes}
@@ -38,10 +38,10 @@ use Rattle.pb_replay.specs.declared.fault.Fault.TheVariants.{Memory, NotTotal}
 use Rattle.pb_replay.specs.declared.verdict.Verdict.{Verdict}
 use Rattle.std.specs.Prelude.{IsSome, not, is_some}
 use Rattle.pb_text.proofs.lemmas.source.Wholes.{spans_events}
-use Rattle.pb_tool.specs.contract.Checker.{Checking, ProofFeeder, AsksAsText, IsAt, IsAccepting, IsSomewhere, ChecksSoFar, StepsFrom, TextsAreRead}
-use Rattle.pb_tool.specs.contract.Checks.{Checks, IsReplayed, KeepsNames, KeepsNamesOf, LeadsTo, StepsTo, Rejects}
+use Rattle.pb_tool.specs.contract.Checker.{Checking, ProofFeeder, AsksAsText, IsAt, IsAccepting, IsSomewhere, ChecksSoFar, CountsSoFar, StepsFrom, TextsAreRead, accepted_by}
+use Rattle.pb_tool.specs.contract.Checks.{Checks, EndsAfter, IsReplayed, KeepsNames, KeepsNamesOf, LeadsTo, StepsTo, Rejects}
 use Rattle.pb_tool.specs.engine.Running.{Begins}
-use Rattle.pb_tool.specs.contract.Pieces.{AnyCutting, bytes_to, ChecksAt, ChecksOnce, MayGoOn, IsNoReadFault, FeedsInTurn, AllocatesAt, joined, fault_of, is_whole, place_in}
+use Rattle.pb_tool.specs.contract.Pieces.{AnyCutting, bytes_to, ChecksAt, ChecksOnce, CountsAt, CountsOnce, MayGoOn, IsNoReadFault, FeedsInTurn, AllocatesAt, joined, fault_of, is_whole, place_in}
 use Rattle.pb_tool.specs.declared.commands.check.checker.CheckFault.{CheckFault}
 use Rattle.pb_tool.specs.declared.commands.check.checker.CheckFault.TheVariants.{Text, Step}
 use Rattle.pb_tool.proofs.lemmas.check.Prefixes.{no_prefix}
@@ -169,9 +169,15 @@ pub running_at : (limits : Limits) (longest : ℕ) (v : Problem) (first : Result
 running_at limits longest v first input f r None e h = h
 running_at limits longest v first input f r (Some x) e h = absurd (cc e)
 
-stands_at : (limits : Limits) (longest : ℕ) (v : Problem) (first : Result State Fault) (input : List ℕ) (f : ProofFeeder) (r : Replaying) (e : Option CheckFault) → e ≡ None → IsAccepting limits longest v first input f r → ChecksSoFar limits longest v first input f r e
-stands_at limits longest v first input f r None e h = h
-stands_at limits longest v first input f r (Some x) e h = absurd (cc e)
+counts_at : (limits : Limits) (longest : ℕ) (v : Problem) (first : Result State Fault) (input : List ℕ) (f : ProofFeeder) (r : Replaying) (e : Option CheckFault) → e ≡ None → (h : IsAccepting limits longest v first input f r) → CountsSoFar limits longest v first input (length h.spans) f r e
+counts_at limits longest v first input f r None e h = (h, refl)
+counts_at limits longest v first input f r (Some x) e h = absurd (cc e)
+
+counted_at : (limits : Limits) (longest : ℕ) (v : Problem) (first : Result State Fault) (input : List ℕ) (f : ProofFeeder) (r : Replaying) (e : Option CheckFault) (none : e ≡ None) (h : ChecksSoFar limits longest v first input f r e)
+    → accepted_by limits longest v first input f r e h ≡ length (running_at limits longest v first input f r e none h).spans
+unfolding running_at
+counted_at limits longest v first input f r None e h = refl
+counted_at limits longest v first input f r (Some x) e h = absurd (cc e)
 
 module _ (read : TextsAreRead) (limits : Limits) (longest : ℕ) (v : Problem) (first : Result State Fault) (input : List ℕ) (f : ProofFeeder) (r : Replaying) (e : Option CheckFault) (none : e ≡ None) (h : ChecksSoFar limits longest v first input f r e) where
   abbrev pub now : IsAccepting limits longest v first input f r
@@ -211,6 +217,35 @@ module _ (read : TextsAreRead) (limits : Limits) (longest : ℕ) (v : Problem) (
       let (t, same, some) = there whole limits longest v first input text.used text.spans (place_of f) now.now text.reads text.accepted in
       (t, subst (λ (x : Result State Fault). IsReplayed limits longest v first input (place_of f) true None x) same text, sym (shown_at r t (subst (λ (x : Result State Fault). IsAt r x) same now.at)) ∙ sym is)
 
+  -- the same, with the number of the statements
+  abbrev CountedReplay : Bool → Result State Fault → Type 0
+  CountedReplay done x = (all : IsReplayed limits longest v first input (place_of f) done None x) × (length all.spans ≡ length now.spans)
+
+  counted_replay : CountedReplay (is_complete f) now.now
+  counted_replay = (record { used = reported.0; spans = now.spans; reads = reported.1; accepted = now.accepted }, refl)
+
+  pub verdict_after : WholeProofsConclude → is_complete f ≡ true → (w : Verdict) → Some w ≡ verdict_in r → EndsAfter limits longest v first input (length now.spans) (place_of f) (Ok w)
+  verdict_after whole done w is =
+      let text : CountedReplay true now.now = subst (λ (b : Bool). CountedReplay b now.now) done counted_replay in
+      let (t, same, some) = there whole limits longest v first input text.0.used text.0.spans (place_of f) now.now text.0.reads text.0.accepted in
+      let all : CountedReplay true (Ok t) = subst (λ (x : Result State Fault). CountedReplay true x) same text in
+      (t, all.0, sym (shown_at r t (subst (λ (x : Result State Fault). IsAt r x) same now.at)) ∙ sym is, all.1)
+
+  pub cut_after : is_complete f ≡ false → EndsAfter limits longest v first input (length now.spans) (place_of f) (Err (Text (record { place = place_of f; why = reason.Ended })))
+  cut_after done =
+      let reads = subst (λ (b : Bool). IsReported reported.0 b) done reported.1 in (
+        (
+          now.now,
+          record {
+            used = reported.0;
+            spans = now.spans;
+            reads = record { left = reads.left; input_is = reads.input_is; place_is = reads.place_is; answer = (reads.answer.0, refl, reads.answer.1) };
+            accepted = now.accepted;
+          },
+        ),
+        refl,
+      )
+
   pub no_verdict : WholeProofsConclude → is_complete f ≡ true → None ≡ verdict_in r → ⊥
   no_verdict whole done is =
       let text = whole_text done in
@@ -222,9 +257,9 @@ module _ (read : TextsAreRead) (limits : Limits) (longest : ℕ) (v : Problem) (
     abbrev pub StandsOn : List (Spanned Statement) → Type 0
     StandsOn spans = StandsAt longest (begin (largest limits) (top_of limits)) (input ++ more) spans n
 
-    pub quiet_on : StandsOn now.spans → halt_of n ≡ None → ChecksSoFar limits longest v first (input ++ more) n r e
+    pub quiet_on : StandsOn now.spans → halt_of n ≡ None → CountsSoFar limits longest v first (input ++ more) (length now.spans) n r e
     quiet_on stands running =
-        stands_at limits longest v first (input ++ more) n r e none (record {
+        counts_at limits longest v first (input ++ more) n r e none (record {
           spans = now.spans;
           stands = stands;
           running = running;
@@ -235,16 +270,19 @@ module _ (read : TextsAreRead) (limits : Limits) (longest : ℕ) (v : Problem) (
           accepted = now.accepted;
         })
 
-    pub halted_on : (s : Stop) → StandsOn now.spans → halt_of n ≡ Some s → Checks limits longest v first (input ++ more) (place_of n) false (Some (Text s))
+    pub halted_on : (s : Stop) → StandsOn now.spans → halt_of n ≡ Some s → CountsSoFar limits longest v first (input ++ more) (length now.spans) n r (Some (Text s))
     halted_on s stands halts =
         let (used, reads) = text_read read limits longest (input ++ more) now.spans n (Some s) stands halts in (
-          now.now,
-          record {
-            used = used;
-            spans = now.spans;
-            reads = stopped (largest limits) (top_of limits) longest (input ++ more) used now.spans (place_of n) (is_complete n) s reads;
-            accepted = now.accepted;
-          },
+          (
+            now.now,
+            record {
+              used = used;
+              spans = now.spans;
+              reads = stopped (largest limits) (top_of limits) longest (input ++ more) used now.spans (place_of n) (is_complete n) s reads;
+              accepted = now.accepted;
+            },
+          ),
+          refl,
         )
 
     module _ (m : Spanned Statement) (stands : StandsOn (now.spans ++ m ∷ [])) (running : halt_of n ≡ None) where
@@ -254,7 +292,7 @@ module _ (read : TextsAreRead) (limits : Limits) (longest : ℕ) (v : Problem) (
       pub value_on : ReadStatements → IsStatementValue (largest r.limits) (top_of r.limits) m.event
       value_on values = subst (λ (x : Limits). IsStatementValue (largest x) (top_of x) m.event) (sym now.limits_are) (last_is_value values (largest limits) (top_of limits) longest (input ++ more) said.0 now.spans m (place_of n) (is_complete n) said.1)
 
-      running_on : (t : Replaying) → StepsFrom r.limits r.problem now.now m (Ok tt) t → t.limits ≡ r.limits → t.problem ≡ r.problem → IsAccepting limits longest v first (input ++ more) n t
+      abbrev running_on : (t : Replaying) → StepsFrom r.limits r.problem now.now m (Ok tt) t → t.limits ≡ r.limits → t.problem ≡ r.problem → IsAccepting limits longest v first (input ++ more) n t
       running_on t (s, at, takes) limited problem = record {
         spans = now.spans ++ m ∷ [];
         stands = stands;
@@ -266,39 +304,43 @@ module _ (read : TextsAreRead) (limits : Limits) (longest : ℕ) (v : Problem) (
         accepted = leads_more limits v first now.spans m now.now s now.accepted (subst (λ (x : Problem). StepsTo limits x now.now m.event s) now.problem (subst (λ (x : Limits). StepsTo x r.problem now.now m.event s) now.limits_are takes));
       }
 
-      pub stepped_on : (t : Replaying) → ((before : Result State Fault) → IsAt r before → StepsFrom r.limits r.problem before m (Ok tt) t) → t.limits ≡ r.limits → t.problem ≡ r.problem → ChecksSoFar limits longest v first (input ++ more) n t e
-      stepped_on t steps limited problem = stands_at limits longest v first (input ++ more) n t e none (running_on t (steps now.now now.at) limited problem)
+      pub stepped_on : (t : Replaying) → ((before : Result State Fault) → IsAt r before → StepsFrom r.limits r.problem before m (Ok tt) t) → t.limits ≡ r.limits → t.problem ≡ r.problem → CountsSoFar limits longest v first (input ++ more) (length (now.spans ++ m ∷ [])) n t e
+      stepped_on t steps limited problem = counts_at limits longest v first (input ++ more) n t e none (running_on t (steps now.now now.at) limited problem)
 
       kept_by : (t : Replaying) (why : Fault) → IsNamePrefix r.names t.names → ((n : ℕ) → why ≡ NotTotal n → n < length r.names) → (x : Result State Fault) → IsAt r x → KeepsNamesOf x t.names why
       kept_by t why prefix old (Ok s) at = subst (λ (y : List (List ℕ)). KeepsNames y t.names why) (sym at.1.names) (prefix, old)
       kept_by t why prefix old (Err e) at = tt
 
-      refused_by : (rest : List ℕ) (t : Replaying) (why : Fault) → Rejects r.limits r.problem now.now m.event why → IsNamePrefix r.names t.names → ((n : ℕ) → why ≡ NotTotal n → n < length r.names) → ChecksSoFar limits longest v first ((input ++ more) ++ rest) n t (Some (Step m.first why))
-      refused_by rest t why refuses prefix old = (
-        record {
-          used = said.0;
-          left = said.1.left ++ rest;
-          spans = now.spans;
-          last = m;
-          before = now.now;
-          done = is_complete n;
-          input_is = ap (λ (x : List ℕ). x ++ rest) said.1.input_is ∙ append_assoc said.0 said.1.left rest;
-          reads = used_alone (largest limits) (top_of limits) longest (input ++ more) said.0 (now.spans ++ m ∷ []) (place_of n) (is_complete n) said.1;
-          begins_is = refl;
-          accepted = now.accepted;
-          refused = subst (λ (x : Problem). Rejects limits x now.now m.event why) now.problem (subst (λ (x : Limits). Rejects x r.problem now.now m.event why) now.limits_are refuses);
-        },
-        kept_by t why prefix old now.now now.at,
+      refused_by : m.past ≡ place_of n → (rest : List ℕ) (t : Replaying) (why : Fault) → Rejects r.limits r.problem now.now m.event why → IsNamePrefix r.names t.names → ((n : ℕ) → why ≡ NotTotal n → n < length r.names) → CountsSoFar limits longest v first ((input ++ more) ++ rest) (length now.spans) n t (Some (Step m.first why))
+      refused_by past rest t why refuses prefix old = (
+        (
+          record {
+            used = said.0;
+            left = said.1.left ++ rest;
+            spans = now.spans;
+            last = m;
+            before = now.now;
+            done = is_complete n;
+            input_is = ap (λ (x : List ℕ). x ++ rest) said.1.input_is ∙ append_assoc said.0 said.1.left rest;
+            reads = used_alone (largest limits) (top_of limits) longest (input ++ more) said.0 (now.spans ++ m ∷ []) (place_of n) (is_complete n) said.1;
+            begins_is = refl;
+            past_is = past;
+            accepted = now.accepted;
+            refused = subst (λ (x : Problem). Rejects limits x now.now m.event why) now.problem (subst (λ (x : Limits). Rejects x r.problem now.now m.event why) now.limits_are refuses);
+          },
+          kept_by t why prefix old now.now now.at,
+        ),
+        refl,
       )
 
       abbrev pub Refusing : Replaying → CheckFault → Type 0
       Refusing t x = (before : Result State Fault) → IsAt r before → StepsFrom r.limits r.problem before m (Err x) t
 
-      pub refused_on : (rest : List ℕ) (t : Replaying) (x : CheckFault) → Refusing t x → IsNamePrefix r.names t.names → ReportsOld r x → ChecksSoFar limits longest v first ((input ++ more) ++ rest) n t (Some x)
-      refused_on rest t x steps prefix old =
+      pub refused_on : m.past ≡ place_of n → (rest : List ℕ) (t : Replaying) (x : CheckFault) → Refusing t x → IsNamePrefix r.names t.names → ReportsOld r x → CountsSoFar limits longest v first ((input ++ more) ++ rest) (length now.spans) n t (Some x)
+      refused_on past rest t x steps prefix old =
           let (why, is, refuses) = steps now.now now.at in
-          subst (λ (y : CheckFault). ChecksSoFar limits longest v first ((input ++ more) ++ rest) n t (Some y)) (sym is)
-          (refused_by rest t why refuses prefix (λ k h. old m.first k (ap (λ (y : CheckFault). failed y) (is ∙ ap (λ (z : Fault). Step m.first z) h))))
+          subst (λ (y : CheckFault). CountsSoFar limits longest v first ((input ++ more) ++ rest) (length now.spans) n t (Some y)) (sym is)
+          (refused_by past rest t why refuses prefix (λ k h. old m.first k (ap (λ (y : CheckFault). failed y) (is ∙ ap (λ (z : Fault). Step m.first z) h))))
 
   -- ---- a feed and a step
   module _ (piece : List ℕ) (n : ProofFeeder) where
@@ -310,13 +352,13 @@ module _ (read : TextsAreRead) (limits : Limits) (longest : ℕ) (v : Problem) (
         let feeds : FeedsOnce f piece (Ok (record { used = fed.used; event = None })) n = subst (λ (x : Fed Statement). FeedsOnce f piece (Ok x) n) (fed_with fed None event) feeds in
         rw append-nil at (feeds.0 longest (begin (largest limits) (top_of limits)) input now.spans owed now.stands)
 
-    pub quiet : (fed : Fed Statement) → fed.event ≡ None → FeedsOnce f piece (Ok fed) n → halt_of n ≡ None → ChecksSoFar limits longest v first (input ++ piece) n r e
+    pub quiet : (fed : Fed Statement) → fed.event ≡ None → FeedsOnce f piece (Ok fed) n → halt_of n ≡ None → CountsSoFar limits longest v first (input ++ piece) (length now.spans) n r e
     quiet fed event feeds running = quiet_on piece n (stands_quiet fed event feeds) running
 
     stands_stopped : (s : Stop) → FeedsOnce f piece (Err s) n → StandsAt longest (begin (largest limits) (top_of limits)) (input ++ piece) now.spans n
     stands_stopped s feeds = rw append-nil at (feeds.0 longest (begin (largest limits) (top_of limits)) input now.spans owed now.stands)
 
-    pub halted : (s : Stop) → FeedsOnce f piece (Err s) n → halt_of n ≡ Some s → Checks limits longest v first (input ++ piece) (place_of n) false (Some (Text s))
+    pub halted : (s : Stop) → FeedsOnce f piece (Err s) n → halt_of n ≡ Some s → CountsSoFar limits longest v first (input ++ piece) (length now.spans) n r (Some (Text s))
     halted s feeds halts = halted_on piece n s (stands_stopped s feeds) halts
 
     -- the byte at which memory ran out is one that may allocate
@@ -338,23 +380,70 @@ module _ (read : TextsAreRead) (limits : Limits) (longest : ℕ) (v : Problem) (
       pub is_value : ReadStatements → IsStatementValue (largest r.limits) (top_of r.limits) m.event
       is_value = value_on (take fed.used piece) n m stands running
 
-      pub stepped : (t : Replaying) → ((before : Result State Fault) → IsAt r before → StepsFrom r.limits r.problem before m (Ok tt) t) → t.limits ≡ r.limits → t.problem ≡ r.problem → ChecksSoFar limits longest v first (input ++ take fed.used piece) n t e
+      pub stepped : (t : Replaying) → ((before : Result State Fault) → IsAt r before → StepsFrom r.limits r.problem before m (Ok tt) t) → t.limits ≡ r.limits → t.problem ≡ r.problem → CountsSoFar limits longest v first (input ++ take fed.used piece) (length (now.spans ++ m ∷ [])) n t e
       stepped = stepped_on (take fed.used piece) n m stands running
 
       abbrev Refuses : Replaying → CheckFault → Type 0
       Refuses t x = (before : Result State Fault) → IsAt r before → StepsFrom r.limits r.problem before m (Err x) t
 
-      pub refused : (t : Replaying) (x : CheckFault) → Refuses t x → IsNamePrefix r.names t.names → ReportsOld r x → ChecksSoFar limits longest v first (input ++ piece) n t (Some x)
-      refused t x steps prefix old =
-          subst (λ (y : List ℕ). ChecksSoFar limits longest v first y n t (Some x))
+      pub refused : m.past ≡ place_of n → (t : Replaying) (x : CheckFault) → Refuses t x → IsNamePrefix r.names t.names → ReportsOld r x → CountsSoFar limits longest v first (input ++ piece) (length now.spans) n t (Some x)
+      refused past t x steps prefix old =
+          subst (λ (y : List ℕ). CountsSoFar limits longest v first y (length now.spans) n t (Some x))
           (append_assoc input (take fed.used piece) (drop fed.used piece) ∙ ap (λ (y : List ℕ). input ++ y) (take-append-drop fed.used piece))
-          (refused_on (take fed.used piece) n m stands running (drop fed.used piece) t x steps prefix old)
+          (refused_on (take fed.used piece) n m stands running past (drop fed.used piece) t x steps prefix old)
 
       pub unread_step : (t : Replaying) (x : CheckFault) → Refuses t x → IsNoReadFault x
       unread_step t x steps = let (why, is, refuses) = steps now.now now.at in subst IsNoReadFault (sym is) tt
 
       pub wanted_step : (t : Replaying) (x : CheckFault) → Refuses t x → AllocatesAt limits (input ++ piece) x
       wanted_step t x steps = let (why, is, refuses) = steps now.now now.at in subst (AllocatesAt limits (input ++ piece)) (sym is) tt
+
+-- ---- the same, with the number of the statements
+module _ (limits : Limits) (longest : ℕ) (v : Problem) (first : Result State Fault) (input : List ℕ) (f : ProofFeeder) (r : Replaying) (e : Option CheckFault) (none : e ≡ None) (k : ℕ) (given : CountsSoFar limits longest v first input k f r e) where
+  abbrev before : List (Spanned Statement)
+  before = (running_at limits longest v first input f r e none given.0).spans
+
+  pub so_many : length before ≡ k
+  so_many = sym (counted_at limits longest v first input f r e none given.0) ∙ given.1
+
+  none_more : length before ≡ k + 0
+  none_more = so_many ∙ sym (add-zero k)
+
+module _ (read : TextsAreRead) (limits : Limits) (longest : ℕ) (v : Problem) (first : Result State Fault) (input : List ℕ) (f : ProofFeeder) (r : Replaying) (e : Option CheckFault) (none : e ≡ None) (k : ℕ) (given : CountsSoFar limits longest v first input k f r e) where
+  pub verdict_counted : WholeProofsConclude → is_complete f ≡ true → (w : Verdict) → Some w ≡ verdict_in r → EndsAfter limits longest v first input k (place_of f) (Ok w)
+  verdict_counted whole done w is =
+      let (t, all, shown, many) = verdict_after read limits longest v first input f r e none given.0 whole done w is in
+      (t, all, shown, many ∙ so_many limits longest v first input f r e none k given)
+
+  pub cut_counted : is_complete f ≡ false → EndsAfter limits longest v first input k (place_of f) (Err (Text (record { place = place_of f; why = reason.Ended })))
+  cut_counted done =
+      let (here, many) = cut_after read limits longest v first input f r e none given.0 done in
+      (here, many ∙ so_many limits longest v first input f r e none k given)
+
+module _ (read : TextsAreRead) (limits : Limits) (longest : ℕ) (v : Problem) (first : Result State Fault) (input : List ℕ) (f : ProofFeeder) (r : Replaying) (e : Option CheckFault) (none : e ≡ None) (k : ℕ) (given : CountsSoFar limits longest v first input k f r e) (piece : List ℕ) (n : ProofFeeder) where
+  abbrev no_more : length (before limits longest v first input f r e none k given) ≡ k + 0
+  no_more = none_more limits longest v first input f r e none k given
+
+  pub quiet_counted : (fed : Fed Statement) → fed.event ≡ None → FeedsOnce f piece (Ok fed) n → halt_of n ≡ None → CountsSoFar limits longest v first (input ++ piece) (k + 0) n r e
+  quiet_counted fed event feeds running =
+      let (c, many) = quiet read limits longest v first input f r e none given.0 piece n fed event feeds running in
+      (c, many ∙ no_more)
+
+  pub halted_counted : (s : Stop) → FeedsOnce f piece (Err s) n → halt_of n ≡ Some s → CountsSoFar limits longest v first (input ++ piece) (k + 0) n r (Some (Text s))
+  halted_counted s feeds halts =
+      let (c, many) = halted read limits longest v first input f r e none given.0 piece n s feeds halts in
+      (c, many ∙ no_more)
+
+  module _ (fed : Fed Statement) (m : Spanned Statement) (event : fed.event ≡ Some m) (feeds : FeedsOnce f piece (Ok fed) n) (running : halt_of n ≡ None) (t : Replaying) where
+    pub stepped_counted : ((before : Result State Fault) → IsAt r before → StepsFrom r.limits r.problem before m (Ok tt) t) → t.limits ≡ r.limits → t.problem ≡ r.problem → CountsSoFar limits longest v first (input ++ take fed.used piece) (k + 1) n t e
+    stepped_counted steps limited problem =
+        let (c, many) = stepped read limits longest v first input f r e none given.0 piece n fed m event feeds running t steps limited problem in
+        (c, many ∙ (length-append (before limits longest v first input f r e none k given) (m ∷ []) ∙ ap (λ (j : ℕ). j + 1) (so_many limits longest v first input f r e none k given)))
+
+    pub refused_counted : m.past ≡ place_of n → (x : CheckFault) → ((before : Result State Fault) → IsAt r before → StepsFrom r.limits r.problem before m (Err x) t) → IsNamePrefix r.names t.names → ReportsOld r x → CountsSoFar limits longest v first (input ++ piece) (k + 0) n t (Some x)
+    refused_counted past x steps prefix old =
+        let (c, many) = refused read limits longest v first input f r e none given.0 piece n fed m event feeds running past t x steps prefix old in
+        (c, many ∙ no_more)
 
 -- what a checker knows of the bytes that may allocate
 pub asks_here : (f : ProofFeeder) (r : Replaying) (e : Option CheckFault) → e ≡ None → IsSomewhere f r e → (limits : Limits) (longest : ℕ) (v : Problem) (first : Result State Fault) (input : List ℕ) → ChecksSoFar limits longest v first input f r e → AsksAsText limits
@@ -373,45 +462,60 @@ module _ (limit top longest : ℕ) (used left piece : List ℕ) where
   explained reason.Read c h = h
   explained reason.Memory c (b, more, e, viable, room) = (b, more ++ piece, ap (λ (x : List ℕ). x ++ piece) e, viable, room)
 
-later : (limits : Limits) (longest : ℕ) (v : Problem) (first : Result State Fault) (input piece : List ℕ) (f : ProofFeeder) (r : Replaying) (e : CheckFault) → MayGoOn (Some e) → ChecksSoFar limits longest v first input f r (Some e) → ChecksSoFar limits longest v first (input ++ piece) f r (Some e)
-later limits longest v first input piece f r (Text s) counts (now, h) = (
-  now,
-  record {
-    used = h.used;
-    spans = h.spans;
-    reads = record {
-      left = h.reads.left ++ piece;
-      input_is = ap (λ (x : List ℕ). x ++ piece) h.reads.input_is ∙ append_assoc h.used h.reads.left piece;
-      place_is = h.reads.place_is;
-      answer = (h.reads.answer.0, h.reads.answer.1, explained (largest limits) (top_of limits) longest h.used h.reads.left piece s.why counts h.reads.answer.2);
-    };
-    accepted = h.accepted;
-  },
+later : (limits : Limits) (longest : ℕ) (v : Problem) (first : Result State Fault) (input piece : List ℕ) (n : ℕ) (f : ProofFeeder) (r : Replaying) (e : CheckFault) → MayGoOn (Some e) → CountsSoFar limits longest v first input n f r (Some e) → CountsSoFar limits longest v first (input ++ piece) n f r (Some e)
+later limits longest v first input piece n f r (Text s) counts ((now, h), so_many) = (
+  (
+    now,
+    record {
+      used = h.used;
+      spans = h.spans;
+      reads = record {
+        left = h.reads.left ++ piece;
+        input_is = ap (λ (x : List ℕ). x ++ piece) h.reads.input_is ∙ append_assoc h.used h.reads.left piece;
+        place_is = h.reads.place_is;
+        answer = (h.reads.answer.0, h.reads.answer.1, explained (largest limits) (top_of limits) longest h.used h.reads.left piece s.why counts h.reads.answer.2);
+      };
+      accepted = h.accepted;
+    },
+  ),
+  so_many,
 )
-later limits longest v first input piece f r (Step begins e) counts (h, kept) = (
-  record {
-    used = h.used;
-    left = h.left ++ piece;
-    spans = h.spans;
-    last = h.last;
-    before = h.before;
-    done = h.done;
-    input_is = ap (λ (x : List ℕ). x ++ piece) h.input_is ∙ append_assoc h.used h.left piece;
-    reads = h.reads;
-    begins_is = h.begins_is;
-    accepted = h.accepted;
-    refused = h.refused;
-  },
-  kept,
+later limits longest v first input piece n f r (Step begins e) counts ((h, kept), so_many) = (
+  (
+    record {
+      used = h.used;
+      left = h.left ++ piece;
+      spans = h.spans;
+      last = h.last;
+      before = h.before;
+      done = h.done;
+      input_is = ap (λ (x : List ℕ). x ++ piece) h.input_is ∙ append_assoc h.used h.left piece;
+      reads = h.reads;
+      begins_is = h.begins_is;
+      past_is = h.past_is;
+      accepted = h.accepted;
+      refused = h.refused;
+    },
+    kept,
+  ),
+  so_many,
 )
 
 -- a checker that has a fault stays as it is
-pub stays : (c : Checking) (piece : List ℕ) (e : CheckFault) → c.fault ≡ Some e → ChecksOnce c piece c
-stays c piece e is = (λ limits longest v first input owed h. by limits longest v first input c.fault is owed h, λ owed. owed)
+pub stays_counted : (c : Checking) (piece : List ℕ) (e : CheckFault) → c.fault ≡ Some e → CountsOnce c piece 0 c
+stays_counted c piece e is = (λ limits longest v first input n owed h. rw add-zero (by limits longest v first input n c.fault is owed h), λ owed. owed)
   where
-    by : (limits : Limits) (longest : ℕ) (v : Problem) (first : Result State Fault) (input : List ℕ) (x : Option CheckFault) → x ≡ Some e → MayGoOn x → ChecksSoFar limits longest v first input c.feeder c.replay x → ChecksSoFar limits longest v first (input ++ piece) c.feeder c.replay x
-    by limits longest v first input None is owed h = absurd (cc is)
-    by limits longest v first input (Some x) is owed h = later limits longest v first input piece c.feeder c.replay x owed h
+    by : (limits : Limits) (longest : ℕ) (v : Problem) (first : Result State Fault) (input : List ℕ) (n : ℕ) (x : Option CheckFault) → x ≡ Some e → MayGoOn x → CountsSoFar limits longest v first input n c.feeder c.replay x → CountsSoFar limits longest v first (input ++ piece) n c.feeder c.replay x
+    by limits longest v first input n None is owed h = absurd (cc is)
+    by limits longest v first input n (Some x) is owed h = later limits longest v first input piece n c.feeder c.replay x owed h
+
+-- what is said with the count holds without it
+pub uncounted : (old new : Checking) (piece : List ℕ) (more : ℕ) → CountsOnce old piece more new → ChecksOnce old piece new
+uncounted old new piece more once =
+    (λ limits longest v first input owed h. (once.0 limits longest v first input (accepted_by limits longest v first input old.feeder old.replay old.fault h) owed (h, refl)).0, once.1)
+
+pub stays : (c : Checking) (piece : List ℕ) (e : CheckFault) → c.fault ≡ Some e → ChecksOnce c piece c
+stays c piece e is = uncounted c c piece 0 (stays_counted c piece e is)
 
 -- one part of a piece after another
 pub onward_by : (input piece : List ℕ) (i n : ℕ) → (input ++ take i piece) ++ take n (take (length piece - i) (drop i piece)) ≡ input ++ take (i + n) piece
@@ -459,9 +563,9 @@ leads_none limits v (Ok s) = (s, refl, refl)
 leads_none limits v (Err e) = (refl, refl)
 
 -- ---- a checker that was fed nothing yet
-pub begun_checks : (longest : ℕ) (r : Replaying) (c : Checking) → Begins longest r c → fault_of c ≡ None → (first : Result State Fault) → IsAt r first → ChecksAt r.limits longest r.problem first [] c
-begun_checks longest r c b none first at =
-    stands_at r.limits longest r.problem first [] c.feeder c.replay c.fault none (record {
+pub begun_counts : (longest : ℕ) (r : Replaying) (c : Checking) → Begins longest r c → fault_of c ≡ None → (first : Result State Fault) → IsAt r first → CountsAt r.limits longest r.problem first [] 0 c
+begun_counts longest r c b none first at =
+    counts_at r.limits longest r.problem first [] c.feeder c.replay c.fault none (record {
       spans = [];
       stands = b.stands;
       running = b.running;

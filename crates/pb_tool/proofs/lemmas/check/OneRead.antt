@@ -1,4 +1,4 @@
--- The same bytes are read in one way.
+-- The same bytes are read in one way. Offered to other crates.
 use Rattle.std.proofs.Common.{◌≡◌, ◌⊎◌, inl, inr, ℕ, ◌<◌, ◌≤◌, List, [], ◌∷◌, ◌++◌, length, nat_le, Bool, true, false, IsTrue, Option, None, refl, sym, ap, ◌∙◌, subst, append-nil, append_assoc, arith, length-append, le-leb}
 use Rattle.std.proofs.lemmas.Bool.{cond-false, cond-true, lt-leb}
 use Rattle.std.proofs.lemmas.Bool.Decides.{leb_tells}

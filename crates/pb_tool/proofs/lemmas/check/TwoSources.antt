@@ -1,4 +1,4 @@
--- What a check of two sources ensures, from what its parts ensure.
+-- What a check of two sources ensures, from what its parts ensure. Offered to other crates.
 use Rattle.std.proofs.Common.{◌≡◌, ◌⊎◌, ℕ, ◌<◌, List, [], ◌++◌, length, get_or, true, Option, Some, None, Result, Ok, Err, refl, sym, ap, ◌∙◌, subst, inl, inr}
 use Rattle.std.specs.Prelude.{string_bytes}
 use Rattle.std.proofs.lemmas.List.{get_or_append_left}

@@ -1,4 +1,4 @@
--- What is ensured for the bytes that the calls of a source have given.
+-- What is ensured for the bytes that the calls of a source have given. Offered to other crates.
 use Rattle.std.proofs.Common.{◌≡◌, ℕ, ◌<◌, ◌≤◌, ◌+◌, ◌++◌, length, false, List, [], Option, Some, Result, Ok, Err, inl, inr, refl, sym, ap, subst, ◌∙◌, append_assoc, append-nil}
 use Rattle.std.proofs.lemmas.List.{append_cancel_right}
 use Rattle.pb_text.specs.meaning.Blank.{IsBlank, ReadsBlank}

@@ -47,11 +47,13 @@ impl fmt::Display for CheckFault {
 
 impl Error for CheckFault {}
 
-/// How far a piece was consumed: the number of bytes used, and whether a statement ends there.
+/// How far a step took a piece.
 #[derive(Clone, Copy, Debug, PartialEq, Eq)]
-pub(crate) struct Went {
-    pub(crate) used: usize,
-    pub(crate) more: bool,
+pub struct Went {
+    /// The number of bytes that it took.
+    pub used: usize,
+    /// Whether a statement ends there, which was accepted.
+    pub accepted: bool,
 }
 
 /// Checks a proof whose text comes in pieces of any size. Each statement goes to the replay when its last byte has
@@ -81,8 +83,8 @@ impl Checker {
     ghost use Rattle.pb_text.specs.declared.Limits.{Limits};
     ghost use Rattle.pb_replay.specs.contract.ReplayModel.{Replaying};
     ghost use Rattle.pb_replay.specs.meaning.Problem.{Problem};
-    ghost use Rattle.pb_tool.specs.contract.Checks.{Ends};
-    ghost use Rattle.pb_tool.specs.contract.Pieces.{ChecksAt, ChecksOnce, EndsStatement, HoldsOpen, MayGoOn, IsNoReadFault, AllocatesAt, bytes_gone, fault_in, fault_of, held_in, is_whole, place_in};
+    ghost use Rattle.pb_tool.specs.contract.Checks.{Ends, EndsAfter};
+    ghost use Rattle.pb_tool.specs.contract.Pieces.{ChecksAt, ChecksOnce, CountsAt, CountsOnce, EndsStatement, HoldsOpen, MayGoOn, IsNoReadFault, AllocatesAt, bytes_gone, fault_in, fault_of, held_in, is_whole, place_in, statements_in};
     ghost use Rattle.pb_tool.specs.contract.Runs.{faults_of_text};
     ghost use Rattle.pb_tool.specs.engine.Running.{Begins, HasRun, RunsOn};
     ghost use Rattle.pb_tool.specs.declared.commands.check.checker.CheckFault.{CheckFault as ACheckFault};
@@ -93,6 +95,8 @@ impl Checker {
         requires { IfSome longest (λ n. 0 < n) }
         ensures stands { (first : Result State AFault) → IsAt replay first
             → ChecksAt replay.limits (unwrap_or longest (2 ^ 40)) replay.problem first [] result }
+        ensures counts { (first : Result State AFault) → IsAt replay first
+            → CountsAt replay.limits (unwrap_or longest (2 ^ 40)) replay.problem first [] 0 result }
         ensures running { fault_of result ≡ None }
         ensures place { place_in result ≡ Place.START }
         ensures replay { result.replay ≡ replay }
@@ -179,7 +183,7 @@ impl Checker {
             match self.advance(&piece[used..]) {
                 Ok(went) => {
                     used += went.used;
-                    if !went.more {
+                    if !went.accepted {
                         return Ok(used);
                     }
                 }
@@ -188,18 +192,49 @@ impl Checker {
         }
     }
 
-    /// Consumes the piece up to the end of the next statement, which it steps through, or all of it.
+    /// Takes a piece of the text up to the end of the next statement, and steps through that statement. If none ends in
+    /// the piece, it takes all bytes of the piece that belong to the proof. After a fault it returns that fault again.
+    pub fn step(&mut self, piece: &[u8]) -> Result<Went, CheckFault>
+        // What held of the checker for all the text before now holds for that text followed by the bytes taken. One
+        // more statement was accepted if the result says so, and else none.
+        ensures counts { CountsOnce self.old (bytes_gone result piece.now) (statements_in result) self.new }
+        ensures fault { fault_of self.new ≡ fault_in result }
+        ensures used { IfOk result (λ w. ((place_in self.new).offset ≡ (place_in self.old).offset + w.used) × (w.used ≤ length piece.now)) }
+        ensures onward { IfOk result (λ w. w.accepted ≡ true → 0 < w.used) }
+        ensures again { (e : ACheckFault) → fault_of self.old ≡ Some e → (result ≡ Err e) × (self.new ≡ self.old) }
+        ensures names { IsNamePrefix self.old.replay.names self.new.replay.names }
+        ensures reported { (at : Place) (n : ℕ) → fault_of self.old ≡ None → result ≡ Err (ACheckFault.Step at (AFault.NotTotal n)) → n < length self.new.replay.names }
+        ensures unread { fault_of self.old ≡ None → IfErr result IsNoReadFault }
+        ensures memory { (limits : Limits) (longest : ℕ) (v : Problem) (first : Result State AFault) (input : List ℕ)
+            → fault_of self.old ≡ None
+            → ChecksAt limits longest v first input self.old
+            → IfErr result (AllocatesAt limits (input ++ piece.now)) }
+    {
+        if let Some(fault) = self.fault {
+            return Err(fault);
+        }
+        self.advance(piece)
+    }
+
+    /// The replay, as the accepted statements have left it.
+    pub fn replay(&self) -> &Replay
+        ensures { result.now ≡ self.now.replay }
+    {
+        &self.replay
+    }
+
+    /// The same as `step`, with no fault before.
     fn advance(&mut self, piece: &[u8]) -> Result<Went, CheckFault>
         requires { fault_of self.old ≡ None }
-        ensures stands { (limits : Limits) (longest : ℕ) (v : Problem) (first : Result State AFault) (input : List ℕ)
-            → ChecksAt limits longest v first input self.old
-            → ChecksAt limits longest v first (input ++ bytes_gone result piece.now) self.new }
+        ensures counts { (limits : Limits) (longest : ℕ) (v : Problem) (first : Result State AFault) (input : List ℕ) (n : ℕ)
+            → CountsAt limits longest v first input n self.old
+            → CountsAt limits longest v first (input ++ bytes_gone result piece.now) (n + statements_in result) self.new }
         ensures open { MayGoOn (fault_of self.new) }
         ensures names { IsNamePrefix self.old.replay.names self.new.replay.names }
         ensures reported { (at : Place) (n : ℕ) → result ≡ Err (ACheckFault.Step at (AFault.NotTotal n)) → n < length self.new.replay.names }
         ensures fault { fault_of self.new ≡ fault_in result }
         ensures used { IfOk result (λ w. ((place_in self.new).offset ≡ (place_in self.old).offset + w.used) × (w.used ≤ length piece.now)) }
-        ensures onward { IfOk result (λ w. w.more ≡ true → 0 < w.used) }
+        ensures onward { IfOk result (λ w. w.accepted ≡ true → 0 < w.used) }
         ensures unread { IfErr result IsNoReadFault }
         ensures memory { (limits : Limits) (longest : ℕ) (v : Problem) (first : Result State AFault) (input : List ℕ)
             → ChecksAt limits longest v first input self.old
@@ -217,10 +252,16 @@ impl Checker {
         };
         let used = fed.used;
         let Some(read) = fed.event else {
-            return Ok(Went { used, more: false });
+            return Ok(Went {
+                used,
+                accepted: false,
+            });
         };
         match step_watched(&mut self.replay, read, &mut Unwatched) {
-            Ok(()) => Ok(Went { used, more: true }),
+            Ok(()) => Ok(Went {
+                used,
+                accepted: true,
+            }),
             Err(fault) => {
                 self.fault = Some(fault);
                 Err(fault)
@@ -275,6 +316,10 @@ impl Checker {
             → fault_of self.old ≡ None
             → ChecksAt limits longest v first input self.old
             → Ends limits longest v first input (place_in self.new) result }
+        ensures counts { (limits : Limits) (longest : ℕ) (v : Problem) (first : Result State AFault) (input : List ℕ) (n : ℕ)
+            → fault_of self.old ≡ None
+            → CountsAt limits longest v first input n self.old
+            → EndsAfter limits longest v first input n (place_in self.new) result }
         ensures fault { fault_of self.new ≡ fault_in result }
         ensures place { place_in self.new ≡ place_in self.old }
         // A success changes nothing, and the replay never changes.

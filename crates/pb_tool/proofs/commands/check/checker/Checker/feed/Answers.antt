@@ -1,4 +1,4 @@
-use Rattle.std.proofs.Common.{◌++◌, ◌-◌, ℕ, List, length, take, drop, subst, sym, ap, ◌∙◌, arith}
+use Rattle.std.proofs.Common.{◌++◌, ◌-◌, ℕ, List, length, take, drop, subst, refl, sym, ap, ◌∙◌, arith}
 use Rattle.std.proofs.lemmas.List.{length-drop}
 use Rattle.pb_tool.specs.contract.Pieces.{ChecksAt, AllocatesAt, fault_of}
 use Rattle.pb_tool.specs.contract.Checker.{Checking}
@@ -16,8 +16,8 @@ returns-then-not-went-clause-checks c =
     let i = c.loop-went.used in (
       λ limits longest v first input owed h.
           subst (λ (x : List ℕ). ChecksAt limits longest v first x c.advance.new.self)
-          (ap (λ (x : List ℕ). (input ++ take i piece) ++ x) (checked.to_all c.in-Ok.went.more c.in-Ok.went.used (take (length piece - i) (drop i piece)) c.if-not-went.true) ∙ checked.to_end input piece i)
-          (t.stands limits longest v first (input ++ take i piece) (c.loop-went.invariant.stands limits longest v first input h)),
+          (ap (λ (x : List ℕ). (input ++ take i piece) ++ x) (checked.to_all c.in-Ok.went.accepted c.in-Ok.went.used (take (length piece - i) (drop i piece)) c.if-not-went.true) ∙ checked.to_end input piece i)
+          (t.counts limits longest v first (input ++ take i piece) _ (c.loop-went.invariant.stands limits longest v first input h, refl)).0,
       λ owed. t.open,
     )
 
@@ -43,8 +43,8 @@ loop-went-preserved c =
       names = checked.prefix_on _ _ _ c.loop-went.invariant.names t.names;
       stands = λ limits longest v first input h.
           subst (λ (x : List ℕ). ChecksAt limits longest v first x c.advance.new.self)
-          (ap (λ (x : List ℕ). (input ++ take i piece) ++ x) (checked.to_more c.in-Ok.went.more c.in-Ok.went.used (take (length piece - i) (drop i piece)) c.if-not-went.false) ∙ checked.onward_by input piece i c.in-Ok.went.used)
-          (t.stands limits longest v first (input ++ take i piece) (c.loop-went.invariant.stands limits longest v first input h));
+          (ap (λ (x : List ℕ). (input ++ take i piece) ++ x) (checked.to_more c.in-Ok.went.accepted c.in-Ok.went.used (take (length piece - i) (drop i piece)) c.if-not-went.false) ∙ checked.onward_by input piece i c.in-Ok.went.used)
+          (t.counts limits longest v first (input ++ take i piece) _ (c.loop-went.invariant.stands limits longest v first input h, refl)).0;
     }
 
 pub returns-in-Err-clause-checks : goal.returns-in-Err-clause-checks
@@ -52,7 +52,7 @@ returns-in-Err-clause-checks c =
     let t = rw c.in-Err.is at c.advance.ensures in (
       λ limits longest v first input owed h.
           subst (λ (x : List ℕ). ChecksAt limits longest v first x c.advance.new.self) (checked.to_end input c.args.piece.now c.loop-went.used)
-          (t.stands limits longest v first (input ++ take c.loop-went.used c.args.piece.now) (c.loop-went.invariant.stands limits longest v first input h)),
+          (t.counts limits longest v first (input ++ take c.loop-went.used c.args.piece.now) _ (c.loop-went.invariant.stands limits longest v first input h, refl)).0,
       λ owed. t.open,
     )
 

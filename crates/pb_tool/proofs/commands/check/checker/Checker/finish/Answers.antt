@@ -1,4 +1,9 @@
-use Rattle.std.proofs.Common.{rules, sym, ◌∙◌}
+use Rattle.std.proofs.Common.{rules, subst, sym, ◌∙◌, Err}
+use Rattle.pb_text.specs.contract.Feeding.{place_of}
+use Rattle.pb_text.specs.declared.Place.{Place}
+use Rattle.pb_text.specs.declared.place.Why.TheVariants.{Ended}
+use Rattle.pb_tool.specs.contract.Checks.{EndsAfter}
+use Rattle.pb_tool.specs.declared.commands.check.checker.CheckFault.TheVariants.{Text}
 use Rattle.pb_tool.proofs.lemmas.check.CheckerSteps as checked
 use Rattle.pb_tool.proofs.commands.check.checker.Checker.finish.Goals as goal
 
@@ -34,3 +39,15 @@ returns-else-is_done-clause-ends c limits longest v first input none given =
 
 pub returns-else-is_done-clause-replay : goal.returns-else-is_done-clause-replay
 returns-else-is_done-clause-replay c = search rules
+
+pub returns-in-Some-verdict-clause-counts : goal.returns-in-Some-verdict-clause-counts
+returns-in-Some-verdict-clause-counts c limits longest v first input n none given =
+    rw (← c.self.view_is) (checked.verdict_counted c.texts_are_read.ensures limits longest v first input c.self.inside.feeder c.self.inside.replay c.self.inside.fault c.in_default.is n (rw (← c.self.view_is) at given)
+    c.whole_proofs_conclude.ensures (sym c.is_done.ensures.done ∙ c.if-is_done.true) c.in-Some-verdict.verdict
+    (sym c.in-Some-verdict.is ∙ c.verdict.ensures.verdict))
+
+pub returns-else-is_done-clause-counts : goal.returns-else-is_done-clause-counts
+returns-else-is_done-clause-counts c limits longest v first input n none given =
+    subst (λ (p : Place). EndsAfter limits longest v first input n (place_of c.self.inside.feeder) (Err (Text (record { place = p; why = Ended })))) (sym c.place.ensures.place)
+    (checked.cut_counted c.texts_are_read.ensures limits longest v first input c.self.inside.feeder c.self.inside.replay c.self.inside.fault c.in_default.is n (rw (← c.self.view_is) at given)
+    (sym c.is_done.ensures.done ∙ c.if-is_done.false))

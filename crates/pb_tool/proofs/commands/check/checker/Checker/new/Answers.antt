@@ -1,10 +1,15 @@
-use Rattle.pb_tool.proofs.lemmas.check.CheckerSteps.{begun_checks}
+use Rattle.pb_tool.proofs.lemmas.check.CheckerSteps.{begun_counts}
 use Rattle.pb_tool.proofs.commands.check.checker.Checker.new.Goals as goal
 
 pub returns-clause-stands : goal.returns-clause-stands
 returns-clause-stands c first at =
     let begins = rw c.unwrap_or.ensures at c.begin.ensures.begins in
-    begun_checks _ c.args.replay c.begin.result begins c.begin.ensures.running first at
+    (begun_counts _ c.args.replay c.begin.result begins c.begin.ensures.running first at).0
+
+pub returns-clause-counts : goal.returns-clause-counts
+returns-clause-counts c first at =
+    let begins = rw c.unwrap_or.ensures at c.begin.ensures.begins in
+    begun_counts _ c.args.replay c.begin.result begins c.begin.ensures.running first at
 
 pub returns-clause-replay : goal.returns-clause-replay
 returns-clause-replay c = c.begin.ensures.begins.replay

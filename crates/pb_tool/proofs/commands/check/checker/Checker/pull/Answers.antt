@@ -19,7 +19,7 @@ pub invariant_of-self-in-Err-step_watched : goal.invariant_of-self-in-Err-step_w
 invariant_of-self-in-Err-step_watched g c =
     let t = rw (c.in-Ok-Some.is, c.in-Ok-Some.field-0-is) at c.pull.ensures in
     let u = c.in-Err-step_watched.ensures in
-    runs.refused_somewhere c.texts_are_read.ensures c.self.inside.feeder c.self.inside.replay c.self.inside.fault (rw (← c.self.view_is) at c.requires) c.pull.new.feeder (g.S.Source.left c.args.input.now) (g.S.Source.left c.pull.new.source) (g.S.Source.history c.args.input.now) (g.S.Source.history c.pull.new.source) c.in-Ok-Some.read t.pulls t.stop c.self.invariant c.step_watched.new.replay c.in-Err-step_watched.rejected u.steps u.names u.unvalued
+    runs.refused_somewhere c.texts_are_read.ensures c.self.inside.feeder c.self.inside.replay c.self.inside.fault (rw (← c.self.view_is) at c.requires) c.pull.new.feeder (g.S.Source.left c.args.input.now) (g.S.Source.left c.pull.new.source) (g.S.Source.history c.args.input.now) (g.S.Source.history c.pull.new.source) c.in-Ok-Some.read t.pulls t.stop (t.past c.in-Ok-Some.read refl) c.self.invariant c.step_watched.new.replay c.in-Err-step_watched.rejected u.steps u.names u.unvalued
 
 pub unreachable-requires : goal.unreachable-requires
 unreachable-requires g c =

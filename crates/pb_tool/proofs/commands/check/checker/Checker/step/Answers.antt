@@ -1,0 +1,17 @@
+use Rattle.std.proofs.Common.{ap, sym, ◌∙◌}
+use Rattle.pb_tool.specs.contract.Checker.{Checking}
+use Rattle.pb_tool.specs.contract.Pieces.{fault_of}
+use Rattle.pb_tool.proofs.lemmas.check.CheckerSteps.{stays_counted}
+use Rattle.pb_tool.proofs.commands.check.checker.Checker.step.Goals as goal
+
+pub returns-in-Some-clause-counts : goal.returns-in-Some-clause-counts
+returns-in-Some-clause-counts c = stays_counted c.args.self.now c.args.piece.now c.in-Some.fault (ap (λ (x : Checking). fault_of x) (sym c.self.view_is) ∙ c.in-Some.is)
+
+pub returns-clause-counts : goal.returns-clause-counts
+returns-clause-counts c = (
+  λ limits longest v first input n owed h. c.advance.ensures.counts limits longest v first input n h,
+  λ owed. c.advance.ensures.open,
+)
+
+pub returns-clause-memory : goal.returns-clause-memory
+returns-clause-memory c limits longest v first input none h = c.advance.ensures.memory limits longest v first input h
