@@ -1,5 +1,5 @@
 -- A session at its end, and at its beginning.
-use Rattle.std.proofs.Common.{◌≡◌, ◌∙◌, ℕ, List, [], ◌++◌, length, drop, true, Bor, Option, Some, None, Result, Ok, Err, refl, sym, ap, subst, inl, inr, append-nil}
+use Rattle.std.proofs.Common.{◌≡◌, ◌∙◌, ℕ, List, [], ◌++◌, length, drop, true, Bor, Option, Some, None, Result, Ok, Err, refl, sym, ap, subst, inl, append-nil, arith}
 use Rattle.std.proofs.Math.Seq.{drop-append_seam, drop-nil}
 use Rattle.std.specs.declared.alloc.Global.{Global}
 use Rattle.std.proofs.Common.{Vec}
@@ -14,6 +14,7 @@ use Rattle.pb_text.specs.declared.Limits.{Limits}
 use Rattle.pb_text.specs.declared.Place.{Place}
 use Rattle.pb_text.specs.declared.Spanned.{Spanned}
 use Rattle.pb_text.specs.declared.Stop.{Stop}
+use Rattle.pb_text.specs.declared.place.Why.TheVariants as reason
 use Rattle.pb_text.specs.declared.over.Over.{Over}
 use Rattle.pb_opb.specs.meaning.Reading.{ReadsInstance}
 use Rattle.pb_opb.specs.meaning.Values.{IsValueOf}
@@ -23,23 +24,26 @@ use Rattle.pb_proof.specs.declared.Stage.TheVariants.{Opening, Formula, Steps, C
 use Rattle.pb_replay.specs.contract.ReplayModel.{Replaying, StandsFor, verdict_at}
 use Rattle.pb_replay.specs.meaning.Problem.{Opened, Problem}
 use Rattle.pb_replay.specs.meaning.Replay.{State, first_state}
+use Rattle.pb_replay.specs.meaning.Statements.{Accepts}
 use Rattle.pb_replay.specs.declared.fault.Fault.{Fault}
 use Rattle.pb_replay.specs.declared.verdict.Verdict.{Verdict}
 use Rattle.pb_tool.specs.contract.Checker.{Checking, IsAt}
-use Rattle.pb_tool.specs.contract.Checks.{Ends}
-use Rattle.pb_tool.specs.contract.Pieces.{ChecksAt, fault_of, place_in}
+use Rattle.pb_tool.specs.contract.Checks.{EndsAfter}
+use Rattle.pb_tool.specs.contract.Pieces.{CountsAt, fault_of, place_in}
 use Rattle.pb_tool.specs.contract.Runs.{Replays}
 use Rattle.pb_tool.specs.meaning.Decided.{AreVerified}
-use Rattle.pb_tool.specs.meaning.Files.{IsProofFile}
+use Rattle.pb_tool.specs.meaning.Files.{IsProofFile, IsProofText}
 use Rattle.pb_tool.specs.meaning.Headline.{VerdictsAreTrue}
 use Rattle.pb_tool.specs.meaning.Tidy.{IsInstanceFile, IsInstanceText, IsNoInstanceFile}
 use Rattle.pb_tool.specs.meaning.Tidy.IsRefused.{InText, InRest}
 use Rattle.pb_tool.specs.meaning.Verified.{AfterProof, IsAccepted}
 use Rattle.pb_tool.specs.declared.commands.check.checker.CheckFault.{CheckFault}
 use Rattle.pb_tool.specs.declared.commands.check.checker.CheckFault.TheVariants as check
-use Rattle.pb_pieces.proofs.Fed.{running}
-use Rattle.pb_pieces.proofs.Texts.{file_then_blank, whole_file}
-use Rattle.pb_pieces.specs.Session.{IsInstanceOf, IsRejected, IsRunning, IsSession}
+use Rattle.pb_tool.proofs.lemmas.check.TwoSources.{whole_file}
+use Rattle.pb_tool.proofs.lemmas.file.GivenBytes.{file_then_blank}
+use Rattle.pb_pieces.proofs.Faults.{refused_at_end}
+use Rattle.pb_pieces.proofs.Fed.{running, with_stands}
+use Rattle.pb_pieces.specs.Session.{HasFault, IsInstanceOf, IsRejected, IsRunning, IsSession}
 use Rattle.pb_pieces.specs.declared.session.Session.{Session}
 
 -- a source over a slice has the bytes of the slice left
@@ -58,26 +62,27 @@ concluded_as Closing concluded w e = absurd cc
 same_state : {s t : State} → ◌≡◌ {A = Result State Fault} (Ok s) (Ok t) → s ≡ t
 same_state e = cc
 
+-- what a finish says of the text, with the number of its statements
+abbrev pub EndsOf : Checking → Checking → Result Verdict CheckFault → Type 0
+EndsOf old new result = (l : Limits) (longest : ℕ) (v : Problem) (first : Result State Fault) (input : List ℕ) (n : ℕ) → fault_of old ≡ None → CountsAt l longest v first input n old → EndsAfter l longest v first input n (place_in new) result
+
 module _ (limits : Limits) (longest : ℕ) where
   -- ---- the end
-  module _ (v : Problem) (fed : List ℕ) (place : Place) (w : Verdict) (ends : Ends limits longest v (Ok (first_state v)) fed place (Ok w)) where
+  module _ (v : Problem) (fed : List ℕ) (n : ℕ) (place : Place) (w : Verdict) (ends : EndsAfter limits longest v (Ok (first_state v)) fed n place (Ok w)) where
     abbrev left : List ℕ
     left = ends.1.reads.left
 
-    accepted : IsAccepted limits longest v (first_state v) (Some fed) (Some left) place true None ends.0
-    accepted =
-        let (t, replayed, is) = ends in
-        let (u, same, steps) = replayed.accepted in
-        record {
-          spans = replayed.spans;
-          took = record {
-            used = replayed.used;
-            seen = replayed.reads.left;
-            took = (replayed.reads.input_is, refl);
-            reads = subst (λ (x : List ℕ). Reads (Rattle.pb_tool.specs.meaning.Files.IsProofText limits) longest x replayed.used replayed.spans place true None) replayed.reads.input_is replayed.reads;
-          };
-          accepted = subst (λ (x : State). Rattle.pb_replay.specs.meaning.Statements.Accepts (largest limits) (top_of limits) v (first_state v) (events_at replayed.spans) x) (sym (same_state same)) steps;
-        }
+    abbrev accepted : IsAccepted limits longest v (first_state v) (Some fed) (Some left) place true None ends.0
+    accepted = record {
+      spans = ends.1.spans;
+      took = record {
+        used = ends.1.used;
+        seen = ends.1.reads.left;
+        took = (ends.1.reads.input_is, refl);
+        reads = subst (λ (x : List ℕ). Reads (IsProofText limits) longest x ends.1.used ends.1.spans place true None) ends.1.reads.input_is ends.1.reads;
+      };
+      accepted = subst (λ (x : State). Accepts (largest limits) (top_of limits) v (first_state v) (events_at ends.1.spans) x) (sym (same_state ends.1.accepted.1)) ends.1.accepted.2;
+    }
 
     left_is : drop place.offset fed ≡ left
     left_is =
@@ -91,54 +96,54 @@ module _ (limits : Limits) (longest : ℕ) where
         subst (λ (x : Option (List ℕ)). Replays limits longest v (first_state v) (Some fed) (Ok w) x) b.1.1 f
 
     -- a rest that is not blank
-    pub stray : (rest : List ℕ) (before after : Option (List ℕ)) (s : Stop) → rest ≡ drop place.offset fed → before ≡ Some rest → ReadsBlank place before (Err s) after → IsRejected limits longest v fed (check.Text s)
-    stray rest before after s is one blank =
-        inr (fed, [], sym (append-nil fed), inr (after, AfterProof (Some left) place ends.0 w accepted (concluded_as ends.0.next ends.0.concluded w ends.2) (subst (λ (x : Option (List ℕ)). ReadsBlank place x (Err s) after) (one ∙ ap (λ (x : List ℕ). Some x) (is ∙ left_is)) blank)))
+    pub stray : (rest : List ℕ) (before after : Option (List ℕ)) (s : Stop) → rest ≡ drop place.offset fed → before ≡ Some rest → ReadsBlank place before (Err s) after → IsRejected limits longest v fed n (check.Text s)
+    stray rest before after s is one blank = (
+      fed,
+      [],
+      sym (append-nil fed),
+      inl (
+        after,
+        AfterProof (Some left) place ends.0 w accepted (concluded_as ends.0.next ends.0.concluded w ends.2) (subst (λ (x : Option (List ℕ)). ReadsBlank place x (Err s) after) (one ∙ ap (λ (x : List ℕ). Some x) (is ∙ left_is)) blank),
+        ends.3,
+      ),
+    )
 
   module _ (i fed : List ℕ) (old : Session) (new : Checking) (none : old.fault ≡ None) (s : IsSession limits longest i fed old) where
     now : IsRunning limits longest s.problem fed old
     now = running limits longest i fed old none s
 
     -- the session is the same, as its checker is
-    pub still : new ≡ old.checker → IsSession limits longest i fed (record { checker = new; rest = old.rest; fault = old.fault })
-    still e =
-        subst (λ (x : Option CheckFault). IsSession limits longest i fed (record { checker = new; rest = old.rest; fault = x })) (sym none) (record {
-          instance = s.instance;
-          file = s.file;
-          problem = s.problem;
-          opened = s.opened;
-          stands = record {
-            checks = subst (λ (c : Checking). ChecksAt limits longest s.problem (Ok (first_state s.problem)) fed c) (sym e) now.checks;
-            running = ap (λ (c : Checking). fault_of c) e ∙ now.running;
-            rest_is = now.rest_is ∙ ap (λ (c : Checking). drop (place_in c).offset fed) (sym e);
-          };
-        })
+    pub still : new ≡ old.checker → IsSession limits longest i fed (record { checker = new; rest = old.rest; accepted = old.accepted; fault = old.fault })
+    still e = subst (λ (c : Checking). IsSession limits longest i fed (record { checker = c; rest = old.rest; accepted = old.accepted; fault = old.fault })) (sym e) s
 
-    with_fault : (f : CheckFault) → IsRejected limits longest s.problem fed f → IsSession limits longest i fed (record { checker = new; rest = old.rest; fault = Some f })
-    with_fault f h = record { instance = s.instance; file = s.file; problem = s.problem; opened = s.opened; stands = h }
+    abbrev Faulty : CheckFault → Session
+    Faulty f = record { checker = new; rest = old.rest; accepted = old.accepted; fault = Some f }
+
+    with_fault : (f : CheckFault) → IsRejected limits longest s.problem fed old.accepted f → IsSession limits longest i fed (Faulty f)
+    with_fault f h = with_stands limits longest i fed fed old (Faulty f) s (Some f) refl h
 
     -- the proof is rejected at its end
-    pub ended : (f : CheckFault)
-        → ((l : Limits) (n : ℕ) (v : Problem) (first : Result State Fault) (input : List ℕ) → fault_of old.checker ≡ None → ChecksAt l n v first input old.checker → Ends l n v first input (place_in new) (Err f))
-        → IsSession limits longest i fed (record { checker = new; rest = old.rest; fault = Some f })
-    ended f ends =
-        with_fault f (inr (fed, [], sym (append-nil fed), inl (place_in new, ends limits longest s.problem (Ok (first_state s.problem)) fed now.running now.checks)))
+    pub ended : (f : CheckFault) → (fault_of old.checker ≡ None → f ≡ check.Text (record { place = place_in old.checker; why = reason.Ended })) → EndsOf old.checker new (Err f) → IsSession limits longest i fed (Faulty f)
+    ended f first ends =
+        let is = first now.running in
+        let stop : Stop = record { place = place_in old.checker; why = reason.Ended } in
+        let (here, many) = subst (λ (y : CheckFault). EndsAfter limits longest s.problem (Ok (first_state s.problem)) fed old.accepted (place_in new) (Err y)) is (ends limits longest s.problem (Ok (first_state s.problem)) fed old.accepted now.running now.counts) in
+        with_fault f (fed, [], sym (append-nil fed), inl (subst (λ (y : CheckFault). HasFault limits longest s.problem fed old.accepted y) (sym is) (refused_at_end limits longest s.problem fed old.accepted (place_in new) stop here many refl)))
 
-    pub strays : (w : Verdict)
-        → ((l : Limits) (n : ℕ) (v : Problem) (first : Result State Fault) (input : List ℕ) → fault_of old.checker ≡ None → ChecksAt l n v first input old.checker → Ends l n v first input (place_in new) (Ok w))
+    pub strays : (w : Verdict) → EndsOf old.checker new (Ok w)
         → place_in new ≡ place_in old.checker → (place : Place) → place ≡ place_in new → (before after : Option (List ℕ)) → before ≡ Some old.rest.items → (stop : Stop) → ReadsBlank place before (Err stop) after
-        → IsSession limits longest i fed (record { checker = new; rest = old.rest; fault = Some (check.Text stop) })
+        → IsSession limits longest i fed (Faulty (check.Text stop))
     strays w ends still place at before after one stop blank =
         with_fault (check.Text stop)
-        (stray s.problem fed (place_in new) w (ends limits longest s.problem (Ok (first_state s.problem)) fed now.running now.checks) old.rest.items before after stop
+        (stray s.problem fed old.accepted (place_in new) w (ends limits longest s.problem (Ok (first_state s.problem)) fed old.accepted now.running now.counts) old.rest.items before after stop
         (now.rest_is ∙ ap (λ (p : Place). drop p.offset fed) (sym still)) one (subst (λ (p : Place). ReadsBlank p before (Err stop) after) at blank))
 
     module _ (w : Verdict)
-        (ends : (l : Limits) (n : ℕ) (v : Problem) (first : Result State Fault) (input : List ℕ) → fault_of old.checker ≡ None → ChecksAt l n v first input old.checker → Ends l n v first input (place_in new) (Ok w))
+        (ends : EndsOf old.checker new (Ok w))
         (still : place_in new ≡ place_in old.checker) (place : Place) (at : place ≡ place_in new) (before after : Option (List ℕ)) (one : before ≡ Some old.rest.items) (blank : ReadsBlank place before (Ok tt) after) where
       pub verified : AreVerified limits longest i fed w
       verified =
-          let (q, file, t, accepted_all, claimed) = replays s.problem fed (place_in new) w (ends limits longest s.problem (Ok (first_state s.problem)) fed now.running now.checks) old.rest.items before after
+          let (q, file, t, accepted_all, claimed) = replays s.problem fed old.accepted (place_in new) w (ends limits longest s.problem (Ok (first_state s.problem)) fed old.accepted now.running now.counts) old.rest.items before after
           (now.rest_is ∙ ap (λ (p : Place). drop p.offset fed) (sym still)) one (subst (λ (p : Place). ReadsBlank p before (Ok tt) after) at blank) in
           record {
             instance = s.instance;
@@ -171,16 +176,17 @@ module _ (limits : Limits) (longest : ℕ) where
 
     pub opened : (m : Spanned Instance) (mid after : Option (List ℕ)) (r : Replaying) (c : Checking) (rest : Vec ℕ Global) → ReadsInstance (largest limits) (top_of limits) within before (Ok m) mid → ReadsBlank m.past mid (Ok tt) after
         → Opened (largest limits) m.event (Ok r.problem) → r.limits ≡ limits → StandsFor r (first_state r.problem) → r.fault ≡ None
-        → ((first : Result State Fault) → IsAt r first → ChecksAt r.limits longest r.problem first [] c) → fault_of c ≡ None → rest.items ≡ []
-        → IsSession limits longest text [] (record { checker = c; rest = rest; fault = None })
+        → ((first : Result State Fault) → IsAt r first → CountsAt r.limits longest r.problem first [] 0 c) → fault_of c ≡ None → rest.items ≡ []
+        → IsSession limits longest text [] (record { checker = c; rest = rest; accepted = 0; fault = None })
     opened m mid after r c rest reads blank opens limited first unspent stands running none = record {
       instance = m.event;
       file = file m mid after reads blank;
       problem = r.problem;
       opened = opens;
       stands = record {
-        checks = subst (λ (l : Limits). ChecksAt l longest r.problem (Ok (first_state r.problem)) [] c) limited (stands (Ok (first_state r.problem)) (unspent, first));
+        counts = subst (λ (l : Limits). CountsAt l longest r.problem (Ok (first_state r.problem)) [] 0 c) limited (stands (Ok (first_state r.problem)) (unspent, first));
         running = running;
+        few = omega arith;
         rest_is = none ∙ sym (drop-nil (place_in c).offset);
       };
     }

@@ -1,6 +1,6 @@
 mod Ended
+mod Faults
 mod Fed
 mod Numbers
 mod Pulled
 mod Statements
-mod Texts

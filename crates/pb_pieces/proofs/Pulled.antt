@@ -15,27 +15,11 @@ use Rattle.pb_text.specs.declared.Machine.{Ghosts}
 use Rattle.pb_text.proofs.lemmas.source.PullsInARow.{took_join}
 use Rattle.pb_text.proofs.lemmas.text.Short.{place_after-offset}
 use Rattle.pb_opb.specs.declared.OpbEvent.{OpbEvent}
+use Rattle.pb_tool.proofs.lemmas.show.ShownStatements.{rest_within}
 use Rattle.pb_pieces.specs.Instance.{IsFlatOf}
 use Rattle.pb_pieces.specs.Reading.{IsFlatBy, IsNotFlat}
 use Rattle.pb_pieces.specs.Reading.IsNotFlat.{InText, InRest, Unstored}
 use Rattle.pb_pieces.specs.declared.instance.Flat.{Flat}
-
-rest_within : (used rest : List ℕ) (place : Place) → place ≡ place_after used → place.offset + length rest ≤ byte_limit → length (used ++ rest) ≤ byte_limit
-rest_within used rest place at bound =
-    let offset = ap (λ (p : Place). p.offset) at ∙ place_after-offset used in
-    omega (arith, bound, offset, length-append used rest)
-
-pub fewer : (a b : ℕ) → b ≤ 2 ^ 40 → a < b → 2 ^ 40 + 1 - b < 2 ^ 40 + 1 - a
-fewer a b reach onward = omega arith
-
-took_none : (before : Option (List ℕ)) → (seen : List ℕ) × Took before [] seen before
-took_none None = ([], tt)
-took_none (Some bytes) = (bytes, (refl, refl))
-
-pub first_pull : {M E : Type 0} {g : Ghosts M E} (longest : ℕ) (start : M) (before : Option (List ℕ)) (f : Feeder M E g) → StandsAt longest start [] [] f → halt_of f ≡ None → (place_of f).offset ≡ 0 → HasPulled longest start before [] f before
-first_pull longest start before f stands running offset =
-    let t = took_none before in
-    record { used = []; seen = t.0; took = t.1; offset_is = offset; stands = stands; running = running }
 
 pub flat_by : (format : List (Item OpbEvent) → Type 0) (longest : ℕ) (before mid after : Option (List ℕ)) (spans : List (Spanned OpbEvent)) (place : Place) (f : Flat)
     → TookAll format longest before mid spans place true None → ReadsBlank place mid (Ok tt) after → IsFlatOf spans f → IsFlatBy format longest before after f

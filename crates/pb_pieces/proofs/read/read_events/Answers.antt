@@ -4,7 +4,8 @@ use Rattle.pb_text.specs.meaning.Blank.{ReadsBlank}
 use Rattle.pb_text.specs.declared.Place.{Place}
 use Rattle.pb_opb.specs.engine.State.{opb}
 use Rattle.pb_pieces.specs.Reading.IsNotFlat.{InText, InRest, Unstored}
-use Rattle.pb_pieces.proofs.Pulled.{first_pull, flat_by}
+use Rattle.pb_tool.proofs.lemmas.show.ShownStatements.{first_pull}
+use Rattle.pb_pieces.proofs.Pulled.{flat_by}
 use Rattle.pb_pieces.proofs.read.read_events.Goals as goal
 
 pub loop-read-init : goal.loop-read-init

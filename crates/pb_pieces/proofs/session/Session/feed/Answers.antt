@@ -1,14 +1,40 @@
-use Rattle.pb_pieces.proofs.Fed.{fed_again, fed_more, fed_rejected}
+use Rattle.std.proofs.Common.{◌++◌, ◌-◌, ℕ, List, length, take, drop, subst, ap, ◌∙◌, arith}
+use Rattle.std.proofs.lemmas.List.{length-drop}
+use Rattle.pb_text.proofs.lemmas.text.Spans.{all_rest}
+use Rattle.pb_tool.proofs.lemmas.check.CheckerSteps.{onward_by, to_all, to_end, to_more}
+use Rattle.pb_pieces.proofs.Fed.{fed_again}
+use Rattle.pb_pieces.specs.Session.{IsSession}
 use Rattle.pb_pieces.proofs.session.Session.feed.Goals as goal
 
 pub returns-in-Some-clause-fed : goal.returns-in-Some-clause-fed
 returns-in-Some-clause-fed c limits longest i fed s = fed_again limits longest i fed c.args.piece.now c.args.self.now c.in-Some.fault c.in-Some.is s
 
+pub returns-then-not-went-clause-fed : goal.returns-then-not-went-clause-fed
+returns-then-not-went-clause-fed c limits longest i fed s =
+    let t = rw c.in-Ok.is at c.step.ensures in
+    let piece = c.args.piece.now in
+    let n = c.loop-went.used in
+    subst (λ (x : List ℕ). IsSession limits longest i x c.step.new.self)
+    (ap (λ (x : List ℕ). (fed ++ take n piece) ++ x) (to_all c.in-Ok.went.accepted c.in-Ok.went.used (take (length piece - n) (drop n piece)) c.if-not-went.true) ∙ to_end fed piece n)
+    (t.fed limits longest i (fed ++ take n piece) (c.loop-went.invariant.stands limits longest i fed s))
+
 pub returns-in-Err-clause-fed : goal.returns-in-Err-clause-fed
 returns-in-Err-clause-fed c limits longest i fed s =
-    fed_rejected limits longest i fed c.args.piece.now c.args.self.now c.feed.new.self c.args.self.now.rest c.in-Err.fault c.in_default.is s c.in-Err.ensures.checks c.in-Err.ensures.fault
+    let t = rw c.in-Err.is at c.step.ensures in
+    subst (λ (x : List ℕ). IsSession limits longest i x c.step.new.self) (to_end fed c.args.piece.now c.loop-went.used)
+    (t.fed limits longest i (fed ++ take c.loop-went.used c.args.piece.now) (c.loop-went.invariant.stands limits longest i fed s))
 
-pub returns-in-Ok-extend_from_slice-clause-fed : goal.returns-in-Ok-extend_from_slice-clause-fed
-returns-in-Ok-extend_from_slice-clause-fed c limits longest i fed s =
-    fed_more limits longest i fed c.args.piece.now c.texts_are_read.ensures.read c.texts_are_read.ensures.free c.args.self.now c.feed.new.self c.extend_from_slice.new.self c.in-Ok.used c.in_default.is s
-    c.in-Ok.ensures.checks c.in-Ok.ensures.fault c.in-Ok.ensures.used.0 c.in-Ok-extend_from_slice.ensures.items
+pub loop-went-preserved : goal.loop-went-preserved
+loop-went-preserved c =
+    let t = rw c.in-Ok.is at c.step.ensures in
+    let piece = c.args.piece.now in
+    let n = c.loop-went.used in
+    record {
+      running = t.fault;
+      bound = omega (arith, t.used.1, length-drop n piece, ap (λ (x : List ℕ). length x) (all_rest piece n), c.loop-went.invariant.bound);
+      offset = omega (arith, t.used.0, c.loop-went.invariant.offset);
+      stands = λ limits longest i fed s.
+          subst (λ (x : List ℕ). IsSession limits longest i x c.step.new.self)
+          (ap (λ (x : List ℕ). (fed ++ take n piece) ++ x) (to_more c.in-Ok.went.accepted c.in-Ok.went.used (take (length piece - n) (drop n piece)) c.if-not-went.false) ∙ onward_by fed piece n c.in-Ok.went.used)
+          (t.fed limits longest i (fed ++ take n piece) (c.loop-went.invariant.stands limits longest i fed s));
+    }

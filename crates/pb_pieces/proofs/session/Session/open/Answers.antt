@@ -14,7 +14,7 @@ pub returns-in-Ok-with_hasher-clause-opened : goal.returns-in-Ok-with_hasher-cla
 returns-in-Ok-with_hasher-clause-opened c =
     opened c.args.limits _ c.args.text.now _ (whole c.new-source.result c.args.text c.new-source.ensures.inner c.new-source.ensures.shown) c.unwrap_or-within.result c.unwrap_or-within.ensures c.in-Ok.read _ _ c.in-Ok-with_hasher.replay c.new.result c.new-in-Ok-with_hasher.result
     c.in-Ok.ensures.reads c.in-Ok-rest_is_blank.ensures.blank c.in-Ok-with_hasher.ensures.opened c.in-Ok-with_hasher.ensures.limits c.in-Ok-with_hasher.ensures.first c.in-Ok-with_hasher.ensures.running
-    c.new.ensures.stands c.new.ensures.running c.new-in-Ok-with_hasher.ensures.items
+    c.new.ensures.counts c.new.ensures.running c.new-in-Ok-with_hasher.ensures.items
 
 pub returns-in-Err-Memory-clause-refused : goal.returns-in-Err-Memory-clause-refused
 returns-in-Err-Memory-clause-refused c = (
