@@ -197,6 +197,21 @@ uint8_t pb_show(const uint8_t *text, size_t text_len,
 ** pb_checker_name() writes the name with a number, as of PB_NOT_TOTAL, into a room, as pb_tidy() writes its text. If there is no
 ** such name, it writes nothing and returns PB_MISUSE.
 **
+** pb_checker_step() takes a piece of the proof up to the end of the next statement. `used` is how many of its bytes belong to the
+** proof, and `ended` whether a statement ended there and was accepted. If one did, call it again with the rest of the piece. If
+** none did, it has taken the whole piece. In all else it is as pb_checker_feed(), and both may be called in any order.
+**
+** pb_checker_state() sets the number of statements that were accepted so far, the newest id of a constraint, or 0 if there is none,
+** and the visits of the last `rup`, or 0 if there was none. So the ids that a statement gave are those after the newest id before
+** it. The number stays after a fault; the other two have no meaning then.
+**
+** pb_checker_terms() sets how many terms the live constraint with an id has. pb_checker_constraint() copies it to arrays of that
+** many elements: for each term the number of its name, which pb_checker_name() writes, 1 if the name is negated and else 0, and the
+** coefficient. The coefficients and the degree are in two words, as the bounds of a claim. A term with a negated name counts if
+** the name is 0. The constraint says that the coefficients of the terms that count have at least the degree as their sum. If no
+** live constraint has the id, or an array has another number of elements, nothing is written, and the result is PB_MISUSE. After a
+** fault neither call has a meaning.
+**
 ** pb_checker_close() frees what the pb_checker_t owns. It may be called on a closed one.
 **
 ** Each call with a closed pb_checker_t but pb_checker_open() and pb_checker_close() returns PB_MISUSE.
@@ -228,13 +243,14 @@ uint8_t pb_show(const uint8_t *text, size_t text_len,
 **     PB_MISUSED           the options are not allowed, or the pb_checker_t is closed (the result is PB_MISUSE, `input` is 0)
 **
 ** Claim. `kind` is PB_CLAIM_NONE, PB_CLAIM_UNSAT, PB_CLAIM_SAT or PB_CLAIM_BOUNDS, as the lines of pb_check(). With
-** PB_CLAIM_BOUNDS a bound that is finite is 2^64 times its high word plus its low word. At any result but PB_OK the claim has no
-** meaning.
+** PB_CLAIM_BOUNDS a bound that is finite is 2^64 times its high word plus its low word. At any result but PB_OK the claim is not
+** written.
 **
 ** These are proved (crates/pb_c/src/checker.rt). pb_checker_finish() returns PB_OK only if the instance that was opened and the
 ** joined pieces are an instance and a proof that the rules accept with the claim, as for pb_check(). If the claim is
 ** PB_CLAIM_UNSAT, no assignment of its names solves the instance. The status and the report are those of the first fault in the
-** joined pieces, whatever their cut. A pb_checker_t owns a checker or nothing, so no call uses memory that was freed.
+** joined pieces, whatever their cut. PB_FAILED for a byte comes only where a byte may allocate. The number of accepted statements
+** is exact. A pb_checker_t owns a checker or nothing, so no call uses memory that was freed.
 */
 #define PB_BYTE 1
 #define PB_TOO_LARGE 2
@@ -297,14 +313,36 @@ typedef struct pb_claim_t {
     bool upper_finite;
 } pb_claim_t;
 
+typedef struct pb_state_t {
+    uint64_t accepted;
+    uint64_t newest;
+    uint64_t visits;
+} pb_state_t;
+
+typedef struct pb_number_t {
+    uint64_t low;
+    int64_t high;
+} pb_number_t;
+
 uint8_t pb_checker_open(const uint8_t *instance, size_t instance_len,
                         const pb_options_t *options,
                         pb_checker_t *checker, pb_report_t *report);
 uint8_t pb_checker_feed(pb_checker_t *checker,
                         const uint8_t *piece, size_t piece_len,
                         size_t *used, pb_report_t *report);
+uint8_t pb_checker_step(pb_checker_t *checker,
+                        const uint8_t *piece, size_t piece_len,
+                        size_t *used, bool *ended, pb_report_t *report);
 uint8_t pb_checker_finish(pb_checker_t *checker,
                           pb_claim_t *claim, pb_report_t *report);
+uint8_t pb_checker_state(pb_checker_t *checker, pb_state_t *state);
+uint8_t pb_checker_terms(pb_checker_t *checker, uint64_t id, size_t *terms);
+uint8_t pb_checker_constraint(pb_checker_t *checker, uint64_t id,
+                              uint64_t *numbers, size_t numbers_len,
+                              uint8_t *negated, size_t negated_len,
+                              uint64_t *lows, size_t lows_len,
+                              int64_t *highs, size_t highs_len,
+                              pb_number_t *degree);
 uint8_t pb_checker_place(pb_checker_t *checker, pb_place_t *place);
 uint8_t pb_checker_held(pb_checker_t *checker, size_t *held);
 uint8_t pb_checker_name(pb_checker_t *checker, size_t number,
@@ -350,6 +388,10 @@ void pb_checker_close(pb_checker_t *checker);
 **
 ** pb_instance_name() writes the name with a number into a room, as pb_checker_name() does.
 **
+** pb_instance_names() copies all names at once: their bytes, one name after another with nothing between, to an array of
+** `name_bytes` elements, and the offset in it at which each name begins to an array of `names` elements. A name ends where the
+** next one begins, and the last one at `name_bytes`.
+**
 ** It is proved (crates/pb_c/src/arrays.rt) that the arrays are those of the statements of the text, and that a report is right.
 */
 #define PB_OBJECTIVE 0
@@ -366,6 +408,7 @@ typedef struct pb_sizes_t {
     size_t rows;
     size_t terms;
     size_t names;
+    size_t name_bytes;
 } pb_sizes_t;
 
 uint8_t pb_instance_read(const uint8_t *text, size_t text_len,
@@ -389,6 +432,9 @@ uint8_t pb_instance_places(pb_instance_t *instance,
                            uint64_t *pasts, size_t pasts_len);
 uint8_t pb_instance_name(pb_instance_t *instance, size_t number,
                          uint8_t *out, size_t out_room, size_t *out_len);
+uint8_t pb_instance_names(pb_instance_t *instance,
+                          uint8_t *bytes, size_t bytes_len,
+                          uint64_t *starts, size_t starts_len);
 void pb_instance_close(pb_instance_t *instance);
 
 #ifdef __cplusplus

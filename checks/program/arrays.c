@@ -150,6 +150,26 @@ static void print(pb_instance_t *instance, const struct arrays *a)
     tell(pb_instance_name(instance, a->sizes.names, name, sizeof name, &len) == PB_MISUSE && len == 0, "no name");
 }
 
+/* The names in one text are those that come one by one. */
+static void names(pb_instance_t *instance, const pb_sizes_t *sizes)
+{
+    size_t n = sizes->names, bytes = sizes->name_bytes, len, at = 0;
+    uint8_t *text = room_for(bytes, 1), name[4096];
+    uint64_t *starts = room_for(n, 8);
+    memset(text, 1, bytes);
+    tell(pb_instance_names(instance, text, bytes + 1, starts, n) == PB_MISUSE, "long names");
+    tell(pb_instance_names(instance, text, bytes, starts, n + 1) == PB_MISUSE, "long starts");
+    tell(bytes == 0 || text[0] == 1, "names of a wrong length");
+    tell(pb_instance_names(instance, text, bytes, starts, n) == PB_OK, "names");
+    for (size_t k = 0; k < n; k++) {
+        pb_instance_name(instance, k, name, sizeof name, &len);
+        tell(starts[k] == at && at + len <= bytes && memcmp(text + at, name, len) == 0, "a name among all");
+        at += len;
+    }
+    tell(at == bytes, "the end of the names");
+    free(text), free(starts);
+}
+
 static void closed(pb_instance_t *instance)
 {
     pb_sizes_t sizes;
@@ -162,6 +182,7 @@ static void closed(pb_instance_t *instance)
     tell(pb_instance_rows(instance, &byte, 0, &word, 0, &word, 0, &high, 0) == PB_MISUSE, "closed rows");
     tell(pb_instance_places(instance, &word, 0, &word, 0, &word, 0, &word, 0) == PB_MISUSE, "closed places");
     tell(pb_instance_name(instance, 0, &byte, 1, &len) == PB_MISUSE && len == 0, "closed name");
+    tell(pb_instance_names(instance, &byte, 0, &word, 0) == PB_MISUSE, "closed names");
     pb_instance_close(instance);
     tell(live == 0, "blocks that are left");
 }
@@ -183,6 +204,7 @@ static void run(const uint8_t *text, size_t text_len)
         tell(report.reason == 0, "no reason");
         copy(&instance, &arrays);
         print(&instance, &arrays);
+        names(&instance, &arrays.sizes);
         drop(&arrays);
         tell(pb_instance_read(text, text_len, &options, &instance, &report) == PB_OK, "read again");
     } else {

@@ -1,6 +1,7 @@
 /* Checks proofs in pieces: pieces INSTANCE PROOF
 **
 ** It cuts the proof in two at each byte, and into pieces of 1, 2, 3 and 37 bytes, and compares the result with that of one piece. It
+** goes through such pieces statement by statement, and counts these. It looks at the constraints of a proof that is written here. It
 ** refuses each request for memory in turn. Then the result is PB_FAILED or as with enough memory, and nothing that was allocated is left.
 ** It makes calls with closed checkers, calls after a fault, and calls after the end of the proof. Eight threads do all of it at the same
 ** time, each with checkers of its own. It prints how many runs there were. The status is 1 if one was wrong. */
@@ -181,6 +182,110 @@ static struct result fed(size_t first, size_t size, unsigned long number, bool a
     return result;
 }
 
+/* Goes through the proof statement by statement, in pieces of `size` bytes. */
+static struct result stepped(size_t size)
+{
+    static const pb_options_t options = PB_OPTIONS_FIXED;
+    pb_checker_t checker = PB_CHECKER_CLOSED;
+    struct result result;
+    pb_state_t state;
+    uint64_t accepted = 0;
+    size_t from = 0, used;
+    bool ended;
+    memset(&result, 0, sizeof result);
+    result.status = pb_checker_open(instance.bytes, instance.length, &options, &checker, &result.report);
+    while (result.status == PB_OK && from < proof.length) {
+        size_t len = size < proof.length - from ? size : proof.length - from;
+        result.status = pb_checker_step(&checker, proof.bytes + from, len, &used, &ended, &result.report);
+        accepted += ended;
+        result.used += used;
+        from += ended ? used : len;
+        tell(pb_checker_state(&checker, &state) == PB_OK && state.accepted == accepted, "statements at", from);
+    }
+    if (result.status == PB_OK)
+        result.status = pb_checker_finish(&checker, &result.claim, &result.report);
+    if (checker.inner != NULL && result.status != PB_OK) {
+        tell(pb_checker_step(&checker, proof.bytes, proof.length, &used, &ended, &result.report) == result.status && used == 0 && !ended,
+            "a step after the fault at", result.report.offset);
+        tell(pb_checker_state(&checker, &state) == PB_OK && state.accepted == accepted, "statements after the fault at", result.report.offset);
+        again(&checker, &result);
+    }
+    pb_checker_close(&checker);
+    tell(checker.inner == NULL && live == 0, "blocks that are left:", live);
+    return result;
+}
+
+/* The constraint with the id is this one. Arrays of other lengths are not written. */
+static void is_constraint(pb_checker_t *checker, uint64_t id, size_t terms, const uint64_t *numbers, const uint8_t *negated,
+    const uint64_t *coefficients, uint64_t degree)
+{
+    uint64_t found[3] = {9, 9, 9}, lows[3] = {9, 9, 9};
+    int64_t highs[3] = {9, 9, 9};
+    uint8_t signs[3] = {9, 9, 9};
+    pb_number_t sum = {9, 9};
+    size_t count = 9;
+    tell(pb_checker_terms(checker, id, &count) == PB_OK && count == terms, "terms of the constraint", id);
+    tell(pb_checker_constraint(checker, id, found, terms, signs, terms, lows, terms, highs, terms + 1, &sum) == PB_MISUSE && found[0] == 9
+        && signs[0] == 9 && lows[0] == 9 && highs[0] == 9 && sum.low == 9 && sum.high == 9, "a wrong length for the constraint", id);
+    tell(pb_checker_constraint(checker, id, found, terms, signs, terms, lows, terms, highs, terms, &sum) == PB_OK, "the constraint", id);
+    for (size_t k = 0; k < terms; k++)
+        tell(found[k] == numbers[k] && signs[k] == negated[k] && lows[k] == coefficients[k] && highs[k] == 0, "a term of the constraint", id);
+    tell(sum.low == degree && sum.high == 0 && found[terms] == 9, "the degree of the constraint", id);
+}
+
+static void is_none(pb_checker_t *checker, uint64_t id)
+{
+    uint64_t word = 9;
+    int64_t high = 9;
+    uint8_t sign = 9;
+    pb_number_t sum = {9, 9};
+    size_t count = 9;
+    tell(pb_checker_terms(checker, id, &count) == PB_MISUSE && count == 9, "no terms of", id);
+    tell(pb_checker_constraint(checker, id, &word, 1, &sign, 1, &word, 1, &high, 1, &sum) == PB_MISUSE && word == 9 && sign == 9 && high == 9
+        && sum.low == 9, "no constraint", id);
+}
+
+/* The constraints of a proof: 2 x1 + ~x2 >= 2 and ~x1 >= 1, and the first plus twice the second, in which 2 x1 + 2 ~x1 is 2. */
+static void known(void)
+{
+    static const pb_options_t options = PB_OPTIONS_FIXED;
+    static const char text[] = "* #variable= 2 #constraint= 2\n+2 x1 +1 ~x2 >= 2 ;\n-1 x1 >= 0 ;\n";
+    static const char lines[] = "pseudo-Boolean proof version 2.0\nf 2\npol 1 2 2 * +\ndel id 2\nrup >= 1 ;\noutput NONE\nconclusion NONE\n"
+        "end pseudo-Boolean proof\n";
+    static const uint64_t newest[] = {0, 2, 3, 3, 4, 4, 4, 4}, both[] = {0, 1}, second[] = {1}, two[] = {2, 1}, one[] = {1};
+    static const uint8_t first_sign[] = {0, 1}, sign[] = {1};
+    pb_checker_t checker = PB_CHECKER_CLOSED;
+    pb_report_t report;
+    pb_state_t state;
+    size_t from = 0, used;
+    bool ended = true;
+    tell(pb_checker_open((const uint8_t *)text, sizeof text - 1, &options, &checker, &report) == PB_OK, "open", 0);
+    for (uint64_t number = 0; number < sizeof newest / sizeof *newest; number++) {
+        tell(pb_checker_step(&checker, (const uint8_t *)lines + from, sizeof lines - 1 - from, &used, &ended, &report) == PB_OK && ended,
+            "the statement", number);
+        from += used;
+        tell(pb_checker_state(&checker, &state) == PB_OK && state.accepted == number + 1 && state.newest == newest[number]
+            && (state.visits != 0) == (number >= 4), "the state after the statement", number);
+        if (number >= 1)
+            is_constraint(&checker, 1, 2, both, first_sign, two, 2);
+        if (number == 1 || number == 2)
+            is_constraint(&checker, 2, 1, both, sign, one, 1);
+        if (number >= 2)
+            is_constraint(&checker, 3, 1, second, sign, one, 2);
+        if (number >= 3)
+            is_none(&checker, 2);
+        if (number >= 4)
+            is_constraint(&checker, 4, 0, both, sign, one, 1);
+        is_none(&checker, 0);
+        is_none(&checker, newest[number] + 1);
+        is_none(&checker, UINT64_MAX);
+    }
+    tell(pb_checker_step(&checker, (const uint8_t *)"\n", 1, &used, &ended, &report) == PB_OK && !ended && used == 0, "a step after the end", 0);
+    tell(from == sizeof lines - 2 || from == sizeof lines - 1, "the end of the proof", from);
+    pb_checker_close(&checker);
+    tell(checker.inner == NULL && live == 0, "blocks that are left:", live);
+}
+
 /* Calls with a closed checker. */
 static void closed(void)
 {
@@ -189,7 +294,9 @@ static void closed(void)
     pb_report_t report;
     pb_claim_t claim;
     pb_place_t place;
+    pb_state_t state;
     size_t used, held, len;
+    bool ended;
     uint8_t room[4];
     for (size_t number = 0; number < 2; number++) {
         tell(pb_checker_feed(&checker, proof.bytes, proof.length, &used, &report) == PB_MISUSE && report.reason == PB_MISUSED && used == 0,
@@ -197,6 +304,10 @@ static void closed(void)
         tell(pb_checker_finish(&checker, &claim, &report) == PB_MISUSE && report.reason == PB_MISUSED, "a closed finish", number);
         tell(pb_checker_place(&checker, &place) == PB_MISUSE, "a closed place", number);
         tell(pb_checker_held(&checker, &held) == PB_MISUSE, "a closed held", number);
+        tell(pb_checker_step(&checker, proof.bytes, proof.length, &used, &ended, &report) == PB_MISUSE && report.reason == PB_MISUSED
+            && used == 0 && !ended, "a closed step", number);
+        tell(pb_checker_state(&checker, &state) == PB_MISUSE, "a closed state", number);
+        is_none(&checker, 1);
         tell(pb_checker_name(&checker, 0, room, sizeof room, &len) == PB_MISUSE && len == 0, "a closed name", number);
         tell(pb_checker_open(instance.bytes, instance.length, &bad, &checker, &report) == PB_MISUSE && report.reason == PB_MISUSED
             && checker.inner == NULL, "bad options", number);
@@ -217,7 +328,10 @@ static void *run(void *total)
     for (size_t k = 0; k < sizeof sizes / sizeof *sizes; k++) {
         struct result found = fed(0, sizes[k], 0, true);
         tell(is_same(&found, &wanted), "pieces of", sizes[k]);
+        found = stepped(sizes[k]);
+        tell(is_same(&found, &wanted), "steps in pieces of", sizes[k]);
     }
+    known();
     for (size_t cut = 1; cut < proof.length; cut++) {
         struct result found = fed(cut, proof.length, 0, false);
         tell(is_same(&found, &wanted) && (found.status != PB_OK || found.used == wanted.used), "a cut at", cut);

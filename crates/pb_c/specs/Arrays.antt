@@ -1,9 +1,10 @@
 -- What a handle on flat arrays stands for, and what the calls return.
-use Rattle.std.specs.Prelude.{◌≡◌, ◌≢◌, ◌⊎◌, ℕ, ℤ, List, [], length, Option, Some, None, slice_get}
+use Rattle.std.specs.Prelude.{◌≡◌, ◌≢◌, ◌-◌, ◌^◌, ◌⊎◌, ℕ, ℤ, List, [], length, min, Option, Some, None, slice_get}
 use Rattle.pb_text.specs.meaning.Limits.{largest, top_of}
 use Rattle.pb_text.specs.declared.Stop.{Stop}
 use Rattle.pb_opb.specs.meaning.Instances.{IsInstance}
 use Rattle.pb_tool.specs.contract.Faults.{stop_status}
+use Rattle.pb_tool.specs.contract.Pieces.{joined}
 use Rattle.pb_pieces.specs.Reading.{IsFlatBy, IsNotFlat}
 use Rattle.pb_pieces.specs.declared.instance.Flat.{Flat}
 use Rattle.pb_pieces.specs.declared.places.Places.{Places}
@@ -33,8 +34,11 @@ Reads o text status h report =
     ⊎ ((s : Stop) × Under o (λ limits longest. (after : Option (List ℕ)) × IsNotFlat (IsInstance (largest limits) (top_of limits)) longest (Some text) after s)
     × (status ≡ stop_status s.why) × (report ≡ report_of_stop of_instance s))))
 
+-- The bytes of the names are counted as far as a machine word has the number.
 abbrev pub SizesOf : Flat → Sizes → Type 0
-SizesOf f s = (s.rows ≡ length f.rows.kinds.items) × (s.terms ≡ length f.named.terms.numbers.items) × (s.names ≡ length f.named.names)
+SizesOf f s =
+    (s.rows ≡ length f.rows.kinds.items) × (s.terms ≡ length f.named.terms.numbers.items) × (s.names ≡ length f.named.names)
+    × (s.name_bytes ≡ min (length (joined f.named.names)) (2 ^ 64 - 1))
 
 abbrev pub AnswersSizes : Option Flat → ℕ → Sizes → Sizes → Type 0
 AnswersSizes None status old new = (status ≡ 2) × (new ≡ old)

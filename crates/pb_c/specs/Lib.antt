@@ -2,8 +2,11 @@ pub mod Answers
 pub mod Arrays
 pub mod Checker
 pub mod Claim
+pub mod Constraint
 pub mod Handle
+pub mod Names
 pub mod Options
 pub mod Buffer
 pub mod Report
+pub mod Step
 pub mod Unsat

@@ -1,9 +1,10 @@
 //! An instance as flat arrays, for programs in C.
 
-ghost use Rattle.std.specs.Prelude.{◌≡◌, None, length};
+ghost use Rattle.std.specs.Prelude.{◌≡◌, ◌≢◌, None, length};
 ghost use Rattle.pb_c.specs.Arrays.{AnswersName, AnswersPlaces, AnswersRows, AnswersSizes, AnswersTerms, CopiesPlaces, CopiesRows, CopiesTerms, Reads, SizesOf};
 
 use crate::instance_handle::InstanceHandle;
+use crate::names::bytes_in;
 use crate::options::{Options, WRONG_WORDS};
 use crate::report::{INSTANCE, MISUSED, Report, SPENT, why_status};
 use crate::room::put;
@@ -24,6 +25,8 @@ pub struct Sizes {
     pub terms: usize,
     /// The different names.
     pub names: usize,
+    /// The bytes of the different names.
+    pub name_bytes: usize,
 }
 
 /// Reads an instance, and has the handle own its arrays. What the handle owned before is freed. If the status is not 0,
@@ -94,6 +97,7 @@ fn sizes_of(flat: &Flat) -> Sizes
         rows: flat.rows.kinds.len(),
         terms: flat.named.terms.numbers.len(),
         names: flat.named.names.len(),
+        name_bytes: bytes_in(&flat.named.names),
     }
 }
 
@@ -110,6 +114,7 @@ pub extern "C" fn pb_instance_terms(
 ) -> u8
     ensures kept { instance.new.value ≡ instance.old.value }
     ensures terms { AnswersTerms instance.old.value result numbers.new negated.new lows.new highs.new }
+    ensures unwritten { result ≢ 0 → (numbers.new ≡ numbers.old) × (negated.new ≡ negated.old) × (lows.new ≡ lows.old) × (highs.new ≡ highs.old) }
 {
     let flat = match instance.take(alloc) {
         Some(flat) => flat,
@@ -127,7 +132,8 @@ fn copy_terms(
     lows: &mut [u64],
     highs: &mut [i64],
 ) -> u8
-    ensures { CopiesTerms terms.now result numbers.new negated.new lows.new highs.new }
+    ensures copies { CopiesTerms terms.now result numbers.new negated.new lows.new highs.new }
+    ensures unwritten { result ≢ 0 → (numbers.new ≡ numbers.old) × (negated.new ≡ negated.old) × (lows.new ≡ lows.old) × (highs.new ≡ highs.old) }
 {
     if numbers.len() != terms.numbers.len()
         || negated.len() != terms.negated.len()
@@ -156,6 +162,7 @@ pub extern "C" fn pb_instance_rows(
 ) -> u8
     ensures kept { instance.new.value ≡ instance.old.value }
     ensures rows { AnswersRows instance.old.value result kinds.new ends.new lows.new highs.new }
+    ensures unwritten { result ≢ 0 → (kinds.new ≡ kinds.old) × (ends.new ≡ ends.old) × (lows.new ≡ lows.old) × (highs.new ≡ highs.old) }
 {
     let flat = match instance.take(alloc) {
         Some(flat) => flat,
@@ -173,7 +180,8 @@ fn copy_rows(
     lows: &mut [u64],
     highs: &mut [i64],
 ) -> u8
-    ensures { CopiesRows rows.now result kinds.new ends.new lows.new highs.new }
+    ensures copies { CopiesRows rows.now result kinds.new ends.new lows.new highs.new }
+    ensures unwritten { result ≢ 0 → (kinds.new ≡ kinds.old) × (ends.new ≡ ends.old) × (lows.new ≡ lows.old) × (highs.new ≡ highs.old) }
 {
     if kinds.len() != rows.kinds.len()
         || ends.len() != rows.ends.len()
@@ -202,6 +210,7 @@ pub extern "C" fn pb_instance_places(
 ) -> u8
     ensures kept { instance.new.value ≡ instance.old.value }
     ensures places { AnswersPlaces instance.old.value result lines.new columns.new firsts.new pasts.new }
+    ensures unwritten { result ≢ 0 → (lines.new ≡ lines.old) × (columns.new ≡ columns.old) × (firsts.new ≡ firsts.old) × (pasts.new ≡ pasts.old) }
 {
     let flat = match instance.take(alloc) {
         Some(flat) => flat,
@@ -219,7 +228,8 @@ fn copy_places(
     firsts: &mut [u64],
     pasts: &mut [u64],
 ) -> u8
-    ensures { CopiesPlaces places.now result lines.new columns.new firsts.new pasts.new }
+    ensures copies { CopiesPlaces places.now result lines.new columns.new firsts.new pasts.new }
+    ensures unwritten { result ≢ 0 → (lines.new ≡ lines.old) × (columns.new ≡ columns.old) × (firsts.new ≡ firsts.old) × (pasts.new ≡ pasts.old) }
 {
     if lines.len() != places.lines.len()
         || columns.len() != places.columns.len()

@@ -1,6 +1,6 @@
 //! A check of a proof in pieces, for programs in C.
 
-ghost use Rattle.std.specs.Prelude.{◌≡◌, ◌++◌, ℕ, List, None};
+ghost use Rattle.std.specs.Prelude.{◌≡◌, ◌≢◌, ◌++◌, ℕ, List, None};
 ghost use Rattle.pb_pieces.specs.Session.{IsSession};
 ghost use Rattle.pb_text.specs.declared.Limits.{Limits as SomeLimits};
 ghost use Rattle.pb_c.specs.Checker.{Answers, AnswersFor, AnswersHeld, AnswersName, AnswersPlace, ClaimsUnsat, Concludes, IsCheckerFor, IsClaimFor, Opens, Uses, UsesOf};
@@ -130,8 +130,9 @@ pub extern "C" fn pb_checker_finish(
     // If the claim is UNSAT, no assignment solves the instance.
     ensures unsat { (options : SomeOptions) (i fed : List ℕ) → IsCheckerFor options i fed checker.old
         → ClaimsUnsat options i result claim.new }
-    // A claim changes nothing in the checker.
+    // A claim changes nothing in the checker, and with no claim the old one stays.
     ensures kept { result ≡ 0 → checker.new.value ≡ checker.old.value }
+    ensures unclaimed { result ≢ 0 → claim.new ≡ claim.old }
 {
     let mut session = match checker.take(alloc) {
         Some(session) => session,
@@ -153,6 +154,7 @@ fn finish_session(session: &mut Session, claim: &mut Claim, report: &mut Report)
     ensures claims { (limits : SomeLimits) (longest : ℕ) (i fed : List ℕ) → IsSession limits longest i fed session.old
         → result ≡ 0 → IsClaimFor limits longest i fed claim.new }
     ensures kept { result ≡ 0 → session.new ≡ session.old }
+    ensures unclaimed { result ≢ 0 → claim.new ≡ claim.old }
 {
     match session.finish() {
         Ok(verdict) => {

@@ -5,12 +5,15 @@ mod answer;
 mod arrays;
 mod checker;
 mod claim;
+mod constraint;
 mod handle;
 mod instance_handle;
+mod names;
 mod options;
 mod page;
 mod report;
 mod room;
+mod step;
 
 ghost use Rattle.std.specs.Prelude.{◌≡◌, codes};
 ghost use Rattle.pb_c.specs.Answers.{AnswersCheck, AnswersShow, AnswersTidy};
@@ -21,12 +24,14 @@ use crate::options::{BAD_OPTIONS, WRONG_WORDS};
 use crate::room::put;
 pub use arrays::Sizes;
 pub use claim::Claim;
+pub use constraint::Number;
 pub use handle::CheckerHandle;
 pub use instance_handle::InstanceHandle;
 pub use options::Options;
 use pb_tool::laws::check::verified_is_true;
 pub use report::{Position, Report};
 use std::alloc::Global;
+pub use step::State;
 
 /// The version: three numbers, as millions, thousands and units.
 const VERSION: u32 = 1_000;

@@ -1,0 +1,13 @@
+use Rattle.std.proofs.Common.{rules, ◌≡◌, ◌∙◌, ℕ, ◌+◌, ◌-◌, ◌^◌, Some, length, min, slice_get, sym, ap, take}
+use Rattle.pb_tool.specs.contract.Pieces.{joined}
+use Rattle.pb_c.proofs.Joined.{counted_next, length_next}
+use Rattle.pb_c.proofs.names.bytes_in.Goals as goal
+
+pub names-preserved : goal.names-preserved
+names-preserved c =
+    let names = c.args.names.now in
+    let n = c.names.number in
+    let at : slice_get c.args.names.now c.names.number ≡ Some c.in-Some.name.now = search rules in
+    let grown : c.saturating_add-count.result ≡ min (c.names.count + length c.in-Some.name.now) (2 ^ 64 - 1) = search rules in
+    grown
+    ∙ (counted_next (length (joined (take n names))) (length c.in-Some.name.now) (2 ^ 64 - 1) c.names.count c.names.invariant ∙ ap (λ (k : ℕ). min k (2 ^ 64 - 1)) (sym (length_next names n c.in-Some.name.now at)))

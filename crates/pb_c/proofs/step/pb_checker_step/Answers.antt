@@ -1,0 +1,44 @@
+use Rattle.std.proofs.Common.{rules, ◌≡◌, ◌^◌, Option, Some, subst, sym}
+use Rattle.std.specs.Prelude.{unwrap_or}
+use Rattle.pb_pieces.specs.Session.{IsSession}
+use Rattle.pb_pieces.specs.declared.session.Session.{Session}
+use Rattle.pb_c.specs.Checker.{AnswersOf, UsesOf}
+use Rattle.pb_c.specs.Step.{CountsOf}
+use Rattle.pb_c.proofs.Claims.{same_value}
+use Rattle.pb_c.proofs.step.pb_checker_step.Goals as goal
+
+pub returns-clause-fed : goal.returns-clause-fed
+returns-clause-fed c options i fed h =
+    let (s, is, (limits, longest, asked, session)) = h in
+    let held : c.args.checker.now.value ≡ Some c.deref_mut.result.now = search rules in
+    let kept : c.of.result.value ≡ Some c.step_session-status.new.session = search rules in (
+      c.step_session-status.new.session,
+      kept,
+      (
+        limits,
+        longest,
+        asked,
+        c.step_session-status.ensures.fed limits (unwrap_or longest (2 ^ 40)) i fed (subst (λ (x : Session). IsSession limits (unwrap_or longest (2 ^ 40)) i fed x) (same_value is held) session),
+      ),
+    )
+
+pub returns-clause-answers : goal.returns-clause-answers
+returns-clause-answers c =
+    let kept : c.of.result.value ≡ Some c.step_session-status.new.session = search rules in
+    subst (λ (x : Option Session). AnswersOf x c.step_session-status.result c.step_session-status.new.report) (sym kept) c.step_session-status.ensures.answers
+
+pub returns-clause-used : goal.returns-clause-used
+returns-clause-used c =
+    let held : c.args.checker.now.value ≡ Some c.deref_mut.result.now = search rules in
+    let kept : c.of.result.value ≡ Some c.step_session-status.new.session = search rules in
+    subst (λ (x : Option Session). UsesOf x c.of.result.value c.args.piece.now c.step_session-status.result c.step_session-status.new.used) (sym held)
+    (subst (λ (x : Option Session). UsesOf (Some c.deref_mut.result.now) x c.args.piece.now c.step_session-status.result c.step_session-status.new.used) (sym kept) c.step_session-status.ensures.used)
+
+pub returns-clause-counts : goal.returns-clause-counts
+returns-clause-counts c options i fed h =
+    let (s, is, (limits, longest, asked, session)) = h in
+    let held : c.args.checker.now.value ≡ Some c.deref_mut.result.now = search rules in
+    let kept : c.of.result.value ≡ Some c.step_session-status.new.session = search rules in
+    subst (λ (x : Option Session). CountsOf x c.of.result.value c.step_session-status.new.ended) (sym held)
+    (subst (λ (x : Option Session). CountsOf (Some c.deref_mut.result.now) x c.step_session-status.new.ended) (sym kept)
+    (c.step_session-status.ensures.counts limits (unwrap_or longest (2 ^ 40)) i fed (subst (λ (x : Session). IsSession limits (unwrap_or longest (2 ^ 40)) i fed x) (same_value is held) session)))
