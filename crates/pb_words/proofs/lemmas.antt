@@ -1,4 +1,5 @@
 -- Lemmas of the arguments.
+pub mod Added
 pub mod Entries
 pub mod NoHelp
 pub mod Parsed

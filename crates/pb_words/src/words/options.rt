@@ -126,15 +126,14 @@ pub(crate) fn command<'a>(alloc: Global) -> Result<Command<'a>, clap::Error>
     ensures err { IfErr result (λ e. kind_of e ≡ ErrorKind.OutOfMemory) }
 {
     let show = show(alloc)?;
+    let with_show = program(alloc).subcommand(show)?;
     let tidy = tidy(alloc)?;
+    let with_tidy = with_show.subcommand(tidy)?;
     let check = check(alloc)?;
+    let with_check = with_tidy.subcommand(check)?;
     let trace = trace(alloc)?;
-    let command = program(alloc)
-        .subcommand(show)?
-        .subcommand(tidy)?
-        .subcommand(check)?
-        .subcommand(trace)?;
-    Ok(command)
+    let with_trace = with_check.subcommand(trace)?;
+    Ok(with_trace)
 }
 
 /// The program without its subcommands.

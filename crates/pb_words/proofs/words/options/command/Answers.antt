@@ -12,7 +12,7 @@ added old sub new above below adds is sub_is local =
 
 pub returns-clause-ok : goal.returns-clause-ok
 returns-clause-ok c =
-    let one = added _ _ _ pb_program show_command c.in_ok-subcommand.ensures c.program.ensures.app c.in_ok-show.ensures.app c.in_ok-show.ensures.local in
-    let two = added _ _ _ _ tidy_command c.in_ok-subcommand-2.ensures one c.in_ok-tidy.ensures.app c.in_ok-tidy.ensures.local in
-    let three = added _ _ _ _ check_command c.in_ok-subcommand-3.ensures two c.in_ok-check.ensures.app c.in_ok-check.ensures.local in
-    added _ _ _ _ trace_command c.in_ok-command.ensures three c.in_ok-trace.ensures.app c.in_ok-trace.ensures.local
+    let one = added _ _ _ pb_program show_command c.in_ok-with_show.ensures c.program.ensures.app c.in_ok-show.ensures.app c.in_ok-show.ensures.local in
+    let two = added _ _ _ _ tidy_command c.in_ok-with_tidy.ensures one c.in_ok-tidy.ensures.app c.in_ok-tidy.ensures.local in
+    let three = added _ _ _ _ check_command c.in_ok-with_check.ensures two c.in_ok-check.ensures.app c.in_ok-check.ensures.local in
+    added _ _ _ _ trace_command c.in_ok-with_trace.ensures three c.in_ok-trace.ensures.app c.in_ok-trace.ensures.local
