@@ -1,16 +1,18 @@
 -- What a proof that comes in pieces shows.
-use Rattle.std.specs.Prelude.{◌≡◌, ◌↔◌, ℕ, List, Bool, IsTrue, Result, Ok}
+use Rattle.std.specs.Prelude.{◌≡◌, ◌↔◌, ℕ, List, [], Bool, IsTrue, Result, Ok}
 use Rattle.pb_text.specs.meaning.Reading.{byte_limit}
+use Rattle.pb_text.specs.declared.Limits.{Limits}
 use Rattle.pb_text.specs.declared.Place.{Place}
 use Rattle.pb_opb.specs.declared.Instance.{Instance}
 use Rattle.pb_replay.specs.contract.ReplayModel.{Replaying}
-use Rattle.pb_replay.specs.meaning.Problem.{Opened}
+use Rattle.pb_replay.specs.meaning.Problem.{Opened, Problem}
 use Rattle.pb_replay.specs.meaning.Replay.{State}
 use Rattle.pb_replay.specs.declared.fault.Fault.{Fault}
 use Rattle.pb_replay.specs.declared.verdict.Verdict.{Verdict}
 use Rattle.pb_replay.specs.declared.verdict.Verdict.TheVariants.{Unsat}
-use Rattle.pb_tool.specs.contract.Checker.{IsAt}
+use Rattle.pb_tool.specs.contract.Checker.{Checking, IsAt}
 use Rattle.pb_tool.specs.contract.Checks.{Ends}
+use Rattle.pb_tool.specs.contract.Pieces.{ChecksAt}
 use Rattle.pb_tool.specs.meaning.Headline.{IsUnsatisfiable}
 
 -- No assignment solves the instance that the replay was opened for.
@@ -25,3 +27,8 @@ Verifies replay bytes w =
 -- The answer is whether the verdict on the bytes is UNSAT.
 abbrev pub ReportsUnsat : Replaying → List ℕ → Bool → Type 0
 ReportsUnsat replay bytes answer = (w : Verdict) × Verifies replay bytes w × (IsTrue answer ↔ (w ≡ Unsat))
+
+-- A checker that was fed nothing finds a proof in these bytes, and the answer is whether its verdict is UNSAT.
+abbrev pub FindsUnsat : Checking → List ℕ → Bool → Type 0
+FindsUnsat checker bytes answer = (w : Verdict) × (IsTrue answer ↔ (w ≡ Unsat)) × ((limits : Limits) (v : Problem) (first : Result State Fault) →
+    ChecksAt limits byte_limit v first [] checker → (place : Place) × Ends limits byte_limit v first bytes place (Ok w))

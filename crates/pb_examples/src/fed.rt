@@ -1,8 +1,9 @@
 //! A proof that comes in pieces.
 
 ghost use Rattle.std.specs.List.{flat_map};
-ghost use Rattle.std.specs.Prelude.{◌≡◌, true, IfOk};
-ghost use Rattle.pb_examples.specs.Fed.{IsRefuted, ReportsUnsat};
+ghost use Rattle.std.specs.Prelude.{◌≡◌, true, IfOk, None};
+ghost use Rattle.pb_tool.specs.contract.Pieces.{fault_of};
+ghost use Rattle.pb_examples.specs.Fed.{FindsUnsat, IsRefuted, ReportsUnsat};
 
 use pb_proof::laws::values::reads_are_of_proofs;
 use pb_replay::laws::{statements_are_sound, verdicts_are_true};
@@ -27,6 +28,14 @@ pub fn is_refuted_in_pieces(
     verdicts_are_true();
     replay.report_sound();
     let mut checker = Checker::new(alloc, replay, None);
+    is_unsat(&mut checker, pieces)
+}
+
+/// Whether the verdict of a checker on all pieces in a row is UNSAT.
+fn is_unsat(checker: &mut Checker, pieces: &[&[u8]]) -> Result<bool, CheckFault>
+    requires { fault_of checker.old ≡ None }
+    ensures { IfOk result (FindsUnsat checker.old (flat_map (λ piece. piece.now) pieces.now)) }
+{
     for piece in pieces {
         let _used = checker.feed(piece)?;
     }
