@@ -239,3 +239,23 @@ CHECKED = [
     (["."], b"0\n", 1, "", f"cnf2opb: .: Is a directory\ndrat2pbp: .: Is a directory\n{NOT_VERIFIED.replace('a.cnf', '.')}"),
     (["a.cnf", "none.drat"], b"", 1, "", None),
 ]
+
+# What check-ids is given as EXPECTED, and the status, the output and the lines of standard error. The instance has two constraints, and
+# the proof adds two more.
+IDS_OPB = b"* #variable= 2 #constraint= 2\n+1 x1 +2 x2 >= 2 ;\n-1 x1 >= -1 ;\n"
+IDS_PBP = HEAD + b"f 2\npol 1 2 +\nrup +1 x2 >= 1 ;\noutput NONE\nconclusion NONE\nend pseudo-Boolean proof\n"
+IDS = [
+    # In normal form 2 is `+1 ~x1 >= 0`, and 3, the sum, is `+2 x2 >= 1`.
+    ("* a comment\n\n1: +2 x2 +1 x1 >= 2 ;\n  -> 2: +1 ~x1 >= 0 ; (instance line 3)\n 3 :-2 x2 <= -1;\n4: +1 x2 >= 1 ;\n", 0,
+     "4 constraints are as expected\n", ""),
+    ("4: -1 ~x2 >= 0 ;\n4: +1 x2 >= 1 ;\n", 0, "2 constraints are as expected\n", ""),
+    ("4: +1 x2 >= 1 ;\n3: +1 x2 >= 1 ;\n", 1, "",
+     "check-ids: a.ids line 2: id 3 is another constraint, proof line 3\n  expected: +1 x2 >= 1 ;\n  found: +2 x2 >= 1 ;\n"),
+    ("1: +1 x1 +1 x2 >= 1 ;\n", 1, "",
+     "check-ids: a.ids line 1: id 1 is another constraint, instance line 2\n  expected: +1 x1 +1 x2 >= 1 ;\n  found: +1 x1 +2 x2 >= 2 ;\n"),
+    ("6: >= 1 ;\n5: >= 1 ;\n0: >= 1 ;\n4: +1 x2 >= 1 ;\n", 1, "", "check-ids: a.ids line 1: no constraint has that id: the newest is 4\n"),
+    ("4 +1 x2 >= 1 ;\n", 1, "", "check-ids: a.ids line 1: `4 +1 x2 >= 1 ;` is not `ID: CONSTRAINT ;`\n"),
+    ("4: +1 x2 >= 1 ; more\n", 1, "", "check-ids: a.ids line 1: `4: +1 x2 >= 1 ; more` is not `ID: CONSTRAINT ;`\n"),
+    ("4: +1 x2 = 1 ;\n", 1, "", "check-ids: a.ids line 1: an equality, where one side is needed\n"),
+    ("4: +1 >= 1 ;\n", 1, "", "check-ids: a.ids line 1: `+1 >= 1` is no linear constraint\n"),
+]
