@@ -22,6 +22,9 @@ use std::io::{Read, Write};
 use std::random::RandomSource;
 use std::rt::Files;
 
+/// What is written in place of reasons for which there was no memory.
+const NO_MEMORY: &[u8] = b"pb: no reasons: out of memory\n";
+
 /// Sees the statements of a check, and writes the reasons if one is rejected.
 #[derive(Drop)]
 pub(crate) struct Explaining<'a> {
@@ -95,8 +98,14 @@ where
         longest,
         limits,
     );
+    let ended = explaining.explained.end();
     drop(explaining);
-    (done, reasons.into_inner())
+    let mut reasons = reasons.into_inner();
+    if ended.is_err() {
+        reasons.clear();
+        let _ = reasons.extend_from_slice(NO_MEMORY);
+    }
+    (done, reasons)
 }
 
 /// Whether the files of a job can be read again.

@@ -21,6 +21,7 @@ mod texts;
 mod tied;
 mod tracing;
 mod until;
+mod visible;
 mod watching;
 
 use crate::answers::{USAGE, answer_fault};
@@ -58,19 +59,20 @@ For more information, try '--help'.
 ";
 
 fn main(rt: HostRuntime) -> ExitCode {
-    ExitCode::from(run(&rt, rt.stdin(), &mut rt.stderr()))
+    ExitCode::from(run(&rt, rt.stdin(), &rt.stdout(), &mut rt.stderr()))
 }
 
 /// Reads the arguments, runs their job and returns the exit status.
-fn run<R, S, E>(rt: &R, standard: S, errors: &mut E) -> u8
+fn run<R, S, O, E>(rt: &R, standard: S, out: &O, errors: &mut E) -> u8
 where
     R: Env + Files + Print + RandomSource + Clock + AllocGlobal,
     S: Read + IsTerminal + Copy,
+    O: IsTerminal,
     E: Write + IsTerminal,
 {
     match words_of(rt) {
         Ok(words) => match job_of(rt.alloc(), words.as_slice()) {
-            Ok(job) => answer_job(rt, standard, &job, errors),
+            Ok(job) => answer_job(rt, standard, out, &job, errors),
             Err(fault) => answer_words(rt, words.as_slice(), &fault, errors),
         },
         Err(error) => answer_no_words(rt, &error, errors),
@@ -78,10 +80,11 @@ where
 }
 
 /// Runs a job and returns the exit status.
-fn answer_job<R, S, E>(rt: &R, standard: S, job: &Job, errors: &mut E) -> u8
+fn answer_job<R, S, O, E>(rt: &R, standard: S, out: &O, job: &Job, errors: &mut E) -> u8
 where
     R: Files + Print + RandomSource + Clock + AllocGlobal,
     S: Read + IsTerminal + Copy,
+    O: IsTerminal,
     E: Write + IsTerminal,
     requires { HasRanges job.now }
 {
@@ -92,7 +95,7 @@ where
     if !is_quiet(job) && standard.is_terminal() {
         write_waiting(job, errors);
     }
-    match do_job(rt, standard, job, errors) {
+    match do_job(rt, standard, out, job, errors) {
         Ok(()) => 0,
         Err(failure) => {
             let status = answer_fault(&failure.fault, errors);
@@ -114,10 +117,17 @@ fn twice_of(job: &Job) -> &'static [u8] {
 }
 
 /// Opens the files of a job and runs it.
-fn do_job<R, S, E>(rt: &R, standard: S, job: &Job, errors: &mut E) -> Result<(), Failure>
+fn do_job<R, S, O, E>(
+    rt: &R,
+    standard: S,
+    out: &O,
+    job: &Job,
+    errors: &mut E,
+) -> Result<(), Failure>
 where
     R: Files + Print + RandomSource + Clock + AllocGlobal,
     S: Read + IsTerminal + Copy,
+    O: IsTerminal,
     E: Write + IsTerminal,
     requires { HasRanges job.now }
 {
@@ -130,7 +140,9 @@ where
         } => {
             let input = opened(rt, standard, path_of(file), Input::File)?;
             let limits = limits_of(*bits);
-            show_over(rt.alloc(), input, io::writer(rt), *longest, limits)?;
+            let on_terminal = out.is_terminal();
+            let writer = io::writer(rt);
+            show_over(rt.alloc(), input, writer, on_terminal, *longest, limits)?;
         }
         Job::Tidy {
             normal,
@@ -140,7 +152,8 @@ where
             ..
         } => {
             let input = opened(rt, standard, path_of(file), Input::File)?;
-            tidy_over(rt, input, *normal, *longest, limits_of(*bits))?;
+            let limits = limits_of(*bits);
+            tidy_over(rt, input, out.is_terminal(), *normal, *longest, limits)?;
         }
         Job::Check {
             instance,

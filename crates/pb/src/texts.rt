@@ -5,6 +5,7 @@ ghost use Rattle.std.specs.Prelude.{IfSome, ◌<◌};
 use crate::output::{CAPACITY, flushed, keys_of};
 use crate::tied::{Shared, Tied};
 use crate::until::UntilFault;
+use crate::visible::Visible;
 use pb_text::{Limits, Over};
 use pb_tool::{Input, ToolFault, show, tidy_with_hasher};
 use std::alloc::Global;
@@ -12,17 +13,20 @@ use std::cell::RefCell;
 use std::io::{self, BufReader, BufWriter, Read, Write};
 use std::random::RandomSource;
 
-/// Shows the input of a reader. What was written is flushed before more is read.
+/// Shows the input of a reader. What was written is flushed before more is read. On a terminal control bytes are made
+/// visible.
 pub(crate) fn show_over<I: Read + Drop, O: Write + Drop>(
     alloc: Global,
     input: I,
     out: O,
+    on_terminal: bool,
     longest: Option<u64>,
     limits: Limits,
 ) -> Result<(), ToolFault>
     requires { IfSome longest (λ n. 0 < n) }
 {
-    let out = match BufWriter::with_capacity(alloc, CAPACITY, UntilFault::new(out)) {
+    let out = Visible::new(UntilFault::new(out), on_terminal);
+    let out = match BufWriter::with_capacity(alloc, CAPACITY, out) {
         Ok(out) => RefCell::new(out),
         Err(_) => return Err(ToolFault::Memory(Input::File)),
     };
@@ -39,21 +43,19 @@ pub(crate) fn show_over<I: Read + Drop, O: Write + Drop>(
     flushed(done, &mut out.into_inner())
 }
 
-/// Tidies the input of a reader.
+/// Tidies the input of a reader. On a terminal control bytes are made visible.
 pub(crate) fn tidy_over<R: Print + RandomSource + AllocGlobal, I: Read + Drop>(
     rt: &R,
     input: I,
+    on_terminal: bool,
     normal: bool,
     longest: Option<u64>,
     limits: Limits,
 ) -> Result<(), ToolFault>
     requires { IfSome longest (λ n. 0 < n) }
 {
-    let Ok(mut out) = BufWriter::with_capacity(
-        rt.alloc(),
-        CAPACITY,
-        UntilFault::new(io::writer(rt)),
-    ) else {
+    let out = Visible::new(UntilFault::new(io::writer(rt)), on_terminal);
+    let Ok(mut out) = BufWriter::with_capacity(rt.alloc(), CAPACITY, out) else {
         return Err(ToolFault::Memory(Input::File));
     };
     let Ok(input) = BufReader::with_capacity(rt.alloc(), CAPACITY, input) else {

@@ -1,5 +1,6 @@
 pub mod Adding
 pub mod Deleting
+pub mod Deriving
 pub mod ReasonLines
 pub mod Shown
 pub mod Storing

@@ -1,5 +1,12 @@
 //! Propagation with reasons, over stored constraints. It runs after a rejection.
 
+ghost use Rattle.std.specs.Prelude.{◌≡◌, ◌≤◌, ◌<◌, ◌+◌, [], ℕ, List, Option, None, IfOk, IfSome, IsTrue, OnOk, get_or, length, not};
+ghost use Rattle.std.specs.Option.{option_copied};
+ghost use Rattle.pb_normal.specs.meaning.Form.{Form, total};
+ghost use Rattle.pb_trace.specs.Derived.{Forces, IsSound, Keeps, Names, Takes, free_by, true_by};
+ghost use Rattle.pb_trace.specs.declared.propagation.Over.{Over};
+ghost use Rattle.pb_trace.specs.declared.stored.Stored.{Stored};
+
 use crate::stored::Stored;
 use pb_normal::{Entry, Normal};
 use std::alloc::{AllocError, Global};
@@ -35,15 +42,34 @@ pub(crate) enum Over {
     First(u64),
 }
 
-impl Over {
-    /// Whether a constraint propagates.
-    fn has(self, id: u64, stored: &Stored) -> bool {
-        match self {
-            Over::Live => stored.is_live,
-            Over::All => true,
-            Over::First(count) => id <= count,
-        }
-    }
+/// What propagates: the negation of a goal, if there is one, and stored constraints.
+#[derive(Clone, Copy)]
+pub(crate) struct Base<'a> {
+    pub(crate) negation: Option<&'a Normal>,
+    pub(crate) constraints: &'a [Stored],
+    pub(crate) over: Over,
+}
+
+/// What contains each literal, as linked lists.
+#[derive(Drop)]
+pub(crate) struct Uses {
+    /// For each variable.
+    first: Vec<FirstUses>,
+    uses: Vec<Use>,
+}
+
+/// The indices of the first use of a variable, and of its negation.
+#[derive(Clone, Copy)]
+struct FirstUses {
+    plain: Option<usize>,
+    negated: Option<usize>,
+}
+
+/// A constraint that contains a literal, and the index of the next one.
+#[derive(Clone, Copy)]
+struct Use {
+    reason: Reason,
+    next: Option<usize>,
 }
 
 /// A propagation: the values of the variables, and the literals in the order in which they became true.
@@ -53,13 +79,114 @@ pub(crate) struct Propagation {
     pub(crate) forced: Vec<Forced>,
     /// The constraint that is falsified.
     pub(crate) conflict: Option<Reason>,
-    /// For each variable, the ids of the constraints that propagate and contain it.
-    uses: Vec<Vec<u64>>,
+    /// How many terms were visited.
+    pub(crate) visits: u64,
+}
+
+impl Over {
+    /// Whether a constraint propagates.
+    fn has(self, id: u64, stored: &Stored) -> bool
+        ensures { IsTrue result → Takes self id stored.now }
+    {
+        match self {
+            Over::Live => stored.is_live,
+            Over::All => true,
+            Over::First(count) => id <= count,
+        }
+    }
+}
+
+impl<'a> Base<'a> {
+    /// The constraint that a reason names, if it propagates.
+    fn named(self, reason: Reason) -> Option<&'a Normal>
+        ensures { IfSome result (λ f. Names (option_copied self.entry.negation) self.entry.constraints.now self.entry.over reason f.now) }
+    {
+        match reason {
+            Reason::Given => None,
+            Reason::Negation => self.negation,
+            Reason::Id(id) => {
+                let stored = self.constraints.get(id.saturating_sub(1) as usize)?;
+                if self.over.has(id, stored) {
+                    Some(&stored.form)
+                } else {
+                    None
+                }
+            }
+        }
+    }
+
+    /// What contains the literals of so many variables: the negation first, and then constraints by their ids.
+    pub(crate) fn uses(self, alloc: Global, variables: usize) -> Result<Uses, AllocError> {
+        let mut uses = Uses::new(alloc, variables)?;
+        for index in (0..self.constraints.len()).rev() {
+            self.note_uses(&mut uses, Reason::Id(index as u64 + 1))?;
+        }
+        self.note_uses(&mut uses, Reason::Negation)?;
+        Ok(uses)
+    }
+
+    /// Notes which literals the constraint that a reason names contains.
+    fn note_uses(self, uses: &mut Uses, reason: Reason) -> Result<(), AllocError> {
+        if let Some(form) = self.named(reason) {
+            for entry in form.entries() {
+                uses.push(entry, reason)?;
+            }
+        }
+        Ok(())
+    }
+}
+
+impl Uses {
+    /// No uses of so many variables.
+    fn new(alloc: Global, variables: usize) -> Result<Uses, AllocError> {
+        let mut first = Vec::with_capacity(alloc, variables)?;
+        for _ in 0..variables {
+            first.push(FirstUses {
+                plain: None,
+                negated: None,
+            })?;
+        }
+        Ok(Uses {
+            first,
+            uses: Vec::new(alloc),
+        })
+    }
+
+    /// Notes a use of the literal of a term, before those that were noted.
+    fn push(&mut self, entry: &Entry, reason: Reason) -> Result<(), AllocError> {
+        let Some(first) = self.first.get_mut(entry.variable) else {
+            return Ok(());
+        };
+        let at = Some(self.uses.len());
+        let next = if entry.negated {
+            std::mem::replace(&mut first.negated, at)
+        } else {
+            std::mem::replace(&mut first.plain, at)
+        };
+        self.uses.push(Use { reason, next })?;
+        Ok(())
+    }
+
+    /// The index of the first use of a literal.
+    fn first(&self, variable: usize, negated: bool) -> Option<usize> {
+        let first = self.first.get(variable)?;
+        if negated { first.negated } else { first.plain }
+    }
+
+    /// A use with an index.
+    fn at(&self, index: Option<usize>) -> Option<Use> {
+        match self.uses.get(index?) {
+            Some(found) => Some(*found),
+            None => None,
+        }
+    }
 }
 
 impl Propagation {
     /// No values for so many variables.
-    pub(crate) fn new(alloc: Global, variables: usize) -> Result<Propagation, AllocError> {
+    pub(crate) fn new(alloc: Global, variables: usize) -> Result<Propagation, AllocError>
+        ensures { IfOk result (λ p. (negation : Option Form) → (stored : List Stored) → (over : Over) → IsSound negation stored over [] p) }
+    {
         let mut values = Vec::with_capacity(alloc, variables)?;
         for _ in 0..variables {
             values.push(None)?;
@@ -68,12 +195,29 @@ impl Propagation {
             values,
             forced: Vec::new(alloc),
             conflict: None,
-            uses: Vec::new(alloc),
+            visits: 0,
         })
     }
 
+    /// What propagates with nothing given. Each literal follows from those before it by the constraint that its reason
+    /// names.
+    pub(crate) fn from_nothing(
+        alloc: Global,
+        variables: usize,
+        base: Base<'_>,
+        uses: &Uses,
+    ) -> Result<Propagation, AllocError>
+        ensures { IfOk result (λ p. IsSound (option_copied base.entry.negation) base.entry.constraints.now base.entry.over [] p) }
+    {
+        let mut propagation = Propagation::new(alloc, variables)?;
+        propagation.propagate(base, uses)?;
+        Ok(propagation)
+    }
+
     /// The value of a variable.
-    pub(crate) fn value(&self, variable: usize) -> Option<bool> {
+    pub(crate) fn value(&self, variable: usize) -> Option<bool>
+        ensures { result ≡ get_or self.now.values.items variable None }
+    {
         match self.values.get(variable) {
             Some(value) => *value,
             None => None,
@@ -81,119 +225,131 @@ impl Propagation {
     }
 
     /// Makes a literal true, if its variable is open.
-    pub(crate) fn force(&mut self, forced: Forced) -> Result<(), AllocError> {
-        if let Some(value) = self.values.get_mut(forced.variable)
-            && value.is_none()
-        {
-            *value = Some(!forced.negated);
-            self.forced.push(forced)?;
-        }
-        Ok(())
-    }
-
-    /// Propagates over the negation, if there is one, and stored constraints, until nothing more follows.
-    pub(crate) fn propagate(
-        &mut self,
-        negation: Option<&Normal>,
-        constraints: &[Stored],
-        over: Over,
-    ) -> Result<(), AllocError> {
-        if let Some(form) = negation {
-            self.visit(form, Reason::Negation)?;
-        }
-        self.visit_all(constraints, over)?;
-        if self.conflict.is_some() {
+    pub(crate) fn force(&mut self, forced: Forced) -> Result<(), AllocError>
+        ensures { OnOk result (Forces self.old forced self.new) }
+    {
+        if !self.is_open(forced.variable) {
             return Ok(());
         }
-        self.uses = uses_of(
-            *self.values.allocator(),
-            self.values.len(),
-            constraints,
-            over,
-        )?;
-        let uses = std::mem::replace(&mut self.uses, Vec::new(*self.values.allocator()));
-        self.follow(uses.as_slice(), negation, constraints)?;
-        self.uses = uses;
+        self.values[forced.variable] = Some(!forced.negated);
+        self.forced.push(forced)?;
         Ok(())
     }
 
-    /// Whether the literals so far and one more propagate to a conflict.
-    pub(crate) fn conflicts_with(
-        &self,
-        forced: Forced,
-        negation: Option<&Normal>,
-        constraints: &[Stored],
-    ) -> Result<bool, AllocError> {
-        let alloc = *self.values.allocator();
-        let mut values = Vec::with_capacity(alloc, self.values.len())?;
-        values.extend_from_slice(self.values.as_slice())?;
-        let mut propagation = Propagation {
-            values,
-            forced: Vec::new(alloc),
-            conflict: None,
-            uses: Vec::new(alloc),
-        };
-        propagation.force(forced)?;
-        propagation.follow(self.uses.as_slice(), negation, constraints)?;
-        Ok(propagation.conflict.is_some())
+    /// Whether there is such a variable without a value.
+    fn is_open(&self, variable: usize) -> bool
+        ensures { IsTrue result → (variable < length self.now.values.items) × (get_or self.now.values.items variable None ≡ None) }
+    {
+        match self.values.get(variable) {
+            Some(value) => value.is_none(),
+            None => false,
+        }
     }
 
-    /// Visits what contains the literals that became true, in their order, until nothing more follows.
-    fn follow(
+    /// Propagates from the literals so far, until nothing more follows or a constraint is falsified.
+    pub(crate) fn propagate(&mut self, base: Base<'_>, uses: &Uses) -> Result<(), AllocError>
+        ensures { OnOk result (Keeps (option_copied base.entry.negation) base.entry.constraints.now base.entry.over self.old self.new) }
+    {
+        self.visit_named(base, Reason::Negation)?;
+        for index in 0..base.constraints.len() {
+            self.visit_named(base, Reason::Id(index as u64 + 1))?;
+        }
+        self.follow(0, base, uses)
+    }
+
+    /// Whether the literals so far and one more propagate to a conflict. It leaves the propagation as it was.
+    pub(crate) fn conflicts_with(
         &mut self,
-        uses: &[Vec<u64>],
-        negation: Option<&Normal>,
-        constraints: &[Stored],
-    ) -> Result<(), AllocError> {
-        for next in 0..usize::MAX {
+        forced: Forced,
+        base: Base<'_>,
+        uses: &Uses,
+    ) -> Result<bool, AllocError> {
+        let count = self.forced.len();
+        self.force(forced)?;
+        self.follow(count, base, uses)?;
+        let conflicts = self.conflict.is_some();
+        self.conflict = None;
+        for _ in count..self.forced.len() {
+            if let Some(forced) = self.forced.pop()
+                && let Some(value) = self.values.get_mut(forced.variable)
+            {
+                *value = None;
+            }
+        }
+        Ok(conflicts)
+    }
+
+    /// Visits what the literals falsify in part that became true, in their order from one on, until nothing more follows.
+    fn follow(&mut self, first: usize, base: Base<'_>, uses: &Uses) -> Result<(), AllocError>
+        ensures { OnOk result (Keeps (option_copied base.entry.negation) base.entry.constraints.now base.entry.over self.old self.new) }
+    {
+        for next in first..usize::MAX {
             let Some(forced) = self.forced.get(next) else {
                 break;
             };
-            let variable = forced.variable;
-            if let Some(form) = negation {
-                self.visit(form, Reason::Negation)?;
+            let falsified = uses.first(forced.variable, !forced.negated);
+            if self.conflict.is_some() {
+                break;
             }
-            if let Some(ids) = uses.get(variable) {
-                self.visit_each(ids.as_slice(), constraints)?;
-            }
+            self.visits = self.visits.saturating_add(1);
+            self.visit_from(falsified, base, uses)?;
         }
         Ok(())
     }
 
-    /// Visits the stored constraints that propagate, in order.
-    fn visit_all(&mut self, constraints: &[Stored], over: Over) -> Result<(), AllocError> {
-        let mut id = 0u64;
-        for stored in constraints {
-            id = id.saturating_add(1);
-            if over.has(id, stored) {
-                self.visit(&stored.form, Reason::Id(id))?;
-            }
+    /// Visits the constraints of a list of uses, from an index on.
+    fn visit_from(
+        &mut self,
+        first: Option<usize>,
+        base: Base<'_>,
+        uses: &Uses,
+    ) -> Result<(), AllocError>
+        ensures { OnOk result (Keeps (option_copied base.entry.negation) base.entry.constraints.now base.entry.over self.old self.new) }
+    {
+        let mut at = first;
+        for _ in 0..uses.uses.len() {
+            let Some(found) = uses.at(at) else {
+                break;
+            };
+            self.visit_named(base, found.reason)?;
+            at = found.next;
         }
         Ok(())
     }
 
-    /// Visits the stored constraints with these ids.
-    fn visit_each(&mut self, ids: &[u64], constraints: &[Stored]) -> Result<(), AllocError> {
-        for id in ids {
-            if let Some(stored) = constraints.get(id.saturating_sub(1) as usize) {
-                self.visit(&stored.form, Reason::Id(*id))?;
-            }
+    /// Visits the constraint that a reason names, if it propagates.
+    fn visit_named(&mut self, base: Base<'_>, reason: Reason) -> Result<(), AllocError>
+        ensures { OnOk result (Keeps (option_copied base.entry.negation) base.entry.constraints.now base.entry.over self.old self.new) }
+    {
+        match base.named(reason) {
+            Some(form) => self.visit(form, reason),
+            None => Ok(()),
         }
-        Ok(())
     }
 
     /// Makes the literals true that a constraint forces, or notes that it is falsified.
-    fn visit(&mut self, form: &Normal, reason: Reason) -> Result<(), AllocError> {
+    fn visit(&mut self, form: &Normal, reason: Reason) -> Result<(), AllocError>
+        ensures { OnOk result ((negation : Option Form) → (stored : List Stored) → (over : Over) → Names negation stored over reason form.now
+            → Keeps negation stored over self.old self.new) }
+    {
         if self.conflict.is_some() {
             return Ok(());
         }
+        self.visits = self.visits.saturating_add(form.len() as u64);
         let open = self.open_sum(form);
         let degree = form.degree().unsigned_abs();
         if open < degree {
             self.conflict = Some(reason);
             return Ok(());
         }
-        let slack = open.saturating_sub(degree);
+        self.force_all(form, reason, open - degree)
+    }
+
+    /// Makes the literals true whose coefficients exceed the slack of their constraint.
+    fn force_all(&mut self, form: &Normal, reason: Reason, slack: u128) -> Result<(), AllocError>
+        ensures { OnOk result ((negation : Option Form) → (stored : List Stored) → (over : Over) → Names negation stored over reason form.now
+            → total (free_by self.old.values.items) form.now.terms ≤ form.now.degree + slack → Keeps negation stored over self.old self.new) }
+    {
         for entry in form.entries() {
             if slack < entry.coefficient {
                 self.force(Forced {
@@ -208,11 +364,13 @@ impl Propagation {
     }
 
     /// The sum of the coefficients whose literals are not false.
-    pub(crate) fn open_sum(&self, form: &Normal) -> u128 {
+    pub(crate) fn open_sum(&self, form: &Normal) -> u128
+        ensures { result ≡ total (free_by self.now.values.items) form.now.terms }
+    {
         let mut sum = 0u128;
         for entry in form.entries() {
             if !self.is_false(entry) {
-                sum = sum.saturating_add(entry.coefficient);
+                sum += entry.coefficient;
             }
         }
         sum
@@ -229,38 +387,13 @@ impl Propagation {
         sum
     }
 
-    pub(crate) fn is_false(&self, entry: &Entry) -> bool {
-        self.value(entry.variable) == Some(entry.negated)
-    }
-}
-
-/// For each variable, the ids of the stored constraints that propagate and contain it.
-fn uses_of(
-    alloc: Global,
-    variables: usize,
-    constraints: &[Stored],
-    over: Over,
-) -> Result<Vec<Vec<u64>>, AllocError> {
-    let mut uses = Vec::with_capacity(alloc, variables)?;
-    for _ in 0..variables {
-        uses.push(Vec::new(alloc))?;
-    }
-    let mut id = 0u64;
-    for stored in constraints {
-        id = id.saturating_add(1);
-        if over.has(id, stored) {
-            note_uses(&mut uses, &stored.form, id)?;
+    /// Whether the literal of a term is false.
+    pub(crate) fn is_false(&self, entry: &Entry) -> bool
+        ensures { result ≡ true_by (get_or self.now.values.items entry.now.variable None) (not entry.now.negated) }
+    {
+        match self.value(entry.variable) {
+            Some(value) => value == entry.negated,
+            None => false,
         }
     }
-    Ok(uses)
-}
-
-/// Notes that a constraint contains its variables.
-fn note_uses(uses: &mut [Vec<u64>], form: &Normal, id: u64) -> Result<(), AllocError> {
-    for entry in form.entries() {
-        if let Some(ids) = uses.get_mut(entry.variable) {
-            ids.push(id)?;
-        }
-    }
-    Ok(())
 }

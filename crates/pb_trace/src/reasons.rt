@@ -7,7 +7,7 @@ mod pol;
 mod propagated;
 
 use crate::instance_text::InstanceText;
-use crate::piece::{Line, Piece};
+use crate::piece::{Lines, Piece};
 use crate::stored::Constraints;
 use pb_normal::{Names, Normal};
 use pb_proof::{Conclusion, Statement};
@@ -27,7 +27,7 @@ pub(crate) struct Scene<'a> {
     pub(crate) best: Option<i128>,
     /// The line of the last statement that logged a solution, or 0.
     pub(crate) logged: u64,
-    pub(crate) lines: Vec<Line>,
+    pub(crate) lines: Lines,
 }
 
 /// The names of a replay, each with its number there.
@@ -146,8 +146,7 @@ impl Scene<'_> {
 
     /// Adds a line.
     fn say(&mut self, pieces: Vec<Piece>) -> Result<(), AllocError> {
-        self.lines.push(Line { pieces })?;
-        Ok(())
+        self.lines.add(pieces)
     }
 
     /// Adds a line of words.

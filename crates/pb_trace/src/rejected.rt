@@ -5,7 +5,7 @@ ghost use Rattle.std.specs.Option.{option_copied};
 ghost use Rattle.pb_text.specs.meaning.Writing.{Writes};
 ghost use Rattle.pb_trace.specs.Rejected.{WritesPieces, WritesReasons, piece_bytes, rejected_line, stored_bytes, word_shown, words_of};
 
-use crate::piece::{Line, Piece};
+use crate::piece::{Lines, Piece};
 use crate::stored::Stored;
 use crate::write::{write_form, write_numbered, write_read, write_word};
 use pb_proof::{PolWord, Statement};
@@ -44,7 +44,7 @@ pub(crate) fn words_in(statement: &Statement) -> &[PolWord]
 
 /// Writes reasons, a line each.
 pub(crate) fn write_reasons<S: Sink>(
-    lines: &[Line],
+    lines: &Lines,
     stored: &[Stored],
     words: &[PolWord],
     replay: &Replay,
@@ -52,15 +52,18 @@ pub(crate) fn write_reasons<S: Sink>(
 ) -> Result<(), Failed>
     ensures { WritesReasons S.contents S.faults replay.now.names stored.now words.now out.old result out.new }
 {
-    for line in lines {
-        write_reason(line, stored, words, replay, out)?;
+    let mut start = 0;
+    for end in &lines.ends {
+        let pieces = lines.pieces.get(start..*end).unwrap_or(&[]);
+        write_reason(pieces, stored, words, replay, out)?;
+        start = *end;
     }
     Ok(())
 }
 
 /// Writes a line of the reasons.
 fn write_reason<S: Sink>(
-    line: &Line,
+    pieces: &[Piece],
     stored: &[Stored],
     words: &[PolWord],
     replay: &Replay,
@@ -69,7 +72,7 @@ fn write_reason<S: Sink>(
     ensures { WritesReasons S.contents S.faults replay.now.names stored.now words.now out.old result out.new }
 {
     write_bytes(b"  ", out)?;
-    write_pieces(line.pieces.as_slice(), stored, words, replay, out)?;
+    write_pieces(pieces, stored, words, replay, out)?;
     write_bytes(b"\n", out)
 }
 

@@ -9,7 +9,7 @@ ghost use Rattle.pb_trace.specs.Traced.{FollowsLine, ShowsAlike, ShowsReasons, T
 use crate::broken::Broken;
 use crate::instance_text::InstanceText;
 use crate::line::write_line;
-use crate::piece::Line;
+use crate::piece::Lines;
 use crate::reasons::{Scene, names_of};
 use crate::rejected::{words_in, write_reasons, write_rejected_line};
 use crate::stored::Constraints;
@@ -215,13 +215,7 @@ impl<S: Sink> Trace<S> {
     {
         let lines = self.find_why(&read.event, replay, fault)?;
         let words = words_in(&read.event);
-        write_reasons(
-            lines.as_slice(),
-            self.constraints.all(),
-            words,
-            replay,
-            &mut self.out,
-        )?;
+        write_reasons(&lines, self.constraints.all(), words, replay, &mut self.out)?;
         Ok(())
     }
 
@@ -231,7 +225,7 @@ impl<S: Sink> Trace<S> {
         statement: &Statement,
         replay: &Replay,
         fault: Fault,
-    ) -> Result<Vec<Line>, AllocError> {
+    ) -> Result<Lines, AllocError> {
         let mut scene = Scene {
             alloc: self.alloc,
             constraints: &self.constraints,
@@ -240,7 +234,7 @@ impl<S: Sink> Trace<S> {
             limits: replay.limits(),
             best: replay.best(),
             logged: self.logged,
-            lines: Vec::new(self.alloc),
+            lines: Lines::new(self.alloc),
         };
         scene.find(statement, fault)?;
         Ok(scene.lines)

@@ -1,7 +1,7 @@
 //! What came near to a conflict, and what would lead to one.
 
 use crate::piece::Piece;
-use crate::propagation::{Forced, Propagation, Reason};
+use crate::propagation::{Base, Forced, Propagation, Reason, Uses};
 use crate::reasons::{Scene, number};
 use pb_normal::Normal;
 use std::alloc::AllocError;
@@ -14,6 +14,11 @@ const LACKING: usize = 20;
 
 /// How many literals are tried for that, or a few more.
 const TRIED: usize = 2000;
+
+/// How many terms are visited for that, with some times as many as for the propagation before it.
+const VISITS: u64 = 100_000;
+
+const TIMES: u64 = 3;
 
 /// A constraint near to a conflict: how near, how many of its literals are open, and its id.
 #[derive(Clone, Copy)]
@@ -74,18 +79,23 @@ impl Scene<'_> {
     /// conflict come first.
     pub(crate) fn say_lacking(
         &mut self,
-        propagation: &Propagation,
-        negation: &Normal,
+        propagation: &mut Propagation,
+        base: Base<'_>,
+        uses: &Uses,
         nearest: &[Near],
     ) -> Result<(), AllocError> {
         let mut pieces = vec![in self.alloc; Piece::Text(b"implied with one more literal:")]?;
         let mut found: Vec<(usize, bool)> = Vec::new(self.alloc);
+        let most = propagation
+            .visits
+            .saturating_mul(1 + TIMES)
+            .saturating_add(VISITS);
         for literal in self.open_literals(propagation, nearest)?.as_slice() {
-            if found.len() >= LACKING {
+            if found.len() >= LACKING || propagation.visits > most {
                 break;
             }
             let (variable, negated) = *literal;
-            if !found.contains(literal) && self.is_lacking(propagation, negation, *literal)? {
+            if !found.contains(literal) && is_lacking(propagation, base, uses, *literal)? {
                 found.push(*literal)?;
                 pieces.push(Piece::Text(b" "))?;
                 pieces.push(Piece::Literal(variable, negated))?;
@@ -95,23 +105,6 @@ impl Scene<'_> {
             return Ok(());
         }
         self.say(pieces)
-    }
-
-    /// Whether a conflict follows if a literal is false.
-    fn is_lacking(
-        &self,
-        propagation: &Propagation,
-        negation: &Normal,
-        literal: (usize, bool),
-    ) -> Result<bool, AllocError> {
-        let (variable, negated) = literal;
-        let forced = Forced {
-            variable,
-            negated: !negated,
-            reason: Reason::Given,
-            slack: 0,
-        };
-        propagation.conflicts_with(forced, Some(negation), self.constraints.all())
     }
 
     /// Literals without a value, not too many: those of some constraints, and then others.
@@ -157,6 +150,23 @@ impl Scene<'_> {
         }
         Ok(nearest)
     }
+}
+
+/// Whether a conflict follows if a literal is false.
+fn is_lacking(
+    propagation: &mut Propagation,
+    base: Base<'_>,
+    uses: &Uses,
+    literal: (usize, bool),
+) -> Result<bool, AllocError> {
+    let (variable, negated) = literal;
+    let forced = Forced {
+        variable,
+        negated: !negated,
+        reason: Reason::Given,
+        slack: 0,
+    };
+    propagation.conflicts_with(forced, base, uses)
 }
 
 /// How near a constraint came to a conflict, if a literal of it is open and it is not satisfied: its slack over the least

@@ -1,14 +1,14 @@
 //! What propagates from the negation of a goal, or from the literals of a solution.
 
-use crate::piece::Piece;
-use crate::propagation::{Forced, Over, Propagation, Reason};
+use crate::piece::{Lines, Piece};
+use crate::propagation::{Base, Forced, Over, Propagation, Reason};
 use crate::reasons::{Scene, copied, number};
 use pb_normal::{Normal, NormalFault, Side};
 use pb_replay::Fault;
 use pb_sums::{Linear, Literal};
 use std::alloc::AllocError;
 
-impl Scene<'_> {
+impl<'a> Scene<'a> {
     /// Why propagation does not show the constraint of a `rup`.
     pub(crate) fn say_not_implied(&mut self, goal: &Linear) -> Result<(), AllocError> {
         match self.form_of(goal)? {
@@ -39,18 +39,20 @@ impl Scene<'_> {
             Piece::Text(b"negation: "),
             Piece::Form(copied(&negation)?),
         ]?)?;
-        let mut propagation = Propagation::new(self.alloc, self.names.len())?;
-        propagation.propagate(Some(&negation), self.constraints.all(), Over::Live)?;
+        let base = self.base_of(&negation, Over::Live);
+        let variables = self.names.len();
+        let uses = base.uses(self.alloc, variables)?;
+        let mut propagation = Propagation::from_nothing(self.alloc, variables, base, &uses)?;
         self.say_propagation(&propagation)?;
-        if propagation.conflict.is_none() {
-            let nearest = self.nearest(&propagation)?;
-            self.say_near(&propagation, nearest.as_slice())?;
-            if goal.degree() == 1 {
-                self.say_lacking(&propagation, &negation, nearest.as_slice())?;
-            }
-            self.say_with_deleted(&negation)?;
+        if propagation.conflict.is_some() {
+            return Ok(());
         }
-        Ok(())
+        let nearest = self.nearest(&propagation)?;
+        self.say_near(&propagation, nearest.as_slice())?;
+        if goal.degree() == 1 {
+            self.say_lacking(&mut propagation, base, &uses, nearest.as_slice())?;
+        }
+        self.say_with_deleted(&negation)
     }
 
     /// Whether a goal is shown by propagation over the live constraints.
@@ -61,9 +63,28 @@ impl Scene<'_> {
         let Ok(negation) = goal.negation() else {
             return Err(AllocError);
         };
-        let mut propagation = Propagation::new(self.alloc, self.names.len())?;
-        propagation.propagate(Some(&negation), self.constraints.all(), Over::Live)?;
+        let propagation = self.propagated(&negation, Over::Live)?;
         Ok(propagation.conflict.is_some())
+    }
+
+    /// The negation of a goal, and the stored constraints that propagate with it.
+    fn base_of<'b>(&self, negation: &'b Normal, over: Over) -> Base<'b>
+    where
+        'a: 'b,
+    {
+        Base {
+            negation: Some(negation),
+            constraints: self.constraints.all(),
+            over,
+        }
+    }
+
+    /// What propagates from the negation of a goal.
+    fn propagated(&self, negation: &Normal, over: Over) -> Result<Propagation, AllocError> {
+        let base = self.base_of(negation, over);
+        let variables = self.names.len();
+        let uses = base.uses(self.alloc, variables)?;
+        Propagation::from_nothing(self.alloc, variables, base, &uses)
     }
 
     /// What the literals of a solution propagate over the live constraints, and what that violates.
@@ -101,16 +122,25 @@ impl Scene<'_> {
                 })?;
             }
         }
-        propagation.propagate(None, self.constraints.all(), over)?;
+        let base = Base {
+            negation: None,
+            constraints: self.constraints.all(),
+            over,
+        };
+        let uses = base.uses(self.alloc, self.names.len())?;
+        propagation.propagate(base, &uses)?;
         self.say_propagation(&propagation)?;
         Ok(propagation)
     }
 
     /// The literals that became true, each with its reason, and what is falsified.
     fn say_propagation(&mut self, propagation: &Propagation) -> Result<(), AllocError> {
+        let mut lines = std::mem::replace(&mut self.lines, Lines::new(self.alloc));
         for forced in propagation.forced.as_slice() {
-            self.say_forced(*forced)?;
+            self.push_forced(&mut lines.pieces, *forced)?;
+            lines.end_line()?;
         }
+        self.lines = lines;
         match propagation.conflict {
             None => Ok(()),
             Some(Reason::Given) => self.say_text(b"falsified: the statement"),
@@ -119,25 +149,23 @@ impl Scene<'_> {
         }
     }
 
-    /// A literal that became true, with what forced it.
-    fn say_forced(&mut self, forced: Forced) -> Result<(), AllocError> {
-        let mut pieces = vec![in self.alloc;
-            Piece::Literal(forced.variable, forced.negated),
-            Piece::Text(b" by "),
-        ]?;
+    /// Adds a literal that became true, with what forced it.
+    fn push_forced(&self, pieces: &mut Vec<Piece>, forced: Forced) -> Result<(), AllocError> {
+        pieces.push(Piece::Literal(forced.variable, forced.negated))?;
         match forced.reason {
-            Reason::Given => pieces.push(Piece::Text(b"the statement"))?,
-            Reason::Negation => {
-                pieces.push(Piece::Text(b"the negation, slack "))?;
-                pieces.push(number(forced.slack))?;
+            Reason::Given => {
+                pieces.push(Piece::Text(b" by the statement"))?;
+                return Ok(());
             }
+            Reason::Negation => pieces.push(Piece::Text(b" by the negation"))?,
             Reason::Id(id) => {
-                self.push_constraint(&mut pieces, id)?;
-                pieces.push(Piece::Text(b", slack "))?;
-                pieces.push(number(forced.slack))?;
+                pieces.push(Piece::Text(b" by "))?;
+                self.push_constraint(pieces, id)?;
             }
         }
-        self.say(pieces)
+        pieces.push(Piece::Text(b", slack "))?;
+        pieces.push(number(forced.slack))?;
+        Ok(())
     }
 
     /// The names without a value, of so many.
@@ -183,8 +211,7 @@ impl Scene<'_> {
         {
             return Ok(());
         }
-        let mut propagation = Propagation::new(self.alloc, self.names.len())?;
-        propagation.propagate(Some(negation), self.constraints.all(), Over::All)?;
+        let propagation = self.propagated(negation, Over::All)?;
         let Some(conflict) = propagation.conflict else {
             return self.say_text(b"not implied either with the deleted constraints back");
         };

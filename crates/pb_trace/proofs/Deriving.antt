@@ -1,0 +1,144 @@
+-- Literals that became true follow from those before them.
+use Rattle.std.specs.Prelude.{Contains, MatchOption, OnOk, set}
+use Rattle.std.proofs.Common.{◌≡◌, ℕ, zero, suc, ◌+◌, ◌<◌, ◌≤◌, ◌⊎◌, ◌||◌, Bool, true, false, not, cond, eqb, List, [], ◌∷◌, ◌++◌, Option, Some, None, Result, Ok, Err, map, length, get_or, refl, sym, ◌∙◌, ap, subst, arith, inl, inr, eq-eqb}
+use Rattle.std.proofs.lemmas.List.{map-append, get_or-set_same, get_or-set_other}
+use Rattle.std.proofs.lemmas.Bool.{cases_Bool, cases_eq}
+use Rattle.pb_normal.specs.declared.entry.Entry.{Entry}
+use Rattle.pb_normal.specs.declared.numbered.NumberedLiteral.{NumberedLiteral}
+use Rattle.pb_normal.specs.meaning.Form.{Form, counted, total}
+use Rattle.pb_normal.specs.meaning.Rules.{on, only}
+use Rattle.pb_propagate.specs.meaning.Propagation.{MayPropagate, opened}
+use Rattle.pb_propagate.proofs.lemmas.engine.Choices.{only-true, only-self, total-has, total-within}
+use Rattle.pb_propagate.proofs.lemmas.engine.Completing.{IsPart, opened-part}
+use Rattle.pb_trace.specs.Derived.{AreValues, Derived, Begin, Then, Follows, Forces, IsBroken, IsSound, Keeps, Names, free_by, literal_of, literals, true_by}
+use Rattle.pb_trace.specs.declared.propagation.Forced.{Forced}
+use Rattle.pb_trace.specs.declared.propagation.Over.{Over}
+use Rattle.pb_trace.specs.declared.propagation.Propagation.{Propagation}
+use Rattle.pb_trace.specs.declared.propagation.Reason.{Reason}
+use Rattle.pb_trace.specs.declared.stored.Stored.{Stored}
+
+or_false : (b : Bool) → (b || false) ≡ b
+or_false true = refl
+or_false false = refl
+
+on-append : (xs : List NumberedLiteral) (l : NumberedLiteral) (v : ℕ) (n : Bool) → on (xs ++ (l ∷ [])) v n ≡ (on xs v n || only l.variable l.negated v n)
+on-append [] l v n = or_false (only l.variable l.negated v n)
+on-append (x ∷ xs) l v n = ap (λ b. only x.variable x.negated v n || b) (on-append xs l v n) ∙ sym (or_assoc (only x.variable x.negated v n) (on xs v n) (only l.variable l.negated v n))
+  where
+    or_assoc : (a b c : Bool) → ((a || b) || c) ≡ (a || (b || c))
+    or_assoc true b c = refl
+    or_assoc false b c = refl
+
+on-push : (list : List Forced) (f : Forced) (v : ℕ) (n : Bool) → on (literals (list ++ (f ∷ []))) v n ≡ (on (literals list) v n || only f.variable f.negated v n)
+on-push list f v n = ap (λ ls. on ls v n) (map-append literal_of list (f ∷ [])) ∙ on-append (literals list) (literal_of f) v n
+
+or_left : (a b : Bool) → a ≡ true → (a || b) ≡ true
+or_left true b h = refl
+or_left false b h = absurd cc
+
+part-push : (list : List Forced) (f : Forced) → IsPart (literals list) (literals (list ++ (f ∷ [])))
+part-push list f v n h = on-push list f v n ∙ or_left (on (literals list) v n) (only f.variable f.negated v n) h
+
+lower-push : (list : List Forced) (f : Forced) (ts : List Entry) → total (opened (literals (list ++ (f ∷ [])))) ts ≤ total (opened (literals list)) ts
+lower-push list f ts =
+    total-within (opened (literals (list ++ (f ∷ [])))) (opened (literals list)) (opened-part (literals list) (literals (list ++ (f ∷ []))) (part-push list f)) ts
+
+total-same : (p q : ℕ → Bool → Bool) → ((v : ℕ) (n : Bool) → p v n ≡ q v n) → (ts : List Entry) → total p ts ≡ total q ts
+total-same p q e [] = refl
+total-same p q e (t ∷ ts) =
+    let one : counted p t ≡ counted q t = ap (λ b. cond b t.coefficient 0) (e t.variable t.negated) in
+    omega (arith, total-same p q e ts, one)
+
+-- what is open by the values is open by the list
+pub free-total : (values : List (Option Bool)) (list : List Forced) → AreValues values list → (ts : List Entry) → total (free_by values) ts ≡ total (opened (literals list)) ts
+free-total values list are ts = total-same (free_by values) (opened (literals list)) (λ v n. ap not (sym (are v (not n)))) ts
+
+-- the values after a literal is true
+values-push : (values : List (Option Bool)) (list : List Forced) (f : Forced) → get_or values f.variable None ≡ None → f.variable < length values → AreValues values list
+    → AreValues (set values f.variable (Some (not f.negated))) (list ++ (f ∷ []))
+values-push values list f unset inside are v n =
+    elim (cases_eq v f.variable) [
+      | inl same ↦ on-push list f v n ∙ rw same (here n)
+      | inr other ↦
+          on-push list f v n ∙ rw (not_only other) (or_false (on (literals list) v n)) ∙ are v n
+          ∙ ap (λ o. true_by o n) (sym (get_or-set_other values f.variable v (Some (not f.negated)) None other))
+    ]
+  where
+    sign : (m k : Bool) → cond m k (not k) ≡ true_by (Some (not m)) k
+    sign true true = refl
+    sign true false = refl
+    sign false true = refl
+    sign false false = refl
+
+    only_here : (m k : Bool) → only f.variable m f.variable k ≡ cond m k (not k)
+    only_here m k = rw (eq-eqb f.variable f.variable refl) refl
+
+    here : (k : Bool) → (on (literals list) f.variable k || only f.variable f.negated f.variable k) ≡ true_by (get_or (set values f.variable (Some (not f.negated))) f.variable None) k
+    here k =
+        let absent : on (literals list) f.variable k ≡ false = are f.variable k ∙ ap (λ o. true_by o k) unset in
+        rw (absent, get_or-set_same values f.variable (Some (not f.negated)) None inside) (only_here f.negated k ∙ sign f.negated k)
+
+    not_only : (v ≡ f.variable → ⊥) → only f.variable f.negated v n ≡ false
+    not_only other = elim (cases_Bool (only f.variable f.negated v n)) [
+      | inl there ↦ absurd (other (only-true f.variable f.negated v n there).0)
+      | inr none ↦ none
+    ]
+
+module _ (negation : Option Form) (stored : List Stored) (over : Over) where
+  -- the literal of a term whose coefficient is above the slack
+  pub follows : (values : List (Option Bool)) (list : List Forced) (f : Forced) (form : Form) (e : Entry) → AreValues values list → get_or values f.variable None ≡ None
+      → Names negation stored over f.reason form → Contains form.terms e → f.variable ≡ e.variable → f.negated ≡ e.negated → f.slack < e.coefficient
+      → total (opened (literals list)) form.terms ≤ form.degree + f.slack → Follows negation stored over list f
+  follows values list f form e are unset named inside variable negated above low =
+      let some = total-has (only f.variable f.negated) form.terms e inside (rw (variable, negated) (only-self e.variable e.negated)) in
+      record {
+        may = record {
+          absent = are f.variable f.negated ∙ ap (λ o. true_by o f.negated) unset;
+          not_falsified = are f.variable (not f.negated) ∙ ap (λ o. true_by o (not f.negated)) unset;
+          form = form;
+          among = named;
+          stands = omega (arith, some, above);
+          forced = omega (arith, some, above, low);
+        };
+        slack = low;
+      }
+
+  still_broken : (list : List Forced) (f : Forced) (o : Option Reason) → MatchOption o (Unit {0}) (λ r. IsBroken negation stored over list r)
+      → MatchOption o (Unit {0}) (λ r. IsBroken negation stored over (list ++ (f ∷ [])) r)
+  still_broken list f None h = tt
+  still_broken list f (Some r) (form, named, low) = (form, named, omega (arith, low, lower-push list f form.terms))
+
+  -- a literal that follows was made true, or nothing changed
+  pub forced : (given : List Forced) (old new : Propagation) (f : Forced) → Forces old f new
+      → (get_or old.values.items f.variable None ≡ None → Follows negation stored over old.forced.items f) → IsSound negation stored over given old → IsSound negation stored over given new
+  forced given old new f (inl same) follow sound = rw same sound
+  forced given old new f (inr (unset, inside, values, list, conflict)) follow sound = record {
+    derived = subst (Derived negation stored over given) (sym list) (Then old.forced.items f sound.derived (follow unset));
+    values = rw (values, list) (values-push old.values.items old.forced.items f unset inside sound.values);
+    conflict = rw (conflict, list) (still_broken old.forced.items f old.conflict sound.conflict);
+  }
+
+  -- one call, and then one with its result
+  pub keeps_then : {E : Type 0} (r : Result Unit E) (a b c : Propagation) → Keeps negation stored over a b → OnOk r (Keeps negation stored over b c) → OnOk r (Keeps negation stored over a c)
+  keeps_then (Ok u) a b c h k = λ given sound. k given (h given sound)
+  keeps_then (Err e) a b c h k = tt
+
+-- a literal that was made true opens nothing
+pub forced-lower : (old new : Propagation) (f : Forced) (ts : List Entry) → Forces old f new → total (opened (literals new.forced.items)) ts ≤ total (opened (literals old.forced.items)) ts
+forced-lower old new f ts (inl same) = rw same (omega arith)
+forced-lower old new f ts (inr (unset, inside, values, list, conflict)) = rw list (lower-push old.forced.items f ts)
+
+-- one more value that is not there
+pub push-none : (values : List (Option Bool)) → ((v : ℕ) → get_or values v None ≡ None) → (v : ℕ) → get_or (values ++ (None ∷ [])) v None ≡ None
+push-none [] none zero = refl
+push-none [] none (suc v) = refl
+push-none (x ∷ xs) none zero = none zero
+push-none (x ∷ xs) none (suc v) = push-none xs (λ w. none (suc w)) v
+
+pub sound-start : (negation : Option Form) (stored : List Stored) (over : Over) (p : Propagation) → ((v : ℕ) → get_or p.values.items v None ≡ None) → p.forced.items ≡ [] → p.conflict ≡ None
+    → IsSound negation stored over [] p
+sound-start negation stored over p values list conflict = record {
+  derived = rw list Begin;
+  values = λ v n. rw (list, values v) refl;
+  conflict = rw conflict tt;
+}

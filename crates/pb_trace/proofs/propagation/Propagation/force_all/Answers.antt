@@ -1,0 +1,22 @@
+use Rattle.std.proofs.Common.{◌≡◌, refl, sym, ap, arith, get_or, length, subst}
+use Rattle.std.specs.Prelude.{Contains}
+use Rattle.std.proofs.lemmas.List.Elements.{Contains-get_or}
+use Rattle.pb_normal.proofs.lemmas.terms.Merging.{no_entry}
+use Rattle.pb_trace.proofs.Deriving.{follows, forced, forced-lower}
+use Rattle.pb_trace.proofs.propagation.Propagation.force_all.Goals.{then-slack-entry+in_ok-force, else-slack-entry}
+use Rattle.pb_trace.proofs.propagation.Propagation.force_all.Goals as goal
+
+pub loop-entry-preserved : goal.loop-entry-preserved
+loop-entry-preserved c negation stored over given named low sound =
+    let before = c.loop-entry.invariant negation stored over given named low sound in
+    let entry = get_or c.entries-entry-items.result.now c.loop-entry.entry-index no_entry in
+    let inside : Contains c.args.form.now.terms entry = subst (λ ts. Contains ts entry) c.entries-entry-items.ensures.entries (Contains-get_or c.entries-entry-items.result.now c.loop-entry.entry-index no_entry (omega arith)) in
+    elim c.if-slack-entry.branch [
+      | then-slack-entry+in_ok-force w ↦
+          rw w.self-is (
+            forced negation stored over given c.loop-entry.self _ _ w.in_ok-force.ensures
+            (λ unset. follows negation stored over c.loop-entry.self.values.items c.loop-entry.self.forced.items _ c.args.form.now entry before.0.values unset named inside refl refl w.if-slack-entry.true before.1)
+            before.0,
+            omega (arith, before.1, forced-lower c.loop-entry.self _ _ c.args.form.now.terms w.in_ok-force.ensures))
+      | else-slack-entry w ↦ rw w.self-is before
+    ]

@@ -1,0 +1,7 @@
+use Rattle.std.proofs.Common.{◌≡◌, ◌+◌, drop}
+use Rattle.pb_normal.specs.meaning.Form.{total}
+use Rattle.pb_trace.specs.Derived.{free_by}
+use Rattle.pb_trace.proofs.propagation.Propagation.open_sum.Given as goal
+
+abbrev pub invariant-loop-entry : goal.invariant-loop-entry
+invariant-loop-entry l = l.sum + total (free_by l.self.values.items) (drop l.entry-index l.entry-items) ≡ total (free_by l.self.values.items) l.entry-items
