@@ -5,7 +5,7 @@ use Rattle.std.proofs.lemmas.List.{map-append, get_or-set_same, get_or-set_other
 use Rattle.std.proofs.lemmas.Bool.{cases_Bool, cases_eq}
 use Rattle.pb_normal.specs.declared.entry.Entry.{Entry}
 use Rattle.pb_normal.specs.declared.numbered.NumberedLiteral.{NumberedLiteral}
-use Rattle.pb_normal.specs.meaning.Form.{Form, counted, total}
+use Rattle.pb_normal.specs.meaning.Form.{Form, IsRising, counted, total}
 use Rattle.pb_normal.specs.meaning.Rules.{on, only}
 use Rattle.pb_propagate.specs.meaning.Propagation.{MayPropagate, opened}
 use Rattle.pb_propagate.proofs.lemmas.engine.Choices.{only-true, only-self, total-has, total-within}
@@ -39,15 +39,61 @@ or_left false b h = absurd cc
 part-push : (list : List Forced) (f : Forced) → IsPart (literals list) (literals (list ++ (f ∷ [])))
 part-push list f v n h = on-push list f v n ∙ or_left (on (literals list) v n) (only f.variable f.negated v n) h
 
-lower-push : (list : List Forced) (f : Forced) (ts : List Entry) → total (opened (literals (list ++ (f ∷ [])))) ts ≤ total (opened (literals list)) ts
-lower-push list f ts =
-    total-within (opened (literals (list ++ (f ∷ [])))) (opened (literals list)) (opened-part (literals list) (literals (list ++ (f ∷ []))) (part-push list f)) ts
-
 total-same : (p q : ℕ → Bool → Bool) → ((v : ℕ) (n : Bool) → p v n ≡ q v n) → (ts : List Entry) → total p ts ≡ total q ts
 total-same p q e [] = refl
 total-same p q e (t ∷ ts) =
     let one : counted p t ≡ counted q t = ap (λ b. cond b t.coefficient 0) (e t.variable t.negated) in
     omega (arith, total-same p q e ts, one)
+
+total-alike : (p q : ℕ → Bool → Bool) (ts : List Entry) → ((t : Entry) → Contains ts t → p t.variable t.negated ≡ q t.variable t.negated) → total p ts ≡ total q ts
+total-alike p q [] e = refl
+total-alike p q (t ∷ ts) e =
+    let one : counted p t ≡ counted q t = ap (λ b. cond b t.coefficient 0) (e t (zero, omega arith, refl)) in
+    omega (arith, total-alike p q ts (λ u there. e u (suc there.0, omega (arith, there.1), there.2)), one)
+
+rising-from : (m : ℕ) (ts : List Entry) (e : Entry) → IsRising m ts → Contains ts e → m ≤ e.variable
+rising-from m [] e r (k, inside, is) = absurd (omega (arith, inside))
+rising-from m (x ∷ xs) e r (zero, inside, is) = let here : x.variable ≡ e.variable = ap (λ (y : Entry). y.variable) is in omega (arith, here, r.0)
+rising-from m (x ∷ xs) e r (suc k, inside, is) = let rest = rising-from (x.variable + 1) xs e r.2 (k, omega (arith, inside), is) in omega (arith, rest, r.0)
+
+-- two terms on one variable are one
+rising-one : (m : ℕ) (ts : List Entry) (t e : Entry) → IsRising m ts → Contains ts t → Contains ts e → t.variable ≡ e.variable → t.negated ≡ e.negated
+rising-one m [] t e r (k, inside, is) there same = absurd (omega (arith, inside))
+rising-one m (x ∷ xs) t e r (zero, inside, is) (zero, inside', is') same = ap (λ (y : Entry). y.negated) (sym is ∙ is')
+rising-one m (x ∷ xs) t e r (zero, inside, is) (suc j, inside', is') same =
+    let later = rising-from (x.variable + 1) xs e r.2 (j, omega (arith, inside'), is') in
+    let here : x.variable ≡ t.variable = ap (λ (y : Entry). y.variable) is in
+    absurd (omega (arith, later, here, same))
+rising-one m (x ∷ xs) t e r (suc k, inside, is) (zero, inside', is') same =
+    let later = rising-from (x.variable + 1) xs t r.2 (k, omega (arith, inside), is) in
+    let here : x.variable ≡ e.variable = ap (λ (y : Entry). y.variable) is' in
+    absurd (omega (arith, later, here, same))
+rising-one m (x ∷ xs) t e r (suc k, inside, is) (suc j, inside', is') same =
+    rising-one (x.variable + 1) xs t e r.2 (k, omega (arith, inside), is) (j, omega (arith, inside'), is') same
+
+lower-push : (list : List Forced) (f : Forced) (ts : List Entry) → total (opened (literals (list ++ (f ∷ [])))) ts ≤ total (opened (literals list)) ts
+lower-push list f ts =
+    total-within (opened (literals (list ++ (f ∷ [])))) (opened (literals list)) (opened-part (literals list) (literals (list ++ (f ∷ []))) (part-push list f)) ts
+
+-- a literal of a constraint falsifies none of it
+same-push : (list : List Forced) (f : Forced) (m : ℕ) (ts : List Entry) (e : Entry) → IsRising m ts → Contains ts e → f.variable ≡ e.variable → f.negated ≡ e.negated
+    → total (opened (literals (list ++ (f ∷ [])))) ts ≡ total (opened (literals list)) ts
+same-push list f m ts e rising inside variable negated = total-alike (opened (literals (list ++ (f ∷ [])))) (opened (literals list)) ts (λ t there. ap not (on-push list f t.variable (not t.negated) ∙ other t there))
+  where
+    flipped : (a b : Bool) → not a ≡ b → a ≡ b → ⊥
+    flipped true b h k = absurd (let e = h ∙ sym k in cc)
+    flipped false b h k = absurd (let e = h ∙ sym k in cc)
+
+    apart : (t : Entry) → Contains ts t → only f.variable f.negated t.variable (not t.negated) ≡ false
+    apart t there = elim (cases_Bool (only f.variable f.negated t.variable (not t.negated))) [
+      | inl same ↦
+          let both = only-true f.variable f.negated t.variable (not t.negated) same in
+          absurd (flipped t.negated f.negated both.1 (rising-one m ts t e rising there inside (both.0 ∙ variable) ∙ sym negated))
+      | inr none ↦ none
+    ]
+
+    other : (t : Entry) → Contains ts t → (on (literals list) t.variable (not t.negated) || only f.variable f.negated t.variable (not t.negated)) ≡ on (literals list) t.variable (not t.negated)
+    other t there = rw (apart t there) (or_false (on (literals list) t.variable (not t.negated)))
 
 -- what is open by the values is open by the list
 pub free-total : (values : List (Option Bool)) (list : List Forced) → AreValues values list → (ts : List Entry) → total (free_by values) ts ≡ total (opened (literals list)) ts
@@ -88,7 +134,7 @@ module _ (negation : Option Form) (stored : List Stored) (over : Over) where
   -- the literal of a term whose coefficient is above the slack
   pub follows : (values : List (Option Bool)) (list : List Forced) (f : Forced) (form : Form) (e : Entry) → AreValues values list → get_or values f.variable None ≡ None
       → Names negation stored over f.reason form → Contains form.terms e → f.variable ≡ e.variable → f.negated ≡ e.negated → f.slack < e.coefficient
-      → total (opened (literals list)) form.terms ≤ form.degree + f.slack → Follows negation stored over list f
+      → total (opened (literals list)) form.terms ≡ form.degree + f.slack → Follows negation stored over list f
   follows values list f form e are unset named inside variable negated above low =
       let some = total-has (only f.variable f.negated) form.terms e inside (rw (variable, negated) (only-self e.variable e.negated)) in
       record {
@@ -123,10 +169,11 @@ module _ (negation : Option Form) (stored : List Stored) (over : Over) where
   keeps_then (Ok u) a b c h k = λ given sound. k given (h given sound)
   keeps_then (Err e) a b c h k = tt
 
--- a literal that was made true opens nothing
-pub forced-lower : (old new : Propagation) (f : Forced) (ts : List Entry) → Forces old f new → total (opened (literals new.forced.items)) ts ≤ total (opened (literals old.forced.items)) ts
-forced-lower old new f ts (inl same) = rw same (omega arith)
-forced-lower old new f ts (inr (unset, inside, values, list, conflict)) = rw list (lower-push old.forced.items f ts)
+-- a literal of a constraint that was made true falsifies none of it
+pub forced-same : (old new : Propagation) (f : Forced) (m : ℕ) (ts : List Entry) (e : Entry) → IsRising m ts → Contains ts e → f.variable ≡ e.variable → f.negated ≡ e.negated → Forces old f new
+    → total (opened (literals new.forced.items)) ts ≡ total (opened (literals old.forced.items)) ts
+forced-same old new f m ts e rising inside variable negated (inl same) = rw same refl
+forced-same old new f m ts e rising inside variable negated (inr (unset, within, values, list, conflict)) = rw list (same-push old.forced.items f m ts e rising inside variable negated)
 
 -- one more value that is not there
 pub push-none : (values : List (Option Bool)) → ((v : ℕ) → get_or values v None ≡ None) → (v : ℕ) → get_or (values ++ (None ∷ [])) v None ≡ None

@@ -52,11 +52,11 @@ module _ (negation : Option Form) (stored : List Stored) (over : Over) where
   Names Negation f = negation ≡ Some f
   Names (Id id) f = (s : Stored) × (slice_get stored (id - 1) ≡ Some s) × (s.form ≡ f) × Takes over id s
 
-  -- A literal became true after those of the list: the constraint that its reason names may propagate it, and has at most
-  -- that slack there.
+  -- A literal became true after those of the list: the constraint that its reason names may propagate it, and has that slack
+  -- there.
   pub record Follows (list : List Forced) (f : Forced) : Type 0 where
     pub may : MayPropagate (Names f.reason) (literals list) (literal_of f)
-    pub slack : total (opened (literals list)) may.form.terms ≤ may.form.degree + f.slack
+    pub slack : total (opened (literals list)) may.form.terms ≡ may.form.degree + f.slack
 
   -- each literal after the given ones follows from those before it
   pub data Derived (given : List Forced) : List Forced → Type 0 where

@@ -348,7 +348,7 @@ impl Propagation {
     /// Makes the literals true whose coefficients exceed the slack of their constraint.
     fn force_all(&mut self, form: &Normal, reason: Reason, slack: u128) -> Result<(), AllocError>
         ensures { OnOk result ((negation : Option Form) → (stored : List Stored) → (over : Over) → Names negation stored over reason form.now
-            → total (free_by self.old.values.items) form.now.terms ≤ form.now.degree + slack → Keeps negation stored over self.old self.new) }
+            → total (free_by self.old.values.items) form.now.terms ≡ form.now.degree + slack → Keeps negation stored over self.old self.new) }
     {
         for entry in form.entries() {
             if slack < entry.coefficient {

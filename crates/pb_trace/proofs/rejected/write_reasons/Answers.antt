@@ -2,14 +2,14 @@ use Rattle.std.proofs.Common.{Ok}
 use Rattle.pb_trace.proofs.ReasonLines.{no_reason, reasons_broke, reasons_then}
 use Rattle.pb_trace.proofs.rejected.write_reasons.Goals as goal
 
-pub loop-line-init : goal.loop-line-init
-loop-line-init g c = no_reason _ _ _ g.S.Sink.contents g.S.Sink.faults _
+pub loop-end-init : goal.loop-end-init
+loop-end-init g c = no_reason _ _ _ g.S.Sink.contents g.S.Sink.faults _
 
 pub returns-in_err-write_reason : goal.returns-in_err-write_reason
 returns-in_err-write_reason g c =
-    reasons_then _ _ _ g.S.Sink.contents g.S.Sink.faults _ _ _ _ c.loop-line.invariant
+    reasons_then _ _ _ g.S.Sink.contents g.S.Sink.faults _ _ _ _ c.loop-end.invariant
     (reasons_broke _ _ _ g.S.Sink.contents g.S.Sink.faults _ _ _ _ c.from_residual.ensures.0 c.in_err-write_reason.ensures)
 
-pub loop-line-preserved : goal.loop-line-preserved
-loop-line-preserved g c =
-    reasons_then _ _ _ g.S.Sink.contents g.S.Sink.faults _ _ c.write_reason.new.out (Ok tt) c.loop-line.invariant c.in_ok-write_reason.ensures
+pub loop-end-preserved : goal.loop-end-preserved
+loop-end-preserved g c =
+    reasons_then _ _ _ g.S.Sink.contents g.S.Sink.faults _ _ c.write_reason.new.out (Ok tt) c.loop-end.invariant c.in_ok-write_reason.ensures

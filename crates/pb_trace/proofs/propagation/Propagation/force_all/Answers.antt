@@ -1,8 +1,8 @@
-use Rattle.std.proofs.Common.{◌≡◌, refl, sym, ap, arith, get_or, length, subst}
+use Rattle.std.proofs.Common.{◌≡◌, ◌∙◌, refl, sym, ap, arith, get_or, length, subst}
 use Rattle.std.specs.Prelude.{Contains}
 use Rattle.std.proofs.lemmas.List.Elements.{Contains-get_or}
 use Rattle.pb_normal.proofs.lemmas.terms.Merging.{no_entry}
-use Rattle.pb_trace.proofs.Deriving.{follows, forced, forced-lower}
+use Rattle.pb_trace.proofs.Deriving.{follows, forced, forced-same}
 use Rattle.pb_trace.proofs.propagation.Propagation.force_all.Goals.{then-slack-entry+in_ok-force, else-slack-entry}
 use Rattle.pb_trace.proofs.propagation.Propagation.force_all.Goals as goal
 
@@ -17,6 +17,6 @@ loop-entry-preserved c negation stored over given named low sound =
             forced negation stored over given c.loop-entry.self _ _ w.in_ok-force.ensures
             (λ unset. follows negation stored over c.loop-entry.self.values.items c.loop-entry.self.forced.items _ c.args.form.now entry before.0.values unset named inside refl refl w.if-slack-entry.true before.1)
             before.0,
-            omega (arith, before.1, forced-lower c.loop-entry.self _ _ c.args.form.now.terms w.in_ok-force.ensures))
+            forced-same c.loop-entry.self _ _ 0 c.args.form.now.terms entry c.entries-entry-items.ensures.normal.ordered inside refl refl w.in_ok-force.ensures ∙ before.1)
       | else-slack-entry w ↦ rw w.self-is before
     ]
