@@ -173,21 +173,22 @@ fn is_lacking(
 /// coefficient of an open literal.
 fn near_of(propagation: &Propagation, form: &Normal, id: u64) -> Option<Near> {
     let degree = form.degree().unsigned_abs();
-    if propagation.true_sum(form) >= degree {
-        return None;
-    }
-    let mut open = 0usize;
-    let mut least = u128::MAX;
+    let (mut sum, mut open_sum, mut open, mut least) = (0u128, 0u128, 0usize, u128::MAX);
     for entry in form.entries() {
-        if propagation.value(entry.variable).is_none() {
-            open = open.saturating_add(1);
-            least = least.min(entry.coefficient);
+        match propagation.value(entry.variable) {
+            Some(value) if value == entry.negated => {}
+            Some(_) => sum = sum.saturating_add(entry.coefficient),
+            None => {
+                open_sum = open_sum.saturating_add(entry.coefficient);
+                open = open.saturating_add(1);
+                least = least.min(entry.coefficient);
+            }
         }
     }
-    if open == 0 {
+    if open == 0 || sum >= degree {
         return None;
     }
-    let slack = propagation.open_sum(form).saturating_sub(degree);
+    let slack = sum.saturating_add(open_sum).saturating_sub(degree);
     let distance = slack.checked_div(least).unwrap_or(slack);
     Some(Near { distance, open, id })
 }

@@ -15,8 +15,9 @@ loop-entry-preserved c negation stored over given named low sound =
       | then-slack-entry+in_ok-force w ↦
           rw w.self-is (
             forced negation stored over given c.loop-entry.self _ _ w.in_ok-force.ensures
-            (λ unset. follows negation stored over c.loop-entry.self.values.items c.loop-entry.self.forced.items _ c.args.form.now entry before.0.values unset named inside refl refl w.if-slack-entry.true before.1)
-            before.0,
-            forced-same c.loop-entry.self _ _ 0 c.args.form.now.terms entry c.entries-entry-items.ensures.normal.ordered inside refl refl w.in_ok-force.ensures ∙ before.1)
+                (λ unset. follows negation stored over c.loop-entry.self.values.items c.loop-entry.self.forced.items _ c.args.form.now entry before.0.values unset named inside refl refl w.if-slack-entry.true before.1)
+                before.0,
+            forced-same c.loop-entry.self _ _ 0 c.args.form.now.terms entry c.entries-entry-items.ensures.normal.ordered inside refl refl w.in_ok-force.ensures ∙ before.1,
+          )
       | else-slack-entry w ↦ rw w.self-is before
     ]
