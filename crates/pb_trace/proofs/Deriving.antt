@@ -169,6 +169,16 @@ module _ (negation : Option Form) (stored : List Stored) (over : Over) where
   keeps_then (Ok u) a b c h k = λ given sound. k given (h given sound)
   keeps_then (Err e) a b c h k = tt
 
+  -- a call after a change of what is counted
+  pub keeps_alike : {E : Type 0} (r : Result Unit E) (a b c : Propagation) → b.values ≡ a.values → b.forced ≡ a.forced → b.conflict ≡ a.conflict → OnOk r (Keeps negation stored over b c)
+      → OnOk r (Keeps negation stored over a c)
+  keeps_alike (Ok u) a b c values list conflict h = λ given sound. h given record {
+    derived = rw list sound.derived;
+    values = rw (values, list) sound.values;
+    conflict = rw (conflict, list) sound.conflict;
+  }
+  keeps_alike (Err e) a b c values list conflict h = tt
+
 -- a literal of a constraint that was made true falsifies none of it
 pub forced-same : (old new : Propagation) (f : Forced) (m : ℕ) (ts : List Entry) (e : Entry) → IsRising m ts → Contains ts e → f.variable ≡ e.variable → f.negated ≡ e.negated → Forces old f new
     → total (opened (literals new.forced.items)) ts ≡ total (opened (literals old.forced.items)) ts

@@ -56,6 +56,9 @@ pub(crate) struct Uses {
     /// For each variable.
     first: Vec<FirstUses>,
     uses: Vec<Use>,
+    /// For the negation and then each stored constraint, its degree with its largest coefficient: only with a smaller
+    /// open sum it can force a literal.
+    bounds: Vec<u128>,
 }
 
 /// The indices of the first use of a variable, and of its negation.
@@ -65,10 +68,11 @@ struct FirstUses {
     negated: Option<usize>,
 }
 
-/// A constraint that contains a literal, and the index of the next one.
+/// A constraint that contains a literal, its coefficient there, and the index of the next one.
 #[derive(Clone, Copy)]
 struct Use {
     reason: Reason,
+    coefficient: u128,
     next: Option<usize>,
 }
 
@@ -79,6 +83,10 @@ pub(crate) struct Propagation {
     pub(crate) forced: Vec<Forced>,
     /// The constraint that is falsified.
     pub(crate) conflict: Option<Reason>,
+    /// How many of the literals were followed.
+    followed: usize,
+    /// The open sums of the negation and then of each stored constraint, after the literals that were followed.
+    open_sums: Vec<u128>,
     /// How many terms were visited.
     pub(crate) visits: u64,
 }
@@ -118,11 +126,22 @@ impl<'a> Base<'a> {
     /// What contains the literals of so many variables: the negation first, and then constraints by their ids.
     pub(crate) fn uses(self, alloc: Global, variables: usize) -> Result<Uses, AllocError> {
         let mut uses = Uses::new(alloc, variables)?;
+        uses.bounds = self.numbers(alloc, Measure::Bound)?;
         for index in (0..self.constraints.len()).rev() {
             self.note_uses(&mut uses, Reason::Id(index as u64 + 1))?;
         }
         self.note_uses(&mut uses, Reason::Negation)?;
         Ok(uses)
+    }
+
+    /// A number of the negation and then of each stored constraint, or 0 for one that does not propagate.
+    fn numbers(self, alloc: Global, of: Measure) -> Result<Vec<u128>, AllocError> {
+        let mut numbers = Vec::with_capacity(alloc, self.constraints.len())?;
+        numbers.push(of.number(self.named(Reason::Negation)))?;
+        for index in 0..self.constraints.len() {
+            numbers.push(of.number(self.named(Reason::Id(index as u64 + 1))))?;
+        }
+        Ok(numbers)
     }
 
     /// Notes which literals the constraint that a reason names contains.
@@ -133,6 +152,46 @@ impl<'a> Base<'a> {
             }
         }
         Ok(())
+    }
+}
+
+/// A number of a constraint.
+#[derive(Clone, Copy)]
+enum Measure {
+    /// The sum of its coefficients.
+    Size,
+    /// Its degree with its largest coefficient.
+    Bound,
+}
+
+impl Measure {
+    fn number(self, form: Option<&Normal>) -> u128 {
+        match (self, form) {
+            (_, None) => 0,
+            (Measure::Size, Some(form)) => form.size(),
+            (Measure::Bound, Some(form)) => largest_in(form).saturating_add(
+                form.degree().unsigned_abs(),
+            ),
+        }
+    }
+}
+
+/// The largest coefficient of a constraint, or 0.
+fn largest_in(form: &Normal) -> u128 {
+    let mut largest = 0u128;
+    for entry in form.entries() {
+        largest = largest.max(entry.coefficient);
+    }
+    largest
+}
+
+impl Reason {
+    /// The position of the constraint that it names among the negation and then the stored constraints.
+    fn position(self) -> usize {
+        match self {
+            Reason::Given | Reason::Negation => 0,
+            Reason::Id(id) => id as usize,
+        }
     }
 }
 
@@ -149,6 +208,7 @@ impl Uses {
         Ok(Uses {
             first,
             uses: Vec::new(alloc),
+            bounds: Vec::new(alloc),
         })
     }
 
@@ -163,7 +223,11 @@ impl Uses {
         } else {
             std::mem::replace(&mut first.plain, at)
         };
-        self.uses.push(Use { reason, next })?;
+        self.uses.push(Use {
+            reason,
+            coefficient: entry.coefficient,
+            next,
+        })?;
         Ok(())
     }
 
@@ -195,6 +259,8 @@ impl Propagation {
             values,
             forced: Vec::new(alloc),
             conflict: None,
+            followed: 0,
+            open_sums: Vec::new(alloc),
             visits: 0,
         })
     }
@@ -250,6 +316,7 @@ impl Propagation {
     pub(crate) fn propagate(&mut self, base: Base<'_>, uses: &Uses) -> Result<(), AllocError>
         ensures { OnOk result (Keeps (option_copied base.entry.negation) base.entry.constraints.now base.entry.over self.old self.new) }
     {
+        self.open_sums = base.numbers(*self.values.allocator(), Measure::Size)?;
         self.visit_named(base, Reason::Negation)?;
         for index in 0..base.constraints.len() {
             self.visit_named(base, Reason::Id(index as u64 + 1))?;
@@ -268,7 +335,21 @@ impl Propagation {
         self.force(forced)?;
         self.follow(count, base, uses)?;
         let conflicts = self.conflict.is_some();
-        self.conflict = None;
+        self.undo(count, uses);
+        Ok(conflicts)
+    }
+
+    /// Takes back all literals but so many, which were followed, and a conflict.
+    fn undo(&mut self, count: usize, uses: &Uses) {
+        for next in count..self.followed {
+            if let Some(forced) = self.forced.get(next) {
+                raise(
+                    &mut self.open_sums,
+                    uses.first(forced.variable, !forced.negated),
+                    uses,
+                );
+            }
+        }
         for _ in count..self.forced.len() {
             if let Some(forced) = self.forced.pop()
                 && let Some(value) = self.values.get_mut(forced.variable)
@@ -276,7 +357,8 @@ impl Propagation {
                 *value = None;
             }
         }
-        Ok(conflicts)
+        self.followed = count;
+        self.conflict = None;
     }
 
     /// Visits what the literals falsify in part that became true, in their order from one on, until nothing more follows.
@@ -291,8 +373,8 @@ impl Propagation {
             if self.conflict.is_some() {
                 break;
             }
-            self.visits = self.visits.saturating_add(1);
             self.visit_from(falsified, base, uses)?;
+            self.followed = next + 1;
         }
         Ok(())
     }
@@ -311,10 +393,21 @@ impl Propagation {
             let Some(found) = uses.at(at) else {
                 break;
             };
-            self.visit_named(base, found.reason)?;
+            self.visit_use(found, base, uses)?;
             at = found.next;
         }
         Ok(())
+    }
+
+    /// Visits a constraint after a literal of it was falsified, if it can force a literal.
+    fn visit_use(&mut self, found: Use, base: Base<'_>, uses: &Uses) -> Result<(), AllocError>
+        ensures { OnOk result (Keeps (option_copied base.entry.negation) base.entry.constraints.now base.entry.over self.old self.new) }
+    {
+        self.visits = self.visits.saturating_add(1);
+        if !lower(&mut self.open_sums, found, uses) {
+            return Ok(());
+        }
+        self.visit_named(base, found.reason)
     }
 
     /// Visits the constraint that a reason names, if it propagates.
@@ -395,5 +488,31 @@ impl Propagation {
             Some(value) => value == entry.negated,
             None => false,
         }
+    }
+}
+
+/// Lowers the open sum of a constraint of which a literal was falsified, and returns whether it can force a literal then.
+fn lower(open_sums: &mut [u128], found: Use, uses: &Uses) -> bool {
+    let position = found.reason.position();
+    match (open_sums.get_mut(position), uses.bounds.get(position)) {
+        (Some(sum), Some(bound)) => {
+            *sum = sum.saturating_sub(found.coefficient);
+            *sum < *bound
+        }
+        _ => true,
+    }
+}
+
+/// Raises the open sums of the constraints of a list of uses again.
+fn raise(open_sums: &mut [u128], first: Option<usize>, uses: &Uses) {
+    let mut at = first;
+    for _ in 0..uses.uses.len() {
+        let Some(found) = uses.at(at) else {
+            break;
+        };
+        if let Some(sum) = open_sums.get_mut(found.reason.position()) {
+            *sum = sum.saturating_add(found.coefficient);
+        }
+        at = found.next;
     }
 }

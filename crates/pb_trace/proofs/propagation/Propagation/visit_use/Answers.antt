@@ -1,0 +1,8 @@
+use Rattle.std.proofs.Common.{refl}
+use Rattle.std.specs.Option.{option_copied}
+use Rattle.pb_trace.proofs.Deriving.{keeps_alike}
+use Rattle.pb_trace.proofs.propagation.Propagation.visit_use.Goals as goal
+
+pub returns : goal.returns
+returns c =
+    keeps_alike (option_copied c.args.base.negation) c.args.base.constraints.now c.args.base.over c.visit_named.result c.args.self.now _ c.visit_named.new.self refl refl refl c.visit_named.ensures
