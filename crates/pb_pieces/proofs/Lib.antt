@@ -1,6 +1,10 @@
 mod Ended
 mod Faults
 mod Fed
+mod FedTokens
+mod Giving
+mod Numbered
 mod Numbers
 mod Pulled
+mod Readers
 mod Statements

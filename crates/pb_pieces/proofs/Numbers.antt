@@ -5,11 +5,9 @@ use Rattle.std.proofs.lemmas.List.{map-append}
 use Rattle.pb_sums.specs.declared.Term.{Term}
 use Rattle.pb_normal.specs.meaning.Names.{HasNames, has_name, number_in, with_name, with_names}
 use Rattle.pb_normal.proofs.lemmas.names.Numbering.{HasNames-push, number_in-append, with_names-push}
-use Rattle.pb_normal.specs.declared.Names.{Names}
 use Rattle.pb_pieces.specs.Flat.{HoldNamed, names_of}
 use Rattle.pb_pieces.specs.Terms.{HoldTerms}
 use Rattle.pb_pieces.specs.declared.flat.Named.{Named}
-use Rattle.pb_pieces.specs.declared.terms.Terms.{Terms}
 
 keeps : (q k : List ℕ) (ks : List (List ℕ)) → has_name ks q ≡ true → number_in (with_name ks k) q ≡ number_in ks q
 keeps q k ks e = elim (has_name ks k) as (λ b. number_in (cond b ks (ks ++ k ∷ [])) q ≡ number_in ks q) [

@@ -1,11 +1,11 @@
 -- An instance that is pulled from a source, into flat arrays.
-use Rattle.std.proofs.Common.{◌≡◌, ◌∙◌, ℕ, ◌+◌, ◌-◌, ◌^◌, ◌<◌, ◌≤◌, List, [], ◌++◌, length, Bool, true, false, Option, Some, None, Result, Ok, Err, refl, ap, subst, arith, length-append}
+use Rattle.std.proofs.Common.{◌≡◌, ◌∙◌, ℕ, ◌+◌, ◌-◌, ◌^◌, ◌<◌, ◌≤◌, List, [], ◌++◌, length, Bool, true, false, Option, Some, None, Result, Ok, Err, refl, ap, arith, length-append}
 use Rattle.std.specs.Prelude.{IfErr, IfOk}
 use Rattle.pb_text.specs.contract.Feeding.{StandsAt, place_of, halt_of}
 use Rattle.pb_text.specs.meaning.Blank.{ReadsBlank}
 use Rattle.pb_text.specs.meaning.Pulling.{Took}
 use Rattle.pb_text.specs.meaning.PullsInARow.{HasPulled, TookAll}
-use Rattle.pb_text.specs.meaning.Reading.{IsSpelled, Reads, byte_limit}
+use Rattle.pb_text.specs.meaning.Reading.{Reads, byte_limit}
 use Rattle.pb_text.specs.meaning.Spelling.{Item, place_after}
 use Rattle.pb_text.specs.declared.Place.{Place}
 use Rattle.pb_text.specs.declared.Spanned.{Spanned}

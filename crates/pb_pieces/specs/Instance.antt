@@ -1,5 +1,5 @@
 -- An instance in flat arrays.
-use Rattle.std.specs.Prelude.{◌≡◌, ℕ, ◌+◌, ℤ, pos, List, [], ◌∷◌, ◌++◌, length}
+use Rattle.std.specs.Prelude.{ℕ, ◌+◌, pos, List, [], ◌∷◌, ◌++◌, length}
 use Rattle.std.specs.List.{flat_map}
 use Rattle.pb_text.specs.declared.Spanned.{Spanned}
 use Rattle.pb_sums.specs.declared.Term.{Term}

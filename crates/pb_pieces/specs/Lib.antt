@@ -6,3 +6,10 @@ pub mod Places
 pub mod Flat
 pub mod Instance
 pub mod Reading
+pub mod Tokens
+pub mod NamedTokens
+pub mod OpbTokens
+pub mod ProofTokens
+pub mod TokenReader
+pub mod Given
+pub mod Reader

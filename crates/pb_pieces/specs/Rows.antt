@@ -1,5 +1,5 @@
 -- The objective and the constraints of an instance in arrays.
-use Rattle.std.specs.Prelude.{◌≡◌, ℕ, List, map}
+use Rattle.std.specs.Prelude.{◌≡◌, List, map}
 use Rattle.pb_pieces.specs.Words.{high_word, low_word}
 use Rattle.pb_pieces.specs.declared.rows.Rows.{Rows}
 use Rattle.pb_pieces.specs.declared.rows.Row.{Row}

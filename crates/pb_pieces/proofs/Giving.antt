@@ -1,0 +1,96 @@
+-- From what a reader of tokens stands at to what a reader gives.
+use Rattle.std.proofs.Common.{◌≡◌, ◌∙◌, ◌⊎◌, ℕ, List, [], ◌∷◌, ◌++◌, map, take, Option, Some, None, Result, Ok, Err, Bool, sym, ap, subst, inl, inr}
+use Rattle.std.proofs.lemmas.List.Folds.{flat_map-map}
+use Rattle.std.proofs.lemmas.List.{map_push}
+use Rattle.pb_text.specs.contract.Automaton.{AcceptsItems, Automaton}
+use Rattle.pb_text.specs.contract.Feeding.{StandsAt, halt_of, is_complete, place_of}
+use Rattle.pb_text.specs.meaning.Reading.{EndsAs, Reads}
+use Rattle.pb_text.specs.meaning.Spelling.{Item}
+use Rattle.pb_text.proofs.lemmas.text.Formats as formats
+use Rattle.std.specs.Prelude.{◌↔◌}
+use Rattle.pb_text.specs.declared.Feeder.{Feeder}
+use Rattle.pb_text.specs.declared.place.Place.{Place}
+use Rattle.pb_text.specs.declared.place.Spanned.{Spanned}
+use Rattle.pb_text.specs.declared.place.Stop.{Stop}
+use Rattle.pb_text.specs.declared.place.Why.TheVariants.{Memory}
+use Rattle.pb_normal.specs.meaning.Names.{with_names}
+use Rattle.pb_pieces.specs.Given.{Given, given}
+use Rattle.pb_pieces.specs.NamedTokens.{names_of}
+use Rattle.pb_pieces.specs.Reader.{AreRead, HasEnded, HasRead, IsGiving, names_in as names_given}
+use Rattle.pb_pieces.specs.TokenReader.{GivesFor, HoldsTokens, IsReading, IsShown, Stops, names_in}
+use Rattle.pb_pieces.specs.declared.token_reader.Event.{Event}
+use Rattle.pb_pieces.specs.declared.token_reader.TokenReader.{TokenReader}
+use Rattle.pb_pieces.specs.declared.tokenized.Tokenized.{Ghosts as Statements}
+
+-- a feeder that stands at an input has read it
+abbrev pub Standing : {M E : Type 0} → Automaton M E → Type 0
+Standing {M} {E} m =
+    (longest : ℕ) (start : M) (input : List ℕ) (spans : List (Spanned E)) (f : Feeder M E (record { automaton = m })) → StandsAt longest start input spans f →
+    (used : List ℕ) × Reads (AcceptsItems m start) longest input used spans (place_of f) (is_complete f) (halt_of f)
+
+pub are_read : {M E : Type 0} (m : Automaton M E) (start : M) (format : List (Item E) → Type 0) → ((items : List (Item E)) → AcceptsItems m start items ↔ format items) → Standing m → AreRead m start format
+are_read {M} {E} m start format exact standing = record {
+  same = same;
+  standing = λ longest input spans f stands. let (used, read) = standing longest start input spans f stands in (used, same longest input used spans (place_of f) (is_complete f) (halt_of f) read);
+}
+  where
+    same : (longest : ℕ) (input used : List ℕ) (spans : List (Spanned E)) (place : Place) (done : Bool) (stop : Option Stop) →
+        Reads (AcceptsItems m start) longest input used spans place done stop → Reads format longest input used spans place done stop
+    same = formats.reads (AcceptsItems m start) format (λ items h. (exact items).0 h) (λ items h. (exact items).1 h)
+
+module _ {M E : Type 0} (m : Automaton M E) (t : Statements E) (format : List (Item E) → Type 0) (start : M) (are : AreRead m start format) (longest : ℕ) where
+  abbrev AReader : Type 0
+  AReader = TokenReader M E (record { automaton = m })
+
+  -- the names of statements, and of what is given for them
+  names_given_are : (spans : List (Spanned E)) → names_in t spans ≡ names_given (map (given t) spans)
+  names_given_are spans = sym (flat_map-map (λ (e : Given). names_of e.tokens) (given t) spans)
+
+  has_read : (fed : List ℕ) (events : List Given) (spans : List (Spanned E)) (f : Feeder M E (record { automaton = m })) (stop : Option Stop) → events ≡ map (given t) spans
+      → StandsAt longest start fed spans f → halt_of f ≡ stop → HasRead longest t format fed events stop
+  has_read fed events spans f stop is stands halt =
+      let (used, read) = are.standing longest fed spans f stands in
+      record {
+        spans = spans;
+        used = used;
+        place = place_of f;
+        done = is_complete f;
+        read = subst (λ (s : Option Stop). Reads format longest fed used spans (place_of f) (is_complete f) s) halt read;
+        events_are = is;
+      }
+
+  pub giving : (fed : List ℕ) (events : List Given) (spans : List (Spanned E)) (r : AReader) → events ≡ map (given t) spans → IsReading t longest start fed spans r
+      → IsGiving longest t format fed events start r
+  unfolding has_read
+  giving fed events spans r is h = record {
+    read = has_read fed events spans r.feeder None is h.stands h.running;
+    reading = h;
+    names_are = h.holds.names_are ∙ ap (λ (x : List (List ℕ)). with_names [] x) (h.names_are ∙ (names_given_are spans ∙ ap names_given (sym is)));
+  }
+
+  module _ (fed : List ℕ) (events : List Given) (piece : List ℕ) where
+    abbrev pub Next : Option Event → ℕ → AReader → Type 0
+    Next None used r = IsGiving longest t format (fed ++ piece) events start r
+    Next (Some event) used r = (e : Spanned E) × IsShown t e event r × HoldsTokens t e r × IsGiving longest t format (fed ++ take used piece) (events ++ given t e ∷ []) start r
+
+    events_more : (spans : List (Spanned E)) (e : Spanned E) → events ≡ map (given t) spans → events ++ given t e ∷ [] ≡ map (given t) (spans ++ e ∷ [])
+    events_more spans e is = ap (λ (x : List Given). x ++ given t e ∷ []) is ∙ sym (map_push (given t) spans e)
+
+    pub next : (spans : List (Spanned E)) (event : Option Event) (used : ℕ) (r : AReader) → events ≡ map (given t) spans → GivesFor t longest start fed spans piece event used r → Next event used r
+    next spans None used r is h = giving (fed ++ piece) events spans r is h
+    next spans (Some event) used r is (e, shown, tokens, h) = (e, shown, tokens, giving (fed ++ take used piece) (events ++ given t e ∷ []) (spans ++ e ∷ []) r (events_more spans e is) h)
+
+    pub stops : (spans : List (Spanned E)) (s : Stop) (r : AReader) → events ≡ map (given t) spans → Stops t longest start fed spans piece s r
+        → HasRead longest t format (fed ++ piece) events (Some s)
+        ⊎ ((s.why ≡ Memory) × (e : Given) × (used : ℕ) × (s.place ≡ e.first) × HasRead longest t format (fed ++ take used piece) (events ++ e ∷ []) None)
+    stops spans s r is (inl (stands, halt)) = inl (has_read (fed ++ piece) events spans r.feeder (Some s) is stands halt)
+    stops spans s r is (inr (memory, e, used, place, stands, halt)) =
+        inr (memory, given t e, used, place, has_read (fed ++ take used piece) (events ++ given t e ∷ []) (spans ++ e ∷ []) r.feeder None (events_more spans e is) stands halt)
+
+  ends_as : (fed used : List ℕ) (spans : List (Spanned E)) (place : Place) (result : Result Unit Stop) → EndsAs (AcceptsItems m start) longest fed used spans place result → EndsAs format longest fed used spans place result
+  ends_as fed used spans place (Ok u) h = are.same longest fed used spans place _ _ h
+  ends_as fed used spans place (Err s) (h, why) = (are.same longest fed used spans place _ _ h, why)
+
+  pub ended : (fed used : List ℕ) (events : List Given) (spans : List (Spanned E)) (place : Place) (result : Result Unit Stop) → events ≡ map (given t) spans
+      → EndsAs (AcceptsItems m start) longest fed used spans place result → HasEnded longest t format fed events result
+  ended fed used events spans place result is h = record { spans = spans; used = used; place = place; ends = ends_as fed used spans place result h; events_are = is }

@@ -1,0 +1,6 @@
+use Rattle.std.proofs.Common.{[], ◌++◌}
+use Rattle.pb_pieces.specs.NamedTokens.{names_of}
+use Rattle.pb_pieces.proofs.token_reader.TokenReader.store.Goals as goal
+
+pub returns-clause-stored : goal.returns-clause-stored
+returns-clause-stored g c seen current h = c.in_ok-put_tokens.ensures (seen ++ names_of current) [] (c.clear.ensures seen current h)

@@ -1,0 +1,18 @@
+-- A statement as it is given to programs in other languages.
+use Rattle.std.specs.Prelude.{ℕ, List}
+use Rattle.pb_text.specs.declared.place.Place.{Place}
+use Rattle.pb_text.specs.declared.place.Spanned.{Spanned}
+use Rattle.pb_pieces.specs.Tokens.{Token}
+use Rattle.pb_pieces.specs.declared.tokenized.EventKind.{EventKind}
+use Rattle.pb_pieces.specs.declared.tokenized.Tokenized.{Ghosts as Statements}
+
+-- what a statement is, its tokens and its free text, where it begins, and the position past it
+pub record Given : Type 0 where
+  pub kind : EventKind
+  pub tokens : List Token
+  pub text : List ℕ
+  pub first : Place
+  pub past : Place
+
+abbrev pub given : {E : Type 0} → Statements E → Spanned E → Given
+given t m = record { kind = t.sort m.event; tokens = t.tokens m.event; text = t.text m.event; first = m.first; past = m.past }
