@@ -3,6 +3,8 @@ mod Buffer
 mod CheckerSteps
 mod Claims
 mod Copied
+mod Fed
 mod InstanceSteps
 mod Joined
+mod ReaderSteps
 mod Unsat

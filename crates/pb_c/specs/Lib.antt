@@ -10,3 +10,5 @@ pub mod Buffer
 pub mod Report
 pub mod Step
 pub mod Unsat
+pub mod Event
+pub mod Reader

@@ -22,7 +22,7 @@ const OVERFLOW: u32 = 10;
 pub(crate) const INSTANCE: u32 = 1;
 
 /// The text of the proof.
-const PROOF: u32 = 2;
+pub(crate) const PROOF: u32 = 2;
 
 /// A position in a text.
 #[repr(C)]
@@ -74,6 +74,13 @@ impl Report {
         ensures { result ≡ report_of_place place }
     {
         Report::at(place, PROOF, 0, 0, 0)
+    }
+
+    /// A report of one of the texts that rejects nothing.
+    pub(crate) fn of_text(input: u32, place: Place) -> Report
+        ensures { result ≡ report_at place input 0 0 (pos 0) }
+    {
+        Report::at(place, input, 0, 0, 0)
     }
 
     /// A report of neither text, with a reason.

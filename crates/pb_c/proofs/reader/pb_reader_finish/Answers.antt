@@ -1,0 +1,23 @@
+use Rattle.std.proofs.Common.{rules, ◌≡◌, ◌^◌, Some, None, subst}
+use Rattle.std.specs.Prelude.{unwrap_or}
+use Rattle.pb_pieces.specs.Reader.{IsReader, fault_of}
+use Rattle.pb_pieces.specs.declared.reader.Reader.{Reader}
+use Rattle.pb_c.proofs.Claims.{same_value}
+use Rattle.pb_c.proofs.reader.pb_reader_finish.Goals as goal
+
+pub returns-clause-ends : goal.returns-clause-ends
+returns-clause-ends c f options fed events (r, is, running, (limits, longest, asked, reading)) =
+    let within = unwrap_or longest (2 ^ 40) in
+    let held : c.args.reader.now.value ≡ Some c.deref_mut.result.now = search rules in
+    let kept : c.of.result.value ≡ Some c.finish_reader-status.new.reader = search rules in
+    let same = same_value is held in
+    (
+      c.finish_reader-status.new.reader,
+      kept,
+      (
+        limits,
+        longest,
+        asked,
+        c.finish_reader-status.ensures.ends f limits within fed events (subst (λ (x : Reader). fault_of x ≡ None) same running) (subst (λ (x : Reader). IsReader within limits fed events f x) same reading),
+      ),
+    )
