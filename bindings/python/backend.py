@@ -1,6 +1,6 @@
 """Builds the Python package pb with no other package, as pip and build ask for it: pip install bindings/python.
 
-For use without an installation, `python3 bindings/python/backend.py` makes the shared library beside pb.py.
+For use without an installation, `python3 bindings/python/backend.py` makes the shared library in the folder of the module.
 
 A wheel has libpb.a as a shared library, linked by the C compiler that CC names, or cc. PB_LIB_DIR names the folder of libpb.a. The
 default is libpb.a in this folder, as an sdist has it, or else the one that the repository carries. The setting `platform` is the
@@ -25,7 +25,7 @@ import zipfile
 HERE = pathlib.Path(__file__).resolve().parent
 TOP = HERE / "../.."
 CARRIED = TOP / "dist/x86_64-linux-gnu"
-LIBRARY = "pb.libs/libpb.so"
+LIBRARY = "pb/libpb.so"
 LICENCES = ("LICENSE-APACHE", "LICENSE-MIT", "THIRD-PARTY.md")
 EXAMPLES = ("refutation.opb", "refutation.pbp", "optimum.opb", "optimum.pbp", "solution.opb", "solution.pbp")
 
@@ -43,6 +43,7 @@ Classifier: License :: OSI Approved :: MIT License
 Classifier: Operating System :: POSIX :: Linux
 Classifier: Programming Language :: Python :: 3
 Classifier: Topic :: Scientific/Engineering :: Mathematics
+Classifier: Typing :: Typed
 Requires-Python: >=3.8
 Description-Content-Type: text/markdown
 
@@ -76,8 +77,13 @@ def make_library(to):
 
 
 def version():
-    """The version that pb.py names."""
-    return re.search(r'^__version__ = "(.*)"$', (HERE / "pb.py").read_text(encoding="utf-8"), re.M)[1]
+    """The version that the module names."""
+    return re.search(r'^__version__ = "(.*)"$', (HERE / "pb/__init__.py").read_text(encoding="utf-8"), re.M)[1]
+
+
+def modules():
+    """The files of the module by their paths in an archive, with the mark that it has type hints."""
+    return {f"pb/{it.name}": it.read_bytes() for it in sorted(HERE.glob("pb/*")) if it.suffix == ".py" or it.name == "py.typed"}
 
 
 def metadata():
@@ -109,7 +115,7 @@ def build_wheel(folder, config_settings=None, metadata_directory=None):
     name, info = f"pb-{version()}-{tag}.whl", f"pb-{version()}.dist-info"
     with tempfile.TemporaryDirectory() as made:
         make_library(f"{made}/libpb.so")
-        files = {"pb.py": (HERE / "pb.py").read_bytes(), LIBRARY: pathlib.Path(made, "libpb.so").read_bytes()}
+        files = {**modules(), LIBRARY: pathlib.Path(made, "libpb.so").read_bytes()}
     files[f"{info}/METADATA"] = metadata()
     files[f"{info}/WHEEL"] = f"Wheel-Version: 1.0\nGenerator: pb\nRoot-Is-Purelib: false\nTag: {tag}\n".encode()
     files.update({f"{info}/licenses/{it}": text for it, text in licences().items()})
@@ -125,9 +131,9 @@ def build_wheel(folder, config_settings=None, metadata_directory=None):
 def build_sdist(folder, config_settings=None):
     """Writes the sdist into a folder, and returns its name. It has libpb.a, as that needs the prover to be built."""
     top = f"pb-{version()}"
-    names = ("README.md", "backend.py", "pb.py", "pyproject.toml", "test_pb.py")
+    names = ("README.md", "backend.py", "pyproject.toml", "test_pb.py")
     files = {it: (HERE / it).read_bytes() for it in names}
-    files.update({"PKG-INFO": metadata(), "libpb.a": archive().read_bytes(), **licences()})
+    files.update({**modules(), "PKG-INFO": metadata(), "libpb.a": archive().read_bytes(), **licences()})
     files.update({f"examples/{it}": found(f"examples/{it}").read_bytes() for it in EXAMPLES})
     written = io.BytesIO()
     with tarfile.open(fileobj=written, mode="w", format=tarfile.PAX_FORMAT) as tar:
@@ -141,6 +147,5 @@ def build_sdist(folder, config_settings=None):
 
 
 if __name__ == "__main__":
-    HERE.joinpath(LIBRARY).parent.mkdir(exist_ok=True)
     make_library(HERE / LIBRARY)
     print(HERE / LIBRARY)

@@ -3,8 +3,10 @@
 import os
 import threading
 import unittest
+from unittest import mock
 
 import pb
+from pb import _library
 
 HERE = os.path.dirname(os.path.abspath(__file__))
 # An sdist has the examples beside this file.
@@ -31,6 +33,25 @@ class Calls(unittest.TestCase):
         self.assertEqual(it.exception.status, pb.REFUSED)
         self.assertEqual(str(it.exception), "proof: line 1 column 1: input ended")
 
+    def test_a_refusal_has_its_parts(self):
+        with self.assertRaises(pb.Fault) as it:
+            pb.check(example("refutation.opb"), b"pseudo-Boolean proof version 2.0\nf 3\n")
+        fault = it.exception
+        self.assertEqual((fault.code, fault.input, fault.line, fault.column, fault.offset), (pb.REFUSED, "proof", 2, 1, 33))
+        self.assertEqual((fault.reason, fault.number), (pb.Reason.FORMULA_COUNT, 2))
+        self.assertEqual(fault.text, b"proof: line 2 column 1: formula has 2 constraints\n")
+        text = b"* #variable= 1 #constraint= 2\n+1 x1 >= 1 ;\n+1x1 >= 1 ;\n"
+        for call in (pb.tidy, pb.show):
+            with self.assertRaises(pb.Refusal) as it:
+                call(text)
+            found = it.exception
+            self.assertEqual((found.code, found.line, found.column, found.offset), (pb.REFUSED, 3, 3, text.index(b"x1 >= 1 ;\n", 40)))
+            self.assertEqual((found.reason, found.number), (pb.Reason.BYTE, ord("x")))
+        self.assertEqual(found.text, b"1:1 * #variable= 1 #constraint= 2\n2:1 +1 x1 >= 1 ;\nfile: line 3 column 3: byte 0x78\n")
+        with self.assertRaises(pb.Refusal) as it:
+            pb.tidy(b"* #variable= 1 #constraint= 1\n+1 x1 >= 1\n")
+        self.assertEqual((it.exception.reason, it.exception.line, it.exception.offset), (pb.Reason.ENDED, 3, 41))
+
     def test_misuse(self):
         for bits in (1, 30, 128, 2**32 - 1):
             with self.assertRaises(pb.Refusal) as it:
@@ -48,6 +69,27 @@ class Calls(unittest.TestCase):
         instance = b"* #variable= 1 #constraint= 1000\n" + b"+1 x1 >= 1 ;\n" * 1000
         self.assertEqual(pb.tidy(instance), instance)
         self.assertTrue(pb.show(instance).endswith(b"1001:1 +1 x1 >= 1 ;\n"))
+
+    def test_a_text_is_written_by_one_call(self):
+        texts = [b"* #variable= 1 #constraint= 9999\n" + b"1 x1 >=1;" * 9999]
+        texts += [b"* #variable= 1 #constraint= 9999\n" + b"=1;" * 9999, b""]
+        library = _library.loaded()
+        for name, call in (("pb_tidy", pb.tidy), ("pb_tidy", lambda text: pb.tidy(text, True)), ("pb_show", pb.show)):
+            for text in texts:
+                with mock.patch.object(library, name, side_effect=getattr(library, name)) as counted:
+                    try:
+                        call(text)
+                    except pb.Refusal:
+                        pass
+                self.assertEqual(counted.call_count, 1)
+
+    def test_a_text_longer_than_its_room(self):
+        text = b"* #variable= 1 #constraint= 9999\n" + b"1 x1 >=1;" * 9999
+        whole = pb.show(text)
+        from pb import _texts
+
+        with mock.patch.object(_texts, "_pages", side_effect=lambda size: _texts.mmap.mmap(-1, size if size == len(whole) else 1)):
+            self.assertEqual(pb.show(text), whole)
 
     def test_all_bytes_of_a_text_count(self):
         instance = b"* #variable= 1 #constraint= 1\n+1 x10 >= 1 ;\n"
@@ -140,6 +182,29 @@ class Pieces(unittest.TestCase):
         self.assertEqual(found, ["a checker belongs to the thread that made it"])
 
 
+    def test_other_threads_run_during_a_call(self):
+        """A call that takes long and a thread that counts: with the lock held it could not count."""
+        instance = b"* #variable= 1 #constraint= 1\n+1 x1 >= 1 ;\n"
+        proof = b"pseudo-Boolean proof version 2.0\nf 1\n" + b"rup +1 x1 >= 1 ;\n" * 50000
+        found, ended, begun = [], threading.Event(), threading.Event()
+
+        def count():
+            begun.set()
+            while not ended.is_set():
+                found.append(ended.wait(0.001))
+
+        thread = threading.Thread(target=count)
+        thread.start()
+        begun.wait()
+        with pb.Checker(instance) as checker:
+            before = len(found)
+            checker.feed(proof)
+            during = len(found) - before
+        ended.set()
+        thread.join()
+        self.assertGreater(during, 2)
+
+
 class Arrays(unittest.TestCase):
     def test_an_instance(self):
         text = b"* #variable= 2 #constraint= 2\nmin: -2 x1 ;\n* between\n+1 x1 -%d ~x2 >= -1 ;\n+3 x2 = 3 ;\n" % (2**100)
@@ -153,6 +218,17 @@ class Arrays(unittest.TestCase):
         self.assertEqual([*found.ends], [1, 3, 4])
         self.assertEqual(memoryview(found.kinds).tobytes(), bytes([pb.Instance.OBJECTIVE, pb.Instance.AT_LEAST, pb.Instance.EQUAL]))
         self.assertEqual(text[found.firsts[2] : found.pasts[2]], b"+3 x2 = 3 ;")
+
+    def test_the_arrays_are_shared(self):
+        found = pb.read_instance(b"* #variable= 2 #constraint= 1\n+1 x1 -2 ~x2 >= -1 ;\n")
+        codes = {"numbers": "Q", "negated": "B", "lows": "Q", "highs": "q", "kinds": "B", "ends": "Q", "degree_lows": "Q", "degree_highs": "q"}
+        codes.update({it: "Q" for it in ("lines", "columns", "firsts", "pasts")})
+        for name, code in codes.items():
+            view = memoryview(getattr(found, name))
+            self.assertEqual((view.format, view.contiguous, view.nbytes), (code, True, len(view) * view.itemsize))
+        view = memoryview(found.numbers)
+        view[0] = 7
+        self.assertEqual(found.numbers[0], 7)
 
     def test_no_rows(self):
         found = pb.read_instance(b"* #variable= 0 #constraint= 0\n")

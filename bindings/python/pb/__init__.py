@@ -1,0 +1,48 @@
+"""The verified checker pb, from Python: check(), tidy() and show() do for bytes what the commands of these names do for files.
+A Checker checks a proof in the pieces in which it is written. read_instance() has an instance as arrays.
+
+It needs the standard library and the shared library libpb.so. That is the file which the variable PB_LIBRARY names, or else libpb.so in
+the folder of this file, or else what the system finds under the name pb. `pip install` builds it, and for use in place
+`python3 bindings/python/backend.py` does.
+
+While a call of the library runs, the lock of the interpreter is released, so that other threads go on.
+
+    >>> import pb
+    >>> pb.check(open("p.opb", "rb").read(), open("p.pbp", "rb").read())
+    'verified UNSAT\\n'
+"""
+
+__version__ = "0.1.0"
+
+from ._checker import Checker, check
+from ._faults import FAILED, MISUSE, REFUSED, Fault, Place, Reason, Refusal, Verdict
+from ._instance import Constraint, Instance, Term, read_instance
+from ._library import Options, loaded, options
+from ._texts import show, tidy
+
+__all__ = [
+    "FAILED",
+    "MISUSE",
+    "REFUSED",
+    "Checker",
+    "Constraint",
+    "Fault",
+    "Instance",
+    "Options",
+    "Place",
+    "Reason",
+    "Refusal",
+    "Term",
+    "Verdict",
+    "check",
+    "options",
+    "read_instance",
+    "show",
+    "tidy",
+    "version",
+]
+
+
+def version() -> int:
+    """The version of the library as one number, 1002003 for 1.2.3."""
+    return int(loaded().pb_version())
