@@ -230,6 +230,11 @@ class Arrays(unittest.TestCase):
         view[0] = 7
         self.assertEqual(found.numbers[0], 7)
 
+    def test_long_names(self):
+        names = [("n" * size).encode() + b"%d" % size for size in (2, 62, 63, 64, 65, 5000, 3)]
+        text = b"* #variable= 7 #constraint= 1\n" + b" ".join(b"+1 " + name for name in names) + b" >= 1 ;\n"
+        self.assertEqual([*pb.read_instance(text).names], [name.decode() for name in names])
+
     def test_no_rows(self):
         found = pb.read_instance(b"* #variable= 0 #constraint= 0\n")
         self.assertEqual((found.names, found.objective, [*found.constraints]), ([], None, []))

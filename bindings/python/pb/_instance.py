@@ -5,7 +5,7 @@ from array import array
 from typing import TYPE_CHECKING, Any, Iterator, List, NamedTuple, Optional, Sequence, Tuple
 
 from ._faults import Fault
-from ._library import Handle, Options, Report, Sizes, Text, bytes_of, given, loaded, name_of
+from ._library import Handle, Options, Report, Sizes, Text, bytes_of, given, loaded, names_of
 
 if TYPE_CHECKING:
     Numbers = array[int]
@@ -44,7 +44,7 @@ class Instance:
         library, sizes, own = loaded(), Sizes(), ctypes.byref(handle)
         library.pb_instance_sizes(own, ctypes.byref(sizes))
         terms, rows = sizes.terms, sizes.rows
-        self.names: Sequence[str] = [name_of(library.pb_instance_name, handle, number) for number in range(sizes.names)]
+        self.names: Sequence[str] = names_of("pb_instance_name", handle, sizes.names)
         self.numbers, self.negated, self.lows, self.highs = _copied(library.pb_instance_terms, own, "QBQq", terms)
         self.kinds, self.ends, self.degree_lows, self.degree_highs = _copied(library.pb_instance_rows, own, "BQQq", rows)
         self.lines, self.columns, self.firsts, self.pasts = _copied(library.pb_instance_places, own, "QQQQ", rows)
