@@ -1,5 +1,5 @@
-// pb.hpp: the functions of pb.h for C++17. A fault is an exception with its position, a checker frees what it owns, and an instance has
-// vectors.
+// pb.hpp: the functions of pb.h for C++17. A fault is an exception with its position, a checker frees what it owns, an instance has
+// vectors, and texts are strings.
 //
 //     pb::Checker checker(instance);
 //     while (next(piece))
@@ -14,6 +14,9 @@
 #include <pb.h>
 
 #include <cstdint>
+#include <cstdlib>
+#include <memory>
+#include <new>
 #include <optional>
 #include <stdexcept>
 #include <string>
@@ -222,13 +225,37 @@ private:
     pb_claim_t claim_;
 };
 
+namespace inner {
+
+// The bytes of a text, by a pointer that is not null.
+inline const std::uint8_t *bytes_of(std::string_view text)
+{
+    return reinterpret_cast<const std::uint8_t *>(text.empty() ? "" : text.data());
+}
+
+// A name, by a call that writes it into a room.
+template <typename Call> std::string name_of(Call call)
+{
+    std::string name(64, '\0');
+    for (;;) {
+        std::size_t length = 0;
+        call(reinterpret_cast<std::uint8_t *>(&name[0]), name.size(), &length);
+        const bool fits = length <= name.size();
+        name.resize(length);
+        if (fits)
+            return name;
+    }
+}
+
+} // namespace inner
+
 // Checks the proof of one instance while the proof is written. It belongs to the thread that made it. Each call may throw a Fault.
 class Checker {
 public:
     Checker(std::string_view instance, const pb_options_t &options)
     {
         pb_report_t report;
-        answer(pb_checker_open(bytes(instance), instance.size(), &options, &checker_, &report), report);
+        answer(pb_checker_open(inner::bytes_of(instance), instance.size(), &options, &checker_, &report), report);
     }
 #ifndef PB_NO_RANDOM
     explicit Checker(std::string_view instance) : Checker(instance, random_options()) {}
@@ -248,7 +275,7 @@ public:
     {
         pb_report_t report;
         std::size_t used = 0;
-        answer(pb_checker_feed(&checker_, bytes(piece), piece.size(), &used, &report), report);
+        answer(pb_checker_feed(&checker_, inner::bytes_of(piece), piece.size(), &used, &report), report);
         return used;
     }
 
@@ -278,29 +305,17 @@ public:
     }
 
 private:
-    static const std::uint8_t *bytes(std::string_view text)
+    std::string name_of(std::uint64_t number)
     {
-        return reinterpret_cast<const std::uint8_t *>(text.empty() ? "" : text.data());
-    }
-
-    std::string name_of(const pb_report_t &report)
-    {
-        std::string name(64, '\0');
-        std::size_t length = 0;
-        for (;;) {
-            const auto number = static_cast<std::size_t>(report.number);
-            pb_checker_name(&checker_, number, reinterpret_cast<std::uint8_t *>(&name[0]), name.size(), &length);
-            const bool fits = length <= name.size();
-            name.resize(length);
-            if (fits)
-                return name;
-        }
+        return inner::name_of([&](std::uint8_t *room, std::size_t size, std::size_t *length) {
+            pb_checker_name(&checker_, static_cast<std::size_t>(number), room, size, length);
+        });
     }
 
     void answer(std::uint8_t status, const pb_report_t &report)
     {
         if (status != PB_OK)
-            throw Fault(status, report, report.reason == PB_NOT_TOTAL ? name_of(report) : std::string());
+            throw Fault(status, report, report.reason == PB_NOT_TOTAL ? name_of(report.number) : std::string());
     }
 
     void closed(std::uint8_t status)
@@ -331,8 +346,7 @@ public:
     {
         Arrays arrays;
         pb_report_t report;
-        const std::uint8_t *bytes = reinterpret_cast<const std::uint8_t *>(text.empty() ? "" : text.data());
-        const std::uint8_t status = pb_instance_read(bytes, text.size(), &options, &arrays.instance, &report);
+        const std::uint8_t status = pb_instance_read(inner::bytes_of(text), text.size(), &options, &arrays.instance, &report);
         if (status != PB_OK)
             throw Fault(status, report, std::string());
         return Instance(&arrays.instance);
@@ -361,18 +375,11 @@ private:
 
     void read_names(pb_instance_t *instance, std::size_t count)
     {
-        std::string room(64, '\0');
-        for (std::size_t number = 0; number < count; number++) {
-            for (;;) {
-                std::size_t length = 0;
-                pb_instance_name(instance, number, reinterpret_cast<std::uint8_t *>(&room[0]), room.size(), &length);
-                if (length <= room.size()) {
-                    names.push_back(room.substr(0, length));
-                    break;
-                }
-                room.resize(length);
-            }
-        }
+        names.reserve(count);
+        for (std::size_t number = 0; number < count; number++)
+            names.push_back(inner::name_of([&](std::uint8_t *room, std::size_t size, std::size_t *length) {
+                pb_instance_name(instance, number, room, size, length);
+            }));
     }
 
     // One element more than there are, so that no pointer is null.
@@ -387,6 +394,7 @@ private:
         pb_instance_terms(instance, numbers.data(), count, negated.data(), count, lows.data(), count, highs.data(), count);
         numbers.resize(count);
         negated.resize(count);
+        coefficients.reserve(count);
         for (std::size_t term = 0; term < count; term++)
             coefficients.push_back(Wide{lows[term], highs[term]});
     }
@@ -401,6 +409,8 @@ private:
         pb_instance_places(instance, lines.data(), count, columns.data(), count, firsts.data(), count, pasts.data(), count);
         kinds.resize(count);
         ends.resize(count);
+        degrees.reserve(count);
+        places.reserve(count);
         for (std::size_t row = 0; row < count; row++) {
             degrees.push_back(Wide{lows[row], highs[row]});
             places.push_back(Place{lines[row], columns[row], firsts[row]});
@@ -408,7 +418,82 @@ private:
     }
 };
 
-// Checks a proof of an instance, both in memory.
+// tidy() or show() failed. what() is the line of the fault, without its line feed.
+class Refusal : public std::runtime_error {
+public:
+    Refusal(std::uint8_t status, std::string text) : std::runtime_error(line_of(text)), status_(status), text_(std::move(text)) {}
+
+    // PB_REFUSED, PB_MISUSE or PB_FAILED.
+    std::uint8_t status() const noexcept { return status_; }
+    // What the call wrote. It ends in the line of the fault, or in a prefix of that line if memory ran out for it.
+    const std::string &text() const noexcept { return text_; }
+    // The position: 0, 0 if the reason has none.
+    std::uint64_t line() const { return number_after("file: line "); }
+    std::uint64_t column() const { return number_after(" column "); }
+
+private:
+    static std::string line_of(const std::string &text)
+    {
+        const std::size_t end = text.find_last_not_of('\n') + 1, start = end == 0 ? 0 : text.rfind('\n', end - 1) + 1;
+        return text.substr(start, end - start);
+    }
+
+    std::uint64_t number_after(const char *word) const
+    {
+        const std::string line = what();
+        const std::size_t at = line.compare(0, 11, "file: line ") == 0 ? line.find(word) : std::string::npos;
+        return at == std::string::npos ? 0 : std::strtoull(line.c_str() + at + std::string(word).size(), nullptr, 10);
+    }
+
+    std::uint8_t status_;
+    std::string text_;
+};
+
+namespace inner {
+
+// What a call writes. It gets so much room that a second call with the length of the first is hardly ever needed. The pages of room that it
+// does not write to take no memory.
+template <typename Call> std::string written(std::size_t guess, Call call)
+{
+    std::size_t size = guess + 4096, length = 0;
+    for (;;) {
+        std::unique_ptr<std::uint8_t[]> room(new (std::nothrow) std::uint8_t[size]);
+        if (!room)
+            room.reset(new std::uint8_t[size = 4096]);
+        const std::uint8_t status = call(room.get(), size, &length);
+        if (length <= size) {
+            std::string text(reinterpret_cast<const char *>(room.get()), length);
+            if (status != PB_OK)
+                throw Refusal(status, std::move(text));
+            return text;
+        }
+        size = length;
+    }
+}
+
+} // namespace inner
+
+// The canonical text of an instance or a proof, or with `normal` the normal form of an instance. Throws a Refusal.
+inline std::string tidy(std::string_view text, bool normal, const pb_options_t &options)
+{
+    return inner::written(text.size() * (normal ? 6 : 2), [&](std::uint8_t *room, std::size_t size, std::size_t *length) {
+        return pb_tidy(inner::bytes_of(text), text.size(), normal, &options, room, size, length);
+    });
+}
+
+// The statements of a text, each after its line and column. Throws a Refusal, whose text has the statements before the fault.
+inline std::string show(std::string_view text, const pb_options_t &options)
+{
+    return inner::written(text.size() * 6, [&](std::uint8_t *room, std::size_t size, std::size_t *length) {
+        return pb_show(inner::bytes_of(text), text.size(), &options, room, size, length);
+    });
+}
+#ifndef PB_NO_RANDOM
+inline std::string tidy(std::string_view text, bool normal = false) { return tidy(text, normal, random_options()); }
+inline std::string show(std::string_view text) { return show(text, random_options()); }
+#endif
+
+// Checks a proof of an instance, both in memory. Throws a Fault.
 inline Verdict check(std::string_view instance, std::string_view proof, const pb_options_t &options)
 {
     Checker checker(instance, options);

@@ -15,9 +15,9 @@ fn main() -> io::Result<ExitCode> {
             writeln!(io::stdout(), "{verdict}")?;
             Ok(ExitCode::SUCCESS)
         }
-        Err(refusal) => {
-            io::stderr().write_all(&refusal.text)?;
-            Ok(ExitCode::from(refusal.code()))
+        Err(fault) => {
+            writeln!(io::stderr(), "{fault}")?;
+            Ok(ExitCode::from(fault.code()))
         }
     }
 }

@@ -93,16 +93,6 @@ impl Claim {
 
 extern "C" {
     pub fn pb_version() -> u32;
-    pub fn pb_check(
-        instance: *const u8,
-        instance_len: usize,
-        proof: *const u8,
-        proof_len: usize,
-        options: *const Options,
-        line: *mut u8,
-        line_room: usize,
-        line_len: *mut usize,
-    ) -> u8;
     pub fn pb_tidy(
         text: *const u8,
         text_len: usize,

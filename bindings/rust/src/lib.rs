@@ -73,29 +73,6 @@ impl Verdict {
     pub fn is_unsat(&self) -> bool {
         *self == Verdict::Unsat
     }
-
-    /// The verdict of a line.
-    fn of_line(line: &str) -> Option<Verdict> {
-        let words: Vec<_> = line.strip_suffix('\n')?.split(' ').collect();
-        match words[..] {
-            ["verified", "NONE"] => Some(Verdict::NoClaim),
-            ["verified", "UNSAT"] => Some(Verdict::Unsat),
-            ["verified", "SAT"] => Some(Verdict::Sat),
-            ["verified", "BOUNDS", lower, upper] => {
-                Some(Verdict::Bounds(bound_of(lower)?, bound_of(upper)?))
-            }
-            _ => None,
-        }
-    }
-}
-
-/// The number that a word is, or `None` for `INF`, if it is one of these.
-fn bound_of(word: &str) -> Option<Option<i128>> {
-    if word == "INF" {
-        Some(None)
-    } else {
-        word.parse().ok().map(Some)
-    }
 }
 
 impl fmt::Display for Verdict {
@@ -144,7 +121,7 @@ impl Status {
     }
 }
 
-/// A call failed. `{}` and `{:?}` show the text, so that `main` may return it as an error.
+/// `tidy` or `show` failed. `{}` and `{:?}` show the text, so that `main` may return it as an error.
 #[derive(Clone, PartialEq, Eq)]
 pub struct Refusal {
     pub status: Status,
@@ -156,6 +133,27 @@ impl Refusal {
     /// The number of the status, which is the exit status of the command.
     pub fn code(&self) -> u8 {
         self.status.code()
+    }
+
+    /// The line of the fault, from 1, or 0 if it has no position.
+    pub fn line(&self) -> u64 {
+        self.position().0
+    }
+
+    /// The column of the fault, in bytes and from 1, or 0 if it has no position.
+    pub fn column(&self) -> u64 {
+        self.position().1
+    }
+
+    /// The line and the column that the last line of the text names.
+    fn position(&self) -> (u64, u64) {
+        let text = String::from_utf8_lossy(&self.text);
+        let words: Vec<_> = text.lines().last().unwrap_or("").split(' ').collect();
+        let number = |word: &str| word.trim_end_matches(':').parse().unwrap_or(0);
+        match words[..] {
+            ["file:", "line", line, "column", column, ..] => (number(line), number(column)),
+            _ => (0, 0),
+        }
     }
 }
 
@@ -177,76 +175,37 @@ impl fmt::Debug for Refusal {
 impl Error for Refusal {}
 
 /// Checks a proof of an instance, with `Options::default()`.
-pub fn check(instance: &[u8], proof: &[u8]) -> Result<Verdict, Refusal> {
+pub fn check(instance: &[u8], proof: &[u8]) -> Result<Verdict, Fault> {
     check_with(instance, proof, &Options::default())
 }
 
 /// Checks a proof of an instance.
-pub fn check_with(instance: &[u8], proof: &[u8], options: &Options) -> Result<Verdict, Refusal> {
-    verdict_of(answer(options, |options, room, len| {
-        // SAFETY: each pointer and length are those of a slice, and what is written to is borrowed mutably.
-        unsafe {
-            c::pb_check(
-                instance.as_ptr(),
-                instance.len(),
-                proof.as_ptr(),
-                proof.len(),
-                options,
-                room.as_mut_ptr(),
-                room.len(),
-                len,
-            )
-        }
-    }))
-}
-
-/// The verdict that a line states.
-fn verdict_of(answer: Result<Vec<u8>, Refusal>) -> Result<Verdict, Refusal> {
-    let line = answer?;
-    let verdict = std::str::from_utf8(&line).ok().and_then(Verdict::of_line);
-    verdict.ok_or(Refusal {
-        status: Status::Failed,
-        text: line,
-    })
+pub fn check_with(instance: &[u8], proof: &[u8], options: &Options) -> Result<Verdict, Fault> {
+    let mut checker = Checker::with(instance, options)?;
+    checker.feed(proof)?;
+    checker.finish()
 }
 
 /// The canonical text of an instance or a proof, or with `normal` the normal form of an instance.
 pub fn tidy(text: &[u8], normal: bool, options: &Options) -> Result<Vec<u8>, Refusal> {
-    answer(options, |options, room, len| {
-        // SAFETY: as in `check_with`.
-        unsafe {
-            c::pb_tidy(
-                text.as_ptr(),
-                text.len(),
-                normal,
-                options,
-                room.as_mut_ptr(),
-                room.len(),
-                len,
-            )
-        }
+    let guess = text.len().saturating_mul(if normal { 6 } else { 2 });
+    answer(options, guess, |options, room, size, len| {
+        // SAFETY: a pointer and a length are those of a slice, and the others are those that `answer` gives.
+        unsafe { c::pb_tidy(text.as_ptr(), text.len(), normal, options, room, size, len) }
     })
 }
 
 /// The statements of a text, each after its line and column. A refusal has the statements before the fault, and then its line.
 pub fn show(text: &[u8], options: &Options) -> Result<Vec<u8>, Refusal> {
-    answer(options, |options, room, len| {
-        // SAFETY: as in `check_with`.
-        unsafe {
-            c::pb_show(
-                text.as_ptr(),
-                text.len(),
-                options,
-                room.as_mut_ptr(),
-                room.len(),
-                len,
-            )
-        }
-    })
+    answer(
+        options,
+        text.len().saturating_mul(6),
+        |options, room, size, len| {
+            // SAFETY: as in `tidy`.
+            unsafe { c::pb_show(text.as_ptr(), text.len(), options, room, size, len) }
+        },
+    )
 }
-
-/// The bytes of room for the text of a first call.
-const ROOM: usize = 4096;
 
 fn of_c(options: &Options) -> c::Options {
     c::Options {
@@ -257,21 +216,28 @@ fn of_c(options: &Options) -> c::Options {
     }
 }
 
-/// Calls with room for a short text, and once more where the text was longer.
+/// What a call writes. It gets so much room that a second call with the length of the first is hardly ever needed. Room that it does not
+/// write to is given back, and its pages were never used.
 fn answer(
     options: &Options,
-    call: impl Fn(&c::Options, &mut [u8], &mut usize) -> u8,
+    guess: usize,
+    call: impl Fn(&c::Options, *mut u8, usize, &mut usize) -> u8,
 ) -> Result<Vec<u8>, Refusal> {
     let options = of_c(options);
-    let mut room = vec![0; ROOM];
+    let mut text = Vec::new();
+    if text.try_reserve_exact(guess.saturating_add(4096)).is_err() {
+        text.reserve_exact(4096);
+    }
     loop {
         let mut len = 0;
-        let status = call(&options, &mut room, &mut len);
-        if len <= room.len() {
-            room.truncate(len);
-            return ended(status, room);
+        let status = call(&options, text.as_mut_ptr(), text.capacity(), &mut len);
+        if len <= text.capacity() {
+            // SAFETY: the call has written as many bytes, and the room has them.
+            unsafe { text.set_len(len) };
+            text.shrink_to_fit();
+            return ended(status, text);
         }
-        room = vec![0; len];
+        text = Vec::with_capacity(len);
     }
 }
 
@@ -280,5 +246,23 @@ fn ended(status: u8, text: Vec<u8>) -> Result<Vec<u8>, Refusal> {
     match Status::of(status) {
         None => Ok(text),
         Some(status) => Err(Refusal { status, text }),
+    }
+}
+
+#[cfg(test)]
+mod tests {
+    use super::{answer, Options};
+
+    #[test]
+    fn an_answer_longer_than_the_guess_is_asked_for_again() {
+        let whole: Vec<u8> = (0..=255).cycle().take(10_000).collect();
+        let found = answer(&Options::default(), 0, |_, room, size, len| {
+            let fits = size.min(whole.len());
+            // SAFETY: the room has that many bytes.
+            unsafe { room.copy_from(whole.as_ptr(), fits) };
+            *len = whole.len();
+            0
+        });
+        assert_eq!(found, Ok(whole));
     }
 }

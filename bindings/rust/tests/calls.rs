@@ -1,6 +1,6 @@
 //! The calls on the repository's examples. `checks/program/bindings` compares many more files with what the program prints.
 
-use pb::{check, check_with, show, tidy, Options, Status, Verdict};
+use pb::{check, check_with, show, tidy, Options, Reason, Status, Verdict};
 use std::fs;
 use std::path::Path;
 
@@ -36,24 +36,17 @@ fn another_verdict_is_reported() {
 
 #[test]
 fn an_empty_proof_is_refused() {
-    let refusal = check(&example("refutation.opb"), b"").expect_err("a refusal");
-    assert_eq!(refusal.status, Status::Refused);
-    assert_eq!(refusal.code(), 1);
-    assert_eq!(refusal.to_string(), "proof: line 1 column 1: input ended");
-    let shown = format!("{refusal:?}");
-    assert!(
-        shown.contains(r#""proof: line 1 column 1: input ended\n""#),
-        "{shown}"
-    );
+    let fault = check(&example("refutation.opb"), b"").expect_err("a fault");
+    assert_eq!(fault.status(), Status::Refused);
+    assert_eq!((fault.code(), fault.line(), fault.column()), (1, 1, 1));
+    assert_eq!(fault.reason(), &Reason::Ended);
+    assert_eq!(fault.to_string(), "proof: line 1 column 1: input ended");
 }
 
 #[test]
 fn an_empty_instance_is_refused() {
-    let refusal = check(b"", b"").expect_err("a refusal");
-    assert_eq!(
-        refusal.to_string(),
-        "instance: line 1 column 1: input ended"
-    );
+    let fault = check(b"", b"").expect_err("a fault");
+    assert_eq!(fault.to_string(), "instance: line 1 column 1: input ended");
 }
 
 #[test]
@@ -62,9 +55,10 @@ fn wrong_options_are_misuse() {
         bits: 128,
         ..Options::default()
     };
-    let refusal = check_with(b"", b"", &options).expect_err("a refusal");
-    assert_eq!(refusal.status, Status::Misuse);
-    assert_eq!(refusal.code(), 2);
+    let fault = check_with(b"", b"", &options).expect_err("a fault");
+    assert_eq!((fault.status(), fault.code()), (Status::Misuse, 2));
+    let refusal = tidy(b"", false, &options).expect_err("a refusal");
+    assert_eq!((refusal.status, refusal.line()), (Status::Misuse, 0));
 }
 
 #[test]
@@ -76,8 +70,8 @@ fn no_bits_are_127() {
     let texts = (example("refutation.opb"), example("refutation.pbp"));
     let verdict = check_with(&texts.0, &texts.1, &options).expect("a verdict");
     assert!(verdict.is_unsat());
-    let refusal = check_with(b"", b"", &options).expect_err("a refusal");
-    assert_eq!(refusal.status, Status::Refused);
+    let fault = check_with(b"", b"", &options).expect_err("a fault");
+    assert_eq!(fault.status(), Status::Refused);
 }
 
 #[test]
@@ -92,4 +86,28 @@ fn a_text_longer_than_the_first_room_comes_whole() {
     );
     let shown = show(&instance, &Options::default()).expect("statements");
     assert!(shown.ends_with(b"1001:1 +1 x1 >= 1 ;\n"));
+}
+
+#[test]
+fn a_refusal_has_its_place_and_what_was_written() {
+    let text = b"* #variable= 1 #constraint= 2\n+1 x1 >= 1 ;\n+1x1 >= 1 ;\n";
+    let refusal = show(text, &Options::default()).expect_err("a refusal");
+    assert_eq!(
+        (refusal.code(), refusal.line(), refusal.column()),
+        (1, 3, 3)
+    );
+    let written =
+        "1:1 * #variable= 1 #constraint= 2\n2:1 +1 x1 >= 1 ;\nfile: line 3 column 3: byte 0x78\n";
+    assert_eq!(refusal.text, written.as_bytes());
+    assert!(format!("{refusal:?}").contains(r"byte 0x78\n"));
+}
+
+#[test]
+fn an_answer_much_longer_than_its_text_comes_whole() {
+    // Each constraint of three bytes gives a line of 10 to 14.
+    let mut instance = b"* #variable= 0 #constraint= 9999\n".to_vec();
+    instance.extend(b"=1;".repeat(9999));
+    let shown = show(&instance, &Options::default()).expect("statements");
+    assert_eq!(shown.iter().filter(|&&byte| byte == b'\n').count(), 10_000);
+    assert!(shown.ends_with(b"2:29995 = 1 ;\n"));
 }
