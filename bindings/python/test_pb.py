@@ -182,6 +182,23 @@ class Pieces(unittest.TestCase):
         self.assertEqual(found, ["a checker belongs to the thread that made it"])
 
 
+    def test_eight_threads(self):
+        texts = [(example(f"{name}.opb"), example(f"{name}.pbp")) for name in ("refutation", "optimum", "solution")]
+        wanted, found = ["verified UNSAT\n", "verified BOUNDS 1 1\n", "verified SAT\n"] * 8, [[] for _ in range(8)]
+
+        def call(to):
+            for _ in range(8):
+                for instance, proof in texts:
+                    to.append(self.checked(instance, proof, 5))
+                    pb.show(proof), pb.read_instance(instance)
+
+        threads = [threading.Thread(target=call, args=[to]) for to in found]
+        for thread in threads:
+            thread.start()
+        for thread in threads:
+            thread.join()
+        self.assertEqual(found, [wanted] * 8)
+
     def test_other_threads_run_during_a_call(self):
         """A call that takes long and a thread that counts: with the lock held it could not count."""
         instance = b"* #variable= 1 #constraint= 1\n+1 x1 >= 1 ;\n"

@@ -117,6 +117,8 @@ int main(int count, char **words)
             }
         }
     }
+    free(instance.bytes);
+    free(proof.bytes);
     printf("%lu\n", pairs);
     return wrong != 0;
 }

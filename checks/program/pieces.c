@@ -1,10 +1,10 @@
-/* Checks proofs in pieces: pieces INSTANCE PROOF
+/* Checks proofs in pieces: pieces [--once] INSTANCE PROOF
 **
 ** It cuts the proof in two at each byte, and into pieces of 1, 2, 3 and 37 bytes, and compares the result with that of one piece. It
 ** goes through such pieces statement by statement, and counts these. It looks at the constraints of a proof that is written here. It
 ** refuses each request for memory in turn. Then the result is PB_FAILED or as with enough memory, and nothing that was allocated is left.
 ** It makes calls with closed checkers, calls after a fault, and calls after the end of the proof. Eight threads do all of it at the same
-** time, each with checkers of its own. It prints how many runs there were. The status is 1 if one was wrong. */
+** time, each with checkers of its own, or with --once one does. It prints how many runs there were. The status is 1 if one was wrong. */
 
 #include <pthread.h>
 #include <stdbool.h>
@@ -352,14 +352,16 @@ int main(int count, char **words)
 {
     unsigned long totals[THREADS][2], all = 0, bad = 0;
     pthread_t threads[THREADS];
-    if (count != 3)
+    bool is_once = count == 4 && strcmp(words[1], "--once") == 0;
+    int many = is_once ? 1 : THREADS;
+    if (count != 3 + is_once)
         return 2;
-    instance = read_text(words[1]);
-    proof = read_text(words[2]);
-    for (int k = 0; k < THREADS; k++)
+    instance = read_text(words[1 + is_once]);
+    proof = read_text(words[2 + is_once]);
+    for (int k = 0; k < many; k++)
         if (pthread_create(&threads[k], NULL, run, totals[k]) != 0)
             return 2;
-    for (int k = 0; k < THREADS; k++) {
+    for (int k = 0; k < many; k++) {
         pthread_join(threads[k], NULL);
         all += totals[k][0];
         bad += totals[k][1];

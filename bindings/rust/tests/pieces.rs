@@ -101,3 +101,18 @@ fn a_rejected_instance_and_wrong_options_give_no_checker() {
     let fault = Checker::with(b"", &options).expect_err("a fault");
     assert_eq!(fault.status(), Status::Misuse);
 }
+
+#[test]
+fn eight_threads_check_at_the_same_time() {
+    let texts = (example("optimum.opb"), example("optimum.pbp"));
+    std::thread::scope(|scope| {
+        for _ in 0..8 {
+            scope.spawn(|| {
+                for size in 1..texts.1.len() {
+                    let verdict = Verdict::Bounds(Some(1), Some(1));
+                    assert_eq!(fed(&texts.0, &texts.1, size), Ok(verdict));
+                }
+            });
+        }
+    });
+}

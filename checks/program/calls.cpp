@@ -1,0 +1,112 @@
+// Tries what pb.hpp adds to pb.h: calls INSTANCE PROOF. It compares tidy() and show() with other ways to the same, looks at each part of a fault
+// and of a refusal, and uses what was moved. The status is 1 if something of this was wrong.
+
+#include <pb.hpp>
+
+#include <atomic>
+#include <fstream>
+#include <iostream>
+#include <iterator>
+#include <thread>
+#include <type_traits>
+
+static std::atomic<int> wrong = {0};
+
+static void tell(bool is_right, const char *what)
+{
+    if (!is_right) {
+        wrong = 1;
+        std::cerr << what << "\n";
+    }
+}
+
+// The fault of a call.
+template <typename Call> pb::Fault fault_of(Call call)
+{
+    try {
+        call();
+    } catch (const pb::Fault &fault) {
+        return fault;
+    }
+    tell(false, "no fault");
+    return pb::Fault(0, pb_report_t{}, "");
+}
+
+static std::string text_of(const char *path)
+{
+    std::ifstream file(path, std::ios::binary);
+    return {std::istreambuf_iterator<char>(file), {}};
+}
+
+static void texts(const std::string &instance)
+{
+    const std::string canonical = pb::tidy(instance);
+    tell(pb::tidy(canonical) == canonical, "tidy twice");
+    tell(pb::tidy(pb::tidy(instance, true), true) == pb::tidy(instance, true), "normal twice");
+    std::string many = "* #variable= 0 #constraint= 9999\n";
+    for (int k = 0; k < 9999; k++)
+        many += "=1;";
+    const std::string shown = pb::show(many);
+    tell(shown.size() > 100000 && shown.substr(shown.size() - 14) == "2:29995 = 1 ;\n", "a long text");
+    try {
+        pb::show("* #variable= 1 #constraint= 2\n+1 x1 >= 1 ;\n+1x1 >= 1 ;\n");
+        tell(false, "no refusal");
+    } catch (const pb::Refusal &it) {
+        tell(it.status() == PB_REFUSED && it.line() == 3 && it.column() == 3, "the parts of a refusal");
+        tell(it.what() == std::string("file: line 3 column 3: byte 0x78"), "the line of a refusal");
+        tell(it.text() == "1:1 * #variable= 1 #constraint= 2\n2:1 +1 x1 >= 1 ;\nfile: line 3 column 3: byte 0x78\n", "its text");
+    }
+    try {
+        pb::tidy("", false, pb_options_t{0, 0, 0, 30});
+        tell(false, "no refusal");
+    } catch (const pb::Refusal &it) {
+        tell(it.status() == PB_MISUSE && it.line() == 0 && it.column() == 0, "the refusal of options");
+    }
+}
+
+static void faults()
+{
+    const std::string instance = "* #variable= 2 #constraint= 1\n+1 x1 +1 second >= 1 ;\n", start = "pseudo-Boolean proof version 2.0\nf 1\n";
+    const pb::Fault id = fault_of([&] { pb::check(instance, start + "del id 9 ;\n"); });
+    tell(id.status() == PB_REFUSED && id.reason() == pb::Reason::NoSuchId && id.id() == 9 && id.input() == pb::Input::Proof, "an id");
+    tell(id.line() == 3 && id.column() == 1 && id.offset() == 37, "the position of an id");
+    tell(id.what() == std::string("proof: line 3 column 1: no such id 9"), "the line of an id");
+    const pb::Fault name = fault_of([&] { pb::check(instance, start + "solx x1\n"); });
+    tell(name.reason() == pb::Reason::NotTotal && name.name() == "second", "a name without a value");
+    const pb::Fault byte = fault_of([&] { pb::Instance::read("1x1 >= 1 ;\n"); });
+    tell(byte.reason() == pb::Reason::Byte && byte.number() == '1' && byte.input() == pb::Input::Instance, "a byte");
+    const pb::Fault options = fault_of([&] { pb::Checker(instance, pb_options_t{0, 0, 0, 128}); });
+    tell(options.status() == PB_MISUSE && options.reason() == pb::Reason::Misused && options.line() == 0, "options");
+}
+
+static void moved(const std::string &instance, const std::string &proof)
+{
+    static_assert(!std::is_copy_constructible<pb::Checker>::value && std::is_nothrow_move_constructible<pb::Checker>::value, "");
+    pb::Checker first(instance);
+    first.feed(std::string_view(proof).substr(0, 5));
+    pb::Checker second(std::move(first));
+    const pb::Fault feed = fault_of([&] { first.feed(proof); });
+    tell(feed.status() == PB_MISUSE && feed.reason() == pb::Reason::Misused, "a feed of what was moved");
+    tell(fault_of([&] { first.finish(); }).status() == PB_MISUSE && fault_of([&] { first.place(); }).status() == PB_MISUSE
+        && fault_of([&] { first.held(); }).status() == PB_MISUSE, "calls of what was moved");
+    tell(second.place().offset == 5 && second.held() <= 5, "the position of what was moved");
+    first = pb::Checker(instance);
+    first = std::move(second);
+    first.feed(std::string_view(proof).substr(5));
+    tell(first.finish().str() == pb::check(instance, proof).str(), "a verdict of what was moved");
+}
+
+int main(int count, char **words)
+{
+    if (count != 3)
+        return 2;
+    const std::string instance = text_of(words[1]), proof = text_of(words[2]);
+    texts(instance);
+    faults();
+    std::vector<std::thread> threads;
+    for (int k = 0; k < 8; k++)
+        threads.emplace_back(moved, instance, proof);
+    for (std::thread &thread : threads)
+        thread.join();
+    return wrong;
+}
