@@ -1,9 +1,9 @@
-/* Makes every call that writes a text, with rooms of all lengths: calls [--once] INSTANCE PROOF
+/* Makes each call that writes a text, with rooms of all lengths: calls [--once] INSTANCE PROOF
 **
 ** The calls are pb_check(), pb_tidy(), pb_show(), pb_checker_name() and pb_instance_name(). Each is made with a room of 0 bytes, of 1 byte and
 ** so on, up to two more than its text. The room is a block of just that size, so that a tool sees a byte that is written past it. What is
-** written has to be the beginning of the text, the length that of the whole text, and the rest of the room as it was. A checker and an
-** instance are used in each run too. Eight threads do all of it at the same time, or with --once one does. It prints how many calls there
+** written has to be the beginning of the text, the length that of the whole text, and the rest of the room as it was. It copies the
+** arrays of the instance too. Eight threads do all of it at the same time, or with --once one does. It prints how many calls there
 ** were. The status is 1 if one was wrong. */
 
 #include <pthread.h>
@@ -106,17 +106,48 @@ static void try_rooms(struct run *run, enum call call)
     free(whole);
 }
 
+/* The arrays of an instance, each in a block of just its size. */
+static void try_arrays(struct run *run, pb_sizes_t *sizes)
+{
+    uint64_t *words[8];
+    int64_t *highs[2];
+    uint8_t *bytes[2];
+    size_t n, m;
+    run->wrong += pb_instance_sizes(&run->read, sizes) != PB_OK;
+    n = sizes->terms;
+    m = sizes->rows;
+    for (size_t k = 0; k < 8; k++)
+        words[k] = (uint64_t *)block_of(8 * (k < 2 ? n : m));
+    for (size_t k = 0; k < 2; k++) {
+        highs[k] = (int64_t *)block_of(8 * (k < 1 ? n : m));
+        bytes[k] = block_of(k < 1 ? n : m);
+    }
+    run->wrong += pb_instance_terms(&run->read, words[0], n, bytes[0], n, words[1], n, highs[0], n) != PB_OK;
+    run->wrong += pb_instance_rows(&run->read, bytes[1], m, words[2], m, words[3], m, highs[1], m) != PB_OK;
+    run->wrong += pb_instance_places(&run->read, words[4], m, words[5], m, words[6], m, words[7], m) != PB_OK;
+    run->wrong += m > 0 && words[2][m - 1] != n;
+    for (size_t k = 0; k < n; k++)
+        run->wrong += words[0][k] >= sizes->names || bytes[0][k] > 1;
+    for (size_t k = 0; k < m; k++)
+        run->wrong += words[6][k] >= words[7][k] || words[7][k] > instance.length || bytes[1][k] > PB_EQUAL;
+    run->calls += 3;
+    for (size_t k = 0; k < 8; k++)
+        free(words[k]);
+    for (size_t k = 0; k < 2; k++)
+        free(highs[k]), free(bytes[k]);
+}
+
 static void *work(void *given)
 {
     struct run *run = given;
     pb_report_t report;
     pb_sizes_t sizes = {0};
     size_t used;
-    uint8_t status = pb_checker_open(instance.bytes, instance.length, &options, &run->checker, &report);
-    if (status == PB_OK)
+    /* An instance may be read whose normal forms exceed the limit on numbers. */
+    if (pb_checker_open(instance.bytes, instance.length, &options, &run->checker, &report) == PB_OK)
         pb_checker_feed(&run->checker, proof.bytes, proof.length, &used, &report);
-    run->wrong += pb_instance_read(instance.bytes, instance.length, &options, &run->read, &report) != status;
-    pb_instance_sizes(&run->read, &sizes);
+    if (pb_instance_read(instance.bytes, instance.length, &options, &run->read, &report) == PB_OK)
+        try_arrays(run, &sizes);
     for (enum call call = CHECK; call < CHECKER_NAME; call++)
         try_rooms(run, call);
     /* Of names also one that there is not. */
