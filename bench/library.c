@@ -39,7 +39,7 @@ int main(int count, char **words)
     uint8_t *text, status;
     uint64_t *words_of_terms[2], *words_of_rows[6];
     int64_t *highs, *degree_highs;
-    uint8_t *negated, *kinds, name[64];
+    uint8_t *negated, *kinds;
     if (count != 2)
         return 2;
     text = bytes_of(words[1], &len);
@@ -57,8 +57,7 @@ int main(int count, char **words)
     pb_instance_terms(&instance, words_of_terms[0], n, negated, n, words_of_terms[1], n, highs, n);
     pb_instance_rows(&instance, kinds, m, words_of_rows[0], m, words_of_rows[1], m, degree_highs, m);
     pb_instance_places(&instance, words_of_rows[2], m, words_of_rows[3], m, words_of_rows[4], m, words_of_rows[5], m);
-    for (size_t number = 0; number < sizes.names; number++)
-        pb_instance_name(&instance, number, name, sizeof name, &len);
+    pb_instance_names(&instance, room_for(sizes.name_bytes, 1), sizes.name_bytes, room_for(sizes.names, 8), sizes.names);
     pb_instance_close(&instance);
     return 0;
 }

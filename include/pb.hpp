@@ -1,5 +1,5 @@
-// pb.hpp: the functions of pb.h for C++17. A fault is an exception with its position, a checker frees what it owns, an instance has
-// vectors, and texts are strings.
+// pb.hpp: the functions of pb.h for C++17. A fault is an exception with its position, a checker frees what it owns, an instance
+// has vectors, and texts are strings.
 //
 //     pb::Checker checker(instance);
 //     while (next(piece))
@@ -233,6 +233,9 @@ inline const std::uint8_t *bytes_of(std::string_view text)
     return reinterpret_cast<const std::uint8_t *>(text.empty() ? "" : text.data());
 }
 
+// One element more than there are, so that no pointer is null.
+template <typename T> std::vector<T> room_for(std::size_t count) { return std::vector<T>(count + 1); }
+
 // A name, by a call that writes it into a room.
 template <typename Call> std::string name_of(Call call)
 {
@@ -248,6 +251,22 @@ template <typename Call> std::string name_of(Call call)
 }
 
 } // namespace inner
+
+// What a checker has accepted: the number of statements, the newest id of a constraint or 0, and the visits of the last `rup` or 0.
+using State = pb_state_t;
+
+// A term: the coefficient times a name, or its negation.
+struct Term {
+    Wide coefficient;
+    std::string name;
+    bool negated;
+};
+
+// A live constraint in normal form: the sum of its terms is at least the degree.
+struct Live {
+    std::vector<Term> terms;
+    Wide degree;
+};
 
 // Checks the proof of one instance while the proof is written. It belongs to the thread that made it. Each call may throw a Fault.
 class Checker {
@@ -277,6 +296,45 @@ public:
         std::size_t used = 0;
         answer(pb_checker_feed(&checker_, inner::bytes_of(piece), piece.size(), &used, &report), report);
         return used;
+    }
+
+    // Takes a piece of the proof up to the end of the next statement, and leaves the rest of the piece. Returns whether a statement ended there
+    // and was accepted. If none did, the whole piece was taken, and nothing is left of it.
+    bool step(std::string_view &piece)
+    {
+        pb_report_t report;
+        std::size_t used = 0;
+        bool ended = false;
+        answer(pb_checker_step(&checker_, inner::bytes_of(piece), piece.size(), &used, &ended, &report), report);
+        piece.remove_prefix(ended ? used : piece.size());
+        return ended;
+    }
+
+    // What was accepted so far. After a fault only the number of statements has a meaning.
+    State state()
+    {
+        State state;
+        closed(pb_checker_state(&checker_, &state));
+        return state;
+    }
+
+    // The live constraint with an id, if one has it. It has no meaning after a fault.
+    std::optional<Live> constraint(std::uint64_t id)
+    {
+        std::size_t count = 0;
+        if (pb_checker_terms(&checker_, id, &count) != PB_OK)
+            return std::nullopt;
+        auto numbers = inner::room_for<std::uint64_t>(count), lows = numbers;
+        auto highs = inner::room_for<std::int64_t>(count);
+        auto negated = inner::room_for<std::uint8_t>(count);
+        pb_number_t degree;
+        closed(pb_checker_constraint(&checker_, id, numbers.data(), count, negated.data(), count, lows.data(), count, highs.data(), count,
+                                     &degree));
+        Live live{{}, Wide{degree.low, degree.high}};
+        live.terms.reserve(count);
+        for (std::size_t at = 0; at < count; at++)
+            live.terms.push_back(Term{Wide{lows[at], highs[at]}, name_of(numbers[at]), negated[at] != 0});
+        return live;
     }
 
     // What the proof shows if it ends here.
@@ -368,29 +426,28 @@ private:
     {
         pb_sizes_t sizes;
         pb_instance_sizes(instance, &sizes);
-        read_names(instance, sizes.names);
+        read_names(instance, sizes);
         read_terms(instance, sizes.terms);
         read_rows(instance, sizes.rows);
     }
 
-    void read_names(pb_instance_t *instance, std::size_t count)
+    void read_names(pb_instance_t *instance, const pb_sizes_t &sizes)
     {
-        names.reserve(count);
-        for (std::size_t number = 0; number < count; number++)
-            names.push_back(inner::name_of([&](std::uint8_t *room, std::size_t size, std::size_t *length) {
-                pb_instance_name(instance, number, room, size, length);
-            }));
+        auto bytes = inner::room_for<std::uint8_t>(sizes.name_bytes);
+        auto starts = inner::room_for<std::uint64_t>(sizes.names);
+        pb_instance_names(instance, bytes.data(), sizes.name_bytes, starts.data(), sizes.names);
+        starts[sizes.names] = sizes.name_bytes;
+        names.reserve(sizes.names);
+        for (std::size_t at = 0; at < sizes.names; at++)
+            names.emplace_back(reinterpret_cast<const char *>(bytes.data()) + starts[at], starts[at + 1] - starts[at]);
     }
-
-    // One element more than there are, so that no pointer is null.
-    template <typename T> static std::vector<T> room_for(std::size_t count) { return std::vector<T>(count + 1); }
 
     void read_terms(pb_instance_t *instance, std::size_t count)
     {
-        auto lows = room_for<std::uint64_t>(count);
-        auto highs = room_for<std::int64_t>(count);
-        numbers = room_for<std::uint64_t>(count);
-        negated = room_for<std::uint8_t>(count);
+        auto lows = inner::room_for<std::uint64_t>(count);
+        auto highs = inner::room_for<std::int64_t>(count);
+        numbers = inner::room_for<std::uint64_t>(count);
+        negated = inner::room_for<std::uint8_t>(count);
         pb_instance_terms(instance, numbers.data(), count, negated.data(), count, lows.data(), count, highs.data(), count);
         numbers.resize(count);
         negated.resize(count);
@@ -401,10 +458,10 @@ private:
 
     void read_rows(pb_instance_t *instance, std::size_t count)
     {
-        auto lows = room_for<std::uint64_t>(count), lines = lows, columns = lows, firsts = lows, pasts = lows;
-        auto highs = room_for<std::int64_t>(count);
-        kinds = room_for<std::uint8_t>(count);
-        ends = room_for<std::uint64_t>(count);
+        auto lows = inner::room_for<std::uint64_t>(count), lines = lows, columns = lows, firsts = lows, pasts = lows;
+        auto highs = inner::room_for<std::int64_t>(count);
+        kinds = inner::room_for<std::uint8_t>(count);
+        ends = inner::room_for<std::uint64_t>(count);
         pb_instance_rows(instance, kinds.data(), count, ends.data(), count, lows.data(), count, highs.data(), count);
         pb_instance_places(instance, lines.data(), count, columns.data(), count, firsts.data(), count, pasts.data(), count);
         kinds.resize(count);

@@ -222,6 +222,47 @@ class Pieces(unittest.TestCase):
         self.assertGreater(during, 2)
 
 
+class Steps(unittest.TestCase):
+    INSTANCE = b"* #variable= 2 #constraint= 2\n+2 x1 +1 ~x2 >= 2 ;\n-1 x1 >= 0 ;\n"
+    PROOF = b"""pseudo-Boolean proof version 2.0
+f 2
+pol 1 2 2 * +
+del id 2
+rup >= 1 ;
+output NONE
+conclusion NONE
+end pseudo-Boolean proof
+"""
+
+    def test_states(self):
+        with pb.Checker(self.INSTANCE) as checker:
+            states = [*checker.steps(self.PROOF)]
+            self.assertEqual(checker.finish().verdict, "NONE")
+        self.assertEqual([it.accepted for it in states], [1, 2, 3, 4, 5, 6, 7, 8])
+        self.assertEqual([it.newest for it in states], [0, 2, 3, 3, 4, 4, 4, 4])
+        self.assertEqual([it.visits > 0 for it in states], [False] * 4 + [True] * 4)
+
+    def test_live_constraints(self):
+        with pb.Checker(self.INSTANCE) as checker:
+            for state in checker.steps(self.PROOF):
+                if state.accepted == 3:
+                    self.assertEqual(checker.constraint(1), ([(2, "x1", False), (1, "x2", True)], 2))
+                    self.assertEqual(checker.constraint(2), ([(1, "x1", True)], 1))
+                    self.assertEqual(checker.constraint(3), ([(1, "x2", True)], 2))
+            self.assertEqual(checker.constraint(4), ([], 1))
+            for absent in (0, 2, 5):
+                with self.assertRaises(KeyError):
+                    checker.constraint(absent)
+        with self.assertRaises(pb.Fault):
+            checker.constraint(1)
+
+    def test_any_cut(self):
+        for size in (1, 3, 37, 4096):
+            with pb.Checker(self.INSTANCE) as checker:
+                pieces = (self.PROOF[at : at + size] for at in range(0, len(self.PROOF), size))
+                self.assertEqual(sum(1 for piece in pieces for _ in checker.steps(piece)), 8)
+
+
 class Arrays(unittest.TestCase):
     def test_an_instance(self):
         text = b"* #variable= 2 #constraint= 2\nmin: -2 x1 ;\n* between\n+1 x1 -%d ~x2 >= -1 ;\n+3 x2 = 3 ;\n" % (2**100)
@@ -250,7 +291,12 @@ class Arrays(unittest.TestCase):
     def test_long_names(self):
         names = [("n" * size).encode() + b"%d" % size for size in (2, 62, 63, 64, 65, 5000, 3)]
         text = b"* #variable= 7 #constraint= 1\n" + b" ".join(b"+1 " + name for name in names) + b" >= 1 ;\n"
-        self.assertEqual([*pb.read_instance(text).names], [name.decode() for name in names])
+        found, names = pb.read_instance(text).names, [name.decode() for name in names]
+        self.assertEqual([*found], names)
+        self.assertEqual((found[0], found[-1], found[1:3], len(found), found == names), (names[0], "nnn3", names[1:3], 7, True))
+        for absent in (7, -8):
+            with self.assertRaises(IndexError):
+                found[absent]
 
     def test_no_rows(self):
         found = pb.read_instance(b"* #variable= 0 #constraint= 0\n")

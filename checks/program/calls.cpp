@@ -96,6 +96,25 @@ static void moved(const std::string &instance, const std::string &proof)
     tell(first.finish().str() == pb::check(instance, proof).str(), "a verdict of what was moved");
 }
 
+// Goes through a proof statement by statement: the newest id after each, and the live constraints at the end.
+static void steps()
+{
+    pb::Checker checker("* #variable= 2 #constraint= 2\n+2 x1 +1 ~x2 >= 2 ;\n-1 x1 >= 0 ;\n");
+    std::string_view proof = "pseudo-Boolean proof version 2.0\nf 2\npol 1 2 2 * +\ndel id 2\nrup >= 1 ;\noutput NONE\nconclusion NONE\n"
+                             "end pseudo-Boolean proof\n";
+    std::vector<std::uint64_t> newest;
+    while (checker.step(proof)) {
+        newest.push_back(checker.state().newest);
+        tell(checker.state().accepted == newest.size(), "the number of statements");
+    }
+    tell(newest == std::vector<std::uint64_t>{0, 2, 3, 3, 4, 4, 4, 4} && proof.empty(), "the newest ids");
+    const std::optional<pb::Live> live = checker.constraint(1);
+    tell(live && live->degree == pb::Wide{2, 0} && live->terms.size() == 2, "a live constraint");
+    tell(live && live->terms[1].name == "x2" && live->terms[1].negated && live->terms[0].coefficient == pb::Wide{2, 0}, "its terms");
+    tell(!checker.constraint(2) && !checker.constraint(0) && !checker.constraint(5), "no live constraint");
+    tell(checker.finish().kind() == pb::Kind::None, "the verdict of the steps");
+}
+
 int main(int count, char **words)
 {
     if (count != 3)
@@ -103,6 +122,7 @@ int main(int count, char **words)
     const std::string instance = text_of(words[1]), proof = text_of(words[2]);
     texts(instance);
     faults();
+    steps();
     std::vector<std::thread> threads;
     for (int k = 0; k < 8; k++)
         threads.emplace_back(moved, instance, proof);

@@ -14,9 +14,9 @@ While a call of the library runs, the lock of the interpreter is released, so th
 
 __version__ = "0.1.0"
 
-from ._checker import Checker, check
+from ._checker import Checker, Live, State, check
 from ._faults import FAILED, MISUSE, REFUSED, Fault, Place, Reason, Refusal, Verdict
-from ._instance import Constraint, Instance, Term, read_instance
+from ._instance import Constraint, Instance, NameList, Term, read_instance
 from ._library import Options, loaded, options
 from ._texts import show, tidy
 
@@ -28,10 +28,13 @@ __all__ = [
     "Constraint",
     "Fault",
     "Instance",
+    "Live",
+    "NameList",
     "Options",
     "Place",
     "Reason",
     "Refusal",
+    "State",
     "Term",
     "Verdict",
     "check",

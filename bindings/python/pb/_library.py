@@ -4,7 +4,8 @@ import ctypes
 import ctypes.util
 import os
 import threading
-from typing import Any, List, Optional, Tuple, Union
+from types import TracebackType
+from typing import Any, Dict, Optional, Tuple, Type, Union
 
 # A text: any bytes-like object.
 Text = Union[bytes, bytearray, memoryview]
@@ -33,12 +34,13 @@ class Handle(ctypes.Structure):
 
 
 class Sizes(ctypes.Structure):
-    """How many rows, terms and names an instance has."""
+    """How many rows, terms and names an instance has, and the bytes of all names."""
 
     rows: int
     terms: int
     names: int
-    _fields_ = [("rows", ctypes.c_size_t), ("terms", ctypes.c_size_t), ("names", ctypes.c_size_t)]
+    name_bytes: int
+    _fields_ = [(it, ctypes.c_size_t) for it in ("rows", "terms", "names", "name_bytes")]
 
 
 class Position(ctypes.Structure):
@@ -92,6 +94,23 @@ class Claim(ctypes.Structure):
     ]
 
 
+class Count(ctypes.Structure):
+    """What a checker has accepted."""
+
+    accepted: int
+    newest: int
+    visits: int
+    _fields_ = [("accepted", ctypes.c_uint64), ("newest", ctypes.c_uint64), ("visits", ctypes.c_uint64)]
+
+
+class Number(ctypes.Structure):
+    """A number in two words."""
+
+    low: int
+    high: int
+    _fields_ = [("low", ctypes.c_uint64), ("high", ctypes.c_int64)]
+
+
 _SIZE, _BYTES, _ADDRESS, _REPORT = ctypes.c_size_t, ctypes.c_char_p, ctypes.c_void_p, ctypes.POINTER(Report)
 _LENGTH, _OPTIONS, _HANDLE = ctypes.POINTER(_SIZE), ctypes.POINTER(Options), ctypes.POINTER(Handle)
 # A buffer that a call writes to: its address, its size, and where the length of the whole text goes.
@@ -109,12 +128,16 @@ _CALLS = {
     "pb_checker_place": [_HANDLE, ctypes.POINTER(Position)],
     "pb_checker_held": [_HANDLE, _LENGTH],
     "pb_checker_name": [_HANDLE, _SIZE, *_ROOM],
+    "pb_checker_step": [_HANDLE, _ADDRESS, _SIZE, _LENGTH, ctypes.POINTER(ctypes.c_bool), _REPORT],
+    "pb_checker_state": [_HANDLE, ctypes.POINTER(Count)],
+    "pb_checker_terms": [_HANDLE, ctypes.c_uint64, _LENGTH],
+    "pb_checker_constraint": [_HANDLE, ctypes.c_uint64, *_FOUR_ARRAYS, ctypes.POINTER(Number)],
     "pb_instance_read": [_BYTES, _SIZE, _OPTIONS, _HANDLE, _REPORT],
     "pb_instance_sizes": [_HANDLE, ctypes.POINTER(Sizes)],
     "pb_instance_terms": [_HANDLE, *_FOUR_ARRAYS],
     "pb_instance_rows": [_HANDLE, *_FOUR_ARRAYS],
     "pb_instance_places": [_HANDLE, *_FOUR_ARRAYS],
-    "pb_instance_name": [_HANDLE, _SIZE, *_ROOM],
+    "pb_instance_names": [_HANDLE, _ADDRESS, _SIZE, _ADDRESS, _SIZE],
 }
 _CLOSES = ("pb_checker_close", "pb_instance_close")
 
@@ -179,8 +202,18 @@ def given(opts: Optional[Options]) -> Any:
     return ctypes.byref(options() if opts is None else opts)
 
 
+def address_of(content: bytes) -> int:
+    """Where the bytes are, which is never 0. They stay there as long as somebody has the object."""
+    return ctypes.cast(ctypes.c_char_p(content), ctypes.c_void_p).value or 0
+
+
+def first_of(room: Any) -> int:
+    """The address of the first element of an array or a bytearray, which is never 0."""
+    return ctypes.addressof((ctypes.c_char * 0).from_buffer(room))
+
+
 def name_of(call: Any, handle: Handle, number: int) -> str:
-    """The name with a number, of a checker or of an instance."""
+    """The name with a number, of a checker."""
     room = 64
     while True:
         text, length = ctypes.create_string_buffer(room), ctypes.c_size_t()
@@ -190,16 +223,40 @@ def name_of(call: Any, handle: Handle, number: int) -> str:
         room = length.value
 
 
-def names_of(name: str, handle: Handle, count: int) -> List[str]:
-    """The names with the numbers below a count. All go through one short room, by a call whose arguments are plain numbers: that takes a
-    tenth of the instructions of name_of()."""
-    parameters = [ctypes.c_void_p, ctypes.c_size_t, ctypes.c_void_p, ctypes.c_size_t, ctypes.c_void_p]
-    call = ctypes.CFUNCTYPE(ctypes.c_uint8, *parameters)((name, loaded()))
-    size, length, names = 64, ctypes.c_size_t(), []
-    text = ctypes.create_string_buffer(size)
-    own, at, to = ctypes.addressof(handle), ctypes.addressof(text), ctypes.addressof(length)
-    for number in range(count):
-        call(own, number, at, size, to)
-        used = length.value
-        names.append(text.raw[:used].decode("utf-8", "replace") if used <= size else name_of(call, handle, number))
-    return names
+class Names:
+    """The names of a checker by their numbers. Each is asked for once."""
+
+    def __init__(self, call: str, handle: Handle) -> None:
+        self._call, self._handle, self._known = getattr(loaded(), call), handle, {}  # type: Any, Handle, Dict[int, str]
+
+    def __getitem__(self, number: int) -> str:
+        name = self._known.get(number)
+        if name is None:
+            name = self._known[number] = name_of(self._call, self._handle, number)
+        return name
+
+
+class Owned:
+    """Owns a handle of the library until it is closed. It belongs to the thread that made it: a call in another thread raises
+    RuntimeError."""
+
+    _kind: str
+
+    def __init__(self) -> None:
+        self._handle, self._thread = Handle(None), threading.get_ident()
+
+    def close(self) -> None:
+        """Frees what it owns. Later calls raise Fault."""
+        getattr(loaded(), f"pb_{self._kind}_close")(self._own())
+
+    def _own(self) -> Any:
+        if threading.get_ident() != self._thread:
+            raise RuntimeError(f"a {self._kind} belongs to the thread that made it")
+        return ctypes.byref(self._handle)
+
+    def __exit__(self, kind: Optional[Type[BaseException]], error: Optional[BaseException], trace: Optional[TracebackType]) -> None:
+        self.close()
+
+    def __del__(self) -> None:
+        if self._handle.inner and threading.get_ident() == self._thread:
+            self.close()

@@ -40,6 +40,22 @@ pub struct Sizes {
     pub rows: usize,
     pub terms: usize,
     pub names: usize,
+    pub name_bytes: usize,
+}
+
+#[repr(C)]
+#[derive(Default)]
+pub struct State {
+    pub accepted: u64,
+    pub newest: u64,
+    pub visits: u64,
+}
+
+#[repr(C)]
+#[derive(Default)]
+pub struct Number {
+    pub low: u64,
+    pub high: i64,
 }
 
 #[repr(C)]
@@ -76,9 +92,7 @@ pub struct Claim {
 
 impl Claim {
     pub fn verdict(&self) -> Verdict {
-        let bound = |finite: bool, low: u64, high: i64| {
-            finite.then_some((i128::from(high) << 64) + i128::from(low))
-        };
+        let bound = |finite: bool, low, high| finite.then_some(wide(low, high));
         match self.kind {
             0 => Verdict::NoClaim,
             1 => Verdict::Unsat,
@@ -89,6 +103,11 @@ impl Claim {
             ),
         }
     }
+}
+
+/// The number of two words.
+pub fn wide(low: u64, high: i64) -> i128 {
+    (i128::from(high) << 64) + i128::from(low)
 }
 
 extern "C" {
@@ -134,6 +153,29 @@ extern "C" {
         out_room: usize,
         out_len: *mut usize,
     ) -> u8;
+    pub fn pb_checker_step(
+        checker: *mut Checker,
+        piece: *const u8,
+        piece_len: usize,
+        used: *mut usize,
+        ended: *mut bool,
+        report: *mut Report,
+    ) -> u8;
+    pub fn pb_checker_state(checker: *mut Checker, state: *mut State) -> u8;
+    pub fn pb_checker_terms(checker: *mut Checker, id: u64, terms: *mut usize) -> u8;
+    pub fn pb_checker_constraint(
+        checker: *mut Checker,
+        id: u64,
+        numbers: *mut u64,
+        numbers_len: usize,
+        negated: *mut u8,
+        negated_len: usize,
+        lows: *mut u64,
+        lows_len: usize,
+        highs: *mut i64,
+        highs_len: usize,
+        degree: *mut Number,
+    ) -> u8;
     pub fn pb_checker_close(checker: *mut Checker);
     pub fn pb_instance_read(
         text: *const u8,
@@ -176,12 +218,12 @@ extern "C" {
         pasts: *mut u64,
         pasts_len: usize,
     ) -> u8;
-    pub fn pb_instance_name(
+    pub fn pb_instance_names(
         instance: *mut Instance,
-        number: usize,
-        out: *mut u8,
-        out_room: usize,
-        out_len: *mut usize,
+        bytes: *mut u8,
+        bytes_len: usize,
+        starts: *mut u64,
+        starts_len: usize,
     ) -> u8;
     pub fn pb_instance_close(instance: *mut Instance);
 }

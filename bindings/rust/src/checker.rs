@@ -1,198 +1,35 @@
 //! A check of a proof in the pieces in which it is written.
 
-use crate::{c, of_c, Options, Status, Verdict};
-use std::error::Error;
+use crate::c::wide;
+use crate::{c, of_c, Fault, Options, Place, Verdict};
 use std::fmt;
 use std::io::{self, Write};
 
-/// Which text a fault is in.
-#[derive(Clone, Copy, Debug, PartialEq, Eq)]
-pub enum Input {
-    Instance,
-    Proof,
+/// What a checker has accepted. The ids that a statement gave are those after the newest id before it.
+#[derive(Clone, Copy, Debug, Default, PartialEq, Eq)]
+pub struct State {
+    /// How many statements were accepted.
+    pub accepted: u64,
+    /// The newest id of a constraint, or 0 if there is none.
+    pub newest: u64,
+    /// The visits of the last `rup`, or 0 if there was none.
+    pub visits: u64,
 }
 
-/// Why a text is rejected. The header `pb.h` explains each reason.
+/// A term of a live constraint: the coefficient times a literal.
 #[derive(Clone, Debug, PartialEq, Eq)]
-#[non_exhaustive]
-pub enum Reason {
-    /// This byte may not come here.
-    Byte(u8),
-    TooLarge,
-    Ended,
-    TooLong,
-    Memory,
-    Overflow,
-    /// The number of the constraints, which `f` does not give.
-    FormulaCount(u64),
-    /// The id, as written.
-    NoSuchId(i64),
-    NotImplied,
-    Conflict,
-    /// The name that gets no value.
-    NotTotal(String),
-    /// The id of the constraint.
-    Violates(u64),
-    NoObjective,
-    NoContradiction,
-    SolutionLogged,
-    NoSolution,
-    NotBound,
-    IdsSpent,
-    Order,
-    /// The options are not allowed.
-    Misused,
+pub struct LiveTerm {
+    pub coefficient: i128,
+    pub name: String,
+    pub negated: bool,
 }
 
-impl Reason {
-    fn of(report: &c::Report, name: impl FnOnce(usize) -> String) -> Reason {
-        match report.reason {
-            1 => Reason::Byte(report.number as u8),
-            2 => Reason::TooLarge,
-            3 => Reason::Ended,
-            4 => Reason::TooLong,
-            6 => Reason::Memory,
-            10 => Reason::Overflow,
-            11 => Reason::FormulaCount(report.number),
-            12 => Reason::NoSuchId(report.id),
-            13 => Reason::NotImplied,
-            14 => Reason::Conflict,
-            15 => Reason::NotTotal(name(report.number as usize)),
-            16 => Reason::Violates(report.number),
-            17 => Reason::NoObjective,
-            18 => Reason::NoContradiction,
-            19 => Reason::SolutionLogged,
-            20 => Reason::NoSolution,
-            21 => Reason::NotBound,
-            22 => Reason::IdsSpent,
-            23 => Reason::Order,
-            _ => Reason::Misused,
-        }
-    }
-}
-
-impl fmt::Display for Reason {
-    fn fmt(&self, f: &mut fmt::Formatter<'_>) -> fmt::Result {
-        match self {
-            Reason::Byte(byte) => write!(f, "byte 0x{byte:02x}"),
-            Reason::TooLarge => f.write_str("number too large"),
-            Reason::Ended => f.write_str("input ended"),
-            Reason::TooLong => f.write_str("input too long"),
-            Reason::Memory => f.write_str("out of memory"),
-            Reason::Overflow => f.write_str("overflow"),
-            Reason::FormulaCount(count) => write!(f, "formula has {count} constraints"),
-            Reason::NoSuchId(id) => write!(f, "no such id {id}"),
-            Reason::NotImplied => f.write_str("not implied"),
-            Reason::Conflict => f.write_str("conflict"),
-            Reason::NotTotal(name) => write!(f, "no value for {name}"),
-            Reason::Violates(id) => write!(f, "violates constraint {id}"),
-            Reason::NoObjective => f.write_str("no objective"),
-            Reason::NoContradiction => f.write_str("not a contradiction"),
-            Reason::SolutionLogged => f.write_str("a solution was logged"),
-            Reason::NoSolution => f.write_str("no solution"),
-            Reason::NotBound => f.write_str("not a bound"),
-            Reason::IdsSpent => f.write_str("ids spent"),
-            Reason::Order => f.write_str("out of order"),
-            Reason::Misused => f.write_str("options that are not allowed"),
-        }
-    }
-}
-
-/// A position in a text.
-#[derive(Clone, Copy, Debug, PartialEq, Eq)]
-pub struct Place {
-    /// The line, from 1.
-    pub line: u64,
-    /// The column, in bytes and from 1.
-    pub column: u64,
-    /// The offset, in bytes and from 0.
-    pub offset: u64,
-}
-
-/// A checker rejected a text. `{}` is the line that the command prints.
+/// A live constraint in normal form: the sum of its terms is at least the degree.
 #[derive(Clone, Debug, PartialEq, Eq)]
-pub struct Fault {
-    status: Status,
-    input: Option<Input>,
-    place: Option<Place>,
-    reason: Reason,
+pub struct Live {
+    pub terms: Vec<LiveTerm>,
+    pub degree: i128,
 }
-
-impl Fault {
-    /// Nothing for status 0, or else the fault that a report states. `name` gives the name with a number.
-    pub(crate) fn of(
-        status: u8,
-        report: c::Report,
-        name: impl FnOnce(usize) -> String,
-    ) -> Result<(), Fault> {
-        let Some(status) = Status::of(status) else {
-            return Ok(());
-        };
-        Err(Fault {
-            status,
-            input: match report.input {
-                1 => Some(Input::Instance),
-                2 => Some(Input::Proof),
-                _ => None,
-            },
-            place: (report.line != 0).then_some(Place {
-                line: report.line,
-                column: report.column,
-                offset: report.offset,
-            }),
-            reason: Reason::of(&report, name),
-        })
-    }
-
-    pub fn status(&self) -> Status {
-        self.status
-    }
-
-    /// The number of the status, which is the exit status of the command.
-    pub fn code(&self) -> u8 {
-        self.status.code()
-    }
-
-    /// Which text it is in, if it is in one.
-    pub fn input(&self) -> Option<Input> {
-        self.input
-    }
-
-    /// The position, if the reason has one.
-    pub fn place(&self) -> Option<Place> {
-        self.place
-    }
-
-    /// The line, from 1, or 0 if there is no position.
-    pub fn line(&self) -> u64 {
-        self.place.map_or(0, |place| place.line)
-    }
-
-    /// The column, in bytes and from 1, or 0 if there is no position.
-    pub fn column(&self) -> u64 {
-        self.place.map_or(0, |place| place.column)
-    }
-
-    pub fn reason(&self) -> &Reason {
-        &self.reason
-    }
-}
-
-impl fmt::Display for Fault {
-    fn fmt(&self, f: &mut fmt::Formatter<'_>) -> fmt::Result {
-        match self.input {
-            Some(Input::Instance) => f.write_str("instance: ")?,
-            Some(Input::Proof) => f.write_str("proof: ")?,
-            None => {}
-        }
-        if let Some(place) = self.place {
-            write!(f, "line {} column {}: ", place.line, place.column)?;
-        }
-        self.reason.fmt(f)
-    }
-}
-
-impl Error for Fault {}
 
 /// Checks the proof of an instance while it is written. As a `Write` it takes the text of the proof; an error has a [`Fault`] inside. It stays
 /// on the thread that made it, so it is not `Send`.
@@ -253,6 +90,76 @@ impl Checker {
         Ok(used)
     }
 
+    /// Takes a piece of the proof up to the end of the next statement. Returns how many of its bytes belong to the proof, and whether a
+    /// statement ended there and was accepted. If one did, call it again with the rest of the piece. If none did, it took the whole piece.
+    pub fn step(&mut self, piece: &[u8]) -> Result<(usize, bool), Fault> {
+        let (mut used, mut ended, mut report) = (0, false, c::Report::default());
+        // SAFETY: as in `with`.
+        let status = unsafe {
+            c::pb_checker_step(
+                &mut self.raw,
+                piece.as_ptr(),
+                piece.len(),
+                &mut used,
+                &mut ended,
+                &mut report,
+            )
+        };
+        self.answer(status, report)?;
+        Ok((used, ended))
+    }
+
+    /// What was accepted so far. After a fault only the number of statements has a meaning.
+    pub fn state(&mut self) -> State {
+        let mut state = c::State::default();
+        // SAFETY: as in `with`. The checker is open, so the status is 0.
+        unsafe { c::pb_checker_state(&mut self.raw, &mut state) };
+        State {
+            accepted: state.accepted,
+            newest: state.newest,
+            visits: state.visits,
+        }
+    }
+
+    /// The live constraint with an id, if one has it. It has no meaning after a fault.
+    pub fn constraint(&mut self, id: u64) -> Option<Live> {
+        let mut count = 0;
+        // SAFETY: as in `with`.
+        if unsafe { c::pb_checker_terms(&mut self.raw, id, &mut count) } != 0 {
+            return None;
+        }
+        let (mut numbers, mut negated) = (vec![0; count], vec![0; count]);
+        let (mut lows, mut highs) = (vec![0; count], vec![0; count]);
+        let mut degree = c::Number::default();
+        // SAFETY: each pointer is that of a vector with so many elements.
+        unsafe {
+            c::pb_checker_constraint(
+                &mut self.raw,
+                id,
+                numbers.as_mut_ptr(),
+                count,
+                negated.as_mut_ptr(),
+                count,
+                lows.as_mut_ptr(),
+                count,
+                highs.as_mut_ptr(),
+                count,
+                &mut degree,
+            )
+        };
+        let terms = (0..count)
+            .map(|at| LiveTerm {
+                coefficient: wide(lows[at], highs[at]),
+                name: self.name(numbers[at] as usize),
+                negated: negated[at] != 0,
+            })
+            .collect();
+        Some(Live {
+            terms,
+            degree: wide(degree.low, degree.high),
+        })
+    }
+
     /// What the proof shows if it ends here.
     pub fn finish(&mut self) -> Result<Verdict, Fault> {
         let (mut claim, mut report) = (c::Claim::default(), c::Report::default());
@@ -282,15 +189,17 @@ impl Checker {
         held
     }
 
+    /// The name with a number.
+    fn name(&mut self, number: usize) -> String {
+        // SAFETY: `name_of` passes the pointer and the length of a slice.
+        name_of(|out, room, len| unsafe {
+            c::pb_checker_name(&mut self.raw, number, out, room, len)
+        })
+    }
+
     /// Nothing for status 0, or else the fault that a report states.
     fn answer(&mut self, status: u8, report: c::Report) -> Result<(), Fault> {
-        let name = |number| {
-            // SAFETY: `name_of` passes the pointer and the length of a slice. The checker is borrowed mutably.
-            name_of(|out, room, len| unsafe {
-                c::pb_checker_name(&mut self.raw, number, out, room, len)
-            })
-        };
-        Fault::of(status, report, name)
+        Fault::of(status, report, |number| self.name(number))
     }
 }
 
@@ -313,7 +222,7 @@ impl Write for Checker {
     fn write(&mut self, piece: &[u8]) -> io::Result<usize> {
         match self.feed(piece) {
             Ok(_) => Ok(piece.len()),
-            Err(fault) => Err(io::Error::new(io::ErrorKind::InvalidData, fault)),
+            Err(fault) => Err(fault.into()),
         }
     }
 

@@ -1,6 +1,6 @@
 //! An instance as values.
 
-use crate::checker::name_of;
+use crate::c::wide;
 use crate::{c, of_c, Fault, Options, Place};
 
 /// A term: the coefficient times a literal. The name has its number in `Instance::names`.
@@ -59,7 +59,7 @@ impl Instance {
         Fault::of(status, report, |_| String::new())?;
         let sizes = arrays.sizes();
         let mut instance = Instance {
-            names: (0..sizes.names).map(|number| arrays.name(number)).collect(),
+            names: arrays.names(sizes.names, sizes.name_bytes),
             ..Instance::default()
         };
         let terms = arrays.terms(sizes.terms);
@@ -79,11 +79,24 @@ impl Arrays {
         sizes
     }
 
-    fn name(&mut self, number: usize) -> String {
-        // SAFETY: `name_of` passes the pointer and the length of a slice.
-        name_of(|out, room, len| unsafe {
-            c::pb_instance_name(&mut self.0, number, out, room, len)
-        })
+    fn names(&mut self, count: usize, size: usize) -> Vec<String> {
+        let (mut bytes, mut starts) = (vec![0; size], vec![0; count]);
+        // SAFETY: each pointer is that of a vector with so many elements.
+        unsafe {
+            c::pb_instance_names(
+                &mut self.0,
+                bytes.as_mut_ptr(),
+                size,
+                starts.as_mut_ptr(),
+                count,
+            )
+        };
+        starts.push(size as u64);
+        starts
+            .windows(2)
+            .map(|it| &bytes[it[0] as usize..it[1] as usize])
+            .map(|name| String::from_utf8_lossy(name).into_owned())
+            .collect()
     }
 
     fn terms(&mut self, count: usize) -> Vec<Term> {
@@ -175,9 +188,4 @@ impl Drop for Arrays {
         // SAFETY: it is closed, or it owns arrays.
         unsafe { c::pb_instance_close(&mut self.0) };
     }
-}
-
-/// The number of two words.
-fn wide(low: u64, high: i64) -> i128 {
-    (i128::from(high) << 64) + i128::from(low)
 }

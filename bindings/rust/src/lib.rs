@@ -16,9 +16,11 @@ use std::hash::{BuildHasher, Hasher};
 
 mod c;
 mod checker;
+mod fault;
 mod instance;
 
-pub use checker::{Checker, Fault, Input, Place, Reason};
+pub use checker::{Checker, Live, LiveTerm, State};
+pub use fault::{Fault, Input, Place, Reason};
 pub use instance::{Constraint, Instance, Relation, Term};
 
 /// The version of the linked library as one number, 1002003 for 1.2.3.

@@ -1,6 +1,6 @@
 //! Checks in pieces. `checks/program/bindings` compares many more files with what the program prints.
 
-use pb::{Checker, Fault, Input, Options, Place, Reason, Status, Verdict};
+use pb::{Checker, Fault, Input, LiveTerm, Options, Place, Reason, Status, Verdict};
 use std::fs;
 use std::io::Write;
 use std::path::Path;
@@ -115,4 +115,31 @@ fn eight_threads_check_at_the_same_time() {
             });
         }
     });
+}
+
+#[test]
+fn each_statement_has_its_state_and_the_live_constraints() {
+    let instance = b"* #variable= 2 #constraint= 2\n+2 x1 +1 ~x2 >= 2 ;\n-1 x1 >= 0 ;\n";
+    let proof = b"pseudo-Boolean proof version 2.0\nf 2\npol 1 2 2 * +\ndel id 2\nrup >= 1 ;\noutput NONE\nconclusion NONE\nend pseudo-Boolean proof\n";
+    let mut checker = Checker::new(instance).expect("an instance");
+    let (mut rest, mut newest) = (&proof[..], vec![]);
+    while let (used, true) = checker.step(rest).expect("a statement") {
+        rest = &rest[used..];
+        newest.push(checker.state().newest);
+        assert_eq!(checker.state().accepted, newest.len() as u64);
+        assert_eq!(
+            checker.constraint(2).is_some(),
+            [2, 3].contains(&newest.len())
+        );
+    }
+    assert_eq!(newest, [0, 2, 3, 3, 4, 4, 4, 4]);
+    let live = checker.constraint(3).expect("a live constraint");
+    let term = LiveTerm {
+        coefficient: 1,
+        name: "x2".to_string(),
+        negated: true,
+    };
+    assert_eq!((live.terms, live.degree), (vec![term], 2));
+    assert_eq!(checker.constraint(5), None);
+    assert_eq!(checker.finish(), Ok(Verdict::NoClaim));
 }
