@@ -1,4 +1,4 @@
-// pb.hpp: the functions of pb.h for C++17. A fault is an exception with its position, a checker frees what it owns, an instance
+// pb.hpp: the functions of pb.h for C++17. A fault is an exception with its position, a checker and a reader free what they own, an instance
 // has vectors, and texts are strings.
 //
 //     pb::Checker checker(instance);
@@ -473,6 +473,113 @@ private:
             places.push_back(Place{lines[row], columns[row], firsts[row]});
         }
     }
+};
+
+enum class Format : std::uint32_t { Instance = PB_READS_INSTANCE, Proof = PB_READS_PROOF };
+
+// A part of a statement: one of the PB_TOKEN_ codes of pb.h, the number of its name or 0, and its number or 0.
+struct Token {
+    std::uint8_t code;
+    std::uint64_t name;
+    Wide number;
+};
+
+// A statement: one of the PB_EVENT_ kinds of pb.h, the position of its first byte, the offset past its last, its tokens, and the free text of
+// a header or a comment.
+struct Event {
+    std::uint32_t kind;
+    Place place;
+    std::uint64_t past;
+    std::vector<Token> tokens;
+    std::string text;
+};
+
+// Reads an instance or a proof, one statement at a time. It checks the text and not the proof. It belongs to the thread that made it. Each call
+// may throw a Fault.
+//
+//     while (next(piece))
+//         while (auto event = reader.next(piece))
+//             ...
+//     reader.finish();
+class Reader {
+public:
+    Reader(Format format, const pb_options_t &options)
+    {
+        pb_report_t report;
+        answer(pb_reader_open(static_cast<std::uint32_t>(format), &options, &reader_, &report), report);
+    }
+#ifndef PB_NO_RANDOM
+    explicit Reader(Format format) : Reader(format, random_options()) {}
+#endif
+    Reader(Reader &&other) noexcept : reader_(std::exchange(other.reader_, pb_reader_t PB_READER_CLOSED)) {}
+    Reader &operator=(Reader &&other) noexcept
+    {
+        std::swap(reader_, other.reader_);
+        return *this;
+    }
+    Reader(const Reader &) = delete;
+    Reader &operator=(const Reader &) = delete;
+    ~Reader() { pb_reader_close(&reader_); }
+
+    // Takes a piece of the text, cut anywhere, up to the end of the next statement, and leaves the rest of the piece. Returns the statement that
+    // ended there. If there is none, the whole piece was taken, and nothing is left of it.
+    std::optional<Event> next(std::string_view &piece)
+    {
+        pb_report_t report;
+        pb_event_t event;
+        std::size_t used = 0;
+        answer(pb_reader_feed(&reader_, inner::bytes_of(piece), piece.size(), &used, &event, &report), report);
+        piece.remove_prefix(event.kind != PB_EVENT_NONE ? used : piece.size());
+        if (event.kind == PB_EVENT_NONE)
+            return std::nullopt;
+        return Event{event.kind, Place{event.line, event.column, event.offset}, event.past, tokens(event.tokens), text(event.bytes)};
+    }
+
+    // Throws a Fault if the text may not end here.
+    void finish()
+    {
+        pb_report_t report;
+        answer(pb_reader_finish(&reader_, &report), report);
+    }
+
+    // The name with a number. Names are numbered from 0 in the order in which they first appear.
+    std::string name(std::uint64_t number)
+    {
+        return inner::name_of([&](std::uint8_t *room, std::size_t size, std::size_t *length) {
+            pb_reader_name(&reader_, static_cast<std::size_t>(number), room, size, length);
+        });
+    }
+
+private:
+    std::vector<Token> tokens(std::size_t count)
+    {
+        auto codes = inner::room_for<std::uint8_t>(count);
+        auto names = inner::room_for<std::uint64_t>(count), lows = names;
+        auto highs = inner::room_for<std::int64_t>(count);
+        pb_reader_tokens(&reader_, codes.data(), count, names.data(), count, lows.data(), count, highs.data(), count);
+        std::vector<Token> found;
+        found.reserve(count);
+        for (std::size_t at = 0; at < count; at++)
+            found.push_back(Token{codes[at], names[at], Wide{lows[at], highs[at]}});
+        return found;
+    }
+
+    std::string text(std::size_t size)
+    {
+        std::string text(size, '\0');
+        std::size_t length = 0;
+        if (size > 0)
+            pb_reader_bytes(&reader_, reinterpret_cast<std::uint8_t *>(&text[0]), size, &length);
+        return text;
+    }
+
+    void answer(std::uint8_t status, const pb_report_t &report)
+    {
+        if (status != PB_OK)
+            throw Fault(status, report, std::string());
+    }
+
+    pb_reader_t reader_ = PB_READER_CLOSED;
 };
 
 // tidy() or show() failed. what() is the line of the fault, without its line feed.

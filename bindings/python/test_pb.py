@@ -1,5 +1,6 @@
 """The calls on the repository's examples: python3 -m unittest. checks/program/bindings compares many more files."""
 
+import io
 import os
 import threading
 import unittest
@@ -261,6 +262,79 @@ end pseudo-Boolean proof
             with pb.Checker(self.INSTANCE) as checker:
                 pieces = (self.PROOF[at : at + size] for at in range(0, len(self.PROOF), size))
                 self.assertEqual(sum(1 for piece in pieces for _ in checker.steps(piece)), 8)
+
+
+class Statements(unittest.TestCase):
+    def test_an_instance(self):
+        text = b"* #variable= 2 #constraint= 1 more\n* a note\nmin: -2 x1 ;\n+1 x1 -%d ~x2 >= -1 ;\n" % (2**100)
+        found = [*pb.statements(text)]
+        self.assertEqual([it.kind for it in found], [pb.EventKind.HEADER, pb.EventKind.COMMENT, pb.EventKind.OBJECTIVE, pb.EventKind.CONSTRAINT])
+        self.assertEqual([(it.line, it.column) for it in found], [(1, 1), (2, 1), (3, 1), (4, 1)])
+        header, comment, objective, constraint = (it.tokens for it in found)
+        self.assertEqual(header, [(pb.TokenKind.COUNT, 2, ""), (pb.TokenKind.COUNT, 1, "")])
+        self.assertEqual(comment, [])
+        self.assertEqual(objective, [(pb.TokenKind.TERM, -2, "x1")])
+        terms = [(pb.TokenKind.TERM, 1, "x1"), (pb.TokenKind.NEGATED_TERM, -(2**100), "x2"), (pb.TokenKind.AT_LEAST, -1, "")]
+        self.assertEqual(constraint, terms)
+        self.assertEqual(text[found[3].offset : found[3].past], b"+1 x1 -%d ~x2 >= -1 ;" % (2**100))
+
+    def test_a_proof_from_a_file(self):
+        lines = {
+            b"f 2": (pb.EventKind.F, [(pb.TokenKind.COUNT, 2, "")]),
+            b"pol 1 ~x1 + 3 d s x2 w": (
+                pb.EventKind.POL,
+                [(pb.TokenKind.ID, 1, ""), (pb.TokenKind.NEGATED_LITERAL, 0, "x1"), (pb.TokenKind.ADD, 0, ""), (pb.TokenKind.DIVIDE, 3, ""), (pb.TokenKind.SATURATE, 0, ""),
+                 (pb.TokenKind.WEAKEN, 0, "x2")],
+            ),
+            b"rup +1 x1 >= 1 ;": (pb.EventKind.RUP, [(pb.TokenKind.TERM, 1, "x1"), (pb.TokenKind.AT_LEAST, 1, "")]),
+            b"soli x1 ~x2": (pb.EventKind.SOLI, [(pb.TokenKind.LITERAL, 0, "x1"), (pb.TokenKind.NEGATED_LITERAL, 0, "x2")]),
+            b"del id 3 -1": (pb.EventKind.DELETE, [(pb.TokenKind.ID, 3, ""), (pb.TokenKind.ID, -1, "")]),
+            b"output NONE": (pb.EventKind.OUTPUT, []),
+            b"conclusion BOUNDS 1 : 4 INF": (pb.EventKind.BOUNDS, [(pb.TokenKind.BOUND, 1, ""), (pb.TokenKind.ID, 4, ""), (pb.TokenKind.INFINITE, 0, "")]),
+            b"end pseudo-Boolean proof": (pb.EventKind.END, []),
+        }
+        text = b"\n".join([b"pseudo-Boolean proof version 2.0", *lines, b""])
+        with io.BytesIO(text) as file:
+            found = [*pb.statements(file)]
+        self.assertEqual(found[0].kind, pb.EventKind.PROOF)
+        self.assertEqual([(it.kind, it.tokens) for it in found[1:]], [*lines.values()])
+        self.assertEqual([text[it.offset : it.past] for it in found[1:]], [*lines])
+
+    def test_the_examples(self):
+        for name in ("refutation", "optimum", "solution"):
+            for suffix in (".opb", ".pbp"):
+                text = example(name + suffix)
+                shown = pb.show(text).splitlines()
+                self.assertEqual([f"{it.line}:{it.column}" for it in pb.statements(text)], [it.split()[0].decode() for it in shown])
+
+    def test_a_fault(self):
+        found, reader = [], pb.statements(b"* #variable= 1 #constraint= 1\n1x1 >= 1 ;\n")
+        with self.assertRaises(pb.Fault) as it:
+            for statement in reader:
+                found.append(statement.kind)
+        self.assertEqual(found, [pb.EventKind.HEADER])
+        self.assertEqual((it.exception.line, it.exception.column, it.exception.number), (2, 2, ord("x")))
+        for text in (b"", b"* #variable= 1 #constraint= 1\n"):
+            with self.assertRaises(pb.Fault) as it:
+                [*pb.statements(text)]
+            self.assertEqual(it.exception.reason, pb.Reason.ENDED)
+
+    def test_any_cut(self):
+        text = example("optimum.pbp")
+        wanted = [*pb.statements(text)]
+        for size in (1, 3, 37):
+            with pb.Reader(pb.Format.PROOF) as reader:
+                found = [it for at in range(0, len(text), size) for it in reader.feed(text[at : at + size])]
+                reader.finish()
+            self.assertEqual(found, wanted)
+
+    def test_a_closed_reader(self):
+        reader = pb.Reader(pb.Format.INSTANCE)
+        reader.close()
+        for call in (lambda: [*reader.feed(b"")], reader.finish):
+            with self.assertRaises(pb.Fault) as it:
+                call()
+            self.assertEqual(it.exception.code, pb.MISUSE)
 
 
 class Arrays(unittest.TestCase):

@@ -115,6 +115,43 @@ static void steps()
     tell(checker.finish().kind() == pb::Kind::None, "the verdict of the steps");
 }
 
+// The statements of a text by a reader, with the line and the column of each, are those of pb::show().
+static void statements(const std::string &text, pb::Format format)
+{
+    pb::Reader reader(format);
+    std::string_view rest = text;
+    std::string found, wanted = pb::show(text), line;
+    while (auto event = reader.next(rest))
+        found += std::to_string(event->place.line) + ":" + std::to_string(event->place.column) + "\n";
+    reader.finish();
+    std::string lines;
+    for (std::size_t at = 0; at < wanted.size(); at = wanted.find('\n', at) + 1)
+        lines += wanted.substr(at, wanted.find(' ', at) - at) + "\n";
+    tell(found == lines && rest.empty(), "the statements of a reader");
+    const pb::Fault fault = fault_of([] {
+        pb::Reader reader(pb::Format::Instance);
+        std::string_view text = "1x1 >= 1 ;\n";
+        reader.next(text);
+    });
+    tell(fault.reason() == pb::Reason::Byte && fault.line() == 1, "the fault of a reader");
+}
+
+// A statement of an instance, token by token.
+static void tokens()
+{
+    pb::Reader reader(pb::Format::Instance);
+    std::string_view text = "* #variable= 2 #constraint= 1\n+1 x1 -3 ~x2 >= -1 ;\n";
+    tell(reader.next(text)->kind == PB_EVENT_HEADER, "a header");
+    const pb::Event event = *reader.next(text);
+    const auto &found = event.tokens;
+    tell(event.kind == PB_EVENT_CONSTRAINT && event.past == 50 && found.size() == 3, "a constraint");
+    tell(found[0].code == PB_TOKEN_TERM && found[0].number == pb::Wide{1, 0} && reader.name(found[0].name) == "x1", "a term");
+    tell(found[1].code == PB_TOKEN_NEGATED_TERM && found[1].number.str() == "-3" && reader.name(found[1].name) == "x2", "a negated term");
+    tell(found[2].code == PB_TOKEN_AT_LEAST && found[2].number.str() == "-1", "a relation");
+    tell(!reader.next(text) && text.empty(), "the end");
+    reader.finish();
+}
+
 int main(int count, char **words)
 {
     if (count != 3)
@@ -123,6 +160,9 @@ int main(int count, char **words)
     texts(instance);
     faults();
     steps();
+    tokens();
+    statements(instance, pb::Format::Instance);
+    statements(proof, pb::Format::Proof);
     std::vector<std::thread> threads;
     for (int k = 0; k < 8; k++)
         threads.emplace_back(moved, instance, proof);

@@ -1,5 +1,6 @@
 """The verified checker pb, from Python: check(), tidy() and show() do for bytes what the commands of these names do for files.
-A Checker checks a proof in the pieces in which it is written. read_instance() has an instance as arrays.
+A Checker checks a proof in the pieces in which it is written. read_instance() has an instance as arrays, and statements() gives one
+statement at a time.
 
 It needs the standard library and the shared library libpb.so. That is the file which the variable PB_LIBRARY names, or else libpb.so in
 the folder of this file, or else what the system finds under the name pb. `pip install` builds it, and for use in place
@@ -18,6 +19,7 @@ from ._checker import Checker, Live, State, check
 from ._faults import FAILED, MISUSE, REFUSED, Fault, Place, Reason, Refusal, Verdict
 from ._instance import Constraint, Instance, NameList, Term, read_instance
 from ._library import Options, loaded, options
+from ._reader import EventKind, Format, Reader, Statement, Token, TokenKind, statements
 from ._texts import show, tidy
 
 __all__ = [
@@ -26,21 +28,28 @@ __all__ = [
     "REFUSED",
     "Checker",
     "Constraint",
+    "EventKind",
     "Fault",
+    "Format",
     "Instance",
     "Live",
     "NameList",
     "Options",
     "Place",
+    "Reader",
     "Reason",
     "Refusal",
     "State",
+    "Statement",
     "Term",
+    "Token",
+    "TokenKind",
     "Verdict",
     "check",
     "options",
     "read_instance",
     "show",
+    "statements",
     "tidy",
     "version",
 ]

@@ -27,7 +27,7 @@ class Options(ctypes.Structure):
 
 
 class Handle(ctypes.Structure):
-    """A checker or an instance of the library, or NULL if it is closed."""
+    """A checker, an instance or a reader of the library, or NULL if it is closed."""
 
     inner: Optional[int]
     _fields_ = [("inner", ctypes.c_void_p)]
@@ -111,6 +111,27 @@ class Number(ctypes.Structure):
     _fields_ = [("low", ctypes.c_uint64), ("high", ctypes.c_int64)]
 
 
+class Event(ctypes.Structure):
+    """A statement that a reader has read."""
+
+    line: int
+    column: int
+    offset: int
+    past: int
+    tokens: int
+    bytes: int
+    kind: int
+    _fields_ = [
+        ("line", ctypes.c_uint64),
+        ("column", ctypes.c_uint64),
+        ("offset", ctypes.c_uint64),
+        ("past", ctypes.c_uint64),
+        ("tokens", ctypes.c_size_t),
+        ("bytes", ctypes.c_size_t),
+        ("kind", ctypes.c_uint32),
+    ]
+
+
 _SIZE, _BYTES, _ADDRESS, _REPORT = ctypes.c_size_t, ctypes.c_char_p, ctypes.c_void_p, ctypes.POINTER(Report)
 _LENGTH, _OPTIONS, _HANDLE = ctypes.POINTER(_SIZE), ctypes.POINTER(Options), ctypes.POINTER(Handle)
 # A buffer that a call writes to: its address, its size, and where the length of the whole text goes.
@@ -138,8 +159,14 @@ _CALLS = {
     "pb_instance_rows": [_HANDLE, *_FOUR_ARRAYS],
     "pb_instance_places": [_HANDLE, *_FOUR_ARRAYS],
     "pb_instance_names": [_HANDLE, _ADDRESS, _SIZE, _ADDRESS, _SIZE],
+    "pb_reader_open": [ctypes.c_uint32, _OPTIONS, _HANDLE, _REPORT],
+    "pb_reader_feed": [_HANDLE, _ADDRESS, _SIZE, _LENGTH, ctypes.POINTER(Event), _REPORT],
+    "pb_reader_finish": [_HANDLE, _REPORT],
+    "pb_reader_tokens": [_HANDLE, *_FOUR_ARRAYS],
+    "pb_reader_bytes": [_HANDLE, *_ROOM],
+    "pb_reader_name": [_HANDLE, _SIZE, *_ROOM],
 }
-_CLOSES = ("pb_checker_close", "pb_instance_close")
+_CLOSES = ("pb_checker_close", "pb_instance_close", "pb_reader_close")
 
 
 def _path() -> str:
@@ -213,7 +240,7 @@ def first_of(room: Any) -> int:
 
 
 def name_of(call: Any, handle: Handle, number: int) -> str:
-    """The name with a number, of a checker."""
+    """The name with a number, of a checker or of a reader."""
     room = 64
     while True:
         text, length = ctypes.create_string_buffer(room), ctypes.c_size_t()
@@ -224,7 +251,7 @@ def name_of(call: Any, handle: Handle, number: int) -> str:
 
 
 class Names:
-    """The names of a checker by their numbers. Each is asked for once."""
+    """The names of a checker or of a reader by their numbers. Each is asked for once."""
 
     def __init__(self, call: str, handle: Handle) -> None:
         self._call, self._handle, self._known = getattr(loaded(), call), handle, {}  # type: Any, Handle, Dict[int, str]

@@ -35,6 +35,17 @@ impl Instance {
 }
 
 #[repr(C)]
+pub struct Reader {
+    inner: *mut c_void,
+}
+
+impl Reader {
+    pub const CLOSED: Reader = Reader {
+        inner: ptr::null_mut(),
+    };
+}
+
+#[repr(C)]
 #[derive(Default)]
 pub struct Sizes {
     pub rows: usize,
@@ -56,6 +67,18 @@ pub struct State {
 pub struct Number {
     pub low: u64,
     pub high: i64,
+}
+
+#[repr(C)]
+#[derive(Default)]
+pub struct Event {
+    pub line: u64,
+    pub column: u64,
+    pub offset: u64,
+    pub past: u64,
+    pub tokens: usize,
+    pub bytes: usize,
+    pub kind: u32,
 }
 
 #[repr(C)]
@@ -226,4 +249,44 @@ extern "C" {
         starts_len: usize,
     ) -> u8;
     pub fn pb_instance_close(instance: *mut Instance);
+    pub fn pb_reader_open(
+        format: u32,
+        options: *const Options,
+        reader: *mut Reader,
+        report: *mut Report,
+    ) -> u8;
+    pub fn pb_reader_feed(
+        reader: *mut Reader,
+        piece: *const u8,
+        piece_len: usize,
+        used: *mut usize,
+        event: *mut Event,
+        report: *mut Report,
+    ) -> u8;
+    pub fn pb_reader_finish(reader: *mut Reader, report: *mut Report) -> u8;
+    pub fn pb_reader_tokens(
+        reader: *mut Reader,
+        codes: *mut u8,
+        codes_len: usize,
+        names: *mut u64,
+        names_len: usize,
+        lows: *mut u64,
+        lows_len: usize,
+        highs: *mut i64,
+        highs_len: usize,
+    ) -> u8;
+    pub fn pb_reader_bytes(
+        reader: *mut Reader,
+        out: *mut u8,
+        out_room: usize,
+        out_len: *mut usize,
+    ) -> u8;
+    pub fn pb_reader_name(
+        reader: *mut Reader,
+        number: usize,
+        out: *mut u8,
+        out_room: usize,
+        out_len: *mut usize,
+    ) -> u8;
+    pub fn pb_reader_close(reader: *mut Reader);
 }

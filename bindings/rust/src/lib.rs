@@ -1,6 +1,6 @@
 //! The verified checker pb, from Rust: `check`, `tidy` and `show` do for bytes in memory what the commands of these names do for
-//! files. A [`Checker`] checks a proof in the pieces in which it is written,
-//! and an [`Instance`] has an instance as values. `include/pb.h` states the promises of each call, and which of them are proved.
+//! files. A [`Checker`] checks a proof in the pieces in which it is written, an [`Instance`] has an instance as values, and [`events`] gives
+//! one statement at a time. `include/pb.h` states the promises of each call, and which of them are proved.
 //!
 //! ```no_run
 //! let (instance, proof) = (std::fs::read("p.opb")?, std::fs::read("p.pbp")?);
@@ -18,10 +18,12 @@ mod c;
 mod checker;
 mod fault;
 mod instance;
+mod reader;
 
 pub use checker::{Checker, Live, LiveTerm, State};
 pub use fault::{Fault, Input, Place, Reason};
 pub use instance::{Constraint, Instance, Relation, Term};
+pub use reader::{events, Event, EventKind, Events, Format, Reader, Token};
 
 /// The version of the linked library as one number, 1002003 for 1.2.3.
 pub fn version() -> u32 {
