@@ -254,7 +254,8 @@ class Names:
     """The names of a checker or of a reader by their numbers. Each is asked for once."""
 
     def __init__(self, call: str, handle: Handle) -> None:
-        self._call, self._handle, self._known = getattr(loaded(), call), handle, {}  # type: Any, Handle, Dict[int, str]
+        self._call, self._handle = getattr(loaded(), call), handle
+        self._known: Dict[int, str] = {}
 
     def __getitem__(self, number: int) -> str:
         name = self._known.get(number)
@@ -265,7 +266,7 @@ class Names:
 
 class Owned:
     """Owns a handle of the library until it is closed. It belongs to the thread that made it: a call in another thread raises
-    RuntimeError."""
+    RuntimeError, and what is dropped there is never freed."""
 
     _kind: str
 
