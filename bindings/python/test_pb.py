@@ -1,5 +1,6 @@
 """The calls on the repository's examples: python3 -m unittest. checks/program/bindings compares many more files."""
 
+import importlib.util
 import io
 import os
 import threading
@@ -361,6 +362,17 @@ class Arrays(unittest.TestCase):
         view = memoryview(found.numbers)
         view[0] = 7
         self.assertEqual(found.numbers[0], 7)
+
+    @unittest.skipUnless(importlib.util.find_spec("numpy"), "there is no numpy")
+    def test_numpy_takes_the_arrays_without_a_copy(self):
+        import numpy
+
+        found = pb.read_instance(b"* #variable= 2 #constraint= 1\n+1 x1 -2 ~x2 >= -1 ;\n")
+        for array, kind in ((found.numbers, "uint64"), (found.highs, "int64"), (found.kinds, "uint8"), (found.names.starts, "uint64")):
+            seen = numpy.asarray(array)
+            self.assertEqual(seen.dtype, kind)
+            seen[0] = 5
+            self.assertEqual(array[0], 5)
 
     def test_long_names(self):
         names = [("n" * size).encode() + b"%d" % size for size in (2, 62, 63, 64, 65, 5000, 3)]
