@@ -3,9 +3,9 @@
 **
 ** This file declares the functions of libpb.a. Three do for bytes in memory what the command of that name does for files:
 ** pb_check() what `pb check` does, pb_tidy() what `pb tidy` does, and pb_show() what `pb show` does. A pb_checker_t checks a
-** proof in the pieces in which it is written, and a pb_instance_t has an instance as arrays. Each function is proved against its
-** contract in crates/pb_c. The proof relies on the toolchain, and on callers that keep the rules for pointers, rooms and memory
-** below.
+** proof in the pieces in which it is written, a pb_instance_t has an instance as arrays, and a pb_reader_t gives the statements
+** of a text one at a time. Each function is proved against its contract in crates/pb_c. The proof relies on the toolchain, and
+** on callers that keep the rules for pointers, rooms and memory below.
 */
 #ifndef PB_H
 #define PB_H
@@ -95,7 +95,7 @@ typedef struct pb_options_t {
 ** may write to the texts or the options, or read or write the room or the length.
 **
 ** Memory. The library allocates by malloc(), realloc() and free() of the program. It frees all of it before a call returns,
-** except what a checker or an instance stores until it is closed. These three have to belong to one allocator. They have to
+** except what a checker, an instance or a reader stores until it is closed. These three have to belong to one allocator. They have to
 ** align a block to each power of two up to 16 that divides its size. Calls keep no other state, and may run at the same time in
 ** several threads. No call may be made from a signal handler, nor between fork() and exec() in a child of a process that had
 ** several threads.
@@ -436,6 +436,160 @@ uint8_t pb_instance_names(pb_instance_t *instance,
                           uint8_t *bytes, size_t bytes_len,
                           uint64_t *starts, size_t starts_len);
 void pb_instance_close(pb_instance_t *instance);
+
+/*
+** CAPI: A Reader In Pieces
+**
+** A reader reads an instance or a proof, cut anywhere, and gives one statement at a time: what it is, where it is, and its
+** tokens as arrays. It reads the text, and checks no step of a proof.
+**
+**     pb_reader_t reader = PB_READER_CLOSED;
+**     status = pb_reader_open(PB_READS_PROOF, &options, &reader, &report);
+**     while (status == PB_OK && next_piece(&piece, &piece_len)) {
+**         do {
+**             status = pb_reader_feed(&reader, piece, piece_len, &used, &event, &report);
+**             piece += used;
+**             piece_len -= used;
+**             if (event.kind != PB_EVENT_NONE)
+**                 ... pb_reader_tokens(&reader, codes, event.tokens, ...) ...
+**         } while (event.kind != PB_EVENT_NONE);
+**     }
+**     if (status == PB_OK)
+**         status = pb_reader_finish(&reader, &report);
+**     pb_reader_close(&reader);
+**
+** A pb_reader_t is closed, or it owns a reader. It is used as a pb_checker_t is: it begins as PB_READER_CLOSED, a copy owns
+** nothing, and it belongs to the thread that opened it. Each call with a closed one but pb_reader_open() and pb_reader_close()
+** returns PB_MISUSE.
+**
+** pb_reader_open() opens a reader of instances, PB_READS_INSTANCE, or of proofs, PB_READS_PROOF. It first closes what the
+** pb_reader_t owned. With another format the result is PB_MISUSE.
+**
+** pb_reader_feed() takes a piece of the text up to the end of the next statement. `used` is how many of its bytes it took. If a
+** statement ends there, the event says what it is. Otherwise the kind of the event is PB_EVENT_NONE, and all bytes that belong to
+** the text were taken: the whole piece, or none of it if the text has ended before. At any result but PB_OK `used` is 0 and there
+** is no event, and each later call returns the same result and report.
+**
+** pb_reader_finish() says whether the text may end here. An instance may end after as many constraints as its header says, and a
+** proof after its last line. What the caller has left of a piece then is not part of the text. pb_checker_finish() and
+** pb_instance_read() allow only white space and comments there.
+**
+** Event. `line`, `column` and `offset` are the position of the first byte, and `past` is the offset past the last. `tokens` is the
+** number of tokens, and `bytes` the length of the free text: what follows the counts in the header of an instance, or the text of
+** a comment.
+**
+** pb_reader_tokens() copies the tokens of the last event to arrays of that many elements. Otherwise nothing is written, and the
+** result is PB_MISUSE. A token has a code, the number of its name, or 0 if it has none, and a number in two words, or 0 if it has
+** none. Names are numbered from 0 in the order in which they first appear in the whole text.
+**
+**     PB_TOKEN_TERM, PB_TOKEN_NEGATED_TERM        a coefficient, and a name or its negation
+**     PB_TOKEN_LITERAL, PB_TOKEN_NEGATED_LITERAL  a name or its negation, of a solution, or as an axiom of `pol`
+**     PB_TOKEN_AT_LEAST, PB_TOKEN_EQUAL           `>=` or `=`, with the degree
+**     PB_TOKEN_COUNT                              a count of a header or of `f`
+**     PB_TOKEN_ID                                 an id, as written
+**     PB_TOKEN_ADD, PB_TOKEN_SATURATE             `+`, `s`
+**     PB_TOKEN_MULTIPLY, PB_TOKEN_DIVIDE          a factor and `*`, a divisor and `d`
+**     PB_TOKEN_WEAKEN                             a name and `w`
+**     PB_TOKEN_BOUND, PB_TOKEN_INFINITE           a bound of `conclusion BOUNDS`, or INF
+**     PB_TOKEN_SOLUTION                           the literals of a solution follow, maybe none
+**
+** The kinds of events, with their tokens in order:
+**
+**     PB_EVENT_HEADER              the first line of an instance: two counts, and a free text
+**     PB_EVENT_COMMENT             a comment of an instance: a free text
+**     PB_EVENT_OBJECTIVE           terms
+**     PB_EVENT_CONSTRAINT          terms, the relation
+**     PB_EVENT_PROOF               the first line of a proof
+**     PB_EVENT_F                   a count, or nothing
+**     PB_EVENT_POL                 its words
+**     PB_EVENT_RUP                 terms, the relation
+**     PB_EVENT_SOLI, PB_EVENT_SOLX literals
+**     PB_EVENT_DELETE              ids
+**     PB_EVENT_OUTPUT              nothing
+**     PB_EVENT_NO_CLAIM            `conclusion NONE`: nothing
+**     PB_EVENT_UNSAT               `conclusion UNSAT`: an id, or nothing
+**     PB_EVENT_SAT                 `conclusion SAT`: PB_TOKEN_SOLUTION and literals, or nothing
+**     PB_EVENT_BOUNDS              the lower bound, maybe an id, the upper bound, then as for PB_EVENT_SAT
+**     PB_EVENT_END                 the last line of a proof
+**
+** pb_reader_bytes() writes the free text of the last event into a room, as pb_tidy() writes its text, and pb_reader_name() the
+** name with a number, as pb_checker_name() does.
+**
+** It is proved (crates/pb_c/src/reader.rt) that the events are the statements of the text, whatever its cut, that the arrays are
+** their tokens, and that the status and the report are those of the first fault. A comment after the last constraint of an
+** instance is not part of it. In a proof comments and white space give no event.
+*/
+#define PB_READS_INSTANCE 1
+#define PB_READS_PROOF 2
+
+#define PB_EVENT_NONE 0
+#define PB_EVENT_HEADER 1
+#define PB_EVENT_COMMENT 2
+#define PB_EVENT_OBJECTIVE 3
+#define PB_EVENT_CONSTRAINT 4
+#define PB_EVENT_PROOF 16
+#define PB_EVENT_F 17
+#define PB_EVENT_POL 18
+#define PB_EVENT_RUP 19
+#define PB_EVENT_SOLI 20
+#define PB_EVENT_SOLX 21
+#define PB_EVENT_DELETE 22
+#define PB_EVENT_OUTPUT 23
+#define PB_EVENT_NO_CLAIM 24
+#define PB_EVENT_UNSAT 25
+#define PB_EVENT_SAT 26
+#define PB_EVENT_BOUNDS 27
+#define PB_EVENT_END 28
+
+#define PB_TOKEN_TERM 1
+#define PB_TOKEN_NEGATED_TERM 2
+#define PB_TOKEN_LITERAL 3
+#define PB_TOKEN_NEGATED_LITERAL 4
+#define PB_TOKEN_AT_LEAST 5
+#define PB_TOKEN_EQUAL 6
+#define PB_TOKEN_COUNT 7
+#define PB_TOKEN_ID 8
+#define PB_TOKEN_ADD 9
+#define PB_TOKEN_MULTIPLY 10
+#define PB_TOKEN_DIVIDE 11
+#define PB_TOKEN_SATURATE 12
+#define PB_TOKEN_WEAKEN 13
+#define PB_TOKEN_BOUND 14
+#define PB_TOKEN_INFINITE 15
+#define PB_TOKEN_SOLUTION 16
+
+typedef struct pb_reader_t {
+    void *inner;
+} pb_reader_t;
+
+#define PB_READER_CLOSED {NULL}
+
+typedef struct pb_event_t {
+    uint64_t line;
+    uint64_t column;
+    uint64_t offset;
+    uint64_t past;
+    size_t tokens;
+    size_t bytes;
+    uint32_t kind;
+} pb_event_t;
+
+uint8_t pb_reader_open(uint32_t format, const pb_options_t *options,
+                       pb_reader_t *reader, pb_report_t *report);
+uint8_t pb_reader_feed(pb_reader_t *reader,
+                       const uint8_t *piece, size_t piece_len,
+                       size_t *used, pb_event_t *event, pb_report_t *report);
+uint8_t pb_reader_finish(pb_reader_t *reader, pb_report_t *report);
+uint8_t pb_reader_tokens(pb_reader_t *reader,
+                         uint8_t *codes, size_t codes_len,
+                         uint64_t *names, size_t names_len,
+                         uint64_t *lows, size_t lows_len,
+                         int64_t *highs, size_t highs_len);
+uint8_t pb_reader_bytes(pb_reader_t *reader,
+                        uint8_t *out, size_t out_room, size_t *out_len);
+uint8_t pb_reader_name(pb_reader_t *reader, size_t number,
+                       uint8_t *out, size_t out_room, size_t *out_len);
+void pb_reader_close(pb_reader_t *reader);
 
 #ifdef __cplusplus
 }
