@@ -3,7 +3,7 @@
 import ctypes
 import enum
 from array import array
-from typing import BinaryIO, Iterator, List, NamedTuple, Optional, Union
+from typing import Any, BinaryIO, Iterator, List, NamedTuple, Optional, Union
 
 from ._faults import Fault
 from ._library import Event, Names, Options, Owned, Report, Text, address_of, bytes_of, first_of, given, loaded
@@ -96,7 +96,9 @@ class Reader(Owned):
         super().__init__()
         self._names, self._report = Names("pb_reader_name", self._handle), Report()
         self._used, self._event = ctypes.c_size_t(), Event()
-        self._arrays = [array(it) for it in "BQQq"]
+        self._arrays: List[Any] = []
+        self._firsts: List[int] = []
+        self._grow(16)
         self._answer(loaded().pb_reader_open(text_format, given(opts), self._own(), ctypes.byref(self._report)))
 
     def feed(self, piece: Text) -> Iterator[Statement]:
@@ -114,14 +116,19 @@ class Reader(Owned):
         """Raises Fault if the text may not end here."""
         self._answer(loaded().pb_reader_finish(self._own(), ctypes.byref(self._report)))
 
+    def _grow(self, count: int) -> None:
+        """Makes arrays for so many tokens. Their length never changes, so their elements stay where they are."""
+        self._arrays = [array(it, (0,)) * count for it in "BQQq"]
+        self._firsts = [first_of(it) for it in self._arrays]
+
     def _tokens(self, count: int) -> List[Token]:
         """The tokens of the last statement."""
         if count == 0:
             return []
         if len(self._arrays[0]) < count:
-            self._arrays = [array(it.typecode, (0,)) * (2 * count) for it in self._arrays]
-        words = (word for it in self._arrays for word in (first_of(it), count))
-        loaded().pb_reader_tokens(self._own(), *words)
+            self._grow(2 * count)
+        codes, names, lows, highs = self._firsts
+        loaded().pb_reader_tokens(self._own(), codes, count, names, count, lows, count, highs, count)
         parts = zip(*(it[:count] for it in self._arrays))
         return [Token(_TOKEN_KINDS[code], (high << 64) + low, self._names[name] if code in _NAMED else "") for code, name, low, high in parts]
 
