@@ -137,7 +137,11 @@ fn feed_reader(
             *used = taken.used;
             *event = match taken.event {
                 Some(given) => {
-                    Statement::of(given, reader.tokens().tokens.codes.len(), reader.text().len())
+                    Statement::of(
+                        given,
+                        reader.tokens().tokens.codes.len(),
+                        reader.text().len(),
+                    )
                 }
                 None => Statement::none(),
             };

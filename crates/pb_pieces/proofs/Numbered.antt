@@ -61,8 +61,8 @@ one_named seen tokens t name n old new some h is number holds =
     ∙ sym (map_push (λ (u : Token). number_of new.names u.name) tokens t))) in
     record {
       names_are = is ∙ (ap (λ (x : List (List ℕ)). with_name x name) h.names_are
-      ∙ (sym (with_names-push [] (seen ++ names_of tokens) name)
-      ∙ ap (λ (x : List (List ℕ)). with_names [] x) (append_assoc seen (names_of tokens) (name ∷ []) ∙ ap (λ (x : List (List ℕ)). seen ++ x) (sym more))));
+          ∙ (sym (with_names-push [] (seen ++ names_of tokens) name)
+          ∙ ap (λ (x : List (List ℕ)). with_names [] x) (append_assoc seen (names_of tokens) (name ∷ []) ∙ ap (λ (x : List (List ℕ)). seen ++ x) (sym more))));
       named = subst (λ (x : List (List ℕ)). HasNames new.names x) (sym more) (subst (λ (x : List (List ℕ)). HasNames x (names_of tokens ++ name ∷ [])) (sym is) (HasNames-push old.names (names_of tokens) name h.named));
       arrays = subst (λ (x : List ℕ). HoldTokens (tokens ++ t ∷ []) x new.tokens) all holds;
     }

@@ -85,7 +85,11 @@ impl NamedTokens {
             → OnOk result (AreTokens seen (tokens ++ token_of_term term.now ∷ []) self.new) }
     {
         let literal = &term.literal;
-        self.push_named(term_kind(literal.negated), term.coefficient, literal.name.as_str())
+        self.push_named(
+            term_kind(literal.negated),
+            term.coefficient,
+            literal.name.as_str(),
+        )
     }
 
     /// More terms.

@@ -169,10 +169,7 @@ fn put_bound(bound: Bound, into: &mut NamedTokens) -> Result<(), AllocError>
 }
 
 /// Adds the literals of a solution after a token for them, if they are given.
-fn put_solution(
-    shown: &Option<Sequence<Literal>>,
-    into: &mut NamedTokens,
-) -> Result<(), AllocError>
+fn put_solution(shown: &Option<Sequence<Literal>>, into: &mut NamedTokens) -> Result<(), AllocError>
     ensures { (seen : List (List ℕ)) (before : List Token) → AreTokens seen before into.old
         → OnOk result (AreTokens seen (before ++ tokens_of_solution shown.now) into.new) }
 {

@@ -10,8 +10,7 @@ returns-clause-ends c f options fed events (r, is, running, (limits, longest, as
     let within = unwrap_or longest (2 ^ 40) in
     let held : c.args.reader.now.value ≡ Some c.deref_mut.result.now = search rules in
     let kept : c.of.result.value ≡ Some c.finish_reader-status.new.reader = search rules in
-    let same = same_value is held in
-    (
+    let same = same_value is held in (
       c.finish_reader-status.new.reader,
       kept,
       (

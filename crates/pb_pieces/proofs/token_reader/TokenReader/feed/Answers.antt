@@ -25,8 +25,7 @@ returns-in-Ok-give-clause-gives g c longest start fed spans running reading =
     let f = rw c.in-Ok.is at c.feed.ensures in
     let m = c.in-Some-event.read in
     let r = rw c.in-Some-event.is at c.in-Ok-give.ensures in
-    let holds = r.stored reading.seen reading.current reading.holds in
-    (
+    let holds = r.stored reading.seen reading.current reading.holds in (
       m,
       r.shown,
       holds.arrays,
