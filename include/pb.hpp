@@ -522,20 +522,20 @@ public:
     ~Reader() { pb_reader_close(&reader_); }
 
     // Takes a piece of the text, cut anywhere, up to the end of the next statement, and leaves the rest of the piece. Returns the statement that
-    // ended there. If there is none, the whole piece was taken, and nothing is left of it.
+    // ended there. If there is none, the whole piece was taken, or the text has ended: then what is left of the piece is not part of it.
     std::optional<Event> next(std::string_view &piece)
     {
         pb_report_t report;
         pb_event_t event;
         std::size_t used = 0;
         answer(pb_reader_feed(&reader_, inner::bytes_of(piece), piece.size(), &used, &event, &report), report);
-        piece.remove_prefix(event.kind != PB_EVENT_NONE ? used : piece.size());
+        piece.remove_prefix(used);
         if (event.kind == PB_EVENT_NONE)
             return std::nullopt;
         return Event{event.kind, Place{event.line, event.column, event.offset}, event.past, tokens(event.tokens), text(event.bytes)};
     }
 
-    // Throws a Fault if the text may not end here.
+    // Throws a Fault if the text may not end here. What follows its last statement is not part of it.
     void finish()
     {
         pb_report_t report;

@@ -329,6 +329,10 @@ class Statements(unittest.TestCase):
                 reader.finish()
             self.assertEqual(found, wanted)
 
+    def test_what_follows_the_text(self):
+        text = b"* #variable= 1 #constraint= 1\n+1 x1 >= 1 ;\n"
+        self.assertEqual([*pb.statements(text + b"more")], [*pb.statements(text)])
+
     def test_a_closed_reader(self):
         reader = pb.Reader(pb.Format.INSTANCE)
         reader.close()

@@ -127,7 +127,7 @@ static void statements(const std::string &text, pb::Format format)
     std::string lines;
     for (std::size_t at = 0; at < wanted.size(); at = wanted.find('\n', at) + 1)
         lines += wanted.substr(at, wanted.find(' ', at) - at) + "\n";
-    tell(found == lines && rest.empty(), "the statements of a reader");
+    tell(found == lines && rest.find_first_not_of('\n') == rest.npos, "the statements of a reader");
     const pb::Fault fault = fault_of([] {
         pb::Reader reader(pb::Format::Instance);
         std::string_view text = "1x1 >= 1 ;\n";
@@ -148,7 +148,7 @@ static void tokens()
     tell(found[0].code == PB_TOKEN_TERM && found[0].number == pb::Wide{1, 0} && reader.name(found[0].name) == "x1", "a term");
     tell(found[1].code == PB_TOKEN_NEGATED_TERM && found[1].number.str() == "-3" && reader.name(found[1].name) == "x2", "a negated term");
     tell(found[2].code == PB_TOKEN_AT_LEAST && found[2].number.str() == "-1", "a relation");
-    tell(!reader.next(text) && text.empty(), "the end");
+    tell(!reader.next(text) && text.find_first_not_of('\n') == text.npos, "the end");
     reader.finish();
 }
 

@@ -113,7 +113,7 @@ class Reader(Owned):
             yield Statement(EventKind(event.kind), event.line, event.column, event.offset, event.past, self._tokens(event.tokens), self._text(event.bytes))
 
     def finish(self) -> None:
-        """Raises Fault if the text may not end here."""
+        """Raises Fault if the text may not end here. What follows its last statement is not part of it."""
         self._answer(loaded().pb_reader_finish(self._own(), ctypes.byref(self._report)))
 
     def _grow(self, count: int) -> None:
@@ -162,7 +162,8 @@ def _pieces(source: Union[Text, BinaryIO]) -> Iterator[Text]:
 
 def statements(source: Union[Text, BinaryIO], opts: Optional[Options] = None, text_format: Optional[Format] = None) -> Iterator[Statement]:
     """The statements of a text, or of a file that was opened for bytes, one after another. Only a piece of the file is in memory at a time.
-    Without a format it is a proof if its first byte is `p`, and else an instance, as for tidy(). Raises Fault where the text is rejected."""
+    Without a format it is a proof if its first byte is `p`, and else an instance, as for tidy(). Raises Fault where the text is rejected.
+    What follows its last statement is not looked at."""
     pieces = _pieces(source)
     first = next(pieces)
     if text_format is None:

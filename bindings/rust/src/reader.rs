@@ -170,7 +170,7 @@ impl Reader {
     }
 
     /// Takes a piece of the text, cut anywhere, up to the end of the next statement. Returns how many bytes it took, and the statement if one
-    /// ended there. If none did, it took all bytes that belong to the text.
+    /// ended there. If none did, it took the whole piece, or nothing as the text has ended.
     pub fn feed(&mut self, piece: &[u8]) -> Result<(usize, Option<Event>), Fault> {
         let (mut used, mut event, mut report) = (0, c::Event::default(), c::Report::default());
         // SAFETY: the pointer and the length are those of a slice, and what is written to is borrowed mutably.
@@ -199,7 +199,7 @@ impl Reader {
         Ok((used, event))
     }
 
-    /// Whether the text may end here.
+    /// Whether the text may end here. What follows its last statement is not part of it.
     pub fn finish(&mut self) -> Result<(), Fault> {
         let mut report = c::Report::default();
         // SAFETY: what is written to is borrowed mutably.
@@ -269,6 +269,7 @@ impl Drop for Reader {
 }
 
 /// The statements of a source, one after another. An error is one of the source, or has a [`Fault`] inside; after it there is nothing more.
+/// What follows the last statement is left in the source.
 #[derive(Debug)]
 pub struct Events<R> {
     reader: Reader,
@@ -312,10 +313,13 @@ impl<R: BufRead> Events<R> {
                 return Ok(None);
             }
             let (used, event) = self.reader.feed(piece)?;
-            self.source
-                .consume(if event.is_some() { used } else { size });
+            self.source.consume(used);
             if event.is_some() {
                 return Ok(event);
+            }
+            if used < size {
+                self.reader.finish()?;
+                return Ok(None);
             }
         }
     }

@@ -84,6 +84,14 @@ fn any_cut_gives_the_same_statements() {
 }
 
 #[test]
+fn what_follows_the_text_is_left() {
+    let mut source = &b"* #variable= 1 #constraint= 1\n+1 x1 >= 1 ;\nmore"[..];
+    let found = events(Format::Instance, &mut source).expect("a reader");
+    assert_eq!(found.filter(|it| it.is_ok()).count(), 2);
+    assert_eq!(source, b"\nmore");
+}
+
+#[test]
 fn a_rejected_text_ends_with_its_fault() {
     let text = &b"* #variable= 1 #constraint= 1\n1x1 >= 1 ;\n"[..];
     let found: Vec<_> = events(Format::Instance, text).expect("a reader").collect();
