@@ -474,9 +474,9 @@ void pb_instance_close(pb_instance_t *instance);
 ** proof after its last line. What the caller has left of a piece then is not part of the text. pb_checker_finish() and
 ** pb_instance_read() allow only white space and comments there.
 **
-** Event. `line`, `column` and `offset` are the position of the first byte, and `past` is the offset past the last. `tokens` is the
-** number of tokens, and `bytes` the length of the free text: what follows the counts in the header of an instance, or the text of
-** a comment.
+** Event. `line`, `column` and `offset` are the position of the first byte, and `past` is the offset past the last: the line feed of
+** a line, where it has to end with one, or the `;`. `tokens` is the number of tokens, and `bytes` the length of the free text: what
+** follows the counts in the header of an instance, or the text of a comment.
 **
 ** pb_reader_tokens() copies the tokens of the last event to arrays of that many elements. Otherwise nothing is written, and the
 ** result is PB_MISUSE. A token has a code, the number of its name, or 0 if it has none, and a number in two words, or 0 if it has
