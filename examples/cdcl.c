@@ -54,7 +54,7 @@ typedef struct solver_t {
     bool is_refuted;
 } solver_t;
 
-/* Room for so many elements, all 0; for none there is a byte, as no pointer may be null. */
+/* Room for that many elements, all 0; for none there is a byte, as no pointer may be null. */
 static void *room_for(size_t count, size_t size)
 {
     void *room = calloc(count + 1, size);

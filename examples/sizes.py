@@ -39,7 +39,7 @@ def slacks_of(instance):
 
 
 def ranges_of(numbers, most=20):
-    """The numbers in at most so many ranges of the same width: for each its first and last number, and how many are in it."""
+    """The numbers in at most that many ranges of the same width: for each its first and last number, and how many are in it."""
     if not numbers:
         return []
     least = min(numbers)

@@ -65,7 +65,7 @@ struct arrays {
     uint8_t *negated, *kinds;
 };
 
-/* Room for so many elements, and for none too. */
+/* Room for that many elements, and for none too. */
 static void *room_for(size_t count, size_t size)
 {
     void *room = malloc(count * size + 1);

@@ -115,7 +115,7 @@ class Instance:
 
 
 def _copied(call: Any, handle: Any, codes: str, count: int) -> "Tuple[Numbers, ...]":
-    """The arrays that a call fills, one for each type code, all with so many elements."""
+    """The arrays that a call fills, one for each type code, all with that many elements."""
     arrays = tuple(array(code, (0,)) * count for code in codes)
     call(handle, *(word for it in arrays for word in (first_of(it), count)))
     return arrays

@@ -117,7 +117,7 @@ class Reader(Owned):
         self._answer(loaded().pb_reader_finish(self._own(), ctypes.byref(self._report)))
 
     def _grow(self, count: int) -> None:
-        """Makes arrays for so many tokens. Their length never changes, so their elements stay where they are."""
+        """Makes arrays for that many tokens. Their length never changes, so their elements stay where they are."""
         self._arrays = [array(it, (0,)) * count for it in "BQQq"]
         self._firsts = [first_of(it) for it in self._arrays]
 

@@ -131,7 +131,7 @@ impl Checker {
         let (mut numbers, mut negated) = (vec![0; count], vec![0; count]);
         let (mut lows, mut highs) = (vec![0; count], vec![0; count]);
         let mut degree = c::Number::default();
-        // SAFETY: each pointer is that of a vector with so many elements.
+        // SAFETY: each pointer is that of a vector with that many elements.
         unsafe {
             c::pb_checker_constraint(
                 &mut self.raw,

@@ -81,7 +81,7 @@ impl Arrays {
 
     fn names(&mut self, count: usize, size: usize) -> Vec<String> {
         let (mut bytes, mut starts) = (vec![0; size], vec![0; count]);
-        // SAFETY: each pointer is that of a vector with so many elements.
+        // SAFETY: each pointer is that of a vector with that many elements.
         unsafe {
             c::pb_instance_names(
                 &mut self.0,
@@ -102,7 +102,7 @@ impl Arrays {
     fn terms(&mut self, count: usize) -> Vec<Term> {
         let (mut numbers, mut negated) = (vec![0; count], vec![0; count]);
         let (mut lows, mut highs) = (vec![0; count], vec![0; count]);
-        // SAFETY: each pointer is that of a vector with so many elements.
+        // SAFETY: each pointer is that of a vector with that many elements.
         unsafe {
             c::pb_instance_terms(
                 &mut self.0,
@@ -131,7 +131,7 @@ impl Arrays {
         let (mut lows, mut highs) = (vec![0; count], vec![0; count]);
         let (mut lines, mut columns) = (vec![0; count], vec![0; count]);
         let (mut firsts, mut pasts) = (vec![0; count], vec![0; count]);
-        // SAFETY: each pointer is that of a vector with so many elements.
+        // SAFETY: each pointer is that of a vector with that many elements.
         unsafe {
             c::pb_instance_rows(
                 &mut self.0,

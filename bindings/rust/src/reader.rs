@@ -219,7 +219,7 @@ impl Reader {
     fn tokens(&mut self, count: usize) -> Vec<Token> {
         let (mut codes, mut names) = (vec![0; count], vec![0; count]);
         let (mut lows, mut highs) = (vec![0; count], vec![0; count]);
-        // SAFETY: each pointer is that of a vector with so many elements.
+        // SAFETY: each pointer is that of a vector with that many elements.
         unsafe {
             c::pb_reader_tokens(
                 &mut self.raw,
@@ -242,7 +242,7 @@ impl Reader {
     fn text(&mut self, size: usize) -> Vec<u8> {
         let (mut text, mut len) = (vec![0; size], 0);
         if size > 0 {
-            // SAFETY: the pointer is that of a vector with so many elements.
+            // SAFETY: the pointer is that of a vector with that many elements.
             unsafe { c::pb_reader_bytes(&mut self.raw, text.as_mut_ptr(), size, &mut len) };
             text.truncate(len);
         }
