@@ -1,5 +1,6 @@
 //! The engine: live forms by number, and the results of propagation over them.
 
+pub mod denial;
 pub mod question;
 pub mod root;
 pub mod visits;
@@ -377,20 +378,20 @@ impl Engine {
             return Ok(true);
         }
         self.spent = true;
-        let Ok(negation) = goal.negation() else {
-            return Err(AllocError);
-        };
         if self.root.live {
             let answer = ask(
                 &mut self.store,
                 &mut self.clauses,
                 &mut self.root,
                 &mut self.run.visits,
-                negation,
+                goal,
             )?;
             self.spent = false;
             return Ok(answer);
         }
+        let Ok(negation) = goal.negation() else {
+            return Err(AllocError);
+        };
         let rests = Rests::none(*self.places.allocator());
         let number = self.store.stored.len();
         enter(&mut self.store, &mut self.run, negation)?;

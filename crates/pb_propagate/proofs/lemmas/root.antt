@@ -9,3 +9,5 @@ pub mod Questions
 pub mod Rooted
 pub mod Roots
 pub mod Asked
+pub mod Denials
+pub mod Returns

@@ -10,5 +10,6 @@ pub mod Rest
 pub mod Waiting
 pub mod Root
 pub mod Progress
+pub mod Denial
 pub mod Slots
 pub mod Laws

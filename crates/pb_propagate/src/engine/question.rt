@@ -2,6 +2,8 @@
 
 ghost use Rattle.std.specs.Prelude.{◌≡◌, ℕ, List, All, ◌≤◌, ◌+◌, ◌*◌, ◌<◌, true, length, sum_by, OnOk, OnErr, IfOk};
 ghost use Rattle.pb_propagate.specs.engine.Engine.Fields.{shapes_of, forms_of, IsSound};
+ghost use Rattle.pb_normal.specs.meaning.Rules.{negation_of};
+ghost use Rattle.pb_propagate.specs.engine.Engine.Denial.{IsDisjunction};
 ghost use Rattle.pb_propagate.specs.engine.Engine.Root.{IsRootOf, IsAsked, HasSameForms, terms_of_all};
 ghost use Rattle.pb_propagate.specs.engine.Engine.Live.{one_in};
 ghost use Rattle.pb_propagate.specs.engine.Engine.Progress.{list_of};
@@ -9,6 +11,7 @@ ghost use Rattle.pb_propagate.specs.engine.Clauses.Runs.{AreReady};
 ghost use Rattle.pb_propagate.specs.engine.Clauses.Shapes.{AreJoined, clauses_of, all_of};
 
 use crate::clauses::Clauses;
+use crate::engine::denial::{is_disjunction, refute};
 use crate::engine::root::{Root, back, lay};
 use crate::engine::visits::Visits;
 use crate::run::propagate;
@@ -69,21 +72,57 @@ fn pose(
     Ok(found)
 }
 
-/// Whether propagation over the live forms and one more meets a conflict. It continues from the root, each literal of
-/// which counts as a visit.
-pub fn ask(
+// The same for a clause. Its literals are assigned as false, and nothing is entered into the store.
+fn pose_clause(
+    store: &Store,
+    clauses: &mut Clauses,
+    root: &mut Root,
+    goal: &Normal,
+) -> Result<bool, AllocError>
+    requires rooted { IsRootOf store.now clauses.old root.old }
+    requires sound { IsSound store.now }
+    requires joined { AreJoined (shapes_of store.now.stored.items) (clauses_of clauses.old) }
+    requires ready { AreReady clauses.old }
+    requires widths { length clauses.old.lists.items ≡ 4 * store.now.variables }
+    requires inside { All (λ t. t.variable < store.now.variables) goal.now.terms }
+    requires clause { IsDisjunction goal.now }
+    requires visits { root.old.run.visits ≡ length (list_of root.old.run) }
+    ensures literals { clauses.new.literals ≡ clauses.old.literals }
+    ensures ready { OnOk result (AreReady clauses.new) }
+    ensures lists { OnOk result (
+        length clauses.new.lists.items ≡ length clauses.old.lists.items) }
+    ensures rooted { OnOk result (root.new.live ≡ true → IsRootOf store.now clauses.new root.new) }
+    ensures asked { IfOk result (
+        IsAsked (negation_of goal.now) (all_of store.now clauses.old) root.new.run.visits) }
+    ensures most { root.new.run.visits ≤
+        3 * (terms_of_all store.now clauses.old + length goal.now.terms) +
+        (length root.old.waiting.list.items + 1) }
+{
+    if root.update(store, clauses)? {
+        clauses.rest();
+        return Ok(true);
+    }
+    let count = root.run.assignment.list.len();
+    let found = refute(store, &root.rests, clauses, &mut root.run, goal.entries())?;
+    back(store, &root.rests, clauses, &mut root.run, count);
+    Ok(found)
+}
+
+// Propagates the forms that wait, and then the negation of a goal. Returns whether a conflict is met.
+fn question(
     store: &mut Store,
     clauses: &mut Clauses,
     root: &mut Root,
-    visits: &mut Visits,
-    form: Normal,
+    goal: &Normal,
 ) -> Result<bool, AllocError>
     requires rooted { IsRootOf store.old clauses.old root.old }
     requires sound { IsSound store.old }
     requires joined { AreJoined (shapes_of store.old.stored.items) (clauses_of clauses.old) }
     requires ready { AreReady clauses.old }
     requires widths { length clauses.old.lists.items ≡ 4 * store.old.variables }
-    requires inside { All (λ t. t.variable < store.old.variables) form.terms }
+    requires inside { All (λ t. t.variable < store.old.variables) goal.now.terms }
+    requires degree { 1 ≤ goal.now.degree }
+    requires visits { root.old.run.visits ≡ length (list_of root.old.run) }
     ensures sound { OnOk result (IsSound store.new) }
     ensures kept { OnOk result (store.new.stored.items ≡ store.old.stored.items) }
     ensures forms { OnErr result (HasSameForms store.old store.new) }
@@ -93,13 +132,56 @@ pub fn ask(
     ensures lists { OnOk result (
         length clauses.new.lists.items ≡ length clauses.old.lists.items) }
     ensures rooted { OnOk result (root.new.live ≡ true → IsRootOf store.new clauses.new root.new) }
-    ensures asked { IfOk result (IsAsked form (all_of store.old clauses.old) visits.new) }
+    ensures asked { IfOk result (
+        IsAsked (negation_of goal.now) (all_of store.old clauses.old) root.new.run.visits) }
+    ensures most { root.new.run.visits ≤
+        3 * (terms_of_all store.old clauses.old + length goal.now.terms) +
+        (length root.old.waiting.list.items + 1) }
+{
+    if is_disjunction(goal) {
+        let found = pose_clause(store, clauses, root, goal)?;
+        return Ok(found);
+    }
+    let Ok(negation) = goal.negation() else {
+        return Err(AllocError);
+    };
+    let found = pose(store, clauses, root, negation)?;
+    Ok(found)
+}
+
+/// Whether propagation over the live forms and the negation of a goal meets a conflict. It continues from the root, each
+/// literal of which counts as a visit.
+pub fn ask(
+    store: &mut Store,
+    clauses: &mut Clauses,
+    root: &mut Root,
+    visits: &mut Visits,
+    goal: &Normal,
+) -> Result<bool, AllocError>
+    requires rooted { IsRootOf store.old clauses.old root.old }
+    requires sound { IsSound store.old }
+    requires joined { AreJoined (shapes_of store.old.stored.items) (clauses_of clauses.old) }
+    requires ready { AreReady clauses.old }
+    requires widths { length clauses.old.lists.items ≡ 4 * store.old.variables }
+    requires inside { All (λ t. t.variable < store.old.variables) goal.now.terms }
+    requires degree { 1 ≤ goal.now.degree }
+    ensures sound { OnOk result (IsSound store.new) }
+    ensures kept { OnOk result (store.new.stored.items ≡ store.old.stored.items) }
+    ensures forms { OnErr result (HasSameForms store.old store.new) }
+    ensures variables { store.new.variables ≡ store.old.variables }
+    ensures literals { clauses.new.literals ≡ clauses.old.literals }
+    ensures ready { OnOk result (AreReady clauses.new) }
+    ensures lists { OnOk result (
+        length clauses.new.lists.items ≡ length clauses.old.lists.items) }
+    ensures rooted { OnOk result (root.new.live ≡ true → IsRootOf store.new clauses.new root.new) }
+    ensures asked { IfOk result (
+        IsAsked (negation_of goal.now) (all_of store.old clauses.old) visits.new) }
     ensures most { visits.new ≤
-        3 * (terms_of_all store.old clauses.old + length form.terms) +
+        3 * (terms_of_all store.old clauses.old + length goal.now.terms) +
         (sum_by one_in (forms_of store.old.stored.items) + 1) }
 {
     root.run.visits = Visits::of(root.run.assignment.list.len());
-    let answer = pose(store, clauses, root, form);
+    let answer = question(store, clauses, root, goal);
     *visits = mem::replace(&mut root.run.visits, Visits::none());
     answer
 }

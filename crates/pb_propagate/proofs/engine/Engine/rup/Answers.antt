@@ -406,10 +406,7 @@ pub ask-requires-clause-inside : goal.ask-requires-clause-inside
 ask-requires-clause-inside c =
     let e = c.self.inside in
     let count : e.store.variables ≡ c.args.self.now.variables = ap (λ (v : Standing). v.variables) c.self.view_is in
-    let all = opposite-inside c.args.goal.now.terms c.args.self.now.variables c.requires.inside in
-    let terms_are = ap (λ (f : Form). f.terms) c.in-Ok.ensures.negation in
-    let mine = subst (λ (xs : List Entry). All (λ (t : Entry). t.variable < c.args.self.now.variables) xs) (sym terms_are) all in
-    λ k d h. let one = mine k d h in omega (arith, one, count)
+    λ k d h. let one = c.requires.inside k d h in omega (arith, one, count)
 
 pub invariant_of-self-then-self : goal.invariant_of-self-then-self
 invariant_of-self-then-self c = λ ready.
@@ -448,20 +445,20 @@ returns-then-self-clause-implied c = λ found.
     let e = c.self.inside in
     let both = c.self.invariant (ap (λ (v : Standing). v.spent) c.self.view_is ∙ c.requires.ready) in
     let forms = forms_of e.store.stored.items in
-    let g = c.in-Ok.negation in
+    let g = negation_of c.args.goal.now in
     let meets = asked-meets forms e.places.items (all_of e.store e.clauses) g c.ask.new.visits c.in_ok-answer.answer both.1 both.0.slots found c.in_ok-answer.ensures.asked in
-    rw (← c.self.view_is) (inr (rw c.in-Ok.ensures.negation at meets.0))
+    rw (← c.self.view_is) (inr meets.0)
 
 pub returns-then-self-clause-not_implied : goal.returns-then-self-clause-not_implied
 returns-then-self-clause-not_implied c = λ found rup.
     let e = c.self.inside in
     let both = c.self.invariant (ap (λ (v : Standing). v.spent) c.self.view_is ∙ c.requires.ready) in
     let forms = forms_of e.store.stored.items in
-    let g = c.in-Ok.negation in
+    let g = negation_of c.args.goal.now in
     let free = asked-free forms e.places.items (all_of e.store e.clauses) g c.ask.new.visits c.in_ok-answer.answer both.1 both.0.slots found c.in_ok-answer.ensures.asked in
     let shown = numbered forms e.places.items in
     let none : MeetsConflict (With (Live shown) g) [] → ⊥ = free.none in
-    let free_goal : MeetsConflict (With (Live shown) (negation_of c.args.goal.now)) [] → ⊥ = rw c.in-Ok.ensures.negation at none in
+    let free_goal : MeetsConflict (With (Live shown) (negation_of c.args.goal.now)) [] → ⊥ = none in
     let same : shown ≡ c.args.self.now.forms = ap (λ (v : Standing). v.forms) c.self.view_is in
     elim rup [
       | inl nothing ↦ c.if-degree-eq0.false (ap (of_z w128) (c.degree.ensures.degree ∙ ap pos nothing))
@@ -473,19 +470,19 @@ returns-then-self-clause-conflict c = λ found.
     let e = c.self.inside in
     let both = c.self.invariant (ap (λ (v : Standing). v.spent) c.self.view_is ∙ c.requires.ready) in
     let forms = forms_of e.store.stored.items in
-    let g = c.in-Ok.negation in
+    let g = negation_of c.args.goal.now in
     let meets = asked-meets forms e.places.items (all_of e.store e.clauses) g c.ask.new.visits c.in_ok-answer.answer both.1 both.0.slots found c.in_ok-answer.ensures.asked in
-    rw (← c.self.view_is) (inr (rw c.in-Ok.ensures.negation at meets))
+    rw (← c.self.view_is) (inr meets)
 
 pub returns-then-self-clause-completion : goal.returns-then-self-clause-completion
 returns-then-self-clause-completion c = λ found.
     let e = c.self.inside in
     let both = c.self.invariant (ap (λ (v : Standing). v.spent) c.self.view_is ∙ c.requires.ready) in
     let forms = forms_of e.store.stored.items in
-    let g = c.in-Ok.negation in
+    let g = negation_of c.args.goal.now in
     let free = asked-free forms e.places.items (all_of e.store e.clauses) g c.ask.new.visits c.in_ok-answer.answer both.1 both.0.slots found c.in_ok-answer.ensures.asked in
     let whole : (list : List NumberedLiteral) × IsCompletion (With (Live (numbered forms e.places.items)) g) [] list × (length list ≤ c.ask.new.visits) = (free.list, free.complete, free.few) in
-    rw (← c.self.view_is) (rw c.in-Ok.ensures.negation at whole)
+    rw (← c.self.view_is) whole
 
 pub returns-in_err-answer-clause-forms : goal.returns-in_err-answer-clause-forms
 returns-in_err-answer-clause-forms c =
@@ -499,9 +496,8 @@ returns-then-self-clause-most c =
     let both = c.self.invariant (ap (λ (v : Standing). v.spent) c.self.view_is ∙ c.requires.ready) in
     let forms = forms_of e.store.stored.items in
     let terms = slots-terms forms (all_of e.store e.clauses) both.0.slots in
-    let goal_terms : length c.in-Ok.negation.terms ≡ length c.args.goal.now.terms = ap (λ (f : Form). length f.terms) c.in-Ok.ensures.negation ∙ length-map c.args.goal.now.terms opposite_entry in
     let same : numbered forms e.places.items ≡ c.args.self.now.forms = ap (λ (v : Standing). v.forms) c.self.view_is in
-    rw (← same) (omega (arith, c.ask.ensures.most, terms, goal_terms, both.1.alike terms_in refl, both.1.alike one_in refl))
+    rw (← same) (omega (arith, c.ask.ensures.most, terms, both.1.alike terms_in refl, both.1.alike one_in refl))
 
 pub returns-in_err-answer-clause-most : goal.returns-in_err-answer-clause-most
 returns-in_err-answer-clause-most c =
@@ -509,6 +505,5 @@ returns-in_err-answer-clause-most c =
     let both = c.self.invariant (ap (λ (v : Standing). v.spent) c.self.view_is ∙ c.requires.ready) in
     let forms = forms_of e.store.stored.items in
     let terms = slots-terms forms (all_of e.store e.clauses) both.0.slots in
-    let goal_terms : length c.in-Ok.negation.terms ≡ length c.args.goal.now.terms = ap (λ (f : Form). length f.terms) c.in-Ok.ensures.negation ∙ length-map c.args.goal.now.terms opposite_entry in
     let same : numbered forms e.places.items ≡ c.args.self.now.forms = ap (λ (v : Standing). v.forms) c.self.view_is in
-    rw (← same) (omega (arith, c.ask.ensures.most, terms, goal_terms, both.1.alike terms_in refl, both.1.alike one_in refl))
+    rw (← same) (omega (arith, c.ask.ensures.most, terms, both.1.alike terms_in refl, both.1.alike one_in refl))

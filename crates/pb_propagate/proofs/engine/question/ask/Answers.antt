@@ -6,11 +6,11 @@ use Rattle.pb_propagate.proofs.lemmas.store.Options.{some-one}
 use Rattle.std.specs.Prelude.{slice_get}
 use Rattle.pb_propagate.proofs.engine.question.ask.Goals as goal
 
-pub pose-answer-requires-clause-rooted : goal.pose-answer-requires-clause-rooted
-pose-answer-requires-clause-rooted c = rooted-counted c.of-root.result c.requires.rooted
+pub question-answer-requires-clause-rooted : goal.question-answer-requires-clause-rooted
+question-answer-requires-clause-rooted c = rooted-counted c.of-root.result c.requires.rooted
 
 pub returns-clause-most : goal.returns-clause-most
 returns-clause-most c =
     let waiting = c.args.root.now.waiting in
     let few = listed-few (forms_of c.args.store.now.stored.items) waiting.list.items (λ i j s h k. some-one (slice_get waiting.seats.items s) i j (waiting.seated i s h) (waiting.seated j s k)) c.requires.rooted.live in
-    omega (arith, few, c.pose-answer.ensures.most, c.replace.ensures.value)
+    omega (arith, few, c.question-answer.ensures.most, c.replace.ensures.value)

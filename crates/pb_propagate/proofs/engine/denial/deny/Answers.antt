@@ -1,0 +1,43 @@
+use Rattle.std.proofs.Common.{◌≡◌, true, false, ◌∙◌, ap, inl, inr, arith}
+use Rattle.std.proofs.lemmas.Bool.{or_right}
+use Rattle.pb_normal.specs.meaning.Rules.{negation}
+use Rattle.pb_propagate.specs.engine.Engine.Lists.{has}
+use Rattle.pb_propagate.specs.engine.Engine.Counts.{kept}
+use Rattle.pb_propagate.specs.engine.Engine.Progress.{progress, database}
+use Rattle.pb_propagate.proofs.lemmas.engine.Advances.{advances-visit, advances-then, costs-then, on-err}
+use Rattle.pb_propagate.proofs.lemmas.engine.Literals.{negation-negation}
+use Rattle.pb_propagate.proofs.lemmas.root.Denials.{adopted-denied, adopted-found}
+use Rattle.pb_propagate.proofs.engine.denial.deny.Goals as goal
+
+pub returns-then-contains-clause-advances : goal.returns-then-contains-clause-advances
+returns-then-contains-clause-advances c = advances-visit (database c.args.store.now c.args.rests.now) (progress c.args.run.now) c.count.new.self 0 1 c.count.ensures.rising (omega (arith, c.count.ensures.count))
+
+pub returns-clause-advances : goal.returns-clause-advances
+returns-clause-advances c =
+    advances-then (advances-visit (database c.args.store.now c.args.rests.now) (progress c.args.run.now) c.count.new.self 0 1 c.count.ensures.rising (omega (arith, c.count.ensures.count))) c.in_ok-found.ensures.advances
+
+pub returns-in_err-found-clause-costs : goal.returns-in_err-found-clause-costs
+returns-in_err-found-clause-costs c =
+    on-err _ (costs-then (advances-visit (database c.args.store.now c.args.rests.now) (progress c.args.run.now) c.count.new.self 0 1 c.count.ensures.rising (omega (arith, c.count.ensures.count))).costs c.in_err-found.ensures.costs)
+
+pub returns-then-contains-clause-adopted : goal.returns-then-contains-clause-adopted
+returns-then-contains-clause-adopted c =
+    let list = c.args.run.now.assignment.list.items in
+    let on : has list c.args.literal ≡ true = cc (c.contains.ensures, c.if-contains.true) in
+    kept (or_right (has list (negation c.args.literal)) (has list (negation (negation c.args.literal))) (ap (has list) (negation-negation c.args.literal) ∙ on))
+
+pub returns-then-contains-clause-conflict : goal.returns-then-contains-clause-conflict
+returns-then-contains-clause-conflict c = λ found.
+    let on : has c.args.run.now.assignment.list.items c.args.literal ≡ true = cc (c.contains.ensures, c.if-contains.true) in
+    inl on
+
+pub returns-clause-denied : goal.returns-clause-denied
+returns-clause-denied c = λ free.
+    let off : has c.args.run.now.assignment.list.items c.args.literal ≡ false = cc (c.contains.ensures, c.if-contains.false) in
+    adopted-denied c.args.literal c.args.run.now.assignment.list.items c.try_put.new.run.assignment.list.items off (rw c.negation.ensures at c.in_ok-found.ensures.adopted)
+
+pub returns-clause-found : goal.returns-clause-found
+returns-clause-found c = adopted-found (negation c.args.literal) c.args.run.now.assignment.list.items c.try_put.new.run.assignment.list.items c.args.run.now.visits c.count.new.self c.try_put.new.run.visits c.count.ensures.count c.in_ok-found.ensures.advances.rising (rw c.negation.ensures at c.in_ok-found.ensures.adopted)
+
+pub returns-clause-conflict : goal.returns-clause-conflict
+returns-clause-conflict c = λ found. inr (c.in_ok-found.ensures.conflict found)

@@ -1,0 +1,20 @@
+use Rattle.std.proofs.Common.{◌≡◌, ◌<◌, ◌≤◌, ◌∷◌, [], ℕ, true, length, get_or}
+use Rattle.pb_normal.specs.declared.entry.Entry.{Entry}
+use Rattle.pb_normal.specs.meaning.Rules.{negation}
+use Rattle.pb_propagate.specs.engine.Engine.Denial.{denial_of}
+use Rattle.pb_propagate.specs.engine.Engine.Forms.{as_term}
+use Rattle.pb_propagate.specs.engine.Engine.Lists.{has, Derives}
+use Rattle.pb_propagate.specs.engine.Engine.Progress.{progress, database, IsOpen, StaysTidy, Advances, VisitsEach}
+use Rattle.pb_propagate.proofs.engine.denial.deny_all.Given as goal
+
+abbrev pub invariant-literals : goal.invariant-literals
+invariant-literals l = record {
+  within : l.i ≤ length l.goal;
+  advances : Advances (database l.store l.rests) 0 l.i (progress l.initial.run) (progress l.run);
+  candidates : l.run.candidates ≡ l.initial.run.candidates;
+  counted : IsOpen (database l.store l.rests) (progress l.run);
+  tidy : StaysTidy (database l.store l.rests) (progress l.initial.run) (progress l.run);
+  derived : Derives (denial_of l.goal ∷ []) l.initial.run.assignment.list.items l.run.assignment.list.items;
+  denied : (k : ℕ) (d : Entry) → k < l.i → has l.run.assignment.list.items (negation (as_term (get_or l.goal k d)).literal) ≡ true;
+  found : VisitsEach (progress l.initial.run) (progress l.run);
+}

@@ -1,0 +1,174 @@
+use Rattle.std.specs.Prelude.{sum}
+use Rattle.std.proofs.Common.{◌≡◌, ℕ, ◌+◌, ◌++◌, ◌∷◌, [], List, Vec, Global, refl, ap, subst, sym, ◌∙◌, arith, length, take}
+use Rattle.pb_normal.specs.declared.entry.Entry.{Entry}
+use Rattle.pb_propagate.specs.declared.clauses.lists.Watch.{Watch}
+use Rattle.pb_propagate.specs.engine.Engine.Counts.{none}
+use Rattle.pb_propagate.specs.engine.Engine.Denial.{denial_of}
+use Rattle.pb_propagate.specs.engine.Engine.Lists.{Derives, Conflicts}
+use Rattle.pb_propagate.specs.engine.Engine.Fields.{shapes_of}
+use Rattle.pb_propagate.specs.engine.Engine.Progress.{AreSettled}
+use Rattle.pb_propagate.specs.engine.Engine.Root.{alone, posed}
+use Rattle.pb_propagate.specs.engine.Clauses.Links.{lists_of}
+use Rattle.pb_propagate.specs.engine.Clauses.Runs.{AreWalked}
+use Rattle.pb_propagate.specs.engine.Clauses.Shapes.{all_of, clauses_of, joined}
+use Rattle.pb_propagate.specs.engine.Clauses.Walked.{walked_codes}
+use Rattle.pb_propagate.proofs.lemmas.clauses.Walks.{grows-refl}
+use Rattle.pb_propagate.proofs.lemmas.engine.Derivations.{derivation-then}
+use Rattle.pb_propagate.proofs.lemmas.engine.Spent.{derivation-single}
+use Rattle.pb_propagate.proofs.lemmas.engine.Values.{opposite}
+use Rattle.pb_propagate.proofs.lemmas.root.Denials.{denial-stored}
+use Rattle.pb_propagate.proofs.lemmas.root.Extends.{extends-then}
+use Rattle.pb_propagate.proofs.lemmas.root.Questions.{derives-entered, found-after, found-both, question-most, updated-most}
+use Rattle.pb_propagate.proofs.lemmas.root.Returns.{both-costs, back-rooted, root-counted}
+use Rattle.pb_propagate.proofs.engine.question.pose_clause.Goals as goal
+
+pub returns-in_err-update-clause-most : goal.returns-in_err-update-clause-most
+returns-in_err-update-clause-most c =
+    let most = updated-most c.args.store.now c.args.clauses.now c.args.root.now.rests c.args.root.now.waiting.list.items c.args.root.now.run c.update.new.self.run c.requires.sound c.requires.joined c.requires.rooted.derived c.requires.rooted.work c.requires.visits c.update.ensures.costs in
+    omega (arith, most)
+
+pub returns-then-branch-clause-most : goal.returns-then-branch-clause-most
+returns-then-branch-clause-most c =
+    let most = updated-most c.args.store.now c.args.clauses.now c.args.root.now.rests c.args.root.now.waiting.list.items c.args.root.now.run c.update.new.self.run c.requires.sound c.requires.joined c.requires.rooted.derived c.requires.rooted.work c.requires.visits c.update.ensures.costs in
+    omega (arith, most)
+
+pub returns-then-branch-clause-asked : goal.returns-then-branch-clause-asked
+returns-then-branch-clause-asked c =
+    let done = c.update.new.self.run in
+    let reported = c.in_ok-update.ensures in
+    alone refl (record {
+      list = done.assignment.list.items;
+      derived = reported.derived;
+      few = found-after (length done.assignment.list.items) done.visits (length c.args.root.now.run.assignment.list.items) (rw c.requires.visits at reported.found) (omega (arith, done.assignment.list.ok.0, done.assignment.list.ok.1));
+      one_sided = λ l on. opposite done.assignment.values.items done.assignment.list.items l done.assignment.agrees on;
+      conflict = λ found. reported.conflict c.if-branch.true;
+      settled = λ found. absurd cc;
+    })
+
+pub returns-then-branch-clause-rooted : goal.returns-then-branch-clause-rooted
+returns-then-branch-clause-rooted c = λ live. absurd (let e = sym live ∙ c.in_ok-update.ensures.ended c.if-branch.true in cc)
+
+pub refute-requires-clause-inside : goal.refute-requires-clause-inside
+refute-requires-clause-inside c = rw c.entries.ensures.entries c.requires.inside
+
+pub refute-requires-clause-light : goal.refute-requires-clause-light
+refute-requires-clause-light c = rw c.entries.ensures.entries c.requires.clause.light
+
+pub refute-requires-clause-values : goal.refute-requires-clause-values
+refute-requires-clause-values c = (c.in_ok-update.ensures.rooted c.if-branch.false).values
+
+pub refute-requires-clause-opens : goal.refute-requires-clause-opens
+refute-requires-clause-opens c = (c.in_ok-update.ensures.rooted c.if-branch.false).open_sizes
+
+pub refute-requires-clause-candidates : goal.refute-requires-clause-candidates
+refute-requires-clause-candidates c = (c.in_ok-update.ensures.rooted c.if-branch.false).start_sizes
+
+pub refute-requires-clause-work : goal.refute-requires-clause-work
+refute-requires-clause-work c =
+    let r = c.in_ok-update.ensures.rooted c.if-branch.false in
+    (r.work, r.next)
+
+pub refute-requires-clause-single : goal.refute-requires-clause-single
+refute-requires-clause-single c =
+    let r = c.in_ok-update.ensures.rooted c.if-branch.false in
+    derivation-single (all_of c.args.store.now c.update.new.clauses) [] c.update.new.self.run.assignment.list.items none r.derived
+
+pub refute-requires-clause-counted : goal.refute-requires-clause-counted
+refute-requires-clause-counted c =
+    let r = c.in_ok-update.ensures.rooted c.if-branch.false in
+    root-counted c.args.store.now c.update.new.clauses c.update.new.self.run c.update.new.self.rests c.update.new.self.waiting r
+
+pub refute-requires-clause-tidy : goal.refute-requires-clause-tidy
+refute-requires-clause-tidy c =
+    let r = c.in_ok-update.ensures.rooted c.if-branch.false in
+    rw (r.work, r.trail, r.next) (rw (c.in_ok-update.ensures.none c.if-branch.false) at r.tidy)
+
+pub refute-requires-clause-joined : goal.refute-requires-clause-joined
+refute-requires-clause-joined c =
+    let lit : clauses_of c.update.new.clauses ≡ clauses_of c.args.clauses.now = ap (λ (v : Vec (Vec ℕ Global) Global). lists_of v.items) c.update.ensures.literals in
+    rw lit c.requires.joined
+
+pub refute-requires-clause-running : goal.refute-requires-clause-running
+refute-requires-clause-running c = c.in_ok-update.ensures.running
+
+pub refute-requires-clause-walked : goal.refute-requires-clause-walked
+refute-requires-clause-walked c = (c.in_ok-update.ensures.rooted c.if-branch.false).walked
+
+pub returns-in_err-found-clause-most : goal.returns-in_err-found-clause-most
+returns-in_err-found-clause-most c =
+    let store = c.args.store.now in
+    let start = c.args.root.now.run in
+    let root = c.update.new.self in
+    let done = c.refute.new.run in
+    let between = c.update.new.clauses in
+    let lit : clauses_of between ≡ clauses_of c.args.clauses.now = ap (λ (v : Vec (Vec ℕ Global) Global). lists_of v.items) c.update.ensures.literals in
+    let entries = ap (λ (xs : List Entry). length xs) c.entries.ensures.entries in
+    let costs = c.refute.ensures.costs in
+    let upper = both-costs store c.args.clauses.now between c.args.root.now.rests root.rests c.args.root.now.waiting.list.items (length c.entries.result.now) start root.run done lit c.requires.rooted.work c.requires.visits (c.in_ok-update.ensures.pays c.if-branch.false) costs in
+    let extends = extends-then start.assignment.list.items root.run.assignment.list.items done.assignment.list.items c.update.ensures.costs.extends costs.extends in
+    let most = question-most store (clauses_of c.args.clauses.now) start.assignment.list.items done.assignment.list.items done.visits (length c.args.root.now.waiting.list.items + length c.entries.result.now) (sum done.candidates.items) c.requires.sound c.requires.joined costs.single (λ l on. opposite done.assignment.values.items done.assignment.list.items l done.assignment.agrees on) extends c.requires.rooted.derived costs.bounded upper in
+    omega (arith, most, entries)
+
+pub returns-clause-most : goal.returns-clause-most
+returns-clause-most c =
+    let store = c.args.store.now in
+    let start = c.args.root.now.run in
+    let root = c.update.new.self in
+    let done = c.refute.new.run in
+    let between = c.update.new.clauses in
+    let lit : clauses_of between ≡ clauses_of c.args.clauses.now = ap (λ (v : Vec (Vec ℕ Global) Global). lists_of v.items) c.update.ensures.literals in
+    let entries = ap (λ (xs : List Entry). length xs) c.entries.ensures.entries in
+    let costs = c.refute.ensures.costs in
+    let upper = both-costs store c.args.clauses.now between c.args.root.now.rests root.rests c.args.root.now.waiting.list.items (length c.entries.result.now) start root.run done lit c.requires.rooted.work c.requires.visits (c.in_ok-update.ensures.pays c.if-branch.false) costs in
+    let extends = extends-then start.assignment.list.items root.run.assignment.list.items done.assignment.list.items c.update.ensures.costs.extends costs.extends in
+    let most = question-most store (clauses_of c.args.clauses.now) start.assignment.list.items done.assignment.list.items done.visits (length c.args.root.now.waiting.list.items + length c.entries.result.now) (sum done.candidates.items) c.requires.sound c.requires.joined costs.single (λ l on. opposite done.assignment.values.items done.assignment.list.items l done.assignment.agrees on) extends c.requires.rooted.derived costs.bounded upper in
+    omega (arith, most, entries, c.back.ensures.visits)
+
+pub returns-clause-asked : goal.returns-clause-asked
+returns-clause-asked c =
+    let store = c.args.store.now in
+    let start = c.args.root.now.run in
+    let root = c.update.new.self in
+    let done = c.refute.new.run in
+    let between = c.update.new.clauses in
+    let lit : clauses_of between ≡ clauses_of c.args.clauses.now = ap (λ (v : Vec (Vec ℕ Global) Global). lists_of v.items) c.update.ensures.literals in
+    let same : all_of store between ≡ all_of store c.args.clauses.now = ap (joined (shapes_of store.stored.items)) lit in
+    let x = denial_of c.args.goal.now.terms in
+    let all = all_of store c.args.clauses.now ++ (x ∷ []) in
+    let whole : all_of store between ++ (denial_of c.entries.result.now ∷ []) ≡ all = rw (same, c.entries.ensures.entries) refl in
+    let reported = c.in_ok-found.ensures in
+    let first = derives-entered (all_of store c.args.clauses.now) x [] root.run.assignment.list.items c.in_ok-update.ensures.derived in
+    let second = subst (λ xs. Derives xs root.run.assignment.list.items done.assignment.list.items) whole reported.derived in
+    posed x (denial-stored c.args.goal.now c.entries.ensures.normal c.requires.clause) (record {
+      list = done.assignment.list.items;
+      derived = derivation-then all [] root.run.assignment.list.items done.assignment.list.items first second;
+      few = omega (arith, found-after (length done.assignment.list.items) done.visits (length start.assignment.list.items) (found-both (length start.assignment.list.items) (length root.run.assignment.list.items) (length root.run.assignment.list.items) (length done.assignment.list.items) start.visits root.run.visits root.run.visits done.visits c.requires.visits refl refl c.in_ok-update.ensures.found reported.found reported.rising) (omega (arith, done.assignment.list.ok.0, done.assignment.list.ok.1)), c.back.ensures.visits);
+      one_sided = λ l on. opposite done.assignment.values.items done.assignment.list.items l done.assignment.agrees on;
+      conflict = λ found. subst (λ xs. Conflicts xs done.assignment.list.items) whole (reported.conflict found);
+      settled = λ found. subst (λ xs. AreSettled xs done.assignment.list.items) whole (reported.settled found);
+    })
+
+pub returns-clause-rooted : goal.returns-clause-rooted
+returns-clause-rooted c = λ live.
+    let store = c.args.store.now in
+    let root = c.update.new.self in
+    let run = root.run in
+    let between = c.update.new.clauses in
+    let reported = c.in_ok-found.ensures in
+    let last = c.back.new.run in
+    let count_is : c.len-count.result ≡ length run.assignment.list.items = omega (arith, c.len-count.ensures, run.assignment.list.ok.0) in
+    let codes = walked_codes (length run.assignment.list.items) run.assignment.list.items in
+    let watches_is = ap (λ (v : Vec Watch Global). v.items) c.back.ensures.watches in
+    back-rooted store between c.back.new.clauses run last root.rests root.waiting c.refute.new.run.assignment.list.items (c.in_ok-update.ensures.rooted c.if-branch.false) (record {
+      literals = ap (λ (v : Vec (Vec ℕ Global) Global). lists_of v.items) (c.back.ensures.literals ∙ c.refute.ensures.literals);
+      kept = λ old. subst (λ ws. AreWalked run.assignment.values.items ws codes) (sym watches_is) (reported.kept run.assignment.values.items codes (grows-refl run.assignment.values.items) old);
+      extends = c.refute.ensures.costs.extends;
+      cut = c.back.ensures.list ∙ ap (λ n. take n c.refute.new.run.assignment.list.items) count_is;
+      values = c.back.ensures.values ∙ reported.values;
+      opens = c.back.ensures.opens;
+      candidates = c.back.ensures.candidates;
+      undone = c.back.ensures.undone;
+      work = c.back.ensures.work;
+      trail = c.back.ensures.trail;
+      next = c.back.ensures.next;
+    })

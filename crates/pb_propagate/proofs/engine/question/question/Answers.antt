@@ -1,0 +1,36 @@
+use Rattle.std.proofs.Common.{[], length, ap, arith}
+use Rattle.std.proofs.lemmas.List.{length-map}
+use Rattle.pb_normal.specs.meaning.Form.{Form}
+use Rattle.pb_normal.specs.meaning.Rules.{opposite as opposite_entry}
+use Rattle.pb_propagate.specs.engine.Engine.Counts.{none}
+use Rattle.pb_propagate.specs.engine.Clauses.Shapes.{all_of, clauses_of}
+use Rattle.pb_propagate.proofs.lemmas.engine.Rests.{opposite-inside}
+use Rattle.pb_propagate.proofs.lemmas.engine.Spent.{derivation-single}
+use Rattle.pb_propagate.proofs.lemmas.engine.Values.{opposite}
+use Rattle.pb_propagate.proofs.lemmas.root.Questions.{root-few}
+use Rattle.pb_propagate.proofs.engine.question.question.Goals as goal
+
+pub pose-requires-clause-inside : goal.pose-requires-clause-inside
+pose-requires-clause-inside c =
+    rw (ap (λ (f : Form). f.terms) c.in-Ok.ensures.negation) (opposite-inside c.args.goal.now.terms c.args.store.now.variables c.requires.inside)
+
+pub returns-in_default-clause-most : goal.returns-in_default-clause-most
+returns-in_default-clause-most c =
+    let run = c.args.root.now.run in
+    let list = run.assignment.list.items in
+    let single = derivation-single (all_of c.args.store.now c.args.clauses.now) [] list none c.requires.rooted.derived in
+    let few = root-few c.args.store.now (clauses_of c.args.clauses.now) list c.requires.sound c.requires.joined single (λ l on. opposite run.assignment.values.items list l run.assignment.agrees on) c.requires.rooted.derived in
+    omega (arith, few, c.requires.visits)
+
+pub returns-clause-asked : goal.returns-clause-asked
+returns-clause-asked c = rw c.in-Ok.ensures.negation at c.in_ok-found-2.ensures.asked
+
+pub returns-clause-most : goal.returns-clause-most
+returns-clause-most c =
+    let terms = ap (λ (f : Form). length f.terms) c.in-Ok.ensures.negation in
+    omega (arith, c.pose.ensures.most, terms, length-map c.args.goal.now.terms opposite_entry)
+
+pub returns-in_err-found-2-clause-most : goal.returns-in_err-found-2-clause-most
+returns-in_err-found-2-clause-most c =
+    let terms = ap (λ (f : Form). length f.terms) c.in-Ok.ensures.negation in
+    omega (arith, c.pose.ensures.most, terms, length-map c.args.goal.now.terms opposite_entry)

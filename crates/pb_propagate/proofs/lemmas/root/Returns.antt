@@ -1,0 +1,139 @@
+-- What a question on the root costs, and how it comes back to the root.
+use Rattle.std.specs.Prelude.{true, sum, sum_by, map}
+use Rattle.std.specs.List.{list_any}
+use Rattle.std.proofs.Common.{◌≡◌, ℕ, ◌+◌, ◌*◌, ◌<◌, ◌≤◌, ◌++◌, [], List, refl, sym, ◌∙◌, ap, subst, arith, length, take}
+use Rattle.std.proofs.lemmas.List.{length-map, take_all}
+use Rattle.std.proofs.Math.Seq.{take-append_seam}
+use Rattle.std.proofs.lemmas.Bool.{or_left}
+use Rattle.std.proofs.lemmas.List.Folds.{list_any-append}
+use Rattle.pb_normal.specs.declared.numbered.NumberedLiteral.{NumberedLiteral}
+use Rattle.pb_propagate.specs.declared.assignment.Assignment.{Assignment}
+use Rattle.pb_propagate.specs.declared.eager.Eager.{Eager}
+use Rattle.pb_propagate.specs.declared.rests.Rests.{Rests}
+use Rattle.pb_propagate.specs.declared.run.Run.{Run}
+use Rattle.pb_propagate.specs.declared.store.Store.{Store}
+use Rattle.pb_propagate.specs.declared.clauses.Clauses.{Clauses}
+use Rattle.pb_propagate.specs.declared.clause.Group.TheVariants.{Short, Long}
+use Rattle.pb_propagate.specs.engine.Engine.Counts.{AreSingle, IsCounted, IsUndone, spent, weight_in}
+use Rattle.pb_propagate.specs.engine.Engine.Denial.{RunRefutes}
+use Rattle.pb_propagate.specs.engine.Engine.Fields.{shapes_of, entries_of, stored_shape}
+use Rattle.pb_propagate.specs.engine.Engine.Lists.{same, has, IsWithin, Extends}
+use Rattle.pb_propagate.specs.engine.Engine.Progress.{Costs, Advances, RunSpends, RunPays, progress, database}
+use Rattle.pb_propagate.specs.engine.Engine.Root.{IsRooted}
+use Rattle.pb_propagate.specs.engine.Clauses.Runs.{Grows, AreWalked, AreWithin, passed_of}
+use Rattle.pb_propagate.specs.engine.Clauses.Shapes.{clauses_of}
+use Rattle.pb_propagate.specs.engine.Clauses.Walked.{fallen, falsified_code, walked_codes}
+use Rattle.pb_propagate.proofs.lemmas.clauses.Counts.{passed-most}
+use Rattle.pb_propagate.proofs.lemmas.clauses.Literals.{Agree}
+use Rattle.pb_propagate.proofs.lemmas.clauses.Walks.{grows-listed}
+use Rattle.pb_propagate.proofs.lemmas.root.Extends.{extends-then, spent-extends, killed-longer}
+use Rattle.pb_propagate.proofs.lemmas.root.Roots.{keep-all, walked-agree}
+
+longer : (a r : List NumberedLiteral) (k : NumberedLiteral) → has a k ≡ true → has (a ++ r) k ≡ true
+unfolding has
+longer a r k on =
+    let split = list_any-append (λ x. same x k) a r in
+    rw split (or_left (list_any (λ x. same x k) a) (list_any (λ x. same x k) r) on)
+
+pub extends-within : (a b : List NumberedLiteral) → Extends a b → IsWithin a b
+extends-within a b (r, e) l h = ap (λ xs. has xs l) e ∙ longer a r l h
+
+-- values of a longer list
+pub assigned-grow : (old new : Assignment) → length new.values.items ≡ length old.values.items → Extends old.list.items new.list.items → Grows old.values.items new.values.items
+assigned-grow old new sizes more = grows-listed old.values.items new.values.items old.list.items new.list.items sizes old.agrees new.agrees (extends-within old.list.items new.list.items more)
+
+fallen-extends : (clauses : List (List ℕ)) (a b : List NumberedLiteral) → Extends a b → fallen clauses a ≤ fallen clauses b
+fallen-extends clauses a b more = omega (arith, killed-longer clauses (falsified_code Short) a b more, killed-longer clauses (falsified_code Long) a b more)
+
+-- the first literals have the same codes
+pub walked-first : (n : ℕ) (old new : List NumberedLiteral) → n ≡ length old → Extends old new → walked_codes n new ≡ walked_codes (length old) old
+walked-first n old new is (more, e) =
+    let first : take n new ≡ take (length old) old = ap (λ m. take m new) is ∙ ap (take (length old)) e ∙ take-append_seam old more ∙ sym (take_all (length old) old (omega arith)) in
+    ap (λ xs. map (falsified_code Short) xs ++ map (falsified_code Long) xs) first
+
+-- literals were assigned, and nothing was propagated
+pub refutes-short : (store : Store) (rests : Rests) (c : Clauses) (count : ℕ) (old new : Run) → AreWithin (passed_of c) (clauses_of c) → AreSingle old.assignment.list.items → sum new.candidates.items ≤ sum_by (λ f. length f.terms) (shapes_of store.stored.items) → Costs (database store rests) 0 count (progress old) (progress new) → RunRefutes store rests c count old new
+refutes-short store rests c count old new within single bounded costs =
+    let few = passed-most (passed_of c) (clauses_of c) within in
+    let fell = fallen-extends (clauses_of c) old.assignment.list.items new.assignment.list.items costs.extends in
+    let more = spent-extends (database store rests).lists old.assignment.list.items new.assignment.list.items costs.extends in
+    record {
+      extends = costs.extends;
+      single = costs.single single;
+      bounded = bounded;
+      upper = omega (arith, costs.paid, few, fell, more);
+    }
+
+-- and then what follows was propagated
+pub refutes-long : (store : Store) (rests : Rests) (c : Clauses) (count from : ℕ) (old mid new : Run) → from ≡ length old.assignment.list.items → old.work.items ≡ [] → old.next ≡ 0 → Advances (database store rests) 0 count (progress old) (progress mid) → RunSpends store rests c from [] mid new → RunRefutes store rests c count old new
+refutes-long store rests c count from old mid new start work next a s =
+    let e = a.costs.extends in
+    let walked : take from mid.assignment.list.items ≡ old.assignment.list.items =
+    ap (λ n. take n mid.assignment.list.items) start ∙ ap (take (length old.assignment.list.items)) e.1 ∙ take-append_seam old.assignment.list.items e.0 in
+    let same = ap (fallen (clauses_of c)) walked in
+    record {
+      extends = extends-then old.assignment.list.items mid.assignment.list.items new.assignment.list.items e s.extends;
+      single = s.single;
+      bounded = s.bounded;
+      upper = omega (arith, s.upper, a.costs.paid, a.work, ap length work, same);
+    }
+
+-- The visits of an update and a question after it: what the first has read is not paid again.
+pub both-costs : (store : Store) (clauses between : Clauses) (rests rests' : Rests) (waiting : List ℕ) (count : ℕ) (old mid new : Run) → clauses_of between ≡ clauses_of clauses → old.work.items ≡ [] → old.visits ≡ length old.assignment.list.items →
+    RunPays store rests clauses between (length old.assignment.list.items) waiting old mid → RunRefutes store rests' between count mid new →
+    new.visits ≤ length old.assignment.list.items + (length waiting + count) + sum new.candidates.items + 2 * spent (entries_of (shapes_of store.stored.items) store.occurrences.items) new.assignment.list.items + 2 * fallen (clauses_of clauses) new.assignment.list.items + sum_by length (clauses_of clauses)
+both-costs store clauses between rests rests' waiting count old mid new same work begun first second =
+    let seen_mid : fallen (clauses_of between) mid.assignment.list.items ≡ fallen (clauses_of clauses) mid.assignment.list.items = ap (λ cs. fallen cs mid.assignment.list.items) same in
+    let seen_new : fallen (clauses_of between) new.assignment.list.items ≡ fallen (clauses_of clauses) new.assignment.list.items = ap (λ cs. fallen cs new.assignment.list.items) same in
+    let sizes : sum_by length (clauses_of between) ≡ sum_by length (clauses_of clauses) = ap (sum_by length) same in
+    omega (arith, first.upper, second.upper, seen_mid, seen_new, sizes, ap length work, begun)
+
+-- the open sums of the root are those of its list
+pub root-counted : (store : Store) (clauses : Clauses) (run : Run) (rests : Rests) (waiting : Eager) → IsRooted store clauses run rests waiting (length store.stored.items) → IsCounted (shapes_of store.stored.items) run.opens.items run.assignment.list.items []
+root-counted store clauses run rests waiting r = record {
+  each = λ s d less.
+      let inside : s < length store.stored.items = omega (arith, less, length-map store.stored.items stored_shape) in
+      let none : weight_in s [] ≡ 0 = refl in
+      omega (arith, none, r.counted s d inside (λ e. absurd (omega (arith, e, inside))));
+}
+
+-- what undoing a question leaves
+pub record IsBack (store : Store) (between after : Clauses) (run last : Run) (rests : Rests) (new : List NumberedLiteral) : Type 0 where
+  pub literals : clauses_of after ≡ clauses_of between
+  pub kept : AreWalked run.assignment.values.items between.watches.items (walked_codes (length run.assignment.list.items) run.assignment.list.items) → AreWalked run.assignment.values.items after.watches.items (walked_codes (length run.assignment.list.items) run.assignment.list.items)
+  pub extends : Extends run.assignment.list.items new
+  pub cut : last.assignment.list.items ≡ take (length run.assignment.list.items) new
+  pub values : length last.assignment.values.items ≡ length run.assignment.values.items
+  pub opens : length last.opens.items ≡ length store.stored.items
+  pub candidates : length last.candidates.items ≡ length store.stored.items
+  pub undone : IsUndone rests (shapes_of store.stored.items) last.opens.items last.candidates.items [] 0
+  pub work : last.work.items ≡ []
+  pub trail : last.trail.items ≡ []
+  pub next : last.next ≡ 0
+
+pub back-rooted : (store : Store) (between after : Clauses) (run last : Run) (rests : Rests) (waiting : Eager) (new : List NumberedLiteral) → IsRooted store between run rests waiting (length store.stored.items) → IsBack store between after run last rests new → IsRooted store after last rests waiting (length store.stored.items)
+back-rooted store between after run last rests waiting new r b =
+    let shapes = shapes_of store.stored.items in
+    let long = length-map store.stored.items stored_shape in
+    let same = keep-all rests shapes last.opens.items last.candidates.items [] 0 (omega arith) (omega (arith, long, b.opens)) (omega (arith, b.opens, b.candidates)) (omega (arith, ap length r.opens, r.open_sizes, b.opens)) (omega (arith, ap length r.starts, r.start_sizes, b.candidates)) b.undone in
+    let opens_is : last.opens.items ≡ run.opens.items = sym same.0 ∙ sym r.opens in
+    let starts_is : last.candidates.items ≡ run.candidates.items = sym same.1 ∙ sym r.starts in
+    let list_is : last.assignment.list.items ≡ run.assignment.list.items = b.cut ∙ ap (take (length run.assignment.list.items)) b.extends.1 ∙ take-append_seam run.assignment.list.items b.extends.0 in
+    let agrees : Agree last.assignment.values.items run.assignment.list.items = subst (λ xs. Agree last.assignment.values.items xs) list_is last.assignment.agrees in
+    let walked = walked-agree run.assignment.values.items last.assignment.values.items run.assignment.list.items after.watches.items (walked_codes (length run.assignment.list.items) run.assignment.list.items) run.assignment.agrees agrees (b.kept r.walked) in
+    record {
+      values = b.values ∙ r.values;
+      opens = sym same.0;
+      starts = sym same.1;
+      open_sizes = b.opens;
+      start_sizes = b.candidates;
+      counted = rw (opens_is, list_is) r.counted;
+      tidy = rw (opens_is, starts_is, list_is) r.tidy;
+      work = b.work;
+      trail = b.trail;
+      next = b.next;
+      derived = rw (b.literals, list_is) r.derived;
+      walked = rw list_is walked;
+      seats = r.seats;
+      live = r.live;
+    }
