@@ -2,16 +2,18 @@
 
 ghost use Rattle.std.specs.Prelude.{◌≡◌, ℕ, ◌+◌, ◌*◌, ◌/◌, ◌<◌, ◌≤◌, ◌++◌, ◌∷◌, [], List, All, Bool, Option, length, slice_set, slice_index, true, false, OnOk, OnErr, IfSome};
 ghost use Rattle.pb_propagate.specs.engine.Clauses.Links.{lists_of, list_at, watch_at};
-ghost use Rattle.pb_propagate.specs.engine.Clauses.Runs.{AreReady, IsRunning};
+ghost use Rattle.pb_propagate.specs.engine.Clauses.Runs.{AreReady, IsPair, IsRunning};
 ghost use Rattle.pb_propagate.specs.engine.Engine.Root.{IsServed, IsFree, HasOther, IsLast, IsSameWatch};
 
 pub mod lists;
 pub mod search;
 pub mod visiting;
+pub mod watched;
 
 use crate::assignment::Assignment;
 use crate::clauses::lists::{Watch, put_in, take_out};
 use crate::clauses::search::{Search, may_watch};
+use crate::clauses::watched::Pair;
 use std::alloc::{AllocError, Global};
 
 // A literal of a clause that is not falsified.
@@ -128,13 +130,17 @@ impl Clauses {
         filled
     }
 
-    /// Stores a clause in an empty slot. Its first two literals are watched.
-    pub fn fill(&mut self, slot: usize, literals: Vec<u32>) -> Result<(), AllocError>
+    /// Stores a clause in an empty slot. Two of its literals are watched.
+    pub fn fill(
+        &mut self,
+        slot: usize,
+        literals: Vec<u32>,
+        pair: Pair,
+    ) -> Result<(), AllocError>
         requires rest { AreReady self.old }
         requires slot { slot < length self.old.literals.items }
         requires empty { list_at (lists_of self.old.literals.items) slot ≡ [] }
-        requires two { 2 ≤ length literals.items }
-        requires apart { slice_index literals.items 0 ≡ slice_index literals.items 1 → ⊥ }
+        requires pair { IsPair literals.items pair }
         requires inside { All (λ x. x < length self.old.lists.items) literals.items }
         ensures rest { OnOk result (AreReady self.new) }
         ensures literals { OnOk result (lists_of self.new.literals.items ≡ slice_set (lists_of self.old.literals.items) slot literals.items) }
@@ -142,8 +148,8 @@ impl Clauses {
         ensures watches { OnOk result ((e : ℕ) → (e / 2 ≡ slot → ⊥) → watch_at self.new.watches.items e ≡ watch_at self.old.watches.items e) }
         ensures lists { OnOk result (length self.new.lists.items ≡ length self.old.lists.items) }
     {
-        let first = literals[0];
-        let second = literals[1];
+        let first = literals[pair.first];
+        let second = literals[pair.second];
         put_in(&mut self.lists, &mut self.watches, 2 * slot, first)?;
         put_in(&mut self.lists, &mut self.watches, 2 * slot + 1, second)?;
         self.searches[slot] = Search::new();

@@ -278,6 +278,7 @@ impl Engine {
             &mut self.run,
             &mut self.eager,
             &mut self.clauses,
+            self.root.assigned(),
             slot,
             form,
         )?;

@@ -5,16 +5,20 @@ ghost use Rattle.pb_propagate.specs.engine.Engine.Counts.{IsAbsent};
 ghost use Rattle.pb_propagate.specs.engine.Engine.Fields.{forms_of};
 ghost use Rattle.pb_propagate.specs.engine.Engine.Rest.{IsAtRest, waits};
 ghost use Rattle.pb_propagate.specs.engine.Engine.Root.{HasWidened, HasGained, HasVacated};
+ghost use Rattle.pb_propagate.specs.engine.Clauses.Shapes.{IsPlanned};
 
-use crate::clause::is_clause;
+use crate::assignment::Assignment;
+use crate::clause::{codes_of, is_clause};
 use crate::clauses::Clauses;
+use crate::clauses::watched::{Pair, pair_of, pick};
 use crate::eager::Eager;
 use crate::run::Run;
 use crate::shared::Shared;
 use crate::store::Store;
 use crate::store::occurrence_lists::{fill, vacate, watch, widen};
 use crate::store::stored_form::StoredForm;
-use std::alloc::AllocError;
+use pb_normal::Normal;
+use std::alloc::{AllocError, Global};
 
 // The slot of a removed form.
 fn left_slot(kept: &[StoredForm], free: &mut Vec<usize>) -> Option<usize>
@@ -71,12 +75,44 @@ fn seat(store: &Store, eager: &mut Eager, slot: usize) -> Result<(), AllocError>
     Ok(())
 }
 
-/// Stores a form in an empty slot.
+// How a clause is stored.
+#[derive(Drop)]
+struct Planned {
+    codes: Vec<u32>,
+    pair: Pair,
+}
+
+// How a form is stored if it is a clause that can be watched: it has two literals that the assigned ones do not falsify,
+// or one that is true.
+fn plan(
+    alloc: Global,
+    form: &Normal,
+    assigned: Option<&Assignment>,
+) -> Result<Option<Planned>, AllocError>
+    ensures { IfOk result (λ planned. IfSome planned (IsPlanned form.now)) }
+{
+    if !is_clause(form) {
+        return Ok(None);
+    }
+    let codes = codes_of(alloc, form.entries())?;
+    let pair = match assigned {
+        Some(assignment) => pick(assignment, codes.as_slice()),
+        None => pair_of(codes.as_slice(), 0, 1),
+    };
+    match pair {
+        Some(pair) => Ok(Some(Planned { codes, pair })),
+        None => Ok(None),
+    }
+}
+
+/// Stores a form in an empty slot. A clause with fewer than two literals that the assigned ones leave open, and none
+/// that is true, is stored with its entries.
 pub fn occupy(
     store: &mut Store,
     run: &mut Run,
     eager: &mut Eager,
     clauses: &mut Clauses,
+    assigned: Option<&Assignment>,
     slot: usize,
     form: Shared,
 ) -> Result<(), AllocError>
@@ -91,8 +127,8 @@ pub fn occupy(
     ensures variables { store.new.variables ≡ store.old.variables }
     ensures visits { run.new.visits ≡ run.old.visits }
 {
-    if is_clause(form.form()) {
-        watch(store, clauses, slot, form)?;
+    if let Some(planned) = plan(*store.stored.allocator(), form.form(), assigned)? {
+        watch(store, clauses, slot, form, planned.codes, planned.pair)?;
         return Ok(());
     }
     fill(store, run, slot, form)?;

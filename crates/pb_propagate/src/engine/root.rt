@@ -192,6 +192,14 @@ impl Root {
         }
     }
 
+    /// The literals that are forced, if they still follow.
+    pub fn assigned(&self) -> Option<&Assignment> {
+        if !self.live {
+            return None;
+        }
+        Some(&self.run.assignment)
+    }
+
     /// Ends the root: its forms are no longer the live ones.
     pub fn end(&mut self)
         ensures live { self.new.live ≡ false }

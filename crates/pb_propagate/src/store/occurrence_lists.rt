@@ -10,13 +10,12 @@ ghost use Rattle.pb_propagate.specs.engine.Engine.Forms.{IsStoredAs};
 ghost use Rattle.pb_propagate.specs.engine.Engine.Terms.{terms_of};
 ghost use Rattle.pb_propagate.specs.engine.Engine.Fields.{stored_shape, shapes_of, forms_of, spots_of, lists_of, entries_of, IsSound, HasEntered, HasFilled, IsEmpty, IsUnlisted, AreLonger};
 ghost use Rattle.pb_propagate.specs.engine.Engine.Links.{IsLinked, Moved, cut, terms_at};
-ghost use Rattle.pb_normal.specs.meaning.Form.{IsNormal};
 ghost use Rattle.pb_propagate.specs.engine.Clauses.Links.{list_at, watch_at};
-ghost use Rattle.pb_propagate.specs.engine.Clauses.Runs.{AreReady};
-ghost use Rattle.pb_propagate.specs.engine.Clauses.Shapes.{IsClause, clauses_of, codes_of_terms};
+ghost use Rattle.pb_propagate.specs.engine.Clauses.Runs.{AreReady, IsPair};
+ghost use Rattle.pb_propagate.specs.engine.Clauses.Shapes.{clauses_of, codes_of_terms};
 
-use crate::clause::codes_of;
 use crate::clauses::Clauses;
+use crate::clauses::watched::Pair;
 use crate::run::{Run, place_of};
 use crate::shared::Shared;
 use crate::store::sorted_form::SortedForm;
@@ -179,13 +178,15 @@ pub fn watch(
     clauses: &mut Clauses,
     slot: usize,
     form: Shared,
+    codes: Vec<u32>,
+    pair: Pair,
 ) -> Result<(), AllocError>
     requires ready { AreReady clauses.old }
     requires slot { slot < length store.old.stored.items }
     requires known { length clauses.old.literals.items ≡ length store.old.stored.items }
     requires empty { list_at (clauses_of clauses.old) slot ≡ [] }
-    requires clause { IsClause form }
-    requires normal { IsNormal form }
+    requires codes { codes.items ≡ codes_of_terms form.terms }
+    requires pair { IsPair codes.items pair }
     requires inside { All (λ t. t.variable < store.old.variables) form.terms }
     requires widths { length clauses.old.lists.items ≡ 4 * store.old.variables }
     ensures ready { OnOk result (AreReady clauses.new) }
@@ -197,8 +198,7 @@ pub fn watch(
     ensures rest { (store.new.spots ≡ store.old.spots) × (store.new.occurrences ≡ store.old.occurrences) × (store.new.variables ≡ store.old.variables) }
 {
     let alloc = *store.stored.allocator();
-    let codes = codes_of(alloc, form.form().entries())?;
-    clauses.fill(slot, codes)?;
+    clauses.fill(slot, codes, pair)?;
     store.stored[slot] = watched_stored(alloc, form);
     Ok(())
 }

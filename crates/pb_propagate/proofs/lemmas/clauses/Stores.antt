@@ -9,9 +9,10 @@ use Rattle.std.proofs.lemmas.Option.{slice_get_within}
 use Rattle.pb_propagate.specs.declared.clauses.lists.Watch.{Watch}
 use Rattle.pb_propagate.specs.declared.clauses.search.Search.{Search}
 use Rattle.pb_propagate.specs.declared.clauses.Clauses.{Clauses}
+use Rattle.pb_propagate.specs.declared.clauses.watched.Pair.{Pair}
 use Rattle.pb_propagate.specs.engine.Clauses.Truths.{flip}
 use Rattle.pb_propagate.specs.engine.Clauses.Links.{idle, watch_at, list_at, lists_of, Sits, AreLinked}
-use Rattle.pb_propagate.specs.engine.Clauses.Runs.{AreStored, AreNoted, AreReady, IsRunning, passed_of, search_at}
+use Rattle.pb_propagate.specs.engine.Clauses.Runs.{AreStored, AreNoted, AreReady, IsPair, IsRunning, passed_of, search_at}
 use Rattle.pb_propagate.proofs.lemmas.clauses.Linked.{list-within, lists-length}
 use Rattle.pb_propagate.proofs.lemmas.clauses.Truths.{flip-half, flip-flip, flip-even}
 use Rattle.pb_propagate.proofs.lemmas.clauses.Steps.{live-within}
@@ -111,11 +112,11 @@ slot-room clauses s some = elim (cases_lt s (length clauses)) [
 ]
 
 -- a clause was added
-pub stored-fill : (clauses : List (List ℕ)) (ws ws' : List Watch) (ls ls' : List (List ℕ)) (s x y : ℕ) (xs : List ℕ) → AreStored clauses ws ls → AreLinked ws' ls' → s < length clauses → length ws' ≡ length ws → length ls' ≡ length ls →
-    2 ≤ length xs → x ≡ get_or xs 0 0 → y ≡ get_or xs 1 0 → (x ≡ y → ⊥) → All (λ z. z < length ls) xs →
+pub stored-fill : (clauses : List (List ℕ)) (ws ws' : List Watch) (ls ls' : List (List ℕ)) (s x y : ℕ) (xs : List ℕ) (p : Pair) → AreStored clauses ws ls → AreLinked ws' ls' → s < length clauses → length ws' ≡ length ws → length ls' ≡ length ls →
+    IsPair xs p → x ≡ get_or xs p.first 0 → y ≡ get_or xs p.second 0 → All (λ z. z < length ls) xs →
     (watch_at ws' (2 * s)).live ≡ true → (watch_at ws' (2 * s)).literal ≡ x → (watch_at ws' (2 * s + 1)).live ≡ true → (watch_at ws' (2 * s + 1)).literal ≡ y →
     ((k : ℕ) → (k / 2 ≡ s → ⊥) → watch_at ws' k ≡ watch_at ws k) → AreStored (set clauses s xs) ws' ls'
-stored-fill clauses ws ws' ls ls' s x y xs old linked room sizes sizes_l two x_is y_is apart inside live_x at_x live_y at_y same = record {
+stored-fill clauses ws ws' ls ls' s x y xs p old linked room sizes sizes_l pair x_is y_is inside live_x at_x live_y at_y same = record {
   linked = linked;
   pairs = sizes ∙ old.pairs ∙ ap (λ n. 2 * n) (sym (length-set clauses s xs));
   watched = λ k live. watched-at k live (cases_eq (k / 2) s);
@@ -141,8 +142,8 @@ stored-fill clauses ws ws' ls ls' s x y xs old linked room sizes sizes_l two x_i
     flip-odd = ap flip (sym (flip-even s)) ∙ flip-flip (2 * s)
 
     stands : (k : ℕ) → (k ≡ 2 * s) ⊎ (k ≡ 2 * s + 1) → Contains xs (watch_at ws' k).literal
-    stands k (inl e) = subst (Contains xs) (sym (ap (λ t. (watch_at ws' t).literal) e ∙ at_x ∙ x_is)) (Contains-get_or xs 0 0 (omega (arith, two)))
-    stands k (inr e) = subst (Contains xs) (sym (ap (λ t. (watch_at ws' t).literal) e ∙ at_y ∙ y_is)) (Contains-get_or xs 1 0 (omega (arith, two)))
+    stands k (inl e) = subst (Contains xs) (sym (ap (λ t. (watch_at ws' t).literal) e ∙ at_x ∙ x_is)) (Contains-get_or xs p.first 0 pair.first)
+    stands k (inr e) = subst (Contains xs) (sym (ap (λ t. (watch_at ws' t).literal) e ∙ at_y ∙ y_is)) (Contains-get_or xs p.second 0 pair.second)
 
     watched-at : (k : ℕ) → (watch_at ws' k).live ≡ true → (k / 2 ≡ s) ⊎ (k / 2 ≡ s → ⊥) → Contains (list_at (set clauses s xs) (k / 2)) (watch_at ws' k).literal
     watched-at k live (inl e) = subst (λ zs. Contains zs (watch_at ws' k).literal) (sym (ap (list_at (set clauses s xs)) e ∙ here)) (stands k (two-of k s e))
@@ -156,9 +157,12 @@ stored-fill clauses ws ws' ls ls' s x y xs old linked room sizes sizes_l two x_i
     paired-at k live (inl e) = pair-live k (two-of k s e)
     paired-at k live (inr n) = ap (λ (w : Watch). w.live) (same (flip k) (flip-off k n)) ∙ old.paired k (was k n live)
 
+    off : x ≡ y → ⊥
+    off h = pair.apart (sym x_is ∙ h ∙ y_is)
+
     pair-apart : (k : ℕ) → (watch_at ws' (flip k)).literal ≡ (watch_at ws' k).literal → (k ≡ 2 * s) ⊎ (k ≡ 2 * s + 1) → ⊥
-    pair-apart k h (inl e) = apart (sym at_x ∙ ap (λ t. (watch_at ws' t).literal) (sym e) ∙ sym h ∙ ap (λ t. (watch_at ws' t).literal) (ap flip e ∙ flip-even s) ∙ at_y)
-    pair-apart k h (inr e) = apart (sym at_x ∙ ap (λ t. (watch_at ws' t).literal) (sym (ap flip e ∙ flip-odd)) ∙ h ∙ ap (λ t. (watch_at ws' t).literal) e ∙ at_y)
+    pair-apart k h (inl e) = off (sym at_x ∙ ap (λ t. (watch_at ws' t).literal) (sym e) ∙ sym h ∙ ap (λ t. (watch_at ws' t).literal) (ap flip e ∙ flip-even s) ∙ at_y)
+    pair-apart k h (inr e) = off (sym at_x ∙ ap (λ t. (watch_at ws' t).literal) (sym (ap flip e ∙ flip-odd)) ∙ h ∙ ap (λ t. (watch_at ws' t).literal) e ∙ at_y)
 
     apart-at : (k : ℕ) → (watch_at ws' k).live ≡ true → (watch_at ws' (flip k)).literal ≡ (watch_at ws' k).literal → (k / 2 ≡ s) ⊎ (k / 2 ≡ s → ⊥) → ⊥
     apart-at k live h (inl e) = pair-apart k h (two-of k s e)
@@ -275,11 +279,11 @@ rest-extend c literals' searches' watches' ws1 v i x r is_idle fresh pushed none
 pub literals-set : (occ : List (Vec ℕ Global)) (s : ℕ) (v : Vec ℕ Global) → lists_of (set occ s v) ≡ set (lists_of occ) s v.items
 literals-set occ s v = map-set (λ (x : Vec ℕ Global). x.items) occ s v
 
-pub rest-fill : (c : Clauses) (literals' : Vec (Vec ℕ Global) Global) (watches' : Vec Watch Global) (lists' : Vec (Vec ℕ Global) Global) (ws1 : List Watch) (w1 w2 : Watch) (searches' : Vec Search Global) (f : Search) (s x y : ℕ) (v : Vec ℕ Global) → AreReady c → searches'.items ≡ set c.searches.items s f → (f.position ≡ 0) × (f.passed ≡ 0) → s < length c.literals.items → list_at (lists_of c.literals.items) s ≡ [] →
-    2 ≤ length v.items → x ≡ get_or v.items 0 0 → y ≡ get_or v.items 1 0 → (get_or v.items 0 0 ≡ get_or v.items 1 0 → ⊥) → All (λ z. z < length c.lists.items) v.items →
+pub rest-fill : (c : Clauses) (literals' : Vec (Vec ℕ Global) Global) (watches' : Vec Watch Global) (lists' : Vec (Vec ℕ Global) Global) (ws1 : List Watch) (w1 w2 : Watch) (searches' : Vec Search Global) (f : Search) (s x y : ℕ) (v : Vec ℕ Global) (p : Pair) → AreReady c → searches'.items ≡ set c.searches.items s f → (f.position ≡ 0) × (f.passed ≡ 0) → s < length c.literals.items → list_at (lists_of c.literals.items) s ≡ [] →
+    IsPair v.items p → x ≡ get_or v.items p.first 0 → y ≡ get_or v.items p.second 0 → All (λ z. z < length c.lists.items) v.items →
     literals'.items ≡ set c.literals.items s v → ws1 ≡ set c.watches.items (2 * s) w1 → watches'.items ≡ set ws1 (2 * s + 1) w2 → w1.live ≡ true → w1.literal ≡ x → w2.live ≡ true → w2.literal ≡ y → AreLinked watches'.items (lists_of lists'.items) → length lists'.items ≡ length c.lists.items →
     AreReady (record { literals = literals'; searches = searches'; moved = c.moved; watches = watches'; lists = lists' })
-rest-fill c literals' watches' lists' ws1 w1 w2 searches' f s x y v r searching fresh room empty two x_is y_is apart inside now one both live_1 at_1 live_2 at_2 linked sizes =
+rest-fill c literals' watches' lists' ws1 w1 w2 searches' f s x y v p r searching fresh room empty pair x_is y_is inside now one both live_1 at_1 live_2 at_2 linked sizes =
     let clauses = lists_of c.literals.items in
     let room_c : s < length clauses = omega (arith, room, lists-length c.literals.items) in
     let wide : 2 * s + 1 < length c.watches.items = omega (arith, room_c, r.stored.pairs) in
@@ -287,9 +291,9 @@ rest-fill c literals' watches' lists' ws1 w1 w2 searches' f s x y v r searching 
     let first : watch_at watches'.items (2 * s) ≡ w1 = ap (λ ws. watch_at ws (2 * s)) both ∙ get_or-set_other ws1 (2 * s + 1) (2 * s) w2 idle (λ h. absurd (omega (arith, h))) ∙ ap (λ ws. watch_at ws (2 * s)) one ∙ get_or-set_same c.watches.items (2 * s) w1 idle (omega (arith, wide)) in
     let second : watch_at watches'.items (2 * s + 1) ≡ w2 = ap (λ ws. watch_at ws (2 * s + 1)) both ∙ get_or-set_same ws1 (2 * s + 1) w2 idle wide_1 in
     let stored : AreStored (set clauses s v.items) watches'.items (lists_of lists'.items) =
-    stored-fill clauses c.watches.items watches'.items (lists_of c.lists.items) (lists_of lists'.items) s x y v.items r.stored linked room_c
+    stored-fill clauses c.watches.items watches'.items (lists_of c.lists.items) (lists_of lists'.items) s x y v.items p r.stored linked room_c
     (ap length both ∙ length-set ws1 (2 * s + 1) w2 ∙ ap length one ∙ length-set c.watches.items (2 * s) w1)
-    (lists-length lists'.items ∙ sizes ∙ sym (lists-length c.lists.items)) two x_is y_is (λ h. apart (sym x_is ∙ h ∙ y_is))
+    (lists-length lists'.items ∙ sizes ∙ sym (lists-length c.lists.items)) pair x_is y_is
     (λ k d h. let small = inside k d h in omega (arith, small, lists-length c.lists.items))
     (ap (λ (w : Watch). w.live) first ∙ live_1) (ap (λ (w : Watch). w.literal) first ∙ at_1) (ap (λ (w : Watch). w.live) second ∙ live_2) (ap (λ (w : Watch). w.literal) second ∙ at_2)
     (λ k n. ap (λ ws. watch_at ws k) both ∙ get_or-set_other ws1 (2 * s + 1) k w2 idle (λ h. n (omega (arith, h))) ∙ ap (λ ws. watch_at ws k) one ∙ get_or-set_other c.watches.items (2 * s) k w1 idle (λ h. n (omega (arith, h)))) in

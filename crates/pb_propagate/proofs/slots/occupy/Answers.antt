@@ -72,18 +72,19 @@ pub watch-requires-clause-empty : goal.watch-requires-clause-empty
 watch-requires-clause-empty c =
     (slots-vacant (forms_of c.args.store.now.stored.items) (shapes_of c.args.store.now.stored.items) (clauses_of c.args.clauses.now) c.args.slot c.requires.rest.slots c.requires.slot).clause
 
-pub returns-then-is_clause-clause-rest : goal.returns-then-is_clause-clause-rest
-returns-then-is_clause-clause-rest c =
+pub returns-in-Some-clause-rest : goal.returns-in-Some-clause-rest
+returns-in-Some-clause-rest c =
+    let planned = rw c.in-Some.is at c.in_ok-planned.ensures in
     let reported = c.in_ok-watch.ensures in
     let k = reported.kept in
     let rest = c.watch.ensures.rest in
     let keep = c.args.store.now.stored.items in
     rw (forms-filled keep c.watch.new.store.stored.items k.0 c.args.slot (Some c.args.form) k.3 k.1)
     (rest-watched c.args.store.now c.watch.new.store c.args.run.now c.args.eager.now c.args.clauses.now c.watch.new.clauses (forms_of keep) c.args.form k.0 c.args.slot c.requires.slot k.2 k.3
-    rest.0 rest.1 rest.2 (rw c.form.ensures at c.is_clause.ensures.normal) (rw c.form.ensures at (c.is_clause.ensures.yes c.if-is_clause.true)) reported.ready reported.literals reported.lists c.requires.rest)
+    rest.0 rest.1 rest.2 (rw c.form-2.ensures at planned.normal) (rw c.form-2.ensures at planned.clause) reported.ready reported.literals reported.lists c.requires.rest)
 
-pub returns-then-is_clause-clause-forms : goal.returns-then-is_clause-clause-forms
-returns-then-is_clause-clause-forms c =
+pub returns-in-Some-clause-forms : goal.returns-in-Some-clause-forms
+returns-in-Some-clause-forms c =
     let k = c.in_ok-watch.ensures.kept in
     forms-filled c.args.store.now.stored.items c.watch.new.store.stored.items k.0 c.args.slot (Some c.args.form) k.3 k.1
 
@@ -101,10 +102,20 @@ returns-clause-gained c =
     let vacant = slots-vacant (forms_of store.stored.items) (shapes_of store.stored.items) (clauses_of c.args.clauses.now) c.args.slot c.requires.rest.slots c.requires.slot in
     gained-filled store c.fill.new.store c.args.clauses.now c.args.clauses.now c.args.slot h.kept c.fill.ensures.variables h.keeps (λ s apart. refl) (λ e apart. refl) vacant c.requires.slot c.args.form h.form
 
-pub returns-then-is_clause-clause-gained : goal.returns-then-is_clause-clause-gained
-returns-then-is_clause-clause-gained c =
+pub returns-in-Some-clause-gained : goal.returns-in-Some-clause-gained
+returns-in-Some-clause-gained c =
     let store = c.args.store.now in
     let reported = c.in_ok-watch.ensures in
     let k = reported.kept in
     let vacant = slots-vacant (forms_of store.stored.items) (shapes_of store.stored.items) (clauses_of c.args.clauses.now) c.args.slot c.requires.rest.slots c.requires.slot in
     gained-filled store c.watch.new.store c.args.clauses.now c.watch.new.clauses c.args.slot k.0 c.watch.ensures.rest.2 k.3 (λ s apart. ap (λ (cs : List (List ℕ)). list_at cs s) reported.literals ∙ get_or-set_other (clauses_of c.args.clauses.now) c.args.slot s (codes_of_terms c.args.form.terms) [] apart) reported.watches vacant c.requires.slot c.args.form k.1
+
+pub watch-requires-clause-codes : goal.watch-requires-clause-codes
+watch-requires-clause-codes c =
+    let planned = rw c.in-Some.is at c.in_ok-planned.ensures in
+    rw c.form-2.ensures at planned.codes
+
+pub watch-requires-clause-pair : goal.watch-requires-clause-pair
+watch-requires-clause-pair c =
+    let planned = rw c.in-Some.is at c.in_ok-planned.ensures in
+    planned.pair

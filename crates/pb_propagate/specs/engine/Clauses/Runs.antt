@@ -1,9 +1,10 @@
 -- A run of propagation: what it knows of the clauses, and what a visit to a watch finds.
-use Rattle.std.specs.Prelude.{◌≡◌, ℕ, ◌+◌, ◌*◌, ◌/◌, ◌<◌, ◌≤◌, ◌⊎◌, ◌++◌, ◌∷◌, ◌-◌, nat_lt, if◌then◌else◌, true, false, [], List, map, length, take, drop, All, Contains, Bool, Option, Some, slice_get, slice_index_or}
+use Rattle.std.specs.Prelude.{◌≡◌, ℕ, ◌+◌, ◌*◌, ◌/◌, ◌<◌, ◌≤◌, ◌⊎◌, ◌++◌, ◌∷◌, ◌-◌, nat_lt, if◌then◌else◌, true, false, [], List, map, length, take, drop, All, Contains, Bool, Option, Some, slice_get, slice_index, slice_index_or}
 use Rattle.pb_propagate.specs.declared.clauses.lists.Watch.{Watch}
 use Rattle.pb_propagate.specs.declared.clauses.Clauses.{Clauses}
 use Rattle.pb_propagate.specs.declared.clauses.search.Search.{Search}
 use Rattle.pb_propagate.specs.declared.clauses.visiting.Visit.{Visit}
+use Rattle.pb_propagate.specs.declared.clauses.watched.Pair.{Pair}
 use Rattle.pb_propagate.specs.declared.clauses.visiting.Visit.TheVariants.{Stays, Leaves, Forces, Falsified}
 use Rattle.pb_propagate.specs.engine.Clauses.Truths.{flip, true_at, false_at}
 use Rattle.pb_propagate.specs.engine.Clauses.Links.{lists_of, list_at, watch_at, AreLinked}
@@ -52,6 +53,12 @@ pub record AreStored (clauses : List (List ℕ)) (watches : List Watch) (lists :
   pub apart : (e : ℕ) → (watch_at watches e).live ≡ true → (watch_at watches (flip e)).literal ≡ (watch_at watches e).literal → ⊥
   pub full : (s : ℕ) → 0 < length (list_at clauses s) → (watch_at watches (2 * s)).live ≡ true
   pub inside : (s : ℕ) → All (λ x. x < length lists) (list_at clauses s)
+
+-- two positions with different literals
+pub record IsPair (literals : List ℕ) (p : Pair) : Type 0 where
+  pub first : p.first < length literals
+  pub second : p.second < length literals
+  pub apart : slice_index literals p.first ≡ slice_index literals p.second → ⊥
 
 -- a watch of the slot is on the literal
 pub record IsWatched (watches : List Watch) (s x : ℕ) : Type 0 where

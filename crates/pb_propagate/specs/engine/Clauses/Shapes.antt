@@ -1,7 +1,7 @@
 -- Clauses among the constraints.
 use Rattle.std.specs.Prelude.{◌≡◌, ℕ, ◌+◌, ◌*◌, ◌/◌, ◌%◌, ◌^◌, ◌<◌, ◌≤◌, ◌==◌, not, nat_lt, if◌then◌else◌, All, List, [], ◌∷◌, map, length, count_by, slice_index_or}
 use Rattle.pb_normal.specs.declared.entry.Entry.{Entry}
-use Rattle.pb_normal.specs.meaning.Form.{Form}
+use Rattle.pb_normal.specs.meaning.Form.{Form, IsNormal}
 use Rattle.pb_normal.specs.declared.numbered.NumberedLiteral.{NumberedLiteral}
 use Rattle.pb_propagate.specs.declared.term.Term.{Term}
 use Rattle.pb_propagate.specs.declared.clause.Group.{Group}
@@ -11,7 +11,9 @@ use Rattle.pb_propagate.specs.declared.clauses.Clauses.{Clauses}
 use Rattle.pb_propagate.specs.engine.Engine.Lists.{Shape}
 use Rattle.pb_propagate.specs.engine.Engine.Forms.{as_term}
 use Rattle.pb_propagate.specs.engine.Engine.Fields.{shapes_of}
+use Rattle.pb_propagate.specs.declared.slots.Planned.{Planned}
 use Rattle.pb_propagate.specs.engine.Clauses.Links.{lists_of, list_at}
+use Rattle.pb_propagate.specs.engine.Clauses.Runs.{IsPair}
 
 -- the literal of a code
 abbrev pub literal_at : ℕ → NumberedLiteral
@@ -83,3 +85,10 @@ pub record IsClause (f : Form) : Type 0 where
   pub degree : f.degree ≡ 1
   pub two : 2 ≤ length f.terms
   pub light : All IsLight f.terms
+
+-- the form is a clause, with its codes and two positions of literals to watch
+pub record IsPlanned (f : Form) (p : Planned) : Type 0 where
+  pub clause : IsClause f
+  pub normal : IsNormal f
+  pub codes : p.codes.items ≡ codes_of_terms f.terms
+  pub pair : IsPair p.codes.items p.pair

@@ -1,0 +1,9 @@
+use Rattle.std.proofs.Common.{sym, ◌∙◌, ap}
+use Rattle.pb_propagate.specs.engine.Clauses.Truths.{false_at}
+use Rattle.pb_propagate.proofs.lemmas.clauses.Marks.{true-flipped}
+use Rattle.pb_propagate.proofs.assignment.Assignment.has_satisfied.Goals as goal
+
+pub returns : goal.returns
+returns c =
+    let values = c.args.self.now.values.items in
+    c.has_falsified.ensures ∙ ap (false_at values) c.opposite.ensures ∙ sym (true-flipped values c.args.code)
