@@ -1,33 +1,33 @@
 //! The engine: live forms by number, and the results of propagation over them.
 
+pub mod completion;
 pub mod denial;
 pub mod question;
 pub mod root;
 pub mod visits;
 
 ghost use Rattle.std.specs.Prelude.{◌≡◌, List, Option, Some, None, ◌+◌, ◌*◌, ◌<◌, ◌≤◌, ◌++◌, ◌∷◌, [], ◌⊎◌, true, false, All, length, slice_index_or, slice_set, sum_by, OnOk, OnErr, IfOk, IfSome, IfNone};
-ghost use Rattle.pb_normal.specs.meaning.Rules.{negation_of, negation};
+ghost use Rattle.pb_normal.specs.meaning.Rules.{negation_of};
 ghost use Rattle.pb_normal.specs.declared.numbered.NumberedLiteral.{NumberedLiteral};
 ghost use Rattle.pb_propagate.specs.engine.Engine.Live.{Standing, Live, Gives, terms_in, one_in};
-ghost use Rattle.pb_propagate.specs.engine.Engine.Lists.{has, IsWithin};
-ghost use Rattle.pb_propagate.specs.engine.Engine.Progress.{IfFound, IfNotFound, RunIsOpen, RunStaysTidy, shapes_in, list_of, values_of, RunIsCalm, RunIsUndone, RunAdvances};
-ghost use Rattle.pb_propagate.specs.engine.Engine.Fields.{shapes_of, forms_of, IsSound};
+ghost use Rattle.pb_propagate.specs.engine.Engine.Progress.{list_of, values_of, RunIsUndone};
+ghost use Rattle.pb_propagate.specs.engine.Engine.Fields.{forms_of};
 ghost use Rattle.pb_propagate.specs.meaning.Propagation.{With, MeetsConflict, IsCompletion, IsRup};
-ghost use Rattle.pb_propagate.specs.engine.Engine.Rest.{AreAtRest, IsAtRest, IsRefuted, IsEnded};
+ghost use Rattle.pb_propagate.specs.engine.Engine.Rest.{AreAtRest, IsAtRest};
 ghost use Rattle.pb_propagate.specs.engine.Engine.Root.{IsRootOf, WasRootOf};
 ghost use Rattle.pb_propagate.specs.declared.store.Store.{Store};
 ghost use Rattle.pb_propagate.specs.declared.clauses.Clauses.{Clauses};
 ghost use Rattle.pb_propagate.specs.engine.Clauses.Runs.{AreReady, IsRunning};
-ghost use Rattle.pb_propagate.specs.engine.Clauses.Shapes.{AreJoined, clauses_of, all_of};
 
 use crate::assignment::Assignment;
 use crate::clauses::Clauses;
 use crate::eager::Eager;
+use crate::engine::completion::{extend, settle};
 use crate::engine::question::ask;
 use crate::engine::root::Root;
 use crate::engine::visits::Visits;
 use crate::rests::Rests;
-use crate::run::{Run, choose, propagate, try_put, undo_forms};
+use crate::run::{Run, choose, propagate, undo_forms};
 use crate::shared::Shared;
 use crate::slots::{occupy, quit, vacancy};
 use crate::store::Store;
@@ -70,80 +70,6 @@ impl Model for Engine {
     ghost invariant = { λ e. e.spent ≡ false → IsAtRest e.store e.run e.eager e.clauses (forms_of e.store.stored.items) × ArePlaced (forms_of e.store.stored.items) e.places.items × (e.root.live ≡ true → IsRootOf e.store e.clauses e.root) };
 }
 
-// Assigns the given literals. Returns whether two of them are opposite, or a form is then falsified.
-fn assume(
-    store: &Store,
-    rests: &Rests,
-    run: &mut Run,
-    given: &[NumberedLiteral],
-) -> Result<bool, AllocError>
-    requires store { IsSound store.now }
-    requires inside { All (λ l. l.variable < store.now.variables) given.now }
-    requires values { length (values_of run.old) ≡ store.now.variables }
-    requires opens { length run.old.opens.items ≡ length store.now.stored.items }
-    requires next { run.old.next ≤ length run.old.work.items }
-    requires empty { list_of run.old ≡ [] }
-    requires counted { RunIsOpen store.now rests.now run.old }
-    ensures advances { OnOk result (RunAdvances store.now rests.now 0 0 run.old run.new) }
-    ensures counted { IfNotFound result (RunIsOpen store.now rests.now run.new) }
-    ensures tidy { OnOk result (RunStaysTidy store.now rests.now run.old run.new) }
-    ensures refuted { IfFound result (IsRefuted (shapes_in store.now) given.now given.now) }
-    ensures same { IfNotFound result (
-        IsWithin (list_of run.new) given.now × IsWithin given.now (list_of run.new)) }
-{
-    'given: for i in 0..given.len() {
-        let literal = given[i];
-        if run.assignment.contains(literal.negation()) {
-            return Ok(true);
-        }
-        if try_put(store, rests, run, literal)? {
-            return Ok(true);
-        }
-    }
-    Ok(false)
-}
-
-// Propagates from the given literals. Returns whether a conflict is met.
-fn settle(
-    store: &Store,
-    rests: &Rests,
-    clauses: &mut Clauses,
-    run: &mut Run,
-    given: &[NumberedLiteral],
-    waiting: &[usize],
-) -> Result<bool, AllocError>
-    requires store { IsSound store.now }
-    requires inside { All (λ l. l.variable < store.now.variables) given.now }
-    requires values { length (values_of run.old) ≡ store.now.variables }
-    requires opens { length run.old.opens.items ≡ length store.now.stored.items }
-    requires candidates { length run.old.candidates.items ≡ length store.now.stored.items }
-    requires next { run.old.next ≤ length run.old.work.items }
-    requires waiting { All (λ s. s < length store.now.stored.items) waiting.now }
-    requires empty { list_of run.old ≡ [] }
-    requires counted { RunIsOpen store.now rests.now run.old }
-    requires tidy { RunIsCalm store.now rests.now waiting.now run.old }
-    requires joined { AreJoined (shapes_of store.now.stored.items) (clauses_of clauses.old) }
-    requires ready { AreReady clauses.old }
-    requires widths { length clauses.old.lists.items ≡ 4 * store.now.variables }
-    ensures literals { clauses.new.literals ≡ clauses.old.literals }
-    ensures running { OnOk result (IsRunning (values_of run.new) clauses.new) }
-    ensures values { OnOk result (length (values_of run.new) ≡ length (values_of run.old)) }
-    ensures opens { OnOk result (length run.new.opens.items ≡ length store.now.stored.items) }
-    ensures candidates { OnOk result (
-        length run.new.candidates.items ≡ length store.now.stored.items) }
-    ensures undone { OnOk result (RunIsUndone store.now rests.now 0 run.new) }
-    ensures refuted { IfFound result (
-        (list : List NumberedLiteral) × IsRefuted (all_of store.now clauses.old) given.now list) }
-    ensures ended { IfNotFound result (
-        IsEnded (all_of store.now clauses.old) given.now (list_of run.new)) }
-{
-    if assume(store, rests, run, given)? {
-        return Ok(true);
-    }
-    let found = propagate(store, rests, clauses, run, waiting, 0)?;
-    Ok(found)
-}
-
 // Undoes a propagation that began from nothing.
 fn rest(store: &Store, rests: &Rests, clauses: &mut Clauses, run: &mut Run)
     requires opens { length run.old.opens.items ≡ length store.now.stored.items }
@@ -170,8 +96,8 @@ fn rest(store: &Store, rests: &Rests, clauses: &mut Clauses, run: &mut Run)
     run.next = 0;
 }
 
-// The root after a form was stored in a slot. It begins anew once the questions without it took eight visits for
-// each form and variable.
+// The root after a form was stored in a slot. It begins anew once the questions and completions without it took eight
+// visits for each form and variable.
 fn follow(
     store: &Store,
     run: &Run,
@@ -430,11 +356,15 @@ impl Engine {
         ensures count { IfOk result (λ found. IfSome found (λ values. length values.items ≡ self.old.variables)) }
         ensures completed { IfOk result (λ found. IfSome found (λ values. (list : List NumberedLiteral) × IsCompletion (Live self.old.forms) given.now list × Gives list values.items)) }
     {
-        let visits = mem::replace(&mut self.run.visits, Visits::none());
         self.spent = true;
-        self.root.end();
+        if self.root.live {
+            let values = extend(&self.store, &mut self.clauses, &mut self.root, given)?;
+            self.spent = false;
+            return Ok(values);
+        }
+        let visits = mem::replace(&mut self.run.visits, Visits::none());
         let rests = Rests::none(*self.places.allocator());
-        let found = settle(
+        let values = settle(
             &self.store,
             &rests,
             &mut self.clauses,
@@ -442,14 +372,10 @@ impl Engine {
             given,
             self.eager.list.as_slice(),
         )?;
-        let mut values = Vec::new(*self.places.allocator());
-        values.extend_from_slice(self.run.assignment.values.as_slice())?;
         rest(&self.store, &rests, &mut self.clauses, &mut self.run);
+        self.root.paid = self.root.paid.saturating_add(self.run.visits.number());
         self.run.visits = visits;
         self.spent = false;
-        if found {
-            return Ok(None);
-        }
-        Ok(Some(values))
+        Ok(values)
     }
 }

@@ -11,3 +11,4 @@ pub mod Roots
 pub mod Asked
 pub mod Denials
 pub mod Returns
+pub mod Transplants

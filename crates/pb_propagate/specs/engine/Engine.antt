@@ -11,5 +11,6 @@ pub mod Waiting
 pub mod Root
 pub mod Progress
 pub mod Denial
+pub mod Reached
 pub mod Slots
 pub mod Laws

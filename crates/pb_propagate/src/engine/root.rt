@@ -39,7 +39,7 @@ pub struct Root {
     pub live: bool,
     // For each literal, by its occurrence list, the last slot that took a form of one term for it.
     pub units: Vec<usize>,
-    // The visits of the questions that were asked without it.
+    // The visits of the questions and completions without it.
     pub paid: u64,
 }
 

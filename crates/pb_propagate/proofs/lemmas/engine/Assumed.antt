@@ -1,30 +1,36 @@
 -- The given literals, and what a completion from them is.
 use Rattle.std.specs.Prelude.{Option, Some, None}
-use Rattle.std.proofs.Common.{◌≡◌, ℕ, ◌+◌, ◌<◌, ◌||◌, ◌++◌, ◌∷◌, [], List, Bool, true, false, refl, sym, ◌∙◌, ap, inl, inr, length, get_or, take, arith}
+use Rattle.std.proofs.Common.{◌≡◌, ℕ, ◌+◌, ◌<◌, ◌||◌, ◌++◌, ◌∷◌, [], List, Bool, true, false, refl, sym, ◌∙◌, ap, inl, inr, length, get_or, take}
 use Rattle.std.specs.Cmp.{both_ways as same_answers}
 use Rattle.std.proofs.lemmas.Bool.{both_ways, or_cases}
 use Rattle.std.proofs.lemmas.List.{take_more}
 use Rattle.pb_normal.specs.meaning.Form.{Form}
 use Rattle.pb_normal.specs.declared.numbered.NumberedLiteral.{NumberedLiteral}
 use Rattle.pb_normal.specs.meaning.Rules.{on, negation}
-use Rattle.pb_propagate.specs.engine.Engine.Lists.{Shape, same, has, says, holds, IsWithin, Conflicts, opposed as both, broken as low, begin as start}
-use Rattle.pb_propagate.specs.engine.Engine.Counts.{Adopted, kept, added, AreSingle, more}
+use Rattle.pb_propagate.specs.engine.Engine.Lists.{Shape, same, has, says, holds, IsWithin, opposed as both, begin as start_there}
+use Rattle.pb_propagate.specs.engine.Engine.Counts.{Adopted, kept, added}
 use Rattle.pb_propagate.specs.meaning.Propagation.{begin, MeetsConflict, IsCompletion}
 use Rattle.pb_propagate.specs.engine.Engine.Live.{value_says, Gives}
+use Rattle.pb_propagate.specs.engine.Engine.Reached.{IsFrom, HasClash}
 use Rattle.pb_propagate.specs.engine.Engine.Rest.{IsRefuted, opposite as opposites, derived as from, IsEnded}
-use Rattle.pb_propagate.proofs.lemmas.engine.Literals.{literal, open_sum-within, has-none, has-get, has-push_old, has-push_new, push-within}
+use Rattle.pb_propagate.proofs.lemmas.engine.Literals.{literal, has-none, has-get, has-push_old, has-push_new, has-push_cases, push-within}
 use Rattle.pb_propagate.proofs.lemmas.engine.Bridge.{AreKept, Matches, only-same, Derived, derives, conflicts, is-closed, has-none as conflict-free}
 use Rattle.pb_propagate.proofs.lemmas.engine.Completing.{closed-none}
 use Rattle.pb_propagate.proofs.lemmas.engine.Values.{Agree, opposite}
 
--- a literal was tried
-pub record Assumed (given list : List NumberedLiteral) (i : ℕ) : Type 0 where
-  pub within : IsWithin list given
-  pub covers : IsWithin (take i given) list
-  pub single : AreSingle list
+push-from : (start given list : List NumberedLiteral) (i : ℕ) (d : NumberedLiteral) → i < length given → IsFrom start given list → IsFrom start given (list ++ (get_or given i d ∷ []))
+push-from start given list i d inside source k h = elim (has-push_cases list (get_or given i d) k h) [
+  | inl old ↦ source k old
+  | inr is ↦ inr (ap (has given) (sym is) ∙ has-get given i d inside)
+]
 
-pub assumed-next : (given old new : List NumberedLiteral) (i : ℕ) (d : NumberedLiteral) → i < length given → has old (negation (get_or given i d)) ≡ false → Adopted (get_or given i d) old new → Assumed given old i → Assumed given new (i + 1)
-assumed-next given old _ i d inside free (kept done) a =
+-- a literal was tried
+pub record Assumed (start given list : List NumberedLiteral) (i : ℕ) : Type 0 where
+  pub within : IsFrom start given list
+  pub covers : IsWithin (take i given) list
+
+pub assumed-next : (start given old new : List NumberedLiteral) (i : ℕ) (d : NumberedLiteral) → i < length given → has old (negation (get_or given i d)) ≡ false → Adopted (get_or given i d) old new → Assumed start given old i → Assumed start given new (i + 1)
+assumed-next start given old _ i d inside free (kept done) a =
     let l = get_or given i d in
     let here : has old l ≡ true = elim (or_cases (has old l) (has old (negation l)) done) [
       | inl there ↦ there
@@ -33,24 +39,26 @@ assumed-next given old _ i d inside free (kept done) a =
     record {
       within = a.within;
       covers = λ k h. push-within (take i given) old l a.covers here k (sym (ap (λ xs. has xs k) (take_more given i d inside)) ∙ h);
-      single = a.single;
     }
-assumed-next given old _ i d inside free (added absent opened) a =
+assumed-next start given old _ i d inside free (added absent opened) a =
     let l = get_or given i d in
     record {
-      within = push-within old given l a.within (has-get given i d inside);
+      within = push-from start given old i d inside a.within;
       covers = λ k h. push-within (take i given) (old ++ (l ∷ [])) l (λ m g. has-push_old old l m (a.covers m g)) (has-push_new old l) k (sym (ap (λ xs. has xs k) (take_more given i d inside)) ∙ h);
-      single = more l a.single absent;
     }
 
-pub within-none : (list given : List NumberedLiteral) → list ≡ [] → IsWithin list given
-within-none list given e l h = absurd (both_ways _ (has-none l) (sym (ap (λ xs. has xs l) e) ∙ h))
+pub none-assumed : (list : List NumberedLiteral) → IsWithin [] list
+none-assumed list l h = absurd (both_ways _ (has-none l) h)
 
--- some of what is given falsifies a form
-pub given-refuted : (shapes : List Shape) (given list : List NumberedLiteral) → IsWithin list given → Conflicts shapes list → IsRefuted shapes given given
-given-refuted shapes given list within (both l here there) = opposites l (within l here) (within (negation l) there)
-given-refuted shapes given list within (low f among less) =
-    from (record { first = given; within = λ l h. h; covers = λ l h. h; derived = start }) (low f among (omega (arith, less, open_sum-within list given within f.terms)))
+-- a given literal that is falsified
+pub opposed-clash : (shapes : List Shape) (start given list : List NumberedLiteral) (i : ℕ) (d : NumberedLiteral) → i < length given → has list (negation (get_or given i d)) ≡ true → IsFrom start given list → HasClash shapes start given
+opposed-clash shapes start given list i d inside there source =
+    let l = get_or given i d in
+    record {
+      list = list ++ (l ∷ []);
+      reached = record { first = list ++ (l ∷ []); within = push-from start given list i d inside source; derived = start_there };
+      conflict = both l (has-push_new list l) (has-push_old list l (negation l) there);
+    }
 
 -- the list as given
 pub on-has : (list : List NumberedLiteral) → Matches list list

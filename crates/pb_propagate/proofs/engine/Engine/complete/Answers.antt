@@ -1,14 +1,93 @@
-use Rattle.std.proofs.Common.{true, false, Vec, Global, ℕ, ◌≡◌, ◌*◌, length, ◌++◌, ◌∙◌, ap, sym}
+use Rattle.std.proofs.Common.{true, false, Vec, Global, ℕ, ◌≡◌, ◌*◌, length, ◌∙◌, [], refl, ap, sym}
 use Rattle.pb_propagate.specs.engine.Clauses.Links.{lists_of}
 use Rattle.pb_propagate.specs.engine.Clauses.Shapes.{all_of, clauses_of}
+use Rattle.pb_propagate.specs.engine.Engine.Counts.{none}
+use Rattle.pb_propagate.specs.engine.Engine.Lists.{begin}
 use Rattle.pb_propagate.specs.engine.Engine.Live.{Standing, Live}
-use Rattle.pb_propagate.specs.engine.Engine.Fields.{shapes_of, forms_of}
+use Rattle.pb_propagate.specs.engine.Engine.Fields.{forms_of, shapes_of}
+use Rattle.pb_propagate.specs.engine.Engine.Slots.{numbered}
+use Rattle.pb_propagate.proofs.lemmas.clauses.Watching.{ready-running}
 use Rattle.pb_propagate.proofs.lemmas.engine.Rested.{rest-counted}
 use Rattle.pb_propagate.proofs.lemmas.engine.Rests.{rest-undone, rest-tidy-all, slots-kept}
-use Rattle.pb_propagate.specs.engine.Engine.Slots.{numbered}
-use Rattle.pb_propagate.proofs.lemmas.store.Placed.{placed-kept}
 use Rattle.pb_propagate.proofs.lemmas.engine.Assumed.{refuted-meets, ended-free, ended-completion}
+use Rattle.pb_propagate.proofs.lemmas.root.Roots.{none-walked}
+use Rattle.pb_propagate.proofs.lemmas.root.Transplants.{clash-refuted, ended-made, map-none, map-some}
+use Rattle.pb_propagate.proofs.lemmas.store.Placed.{placed-kept}
 use Rattle.pb_propagate.proofs.engine.Engine.complete.Goals as goal
+
+-- a completion that continues from the root
+pub extend-requires-clause-rooted : goal.extend-requires-clause-rooted
+extend-requires-clause-rooted c =
+    let both = c.self.invariant (ap (λ (v : Standing). v.spent) c.self.view_is ∙ c.requires.ready) in
+    both.2 c.if-self.true
+
+pub extend-requires-clause-sound : goal.extend-requires-clause-sound
+extend-requires-clause-sound c = (c.self.invariant (ap (λ (v : Standing). v.spent) c.self.view_is ∙ c.requires.ready)).0.sound
+
+pub extend-requires-clause-joined : goal.extend-requires-clause-joined
+extend-requires-clause-joined c = (c.self.invariant (ap (λ (v : Standing). v.spent) c.self.view_is ∙ c.requires.ready)).0.joined
+
+pub extend-requires-clause-ready : goal.extend-requires-clause-ready
+extend-requires-clause-ready c = (c.self.invariant (ap (λ (v : Standing). v.spent) c.self.view_is ∙ c.requires.ready)).0.ready
+
+pub extend-requires-clause-widths : goal.extend-requires-clause-widths
+extend-requires-clause-widths c = (c.self.invariant (ap (λ (v : Standing). v.spent) c.self.view_is ∙ c.requires.ready)).0.widths
+
+pub invariant_of-self-then-self : goal.invariant_of-self-then-self
+invariant_of-self-then-self c = λ ready.
+    let e = c.self.inside in
+    let both = c.self.invariant (ap (λ (v : Standing). v.spent) c.self.view_is ∙ c.requires.ready) in
+    let r = both.0 in
+    let reported = c.in_ok-values.ensures in
+    let lit : clauses_of c.extend.new.clauses ≡ clauses_of e.clauses = ap (λ (v : Vec (Vec ℕ Global) Global). lists_of v.items) c.extend.ensures.literals in (
+      record {
+        sound = r.sound;
+        slots = rw lit r.slots;
+        joined = rw lit r.joined;
+        ready = reported.ready;
+        widths = reported.lists ∙ r.widths;
+        known = ap (λ (v : Vec (Vec ℕ Global) Global). length v.items) c.extend.ensures.literals ∙ r.known;
+        rest = r.rest;
+        values = r.values;
+        list = r.list;
+        work = r.work;
+        trail = r.trail;
+        next = r.next;
+        eager = r.eager;
+        exact = r.exact;
+        few = r.few;
+        seats = r.seats;
+      },
+      both.1,
+      reported.rooted,
+    )
+
+pub returns-then-self-clause-conflict : goal.returns-then-self-clause-conflict
+returns-then-self-clause-conflict c =
+    let e = c.self.inside in
+    let both = c.self.invariant (ap (λ (v : Standing). v.spent) c.self.view_is ∙ c.requires.ready) in
+    let forms = forms_of e.store.stored.items in
+    let shapes = all_of e.store e.clauses in
+    let kept = placed-kept forms e.places.items shapes both.1 (slots-kept forms shapes both.0.slots) in
+    rw (← c.self.view_is) (map-none c.in_ok-values.values (λ clash. refuted-meets (Live (numbered forms e.places.items)) shapes c.args.given.now clash.0 kept clash.1) c.in_ok-values.ensures.clash)
+
+pub returns-then-self-clause-no_conflict : goal.returns-then-self-clause-no_conflict
+returns-then-self-clause-no_conflict c =
+    let e = c.self.inside in
+    let both = c.self.invariant (ap (λ (v : Standing). v.spent) c.self.view_is ∙ c.requires.ready) in
+    let forms = forms_of e.store.stored.items in
+    let shapes = all_of e.store e.clauses in
+    let kept = placed-kept forms e.places.items shapes both.1 (slots-kept forms shapes both.0.slots) in
+    rw (← c.self.view_is) (map-some c.in_ok-values.values (λ values made. ended-free (Live (numbered forms e.places.items)) shapes c.args.given.now made.list values.items kept made.agrees made.ended) c.in_ok-values.ensures.ended)
+
+pub returns-then-self-clause-completed : goal.returns-then-self-clause-completed
+returns-then-self-clause-completed c =
+    let e = c.self.inside in
+    let both = c.self.invariant (ap (λ (v : Standing). v.spent) c.self.view_is ∙ c.requires.ready) in
+    let forms = forms_of e.store.stored.items in
+    let shapes = all_of e.store e.clauses in
+    let kept = placed-kept forms e.places.items shapes both.1 (slots-kept forms shapes both.0.slots) in
+    rw (← c.self.view_is) (map-some c.in_ok-values.values (λ values made. ended-completion (Live (numbered forms e.places.items)) shapes c.args.given.now made.list values.items values.items kept made.agrees refl made.ended) c.in_ok-values.ensures.ended)
 
 pub settle-requires-clause-counted : goal.settle-requires-clause-counted
 settle-requires-clause-counted c =
@@ -31,41 +110,27 @@ settle-requires-clause-waiting c =
     let both = c.self.invariant (ap (λ (v : Standing). v.spent) c.self.view_is ∙ c.requires.ready) in
     rw c.as_slice.ensures.value both.0.eager.named
 
-pub invariant_of-self-then-found : goal.invariant_of-self-then-found
-invariant_of-self-then-found c = λ ready.
-    let e = c.self.inside in
+pub settle-requires-clause-single : goal.settle-requires-clause-single
+settle-requires-clause-single c =
     let both = c.self.invariant (ap (λ (v : Standing). v.spent) c.self.view_is ∙ c.requires.ready) in
-    let r = both.0 in
-    let lit : clauses_of c.rest.new.clauses ≡ clauses_of e.clauses = ap (λ (v : Vec (Vec ℕ Global) Global). lists_of v.items) (c.rest.ensures.literals ∙ c.settle.ensures.literals) in (
-      record {
-        sound = r.sound;
-        slots = rw lit r.slots;
-        joined = rw lit r.joined;
-        ready = c.rest.ensures.ready;
-        widths = ap (λ (v : Vec (Vec ℕ Global) Global). length v.items) c.rest.ensures.lists ∙ c.in_ok-found.ensures.running.sizes ∙ ap (λ n. 4 * n) (c.in_ok-found.ensures.values ∙ r.values);
-        known = ap (λ (v : Vec (Vec ℕ Global) Global). length v.items) (c.rest.ensures.literals ∙ c.settle.ensures.literals) ∙ r.known;
-        rest = c.rest.ensures.rest;
-        values = c.rest.ensures.values ∙ c.in_ok-found.ensures.values ∙ r.values;
-        list = c.rest.ensures.list;
-        work = c.rest.ensures.work;
-        trail = c.rest.ensures.trail;
-        next = c.rest.ensures.next;
-        eager = r.eager;
-        exact = r.exact;
-        few = r.few;
-        seats = r.seats;
-      },
-      both.1,
-      λ live. absurd (let e : false ≡ true = sym c.end.ensures.live ∙ live in cc),
-    )
+    rw both.0.list none
 
-pub returns-then-found-clause-conflict : goal.returns-then-found-clause-conflict
-returns-then-found-clause-conflict c =
+pub settle-requires-clause-joined : goal.settle-requires-clause-joined
+settle-requires-clause-joined c =
+    let both = c.self.invariant (ap (λ (v : Standing). v.spent) c.self.view_is ∙ c.requires.ready) in
+    both.0.joined
+
+pub settle-requires-clause-running : goal.settle-requires-clause-running
+settle-requires-clause-running c =
     let e = c.self.inside in
     let both = c.self.invariant (ap (λ (v : Standing). v.spent) c.self.view_is ∙ c.requires.ready) in
-    let r = both.0 in
-    let shapes = all_of e.store e.clauses in
-    rw (← c.self.view_is) (refuted-meets (Live (numbered (forms_of e.store.stored.items) e.places.items)) shapes c.args.given.now (c.in_ok-found.ensures.refuted c.if-found.true).0 (placed-kept (forms_of e.store.stored.items) e.places.items shapes both.1 (slots-kept (forms_of e.store.stored.items) shapes r.slots)) (c.in_ok-found.ensures.refuted c.if-found.true).1)
+    ready-running e.clauses e.run.assignment.values.items both.0.ready (both.0.widths ∙ ap (λ n. 4 * n) (sym both.0.values))
+
+pub settle-requires-clause-walked : goal.settle-requires-clause-walked
+settle-requires-clause-walked c =
+    let e = c.self.inside in
+    let both = c.self.invariant (ap (λ (v : Standing). v.spent) c.self.view_is ∙ c.requires.ready) in
+    rw both.0.list (none-walked e.run.assignment.values.items e.clauses.watches.items)
 
 pub invariant_of-self-2 : goal.invariant_of-self-2
 invariant_of-self-2 c = λ ready.
@@ -78,10 +143,10 @@ invariant_of-self-2 c = λ ready.
         slots = rw lit r.slots;
         joined = rw lit r.joined;
         ready = c.rest.ensures.ready;
-        widths = ap (λ (v : Vec (Vec ℕ Global) Global). length v.items) c.rest.ensures.lists ∙ c.in_ok-found.ensures.running.sizes ∙ ap (λ n. 4 * n) (c.in_ok-found.ensures.values ∙ r.values);
+        widths = ap (λ (v : Vec (Vec ℕ Global) Global). length v.items) c.rest.ensures.lists ∙ c.in_ok-values-2.ensures.running.sizes ∙ ap (λ n. 4 * n) (c.in_ok-values-2.ensures.values ∙ r.values);
         known = ap (λ (v : Vec (Vec ℕ Global) Global). length v.items) (c.rest.ensures.literals ∙ c.settle.ensures.literals) ∙ r.known;
         rest = c.rest.ensures.rest;
-        values = c.rest.ensures.values ∙ c.in_ok-found.ensures.values ∙ r.values;
+        values = c.rest.ensures.values ∙ c.in_ok-values-2.ensures.values ∙ r.values;
         list = c.rest.ensures.list;
         work = c.rest.ensures.work;
         trail = c.rest.ensures.trail;
@@ -92,65 +157,59 @@ invariant_of-self-2 c = λ ready.
         seats = r.seats;
       },
       both.1,
-      λ live. absurd (let e : false ≡ true = sym c.end.ensures.live ∙ live in cc),
+      λ live. absurd (let e : true ≡ false = sym live ∙ c.if-self.false in cc),
     )
+
+pub returns-clause-conflict : goal.returns-clause-conflict
+returns-clause-conflict c =
+    let e = c.self.inside in
+    let both = c.self.invariant (ap (λ (v : Standing). v.spent) c.self.view_is ∙ c.requires.ready) in
+    let forms = forms_of e.store.stored.items in
+    let shapes = all_of e.store e.clauses in
+    let kept = placed-kept forms e.places.items shapes both.1 (slots-kept forms shapes both.0.slots) in
+    let found = rw both.0.list at c.in_ok-values-2.ensures.clash in
+    rw (← c.self.view_is) (map-none c.in_ok-values-2.values (λ clash. let one = clash-refuted shapes [] c.args.given.now begin clash in refuted-meets (Live (numbered forms e.places.items)) shapes c.args.given.now one.0 kept one.1) found)
 
 pub returns-clause-no_conflict : goal.returns-clause-no_conflict
 returns-clause-no_conflict c =
     let e = c.self.inside in
     let both = c.self.invariant (ap (λ (v : Standing). v.spent) c.self.view_is ∙ c.requires.ready) in
-    let r = both.0 in
+    let forms = forms_of e.store.stored.items in
     let shapes = all_of e.store e.clauses in
-    let done = c.settle.new.run.assignment in
-    rw (← c.self.view_is) (ended-free (Live (numbered (forms_of e.store.stored.items) e.places.items)) shapes c.args.given.now done.list.items done.values.items (placed-kept (forms_of e.store.stored.items) e.places.items shapes both.1 (slots-kept (forms_of e.store.stored.items) shapes r.slots)) done.agrees (c.in_ok-found.ensures.ended c.if-found.false))
+    let kept = placed-kept forms e.places.items shapes both.1 (slots-kept forms shapes both.0.slots) in
+    let found = rw both.0.list at c.in_ok-values-2.ensures.ended in
+    rw (← c.self.view_is) (map-some c.in_ok-values-2.values (λ values h. let made = ended-made shapes [] c.args.given.now values.items begin h in ended-free (Live (numbered forms e.places.items)) shapes c.args.given.now made.list values.items kept made.agrees made.ended) found)
 
 pub returns-clause-completed : goal.returns-clause-completed
 returns-clause-completed c =
     let e = c.self.inside in
     let both = c.self.invariant (ap (λ (v : Standing). v.spent) c.self.view_is ∙ c.requires.ready) in
-    let r = both.0 in
+    let forms = forms_of e.store.stored.items in
     let shapes = all_of e.store e.clauses in
-    let done = c.settle.new.run.assignment in
-    rw (← c.self.view_is) (ended-completion (Live (numbered (forms_of e.store.stored.items) e.places.items)) shapes c.args.given.now done.list.items done.values.items _ (placed-kept (forms_of e.store.stored.items) e.places.items shapes both.1 (slots-kept (forms_of e.store.stored.items) shapes r.slots)) done.agrees (c.in_ok-extend_from_slice.ensures.items ∙ ap (λ xs. xs ++ c.as_slice-2.result.now) c.new-values.ensures.items ∙ c.as_slice-2.ensures.value) (c.in_ok-found.ensures.ended c.if-found.false))
+    let kept = placed-kept forms e.places.items shapes both.1 (slots-kept forms shapes both.0.slots) in
+    let found = rw both.0.list at c.in_ok-values-2.ensures.ended in
+    rw (← c.self.view_is) (map-some c.in_ok-values-2.values (λ values h. let made = ended-made shapes [] c.args.given.now values.items begin h in ended-completion (Live (numbered forms e.places.items)) shapes c.args.given.now made.list values.items values.items kept made.agrees refl made.ended) found)
 
-pub invariant_of-self-in_err-extend_from_slice : goal.invariant_of-self-in_err-extend_from_slice
-invariant_of-self-in_err-extend_from_slice c = λ ready. absurd cc
+pub returns-in_err-values-clause-forms : goal.returns-in_err-values-clause-forms
+returns-in_err-values-clause-forms c = ap (λ (v : Standing). v.forms) c.self.view_is
 
-pub returns-in_err-found-clause-forms : goal.returns-in_err-found-clause-forms
-returns-in_err-found-clause-forms c = ap (λ (v : Standing). v.forms) c.self.view_is
+pub returns-in_err-values-2-clause-forms : goal.returns-in_err-values-2-clause-forms
+returns-in_err-values-2-clause-forms c = ap (λ (v : Standing). v.forms) c.self.view_is
 
-pub returns-in_err-extend_from_slice-clause-forms : goal.returns-in_err-extend_from_slice-clause-forms
-returns-in_err-extend_from_slice-clause-forms c = ap (λ (v : Standing). v.forms) c.self.view_is
+pub returns-then-self-clause-forms : goal.returns-then-self-clause-forms
+returns-then-self-clause-forms c = ap (λ (v : Standing). v.forms) c.self.view_is
 
-pub returns-then-found-clause-forms : goal.returns-then-found-clause-forms
-returns-then-found-clause-forms c = ap (λ (v : Standing). v.forms) c.self.view_is
+pub returns-then-self-clause-variables : goal.returns-then-self-clause-variables
+returns-then-self-clause-variables c = ap (λ (v : Standing). v.variables) c.self.view_is
+
+pub returns-then-self-clause-visits : goal.returns-then-self-clause-visits
+returns-then-self-clause-visits c = ap (λ (v : Standing). v.visits) c.self.view_is
 
 pub returns-clause-forms : goal.returns-clause-forms
 returns-clause-forms c = ap (λ (v : Standing). v.forms) c.self.view_is
-
-pub returns-then-found-clause-variables : goal.returns-then-found-clause-variables
-returns-then-found-clause-variables c = ap (λ (v : Standing). v.variables) c.self.view_is
-
-pub returns-then-found-clause-visits : goal.returns-then-found-clause-visits
-returns-then-found-clause-visits c = c.replace-visits.ensures.value ∙ ap (λ (v : Standing). v.visits) c.self.view_is
 
 pub returns-clause-variables : goal.returns-clause-variables
 returns-clause-variables c = ap (λ (v : Standing). v.variables) c.self.view_is
 
 pub returns-clause-visits : goal.returns-clause-visits
 returns-clause-visits c = c.replace-visits.ensures.value ∙ ap (λ (v : Standing). v.visits) c.self.view_is
-
-pub settle-requires-clause-joined : goal.settle-requires-clause-joined
-settle-requires-clause-joined c =
-    let both = c.self.invariant (ap (λ (v : Standing). v.spent) c.self.view_is ∙ c.requires.ready) in
-    both.0.joined
-
-pub settle-requires-clause-ready : goal.settle-requires-clause-ready
-settle-requires-clause-ready c =
-    let both = c.self.invariant (ap (λ (v : Standing). v.spent) c.self.view_is ∙ c.requires.ready) in
-    both.0.ready
-
-pub settle-requires-clause-widths : goal.settle-requires-clause-widths
-settle-requires-clause-widths c =
-    let both = c.self.invariant (ap (λ (v : Standing). v.spent) c.self.view_is ∙ c.requires.ready) in
-    both.0.widths

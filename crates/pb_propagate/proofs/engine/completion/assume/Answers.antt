@@ -1,32 +1,39 @@
-use Rattle.std.proofs.Common.{◌≡◌, ◌+◌, [], get_or, true, false, refl, ◌∙◌, arith}
+use Rattle.std.proofs.Common.{◌≡◌, ◌+◌, get_or, true, false, ◌∙◌, arith, inl}
 use Rattle.pb_normal.specs.declared.numbered.NumberedLiteral.{NumberedLiteral}
 use Rattle.pb_normal.specs.meaning.Rules.{negation}
-use Rattle.pb_propagate.specs.engine.Engine.Lists.{has}
-use Rattle.pb_propagate.specs.engine.Engine.Counts.{none}
+use Rattle.pb_propagate.specs.engine.Engine.Lists.{has, begin}
 use Rattle.pb_propagate.specs.engine.Engine.Fields.{shapes_of}
-use Rattle.pb_propagate.specs.engine.Engine.Rest.{opposite}
-use Rattle.pb_propagate.proofs.lemmas.engine.Literals.{has-get}
-use Rattle.pb_propagate.proofs.lemmas.engine.Assumed.{Assumed, assumed-next, given-refuted, within-none}
+use Rattle.pb_propagate.proofs.lemmas.engine.Assumed.{Assumed, assumed-next, none-assumed, opposed-clash}
 use Rattle.pb_propagate.specs.engine.Engine.Progress.{progress, database}
 use Rattle.pb_propagate.proofs.lemmas.engine.Advances.{advances-refl, advances-then}
-use Rattle.pb_propagate.proofs.engine.assume.Goals as goal
+use Rattle.pb_propagate.proofs.engine.completion.assume.Goals as goal
 
 pub given-init : goal.given-init
-given-init c = record {
-  advances = advances-refl (database c.args.store.now c.args.rests.now) (progress c.args.run.now);
-  single = rw c.requires.empty none;
-  counted = c.requires.counted;
-  tidy = λ aside busy t. t;
-  within = within-none c.args.run.now.assignment.list.items c.args.given.now c.requires.empty;
-  covers = within-none [] c.args.run.now.assignment.list.items refl;
-}
+given-init c =
+    let list = c.args.run.now.assignment.list.items in
+    record {
+      advances = advances-refl (database c.args.store.now c.args.rests.now) (progress c.args.run.now);
+      counted = c.requires.counted;
+      tidy = λ aside busy t. t;
+      within = λ l h. inl h;
+      covers = none-assumed list;
+    }
 
-pub returns-then-contains-clause-refuted : goal.returns-then-contains-clause-refuted
-returns-then-contains-clause-refuted c = λ found.
+-- the literal was tried
+tried : (c : goal.Then-branch) → Assumed c.args.run.now.assignment.list.items c.args.given.now c.try_put.new.run.assignment.list.items (c.given.i + 1)
+tried c =
+    let d : NumberedLiteral = record { variable = 0; negated = false } in
+    let l = get_or c.args.given.now c.given.i d in
+    let free : has c.given.run.assignment.list.items (negation l) ≡ false = cc (c.contains.ensures, c.if-contains.false, c.negation.ensures) in
+    let i = c.given.invariant in
+    assumed-next c.args.run.now.assignment.list.items c.args.given.now c.given.run.assignment.list.items c.try_put.new.run.assignment.list.items c.given.i d c.given-test.true free c.in_ok-try_put.ensures.adopted (record { within = i.within; covers = i.covers })
+
+pub returns-then-contains-clause-clash : goal.returns-then-contains-clause-clash
+returns-then-contains-clause-clash c = λ found.
     let d : NumberedLiteral = record { variable = 0; negated = false } in
     let l = get_or c.args.given.now c.given.i d in
     let on : has c.given.run.assignment.list.items (negation l) ≡ true = cc (c.contains.ensures, c.if-contains.true, c.negation.ensures) in
-    opposite l (has-get c.args.given.now c.given.i d c.given-test.true) (c.given.invariant.within (negation l) on)
+    opposed-clash (shapes_of c.args.store.now.stored.items) c.args.run.now.assignment.list.items c.args.given.now c.given.run.assignment.list.items c.given.i d c.given-test.true on c.given.invariant.within
 
 pub given-preserved : goal.given-preserved
 given-preserved c =
@@ -35,27 +42,21 @@ given-preserved c =
     let free : has c.given.run.assignment.list.items (negation l) ≡ false = cc (c.contains.ensures, c.if-contains.false, c.negation.ensures) in
     let i = c.given.invariant in
     let reported = c.in_ok-try_put.ensures in
-    let a = assumed-next c.args.given.now c.given.run.assignment.list.items c.try_put.new.run.assignment.list.items c.given.i d c.given-test.true free reported.adopted (record { within = i.within; covers = i.covers; single = i.single }) in
+    let a = assumed-next c.args.run.now.assignment.list.items c.args.given.now c.given.run.assignment.list.items c.try_put.new.run.assignment.list.items c.given.i d c.given-test.true free reported.adopted (record { within = i.within; covers = i.covers }) in
     record {
       advances = advances-then i.advances reported.advances;
-      single = a.single;
       counted = reported.counted c.if-branch.false;
       tidy = λ aside busy t. reported.tidy aside busy (i.tidy aside busy t);
       within = a.within;
       covers = a.covers;
     }
 
--- where a form is falsified: the literal was tried
-tried : (c : goal.Then-branch) → Assumed c.args.given.now c.try_put.new.run.assignment.list.items (c.given.i + 1)
-tried c =
-    let d : NumberedLiteral = record { variable = 0; negated = false } in
-    let l = get_or c.args.given.now c.given.i d in
-    let free : has c.given.run.assignment.list.items (negation l) ≡ false = cc (c.contains.ensures, c.if-contains.false, c.negation.ensures) in
-    let i = c.given.invariant in
-    assumed-next c.args.given.now c.given.run.assignment.list.items c.try_put.new.run.assignment.list.items c.given.i d c.given-test.true free c.in_ok-try_put.ensures.adopted (record { within = i.within; covers = i.covers; single = i.single })
-
-pub returns-then-branch-clause-refuted : goal.returns-then-branch-clause-refuted
-returns-then-branch-clause-refuted c = λ found. given-refuted (shapes_of c.args.store.now.stored.items) c.args.given.now c.try_put.new.run.assignment.list.items (tried c).within (c.in_ok-try_put.ensures.conflict c.if-branch.true)
+pub returns-then-branch-clause-clash : goal.returns-then-branch-clause-clash
+returns-then-branch-clause-clash c = λ found. record {
+  list = c.try_put.new.run.assignment.list.items;
+  reached = record { first = c.try_put.new.run.assignment.list.items; within = (tried c).within; derived = begin };
+  conflict = c.in_ok-try_put.ensures.conflict c.if-branch.true;
+}
 
 pub returns-then-branch-clause-advances : goal.returns-then-branch-clause-advances
 returns-then-branch-clause-advances c = advances-then c.given.invariant.advances c.in_ok-try_put.ensures.advances

@@ -1,0 +1,109 @@
+use Rattle.std.specs.Prelude.{IfNone, IfSome}
+use Rattle.std.proofs.Common.{◌≡◌, ℕ, [], Vec, Global, ap, subst, sym, ◌∙◌, arith, length, take}
+use Rattle.pb_propagate.specs.declared.clauses.lists.Watch.{Watch}
+use Rattle.pb_propagate.specs.engine.Engine.Counts.{none}
+use Rattle.pb_propagate.specs.engine.Engine.Reached.{HasClash, HasEnded}
+use Rattle.pb_propagate.specs.engine.Engine.Fields.{shapes_of}
+use Rattle.pb_propagate.specs.engine.Clauses.Links.{lists_of}
+use Rattle.pb_propagate.specs.engine.Clauses.Runs.{AreWalked}
+use Rattle.pb_propagate.specs.engine.Clauses.Shapes.{all_of, clauses_of, joined}
+use Rattle.pb_propagate.specs.engine.Clauses.Walked.{walked_codes}
+use Rattle.pb_propagate.proofs.lemmas.clauses.Walks.{grows-refl}
+use Rattle.pb_propagate.proofs.lemmas.engine.Spent.{derivation-single}
+use Rattle.pb_propagate.proofs.lemmas.root.Returns.{back-rooted, root-counted}
+use Rattle.pb_propagate.proofs.lemmas.root.Transplants.{clash-refuted, ended-made, root-clash, map-none, map-some}
+use Rattle.pb_propagate.proofs.engine.completion.extend.Goals as goal
+
+pub returns-then-branch-clause-rooted : goal.returns-then-branch-clause-rooted
+returns-then-branch-clause-rooted c = λ live. absurd (let e = sym live ∙ c.in_ok-update.ensures.ended c.if-branch.true in cc)
+
+pub returns-then-branch-clause-clash : goal.returns-then-branch-clause-clash
+returns-then-branch-clause-clash c =
+    let shapes = all_of c.args.store.now c.args.clauses.now in
+    let list = c.update.new.self.run.assignment.list.items in
+    clash-refuted shapes list c.args.given.now c.in_ok-update.ensures.derived (root-clash shapes list c.args.given.now (c.in_ok-update.ensures.conflict c.if-branch.true))
+
+pub settle-requires-clause-values : goal.settle-requires-clause-values
+settle-requires-clause-values c = (c.in_ok-update.ensures.rooted c.if-branch.false).values
+
+pub settle-requires-clause-opens : goal.settle-requires-clause-opens
+settle-requires-clause-opens c = (c.in_ok-update.ensures.rooted c.if-branch.false).open_sizes
+
+pub settle-requires-clause-candidates : goal.settle-requires-clause-candidates
+settle-requires-clause-candidates c = (c.in_ok-update.ensures.rooted c.if-branch.false).start_sizes
+
+pub settle-requires-clause-next : goal.settle-requires-clause-next
+settle-requires-clause-next c =
+    let r = c.in_ok-update.ensures.rooted c.if-branch.false in
+    omega (arith, r.next)
+
+pub settle-requires-clause-waiting : goal.settle-requires-clause-waiting
+settle-requires-clause-waiting c = rw (c.as_slice.ensures.value, c.new-none.ensures.items) (λ k d less. absurd (omega (arith, less)))
+
+pub settle-requires-clause-single : goal.settle-requires-clause-single
+settle-requires-clause-single c =
+    let r = c.in_ok-update.ensures.rooted c.if-branch.false in
+    derivation-single (all_of c.args.store.now c.update.new.clauses) [] c.update.new.self.run.assignment.list.items none r.derived
+
+pub settle-requires-clause-counted : goal.settle-requires-clause-counted
+settle-requires-clause-counted c =
+    root-counted c.args.store.now c.update.new.clauses c.update.new.self.run c.update.new.self.rests c.update.new.self.waiting (c.in_ok-update.ensures.rooted c.if-branch.false)
+
+pub settle-requires-clause-tidy : goal.settle-requires-clause-tidy
+settle-requires-clause-tidy c =
+    let r = c.in_ok-update.ensures.rooted c.if-branch.false in
+    rw (c.as_slice.ensures.value, c.new-none.ensures.items, r.work, r.trail, r.next) (rw (c.in_ok-update.ensures.none c.if-branch.false) at r.tidy)
+
+pub settle-requires-clause-joined : goal.settle-requires-clause-joined
+settle-requires-clause-joined c =
+    let lit : clauses_of c.update.new.clauses ≡ clauses_of c.args.clauses.now = ap (λ (v : Vec (Vec ℕ Global) Global). lists_of v.items) c.update.ensures.literals in
+    rw lit c.requires.joined
+
+pub settle-requires-clause-running : goal.settle-requires-clause-running
+settle-requires-clause-running c = c.in_ok-update.ensures.running
+
+pub settle-requires-clause-walked : goal.settle-requires-clause-walked
+settle-requires-clause-walked c = (c.in_ok-update.ensures.rooted c.if-branch.false).walked
+
+pub returns-clause-clash : goal.returns-clause-clash
+returns-clause-clash c =
+    let store = c.args.store.now in
+    let list = c.update.new.self.run.assignment.list.items in
+    let lit : clauses_of c.update.new.clauses ≡ clauses_of c.args.clauses.now = ap (λ (v : Vec (Vec ℕ Global) Global). lists_of v.items) c.update.ensures.literals in
+    let same : all_of store c.update.new.clauses ≡ all_of store c.args.clauses.now = ap (joined (shapes_of store.stored.items)) lit in
+    let found = subst (λ xs. IfNone c.in_ok-values.values (HasClash xs list c.args.given.now)) same c.in_ok-values.ensures.clash in
+    map-none c.in_ok-values.values (clash-refuted (all_of store c.args.clauses.now) list c.args.given.now c.in_ok-update.ensures.derived) found
+
+pub returns-clause-ended : goal.returns-clause-ended
+returns-clause-ended c =
+    let store = c.args.store.now in
+    let list = c.update.new.self.run.assignment.list.items in
+    let lit : clauses_of c.update.new.clauses ≡ clauses_of c.args.clauses.now = ap (λ (v : Vec (Vec ℕ Global) Global). lists_of v.items) c.update.ensures.literals in
+    let same : all_of store c.update.new.clauses ≡ all_of store c.args.clauses.now = ap (joined (shapes_of store.stored.items)) lit in
+    let found = subst (λ xs. IfSome c.in_ok-values.values (λ values. HasEnded xs list c.args.given.now values.items)) same c.in_ok-values.ensures.ended in
+    map-some c.in_ok-values.values (λ values. ended-made (all_of store c.args.clauses.now) list c.args.given.now values.items c.in_ok-update.ensures.derived) found
+
+pub returns-clause-rooted : goal.returns-clause-rooted
+returns-clause-rooted c = λ live.
+    let store = c.args.store.now in
+    let root = c.update.new.self in
+    let run = root.run in
+    let between = c.update.new.clauses in
+    let reported = c.in_ok-values.ensures in
+    let last = c.back.new.run in
+    let count_is : c.len-count.result ≡ length run.assignment.list.items = omega (arith, c.len-count.ensures, run.assignment.list.ok.0) in
+    let codes = walked_codes (length run.assignment.list.items) run.assignment.list.items in
+    let watches_is = ap (λ (v : Vec Watch Global). v.items) c.back.ensures.watches in
+    back-rooted store between c.back.new.clauses run last root.rests root.waiting c.settle.new.run.assignment.list.items (c.in_ok-update.ensures.rooted c.if-branch.false) (record {
+      literals = ap (λ (v : Vec (Vec ℕ Global) Global). lists_of v.items) (c.back.ensures.literals ∙ c.settle.ensures.literals);
+      kept = λ old. subst (λ ws. AreWalked run.assignment.values.items ws codes) (sym watches_is) (reported.kept run.assignment.values.items codes (grows-refl run.assignment.values.items) old);
+      extends = reported.extends;
+      cut = c.back.ensures.list ∙ ap (λ n. take n c.settle.new.run.assignment.list.items) count_is;
+      values = c.back.ensures.values ∙ reported.values;
+      opens = c.back.ensures.opens;
+      candidates = c.back.ensures.candidates;
+      undone = c.back.ensures.undone;
+      work = c.back.ensures.work;
+      trail = c.back.ensures.trail;
+      next = c.back.ensures.next;
+    })

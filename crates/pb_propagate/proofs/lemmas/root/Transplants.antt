@@ -1,0 +1,189 @@
+-- What the root forces is derived again from given literals, which may be opposite to some of it.
+use Rattle.std.specs.Prelude.{Bool, Option, Some, None, IfNone, IfSome, true, false}
+use Rattle.std.proofs.Common.{◌≡◌, ℕ, ◌⊎◌, ◌++◌, ◌∷◌, [], List, sym, ◌∙◌, ap, arith, inl, inr}
+use Rattle.std.specs.Cmp.{both_ways as same_answers}
+use Rattle.std.proofs.lemmas.Bool.{cases_Bool, both_ways}
+use Rattle.pb_normal.specs.declared.numbered.NumberedLiteral.{NumberedLiteral}
+use Rattle.pb_normal.specs.meaning.Rules.{negation}
+use Rattle.pb_propagate.specs.engine.Engine.Lists.{Shape, has, Derives, begin, put, Conflicts, opposed, broken, IsWithin, IsSettled}
+use Rattle.pb_propagate.specs.engine.Engine.Reached.{IsFrom, HasClash, IsCovered, HasEnded, IsMade}
+use Rattle.pb_propagate.specs.engine.Engine.Rest.{IsRefuted, derived}
+use Rattle.pb_propagate.specs.engine.Clauses.Shapes.{joined, AreJoined}
+use Rattle.pb_propagate.proofs.lemmas.clauses.Shapes.{derives-joined, conflicts-joined}
+use Rattle.pb_propagate.proofs.lemmas.engine.Derivations.{derivation-then, derivation-keeps}
+use Rattle.pb_propagate.proofs.lemmas.engine.Values.{opposite}
+use Rattle.pb_propagate.proofs.lemmas.engine.Literals.{has-none, has-push_old, has-push_new, has-push_cases, push-within, open_sum-within, open_sum-lower}
+
+-- a literal of the first list is opposite to one of the two
+pub record IsOpposed (a b : List NumberedLiteral) : Type 0 where
+  pub literal : NumberedLiteral
+  pub here : has a literal ≡ true
+  pub there : (has a (negation literal) ≡ true) ⊎ (has b (negation literal) ≡ true)
+
+-- A derivation to a list, made again from other literals: it comes to all of the list, or to a conflict before that.
+pub data Planted (forms : List Shape) (given list : List NumberedLiteral) : Type 0 where
+  grown : (whole : List NumberedLiteral) → Derives forms given whole → IsWithin list whole → IsFrom list given whole → Planted forms given list
+  clashed : (whole : List NumberedLiteral) → Derives forms given whole → Conflicts forms whole → IsOpposed list given → Planted forms given list
+
+opposed-more : (a b : List NumberedLiteral) (l : NumberedLiteral) → IsOpposed a b → IsOpposed (a ++ (l ∷ [])) b
+opposed-more a b l o = record {
+  literal = o.literal;
+  here = has-push_old a l o.literal o.here;
+  there = elim o.there [
+    | inl mine ↦ inl (has-push_old a l (negation o.literal) mine)
+    | inr other ↦ inr other
+  ];
+}
+
+pub planted : (forms : List Shape) (a b given : List NumberedLiteral) → IsWithin a given → Derives forms a b → Planted forms given b
+planted forms a _ given within begin = grown given begin within (λ l h. inr h)
+planted forms a _ given within (put {list} l d m) = by (planted forms a list given within d)
+  where
+    by : Planted forms given list → Planted forms given (list ++ (l ∷ []))
+    by (clashed whole dv c o) = clashed whole dv c (opposed-more list given l o)
+    by (grown whole dv all from) = elim (cases_Bool (has whole l)) [
+      | inl there ↦ grown whole dv (push-within list whole l all there) (λ k h. older k (from k h))
+      | inr absent ↦ elim (cases_Bool (has whole (negation l))) [
+        | inl against ↦
+            let low = open_sum-lower list whole all m.form.terms (record { literal = l; coefficient = m.coefficient }) m.term m.not_falsified against in
+            clashed whole dv (broken m.form m.among (omega (arith, low, m.forced))) (record {
+              literal = l;
+              here = has-push_new list l;
+              there = older (negation l) (from (negation l) against);
+            })
+        | inr free ↦
+            let few = open_sum-within list whole all m.form.terms in
+            grown (whole ++ (l ∷ [])) (put l dv (record {
+              absent = absent;
+              not_falsified = free;
+              form = m.form;
+              among = m.among;
+              coefficient = m.coefficient;
+              term = m.term;
+              forced = omega (arith, few, m.forced);
+            })) (push-within list (whole ++ (l ∷ [])) l (λ k h. has-push_old whole l k (all k h)) (has-push_new whole l)) (λ k h. elim (has-push_cases whole l k h) [
+              | inl old ↦ older k (from k old)
+              | inr is ↦ inl (ap (has (list ++ (l ∷ []))) (sym is) ∙ has-push_new list l)
+            ])
+      ]
+    ]
+      where
+        older : (k : NumberedLiteral) → (has list k ≡ true) ⊎ (has given k ≡ true) → (has (list ++ (l ∷ [])) k ≡ true) ⊎ (has given k ≡ true)
+        older k (inl old) = inl (has-push_old list l k old)
+        older k (inr other) = inr other
+
+conflicts-longer : (forms : List Shape) (a b : List NumberedLiteral) → IsWithin a b → Conflicts forms a → Conflicts forms b
+conflicts-longer forms a b within (opposed l here there) = opposed l (within l here) (within (negation l) there)
+conflicts-longer forms a b within (broken f among low) = broken f among (omega (arith, low, open_sum-within a b within f.terms))
+
+-- a conflict after literals that are forced, or given
+pub clash-refuted : (forms : List Shape) (root given : List NumberedLiteral) → Derives forms [] root → HasClash forms root given → (list : List NumberedLiteral) × IsRefuted forms given list
+clash-refuted forms root given d clash = by (planted forms [] root given (λ l h. absurd (both_ways _ (has-none l) h)) d)
+  where
+    from-given : (whole : List NumberedLiteral) → Derives forms given whole → Conflicts forms whole → (list : List NumberedLiteral) × IsRefuted forms given list
+    from-given whole dv c = (whole, derived (record { first = given; within = λ l h. h; covers = λ l h. h; derived = dv }) c)
+
+    by : Planted forms given root → (list : List NumberedLiteral) × IsRefuted forms given list
+    by (clashed whole dv c o) = from-given whole dv c
+    by (grown whole dv all from) = second (planted forms clash.reached.first clash.list whole first_in clash.reached.derived)
+      where
+        first_in : IsWithin clash.reached.first whole
+        first_in l h = elim (clash.reached.within l h) [
+          | inl forced ↦ all l forced
+          | inr mine ↦ derivation-keeps forms given whole dv l mine
+        ]
+
+        second : Planted forms whole clash.list → (list : List NumberedLiteral) × IsRefuted forms given list
+        second (clashed more ev c o) = from-given more (derivation-then forms given whole more dv ev) c
+        second (grown more ev longer since) = from-given more (derivation-then forms given whole more dv ev) (conflicts-longer forms clash.list more longer clash.conflict)
+
+-- lists with the same literals settle the same forms
+settled-same : (f : Shape) (a b : List NumberedLiteral) → IsWithin a b → IsWithin b a → IsSettled f a → IsSettled f b
+settled-same f a b ab ba s = record {
+  met = omega (arith, s.met, open_sum-within b a ba f.terms);
+  idle = λ l m. s.idle l (record {
+    absent = off l m.absent;
+    not_falsified = off (negation l) m.not_falsified;
+    form = m.form;
+    among = m.among;
+    coefficient = m.coefficient;
+    term = m.term;
+    forced = omega (arith, m.forced, open_sum-within a b ab m.form.terms, open_sum-within b a ba m.form.terms);
+  });
+}
+  where
+    off : (l : NumberedLiteral) → has b l ≡ false → has a l ≡ false
+    off l h = elim (cases_Bool (has a l)) [
+      | inl on ↦ absurd (both_ways _ h (ab l on))
+      | inr gone ↦ gone
+    ]
+
+-- what was derived after the root is derived from the given literals alone
+pub ended-made : (forms : List Shape) (root given : List NumberedLiteral) (values : List (Option Bool)) → Derives forms [] root → HasEnded forms root given values → IsMade forms given values
+ended-made forms root given values d h = by (planted forms [] root given (λ l on. absurd (both_ways _ (has-none l) on)) d)
+  where
+    e : IsCovered forms root given h.list
+    e = h.covered
+
+    never : (a b : List NumberedLiteral) → IsWithin a h.list → IsWithin b h.list → IsOpposed a b → ⊥
+    never a b ina inb o = elim o.there [
+      | inl mine ↦ both_ways _ (opposite values h.list o.literal h.agrees (ina o.literal o.here)) (ina (negation o.literal) mine)
+      | inr other ↦ both_ways _ (opposite values h.list o.literal h.agrees (ina o.literal o.here)) (inb (negation o.literal) other)
+    ]
+
+    by : Planted forms given root → IsMade forms given values
+    by (clashed whole dv c o) = absurd (never root given e.keeps e.covers o)
+    by (grown whole dv all from) = second (planted forms e.reached.first h.list whole first_in e.reached.derived)
+      where
+        first_in : IsWithin e.reached.first whole
+        first_in l on = elim (e.reached.within l on) [
+          | inl forced ↦ all l forced
+          | inr mine ↦ derivation-keeps forms given whole dv l mine
+        ]
+
+        whole_in : IsWithin whole h.list
+        whole_in l on = elim (from l on) [
+          | inl forced ↦ e.keeps l forced
+          | inr mine ↦ e.covers l mine
+        ]
+
+        second : Planted forms whole h.list → IsMade forms given values
+        second (clashed more ev c o) = absurd (never h.list whole (λ l on. on) whole_in o)
+        second (grown more ev longer since) =
+            let back : IsWithin more h.list = λ l on. elim (since l on) [
+              | inl mine ↦ mine
+              | inr older ↦ whole_in l older
+            ] in
+            record {
+              list = more;
+              ended = record {
+                derived = record { first = given; within = λ l on. on; covers = λ l on. on; derived = derivation-then forms given whole more dv ev };
+                settled = λ f among. settled-same f h.list more longer back (e.settled f among);
+              };
+              agrees = λ l. same_answers (has more l) (has h.list l) (back l) (longer l) ∙ h.agrees l;
+            }
+
+-- the same over all constraints
+pub clash-joined : (xs : List Shape) (clauses : List (List ℕ)) (root given : List NumberedLiteral) → AreJoined xs clauses → HasClash xs root given → HasClash (joined xs clauses) root given
+clash-joined xs clauses root given j c = record {
+  list = c.list;
+  reached = record { first = c.reached.first; within = c.reached.within; derived = derives-joined xs clauses c.reached.first c.list j c.reached.derived };
+  conflict = conflicts-joined xs clauses c.list j c.conflict;
+}
+
+-- a conflict of the root alone
+pub root-clash : (forms : List Shape) (root given : List NumberedLiteral) → Conflicts forms root → HasClash forms root given
+root-clash forms root given c = record {
+  list = root;
+  reached = record { first = root; within = λ l h. inl h; derived = begin };
+  conflict = c;
+}
+
+-- what holds if there is none, or one, of a test's result
+pub map-none : {A : Type 0} {P Q : Type 0} (o : Option A) → (P → Q) → IfNone o P → IfNone o Q
+map-none None f h = f h
+map-none (Some x) f h = tt
+
+pub map-some : {A : Type 0} {P Q : A → Type 0} (o : Option A) → ((x : A) → P x → Q x) → IfSome o P → IfSome o Q
+map-some None f h = tt
+map-some (Some x) f h = f x h
