@@ -21,8 +21,8 @@ use crate::engine::visits::Visits;
 use crate::rests::Rests;
 use crate::run::{Run, place_of, propagate, queue, undo_forms};
 use crate::store::Store;
-use crate::store::opened::{has_true, open_under};
-use crate::store::units::{is_unit, only_literal};
+use crate::store::opened::open_under;
+use crate::store::units::{has_unit, is_backed, only_literal};
 use crate::walk::literal_of;
 use pb_normal::NumberedLiteral;
 use std::alloc::{AllocError, Global};
@@ -224,26 +224,9 @@ impl Root {
         }
     }
 
-    // Whether another slot has a unit of the literal. Only the last unit that was added is looked at.
-    fn has_unit(&self, store: &Store, slot: usize, literal: NumberedLiteral) -> bool
-        requires fits { place literal < 2 ^ 64 }
-        ensures { result ≡ true → HasUnit (shapes_of store.now.stored.items) slot literal }
-    {
-        let Some(unit) = self.units.get(place_of(literal)) else {
-            return false;
-        };
-        if *unit == slot {
-            return false;
-        }
-        match store.stored.get(*unit) {
-            Some(kept) => is_unit(kept, literal),
-            None => false,
-        }
-    }
-
     // Whether the literals follow without the form of a slot. A clause with two literals that are not falsified has forced
-    // none. One with a single such literal may have forced it, and a unit of the literal does the same. Another form
-    // without a true literal has forced none.
+    // none. One with a single such literal may have forced it, and a unit of the literal does the same. So does one for
+    // each true literal of another form.
     fn is_spare(&self, store: &Store, clauses: &Clauses, slot: usize) -> bool
         requires slot { slot < length store.now.stored.items }
         requires sound { IsSound store.now }
@@ -257,7 +240,7 @@ impl Root {
     {
         if !clauses.is_filled(slot) {
             let values = self.run.assignment.values.as_slice();
-            return !has_true(&store.stored[slot].terms, values);
+            return is_backed(store, self.units.as_slice(), slot, values);
         }
         let Some(code) = clauses.free_literal(&self.run.assignment, slot) else {
             return false;
@@ -265,7 +248,7 @@ impl Root {
         if clauses.has_other(&self.run.assignment, slot, code) {
             return true;
         }
-        self.has_unit(store, slot, literal_of(code))
+        has_unit(store, self.units.as_slice(), slot, literal_of(code))
     }
 
     /// The form of a slot goes. The root stays if its literals follow without the form, and ends otherwise.

@@ -4,7 +4,6 @@ ghost use Rattle.std.specs.Prelude.{◌≡◌, ◌≤◌, ◌<◌, ◌^◌, true
 ghost use Rattle.pb_normal.specs.declared.numbered.NumberedLiteral.{NumberedLiteral};
 ghost use Rattle.pb_normal.specs.meaning.Rules.{negation};
 ghost use Rattle.pb_propagate.specs.engine.Engine.Lists.{has, says, open_part, open_sum, AreInside};
-ghost use Rattle.pb_propagate.specs.engine.Engine.Root.{HasTrue};
 ghost use Rattle.pb_propagate.specs.engine.Engine.Terms.{terms_of};
 
 use crate::store::sorted_form::SortedForm;
@@ -47,8 +46,8 @@ pub fn open_under(terms: &SortedForm, values: &[Option<bool>]) -> u128
     sum
 }
 
-// Whether a literal is true.
-fn is_true(values: &[Option<bool>], literal: NumberedLiteral) -> bool
+/// Whether a literal is true.
+pub fn is_true(values: &[Option<bool>], literal: NumberedLiteral) -> bool
     requires { literal.variable < length values.now }
     ensures { result ≡ says values.now literal }
 {
@@ -56,18 +55,4 @@ fn is_true(values: &[Option<bool>], literal: NumberedLiteral) -> bool
         Some(value) => value != literal.negated,
         None => false,
     }
-}
-
-/// Whether a literal of a form is true.
-pub fn has_true(terms: &SortedForm, values: &[Option<bool>]) -> bool
-    requires inside { AreInside (length values.now) (terms_of terms.now) }
-    ensures yes { result ≡ true → HasTrue values.now (terms_of terms.now) }
-    ensures no { result ≡ false → HasTrue values.now (terms_of terms.now) → ⊥ }
-{
-    'terms: for i in 0..terms.len() {
-        if is_true(values, terms.term(i).literal) {
-            return true;
-        }
-    }
-    false
 }

@@ -15,7 +15,7 @@ use Rattle.pb_propagate.specs.declared.store.stored_form.StoredForm.{StoredForm}
 use Rattle.pb_propagate.specs.declared.clauses.Clauses.{Clauses}
 use Rattle.pb_propagate.specs.engine.Engine.Lists.{Shape, Puts, IsWithin, has, says, open_part, open_sum, size}
 use Rattle.pb_propagate.specs.engine.Engine.Fields.{shapes_of, stored_shape}
-use Rattle.pb_propagate.specs.engine.Engine.Root.{IsRooted, IsSpare, IsFree, IsReplaced, HasUnit, HasTrue, HasVacated, HasLost, IsSameWatch}
+use Rattle.pb_propagate.specs.engine.Engine.Root.{IsRooted, IsSpare, IsFree, IsReplaced, HasUnit, HasVacated, HasLost, IsSameWatch}
 use Rattle.pb_propagate.specs.engine.Clauses.Truths.{flip, true_at}
 use Rattle.pb_propagate.specs.engine.Clauses.Links.{lists_of, list_at, watch_at}
 use Rattle.pb_propagate.specs.engine.Clauses.Runs.{AreReady, AreWalked}
@@ -31,7 +31,7 @@ use Rattle.pb_propagate.proofs.lemmas.root.Admitted.{no-watch, form-kept}
 use Rattle.pb_propagate.specs.engine.Engine.Waiting.{IsWithout}
 use Rattle.pb_propagate.specs.declared.eager.Eager.{Eager}
 use Rattle.pb_propagate.proofs.lemmas.store.Gets.{get-set_other}
-use Rattle.pb_propagate.proofs.lemmas.root.Rooted.{derives-spare, IsPutBy, puts-other, only-one, unused-spare}
+use Rattle.pb_propagate.proofs.lemmas.root.Rooted.{derives-spare, IsPutBy, puts-other, only-one}
 use Rattle.pb_propagate.proofs.lemmas.engine.Literals.{open_part-open}
 use Rattle.std.proofs.lemmas.List.Sums.{sum_by-cons}
 
@@ -106,14 +106,6 @@ unit-replaces store clauses slot l earlier x joined u puts =
     none-there : (xs : List ℕ) → (0 < length xs → ⊥) → xs ≡ []
     none-there [] n = refl
     none-there (z ∷ zs) n = absurd (n (omega arith))
-
--- a form without a true literal has put none
-pub untrue-spare : (values : List (Option Bool)) (list : List NumberedLiteral) (x : Shape) → Agree values list → (HasTrue values x.terms → ⊥) → IsSpare x list
-untrue-spare values list x agree none = unused-spare x list (λ l c h. by l c h (says values l) refl)
-  where
-    by : (l : NumberedLiteral) (c : ℕ) → Contains x.terms (record { literal = l; coefficient = c }) → (v : Bool) → says values l ≡ v → has list l ≡ false
-    by l c h true is = absurd (none (record { literal = l; coefficient = c }, h, is))
-    by l c h false is = agree l ∙ is
 
 -- the constraint of a slot
 pub slot-is : (store : Store) (clauses : Clauses) (slot : ℕ) (x : Shape) → slot < length store.stored.items → slice_get (all_of store clauses) slot ≡ Some x → x ≡ slot_shape (get_or (shapes_of store.stored.items) slot x) (list_at (clauses_of clauses) slot)

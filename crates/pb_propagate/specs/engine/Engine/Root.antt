@@ -75,10 +75,6 @@ HasOther values codes x = (y : ℕ) × (y ≡ x → ⊥) × IsFree values codes 
 abbrev pub IsLast : List (Option Bool) → List ℕ → ℕ → Type 0
 IsLast values codes x = (k d : ℕ) → k < length codes → (false_at values (slice_index_or codes k d) ≡ true) ⊎ (slice_index_or codes k d ≡ x)
 
--- a literal of the form is true
-abbrev pub HasTrue : List (Option Bool) → List Term → Type 0
-HasTrue values terms = (t : Term) × Contains terms t × (says values t.literal ≡ true)
-
 -- the form has put no literal of the list, at any time before
 abbrev pub IsSpare : Shape → List NumberedLiteral → Type 0
 IsSpare x list = (l : NumberedLiteral) (earlier : List NumberedLiteral) → has list l ≡ true → IsWithin earlier list → Puts (x ∷ []) earlier l → ⊥
@@ -98,6 +94,10 @@ pub record HasUnit (forms : List Shape) (slot : ℕ) (l : NumberedLiteral) : Typ
   pub inside : unit < length forms
   pub only : (d : Shape) → IsOnly (slice_index_or forms unit d).terms l
   pub positive : (d : Shape) → 0 < (slice_index_or forms unit d).degree
+
+-- each true literal of a slot's form has a unit in another slot
+abbrev pub AreBacked : List (Option Bool) → List Shape → ℕ → Type 0
+AreBacked values forms slot = (d : Shape) (i : ℕ) (t : Term) → i < length (slice_index_or forms slot d).terms → says values (slice_index_or (slice_index_or forms slot d).terms i t).literal ≡ true → HasUnit forms slot (slice_index_or (slice_index_or forms slot d).terms i t).literal
 
 -- the same literal is watched
 abbrev pub IsSameWatch : Watch → Watch → Type 0

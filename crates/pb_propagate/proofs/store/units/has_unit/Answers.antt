@@ -4,7 +4,7 @@ use Rattle.pb_propagate.specs.engine.Engine.Lists.{Shape}
 use Rattle.pb_propagate.specs.engine.Engine.Fields.{stored_shape}
 use Rattle.pb_propagate.specs.engine.Engine.Root.{IsOnly}
 use Rattle.pb_propagate.proofs.lemmas.engine.VisitSteps.{shape-at}
-use Rattle.pb_propagate.proofs.engine.root.Root.has_unit.Goals as goal
+use Rattle.pb_propagate.proofs.store.units.has_unit.Goals as goal
 
 pub returns-in-Some-get : goal.returns-in-Some-get
 returns-in-Some-get c = λ found.
@@ -12,8 +12,8 @@ returns-in-Some-get c = λ found.
     let unit = c.in-Some.unit.now in
     let k = c.in-Some-get.kept.now in
     let got = c.in-Some-get.ensures.lookup in
-    let inside : unit < length keep = rw c.deref-2.ensures.value at got.3.0 in
-    let read : k ≡ get_or keep unit k = rw c.deref-2.ensures.value at got.1 in
+    let inside : unit < length keep = rw c.deref.ensures.value at got.3.0 in
+    let read : k ≡ get_or keep unit k = rw c.deref.ensures.value at got.1 in
     let shape = λ (d : Shape). shape-at keep unit k inside read d in
     let is = c.is_unit.ensures found in
     record {
