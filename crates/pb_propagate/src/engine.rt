@@ -2,6 +2,7 @@
 
 pub mod completion;
 pub mod denial;
+pub mod losing;
 pub mod question;
 pub mod root;
 pub mod visits;
@@ -14,7 +15,8 @@ ghost use Rattle.pb_propagate.specs.engine.Engine.Progress.{list_of, values_of, 
 ghost use Rattle.pb_propagate.specs.engine.Engine.Fields.{forms_of};
 ghost use Rattle.pb_propagate.specs.meaning.Propagation.{With, MeetsConflict, IsCompletion, IsRup};
 ghost use Rattle.pb_propagate.specs.engine.Engine.Rest.{AreAtRest, IsAtRest};
-ghost use Rattle.pb_propagate.specs.engine.Engine.Root.{IsRootOf, WasRootOf};
+ghost use Rattle.pb_propagate.specs.engine.Engine.Root.{IsRootOf, IsFallen, WasRootOf};
+ghost use Rattle.pb_propagate.specs.engine.Clauses.Shapes.{all_of};
 ghost use Rattle.pb_propagate.specs.declared.store.Store.{Store};
 ghost use Rattle.pb_propagate.specs.declared.clauses.Clauses.{Clauses};
 ghost use Rattle.pb_propagate.specs.engine.Clauses.Runs.{AreReady, IsRunning};
@@ -63,11 +65,12 @@ impl Model for Engine {
     ghost use Rattle.pb_propagate.specs.engine.Engine.Fields.{forms_of};
     ghost use Rattle.pb_propagate.specs.engine.Engine.Rest.{IsAtRest};
     ghost use Rattle.pb_propagate.specs.engine.Engine.Slots.{numbered, ArePlaced};
-    ghost use Rattle.pb_propagate.specs.engine.Engine.Root.{IsRootOf};
+    ghost use Rattle.pb_propagate.specs.engine.Engine.Root.{IsRootOf, IsFallen};
+    ghost use Rattle.pb_propagate.specs.engine.Clauses.Shapes.{all_of};
 
     ghost view = { λ e. record { forms = numbered (forms_of e.store.stored.items) e.places.items; variables = e.store.variables; visits = e.run.visits; spent = e.spent } };
 
-    ghost invariant = { λ e. e.spent ≡ false → IsAtRest e.store e.run e.eager e.clauses (forms_of e.store.stored.items) × ArePlaced (forms_of e.store.stored.items) e.places.items × (e.root.live ≡ true → IsRootOf e.store e.clauses e.root) };
+    ghost invariant = { λ e. e.spent ≡ false → IsAtRest e.store e.run e.eager e.clauses (forms_of e.store.stored.items) × ArePlaced (forms_of e.store.stored.items) e.places.items × (e.root.live ≡ true → IsRootOf e.store e.clauses e.root) × (e.root.fallen ≡ true → IsFallen (all_of e.store e.clauses) e.store.variables e.root) };
 }
 
 // Undoes a propagation that began from nothing.
@@ -109,9 +112,16 @@ fn follow(
     requires rest { IsAtRest store.now run.now eager.now clauses.now (forms_of store.now.stored.items) }
     requires slot { slot < length store.now.stored.items }
     requires gained { root.old.live ≡ true → WasRootOf store.now clauses.now slot root.old }
+    requires fallen { root.old.fallen ≡ true →
+        IsFallen (all_of store.now clauses.now) store.now.variables root.old }
     ensures rooted { OnOk result (root.new.live ≡ true → IsRootOf store.now clauses.now root.new) }
+    ensures fallen { OnOk result (root.new.fallen ≡ true →
+        IsFallen (all_of store.now clauses.now) store.now.variables root.new) }
 {
     root.note(store, slot);
+    if root.fallen {
+        return Ok(());
+    }
     if root.live {
         root.admit(store, clauses, slot)?;
         return Ok(());
@@ -304,6 +314,11 @@ impl Engine {
         if goal.degree() == 0 {
             return Ok(true);
         }
+        // A conflict that needs no goal. Each literal that leads to it is a visit.
+        if self.root.fallen {
+            self.run.visits = Visits::of(self.root.run.assignment.list.len());
+            return Ok(true);
+        }
         self.spent = true;
         if self.root.live {
             let answer = ask(
@@ -356,6 +371,9 @@ impl Engine {
         ensures count { IfOk result (λ found. IfSome found (λ values. length values.items ≡ self.old.variables)) }
         ensures completed { IfOk result (λ found. IfSome found (λ values. (list : List NumberedLiteral) × IsCompletion (Live self.old.forms) given.now list × Gives list values.items)) }
     {
+        if self.root.fallen {
+            return Ok(None);
+        }
         self.spent = true;
         if self.root.live {
             let values = extend(&self.store, &mut self.clauses, &mut self.root, given)?;

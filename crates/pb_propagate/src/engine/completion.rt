@@ -7,7 +7,7 @@ ghost use Rattle.pb_propagate.specs.engine.Engine.Counts.{AreSingle};
 ghost use Rattle.pb_propagate.specs.engine.Engine.Progress.{IfFound, IfNotFound, RunIsOpen, RunStaysTidy, shapes_in, list_of, values_of, RunIsCalm, RunIsUndone, RunAdvances, RunIsWalked};
 ghost use Rattle.pb_propagate.specs.engine.Engine.Fields.{shapes_of, IsSound};
 ghost use Rattle.pb_propagate.specs.engine.Engine.Reached.{IsFrom, HasClash, HasEnded, IsMade, IsClashed};
-ghost use Rattle.pb_propagate.specs.engine.Engine.Root.{IsRootOf};
+ghost use Rattle.pb_propagate.specs.engine.Engine.Root.{IsRootOf, IsFallen};
 ghost use Rattle.pb_propagate.specs.engine.Clauses.Runs.{AreReady, IsRunning, KeepsWalked};
 ghost use Rattle.pb_propagate.specs.engine.Clauses.Shapes.{AreJoined, clauses_of, all_of};
 
@@ -120,6 +120,8 @@ pub fn extend(
     ensures lists { OnOk result (
         length clauses.new.lists.items ≡ length clauses.old.lists.items) }
     ensures rooted { OnOk result (root.new.live ≡ true → IsRootOf store.now clauses.new root.new) }
+    ensures fallen { OnOk result (root.new.fallen ≡ true →
+        IsFallen (all_of store.now clauses.old) store.now.variables root.new) }
     ensures clash { IfOk result (λ found. IfNone found (
         IsClashed (all_of store.now clauses.old) given.now)) }
     ensures ended { IfOk result (λ found. IfSome found (λ values.

@@ -4,7 +4,7 @@ ghost use Rattle.std.specs.Prelude.{◌≡◌, ℕ, List, All, ◌≤◌, ◌+�
 ghost use Rattle.pb_propagate.specs.engine.Engine.Fields.{shapes_of, forms_of, IsSound};
 ghost use Rattle.pb_normal.specs.meaning.Rules.{negation_of};
 ghost use Rattle.pb_propagate.specs.engine.Engine.Denial.{IsDisjunction};
-ghost use Rattle.pb_propagate.specs.engine.Engine.Root.{IsRootOf, IsAsked, HasSameForms, terms_of_all};
+ghost use Rattle.pb_propagate.specs.engine.Engine.Root.{IsRootOf, IsFallen, IsAsked, HasSameForms, terms_of_all};
 ghost use Rattle.pb_propagate.specs.engine.Engine.Live.{one_in};
 ghost use Rattle.pb_propagate.specs.engine.Engine.Progress.{list_of};
 ghost use Rattle.pb_propagate.specs.engine.Clauses.Runs.{AreReady};
@@ -44,6 +44,8 @@ fn pose(
     ensures lists { OnOk result (
         length clauses.new.lists.items ≡ length clauses.old.lists.items) }
     ensures rooted { OnOk result (root.new.live ≡ true → IsRootOf store.new clauses.new root.new) }
+    ensures fallen { OnOk result (root.new.fallen ≡ true →
+        IsFallen (all_of store.old clauses.old) store.old.variables root.new) }
     ensures asked { IfOk result (
         IsAsked form (all_of store.old clauses.old) root.new.run.visits) }
     ensures most { root.new.run.visits ≤
@@ -92,6 +94,8 @@ fn pose_clause(
     ensures lists { OnOk result (
         length clauses.new.lists.items ≡ length clauses.old.lists.items) }
     ensures rooted { OnOk result (root.new.live ≡ true → IsRootOf store.now clauses.new root.new) }
+    ensures fallen { OnOk result (root.new.fallen ≡ true →
+        IsFallen (all_of store.now clauses.old) store.now.variables root.new) }
     ensures asked { IfOk result (
         IsAsked (negation_of goal.now) (all_of store.now clauses.old) root.new.run.visits) }
     ensures most { root.new.run.visits ≤
@@ -132,6 +136,8 @@ fn question(
     ensures lists { OnOk result (
         length clauses.new.lists.items ≡ length clauses.old.lists.items) }
     ensures rooted { OnOk result (root.new.live ≡ true → IsRootOf store.new clauses.new root.new) }
+    ensures fallen { OnOk result (root.new.fallen ≡ true →
+        IsFallen (all_of store.old clauses.old) store.old.variables root.new) }
     ensures asked { IfOk result (
         IsAsked (negation_of goal.now) (all_of store.old clauses.old) root.new.run.visits) }
     ensures most { root.new.run.visits ≤
@@ -174,6 +180,8 @@ pub fn ask(
     ensures lists { OnOk result (
         length clauses.new.lists.items ≡ length clauses.old.lists.items) }
     ensures rooted { OnOk result (root.new.live ≡ true → IsRootOf store.new clauses.new root.new) }
+    ensures fallen { OnOk result (root.new.fallen ≡ true →
+        IsFallen (all_of store.old clauses.old) store.old.variables root.new) }
     ensures asked { IfOk result (
         IsAsked (negation_of goal.now) (all_of store.old clauses.old) visits.new) }
     ensures most { visits.new ≤

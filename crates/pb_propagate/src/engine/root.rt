@@ -1,16 +1,14 @@
 //! The root: what the live forms force with nothing assumed.
 
-ghost use Rattle.std.specs.Prelude.{◌≡◌, ℕ, List, ◌+◌, ◌*◌, ◌^◌, ◌<◌, ◌⊎◌, ◌++◌, ◌∷◌, [], true, false, length, take, slice_get, slice_set, slice_index_or, Some, OnOk, IfOk};
+ghost use Rattle.std.specs.Prelude.{◌≡◌, ℕ, List, ◌+◌, ◌*◌, ◌<◌, ◌⊎◌, ◌++◌, ◌∷◌, [], true, false, length, take, slice_set, slice_index_or, Some, OnOk, IfOk};
 ghost use Rattle.pb_propagate.specs.declared.store.Store.{Store};
 ghost use Rattle.pb_propagate.specs.declared.clauses.Clauses.{Clauses};
 ghost use Rattle.pb_propagate.specs.engine.Engine.Lists.{Shape, Derives, Conflicts, open_sum};
 ghost use Rattle.pb_propagate.specs.engine.Engine.Progress.{RunIsUndone, RunSpends, RunPays, RunVisitsEach, IfFound, IfNotFound, list_of, values_of};
-ghost use Rattle.pb_propagate.specs.engine.Engine.Waiting.{IsWithout};
 ghost use Rattle.pb_propagate.specs.engine.Engine.Counts.{Grown, IsAbsent, IsCalm, IsUndone};
 ghost use Rattle.pb_propagate.specs.engine.Engine.Fields.{shapes_of, forms_of, IsSound};
 ghost use Rattle.pb_propagate.specs.engine.Engine.Rest.{IsAtRest};
-ghost use Rattle.pb_propagate.specs.engine.Engine.Root.{IsRootOf, WasRootOf, HasReached, HasLost, HasUnit, IsReplaced};
-ghost use Rattle.pb_propagate.specs.engine.Engine.Counts.{place};
+ghost use Rattle.pb_propagate.specs.engine.Engine.Root.{IsRootOf, WasRootOf, IsFallen, HasReached};
 ghost use Rattle.pb_propagate.specs.engine.Clauses.Runs.{AreReady, IsRunning};
 ghost use Rattle.pb_propagate.specs.engine.Clauses.Shapes.{AreJoined, clauses_of, all_of};
 
@@ -22,9 +20,7 @@ use crate::rests::Rests;
 use crate::run::{Run, place_of, propagate, queue, undo_forms};
 use crate::store::Store;
 use crate::store::opened::open_under;
-use crate::store::units::{has_unit, is_backed, only_literal};
-use crate::walk::literal_of;
-use pb_normal::NumberedLiteral;
+use crate::store::units::only_literal;
 use std::alloc::{AllocError, Global};
 
 /// The literals that the live forms force with nothing assumed, and the state of each form under them. Questions
@@ -37,6 +33,8 @@ pub struct Root {
     pub waiting: Eager,
     // Whether all its literals still follow from the live forms.
     pub live: bool,
+    // Whether they do so in a root that has ended with a conflict.
+    pub fallen: bool,
     // For each literal, by its occurrence list, the last slot that took a form of one term for it.
     pub units: Vec<usize>,
     // The visits of the questions and completions without it.
@@ -172,7 +170,8 @@ fn keep(run: &mut Run, rests: &mut Rests)
 impl Root {
     /// None yet.
     pub fn new(alloc: Global) -> Root
-        ensures { result.live ≡ false }
+        ensures live { result.live ≡ false }
+        ensures fallen { result.fallen ≡ false }
     {
         Root {
             run: Run {
@@ -187,6 +186,7 @@ impl Root {
             rests: Rests::none(alloc),
             waiting: Eager::new(alloc),
             live: false,
+            fallen: false,
             units: Vec::new(alloc),
             paid: 0,
         }
@@ -203,9 +203,20 @@ impl Root {
     /// Ends the root: its forms are no longer the live ones.
     pub fn end(&mut self)
         ensures live { self.new.live ≡ false }
+        ensures fallen { self.new.fallen ≡ false }
         ensures run { self.new.run ≡ self.old.run }
     {
         self.live = false;
+        self.fallen = false;
+    }
+
+    // Ends the root with a conflict, which is kept.
+    fn fall(&mut self)
+        ensures live { self.new.live ≡ false }
+        ensures run { self.new.run ≡ self.old.run }
+    {
+        self.live = false;
+        self.fallen = true;
     }
 
     /// Remembers the form of a slot as the unit of its literal, if it has one term.
@@ -215,6 +226,7 @@ impl Root {
         ensures kept { (self.new.run ≡ self.old.run) × (self.new.rests ≡ self.old.rests) ×
             (self.new.waiting ≡ self.old.waiting) }
         ensures live { self.new.live ≡ self.old.live }
+        ensures fallen { self.new.fallen ≡ self.old.fallen }
     {
         let Some(literal) = only_literal(&store.stored[slot].terms) else {
             return;
@@ -222,65 +234,6 @@ impl Root {
         if let Some(unit) = self.units.get_mut(place_of(literal)) {
             *unit = slot;
         }
-    }
-
-    // Whether the literals follow without the form of a slot. A clause with two literals that are not falsified has forced
-    // none. One with a single such literal may have forced it, and a unit of the literal does the same. So does one for
-    // each true literal of another form.
-    fn is_spare(&self, store: &Store, clauses: &Clauses, slot: usize) -> bool
-        requires slot { slot < length store.now.stored.items }
-        requires sound { IsSound store.now }
-        requires joined { AreJoined (shapes_of store.now.stored.items) (clauses_of clauses.now) }
-        requires ready { AreReady clauses.now }
-        requires known { length clauses.now.literals.items ≡ length store.now.stored.items }
-        requires widths { length clauses.now.lists.items ≡ 4 * store.now.variables }
-        requires values { length self.now.run.assignment.values.items ≡ store.now.variables }
-        ensures { result ≡ true →
-            IsReplaced (all_of store.now clauses.now) slot (list_of self.now.run) }
-    {
-        if !clauses.is_filled(slot) {
-            let values = self.run.assignment.values.as_slice();
-            return is_backed(store, self.units.as_slice(), slot, values);
-        }
-        let Some(code) = clauses.free_literal(&self.run.assignment, slot) else {
-            return false;
-        };
-        if clauses.has_other(&self.run.assignment, slot, code) {
-            return true;
-        }
-        has_unit(store, self.units.as_slice(), slot, literal_of(code))
-    }
-
-    /// The form of a slot goes. The root stays if its literals follow without the form, and ends otherwise.
-    pub fn lose(&mut self, store: &Store, clauses: &Clauses, slot: usize)
-        requires slot { slot < length store.now.stored.items }
-        requires sound { IsSound store.now }
-        requires joined { AreJoined (shapes_of store.now.stored.items) (clauses_of clauses.now) }
-        requires ready { AreReady clauses.now }
-        requires known { length clauses.now.literals.items ≡ length store.now.stored.items }
-        requires widths { length clauses.now.lists.items ≡ 4 * store.now.variables }
-        requires rooted { self.old.live ≡ true → IsRootOf store.now clauses.now self.old }
-        ensures lost { self.new.live ≡ true → (self.old.live ≡ true) ×
-            HasLost self.old.run self.new.run self.old.rests self.new.rests slot }
-        ensures waiting { self.new.live ≡ true →
-            IsWithout slot self.old.waiting.list.items self.new.waiting.list.items }
-        ensures seats { self.new.live ≡ true →
-            length self.new.waiting.seats.items ≡ length self.old.waiting.seats.items }
-        ensures spare { self.new.live ≡ true →
-            IsReplaced (all_of store.now clauses.now) slot (list_of self.old.run) }
-    {
-        if !self.live {
-            return;
-        }
-        if !self.is_spare(store, clauses, slot) {
-            self.end();
-            return;
-        }
-        self.run.opens[slot] = 0;
-        self.run.candidates[slot] = 0;
-        self.rests.opens[slot] = 0;
-        self.rests.starts[slot] = 0;
-        self.waiting.remove(slot);
     }
 
     /// No literal is forced yet: all forms that may force something with nothing assigned wait.
@@ -293,6 +246,7 @@ impl Root {
     ) -> Result<(), AllocError>
         requires rest { IsAtRest store.now run.now eager.now clauses.now (forms_of store.now.stored.items) }
         ensures rooted { OnOk result (IsRootOf store.now clauses.now self.new) }
+        ensures fallen { OnOk result (self.new.fallen ≡ false) }
     {
         let alloc = *store.stored.allocator();
         self.paid = 0;
@@ -300,6 +254,7 @@ impl Root {
         self.rests = rests_of(alloc, run)?;
         self.waiting = eager.copy(alloc)?;
         self.live = true;
+        self.fallen = false;
         Ok(())
     }
 
@@ -314,6 +269,7 @@ impl Root {
         requires slot { slot < length store.now.stored.items }
         requires gained { WasRootOf store.now clauses.now slot self.old }
         ensures rooted { OnOk result (self.new.live ≡ true → IsRootOf store.now clauses.now self.new) }
+        ensures fallen { self.new.fallen ≡ self.old.fallen }
     {
         reach(&mut self.run, &mut self.rests, &mut self.waiting, slot)?;
         if clauses.is_filled(slot) {
@@ -326,7 +282,7 @@ impl Root {
         Ok(())
     }
 
-    /// Propagates the forms that wait. Returns whether a conflict is met. Then the root ends.
+    /// Propagates the forms that wait. Returns whether a conflict is met. Then the root ends, and the conflict is kept.
     pub fn update(&mut self, store: &Store, clauses: &mut Clauses) -> Result<bool, AllocError>
         requires store { IsSound store.now }
         requires joined { AreJoined (shapes_of store.now.stored.items) (clauses_of clauses.old) }
@@ -347,6 +303,9 @@ impl Root {
             Conflicts (all_of store.now clauses.old) (list_of self.new.run)) }
         ensures found { OnOk result (RunVisitsEach self.old.run self.new.run) }
         ensures ended { IfFound result (self.new.live ≡ false) }
+        ensures fallen { IfFound result (
+            IsFallen (all_of store.now clauses.old) store.now.variables self.new) }
+        ensures risen { IfNotFound result (self.new.fallen ≡ false) }
         ensures rooted { IfNotFound result (IsRootOf store.now clauses.new self.new) }
         ensures none { IfNotFound result (self.new.waiting.list.items ≡ []) }
         ensures live { IfNotFound result (self.new.live ≡ self.old.live) }
@@ -361,11 +320,12 @@ impl Root {
             count,
         )?;
         if found {
-            self.end();
+            self.fall();
             return Ok(true);
         }
         keep(&mut self.run, &mut self.rests);
         self.waiting.clear();
+        self.fallen = false;
         Ok(false)
     }
 }

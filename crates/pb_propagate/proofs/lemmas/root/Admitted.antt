@@ -12,7 +12,7 @@ use Rattle.pb_propagate.specs.declared.store.Store.{Store}
 use Rattle.pb_propagate.specs.declared.store.stored_form.StoredForm.{StoredForm}
 use Rattle.pb_propagate.specs.declared.clauses.Clauses.{Clauses}
 use Rattle.pb_propagate.specs.declared.clauses.lists.Watch.{Watch}
-use Rattle.pb_propagate.specs.engine.Engine.Lists.{Shape, open_sum, size, has}
+use Rattle.pb_propagate.specs.engine.Engine.Lists.{Shape, Derives, open_sum, size, has}
 use Rattle.pb_propagate.specs.engine.Engine.Counts.{Grown, pushed, spared, IsAbsent, IsCalm, IsCounted, IsTidy, beside, weight_in}
 use Rattle.pb_propagate.specs.engine.Engine.Fields.{shapes_of, forms_of, stored_shape}
 use Rattle.pb_propagate.specs.engine.Engine.Root.{IsRooted, IsServed, HasForm, HasGained, HasReached}
@@ -120,6 +120,40 @@ form-kept before store s x kept h = (h.0, form-of store.stored.items before.stor
         form-read (z ∷ zs) zero = refl
         form-read (z ∷ zs) (suc m) = form-read zs m
 
+-- the constraints of the other slots are the same
+pub gained-at : (before store : Store) (old clauses : Clauses) (slot i : ℕ) (x : Shape) → HasGained before old store clauses slot → (i ≡ slot → ⊥) → slice_get (all_of before old) i ≡ Some x → slice_get (all_of store clauses) i ≡ Some x
+gained-at before store old clauses slot i x g apart at =
+    let less = slice_get_within (all_of before old) i x at in
+    let room : i < length before.stored.items = omega (arith, less, joined-length (shapes_of before.stored.items) (clauses_of old), length-map before.stored.items stored_shape) in
+    let is = get_or_from_slice_get (all_of before old) i x x at in
+    let mine : get_or (all_of store clauses) i x ≡ slot_shape (get_or (shapes_of store.stored.items) i x) (list_at (clauses_of clauses) i) = joined-at (shapes_of store.stored.items) (clauses_of clauses) i x (omega (arith, room, longer, length-map store.stored.items stored_shape)) in
+    let theirs : get_or (all_of before old) i x ≡ slot_shape (get_or (shapes_of before.stored.items) i x) (list_at (clauses_of old) i) = joined-at (shapes_of before.stored.items) (clauses_of old) i x (omega (arith, room, length-map before.stored.items stored_shape)) in
+    let shape = same-shape store.stored.items before.stored.items i x room (g.kept i apart) in
+    let same : slot_shape (get_or (shapes_of store.stored.items) i x) (list_at (clauses_of clauses) i) ≡ slot_shape (get_or (shapes_of before.stored.items) i x) (list_at (clauses_of old) i) = ap (λ f. slot_shape f (list_at (clauses_of clauses) i)) shape ∙ ap (slot_shape (get_or (shapes_of before.stored.items) i x)) (g.filled i apart) in
+    slice_get-get_or (all_of store clauses) i x (omega (arith, room, longer, joined-length (shapes_of store.stored.items) (clauses_of clauses), length-map store.stored.items stored_shape)) ∙ ap (λ y. Some y) (mine ∙ same ∙ sym theirs ∙ is)
+  where
+    longer : length before.stored.items ≤ length store.stored.items
+    longer = elim g.longer [
+      | inl same ↦ omega (arith, same)
+      | inr new ↦ omega (arith, new.0)
+    ]
+
+-- what followed still does
+pub gained-derives : (before store : Store) (old clauses : Clauses) (slot : ℕ) (list : List NumberedLiteral) → HasGained before old store clauses slot → Derives (all_of before old) [] list → Derives (all_of store clauses) [] list
+gained-derives before store old clauses slot list g d = derives-without (all_of before old) (all_of store clauses) [] list source d
+  where
+    source : (x : Shape) → Contains (all_of before old) x → (Contains (all_of store clauses) x) ⊎ ((l : NumberedLiteral) (c : ℕ) → Contains x.terms (record { literal = l; coefficient = c }) → has list l ≡ false)
+    source x (i, less, is) =
+        let at : slice_get (all_of before old) i ≡ Some x = slice_get-get_or (all_of before old) i x less ∙ ap (λ y. Some y) is in
+        elim (cases_eq i slot) [
+          | inl one ↦
+              let bare = g.bare x (ap (slice_get (all_of before old)) (sym one) ∙ at) in
+              inr (λ l c there. absurd (omega (arith, there.1, ap length bare)))
+          | inr apart ↦
+              let now = gained-at before store old clauses slot i x g apart at in
+              inl (i, slice_get_within (all_of store clauses) i x now, get_or_from_slice_get (all_of store clauses) i x x now)
+        ]
+
 -- the root for all forms but the new one
 pub gained-rooted : (before store : Store) (old clauses : Clauses) (run run' : Run) (rests rests' : Rests) (waiting waiting' : Eager) (slot : ℕ) → slot < length store.stored.items → IsRooted before old run rests waiting (length before.stored.items) → HasGained before old store clauses slot → HasReached run run' rests rests' waiting waiting' slot →
     AreWalked run.assignment.values.items clauses.watches.items (walked_codes (length run.assignment.list.items) run.assignment.list.items) → IsRooted store clauses run' rests' waiting' slot
@@ -161,7 +195,7 @@ gained-rooted before store old clauses run run' rests rests' waiting waiting' sl
   work = ap (λ (v : Vec ℕ Global). v.items) h.work ∙ r.work;
   trail = ap (λ (v : Vec ℕ Global). v.items) h.trail ∙ r.trail;
   next = h.next ∙ r.next;
-  derived = rw h.assignment (derives-without (all_of before old) (all_of store clauses) [] run.assignment.list.items (λ x c. source x c) r.derived);
+  derived = rw h.assignment (gained-derives before store old clauses slot run.assignment.list.items g r.derived);
   walked = rw h.assignment walked;
   seats = h.seats (r.seats ∙ sym r.open_sizes) ∙ a.sizes;
   live = λ i s at. form-kept before store s (λ one. g.empty (subst (HasForm before) one (r.live i s (rw h.waits at at)))) (g.kept s) (r.live i s (rw h.waits at at));
@@ -184,27 +218,6 @@ gained-rooted before store old clauses run run' rests rests' waiting waiting' sl
 
     shape : (s : ℕ) (d : Shape) → s < length before.stored.items → (s ≡ slot → ⊥) → get_or (shapes_of store.stored.items) s d ≡ get_or (shapes_of before.stored.items) s d
     shape s d less apart = same-shape store.stored.items before.stored.items s d less (g.kept s apart)
-
-    longer : length before.stored.items ≤ length store.stored.items
-    longer = elim g.longer [
-      | inl same ↦ omega (arith, same)
-      | inr new ↦ omega (arith, new.0)
-    ]
-
-    source : (x : Shape) → Contains (all_of before old) x → (Contains (all_of store clauses) x) ⊎ ((l : NumberedLiteral) (c : ℕ) → Contains x.terms (record { literal = l; coefficient = c }) → has run.assignment.list.items l ≡ false)
-    source x (i, less, is) =
-        let room : i < length before.stored.items = omega (arith, less, joined-length (shapes_of before.stored.items) (clauses_of old), length-map before.stored.items stored_shape) in
-        elim (cases_eq i slot) [
-          | inl one ↦
-              let at : slice_get (all_of before old) i ≡ Some x = slice_get-get_or (all_of before old) i x less ∙ ap (λ y. Some y) is in
-              let none = g.bare x (ap (slice_get (all_of before old)) (sym one) ∙ at) in
-              inr (λ l c has. absurd (omega (arith, has.1, ap length none)))
-          | inr apart ↦
-              let mine : get_or (all_of store clauses) i x ≡ slot_shape (get_or (shapes_of store.stored.items) i x) (list_at (clauses_of clauses) i) = joined-at (shapes_of store.stored.items) (clauses_of clauses) i x (omega (arith, room, longer, length-map store.stored.items stored_shape)) in
-              let theirs : get_or (all_of before old) i x ≡ slot_shape (get_or (shapes_of before.stored.items) i x) (list_at (clauses_of old) i) = joined-at (shapes_of before.stored.items) (clauses_of old) i x (omega (arith, room, length-map before.stored.items stored_shape)) in
-              let same : slot_shape (get_or (shapes_of store.stored.items) i x) (list_at (clauses_of clauses) i) ≡ slot_shape (get_or (shapes_of before.stored.items) i x) (list_at (clauses_of old) i) = ap (λ f. slot_shape f (list_at (clauses_of clauses) i)) (shape i x room apart) ∙ ap (slot_shape (get_or (shapes_of before.stored.items) i x)) (g.filled i apart) in
-              inl (i, omega (arith, room, longer, joined-length (shapes_of store.stored.items) (clauses_of clauses), length-map store.stored.items stored_shape), mine ∙ same ∙ sym theirs ∙ is)
-        ]
 
 -- the watches of a slot are served, as those of the others are
 pub served-walked : (values : List (Option Bool)) (ws ws' : List Watch) (codes : List ℕ) (slot : ℕ) → ((e : ℕ) → (e / 2 ≡ slot → ⊥) → watch_at ws' e ≡ watch_at ws e) → ((e : ℕ) → e / 2 ≡ slot → (watch_at ws' e).live ≡ true → Contains codes (watch_at ws' e).literal → true_at values (watch_at ws' (flip e)).literal ≡ true) → AreWalked values ws codes → AreWalked values ws' codes

@@ -13,7 +13,7 @@ use Rattle.pb_propagate.specs.declared.assignment.Assignment.{Assignment}
 use Rattle.pb_propagate.specs.declared.store.Store.{Store}
 use Rattle.pb_propagate.specs.declared.store.stored_form.StoredForm.{StoredForm}
 use Rattle.pb_propagate.specs.declared.clauses.Clauses.{Clauses}
-use Rattle.pb_propagate.specs.engine.Engine.Lists.{Shape, Puts, IsWithin, has, says, open_part, open_sum, size}
+use Rattle.pb_propagate.specs.engine.Engine.Lists.{Shape, Derives, Puts, IsWithin, has, says, open_part, open_sum, size}
 use Rattle.pb_propagate.specs.engine.Engine.Fields.{shapes_of, stored_shape}
 use Rattle.pb_propagate.specs.engine.Engine.Root.{IsRooted, IsSpare, IsFree, IsReplaced, HasUnit, HasVacated, HasLost, IsSameWatch}
 use Rattle.pb_propagate.specs.engine.Clauses.Truths.{flip, true_at}
@@ -124,6 +124,38 @@ vacated-walked values old clauses codes slot ready none same w = record {
   ];
 }
 
+-- the constraints after the form went
+pub vacated-all : (before store : Store) (old clauses : Clauses) (slot : ℕ) (g : HasVacated before old store clauses slot) → all_of store clauses ≡ set (all_of before old) slot (stored_shape g.kept.0)
+vacated-all before store old clauses slot g =
+    let k = g.kept.0 in
+    let shapes : shapes_of store.stored.items ≡ set (shapes_of before.stored.items) slot (stored_shape k) = ap shapes_of g.kept.2 ∙ map-set stored_shape before.stored.items slot k in
+    ap (λ xs. joined xs (clauses_of clauses)) shapes ∙ ap (joined (set (shapes_of before.stored.items) slot (stored_shape k))) g.emptied ∙ joined-cleared (shapes_of before.stored.items) (clauses_of old) slot (stored_shape k)
+
+-- what followed still does
+pub lost-derives : (before store : Store) (old clauses : Clauses) (slot : ℕ) (list : List NumberedLiteral) → HasVacated before old store clauses slot → IsReplaced (all_of before old) slot list → Derives (all_of before old) [] list → Derives (all_of store clauses) [] list
+lost-derives before store old clauses slot list g spare d = derives-spare (all_of before old) (all_of store clauses) [] list source d
+  where
+    k : StoredForm
+    k = g.kept.0
+
+    all : all_of store clauses ≡ set (all_of before old) slot (stored_shape k)
+    all = vacated-all before store old clauses slot g
+
+    source : (x : Shape) → Contains (all_of before old) x → (Contains (all_of store clauses) x) ⊎ (IsPutBy (all_of store clauses) x list)
+    source x (i, less, is) = elim (cases_eq i slot) [
+      | inl here ↦ inr (λ l earlier on within puts.
+          let at : slice_get (all_of before old) slot ≡ Some x = ap (slice_get (all_of before old)) (sym here) ∙ slice_get-get_or (all_of before old) i x less ∙ ap (λ y. Some y) is in
+          let by = spare x l earlier at on within puts in
+          puts-other (by.2 ∷ []) (all_of store clauses) earlier l by.4 (moved by.2 by.0 by.1 by.3 by.4))
+      | inr apart ↦ inl (i, omega (arith, less, ap length all, length-set (all_of before old) slot (stored_shape k)), ap (λ xs. get_or xs i x) all ∙ get_or-set_other (all_of before old) slot i (stored_shape k) x apart ∙ is)
+    ]
+      where
+        moved : (y : Shape) (t : ℕ) → (t ≡ slot → ⊥) → slice_get (all_of before old) t ≡ Some y → {earlier : List NumberedLiteral} {l : NumberedLiteral} (p : Puts (y ∷ []) earlier l) → Contains (all_of store clauses) p.form
+        moved y t apart at p =
+            let one : y ≡ p.form = only-one y p.form p.among in
+            let inside = slice_get_within (all_of before old) t y at in
+            subst (Contains (all_of store clauses)) one (t, omega (arith, inside, ap length all, length-set (all_of before old) slot (stored_shape k)), ap (λ xs. get_or xs t y) all ∙ get_or-set_other (all_of before old) slot t (stored_shape k) y apart ∙ get_or_from_slice_get (all_of before old) t y y at)
+
 -- the root stays
 pub lost-rooted : (before store : Store) (old clauses : Clauses) (run run' : Run) (rests rests' : Rests) (waiting waiting' : Eager) (slot : ℕ) → slot < length before.stored.items → slot < length old.literals.items → AreReady clauses → HasVacated before old store clauses slot → HasLost run run' rests rests' slot → IsWithout slot waiting.list.items waiting'.list.items → length waiting'.seats.items ≡ length waiting.seats.items →
     IsReplaced (all_of before old) slot run.assignment.list.items → IsRooted before old run rests waiting (length before.stored.items) → IsRooted store clauses run' rests' waiting' (length store.stored.items)
@@ -171,7 +203,7 @@ lost-rooted before store old clauses run run' rests rests' waiting waiting' slot
   work = ap (λ (v : Vec ℕ Global). v.items) h.work ∙ r.work;
   trail = ap (λ (v : Vec ℕ Global). v.items) h.trail ∙ r.trail;
   next = h.next ∙ r.next;
-  derived = rw h.assignment (derives-spare (all_of before old) (all_of store clauses) [] run.assignment.list.items source r.derived);
+  derived = rw h.assignment (lost-derives before store old clauses slot run.assignment.list.items g spare r.derived);
   walked = rw h.assignment (vacated-walked run.assignment.values.items old clauses (walked_codes (length run.assignment.list.items) run.assignment.list.items) slot ready none_there g.watched r.walked);
   seats = seats ∙ r.seats ∙ sym longer;
   live = λ i s at.
@@ -219,21 +251,3 @@ lost-rooted before store old clauses run run' rests rests' waiting waiting' slot
 
     none_there : list_at (clauses_of clauses) slot ≡ []
     none_there = ap (λ cs. list_at cs slot) g.emptied ∙ get_or-set_same (clauses_of old) slot [] [] (omega (arith, room, lists-length old.literals.items))
-
-    all : all_of store clauses ≡ set (all_of before old) slot (stored_shape k)
-    all = ap (λ xs. joined xs (clauses_of clauses)) shapes ∙ ap (joined (set (shapes_of before.stored.items) slot (stored_shape k))) g.emptied ∙ joined-cleared (shapes_of before.stored.items) (clauses_of old) slot (stored_shape k)
-
-    source : (x : Shape) → Contains (all_of before old) x → (Contains (all_of store clauses) x) ⊎ (IsPutBy (all_of store clauses) x run.assignment.list.items)
-    source x (i, less, is) = elim (cases_eq i slot) [
-      | inl here ↦ inr (λ l earlier on within puts.
-          let at : slice_get (all_of before old) slot ≡ Some x = ap (slice_get (all_of before old)) (sym here) ∙ slice_get-get_or (all_of before old) i x less ∙ ap (λ y. Some y) is in
-          let by = spare x l earlier at on within puts in
-          puts-other (by.2 ∷ []) (all_of store clauses) earlier l by.4 (moved by.2 by.0 by.1 by.3 by.4))
-      | inr apart ↦ inl (i, omega (arith, less, ap length all, length-set (all_of before old) slot (stored_shape k)), ap (λ xs. get_or xs i x) all ∙ get_or-set_other (all_of before old) slot i (stored_shape k) x apart ∙ is)
-    ]
-      where
-        moved : (y : Shape) (t : ℕ) → (t ≡ slot → ⊥) → slice_get (all_of before old) t ≡ Some y → {earlier : List NumberedLiteral} {l : NumberedLiteral} (p : Puts (y ∷ []) earlier l) → Contains (all_of store clauses) p.form
-        moved y t apart at p =
-            let one : y ≡ p.form = only-one y p.form p.among in
-            let inside = slice_get_within (all_of before old) t y at in
-            subst (Contains (all_of store clauses)) one (t, omega (arith, inside, ap length all, length-set (all_of before old) slot (stored_shape k)), ap (λ xs. get_or xs t y) all ∙ get_or-set_other (all_of before old) slot t (stored_shape k) y apart ∙ get_or_from_slice_get (all_of before old) t y y at)

@@ -83,6 +83,20 @@ IsSpare x list = (l : NumberedLiteral) (earlier : List NumberedLiteral) → has 
 abbrev pub IsReplaced : List Shape → ℕ → List NumberedLiteral → Type 0
 IsReplaced forms slot list = (x : Shape) (l : NumberedLiteral) (earlier : List NumberedLiteral) → slice_get forms slot ≡ Some x → has list l ≡ true → IsWithin earlier list → Puts (x ∷ []) earlier l → (s : ℕ) × (s ≡ slot → ⊥) × (y : Shape) × (slice_get forms s ≡ Some y) × Puts (y ∷ []) earlier l
 
+-- the constraint of the slot is not falsified
+abbrev pub IsMet : List Shape → ℕ → List NumberedLiteral → Type 0
+IsMet forms slot list = (x : Shape) → slice_get forms slot ≡ Some x → x.degree ≤ open_sum list x.terms
+
+-- the literals of a root that has ended follow from the constraints, and one of these is falsified
+pub record IsFallen (forms : List Shape) (variables : ℕ) (root : Root) : Type 0 where
+  pub ended : root.live ≡ false
+  pub values : length root.run.assignment.values.items ≡ variables
+  pub derived : Derives forms [] root.run.assignment.list.items
+  pub slot : ℕ
+  pub form : Shape
+  pub stored : slice_get forms slot ≡ Some form
+  pub low : open_sum root.run.assignment.list.items form.terms < form.degree
+
 -- the literal is that of the only term
 abbrev pub IsOnly : List Term → NumberedLiteral → Type 0
 IsOnly terms l = (c : ℕ) × (terms ≡ record { literal = l; coefficient = c } ∷ [])

@@ -10,8 +10,9 @@ use Rattle.pb_propagate.proofs.lemmas.clauses.Watching.{ready-running}
 use Rattle.pb_propagate.proofs.lemmas.engine.Rested.{rest-counted}
 use Rattle.pb_propagate.proofs.lemmas.engine.Rests.{rest-undone, rest-tidy-all, slots-kept}
 use Rattle.pb_propagate.proofs.lemmas.engine.Assumed.{refuted-meets, ended-free, ended-completion}
+use Rattle.pb_propagate.proofs.lemmas.root.Fallen.{fallen-conflicts}
 use Rattle.pb_propagate.proofs.lemmas.root.Roots.{none-walked}
-use Rattle.pb_propagate.proofs.lemmas.root.Transplants.{clash-refuted, ended-made, map-none, map-some}
+use Rattle.pb_propagate.proofs.lemmas.root.Transplants.{clash-refuted, root-clash, ended-made, map-none, map-some}
 use Rattle.pb_propagate.proofs.lemmas.store.Placed.{placed-kept}
 use Rattle.pb_propagate.proofs.engine.Engine.complete.Goals as goal
 
@@ -19,7 +20,7 @@ use Rattle.pb_propagate.proofs.engine.Engine.complete.Goals as goal
 pub extend-requires-clause-rooted : goal.extend-requires-clause-rooted
 extend-requires-clause-rooted c =
     let both = c.self.invariant (ap (λ (v : Standing). v.spent) c.self.view_is ∙ c.requires.ready) in
-    both.2 c.if-self.true
+    both.2 c.if-self-2.true
 
 pub extend-requires-clause-sound : goal.extend-requires-clause-sound
 extend-requires-clause-sound c = (c.self.invariant (ap (λ (v : Standing). v.spent) c.self.view_is ∙ c.requires.ready)).0.sound
@@ -33,8 +34,8 @@ extend-requires-clause-ready c = (c.self.invariant (ap (λ (v : Standing). v.spe
 pub extend-requires-clause-widths : goal.extend-requires-clause-widths
 extend-requires-clause-widths c = (c.self.invariant (ap (λ (v : Standing). v.spent) c.self.view_is ∙ c.requires.ready)).0.widths
 
-pub invariant_of-self-then-self : goal.invariant_of-self-then-self
-invariant_of-self-then-self c = λ ready.
+pub invariant_of-self-then-self-2 : goal.invariant_of-self-then-self-2
+invariant_of-self-then-self-2 c = λ ready.
     let e = c.self.inside in
     let both = c.self.invariant (ap (λ (v : Standing). v.spent) c.self.view_is ∙ c.requires.ready) in
     let r = both.0 in
@@ -60,10 +61,11 @@ invariant_of-self-then-self c = λ ready.
       },
       both.1,
       reported.rooted,
+      λ fallen. rw lit (reported.fallen fallen),
     )
 
-pub returns-then-self-clause-conflict : goal.returns-then-self-clause-conflict
-returns-then-self-clause-conflict c =
+pub returns-then-self-2-clause-conflict : goal.returns-then-self-2-clause-conflict
+returns-then-self-2-clause-conflict c =
     let e = c.self.inside in
     let both = c.self.invariant (ap (λ (v : Standing). v.spent) c.self.view_is ∙ c.requires.ready) in
     let forms = forms_of e.store.stored.items in
@@ -71,8 +73,8 @@ returns-then-self-clause-conflict c =
     let kept = placed-kept forms e.places.items shapes both.1 (slots-kept forms shapes both.0.slots) in
     rw (← c.self.view_is) (map-none c.in_ok-values.values (λ clash. refuted-meets (Live (numbered forms e.places.items)) shapes c.args.given.now clash.0 kept clash.1) c.in_ok-values.ensures.clash)
 
-pub returns-then-self-clause-no_conflict : goal.returns-then-self-clause-no_conflict
-returns-then-self-clause-no_conflict c =
+pub returns-then-self-2-clause-no_conflict : goal.returns-then-self-2-clause-no_conflict
+returns-then-self-2-clause-no_conflict c =
     let e = c.self.inside in
     let both = c.self.invariant (ap (λ (v : Standing). v.spent) c.self.view_is ∙ c.requires.ready) in
     let forms = forms_of e.store.stored.items in
@@ -80,8 +82,8 @@ returns-then-self-clause-no_conflict c =
     let kept = placed-kept forms e.places.items shapes both.1 (slots-kept forms shapes both.0.slots) in
     rw (← c.self.view_is) (map-some c.in_ok-values.values (λ values made. ended-free (Live (numbered forms e.places.items)) shapes c.args.given.now made.list values.items kept made.agrees made.ended) c.in_ok-values.ensures.ended)
 
-pub returns-then-self-clause-completed : goal.returns-then-self-clause-completed
-returns-then-self-clause-completed c =
+pub returns-then-self-2-clause-completed : goal.returns-then-self-2-clause-completed
+returns-then-self-2-clause-completed c =
     let e = c.self.inside in
     let both = c.self.invariant (ap (λ (v : Standing). v.spent) c.self.view_is ∙ c.requires.ready) in
     let forms = forms_of e.store.stored.items in
@@ -157,7 +159,8 @@ invariant_of-self-2 c = λ ready.
         seats = r.seats;
       },
       both.1,
-      λ live. absurd (let e : true ≡ false = sym live ∙ c.if-self.false in cc),
+      λ live. absurd (let e : true ≡ false = sym live ∙ c.if-self-2.false in cc),
+      λ fallen. absurd (let e : true ≡ false = sym fallen ∙ c.if-self.false in cc),
     )
 
 pub returns-clause-conflict : goal.returns-clause-conflict
@@ -196,14 +199,14 @@ returns-in_err-values-clause-forms c = ap (λ (v : Standing). v.forms) c.self.vi
 pub returns-in_err-values-2-clause-forms : goal.returns-in_err-values-2-clause-forms
 returns-in_err-values-2-clause-forms c = ap (λ (v : Standing). v.forms) c.self.view_is
 
-pub returns-then-self-clause-forms : goal.returns-then-self-clause-forms
-returns-then-self-clause-forms c = ap (λ (v : Standing). v.forms) c.self.view_is
+pub returns-then-self-2-clause-forms : goal.returns-then-self-2-clause-forms
+returns-then-self-2-clause-forms c = ap (λ (v : Standing). v.forms) c.self.view_is
 
-pub returns-then-self-clause-variables : goal.returns-then-self-clause-variables
-returns-then-self-clause-variables c = ap (λ (v : Standing). v.variables) c.self.view_is
+pub returns-then-self-2-clause-variables : goal.returns-then-self-2-clause-variables
+returns-then-self-2-clause-variables c = ap (λ (v : Standing). v.variables) c.self.view_is
 
-pub returns-then-self-clause-visits : goal.returns-then-self-clause-visits
-returns-then-self-clause-visits c = ap (λ (v : Standing). v.visits) c.self.view_is
+pub returns-then-self-2-clause-visits : goal.returns-then-self-2-clause-visits
+returns-then-self-2-clause-visits c = ap (λ (v : Standing). v.visits) c.self.view_is
 
 pub returns-clause-forms : goal.returns-clause-forms
 returns-clause-forms c = ap (λ (v : Standing). v.forms) c.self.view_is
@@ -213,3 +216,16 @@ returns-clause-variables c = ap (λ (v : Standing). v.variables) c.self.view_is
 
 pub returns-clause-visits : goal.returns-clause-visits
 returns-clause-visits c = c.replace-visits.ensures.value ∙ ap (λ (v : Standing). v.visits) c.self.view_is
+
+-- a conflict of the root
+pub returns-then-self-clause-conflict : goal.returns-then-self-clause-conflict
+returns-then-self-clause-conflict c =
+    let e = c.self.inside in
+    let both = c.self.invariant (ap (λ (v : Standing). v.spent) c.self.view_is ∙ c.requires.ready) in
+    let forms = forms_of e.store.stored.items in
+    let shapes = all_of e.store e.clauses in
+    let kept = placed-kept forms e.places.items shapes both.1 (slots-kept forms shapes both.0.slots) in
+    let fallen = both.3 c.if-self.true in
+    let list = e.root.run.assignment.list.items in
+    let clash = clash-refuted shapes list c.args.given.now fallen.derived (root-clash shapes list c.args.given.now (fallen-conflicts shapes e.store.variables e.root fallen)) in
+    rw (← c.self.view_is) (refuted-meets (Live (numbered forms e.places.items)) shapes c.args.given.now clash.0 kept clash.1)

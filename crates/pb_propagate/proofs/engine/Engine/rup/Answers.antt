@@ -27,7 +27,9 @@ use Rattle.pb_propagate.proofs.lemmas.engine.Bounds.{joined-terms, slots-terms, 
 use Rattle.pb_propagate.proofs.lemmas.engine.Spent.{spent-le}
 use Rattle.pb_propagate.proofs.lemmas.clauses.Killed.{fallen-most}
 use Rattle.pb_propagate.proofs.lemmas.engine.Completing.{closed-none}
+use Rattle.pb_propagate.specs.engine.Engine.Root.{alone}
 use Rattle.pb_propagate.proofs.lemmas.root.Asked.{asked-meets, asked-free}
+use Rattle.pb_propagate.proofs.lemmas.root.Fallen.{fallen-answered, fallen-few, fallen-same}
 use Rattle.pb_propagate.proofs.lemmas.clauses.Watching.{ready-running}
 use Rattle.pb_propagate.proofs.lemmas.engine.Rests.{slots-entered, joined-entered, rest-entered, rest-tidy-first, rest-undone, rest-lengths, rest-left, eager-entered, with-kept, opposite-inside}
 use Rattle.pb_propagate.proofs.engine.Engine.rup.Goals as goal
@@ -142,7 +144,8 @@ invariant_of-self-2 c = λ ready.
         seats = rw left.0 r.seats;
       },
       rw left.0 both.1,
-      λ live. absurd (let e : true ≡ false = sym live ∙ c.if-self.false in cc),
+      λ live. absurd (let e : true ≡ false = sym live ∙ c.if-self-2.false in cc),
+      λ fallen. absurd (let e : true ≡ false = sym fallen ∙ c.if-self.false in cc),
     )
 
 pub returns-clause-implied : goal.returns-clause-implied
@@ -408,8 +411,8 @@ ask-requires-clause-inside c =
     let count : e.store.variables ≡ c.args.self.now.variables = ap (λ (v : Standing). v.variables) c.self.view_is in
     λ k d h. let one = c.requires.inside k d h in omega (arith, one, count)
 
-pub invariant_of-self-then-self : goal.invariant_of-self-then-self
-invariant_of-self-then-self c = λ ready.
+pub invariant_of-self-then-self-2 : goal.invariant_of-self-then-self-2
+invariant_of-self-then-self-2 c = λ ready.
     let e = c.self.inside in
     let both = c.self.invariant (ap (λ (v : Standing). v.spent) c.self.view_is ∙ c.requires.ready) in
     let r = both.0 in
@@ -435,13 +438,14 @@ invariant_of-self-then-self c = λ ready.
       },
       rw reported.kept both.1,
       reported.rooted,
+      λ fallen. rw (reported.kept, lit) (fallen-same (all_of e.store e.clauses) e.store.variables c.ask.new.store.variables c.ask.new.root c.ask.new.root refl refl ((reported.fallen fallen).values ∙ sym c.ask.ensures.variables) (reported.fallen fallen)),
     )
 
-pub returns-then-self-clause-forms : goal.returns-then-self-clause-forms
-returns-then-self-clause-forms c = rw c.in_ok-answer.ensures.kept (ap (λ (v : Standing). v.forms) c.self.view_is)
+pub returns-then-self-2-clause-forms : goal.returns-then-self-2-clause-forms
+returns-then-self-2-clause-forms c = rw c.in_ok-answer.ensures.kept (ap (λ (v : Standing). v.forms) c.self.view_is)
 
-pub returns-then-self-clause-implied : goal.returns-then-self-clause-implied
-returns-then-self-clause-implied c = λ found.
+pub returns-then-self-2-clause-implied : goal.returns-then-self-2-clause-implied
+returns-then-self-2-clause-implied c = λ found.
     let e = c.self.inside in
     let both = c.self.invariant (ap (λ (v : Standing). v.spent) c.self.view_is ∙ c.requires.ready) in
     let forms = forms_of e.store.stored.items in
@@ -449,8 +453,8 @@ returns-then-self-clause-implied c = λ found.
     let meets = asked-meets forms e.places.items (all_of e.store e.clauses) g c.ask.new.visits c.in_ok-answer.answer both.1 both.0.slots found c.in_ok-answer.ensures.asked in
     rw (← c.self.view_is) (inr meets.0)
 
-pub returns-then-self-clause-not_implied : goal.returns-then-self-clause-not_implied
-returns-then-self-clause-not_implied c = λ found rup.
+pub returns-then-self-2-clause-not_implied : goal.returns-then-self-2-clause-not_implied
+returns-then-self-2-clause-not_implied c = λ found rup.
     let e = c.self.inside in
     let both = c.self.invariant (ap (λ (v : Standing). v.spent) c.self.view_is ∙ c.requires.ready) in
     let forms = forms_of e.store.stored.items in
@@ -465,8 +469,8 @@ returns-then-self-clause-not_implied c = λ found rup.
       | inr m ↦ free_goal (rw (← same) at m)
     ]
 
-pub returns-then-self-clause-conflict : goal.returns-then-self-clause-conflict
-returns-then-self-clause-conflict c = λ found.
+pub returns-then-self-2-clause-conflict : goal.returns-then-self-2-clause-conflict
+returns-then-self-2-clause-conflict c = λ found.
     let e = c.self.inside in
     let both = c.self.invariant (ap (λ (v : Standing). v.spent) c.self.view_is ∙ c.requires.ready) in
     let forms = forms_of e.store.stored.items in
@@ -474,8 +478,8 @@ returns-then-self-clause-conflict c = λ found.
     let meets = asked-meets forms e.places.items (all_of e.store e.clauses) g c.ask.new.visits c.in_ok-answer.answer both.1 both.0.slots found c.in_ok-answer.ensures.asked in
     rw (← c.self.view_is) (inr meets)
 
-pub returns-then-self-clause-completion : goal.returns-then-self-clause-completion
-returns-then-self-clause-completion c = λ found.
+pub returns-then-self-2-clause-completion : goal.returns-then-self-2-clause-completion
+returns-then-self-2-clause-completion c = λ found.
     let e = c.self.inside in
     let both = c.self.invariant (ap (λ (v : Standing). v.spent) c.self.view_is ∙ c.requires.ready) in
     let forms = forms_of e.store.stored.items in
@@ -490,8 +494,8 @@ returns-in_err-answer-clause-forms c =
     let both = c.self.invariant (ap (λ (v : Standing). v.spent) c.self.view_is ∙ c.requires.ready) in
     c.in_err-answer.ensures.forms e.places.items both.1 ∙ ap (λ (v : Standing). v.forms) c.self.view_is
 
-pub returns-then-self-clause-most : goal.returns-then-self-clause-most
-returns-then-self-clause-most c =
+pub returns-then-self-2-clause-most : goal.returns-then-self-2-clause-most
+returns-then-self-2-clause-most c =
     let e = c.self.inside in
     let both = c.self.invariant (ap (λ (v : Standing). v.spent) c.self.view_is ∙ c.requires.ready) in
     let forms = forms_of e.store.stored.items in
@@ -507,3 +511,53 @@ returns-in_err-answer-clause-most c =
     let terms = slots-terms forms (all_of e.store e.clauses) both.0.slots in
     let same : numbered forms e.places.items ≡ c.args.self.now.forms = ap (λ (v : Standing). v.forms) c.self.view_is in
     rw (← same) (omega (arith, c.ask.ensures.most, terms, both.1.alike terms_in refl, both.1.alike one_in refl))
+
+-- a conflict of the root
+pub returns-then-self-clause-implied : goal.returns-then-self-clause-implied
+returns-then-self-clause-implied c = λ found.
+    let e = c.self.inside in
+    let both = c.self.invariant (ap (λ (v : Standing). v.spent) c.self.view_is ∙ c.requires.ready) in
+    let forms = forms_of e.store.stored.items in
+    let shapes = all_of e.store e.clauses in
+    let visits = c.of-self-inside.result in
+    let list = e.root.run.assignment.list in
+    let answered = fallen-answered shapes e.store.variables visits e.root (omega (arith, c.of-self-inside.ensures, c.len.ensures, list.ok.0)) (both.3 c.if-self.true) in
+    let meets = asked-meets forms e.places.items shapes (negation_of c.args.goal.now) visits true both.1 both.0.slots refl (alone refl answered) in
+    rw (← c.self.view_is) (inr meets.0)
+
+pub returns-then-self-clause-not_implied : goal.returns-then-self-clause-not_implied
+returns-then-self-clause-not_implied c = λ found. absurd cc
+
+pub returns-then-self-clause-completion : goal.returns-then-self-clause-completion
+returns-then-self-clause-completion c = λ found. absurd cc
+
+pub returns-then-self-clause-conflict : goal.returns-then-self-clause-conflict
+returns-then-self-clause-conflict c = λ found.
+    let e = c.self.inside in
+    let both = c.self.invariant (ap (λ (v : Standing). v.spent) c.self.view_is ∙ c.requires.ready) in
+    let forms = forms_of e.store.stored.items in
+    let shapes = all_of e.store e.clauses in
+    let visits = c.of-self-inside.result in
+    let list = e.root.run.assignment.list in
+    let answered = fallen-answered shapes e.store.variables visits e.root (omega (arith, c.of-self-inside.ensures, c.len.ensures, list.ok.0)) (both.3 c.if-self.true) in
+    let meets = asked-meets forms e.places.items shapes (negation_of c.args.goal.now) visits true both.1 both.0.slots refl (alone refl answered) in
+    rw (← c.self.view_is) (inr meets)
+
+pub returns-then-self-clause-unasked : goal.returns-then-self-clause-unasked
+returns-then-self-clause-unasked c = λ nothing. absurd (c.if-degree-eq0.false (ap (of_z w128) (c.degree.ensures.degree ∙ ap pos nothing)))
+
+pub returns-then-self-clause-most : goal.returns-then-self-clause-most
+returns-then-self-clause-most c =
+    let e = c.self.inside in
+    let both = c.self.invariant (ap (λ (v : Standing). v.spent) c.self.view_is ∙ c.requires.ready) in
+    let forms = forms_of e.store.stored.items in
+    let terms = slots-terms forms (all_of e.store e.clauses) both.0.slots in
+    let few = fallen-few e.store e.clauses e.store.variables e.root both.0.sound both.0.joined (both.3 c.if-self.true) in
+    let same : numbered forms e.places.items ≡ c.args.self.now.forms = ap (λ (v : Standing). v.forms) c.self.view_is in
+    rw (← same) (omega (arith, few, terms, c.of-self-inside.ensures, c.len.ensures, e.root.run.assignment.list.ok.0, both.1.alike terms_in refl))
+
+pub returns-then-self-clause-forms : goal.returns-then-self-clause-forms
+returns-then-self-clause-forms c = ap (λ (v : Standing). v.forms) c.self.view_is
+
+pub returns-then-self-clause-variables : goal.returns-then-self-clause-variables
+returns-then-self-clause-variables c = ap (λ (v : Standing). v.variables) c.self.view_is

@@ -2,9 +2,10 @@ use Rattle.std.proofs.Common.{Vec, Global, refl, ℕ, ◌≡◌, ◌∷◌, [], 
 use Rattle.pb_propagate.specs.engine.Engine.Live.{Standing}
 use Rattle.pb_propagate.specs.engine.Engine.Fields.{shapes_of, spots_of}
 use Rattle.pb_propagate.specs.engine.Clauses.Links.{lists_of}
-use Rattle.pb_propagate.specs.engine.Clauses.Shapes.{clauses_of}
+use Rattle.pb_propagate.specs.engine.Clauses.Shapes.{all_of, clauses_of}
 use Rattle.pb_propagate.proofs.lemmas.store.Places.{entries-length}
 use Rattle.pb_propagate.proofs.lemmas.engine.Wider.{widened-stored, half}
+use Rattle.pb_propagate.proofs.lemmas.root.Fallen.{fallen-same}
 use Rattle.pb_propagate.proofs.lemmas.root.Roots.{widened-rooted}
 use Rattle.pb_propagate.proofs.engine.Engine.widen.Goals as goal
 
@@ -37,6 +38,7 @@ invariant_of-self-2 c = λ ready.
       },
       both.1,
       λ live. widened-rooted e.store _ e.clauses c.widen-3.new.self e.root.run c.widen-4.new.self e.root.rests e.root.waiting refl count (c.widen-3.ensures.literals ∙ c.widen-2.ensures.literals) (c.widen-3.ensures.watches ∙ c.widen-2.ensures.watches) c.widen-4.ensures.list c.in_ok-widen-4.ensures.values (both.2 live),
+      λ fallen. rw lit (fallen-same (all_of e.store e.clauses) e.store.variables _ e.root _ refl c.widen-4.ensures.list (omega (arith, c.in_ok-widen-4.ensures.values, (both.3 fallen).values, count)) (both.3 fallen)),
     )
 
 pub returns-clause-variables : goal.returns-clause-variables

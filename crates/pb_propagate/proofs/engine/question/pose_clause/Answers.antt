@@ -172,3 +172,9 @@ returns-clause-rooted c = λ live.
       trail = c.back.ensures.trail;
       next = c.back.ensures.next;
     })
+
+pub returns-then-branch-clause-fallen : goal.returns-then-branch-clause-fallen
+returns-then-branch-clause-fallen c = λ fallen. c.in_ok-update.ensures.fallen c.if-branch.true
+
+pub returns-clause-fallen : goal.returns-clause-fallen
+returns-clause-fallen c = λ fallen. absurd (let e = sym fallen ∙ c.in_ok-update.ensures.risen c.if-branch.false in cc)

@@ -14,8 +14,8 @@ use Rattle.pb_propagate.proofs.lemmas.engine.Runs.{absent-push, absent-new}
 use Rattle.pb_propagate.proofs.lemmas.store.Seats.{get-absent, push-older}
 use Rattle.pb_propagate.proofs.engine.root.Root.admit.Goals as goal
 
-pub returns-then-is_filled : goal.returns-then-is_filled
-returns-then-is_filled c =
+pub returns-then-is_filled-clause-rooted : goal.returns-then-is_filled-clause-rooted
+returns-then-is_filled-clause-rooted c =
     let store = c.args.store.now in
     let g = c.requires.gained in
     let me = c.args.self.now in
@@ -25,14 +25,12 @@ returns-then-is_filled c =
     let codes = walked_codes (length run.assignment.list.items) run.assignment.list.items in
     let filled = c.is_filled.ensures.yes c.if-is_filled.true in
     let values_are = ap (λ (a : Assignment). a.values.items) reached.assignment in
-    record {
-      rooted = λ live.
-          let served : IsServed run.assignment.values.items c.args.clauses.now.watches.items c.args.slot = subst (λ vs. IsServed vs c.args.clauses.now.watches.items c.args.slot) values_are (c.is_served-self.ensures.yes live) in
-          let walked = served-walked run.assignment.values.items g.1.watches.items c.args.clauses.now.watches.items codes c.args.slot g.3.watched (λ e here live h. served-watch run.assignment.values.items c.args.clauses.now.watches.items codes c.args.slot e r.walked.failed served here h) r.walked in
-          let rooted = gained-rooted g.0 store g.1 c.args.clauses.now run c.reach.new.run me.rests c.reach.new.rests me.waiting c.reach.new.waiting c.args.slot c.requires.slot r g.3 reached walked in
-          let there = arrived g.0 store g.1 c.args.clauses.now run c.reach.new.run me.rests c.reach.new.rests me.waiting c.reach.new.waiting c.args.slot c.requires.slot r g.3 reached in
-          clause-rooted store c.args.clauses.now c.reach.new.run c.reach.new.rests c.reach.new.waiting c.args.slot c.requires.slot (λ d. c.requires.joined.apart c.args.slot d (omega (arith, c.requires.slot, length-map store.stored.items stored_shape)) filled) there.open_none rooted;
-    }
+    λ live.
+    let served : IsServed run.assignment.values.items c.args.clauses.now.watches.items c.args.slot = subst (λ vs. IsServed vs c.args.clauses.now.watches.items c.args.slot) values_are (c.is_served-self.ensures.yes live) in
+    let walked = served-walked run.assignment.values.items g.1.watches.items c.args.clauses.now.watches.items codes c.args.slot g.3.watched (λ e here live h. served-watch run.assignment.values.items c.args.clauses.now.watches.items codes c.args.slot e r.walked.failed served here h) r.walked in
+    let rooted = gained-rooted g.0 store g.1 c.args.clauses.now run c.reach.new.run me.rests c.reach.new.rests me.waiting c.reach.new.waiting c.args.slot c.requires.slot r g.3 reached walked in
+    let there = arrived g.0 store g.1 c.args.clauses.now run c.reach.new.run me.rests c.reach.new.rests me.waiting c.reach.new.waiting c.args.slot c.requires.slot r g.3 reached in
+    clause-rooted store c.args.clauses.now c.reach.new.run c.reach.new.rests c.reach.new.waiting c.args.slot c.requires.slot (λ d. c.requires.joined.apart c.args.slot d (omega (arith, c.requires.slot, length-map store.stored.items stored_shape)) filled) there.open_none rooted
 
 pub lay-requires-clause-opens : goal.lay-requires-clause-opens
 lay-requires-clause-opens c =
@@ -110,8 +108,8 @@ keep-requires-clause-undone c =
     let laid : IsTidy (beside c.reach.new.rests aside) (shapes_of store.stored.items) run.opens.items run.candidates.items run.assignment.list.items run.work.items run.trail.items run.next (length store.stored.items) = rw (list_is, cands_is, c.lay.ensures.next ∙ r.next) (rw long at tidy) in
     (shapes_of store.stored.items, long ∙ sym opens_now, record { clean = laid.clean; named = laid.marked })
 
-pub returns : goal.returns
-returns c =
+pub returns-clause-rooted : goal.returns-clause-rooted
+returns-clause-rooted c =
     let store = c.args.store.now in
     let g = c.requires.gained in
     let me = c.args.self.now in
@@ -128,40 +126,38 @@ returns c =
     let tidy = slot-tidy c.reach.new.rests aside (shapes_of store.stored.items) c.reach.new.run.opens.items c.reach.new.run.candidates.items run.opens.items c.reach.new.run.assignment.list.items run.work.items run.trail.items c.args.slot (omega (arith, c.requires.slot, long)) (omega (arith, c.requires.slot, r.open_sizes)) r.tidy c.in_ok-lay.ensures.opens queued noted in
     let laid : IsTidy (beside c.reach.new.rests aside) (shapes_of store.stored.items) run.opens.items run.candidates.items run.assignment.list.items run.work.items run.trail.items run.next (length store.stored.items) = rw (list_is, cands_is, c.lay.ensures.next ∙ r.next) (rw long at tidy) in
     let waiting = c.defer.new.waiting in
-    record {
-      rooted = λ live. kept-rooted store c.args.clauses.now run c.keep.new.run c.reach.new.rests c.keep.new.rests aside waiting
-          (record {
-            values = rw c.lay.ensures.assignment r.values;
-            opens = opens_now;
-            candidates = ap (λ (v : Vec ℕ Global). length v.items) c.lay.ensures.candidates ∙ r.start_sizes;
-            counted = rw list_is (slot-counted (shapes_of store.stored.items) c.reach.new.run.opens.items run.opens.items c.reach.new.run.assignment.list.items c.args.slot (omega (arith, c.requires.slot, r.open_sizes)) (λ s e less apart. r.counted s e (omega (arith, less, long)) apart) c.in_ok-lay.ensures.opens);
-            derived = rw c.lay.ensures.assignment r.derived;
-            walked = rw c.lay.ensures.assignment r.walked;
-          })
-          laid
-          (λ s off. elim c.in_ok-defer.ensures.list [
-            | inl same ↦ (rw same.1 at off, λ i from less found. absurd (omega (arith, less, ap length (sym c.as_slice.ensures.value ∙ same.0))))
-            | inr more ↦
-                let pushed = rw more at off in
-                let other : s ≡ c.args.slot → ⊥ = λ here. absent-new aside c.args.slot 0 s (omega arith) pushed here in
-                (absent-push aside c.args.slot 0 s pushed, rw (c.lay.ensures.next ∙ r.next) (grown-off c.args.slot run.work.items queued s other))
-          ])
-          (record {
-            opens = c.keep.ensures.opens;
-            candidates = c.keep.ensures.candidates;
-            assignment = c.keep.ensures.assignment;
-            work = c.keep.ensures.work;
-            trail = c.keep.ensures.trail;
-            next = c.keep.ensures.next;
-            rest_opens = c.keep.ensures.rests.0;
-            rest_starts = c.keep.ensures.rests.1;
-          })
-          (c.defer.ensures.seats ∙ r.seats)
-          (λ i s at. elim c.in_ok-defer.ensures.list [
-            | inl same ↦ r.live i s (ap (λ xs. slice_get xs i) (sym same.1) ∙ at)
-            | inr more ↦ elim (cases_eq s c.args.slot) [
-              | inl here ↦ subst (HasForm store) (sym here) g.3.full
-              | inr other ↦ r.live i s (push-older aside c.args.slot i s other (ap (λ xs. slice_get xs i) (sym more) ∙ at))
-            ]
-          ]);
-    }
+    λ live. kept-rooted store c.args.clauses.now run c.keep.new.run c.reach.new.rests c.keep.new.rests aside waiting
+    (record {
+      values = rw c.lay.ensures.assignment r.values;
+      opens = opens_now;
+      candidates = ap (λ (v : Vec ℕ Global). length v.items) c.lay.ensures.candidates ∙ r.start_sizes;
+      counted = rw list_is (slot-counted (shapes_of store.stored.items) c.reach.new.run.opens.items run.opens.items c.reach.new.run.assignment.list.items c.args.slot (omega (arith, c.requires.slot, r.open_sizes)) (λ s e less apart. r.counted s e (omega (arith, less, long)) apart) c.in_ok-lay.ensures.opens);
+      derived = rw c.lay.ensures.assignment r.derived;
+      walked = rw c.lay.ensures.assignment r.walked;
+    })
+    laid
+    (λ s off. elim c.in_ok-defer.ensures.list [
+      | inl same ↦ (rw same.1 at off, λ i from less found. absurd (omega (arith, less, ap length (sym c.as_slice.ensures.value ∙ same.0))))
+      | inr more ↦
+          let pushed = rw more at off in
+          let other : s ≡ c.args.slot → ⊥ = λ here. absent-new aside c.args.slot 0 s (omega arith) pushed here in
+          (absent-push aside c.args.slot 0 s pushed, rw (c.lay.ensures.next ∙ r.next) (grown-off c.args.slot run.work.items queued s other))
+    ])
+    (record {
+      opens = c.keep.ensures.opens;
+      candidates = c.keep.ensures.candidates;
+      assignment = c.keep.ensures.assignment;
+      work = c.keep.ensures.work;
+      trail = c.keep.ensures.trail;
+      next = c.keep.ensures.next;
+      rest_opens = c.keep.ensures.rests.0;
+      rest_starts = c.keep.ensures.rests.1;
+    })
+    (c.defer.ensures.seats ∙ r.seats)
+    (λ i s at. elim c.in_ok-defer.ensures.list [
+      | inl same ↦ r.live i s (ap (λ xs. slice_get xs i) (sym same.1) ∙ at)
+      | inr more ↦ elim (cases_eq s c.args.slot) [
+        | inl here ↦ subst (HasForm store) (sym here) g.3.full
+        | inr other ↦ r.live i s (push-older aside c.args.slot i s other (ap (λ xs. slice_get xs i) (sym more) ∙ at))
+      ]
+    ])

@@ -10,8 +10,8 @@ use Rattle.pb_propagate.proofs.lemmas.engine.VisitSteps.{open-now}
 use Rattle.pb_propagate.proofs.lemmas.root.Roots.{start-counted, start-tidy, none-walked}
 use Rattle.pb_propagate.proofs.engine.root.Root.begin.Goals as goal
 
-pub returns : goal.returns
-returns c =
+pub returns-clause-rooted : goal.returns-clause-rooted
+returns-clause-rooted c =
     let store = c.args.store.now in
     let keep = store.stored.items in
     let run = c.args.run.now in
@@ -23,20 +23,18 @@ returns c =
     let counted = start-counted keep run.opens.items run.candidates.items r.rest in
     let tidy = start-tidy c.in_ok-self-2.field-0 keep c.args.eager.now.list.items run.opens.items run.candidates.items rests.opens rests.starts r.rest r.eager in
     record {
-      rooted = record {
-        values = fresh.values;
-        opens = fresh.opens ∙ sym rests.opens;
-        starts = fresh.candidates ∙ sym rests.starts;
-        open_sizes = ap length fresh.opens ∙ sizes.0;
-        start_sizes = ap length fresh.candidates ∙ sizes.1;
-        counted = λ s d less apart. rw (fresh.opens, fresh.list) (open-now (shapes_of keep) run.opens.items [] s d (omega (arith, less, length-map keep stored_shape)) counted);
-        tidy = rw (copy.list, fresh.opens, fresh.candidates, fresh.list) tidy;
-        work = fresh.work;
-        trail = fresh.trail;
-        next = fresh.next;
-        derived = rw fresh.list begin;
-        walked = rw fresh.list (none-walked c.in_ok-self.field-0.assignment.values.items c.args.clauses.now.watches.items);
-        seats = ap length copy.seats ∙ r.seats;
-        live = λ i s at. waits-form (forms_of keep) keep (clauses_of c.args.clauses.now) s r.slots (r.exact i s (ap (λ xs. slice_get xs i) (sym copy.list) ∙ at));
-      };
+      values = fresh.values;
+      opens = fresh.opens ∙ sym rests.opens;
+      starts = fresh.candidates ∙ sym rests.starts;
+      open_sizes = ap length fresh.opens ∙ sizes.0;
+      start_sizes = ap length fresh.candidates ∙ sizes.1;
+      counted = λ s d less apart. rw (fresh.opens, fresh.list) (open-now (shapes_of keep) run.opens.items [] s d (omega (arith, less, length-map keep stored_shape)) counted);
+      tidy = rw (copy.list, fresh.opens, fresh.candidates, fresh.list) tidy;
+      work = fresh.work;
+      trail = fresh.trail;
+      next = fresh.next;
+      derived = rw fresh.list begin;
+      walked = rw fresh.list (none-walked c.in_ok-self.field-0.assignment.values.items c.args.clauses.now.watches.items);
+      seats = ap length copy.seats ∙ r.seats;
+      live = λ i s at. waits-form (forms_of keep) keep (clauses_of c.args.clauses.now) s r.slots (r.exact i s (ap (λ xs. slice_get xs i) (sym copy.list) ∙ at));
     }

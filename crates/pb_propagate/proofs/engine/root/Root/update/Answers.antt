@@ -8,6 +8,7 @@ use Rattle.pb_propagate.specs.engine.Clauses.Shapes.{all_of}
 use Rattle.pb_propagate.proofs.lemmas.clauses.Watching.{ready-running}
 use Rattle.pb_propagate.proofs.lemmas.engine.Derivations.{derivation-then}
 use Rattle.pb_propagate.proofs.lemmas.engine.Spent.{derivation-single}
+use Rattle.pb_propagate.proofs.lemmas.root.Fallen.{conflicts-fallen}
 use Rattle.pb_propagate.proofs.lemmas.root.Roots.{kept-rooted}
 use Rattle.pb_propagate.proofs.engine.root.Root.update.Goals as goal
 
@@ -26,7 +27,7 @@ pub propagate-requires-clause-running : goal.propagate-requires-clause-running
 propagate-requires-clause-running c = ready-running c.args.clauses.now c.args.self.now.run.assignment.values.items c.requires.ready (omega (arith, c.requires.widths, c.requires.rooted.values))
 
 pub returns-then-found-clause-running : goal.returns-then-found-clause-running
-returns-then-found-clause-running c = rw c.end.ensures.run c.in_ok-found.ensures.running
+returns-then-found-clause-running c = rw c.fall.ensures.run c.in_ok-found.ensures.running
 
 pub returns-then-found-clause-costs : goal.returns-then-found-clause-costs
 returns-then-found-clause-costs c =
@@ -37,7 +38,7 @@ returns-then-found-clause-costs c =
     let reported = c.in_ok-found.ensures in
     let count_is : c.len-count.result ≡ length me.run.assignment.list.items = omega (arith, c.len-count.ensures, me.run.assignment.list.ok.0) in
     let costs = rw (count_is, c.as_slice.ensures.value) at c.propagate.ensures.costs in
-    rw c.end.ensures.run costs
+    rw c.fall.ensures.run costs
 
 pub returns-in_err-found-clause-costs : goal.returns-in_err-found-clause-costs
 returns-in_err-found-clause-costs c =
@@ -53,13 +54,13 @@ returns-then-found-clause-derived c =
     let done = c.propagate.new.run in
     let reported = c.in_ok-found.ensures in
     let count_is : c.len-count.result ≡ length me.run.assignment.list.items = omega (arith, c.len-count.ensures, me.run.assignment.list.ok.0) in
-    rw c.end.ensures.run (derivation-then (all_of store c.args.clauses.now) [] me.run.assignment.list.items done.assignment.list.items r.derived reported.derived)
+    rw c.fall.ensures.run (derivation-then (all_of store c.args.clauses.now) [] me.run.assignment.list.items done.assignment.list.items r.derived reported.derived)
 
 pub returns-then-found-clause-conflict : goal.returns-then-found-clause-conflict
-returns-then-found-clause-conflict c = λ found. rw c.end.ensures.run (c.in_ok-found.ensures.conflict c.if-found.true)
+returns-then-found-clause-conflict c = λ found. rw c.fall.ensures.run (c.in_ok-found.ensures.conflict c.if-found.true)
 
 pub returns-then-found-clause-found : goal.returns-then-found-clause-found
-returns-then-found-clause-found c = rw c.end.ensures.run c.in_ok-found.ensures.found
+returns-then-found-clause-found c = rw c.fall.ensures.run c.in_ok-found.ensures.found
 
 pub returns-clause-derived : goal.returns-clause-derived
 returns-clause-derived c =
@@ -111,3 +112,13 @@ returns-then-found-clause-lists c = omega (arith, c.in_ok-found.ensures.running.
 
 pub returns-clause-lists : goal.returns-clause-lists
 returns-clause-lists c = omega (arith, c.in_ok-found.ensures.running.sizes, c.in_ok-found.ensures.values, c.requires.rooted.values, c.requires.widths)
+
+pub returns-then-found-clause-fallen : goal.returns-then-found-clause-fallen
+returns-then-found-clause-fallen c = λ found.
+    let store = c.args.store.now in
+    let me = c.args.self.now in
+    let done = c.propagate.new.run in
+    let reported = c.in_ok-found.ensures in
+    let forms = all_of store c.args.clauses.now in
+    let derived = derivation-then forms [] me.run.assignment.list.items done.assignment.list.items c.requires.rooted.derived reported.derived in
+    conflicts-fallen forms store.variables c.fall.new.self c.fall.ensures.live (rw c.fall.ensures.run (reported.values ∙ c.requires.rooted.values)) (rw c.fall.ensures.run derived) (rw c.fall.ensures.run (reported.conflict c.if-found.true))

@@ -1,0 +1,40 @@
+use Rattle.std.proofs.Common.{◌<◌, ◌∙◌, ap, sym, subst, arith, length}
+use Rattle.std.proofs.lemmas.List.{length-map}
+use Rattle.pb_propagate.specs.engine.Engine.Lists.{Shape, AreInside, says, open_sum}
+use Rattle.pb_propagate.specs.engine.Engine.Fields.{shapes_of, stored_shape}
+use Rattle.pb_propagate.specs.engine.Engine.Terms.{terms_of}
+use Rattle.pb_propagate.specs.engine.Clauses.Links.{list_at}
+use Rattle.pb_propagate.specs.engine.Clauses.Shapes.{slot_shape, clauses_of}
+use Rattle.pb_propagate.proofs.lemmas.clauses.Shapes.{shape-some}
+use Rattle.pb_propagate.proofs.lemmas.engine.VisitSteps.{shape-at}
+use Rattle.pb_propagate.proofs.lemmas.root.Lost.{slot-is}
+use Rattle.pb_propagate.proofs.lemmas.root.Fallen.{free-met}
+use Rattle.pb_propagate.proofs.engine.root.Root.is_falsified.Goals as goal
+
+pub open_under-opened-requires-clause-inside : goal.open_under-opened-requires-clause-inside
+open_under-opened-requires-clause-inside c =
+    let store = c.args.store.now in
+    let k = c.index-kept.result.now in
+    let here : c.args.slot < length (shapes_of store.stored.items) = omega (arith, c.requires.slot, length-map store.stored.items stored_shape) in
+    let shape = shape-at store.stored.items c.args.slot k c.requires.slot c.index-kept.ensures (stored_shape k) in
+    let all = subst (λ (f : Shape). AreInside store.variables f.terms) shape (c.requires.sound.inside c.args.slot (stored_shape k) here) in
+    subst (λ n. AreInside n (terms_of k.terms)) (sym (ap length c.as_slice.ensures.value ∙ c.requires.values)) all
+
+pub returns-then-not-is_filled : goal.returns-then-not-is_filled
+returns-then-not-is_filled c = λ above x at.
+    let store = c.args.store.now in
+    let run = c.args.self.now.run in
+    let k = c.index-kept.result.now in
+    let none = c.is_filled.ensures.no c.if-not-is_filled.true in
+    let is = slot-is store c.args.clauses.now c.args.slot x c.requires.slot at ∙ ap (slot_shape _) none ∙ shape-at store.stored.items c.args.slot k c.requires.slot c.index-kept.ensures x in
+    let sum = c.open_under-opened.ensures run.assignment.list.items (λ l. run.assignment.agrees l ∙ ap (λ vs. says vs l) (sym c.as_slice.ensures.value)) in
+    let same = ap (λ (f : Shape). open_sum run.assignment.list.items f.terms) is in
+    let degree = ap (λ (f : Shape). f.degree) is in
+    omega (arith, c.is_below.ensures.above above, sum, same, degree)
+
+pub returns-in-Some : goal.returns-in-Some
+returns-in-Some c = λ found x at.
+    let run = c.args.self.now.run in
+    let codes = list_at (clauses_of c.args.clauses.now) c.args.slot in
+    let is = slot-is c.args.store.now c.args.clauses.now c.args.slot x c.requires.slot at ∙ shape-some _ codes (c.is_filled.ensures.yes c.if-not-is_filled.false) in
+    free-met run.assignment.values.items run.assignment.list.items codes _ x run.assignment.agrees is c.in-Some.ensures.some

@@ -1,0 +1,137 @@
+//! A form goes: what the root keeps.
+
+ghost use Rattle.std.specs.Prelude.{◌≡◌, ◌*◌, ◌<◌, true, false, length, Some};
+ghost use Rattle.pb_propagate.specs.declared.store.Store.{Store};
+ghost use Rattle.pb_propagate.specs.declared.clauses.Clauses.{Clauses};
+ghost use Rattle.pb_propagate.specs.engine.Engine.Progress.{list_of};
+ghost use Rattle.pb_propagate.specs.engine.Engine.Waiting.{IsWithout};
+ghost use Rattle.pb_propagate.specs.engine.Engine.Fields.{shapes_of, IsSound};
+ghost use Rattle.pb_propagate.specs.engine.Engine.Root.{IsRootOf, IsFallen, IsMet, HasLost, IsReplaced};
+ghost use Rattle.pb_propagate.specs.engine.Clauses.Runs.{AreReady};
+ghost use Rattle.pb_propagate.specs.engine.Clauses.Shapes.{AreJoined, clauses_of, all_of};
+
+use crate::clauses::Clauses;
+use crate::engine::root::Root;
+use crate::store::Store;
+use crate::store::opened::open_under;
+use crate::store::stored_form::is_below;
+use crate::store::units::{has_unit, is_backed};
+use crate::walk::literal_of;
+
+impl Root {
+    // Whether the literals follow without the form of a slot. A clause with two literals that are not falsified has forced
+    // none. One with a single such literal may have forced it, and a unit of the literal does the same. So does one for
+    // each true literal of another form.
+    fn is_spare(&self, store: &Store, clauses: &Clauses, slot: usize) -> bool
+        requires slot { slot < length store.now.stored.items }
+        requires sound { IsSound store.now }
+        requires joined { AreJoined (shapes_of store.now.stored.items) (clauses_of clauses.now) }
+        requires ready { AreReady clauses.now }
+        requires known { length clauses.now.literals.items ≡ length store.now.stored.items }
+        requires widths { length clauses.now.lists.items ≡ 4 * store.now.variables }
+        requires values { length self.now.run.assignment.values.items ≡ store.now.variables }
+        ensures { result ≡ true →
+            IsReplaced (all_of store.now clauses.now) slot (list_of self.now.run) }
+    {
+        if !clauses.is_filled(slot) {
+            let values = self.run.assignment.values.as_slice();
+            return is_backed(store, self.units.as_slice(), slot, values);
+        }
+        let Some(code) = clauses.free_literal(&self.run.assignment, slot) else {
+            return false;
+        };
+        if clauses.has_other(&self.run.assignment, slot, code) {
+            return true;
+        }
+        has_unit(store, self.units.as_slice(), slot, literal_of(code))
+    }
+
+    // Whether the form of a slot is falsified.
+    fn is_falsified(&self, store: &Store, clauses: &Clauses, slot: usize) -> bool
+        requires slot { slot < length store.now.stored.items }
+        requires sound { IsSound store.now }
+        requires ready { AreReady clauses.now }
+        requires known { length clauses.now.literals.items ≡ length store.now.stored.items }
+        requires widths { length clauses.now.lists.items ≡ 4 * store.now.variables }
+        requires values { length self.now.run.assignment.values.items ≡ store.now.variables }
+        ensures { result ≡ false → IsMet (all_of store.now clauses.now) slot (list_of self.now.run) }
+    {
+        if !clauses.is_filled(slot) {
+            let kept = &store.stored[slot];
+            let opened = open_under(&kept.terms, self.run.assignment.values.as_slice());
+            return is_below(opened, kept.degree);
+        }
+        match clauses.free_literal(&self.run.assignment, slot) {
+            Some(_) => false,
+            None => true,
+        }
+    }
+
+    // The form of a slot goes. A conflict stays if its literals follow without the form, which is not the falsified one.
+    fn lose_conflict(&mut self, store: &Store, clauses: &Clauses, slot: usize)
+        requires slot { slot < length store.now.stored.items }
+        requires sound { IsSound store.now }
+        requires joined { AreJoined (shapes_of store.now.stored.items) (clauses_of clauses.now) }
+        requires ready { AreReady clauses.now }
+        requires known { length clauses.now.literals.items ≡ length store.now.stored.items }
+        requires widths { length clauses.now.lists.items ≡ 4 * store.now.variables }
+        requires fallen { IsFallen (all_of store.now clauses.now) store.now.variables self.old }
+        ensures live { self.new.live ≡ false }
+        ensures kept { self.new.fallen ≡ true →
+            IsFallen (all_of store.now clauses.now) store.now.variables self.new }
+        ensures spare { self.new.fallen ≡ true →
+            IsReplaced (all_of store.now clauses.now) slot (list_of self.new.run) }
+        ensures met { self.new.fallen ≡ true →
+            IsMet (all_of store.now clauses.now) slot (list_of self.new.run) }
+    {
+        if !self.is_spare(store, clauses, slot) {
+            self.end();
+            return;
+        }
+        if self.is_falsified(store, clauses, slot) {
+            self.end();
+        }
+    }
+
+    /// The form of a slot goes. The root stays if its literals follow without the form, and ends otherwise.
+    pub fn lose(&mut self, store: &Store, clauses: &Clauses, slot: usize)
+        requires slot { slot < length store.now.stored.items }
+        requires sound { IsSound store.now }
+        requires joined { AreJoined (shapes_of store.now.stored.items) (clauses_of clauses.now) }
+        requires ready { AreReady clauses.now }
+        requires known { length clauses.now.literals.items ≡ length store.now.stored.items }
+        requires widths { length clauses.now.lists.items ≡ 4 * store.now.variables }
+        requires rooted { self.old.live ≡ true → IsRootOf store.now clauses.now self.old }
+        requires fallen { self.old.fallen ≡ true →
+            IsFallen (all_of store.now clauses.now) store.now.variables self.old }
+        ensures lost { self.new.live ≡ true → (self.old.live ≡ true) ×
+            HasLost self.old.run self.new.run self.old.rests self.new.rests slot }
+        ensures waiting { self.new.live ≡ true →
+            IsWithout slot self.old.waiting.list.items self.new.waiting.list.items }
+        ensures seats { self.new.live ≡ true →
+            length self.new.waiting.seats.items ≡ length self.old.waiting.seats.items }
+        ensures spare { self.new.live ≡ true →
+            IsReplaced (all_of store.now clauses.now) slot (list_of self.old.run) }
+        ensures fallen { self.new.fallen ≡ true →
+            IsFallen (all_of store.now clauses.now) store.now.variables self.new ×
+            IsReplaced (all_of store.now clauses.now) slot (list_of self.new.run) ×
+            IsMet (all_of store.now clauses.now) slot (list_of self.new.run) }
+    {
+        if self.fallen {
+            self.lose_conflict(store, clauses, slot);
+            return;
+        }
+        if !self.live {
+            return;
+        }
+        if !self.is_spare(store, clauses, slot) {
+            self.end();
+            return;
+        }
+        self.run.opens[slot] = 0;
+        self.run.candidates[slot] = 0;
+        self.rests.opens[slot] = 0;
+        self.rests.starts[slot] = 0;
+        self.waiting.remove(slot);
+    }
+}
