@@ -131,12 +131,7 @@ impl Clauses {
     }
 
     /// Stores a clause in an empty slot. Two of its literals are watched.
-    pub fn fill(
-        &mut self,
-        slot: usize,
-        literals: Vec<u32>,
-        pair: Pair,
-    ) -> Result<(), AllocError>
+    pub fn fill(&mut self, slot: usize, literals: Vec<u32>, pair: Pair) -> Result<(), AllocError>
         requires rest { AreReady self.old }
         requires slot { slot < length self.old.literals.items }
         requires empty { list_at (lists_of self.old.literals.items) slot ≡ [] }
