@@ -124,10 +124,34 @@ def news(count):
     return chained, rups(clause(links[-1], new) for new in names("n", count))
 
 
+def heavy(count):
+    """The same as `reasons`, with links of coefficient 2, which are no clauses."""
+    links, ends = names("x", count), names("a", count)
+    chained = [clause(links[0])] + [f"+2 ~{one} +2 {other} >= 2 ;\n" for one, other in zip(links, links[1:])]
+    steps = [f"rup {clause(link)}del id {i}\nrup {clause(end)}" for i, (link, end) in enumerate(zip(links[1:], ends), 2)]
+    return chained + implied(links, ends), steps
+
+
+def late(count):
+    """A chain from a unit, and steps with its first literal negated, each of which needs the end of the chain."""
+    links, ends, others = names("x", count), names("a", count), names("b", count)
+    chained = [clause(links[0])] + [clause(f"~{one}", other) for one, other in zip(links, links[1:])]
+    needs = [clause(f"~{links[-1]}", end, other) for end, other in zip(ends, others)]
+    return chained + needs, rups(clause(f"~{links[0]}", end, other) for end, other in zip(ends, others))
+
+
+def fallen(count):
+    """A chain from a unit, whose end is a unit that is negated, and as many steps."""
+    links = names("x", count)
+    chained = [clause(links[0])] + [clause(f"~{one}", other) for one, other in zip(links, links[1:])]
+    return chained + [clause(f"~{links[-1]}")], rups(clause(end) for end in names("a", count))
+
+
 # The families, each with its smallest size.
 FAMILIES = {
     facts: 2_500, chain: 2_500, again: 4_000, satisfied: 20_000, copies: 10_000, sums: 8_000, weakened: 10_000, axioms: 10_000,
     divided: 5_000, multiplied: 5_000, deleted: 10_000, dropped: 2_500, reasons: 2_500, pairs: 2_500, news: 2_500,
+    heavy: 2_500, late: 2_500, fallen: 2_500,
 }
 
 
