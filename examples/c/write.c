@@ -37,6 +37,15 @@ static void copy(pb_instance_t *instance, struct arrays *a)
     pb_instance_names(instance, a->bytes, bytes, a->starts, names);
 }
 
+static void drop(struct arrays *a)
+{
+    void *all[] = {a->numbers, a->lows, a->highs, a->negated, a->kinds, a->ends, a->degree_lows, a->degree_highs, a->bytes, a->starts, a->codes,
+        a->token_names, a->token_lows, a->token_highs};
+    size_t k;
+    for (k = 0; k < sizeof all / sizeof *all; k++)
+        free(all[k]);
+}
+
 /* Prints the line of the first tokens. If the room is too small, it is made larger. */
 static uint8_t print(const struct arrays *a, uint32_t kind, size_t count)
 {
@@ -127,6 +136,7 @@ int main(int count, char **words)
     if (status == PB_OK) {
         copy(&instance, &arrays);
         status = write_all(&arrays);
+        drop(&arrays);
     }
     pb_instance_close(&instance);
     free(text);
