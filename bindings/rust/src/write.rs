@@ -7,7 +7,7 @@ use std::fmt;
 
 /// The names of tokens: the one that was pushed first has the number 0.
 ///
-/// ```
+/// ```no_run
 /// let names: pb::NameTable = ["x1", "x2"].into_iter().collect();
 /// # let _ = names;
 /// ```

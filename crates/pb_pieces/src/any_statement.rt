@@ -1,6 +1,6 @@
 //! A statement of an instance or of a proof.
 
-ghost use Rattle.std.specs.Prelude.{◌≡◌, ◌≤◌, ◌↔◌, IsTrue};
+ghost use Rattle.std.specs.Prelude.{◌↔◌, IsTrue};
 ghost use Rattle.pb_text.specs.meaning.Blank.{IsInLine};
 ghost use Rattle.pb_text.specs.meaning.Limits.{largest, top_of};
 ghost use Rattle.pb_text.specs.meaning.Writing.{Writes};

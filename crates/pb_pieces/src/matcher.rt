@@ -1,6 +1,6 @@
 //! Compares tokens with those that a caller gives.
 
-ghost use Rattle.std.specs.Prelude.{◌≡◌, ◌<◌, ◌∷◌, ◌++◌, [], List, ℕ, IsTrue, IfSome, None, Some, OnOk, length, map, slice_get, true};
+ghost use Rattle.std.specs.Prelude.{◌≡◌, ◌<◌, [], List, IfSome, None, Some, length, map, slice_get, true};
 ghost use Rattle.pb_pieces.specs.GivenTokens.{token_in};
 ghost use Rattle.pb_pieces.specs.declared.given_token.GivenToken.{GivenToken as AGiven};
 ghost use Rattle.pb_pieces.specs.Matcher.{Compared};

@@ -1,6 +1,6 @@
 //! The tokens of the statements of an instance.
 
-ghost use Rattle.std.specs.Prelude.{◌≡◌, ◌∷◌, ◌++◌, [], List, ℕ, OnOk, map};
+ghost use Rattle.std.specs.Prelude.{◌≡◌, ◌∷◌, ◌++◌, [], List, OnOk, map};
 ghost use Rattle.pb_pieces.specs.Tokens.{Token};
 ghost use Rattle.pb_pieces.specs.OpbTokens.{kind_in, relation_kind, text_in, tokens_in, tokens_of_linear};
 

@@ -1,6 +1,6 @@
 //! The tokens of the statements of a proof.
 
-ghost use Rattle.std.specs.Prelude.{◌≡◌, ◌∷◌, ◌++◌, [], List, ℕ, OnOk, map};
+ghost use Rattle.std.specs.Prelude.{◌≡◌, ◌∷◌, ◌++◌, [], List, OnOk, map};
 ghost use Rattle.pb_pieces.specs.Tokens.{Token};
 ghost use Rattle.pb_pieces.specs.NamedTokens.{token_of_literal};
 ghost use Rattle.pb_pieces.specs.ProofTokens.{conclusion_kind, kind_in, token_of_bound, token_of_id, token_of_word, tokens_in, tokens_of_bounds, tokens_of_conclusion, tokens_of_id, tokens_of_solution};

@@ -1,6 +1,6 @@
 //! The tokens of a statement in the arrays of a caller.
 
-ghost use Rattle.std.specs.Prelude.{◌≡◌, ◌∷◌, ◌++◌, [], List, ℕ, IfOk, IfSome, None, Some, Option, length, map, slice_get, unwrap_or, ◌+◌, ◌<◌};
+ghost use Rattle.std.specs.Prelude.{◌≡◌, IfOk, IfSome, None, Some, Option, length, map, slice_get, unwrap_or, ◌+◌, ◌<◌};
 ghost use Rattle.std.specs.Option.{option_copied};
 ghost use Rattle.pb_pieces.specs.GivenTokens.{AreGiven, IsGivenAt, IsNumberOf, arrays_of, between, name_at, token_in};
 ghost use Rattle.pb_pieces.specs.Tokens.{token_code};

@@ -1,6 +1,6 @@
 //! What takes tokens, one after another.
 
-ghost use Rattle.std.specs.Prelude.{◌≡◌, ◌∷◌, ◌++◌, [], List, ℕ, OnOk, None, Some, map};
+ghost use Rattle.std.specs.Prelude.{◌≡◌, ◌∷◌, ◌++◌, [], List, OnOk, None, Some, map};
 ghost use Rattle.pb_pieces.specs.Tokens.{Token, token};
 ghost use Rattle.pb_pieces.specs.NamedTokens.{literal_kind, term_kind, token_of_literal, token_of_term};
 
@@ -10,7 +10,7 @@ use std::alloc::AllocError;
 
 /// What takes the tokens of a statement in order.
 pub trait TokenSink {
-    /// Since it was as the first, it took these tokens, and is as the other.
+    /// It was the first, and took these tokens since then.
     ghost took: { Self → List Token → Self → Type 0 };
 
     /// Takes a token without a name.

@@ -1,4 +1,4 @@
-use Rattle.std.proofs.Common.{rules, List, ℕ, subst}
+use Rattle.std.proofs.Common.{List, ℕ, subst}
 use Rattle.pb_c.specs.Buffer.{Puts}
 use Rattle.pb_c.proofs.write.pb_write_statement.Goals as goal
 
