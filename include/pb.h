@@ -4,7 +4,7 @@
 ** This file declares the functions of libpb.a. Three do for bytes in memory what the command of that name does for files:
 ** pb_check() what `pb check` does, pb_tidy() what `pb tidy` does, and pb_show() what `pb show` does. A pb_checker_t checks a
 ** proof in the pieces in which it is written, a pb_instance_t has an instance as arrays, and a pb_reader_t gives the statements
-** of a text one at a time. Each function is proved against its contract in crates/pb_c. The proof relies on the toolchain, and
+** of a text one at a time. pb_write_statement() writes a statement from arrays. Each function is proved against its contract in crates/pb_c. The proof relies on the toolchain, and
 ** on callers that keep the rules for pointers, rooms and memory below.
 */
 #ifndef PB_H
@@ -590,6 +590,48 @@ uint8_t pb_reader_bytes(pb_reader_t *reader,
 uint8_t pb_reader_name(pb_reader_t *reader, size_t number,
                        uint8_t *out, size_t out_room, size_t *out_len);
 void pb_reader_close(pb_reader_t *reader);
+
+/*
+** CAPI: Write A Statement
+**
+** pb_write_statement() writes the canonical text of one statement from arrays, as pb_show() prints it, into a room. No line feed
+** is added. The tokens are in the four arrays that pb_reader_tokens() copies, all of one length, and `kind` is that of the event.
+** `text` is the free text of a header or a comment, and empty for other kinds.
+**
+** The names that the tokens are numbered by are in the two arrays that pb_instance_names() copies: their bytes, one name after
+** another, and the offset at which each begins. The table may have more names than the statement, and a name more than once.
+**
+** Of the options only `bits` matters. The rules are tested in this order:
+**
+**     1. Each array of the tokens has the same length, the options are allowed, and the kind is one of PB_EVENT_ but
+**        PB_EVENT_NONE. Otherwise the result is PB_MISUSE.
+**     2. Each code is one of PB_TOKEN_. The number of a name is one of the table, and where a token has no name it is 0.
+**     3. Each name is one of the grammar. Each number is within the limits for its kind: an id is not 0, and a factor or a
+**        divisor is at least 1. Where a token has no number it is 0.
+**     4. The tokens are those of the kind, in order. `pol` has the words of one expression, and `del id` at least one id. The free
+**        text has no line feed, and in a header it is empty or begins with a blank.
+**
+** If one of the rules 2 to 4 is broken, the result is PB_REFUSED, and `wrong` is the index of the token. It is the number of tokens
+** if a token is missing, or if the free text is wrong. At any result but PB_OK nothing is written to the room, and its length is 0.
+** At any result but PB_REFUSED `wrong` is the number of tokens.
+**
+** A file has a line for each statement: write its text and then a line feed. The last line may do without one, except a header. This
+** call knows one statement, so the caller keeps the rules of the whole text: the order of statements, and the counts of the header.
+** pb_tidy() tests them. examples/c/write.c writes an instance from the arrays of a pb_instance_t.
+**
+** It is proved (crates/pb_c/src/write.rt) that with PB_OK the text is the canonical one of a statement within the limits. That
+** statement has this kind, exactly these tokens and this free text.
+*/
+uint8_t pb_write_statement(uint32_t kind,
+                           const uint8_t *codes, size_t codes_len,
+                           const uint64_t *names, size_t names_len,
+                           const uint64_t *lows, size_t lows_len,
+                           const int64_t *highs, size_t highs_len,
+                           const uint8_t *text, size_t text_len,
+                           const uint8_t *bytes, size_t bytes_len,
+                           const uint64_t *starts, size_t starts_len,
+                           const pb_options_t *options, size_t *wrong,
+                           uint8_t *out, size_t out_room, size_t *out_len);
 
 #ifdef __cplusplus
 }

@@ -657,6 +657,82 @@ inline std::string tidy(std::string_view text, bool normal = false) { return tid
 inline std::string show(std::string_view text) { return show(text, random_options()); }
 #endif
 
+// No statement was written. token() is the index of the token that breaks a rule, with PB_REFUSED. The number of tokens stands for one that is
+// missing, or for the free text.
+class WriteFault : public std::runtime_error {
+public:
+    WriteFault(std::uint8_t status, std::size_t token) : std::runtime_error(words_of(status, token)), status_(status), token_(token) {}
+
+    // PB_REFUSED, PB_MISUSE or PB_FAILED.
+    std::uint8_t status() const noexcept { return status_; }
+    std::size_t token() const noexcept { return token_; }
+
+private:
+    static std::string words_of(std::uint8_t status, std::size_t token)
+    {
+        if (status == PB_REFUSED)
+            return "token " + std::to_string(token) + ": no statement has it there";
+        return status == PB_MISUSE ? "options that are not allowed" : "out of memory";
+    }
+
+    std::uint8_t status_;
+    std::size_t token_;
+};
+
+// The names of tokens: the one that was added first has the number 0.
+class NameTable {
+public:
+    // Adds a name, and returns its number.
+    std::uint64_t add(std::string_view name)
+    {
+        starts_.back() = bytes_.size();
+        bytes_.append(name);
+        starts_.push_back(0);
+        return starts_.size() - 2;
+    }
+
+    std::string_view bytes() const noexcept { return bytes_; }
+    // Where each name begins.
+    const std::uint64_t *starts() const noexcept { return starts_.data(); }
+    std::size_t size() const noexcept { return starts_.size() - 1; }
+
+private:
+    std::string bytes_;
+    // one element more than there are names
+    std::vector<std::uint64_t> starts_ = std::vector<std::uint64_t>(1);
+};
+
+// The canonical text of a statement, without a line feed. `kind` is one of the PB_EVENT_ kinds of pb.h, and `text` the free text of a header or a
+// comment. Of the options only `bits` matters. Throws a WriteFault.
+inline std::string write_statement(std::uint32_t kind, const std::vector<Token> &tokens, std::string_view text, const NameTable &names,
+                                   const pb_options_t &options = pb_options_t PB_OPTIONS_FIXED)
+{
+    const std::size_t count = tokens.size();
+    auto codes = inner::room_for<std::uint8_t>(count);
+    auto numbers = inner::room_for<std::uint64_t>(count), lows = numbers;
+    auto highs = inner::room_for<std::int64_t>(count);
+    for (std::size_t at = 0; at < count; at++) {
+        codes[at] = tokens[at].code;
+        numbers[at] = tokens[at].name;
+        lows[at] = tokens[at].number.low;
+        highs[at] = tokens[at].number.high;
+    }
+    std::string line(text.size() + 32 * count + 64, '\0');
+    for (;;) {
+        std::size_t length = 0, wrong = 0;
+        const std::uint8_t status =
+            pb_write_statement(kind, codes.data(), count, numbers.data(), count, lows.data(), count, highs.data(), count, inner::bytes_of(text),
+                               text.size(), inner::bytes_of(names.bytes()), names.bytes().size(), names.starts(), names.size(), &options,
+                               &wrong, reinterpret_cast<std::uint8_t *>(&line[0]), line.size(), &length);
+        if (status != PB_OK)
+            throw WriteFault(status, wrong);
+        const bool fits = length <= line.size();
+        line.resize(length);
+        if (fits)
+            return line;
+    }
+}
+
 // Checks a proof of an instance, both in memory. Throws a Fault.
 inline Verdict check(std::string_view instance, std::string_view proof, const pb_options_t &options)
 {

@@ -344,6 +344,64 @@ class Statements(unittest.TestCase):
             self.assertEqual(it.exception.code, pb.MISUSE)
 
 
+class Writing(unittest.TestCase):
+    def test_the_statements_of_a_text_make_it_again(self):
+        for name in ("covering.opb", "optimum.opb", "consequence.pbp", "optimum.pbp", "solution.pbp"):
+            lines = [pb.write_statement(it.kind, it.tokens, it.text) for it in pb.statements(example(name))]
+            self.assertEqual(b"\n".join(lines), pb.tidy(example(name)).rstrip(b"\n"))
+
+    def test_a_constraint(self):
+        tokens = [
+            pb.Token(pb.TokenKind.TERM, 2**100, "x1"),
+            pb.Token(pb.TokenKind.NEGATED_TERM, -1, "x2"),
+            pb.Token(pb.TokenKind.TERM, 3, "x1"),
+            pb.Token(pb.TokenKind.EQUAL, -4, ""),
+        ]
+        found = pb.write_statement(pb.EventKind.CONSTRAINT, tokens)
+        self.assertEqual(found, b"+%d x1 -1 ~x2 +3 x1 = -4 ;" % 2**100)
+
+    def test_a_free_text(self):
+        counts = [pb.Token(pb.TokenKind.COUNT, it, "") for it in (3, 1)]
+        self.assertEqual(pb.write_statement(pb.EventKind.HEADER, counts, b" more"), b"* #variable= 3 #constraint= 1 more")
+        self.assertEqual(pb.write_statement(pb.EventKind.COMMENT, [], bytearray(b"\xff \0")), b"*\xff \0")
+
+    def test_a_long_name(self):
+        name = "n" * 5000
+        found = pb.write_statement(pb.EventKind.SOLI, [pb.Token(pb.TokenKind.NEGATED_LITERAL, 0, name)])
+        self.assertEqual(found, b"soli ~" + name.encode())
+
+    def test_what_no_statement_has(self):
+        term, degree = pb.Token(pb.TokenKind.TERM, 1, "x1"), pb.Token(pb.TokenKind.AT_LEAST, 1, "")
+        rows = (
+            ([term], b"", 1),
+            ([degree, term], b"", 0),
+            ([term, degree, degree], b"", 2),
+            ([term._replace(name="1"), degree], b"", 0),
+            ([term._replace(name="\ud800"), degree], b"", 0),
+            ([term, degree._replace(number=2**127 - 1)], b"", None),
+            ([term, degree._replace(number=-(2**127))], b"", 1),
+            ([term, degree], b"text", 2),
+        )
+        for tokens, text, index in rows:
+            try:
+                found = pb.write_statement(pb.EventKind.CONSTRAINT, tokens, text) and None
+            except pb.WriteFault as it:
+                self.assertEqual(it.code, pb.REFUSED)
+                found = it.token
+            self.assertEqual(found, index, tokens)
+        with self.assertRaises(OverflowError):
+            pb.write_statement(pb.EventKind.CONSTRAINT, [degree._replace(number=2**127)])
+
+    def test_options(self):
+        tokens = [pb.Token(pb.TokenKind.AT_LEAST, 2**31, "")]
+        with self.assertRaises(pb.WriteFault) as it:
+            pb.write_statement(pb.EventKind.CONSTRAINT, tokens, b"", pb.options(bits=31))
+        self.assertEqual((it.exception.code, it.exception.token), (pb.REFUSED, 0))
+        with self.assertRaises(pb.WriteFault) as it:
+            pb.write_statement(pb.EventKind.CONSTRAINT, tokens, b"", pb.options(bits=30))
+        self.assertEqual(it.exception.code, pb.MISUSE)
+
+
 class Arrays(unittest.TestCase):
     def test_an_instance(self):
         text = b"* #variable= 2 #constraint= 2\nmin: -2 x1 ;\n* between\n+1 x1 -%d ~x2 >= -1 ;\n+3 x2 = 3 ;\n" % (2**100)

@@ -152,6 +152,47 @@ static void tokens()
     reader.finish();
 }
 
+// The statements of a text, each written from its tokens, are the canonical text.
+static void written(const std::string &text, pb::Format format)
+{
+    pb::Reader reader(format);
+    std::string_view rest = text;
+    std::string lines, wanted = pb::tidy(text);
+    while (auto event = reader.next(rest)) {
+        pb::NameTable names;
+        for (std::string name; !(name = reader.name(names.size())).empty();)
+            names.add(name);
+        lines += (lines.empty() ? "" : "\n") + pb::write_statement(event->kind, event->tokens, event->text, names);
+    }
+    wanted.resize(wanted.find_last_not_of('\n') + 1);
+    tell(lines == wanted, "the lines of a text");
+}
+
+// The fault of a constraint with these tokens, or of options.
+static void unwritten()
+{
+    const std::vector<pb::Token> right = {{PB_TOKEN_TERM, 0, pb::Wide{1, 0}}, {PB_TOKEN_AT_LEAST, 0, pb::Wide{1, 0}}}, one = {right[0]};
+    const std::string long_name(5000, 'n');
+    pb::NameTable names, long_names;
+    tell(names.add("x1") == 0 && names.add("x2") == 1 && names.size() == 2, "the numbers of names");
+    tell(pb::write_statement(PB_EVENT_CONSTRAINT, right, "", names) == "+1 x1 >= 1 ;", "a constraint");
+    tell(pb::write_statement(PB_EVENT_OUTPUT, {}, "", pb::NameTable()) == "output NONE", "no tokens");
+    long_names.add(long_name);
+    tell(pb::write_statement(PB_EVENT_CONSTRAINT, right, "", long_names) == "+1 " + long_name + " >= 1 ;", "a long line");
+    try {
+        pb::write_statement(PB_EVENT_CONSTRAINT, one, "", names);
+        tell(false, "no fault of a missing relation");
+    } catch (const pb::WriteFault &it) {
+        tell(it.status() == PB_REFUSED && it.token() == 1, "the token that is missing");
+    }
+    try {
+        pb::write_statement(PB_EVENT_CONSTRAINT, right, "", names, pb_options_t{0, 0, 0, 30});
+        tell(false, "no fault of options");
+    } catch (const pb::WriteFault &it) {
+        tell(it.status() == PB_MISUSE, "the status of options");
+    }
+}
+
 int main(int count, char **words)
 {
     if (count != 3)
@@ -163,6 +204,9 @@ int main(int count, char **words)
     tokens();
     statements(instance, pb::Format::Instance);
     statements(proof, pb::Format::Proof);
+    written(instance, pb::Format::Instance);
+    written(proof, pb::Format::Proof);
+    unwritten();
     std::vector<std::thread> threads;
     for (int k = 0; k < 8; k++)
         threads.emplace_back(moved, instance, proof);

@@ -1,6 +1,6 @@
 """The verified checker pb, from Python: check(), tidy() and show() do for bytes what the commands of these names do for files.
 A Checker checks a proof in the pieces in which it is written. read_instance() has an instance as arrays, and statements() gives one
-statement at a time.
+statement at a time. write_statement() writes one.
 
 It needs the standard library and the shared library libpb.so. That is the file which the variable PB_LIBRARY names, or else libpb.so in
 the folder of this file, or else what the system finds under the name pb. `pip install` builds it, and for use in place
@@ -21,6 +21,7 @@ from ._instance import Constraint, Instance, NameList, Term, read_instance
 from ._library import Options, loaded, options
 from ._reader import EventKind, Format, Reader, Statement, Token, TokenKind, statements
 from ._texts import show, tidy
+from ._write import WriteFault, write_statement
 
 __all__ = [
     "FAILED",
@@ -45,6 +46,7 @@ __all__ = [
     "Token",
     "TokenKind",
     "Verdict",
+    "WriteFault",
     "check",
     "options",
     "read_instance",
@@ -52,6 +54,7 @@ __all__ = [
     "statements",
     "tidy",
     "version",
+    "write_statement",
 ]
 
 

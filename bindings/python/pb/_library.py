@@ -165,6 +165,7 @@ _CALLS = {
     "pb_reader_tokens": [_HANDLE, *_FOUR_ARRAYS],
     "pb_reader_bytes": [_HANDLE, *_ROOM],
     "pb_reader_name": [_HANDLE, _SIZE, *_ROOM],
+    "pb_write_statement": [ctypes.c_uint32, *_FOUR_ARRAYS, _BYTES, _SIZE, *[_ADDRESS, _SIZE] * 2, _OPTIONS, _LENGTH, *_ROOM],
 }
 _CLOSES = ("pb_checker_close", "pb_instance_close", "pb_reader_close")
 

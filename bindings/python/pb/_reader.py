@@ -62,7 +62,7 @@ class TokenKind(enum.IntEnum):
 
 
 _TOKEN_KINDS = {int(it): it for it in TokenKind}
-_NAMED = frozenset((TokenKind.TERM, TokenKind.NEGATED_TERM, TokenKind.LITERAL, TokenKind.NEGATED_LITERAL, TokenKind.WEAKEN))
+NAMED = frozenset((TokenKind.TERM, TokenKind.NEGATED_TERM, TokenKind.LITERAL, TokenKind.NEGATED_LITERAL, TokenKind.WEAKEN))
 
 
 class Token(NamedTuple):
@@ -130,7 +130,7 @@ class Reader(Owned):
         codes, names, lows, highs = self._firsts
         loaded().pb_reader_tokens(self._own(), codes, count, names, count, lows, count, highs, count)
         parts = zip(*(it[:count] for it in self._arrays))
-        return [Token(_TOKEN_KINDS[code], (high << 64) + low, self._names[name] if code in _NAMED else "") for code, name, low, high in parts]
+        return [Token(_TOKEN_KINDS[code], (high << 64) + low, self._names[name] if code in NAMED else "") for code, name, low, high in parts]
 
     def _text(self, size: int) -> bytes:
         """The free text of the last statement."""

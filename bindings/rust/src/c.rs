@@ -289,4 +289,26 @@ extern "C" {
         out_len: *mut usize,
     ) -> u8;
     pub fn pb_reader_close(reader: *mut Reader);
+    pub fn pb_write_statement(
+        kind: u32,
+        codes: *const u8,
+        codes_len: usize,
+        names: *const u64,
+        names_len: usize,
+        lows: *const u64,
+        lows_len: usize,
+        highs: *const i64,
+        highs_len: usize,
+        text: *const u8,
+        text_len: usize,
+        bytes: *const u8,
+        bytes_len: usize,
+        starts: *const u64,
+        starts_len: usize,
+        options: *const Options,
+        wrong: *mut usize,
+        out: *mut u8,
+        out_room: usize,
+        out_len: *mut usize,
+    ) -> u8;
 }

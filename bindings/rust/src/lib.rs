@@ -1,6 +1,6 @@
 //! The verified checker pb, from Rust: `check`, `tidy` and `show` do for bytes in memory what the commands of these names do for
 //! files. A [`Checker`] checks a proof in the pieces in which it is written, an [`Instance`] has an instance as values, and [`events`] gives
-//! one statement at a time. `include/pb.h` states the promises of each call, and which of them are proved.
+//! one statement at a time. [`write_statement`] writes one. `include/pb.h` states the promises of each call, and which of them are proved.
 //!
 //! ```no_run
 //! let (instance, proof) = (std::fs::read("p.opb")?, std::fs::read("p.pbp")?);
@@ -19,11 +19,13 @@ mod checker;
 mod fault;
 mod instance;
 mod reader;
+mod write;
 
 pub use checker::{Checker, Live, LiveTerm, State};
 pub use fault::{Fault, Input, Place, Reason};
 pub use instance::{Constraint, Instance, Relation, Term};
 pub use reader::{events, Event, EventKind, Events, Format, Reader, Token};
+pub use write::{write_statement, write_statement_with, NameTable, WriteFault};
 
 /// The version of the linked library as one number, 1002003 for 1.2.3.
 pub fn version() -> u32 {

@@ -61,6 +61,28 @@ impl EventKind {
             _ => return None,
         })
     }
+
+    pub(crate) fn number(self) -> u32 {
+        match self {
+            EventKind::Header => 1,
+            EventKind::Comment => 2,
+            EventKind::Objective => 3,
+            EventKind::Constraint => 4,
+            EventKind::Proof => 16,
+            EventKind::F => 17,
+            EventKind::Pol => 18,
+            EventKind::Rup => 19,
+            EventKind::Soli => 20,
+            EventKind::Solx => 21,
+            EventKind::Delete => 22,
+            EventKind::Output => 23,
+            EventKind::NoClaim => 24,
+            EventKind::Unsat => 25,
+            EventKind::Sat => 26,
+            EventKind::Bounds => 27,
+            EventKind::End => 28,
+        }
+    }
 }
 
 /// A part of a statement. A name is given by its number: `Reader::name` and `Events::name` have its text.
@@ -126,6 +148,30 @@ impl Token {
             14 => Token::Bound(number),
             15 => Token::Infinite,
             _ => Token::Solution,
+        }
+    }
+
+    /// Its code, the number of its name and its number, or 0 for what it does not have.
+    pub(crate) fn parts(self) -> (u8, usize, i128) {
+        match self {
+            Token::Term {
+                coefficient,
+                name,
+                negated,
+            } => (1 + u8::from(negated), name, coefficient),
+            Token::Literal { name, negated } => (3 + u8::from(negated), name, 0),
+            Token::AtLeast(degree) => (5, 0, degree),
+            Token::Equal(degree) => (6, 0, degree),
+            Token::Count(count) => (7, 0, count),
+            Token::Id(id) => (8, 0, id),
+            Token::Add => (9, 0, 0),
+            Token::Multiply(factor) => (10, 0, factor),
+            Token::Divide(divisor) => (11, 0, divisor),
+            Token::Saturate => (12, 0, 0),
+            Token::Weaken(name) => (13, name, 0),
+            Token::Bound(bound) => (14, 0, bound),
+            Token::Infinite => (15, 0, 0),
+            Token::Solution => (16, 0, 0),
         }
     }
 }

@@ -1,5 +1,5 @@
 -- What a call on a handle claims.
-use Rattle.std.proofs.Common.{◌≡◌, ℕ, List, Option, Some, arith}
+use Rattle.std.proofs.Common.{◌≡◌, Option, Some, arith}
 use Rattle.pb_text.specs.declared.place.Why.{Why}
 use Rattle.pb_text.specs.declared.place.Why.TheVariants as why
 use Rattle.pb_opb.specs.declared.Instance.{Instance}

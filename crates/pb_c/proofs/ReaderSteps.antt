@@ -1,16 +1,16 @@
 -- The machine values of a handle on a reader.
 use Rattle.std.proofs.Common.{◌≡◌, ℕ, List, [], ◌∷◌, ◌++◌, refl, subst}
-use mathlib.Core.Bool.{Bool, ◌&&◌, true}
+use mathlib.Core.Bool.{◌&&◌, true}
 use lib.Dec.{T, lit<}
 use seplogic.Ra.Ura.{Ura}
 use mir.Syntax.{impl, tnil, dnil}
 use mir.Raw.{raw as bare}
-use mir.Val.{Val, vptr, vstruct, of_list, has_ty, WT}
+use mir.Val.{Val, vstruct, of_list, has_ty, WT}
 use base.Logic.{SProp, ent, guard, guard_i, never_e, snd∗, via}
 use base.Fraction.{full_share}
 use base.Fml.{ftrue}
 use types.Logic.{Logic, sem}
-use types.Kit.{Item, Goal, Seq, Step, step, Soaks, ‵, given, ◌$◌, move, drop, fsplit, fjoin, fpick, fpack, feq_i, feq_l, use1, learn}
+use types.Kit.{Item, Goal, Seq, Step, step, ‵, given, ◌$◌, move, drop, fsplit, fjoin, fpick, fpack, feq_i, feq_l, use1, learn}
 use contract.Monad.{fact_use}
 use denote.RattleType.{RattleType, Valss}
 use denote.Builtin.{RawPtr}

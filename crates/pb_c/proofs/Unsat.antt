@@ -1,5 +1,5 @@
 -- What a line says holds for the instance.
-use Rattle.std.proofs.Common.{◌≡◌, ◌⊎◌, ◌∙◌, ◌^◌, ℕ, List, codes, length, Option, Some, Result, Ok, Err, sym, ap, subst, inl, inr, arith, length-append}
+use Rattle.std.proofs.Common.{◌≡◌, ◌∙◌, ◌^◌, ℕ, List, codes, length, Option, Some, Result, Ok, Err, sym, subst, inl, inr, arith, length-append}
 use Rattle.std.specs.Prelude.{unwrap_or}
 use Rattle.pb_text.specs.meaning.Writing.{Wrote}
 use Rattle.pb_text.specs.declared.Limits.{Limits}
@@ -19,7 +19,6 @@ use Rattle.pb_tool.specs.meaning.Verified.{CheckCall, Returns, verdict_line}
 use Rattle.pb_tool.specs.declared.fault.ToolFault.{ToolFault}
 use Rattle.pb_tool.specs.declared.fault.ToolFault.TheVariants.{Text, Open, Overflow, Memory, Write, Step}
 use Rattle.pb_c.specs.Answers.{AnswersCheck, Ends, empty, faults, written}
-use Rattle.pb_c.specs.Options.{IsAsked}
 use Rattle.pb_c.specs.Buffer.{Puts}
 use Rattle.pb_c.specs.Unsat.{ShowsTruth, ShowsUnsat}
 use Rattle.pb_c.specs.declared.options.Options.{Options}

@@ -1,5 +1,5 @@
 -- What a handle on flat arrays stands for, and what the calls return.
-use Rattle.std.specs.Prelude.{◌≡◌, ◌≢◌, ◌-◌, ◌^◌, ◌⊎◌, ℕ, ℤ, List, [], length, min, Option, Some, None, slice_get}
+use Rattle.std.specs.Prelude.{◌≡◌, ◌≢◌, ◌-◌, ◌^◌, ◌⊎◌, ℕ, ℤ, List, length, min, Option, Some, None, slice_get}
 use Rattle.pb_text.specs.meaning.Limits.{largest, top_of}
 use Rattle.pb_text.specs.declared.Stop.{Stop}
 use Rattle.pb_opb.specs.meaning.Instances.{IsInstance}
@@ -10,7 +10,6 @@ use Rattle.pb_pieces.specs.declared.instance.Flat.{Flat}
 use Rattle.pb_pieces.specs.declared.places.Places.{Places}
 use Rattle.pb_pieces.specs.declared.rows.Rows.{Rows}
 use Rattle.pb_pieces.specs.declared.terms.Terms.{Terms}
-use Rattle.pb_c.specs.Buffer.{Puts}
 use Rattle.pb_c.specs.Checker.{NameOf, Under}
 use Rattle.pb_c.specs.Options.{AreWrong}
 use Rattle.pb_c.specs.Report.{misused, of_instance, report_of_reason, report_of_stop, report_with, spent}

@@ -12,3 +12,4 @@ pub mod Step
 pub mod Unsat
 pub mod Event
 pub mod Reader
+pub mod Write

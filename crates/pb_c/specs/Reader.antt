@@ -11,7 +11,6 @@ use Rattle.pb_pieces.specs.declared.reader.Reader.{Reader}
 use Rattle.pb_pieces.specs.declared.reader.Reader.TheVariants.{Instance, Proof}
 use Rattle.pb_pieces.specs.declared.token_reader.Event.{Event}
 use Rattle.pb_pieces.specs.declared.tokens.Tokens.{Tokens}
-use Rattle.pb_c.specs.Buffer.{Puts}
 use Rattle.pb_c.specs.Checker.{NameOf, Under}
 use Rattle.pb_c.specs.Event.{event_of, no_event}
 use Rattle.pb_c.specs.Options.{AreWrong}

@@ -1,5 +1,5 @@
 -- Where and why a text is rejected, as numbers.
-use Rattle.std.specs.Prelude.{ℕ, ℤ, pos, Option, Some, None}
+use Rattle.std.specs.Prelude.{ℕ, ℤ, pos}
 use Rattle.pb_text.specs.declared.Place.{Place}
 use Rattle.pb_text.specs.declared.Stop.{Stop}
 use Rattle.pb_text.specs.declared.place.Why.{Why}

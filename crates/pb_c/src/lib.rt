@@ -17,6 +17,7 @@ mod reader_handle;
 mod report;
 mod room;
 mod step;
+mod write;
 
 ghost use Rattle.std.specs.Prelude.{◌≡◌, codes};
 ghost use Rattle.pb_c.specs.Answers.{AnswersCheck, AnswersShow, AnswersTidy};

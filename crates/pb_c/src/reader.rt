@@ -1,9 +1,10 @@
 //! A reader in pieces, for programs in C.
 
-ghost use Rattle.std.specs.Prelude.{◌≡◌, ℕ, List, None};
+ghost use Rattle.std.specs.Prelude.{◌≡◌, ◌≢◌, ℕ, List, None};
 ghost use Rattle.pb_text.specs.declared.Limits.{Limits as SomeLimits};
 ghost use Rattle.pb_pieces.specs.Given.{Given};
 ghost use Rattle.pb_pieces.specs.declared.reader.Format.{Format as AFormat};
+ghost use Rattle.pb_c.specs.Event.{no_event};
 ghost use Rattle.pb_c.specs.Reader.{AnswersName, AnswersText, AnswersTokens, Answers, AnswersFor, CopiesTokens, EndsFor, EndsWith, FeedsFor, FeedsWith, Opens, Uses, UsesOf, format_asked, input_of, report_of_reader};
 ghost use Rattle.pb_c.specs.declared.options.Options.{Options as SomeOptions};
 
@@ -28,7 +29,9 @@ pub extern "C" fn pb_reader_open(
     reader: &mut ReaderHandle,
     report: &mut Report,
 ) -> u8
-    ensures { Opens format options.now result reader.new report.new }
+    ensures opens { Opens format options.now result reader.new report.new }
+    // The report of a new reader has the position of the first byte.
+    ensures answers { result ≡ 0 → Answers reader.new result report.new }
 {
     drop(reader.take(alloc));
     let asked = match options.asked() {
@@ -104,6 +107,7 @@ pub extern "C" fn pb_reader_feed(
     // The status and the report are those of the first fault, if there is one.
     ensures answers { Answers reader.new result report.new }
     ensures used { UsesOf reader.old.value reader.new.value piece.now result used.new }
+    ensures unread { result ≢ 0 → event.new ≡ no_event }
 {
     let mut inner = match reader.take(alloc) {
         Some(inner) => inner,
@@ -131,6 +135,7 @@ fn feed_reader(
         → FeedsWith f limits longest fed events piece.now reader.old result used.new event.new reader.new }
     ensures answers { AnswersFor reader.new result report.new }
     ensures used { Uses reader.old reader.new piece.now result used.new }
+    ensures unread { result ≢ 0 → event.new ≡ no_event }
 {
     match reader.feed(piece) {
         Ok(taken) => {

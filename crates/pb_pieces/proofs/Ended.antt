@@ -1,5 +1,5 @@
 -- A session at its end, and at its beginning.
-use Rattle.std.proofs.Common.{◌≡◌, ◌∙◌, ℕ, List, [], ◌++◌, length, drop, true, Bor, Option, Some, None, Result, Ok, Err, refl, sym, ap, subst, inl, append-nil, arith}
+use Rattle.std.proofs.Common.{◌≡◌, ◌∙◌, ℕ, List, [], length, drop, true, Bor, Option, Some, None, Result, Ok, Err, refl, sym, ap, subst, inl, append-nil, arith}
 use Rattle.std.proofs.Math.Seq.{drop-append_seam, drop-nil}
 use Rattle.std.specs.declared.alloc.Global.{Global}
 use Rattle.std.proofs.Common.{Vec}
@@ -32,7 +32,7 @@ use Rattle.pb_tool.specs.contract.Checks.{EndsAfter}
 use Rattle.pb_tool.specs.contract.Pieces.{CountsAt, fault_of, place_in}
 use Rattle.pb_tool.specs.contract.Runs.{Replays}
 use Rattle.pb_tool.specs.meaning.Decided.{AreVerified}
-use Rattle.pb_tool.specs.meaning.Files.{IsProofFile, IsProofText}
+use Rattle.pb_tool.specs.meaning.Files.{IsProofText}
 use Rattle.pb_tool.specs.meaning.Headline.{VerdictsAreTrue}
 use Rattle.pb_tool.specs.meaning.Tidy.{IsInstanceFile, IsInstanceText, IsNoInstanceFile}
 use Rattle.pb_tool.specs.meaning.Tidy.IsRefused.{InText, InRest}

@@ -1,7 +1,6 @@
 -- What a checker has accepted, and the first fault that a check finds in the same text.
-use Rattle.std.proofs.Common.{◌≡◌, ◌∙◌, ◌⊎◌, ℕ, List, [], ◌∷◌, ◌++◌, length, get_or, Bool, true, false, Option, Some, None, Result, Ok, Err, refl, sym, ap, subst, inl, inr}
+use Rattle.std.proofs.Common.{◌≡◌, ◌∙◌, ℕ, List, [], ◌∷◌, ◌++◌, length, get_or, Bool, false, Option, Some, None, Result, Ok, refl, sym, ap, subst, inl, inr}
 use Rattle.std.proofs.lemmas.List.{append_cancel_left}
-use Rattle.pb_text.specs.meaning.Limits.{largest, top_of}
 use Rattle.pb_text.specs.meaning.Reading.{Answers, Reads}
 use Rattle.pb_text.specs.meaning.Spelling.{place_after}
 use Rattle.pb_text.specs.meaning.Stopping.{IsAsking}

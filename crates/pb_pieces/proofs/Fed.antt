@@ -1,8 +1,7 @@
 -- What a session was fed, with one more piece.
-use Rattle.std.proofs.Common.{◌≡◌, ◌≢◌, ◌∙◌, ℕ, ◌+◌, ◌-◌, ◌^◌, ◌<◌, ◌≤◌, min, List, [], ◌∷◌, ◌++◌, length, drop, take, Bool, cond, true, false, Option, Some, None, Result, Ok, refl, sym, ap, subst, inl, inr, arith, add-zero, append_assoc, append-nil, length-append, Vec}
+use Rattle.std.proofs.Common.{◌≡◌, ◌≢◌, ◌∙◌, ℕ, ◌+◌, ◌-◌, ◌^◌, ◌<◌, ◌≤◌, min, List, [], ◌∷◌, ◌++◌, length, drop, take, Bool, cond, true, false, Option, Some, None, Result, Ok, refl, sym, ap, subst, inl, inr, arith, add-zero, append_assoc, append-nil, length-append}
 use Rattle.std.proofs.Math.Seq.{drop-append-add, drop-length}
 use Rattle.std.proofs.lemmas.List.{drop-append-le, drop-take}
-use Rattle.std.specs.declared.alloc.Global.{Global}
 use Rattle.pb_text.specs.meaning.Limits.{largest, top_of}
 use Rattle.pb_text.specs.meaning.Reading.{Answers, Reads}
 use Rattle.pb_text.specs.meaning.Spelling.{Item}
@@ -24,7 +23,7 @@ use Rattle.pb_tool.specs.meaning.Files.{IsProofText}
 use Rattle.pb_tool.specs.declared.commands.check.checker.CheckFault.{CheckFault}
 use Rattle.pb_tool.specs.declared.commands.check.checker.CheckFault.TheVariants as check
 use Rattle.pb_tool.specs.declared.commands.check.checker.Went.{Went}
-use Rattle.pb_tool.proofs.lemmas.check.CheckerSteps.{reported, running_at}
+use Rattle.pb_tool.proofs.lemmas.check.CheckerSteps.{reported}
 use Rattle.pb_tool.proofs.lemmas.check.OneRead.{one_spelt}
 use Rattle.pb_pieces.proofs.Faults.{AcceptedBy, refused_here, so_far}
 use Rattle.pb_pieces.specs.Session.{IsRejected, IsRunning, IsSession, Stands}

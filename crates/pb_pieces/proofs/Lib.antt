@@ -1,3 +1,4 @@
+mod Compared
 mod Ended
 mod Faults
 mod Fed

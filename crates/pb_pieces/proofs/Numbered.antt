@@ -5,7 +5,7 @@ use Rattle.std.proofs.lemmas.Grind.{flat_map-append}
 use Rattle.std.proofs.lemmas.List.{map_push}
 use Rattle.pb_normal.specs.meaning.Names.{HasNames, has_name, number_in, with_name, with_names}
 use Rattle.pb_normal.proofs.lemmas.names.Numbering.{HasNames-push, number_in-append, with_names-push}
-use Rattle.pb_pieces.specs.NamedTokens.{AreTokens, name_in, names_of, number_of}
+use Rattle.pb_pieces.specs.NamedTokens.{Adds, AreTokens, name_in, names_of, number_of}
 use Rattle.pb_pieces.specs.Tokens.{HoldTokens, Token}
 use Rattle.pb_pieces.specs.declared.named_tokens.NamedTokens.{NamedTokens}
 
@@ -75,3 +75,7 @@ none_after seen tokens old new h is holds =
       named = tt;
       arrays = holds;
     }
+
+-- at the start nothing was added
+pub nothing_added : (start : NamedTokens) → Adds start [] start
+nothing_added start seen first h = subst (λ (ts : List Token). AreTokens seen ts start) (sym (append-nil first)) h

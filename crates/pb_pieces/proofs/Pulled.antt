@@ -1,19 +1,14 @@
 -- An instance that is pulled from a source, into flat arrays.
-use Rattle.std.proofs.Common.{◌≡◌, ◌∙◌, ℕ, ◌+◌, ◌-◌, ◌^◌, ◌<◌, ◌≤◌, List, [], ◌++◌, length, Bool, true, false, Option, Some, None, Result, Ok, Err, refl, ap, arith, length-append}
+use Rattle.std.proofs.Common.{ℕ, List, [], ◌++◌, Bool, true, false, Option, Some, None, Result, Ok, Err}
 use Rattle.std.specs.Prelude.{IfErr, IfOk}
-use Rattle.pb_text.specs.contract.Feeding.{StandsAt, place_of, halt_of}
 use Rattle.pb_text.specs.meaning.Blank.{ReadsBlank}
-use Rattle.pb_text.specs.meaning.Pulling.{Took}
-use Rattle.pb_text.specs.meaning.PullsInARow.{HasPulled, TookAll}
-use Rattle.pb_text.specs.meaning.Reading.{Reads, byte_limit}
-use Rattle.pb_text.specs.meaning.Spelling.{Item, place_after}
+use Rattle.pb_text.specs.meaning.PullsInARow.{TookAll}
+use Rattle.pb_text.specs.meaning.Reading.{Reads}
+use Rattle.pb_text.specs.meaning.Spelling.{Item}
 use Rattle.pb_text.specs.declared.Place.{Place}
 use Rattle.pb_text.specs.declared.Spanned.{Spanned}
 use Rattle.pb_text.specs.declared.Stop.{Stop}
-use Rattle.pb_text.specs.declared.Feeder.{Feeder}
-use Rattle.pb_text.specs.declared.Machine.{Ghosts}
 use Rattle.pb_text.proofs.lemmas.source.PullsInARow.{took_join}
-use Rattle.pb_text.proofs.lemmas.text.Short.{place_after-offset}
 use Rattle.pb_opb.specs.declared.OpbEvent.{OpbEvent}
 use Rattle.pb_tool.proofs.lemmas.show.ShownStatements.{rest_within}
 use Rattle.pb_pieces.specs.Instance.{IsFlatOf}

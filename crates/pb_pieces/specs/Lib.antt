@@ -13,3 +13,7 @@ pub mod ProofTokens
 pub mod TokenReader
 pub mod Given
 pub mod Reader
+pub mod GivenTokens
+pub mod Matcher
+pub mod AnyStatement
+pub mod Made

@@ -42,3 +42,7 @@ pub record AreTokens (seen : List (List ℕ)) (tokens : List Token) (n : NamedTo
   pub names_are : n.names ≡ with_names [] (seen ++ names_of tokens)
   pub named : HasNames n.names (names_of tokens)
   pub arrays : HoldTokens tokens (map (λ t. number_of n.names t.name) tokens) n.tokens
+
+-- The tokens were added: whatever tokens the arrays had at the start, they have these after them now.
+abbrev pub Adds : NamedTokens → List Token → NamedTokens → Type 0
+Adds start tokens now = (seen : List (List ℕ)) (first : List Token) → AreTokens seen first start → AreTokens seen (first ++ tokens) now

@@ -1,11 +1,10 @@
 //! The tokens of the statements of an instance.
 
-ghost use Rattle.std.specs.Prelude.{◌≡◌, ◌∷◌, ◌++◌, [], List, ℕ, OnOk, map};
+ghost use Rattle.std.specs.Prelude.{◌≡◌, ◌∷◌, ◌++◌, [], List, OnOk, map};
 ghost use Rattle.pb_pieces.specs.Tokens.{Token};
-ghost use Rattle.pb_pieces.specs.NamedTokens.{AreTokens};
 ghost use Rattle.pb_pieces.specs.OpbTokens.{kind_in, relation_kind, text_in, tokens_in, tokens_of_linear};
 
-use crate::named_tokens::NamedTokens;
+use crate::token_sink::{TokenSink, put_terms};
 use crate::tokenized::{EventKind, Tokenized};
 use crate::tokens::TokenKind;
 use pb_opb::OpbEvent;
@@ -28,18 +27,18 @@ impl Tokenized for OpbEvent {
         }
     }
 
-    fn put_tokens(&self, into: &mut NamedTokens) -> Result<(), AllocError> {
+    fn put_tokens<T: TokenSink>(&self, into: &mut T) -> Result<(), AllocError> {
         match self {
             OpbEvent::Header {
                 variables,
                 constraints,
                 ..
             } => {
-                into.push(TokenKind::Count, *variables as i128)?;
-                into.push(TokenKind::Count, *constraints as i128)
+                into.put(TokenKind::Count, *variables as i128)?;
+                into.put(TokenKind::Count, *constraints as i128)
             }
             OpbEvent::Comment(_) => Ok(()),
-            OpbEvent::Objective(terms) => into.extend_terms(terms.as_slice()),
+            OpbEvent::Objective(terms) => put_terms(terms.as_slice(), into),
             OpbEvent::Constraint(linear) => put_linear(linear, into),
         }
     }
@@ -53,13 +52,13 @@ impl Tokenized for OpbEvent {
     }
 }
 
-/// Adds the terms of a constraint, and then its relation with its degree.
-pub(crate) fn put_linear(linear: &Linear, into: &mut NamedTokens) -> Result<(), AllocError>
-    ensures { (seen : List (List ℕ)) (before : List Token) → AreTokens seen before into.old
-        → OnOk result (AreTokens seen (before ++ tokens_of_linear linear.now) into.new) }
+/// Puts the terms of a constraint, and then its relation with its degree.
+pub(crate) fn put_linear<T: TokenSink>(linear: &Linear, into: &mut T) -> Result<(), AllocError>
+    ensures { (start : T) (before : List Token) → T.took start before into.old
+        → OnOk result (T.took start (before ++ tokens_of_linear linear.now) into.new) }
 {
-    into.extend_terms(linear.terms.as_slice())?;
-    into.push(relation_kind(linear.relation), linear.degree)
+    put_terms(linear.terms.as_slice(), into)?;
+    into.put(relation_kind(linear.relation), linear.degree)
 }
 
 fn relation_kind(relation: Relation) -> TokenKind

@@ -1,12 +1,12 @@
 //! The tokens of the statements of a proof.
 
-ghost use Rattle.std.specs.Prelude.{◌≡◌, ◌∷◌, ◌++◌, [], List, ℕ, OnOk, map};
+ghost use Rattle.std.specs.Prelude.{◌≡◌, ◌∷◌, ◌++◌, [], List, OnOk, map};
 ghost use Rattle.pb_pieces.specs.Tokens.{Token};
-ghost use Rattle.pb_pieces.specs.NamedTokens.{AreTokens, token_of_literal};
+ghost use Rattle.pb_pieces.specs.NamedTokens.{token_of_literal};
 ghost use Rattle.pb_pieces.specs.ProofTokens.{conclusion_kind, kind_in, token_of_bound, token_of_id, token_of_word, tokens_in, tokens_of_bounds, tokens_of_conclusion, tokens_of_id, tokens_of_solution};
 
-use crate::named_tokens::NamedTokens;
 use crate::opb_tokens::put_linear;
+use crate::token_sink::{TokenSink, put_literal, put_literals};
 use crate::tokenized::{EventKind, Tokenized};
 use crate::tokens::TokenKind;
 use pb_proof::{Bound, Conclusion, PolWord, Statement};
@@ -36,14 +36,14 @@ impl Tokenized for Statement {
         }
     }
 
-    fn put_tokens(&self, into: &mut NamedTokens) -> Result<(), AllocError> {
+    fn put_tokens<T: TokenSink>(&self, into: &mut T) -> Result<(), AllocError> {
         match self {
             Statement::Header | Statement::F(None) | Statement::Output | Statement::End => Ok(()),
-            Statement::F(Some(count)) => into.push(TokenKind::Count, *count as i128),
+            Statement::F(Some(count)) => into.put(TokenKind::Count, *count as i128),
             Statement::Pol(words) => put_words(words.as_slice(), into),
             Statement::Rup(linear) => put_linear(linear, into),
             Statement::Soli(literals) | Statement::Solx(literals) => {
-                into.extend_literals(literals.as_slice())
+                put_literals(literals.as_slice(), into)
             }
             Statement::Delete(ids) => put_ids(ids.as_slice(), into),
             Statement::Conclude(conclusion) => put_conclusion(conclusion, into),
@@ -56,10 +56,10 @@ impl Tokenized for Statement {
     }
 }
 
-/// Adds the words of a postfix expression.
-fn put_words(words: &[PolWord], into: &mut NamedTokens) -> Result<(), AllocError>
-    ensures { (seen : List (List ℕ)) (before : List Token) → AreTokens seen before into.old
-        → OnOk result (AreTokens seen (before ++ map token_of_word words.now) into.new) }
+/// Puts the words of a postfix expression.
+fn put_words<T: TokenSink>(words: &[PolWord], into: &mut T) -> Result<(), AllocError>
+    ensures { (start : T) (before : List Token) → T.took start before into.old
+        → OnOk result (T.took start (before ++ map token_of_word words.now) into.new) }
 {
     for word in words {
         put_word(word, into)?;
@@ -67,25 +67,25 @@ fn put_words(words: &[PolWord], into: &mut NamedTokens) -> Result<(), AllocError
     Ok(())
 }
 
-fn put_word(word: &PolWord, into: &mut NamedTokens) -> Result<(), AllocError>
-    ensures { (seen : List (List ℕ)) (before : List Token) → AreTokens seen before into.old
-        → OnOk result (AreTokens seen (before ++ token_of_word word.now ∷ []) into.new) }
+fn put_word<T: TokenSink>(word: &PolWord, into: &mut T) -> Result<(), AllocError>
+    ensures { (start : T) (before : List Token) → T.took start before into.old
+        → OnOk result (T.took start (before ++ token_of_word word.now ∷ []) into.new) }
 {
     match word {
         PolWord::Id(id) => push_id(*id, into),
-        PolWord::Axiom(literal) => into.push_literal(literal),
-        PolWord::Add => into.push(TokenKind::Add, 0),
-        PolWord::Multiply(factor) => into.push(TokenKind::Multiply, *factor),
-        PolWord::Divide(divisor) => into.push(TokenKind::Divide, *divisor),
-        PolWord::Saturate => into.push(TokenKind::Saturate, 0),
-        PolWord::Weaken(name) => into.push_named(TokenKind::Weaken, 0, name.as_str()),
+        PolWord::Axiom(literal) => put_literal(literal, into),
+        PolWord::Add => into.put(TokenKind::Add, 0),
+        PolWord::Multiply(factor) => into.put(TokenKind::Multiply, *factor),
+        PolWord::Divide(divisor) => into.put(TokenKind::Divide, *divisor),
+        PolWord::Saturate => into.put(TokenKind::Saturate, 0),
+        PolWord::Weaken(name) => into.put_named(TokenKind::Weaken, 0, name.as_str()),
     }
 }
 
-/// Adds ids.
-fn put_ids(ids: &[i64], into: &mut NamedTokens) -> Result<(), AllocError>
-    ensures { (seen : List (List ℕ)) (before : List Token) → AreTokens seen before into.old
-        → OnOk result (AreTokens seen (before ++ map token_of_id ids.now) into.new) }
+/// Puts ids.
+fn put_ids<T: TokenSink>(ids: &[i64], into: &mut T) -> Result<(), AllocError>
+    ensures { (start : T) (before : List Token) → T.took start before into.old
+        → OnOk result (T.took start (before ++ map token_of_id ids.now) into.new) }
 {
     for id in ids {
         push_id(*id, into)?;
@@ -93,11 +93,11 @@ fn put_ids(ids: &[i64], into: &mut NamedTokens) -> Result<(), AllocError>
     Ok(())
 }
 
-fn push_id(id: i64, into: &mut NamedTokens) -> Result<(), AllocError>
-    ensures { (seen : List (List ℕ)) (before : List Token) → AreTokens seen before into.old
-        → OnOk result (AreTokens seen (before ++ token_of_id id ∷ []) into.new) }
+fn push_id<T: TokenSink>(id: i64, into: &mut T) -> Result<(), AllocError>
+    ensures { (start : T) (before : List Token) → T.took start before into.old
+        → OnOk result (T.took start (before ++ token_of_id id ∷ []) into.new) }
 {
-    into.push(TokenKind::Id, id as i128)
+    into.put(TokenKind::Id, id as i128)
 }
 
 fn conclusion_kind(conclusion: &Conclusion) -> EventKind
@@ -111,10 +111,10 @@ fn conclusion_kind(conclusion: &Conclusion) -> EventKind
     }
 }
 
-/// Adds what a conclusion claims.
-fn put_conclusion(conclusion: &Conclusion, into: &mut NamedTokens) -> Result<(), AllocError>
-    ensures { (seen : List (List ℕ)) (before : List Token) → AreTokens seen before into.old
-        → OnOk result (AreTokens seen (before ++ tokens_of_conclusion conclusion.now) into.new) }
+/// Puts what a conclusion claims.
+fn put_conclusion<T: TokenSink>(conclusion: &Conclusion, into: &mut T) -> Result<(), AllocError>
+    ensures { (start : T) (before : List Token) → T.took start before into.old
+        → OnOk result (T.took start (before ++ tokens_of_conclusion conclusion.now) into.new) }
 {
     match conclusion {
         Conclusion::NoClaim => Ok(()),
@@ -132,25 +132,25 @@ fn put_conclusion(conclusion: &Conclusion, into: &mut NamedTokens) -> Result<(),
     }
 }
 
-/// Adds two bounds, with an id between them if there is one.
-fn put_bounds(
+/// Puts two bounds, with an id between them if there is one.
+fn put_bounds<T: TokenSink>(
     lower: Bound,
     id: Option<i64>,
     upper: Bound,
-    into: &mut NamedTokens,
+    into: &mut T,
 ) -> Result<(), AllocError>
-    ensures { (seen : List (List ℕ)) (before : List Token) → AreTokens seen before into.old
-        → OnOk result (AreTokens seen (before ++ tokens_of_bounds lower id upper) into.new) }
+    ensures { (start : T) (before : List Token) → T.took start before into.old
+        → OnOk result (T.took start (before ++ tokens_of_bounds lower id upper) into.new) }
 {
     put_bound(lower, into)?;
     put_id(id, into)?;
     put_bound(upper, into)
 }
 
-/// Adds an id, if there is one.
-fn put_id(id: Option<i64>, into: &mut NamedTokens) -> Result<(), AllocError>
-    ensures { (seen : List (List ℕ)) (before : List Token) → AreTokens seen before into.old
-        → OnOk result (AreTokens seen (before ++ tokens_of_id id) into.new) }
+/// Puts an id, if there is one.
+fn put_id<T: TokenSink>(id: Option<i64>, into: &mut T) -> Result<(), AllocError>
+    ensures { (start : T) (before : List Token) → T.took start before into.old
+        → OnOk result (T.took start (before ++ tokens_of_id id) into.new) }
 {
     match id {
         Some(id) => push_id(id, into),
@@ -158,25 +158,28 @@ fn put_id(id: Option<i64>, into: &mut NamedTokens) -> Result<(), AllocError>
     }
 }
 
-fn put_bound(bound: Bound, into: &mut NamedTokens) -> Result<(), AllocError>
-    ensures { (seen : List (List ℕ)) (before : List Token) → AreTokens seen before into.old
-        → OnOk result (AreTokens seen (before ++ token_of_bound bound ∷ []) into.new) }
+fn put_bound<T: TokenSink>(bound: Bound, into: &mut T) -> Result<(), AllocError>
+    ensures { (start : T) (before : List Token) → T.took start before into.old
+        → OnOk result (T.took start (before ++ token_of_bound bound ∷ []) into.new) }
 {
     match bound {
-        Bound::Finite(value) => into.push(TokenKind::Bound, value),
-        Bound::Infinite => into.push(TokenKind::Infinite, 0),
+        Bound::Finite(value) => into.put(TokenKind::Bound, value),
+        Bound::Infinite => into.put(TokenKind::Infinite, 0),
     }
 }
 
-/// Adds the literals of a solution after a token for them, if they are given.
-fn put_solution(shown: &Option<Sequence<Literal>>, into: &mut NamedTokens) -> Result<(), AllocError>
-    ensures { (seen : List (List ℕ)) (before : List Token) → AreTokens seen before into.old
-        → OnOk result (AreTokens seen (before ++ tokens_of_solution shown.now) into.new) }
+/// Puts the literals of a solution after a token for them, if they are given.
+fn put_solution<T: TokenSink>(
+    shown: &Option<Sequence<Literal>>,
+    into: &mut T,
+) -> Result<(), AllocError>
+    ensures { (start : T) (before : List Token) → T.took start before into.old
+        → OnOk result (T.took start (before ++ tokens_of_solution shown.now) into.new) }
 {
     match shown {
         Some(literals) => {
-            into.push(TokenKind::Solution, 0)?;
-            into.extend_literals(literals.as_slice())
+            into.put(TokenKind::Solution, 0)?;
+            put_literals(literals.as_slice(), into)
         }
         None => Ok(()),
     }

@@ -2,9 +2,8 @@
 
 ghost use Rattle.std.specs.Prelude.{◌≡◌, ◌++◌, List, ℕ, OnOk};
 ghost use Rattle.pb_pieces.specs.Tokens.{Token};
-ghost use Rattle.pb_pieces.specs.NamedTokens.{AreTokens};
 
-use crate::named_tokens::NamedTokens;
+use crate::token_sink::TokenSink;
 use std::alloc::AllocError;
 
 /// The kinds of statements, of instances first and then of proofs.
@@ -63,10 +62,10 @@ pub trait Tokenized {
     fn kind(&self) -> EventKind
         ensures { result ≡ sort self.now };
 
-    /// Adds its tokens.
-    fn put_tokens(&self, into: &mut NamedTokens) -> Result<(), AllocError>
-        ensures { (seen : List (List ℕ)) (before : List Token) → AreTokens seen before into.old
-            → OnOk result (AreTokens seen (before ++ tokens self.now) into.new) };
+    /// Puts its tokens.
+    fn put_tokens<T: TokenSink>(&self, into: &mut T) -> Result<(), AllocError>
+        ensures { (start : T) (before : List Token) → T.took start before into.old
+            → OnOk result (T.took start (before ++ tokens self.now) into.new) };
 
     /// Its free text.
     fn free_text(&self) -> &[u8]

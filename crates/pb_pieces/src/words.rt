@@ -19,3 +19,11 @@ pub fn split(value: i128) -> (u64, i64)
         ((magnitude % WORD) as u64, (magnitude / WORD) as i64)
     }
 }
+
+/// The number of two words, as `split` gives them.
+pub(crate) fn join(low: u64, high: i64) -> i128
+    ensures low { low_word result ≡ low }
+    ensures high { high_word result ≡ high }
+{
+    (high as i128) * (1 << 64) + low as i128
+}

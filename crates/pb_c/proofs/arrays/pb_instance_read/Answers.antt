@@ -1,11 +1,8 @@
-use Rattle.std.proofs.Common.{rules, ◌≡◌, ◌∙◌, ◌^◌, ℕ, List, Bor, Option, Some, None, Result, Ok, Err, ap, inl, inr, refl, subst, sym}
+use Rattle.std.proofs.Common.{rules, ◌≡◌, ◌^◌, ℕ, List, Option, Some, inl, inr, refl, subst}
 use Rattle.std.specs.Prelude.{unwrap_or}
-use Rattle.pb_text.specs.contract.Over.{reported}
-use Rattle.pb_text.specs.contract.OverState.{inner_of, shown_of}
 use Rattle.pb_text.specs.meaning.Limits.{largest, top_of}
 use Rattle.pb_text.specs.meaning.Spelling.{Item}
 use Rattle.pb_text.specs.declared.Stop.{Stop}
-use Rattle.pb_text.specs.declared.over.Over.{Over}
 use Rattle.pb_opb.specs.meaning.Instances.{IsInstance}
 use Rattle.pb_opb.specs.declared.OpbEvent.{OpbEvent}
 use Rattle.pb_pieces.specs.Reading.{IsFlatBy, IsNotFlat}

@@ -1,4 +1,4 @@
-use Rattle.std.proofs.Common.{rules, ◌≡◌, ◌∙◌, ℕ, ◌+◌, ◌<◌, ◌≤◌, ◌++◌, List, Some, None, length, slice_get, sym, ap, ap₂, arith, take}
+use Rattle.std.proofs.Common.{rules, ◌≡◌, ◌∙◌, ℕ, ◌+◌, ◌≤◌, ◌++◌, List, Some, None, length, slice_get, sym, ap, ap₂, arith, take}
 use Rattle.std.proofs.lemmas.Slice.{take-put_mid}
 use Rattle.pb_tool.specs.contract.Pieces.{joined}
 use Rattle.pb_c.proofs.Copied.{inside_some}

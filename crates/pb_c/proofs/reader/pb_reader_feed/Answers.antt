@@ -1,4 +1,4 @@
-use Rattle.std.proofs.Common.{rules, ◌≡◌, ◌^◌, Some, None, subst, inl, inr}
+use Rattle.std.proofs.Common.{rules, ◌≡◌, ◌^◌, Some, None, subst}
 use Rattle.std.specs.Prelude.{unwrap_or}
 use Rattle.pb_pieces.specs.Reader.{IsReader, fault_of}
 use Rattle.pb_pieces.specs.declared.reader.Reader.{Reader}

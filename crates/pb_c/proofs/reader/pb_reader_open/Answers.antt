@@ -1,8 +1,18 @@
-use Rattle.std.proofs.Common.{rules, ◌≡◌, ◌∙◌, Some, inl, refl, sym}
+use Rattle.std.proofs.Common.{rules, ◌≡◌, ◌∙◌, Option, Some, inl, refl, sym, subst}
+use Rattle.std.specs.Prelude.{None}
+use Rattle.pb_text.specs.declared.Stop.{Stop}
+use Rattle.pb_pieces.specs.Reader.{fault_of}
+use Rattle.pb_pieces.specs.declared.reader.Reader.{Reader}
+use Rattle.pb_c.specs.Reader.{AnswersBy, AnswersOf, report_of_reader}
+use Rattle.pb_c.specs.declared.report.Report.{Report}
 use Rattle.pb_c.proofs.reader.pb_reader_open.Goals as goal
 
-pub returns-in-Ok : goal.returns-in-Ok
-returns-in-Ok c =
+answers : (h : Option Reader) (r : Reader) (report : Report) → h ≡ Some r → fault_of r ≡ None → report ≡ report_of_reader r → AnswersOf h 0 report
+answers h r report is running same =
+    subst (λ (x : Option Reader). AnswersOf x 0 report) (sym is) (subst (λ (f : Option Stop). AnswersBy r f 0 report) (sym running) (refl, same))
+
+pub returns-in-Ok-clause-opens : goal.returns-in-Ok-clause-opens
+returns-in-Ok-clause-opens c =
     let kept : c.of.result.value ≡ Some c.open-opened.result = search rules in
     inl (
       c.in-Some-format_asked.wanted,
@@ -10,3 +20,9 @@ returns-in-Ok c =
       (c.open-opened.result, kept, c.open-opened.ensures.running, (c.in-Some.asked.limits, c.in-Some.asked.longest, c.in-Some.ensures.asked, c.open-opened.ensures.opened)),
       refl,
     )
+
+pub returns-in-Ok-clause-answers : goal.returns-in-Ok-clause-answers
+returns-in-Ok-clause-answers c zero =
+    let kept : c.of.result.value ≡ Some c.open-opened.result = search rules in
+    let same : c.report_of_reader.result ≡ report_of_reader c.open-opened.result = search rules in
+    answers c.of.result.value c.open-opened.result c.report_of_reader.result kept c.open-opened.ensures.running same

@@ -1,6 +1,8 @@
 use Rattle.std.proofs.Common.{[], ◌++◌}
 use Rattle.pb_pieces.specs.NamedTokens.{names_of}
+use Rattle.pb_pieces.proofs.Numbered.{nothing_added}
 use Rattle.pb_pieces.proofs.token_reader.TokenReader.store.Goals as goal
 
 pub returns-clause-stored : goal.returns-clause-stored
-returns-clause-stored g c seen current h = c.in_ok-put_tokens.ensures (seen ++ names_of current) [] (c.clear.ensures seen current h)
+returns-clause-stored g c seen current h =
+    c.in_ok-put_tokens.ensures c.clear.new.self [] (nothing_added c.clear.new.self) (seen ++ names_of current) [] (c.clear.ensures seen current h)

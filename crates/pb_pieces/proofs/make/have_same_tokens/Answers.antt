@@ -1,0 +1,12 @@
+use Rattle.std.proofs.Common.{◌∙◌, List, [], map, ap, sym, subst}
+use Rattle.pb_pieces.specs.GivenTokens.{token_in}
+use Rattle.pb_pieces.specs.Matcher.{Compared}
+use Rattle.pb_pieces.specs.declared.given_token.GivenToken.{GivenToken}
+use Rattle.pb_pieces.proofs.make.have_same_tokens.Goals as goal
+
+pub returns : goal.returns
+returns c =
+    let m = c.new-matcher.result in
+    let same = c.new-matcher.ensures.given_are in
+    let begun : Compared m.given.items [] m = subst (λ (gs : List GivenToken). Compared gs [] m) (sym same) c.new-matcher.ensures in
+    c.difference.ensures m.given.items _ (c.in_ok-put_tokens.ensures m [] begun) c.in-None.is ∙ ap (λ (gs : List GivenToken). map token_in gs) same

@@ -1,0 +1,10 @@
+use Rattle.std.proofs.Common.{rules, ◌+◌, refl}
+use Rattle.std.specs.Prelude.{None}
+use Rattle.pb_pieces.specs.Tokens.{token}
+use Rattle.pb_pieces.proofs.Compared.{one_compared}
+use Rattle.pb_pieces.proofs.matcher.MatcherTokenSink.put.Goals as goal
+
+pub returns-in-Some : goal.returns-in-Some
+returns-in-Some c start before h =
+    let old = c.args.self.now in
+    one_compared start.given.items before (token c.args.kind c.args.number None) old (record old { count = old.count + 1 }) c.in-Some.given.now h c.in-Some.ensures.same refl c.in-Some.ensures.token (search rules)

@@ -1,0 +1,13 @@
+use Rattle.std.proofs.Common.{rules, ◌≡◌, ℤ, List, [], ◌∷◌, ◌++◌, append_assoc, subst, to_z, of_z}
+use mir.Syntax.{w128}
+use Rattle.std.specs.Prelude.{Some}
+use Rattle.pb_pieces.specs.NamedTokens.{AreTokens}
+use Rattle.pb_pieces.specs.Tokens.{Token, token}
+use Rattle.pb_pieces.proofs.named_tokens.NamedTokensTokenSink.put_named.Goals as goal
+
+pub returns : goal.returns
+returns c start before h seen first a =
+    let kept : to_z w128 (of_z w128 c.args.number) ≡ c.args.number = search rules in
+    subst (λ (ts : List Token). AreTokens seen ts c.push_named.new.self) (append_assoc first before (token c.args.kind c.args.number (Some c.args.name.now) ∷ []))
+    (subst (λ (z : ℤ). AreTokens seen ((first ++ before) ++ token c.args.kind z (Some c.args.name.now) ∷ []) c.push_named.new.self) kept
+    (c.in_ok-push_named.ensures seen (first ++ before) (h seen first a)))

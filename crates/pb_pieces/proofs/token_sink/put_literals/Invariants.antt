@@ -1,0 +1,10 @@
+use Rattle.std.proofs.Common.{List, ◌++◌, map, take}
+use Rattle.pb_pieces.specs.NamedTokens.{token_of_literal}
+use Rattle.pb_pieces.specs.Tokens.{Token}
+use Rattle.pb_pieces.proofs.token_sink.put_literals.Given as goal
+
+-- The first literals were put.
+abbrev pub invariant-loop-literal : goal.invariant-loop-literal
+invariant-loop-literal g l =
+    (start : _) (before : List Token) → g.T.TokenSink.took start before l.fn.into
+    → g.T.TokenSink.took start (before ++ map token_of_literal (take l.literal-index l.fn.literals)) l.into

@@ -1,0 +1,16 @@
+-- How tokens compare with those that a caller gives.
+use Rattle.std.specs.Prelude.{◌≡◌, ◌≤◌, ℕ, true, List, length, map, take}
+use Rattle.pb_pieces.specs.GivenTokens.{token_in}
+use Rattle.pb_pieces.specs.Tokens.{Token}
+use Rattle.pb_pieces.specs.declared.given_token.GivenToken.{GivenToken}
+use Rattle.pb_pieces.specs.declared.matcher.Matcher.{Matcher}
+
+-- the first given tokens are these
+pub record AreFirst (tokens : List Token) (count : ℕ) (given : List GivenToken) : Type 0 where
+  pub within : count ≤ length given
+  pub same : tokens ≡ map token_in (take count given)
+
+-- These tokens were compared. If no difference was found, they are the first ones that are given.
+pub record Compared (given : List GivenToken) (tokens : List Token) (m : Matcher) : Type 0 where
+  pub given_are : m.given.items ≡ given
+  pub first : m.same ≡ true → AreFirst tokens m.count given
