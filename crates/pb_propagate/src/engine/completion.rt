@@ -7,8 +7,8 @@ ghost use Rattle.pb_propagate.specs.engine.Engine.Counts.{AreSingle};
 ghost use Rattle.pb_propagate.specs.engine.Engine.Progress.{IfFound, IfNotFound, RunIsOpen, RunStaysTidy, shapes_in, list_of, values_of, RunIsCalm, RunIsUndone, RunAdvances, RunIsWalked};
 ghost use Rattle.pb_propagate.specs.engine.Engine.Fields.{shapes_of, IsSound};
 ghost use Rattle.pb_propagate.specs.engine.Engine.Reached.{IsFrom, HasClash, HasEnded, IsMade, IsClashed};
-ghost use Rattle.pb_propagate.specs.engine.Engine.Root.{IsRootOf, IsFallen};
-ghost use Rattle.pb_propagate.specs.engine.Clauses.Runs.{AreReady, IsRunning, KeepsWalked};
+ghost use Rattle.pb_propagate.specs.engine.Engine.Root.{IsStanding, IsLeft};
+ghost use Rattle.pb_propagate.specs.engine.Clauses.Runs.{IsRunning, KeepsWalked};
 ghost use Rattle.pb_propagate.specs.engine.Clauses.Shapes.{AreJoined, clauses_of, all_of};
 
 use crate::clauses::Clauses;
@@ -109,19 +109,10 @@ pub fn extend(
     root: &mut Root,
     given: &[NumberedLiteral],
 ) -> Result<Option<Vec<Option<bool>>>, AllocError>
-    requires rooted { IsRootOf store.now clauses.old root.old }
-    requires sound { IsSound store.now }
-    requires joined { AreJoined (shapes_of store.now.stored.items) (clauses_of clauses.old) }
-    requires ready { AreReady clauses.old }
-    requires widths { length clauses.old.lists.items ≡ 4 * store.now.variables }
+    requires standing { IsStanding store.now clauses.old root.old }
     requires inside { All (λ l. l.variable < store.now.variables) given.now }
     ensures literals { clauses.new.literals ≡ clauses.old.literals }
-    ensures ready { OnOk result (AreReady clauses.new) }
-    ensures lists { OnOk result (
-        length clauses.new.lists.items ≡ length clauses.old.lists.items) }
-    ensures rooted { OnOk result (root.new.live ≡ true → IsRootOf store.now clauses.new root.new) }
-    ensures fallen { OnOk result (root.new.fallen ≡ true →
-        IsFallen (all_of store.now clauses.old) store.now.variables root.new) }
+    ensures left { OnOk result (IsLeft store.now store.now clauses.old clauses.new root.new) }
     ensures clash { IfOk result (λ found. IfNone found (
         IsClashed (all_of store.now clauses.old) given.now)) }
     ensures ended { IfOk result (λ found. IfSome found (λ values.

@@ -1,14 +1,13 @@
 //! A question that continues from the root.
 
-ghost use Rattle.std.specs.Prelude.{◌≡◌, ℕ, List, All, ◌≤◌, ◌+◌, ◌*◌, ◌<◌, true, length, sum_by, OnOk, OnErr, IfOk};
-ghost use Rattle.pb_propagate.specs.engine.Engine.Fields.{shapes_of, forms_of, IsSound};
+ghost use Rattle.std.specs.Prelude.{◌≡◌, All, ◌≤◌, ◌+◌, ◌*◌, ◌<◌, true, length, sum_by, OnOk, OnErr, IfOk};
+ghost use Rattle.pb_propagate.specs.engine.Engine.Fields.{forms_of};
 ghost use Rattle.pb_normal.specs.meaning.Rules.{negation_of};
 ghost use Rattle.pb_propagate.specs.engine.Engine.Denial.{IsDisjunction};
-ghost use Rattle.pb_propagate.specs.engine.Engine.Root.{IsRootOf, IsFallen, IsAsked, HasSameForms, terms_of_all};
+ghost use Rattle.pb_propagate.specs.engine.Engine.Root.{IsStanding, IsLeft, IsAsked, HasSameForms, terms_of_all};
 ghost use Rattle.pb_propagate.specs.engine.Engine.Live.{one_in};
 ghost use Rattle.pb_propagate.specs.engine.Engine.Progress.{list_of};
-ghost use Rattle.pb_propagate.specs.engine.Clauses.Runs.{AreReady};
-ghost use Rattle.pb_propagate.specs.engine.Clauses.Shapes.{AreJoined, clauses_of, all_of};
+ghost use Rattle.pb_propagate.specs.engine.Clauses.Shapes.{all_of};
 
 use crate::clauses::Clauses;
 use crate::engine::denial::{is_disjunction, refute};
@@ -28,24 +27,13 @@ fn pose(
     root: &mut Root,
     form: Normal,
 ) -> Result<bool, AllocError>
-    requires rooted { IsRootOf store.old clauses.old root.old }
-    requires sound { IsSound store.old }
-    requires joined { AreJoined (shapes_of store.old.stored.items) (clauses_of clauses.old) }
-    requires ready { AreReady clauses.old }
-    requires widths { length clauses.old.lists.items ≡ 4 * store.old.variables }
+    requires standing { IsStanding store.old clauses.old root.old }
     requires inside { All (λ t. t.variable < store.old.variables) form.terms }
     requires visits { root.old.run.visits ≡ length (list_of root.old.run) }
-    ensures sound { OnOk result (IsSound store.new) }
-    ensures kept { OnOk result (store.new.stored.items ≡ store.old.stored.items) }
     ensures forms { OnErr result (HasSameForms store.old store.new) }
     ensures variables { store.new.variables ≡ store.old.variables }
     ensures literals { clauses.new.literals ≡ clauses.old.literals }
-    ensures ready { OnOk result (AreReady clauses.new) }
-    ensures lists { OnOk result (
-        length clauses.new.lists.items ≡ length clauses.old.lists.items) }
-    ensures rooted { OnOk result (root.new.live ≡ true → IsRootOf store.new clauses.new root.new) }
-    ensures fallen { OnOk result (root.new.fallen ≡ true →
-        IsFallen (all_of store.old clauses.old) store.old.variables root.new) }
+    ensures left { OnOk result (IsLeft store.old store.new clauses.old clauses.new root.new) }
     ensures asked { IfOk result (
         IsAsked form (all_of store.old clauses.old) root.new.run.visits) }
     ensures most { root.new.run.visits ≤
@@ -81,21 +69,12 @@ fn pose_clause(
     root: &mut Root,
     goal: &Normal,
 ) -> Result<bool, AllocError>
-    requires rooted { IsRootOf store.now clauses.old root.old }
-    requires sound { IsSound store.now }
-    requires joined { AreJoined (shapes_of store.now.stored.items) (clauses_of clauses.old) }
-    requires ready { AreReady clauses.old }
-    requires widths { length clauses.old.lists.items ≡ 4 * store.now.variables }
+    requires standing { IsStanding store.now clauses.old root.old }
     requires inside { All (λ t. t.variable < store.now.variables) goal.now.terms }
     requires clause { IsDisjunction goal.now }
     requires visits { root.old.run.visits ≡ length (list_of root.old.run) }
     ensures literals { clauses.new.literals ≡ clauses.old.literals }
-    ensures ready { OnOk result (AreReady clauses.new) }
-    ensures lists { OnOk result (
-        length clauses.new.lists.items ≡ length clauses.old.lists.items) }
-    ensures rooted { OnOk result (root.new.live ≡ true → IsRootOf store.now clauses.new root.new) }
-    ensures fallen { OnOk result (root.new.fallen ≡ true →
-        IsFallen (all_of store.now clauses.old) store.now.variables root.new) }
+    ensures left { OnOk result (IsLeft store.now store.now clauses.old clauses.new root.new) }
     ensures asked { IfOk result (
         IsAsked (negation_of goal.now) (all_of store.now clauses.old) root.new.run.visits) }
     ensures most { root.new.run.visits ≤
@@ -119,25 +98,14 @@ fn question(
     root: &mut Root,
     goal: &Normal,
 ) -> Result<bool, AllocError>
-    requires rooted { IsRootOf store.old clauses.old root.old }
-    requires sound { IsSound store.old }
-    requires joined { AreJoined (shapes_of store.old.stored.items) (clauses_of clauses.old) }
-    requires ready { AreReady clauses.old }
-    requires widths { length clauses.old.lists.items ≡ 4 * store.old.variables }
+    requires standing { IsStanding store.old clauses.old root.old }
     requires inside { All (λ t. t.variable < store.old.variables) goal.now.terms }
     requires degree { 1 ≤ goal.now.degree }
     requires visits { root.old.run.visits ≡ length (list_of root.old.run) }
-    ensures sound { OnOk result (IsSound store.new) }
-    ensures kept { OnOk result (store.new.stored.items ≡ store.old.stored.items) }
     ensures forms { OnErr result (HasSameForms store.old store.new) }
     ensures variables { store.new.variables ≡ store.old.variables }
     ensures literals { clauses.new.literals ≡ clauses.old.literals }
-    ensures ready { OnOk result (AreReady clauses.new) }
-    ensures lists { OnOk result (
-        length clauses.new.lists.items ≡ length clauses.old.lists.items) }
-    ensures rooted { OnOk result (root.new.live ≡ true → IsRootOf store.new clauses.new root.new) }
-    ensures fallen { OnOk result (root.new.fallen ≡ true →
-        IsFallen (all_of store.old clauses.old) store.old.variables root.new) }
+    ensures left { OnOk result (IsLeft store.old store.new clauses.old clauses.new root.new) }
     ensures asked { IfOk result (
         IsAsked (negation_of goal.now) (all_of store.old clauses.old) root.new.run.visits) }
     ensures most { root.new.run.visits ≤
@@ -164,24 +132,13 @@ pub fn ask(
     visits: &mut Visits,
     goal: &Normal,
 ) -> Result<bool, AllocError>
-    requires rooted { IsRootOf store.old clauses.old root.old }
-    requires sound { IsSound store.old }
-    requires joined { AreJoined (shapes_of store.old.stored.items) (clauses_of clauses.old) }
-    requires ready { AreReady clauses.old }
-    requires widths { length clauses.old.lists.items ≡ 4 * store.old.variables }
+    requires standing { IsStanding store.old clauses.old root.old }
     requires inside { All (λ t. t.variable < store.old.variables) goal.now.terms }
     requires degree { 1 ≤ goal.now.degree }
-    ensures sound { OnOk result (IsSound store.new) }
-    ensures kept { OnOk result (store.new.stored.items ≡ store.old.stored.items) }
     ensures forms { OnErr result (HasSameForms store.old store.new) }
     ensures variables { store.new.variables ≡ store.old.variables }
     ensures literals { clauses.new.literals ≡ clauses.old.literals }
-    ensures ready { OnOk result (AreReady clauses.new) }
-    ensures lists { OnOk result (
-        length clauses.new.lists.items ≡ length clauses.old.lists.items) }
-    ensures rooted { OnOk result (root.new.live ≡ true → IsRootOf store.new clauses.new root.new) }
-    ensures fallen { OnOk result (root.new.fallen ≡ true →
-        IsFallen (all_of store.old clauses.old) store.old.variables root.new) }
+    ensures left { OnOk result (IsLeft store.old store.new clauses.old clauses.new root.new) }
     ensures asked { IfOk result (
         IsAsked (negation_of goal.now) (all_of store.old clauses.old) visits.new) }
     ensures most { visits.new ≤

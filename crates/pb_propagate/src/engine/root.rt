@@ -8,7 +8,7 @@ ghost use Rattle.pb_propagate.specs.engine.Engine.Progress.{RunIsUndone, RunSpen
 ghost use Rattle.pb_propagate.specs.engine.Engine.Counts.{Grown, IsAbsent, IsCalm, IsUndone};
 ghost use Rattle.pb_propagate.specs.engine.Engine.Fields.{shapes_of, forms_of, IsSound};
 ghost use Rattle.pb_propagate.specs.engine.Engine.Rest.{IsAtRest};
-ghost use Rattle.pb_propagate.specs.engine.Engine.Root.{IsRootOf, WasRootOf, IsFallen, HasReached};
+ghost use Rattle.pb_propagate.specs.engine.Engine.Root.{IsRootOf, WasRootOf, IsFallen, IsStanding, HasReached};
 ghost use Rattle.pb_propagate.specs.engine.Clauses.Runs.{AreReady, IsRunning};
 ghost use Rattle.pb_propagate.specs.engine.Clauses.Shapes.{AreJoined, clauses_of, all_of};
 
@@ -284,11 +284,7 @@ impl Root {
 
     /// Propagates the forms that wait. Returns whether a conflict is met. Then the root ends, and the conflict is kept.
     pub fn update(&mut self, store: &Store, clauses: &mut Clauses) -> Result<bool, AllocError>
-        requires store { IsSound store.now }
-        requires joined { AreJoined (shapes_of store.now.stored.items) (clauses_of clauses.old) }
-        requires ready { AreReady clauses.old }
-        requires widths { length clauses.old.lists.items ≡ 4 * store.now.variables }
-        requires rooted { IsRootOf store.now clauses.old self.old }
+        requires standing { IsStanding store.now clauses.old self.old }
         ensures literals { clauses.new.literals ≡ clauses.old.literals }
         ensures running { OnOk result (IsRunning (values_of self.new.run) clauses.new) }
         ensures lists { OnOk result (

@@ -34,8 +34,8 @@ AreDenied goal list = (k : ℕ) (d : Entry) → k < length goal → has list (ne
 abbrev pub IsHit : List Shape → List NumberedLiteral → NumberedLiteral → Type 0
 IsHit forms list l = (has list l ≡ true) ⊎ Conflicts forms list
 
--- The cost of a propagation from a list that is walked, with the literals of a clause that are assigned as false: a visit for each
--- of them, and what the propagation spends.
+-- The cost of a propagation from a list that is walked, after the literals of a clause were assigned as false. Each of them is a
+-- visit.
 abbrev pub RunRefutes : Store → Rests → Clauses → ℕ → Run → Run → Type 0
 RunRefutes store rests c count old new =
     Spends (database store rests) (seen c (list_of old) (sum (passed_of c))) (count + seen c (list_of new) (sum_by length (clauses_of c))) (progress old) (progress new)

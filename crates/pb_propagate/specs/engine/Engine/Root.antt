@@ -14,13 +14,13 @@ use Rattle.pb_propagate.specs.declared.clauses.lists.Watch.{Watch}
 use Rattle.pb_propagate.specs.declared.term.Term.{Term}
 use Rattle.pb_propagate.specs.engine.Engine.Lists.{Shape, Puts, Derives, Conflicts, IsSettled, IsWithin, has, says, open_sum}
 use Rattle.pb_propagate.specs.engine.Engine.Counts.{IsTidy, beside}
-use Rattle.pb_propagate.specs.engine.Engine.Fields.{shapes_of, forms_of, IsEmpty}
+use Rattle.pb_propagate.specs.engine.Engine.Fields.{shapes_of, forms_of, IsSound, IsEmpty}
 use Rattle.pb_propagate.specs.engine.Engine.Forms.{IsStoredAs}
 use Rattle.pb_propagate.specs.engine.Engine.Slots.{form_at, numbered, ArePlaced}
 use Rattle.pb_propagate.specs.engine.Clauses.Truths.{true_at, false_at}
 use Rattle.pb_propagate.specs.engine.Clauses.Links.{list_at, watch_at}
-use Rattle.pb_propagate.specs.engine.Clauses.Runs.{AreWalked}
-use Rattle.pb_propagate.specs.engine.Clauses.Shapes.{clauses_of, all_of}
+use Rattle.pb_propagate.specs.engine.Clauses.Runs.{AreReady, AreWalked}
+use Rattle.pb_propagate.specs.engine.Clauses.Shapes.{AreJoined, clauses_of, all_of}
 use Rattle.pb_propagate.specs.engine.Clauses.Walked.{walked_codes}
 
 -- the slot has a form
@@ -96,6 +96,23 @@ pub record IsFallen (forms : List Shape) (variables : ℕ) (root : Root) : Type 
   pub form : Shape
   pub stored : slice_get forms slot ≡ Some form
   pub low : open_sum root.run.assignment.list.items form.terms < form.degree
+
+-- no question is in progress, and the root is live
+pub record IsStanding (store : Store) (clauses : Clauses) (root : Root) : Type 0 where
+  pub rooted : IsRootOf store clauses root
+  pub sound : IsSound store
+  pub joined : AreJoined (shapes_of store.stored.items) (clauses_of clauses)
+  pub ready : AreReady clauses
+  pub widths : length clauses.lists.items ≡ 4 * store.variables
+
+-- what a question leaves: the same forms, no search in progress, and a root that is live, has ended, or has a conflict
+pub record IsLeft (before store : Store) (old clauses : Clauses) (root : Root) : Type 0 where
+  pub sound : IsSound store
+  pub kept : store.stored.items ≡ before.stored.items
+  pub ready : AreReady clauses
+  pub lists : length clauses.lists.items ≡ length old.lists.items
+  pub rooted : root.live ≡ true → IsRootOf store clauses root
+  pub fallen : root.fallen ≡ true → IsFallen (all_of before old) before.variables root
 
 -- the literal is that of the only term
 abbrev pub IsOnly : List Term → NumberedLiteral → Type 0

@@ -17,22 +17,16 @@ use Rattle.pb_propagate.proofs.lemmas.store.Placed.{placed-kept}
 use Rattle.pb_propagate.proofs.engine.Engine.complete.Goals as goal
 
 -- a completion that continues from the root
-pub extend-requires-clause-rooted : goal.extend-requires-clause-rooted
-extend-requires-clause-rooted c =
+pub extend-requires-clause-standing : goal.extend-requires-clause-standing
+extend-requires-clause-standing c =
     let both = c.self.invariant (ap (λ (v : Standing). v.spent) c.self.view_is ∙ c.requires.ready) in
-    both.2 c.if-self-2.true
-
-pub extend-requires-clause-sound : goal.extend-requires-clause-sound
-extend-requires-clause-sound c = (c.self.invariant (ap (λ (v : Standing). v.spent) c.self.view_is ∙ c.requires.ready)).0.sound
-
-pub extend-requires-clause-joined : goal.extend-requires-clause-joined
-extend-requires-clause-joined c = (c.self.invariant (ap (λ (v : Standing). v.spent) c.self.view_is ∙ c.requires.ready)).0.joined
-
-pub extend-requires-clause-ready : goal.extend-requires-clause-ready
-extend-requires-clause-ready c = (c.self.invariant (ap (λ (v : Standing). v.spent) c.self.view_is ∙ c.requires.ready)).0.ready
-
-pub extend-requires-clause-widths : goal.extend-requires-clause-widths
-extend-requires-clause-widths c = (c.self.invariant (ap (λ (v : Standing). v.spent) c.self.view_is ∙ c.requires.ready)).0.widths
+    record {
+      rooted = both.2 c.if-self-2.true;
+      sound = both.0.sound;
+      joined = both.0.joined;
+      ready = both.0.ready;
+      widths = both.0.widths;
+    }
 
 pub invariant_of-self-then-self-2 : goal.invariant_of-self-then-self-2
 invariant_of-self-then-self-2 c = λ ready.
@@ -45,8 +39,8 @@ invariant_of-self-then-self-2 c = λ ready.
         sound = r.sound;
         slots = rw lit r.slots;
         joined = rw lit r.joined;
-        ready = reported.ready;
-        widths = reported.lists ∙ r.widths;
+        ready = reported.left.ready;
+        widths = reported.left.lists ∙ r.widths;
         known = ap (λ (v : Vec (Vec ℕ Global) Global). length v.items) c.extend.ensures.literals ∙ r.known;
         rest = r.rest;
         values = r.values;
@@ -60,8 +54,8 @@ invariant_of-self-then-self-2 c = λ ready.
         seats = r.seats;
       },
       both.1,
-      reported.rooted,
-      λ fallen. rw lit (reported.fallen fallen),
+      reported.left.rooted,
+      λ fallen. rw lit (reported.left.fallen fallen),
     )
 
 pub returns-then-self-2-clause-conflict : goal.returns-then-self-2-clause-conflict

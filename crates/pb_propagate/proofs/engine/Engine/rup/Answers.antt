@@ -405,6 +405,17 @@ propagate-requires-clause-running c =
     ready-running c.self.inside.clauses c.enter.new.run.assignment.values.items both.0.ready (both.0.widths ∙ ap (λ n. 4 * n) (sym values_is))
 
 -- a question that continues from the root
+pub ask-requires-clause-standing : goal.ask-requires-clause-standing
+ask-requires-clause-standing c =
+    let both = c.self.invariant (ap (λ (v : Standing). v.spent) c.self.view_is ∙ c.requires.ready) in
+    record {
+      rooted = both.2 c.if-self-2.true;
+      sound = both.0.sound;
+      joined = both.0.joined;
+      ready = both.0.ready;
+      widths = both.0.widths;
+    }
+
 pub ask-requires-clause-inside : goal.ask-requires-clause-inside
 ask-requires-clause-inside c =
     let e = c.self.inside in
@@ -419,30 +430,30 @@ invariant_of-self-then-self-2 c = λ ready.
     let reported = c.in_ok-answer.ensures in
     let lit : clauses_of c.ask.new.clauses ≡ clauses_of e.clauses = ap (λ (v : Vec (Vec ℕ Global) Global). lists_of v.items) c.ask.ensures.literals in (
       record {
-        sound = reported.sound;
-        slots = rw (reported.kept, lit) r.slots;
-        joined = rw (reported.kept, lit) r.joined;
-        ready = reported.ready;
-        widths = reported.lists ∙ r.widths ∙ ap (λ n. 4 * n) (sym c.ask.ensures.variables);
-        known = ap (λ (v : Vec (Vec ℕ Global) Global). length v.items) c.ask.ensures.literals ∙ r.known ∙ sym (ap length reported.kept);
-        rest = rw reported.kept r.rest;
+        sound = reported.left.sound;
+        slots = rw (reported.left.kept, lit) r.slots;
+        joined = rw (reported.left.kept, lit) r.joined;
+        ready = reported.left.ready;
+        widths = reported.left.lists ∙ r.widths ∙ ap (λ n. 4 * n) (sym c.ask.ensures.variables);
+        known = ap (λ (v : Vec (Vec ℕ Global) Global). length v.items) c.ask.ensures.literals ∙ r.known ∙ sym (ap length reported.left.kept);
+        rest = rw reported.left.kept r.rest;
         values = r.values ∙ sym c.ask.ensures.variables;
         list = r.list;
         work = r.work;
         trail = r.trail;
         next = r.next;
-        eager = rw reported.kept r.eager;
-        exact = rw reported.kept r.exact;
-        few = rw reported.kept r.few;
-        seats = rw reported.kept r.seats;
+        eager = rw reported.left.kept r.eager;
+        exact = rw reported.left.kept r.exact;
+        few = rw reported.left.kept r.few;
+        seats = rw reported.left.kept r.seats;
       },
-      rw reported.kept both.1,
-      reported.rooted,
-      λ fallen. rw (reported.kept, lit) (fallen-same (all_of e.store e.clauses) e.store.variables c.ask.new.store.variables c.ask.new.root c.ask.new.root refl refl ((reported.fallen fallen).values ∙ sym c.ask.ensures.variables) (reported.fallen fallen)),
+      rw reported.left.kept both.1,
+      reported.left.rooted,
+      λ fallen. rw (reported.left.kept, lit) (fallen-same (all_of e.store e.clauses) e.store.variables c.ask.new.store.variables c.ask.new.root c.ask.new.root refl refl ((reported.left.fallen fallen).values ∙ sym c.ask.ensures.variables) (reported.left.fallen fallen)),
     )
 
 pub returns-then-self-2-clause-forms : goal.returns-then-self-2-clause-forms
-returns-then-self-2-clause-forms c = rw c.in_ok-answer.ensures.kept (ap (λ (v : Standing). v.forms) c.self.view_is)
+returns-then-self-2-clause-forms c = rw c.in_ok-answer.ensures.left.kept (ap (λ (v : Standing). v.forms) c.self.view_is)
 
 pub returns-then-self-2-clause-implied : goal.returns-then-self-2-clause-implied
 returns-then-self-2-clause-implied c = λ found.

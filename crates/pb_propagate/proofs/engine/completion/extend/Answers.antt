@@ -1,5 +1,5 @@
 use Rattle.std.specs.Prelude.{IfNone, IfSome}
-use Rattle.std.proofs.Common.{◌≡◌, ℕ, [], Vec, Global, ap, subst, sym, ◌∙◌, arith, length, take}
+use Rattle.std.proofs.Common.{refl, ◌≡◌, ℕ, [], Vec, Global, ap, subst, sym, ◌∙◌, arith, length, take}
 use Rattle.pb_propagate.specs.declared.clauses.lists.Watch.{Watch}
 use Rattle.pb_propagate.specs.engine.Engine.Counts.{none}
 use Rattle.pb_propagate.specs.engine.Engine.Reached.{HasClash, HasEnded}
@@ -13,9 +13,6 @@ use Rattle.pb_propagate.proofs.lemmas.engine.Spent.{derivation-single}
 use Rattle.pb_propagate.proofs.lemmas.root.Returns.{back-rooted, root-counted}
 use Rattle.pb_propagate.proofs.lemmas.root.Transplants.{clash-refuted, ended-made, root-clash, map-none, map-some}
 use Rattle.pb_propagate.proofs.engine.completion.extend.Goals as goal
-
-pub returns-then-branch-clause-rooted : goal.returns-then-branch-clause-rooted
-returns-then-branch-clause-rooted c = λ live. absurd (let e = sym live ∙ c.in_ok-update.ensures.ended c.if-branch.true in cc)
 
 pub returns-then-branch-clause-clash : goal.returns-then-branch-clause-clash
 returns-then-branch-clause-clash c =
@@ -57,7 +54,7 @@ settle-requires-clause-tidy c =
 pub settle-requires-clause-joined : goal.settle-requires-clause-joined
 settle-requires-clause-joined c =
     let lit : clauses_of c.update.new.clauses ≡ clauses_of c.args.clauses.now = ap (λ (v : Vec (Vec ℕ Global) Global). lists_of v.items) c.update.ensures.literals in
-    rw lit c.requires.joined
+    rw lit c.requires.standing.joined
 
 pub settle-requires-clause-running : goal.settle-requires-clause-running
 settle-requires-clause-running c = c.in_ok-update.ensures.running
@@ -83,8 +80,18 @@ returns-clause-ended c =
     let found = subst (λ xs. IfSome c.in_ok-values.values (λ values. HasEnded xs list c.args.given.now values.items)) same c.in_ok-values.ensures.ended in
     map-some c.in_ok-values.values (λ values. ended-made (all_of store c.args.clauses.now) list c.args.given.now values.items c.in_ok-update.ensures.derived) found
 
-pub returns-clause-rooted : goal.returns-clause-rooted
-returns-clause-rooted c = λ live.
+pub returns-then-branch-clause-left : goal.returns-then-branch-clause-left
+returns-then-branch-clause-left c = record {
+  sound = c.requires.standing.sound;
+  kept = refl;
+  ready = c.rest.ensures.rest;
+  lists = ap (λ (v : Vec (Vec ℕ Global) Global). length v.items) c.rest.ensures.lists ∙ c.in_ok-update.ensures.lists;
+  rooted = λ live. absurd (let e = sym live ∙ c.in_ok-update.ensures.ended c.if-branch.true in cc);
+  fallen = λ fallen. c.in_ok-update.ensures.fallen c.if-branch.true;
+}
+
+pub returns-clause-left : goal.returns-clause-left
+returns-clause-left c =
     let store = c.args.store.now in
     let root = c.update.new.self in
     let run = root.run in
@@ -94,22 +101,24 @@ returns-clause-rooted c = λ live.
     let count_is : c.len-count.result ≡ length run.assignment.list.items = omega (arith, c.len-count.ensures, run.assignment.list.ok.0) in
     let codes = walked_codes (length run.assignment.list.items) run.assignment.list.items in
     let watches_is = ap (λ (v : Vec Watch Global). v.items) c.back.ensures.watches in
-    back-rooted store between c.back.new.clauses run last root.rests root.waiting c.settle.new.run.assignment.list.items (c.in_ok-update.ensures.rooted c.if-branch.false) (record {
-      literals = ap (λ (v : Vec (Vec ℕ Global) Global). lists_of v.items) (c.back.ensures.literals ∙ c.settle.ensures.literals);
-      kept = λ old. subst (λ ws. AreWalked run.assignment.values.items ws codes) (sym watches_is) (reported.kept run.assignment.values.items codes (grows-refl run.assignment.values.items) old);
-      extends = reported.extends;
-      cut = c.back.ensures.list ∙ ap (λ n. take n c.settle.new.run.assignment.list.items) count_is;
-      values = c.back.ensures.values ∙ reported.values;
-      opens = c.back.ensures.opens;
-      candidates = c.back.ensures.candidates;
-      undone = c.back.ensures.undone;
-      work = c.back.ensures.work;
-      trail = c.back.ensures.trail;
-      next = c.back.ensures.next;
-    })
-
-pub returns-then-branch-clause-fallen : goal.returns-then-branch-clause-fallen
-returns-then-branch-clause-fallen c = λ fallen. c.in_ok-update.ensures.fallen c.if-branch.true
-
-pub returns-clause-fallen : goal.returns-clause-fallen
-returns-clause-fallen c = λ fallen. absurd (let e = sym fallen ∙ c.in_ok-update.ensures.risen c.if-branch.false in cc)
+    let r = c.in_ok-update.ensures.rooted c.if-branch.false in
+    record {
+      sound = c.requires.standing.sound;
+      kept = refl;
+      ready = c.back.ensures.ready;
+      lists = omega (arith, ap (λ (v : Vec (Vec ℕ Global) Global). length v.items) c.back.ensures.lists, reported.running.sizes, reported.values, r.values, c.requires.standing.widths);
+      fallen = λ fallen. absurd (let e = sym fallen ∙ c.in_ok-update.ensures.risen c.if-branch.false in cc);
+      rooted = λ live. back-rooted store between c.back.new.clauses run last root.rests root.waiting c.settle.new.run.assignment.list.items (c.in_ok-update.ensures.rooted c.if-branch.false) (record {
+        literals = ap (λ (v : Vec (Vec ℕ Global) Global). lists_of v.items) (c.back.ensures.literals ∙ c.settle.ensures.literals);
+        kept = λ old. subst (λ ws. AreWalked run.assignment.values.items ws codes) (sym watches_is) (reported.kept run.assignment.values.items codes (grows-refl run.assignment.values.items) old);
+        extends = reported.extends;
+        cut = c.back.ensures.list ∙ ap (λ n. take n c.settle.new.run.assignment.list.items) count_is;
+        values = c.back.ensures.values ∙ reported.values;
+        opens = c.back.ensures.opens;
+        candidates = c.back.ensures.candidates;
+        undone = c.back.ensures.undone;
+        work = c.back.ensures.work;
+        trail = c.back.ensures.trail;
+        next = c.back.ensures.next;
+      });
+    }

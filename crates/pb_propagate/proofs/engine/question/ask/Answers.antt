@@ -6,11 +6,17 @@ use Rattle.pb_propagate.proofs.lemmas.store.Options.{some-one}
 use Rattle.std.specs.Prelude.{slice_get}
 use Rattle.pb_propagate.proofs.engine.question.ask.Goals as goal
 
-pub question-answer-requires-clause-rooted : goal.question-answer-requires-clause-rooted
-question-answer-requires-clause-rooted c = rooted-counted c.of-root.result c.requires.rooted
+pub question-answer-requires-clause-standing : goal.question-answer-requires-clause-standing
+question-answer-requires-clause-standing c = record {
+  rooted = rooted-counted c.of-root.result c.requires.standing.rooted;
+  sound = c.requires.standing.sound;
+  joined = c.requires.standing.joined;
+  ready = c.requires.standing.ready;
+  widths = c.requires.standing.widths;
+}
 
 pub returns-clause-most : goal.returns-clause-most
 returns-clause-most c =
     let waiting = c.args.root.now.waiting in
-    let few = listed-few (forms_of c.args.store.now.stored.items) waiting.list.items (λ i j s h k. some-one (slice_get waiting.seats.items s) i j (waiting.seated i s h) (waiting.seated j s k)) c.requires.rooted.live in
+    let few = listed-few (forms_of c.args.store.now.stored.items) waiting.list.items (λ i j s h k. some-one (slice_get waiting.seats.items s) i j (waiting.seated i s h) (waiting.seated j s k)) c.requires.standing.rooted.live in
     omega (arith, few, c.question-answer.ensures.most, c.replace.ensures.value)

@@ -31,22 +31,22 @@ use Rattle.pb_propagate.proofs.engine.question.pose.Goals as goal
 
 pub returns-in_err-update-clause-most : goal.returns-in_err-update-clause-most
 returns-in_err-update-clause-most c =
-    let most = updated-most c.args.store.now c.args.clauses.now c.args.root.now.rests c.args.root.now.waiting.list.items c.args.root.now.run c.update.new.self.run c.requires.sound c.requires.joined c.requires.rooted.derived c.requires.rooted.work c.requires.visits c.update.ensures.costs in
+    let most = updated-most c.args.store.now c.args.clauses.now c.args.root.now.rests c.args.root.now.waiting.list.items c.args.root.now.run c.update.new.self.run c.requires.standing.sound c.requires.standing.joined c.requires.standing.rooted.derived c.requires.standing.rooted.work c.requires.visits c.update.ensures.costs in
     omega (arith, most)
 
 pub returns-then-branch-clause-most : goal.returns-then-branch-clause-most
 returns-then-branch-clause-most c =
-    let most = updated-most c.args.store.now c.args.clauses.now c.args.root.now.rests c.args.root.now.waiting.list.items c.args.root.now.run c.update.new.self.run c.requires.sound c.requires.joined c.requires.rooted.derived c.requires.rooted.work c.requires.visits c.update.ensures.costs in
+    let most = updated-most c.args.store.now c.args.clauses.now c.args.root.now.rests c.args.root.now.waiting.list.items c.args.root.now.run c.update.new.self.run c.requires.standing.sound c.requires.standing.joined c.requires.standing.rooted.derived c.requires.standing.rooted.work c.requires.visits c.update.ensures.costs in
     omega (arith, most)
 
 pub returns-in_err-enter-clause-most : goal.returns-in_err-enter-clause-most
 returns-in_err-enter-clause-most c =
-    let most = updated-most c.args.store.now c.args.clauses.now c.args.root.now.rests c.args.root.now.waiting.list.items c.args.root.now.run c.update.new.self.run c.requires.sound c.requires.joined c.requires.rooted.derived c.requires.rooted.work c.requires.visits c.update.ensures.costs in
+    let most = updated-most c.args.store.now c.args.clauses.now c.args.root.now.rests c.args.root.now.waiting.list.items c.args.root.now.run c.update.new.self.run c.requires.standing.sound c.requires.standing.joined c.requires.standing.rooted.derived c.requires.standing.rooted.work c.requires.visits c.update.ensures.costs in
     omega (arith, most, c.enter.ensures.rest.3)
 
 pub returns-in_err-lay-clause-most : goal.returns-in_err-lay-clause-most
 returns-in_err-lay-clause-most c =
-    let most = updated-most c.args.store.now c.args.clauses.now c.args.root.now.rests c.args.root.now.waiting.list.items c.args.root.now.run c.update.new.self.run c.requires.sound c.requires.joined c.requires.rooted.derived c.requires.rooted.work c.requires.visits c.update.ensures.costs in
+    let most = updated-most c.args.store.now c.args.clauses.now c.args.root.now.rests c.args.root.now.waiting.list.items c.args.root.now.run c.update.new.self.run c.requires.standing.sound c.requires.standing.joined c.requires.standing.rooted.derived c.requires.standing.rooted.work c.requires.visits c.update.ensures.costs in
     omega (arith, most, c.enter.ensures.rest.3, c.lay.ensures.visits)
 
 pub returns-in_err-lay-clause-forms : goal.returns-in_err-lay-clause-forms
@@ -75,9 +75,6 @@ returns-then-branch-clause-asked c =
       conflict = λ found. reported.conflict c.if-branch.true;
       settled = λ found. absurd cc;
     })
-
-pub returns-then-branch-clause-rooted : goal.returns-then-branch-clause-rooted
-returns-then-branch-clause-rooted c = λ live. absurd (let e = sym live ∙ c.in_ok-update.ensures.ended c.if-branch.true in cc)
 
 pub enter-requires-clause-opens : goal.enter-requires-clause-opens
 enter-requires-clause-opens c = (c.in_ok-update.ensures.rooted c.if-branch.false).open_sizes
@@ -127,7 +124,7 @@ propagate-requires-clause-joined c =
     let h = c.in_ok-enter.ensures.entered in
     let list_is = ap (λ (a : Assignment). a.list.items) c.enter.ensures.rest.0 in
     let lit : clauses_of between ≡ clauses_of c.args.clauses.now = ap (λ (v : Vec (Vec ℕ Global) Global). lists_of v.items) c.update.ensures.literals in
-    rw lit (joined-entered c.args.form keep new.store.stored.items (clauses_of c.args.clauses.now) run.opens.items new.run.opens.items run.candidates.items new.run.candidates.items h c.requires.joined)
+    rw lit (joined-entered c.args.form keep new.store.stored.items (clauses_of c.args.clauses.now) run.opens.items new.run.opens.items run.candidates.items new.run.candidates.items h c.requires.standing.joined)
 
 pub propagate-requires-clause-counted : goal.propagate-requires-clause-counted
 propagate-requires-clause-counted c =
@@ -193,17 +190,17 @@ returns-in_err-found-clause-most c =
     let count_is : c.len-count.result ≡ length run.assignment.list.items = omega (arith, c.len-count.ensures, run.assignment.list.ok.0) in
     let clauses = clauses_of c.args.clauses.now in
     let whole : all_of new.store c.args.clauses.now ≡ all_of store c.args.clauses.now ++ (stored_shape h.kept ∷ []) =
-    ap (λ xs. joined xs clauses) (entered-shapes c.args.form keep new.store.stored.items run.opens.items new.run.opens.items run.candidates.items new.run.candidates.items h) ∙ joined-push (shapes_of keep) clauses (stored_shape h.kept) c.requires.joined.short in
-    let start : Derives (all_of new.store c.args.clauses.now) [] c.args.root.now.run.assignment.list.items = rw whole (derives-entered (all_of store c.args.clauses.now) (stored_shape h.kept) [] c.args.root.now.run.assignment.list.items c.requires.rooted.derived) in
+    ap (λ xs. joined xs clauses) (entered-shapes c.args.form keep new.store.stored.items run.opens.items new.run.opens.items run.candidates.items new.run.candidates.items h) ∙ joined-push (shapes_of keep) clauses (stored_shape h.kept) c.requires.standing.joined.short in
+    let start : Derives (all_of new.store c.args.clauses.now) [] c.args.root.now.run.assignment.list.items = rw whole (derives-entered (all_of store c.args.clauses.now) (stored_shape h.kept) [] c.args.root.now.run.assignment.list.items c.requires.standing.rooted.derived) in
     let done = c.propagate.new.run in
     let work_is = ap (λ (v : Vec ℕ Global). v.items) c.enter.ensures.rest.1 ∙ r.work in
     let few = grown-length c.len-number.result c.enter.new.run.work.items c.lay.new.run.work.items c.in_ok-lay.ensures.work in
     let spends = rw (count_is, c.as_slice.ensures.value ∙ c.new-none.ensures.items) at c.propagate.ensures.costs in
     let cands = ap (λ (v : Vec ℕ Global). sum v.items) c.lay.ensures.candidates ∙ ap sum h.candidates ∙ sum_by_push (λ (n : ℕ). n) run.candidates.items 0 in
-    let upper = both-parts store new.store c.args.clauses.now between c.args.root.now.rests rests c.args.root.now.waiting.list.items c.args.root.now.run run c.lay.new.run done lit c.in_ok-enter.ensures.longer laid_is (omega (arith, cands)) (c.lay.ensures.visits ∙ c.enter.ensures.rest.3) c.requires.rooted.work (omega (arith, few.1, ap length work_is)) c.requires.visits (c.in_ok-update.ensures.pays c.if-branch.false) spends in
+    let upper = both-parts store new.store c.args.clauses.now between c.args.root.now.rests rests c.args.root.now.waiting.list.items c.args.root.now.run run c.lay.new.run done lit c.in_ok-enter.ensures.longer laid_is (omega (arith, cands)) (c.lay.ensures.visits ∙ c.enter.ensures.rest.3) c.requires.standing.rooted.work (omega (arith, few.1, ap length work_is)) c.requires.visits (c.in_ok-update.ensures.pays c.if-branch.false) spends in
     let extends = extends-then c.args.root.now.run.assignment.list.items run.assignment.list.items done.assignment.list.items c.update.ensures.costs.extends (rw laid_is at spends.extends) in
     let most = question-most new.store clauses c.args.root.now.run.assignment.list.items done.assignment.list.items done.visits (length c.args.root.now.waiting.list.items + 1) (sum done.candidates.items) c.in_ok-enter.ensures.sound
-    (joined-entered c.args.form keep new.store.stored.items clauses run.opens.items new.run.opens.items run.candidates.items new.run.candidates.items h c.requires.joined) spends.single (λ l on. opposite done.assignment.values.items done.assignment.list.items l done.assignment.agrees on) extends start spends.bounded upper in
+    (joined-entered c.args.form keep new.store.stored.items clauses run.opens.items new.run.opens.items run.candidates.items new.run.candidates.items h c.requires.standing.joined) spends.single (λ l on. opposite done.assignment.values.items done.assignment.list.items l done.assignment.agrees on) extends start spends.bounded upper in
     let more = ap (sum_by (λ (f : Shape). length f.terms)) whole ∙ sum_by_push (λ (f : Shape). length f.terms) (all_of store c.args.clauses.now) (stored_shape h.kept) in
     omega (arith, most, more, kept-terms c.args.form (stored_shape h.kept) h.is)
 
@@ -225,17 +222,17 @@ returns-clause-most c =
     let count_is : c.len-count.result ≡ length run.assignment.list.items = omega (arith, c.len-count.ensures, run.assignment.list.ok.0) in
     let clauses = clauses_of c.args.clauses.now in
     let whole : all_of new.store c.args.clauses.now ≡ all_of store c.args.clauses.now ++ (stored_shape h.kept ∷ []) =
-    ap (λ xs. joined xs clauses) (entered-shapes c.args.form keep new.store.stored.items run.opens.items new.run.opens.items run.candidates.items new.run.candidates.items h) ∙ joined-push (shapes_of keep) clauses (stored_shape h.kept) c.requires.joined.short in
-    let start : Derives (all_of new.store c.args.clauses.now) [] c.args.root.now.run.assignment.list.items = rw whole (derives-entered (all_of store c.args.clauses.now) (stored_shape h.kept) [] c.args.root.now.run.assignment.list.items c.requires.rooted.derived) in
+    ap (λ xs. joined xs clauses) (entered-shapes c.args.form keep new.store.stored.items run.opens.items new.run.opens.items run.candidates.items new.run.candidates.items h) ∙ joined-push (shapes_of keep) clauses (stored_shape h.kept) c.requires.standing.joined.short in
+    let start : Derives (all_of new.store c.args.clauses.now) [] c.args.root.now.run.assignment.list.items = rw whole (derives-entered (all_of store c.args.clauses.now) (stored_shape h.kept) [] c.args.root.now.run.assignment.list.items c.requires.standing.rooted.derived) in
     let done = c.propagate.new.run in
     let work_is = ap (λ (v : Vec ℕ Global). v.items) c.enter.ensures.rest.1 ∙ r.work in
     let few = grown-length c.len-number.result c.enter.new.run.work.items c.lay.new.run.work.items c.in_ok-lay.ensures.work in
     let spends = rw (count_is, c.as_slice.ensures.value ∙ c.new-none.ensures.items) at c.propagate.ensures.costs in
     let cands = ap (λ (v : Vec ℕ Global). sum v.items) c.lay.ensures.candidates ∙ ap sum h.candidates ∙ sum_by_push (λ (n : ℕ). n) run.candidates.items 0 in
-    let upper = both-parts store new.store c.args.clauses.now between c.args.root.now.rests rests c.args.root.now.waiting.list.items c.args.root.now.run run c.lay.new.run done lit c.in_ok-enter.ensures.longer laid_is (omega (arith, cands)) (c.lay.ensures.visits ∙ c.enter.ensures.rest.3) c.requires.rooted.work (omega (arith, few.1, ap length work_is)) c.requires.visits (c.in_ok-update.ensures.pays c.if-branch.false) spends in
+    let upper = both-parts store new.store c.args.clauses.now between c.args.root.now.rests rests c.args.root.now.waiting.list.items c.args.root.now.run run c.lay.new.run done lit c.in_ok-enter.ensures.longer laid_is (omega (arith, cands)) (c.lay.ensures.visits ∙ c.enter.ensures.rest.3) c.requires.standing.rooted.work (omega (arith, few.1, ap length work_is)) c.requires.visits (c.in_ok-update.ensures.pays c.if-branch.false) spends in
     let extends = extends-then c.args.root.now.run.assignment.list.items run.assignment.list.items done.assignment.list.items c.update.ensures.costs.extends (rw laid_is at spends.extends) in
     let most = question-most new.store clauses c.args.root.now.run.assignment.list.items done.assignment.list.items done.visits (length c.args.root.now.waiting.list.items + 1) (sum done.candidates.items) c.in_ok-enter.ensures.sound
-    (joined-entered c.args.form keep new.store.stored.items clauses run.opens.items new.run.opens.items run.candidates.items new.run.candidates.items h c.requires.joined) spends.single (λ l on. opposite done.assignment.values.items done.assignment.list.items l done.assignment.agrees on) extends start spends.bounded upper in
+    (joined-entered c.args.form keep new.store.stored.items clauses run.opens.items new.run.opens.items run.candidates.items new.run.candidates.items h c.requires.standing.joined) spends.single (λ l on. opposite done.assignment.values.items done.assignment.list.items l done.assignment.agrees on) extends start spends.bounded upper in
     let more = ap (sum_by (λ (f : Shape). length f.terms)) whole ∙ sum_by_push (λ (f : Shape). length f.terms) (all_of store c.args.clauses.now) (stored_shape h.kept) in
     omega (arith, most, more, kept-terms c.args.form (stored_shape h.kept) h.is, c.back.ensures.visits, c.leave.ensures.rest.3)
 
@@ -256,7 +253,7 @@ returns-clause-asked c =
     let lit : clauses_of between ≡ clauses_of c.args.clauses.now = ap (λ (v : Vec (Vec ℕ Global) Global). lists_of v.items) c.update.ensures.literals in
     let clauses = clauses_of c.args.clauses.now in
     let whole : all_of new.store c.args.clauses.now ≡ all_of store c.args.clauses.now ++ (stored_shape h.kept ∷ []) =
-    ap (λ xs. joined xs clauses) (entered-shapes c.args.form keep new.store.stored.items run.opens.items new.run.opens.items run.candidates.items new.run.candidates.items h) ∙ joined-push (shapes_of keep) clauses (stored_shape h.kept) c.requires.joined.short in
+    ap (λ xs. joined xs clauses) (entered-shapes c.args.form keep new.store.stored.items run.opens.items new.run.opens.items run.candidates.items new.run.candidates.items h) ∙ joined-push (shapes_of keep) clauses (stored_shape h.kept) c.requires.standing.joined.short in
     let whole_now : all_of new.store between ≡ all_of store c.args.clauses.now ++ (stored_shape h.kept ∷ []) = ap (joined (shapes_of new.store.stored.items)) lit ∙ whole in
     let start : Derives (all_of new.store c.args.clauses.now) [] run.assignment.list.items = rw whole (derives-entered (all_of store c.args.clauses.now) (stored_shape h.kept) [] run.assignment.list.items c.in_ok-update.ensures.derived) in
     let done = c.propagate.new.run in
@@ -272,8 +269,18 @@ returns-clause-asked c =
       settled = λ found f has. reported.settled found f (subst (λ xs. Contains xs f) (sym whole_now) has);
     })
 
-pub returns-clause-rooted : goal.returns-clause-rooted
-returns-clause-rooted c = λ live.
+pub returns-then-branch-clause-left : goal.returns-then-branch-clause-left
+returns-then-branch-clause-left c = record {
+  sound = c.requires.standing.sound;
+  kept = refl;
+  ready = c.rest.ensures.rest;
+  lists = ap (λ (v : Vec (Vec ℕ Global) Global). length v.items) c.rest.ensures.lists ∙ c.in_ok-update.ensures.lists;
+  rooted = λ live. absurd (let e = sym live ∙ c.in_ok-update.ensures.ended c.if-branch.true in cc);
+  fallen = λ fallen. c.in_ok-update.ensures.fallen c.if-branch.true;
+}
+
+pub returns-clause-left : goal.returns-clause-left
+returns-clause-left c =
     let store = c.args.store.now in
     let keep = store.stored.items in
     let root = c.update.new.self in
@@ -307,24 +314,25 @@ returns-clause-rooted c = λ live.
     let agrees : Agree last.run.assignment.values.items run.assignment.list.items = subst (λ xs. Agree last.run.assignment.values.items xs) end_is last.run.assignment.agrees in
     let walked = walked-agree run.assignment.values.items last.run.assignment.values.items run.assignment.list.items c.propagate.new.clauses.watches.items codes run.assignment.agrees agrees served in
     record {
-      values = ap (λ (a : Assignment). length a.values.items) c.leave.ensures.rest.0 ∙ c.back.ensures.values ∙ reported.values ∙ ap (λ (a : Assignment). length a.values.items) (c.lay.ensures.assignment ∙ c.enter.ensures.rest.0) ∙ r.values ∙ sym (c.leave.ensures.variables ∙ c.enter.ensures.variables);
-      opens = opens_is;
-      starts = starts_is;
-      open_sizes = ap length (opens_is ∙ sym r.opens) ∙ r.open_sizes ∙ sym (ap length kept_is);
-      start_sizes = ap length (starts_is ∙ sym r.starts) ∙ r.start_sizes ∙ sym (ap length kept_is);
-      counted = rw (kept_is, opens_is ∙ sym r.opens, end_is) r.counted;
-      tidy = rw (kept_is, opens_is ∙ sym r.opens, starts_is ∙ sym r.starts, end_is) r.tidy;
-      work = ap (λ (v : Vec ℕ Global). v.items) c.leave.ensures.rest.1 ∙ c.back.ensures.work;
-      trail = ap (λ (v : Vec ℕ Global). v.items) c.leave.ensures.trail ∙ c.back.ensures.trail;
-      next = c.leave.ensures.rest.2 ∙ c.back.ensures.next;
-      derived = rw (kept_is, lit, end_is) r.derived;
-      walked = rw (end_is, watches_is) walked;
-      seats = r.seats ∙ sym (ap length kept_is);
-      live = rw kept_is r.live;
+      sound = c.leave.ensures.sound;
+      kept = kept_is;
+      ready = c.back.ensures.ready;
+      lists = omega (arith, ap (λ (v : Vec (Vec ℕ Global) Global). length v.items) c.back.ensures.lists, reported.running.sizes, reported.values, ap length values_is, r.values, c.requires.standing.widths);
+      fallen = λ fallen. absurd (let e = sym fallen ∙ c.in_ok-update.ensures.risen c.if-branch.false in cc);
+      rooted = λ live. record {
+        values = ap (λ (a : Assignment). length a.values.items) c.leave.ensures.rest.0 ∙ c.back.ensures.values ∙ reported.values ∙ ap (λ (a : Assignment). length a.values.items) (c.lay.ensures.assignment ∙ c.enter.ensures.rest.0) ∙ r.values ∙ sym (c.leave.ensures.variables ∙ c.enter.ensures.variables);
+        opens = opens_is;
+        starts = starts_is;
+        open_sizes = ap length (opens_is ∙ sym r.opens) ∙ r.open_sizes ∙ sym (ap length kept_is);
+        start_sizes = ap length (starts_is ∙ sym r.starts) ∙ r.start_sizes ∙ sym (ap length kept_is);
+        counted = rw (kept_is, opens_is ∙ sym r.opens, end_is) r.counted;
+        tidy = rw (kept_is, opens_is ∙ sym r.opens, starts_is ∙ sym r.starts, end_is) r.tidy;
+        work = ap (λ (v : Vec ℕ Global). v.items) c.leave.ensures.rest.1 ∙ c.back.ensures.work;
+        trail = ap (λ (v : Vec ℕ Global). v.items) c.leave.ensures.trail ∙ c.back.ensures.trail;
+        next = c.leave.ensures.rest.2 ∙ c.back.ensures.next;
+        derived = rw (kept_is, lit, end_is) r.derived;
+        walked = rw (end_is, watches_is) walked;
+        seats = r.seats ∙ sym (ap length kept_is);
+        live = rw kept_is r.live;
+      };
     }
-
-pub returns-then-branch-clause-fallen : goal.returns-then-branch-clause-fallen
-returns-then-branch-clause-fallen c = λ fallen. c.in_ok-update.ensures.fallen c.if-branch.true
-
-pub returns-clause-fallen : goal.returns-clause-fallen
-returns-clause-fallen c = λ fallen. absurd (let e = sym fallen ∙ c.in_ok-update.ensures.risen c.if-branch.false in cc)

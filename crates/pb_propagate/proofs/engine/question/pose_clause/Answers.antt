@@ -24,12 +24,12 @@ use Rattle.pb_propagate.proofs.engine.question.pose_clause.Goals as goal
 
 pub returns-in_err-update-clause-most : goal.returns-in_err-update-clause-most
 returns-in_err-update-clause-most c =
-    let most = updated-most c.args.store.now c.args.clauses.now c.args.root.now.rests c.args.root.now.waiting.list.items c.args.root.now.run c.update.new.self.run c.requires.sound c.requires.joined c.requires.rooted.derived c.requires.rooted.work c.requires.visits c.update.ensures.costs in
+    let most = updated-most c.args.store.now c.args.clauses.now c.args.root.now.rests c.args.root.now.waiting.list.items c.args.root.now.run c.update.new.self.run c.requires.standing.sound c.requires.standing.joined c.requires.standing.rooted.derived c.requires.standing.rooted.work c.requires.visits c.update.ensures.costs in
     omega (arith, most)
 
 pub returns-then-branch-clause-most : goal.returns-then-branch-clause-most
 returns-then-branch-clause-most c =
-    let most = updated-most c.args.store.now c.args.clauses.now c.args.root.now.rests c.args.root.now.waiting.list.items c.args.root.now.run c.update.new.self.run c.requires.sound c.requires.joined c.requires.rooted.derived c.requires.rooted.work c.requires.visits c.update.ensures.costs in
+    let most = updated-most c.args.store.now c.args.clauses.now c.args.root.now.rests c.args.root.now.waiting.list.items c.args.root.now.run c.update.new.self.run c.requires.standing.sound c.requires.standing.joined c.requires.standing.rooted.derived c.requires.standing.rooted.work c.requires.visits c.update.ensures.costs in
     omega (arith, most)
 
 pub returns-then-branch-clause-asked : goal.returns-then-branch-clause-asked
@@ -44,9 +44,6 @@ returns-then-branch-clause-asked c =
       conflict = λ found. reported.conflict c.if-branch.true;
       settled = λ found. absurd cc;
     })
-
-pub returns-then-branch-clause-rooted : goal.returns-then-branch-clause-rooted
-returns-then-branch-clause-rooted c = λ live. absurd (let e = sym live ∙ c.in_ok-update.ensures.ended c.if-branch.true in cc)
 
 pub refute-requires-clause-inside : goal.refute-requires-clause-inside
 refute-requires-clause-inside c = rw c.entries.ensures.entries c.requires.inside
@@ -86,7 +83,7 @@ refute-requires-clause-tidy c =
 pub refute-requires-clause-joined : goal.refute-requires-clause-joined
 refute-requires-clause-joined c =
     let lit : clauses_of c.update.new.clauses ≡ clauses_of c.args.clauses.now = ap (λ (v : Vec (Vec ℕ Global) Global). lists_of v.items) c.update.ensures.literals in
-    rw lit c.requires.joined
+    rw lit c.requires.standing.joined
 
 pub refute-requires-clause-running : goal.refute-requires-clause-running
 refute-requires-clause-running c = c.in_ok-update.ensures.running
@@ -104,9 +101,9 @@ returns-in_err-found-clause-most c =
     let lit : clauses_of between ≡ clauses_of c.args.clauses.now = ap (λ (v : Vec (Vec ℕ Global) Global). lists_of v.items) c.update.ensures.literals in
     let entries = ap (λ (xs : List Entry). length xs) c.entries.ensures.entries in
     let costs = c.refute.ensures.costs in
-    let upper = both-costs store c.args.clauses.now between c.args.root.now.rests root.rests c.args.root.now.waiting.list.items (length c.entries.result.now) start root.run done lit c.requires.rooted.work c.requires.visits (c.in_ok-update.ensures.pays c.if-branch.false) costs in
+    let upper = both-costs store c.args.clauses.now between c.args.root.now.rests root.rests c.args.root.now.waiting.list.items (length c.entries.result.now) start root.run done lit c.requires.standing.rooted.work c.requires.visits (c.in_ok-update.ensures.pays c.if-branch.false) costs in
     let extends = extends-then start.assignment.list.items root.run.assignment.list.items done.assignment.list.items c.update.ensures.costs.extends costs.extends in
-    let most = question-most store (clauses_of c.args.clauses.now) start.assignment.list.items done.assignment.list.items done.visits (length c.args.root.now.waiting.list.items + length c.entries.result.now) (sum done.candidates.items) c.requires.sound c.requires.joined costs.single (λ l on. opposite done.assignment.values.items done.assignment.list.items l done.assignment.agrees on) extends c.requires.rooted.derived costs.bounded upper in
+    let most = question-most store (clauses_of c.args.clauses.now) start.assignment.list.items done.assignment.list.items done.visits (length c.args.root.now.waiting.list.items + length c.entries.result.now) (sum done.candidates.items) c.requires.standing.sound c.requires.standing.joined costs.single (λ l on. opposite done.assignment.values.items done.assignment.list.items l done.assignment.agrees on) extends c.requires.standing.rooted.derived costs.bounded upper in
     omega (arith, most, entries)
 
 pub returns-clause-most : goal.returns-clause-most
@@ -119,9 +116,9 @@ returns-clause-most c =
     let lit : clauses_of between ≡ clauses_of c.args.clauses.now = ap (λ (v : Vec (Vec ℕ Global) Global). lists_of v.items) c.update.ensures.literals in
     let entries = ap (λ (xs : List Entry). length xs) c.entries.ensures.entries in
     let costs = c.refute.ensures.costs in
-    let upper = both-costs store c.args.clauses.now between c.args.root.now.rests root.rests c.args.root.now.waiting.list.items (length c.entries.result.now) start root.run done lit c.requires.rooted.work c.requires.visits (c.in_ok-update.ensures.pays c.if-branch.false) costs in
+    let upper = both-costs store c.args.clauses.now between c.args.root.now.rests root.rests c.args.root.now.waiting.list.items (length c.entries.result.now) start root.run done lit c.requires.standing.rooted.work c.requires.visits (c.in_ok-update.ensures.pays c.if-branch.false) costs in
     let extends = extends-then start.assignment.list.items root.run.assignment.list.items done.assignment.list.items c.update.ensures.costs.extends costs.extends in
-    let most = question-most store (clauses_of c.args.clauses.now) start.assignment.list.items done.assignment.list.items done.visits (length c.args.root.now.waiting.list.items + length c.entries.result.now) (sum done.candidates.items) c.requires.sound c.requires.joined costs.single (λ l on. opposite done.assignment.values.items done.assignment.list.items l done.assignment.agrees on) extends c.requires.rooted.derived costs.bounded upper in
+    let most = question-most store (clauses_of c.args.clauses.now) start.assignment.list.items done.assignment.list.items done.visits (length c.args.root.now.waiting.list.items + length c.entries.result.now) (sum done.candidates.items) c.requires.standing.sound c.requires.standing.joined costs.single (λ l on. opposite done.assignment.values.items done.assignment.list.items l done.assignment.agrees on) extends c.requires.standing.rooted.derived costs.bounded upper in
     omega (arith, most, entries, c.back.ensures.visits)
 
 pub returns-clause-asked : goal.returns-clause-asked
@@ -148,8 +145,18 @@ returns-clause-asked c =
       settled = λ found. subst (λ xs. AreSettled xs done.assignment.list.items) whole (reported.settled found);
     })
 
-pub returns-clause-rooted : goal.returns-clause-rooted
-returns-clause-rooted c = λ live.
+pub returns-then-branch-clause-left : goal.returns-then-branch-clause-left
+returns-then-branch-clause-left c = record {
+  sound = c.requires.standing.sound;
+  kept = refl;
+  ready = c.rest.ensures.rest;
+  lists = ap (λ (v : Vec (Vec ℕ Global) Global). length v.items) c.rest.ensures.lists ∙ c.in_ok-update.ensures.lists;
+  rooted = λ live. absurd (let e = sym live ∙ c.in_ok-update.ensures.ended c.if-branch.true in cc);
+  fallen = λ fallen. c.in_ok-update.ensures.fallen c.if-branch.true;
+}
+
+pub returns-clause-left : goal.returns-clause-left
+returns-clause-left c =
     let store = c.args.store.now in
     let root = c.update.new.self in
     let run = root.run in
@@ -159,22 +166,24 @@ returns-clause-rooted c = λ live.
     let count_is : c.len-count.result ≡ length run.assignment.list.items = omega (arith, c.len-count.ensures, run.assignment.list.ok.0) in
     let codes = walked_codes (length run.assignment.list.items) run.assignment.list.items in
     let watches_is = ap (λ (v : Vec Watch Global). v.items) c.back.ensures.watches in
-    back-rooted store between c.back.new.clauses run last root.rests root.waiting c.refute.new.run.assignment.list.items (c.in_ok-update.ensures.rooted c.if-branch.false) (record {
-      literals = ap (λ (v : Vec (Vec ℕ Global) Global). lists_of v.items) (c.back.ensures.literals ∙ c.refute.ensures.literals);
-      kept = λ old. subst (λ ws. AreWalked run.assignment.values.items ws codes) (sym watches_is) (reported.kept run.assignment.values.items codes (grows-refl run.assignment.values.items) old);
-      extends = c.refute.ensures.costs.extends;
-      cut = c.back.ensures.list ∙ ap (λ n. take n c.refute.new.run.assignment.list.items) count_is;
-      values = c.back.ensures.values ∙ reported.values;
-      opens = c.back.ensures.opens;
-      candidates = c.back.ensures.candidates;
-      undone = c.back.ensures.undone;
-      work = c.back.ensures.work;
-      trail = c.back.ensures.trail;
-      next = c.back.ensures.next;
-    })
-
-pub returns-then-branch-clause-fallen : goal.returns-then-branch-clause-fallen
-returns-then-branch-clause-fallen c = λ fallen. c.in_ok-update.ensures.fallen c.if-branch.true
-
-pub returns-clause-fallen : goal.returns-clause-fallen
-returns-clause-fallen c = λ fallen. absurd (let e = sym fallen ∙ c.in_ok-update.ensures.risen c.if-branch.false in cc)
+    let r = c.in_ok-update.ensures.rooted c.if-branch.false in
+    record {
+      sound = c.requires.standing.sound;
+      kept = refl;
+      ready = c.back.ensures.ready;
+      lists = omega (arith, ap (λ (v : Vec (Vec ℕ Global) Global). length v.items) c.back.ensures.lists, reported.running.sizes, reported.values, r.values, c.requires.standing.widths);
+      fallen = λ fallen. absurd (let e = sym fallen ∙ c.in_ok-update.ensures.risen c.if-branch.false in cc);
+      rooted = λ live. back-rooted store between c.back.new.clauses run last root.rests root.waiting c.refute.new.run.assignment.list.items (c.in_ok-update.ensures.rooted c.if-branch.false) (record {
+        literals = ap (λ (v : Vec (Vec ℕ Global) Global). lists_of v.items) (c.back.ensures.literals ∙ c.refute.ensures.literals);
+        kept = λ old. subst (λ ws. AreWalked run.assignment.values.items ws codes) (sym watches_is) (reported.kept run.assignment.values.items codes (grows-refl run.assignment.values.items) old);
+        extends = c.refute.ensures.costs.extends;
+        cut = c.back.ensures.list ∙ ap (λ n. take n c.refute.new.run.assignment.list.items) count_is;
+        values = c.back.ensures.values ∙ reported.values;
+        opens = c.back.ensures.opens;
+        candidates = c.back.ensures.candidates;
+        undone = c.back.ensures.undone;
+        work = c.back.ensures.work;
+        trail = c.back.ensures.trail;
+        next = c.back.ensures.next;
+      });
+    }

@@ -18,8 +18,8 @@ pub returns-in_default-clause-most : goal.returns-in_default-clause-most
 returns-in_default-clause-most c =
     let run = c.args.root.now.run in
     let list = run.assignment.list.items in
-    let single = derivation-single (all_of c.args.store.now c.args.clauses.now) [] list none c.requires.rooted.derived in
-    let few = root-few c.args.store.now (clauses_of c.args.clauses.now) list c.requires.sound c.requires.joined single (λ l on. opposite run.assignment.values.items list l run.assignment.agrees on) c.requires.rooted.derived in
+    let single = derivation-single (all_of c.args.store.now c.args.clauses.now) [] list none c.requires.standing.rooted.derived in
+    let few = root-few c.args.store.now (clauses_of c.args.clauses.now) list c.requires.standing.sound c.requires.standing.joined single (λ l on. opposite run.assignment.values.items list l run.assignment.agrees on) c.requires.standing.rooted.derived in
     omega (arith, few, c.requires.visits)
 
 pub returns-clause-asked : goal.returns-clause-asked

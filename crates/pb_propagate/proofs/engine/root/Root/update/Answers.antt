@@ -13,18 +13,18 @@ use Rattle.pb_propagate.proofs.lemmas.root.Roots.{kept-rooted}
 use Rattle.pb_propagate.proofs.engine.root.Root.update.Goals as goal
 
 pub propagate-requires-clause-single : goal.propagate-requires-clause-single
-propagate-requires-clause-single c = derivation-single (all_of c.args.store.now c.args.clauses.now) [] c.args.self.now.run.assignment.list.items none c.requires.rooted.derived
+propagate-requires-clause-single c = derivation-single (all_of c.args.store.now c.args.clauses.now) [] c.args.self.now.run.assignment.list.items none c.requires.standing.rooted.derived
 
 pub propagate-requires-clause-waiting : goal.propagate-requires-clause-waiting
 propagate-requires-clause-waiting c =
     let keep = c.args.store.now.stored.items in
     let list = c.args.self.now.waiting.list.items in
     rw c.as_slice.ensures.value (λ k d less.
-    let f = c.requires.rooted.live k (get_or list k d) (slice_get-get_or list k d less) in
+    let f = c.requires.standing.rooted.live k (get_or list k d) (slice_get-get_or list k d less) in
     omega (arith, form-inside (forms_of keep) (get_or list k d) f.0 f.1, forms-length keep))
 
 pub propagate-requires-clause-running : goal.propagate-requires-clause-running
-propagate-requires-clause-running c = ready-running c.args.clauses.now c.args.self.now.run.assignment.values.items c.requires.ready (omega (arith, c.requires.widths, c.requires.rooted.values))
+propagate-requires-clause-running c = ready-running c.args.clauses.now c.args.self.now.run.assignment.values.items c.requires.standing.ready (omega (arith, c.requires.standing.widths, c.requires.standing.rooted.values))
 
 pub returns-then-found-clause-running : goal.returns-then-found-clause-running
 returns-then-found-clause-running c = rw c.fall.ensures.run c.in_ok-found.ensures.running
@@ -33,7 +33,7 @@ pub returns-then-found-clause-costs : goal.returns-then-found-clause-costs
 returns-then-found-clause-costs c =
     let store = c.args.store.now in
     let me = c.args.self.now in
-    let r = c.requires.rooted in
+    let r = c.requires.standing.rooted in
     let done = c.propagate.new.run in
     let reported = c.in_ok-found.ensures in
     let count_is : c.len-count.result ≡ length me.run.assignment.list.items = omega (arith, c.len-count.ensures, me.run.assignment.list.ok.0) in
@@ -50,7 +50,7 @@ pub returns-then-found-clause-derived : goal.returns-then-found-clause-derived
 returns-then-found-clause-derived c =
     let store = c.args.store.now in
     let me = c.args.self.now in
-    let r = c.requires.rooted in
+    let r = c.requires.standing.rooted in
     let done = c.propagate.new.run in
     let reported = c.in_ok-found.ensures in
     let count_is : c.len-count.result ≡ length me.run.assignment.list.items = omega (arith, c.len-count.ensures, me.run.assignment.list.ok.0) in
@@ -66,7 +66,7 @@ pub returns-clause-derived : goal.returns-clause-derived
 returns-clause-derived c =
     let store = c.args.store.now in
     let me = c.args.self.now in
-    let r = c.requires.rooted in
+    let r = c.requires.standing.rooted in
     let done = c.propagate.new.run in
     let reported = c.in_ok-found.ensures in
     let count_is : c.len-count.result ≡ length me.run.assignment.list.items = omega (arith, c.len-count.ensures, me.run.assignment.list.ok.0) in
@@ -76,7 +76,7 @@ pub returns-clause-rooted : goal.returns-clause-rooted
 returns-clause-rooted c = λ found.
     let store = c.args.store.now in
     let me = c.args.self.now in
-    let r = c.requires.rooted in
+    let r = c.requires.standing.rooted in
     let done = c.propagate.new.run in
     let reported = c.in_ok-found.ensures in
     let count_is : c.len-count.result ≡ length me.run.assignment.list.items = omega (arith, c.len-count.ensures, me.run.assignment.list.ok.0) in
@@ -108,10 +108,10 @@ returns-clause-rooted c = λ found.
     (λ i s at. absurd (omega (arith, slice_get_within c.clear.new.self.list.items i s at, ap length c.clear.ensures.list)))
 
 pub returns-then-found-clause-lists : goal.returns-then-found-clause-lists
-returns-then-found-clause-lists c = omega (arith, c.in_ok-found.ensures.running.sizes, c.in_ok-found.ensures.values, c.requires.rooted.values, c.requires.widths)
+returns-then-found-clause-lists c = omega (arith, c.in_ok-found.ensures.running.sizes, c.in_ok-found.ensures.values, c.requires.standing.rooted.values, c.requires.standing.widths)
 
 pub returns-clause-lists : goal.returns-clause-lists
-returns-clause-lists c = omega (arith, c.in_ok-found.ensures.running.sizes, c.in_ok-found.ensures.values, c.requires.rooted.values, c.requires.widths)
+returns-clause-lists c = omega (arith, c.in_ok-found.ensures.running.sizes, c.in_ok-found.ensures.values, c.requires.standing.rooted.values, c.requires.standing.widths)
 
 pub returns-then-found-clause-fallen : goal.returns-then-found-clause-fallen
 returns-then-found-clause-fallen c = λ found.
@@ -120,5 +120,5 @@ returns-then-found-clause-fallen c = λ found.
     let done = c.propagate.new.run in
     let reported = c.in_ok-found.ensures in
     let forms = all_of store c.args.clauses.now in
-    let derived = derivation-then forms [] me.run.assignment.list.items done.assignment.list.items c.requires.rooted.derived reported.derived in
-    conflicts-fallen forms store.variables c.fall.new.self c.fall.ensures.live (rw c.fall.ensures.run (reported.values ∙ c.requires.rooted.values)) (rw c.fall.ensures.run derived) (rw c.fall.ensures.run (reported.conflict c.if-found.true))
+    let derived = derivation-then forms [] me.run.assignment.list.items done.assignment.list.items c.requires.standing.rooted.derived reported.derived in
+    conflicts-fallen forms store.variables c.fall.new.self c.fall.ensures.live (rw c.fall.ensures.run (reported.values ∙ c.requires.standing.rooted.values)) (rw c.fall.ensures.run derived) (rw c.fall.ensures.run (reported.conflict c.if-found.true))
