@@ -13,7 +13,7 @@ use Rattle.pb_propagate.specs.declared.assignment.Assignment.{Assignment}
 use Rattle.pb_propagate.specs.declared.store.Store.{Store}
 use Rattle.pb_propagate.specs.declared.store.stored_form.StoredForm.{StoredForm}
 use Rattle.pb_propagate.specs.declared.clauses.Clauses.{Clauses}
-use Rattle.pb_propagate.specs.engine.Engine.Lists.{Shape, Derives, Puts, IsWithin, has, says, open_part, open_sum, size}
+use Rattle.pb_propagate.specs.engine.Engine.Lists.{Shape, Derives, Puts, IsWithin, has, open_part, open_sum, size}
 use Rattle.pb_propagate.specs.engine.Engine.Fields.{shapes_of, stored_shape}
 use Rattle.pb_propagate.specs.engine.Engine.Root.{IsRooted, IsSpare, IsFree, IsReplaced, HasUnit, HasVacated, HasLost, IsSameWatch}
 use Rattle.pb_propagate.specs.engine.Clauses.Truths.{flip, true_at}

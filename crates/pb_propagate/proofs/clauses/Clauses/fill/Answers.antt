@@ -1,4 +1,4 @@
-use Rattle.std.proofs.Common.{refl, ◌∙◌, arith}
+use Rattle.std.proofs.Common.{refl, ◌∙◌}
 use Rattle.std.proofs.lemmas.List.{get_or_read}
 use Rattle.pb_propagate.proofs.lemmas.clauses.Stores.{rest-fill, literals-set}
 use Rattle.pb_propagate.proofs.lemmas.root.Gained.{watches-apart}

@@ -1,16 +1,12 @@
 use Rattle.std.specs.Prelude.{Contains, true}
 use Rattle.std.proofs.Common.{◌≡◌, ◌∙◌, ◌∷◌, [], ap, sym, subst, length, get_or}
-use Rattle.std.proofs.lemmas.Bool.{not-true}
-use Rattle.std.proofs.lemmas.List.{length-map}
 use Rattle.pb_propagate.specs.engine.Engine.Lists.{Shape, Puts, says}
 use Rattle.pb_propagate.specs.declared.term.Term.{Term}
 use Rattle.pb_propagate.specs.engine.Engine.Fields.{shapes_of}
 use Rattle.pb_propagate.specs.engine.Engine.Root.{AreBacked, IsSpare, HasUnit}
-use Rattle.pb_propagate.specs.engine.Engine.Terms.{terms_of}
 use Rattle.pb_propagate.specs.engine.Clauses.Links.{list_at}
 use Rattle.pb_propagate.specs.engine.Clauses.Shapes.{slot_shape, literal_at, clauses_of}
 use Rattle.pb_propagate.proofs.lemmas.clauses.Shapes.{shape-some}
-use Rattle.pb_propagate.proofs.lemmas.engine.VisitSteps.{shape-at}
 use Rattle.pb_propagate.proofs.lemmas.root.Lost.{put-code, two-spare, slot-is, unit-replaces}
 use Rattle.pb_propagate.proofs.lemmas.root.Rooted.{only-one}
 use Rattle.pb_propagate.proofs.engine.root.Root.is_spare.Goals as goal
