@@ -42,7 +42,9 @@ pub extern "C" fn pb_write_statement(
         → Writes options.now kind (arrays codes.now names.now lows.now highs.now bytes.now starts.now)
         text.now out.old out.new out_len.new }
     ensures unwritten { result ≢ 0 → (out.new ≡ out.old) × (out_len.new ≡ 0) }
-    ensures wrong { wrong.new ≤ length codes.now }
+    ensures within { wrong.new ≤ length codes.now }
+    // Only at status 1 a token is at fault.
+    ensures whole { result ≢ 1 → wrong.new ≡ length codes.now }
 {
     *out_len = 0;
     *wrong = codes.len();
@@ -67,10 +69,7 @@ pub extern "C" fn pb_write_statement(
             *out_len = put(line.as_slice(), out);
             0
         }
-        Err(fault) => {
-            *wrong = index_of(fault, codes.len());
-            status_of(fault)
-        }
+        Err(fault) => fail(fault, codes.len(), wrong),
     }
 }
 
@@ -92,22 +91,19 @@ fn line_of(
     }
 }
 
-/// The index of the token at fault, at most this many.
-fn index_of(fault: MakeFault, count: usize) -> usize
-    ensures { result ≤ count }
+/// Sets the index of the token at fault, or the number of tokens, and returns the status of the fault.
+fn fail(fault: MakeFault, count: usize, wrong: &mut usize) -> u8
+    ensures failed { result ≢ 0 }
+    ensures within { wrong.new ≤ count }
+    ensures whole { result ≢ 1 → wrong.new ≡ count }
 {
-    match fault {
-        MakeFault::Token(index) => index.min(count),
-        MakeFault::Lengths | MakeFault::Memory => count,
-    }
-}
-
-fn status_of(fault: MakeFault) -> u8
-    ensures { result ≢ 0 }
-{
+    *wrong = count;
     match fault {
         MakeFault::Lengths => WRONG_WORDS,
-        MakeFault::Token(_) => REJECTED,
+        MakeFault::Token(index) => {
+            *wrong = index.min(count);
+            REJECTED
+        }
         MakeFault::Memory => FAILED,
     }
 }
