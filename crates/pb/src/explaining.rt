@@ -10,7 +10,6 @@ use crate::described::Unread;
 use crate::failure::Failure;
 use crate::inputs::{open_both, path_of, size_of};
 use crate::recorded::{Record, Recorded};
-use crate::tied::Shared;
 use pb_proof::Statement;
 use pb_replay::Replay;
 use pb_text::{Limits, Over, Spanned};
@@ -28,20 +27,15 @@ const NO_MEMORY: &[u8] = b"pb: no reasons: out of memory\n";
 /// Sees the statements of a check, and writes the reasons if one is rejected.
 #[derive(Drop)]
 pub(crate) struct Explaining<'a> {
-    explained: Explained<Over<Shared<'a, Vec<u8>>>>,
+    explained: Explained<Over<Vec<u8>>>,
     instance: Unread<'a>,
 }
 
 impl<'a> Explaining<'a> {
-    /// Before any statement. The reasons go to `out`, and the record is that of the instance.
-    pub(crate) fn new(
-        alloc: Global,
-        limits: Limits,
-        record: &'a Record,
-        out: &'a RefCell<Vec<u8>>,
-    ) -> Self {
+    /// Before any statement. The record is that of the instance.
+    pub(crate) fn new(alloc: Global, limits: Limits, record: &'a Record) -> Self {
         Explaining {
-            explained: Explained::new(alloc, Over::new(Shared::new(out))),
+            explained: Explained::new(alloc, Over::new(Vec::new(alloc))),
             instance: Unread::new(alloc, limits, record),
         }
     }
@@ -87,9 +81,8 @@ where
     requires { IfSome longest (λ n. 0 < n) }
 {
     let record = RefCell::new(Some(Vec::new(rt.alloc())));
-    let reasons = RefCell::new(Vec::new(rt.alloc()));
     let (instance, proof) = texts;
-    let mut explaining = Explaining::new(rt.alloc(), limits, &record, &reasons);
+    let mut explaining = Explaining::new(rt.alloc(), limits, &record);
     let done = check_over(
         rt,
         (Recorded::new(instance, &record), proof),
@@ -99,8 +92,7 @@ where
         limits,
     );
     let ended = explaining.explained.end();
-    drop(explaining);
-    let mut reasons = reasons.into_inner();
+    let mut reasons = explaining.explained.into_out().into_inner();
     if ended.is_err() {
         reasons.clear();
         let _ = reasons.extend_from_slice(NO_MEMORY);

@@ -1,13 +1,13 @@
 -- Literals that became true follow from those before them.
 use Rattle.std.specs.Prelude.{Contains, MatchOption, OnOk, set}
-use Rattle.std.proofs.Common.{◌≡◌, ℕ, zero, suc, ◌+◌, ◌<◌, ◌≤◌, ◌⊎◌, ◌||◌, Bool, true, false, not, cond, eqb, List, [], ◌∷◌, ◌++◌, Option, Some, None, Result, Ok, Err, map, length, get_or, refl, sym, ◌∙◌, ap, subst, arith, inl, inr, eq-eqb}
+use Rattle.std.proofs.Common.{◌≡◌, ℕ, zero, suc, ◌+◌, ◌<◌, ◌≤◌, ◌||◌, Bool, true, false, not, cond, List, [], ◌∷◌, ◌++◌, Option, Some, None, Result, Ok, Err, length, get_or, refl, sym, ◌∙◌, ap, subst, arith, inl, inr, eq-eqb}
 use Rattle.std.proofs.lemmas.List.{map-append, get_or-set_same, get_or-set_other}
 use Rattle.std.proofs.lemmas.Bool.{cases_Bool, cases_eq}
 use Rattle.pb_normal.specs.declared.entry.Entry.{Entry}
 use Rattle.pb_normal.specs.declared.numbered.NumberedLiteral.{NumberedLiteral}
 use Rattle.pb_normal.specs.meaning.Form.{Form, IsRising, counted, total}
 use Rattle.pb_normal.specs.meaning.Rules.{on, only}
-use Rattle.pb_propagate.specs.meaning.Propagation.{MayPropagate, opened}
+use Rattle.pb_propagate.specs.meaning.Propagation.{opened}
 use Rattle.pb_propagate.proofs.lemmas.engine.Choices.{only-true, only-self, total-has, total-within}
 use Rattle.pb_propagate.proofs.lemmas.engine.Completing.{IsPart, opened-part}
 use Rattle.pb_trace.specs.Derived.{AreValues, Derived, Begin, Then, Follows, Forces, IsBroken, IsSound, Keeps, Names, free_by, literal_of, literals, true_by}
@@ -15,6 +15,7 @@ use Rattle.pb_trace.specs.declared.propagation.Forced.{Forced}
 use Rattle.pb_trace.specs.declared.propagation.Over.{Over}
 use Rattle.pb_trace.specs.declared.propagation.Propagation.{Propagation}
 use Rattle.pb_trace.specs.declared.propagation.Reason.{Reason}
+use Rattle.pb_trace.specs.declared.propagation.Reason.TheVariants.{Given}
 use Rattle.pb_trace.specs.declared.stored.Stored.{Stored}
 
 or_false : (b : Bool) → (b || false) ≡ b
@@ -199,3 +200,7 @@ sound-start negation stored over p values list conflict = record {
   values = λ v n. rw (list, values v) refl;
   conflict = rw conflict tt;
 }
+
+-- a default for reads
+abbrev pub no_literal : Forced
+no_literal = record { variable = 0; negated = false; reason = Given; slack = 0 }

@@ -1,6 +1,7 @@
 pub mod Adding
 pub mod Deleting
 pub mod Deriving
+pub mod Naming
 pub mod ReasonLines
 pub mod Shown
 pub mod Storing

@@ -36,8 +36,8 @@ module _ {A : Type 0} (f : A → List ℕ) where
 abbrev pub entry_bytes : List (List ℕ) → Entry → List ℕ
 entry_bytes names t = term_bytes (term_shown names t) ++ (32 ∷ [])
 
-pub entry_parts : (x y : List ℕ) → (43 ∷ (x ++ (32 ∷ y))) ++ (32 ∷ []) ≡ (43 ∷ []) ++ (x ++ ((32 ∷ []) ++ (y ++ (32 ∷ []))))
-entry_parts x y = ap (λ z. 43 ∷ z) (append_assoc x (32 ∷ y) (32 ∷ []))
+pub entry_parts : (x y : List ℕ) → (43 ∷ (x ++ (32 ∷ y))) ++ (32 ∷ []) ≡ (43 ∷ (x ++ (32 ∷ []))) ++ (y ++ (32 ∷ []))
+entry_parts x y = ap (λ z. 43 ∷ z) (append_assoc x (32 ∷ y) (32 ∷ []) ∙ sym (append_assoc x (32 ∷ []) (y ++ (32 ∷ []))))
 
 further_entries : (names : List (List ℕ)) (ts : List Entry) → further_bytes (map (term_shown names) ts) ++ (32 ∷ []) ≡ 32 ∷ flat_map (entry_bytes names) ts
 unfolding further_bytes

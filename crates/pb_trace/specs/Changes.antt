@@ -1,11 +1,14 @@
 -- Forms in a trace, and what adds or deletes them.
-use Rattle.std.specs.Prelude.{ℕ, pos, ◌-◌, Bool, true, false, List, [], ◌++◌, map, get_or, slice_get, decimal, codes, Option, Some, None}
+use Rattle.std.specs.Prelude.{◌≡◌, ◌<◌, ℕ, ℤ, pos, ◌-◌, Bool, true, false, List, [], ◌++◌, map, length, All, get_or, slice_get, decimal, codes, Option, Some, None}
+use Rattle.std.specs.Fmt.{signed_decimal}
 use Rattle.pb_sums.specs.declared.linear.Term.{Term}
 use Rattle.pb_sums.specs.declared.linear.Linear.{Linear}
 use Rattle.pb_sums.specs.declared.linear.Relation.TheVariants.{AtLeast}
 use Rattle.pb_sums.specs.contract.Canonical.{linear_bytes}
 use Rattle.pb_normal.specs.declared.entry.Entry.{Entry}
 use Rattle.pb_normal.specs.meaning.Form.{Form}
+use Rattle.pb_normal.specs.meaning.Written.{linear_of}
+use Rattle.pb_trace.specs.declared.write.Style.{Style}
 
 -- the name with a number, or `?` if no name has it
 abbrev pub name_shown : List (List ℕ) → ℕ → List ℕ
@@ -16,6 +19,14 @@ term_shown names t = record {
   coefficient = pos t.coefficient;
   literal = record { name = name_shown names t.variable; negated = t.negated };
 }
+
+-- a coefficient between `+` and a space
+abbrev pub coefficient_bytes : ℤ → List ℕ
+coefficient_bytes z = codes "+" ++ (signed_decimal z ++ codes " ")
+
+-- the end of a form
+abbrev pub end_bytes : ℤ → List ℕ
+end_bytes degree = codes ">= " ++ (signed_decimal degree ++ codes " ;")
 
 -- a form written with the names of its variables
 abbrev pub form_shown : List (List ℕ) → Form → Linear
@@ -41,3 +52,14 @@ id_bytes false arrow names id f = change_bytes arrow names id f
 -- the same, with the line of the instance
 abbrev pub constraint_bytes : Bool → List ℕ → List ℕ → List (List ℕ) → ℕ → Form → List ℕ
 constraint_bytes ids lines arrow names id f = id_bytes ids arrow names id f ++ origin_bytes (slice_get lines (id - 1))
+
+abbrev pub constraint_in : Style → List ℕ → List (List ℕ) → ℕ → Form → List ℕ
+constraint_in style arrow names id f = constraint_bytes style.ids style.lines.now arrow names id f
+
+-- all variables of a form have names
+abbrev pub HasAllNames : List (List ℕ) → Form → Type 0
+HasAllNames names f = All (λ t. t.variable < length names) f.terms
+
+-- the text of a form is that of the form as it is written
+abbrev pub IsLinearText : List (List ℕ) → Form → Type 0
+IsLinearText names f = form_bytes names f ≡ linear_bytes (linear_of names f)

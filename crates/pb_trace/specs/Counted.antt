@@ -8,6 +8,22 @@ use Rattle.pb_replay.specs.contract.ReplayModel.{Replaying}
 use Rattle.pb_tool.specs.contract.Watched.{Call, Accepted, Rejected}
 use Rattle.pb_trace.specs.declared.stats.Stats.{Stats}
 
+-- before any statement
+abbrev pub no_counts : Stats
+no_counts = record {
+  pol = 0;
+  rup = 0;
+  soli = 0;
+  solx = 0;
+  delete = 0;
+  others = 0;
+  visits = 0;
+  newest = 0;
+  live = 0;
+  most_live = 0;
+  bytes = 0;
+}
+
 -- a count saturates
 abbrev pub saturated : ℕ → ℕ
 saturated n = min n (2 ^ 64 - 1)

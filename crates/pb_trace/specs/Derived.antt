@@ -1,15 +1,30 @@
 -- The literals that became true, each with what forced it: a derivation.
 use Rattle.std.specs.Prelude.{◌≡◌, ◌⊎◌, ℕ, ◌+◌, ◌-◌, ◌<◌, ◌≤◌, Bool, false, not, if◌then◌else◌, List, ◌∷◌, [], ◌++◌, length, map, set, get_or, slice_get, IsTrue, Option, Some, None, MatchOption}
+use Rattle.std.specs.Option.{option_copied}
+use Rattle.pb_normal.specs.declared.entry.Entry.{Entry}
 use Rattle.pb_normal.specs.declared.numbered.NumberedLiteral.{NumberedLiteral}
 use Rattle.pb_normal.specs.meaning.Form.{Form, total}
-use Rattle.pb_normal.specs.meaning.Rules.{on}
+use Rattle.pb_normal.specs.meaning.Names.{with_names}
+use Rattle.pb_normal.specs.meaning.Rules.{negation_of, on}
+use Rattle.pb_normal.specs.meaning.Written.{IsSideOf, magnitude, names_of}
+use Rattle.pb_normal.specs.declared.side.Side.TheVariants.{AtLeast}
+use Rattle.pb_sums.specs.declared.linear.Linear.{Linear}
+use Rattle.pb_text.specs.declared.Limits.{Limits}
+use Rattle.pb_text.specs.meaning.Limits.{largest}
+use Rattle.std.specs.Int.RustNames.{unsigned_abs}
 use Rattle.pb_propagate.specs.meaning.Propagation.{MayPropagate, opened}
+use Rattle.pb_trace.specs.declared.piece.Derivation.{Derivation}
+use Rattle.pb_trace.specs.declared.piece.Reasons.{Reasons}
+use Rattle.pb_trace.specs.declared.piece.Reasons.TheVariants.{Nothing, Plain, Shown}
+use Rattle.pb_trace.specs.declared.propagation.Base.{Base}
 use Rattle.pb_trace.specs.declared.propagation.Forced.{Forced}
 use Rattle.pb_trace.specs.declared.propagation.Over.{Over}
 use Rattle.pb_trace.specs.declared.propagation.Over.TheVariants.{Live, All, First}
 use Rattle.pb_trace.specs.declared.propagation.Propagation.{Propagation}
 use Rattle.pb_trace.specs.declared.propagation.Reason.{Reason}
 use Rattle.pb_trace.specs.declared.propagation.Reason.TheVariants.{Given, Negation, Id}
+use Rattle.pb_trace.specs.declared.reasons.Scene.{Scene}
+use Rattle.pb_trace.specs.declared.stored.Constraints.{Constraints}
 use Rattle.pb_trace.specs.declared.stored.Stored.{Stored}
 
 abbrev pub literal_of : Forced → NumberedLiteral
@@ -26,6 +41,10 @@ true_by (Some value) negated = if negated then not value else value
 -- whether values leave a literal true or open
 abbrev pub free_by : List (Option Bool) → ℕ → Bool → Bool
 free_by values v n = not (true_by (get_or values v None) (not n))
+
+-- whether values falsify the literal of a term
+abbrev pub falsified_by : List (Option Bool) → Entry → Bool
+falsified_by values t = true_by (get_or values t.variable None) (not t.negated)
 
 -- the values are those of the literals on the list
 abbrev pub AreValues : List (Option Bool) → List Forced → Type 0
@@ -52,8 +71,8 @@ module _ (negation : Option Form) (stored : List Stored) (over : Over) where
   Names Negation f = negation ≡ Some f
   Names (Id id) f = (s : Stored) × (slice_get stored (id - 1) ≡ Some s) × (s.form ≡ f) × Takes over id s
 
-  -- A literal became true after those of the list: the constraint that its reason names may propagate it, and has that slack
-  -- there.
+  -- A literal became true after those of the list: the constraint that its reason names may propagate it, and has that
+  -- slack there.
   pub record Follows (list : List Forced) (f : Forced) : Type 0 where
     pub may : MayPropagate (Names f.reason) (literals list) (literal_of f)
     pub slack : total (opened (literals list)) may.form.terms ≡ may.form.degree + f.slack
@@ -75,3 +94,70 @@ module _ (negation : Option Form) (stored : List Stored) (over : Over) where
 
   abbrev pub Keeps : Propagation → Propagation → Type 0
   Keeps old new = (given : List Forced) → IsSound given old → IsSound given new
+
+-- The slack of a constraint at the values of a propagation.
+abbrev pub HasSlack : Propagation → Form → ℕ → Type 0
+HasSlack p f slack = total (free_by p.values.items) f.terms ≡ f.degree + slack
+
+-- whatever propagates, if a reason names this constraint there
+abbrev pub KeepsNamed : Reason → Form → Propagation → Propagation → Type 0
+KeepsNamed reason f old new =
+    (negation : Option Form) (stored : List Stored) (over : Over) → Names negation stored over reason f
+    → Keeps negation stored over old new
+
+-- A propagation without literals is one of whatever propagates.
+abbrev pub IsFresh : Propagation → Type 0
+IsFresh p = (negation : Option Form) (stored : List Stored) (over : Over) → IsSound negation stored over [] p
+
+-- the same for what propagates in the code
+abbrev pub NamesOver : Base → Reason → Form → Type 0
+NamesOver b = Names (option_copied b.negation) b.constraints.now b.over
+
+abbrev pub IsSoundOver : Base → List Forced → Propagation → Type 0
+IsSoundOver b = IsSound (option_copied b.negation) b.constraints.now b.over
+
+abbrev pub KeepsOver : Base → Propagation → Propagation → Type 0
+KeepsOver b = Keeps (option_copied b.negation) b.constraints.now b.over
+
+-- The literals follow from a negation and the live stored constraints.
+abbrev pub IsDerived : Form → List Stored → List Forced → Type 0
+IsDerived negation stored list = Derived (Some negation) stored Live [] list
+
+-- The literals follow from the negation of a goal, which is shown.
+abbrev pub IsDerivation : Form → List Stored → Derivation → Type 0
+IsDerivation goal stored d = (d.negation ≡ Some (negation_of goal)) × IsDerived (negation_of goal) stored d.forced.items
+
+-- the form of a written goal, over these names and then those that it adds
+abbrev pub IsGoal : List (List ℕ) → Linear → Form → Type 0
+IsGoal names goal f = IsSideOf (with_names names (names_of goal.terms)) AtLeast goal f
+
+-- the goal exceeds the limits, or always holds
+abbrev pub IsNoGoal : Limits → List (List ℕ) → Linear → Type 0
+IsNoGoal limits names goal =
+    (largest limits < magnitude goal.terms + unsigned_abs goal.degree) ⊎ ((f : Form) × IsGoal names goal f × (f.degree ≡ 0))
+
+abbrev pub IsDerivationOf : List (List ℕ) → Linear → List Stored → Derivation → Type 0
+IsDerivationOf names goal stored d = (f : Form) × IsGoal names goal f × IsDerivation f stored d
+
+-- What is known of a goal begins with such a derivation, unless there is none.
+abbrev pub IsShown : Limits → List (List ℕ) → List Stored → Linear → Reasons → Type 0
+IsShown limits names stored goal Nothing = IsNoGoal limits names goal
+IsShown limits names stored goal (Plain lines) = ⊥
+IsShown limits names stored goal (Shown before d after) = (before ≡ None) × IsDerivationOf names goal stored d
+
+-- the same of the constraints in the code
+abbrev pub IsDerivedBy : Form → Constraints → List Forced → Type 0
+IsDerivedBy negation c = IsDerived negation c.forms.items
+
+abbrev pub IsDerivationBy : Form → Constraints → Option Derivation → Type 0
+IsDerivationBy goal c o = MatchOption o (goal.degree ≡ 0) (IsDerivation goal c.forms.items)
+
+abbrev pub IsGoalIn : Scene → Linear → Option Form → Type 0
+IsGoalIn s goal o = MatchOption o (IsNoGoal s.limits s.names goal) (IsGoal s.names goal)
+
+abbrev pub IsDerivationIn : Scene → Linear → Option Derivation → Type 0
+IsDerivationIn s goal o =
+    MatchOption o (IsNoGoal s.limits s.names goal) (IsDerivationOf s.names goal s.constraints.now.forms.items)
+
+abbrev pub IsShownIn : Scene → Linear → Reasons → Type 0
+IsShownIn s goal = IsShown s.limits s.names s.constraints.now.forms.items goal

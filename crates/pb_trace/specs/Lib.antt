@@ -3,5 +3,7 @@ pub mod Counted
 pub mod Derived
 pub mod Laws
 pub mod Live
+pub mod Named
 pub mod Rejected
+pub mod Styled
 pub mod Traced

@@ -12,6 +12,7 @@ use Rattle.pb_proof.specs.declared.Statement.{Statement}
 use Rattle.pb_proof.specs.declared.Statement.TheVariants.{Header, F, Pol, Rup, Soli, Solx, Delete, Output, Conclude, End}
 use Rattle.pb_normal.specs.meaning.Form.{Form}
 use Rattle.pb_replay.specs.contract.ReplayModel.{Replaying}
+use Rattle.pb_replay.specs.declared.fault.Fault.{Fault}
 use Rattle.pb_replay.specs.meaning.Replay.{place}
 use Rattle.pb_tool.specs.contract.Watched.{Call, Accepted, Rejected}
 use Rattle.pb_tool.specs.declared.CheckFault.{CheckFault}
@@ -19,7 +20,7 @@ use Rattle.pb_tool.specs.declared.Input.TheVariants.{Proof}
 use Rattle.pb_tool.specs.declared.ToolFault.{ToolFault}
 use Rattle.pb_tool.specs.declared.ToolFault.TheVariants.{Memory as NoMemory, Write as NotWritten}
 use Rattle.pb_trace.specs.Changes.{constraint_bytes}
-use Rattle.pb_trace.specs.Rejected.{IsWrong, Rejects, rejected_line, words_of}
+use Rattle.pb_trace.specs.Rejected.{IsWrong, Rejects, Seen, fault_in, rejected_line}
 use Rattle.pb_trace.specs.declared.broken.Broken.{Broken}
 use Rattle.pb_trace.specs.declared.broken.Broken.TheVariants.{Memory, Write}
 
@@ -49,7 +50,8 @@ module _ (ids : Bool) (lines : List ℕ) where
 
   -- the live constraints with the next so many ids, in order
   abbrev pub added_bytes : List ℕ → List (List ℕ) → List (Option Form) → ℕ → ℕ → List ℕ
-  added_bytes arrow names live newest more = flat_map (λ i. found_bytes arrow names (i + 1) (get_or live i None)) (range_with_len newest more)
+  added_bytes arrow names live newest more =
+      flat_map (λ i. found_bytes arrow names (i + 1) (get_or live i None)) (range_with_len newest more)
 
 -- the constraints after one is deleted by its id as written
 abbrev pub without : List (Option Form) → ℤ → List (Option Form)
@@ -58,7 +60,8 @@ without live id = set live (place (length live) id) None
 module _ (ids : Bool) (lines : List ℕ) where
   abbrev pub deletion_bytes : List (List ℕ) → List (Option Form) → ℤ → List ℕ
   deletion_bytes names live id =
-      let index = place (length live) id in found_bytes ids lines (codes "\n  -> no ") names (index + 1) (get_or live index None)
+      let index = place (length live) id in
+      found_bytes ids lines (codes "\n  -> no ") names (index + 1) (get_or live index None)
 
 -- the same for ids in turn, and what is written of it
 abbrev pub without_all : List (Option Form) → List ℤ → List (Option Form)
@@ -66,7 +69,8 @@ without_all = gathered without
 
 abbrev pub deleted_bytes : Bool → List ℕ → List (List ℕ) → List (Option Form) → List ℤ → List ℕ
 deleted_bytes ids lines names live [] = []
-deleted_bytes ids lines names live (x ∷ xs) = deletion_bytes ids lines names live x ++ deleted_bytes ids lines names (without live x) xs
+deleted_bytes ids lines names live (x ∷ xs) =
+    deletion_bytes ids lines names live x ++ deleted_bytes ids lines names (without live x) xs
 
 -- the best value of the objective, if there is one
 abbrev pub best_bytes : Option ℤ → List ℕ
@@ -134,6 +138,24 @@ pub record Tracing (S : Type 0) : Type 0 where
 abbrev pub ShowsAlike : {S : Type 0} → Tracing S → Tracing S → Type 0
 ShowsAlike old new = (new.ids ≡ old.ids) × (new.lines ≡ old.lines)
 
+-- what a trace sees a rejected statement with
+abbrev pub seen_of : {S : Type 0} → Tracing S → Spanned Statement → Replaying → Fault → Seen
+seen_of t read replay fault = record {
+  names = replay.names;
+  live = t.stored;
+  lines = t.lines;
+  limits = replay.limits;
+  statement = read.event;
+  fault = fault;
+}
+
+-- the line of a statement in a trace, and what is stored after it
+abbrev pub line_of_trace : {S : Type 0} → Tracing S → Spanned Statement → Replaying → List ℕ
+line_of_trace t read replay = line_bytes t.ids t.lines t.stored read replay
+
+abbrev pub StoresLine : {S : Type 0} → Tracing S → Spanned Statement → Replaying → Tracing S → Type 0
+StoresLine old read replay new = new.stored ≡ stored_after (extended old.stored replay.live) read.event
+
 module _ {S : Type 0} (contents : S → Option (List ℕ)) (faults : S → ℕ) where
   -- What a line leaves in its sink: the whole line; a prefix of it, and one fault; or nothing, if memory ran out.
   abbrev pub Traces : S → List ℕ → Result Unit ToolFault → S → Type 0
@@ -146,22 +168,24 @@ module _ {S : Type 0} (contents : S → Option (List ℕ)) (faults : S → ℕ) 
   -- what the replay has. Once a line could not be written, nothing changes.
   pub record ShowsLine (old : Tracing S) (read : Spanned Statement) (replay : Replaying) (new : Tracing S) : Type 0 where
     pub text : old.end ≡ Ok tt → Traces old.out (line_bytes old.ids old.lines old.stored read replay) new.end new.out
-    pub stored : old.end ≡ Ok tt → new.end ≡ Ok tt → new.stored ≡ stored_after (extended old.stored replay.live) read.event
+    pub stored : old.end ≡ Ok tt → new.end ≡ Ok tt → StoresLine old read replay new
     pub alike : ShowsAlike old new
     pub ended : IsErr old.end → new ≡ old
 
   -- The same without the line: only what is stored changes.
   pub record FollowsLine (old : Tracing S) (read : Spanned Statement) (replay : Replaying) (new : Tracing S) : Type 0 where
     pub out : new.out ≡ old.out
-    pub stored : old.end ≡ Ok tt → new.end ≡ Ok tt → new.stored ≡ stored_after (extended old.stored replay.live) read.event
+    pub stored : old.end ≡ Ok tt → new.end ≡ Ok tt → StoresLine old read replay new
     pub memory : old.end ≡ Ok tt → (new.end ≡ Ok tt) ⊎ (new.end ≡ Err (NoMemory Proof))
     pub alike : ShowsAlike old new
     pub ended : IsErr old.end → new ≡ old
 
   -- What a rejected statement adds after these bytes: lines that begin with two spaces. Nothing is written if memory ran
   -- out for the statement, as it may be right then.
-  pub record ShowsReasons (start : List ℕ) (old : Tracing S) (read : Spanned Statement) (replay : Replaying) (fault : CheckFault) (new : Tracing S) : Type 0 where
-    pub text : IsWrong fault → old.end ≡ Ok tt → Rejects contents faults start old.out replay.names old.stored (words_of read.event) new.end new.out
+  pub record ShowsReasons (start : List ℕ) (old : Tracing S) (read : Spanned Statement) (replay : Replaying)
+      (fault : CheckFault) (new : Tracing S) : Type 0 where
+    pub text : IsWrong fault → old.end ≡ Ok tt
+        → Rejects contents faults start old.out (seen_of old read replay (fault_in fault)) new.end new.out
     pub silent : (IsWrong fault → ⊥) → new ≡ old
     pub stored : new.stored ≡ old.stored
     pub alike : ShowsAlike old new

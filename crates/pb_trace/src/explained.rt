@@ -52,6 +52,13 @@ impl<S: Sink> Explained<S> {
         self.trace.describe(text);
     }
 
+    /// The sink.
+    pub fn into_out(self) -> S
+        ensures { result ≡ self.out }
+    {
+        self.trace.into_out()
+    }
+
     /// Whether all reasons were written. Otherwise memory ran out, or the output could not be written.
     pub fn end(&self) -> Result<(), ToolFault>
         ensures { result ≡ self.now.end }

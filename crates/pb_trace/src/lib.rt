@@ -2,10 +2,14 @@
 #![tactic(auto)]
 
 mod broken;
+mod derived;
 mod explained;
+mod facts;
 mod instance_text;
 pub mod laws;
 mod line;
+mod named;
+mod open_sums;
 mod piece;
 mod propagation;
 mod reasons;
@@ -13,6 +17,7 @@ mod rejected;
 mod stats;
 mod stored;
 mod trace;
+mod uses;
 mod write;
 
 pub use explained::Explained;

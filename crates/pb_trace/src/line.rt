@@ -1,10 +1,10 @@
 //! The line of an accepted statement.
 
-ghost use Rattle.std.specs.Prelude.{◌≡◌, ◌-◌, OnOk, codes, length};
+ghost use Rattle.std.specs.Prelude.{◌≡◌, OnOk};
 ghost use Rattle.std.specs.Option.{option_copied};
 ghost use Rattle.pb_text.specs.meaning.Writing.{Writes};
-ghost use Rattle.pb_trace.specs.Live.{live_in};
-ghost use Rattle.pb_trace.specs.Traced.{added_bytes, arrow_of, best_bytes, deleted_bytes, deletion_bytes, found_bytes, line_after, stored_after, tail_bytes, without, without_all};
+ghost use Rattle.pb_trace.specs.Styled.{StoresAfter, StoresWithout, StoresWithoutAll, added_in, deleted_in, deletion_in, found_in, line_in, tail_in};
+ghost use Rattle.pb_trace.specs.Traced.{arrow_of, best_bytes};
 
 use crate::stored::Constraints;
 use crate::write::{Named, Style, write_constraint, write_read};
@@ -33,8 +33,8 @@ pub(crate) fn write_line<S: Sink>(
     out: &mut S,
 ) -> Result<(), Failed>
     ensures text { Writes S.contents S.faults out.old
-        (line_after style.entry.ids style.entry.lines.now newest (live_in constraints.old.forms.items) read.now replay.now) result out.new }
-    ensures stored { OnOk result (live_in constraints.new.forms.items ≡ stored_after (live_in constraints.old.forms.items) read.now.event) }
+        (line_in style.entry newest constraints.old read.now replay.now) result out.new }
+    ensures stored { OnOk result (StoresAfter read.now.event constraints.old constraints.new) }
 {
     write_read(read, out)?;
     write_added(style, arrow_of(&read.event), newest, replay, out)?;
@@ -70,7 +70,7 @@ fn write_added<S: Sink>(
     out: &mut S,
 ) -> Result<(), Failed>
     ensures { Writes S.contents S.faults out.old
-        (added_bytes style.entry.ids style.entry.lines.now arrow.now replay.now.names replay.now.live newest (length replay.now.live - newest)) result out.new }
+        (added_in style.entry arrow.now newest replay.now) result out.new }
 {
     for index in newest..replay.newest() {
         write_found(
@@ -95,7 +95,7 @@ fn write_found<S: Sink>(
     out: &mut S,
 ) -> Result<(), Failed>
     ensures { Writes S.contents S.faults out.old
-        (found_bytes style.entry.ids style.entry.lines.now arrow.now replay.now.names id (option_copied form.entry)) result out.new }
+        (found_in style.entry arrow.now replay.now id (option_copied form.entry)) result out.new }
 {
     match form {
         Some(form) => write_constraint(style, arrow, id, form, replay, out),
@@ -112,8 +112,8 @@ fn write_tail<S: Sink>(
     out: &mut S,
 ) -> Result<(), Failed>
     ensures text { Writes S.contents S.faults out.old
-        (tail_bytes style.entry.ids style.entry.lines.now (live_in constraints.old.forms.items) replay.now read.now.event) result out.new }
-    ensures stored { OnOk result (live_in constraints.new.forms.items ≡ stored_after (live_in constraints.old.forms.items) read.now.event) }
+        (tail_in style.entry constraints.old replay.now read.now.event) result out.new }
+    ensures stored { OnOk result (StoresAfter read.now.event constraints.old constraints.new) }
 {
     match &read.event {
         Statement::Delete(ids) => write_deleted(
@@ -146,8 +146,8 @@ fn write_deleted<S: Sink>(
     out: &mut S,
 ) -> Result<(), Failed>
     ensures text { Writes S.contents S.faults out.old
-        (deleted_bytes style.entry.ids style.entry.lines.now replay.now.names (live_in constraints.old.forms.items) ids.now) result out.new }
-    ensures stored { OnOk result (live_in constraints.new.forms.items ≡ without_all (live_in constraints.old.forms.items) ids.now) }
+        (deleted_in style.entry replay.now constraints.old ids.now) result out.new }
+    ensures stored { OnOk result (StoresWithoutAll ids.now constraints.old constraints.new) }
 {
     for id in ids {
         write_deletion(style, *id, line, constraints, replay, out)?;
@@ -166,8 +166,8 @@ fn write_deletion<S: Sink>(
     out: &mut S,
 ) -> Result<(), Failed>
     ensures text { Writes S.contents S.faults out.old
-        (deletion_bytes style.entry.ids style.entry.lines.now replay.now.names (live_in constraints.old.forms.items) id) result out.new }
-    ensures stored { OnOk result (live_in constraints.new.forms.items ≡ without (live_in constraints.old.forms.items) id) }
+        (deletion_in style.entry replay.now constraints.old id) result out.new }
+    ensures stored { OnOk result (StoresWithout id constraints.old constraints.new) }
 {
     let Some((found, form)) = constraints.find_written(id) else {
         return Ok(());

@@ -1,5 +1,6 @@
 //! What the reasons of a rejection consist of.
 
+use crate::propagation::Forced;
 use pb_normal::Normal;
 use std::alloc::{AllocError, Global};
 
@@ -14,7 +15,7 @@ pub(crate) enum Piece {
     Number(i128),
     /// The literal of the variable with this number, and whether it is negated.
     Literal(usize, bool),
-    /// The constraint with this id, live or deleted.
+    /// The constraint with this id, live or deleted, after its id. Where it was added and deleted follows.
     Constraint(u64),
     /// A constraint that has no id.
     Form(Normal),
@@ -30,6 +31,22 @@ pub(crate) struct Lines {
     pub(crate) ends: Vec<usize>,
 }
 
+/// Literals that became true, in order: given ones, and those that a negation and stored constraints then force.
+#[derive(Drop)]
+pub(crate) struct Derivation {
+    pub(crate) negation: Option<Normal>,
+    pub(crate) forced: Vec<Forced>,
+}
+
+/// What is known of a rejection.
+#[derive(Drop)]
+pub(crate) enum Reasons {
+    Nothing,
+    Plain(Lines),
+    /// A derivation, with the lines before it, if there are any, and those after it.
+    Shown(Option<Lines>, Derivation, Lines),
+}
+
 impl Lines {
     /// No lines.
     pub(crate) fn new(alloc: Global) -> Lines {
@@ -42,11 +59,6 @@ impl Lines {
     /// Adds a line.
     pub(crate) fn add(&mut self, mut pieces: Vec<Piece>) -> Result<(), AllocError> {
         self.pieces.append(&mut pieces)?;
-        self.end_line()
-    }
-
-    /// Ends the line of the parts so far.
-    pub(crate) fn end_line(&mut self) -> Result<(), AllocError> {
         self.ends.push(self.pieces.len())?;
         Ok(())
     }

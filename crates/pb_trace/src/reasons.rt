@@ -6,12 +6,23 @@ mod near;
 mod pol;
 mod propagated;
 
+ghost use Rattle.std.specs.Prelude.{◌≡◌, IfOk, Some};
+ghost use Rattle.std.specs.Option.{option_copied};
+ghost use Rattle.pb_sums.specs.declared.linear.Linear.{Linear};
+ghost use Rattle.pb_normal.specs.meaning.Names.{AreDistinct};
+ghost use Rattle.pb_proof.specs.declared.Statement.TheVariants.{Rup};
+ghost use Rattle.pb_replay.specs.declared.fault.Fault.TheVariants.{NotImplied};
+ghost use Rattle.pb_trace.specs.Derived.{IsShownIn};
+ghost use Rattle.pb_trace.specs.Rejected.{IsUnshown};
+
 use crate::instance_text::InstanceText;
-use crate::piece::{Lines, Piece};
+use crate::piece::{Derivation, Lines, Piece, Reasons};
+use crate::propagation::Forced;
 use crate::stored::Constraints;
 use pb_normal::{Names, Normal};
 use pb_proof::{Conclusion, Statement};
 use pb_replay::{Fault, Replay};
+use pb_sums::Linear;
 use pb_text::Limits;
 use std::alloc::{AllocError, Global};
 
@@ -27,33 +38,105 @@ pub(crate) struct Scene<'a> {
     pub(crate) best: Option<i128>,
     /// The line of the last statement that logged a solution, or 0.
     pub(crate) logged: u64,
+    /// A derivation, and the lines before it.
+    pub(crate) shown: Option<(Lines, Derivation)>,
+    /// Lines, after the derivation if there is one.
     pub(crate) lines: Lines,
 }
 
 /// The names of a replay, each with its number there.
-pub(crate) fn names_of(alloc: Global, replay: &Replay) -> Result<Names, AllocError> {
+fn names_of(alloc: Global, replay: &Replay) -> Result<Names, AllocError>
+    ensures { IfOk result (λ names. AreDistinct replay.now.names → names ≡ replay.now.names) }
+{
     let mut names = Names::new(alloc);
     for number in 0..usize::MAX {
-        match replay.name_of(number) {
-            Some(name) => {
-                let _ = names.number(name)?;
-            }
-            None => break,
-        }
+        let Some(name) = replay.name_of(number) else {
+            return Ok(names);
+        };
+        let _ = names.number(name)?;
     }
-    Ok(names)
+    Err(AllocError)
 }
 
-impl Scene<'_> {
-    /// Finds the reasons for a fault of a statement.
-    pub(crate) fn find(&mut self, statement: &Statement, fault: Fault) -> Result<(), AllocError> {
+/// The goal of a `rup` that propagation does not show.
+fn goal_of(statement: &Statement, fault: Fault) -> Option<&Linear>
+    ensures { (goal : Linear) → statement.now ≡ Rup goal → fault ≡ NotImplied
+        → option_copied result ≡ Some goal }
+{
+    match (fault, statement) {
+        (Fault::NotImplied, Statement::Rup(goal)) => Some(goal),
+        _ => None,
+    }
+}
+
+impl<'a> Scene<'a> {
+    /// What a trace stores, and what a replay has.
+    pub(crate) fn new(
+        alloc: Global,
+        constraints: &'a Constraints,
+        text: &'a InstanceText,
+        logged: u64,
+        replay: &Replay,
+    ) -> Result<Scene<'a>, AllocError>
+        ensures constraints { IfOk result (λ s. s.constraints.now ≡ constraints.now) }
+        ensures limits { IfOk result (λ s. s.limits ≡ replay.now.limits) }
+        ensures names { IfOk result
+            (λ s. AreDistinct replay.now.names → s.names ≡ replay.now.names) }
+    {
+        Ok(Scene {
+            alloc,
+            constraints,
+            text,
+            names: names_of(alloc, replay)?,
+            limits: replay.limits(),
+            best: replay.best(),
+            logged,
+            shown: None,
+            lines: Lines::new(alloc),
+        })
+    }
+
+    /// The reasons for a fault of a statement.
+    pub(crate) fn reasons(
+        mut self,
+        statement: &Statement,
+        fault: Fault,
+    ) -> Result<Reasons, AllocError>
+        ensures { IfOk result
+            (λ r. (goal : Linear) → IsUnshown statement.now fault goal → IsShownIn self.entry goal r) }
+    {
+        match goal_of(statement, fault) {
+            Some(goal) => self.not_implied(goal),
+            None => {
+                self.find(statement, fault)?;
+                Ok(self.found())
+            }
+        }
+    }
+
+    /// The reasons so far.
+    fn found(self) -> Reasons {
+        let Scene { shown, lines, .. } = self;
+        match shown {
+            Some((before, derivation)) => Reasons::Shown(Some(before), derivation, lines),
+            None => Reasons::Plain(lines),
+        }
+    }
+
+    /// Shows literals that became true after the lines so far.
+    fn show(&mut self, negation: Option<Normal>, forced: Vec<Forced>) {
+        let before = std::mem::replace(&mut self.lines, Lines::new(self.alloc));
+        self.shown = Some((before, Derivation { negation, forced }));
+    }
+
+    /// Finds the reasons for another fault of a statement.
+    fn find(&mut self, statement: &Statement, fault: Fault) -> Result<(), AllocError> {
         match (fault, statement) {
             (Fault::FormulaCount(count), _) => self.say_count(count),
             (Fault::NoSuchId(_) | Fault::Overflow, Statement::Pol(words)) => {
                 self.say_words(words.as_slice())?;
                 self.say_fault(fault)
             }
-            (Fault::NotImplied, Statement::Rup(goal)) => self.say_not_implied(goal),
             (
                 Fault::Conflict | Fault::NotTotal(_) | Fault::Violates(_),
                 Statement::Soli(given) | Statement::Solx(given),
@@ -157,45 +240,9 @@ impl Scene<'_> {
 
     /// Adds a line with a constraint after a label and its id.
     fn say_constraint(&mut self, label: &'static [u8], id: u64) -> Result<(), AllocError> {
-        let mut pieces = vec![in self.alloc; Piece::Text(label)]?;
-        self.push_constraint(&mut pieces, id)?;
+        let pieces = vec![in self.alloc; Piece::Text(label), Piece::Constraint(id)]?;
         self.say(pieces)
     }
-
-    /// Adds a constraint after its id, with the lines where it was added and deleted.
-    fn push_constraint(&self, pieces: &mut Vec<Piece>, id: u64) -> Result<(), AllocError> {
-        let Some(stored) = self.constraints.find(id) else {
-            return Ok(());
-        };
-        pieces.push(Piece::Count(id))?;
-        pieces.push(Piece::Text(b": "))?;
-        pieces.push(Piece::Constraint(id))?;
-        let is_loaded = id <= self.constraints.loaded().len() as u64;
-        match (
-            is_loaded,
-            self.text.lines.get(id.saturating_sub(1) as usize),
-        ) {
-            (true, Some(line)) => push_counted(pieces, b" (instance line ", *line)?,
-            (true, None) => pieces.push(Piece::Text(b" (instance"))?,
-            (false, _) => push_counted(pieces, b" (proof line ", stored.added)?,
-        }
-        if stored.deleted > 0 {
-            push_counted(pieces, b", deleted in proof line ", stored.deleted)?;
-        }
-        pieces.push(Piece::Text(b")"))?;
-        Ok(())
-    }
-}
-
-/// Adds a count after a label.
-fn push_counted(
-    pieces: &mut Vec<Piece>,
-    label: &'static [u8],
-    count: u64,
-) -> Result<(), AllocError> {
-    pieces.push(Piece::Text(label))?;
-    pieces.push(Piece::Count(count))?;
-    Ok(())
 }
 
 /// A copy of a form.

@@ -3,13 +3,15 @@
 ghost use Rattle.std.specs.Prelude.{◌≡◌, ◌-◌, slice_get};
 ghost use Rattle.std.specs.Option.{option_copied};
 ghost use Rattle.pb_text.specs.meaning.Writing.{Writes};
-ghost use Rattle.pb_trace.specs.Rejected.{WritesPieces, WritesReasons, piece_bytes, rejected_line, stored_bytes, word_shown, words_of};
+ghost use Rattle.pb_trace.specs.Named.{known_by};
+ghost use Rattle.pb_trace.specs.Rejected.{WritesAll, WritesBefore, WritesPieces, WritesReasons, WritesShown, piece_bytes, rejected_line, word_shown, words_of};
 
-use crate::piece::{Lines, Piece};
-use crate::stored::Stored;
+use crate::derived::write_derivation;
+use crate::facts::Facts;
+use crate::named::write_named;
+use crate::piece::{Derivation, Lines, Piece, Reasons};
 use crate::write::{write_form, write_numbered, write_read, write_word};
 use pb_proof::{PolWord, Statement};
-use pb_replay::Replay;
 use pb_sums::{write_count, write_number};
 use pb_text::{Failed, Sink, Spanned, write_bytes};
 
@@ -42,103 +44,105 @@ pub(crate) fn words_in(statement: &Statement) -> &[PolWord]
     }
 }
 
-/// Writes reasons, a line each.
+/// Writes what is known of a rejection.
 pub(crate) fn write_reasons<S: Sink>(
-    lines: &Lines,
-    stored: &[Stored],
-    words: &[PolWord],
-    replay: &Replay,
+    reasons: &Reasons,
+    facts: &Facts<'_>,
     out: &mut S,
 ) -> Result<(), Failed>
-    ensures { WritesReasons S.contents S.faults replay.now.names stored.now words.now out.old result out.new }
+    ensures { WritesAll S.contents S.faults (known_by facts.now) reasons.now out.old result out.new }
+{
+    match reasons {
+        Reasons::Nothing => Ok(()),
+        Reasons::Plain(lines) => write_lines(lines, facts, out),
+        Reasons::Shown(before, derivation, after) => {
+            write_shown(before, derivation, after, facts, out)
+        }
+    }
+}
+
+/// Writes a derivation between the lines before and after it.
+fn write_shown<S: Sink>(
+    before: &Option<Lines>,
+    derivation: &Derivation,
+    after: &Lines,
+    facts: &Facts<'_>,
+    out: &mut S,
+) -> Result<(), Failed>
+    ensures { WritesShown S.contents S.faults (known_by facts.now) before.now derivation.now out.old result out.new }
+{
+    write_before(before, facts, out)?;
+    write_derivation(derivation, facts, out)?;
+    write_lines(after, facts, out)
+}
+
+/// Writes the lines before a derivation, if there are any.
+fn write_before<S: Sink>(
+    before: &Option<Lines>,
+    facts: &Facts<'_>,
+    out: &mut S,
+) -> Result<(), Failed>
+    ensures { WritesBefore S.contents S.faults (known_by facts.now) before.now out.old result out.new }
+{
+    match before {
+        Some(lines) => write_lines(lines, facts, out),
+        None => Ok(()),
+    }
+}
+
+/// Writes lines.
+fn write_lines<S: Sink>(lines: &Lines, facts: &Facts<'_>, out: &mut S) -> Result<(), Failed>
+    ensures { WritesReasons S.contents S.faults (known_by facts.now) out.old result out.new }
 {
     let mut start = 0;
     for end in &lines.ends {
         let pieces = lines.pieces.get(start..*end).unwrap_or(&[]);
-        write_reason(pieces, stored, words, replay, out)?;
+        write_reason(pieces, facts, out)?;
         start = *end;
     }
     Ok(())
 }
 
 /// Writes a line of the reasons.
-fn write_reason<S: Sink>(
-    pieces: &[Piece],
-    stored: &[Stored],
-    words: &[PolWord],
-    replay: &Replay,
-    out: &mut S,
-) -> Result<(), Failed>
-    ensures { WritesReasons S.contents S.faults replay.now.names stored.now words.now out.old result out.new }
+fn write_reason<S: Sink>(pieces: &[Piece], facts: &Facts<'_>, out: &mut S) -> Result<(), Failed>
+    ensures { WritesReasons S.contents S.faults (known_by facts.now) out.old result out.new }
 {
     write_bytes(b"  ", out)?;
-    write_pieces(pieces, stored, words, replay, out)?;
+    write_pieces(pieces, facts, out)?;
     write_bytes(b"\n", out)
 }
 
 /// Writes the parts of a line.
-fn write_pieces<S: Sink>(
-    pieces: &[Piece],
-    stored: &[Stored],
-    words: &[PolWord],
-    replay: &Replay,
-    out: &mut S,
-) -> Result<(), Failed>
-    ensures { WritesPieces S.contents S.faults replay.now.names stored.now words.now out.old result out.new }
+fn write_pieces<S: Sink>(pieces: &[Piece], facts: &Facts<'_>, out: &mut S) -> Result<(), Failed>
+    ensures { WritesPieces S.contents S.faults (known_by facts.now) out.old result out.new }
 {
     for piece in pieces {
-        write_piece(piece, stored, words, replay, out)?;
+        write_piece(piece, facts, out)?;
     }
     Ok(())
 }
 
 /// Writes a part of a line.
-fn write_piece<S: Sink>(
-    piece: &Piece,
-    stored: &[Stored],
-    words: &[PolWord],
-    replay: &Replay,
-    out: &mut S,
-) -> Result<(), Failed>
-    ensures { WritesPieces S.contents S.faults replay.now.names stored.now words.now out.old result out.new }
+fn write_piece<S: Sink>(piece: &Piece, facts: &Facts<'_>, out: &mut S) -> Result<(), Failed>
+    ensures { WritesPieces S.contents S.faults (known_by facts.now) out.old result out.new }
 {
-    write_part(piece, stored, words, replay, out)
+    write_part(piece, facts, out)
 }
 
-fn write_part<S: Sink>(
-    piece: &Piece,
-    stored: &[Stored],
-    words: &[PolWord],
-    replay: &Replay,
-    out: &mut S,
-) -> Result<(), Failed>
-    ensures { Writes S.contents S.faults out.old (piece_bytes replay.now.names stored.now words.now piece.now) result out.new }
+fn write_part<S: Sink>(piece: &Piece, facts: &Facts<'_>, out: &mut S) -> Result<(), Failed>
+    ensures { Writes S.contents S.faults out.old
+        (piece_bytes (known_by facts.now) piece.now) result out.new }
 {
     match piece {
         Piece::Text(text) => write_bytes(text, out),
         Piece::Count(count) => write_count(*count, out),
         Piece::Number(number) => write_number(*number, out),
-        Piece::Literal(variable, negated) => write_numbered(*variable, *negated, replay, out),
-        Piece::Constraint(id) => write_stored(stored_at(stored, *id), replay, out),
-        Piece::Form(form) => write_form(form, replay, out),
-        Piece::Word(position) => write_word_shown(word_at(words, *position), out),
-    }
-}
-
-/// The stored constraint with an id.
-fn stored_at(stored: &[Stored], id: u64) -> Option<&Stored>
-    ensures { option_copied result ≡ slice_get stored.now (id - 1) }
-{
-    stored.get(id.saturating_sub(1) as usize)
-}
-
-/// Writes a stored constraint, if there is one.
-fn write_stored<S: Sink>(found: Option<&Stored>, replay: &Replay, out: &mut S) -> Result<(), Failed>
-    ensures { Writes S.contents S.faults out.old (stored_bytes replay.now.names (option_copied found.entry)) result out.new }
-{
-    match found {
-        Some(found) => write_form(&found.form, replay, out),
-        None => Ok(()),
+        Piece::Literal(variable, negated) => {
+            write_numbered(*variable, *negated, facts.replay, out)
+        }
+        Piece::Constraint(id) => write_named(b"", *id, facts, out),
+        Piece::Form(form) => write_form(form, facts.replay, out),
+        Piece::Word(position) => write_word_shown(word_at(facts.words, *position), out),
     }
 }
 
@@ -151,7 +155,8 @@ fn word_at(words: &[PolWord], position: usize) -> Option<&PolWord>
 
 /// Writes a word, if there is one.
 fn write_word_shown<S: Sink>(found: Option<&PolWord>, out: &mut S) -> Result<(), Failed>
-    ensures { Writes S.contents S.faults out.old (word_shown (option_copied found.entry)) result out.new }
+    ensures { Writes S.contents S.faults out.old
+        (word_shown (option_copied found.entry)) result out.new }
 {
     match found {
         Some(word) => write_word(word, out),

@@ -2,7 +2,7 @@
 
 ghost use Rattle.std.specs.Prelude.{◌≡◌};
 ghost use Rattle.pb_text.specs.meaning.Writing.{Writes};
-ghost use Rattle.pb_trace.specs.Counted.{counted, deletions_of, seen, seen_by, statements_in, stats_bytes, visits_of};
+ghost use Rattle.pb_trace.specs.Counted.{no_counts, counted, deletions_of, seen, seen_by, statements_in, stats_bytes, visits_of};
 
 use crate::write::write_counted;
 use pb_proof::Statement;
@@ -29,7 +29,7 @@ pub struct Stats {
 impl Stats {
     /// Before any statement.
     pub fn new() -> Stats
-        ensures { result ≡ record { pol = 0; rup = 0; soli = 0; solx = 0; delete = 0; others = 0; visits = 0; newest = 0; live = 0; most_live = 0; bytes = 0 } }
+        ensures { result ≡ no_counts }
     {
         Stats {
             pol: 0,

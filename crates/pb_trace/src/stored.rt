@@ -3,7 +3,7 @@
 ghost use Rattle.std.specs.Prelude.{◌≡◌, ◌<◌, ◌+◌, ◌-◌, [], ◌∷◌, ◌++◌, Some, None, IfErr, OnOk, MatchOption, get_or, if◌then◌else◌, length, set, slice_get, take};
 ghost use Rattle.std.specs.Option.{option_copied};
 ghost use Rattle.pb_replay.specs.meaning.Replay.{place};
-ghost use Rattle.pb_trace.specs.Live.{live_in};
+ghost use Rattle.pb_trace.specs.Live.{stored_in};
 ghost use Rattle.pb_trace.specs.Traced.{extended, without, without_all};
 
 use crate::broken::Broken;
@@ -44,7 +44,7 @@ impl Constraints {
 
     /// Stores the constraints that a replay has gained by the statement in a line.
     pub(crate) fn extend(&mut self, replay: &Replay, line: u64) -> Result<(), Broken>
-        ensures ok { OnOk result (live_in self.new.forms.items ≡ extended (live_in self.old.forms.items) replay.now.live) }
+        ensures ok { OnOk result (stored_in self.new ≡ extended (stored_in self.old) replay.now.live) }
         ensures memory { IfErr result (λ e. e ≡ Broken.Memory) }
     {
         for index in self.newest()..replay.newest() {
@@ -55,7 +55,8 @@ impl Constraints {
 
     /// Stores a copy of a constraint. Without one, it stores one that always holds, as a deleted one.
     fn store(&mut self, form: Option<&Normal>, line: u64) -> Result<(), Broken>
-        ensures ok { OnOk result (live_in self.new.forms.items ≡ live_in self.old.forms.items ++ option_copied form.entry ∷ []) }
+        ensures ok { OnOk result
+            (stored_in self.new ≡ stored_in self.old ++ option_copied form.entry ∷ []) }
         ensures memory { IfErr result (λ e. e ≡ Broken.Memory) }
     {
         match form {
@@ -68,7 +69,8 @@ impl Constraints {
     }
 
     fn push(&mut self, form: Normal, is_live: bool, added: u64) -> Result<(), Broken>
-        ensures ok { OnOk result (live_in self.new.forms.items ≡ live_in self.old.forms.items ++ (if is_live then Some form else None) ∷ []) }
+        ensures ok { OnOk result
+            (stored_in self.new ≡ stored_in self.old ++ (if is_live then Some form else None) ∷ []) }
         ensures memory { IfErr result (λ e. e ≡ Broken.Memory) }
     {
         self.forms.push(Stored {
@@ -80,7 +82,7 @@ impl Constraints {
         Ok(())
     }
 
-    /// The constraints so far are those of the instance, and so many names.
+    /// The constraints so far are those of the instance, and it has this many names.
     pub(crate) fn end_instance(&mut self, own: usize)
         ensures forms { self.new.forms ≡ self.old.forms }
         ensures loaded { self.new.loaded ≡ length self.old.forms.items }
@@ -114,7 +116,7 @@ impl Constraints {
 
     /// The live constraint with an id as it is written. A negative id counts back from the newest.
     pub(crate) fn find_written(&self, id: i64) -> Option<(u64, &Normal)>
-        ensures { let index = place (length self.now.forms.items) id in let form = get_or (live_in self.now.forms.items) index None in
+        ensures { let index = place (length self.now.forms.items) id in let form = get_or (stored_in self.now) index None in
             MatchOption result (form ≡ None) (λ r. (r.0 ≡ index + 1) × (form ≡ Some r.1.now)) }
     {
         let index = self.index_of(id);
@@ -161,7 +163,7 @@ impl Constraints {
 
     /// Deletes a constraint in a line, and it then stays as a deleted one.
     pub(crate) fn delete(&mut self, id: u64, line: u64)
-        ensures { 0 < id → live_in self.new.forms.items ≡ set (live_in self.old.forms.items) (id - 1) None }
+        ensures { 0 < id → stored_in self.new ≡ set (stored_in self.old) (id - 1) None }
     {
         if id == 0 {
             return;
@@ -174,7 +176,7 @@ impl Constraints {
 
     /// Deletes constraints by their ids as they are written, in a line.
     pub(crate) fn delete_all(&mut self, ids: &[i64], line: u64)
-        ensures { live_in self.new.forms.items ≡ without_all (live_in self.old.forms.items) ids.now }
+        ensures { stored_in self.new ≡ without_all (stored_in self.old) ids.now }
     {
         for id in ids {
             self.delete_written(*id, line);
@@ -183,7 +185,7 @@ impl Constraints {
 
     /// Deletes a constraint by its id as it is written, in a line. If there is no such constraint, it does nothing.
     fn delete_written(&mut self, id: i64, line: u64)
-        ensures { live_in self.new.forms.items ≡ without (live_in self.old.forms.items) id }
+        ensures { stored_in self.new ≡ without (stored_in self.old) id }
     {
         let index = self.index_of(id);
         if let Some(stored) = self.forms.get_mut(index as usize) {

@@ -3,14 +3,15 @@
 ghost use Rattle.std.specs.Prelude.{◌≡◌, [], OnOk, IfErr};
 ghost use Rattle.std.specs.Result.{IsErr};
 ghost use Rattle.pb_trace.specs.Live.{live_in};
-ghost use Rattle.pb_trace.specs.Rejected.{IsWrong, Rejects, rejected_line, words_of};
-ghost use Rattle.pb_trace.specs.Traced.{FollowsLine, ShowsAlike, ShowsReasons, Traces, TracesCall, broken_by, end_of, extended, line_bytes, stored_after};
+ghost use Rattle.pb_trace.specs.Derived.{IsShown};
+ghost use Rattle.pb_trace.specs.Rejected.{IsUnshown, IsWrong, Rejects, fault_in, rejected_line};
+ghost use Rattle.pb_trace.specs.Traced.{FollowsLine, ShowsAlike, ShowsReasons, Traces, TracesCall, broken_by, end_of, StoresLine, extended, line_of_trace, seen_of};
 
 use crate::broken::Broken;
+use crate::facts::Facts;
 use crate::instance_text::InstanceText;
 use crate::line::write_line;
-use crate::piece::Lines;
-use crate::reasons::{Scene, names_of};
+use crate::reasons::Scene;
 use crate::rejected::{words_in, write_reasons, write_rejected_line};
 use crate::stored::Constraints;
 use crate::write::Style;
@@ -18,7 +19,7 @@ use pb_proof::Statement;
 use pb_replay::{Fault, Replay};
 use pb_text::{Sink, Spanned};
 use pb_tool::{CheckFault, Input, ToolFault, Watch};
-use std::alloc::{AllocError, Global};
+use std::alloc::Global;
 use std::marker::Model;
 
 /// Writes a line for each accepted statement: its position, its canonical text, and each constraint that it adds, as in
@@ -83,6 +84,13 @@ impl<S: Sink> Trace<S> {
         self.text = text;
     }
 
+    /// The sink.
+    pub fn into_out(self) -> S
+        ensures { result ≡ self.out }
+    {
+        self.out
+    }
+
     /// Whether all lines were written. Otherwise memory ran out, or the output could not be written.
     pub fn end(&self) -> Result<(), ToolFault>
         ensures { result ≡ self.now.end }
@@ -128,7 +136,7 @@ impl<S: Sink> Trace<S> {
     /// Stores what an accepted statement adds, and that it deletes.
     fn store_accepted(&mut self, read: &Spanned<Statement>, replay: &Replay) -> Result<(), Broken>
         ensures out { self.new.out ≡ self.old.out }
-        ensures stored { OnOk result (self.new.stored ≡ stored_after (extended self.old.stored replay.now.live) read.now.event) }
+        ensures stored { OnOk result (StoresLine self.old read.now replay.now self.new) }
         ensures end { self.new.end ≡ self.old.end }
         ensures alike { ShowsAlike self.old self.new }
         ensures memory { IfErr result (λ e. e ≡ Broken.Memory) }
@@ -161,8 +169,8 @@ impl<S: Sink> Trace<S> {
     /// Writes the line of an accepted statement.
     fn write_accepted(&mut self, read: &Spanned<Statement>, replay: &Replay) -> Result<(), Broken>
         ensures text { Traces S.contents S.faults self.old.out
-            (line_bytes self.old.ids self.old.lines self.old.stored read.now replay.now) (end_of (broken_by result)) self.new.out }
-        ensures stored { OnOk result (self.new.stored ≡ stored_after (extended self.old.stored replay.now.live) read.now.event) }
+            (line_of_trace self.old read.now replay.now) (end_of (broken_by result)) self.new.out }
+        ensures stored { OnOk result (StoresLine self.old read.now replay.now self.new) }
         ensures end { self.new.end ≡ self.old.end }
         ensures alike { ShowsAlike self.old self.new }
     {
@@ -190,8 +198,8 @@ impl<S: Sink> Trace<S> {
         replay: &Replay,
         fault: Fault,
     ) -> Result<(), Broken>
-        ensures text { Rejects S.contents S.faults (rejected_line read.now) self.old.out replay.now.names self.old.stored
-            (words_of read.now.event) (end_of (broken_by result)) self.new.out }
+        ensures text { Rejects S.contents S.faults (rejected_line read.now) self.old.out
+            (seen_of self.old read.now replay.now fault) (end_of (broken_by result)) self.new.out }
         ensures stored { self.new.stored ≡ self.old.stored }
         ensures end { self.new.end ≡ self.old.end }
         ensures alike { ShowsAlike self.old self.new }
@@ -207,37 +215,29 @@ impl<S: Sink> Trace<S> {
         replay: &Replay,
         fault: Fault,
     ) -> Result<(), Broken>
-        ensures text { Rejects S.contents S.faults [] self.old.out replay.now.names self.old.stored
-            (words_of read.now.event) (end_of (broken_by result)) self.new.out }
+        ensures text { Rejects S.contents S.faults [] self.old.out
+            (seen_of self.old read.now replay.now fault) (end_of (broken_by result)) self.new.out }
         ensures stored { self.new.stored ≡ self.old.stored }
         ensures end { self.new.end ≡ self.old.end }
         ensures alike { ShowsAlike self.old self.new }
     {
-        let lines = self.find_why(&read.event, replay, fault)?;
-        let words = words_in(&read.event);
-        write_reasons(&lines, self.constraints.all(), words, replay, &mut self.out)?;
-        Ok(())
-    }
-
-    /// What is known of a fault of a statement.
-    fn find_why(
-        &self,
-        statement: &Statement,
-        replay: &Replay,
-        fault: Fault,
-    ) -> Result<Lines, AllocError> {
-        let mut scene = Scene {
-            alloc: self.alloc,
-            constraints: &self.constraints,
-            text: &self.text,
-            names: names_of(self.alloc, replay)?,
-            limits: replay.limits(),
-            best: replay.best(),
-            logged: self.logged,
-            lines: Lines::new(self.alloc),
+        let known = Scene::new(
+            self.alloc,
+            &self.constraints,
+            &self.text,
+            self.logged,
+            replay,
+        )?;
+        let reasons = known.reasons(&read.event, fault)?;
+        let facts = Facts {
+            stored: self.constraints.all(),
+            loaded: self.constraints.loaded().len(),
+            lines: self.text.lines.as_slice(),
+            words: words_in(&read.event),
+            replay,
         };
-        scene.find(statement, fault)?;
-        Ok(scene.lines)
+        write_reasons(&reasons, &facts, &mut self.out)?;
+        Ok(())
     }
 
     /// Writes the line of a rejected statement, and the reasons. If memory ran out, the statement may be right, and
@@ -248,8 +248,9 @@ impl<S: Sink> Trace<S> {
         replay: &Replay,
         fault: CheckFault,
     ) -> Result<(), Broken>
-        ensures text { IsWrong fault → Rejects S.contents S.faults (rejected_line read.now) self.old.out replay.now.names self.old.stored
-            (words_of read.now.event) (end_of (broken_by result)) self.new.out }
+        ensures text { IsWrong fault → Rejects S.contents S.faults (rejected_line read.now)
+            self.old.out (seen_of self.old read.now replay.now (fault_in fault))
+            (end_of (broken_by result)) self.new.out }
         ensures silent { (IsWrong fault → ⊥) → (self.new ≡ self.old) × (result ≡ Ok tt) }
         ensures stored { self.new.stored ≡ self.old.stored }
         ensures end { self.new.end ≡ self.old.end }

@@ -1,16 +1,15 @@
 //! Lines of a trace.
 
-ghost use Rattle.std.specs.Prelude.{◌≡◌, ◌<◌, ◌^◌, ◌-◌, ◌∷◌, ◌++◌, List, ℕ, All, length, map, slice_get, decimal, codes};
+ghost use Rattle.std.specs.Prelude.{◌≡◌, pos, ◌<◌, ◌^◌, ◌-◌, ◌∷◌, ◌++◌, List, ℕ, All, length, map, slice_get, decimal, codes};
 ghost use Rattle.std.specs.Fmt.{signed_decimal};
 ghost use Rattle.std.specs.Option.{option_copied};
 ghost use Rattle.pb_text.specs.meaning.Writing.{Writes};
 ghost use Rattle.pb_sums.specs.meaning.Sums.{literal_bytes};
-ghost use Rattle.pb_sums.specs.contract.Canonical.{head_bytes, linear_bytes, place_bytes, term_bytes};
+ghost use Rattle.pb_sums.specs.contract.Canonical.{head_bytes, place_bytes, term_bytes};
 ghost use Rattle.pb_proof.specs.meaning.Canonical.{statement_bytes, word_bytes};
 ghost use Rattle.pb_normal.specs.meaning.Form.{total, each};
-ghost use Rattle.pb_normal.specs.meaning.Written.{linear_of};
 ghost use Rattle.pb_trace.specs.Counted.{count_line};
-ghost use Rattle.pb_trace.specs.Changes.{name_shown, term_shown, form_bytes, change_bytes, constraint_bytes, id_bytes, origin_bytes};
+ghost use Rattle.pb_trace.specs.Changes.{HasAllNames, IsLinearText, coefficient_bytes, end_bytes, name_shown, term_shown, form_bytes, change_bytes, constraint_in, id_bytes, origin_bytes};
 
 use pb_normal::{Entry, Normal};
 use pb_proof::{PolWord, Statement, write_statement};
@@ -48,7 +47,8 @@ pub(crate) fn write_counted<S: Sink>(name: &[u8], count: u64, out: &mut S) -> Re
 
 /// Writes the position and the canonical text of a statement.
 pub(crate) fn write_read<S: Sink>(read: &Spanned<Statement>, out: &mut S) -> Result<(), Failed>
-    ensures { Writes S.contents S.faults out.old (place_bytes read.now.first ++ statement_bytes read.now.event) result out.new }
+    ensures { Writes S.contents S.faults out.old
+        (place_bytes read.now.first ++ statement_bytes read.now.event) result out.new }
 {
     write_place(read.first, out)?;
     write_statement(&read.event, out)
@@ -62,7 +62,8 @@ pub(crate) fn write_change<S: Sink, N: Named>(
     names: &N,
     out: &mut S,
 ) -> Result<(), Failed>
-    ensures { Writes S.contents S.faults out.old (change_bytes arrow.now (N.names names.now) id form.now) result out.new }
+    ensures { Writes S.contents S.faults out.old
+        (change_bytes arrow.now (N.names names.now) id form.now) result out.new }
 {
     write_bytes(arrow, out)?;
     write_count(id, out)?;
@@ -79,7 +80,8 @@ pub(crate) fn write_constraint<S: Sink, N: Named>(
     names: &N,
     out: &mut S,
 ) -> Result<(), Failed>
-    ensures { Writes S.contents S.faults out.old (constraint_bytes style.entry.ids style.entry.lines.now arrow.now (N.names names.now) id form.now) result out.new }
+    ensures { Writes S.contents S.faults out.old
+        (constraint_in style.entry arrow.now (N.names names.now) id form.now) result out.new }
 {
     write_id(style.ids, arrow, id, form, names, out)?;
     write_origin(line_of(style.lines, id), out)
@@ -94,7 +96,8 @@ fn write_id<S: Sink, N: Named>(
     names: &N,
     out: &mut S,
 ) -> Result<(), Failed>
-    ensures { Writes S.contents S.faults out.old (id_bytes ids arrow.now (N.names names.now) id form.now) result out.new }
+    ensures { Writes S.contents S.faults out.old
+        (id_bytes ids arrow.now (N.names names.now) id form.now) result out.new }
 {
     if ids {
         write_numbered_arrow(arrow, id, out)
@@ -104,7 +107,11 @@ fn write_id<S: Sink, N: Named>(
 }
 
 /// Writes an id after an arrow.
-fn write_numbered_arrow<S: Sink>(arrow: &[u8], id: u64, out: &mut S) -> Result<(), Failed>
+pub(crate) fn write_numbered_arrow<S: Sink>(
+    arrow: &[u8],
+    id: u64,
+    out: &mut S,
+) -> Result<(), Failed>
     ensures { Writes S.contents S.faults out.old (arrow.now ++ decimal id) result out.new }
 {
     write_bytes(arrow, out)?;
@@ -112,7 +119,7 @@ fn write_numbered_arrow<S: Sink>(arrow: &[u8], id: u64, out: &mut S) -> Result<(
 }
 
 /// The line of the instance in which the constraint with an id is written, if it is known.
-fn line_of(lines: &[u64], id: u64) -> Option<u64>
+pub(crate) fn line_of(lines: &[u64], id: u64) -> Option<u64>
     ensures { result ≡ slice_get lines.now (id - 1) }
 {
     lines.get(id.saturating_sub(1) as usize).copied()
@@ -130,7 +137,8 @@ fn write_origin<S: Sink>(line: Option<u64>, out: &mut S) -> Result<(), Failed>
 
 /// Writes a line of the instance, in parentheses.
 fn write_instance_line<S: Sink>(line: u64, out: &mut S) -> Result<(), Failed>
-    ensures { Writes S.contents S.faults out.old (codes " (instance line " ++ (decimal line ++ codes ")")) result out.new }
+    ensures { Writes S.contents S.faults out.old
+        (codes " (instance line " ++ (decimal line ++ codes ")")) result out.new }
 {
     write_bytes(b" (instance line ", out)?;
     write_count(line, out)?;
@@ -143,17 +151,26 @@ pub(crate) fn write_form<S: Sink, N: Named>(
     names: &N,
     out: &mut S,
 ) -> Result<(), Failed>
-    ensures text { Writes S.contents S.faults out.old (form_bytes (N.names names.now) form.now) result out.new }
-    ensures same { All (λ t. t.variable < length (N.names names.now)) form.now.terms →
-        form_bytes (N.names names.now) form.now ≡ linear_bytes (linear_of (N.names names.now) form.now) }
+    ensures text { Writes S.contents S.faults out.old
+        (form_bytes (N.names names.now) form.now) result out.new }
+    ensures same { HasAllNames (N.names names.now) form.now → IsLinearText (N.names names.now) form.now }
 {
     write_entries(form.entries(), names, out)?;
     write_end(form.degree(), out)
 }
 
-/// Writes the end of a form: `>=`, the degree and ` ;`.
+/// Writes the end of a form: `>=`, the degree and ` ;`. That of a clause has degree 1, and is written whole.
 fn write_end<S: Sink>(degree: i128, out: &mut S) -> Result<(), Failed>
-    ensures { Writes S.contents S.faults out.old (codes ">= " ++ (signed_decimal degree ++ codes " ;")) result out.new }
+    ensures { Writes S.contents S.faults out.old (end_bytes degree) result out.new }
+{
+    if degree == 1 {
+        return write_bytes(b">= 1 ;", out);
+    }
+    write_degree(degree, out)
+}
+
+fn write_degree<S: Sink>(degree: i128, out: &mut S) -> Result<(), Failed>
+    ensures { Writes S.contents S.faults out.old (end_bytes degree) result out.new }
 {
     write_bytes(b">= ", out)?;
     write_number(degree, out)?;
@@ -163,7 +180,8 @@ fn write_end<S: Sink>(degree: i128, out: &mut S) -> Result<(), Failed>
 /// Writes terms, each with a space after it.
 fn write_entries<S: Sink, N: Named>(entries: &[Entry], names: &N, out: &mut S) -> Result<(), Failed>
     requires { total each entries.now < 2 ^ 127 }
-    ensures { Writes S.contents S.faults out.old (head_bytes (map (term_shown (N.names names.now)) entries.now)) result out.new }
+    ensures { Writes S.contents S.faults out.old
+        (head_bytes (map (term_shown (N.names names.now)) entries.now)) result out.new }
 {
     for entry in entries {
         write_entry(entry, names, out)?;
@@ -173,12 +191,32 @@ fn write_entries<S: Sink, N: Named>(entries: &[Entry], names: &N, out: &mut S) -
 
 fn write_entry<S: Sink, N: Named>(entry: &Entry, names: &N, out: &mut S) -> Result<(), Failed>
     requires { entry.now.coefficient < 2 ^ 127 }
-    ensures { Writes S.contents S.faults out.old (term_bytes (term_shown (N.names names.now) entry.now) ++ codes " ") result out.new }
+    ensures { Writes S.contents S.faults out.old
+        (term_bytes (term_shown (N.names names.now) entry.now) ++ codes " ") result out.new }
+{
+    write_coefficient(entry.coefficient, out)?;
+    write_numbered(entry.variable, entry.negated, names, out)?;
+    write_bytes(b" ", out)
+}
+
+/// Writes a coefficient after `+`, and a space. That of each literal of a clause is 1, so this one is written whole.
+fn write_coefficient<S: Sink>(coefficient: u128, out: &mut S) -> Result<(), Failed>
+    requires { coefficient < 2 ^ 127 }
+    ensures { Writes S.contents S.faults out.old
+        (coefficient_bytes (pos coefficient)) result out.new }
+{
+    if coefficient == 1 {
+        return write_bytes(b"+1 ", out);
+    }
+    write_signed(coefficient as i128, out)
+}
+
+/// Writes a number between `+` and a space.
+fn write_signed<S: Sink>(number: i128, out: &mut S) -> Result<(), Failed>
+    ensures { Writes S.contents S.faults out.old (coefficient_bytes number) result out.new }
 {
     write_bytes(b"+", out)?;
-    write_number(entry.coefficient as i128, out)?;
-    write_bytes(b" ", out)?;
-    write_numbered(entry.variable, entry.negated, names, out)?;
+    write_number(number, out)?;
     write_bytes(b" ", out)
 }
 
@@ -189,7 +227,8 @@ pub(crate) fn write_numbered<S: Sink, N: Named>(
     names: &N,
     out: &mut S,
 ) -> Result<(), Failed>
-    ensures { Writes S.contents S.faults out.old (literal_bytes negated (name_shown (N.names names.now) variable)) result out.new }
+    ensures { Writes S.contents S.faults out.old
+        (literal_bytes negated (name_shown (N.names names.now) variable)) result out.new }
 {
     if negated {
         write_bytes(b"~", out)?;
@@ -200,7 +239,8 @@ pub(crate) fn write_numbered<S: Sink, N: Named>(
 
 /// Writes the name with a number, or `?` if there is none.
 fn write_name<S: Sink, N: Named>(variable: usize, names: &N, out: &mut S) -> Result<(), Failed>
-    ensures { Writes S.contents S.faults out.old (name_shown (N.names names.now) variable) result out.new }
+    ensures { Writes S.contents S.faults out.old
+        (name_shown (N.names names.now) variable) result out.new }
 {
     match names.text_of(variable) {
         Some(name) => write_bytes(name.as_bytes(), out),
@@ -210,7 +250,8 @@ fn write_name<S: Sink, N: Named>(variable: usize, names: &N, out: &mut S) -> Res
 
 /// Writes a number, and then an operator.
 fn write_factor<S: Sink>(factor: i128, operator: &[u8], out: &mut S) -> Result<(), Failed>
-    ensures { Writes S.contents S.faults out.old (signed_decimal factor ++ operator.now) result out.new }
+    ensures { Writes S.contents S.faults out.old
+        (signed_decimal factor ++ operator.now) result out.new }
 {
     write_number(factor, out)?;
     write_bytes(operator, out)

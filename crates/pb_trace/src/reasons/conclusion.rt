@@ -33,9 +33,7 @@ impl Scene<'_> {
             return Ok(());
         };
         let (size, degree) = (form.size(), form.degree());
-        let mut pieces = vec![in self.alloc; Piece::Text(b"named ")]?;
-        self.push_constraint(&mut pieces, found)?;
-        self.say(pieces)?;
+        self.say_constraint(b"named ", found)?;
         self.say(vec![in self.alloc;
             Piece::Text(b"its coefficients sum to "),
             number(size),

@@ -1,8 +1,9 @@
 //! What came near to a conflict, and what would lead to one.
 
 use crate::piece::Piece;
-use crate::propagation::{Base, Forced, Propagation, Reason, Uses};
+use crate::propagation::{Base, Forced, Propagation, Reason};
 use crate::reasons::{Scene, number};
+use crate::uses::Uses;
 use pb_normal::Normal;
 use std::alloc::AllocError;
 
@@ -59,11 +60,13 @@ impl Scene<'_> {
             let slack = propagation
                 .open_sum(&stored.form)
                 .saturating_sub(stored.form.degree().unsigned_abs());
-            let mut pieces = vec![in self.alloc; Piece::Text(b"near ")]?;
-            self.push_constraint(&mut pieces, near.id)?;
-            pieces.push(Piece::Text(b", slack "))?;
-            pieces.push(number(slack))?;
-            pieces.push(Piece::Text(b", open"))?;
+            let mut pieces = vec![in self.alloc;
+                Piece::Text(b"near "),
+                Piece::Constraint(near.id),
+                Piece::Text(b", slack "),
+                number(slack),
+                Piece::Text(b", open"),
+            ]?;
             for entry in stored.form.entries() {
                 if propagation.value(entry.variable).is_none() {
                     pieces.push(Piece::Text(b" "))?;

@@ -1,58 +1,115 @@
 //! What propagates from the negation of a goal, or from the literals of a solution.
 
-use crate::piece::{Lines, Piece};
+ghost use Rattle.std.specs.Prelude.{◌≡◌, IfOk};
+ghost use Rattle.pb_trace.specs.Derived.{IsDerivationBy, IsDerivationIn, IsDerivedBy, IsGoalIn, IsShownIn};
+
+use crate::piece::{Derivation, Lines, Piece, Reasons};
 use crate::propagation::{Base, Forced, Over, Propagation, Reason};
-use crate::reasons::{Scene, copied, number};
+use crate::reasons::{Scene, number};
+use crate::uses::Uses;
 use pb_normal::{Normal, NormalFault, Side};
 use pb_replay::Fault;
 use pb_sums::{Linear, Literal};
 use std::alloc::AllocError;
 
 impl<'a> Scene<'a> {
-    /// Why propagation does not show the constraint of a `rup`.
-    pub(crate) fn say_not_implied(&mut self, goal: &Linear) -> Result<(), AllocError> {
-        match self.form_of(goal)? {
-            Some(form) => self.say_not_shown(&form),
+    /// Why propagation does not show the goal of a `rup`.
+    pub(crate) fn not_implied(mut self, goal: &Linear) -> Result<Reasons, AllocError>
+        ensures { IfOk result (IsShownIn self.entry goal.now) }
+    {
+        match self.derived_written(goal)? {
+            Some(derivation) => Ok(Reasons::Shown(None, derivation, self.lines)),
+            None => Ok(Reasons::Nothing),
+        }
+    }
+
+    /// What the negation of a written goal propagates, if the goal is within the limits and does not always hold.
+    fn derived_written(&mut self, goal: &Linear) -> Result<Option<Derivation>, AllocError>
+        ensures { IfOk result (IsDerivationIn self.old goal.now) }
+    {
+        let Some(form) = self.form_of(goal)? else {
+            return Ok(None);
+        };
+        let found = self.derived(&form)?;
+        Ok(found)
+    }
+
+    /// What the negation of a goal propagates, if the goal does not always hold. Lines say what came nearest to a conflict.
+    fn derived(&mut self, goal: &Normal) -> Result<Option<Derivation>, AllocError>
+        ensures { IfOk result (IsDerivationBy goal.now self.old.constraints.now) }
+    {
+        if goal.degree() < 1 {
+            return Ok(None);
+        }
+        let Ok(negation) = goal.negation() else {
+            return Err(AllocError);
+        };
+        let forced = self.forced_by(&negation, goal.degree() == 1)?;
+        Ok(Some(Derivation {
+            negation: Some(negation),
+            forced,
+        }))
+    }
+
+    /// The literals that a negation propagates. Lines say what came nearest to a conflict.
+    fn forced_by(&mut self, negation: &Normal, is_clause: bool) -> Result<Vec<Forced>, AllocError>
+        ensures { IfOk result (λ v. IsDerivedBy negation.now self.old.constraints.now v.items) }
+    {
+        let base = Base {
+            negation: Some(negation),
+            constraints: self.constraints.all(),
+            over: Over::Live,
+        };
+        let uses = base.uses(self.alloc, self.names.len())?;
+        let mut propagation = Propagation::from_nothing(self.alloc, self.names.len(), base, &uses)?;
+        let forced = propagation.literals(self.alloc)?;
+        self.say_end(&mut propagation, base, &uses, is_clause)?;
+        Ok(forced)
+    }
+
+    /// How a propagation from a negation ended.
+    fn say_end(
+        &mut self,
+        propagation: &mut Propagation,
+        base: Base<'_>,
+        uses: &Uses,
+        is_clause: bool,
+    ) -> Result<(), AllocError> {
+        if propagation.conflict.is_some() {
+            return self.say_conflict(propagation.conflict);
+        }
+        let nearest = self.nearest(propagation)?;
+        self.say_near(propagation, nearest.as_slice())?;
+        if is_clause {
+            self.say_lacking(propagation, base, uses, nearest.as_slice())?;
+        }
+        match base.negation {
+            Some(negation) => self.say_with_deleted(negation),
             None => Ok(()),
         }
     }
 
+    /// Why propagation does not show a goal, after the lines so far.
+    pub(crate) fn say_not_shown(&mut self, goal: &Normal) -> Result<(), AllocError> {
+        let before = std::mem::replace(&mut self.lines, Lines::new(self.alloc));
+        match self.derived(goal)? {
+            Some(derivation) => self.shown = Some((before, derivation)),
+            None => self.lines = before,
+        }
+        Ok(())
+    }
+
     /// The form of a written constraint, if it is within the limits.
-    pub(crate) fn form_of(&mut self, goal: &Linear) -> Result<Option<Normal>, AllocError> {
+    pub(crate) fn form_of(&mut self, goal: &Linear) -> Result<Option<Normal>, AllocError>
+        ensures form { IfOk result (IsGoalIn self.old goal.now) }
+        ensures constraints { self.new.constraints ≡ self.old.constraints }
+    {
         let side = Side::AtLeast;
         match Normal::from_linear(self.alloc, &mut self.names, goal, side, self.limits) {
             Ok(form) => Ok(Some(form)),
             Err(NormalFault::Overflow) => Ok(None),
             Err(NormalFault::Memory) => Err(AllocError),
         }
-    }
-
-    /// The negation of a goal, what it propagates, and what came nearest to a conflict.
-    pub(crate) fn say_not_shown(&mut self, goal: &Normal) -> Result<(), AllocError> {
-        if goal.degree() < 1 {
-            return Ok(());
-        }
-        let Ok(negation) = goal.negation() else {
-            return Err(AllocError);
-        };
-        self.say(vec![in self.alloc;
-            Piece::Text(b"negation: "),
-            Piece::Form(copied(&negation)?),
-        ]?)?;
-        let base = self.base_of(&negation, Over::Live);
-        let variables = self.names.len();
-        let uses = base.uses(self.alloc, variables)?;
-        let mut propagation = Propagation::from_nothing(self.alloc, variables, base, &uses)?;
-        self.say_propagation(&propagation)?;
-        if propagation.conflict.is_some() {
-            return Ok(());
-        }
-        let nearest = self.nearest(&propagation)?;
-        self.say_near(&propagation, nearest.as_slice())?;
-        if goal.degree() == 1 {
-            self.say_lacking(&mut propagation, base, &uses, nearest.as_slice())?;
-        }
-        self.say_with_deleted(&negation)
     }
 
     /// Whether a goal is shown by propagation over the live constraints.
@@ -129,19 +186,15 @@ impl<'a> Scene<'a> {
         };
         let uses = base.uses(self.alloc, self.names.len())?;
         propagation.propagate(base, &uses)?;
-        self.say_propagation(&propagation)?;
+        let forced = propagation.literals(self.alloc)?;
+        self.show(None, forced);
+        self.say_conflict(propagation.conflict)?;
         Ok(propagation)
     }
 
-    /// The literals that became true, each with its reason, and what is falsified.
-    fn say_propagation(&mut self, propagation: &Propagation) -> Result<(), AllocError> {
-        let mut lines = std::mem::replace(&mut self.lines, Lines::new(self.alloc));
-        for forced in propagation.forced.as_slice() {
-            self.push_forced(&mut lines.pieces, *forced)?;
-            lines.end_line()?;
-        }
-        self.lines = lines;
-        match propagation.conflict {
+    /// What is falsified, if anything is.
+    fn say_conflict(&mut self, conflict: Option<Reason>) -> Result<(), AllocError> {
+        match conflict {
             None => Ok(()),
             Some(Reason::Given) => self.say_text(b"falsified: the statement"),
             Some(Reason::Negation) => self.say_text(b"falsified: the negation"),
@@ -149,26 +202,7 @@ impl<'a> Scene<'a> {
         }
     }
 
-    /// Adds a literal that became true, with what forced it.
-    fn push_forced(&self, pieces: &mut Vec<Piece>, forced: Forced) -> Result<(), AllocError> {
-        pieces.push(Piece::Literal(forced.variable, forced.negated))?;
-        match forced.reason {
-            Reason::Given => {
-                pieces.push(Piece::Text(b" by the statement"))?;
-                return Ok(());
-            }
-            Reason::Negation => pieces.push(Piece::Text(b" by the negation"))?,
-            Reason::Id(id) => {
-                pieces.push(Piece::Text(b" by "))?;
-                self.push_constraint(pieces, id)?;
-            }
-        }
-        pieces.push(Piece::Text(b", slack "))?;
-        pieces.push(number(forced.slack))?;
-        Ok(())
-    }
-
-    /// The names without a value, of so many.
+    /// The names without a value, of the first ones up to a count.
     pub(crate) fn say_open(
         &mut self,
         propagation: &Propagation,
@@ -194,11 +228,12 @@ impl<'a> Scene<'a> {
             return Ok(());
         };
         let sum = propagation.true_sum(&stored.form);
-        let mut pieces = vec![in self.alloc; Piece::Text(b"violated ")]?;
-        self.push_constraint(&mut pieces, id)?;
-        pieces.push(Piece::Text(b", its true literals sum to "))?;
-        pieces.push(number(sum))?;
-        self.say(pieces)
+        self.say(vec![in self.alloc;
+            Piece::Text(b"violated "),
+            Piece::Constraint(id),
+            Piece::Text(b", its true literals sum to "),
+            number(sum),
+        ]?)
     }
 
     /// Whether the goal would be shown with the deleted constraints back, and by which of them.

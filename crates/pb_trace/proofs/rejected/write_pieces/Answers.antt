@@ -1,15 +1,17 @@
 use Rattle.std.proofs.Common.{Ok}
-use Rattle.pb_trace.proofs.ReasonLines.{no_piece, pieces_broke, pieces_then}
+use Rattle.pb_trace.specs.Named.{known_by}
+use Rattle.pb_trace.specs.Rejected.{ArePieces}
+use Rattle.pb_trace.proofs.ReasonLines.{no_piece, pieces_then, some_broke}
 use Rattle.pb_trace.proofs.rejected.write_pieces.Goals as goal
 
 pub loop-piece-init : goal.loop-piece-init
-loop-piece-init g c = no_piece _ _ _ g.S.Sink.contents g.S.Sink.faults _
+loop-piece-init g c = no_piece g.S.Sink.contents g.S.Sink.faults (known_by c.args.facts.now) _
 
 pub returns-in_err-write_piece : goal.returns-in_err-write_piece
 returns-in_err-write_piece g c =
-    pieces_then _ _ _ g.S.Sink.contents g.S.Sink.faults _ _ _ _ c.loop-piece.invariant
-    (pieces_broke _ _ _ g.S.Sink.contents g.S.Sink.faults _ _ _ _ c.from_residual.ensures.0 c.in_err-write_piece.ensures)
+    pieces_then g.S.Sink.contents g.S.Sink.faults (known_by c.args.facts.now) _ _ _ _ c.loop-piece.invariant
+    (some_broke g.S.Sink.contents g.S.Sink.faults (ArePieces (known_by c.args.facts.now)) _ _ _ _ c.from_residual.ensures.0 c.in_err-write_piece.ensures)
 
 pub loop-piece-preserved : goal.loop-piece-preserved
 loop-piece-preserved g c =
-    pieces_then _ _ _ g.S.Sink.contents g.S.Sink.faults _ _ c.write_piece.new.out (Ok tt) c.loop-piece.invariant c.in_ok-write_piece.ensures
+    pieces_then g.S.Sink.contents g.S.Sink.faults (known_by c.args.facts.now) _ _ c.write_piece.new.out (Ok tt) c.loop-piece.invariant c.in_ok-write_piece.ensures

@@ -1,4 +1,4 @@
-use Rattle.std.proofs.Common.{◌≡◌, ◌∙◌, refl, sym, ap, arith, get_or, length, subst}
+use Rattle.std.proofs.Common.{◌∙◌, refl, arith, get_or, subst}
 use Rattle.std.specs.Prelude.{Contains}
 use Rattle.std.proofs.lemmas.List.Elements.{Contains-get_or}
 use Rattle.pb_normal.proofs.lemmas.terms.Merging.{no_entry}
