@@ -27,7 +27,9 @@ TOP = HERE / "../.."
 CARRIED = TOP / "dist/x86_64-linux-gnu"
 LIBRARY = "pb/libpb.so"
 LICENCES = ("LICENSE-APACHE", "LICENSE-MIT", "THIRD-PARTY.md")
-EXAMPLES = ("refutation.opb", "refutation.pbp", "optimum.opb", "optimum.pbp", "solution.opb", "solution.pbp")
+EXAMPLES = (
+    "refutation.opb", "refutation.pbp", "optimum.opb", "optimum.pbp", "solution.opb", "solution.pbp", "covering.opb", "consequence.pbp",
+)
 
 METADATA = """Metadata-Version: 2.1
 Name: pb
