@@ -12,7 +12,6 @@ pub mod Pushes
 pub mod Sane
 pub mod Sound
 pub mod States
-pub mod Table
 pub mod Theorems
 pub mod Trees
 pub mod Units
