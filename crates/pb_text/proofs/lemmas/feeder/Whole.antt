@@ -1,6 +1,6 @@
 -- A whole statement preserves `Stands`, for the input extended by its bytes.
-use Rattle.std.proofs.Common.{◌≡◌, ℕ, suc, ◌+◌, ◌<◌, List, [], ◌∷◌, ◌++◌, length, take, get_or, true, false, Option, Some, None, refl, sym, ap, ◌∙◌, arith, subst, append-nil, append_assoc}
-use Rattle.pb_text.specs.contract.Automaton.{Automaton, Go, End, IsState, Runs, begins}
+use Rattle.std.proofs.Common.{◌≡◌, ℕ, suc, ◌+◌, ◌<◌, List, [], ◌∷◌, ◌++◌, length, take, get_or, true, false, Some, None, refl, ap, ◌∙◌, arith, subst, append-nil, append_assoc}
+use Rattle.pb_text.specs.contract.Automaton.{Automaton, End, IsState, Runs, begins}
 use Rattle.pb_text.specs.engine.SpentBytes.{end_of}
 use Rattle.pb_text.specs.meaning.Spelling.{place_next, place_past}
 use Rattle.pb_text.specs.contract.Standing.{Stands, opened}

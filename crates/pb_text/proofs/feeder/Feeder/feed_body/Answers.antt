@@ -4,7 +4,6 @@ use Rattle.pb_text.specs.contract.Automaton.{Runs}
 use Rattle.pb_text.specs.engine.SpentBytes.{end_of}
 use Rattle.pb_text.specs.meaning.Spelling.{place_past}
 use Rattle.pb_text.specs.contract.Standing.{Stands}
-use Rattle.pb_text.specs.declared.place.Place.{Place}
 use Rattle.pb_text.specs.declared.place.Stop.{Stop}
 use Rattle.pb_text.proofs.lemmas.machine.Running.{stands_run, runs_unfinished, place_fits}
 use Rattle.pb_text.proofs.feeder.Feeder.feed_body.Goals as goal

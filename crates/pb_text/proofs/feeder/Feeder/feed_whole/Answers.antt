@@ -1,12 +1,11 @@
 use Rattle.std.proofs.Common.{◌≡◌, ◌+◌, ◌-◌, ◌<◌, ◌≤◌, ℕ, suc, List, [], ◌∷◌, ◌++◌, true, false, arith, refl, sym, subst, ap, ◌∙◌, None, Some, Option, length, take, get_or, min, length-take-le, length-append}
 use Rattle.std.proofs.lemmas.List.{length-take, take-take, take_more}
 use Rattle.std.specs.Option.{is_some}
-use Rattle.pb_text.specs.contract.Automaton.{Runs, End, begins}
+use Rattle.pb_text.specs.contract.Automaton.{begins}
 use Rattle.pb_text.specs.engine.SpentBytes.{end_of}
 use Rattle.pb_text.specs.meaning.Reading.{byte_limit}
 use Rattle.pb_text.specs.meaning.Spelling.{place_next, place_past}
 use Rattle.pb_text.specs.contract.Standing.{Stands}
-use Rattle.pb_text.specs.contract.Feeding.{StandsAt}
 use Rattle.pb_text.specs.declared.place.Place.{Place}
 use Rattle.pb_text.specs.declared.place.Spanned.{Spanned}
 use Rattle.pb_text.specs.declared.place.Stop.{Stop}

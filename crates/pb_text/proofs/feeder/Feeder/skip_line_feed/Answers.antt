@@ -1,4 +1,4 @@
-use Rattle.std.proofs.Common.{◌≡◌, ◌==◌, ◌∙◌, false, ◌<◌, ◌++◌, ℕ, List, [], ◌∷◌, arith, refl, subst, sym, ap, append-nil, length, take, get_or}
+use Rattle.std.proofs.Common.{◌≡◌, ◌==◌, ◌∙◌, false, ◌<◌, ◌++◌, ℕ, List, [], ◌∷◌, arith, subst, sym, ap, append-nil, length, take, get_or}
 use Rattle.pb_text.specs.contract.Feeding.{StandsAt}
 use Rattle.pb_text.proofs.feeder.Feeder.skip_line_feed.Goals as goal
 

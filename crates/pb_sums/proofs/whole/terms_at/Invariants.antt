@@ -1,0 +1,11 @@
+use Rattle.std.proofs.Common.{◌≡◌, ◌-◌, ◌≤◌, length, take, true}
+use Rattle.pb_sums.specs.engine.TermParts.{begins_term, AreSpacedTerms}
+use Rattle.pb_sums.proofs.whole.terms_at.Given as goal
+
+-- the bytes so far lead to this state
+abbrev pub invariant-loop-terms : goal.invariant-loop-terms
+invariant-loop-terms c l = record {
+  bound : l.end ≤ length l.text;
+  begins : begins_term l.phase ≡ true;
+  runs : AreSpacedTerms l.limit (take l.end l.text) l.terms l.phase;
+}
