@@ -14,12 +14,7 @@ use std::alloc::Global;
 
 /// A linear text at the start of a text, and the index of its `;`, if it is fast to read: it has a term, and one space
 /// after each number, literal and relation.
-pub fn linear_at(
-    alloc: Global,
-    limits: Limits,
-    part: Part,
-    text: &[u8],
-) -> Option<(usize, Linear)>
+pub fn linear_at(alloc: Global, limits: Limits, part: Part, text: &[u8]) -> Option<(usize, Linear)>
     ensures inside { IfSome result (λ r. r.0 < length text.now) }
     ensures semicolon { IfSome result (λ r. get_or text.now r.0 0 ≡ 59) }
     ensures runs { IfSome result (λ r. LeadsToLinear (largest limits) part (take r.0 text.now) r.1) }
