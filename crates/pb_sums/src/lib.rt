@@ -15,6 +15,7 @@ mod term_prefix;
 mod transition;
 mod units;
 mod validity;
+mod whole;
 mod write;
 
 pub use linear::{Linear, Literal, Relation, SumEvent, Term};
@@ -23,4 +24,5 @@ pub use name::Name;
 pub use sum_kind::{Part, Spaces};
 pub use units::count_units;
 pub use validity::{is_name, linear_is_value, sum_is_value};
+pub use whole::linear_at;
 pub use write::{write_count, write_linear, write_literal, write_number, write_place, write_sum};

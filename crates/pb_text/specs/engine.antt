@@ -1,2 +1,3 @@
 -- What bodies and proofs need.
+pub mod Prefixes
 pub mod SpentBytes

@@ -6,6 +6,8 @@ ghost use Rattle.pb_text.specs.meaning.Spelling.{place_next, place_or};
 ghost use Rattle.pb_text.specs.contract.Standing.{opened};
 ghost use Rattle.pb_text.specs.meaning.Stopping.{IsShown};
 
+mod statement;
+
 use crate::machine::{Machine, Push};
 use crate::place::{Place, Spanned, Stop, Why};
 
@@ -202,32 +204,6 @@ impl<M: Machine> Feeder<M> {
         };
         self.stop = Some(stop);
         stop
-    }
-
-    /// Takes a prefix of a piece that is fast to take, at most through the end of a statement.
-    pub(crate) fn feed_statement(&mut self, piece: &[u8]) -> Fed<M::Event>
-        requires unfinished { is_complete self.old ≡ false }
-        requires running { halt_of self.old ≡ None }
-        requires state { IsState M.automaton (state_of self.old) }
-        ensures bound { result.used ≤ length piece.now }
-        ensures stands { (longest : ℕ) (start : M) (input : List ℕ) (spans : List (Spanned M.Event))
-            → StandsAt longest start input spans self.old
-            → StandsAt longest start (input ++ take result.used piece.now) (spans ++ spans_in result.event) self.new }
-        ensures offset { (place_of self.new).offset ≡ (place_of self.old).offset + result.used }
-        ensures some { (event : Spanned M.Event) → result.event ≡ Some event → 0 < result.used }
-        ensures past { (event : Spanned M.Event) → result.event ≡ Some event → event.past ≡ place_of self.new }
-        ensures running { halt_of self.new ≡ None }
-        ensures unfinished { result.event ≡ None → is_complete self.new ≡ false }
-        ensures state { IsState M.automaton (state_of self.new) }
-    {
-        let used = self.feed_fast(piece);
-        if used == piece.len() {
-            return Fed { used, event: None };
-        }
-        match self.try_finish(piece[used]) {
-            Some(event) => Fed::with_event(used + 1, event),
-            None => Fed { used, event: None },
-        }
     }
 
     /// Takes a byte that ends a statement, if that is fast.

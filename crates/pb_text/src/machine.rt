@@ -1,7 +1,7 @@
 //! A machine that reads a text byte by byte.
 
 ghost use Rattle.std.specs.Prelude.{◌≡◌, ◌<◌, ◌≤◌, take, length};
-ghost use Rattle.pb_text.specs.contract.Automaton.{Automaton, IsState, Pushes, Continues, Finishes, Runs, begins};
+ghost use Rattle.pb_text.specs.contract.Automaton.{Automaton, IsState, Pushes, Continues, Finishes, Runs, TakesStatement, begins};
 
 /// The response of a machine to a byte.
 #[derive(Drop)]
@@ -82,6 +82,17 @@ pub trait Machine {
             taken += more;
         }
         taken
+    }
+
+    /// Takes a whole statement at the start of a piece, if none has begun and that is fast. It returns the index of its
+    /// last byte, and the event. Otherwise it leaves the machine unchanged.
+    fn take_statement(&mut self, piece: &[u8]) -> Option<(usize, Self::Event)>
+        ensures statement { TakesStatement automaton self.old piece.now result self.new }
+        ensures state { IsState automaton self.new }
+    {
+        let _ = self.is_done();
+        let _ = piece;
+        None
     }
 
     /// Whether the text is complete.

@@ -9,3 +9,4 @@ pub mod Sound
 pub mod States
 pub mod Taken
 pub mod Words
+pub mod Whole

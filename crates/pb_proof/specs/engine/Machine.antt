@@ -2,3 +2,4 @@
 pub mod State
 pub mod Transition
 pub mod Words
+pub mod Whole

@@ -12,3 +12,4 @@ pub mod Pushes
 pub mod Sound
 pub mod States
 pub mod Theorems
+pub mod WholeTexts

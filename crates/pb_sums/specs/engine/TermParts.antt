@@ -1,9 +1,11 @@
 -- Parts of a term at the start of a text, and what a machine does with them, whatever it reads.
-use Rattle.std.specs.Prelude.{◌≡◌, ℕ, ℤ, Bool, true, false, List, [], ◌∷◌, None}
+use Rattle.std.specs.Prelude.{◌≡◌, ℕ, ℤ, Bool, true, false, List, [], ◌∷◌, ◌++◌, None}
 use Rattle.pb_text.specs.contract.Automaton.{Runs}
 use Rattle.pb_sums.specs.engine.Prefix.{role, after_number}
-use Rattle.pb_sums.specs.engine.State.{SumState, sums}
+use Rattle.pb_sums.specs.engine.State.{SumState, sums, first}
 use Rattle.pb_sums.specs.declared.linear.Literal.{Literal}
+use Rattle.pb_sums.specs.declared.linear.Linear.{Linear}
+use Rattle.pb_sums.specs.declared.linear.Relation.{Relation}
 use Rattle.pb_sums.specs.declared.linear.Term.{Term}
 use Rattle.pb_sums.specs.declared.sum_kind.Spaces.{Spaces}
 use Rattle.pb_sums.specs.declared.sum_kind.Part.{Part}
@@ -34,3 +36,23 @@ IsSpacedNumber limit p text z = (spaces : Spaces) (part : Part) (xs : List Term)
 abbrev pub IsLiteral : List ℕ → Literal → Type 0
 IsLiteral text l = (spaces : Spaces) (part : Part) (limit : ℕ) (xs : List Term) (z : ℤ) →
     Runs sums (standing spaces part limit xs [] (phase.TheVariants.Gap z)) text (standing spaces part limit xs l.name (phase.TheVariants.More z l.negated))
+
+-- a term and a space after it, from this state
+abbrev pub IsSpacedTerm : ℕ → Phase → List ℕ → Term → Type 0
+IsSpacedTerm limit p text x = (spaces : Spaces) (part : Part) (xs : List Term) →
+    Runs sums (standing spaces part limit xs [] p) text (standing spaces part limit (xs ++ x ∷ []) [] phase.TheVariants.Between)
+
+-- terms, each with a space after it, from the beginning to this state
+abbrev pub AreSpacedTerms : ℕ → List ℕ → List Term → Phase → Type 0
+AreSpacedTerms limit text xs p = (spaces : Spaces) (part : Part) →
+    Runs sums (standing spaces part limit [] [] phase.TheVariants.Start) text (standing spaces part limit xs [] p)
+
+-- a relation and a degree with a space after each, after terms and space
+abbrev pub IsSpacedDegree : ℕ → Part → List ℕ → Relation → ℤ → Type 0
+IsSpacedDegree limit part text r z = (spaces : Spaces) (xs : List Term) →
+    Runs sums (standing spaces part limit xs [] phase.TheVariants.Between) text (standing spaces part limit xs [] (phase.TheVariants.Tail r z))
+
+-- From its first state, a machine takes these bytes, and then a `;` ends this linear text.
+abbrev pub LeadsToLinear : ℕ → Part → List ℕ → Linear → Type 0
+LeadsToLinear limit part text c = (spaces : Spaces) →
+    Runs sums (first spaces part limit) text (standing spaces part limit c.terms [] (phase.TheVariants.Tail c.relation c.degree))

@@ -6,3 +6,4 @@ pub mod FeederParts
 pub mod Follows
 pub mod Steps
 pub mod Reported
+pub mod Whole

@@ -1,5 +1,5 @@
 -- What a machine is: a step from state to state for each byte, and what a state accepts.
-use Rattle.std.specs.Prelude.{◌≡◌, ℕ, ◌+◌, ◌≤◌, List, [], ◌∷◌, Bool, true, false, ◌&&◌, IsTrue, Option, None, Some}
+use Rattle.std.specs.Prelude.{◌≡◌, ℕ, ◌+◌, ◌≤◌, ◌<◌, List, [], ◌∷◌, length, take, get_or, Bool, true, false, ◌&&◌, IsTrue, Option, None, Some}
 use Rattle.pb_text.specs.meaning.Classes.{is_digit}
 use Rattle.pb_text.specs.meaning.Spelling.{Letter, Item, bytes_of}
 use Rattle.pb_text.specs.declared.machine.Push.{Push}
@@ -117,3 +117,9 @@ module _ {S E : Type 0} (m : Automaton S E) where
   -- the byte begins a statement
   abbrev pub begins : S → ℕ → Bool
   begins s b = begins_with (m.begun s) (m.step s b)
+
+  -- The bytes through the one at index `last` are a whole statement with this event, or nothing changes.
+  abbrev pub TakesStatement : S → List ℕ → Option (ℕ × E) → S → Type 0
+  TakesStatement old piece None new = new ≡ old
+  TakesStatement old piece (Some (last, e)) new =
+      (last < length piece) × (begins old (get_or piece 0 0) ≡ true) × (mid : S) × Runs old (take last piece) mid × (m.step mid (get_or piece last 0) ≡ End e new)

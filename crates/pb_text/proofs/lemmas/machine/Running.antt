@@ -1,5 +1,5 @@
 -- Consecutive bytes of a statement. Offered to other crates.
-use Rattle.std.proofs.Common.{◌≡◌, ◌≢◌, ℕ, suc, ap, ap₂, eqb-true, ◌+◌, ◌<◌, ◌≤◌, List, [], ◌∷◌, ◌++◌, length, take, get_or, Bool, true, false, cond, ◌==◌, Option, Some, None, refl, sym, subst, ◌∙◌, arith, append-nil, append_assoc}
+use Rattle.std.proofs.Common.{◌≡◌, ◌≢◌, ℕ, suc, ap, ap₂, eqb-true, ◌+◌, ◌-◌, ◌<◌, ◌≤◌, List, [], ◌∷◌, ◌++◌, length, take, get_or, Bool, true, false, cond, ◌==◌, Option, Some, None, refl, sym, subst, ◌∙◌, arith, append-nil, append_assoc}
 use Rattle.std.proofs.lemmas.List.{take_more}
 use Rattle.std.specs.Option.{is_some}
 use Rattle.pb_text.specs.contract.Automaton.{Automaton, Go, IsState, Runs, begins}
@@ -50,6 +50,17 @@ past_line p (b ∷ text) = omega (arith, past_line (place_next p b) text, by_fee
 pub past_column : (p : Place) (text : List ℕ) → (place_past p text).column ≤ p.column + length text
 past_column p [] = omega arith
 past_column p (b ∷ text) = omega (arith, past_column (place_next p b) text, by_feed_column (b == 10) p)
+
+-- The position after n bytes is within the same bounds.
+pub place_fits : (p q : Place) (text : List ℕ) (n end : ℕ) → q ≡ place_past p text → length text ≡ n → n ≤ end - p.offset → p.offset ≤ end → p.line ≤ p.offset + 1 → p.column ≤ p.offset + 1
+    → (q.offset ≤ end) × (q.line ≤ q.offset + 1) × (q.column ≤ q.offset + 1) × (q.offset ≡ p.offset + n)
+place_fits p q text n end is long room le line column =
+    let o : q.offset ≡ p.offset + n = omega (arith, ap (λ (x : Place). x.offset) is, past_offset p text, long) in (
+      omega (arith, o),
+      omega (arith, o, ap (λ (x : Place). x.line) is, past_line p text, long),
+      omega (arith, o, ap (λ (x : Place). x.column) is, past_column p text, long),
+      o,
+    )
 
 by_no_feed : (feed : Bool) (p : Place) → feed ≡ false
     → cond feed (let q : Place = record { line = p.line + 1; column = 1; offset = p.offset + 1 } in q) (record { line = p.line; column = p.column + 1; offset = p.offset + 1 }) ≡ record { line = p.line; column = p.column + 1; offset = p.offset + 1 }

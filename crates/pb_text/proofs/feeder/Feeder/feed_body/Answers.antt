@@ -4,9 +4,8 @@ use Rattle.pb_text.specs.contract.Automaton.{Runs}
 use Rattle.pb_text.specs.engine.SpentBytes.{end_of}
 use Rattle.pb_text.specs.meaning.Spelling.{place_past}
 use Rattle.pb_text.specs.contract.Standing.{Stands}
-use Rattle.pb_text.specs.declared.place.Place.{Place}
 use Rattle.pb_text.specs.declared.place.Stop.{Stop}
-use Rattle.pb_text.proofs.lemmas.machine.Running.{stands_run, runs_unfinished, past_offset, past_line, past_column}
+use Rattle.pb_text.proofs.lemmas.machine.Running.{stands_run, runs_unfinished, place_fits}
 use Rattle.pb_text.proofs.feeder.Feeder.feed_body.Goals as goal
 
 -- the number of bytes that were taken, and that they are those of the piece
@@ -16,17 +15,6 @@ taken_are used room piece h =
     let n = min (length piece) room in
     let short : used ≤ n = omega (arith, length-take n piece, h) in
     (take-take used n piece short, length-take-le used piece (omega arith), omega arith, omega arith)
-
--- the position after them is within the same bounds
-place_fits : (p q : Place) (text : List ℕ) (n end : ℕ) → q ≡ place_past p text → length text ≡ n → n ≤ end - p.offset → p.offset ≤ end → p.line ≤ p.offset + 1 → p.column ≤ p.offset + 1
-    → (q.offset ≤ end) × (q.line ≤ q.offset + 1) × (q.column ≤ q.offset + 1) × (q.offset ≡ p.offset + n)
-place_fits p q text n end is long room le line column =
-    let o : q.offset ≡ p.offset + n = omega (arith, ap (λ (x : Place). x.offset) is, past_offset p text, long) in (
-      omega (arith, o),
-      omega (arith, o, ap (λ (x : Place). x.line) is, past_line p text, long),
-      omega (arith, o, ap (λ (x : Place). x.column) is, past_column p text, long),
-      o,
-    )
 
 pub invariant_of-self : goal.invariant_of-self
 invariant_of-self g c =

@@ -1,20 +1,15 @@
-use Rattle.std.proofs.Common.{arith, ◌∷◌, ◌++◌, ℕ, List, [], subst, append-nil, take}
-use Rattle.pb_text.specs.contract.Feeding.{StandsAt}
-use Rattle.pb_text.proofs.lemmas.text.Spans.{one_further}
+use Rattle.std.proofs.Common.{ℕ, ◌++◌, List, take, drop, length, ◌-◌, ap, sym, subst, ◌∙◌, append_assoc, append-nil}
+use Rattle.pb_text.specs.contract.Feeding.{StandsAt, spans_in}
+use Rattle.pb_text.proofs.lemmas.text.Spans.{prefix_parts}
 use Rattle.pb_text.proofs.feeder.Feeder.feed_statement.Goals as goal
 
-pub returns-then-used-piece-clause-stands : goal.returns-then-used-piece-clause-stands
-returns-then-used-piece-clause-stands g c longest start input spans s = rw append-nil (c.feed_fast-used.ensures.stands longest start input spans s)
-
-pub returns-in-Some-clause-stands : goal.returns-in-Some-clause-stands
-returns-in-Some-clause-stands g c longest start input spans s =
+pub returns-clause-stands : goal.returns-clause-stands
+returns-clause-stands g c longest start input spans s =
     let piece = c.args.piece.now in
-    let i = c.feed_fast-used.result in
-    let k = c.in-Some.ensures.stands longest start (input ++ take i piece) spans (c.feed_fast-used.ensures.stands longest start input spans s) in
-    rw c.with_event.ensures (subst (λ (x : List ℕ). StandsAt longest start x (spans ++ c.in-Some.event ∷ []) c.try_finish.new.self) (one_further input piece i (omega (arith, c.feed_fast-used.ensures.bound, c.if-used-piece.false))) k)
-
-pub returns-in-None-clause-stands : goal.returns-in-None-clause-stands
-returns-in-None-clause-stands g c longest start input spans s =
-    let i = c.feed_fast-used.result in
-    let k = c.in-None.ensures.stands longest start (input ++ take i c.args.piece.now) spans (c.feed_fast-used.ensures.stands longest start input spans s) in
-    subst (λ (x : List ℕ). StandsAt longest start x (spans ++ []) c.try_finish.new.self) (append-nil (input ++ take i c.args.piece.now)) k
+    let i = c.skip_line_feed-skipped.result in
+    let j = c.feed_rest-fed.result.used in
+    let more = spans_in c.feed_rest-fed.result.event in
+    let mid = subst (λ (x : _). StandsAt longest start (input ++ take i piece) x c.skip_line_feed-skipped.new.self) (append-nil spans) (c.skip_line_feed-skipped.ensures.stands longest start input spans s) in
+    let k = c.feed_rest-fed.ensures.stands longest start (input ++ take i piece) spans mid in
+    subst (λ (x : List ℕ). StandsAt longest start x (spans ++ more) c.feed_rest-fed.new.self)
+    (append_assoc input (take i piece) (take j (take (length piece - i) (drop i piece))) ∙ ap (λ (x : List ℕ). input ++ x) (sym (prefix_parts piece i j))) k

@@ -1,0 +1,30 @@
+-- A linear text that is read at once. Offered to other crates.
+use Rattle.std.proofs.Common.{◌≡◌, ℕ, zero, suc, ◌<◌, List, [], take, refl, arith}
+use Rattle.pb_text.specs.contract.Automaton.{End, IsState}
+use Rattle.pb_sums.specs.engine.State.{SumState, sums, last}
+use Rattle.pb_sums.specs.engine.TermParts.{standing, LeadsToLinear}
+use Rattle.pb_sums.specs.declared.linear.Linear.{Linear}
+use Rattle.pb_sums.specs.declared.linear.SumEvent as event
+use Rattle.pb_sums.specs.declared.phase.Phase as phase
+use Rattle.pb_sums.specs.declared.sum_kind.Part.{Part}
+use Rattle.pb_sums.specs.declared.sum_kind.Spaces.{Spaces}
+use Rattle.pb_sums.proofs.lemmas.machine.States.{is_state}
+
+-- the state before the `;`
+abbrev pub before_semicolon : Spaces → Part → ℕ → Linear → SumState
+before_semicolon spaces part limit c = standing spaces part limit c.terms [] (phase.TheVariants.Tail c.relation c.degree)
+
+-- and its step
+pub linear_ends : (spaces : Spaces) (part : Part) (limit : ℕ) (c : Linear) → sums.step (before_semicolon spaces part limit c) 59 ≡ End (event.TheVariants.Linear c) (last spaces part limit)
+linear_ends spaces part limit c = refl
+
+pub last_is_state : (spaces : Spaces) (part : Part) (limit : ℕ) → IsState sums (last spaces part limit)
+last_is_state spaces part limit = is_state (last spaces part limit) (tt, λ e. (refl, refl))
+
+differs : (spaces : Spaces) (part : Part) (limit : ℕ) (c : Linear) → before_semicolon spaces part limit c ≡ standing spaces part limit [] [] phase.TheVariants.Start → ⊥
+differs spaces part limit c e = cc
+
+-- it has a byte
+pub linear_some : (spaces : Spaces) (part : Part) (limit n : ℕ) (text : List ℕ) (c : Linear) → LeadsToLinear limit part (take n text) c → 0 < n
+linear_some spaces part limit zero text c leads = absurd (differs spaces part limit c (leads spaces))
+linear_some spaces part limit (suc n) text c leads = omega arith

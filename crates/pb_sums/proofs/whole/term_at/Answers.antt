@@ -1,0 +1,15 @@
+use Rattle.std.proofs.Common.{refl, sym, ◌∙◌, arith, ◌++◌, ◌∷◌, []}
+use mir.Val.{SFits}
+use Rattle.std.specs.Int.{w128}
+use Rattle.std.proofs.lemmas.Int.{ints, to_z-of_z}
+use Rattle.pb_sums.proofs.lemmas.prefixes.TermParts.{term_runs}
+use Rattle.pb_sums.proofs.whole.term_at.Goals as goal
+
+pub returns-clause-runs : goal.returns-clause-runs
+returns-clause-runs c spaces part xs =
+    let fits : SFits w128 c.in-Some.coefficient = record { sfits = omega (arith, ints) } in
+    rw (to_z-of_z w128 c.in-Some.coefficient fits) (
+    term_runs spaces part c.args.limit xs (xs ++ record { coefficient = c.in-Some.coefficient; literal = c.in-Some-literal_prefix.literal } ∷ []) [] [] c.args.phase
+    c.args.text.now c.in-Some.number c.in-Some-literal_prefix.length c.in-Some.coefficient c.in-Some-literal_prefix.literal
+    c.requires.begins refl refl c.in-Some.ensures.runs c.in-Some-literal_prefix.ensures.runs
+    c.if-length-rest.false c.if-rest-length-ne32.false refl)

@@ -1,0 +1,25 @@
+use Rattle.std.proofs.Common.{arith, ◌∷◌, ◌++◌, [], length, ◌-◌, drop, refl, sym, subst, List}
+use Rattle.std.proofs.lemmas.List.{length-take, length-drop}
+use Rattle.pb_text.specs.contract.Automaton.{Runs}
+use Rattle.pb_text.proofs.lemmas.text.Spans.{runs_further}
+use Rattle.pb_sums.specs.engine.State.{sums}
+use Rattle.pb_sums.specs.engine.TermParts.{standing}
+use Rattle.pb_sums.specs.declared.linear.Term.{Term}
+use Rattle.pb_sums.specs.declared.phase.Phase as phase
+use Rattle.pb_sums.proofs.lemmas.prefixes.TermParts.{grown}
+use Rattle.pb_sums.proofs.whole.terms_at.Goals as goal
+
+pub loop-length-preserved : goal.loop-length-preserved
+loop-length-preserved c =
+    let text = c.args.text.now in
+    let i = c.loop-length.end in
+    let xs = c.loop-length.terms in
+    let b = c.in-Some.ensures.bound in
+    let more = grown c.push.result c.push.new.self (xs ++ c.in-Some.term ∷ []) xs c.push.ensures.items (sym c.if-is_err.ensures.value) in
+    record {
+      bound = omega (arith, b.1, c.loop-length.invariant.bound, length-take (length text - i) (drop i text), length-drop i text);
+      begins = refl;
+      runs = λ spaces part. rw more (
+          runs_further sums (standing spaces part c.args.limit [] [] phase.TheVariants.Start) text i c.in-Some.length (standing spaces part c.args.limit xs [] c.loop-length.phase)
+          (standing spaces part c.args.limit (xs ++ c.in-Some.term ∷ []) [] phase.TheVariants.Between) (c.loop-length.invariant.runs spaces part) (c.in-Some.ensures.runs spaces part xs));
+    }

@@ -1,0 +1,14 @@
+use Rattle.std.proofs.Common.{◌≡◌, ◌-◌, ◌≤◌, length, take, true}
+use Rattle.pb_sums.specs.engine.TermParts.{begins_term, AreSpacedTerms}
+use Rattle.pb_sums.proofs.whole.terms_at.Given as goal
+
+-- the bytes so far lead to this state
+abbrev pub invariant-loop-length : goal.invariant-loop-length
+invariant-loop-length l = record {
+  bound : l.end ≤ length l.text;
+  begins : begins_term l.phase ≡ true;
+  runs : AreSpacedTerms l.limit (take l.end l.text) l.terms l.phase;
+}
+
+abbrev pub decreases-loop-length : goal.decreases-loop-length
+decreases-loop-length l = length l.text - l.end

@@ -1,0 +1,112 @@
+//! Whole linear texts at the start of a text.
+
+ghost use Rattle.std.specs.Prelude.{◌≡◌, ◌≤◌, ◌<◌, ◌^◌, IfSome, true, get_or, length, take};
+ghost use Rattle.pb_text.specs.meaning.Limits.{largest};
+ghost use Rattle.pb_sums.specs.engine.TermParts.{begins_term, IsSpacedTerm, AreSpacedTerms, IsSpacedDegree, LeadsToLinear};
+
+use crate::linear::{Linear, Relation, Term};
+use crate::phase::Phase;
+use crate::prefix::relation_prefix;
+use crate::sum_kind::Part;
+use crate::term_prefix::{literal_prefix, spaced_number_prefix};
+use pb_text::{Limits, Sequence};
+use std::alloc::Global;
+
+/// A linear text at the start of a text, and the index of its `;`, if it is fast to read: it has a term, and one space
+/// after each number, literal and relation.
+pub fn linear_at(alloc: Global, limits: Limits, part: Part, text: &[u8]) -> Option<(usize, Linear)>
+    ensures inside { IfSome result (λ r. r.0 < length text.now) }
+    ensures semicolon { IfSome result (λ r. get_or text.now r.0 0 ≡ 59) }
+    ensures runs { IfSome result (λ r. LeadsToLinear (largest limits) part (take r.0 text.now) r.1) }
+{
+    let limit = limits.largest();
+    let Some((head, terms)) = terms_at(alloc, limit, text) else {
+        return None;
+    };
+    let Some((tail, relation, degree)) = degree_at(limit, part, &text[head..]) else {
+        return None;
+    };
+    let last = head + tail;
+    if last >= text.len() || text[last] != b';' {
+        return None;
+    }
+    Some((
+        last,
+        Linear {
+            terms,
+            relation,
+            degree,
+        },
+    ))
+}
+
+/// Terms with a space after each at the start of a text, and their length, if there is one and memory suffices.
+#[inline(always)]
+fn terms_at(alloc: Global, limit: u128, text: &[u8]) -> Option<(usize, Sequence<Term>)>
+    requires room { limit < 2 ^ 127 }
+    ensures bound { IfSome result (λ r. r.0 ≤ length text.now) }
+    ensures runs { IfSome result (λ r. AreSpacedTerms limit (take r.0 text.now) r.1 Phase.Between) }
+{
+    let mut terms = Sequence::new(alloc);
+    let mut phase = Phase::Start;
+    let mut end: usize = 0;
+    while let Some((length, term)) = term_at(alloc, limit, phase, &text[end..]) {
+        if terms.push(term).is_err() {
+            return None;
+        }
+        phase = Phase::Between;
+        end += length;
+    }
+    match phase {
+        Phase::Between => Some((end, terms)),
+        _ => None,
+    }
+}
+
+/// A term and a space after it at the start of a text, and their length, if they are fast to read.
+#[inline(always)]
+fn term_at(alloc: Global, limit: u128, phase: Phase, text: &[u8]) -> Option<(usize, Term)>
+    requires room { limit < 2 ^ 127 }
+    requires begins { begins_term phase ≡ true }
+    ensures bound { IfSome result (λ r. (0 < r.0) × (r.0 ≤ length text.now)) }
+    ensures runs { IfSome result (λ r. IsSpacedTerm limit phase (take r.0 text.now) r.1) }
+{
+    let Some((number, coefficient)) = spaced_number_prefix(limit, phase, text) else {
+        return None;
+    };
+    let rest = &text[number..];
+    let Some((length, literal)) = literal_prefix(alloc, rest) else {
+        return None;
+    };
+    if length >= rest.len() || rest[length] != b' ' {
+        return None;
+    }
+    Some((
+        number + length + 1,
+        Term {
+            coefficient,
+            literal,
+        },
+    ))
+}
+
+/// A relation and a degree with a space after each at the start of a text, and their length.
+#[inline(always)]
+fn degree_at(limit: u128, part: Part, text: &[u8]) -> Option<(usize, Relation, i128)>
+    requires room { limit < 2 ^ 127 }
+    ensures bound { IfSome result (λ r. r.0 ≤ length text.now) }
+    ensures runs { IfSome result (λ r. IsSpacedDegree limit part (take r.0 text.now) r.1 r.2) }
+{
+    let Some((length, relation)) = relation_prefix(part, text) else {
+        return None;
+    };
+    if length >= text.len() || text[length] != b' ' {
+        return None;
+    }
+    let start = length + 1;
+    let rest = &text[start..];
+    let Some((count, degree)) = spaced_number_prefix(limit, Phase::Relation(relation), rest) else {
+        return None;
+    };
+    Some((start + count, relation, degree))
+}

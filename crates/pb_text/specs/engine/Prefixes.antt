@@ -1,0 +1,25 @@
+-- What a feeder says of a prefix of a piece that it takes at once.
+use Rattle.std.specs.Prelude.{◌≡◌, ℕ, ◌+◌, ◌<◌, ◌≤◌, List, ◌++◌, length, take, false, Option, Some, None}
+use Rattle.pb_text.specs.contract.Automaton.{IsState}
+use Rattle.pb_text.specs.contract.Feeding.{StandsAt, spans_in, state_of, place_of, halt_of, is_complete}
+use Rattle.pb_text.specs.declared.place.Spanned.{Spanned}
+use Rattle.pb_text.specs.declared.machine.Machine.{Ghosts}
+use Rattle.pb_text.specs.declared.feeder.Fed.{Fed}
+use Rattle.pb_text.specs.declared.feeder.Feeder.{Feeder}
+
+-- It took these bytes of the piece, at most through the end of a statement, and did not stop.
+pub record TakesPrefix {M E : Type 0} {g : Ghosts M E} (old : Feeder M E g) (piece : List ℕ) (fed : Fed E) (new : Feeder M E g) : Type 0 where
+  pub bound : fed.used ≤ length piece
+  pub stands : (longest : ℕ) (start : M) (input : List ℕ) (spans : List (Spanned E)) → StandsAt longest start input spans old
+      → StandsAt longest start (input ++ take fed.used piece) (spans ++ spans_in fed.event) new
+  pub offset : (place_of new).offset ≡ (place_of old).offset + fed.used
+  pub some : (event : Spanned E) → fed.event ≡ Some event → 0 < fed.used
+  pub past : (event : Spanned E) → fed.event ≡ Some event → event.past ≡ place_of new
+  pub running : halt_of new ≡ None
+  pub unfinished : fed.event ≡ None → is_complete new ≡ false
+  pub state : IsState g.automaton (state_of new)
+
+-- It took nothing, or this.
+abbrev pub taken : {E : Type 0} → Option (Fed E) → Fed E
+taken None = record { used = 0; event = None }
+taken (Some fed) = fed
