@@ -7,7 +7,7 @@ mod linear;
 mod machine;
 mod name;
 mod phase;
-mod piece;
+pub mod piece;
 mod prefix;
 mod short;
 mod sum_kind;
@@ -25,4 +25,7 @@ pub use sum_kind::{Part, Spaces};
 pub use units::count_units;
 pub use validity::{is_name, linear_is_value, sum_is_value};
 pub use whole::linear_at;
-pub use write::{write_count, write_linear, write_literal, write_number, write_place, write_sum};
+pub use write::{
+    put_linear, put_place, write_count, write_linear, write_literal, write_number, write_place,
+    write_sum,
+};

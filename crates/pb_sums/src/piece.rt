@@ -8,7 +8,7 @@ use itoa::{Buffer, write_digits};
 use std::marker::Model;
 
 /// The maximum length of a piece, in bytes.
-pub const ROOM: usize = 192;
+pub const ROOM: usize = 512;
 
 /// A text of at most `ROOM` bytes, which grows at its start. Contracts see it as the list of its bytes.
 #[derive(Drop)]
@@ -24,7 +24,7 @@ impl Model for Piece {
 
     ghost view = { λ p. drop p.start p.bytes };
 
-    ghost invariant = { λ p. p.start ≤ 192 };
+    ghost invariant = { λ p. p.start ≤ 512 };
 }
 
 impl Piece {

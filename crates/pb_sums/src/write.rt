@@ -1,6 +1,6 @@
 //! Canonical text.
 
-ghost use Rattle.std.specs.Prelude.{◌≡◌, ◌+◌, ◌≤◌, ◌++◌, ◌<◌, [], ◌∷◌, List, ℕ, decimal, length, drop, if◌then◌else◌};
+ghost use Rattle.std.specs.Prelude.{◌≡◌, ◌+◌, ◌≤◌, ◌++◌, ◌<◌, [], ◌∷◌, List, ℕ, IsTrue, decimal, length, drop, if◌then◌else◌};
 ghost use Rattle.std.specs.Fmt.{signed_decimal};
 ghost use Rattle.pb_text.specs.meaning.Writing.{Writes};
 ghost use Rattle.pb_sums.specs.meaning.Sums.{literal_bytes};
@@ -18,7 +18,10 @@ const PREFIX: usize = 48;
 const LONGEST: usize = 43;
 
 /// The maximum number of terms of a piece.
-const BATCH: usize = 8;
+const BATCH: usize = 32;
+
+/// The maximum length of the relation, the degree and ` ;`, with a space before each, in bytes.
+const LONGEST_END: usize = 46;
 
 /// Writes a number: its digits, after a `-` if it is negative.
 pub fn write_number<S: Sink>(value: i128, out: &mut S) -> Result<(), Failed>
@@ -38,15 +41,34 @@ pub fn write_count<S: Sink>(value: u64, out: &mut S) -> Result<(), Failed>
     write_bytes(piece.as_bytes(), out)
 }
 
+/// Prepends a position: its line, `:`, its column and a space.
+fn put_line_and_column(place: Place, piece: &mut Piece)
+    requires { 42 + length piece.old ≤ ROOM }
+    ensures { piece.new ≡ place_bytes place ++ piece.old }
+{
+    piece.put(b' ');
+    piece.put_count(place.column);
+    piece.put(b':');
+    piece.put_count(place.line);
+}
+
+/// Prepends a position if it surely fits, and returns whether it did.
+pub fn put_place(place: Place, piece: &mut Piece) -> bool
+    ensures { IsTrue result → piece.new ≡ place_bytes place ++ piece.old }
+{
+    if piece.room() < LONGEST {
+        return false;
+    }
+    put_line_and_column(place, piece);
+    true
+}
+
 /// Writes a position: its line, `:`, its column and a space.
 pub fn write_place<S: Sink>(place: Place, out: &mut S) -> Result<(), Failed>
     ensures { Writes S.contents S.faults out.old (place_bytes place) result out.new }
 {
     let mut piece = Piece::new();
-    piece.put(b' ');
-    piece.put_count(place.column);
-    piece.put(b':');
-    piece.put_count(place.line);
+    put_line_and_column(place, &mut piece);
     write_bytes(piece.as_bytes(), out)
 }
 
@@ -189,11 +211,33 @@ pub fn write_sum<S: Sink>(terms: &[Term], out: &mut S) -> Result<(), Failed>
     }
 }
 
-/// Puts the end of a linear text into an empty piece: the relation, the degree and ` ;`.
+/// Prepends a term if it surely fits, and returns whether it did.
+fn put_whole_term(term: &Term, piece: &mut Piece) -> bool
+    ensures { IsTrue result → piece.new ≡ term_bytes term.now ++ piece.old }
+{
+    let name = term.literal.name.as_bytes();
+    if name.len() + LONGEST > piece.room() {
+        return false;
+    }
+    put_term(term, name, piece);
+    true
+}
+
+/// Prepends a sum if it surely fits, and returns whether it did. If it did not, the piece may have a part of it.
+fn put_sum(terms: &[Term], piece: &mut Piece) -> bool
+    ensures { IsTrue result → piece.new ≡ sum_bytes terms.now ++ piece.old }
+{
+    match terms {
+        [] => true,
+        [first, rest @ ..] => put_further(rest, piece) == 0 && put_whole_term(first, piece),
+    }
+}
+
+/// Prepends the end of a linear text: the relation, the degree and ` ;`.
 fn put_end(relation: Relation, degree: i128, piece: &mut Piece)
-    requires { piece.old ≡ [] }
-    ensures text { piece.new ≡ relation_bytes relation ++ (32 ∷ (signed_decimal degree ++ (32 ∷ 59 ∷ []))) }
-    ensures short { length piece.new < ROOM }
+    requires { 45 + length piece.old ≤ ROOM }
+    ensures text { piece.new ≡ (relation_bytes relation ++ (32 ∷ (signed_decimal degree ++ (32 ∷ 59 ∷ [])))) ++ piece.old }
+    ensures short { length piece.new ≤ 45 + length piece.old }
 {
     piece.put_text(b" ;");
     piece.put_number(degree);
@@ -204,16 +248,45 @@ fn put_end(relation: Relation, degree: i128, piece: &mut Piece)
     }
 }
 
+/// Prepends what follows the sum of a linear text.
+fn put_tail(linear: &Linear, piece: &mut Piece)
+    requires { 46 + length piece.old ≤ ROOM }
+    ensures { sum_bytes linear.now.terms ++ piece.new ≡ linear_bytes linear.now ++ piece.old }
+{
+    put_end(linear.relation, linear.degree, piece);
+    if !linear.terms.is_empty() {
+        piece.put(b' ');
+    }
+}
+
+/// Prepends a linear text if it surely fits, and returns whether it did. If it did not, the piece may have a part of it.
+pub fn put_linear(linear: &Linear, piece: &mut Piece) -> bool
+    ensures { IsTrue result → piece.new ≡ linear_bytes linear.now ++ piece.old }
+{
+    if linear.terms.len() > BATCH || piece.room() < LONGEST_END {
+        return false;
+    }
+    put_tail(linear, piece);
+    put_sum(linear.terms.as_slice(), piece)
+}
+
+/// Writes a linear text in several pieces.
+fn write_pieces<S: Sink>(linear: &Linear, out: &mut S) -> Result<(), Failed>
+    ensures { Writes S.contents S.faults out.old (linear_bytes linear.now) result out.new }
+{
+    let mut piece = Piece::new();
+    put_tail(linear, &mut piece);
+    write_sum(linear.terms.as_slice(), out)?;
+    write_bytes(piece.as_bytes(), out)
+}
+
 /// Writes a linear text: its sum, the relation and the degree, with single spaces, and ` ;`.
 pub fn write_linear<S: Sink>(linear: &Linear, out: &mut S) -> Result<(), Failed>
     ensures { Writes S.contents S.faults out.old (linear_bytes linear.now) result out.new }
 {
-    let terms = linear.terms.as_slice();
-    write_sum(terms, out)?;
     let mut piece = Piece::new();
-    put_end(linear.relation, linear.degree, &mut piece);
-    if !terms.is_empty() {
-        piece.put(b' ');
+    if put_linear(linear, &mut piece) {
+        return write_bytes(piece.as_bytes(), out);
     }
-    write_bytes(piece.as_bytes(), out)
+    write_pieces(linear, out)
 }
