@@ -5,6 +5,7 @@ ghost use Rattle.pb_text.specs.meaning.Limits.{largest, top_of};
 ghost use Rattle.pb_opb.specs.engine.State.{phase_owing, remaining_after, statement_of};
 
 mod end;
+mod whole;
 
 use crate::event::OpbEvent;
 use crate::line::line_prefix;
@@ -267,6 +268,12 @@ impl Machine for OpbMachine {
         let event = self.end(byte);
         let _ = self.is_done();
         event
+    }
+
+    fn take_statement(&mut self, piece: &[u8]) -> Option<(usize, OpbEvent)> {
+        let statement = self.take_constraint(piece);
+        let _ = self.is_done();
+        statement
     }
 
     fn take_run(&mut self, piece: &[u8]) -> usize {

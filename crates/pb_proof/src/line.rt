@@ -8,7 +8,7 @@ mod formula;
 mod id_prefix;
 mod pol;
 pub(crate) mod push;
-mod rup;
+pub(crate) mod rup;
 mod solution;
 
 use crate::line::conclusion::ConclusionMachine;

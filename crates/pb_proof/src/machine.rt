@@ -10,6 +10,7 @@ mod transition;
 
 use crate::line::LineMachine;
 use crate::line::push::line_first;
+use crate::line::rup::whole::rup_at;
 use crate::machine::phase::{Action, LineKind, Phase, Stage};
 use crate::machine::transition::{is_done, is_within, next_stage, transition, words_prefix};
 use crate::statement::Statement;
@@ -219,6 +220,21 @@ impl Machine for ProofMachine {
     #[inline(always)]
     fn try_finish(&mut self, byte: u8) -> Option<Statement> {
         self.end(byte)
+    }
+
+    /// Takes a whole `rup` line. It stores nothing, so the machine is the same after it.
+    fn take_statement(&mut self, piece: &[u8]) -> Option<(usize, Statement)> {
+        let _ = self.is_done();
+        let Phase::Between(stage) = self.phase else {
+            return None;
+        };
+        let Stage::Steps = stage else {
+            return None;
+        };
+        let Some((last, linear)) = rup_at(self.alloc, self.limits, piece) else {
+            return None;
+        };
+        Some((last, Statement::Rup(linear)))
     }
 
     fn take_prefix(&mut self, piece: &[u8]) -> usize {

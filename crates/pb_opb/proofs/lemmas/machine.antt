@@ -16,3 +16,4 @@ pub mod Pushed
 pub mod Stands
 pub mod States
 pub mod Taken
+pub mod WholeConstraints

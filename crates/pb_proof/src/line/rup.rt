@@ -6,6 +6,7 @@ ghost use Rattle.pb_proof.specs.engine.Line.Rup.{rup_transition, rup_done, linea
 
 mod end;
 mod phase;
+pub(crate) mod whole;
 
 use crate::line::rup::phase::{RupAction, RupPhase};
 use pb_sums::{Linear, Part, Relation, Spaces, SumEvent, SumMachine, count_units};

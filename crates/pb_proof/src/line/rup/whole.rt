@@ -6,6 +6,7 @@ ghost use Rattle.pb_proof.specs.engine.Machine.Whole.{LeadsToRup};
 
 use pb_sums::{Linear, Part, linear_at};
 use pb_text::Limits;
+use pb_text::bytes::is_blank;
 use std::alloc::Global;
 
 /// The constraint of a `rup` line at the start of a text, and the index of its line feed, if it is fast to read: one
@@ -16,7 +17,10 @@ pub(crate) fn rup_at(alloc: Global, limits: Limits, text: &[u8]) -> Option<(usiz
     ensures line_feed { IfSome result (λ r. get_or text.now r.0 0 ≡ 10) }
     ensures runs { IfSome result (λ r. LeadsToRup (largest limits) (take r.0 text.now) r.1) }
 {
-    if text.len() < 4 || text[0] != b'r' || text[1] != b'u' || text[2] != b'p' || text[3] != b' ' {
+    if text.len() < 5 || text[0] != b'r' || text[1] != b'u' || text[2] != b'p' || text[3] != b' ' {
+        return None;
+    }
+    if is_blank(text[4]) {
         return None;
     }
     let Some((semicolon, linear)) = linear_at(alloc, limits, Part::AtLeast, &text[4..]) else {

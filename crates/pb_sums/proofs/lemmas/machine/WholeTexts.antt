@@ -1,5 +1,6 @@
 -- A linear text that is read at once. Offered to other crates.
-use Rattle.std.proofs.Common.{◌≡◌, ℕ, zero, suc, ◌<◌, List, [], take, refl, arith}
+use Rattle.std.proofs.Common.{◌≡◌, ℕ, zero, suc, ◌<◌, List, [], take, refl, sym, ap, arith}
+use Rattle.std.proofs.lemmas.Bool.{false≢true}
 use Rattle.pb_text.specs.contract.Automaton.{End, IsState}
 use Rattle.pb_sums.specs.engine.State.{SumState, sums, last}
 use Rattle.pb_sums.specs.engine.TermParts.{standing, LeadsToLinear}
@@ -22,7 +23,7 @@ pub last_is_state : (spaces : Spaces) (part : Part) (limit : ℕ) → IsState su
 last_is_state spaces part limit = is_state (last spaces part limit) (tt, λ e. (refl, refl))
 
 differs : (spaces : Spaces) (part : Part) (limit : ℕ) (c : Linear) → before_semicolon spaces part limit c ≡ standing spaces part limit [] [] phase.TheVariants.Start → ⊥
-differs spaces part limit c e = cc
+differs spaces part limit c e = false≢true (sym (ap (λ (s : SumState). sums.begun s) e))
 
 -- it has a byte
 pub linear_some : (spaces : Spaces) (part : Part) (limit n : ℕ) (text : List ℕ) (c : Linear) → LeadsToLinear limit part (take n text) c → 0 < n
