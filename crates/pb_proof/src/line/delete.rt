@@ -3,9 +3,8 @@
 ghost use Rattle.std.specs.Prelude.{◌≡◌, ◌<◌, ◌≤◌, ◌^◌, ℕ};
 ghost use Rattle.pb_text.specs.meaning.Limits.{top_of};
 ghost use Rattle.pb_proof.specs.engine.Line.ByteKind.{NumberByteFits};
-ghost use Rattle.pb_proof.specs.engine.Line.Ids.{digits, before, next_action, transition, ids_first, begins_id, is_done, PhaseFits, ActionFits};
+ghost use Rattle.pb_proof.specs.engine.Line.Ids.{digits, before, next_action, transition, ids_first, begins_id, is_done, PhaseFits};
 
-mod end;
 mod phase;
 
 use crate::line::byte_kind::NumberByte;
@@ -44,8 +43,7 @@ fn digits(top: u64, negative: bool, value: u64, digit: u8) -> IdsAction
     requires top { top < 2 ^ 63 }
     requires value { value ≤ top }
     requires digit { digit < 10 }
-    ensures transition { result ≡ digits top negative value digit }
-    ensures fits { ActionFits top result }
+    ensures { result ≡ digits top negative value digit }
 {
     match next_digit_u64(top, value, digit) {
         None => IdsAction::Stop,
@@ -57,8 +55,7 @@ fn digits(top: u64, negative: bool, value: u64, digit: u8) -> IdsAction
 fn before(top: u64, kind: NumberByte) -> IdsAction
     requires top { top < 2 ^ 63 }
     requires kind { NumberByteFits kind }
-    ensures transition { result ≡ before top kind }
-    ensures fits { ActionFits top result }
+    ensures { result ≡ before top kind }
 {
     match kind {
         NumberByte::Minus => IdsAction::To(IdsPhase::Minus),
@@ -69,8 +66,7 @@ fn before(top: u64, kind: NumberByte) -> IdsAction
 
 /// The action for a byte at which an id may end.
 fn next_action(id: i64, kind: NumberByte) -> IdsAction
-    ensures transition { result ≡ next_action id kind }
-    ensures fits { (top : ℕ) → ActionFits top result }
+    ensures { result ≡ next_action id kind }
 {
     match kind {
         NumberByte::Blank => IdsAction::Keep(IdsPhase::Between, id),
@@ -86,8 +82,7 @@ fn transition(top: u64, phase: IdsPhase, kind: NumberByte) -> IdsAction
     requires top { top < 2 ^ 63 }
     requires phase { PhaseFits top phase }
     requires kind { NumberByteFits kind }
-    ensures transition { result ≡ transition top phase kind }
-    ensures fits { ActionFits top result }
+    ensures { result ≡ transition top phase kind }
 {
     match (phase, kind) {
         (IdsPhase::Start | IdsPhase::Gap, NumberByte::Blank) => IdsAction::To(IdsPhase::Gap),
@@ -160,45 +155,18 @@ impl IdsMachine {
     }
 }
 
-impl Machine for IdsMachine {
-    ghost use Rattle.std.specs.Prelude.{List, ℤ};
-    ghost use Rattle.pb_proof.specs.engine.Line.Ids.{ids_automaton};
+impl IdsMachine {
+    ghost use Rattle.pb_text.specs.contract.Automaton.{Pushes};
+    ghost use Rattle.pb_proof.specs.engine.Line.ByteKind.{number_byte};
+    ghost use Rattle.pb_proof.specs.engine.Line.Ids.{ids_automaton, transition};
 
-    type Event = Sequence<i64>;
-
-    ghost automaton = { ids_automaton };
-
-    fn try_continue(&mut self, byte: u8) -> bool {
-        match transition(self.top, self.phase, number_byte(byte)) {
-            IdsAction::To(next) => {
-                self.phase = next;
-                true
-            }
-            IdsAction::Keep(next, id) => {
-                if self.ids.push(id).is_err() {
-                    return false;
-                }
-                self.phase = next;
-                true
-            }
-            _ => false,
-        }
-    }
-
-    fn try_finish(&mut self, byte: u8) -> Option<Sequence<i64>> {
-        self.end(byte)
-    }
-
-    fn take_prefix(&mut self, piece: &[u8]) -> usize {
-        let length = self.take_digits(piece);
-        if length > 0 {
-            return length;
-        }
-        if self.try_continue(piece[0]) { 1 } else { 0 }
-    }
-
-    fn push(&mut self, byte: u8) -> Push<Sequence<i64>> {
-        match transition(self.top, self.phase, number_byte(byte)) {
+    /// Takes a byte with its action.
+    #[inline(always)]
+    fn take(&mut self, byte: u8, action: IdsAction) -> Push<Sequence<i64>>
+        requires { action ≡ transition self.old.top self.old.phase (number_byte byte) }
+        ensures { Pushes ids_automaton self.old byte result self.new }
+    {
+        match action {
             IdsAction::To(phase) => {
                 self.phase = phase;
                 Push::Go
@@ -229,6 +197,61 @@ impl Machine for IdsMachine {
                 }
             }
         }
+    }
+}
+
+impl Machine for IdsMachine {
+    ghost use Rattle.std.specs.Prelude.{List, ℤ};
+    ghost use Rattle.pb_proof.specs.engine.Line.Ids.{ids_automaton};
+
+    type Event = Sequence<i64>;
+
+    ghost automaton = { ids_automaton };
+
+    fn try_continue(&mut self, byte: u8) -> bool {
+        let _ = self.is_done();
+        let action = transition(self.top, self.phase, number_byte(byte));
+        if matches!(
+            action,
+            IdsAction::End | IdsAction::EndWith(_) | IdsAction::Stop
+        ) {
+            return false;
+        }
+        let answer = self.take(byte, action);
+        let _ = self.is_done();
+        let Push::Go = answer else {
+            return false;
+        };
+        true
+    }
+
+    fn try_finish(&mut self, byte: u8) -> Option<Sequence<i64>> {
+        let _ = self.is_done();
+        let action = transition(self.top, self.phase, number_byte(byte));
+        if !matches!(action, IdsAction::End | IdsAction::EndWith(_)) {
+            return None;
+        }
+        let answer = self.take(byte, action);
+        let _ = self.is_done();
+        match answer {
+            Push::Event(ids) => Some(ids),
+            _ => None,
+        }
+    }
+
+    fn take_prefix(&mut self, piece: &[u8]) -> usize {
+        let length = self.take_digits(piece);
+        if length > 0 {
+            return length;
+        }
+        if self.try_continue(piece[0]) { 1 } else { 0 }
+    }
+
+    fn push(&mut self, byte: u8) -> Push<Sequence<i64>> {
+        let action = transition(self.top, self.phase, number_byte(byte));
+        let answer = self.take(byte, action);
+        let _ = self.is_done();
+        answer
     }
 
     fn is_done(&self) -> bool {

@@ -99,15 +99,14 @@ impl CountMachine {
     }
 }
 
-impl Machine for CountMachine {
-    ghost use Rattle.std.specs.Prelude.{Option, ℕ};
+impl CountMachine {
+    ghost use Rattle.pb_text.specs.contract.Automaton.{Pushes};
     ghost use Rattle.pb_proof.specs.engine.Line.Count.{count_automaton};
 
-    type Event = Option<u64>;
-
-    ghost automaton = { count_automaton };
-
-    fn push(&mut self, byte: u8) -> Push<Option<u64>> {
+    /// Takes a byte.
+    fn take(&mut self, byte: u8) -> Push<Option<u64>>
+        ensures { Pushes count_automaton self.old byte result self.new }
+    {
         match transition(self.top, self.phase, number_byte(byte)) {
             CountAction::To(phase) => {
                 self.phase = phase;
@@ -125,6 +124,21 @@ impl Machine for CountMachine {
                 }
             }
         }
+    }
+}
+
+impl Machine for CountMachine {
+    ghost use Rattle.std.specs.Prelude.{Option, ℕ};
+    ghost use Rattle.pb_proof.specs.engine.Line.Count.{count_automaton};
+
+    type Event = Option<u64>;
+
+    ghost automaton = { count_automaton };
+
+    fn push(&mut self, byte: u8) -> Push<Option<u64>> {
+        let answer = self.take(byte);
+        let _ = self.is_done();
+        answer
     }
 
     fn is_done(&self) -> bool {

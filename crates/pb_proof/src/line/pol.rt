@@ -7,7 +7,6 @@ ghost use Rattle.pb_text.specs.meaning.Limits.{largest, top_of};
 ghost use Rattle.pb_proof.specs.engine.Line.Pol.{is_in_number};
 
 mod close;
-mod end;
 mod fast;
 mod kind;
 mod phase;
@@ -199,69 +198,21 @@ impl PolMachine {
     }
 }
 
-impl Machine for PolMachine {
+impl PolMachine {
+    ghost use Rattle.std.specs.Prelude.{true, ◌<◌};
+    ghost use Rattle.pb_text.specs.contract.Automaton.{Pushes};
+    ghost use Rattle.pb_proof.specs.engine.Line.Pol.{transition, kind_of, is_name_kind, ActionFits};
     ghost use Rattle.pb_proof.specs.engine.Line.PolState.{pol_automaton};
 
-    type Event = Sequence<PolWord>;
-
-    ghost automaton = { pol_automaton };
-
-    fn try_continue(&mut self, byte: u8) -> bool {
-        match transition(self.limit, self.top, self.depth, self.phase, kind_of(byte)) {
-            Action::To(phase) => {
-                self.phase = phase;
-                true
-            }
-            Action::Begin(phase) => {
-                let mut name = Name::new(self.alloc);
-                if name.push(byte).is_err() {
-                    return false;
-                }
-                self.name = name;
-                self.phase = phase;
-                true
-            }
-            Action::Add(phase) => {
-                if self.name.push(byte).is_err() {
-                    return false;
-                }
-                self.phase = phase;
-                true
-            }
-            Action::Turn(change, phase) => {
-                if turn(
-                    self.alloc,
-                    &mut self.words,
-                    &mut self.depth,
-                    &mut self.name,
-                    change,
-                )
-                .is_err()
-                {
-                    return false;
-                }
-                self.phase = phase;
-                true
-            }
-            Action::End(_) | Action::Stop => false,
-        }
-    }
-
-    fn try_finish(&mut self, byte: u8) -> Option<Sequence<PolWord>> {
-        self.end(byte)
-    }
-
-    fn take_prefix(&mut self, piece: &[u8]) -> usize {
-        let length = self.take_word(piece);
-        // A line feed takes no word with it, and ends the line.
-        if length > 0 || piece[0] == b'\n' {
-            return length;
-        }
-        if self.try_continue(piece[0]) { 1 } else { 0 }
-    }
-
-    fn push(&mut self, byte: u8) -> Push<Sequence<PolWord>> {
-        match transition(self.limit, self.top, self.depth, self.phase, kind_of(byte)) {
+    /// Takes a byte with its action.
+    #[inline(always)]
+    fn take(&mut self, byte: u8, action: Action) -> Push<Sequence<PolWord>>
+        requires action { action ≡ transition self.old.limit self.old.top self.old.work.depth self.old.work.phase (kind_of byte) }
+        requires fits { ActionFits self.old.limit self.old.top self.old.work.depth (kind_of byte) action }
+        requires ascii { is_name_kind (kind_of byte) ≡ true → byte < 128 }
+        ensures { Pushes pol_automaton self.old byte result self.new }
+    {
+        match action {
             Action::Stop => refusal(self.phase, byte),
             Action::To(phase) => {
                 self.phase = phase;
@@ -312,6 +263,58 @@ impl Machine for PolMachine {
                 Push::Event(words)
             }
         }
+    }
+}
+
+impl Machine for PolMachine {
+    ghost use Rattle.pb_proof.specs.engine.Line.PolState.{pol_automaton};
+
+    type Event = Sequence<PolWord>;
+
+    ghost automaton = { pol_automaton };
+
+    fn try_continue(&mut self, byte: u8) -> bool {
+        let _ = self.is_done();
+        let action = transition(self.limit, self.top, self.depth, self.phase, kind_of(byte));
+        if matches!(action, Action::End(_) | Action::Stop) {
+            return false;
+        }
+        let answer = self.take(byte, action);
+        let _ = self.is_done();
+        let Push::Go = answer else {
+            return false;
+        };
+        true
+    }
+
+    fn try_finish(&mut self, byte: u8) -> Option<Sequence<PolWord>> {
+        let _ = self.is_done();
+        let action = transition(self.limit, self.top, self.depth, self.phase, kind_of(byte));
+        if !matches!(action, Action::End(_)) {
+            return None;
+        }
+        let answer = self.take(byte, action);
+        let _ = self.is_done();
+        match answer {
+            Push::Event(words) => Some(words),
+            _ => None,
+        }
+    }
+
+    fn take_prefix(&mut self, piece: &[u8]) -> usize {
+        let length = self.take_word(piece);
+        // A line feed takes no word with it, and ends the line.
+        if length > 0 || piece[0] == b'\n' {
+            return length;
+        }
+        if self.try_continue(piece[0]) { 1 } else { 0 }
+    }
+
+    fn push(&mut self, byte: u8) -> Push<Sequence<PolWord>> {
+        let action = transition(self.limit, self.top, self.depth, self.phase, kind_of(byte));
+        let answer = self.take(byte, action);
+        let _ = self.is_done();
+        answer
     }
 
     fn is_done(&self) -> bool {

@@ -179,44 +179,19 @@ impl LiteralsMachine {
     }
 }
 
-impl Machine for LiteralsMachine {
+impl LiteralsMachine {
+    ghost use Rattle.pb_text.specs.contract.Automaton.{Pushes};
+    ghost use Rattle.pb_proof.specs.engine.Line.ByteKind.{name_byte};
     ghost use Rattle.pb_proof.specs.engine.Line.Literals.{literals_automaton};
 
-    type Event = Sequence<Literal>;
-
-    ghost automaton = { literals_automaton };
-
-    fn try_continue(&mut self, byte: u8) -> bool {
-        match transition(self.joined, self.phase, name_byte(byte)) {
-            LiteralsAction::Begin(phase, first) => {
-                let mut name = Name::new(self.alloc);
-                if name.push(first).is_err() {
-                    return false;
-                }
-                self.name = name;
-                self.phase = phase;
-                true
-            }
-            LiteralsAction::Add(phase, next) => {
-                if self.name.push(next).is_err() {
-                    return false;
-                }
-                self.phase = phase;
-                true
-            }
-            LiteralsAction::To(phase) => {
-                if flush(self.alloc, &mut self.literals, &mut self.name, self.phase).is_err() {
-                    return false;
-                }
-                self.phase = phase;
-                true
-            }
-            LiteralsAction::End | LiteralsAction::Stop => false,
-        }
-    }
-
-    fn push(&mut self, byte: u8) -> Push<Sequence<Literal>> {
-        match transition(self.joined, self.phase, name_byte(byte)) {
+    /// Takes a byte with its action.
+    #[inline(always)]
+    fn take(&mut self, byte: u8, action: LiteralsAction) -> Push<Sequence<Literal>>
+        requires action { action ≡ transition self.old.joined self.old.phase (name_byte byte) }
+        requires fits { ActionFits action }
+        ensures { Pushes literals_automaton self.old byte result self.new }
+    {
+        match action {
             LiteralsAction::Stop => Push::No,
             LiteralsAction::Begin(phase, first) => {
                 let mut name = Name::new(self.alloc);
@@ -253,6 +228,35 @@ impl Machine for LiteralsMachine {
                 Push::Event(literals)
             }
         }
+    }
+}
+
+impl Machine for LiteralsMachine {
+    ghost use Rattle.pb_proof.specs.engine.Line.Literals.{literals_automaton};
+
+    type Event = Sequence<Literal>;
+
+    ghost automaton = { literals_automaton };
+
+    fn try_continue(&mut self, byte: u8) -> bool {
+        let _ = self.is_done();
+        let action = transition(self.joined, self.phase, name_byte(byte));
+        if matches!(action, LiteralsAction::End | LiteralsAction::Stop) {
+            return false;
+        }
+        let answer = self.take(byte, action);
+        let _ = self.is_done();
+        let Push::Go = answer else {
+            return false;
+        };
+        true
+    }
+
+    fn push(&mut self, byte: u8) -> Push<Sequence<Literal>> {
+        let action = transition(self.joined, self.phase, name_byte(byte));
+        let answer = self.take(byte, action);
+        let _ = self.is_done();
+        answer
     }
 
     fn is_done(&self) -> bool {

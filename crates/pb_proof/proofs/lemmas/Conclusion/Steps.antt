@@ -109,9 +109,7 @@ module _ (s : ConclusionState) (p : Phase) where
 module _ (s : ConclusionState) where
   next_word : (w : Word) (k : ℕ) → IsNext s (phase.Word w k) (phase_after_word w)
   next_word word.NoClaim k = (refl, λ f. tt)
-  next_word word.Unsat k = (refl, λ f. tt)
-  next_word word.Sat k = (refl, λ f. tt)
-  next_word word.Bounds k = (refl, λ f. tt)
+  next_word _ k = (refl, λ f. tt)
 
   next_bound : (x : Side) (k : ℕ) → IsNext s (phase.Infinity x k) (phase_after_bound x Infinite)
   next_bound side.Lower k = (refl, λ f. tt)
@@ -188,41 +186,11 @@ module _ (s : ConclusionState) (shows : Showing) (p : s.phase ≡ phase.Shown sh
 -- nothing is stored if no literal is read
 idle_holds : (limit top : ℕ) (p : Phase) → Holds (conclusion_at limit top p) p
 idle_holds limit top phase.Start = refl
-idle_holds limit top phase.Before = refl
-idle_holds limit top (phase.Word w k) = refl
-idle_holds limit top (phase.AfterValue c) = refl
-idle_holds limit top (phase.Semicolon c) = refl
-idle_holds limit top phase.Bounded = refl
-idle_holds limit top (phase.BeforeBound x) = refl
-idle_holds limit top (phase.Signed x negative) = refl
-idle_holds limit top (phase.Digits x negative n) = refl
-idle_holds limit top (phase.Infinity x k) = refl
-idle_holds limit top (phase.Between x) = refl
-idle_holds limit top (phase.Spaced x) = refl
-idle_holds limit top (phase.BeforeId x) = refl
-idle_holds limit top (phase.IdSigned x) = refl
-idle_holds limit top (phase.IdDigits x negative n) = refl
-idle_holds limit top (phase.Shown x) = refl
-idle_holds limit top phase.Done = refl
+idle_holds limit top _ = refl
 
 idle_spent : (limit top : ℕ) (p : Phase) → spent (conclusion_at limit top p) p ≤ 1
 idle_spent limit top (phase.Shown x) = omega arith
-idle_spent limit top phase.Start = omega arith
-idle_spent limit top phase.Before = omega arith
-idle_spent limit top (phase.Word w k) = omega arith
-idle_spent limit top (phase.AfterValue c) = omega arith
-idle_spent limit top (phase.Semicolon c) = omega arith
-idle_spent limit top phase.Bounded = omega arith
-idle_spent limit top (phase.BeforeBound x) = omega arith
-idle_spent limit top (phase.Signed x negative) = omega arith
-idle_spent limit top (phase.Digits x negative n) = omega arith
-idle_spent limit top (phase.Infinity x k) = omega arith
-idle_spent limit top (phase.Between x) = omega arith
-idle_spent limit top (phase.Spaced x) = omega arith
-idle_spent limit top (phase.BeforeId x) = omega arith
-idle_spent limit top (phase.IdSigned x) = omega arith
-idle_spent limit top (phase.IdDigits x negative n) = omega arith
-idle_spent limit top phase.Done = omega arith
+idle_spent limit top _ = omega arith
 
 -- a state in which no literal is read
 pub idle_order : (limit top : ℕ) (p : Phase) → limit < 2 ^ 127 → top < 2 ^ 63 → 0 < top → PhaseFits limit top p → IsConclusionInOrder (conclusion_at limit top p)

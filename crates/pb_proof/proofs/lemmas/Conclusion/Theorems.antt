@@ -144,22 +144,7 @@ goes_on s h d = elim (shown_or_idle s s.phase h.holds) [
 
 bounded : (s : ConclusionState) (p : Phase) → kept s p ≤ spent s p
 bounded s (phase.Shown x) = literals_of_one.bounds s.literals
-bounded s phase.Start = omega arith
-bounded s phase.Before = omega arith
-bounded s (phase.Word w k) = omega arith
-bounded s (phase.AfterValue c) = omega arith
-bounded s (phase.Semicolon c) = omega arith
-bounded s phase.Bounded = omega arith
-bounded s (phase.BeforeBound x) = omega arith
-bounded s (phase.Signed x negative) = omega arith
-bounded s (phase.Digits x negative n) = omega arith
-bounded s (phase.Infinity x k) = omega arith
-bounded s (phase.Between x) = omega arith
-bounded s (phase.Spaced x) = omega arith
-bounded s (phase.BeforeId x) = omega arith
-bounded s (phase.IdSigned x) = omega arith
-bounded s (phase.IdDigits x negative n) = omega arith
-bounded s phase.Done = omega arith
+bounded s _ = omega arith
 
 pub conclusion_of_one : IsOfOne conclusion_automaton IsConclusionInOrder last
 conclusion_of_one = record {

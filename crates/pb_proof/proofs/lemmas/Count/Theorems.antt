@@ -66,8 +66,7 @@ in_order s next b h e =
 
 ended : (top : ℕ) (m : CountAction) (next : CountState) (count : Option ℕ) → act top m ≡ End count next → next ≡ count_last top
 ended top (action.TheVariants.To p) next count e = cc
-ended top (action.TheVariants.End c) next count e = cc
-ended top action.TheVariants.Stop next count e = cc
+ended top _ next count e = cc
 
 abbrev last : CountState → CountState
 last s = count_last s.top

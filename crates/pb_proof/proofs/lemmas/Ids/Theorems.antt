@@ -42,7 +42,7 @@ after_fits top id kind.Blank = (tt, refl)
 after_fits top id kind.Semicolon = (tt, refl)
 after_fits top id _ = tt
 
-transition_fits : (top : ℕ) (ph : IdsPhase) (k : NumberByte) → ActionFits top (transition top ph k)
+pub transition_fits : (top : ℕ) (ph : IdsPhase) (k : NumberByte) → ActionFits top (transition top ph k)
 transition_fits top Start kind.Blank = (tt, refl)
 transition_fits top Gap kind.Blank = (tt, refl)
 transition_fits top Gap k = before_fits top k
@@ -71,18 +71,14 @@ acted top ids (action.Keep p id) next h e =
     subst (λ x. Steps top ids x) (one_state (ids_at top (ids ++ id ∷ []) p) next e)
     (record { same_top = refl; fits = h.0; midway = h.1; grows = omega (arith, length-append ids (id ∷ [])) })
 acted top ids action.End next h e = cc
-acted top ids (action.EndWith id) next h e = cc
-acted top ids action.Stop next h e = cc
+acted top ids _ next h e = cc
 
 continues : (s next : IdsState) (b : ℕ) → ids_automaton.step s b ≡ Go next → Steps s.top s.ids next
 continues s next b e = acted s.top s.ids (transition s.top s.phase (number_byte b)) next (transition_fits s.top s.phase (number_byte b)) e
 
 ended : (top : ℕ) (ids : List ℤ) (m : IdsAction) (next : IdsState) (e : List ℤ) → act top ids m ≡ End e next → next ≡ ids_last top
 ended top ids (action.To p) next e i = cc
-ended top ids (action.Keep p id) next e i = cc
-ended top ids action.End next e i = cc
-ended top ids (action.EndWith id) next e i = cc
-ended top ids action.Stop next e i = cc
+ended top ids _ next e i = cc
 
 abbrev last : IdsState → IdsState
 last s = ids_last s.top

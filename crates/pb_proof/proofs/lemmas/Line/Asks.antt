@@ -131,18 +131,12 @@ letter_begins text b h = inl ([], ends_nothing text, (h, tt))
 module _ (b : ℕ) (text : List ℕ) where
   after_quiet : (k : NameByte) → adds (literals.next_action k) ≡ false
   after_quiet name.Blank = refl
-  after_quiet name.Semicolon = refl
-  after_quiet name.Feed = refl
   after_quiet _ = refl
 
   begins_at : (k : NameByte) → NameMeans k b → adds (literals.before k) ≡ true → AsksLiteral text b
   begins_at name.Tilde m h = absurd (false≢true h)
   begins_at (name.Letter c) m h = letter_begins text b (subst (λ (x : ℕ). IsTrue (is_letter x)) (sym m.0) m.1)
-  begins_at name.Blank m h = absurd (false≢true h)
-  begins_at name.Semicolon m h = absurd (false≢true h)
-  begins_at name.Feed m h = absurd (false≢true h)
-  begins_at (name.Inner c) m h = absurd (false≢true h)
-  begins_at name.Other m h = absurd (false≢true h)
+  begins_at _ m h = absurd (false≢true h)
 
   start_at : (joined : Bool) (k : NameByte) → NameMeans k b → (adds (literals.transition joined at.Start k) || false) ≡ true → AsksLiteral text b
   start_at true k m h = begins_at k m (sym (or-false (adds (literals.before k))) ∙ h)
@@ -153,30 +147,16 @@ module _ (b : ℕ) (text : List ℕ) where
 
   negation_at : (joined : Bool) (k : NameByte) → NameMeans k b → (adds (literals.transition joined at.Negation k) || false) ≡ true → AsksLiteral text b
   negation_at joined (name.Letter c) m h = letter_begins text b (subst (λ (x : ℕ). IsTrue (is_letter x)) (sym m.0) m.1)
-  negation_at joined name.Tilde m h = absurd (false≢true h)
-  negation_at joined name.Blank m h = absurd (false≢true h)
-  negation_at joined name.Semicolon m h = absurd (false≢true h)
-  negation_at joined name.Feed m h = absurd (false≢true h)
-  negation_at joined (name.Inner c) m h = absurd (false≢true h)
-  negation_at joined name.Other m h = absurd (false≢true h)
+  negation_at joined _ m h = absurd (false≢true h)
 
   first_at : (joined negated : Bool) (bs : List ℕ) → EndsIn text bs → IsFirst bs → (k : NameByte) → NameMeans k b → (adds (literals.transition joined (at.First negated) k) || false) ≡ true → AsksLiteral text b
   first_at joined negated bs e f (name.Letter c) m h = inl (bs, e, first_further bs b f (letter_name b (subst (λ (x : ℕ). IsTrue (is_letter x)) (sym m.0) m.1)))
   first_at joined negated bs e f (name.Inner c) m h = inl (bs, e, first_further bs b f (subst (λ (x : ℕ). IsTrue (is_name_byte x)) (sym m.0) m.1))
-  first_at joined negated bs e f name.Tilde m h = absurd (false≢true h)
-  first_at joined negated bs e f name.Blank m h = absurd (false≢true h)
-  first_at joined negated bs e f name.Semicolon m h = absurd (false≢true h)
-  first_at joined negated bs e f name.Feed m h = absurd (false≢true h)
-  first_at joined negated bs e f name.Other m h = absurd (false≢true h)
+  first_at joined negated bs e f _ m h = absurd (false≢true h)
 
   closing_at : (joined : Bool) (k : NameByte) → (adds (literals.transition joined at.Closing k) || false) ≡ true → AsksLiteral text b
   closing_at joined name.Blank h = absurd (false≢true h)
-  closing_at joined name.Feed h = absurd (false≢true h)
-  closing_at joined name.Tilde h = absurd (false≢true h)
-  closing_at joined name.Semicolon h = absurd (false≢true h)
-  closing_at joined (name.Letter c) h = absurd (false≢true h)
-  closing_at joined (name.Inner c) h = absurd (false≢true h)
-  closing_at joined name.Other h = absurd (false≢true h)
+  closing_at joined _ h = absurd (false≢true h)
 
 literals_at : (ph : LiteralsPhase) (joined : Bool) (ls : List Literal) (bs : List ℕ) (t : List Letter) (b : ℕ) → sound.prefix joined ph ls bs t
     → (adds (literals.transition joined ph (name_byte b)) || is_more ph) ≡ true → AsksLiteral (bytes t) b

@@ -104,12 +104,7 @@ module _ (limit top : ℕ) where
   -- A new one has not begun, has not ended, and reads no number.
   pub line_fresh : (r : LineKind) → (line_automaton.done (line_first limit top r) ≡ false) × (line_automaton.begun (line_first limit top r) ≡ false) × (line_automaton.in_number (line_first limit top r) ≡ false)
   line_fresh Count = (refl, refl, refl)
-  line_fresh Pol = (refl, refl, refl)
-  line_fresh Rup = (refl, refl, refl)
-  line_fresh Soli = (refl, refl, refl)
-  line_fresh Solx = (refl, refl, refl)
-  line_fresh Delete = (refl, refl, refl)
-  line_fresh Conclusion = (refl, refl, refl)
+  line_fresh _ = (refl, refl, refl)
 
   -- A new one satisfies `IsState`, if there are ids.
   pub line_first_state : limit < 2 ^ 127 → top < 2 ^ 63 → 0 < top → (r : LineKind) → IsState line_automaton (line_first limit top r)

@@ -2,21 +2,20 @@
 use Rattle.std.proofs.Common.{◌≡◌, ℕ, ◌+◌, ◌-◌, ◌^◌, ◌<◌, min, take, get_or, Bool, true, ◌||◌, List, [], length, sym, ap, ◌∙◌}
 use Rattle.std.proofs.lemmas.List.{take_more}
 use Rattle.std.specs.Prelude.{IsTrue}
-use Rattle.pb_text.specs.contract.Automaton.{Go, Refuse, Admits, IsState}
+use Rattle.pb_text.specs.contract.Automaton.{Refuse, Admits, IsState}
 use Rattle.pb_text.proofs.lemmas.machine.Outcomes.{go_or_refuse, end_or_refuse}
 use Rattle.pb_text.proofs.lemmas.text.Booleans.{never}
 use Rattle.pb_sums.specs.declared.Literal.{Literal}
 use Rattle.pb_sums.proofs.lemmas.machine.Counts.{counted}
-use Rattle.pb_proof.specs.engine.Line.Literals.{literals_automaton, literals_at, flushed, act, transition, adds, is_more, is_midway, units, IsLiteralsInOrder}
+use Rattle.pb_proof.specs.engine.Line.Literals.{LiteralsState, literals_automaton, literals_at, flushed, act, transition, adds, is_more, is_midway, units, IsLiteralsInOrder}
 use Rattle.pb_proof.specs.engine.Line.ByteKind.{name_byte}
-use Rattle.pb_proof.specs.declared.line.byte_kind.NameByte.{NameByte}
 use Rattle.pb_proof.specs.declared.line.solution.phase.LiteralsPhase.{LiteralsPhase}
 use Rattle.pb_proof.specs.declared.line.solution.phase.LiteralsAction.{LiteralsAction}
 use Rattle.pb_proof.specs.declared.line.solution.phase.LiteralsAction.TheVariants as action
 use Rattle.pb_proof.proofs.lemmas.Literals.Theorems.{literals_of_one, literals_is_state, units_append}
 use Rattle.pb_text.proofs.lemmas.machine.OneText.{admits}
 
-abbrev IsTaken : LiteralsAction → Type 0
+abbrev pub IsTaken : LiteralsAction → Type 0
 IsTaken action.Stop = ⊥
 IsTaken _ = Unit {0}
 
@@ -27,27 +26,15 @@ taken_acts joined ms ls name (action.Add q b) h e = go_or_refuse _ e
 taken_acts joined ms ls name action.End h e = end_or_refuse _ _ e
 taken_acts joined ms ls name action.Stop h e = h
 
-module _ (joined : Bool) (ls : List Literal) (name : List ℕ) (p : LiteralsPhase) (b : ℕ) (k : NameByte) where
-  planned : (m : LiteralsAction) → k ≡ name_byte b → m ≡ transition joined p k → transition joined p (name_byte b) ≡ m
-  planned m f g = ap (λ x. transition joined p x) (sym f) ∙ sym g
-
-  moved : (m : LiteralsAction) → k ≡ name_byte b → m ≡ transition joined p k
-      → literals_automaton.step (literals_at joined ls name p) b ≡ act joined (flushed p ls name) ls name m
-  moved m f g = ap (λ x. act joined (flushed p ls name) ls name x) (planned m f g)
-
-  -- a push may allocate at a byte of a name or one that ends a literal, and only if the byte is taken
-  pub wants : (m : LiteralsAction) → IsLiteralsInOrder (literals_at joined ls name p) → k ≡ name_byte b → m ≡ transition joined p k → IsTaken m
-      → (adds m || is_more p) ≡ true → IsTrue (literals_automaton.asks (literals_at joined ls name p) b) × Admits literals_automaton (literals_at joined ls name p) b
-  wants m o f g t a = (
-    ap (λ x. adds x || is_more p) (planned m f g) ∙ a,
-    admits literals_automaton IsLiteralsInOrder _ literals_of_one (literals_at joined ls name p) b (act joined (flushed p ls name) ls name m) o (moved m f g)
-        (taken_acts joined (flushed p ls name) ls name m t),
-  )
-
-  pub goes_to : (ms : List Literal) (new : List ℕ) (q : LiteralsPhase) → new ≡ [] → k ≡ name_byte b → action.To q ≡ transition joined p k → ms ≡ flushed p ls name
-      → literals_automaton.step (literals_at joined ls name p) b ≡ Go (literals_at joined ms new q)
-  goes_to ms new q z f g i =
-      moved (action.To q) f g ∙ (ap (λ x. act joined x ls name (action.To q)) (sym i) ∙ ap (λ x. Go (literals_at joined ms x q)) (sym z))
+-- a push may allocate at a byte of a name or one that ends a literal, and only if the byte is taken
+pub wants : (s : LiteralsState) (b : ℕ) (m : LiteralsAction) → IsLiteralsInOrder s → m ≡ transition s.joined s.phase (name_byte b) → IsTaken m → (adds m || is_more s.phase) ≡ true
+    → IsTrue (literals_automaton.asks s b) × Admits literals_automaton s b
+wants s b m o f t a =
+    let ms : List Literal = flushed s.phase s.literals s.name in (
+      ap (λ x. adds x || is_more s.phase) (sym f) ∙ a,
+      admits literals_automaton IsLiteralsInOrder _ literals_of_one s b (act s.joined ms s.literals s.name m) o (ap (λ x. act s.joined ms s.literals s.name x) (sym f))
+          (taken_acts s.joined ms s.literals s.name m t),
+    )
 
 pub same_state : (joined : Bool) (ls ms : List Literal) (m n : List ℕ) (p q : LiteralsPhase) → ls ≡ ms → m ≡ n → p ≡ q → literals_at joined ls m p ≡ literals_at joined ms n q
 same_state joined ls ms m n p q e f g = cc

@@ -125,10 +125,7 @@ module _ (joined : Bool) (ls : List Literal) (name : List ℕ) (ph : LiteralsPha
 
   ended : (m : LiteralsAction) (next : LiteralsState) (e : List Literal) → act joined (flushed ph ls name) ls name m ≡ End e next → next ≡ literals_last joined
   ended (action.TheVariants.To q) next e i = cc
-  ended (action.TheVariants.Begin q b) next e i = cc
-  ended (action.TheVariants.Add q b) next e i = cc
-  ended action.TheVariants.End next e i = cc
-  ended action.TheVariants.Stop next e i = cc
+  ended _ next e i = cc
 
 continues : (s next : LiteralsState) (b : ℕ) → literals_automaton.step s b ≡ Go next → Steps s next
 continues s next b e = acted s.joined s.literals s.name s.phase (transition s.joined s.phase (name_byte b)) next (transition_sane s.joined s.phase (name_byte b)) e

@@ -126,11 +126,7 @@ module _ (limit top : ℕ) where
   gap_action : (p : Phase) (b : ℕ) (m : Action) → InGap (act (at limit top p) b m) (asks (at limit top p) b m)
   gap_action p b (To q) = λ o. ((q, refl, o), refl)
   gap_action p b (Begin r) = λ o. never true refl o
-  gap_action p b (Give r) = tt
-  gap_action p b EndHeader = tt
-  gap_action p b EndOutput = tt
-  gap_action p b EndProof = tt
-  gap_action p b Stop = tt
+  gap_action p b _ = tt
 
   gaps : (s next : ProofState) (b : ℕ) → Idle s → proofs.step s b ≡ Go next → proofs.begun next ≡ false → Idle next × (proofs.asks s b ≡ false)
   gaps s next b (p, e, i) g o =
@@ -154,11 +150,7 @@ module _ (limit top : ℕ) where
       → ((st : Stage) → p ≡ phase.Between st → A) → A
   from_idle A (phase.Between st) t e next i r f = f st refl
   from_idle A (phase.Comment st) t e next i r f = not_in_comment st t e next r
-  from_idle A (phase.Spelling w k) t e next i r f = never true refl i
-  from_idle A phase.Solution t e next i r f = never true refl i
-  from_idle A phase.HeaderEnd t e next i r f = never true refl i
-  from_idle A (phase.OutputEnd may) t e next i r f = never true refl i
-  from_idle A (phase.Inside w) t e next i r f = never true refl i
+  from_idle A _ t e next i r f = never true refl i
 
   ends : (s next : ProofState) (t : List Letter) (e : Statement) → Idle s → ReadsStatement proofs s t e next → Idle next
   ends s next t e (p, same, i) r =
@@ -171,10 +163,7 @@ module _ (limit top : ℕ) where
   quiet s b (To p) e = refl
   quiet s b (Begin r) e = refl
   quiet s b (Give r) e = ap (state.asked false (λ i. line_automaton.asks i b)) e
-  quiet s b EndHeader e = refl
-  quiet s b EndOutput e = refl
-  quiet s b EndProof e = refl
-  quiet s b Stop e = refl
+  quiet s b _ e = refl
 
   module _ (st : Stage) (s next : ProofState) (p more : List Letter) (l : Letter) (e : Statement) (r : ReadsStatement proofs s (l ∷ more) e next) where
     silent : {A : Type 0} (q : Phase) → s.line ≡ None → asks s l.byte (transition q l.byte) ≡ true → A

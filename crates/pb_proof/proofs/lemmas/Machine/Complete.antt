@@ -43,14 +43,7 @@ is_laid (c ∷ cs) = (not (nat_eq c 32) || dark_first cs) && is_laid cs
 
 words_laid : (f : Keyword) → is_laid (words_of f) ≡ true
 words_laid keyword.Header = refl
-words_laid keyword.Formula = refl
-words_laid keyword.Pol = refl
-words_laid keyword.Rup = refl
-words_laid keyword.Solution = refl
-words_laid keyword.Delete = refl
-words_laid keyword.Output = refl
-words_laid keyword.Conclusion = refl
-words_laid keyword.End = refl
+words_laid _ = refl
 
 laid_later : (prefix more : List ℕ) → is_laid (prefix ++ more) ≡ true → is_laid more ≡ true
 laid_later [] more h = h
@@ -243,14 +236,7 @@ module _ (limit top : ℕ) where
 
   pub enters : (f : Keyword) → proofs.step (idle limit top (stage_keyword f)) (first_byte f) ≡ proofs.step (spelt f 0) (first_byte f)
   enters keyword.Header = refl
-  enters keyword.Formula = refl
-  enters keyword.Pol = refl
-  enters keyword.Rup = refl
-  enters keyword.Solution = refl
-  enters keyword.Delete = refl
-  enters keyword.Output = refl
-  enters keyword.Conclusion = refl
-  enters keyword.End = refl
+  enters _ = refl
 
   begins_with : (f : Keyword) (t : List Letter) → Spaced (words_of f) t → (u : List Letter) × (t ≡ unmarked (first_byte f) ∷ u)
   begins_with keyword.Header t (a, b, e, h, k) = (b, e ∙ ap (λ x. x ++ b) h)

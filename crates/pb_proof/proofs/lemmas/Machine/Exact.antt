@@ -39,41 +39,17 @@ Ends es = (steps : List Statement) × (c : Conclusion) × All IsStep steps × (e
 at_complete : (es : List Statement) → InOrder Complete es → es ≡ []
 at_complete [] h = refl
 at_complete (Header ∷ es) h = cc
-at_complete (F n ∷ es) h = cc
-at_complete (Pol ws ∷ es) h = cc
-at_complete (Rup c ∷ es) h = cc
-at_complete (Soli ls ∷ es) h = cc
-at_complete (Solx ls ∷ es) h = cc
-at_complete (Delete ids ∷ es) h = cc
-at_complete (Output ∷ es) h = cc
-at_complete (Conclude c ∷ es) h = cc
-at_complete (End ∷ es) h = cc
+at_complete (_ ∷ es) h = cc
 
 at_closing : (es : List Statement) → InOrder Closing es → es ≡ End ∷ []
 at_closing [] h = cc
 at_closing (End ∷ es) h = ap (λ x. End ∷ x) (at_complete es h.1)
-at_closing (Header ∷ es) h = cc
-at_closing (F n ∷ es) h = cc
-at_closing (Pol ws ∷ es) h = cc
-at_closing (Rup c ∷ es) h = cc
-at_closing (Soli ls ∷ es) h = cc
-at_closing (Solx ls ∷ es) h = cc
-at_closing (Delete ids ∷ es) h = cc
-at_closing (Output ∷ es) h = cc
-at_closing (Conclude c ∷ es) h = cc
+at_closing (_ ∷ es) h = cc
 
 at_conclusion : (es : List Statement) → InOrder Concluding es → (c : Conclusion) × (es ≡ Conclude c ∷ End ∷ [])
 at_conclusion [] h = cc
 at_conclusion (Conclude c ∷ es) h = (c, ap (λ x. Conclude c ∷ x) (at_closing es h.1))
-at_conclusion (End ∷ es) h = cc
-at_conclusion (Header ∷ es) h = cc
-at_conclusion (F n ∷ es) h = cc
-at_conclusion (Pol ws ∷ es) h = cc
-at_conclusion (Rup c ∷ es) h = cc
-at_conclusion (Soli ls ∷ es) h = cc
-at_conclusion (Solx ls ∷ es) h = cc
-at_conclusion (Delete ids ∷ es) h = cc
-at_conclusion (Output ∷ es) h = cc
+at_conclusion (_ ∷ es) h = cc
 
 step_then : (e : Statement) (es : List Statement) → IsStep e → Ends es → Ends (e ∷ es)
 step_then e es h (steps, c, k, g) = (e ∷ steps, c, All-cons IsStep e steps h k, ap (λ x. e ∷ x) g)
@@ -86,10 +62,7 @@ at_steps (Rup c ∷ es) h = step_then (Rup c) es tt (at_steps es h.1)
 at_steps (Soli ls ∷ es) h = step_then (Soli ls) es tt (at_steps es h.1)
 at_steps (Solx ls ∷ es) h = step_then (Solx ls) es tt (at_steps es h.1)
 at_steps (Delete ids ∷ es) h = step_then (Delete ids) es tt (at_steps es h.1)
-at_steps (Header ∷ es) h = cc
-at_steps (F n ∷ es) h = cc
-at_steps (Conclude c ∷ es) h = cc
-at_steps (End ∷ es) h = cc
+at_steps (_ ∷ es) h = cc
 
 abbrev IsOf : List Statement → Type 0
 IsOf es = (v : Proof) × All IsStep v.steps × (es ≡ statements_of v)
@@ -99,28 +72,12 @@ at_formula [] h = cc
 at_formula (F n ∷ es) h =
     let (steps, c, k, e) = at_steps es h.1 in
     (record { count = n; steps = steps; conclusion = c }, k, ap (λ x. Header ∷ F n ∷ x) e)
-at_formula (Header ∷ es) h = cc
-at_formula (Pol ws ∷ es) h = cc
-at_formula (Rup c ∷ es) h = cc
-at_formula (Soli ls ∷ es) h = cc
-at_formula (Solx ls ∷ es) h = cc
-at_formula (Delete ids ∷ es) h = cc
-at_formula (Output ∷ es) h = cc
-at_formula (Conclude c ∷ es) h = cc
-at_formula (End ∷ es) h = cc
+at_formula (_ ∷ es) h = cc
 
 at_opening : (es : List Statement) → InOrder Opening es → IsOf es
 at_opening [] h = cc
 at_opening (Header ∷ es) h = at_formula es h.1
-at_opening (F n ∷ es) h = cc
-at_opening (Pol ws ∷ es) h = cc
-at_opening (Rup c ∷ es) h = cc
-at_opening (Soli ls ∷ es) h = cc
-at_opening (Solx ls ∷ es) h = cc
-at_opening (Delete ids ∷ es) h = cc
-at_opening (Output ∷ es) h = cc
-at_opening (Conclude c ∷ es) h = cc
-at_opening (End ∷ es) h = cc
+at_opening (_ ∷ es) h = cc
 
 -- the converse
 step_stage : (e : Statement) → IsStep e → (stage_of e ≡ Steps) × (stage_after e ≡ Steps)
@@ -129,11 +86,7 @@ step_stage (Rup c) h = (refl, refl)
 step_stage (Soli ls) h = (refl, refl)
 step_stage (Solx ls) h = (refl, refl)
 step_stage (Delete ids) h = (refl, refl)
-step_stage Header h = absurd h
-step_stage (F n) h = absurd h
-step_stage Output h = absurd h
-step_stage (Conclude c) h = absurd h
-step_stage End h = absurd h
+step_stage _ h = absurd h
 
 steps_order : (steps : List Statement) (c : Conclusion) → All IsStep steps → InOrder Steps (steps ++ ending c)
 steps_order [] c h = (refl, (refl, (refl, refl)))
@@ -153,11 +106,7 @@ module _ (limit top : ℕ) where
 
   gap_is : (at : Stage) (gap : List ℕ) → GapAt at gap → IsGap gap
   gap_is Opening gap h = subst IsGap (sym h) no_gap
-  gap_is Formula gap h = h
-  gap_is Steps gap h = h
-  gap_is Concluding gap h = h
-  gap_is Closing gap h = h
-  gap_is Complete gap h = h
+  gap_is _ gap h = h
 
   spelled_only : (items : List (Item Statement)) (at : Stage) → IsStaged limit top at items → InOrder at (events_of items) × AreSpelled limit top items
   spelled_only [] at h = (h, All-nil Spelled)
@@ -178,15 +127,7 @@ module _ (limit top : ℕ) where
   -- after the first statement, white space and comments may come
   gap_later : (e : Statement) (gap : List ℕ) → IsGap gap → GapAt (stage_after e) gap
   gap_later Header gap h = h
-  gap_later (F n) gap h = h
-  gap_later (Pol ws) gap h = h
-  gap_later (Rup c) gap h = h
-  gap_later (Soli ls) gap h = h
-  gap_later (Solx ls) gap h = h
-  gap_later (Delete ids) gap h = h
-  gap_later Output gap h = h
-  gap_later (Conclude c) gap h = h
-  gap_later End gap h = h
+  gap_later _ gap h = h
 
   later_each : (items : List (Item Statement)) (before : Statement) → InOrder (stage_after before) (events_of items) → AreSpelled limit top items → IsStaged limit top (stage_after before) items
   later_each [] before h s = h
@@ -211,17 +152,7 @@ module _ (limit top : ℕ) where
 -- No byte is taken after a complete proof.
 pub done_stops : (s : ProofState) (p : Phase) (b : ℕ) → is_done p ≡ true → act s b (transition p b) ≡ Refuse
 done_stops s (phase.Between Complete) b h = refl
-done_stops s (phase.Between Opening) b h = never false h refl
-done_stops s (phase.Between Formula) b h = never false h refl
-done_stops s (phase.Between Steps) b h = never false h refl
-done_stops s (phase.Between Concluding) b h = never false h refl
-done_stops s (phase.Between Closing) b h = never false h refl
-done_stops s (phase.Comment at) b h = never false h refl
-done_stops s (phase.Spelling f k) b h = never false h refl
-done_stops s phase.Solution b h = never false h refl
-done_stops s phase.HeaderEnd b h = never false h refl
-done_stops s (phase.OutputEnd may) b h = never false h refl
-done_stops s (phase.Inside r) b h = never false h refl
+done_stops s _ b h = never false h refl
 
 pub finishes : (s : ProofState) → IsTrue (proofs.done s) → (b : ℕ) → proofs.step s b ≡ Refuse
 finishes s h b = done_stops s s.phase b h

@@ -26,10 +26,7 @@ use Rattle.pb_proof.specs.declared.statement.Statement.{Statement}
 passing : (s : Stage) (b : ℕ) → HasGaps s → between s b ≡ pass s b
 passing Opening b h = absurd h
 passing Complete b h = absurd h
-passing Formula b h = refl
-passing Steps b h = refl
-passing Concluding b h = refl
-passing Closing b h = refl
+passing _ b h = refl
 
 abbrev pub Inside : Action → Type 0
 Inside (action.To p) = is_within p ≡ true
@@ -37,14 +34,12 @@ Inside _ = Unit {0}
 
 after_inside : (f : Keyword) → Inside (next_action f)
 after_inside keyword.Header = refl
-after_inside keyword.Formula = tt
-after_inside keyword.Pol = tt
-after_inside keyword.Rup = tt
 after_inside keyword.Solution = refl
 after_inside keyword.Delete = tt
 after_inside keyword.Output = refl
 after_inside keyword.Conclusion = tt
 after_inside keyword.End = tt
+after_inside _ = tt
 
 pub spell_inside : (f : Keyword) (k b : ℕ) (other : Action) → Inside other → Inside (spell f k b other)
 spell_inside f k b other h = cond_both (meets (slice_index (words_of f) k) b) _ _ Inside
@@ -72,11 +67,7 @@ module _ (limit top : ℕ) (s : Stage) (gaps : HasGaps s) where
   entered : (P : ProofState → Type 0) (b : ℕ) (m : Action) → Inside m → InGap P (act (idle limit top s) b m)
   entered P b (action.To p) h = λ o. never (is_within p) h o
   entered P b (action.Begin r) h = λ o. never true refl o
-  entered P b (action.Give r) h = tt
-  entered P b action.EndHeader h = tt
-  entered P b action.EndOutput h = tt
-  entered P b action.EndProof h = tt
-  entered P b action.Stop h = tt
+  entered P b _ h = tt
 
   abbrev next_mode : ℕ → Bool → Bool
   next_mode b commented = not (nat_eq b 10) && (nat_eq b 42 || commented)

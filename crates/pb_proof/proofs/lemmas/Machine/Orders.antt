@@ -19,11 +19,7 @@ use Rattle.pb_proof.proofs.lemmas.Machine.Sound.{statement_only}
 
 complete : (at : Stage) → is_complete at ≡ true → at ≡ Complete
 complete Complete h = refl
-complete Opening h = never false h refl
-complete Formula h = never false h refl
-complete Steps h = never false h refl
-complete Concluding h = never false h refl
-complete Closing h = never false h refl
+complete _ h = never false h refl
 
 module _ (limit top : ℕ) where
   -- no white space or comment comes before the first statement, and nothing after the last one
@@ -35,11 +31,7 @@ module _ (limit top : ℕ) where
   went_inside : (b : ℕ) (m : Action) → Inside m → OnGo (act (idle limit top Opening) b m)
   went_inside b (action.To p) h = h
   went_inside b (action.Begin r) h = refl
-  went_inside b (action.Give r) h = tt
-  went_inside b action.EndHeader h = tt
-  went_inside b action.EndOutput h = tt
-  went_inside b action.EndProof h = tt
-  went_inside b action.Stop h = tt
+  went_inside b _ h = tt
 
   opening_gap : (gap : List ℕ) (mid : ProofState) → SkipsGap proofs (idle limit top Opening) gap mid → (gap ≡ []) × (mid ≡ idle limit top Opening)
   opening_gap [] mid h = (refl, h)
@@ -70,9 +62,6 @@ module _ (limit top : ℕ) where
   -- no statement comes after the last one
   stage_some : (e : Statement) → stage_of e ≡ Complete → ⊥
   stage_some statement.TheVariants.Header h = cc
-  stage_some statement.TheVariants.End h = cc
-  stage_some (statement.TheVariants.F c) h = cc
-  stage_some (statement.TheVariants.Conclude c) h = cc
   stage_some _ h = cc
 
   skips_at : (at : Stage) (gap : List ℕ) → (at ≡ Complete → ⊥) → GapAt at gap → SkipsGap proofs (idle limit top at) gap (idle limit top at)

@@ -51,14 +51,12 @@ within_on p q o d w f n = (o, record { owes = d; stays = λ _. w; fits = f; plai
 
 pub on_after : (p : Phase) → IsPlain p → (f : Keyword) → OnAction p (next_action f)
 on_after p o keyword.Header = within_on p phase.HeaderEnd o refl refl tt tt
-on_after p o keyword.Formula = o
-on_after p o keyword.Pol = o
-on_after p o keyword.Rup = o
 on_after p o keyword.Solution = within_on p phase.Solution o refl refl tt tt
 on_after p o keyword.Delete = o
 on_after p o keyword.Output = within_on p (phase.OutputEnd true) o refl refl tt tt
 on_after p o keyword.Conclusion = o
 on_after p o keyword.End = o
+on_after p o _ = o
 
 on_spell : (p : Phase) → IsPlain p → (f : Keyword) (k b : ℕ) (other : Action) → k < length (words_of f) → OnAction p other → OnAction p (spell f k b other)
 on_spell p o f k b other h i = cond_both (meets (slice_index (words_of f) k) b) _ _ (OnAction p)
@@ -78,10 +76,7 @@ on_enter p o Complete b = o
 gaps_incomplete : (s : Stage) → HasGaps s → is_complete s ≡ false
 gaps_incomplete Opening h = absurd h
 gaps_incomplete Complete h = absurd h
-gaps_incomplete Formula h = refl
-gaps_incomplete Steps h = refl
-gaps_incomplete Concluding h = refl
-gaps_incomplete Closing h = refl
+gaps_incomplete _ h = refl
 
 on_pass : (s : Stage) (b : ℕ) → HasGaps s → OnAction (phase.Between s) (pass s b)
 on_pass s b h = cond_both (is_white b) _ _ (OnAction (phase.Between s))
@@ -120,31 +115,16 @@ on_transition (phase.Inside r) b h = refl
 
 -- without a line machine nothing is stored, and no number is read
 pub plain_holds : (s : ProofState) (p : Phase) → IsPlain p → Holds s p → s.line ≡ None
-plain_holds s (phase.Between at) o h = h
-plain_holds s (phase.Comment at) o h = h
-plain_holds s (phase.Spelling f k) o h = h
-plain_holds s phase.Solution o h = h
-plain_holds s phase.HeaderEnd o h = h
-plain_holds s (phase.OutputEnd may) o h = h
 plain_holds s (phase.Inside r) o h = absurd o
+plain_holds s _ o h = h
 
 holds_plain : (s : ProofState) (p : Phase) → IsPlain p → s.line ≡ None → Holds s p
-holds_plain s (phase.Between at) o h = h
-holds_plain s (phase.Comment at) o h = h
-holds_plain s (phase.Spelling f k) o h = h
-holds_plain s phase.Solution o h = h
-holds_plain s phase.HeaderEnd o h = h
-holds_plain s (phase.OutputEnd may) o h = h
 holds_plain s (phase.Inside r) o h = absurd o
+holds_plain s _ o h = h
 
 outside_plain : (p : Phase) → is_within p ≡ false → IsPlain p
-outside_plain (phase.Between at) h = tt
-outside_plain (phase.Comment at) h = tt
-outside_plain (phase.Spelling f k) h = tt
-outside_plain phase.Solution h = tt
-outside_plain phase.HeaderEnd h = tt
-outside_plain (phase.OutputEnd may) h = tt
 outside_plain (phase.Inside r) h = never true refl h
+outside_plain _ h = tt
 
 -- what holds after a byte
 record Continues (s next : ProofState) : Type 0 where
@@ -175,10 +155,8 @@ on_act s h b (action.Begin r) k = record { owes = refl; stays = λ w. refl; grow
 on_act s h b (action.Give r) k =
     let (i, e, d, state) = inside_of s s.phase r k h.holds in
     subst (λ x. On s (over s r (step_line x b))) (sym e) (on_given s r b i e state (line_automaton.step i b) refl)
-on_act s h b action.EndHeader k = refl
-on_act s h b action.EndOutput k = refl
-on_act s h b action.EndProof k = refl
 on_act s h b action.Stop k = tt
+on_act s h b _ k = refl
 
 steps : (s : ProofState) → IsInOrder s → (b : ℕ) → On s (proofs.step s b)
 steps s h b = on_act s h b (transition s.phase b) (on_transition s.phase b h.fits)
@@ -188,12 +166,7 @@ continues s next b h e = subst (On s) e (steps s h b)
 
 kept_within : (s : ProofState) (p : Phase) → Holds s p → proofs.kept s ≤ proofs.spent s
 kept_within s (phase.Inside r) (i, e, d, state) = rw e state.bounds
-kept_within s (phase.Between at) h = rw h (omega arith)
-kept_within s (phase.Comment at) h = rw h (omega arith)
-kept_within s (phase.Spelling f k) h = rw h (omega arith)
-kept_within s phase.Solution h = rw h (omega arith)
-kept_within s phase.HeaderEnd h = rw h (omega arith)
-kept_within s (phase.OutputEnd may) h = rw h (omega arith)
+kept_within s _ h = rw h (omega arith)
 
 pub is_state : (s : ProofState) → IsInOrder s → IsState proofs s
 is_state s h = record {

@@ -75,11 +75,8 @@ module _ (limit top depth b : ℕ) (t : List Letter) where
   finishes ws name (phase.Lone role.Weaken) f dark plain c h e k = absurd (false≢true (ap adds (ap change_of e) ∙ k))
   finishes ws name (phase.Name negated) (x, y, z, u, (v, w)) dark plain c h e k =
       inl (at_name (bytes t) name b (literal_end (Settled limit top ws depth ⋅ Blanks1) negated name t (x, y, z, u, w)) v)
-  finishes ws name phase.Minus f dark plain c h e k = absurd (false≢true (ap is_there e))
-  finishes ws name phase.Tilde f dark plain c h e k = absurd (false≢true (ap is_there e))
-  finishes ws name phase.First f dark plain c h e k = absurd (false≢true (ap is_there e))
-  finishes ws name phase.Ending f dark plain c h e k = absurd (false≢true (ap is_there e))
   finishes ws name phase.Done f dark plain c h e k = absurd f
+  finishes ws name _ f dark plain c h e k = absurd (false≢true (ap is_there e))
 
   -- what ends a word
   module _ (x : Closing) (ends : (c : Change) (h : Held) → x ≡ Some (c, h) → adds c ≡ true → AsksWord (bytes t) b) where
@@ -98,9 +95,7 @@ module _ (limit top depth b : ℕ) (t : List Letter) where
   -- the first byte of a word
   star_quiet : (h : Held) → Then (star h)
   star_quiet held.Number = λ k. absurd (false≢true k)
-  star_quiet held.Nothing = λ k. absurd (false≢true k)
-  star_quiet held.Large = λ k. absurd (false≢true k)
-  star_quiet held.Name = λ k. absurd (false≢true k)
+  star_quiet _ = λ k. absurd (false≢true k)
 
   letters : (h : Held) (k : Kind) → Says k b → Then (cond (is_letter_kind k) (action.Begin (phase.Lone (role_of depth h k))) action.Stop)
   letters h k e = cond_both (is_letter_kind k) _ _ Then (λ i _. letter_begins (letter_kind k b e i)) (λ _ j. absurd (false≢true j))
@@ -149,7 +144,6 @@ module _ (limit top depth b : ℕ) (t : List Letter) where
 
   lates : (k : Kind) → Then (late k)
   lates kind.Blank = λ h. absurd (false≢true h)
-  lates kind.Feed = λ h. absurd (false≢true h)
   lates _ = λ h. absurd (false≢true h)
 
   plans : (ws : List PolWord) (name : List ℕ) (ph : Phase) → prefix limit top ph ws depth name t → (k : Kind) → Says k b → Then (transition limit top depth ph k)

@@ -136,8 +136,7 @@ multiply_units w = omega arith
 
 divide_units : (w : PolWord) → word_units (turned change.Divide w) ≤ word_units w
 divide_units (word.Id z) = omega arith
-divide_units (word.Multiply k) = omega arith
-divide_units w = omega arith
+divide_units _ = omega arith
 
 weaken_units : (w : PolWord) → word_units (turned change.Weaken w) ≤ word_units w
 weaken_units (word.Axiom l) = omega arith
@@ -160,10 +159,6 @@ added_units _ ws name h = absurd (false≢true h)
 
 ready_once : (ph : Phase) → ready ph ≤ 1
 ready_once (phase.Gap h) = omega arith
-ready_once phase.Minus = omega arith
-ready_once (phase.Signed n) = omega arith
-ready_once (phase.Number n) = omega arith
-ready_once phase.Tilde = omega arith
 ready_once _ = omega arith
 
 abbrev pub potential : Work → ℕ
