@@ -4,8 +4,8 @@ ghost use Rattle.std.specs.Prelude.{◌≡◌, ◌↔◌, Err, IsTrue, OnOk};
 ghost use Rattle.pb_text.specs.meaning.Limits.{largest, top_of};
 ghost use Rattle.pb_proof.specs.meaning.Order.{stage_of};
 ghost use Rattle.pb_proof.specs.contract.Values.{IsStatementValue};
-ghost use Rattle.pb_replay.specs.contract.ReplayModel.{Keeps, Goes, Comes, IsLinked, IsReady, problem_of};
-ghost use Rattle.pb_replay.specs.meaning.Statements.{IsCount, MayWant, MayWantAt, PassesFirst};
+ghost use Rattle.pb_replay.specs.contract.ReplayModel.{Keeps, Goes, Comes, IsLinked, IsReady, Passes, Preserves, problem_of};
+ghost use Rattle.pb_replay.specs.meaning.Statements.{IsCount, MayWant, MayWantAt};
 ghost use Rattle.pb_replay.specs.contract.Visits.{StepVisits, counted_from};
 
 mod bounds;
@@ -26,9 +26,7 @@ use pb_proof::{Stage, Statement};
 fn begin(running: &mut Running) -> Result<(), Fault>
     requires { IsReady running.old }
     ensures goes { Goes running.old Statement.Header result running.new }
-    ensures linked { OnOk result (IsLinked running.new) }
-    ensures kept { Keeps running.old running.new }
-    ensures visits { running.new.visits ≡ running.old.visits }
+    ensures preserves { Preserves running.old result running.new }
     ensures memory { result ≡ Err Fault.Memory → ⊥ }
 {
     running.next = Stage::Formula;
@@ -49,10 +47,8 @@ fn is_count(count: Option<u64>, number: u64) -> bool
 fn load(running: &mut Running, count: Option<u64>) -> Result<(), Fault>
     requires { IsReady running.old }
     ensures goes { Goes running.old (Statement.F count) result running.new }
-    ensures linked { OnOk result (IsLinked running.new) }
-    ensures kept { Keeps running.old running.new }
-    ensures visits { running.new.visits ≡ running.old.visits }
-    ensures memory { result ≡ Err Fault.Memory → PassesFirst (largest running.old.limits) (top_of running.old.limits) (problem_of running.old) (Statement.F count) }
+    ensures preserves { Preserves running.old result running.new }
+    ensures memory { result ≡ Err Fault.Memory → Passes running.old (Statement.F count) }
 {
     let number = running.loaded.len() as u64;
     if !is_count(count, number) {
@@ -74,9 +70,7 @@ fn load(running: &mut Running, count: Option<u64>) -> Result<(), Fault>
 fn output(running: &mut Running) -> Result<(), Fault>
     requires { IsReady running.old }
     ensures goes { Goes running.old Statement.Output result running.new }
-    ensures linked { OnOk result (IsLinked running.new) }
-    ensures kept { Keeps running.old running.new }
-    ensures visits { running.new.visits ≡ running.old.visits }
+    ensures preserves { Preserves running.old result running.new }
     ensures memory { result ≡ Err Fault.Memory → ⊥ }
 {
     running.next = Stage::Concluding;
@@ -87,9 +81,7 @@ fn output(running: &mut Running) -> Result<(), Fault>
 fn end(running: &mut Running) -> Result<(), Fault>
     requires { IsReady running.old }
     ensures goes { Goes running.old Statement.End result running.new }
-    ensures linked { OnOk result (IsLinked running.new) }
-    ensures kept { Keeps running.old running.new }
-    ensures visits { running.new.visits ≡ running.old.visits }
+    ensures preserves { Preserves running.old result running.new }
     ensures memory { result ≡ Err Fault.Memory → ⊥ }
 {
     running.next = Stage::Complete;
@@ -122,8 +114,7 @@ fn carry_out(running: &mut Running, statement: &Statement) -> Result<(), Fault>
     ensures linked { OnOk result (IsLinked running.new) }
     ensures kept { Keeps running.old running.new }
     ensures visits_made { StepVisits running.old.engine.forms running.old.names statement.now result running.old.visits running.new.visits }
-    ensures memory { result ≡ Err Fault.Memory →
-        MayWant statement.now × PassesFirst (largest running.old.limits) (top_of running.old.limits) (problem_of running.old) statement.now }
+    ensures memory { result ≡ Err Fault.Memory → MayWant statement.now × Passes running.old statement.now }
 {
     match statement {
         Statement::Header => begin(running),

@@ -1,4 +1,5 @@
 -- Lemmas of the rules, each on a replay.
+pub mod Carrying
 pub mod Deleting
 pub mod Deletions
 pub mod Evaluation

@@ -1,7 +1,8 @@
 -- What a replay stores, as a problem and a state
-use Rattle.std.specs.Prelude.{◌≡◌, ℕ, ℤ, zero, suc, ◌<◌, ◌≤◌, ◌≤ℤ◌, ◌⊎◌, false, if◌then◌else◌, is_some, List, [], ◌∷◌, ◌++◌, All, Contains, length, take, get_or, Option, Some, None, option_map, Result, Ok, Err}
+use Rattle.std.specs.Prelude.{◌≡◌, ℕ, ℤ, zero, suc, ◌<◌, ◌≤◌, ◌≤ℤ◌, ◌⊎◌, false, if◌then◌else◌, is_some, List, [], ◌∷◌, ◌++◌, All, Contains, length, take, get_or, Option, Some, None, option_map, Result, Ok, Err, OnOk}
 use Rattle.pb_text.specs.meaning.Limits.{largest, top_of}
 use Rattle.pb_text.specs.declared.Limits.{Limits}
+use Rattle.pb_opb.specs.declared.Instance.{Instance}
 use Rattle.pb_proof.specs.declared.Statement.{Statement}
 use Rattle.pb_proof.specs.declared.Stage.{Stage}
 use Rattle.pb_proof.specs.declared.Stage.TheVariants.{Complete}
@@ -12,10 +13,12 @@ use Rattle.pb_replay.specs.declared.fault.Fault.{Fault}
 use Rattle.pb_replay.specs.declared.fault.Fault.TheVariants.{Memory, NotTotal}
 use Rattle.pb_replay.specs.declared.verdict.Verdict.{Verdict}
 use Rattle.pb_replay.specs.declared.state.Running.{Running}
-use Rattle.pb_replay.specs.meaning.Problem.{Problem, objective_of}
+use Rattle.pb_replay.specs.meaning.Answer.{Answer}
+use Rattle.pb_replay.specs.meaning.Problem.{Problem, Opened, objective_of}
 use Rattle.pb_replay.specs.meaning.Replay.{State, Logged, added, first_state}
+use Rattle.pb_propagate.specs.engine.Engine.Live.{Standing}
 use Rattle.pb_propagate.specs.meaning.Propagation.{Live}
-use Rattle.pb_replay.specs.meaning.Statements.{Does, Outcome, mentioned}
+use Rattle.pb_replay.specs.meaning.Statements.{Does, Outcome, PassesFirst, mentioned}
 use Rattle.pb_replay.specs.meaning.Meaning.{IsNamePrefix, IsProblem, IsSound}
 
 -- the least value of those that were logged
@@ -38,28 +41,40 @@ state_of r logged = record { live = r.engine.forms; names = r.names; logged = lo
 abbrev pub with_mentioned : State → Statement → State
 with_mentioned s st = record s { names = with_names s.names (mentioned st) }
 
--- The result of a statement that may come, and of any statement, whatever was logged with this best value. `Memory` is
--- possible for each.
-abbrev pub Goes : Running → Statement → Result Unit Fault → Running → Type 0
-Goes old st (Ok _) new = (logged : List Logged) → IsBest logged old.best → (more : List Logged) × IsBest more new.best
-    × Does (largest old.limits) (top_of old.limits) (problem_of old) (with_mentioned (state_of old logged) st) st (Ok (state_of new more))
-Goes old st (Err e) new = (e ≡ Memory) ⊎ ((logged : List Logged) → IsBest logged old.best
-    → Does (largest old.limits) (top_of old.limits) (problem_of old) (with_mentioned (state_of old logged) st) st (Err e))
+-- the result of an answer; each fault may be out of memory
+abbrev pub Returns : {A : Type 0} → Answer A → Result A Fault → Type 0
+Returns answer (Ok x) = answer (Ok x)
+Returns answer (Err e) = (e ≡ Memory) ⊎ answer (Err e)
 
+-- the same for the value of a solution
+abbrev pub ReturnsValue : Answer Logged → Result ℤ Fault → Type 0
+ReturnsValue answer (Ok z) = (g : Logged) × answer (Ok g) × (g.value ≡ z)
+ReturnsValue answer (Err e) = (e ≡ Memory) ⊎ answer (Err e)
+
+-- the same for what changes the state, whatever was logged with this best value
+abbrev pub Carries : Running → (State → Answer State) → Result Unit Fault → Running → Type 0
+Carries old answer (Ok _) new = (logged : List Logged) → IsBest logged old.best
+    → (more : List Logged) × IsBest more new.best × answer (state_of old logged) (Ok (state_of new more))
+Carries old answer (Err e) new = (e ≡ Memory) ⊎ ((logged : List Logged) → IsBest logged old.best → answer (state_of old logged) (Err e))
+
+-- what a statement does under the limits of a replay, if it may come, and of any statement
+abbrev pub does_in : Running → Statement → State → Answer State
+does_in r st s = Does (largest r.limits) (top_of r.limits) (problem_of r) s st
+
+abbrev pub outcome_in : Running → Statement → State → Answer State
+outcome_in r st s = Outcome (largest r.limits) (top_of r.limits) (problem_of r) s st
+
+-- the result of any statement, of one that may come, and of one whose names have appeared already
 abbrev pub Comes : Running → Statement → Result Unit Fault → Running → Type 0
-Comes old st (Ok _) new = (logged : List Logged) → IsBest logged old.best → (more : List Logged) × IsBest more new.best
-    × Outcome (largest old.limits) (top_of old.limits) (problem_of old) (state_of old logged) st (Ok (state_of new more))
-Comes old st (Err e) new = (e ≡ Memory) ⊎ ((logged : List Logged) → IsBest logged old.best
-    → Outcome (largest old.limits) (top_of old.limits) (problem_of old) (state_of old logged) st (Err e))
+Comes old st = Carries old (outcome_in old st)
 
--- the same for a statement whose names have appeared already
+abbrev pub Goes : Running → Statement → Result Unit Fault → Running → Type 0
+Goes old st = Carries old (λ s. does_in old st (with_mentioned s st))
+
 abbrev pub GoesAt : Running → Statement → Result Unit Fault → Running → Type 0
-GoesAt old st (Ok _) new = (logged : List Logged) → IsBest logged old.best → (more : List Logged) × IsBest more new.best
-    × Does (largest old.limits) (top_of old.limits) (problem_of old) (state_of old logged) st (Ok (state_of new more))
-GoesAt old st (Err e) new = (e ≡ Memory) ⊎ ((logged : List Logged) → IsBest logged old.best
-    → Does (largest old.limits) (top_of old.limits) (problem_of old) (state_of old logged) st (Err e))
+GoesAt old st = Carries old (does_in old st)
 
--- the same for one more form
+-- the result of adding one more form
 abbrev pub Adding : Running → Form → Result Unit Fault → Running → Type 0
 Adding old form (Ok _) new = (before after : List Logged) → added (top_of old.limits) (state_of old before) after form (Ok (state_of new after))
 Adding old form (Err e) new = (e ≡ Memory) ⊎ ((before after : List Logged) → added (top_of old.limits) (state_of old before) after form (Err e))
@@ -78,11 +93,27 @@ pub record Keeps (old new : Running) : Type 0 where
   pub objective : option_map (λ c. c.terms) new.objective ≡ option_map (λ c. c.terms) old.objective
   pub names : IsNamePrefix old.names new.names
 
+-- the statement passes what is tested of it first
+abbrev pub Passes : Running → Statement → Type 0
+Passes r st = PassesFirst (largest r.limits) (top_of r.limits) (problem_of r) st
+
+-- the engine is not spent, and has these forms and this many variables
+pub record IsEngine (live : List (Option Form)) (n : ℕ) (engine : Standing) : Type 0 where
+  pub forms : engine.forms ≡ live
+  pub variables : engine.variables ≡ n
+  pub ready : engine.spent ≡ false
+
 -- the engine is not spent, has a variable for each name, and every live form lies within these
 pub record IsLinked (r : Running) : Type 0 where
   pub ready : r.engine.spent ≡ false
   pub variables : r.engine.variables ≡ length r.names
   pub inside : (f : Form) → Live r.engine.forms f → IsInside (length r.names) f
+
+-- what a call preserves: the links of the engine unless there is a fault, what is kept, and the number of visits
+pub record Preserves {A : Type 0} (old : Running) (result : Result A Fault) (new : Running) : Type 0 where
+  pub linked : OnOk result (IsLinked new)
+  pub kept : Keeps old new
+  pub visits : new.visits ≡ old.visits
 
 -- what is true of the instance in every state
 pub record IsProper (r : Running) : Type 0 where
@@ -124,6 +155,12 @@ pub record IsFirst (given : Limits) (r : Running) : Type 0 where
   pub ready : r.engine.spent ≡ false
   pub variables : r.engine.variables ≡ length r.names
   pub visits : r.visits ≡ 0
+
+-- the instance opened as this replay
+pub record IsOpened (given : Limits) (i : Instance) (r : Running) : Type 0 where
+  pub opened : Opened (largest given) i (Ok (problem_of r))
+  pub first : IsFirst given r
+  pub fits : magnitude (objective_of (problem_of r).objective) ≤ largest given
 
 -- what callers see of a replay; after a fault it is spent
 pub record Replaying : Type 0 where

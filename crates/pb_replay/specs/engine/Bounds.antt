@@ -16,7 +16,7 @@ use Rattle.pb_replay.specs.meaning.Answer.{Answer, gives, need, found}
 use Rattle.pb_replay.specs.meaning.Problem.{Problem}
 use Rattle.pb_replay.specs.meaning.Replay.{Logged, IsLive, Shown, normal_form, added}
 use Rattle.pb_replay.specs.meaning.Conclusions.{IsShownBy, lower_bound, objective_with}
-use Rattle.pb_replay.specs.contract.ReplayModel.{IsBest, problem_of, state_of}
+use Rattle.pb_replay.specs.contract.ReplayModel.{IsBest, Returns, problem_of, state_of}
 
 -- the form of one side of the objective, compared with a degree
 abbrev pub HasObjective : ℕ → List (List ℕ) → Option (List Term) → Side → ℤ → Answer Form
@@ -34,8 +34,8 @@ Refutes f goal = (g : Form) × (f ≡ Some g) × (IsContradiction g ⊎ SumIsCon
 
 -- the result for a lower bound, for each objective and whatever was logged
 abbrev pub Lower : Running → Bound → Option ℤ → Result Unit Fault → Type 0
-Lower r b id (Err e) = (e ≡ Memory) ⊎ ((logged : List Logged) (o : List Term) → IsBest logged r.best → (problem_of r).objective ≡ Some o → lower_bound (largest r.limits) (state_of r logged) o b id (gives (tt {0})) (Err e))
-Lower r b id (Ok u) = (logged : List Logged) (o : List Term) → IsBest logged r.best → (problem_of r).objective ≡ Some o → lower_bound (largest r.limits) (state_of r logged) o b id (gives (tt {0})) (Ok (tt {0}))
+Lower r b id = Returns (λ result. (logged : List Logged) (o : List Term) → IsBest logged r.best → (problem_of r).objective ≡ Some o
+    → lower_bound (largest r.limits) (state_of r logged) o b id (gives (tt {0})) result)
 
 -- the bound is at most the best value, if there is one
 abbrev pub IsBelow : Option ℤ → ℤ → Type 0
@@ -56,13 +56,11 @@ abbrev pub objective_at_least : Running → Option Form → ℤ → List Term �
 objective_at_least r f b o = normal_form (largest r.limits) r.names least (objective_with o b) (λ g. need (IsShownBy r.engine.forms f g) NotBound (gives (tt {0})))
 
 abbrev pub ObjectiveShown : Running → Option Form → ℤ → Result Unit Fault → Type 0
-ObjectiveShown r f b (Ok u) = (o : List Term) → (problem_of r).objective ≡ Some o → objective_at_least r f b o (Ok (tt {0}))
-ObjectiveShown r f b (Err e) = (e ≡ Memory) ⊎ ((o : List Term) → (problem_of r).objective ≡ Some o → objective_at_least r f b o (Err e))
+ObjectiveShown r f b = Returns (λ result. (o : List Term) → (problem_of r).objective ≡ Some o → objective_at_least r f b o result)
 
 -- whether a shown solution reaches the bound
 abbrev pub ShownReaches : Problem → List NumberedLiteral → ℤ → Result Unit Fault → Type 0
-ShownReaches v given u (Ok x) = found (Shown v given) NoSolution (λ g. need (g.value ≤ℤ u) NotBound (gives (tt {0}))) (Ok (tt {0}))
-ShownReaches v given u (Err e) = (e ≡ Memory) ⊎ found (Shown v given) NoSolution (λ g. need (g.value ≤ℤ u) NotBound (gives (tt {0}))) (Err e)
+ShownReaches v given u = Returns (found (Shown v given) NoSolution (λ g. need (g.value ≤ℤ u) NotBound (gives (tt {0}))))
 
 -- whether a logged value is at most the bound
 abbrev pub Reached : List Logged → ℤ → Answer (Unit {0})
@@ -77,8 +75,7 @@ upper_of v logged (Finite u) (Some given) = found (Shown v given) NoSolution (λ
 upper_of v logged (Finite u) None = Reached logged u
 
 abbrev pub Upper : Running → Bound → Option (List NumberedLiteral) → Result Unit Fault → Type 0
-Upper r b given (Err e) = (e ≡ Memory) ⊎ ((logged : List Logged) → IsBest logged r.best → upper_of (problem_of r) logged b given (Err e))
-Upper r b given (Ok u) = (logged : List Logged) → IsBest logged r.best → upper_of (problem_of r) logged b given (Ok (tt {0}))
+Upper r b given = Returns (λ result. (logged : List Logged) → IsBest logged r.best → upper_of (problem_of r) logged b given result)
 
 -- the result of requiring a lower value than a logged one, for each objective
 abbrev pub Demands : Running → ℤ → Result Unit Fault → Running → Type 0

@@ -2,7 +2,7 @@
 
 ghost use Rattle.std.specs.Prelude.{◌≡◌, ◌≤◌, Contains, IfOk, IfErr, OnOk, length, map, Some, false, []};
 ghost use Rattle.pb_normal.specs.meaning.Form.{Form};
-ghost use Rattle.pb_replay.specs.contract.ReplayModel.{Keeps, Adding, IsLinked, IsInside};
+ghost use Rattle.pb_replay.specs.contract.ReplayModel.{Adding, IsEngine, IsLinked, IsInside, Preserves};
 
 use crate::fault::Fault;
 use crate::state::Running;
@@ -15,9 +15,7 @@ pub(crate) fn widen(engine: &mut Engine, from: usize, to: usize) -> Result<(), F
     requires ready { engine.old.spent ≡ false }
     requires from { engine.old.variables ≡ from }
     requires to { from ≤ to }
-    ensures forms { OnOk result (engine.new.forms ≡ engine.old.forms) }
-    ensures variables { OnOk result (engine.new.variables ≡ to) }
-    ensures ready { OnOk result (engine.new.spent ≡ false) }
+    ensures engine { OnOk result (IsEngine engine.old.forms to engine.new) }
     ensures err { IfErr result (λ e. e ≡ Fault.Memory) }
 {
     for _number in from..to {
@@ -28,9 +26,7 @@ pub(crate) fn widen(engine: &mut Engine, from: usize, to: usize) -> Result<(), F
 
 /// An engine over this many variables.
 pub(crate) fn engine_over(alloc: Global, variables: usize) -> Result<Engine, Fault>
-    ensures forms { IfOk result (λ e. e.forms ≡ []) }
-    ensures variables { IfOk result (λ e. e.variables ≡ variables) }
-    ensures ready { IfOk result (λ e. e.spent ≡ false) }
+    ensures engine { IfOk result (IsEngine [] variables) }
     ensures err { IfErr result (λ e. e ≡ Fault.Memory) }
 {
     let mut engine = Engine::new(alloc);
@@ -41,9 +37,7 @@ pub(crate) fn engine_over(alloc: Global, variables: usize) -> Result<Engine, Fau
 /// An engine over this many variables, and one more owner of each of the forms.
 pub(crate) fn engine_of(alloc: Global, forms: &[Shared], variables: usize) -> Result<Engine, Fault>
     requires inside { (f : Form) → Contains forms.now f → IsInside variables f }
-    ensures forms { IfOk result (λ e. e.forms ≡ map (λ f. Some f) forms.now) }
-    ensures variables { IfOk result (λ e. e.variables ≡ variables) }
-    ensures ready { IfOk result (λ e. e.spent ≡ false) }
+    ensures engine { IfOk result (IsEngine (map (λ f. Some f) forms.now) variables) }
     ensures err { IfErr result (λ e. e ≡ Fault.Memory) }
 {
     let mut engine = engine_over(alloc, variables)?;
@@ -60,9 +54,7 @@ pub(crate) fn add(running: &mut Running, form: Normal) -> Result<(), Fault>
     requires inside { IsInside (length running.old.names) form }
     ensures adding { Adding running.old form result running.new }
     ensures best { running.new.best ≡ running.old.best }
-    ensures linked { OnOk result (IsLinked running.new) }
-    ensures kept { Keeps running.old running.new }
-    ensures visits { running.new.visits ≡ running.old.visits }
+    ensures preserves { Preserves running.old result running.new }
 {
     let form = Shared::new(running.alloc, form)?;
     add_shared(running, form)
@@ -74,9 +66,7 @@ pub(crate) fn add_shared(running: &mut Running, form: Shared) -> Result<(), Faul
     requires inside { IsInside (length running.old.names) form }
     ensures adding { Adding running.old form result running.new }
     ensures best { running.new.best ≡ running.old.best }
-    ensures linked { OnOk result (IsLinked running.new) }
-    ensures kept { Keeps running.old running.new }
-    ensures visits { running.new.visits ≡ running.old.visits }
+    ensures preserves { Preserves running.old result running.new }
 {
     if running.engine.len() as u64 >= running.limits.top() {
         return Err(Fault::IdsSpent);

@@ -6,7 +6,7 @@ ghost use Rattle.pb_normal.specs.meaning.Constraints.{Fits};
 ghost use Rattle.pb_normal.specs.meaning.Names.{with_names};
 ghost use Rattle.pb_normal.specs.meaning.Written.{names_of, magnitude};
 ghost use Rattle.pb_replay.specs.meaning.Problem.{FitsAll, Opened, objective_of};
-ghost use Rattle.pb_replay.specs.contract.ReplayModel.{IsFirst, problem_of};
+ghost use Rattle.pb_replay.specs.contract.ReplayModel.{IsOpened};
 
 use crate::fault::Fault;
 use crate::state::Running;
@@ -95,9 +95,7 @@ pub(crate) fn open(
     instance: &Instance,
     limits: Limits,
 ) -> Result<Running, Fault>
-    ensures ok { IfOk result (λ r. Opened (largest limits) instance.now (Ok (problem_of r))) }
-    ensures first { IfOk result (λ r. IsFirst limits r) }
-    ensures fits { IfOk result (λ r. magnitude (objective_of (problem_of r).objective) ≤ largest limits) }
+    ensures ok { IfOk result (IsOpened limits instance.now) }
     ensures err { IfErr result (λ e. (e ≡ Fault.Memory) ⊎ Opened (largest limits) instance.now (Err e)) }
     ensures memory { result ≡ Err Fault.Memory → FitsAll (largest limits) instance.now }
 {
@@ -114,9 +112,7 @@ fn begun(
     instance: &Instance,
     limits: Limits,
 ) -> Result<Running, Fault>
-    ensures ok { IfOk result (λ r. Opened (largest limits) instance.now (Ok (problem_of r))) }
-    ensures first { IfOk result (λ r. IsFirst limits r) }
-    ensures fits { IfOk result (λ r. magnitude (objective_of (problem_of r).objective) ≤ largest limits) }
+    ensures ok { IfOk result (IsOpened limits instance.now) }
     ensures err { IfErr result (λ e. (e ≡ Fault.Memory) ⊎ Opened (largest limits) instance.now (Err e)) }
 {
     let mut names = Names::with_hasher(alloc, keys);

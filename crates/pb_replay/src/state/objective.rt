@@ -1,9 +1,9 @@
 //! The objective with a degree.
 
-ghost use Rattle.std.specs.Prelude.{◌≡◌, ◌⊎◌, IfOk, IfErr, OnOk, Ok, Err, Some, length};
+ghost use Rattle.std.specs.Prelude.{◌≡◌, ◌⊎◌, [], IfOk, IfErr, OnOk, Ok, Err, Some, length};
 ghost use Rattle.pb_text.specs.meaning.Limits.{largest};
 ghost use Rattle.pb_replay.specs.engine.Bounds.{HasObjective};
-ghost use Rattle.pb_replay.specs.contract.ReplayModel.{IsInside, IsProper, Keeps, problem_of};
+ghost use Rattle.pb_replay.specs.contract.ReplayModel.{HasNamed, IsInside, IsProper, Keeps, problem_of};
 
 use crate::fault::Fault;
 use crate::state::Running;
@@ -19,13 +19,10 @@ pub(crate) fn objective_form(
     ensures ok { IfOk result (λ r. HasObjective (largest running.old.limits) running.old.names (problem_of running.old).objective side degree (Ok r)) }
     ensures inside { IfOk result (λ r. IsInside (length running.old.names) r) }
     ensures err { IfErr result (λ e. (e ≡ Fault.Memory) ⊎ HasObjective (largest running.old.limits) running.old.names (problem_of running.old).objective side degree (Err e)) }
-    ensures names { OnOk result (running.new.names ≡ running.old.names) }
+    ensures same { OnOk result (HasNamed [] running.old running.new) }
     ensures engine { running.new.engine ≡ running.old.engine }
-    ensures best { running.new.best ≡ running.old.best }
-    ensures next { running.new.next ≡ running.old.next }
-    ensures concluded { running.new.concluded ≡ running.old.concluded }
-    ensures visits { running.new.visits ≡ running.old.visits }
     ensures kept { Keeps running.old running.new }
+    ensures visits { running.new.visits ≡ running.old.visits }
 {
     let limits = running.limits;
     let Some(linear) = &mut running.objective else {

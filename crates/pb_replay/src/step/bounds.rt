@@ -5,7 +5,7 @@ ghost use Rattle.pb_normal.specs.meaning.Form.{Form};
 ghost use Rattle.pb_replay.specs.engine.Bounds.{IsBelow, IsNamed, IsReached, Lower, ObjectiveShown, Refutes, ShownAs, ShownReaches, Upper};
 ghost use Rattle.pb_replay.specs.meaning.Conclusions.{IsShownBy};
 ghost use Rattle.pb_replay.specs.meaning.Replay.{IsLive};
-ghost use Rattle.pb_replay.specs.contract.ReplayModel.{IsInside, IsLinked, IsProper, Keeps, HasNamed, problem_of};
+ghost use Rattle.pb_replay.specs.contract.ReplayModel.{IsInside, IsLinked, IsProper, HasNamed, IsEngine, problem_of, Preserves};
 
 use crate::fault::Fault;
 use crate::state::Running;
@@ -42,9 +42,7 @@ fn is_shown(engine: &mut Engine, id: Option<i64>, goal: &Normal) -> Result<bool,
     requires inside { IsInside engine.old.variables goal.now }
     ensures ok { IfOk result (λ b. (f : Option Form) → IsNamed engine.old.forms id f → (IsTrue b ↔ IsShownBy engine.old.forms f goal.now)) }
     ensures err { IfErr result (λ e. e ≡ Fault.Memory) }
-    ensures forms { OnOk result (engine.new.forms ≡ engine.old.forms) }
-    ensures variables { OnOk result (engine.new.variables ≡ engine.old.variables) }
-    ensures ready { OnOk result (engine.new.spent ≡ false) }
+    ensures engine { OnOk result (IsEngine engine.old.forms engine.old.variables engine.new) }
 {
     if goal.degree() == 0 {
         return Ok(true);
@@ -85,9 +83,7 @@ fn goal_shown(engine: &mut Engine, id: Option<i64>, goal: &Normal) -> Result<(),
     requires ready { engine.old.spent ≡ false }
     requires inside { IsInside engine.old.variables goal.now }
     ensures shown { (f : Option Form) → IsNamed engine.old.forms id f → ShownAs engine.old.forms f goal.now result }
-    ensures forms { OnOk result (engine.new.forms ≡ engine.old.forms) }
-    ensures variables { OnOk result (engine.new.variables ≡ engine.old.variables) }
-    ensures ready { OnOk result (engine.new.spent ≡ false) }
+    ensures engine { OnOk result (IsEngine engine.old.forms engine.old.variables engine.new) }
 {
     if is_shown(engine, id, goal)? {
         return Ok(());
@@ -101,9 +97,7 @@ fn objective_shown(running: &mut Running, bound: i128, id: Option<i64>) -> Resul
     requires linked { IsLinked running.old }
     ensures shown { (f : Option Form) → IsNamed running.old.engine.forms id f → ObjectiveShown running.old f bound result }
     ensures same { OnOk result (HasNamed [] running.old running.new) }
-    ensures linked { OnOk result (IsLinked running.new) }
-    ensures kept { Keeps running.old running.new }
-    ensures visits { running.new.visits ≡ running.old.visits }
+    ensures preserves { Preserves running.old result running.new }
 {
     let goal = objective_form(running, bound, Side::AtLeast)?;
     goal_shown(&mut running.engine, id, &goal)
@@ -115,9 +109,7 @@ fn shows_finite(running: &mut Running, bound: i128, id: Option<i64>) -> Result<(
     requires linked { IsLinked running.old }
     ensures lower { Lower running.old (Bound.Finite bound) id result }
     ensures same { OnOk result (HasNamed [] running.old running.new) }
-    ensures linked { OnOk result (IsLinked running.new) }
-    ensures kept { Keeps running.old running.new }
-    ensures visits { running.new.visits ≡ running.old.visits }
+    ensures preserves { Preserves running.old result running.new }
 {
     if !is_below_best(running.best, bound) {
         return Err(Fault::NotBound);
@@ -132,9 +124,7 @@ pub(crate) fn shows_lower(running: &mut Running, lower: Bound, id: Option<i64>) 
     requires linked { IsLinked running.old }
     ensures lower { Lower running.old lower id result }
     ensures same { OnOk result (HasNamed [] running.old running.new) }
-    ensures linked { OnOk result (IsLinked running.new) }
-    ensures kept { Keeps running.old running.new }
-    ensures visits { running.new.visits ≡ running.old.visits }
+    ensures preserves { Preserves running.old result running.new }
 {
     match lower {
         Bound::Infinite => none_is_left(running, id),

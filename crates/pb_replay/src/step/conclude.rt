@@ -4,9 +4,8 @@ ghost use Rattle.std.specs.Prelude.{◌≡◌, ◌<◌, All, Err, IfSome, IsSome
 ghost use Rattle.pb_sums.specs.declared.linear.Literal.{Literal as Written};
 ghost use Rattle.pb_replay.specs.engine.Bounds.{Both};
 ghost use Rattle.pb_replay.specs.meaning.Replay.{numbered};
-ghost use Rattle.pb_replay.specs.contract.ReplayModel.{Keeps, Goes, GoesAt, HasNamed, IsLinked, IsProper, IsReady, problem_of};
-ghost use Rattle.pb_text.specs.meaning.Limits.{largest, top_of};
-ghost use Rattle.pb_replay.specs.meaning.Statements.{MayWant, PassesFirst};
+ghost use Rattle.pb_replay.specs.contract.ReplayModel.{Goes, GoesAt, HasNamed, IsLinked, IsProper, IsReady, Passes, Preserves};
+ghost use Rattle.pb_replay.specs.meaning.Statements.{MayWant};
 
 use crate::fault::Fault;
 use crate::state::Running;
@@ -24,9 +23,7 @@ use pb_text::Sequence;
 fn unsat(running: &mut Running, id: Option<i64>) -> Result<(), Fault>
     requires { IsReady running.old }
     ensures goes { Goes running.old (Statement.Conclude (Conclusion.Unsat id)) result running.new }
-    ensures linked { OnOk result (IsLinked running.new) }
-    ensures kept { Keeps running.old running.new }
-    ensures visits { running.new.visits ≡ running.old.visits }
+    ensures preserves { Preserves running.old result running.new }
     ensures memory { result ≡ Err Fault.Memory → ⊥ }
 {
     none_is_left(running, id)?;
@@ -41,9 +38,7 @@ fn conclude_sat(running: &mut Running, given: &[NumberedLiteral]) -> Result<(), 
     requires linked { IsLinked running.old }
     requires inside { All (λ l. l.variable < length running.old.names) given.now }
     ensures goes { (written : List Written) → given.now ≡ numbered running.old.names written → GoesAt running.old (Statement.Conclude (Conclusion.Sat (Some written))) result running.new }
-    ensures linked { OnOk result (IsLinked running.new) }
-    ensures kept { Keeps running.old running.new }
-    ensures visits { running.new.visits ≡ running.old.visits }
+    ensures preserves { Preserves running.old result running.new }
 {
     let _ = shown(running, given)?;
     running.next = Stage::Closing;
@@ -55,9 +50,7 @@ fn conclude_sat(running: &mut Running, given: &[NumberedLiteral]) -> Result<(), 
 fn sat_shown(running: &mut Running, given: &Sequence<Literal>) -> Result<(), Fault>
     requires { IsReady running.old }
     ensures goes { Goes running.old (Statement.Conclude (Conclusion.Sat (Some given.now))) result running.new }
-    ensures linked { OnOk result (IsLinked running.new) }
-    ensures kept { Keeps running.old running.new }
-    ensures visits { running.new.visits ≡ running.old.visits }
+    ensures preserves { Preserves running.old result running.new }
 {
     let numbers = take_literals(running, given.as_slice())?;
     conclude_sat(running, numbers.as_slice())
@@ -67,9 +60,7 @@ fn sat_shown(running: &mut Running, given: &Sequence<Literal>) -> Result<(), Fau
 fn sat_logged(running: &mut Running) -> Result<(), Fault>
     requires { IsReady running.old }
     ensures goes { Goes running.old (Statement.Conclude (Conclusion.Sat None)) result running.new }
-    ensures linked { OnOk result (IsLinked running.new) }
-    ensures kept { Keeps running.old running.new }
-    ensures visits { running.new.visits ≡ running.old.visits }
+    ensures preserves { Preserves running.old result running.new }
     ensures memory { result ≡ Err Fault.Memory → ⊥ }
 {
     if running.best.is_none() {
@@ -84,9 +75,7 @@ fn sat_logged(running: &mut Running) -> Result<(), Fault>
 fn sat(running: &mut Running, shown: &Option<Sequence<Literal>>) -> Result<(), Fault>
     requires { IsReady running.old }
     ensures goes { Goes running.old (Statement.Conclude (Conclusion.Sat shown.now)) result running.new }
-    ensures linked { OnOk result (IsLinked running.new) }
-    ensures kept { Keeps running.old running.new }
-    ensures visits { running.new.visits ≡ running.old.visits }
+    ensures preserves { Preserves running.old result running.new }
     ensures memory { result ≡ Err Fault.Memory → MayWant (Statement.Conclude (Conclusion.Sat shown.now)) }
 {
     match shown {
@@ -108,9 +97,7 @@ fn are_shown(
     requires inside { IfSome given.now (λ v. All (λ l. l.variable < length running.old.names) v.items) }
     ensures both { Both running.old lower id upper (option_map (λ v. v.items) given.now) result }
     ensures same { OnOk result (HasNamed [] running.old running.new) }
-    ensures linked { OnOk result (IsLinked running.new) }
-    ensures kept { Keeps running.old running.new }
-    ensures visits { running.new.visits ≡ running.old.visits }
+    ensures preserves { Preserves running.old result running.new }
 {
     shows_lower(running, lower, id)?;
     shows_upper(running, upper, given)
@@ -129,9 +116,7 @@ fn conclude_bounds(
     requires objective { IsSome running.old.objective }
     requires inside { IfSome given.now (λ v. All (λ l. l.variable < length running.old.names) v.items) }
     ensures goes { (written : Option (List Written)) → option_map (λ v. v.items) given.now ≡ option_map (numbered running.old.names) written → GoesAt running.old (Statement.Conclude (Conclusion.Bounds lower id upper written)) result running.new }
-    ensures linked { OnOk result (IsLinked running.new) }
-    ensures kept { Keeps running.old running.new }
-    ensures visits { running.new.visits ≡ running.old.visits }
+    ensures preserves { Preserves running.old result running.new }
 {
     are_shown(running, lower, id, upper, given)?;
     running.next = Stage::Closing;
@@ -149,11 +134,8 @@ fn bounds(
 ) -> Result<(), Fault>
     requires { IsReady running.old }
     ensures goes { Goes running.old (Statement.Conclude (Conclusion.Bounds lower id upper shown.now)) result running.new }
-    ensures linked { OnOk result (IsLinked running.new) }
-    ensures kept { Keeps running.old running.new }
-    ensures visits { running.new.visits ≡ running.old.visits }
-    ensures memory { result ≡ Err Fault.Memory →
-        PassesFirst (largest running.old.limits) (top_of running.old.limits) (problem_of running.old) (Statement.Conclude (Conclusion.Bounds lower id upper shown.now)) }
+    ensures preserves { Preserves running.old result running.new }
+    ensures memory { result ≡ Err Fault.Memory → Passes running.old (Statement.Conclude (Conclusion.Bounds lower id upper shown.now)) }
 {
     if running.objective.is_none() {
         return Err(Fault::NoObjective);
@@ -166,9 +148,7 @@ fn bounds(
 fn no_conclusion(running: &mut Running) -> Result<(), Fault>
     requires { IsReady running.old }
     ensures goes { Goes running.old (Statement.Conclude Conclusion.NoClaim) result running.new }
-    ensures linked { OnOk result (IsLinked running.new) }
-    ensures kept { Keeps running.old running.new }
-    ensures visits { running.new.visits ≡ running.old.visits }
+    ensures preserves { Preserves running.old result running.new }
     ensures memory { result ≡ Err Fault.Memory → ⊥ }
 {
     running.next = Stage::Closing;
@@ -180,11 +160,9 @@ fn no_conclusion(running: &mut Running) -> Result<(), Fault>
 pub(crate) fn conclude(running: &mut Running, conclusion: &Conclusion) -> Result<(), Fault>
     requires { IsReady running.old }
     ensures goes { Goes running.old (Statement.Conclude conclusion.now) result running.new }
-    ensures linked { OnOk result (IsLinked running.new) }
-    ensures kept { Keeps running.old running.new }
-    ensures visits { running.new.visits ≡ running.old.visits }
+    ensures preserves { Preserves running.old result running.new }
     ensures memory { result ≡ Err Fault.Memory → MayWant (Statement.Conclude conclusion.now)
-        × PassesFirst (largest running.old.limits) (top_of running.old.limits) (problem_of running.old) (Statement.Conclude conclusion.now) }
+        × Passes running.old (Statement.Conclude conclusion.now) }
 {
     match conclusion {
         Conclusion::NoClaim => no_conclusion(running),

@@ -2,7 +2,7 @@
 
 ghost use Rattle.std.specs.Prelude.{◌≡◌, false, OnOk, IfErr, Ok, Err};
 ghost use Rattle.pb_replay.specs.meaning.Replay.{Deleted};
-ghost use Rattle.pb_replay.specs.contract.ReplayModel.{Keeps, Goes, IsLinked, IsReady};
+ghost use Rattle.pb_replay.specs.contract.ReplayModel.{Goes, IsReady, Preserves};
 
 use crate::fault::Fault;
 use crate::state::Running;
@@ -36,9 +36,7 @@ fn delete_each(engine: &mut Engine, ids: &[i64]) -> Result<(), Fault>
 pub(crate) fn delete(running: &mut Running, ids: &Sequence<i64>) -> Result<(), Fault>
     requires { IsReady running.old }
     ensures goes { Goes running.old (Statement.Delete ids.now) result running.new }
-    ensures linked { OnOk result (IsLinked running.new) }
-    ensures kept { Keeps running.old running.new }
-    ensures visits { running.new.visits ≡ running.old.visits }
+    ensures preserves { Preserves running.old result running.new }
     ensures memory { result ≡ Err Fault.Memory → ⊥ }
 {
     delete_each(&mut running.engine, ids.as_slice())

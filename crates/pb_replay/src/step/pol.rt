@@ -10,7 +10,7 @@ ghost use Rattle.pb_normal.specs.meaning.Rules.{IsSum, divided, multiplied, satu
 ghost use Rattle.pb_replay.specs.meaning.Answer.{some};
 ghost use Rattle.pb_replay.specs.meaning.Meaning.{IsNamePrefix};
 ghost use Rattle.pb_replay.specs.meaning.Replay.{IsLive, FormOfExpression, limited};
-ghost use Rattle.pb_replay.specs.contract.ReplayModel.{Keeps, Goes, IsLinked, IsReady};
+ghost use Rattle.pb_replay.specs.contract.ReplayModel.{Goes, IsReady, Preserves};
 ghost use Rattle.pb_replay.specs.engine.Stack.{Word};
 ghost use Rattle.pb_proof.specs.contract.Leaving.{takes};
 ghost use Rattle.pb_replay.specs.meaning.Statements.{word_names};
@@ -246,9 +246,7 @@ pub(crate) fn pol(running: &mut Running, words: &Sequence<PolWord>) -> Result<()
     requires value { IsStatementValue (largest running.old.limits) (top_of running.old.limits) (Statement.Pol words.now) }
     requires ready { IsReady running.old }
     ensures goes { Goes running.old (Statement.Pol words.now) result running.new }
-    ensures linked { OnOk result (IsLinked running.new) }
-    ensures kept { Keeps running.old running.new }
-    ensures visits { running.new.visits ≡ running.old.visits }
+    ensures preserves { Preserves running.old result running.new }
 {
     let before = running.names.len();
     if let Err(_) = number_words(&mut running.names, words.as_slice()) {

@@ -9,7 +9,7 @@ ghost use Rattle.pb_normal.specs.meaning.Written.{names_of, IsSideOf};
 ghost use Rattle.pb_normal.specs.declared.numbered.NumberedLiteral.{NumberedLiteral};
 ghost use Rattle.pb_propagate.specs.engine.Engine.Live.{Live};
 ghost use Rattle.pb_propagate.specs.meaning.Propagation.{IsCompletion, IsRup, MeetsConflict, With};
-ghost use Rattle.pb_replay.specs.contract.ReplayModel.{Adding, Keeps, Goes, HasNamed, IsInside, IsLinked, IsReady};
+ghost use Rattle.pb_replay.specs.contract.ReplayModel.{Adding, Keeps, Goes, HasNamed, IsInside, IsLinked, IsReady, Preserves};
 ghost use Rattle.pb_replay.specs.contract.Visits.{IsFew, RupVisits};
 
 use crate::fault::Fault;
@@ -28,9 +28,7 @@ fn entered(running: &mut Running, linear: &Linear) -> Result<Normal, Fault>
     ensures inside { IfOk result (λ r. IsInside (length running.new.names) r) }
     ensures err { IfErr result (λ e. ((e ≡ Fault.Memory) × Fits (largest running.old.limits) linear.now) ⊎ ((e ≡ Fault.Overflow) × (Fits (largest running.old.limits) linear.now → ⊥))) }
     ensures named { OnOk result (HasNamed (names_of linear.now.terms) running.old running.new) }
-    ensures linked { OnOk result (IsLinked running.new) }
-    ensures kept { Keeps running.old running.new }
-    ensures visits { running.new.visits ≡ running.old.visits }
+    ensures preserves { Preserves running.old result running.new }
 {
     let before = running.names.len();
     let form = Normal::from_linear(
@@ -72,9 +70,7 @@ fn judge(running: &mut Running, form: Normal, implied: bool) -> Result<(), Fault
     ensures added { implied ≡ true → Adding running.old form result running.new }
     ensures refused { implied ≡ false → result ≡ Err Fault.NotImplied }
     ensures best { running.new.best ≡ running.old.best }
-    ensures linked { OnOk result (IsLinked running.new) }
-    ensures kept { Keeps running.old running.new }
-    ensures visits { running.new.visits ≡ running.old.visits }
+    ensures preserves { Preserves running.old result running.new }
 {
     if implied {
         add(running, form)

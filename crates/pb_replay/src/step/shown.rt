@@ -1,9 +1,9 @@
 //! Solutions that a conclusion shows.
 
-ghost use Rattle.std.specs.Prelude.{◌≡◌, ◌<◌, ◌⊎◌, All, Contains, IfOk, IfErr, IfSome, OnOk, Ok, Err, Some, false, length, map, option_map};
+ghost use Rattle.std.specs.Prelude.{◌≡◌, ◌<◌, ◌⊎◌, All, Contains, IfOk, IfErr, IfSome, OnOk, Ok, Err, Some, length, map, option_map};
 ghost use Rattle.pb_replay.specs.meaning.Statements.{shown_names};
 ghost use Rattle.pb_replay.specs.meaning.Replay.{Completed, Logged, Shown, numbered};
-ghost use Rattle.pb_replay.specs.contract.ReplayModel.{Keeps, HasNamed, IsLinked, IsProper, problem_of};
+ghost use Rattle.pb_replay.specs.contract.ReplayModel.{HasNamed, IsEngine, IsLinked, IsProper, problem_of, Preserves, ReturnsValue};
 
 use crate::fault::Fault;
 use crate::state::Running;
@@ -18,9 +18,7 @@ use pb_text::Sequence;
 /// An engine of the instance's own constraints, over all names.
 fn own_engine(running: &Running) -> Result<Engine, Fault>
     requires { IsProper running.now }
-    ensures forms { IfOk result (λ e. e.forms ≡ map (λ f. Some f) running.now.loaded.items) }
-    ensures variables { IfOk result (λ e. e.variables ≡ length running.now.names) }
-    ensures ready { IfOk result (λ e. e.spent ≡ false) }
+    ensures engine { IfOk result (IsEngine (map (λ f. Some f) running.now.loaded.items) (length running.now.names)) }
     ensures err { IfErr result (λ e. e ≡ Fault.Memory) }
 {
     engine_of(
@@ -34,8 +32,7 @@ fn own_engine(running: &Running) -> Result<Engine, Fault>
 fn own_value(running: &Running, given: &[NumberedLiteral]) -> Result<i128, Fault>
     requires proper { IsProper running.now }
     requires inside { All (λ l. l.variable < length running.now.names) given.now }
-    ensures ok { IfOk result (λ z. (g : Logged) × Completed (problem_of running.now) (Contains running.now.loaded.items) running.now.own given.now (Ok g) × (g.value ≡ z)) }
-    ensures err { IfErr result (λ e. (e ≡ Fault.Memory) ⊎ Completed (problem_of running.now) (Contains running.now.loaded.items) running.now.own given.now (Err e)) }
+    ensures { ReturnsValue (Completed (problem_of running.now) (Contains running.now.loaded.items) running.now.own given.now) result }
 {
     let mut engine = own_engine(running)?;
     let values = completion(&mut engine, given)?;
@@ -70,9 +67,7 @@ pub(crate) fn take_shown(
     ensures literals { IfOk result (λ o. option_map (λ v. v.items) o ≡ option_map (numbered running.new.names) shown.now) }
     ensures inside { IfOk result (λ o. IfSome o (λ v. All (λ l. l.variable < length running.new.names) v.items)) }
     ensures named { OnOk result (HasNamed (shown_names shown.now) running.old running.new) }
-    ensures linked { OnOk result (IsLinked running.new) }
-    ensures kept { Keeps running.old running.new }
-    ensures visits { running.new.visits ≡ running.old.visits }
+    ensures preserves { Preserves running.old result running.new }
     ensures err { IfErr result (λ e. e ≡ Fault.Memory) }
 {
     match shown {

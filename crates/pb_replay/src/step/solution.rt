@@ -5,10 +5,9 @@ ghost use Rattle.pb_normal.specs.declared.numbered.NumberedLiteral.{NumberedLite
 ghost use Rattle.pb_normal.specs.meaning.Rules.{on};
 ghost use Rattle.pb_propagate.specs.engine.Engine.Live.{Live, Gives};
 ghost use Rattle.pb_propagate.specs.meaning.Propagation.{MeetsConflict, IsCompletion};
-ghost use Rattle.pb_replay.specs.meaning.Replay.{Completed, Excludes, Logged, negations, numbered};
-ghost use Rattle.pb_replay.specs.contract.ReplayModel.{Keeps, Goes, GoesAt, Logs, HasNamed, IsBetter, IsInside, IsLinked, IsProper, IsReady, problem_of};
-ghost use Rattle.pb_text.specs.meaning.Limits.{largest, top_of};
-ghost use Rattle.pb_replay.specs.meaning.Statements.{PassesFirst, literal_names};
+ghost use Rattle.pb_replay.specs.meaning.Replay.{Completed, Excludes, negations, numbered};
+ghost use Rattle.pb_replay.specs.contract.ReplayModel.{Goes, GoesAt, Logs, HasNamed, IsBetter, IsEngine, IsInside, IsLinked, IsProper, IsReady, problem_of, Passes, Preserves, ReturnsValue};
+ghost use Rattle.pb_replay.specs.meaning.Statements.{literal_names};
 ghost use Rattle.pb_sums.specs.declared.linear.Literal.{Literal as Written};
 ghost use Rattle.pb_replay.specs.engine.Bounds.{Demands};
 
@@ -34,9 +33,7 @@ pub(crate) fn take_literals(
     ensures literals { IfOk result (λ v. v.items ≡ numbered running.new.names given.now) }
     ensures inside { IfOk result (λ v. All (λ l. l.variable < length running.new.names) v.items) }
     ensures named { OnOk result (HasNamed (literal_names given.now) running.old running.new) }
-    ensures linked { OnOk result (IsLinked running.new) }
-    ensures kept { Keeps running.old running.new }
-    ensures visits { running.new.visits ≡ running.old.visits }
+    ensures preserves { Preserves running.old result running.new }
     ensures err { IfErr result (λ e. e ≡ Fault.Memory) }
 {
     let before = running.names.len();
@@ -56,9 +53,7 @@ pub(crate) fn completion(
     ensures free { IfOk result (λ v. MeetsConflict (Live engine.old.forms) given.now → ⊥) }
     ensures list { IfOk result (λ v. (list : List ANumberedLiteral) × IsCompletion (Live engine.old.forms) given.now list × Gives list v.items) }
     ensures err { IfErr result (λ e. (e ≡ Fault.Memory) ⊎ ((e ≡ Fault.Conflict) × MeetsConflict (Live engine.old.forms) given.now)) }
-    ensures forms { OnOk result (engine.new.forms ≡ engine.old.forms) }
-    ensures variables { OnOk result (engine.new.variables ≡ engine.old.variables) }
-    ensures ready { OnOk result (engine.new.spent ≡ false) }
+    ensures engine { OnOk result (IsEngine engine.old.forms engine.old.variables engine.new) }
 {
     match engine.complete(given)? {
         Some(values) => Ok(values),
@@ -81,13 +76,10 @@ pub(crate) fn completed(running: &mut Running, given: &[NumberedLiteral]) -> Res
     requires proper { IsProper running.old }
     requires linked { IsLinked running.old }
     requires inside { All (λ l. l.variable < length running.old.names) given.now }
-    ensures ok { IfOk result (λ z. (g : Logged) × Completed (problem_of running.old) (Live running.old.engine.forms) (length running.old.names) given.now (Ok g) × (g.value ≡ z)) }
-    ensures err { IfErr result (λ e. (e ≡ Fault.Memory) ⊎ Completed (problem_of running.old) (Live running.old.engine.forms) (length running.old.names) given.now (Err e)) }
+    ensures value { ReturnsValue (Completed (problem_of running.old) (Live running.old.engine.forms) (length running.old.names) given.now) result }
     ensures small { IfOk result (λ z. unsigned_abs z < 2 ^ 127) }
     ensures same { OnOk result (HasNamed [] running.old running.new) }
-    ensures linked { OnOk result (IsLinked running.new) }
-    ensures kept { Keeps running.old running.new }
-    ensures visits { running.new.visits ≡ running.old.visits }
+    ensures preserves { Preserves running.old result running.new }
 {
     let values = completion(&mut running.engine, given)?;
     judged(running, values.as_slice(), running.names.len())
@@ -117,9 +109,7 @@ fn log(running: &mut Running, value: i128, form: Normal) -> Result<(), Fault>
     requires linked { IsLinked running.old }
     requires inside { IsInside (length running.old.names) form }
     ensures logs { Logs running.old value form result running.new }
-    ensures linked { OnOk result (IsLinked running.new) }
-    ensures kept { Keeps running.old running.new }
-    ensures visits { running.new.visits ≡ running.old.visits }
+    ensures preserves { Preserves running.old result running.new }
 {
     add(running, form)?;
     running.best = Some(better(running.best, value));
@@ -132,9 +122,7 @@ fn exclude(running: &mut Running, given: &[NumberedLiteral]) -> Result<(), Fault
     requires linked { IsLinked running.old }
     requires inside { All (λ l. l.variable < length running.old.names) given.now }
     ensures goes { (written : List Written) → given.now ≡ numbered running.old.names written → GoesAt running.old (Statement.Solx written) result running.new }
-    ensures linked { OnOk result (IsLinked running.new) }
-    ensures kept { Keeps running.old running.new }
-    ensures visits { running.new.visits ≡ running.old.visits }
+    ensures preserves { Preserves running.old result running.new }
 {
     let value = completed(running, given)?;
     let clause = clause_of(running.alloc, given)?;
@@ -145,9 +133,7 @@ fn exclude(running: &mut Running, given: &[NumberedLiteral]) -> Result<(), Fault
 pub(crate) fn solx(running: &mut Running, given: &Sequence<Literal>) -> Result<(), Fault>
     requires { IsReady running.old }
     ensures goes { Goes running.old (Statement.Solx given.now) result running.new }
-    ensures linked { OnOk result (IsLinked running.new) }
-    ensures kept { Keeps running.old running.new }
-    ensures visits { running.new.visits ≡ running.old.visits }
+    ensures preserves { Preserves running.old result running.new }
 {
     let numbers = take_literals(running, given.as_slice())?;
     exclude(running, numbers.as_slice())
@@ -167,9 +153,7 @@ fn demand_less(running: &mut Running, value: i128) -> Result<(), Fault>
     requires linked { IsLinked running.old }
     requires small { unsigned_abs value < 2 ^ 127 }
     ensures demands { Demands running.old value result running.new }
-    ensures linked { OnOk result (IsLinked running.new) }
-    ensures kept { Keeps running.old running.new }
-    ensures visits { running.new.visits ≡ running.old.visits }
+    ensures preserves { Preserves running.old result running.new }
 {
     let demand = objective_form(running, below(value), Side::AtMost)?;
     log(running, value, demand)
@@ -182,9 +166,7 @@ fn improve(running: &mut Running, given: &[NumberedLiteral]) -> Result<(), Fault
     requires inside { All (λ l. l.variable < length running.old.names) given.now }
     requires objective { IsSome running.old.objective }
     ensures goes { (written : List Written) → given.now ≡ numbered running.old.names written → GoesAt running.old (Statement.Soli written) result running.new }
-    ensures linked { OnOk result (IsLinked running.new) }
-    ensures kept { Keeps running.old running.new }
-    ensures visits { running.new.visits ≡ running.old.visits }
+    ensures preserves { Preserves running.old result running.new }
 {
     let value = completed(running, given)?;
     demand_less(running, value)
@@ -194,10 +176,8 @@ fn improve(running: &mut Running, given: &[NumberedLiteral]) -> Result<(), Fault
 pub(crate) fn soli(running: &mut Running, given: &Sequence<Literal>) -> Result<(), Fault>
     requires { IsReady running.old }
     ensures goes { Goes running.old (Statement.Soli given.now) result running.new }
-    ensures linked { OnOk result (IsLinked running.new) }
-    ensures kept { Keeps running.old running.new }
-    ensures visits { running.new.visits ≡ running.old.visits }
-    ensures memory { result ≡ Err Fault.Memory → PassesFirst (largest running.old.limits) (top_of running.old.limits) (problem_of running.old) (Statement.Soli given.now) }
+    ensures preserves { Preserves running.old result running.new }
+    ensures memory { result ≡ Err Fault.Memory → Passes running.old (Statement.Soli given.now) }
 {
     if running.objective.is_none() {
         return Err(Fault::NoObjective);

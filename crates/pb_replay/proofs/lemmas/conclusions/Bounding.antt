@@ -1,8 +1,7 @@
 -- A conclusion continues after its tests
 use Rattle.std.specs.Prelude.{Result, Ok, Err, Option, Some, None, Contains, ℤ, option_map}
-use Rattle.std.proofs.Common.{◌≡◌, ◌⊎◌, ℕ, ◌≤ℤ◌, List, [], refl, sym, ◌∙◌, ap, arith, inl, inr, subst}
+use Rattle.std.proofs.Common.{◌≡◌, ℕ, ◌≤ℤ◌, List, [], refl, sym, ◌∙◌, ap, arith, inl, inr, subst}
 use Rattle.std.proofs.lemmas.Int.{ints}
-use Rattle.std.proofs.lemmas.Option.{same_Some}
 use Rattle.pb_text.specs.meaning.Limits.{largest}
 use Rattle.pb_sums.specs.declared.Linear.{Linear}
 use Rattle.pb_sums.specs.declared.Literal.{Literal}
@@ -14,10 +13,9 @@ use Rattle.pb_proof.specs.declared.Statement.TheVariants.{Conclude}
 use Rattle.pb_proof.specs.declared.Stage.TheVariants.{Closing}
 use Rattle.pb_normal.specs.declared.numbered.NumberedLiteral.{NumberedLiteral}
 use Rattle.pb_normal.specs.declared.Side.TheVariants.{AtLeast as least}
-use Rattle.pb_normal.specs.meaning.Constraints.{Fits}
 use Rattle.pb_normal.specs.meaning.Form.{Form}
 use Rattle.pb_replay.specs.declared.fault.Fault.{Fault}
-use Rattle.pb_replay.specs.declared.fault.Fault.TheVariants.{Memory, NoSuchId, NotBound}
+use Rattle.pb_replay.specs.declared.fault.Fault.TheVariants.{NoSuchId, NotBound}
 use Rattle.pb_replay.specs.declared.state.Running.{Running}
 use Rattle.pb_replay.specs.declared.verdict.Verdict.TheVariants as verdict
 use Rattle.pb_replay.specs.meaning.Answer.{Answer, gives, need}

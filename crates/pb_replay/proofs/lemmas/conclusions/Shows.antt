@@ -1,5 +1,5 @@
 -- Shown solutions, and the conclusions by them
-use Rattle.std.specs.Prelude.{Result, Ok, Err, IfOk, IfErr, Option, Some, None, Contains, ℤ, is_some}
+use Rattle.std.specs.Prelude.{Result, Ok, Err, Option, Some, None, Contains, ℤ, is_some}
 use Rattle.std.proofs.Common.{◌≡◌, ◌⊎◌, ℕ, true, List, map, sym, ◌∙◌, ap, arith, inl, inr, subst}
 use Rattle.std.proofs.lemmas.List.{get_or-map, length-map}
 use Rattle.pb_sums.specs.declared.Literal.{Literal}
@@ -15,9 +15,9 @@ use Rattle.pb_replay.specs.declared.verdict.Verdict.TheVariants as verdict
 use Rattle.pb_replay.specs.meaning.Problem.{Problem}
 use Rattle.pb_propagate.specs.meaning.Propagation.{MeetsConflict, Live}
 use Rattle.pb_replay.specs.meaning.Replay.{Completed, Logged, Shown, State, numbered}
-use Rattle.pb_replay.specs.contract.ReplayModel.{GoesAt, IsBest, problem_of, state_of}
+use Rattle.pb_replay.specs.contract.ReplayModel.{GoesAt, IsBest, ReturnsValue, problem_of, state_of}
 use Rattle.pb_replay.proofs.lemmas.rules.Living.{Live-loaded}
-use Rattle.pb_replay.proofs.lemmas.solutions.Solved.{completed-to, conflicting}
+use Rattle.pb_replay.proofs.lemmas.solutions.Solved.{completed-to, conflicting-value, value-by}
 
 loaded-live : (forms : List Form) (f : Form) → Contains forms f → Live (map (λ (f : Form). let o : Option Form = Some f in o) forms) f
 loaded-live forms f (k, lt, is) = (k, omega (arith, lt, length-map forms (λ (f : Form). let o : Option Form = Some f in o)), get_or-map (λ (f : Form). let o : Option Form = Some f in o) forms k f (Some f) lt ∙ ap (λ (f : Form). let o : Option Form = Some f in o) is)
@@ -27,18 +27,11 @@ module _ (v : Problem) (live : List (Option Form)) (same : live ≡ map (λ (f :
   own-to r h =
       completed-to (Live live) (Contains v.loaded) (λ f c. Live-loaded v.loaded f (subst (λ (l : List (Option Form)). Live l f) same c)) (λ f c. subst (λ (l : List (Option Form)). Live l f) (sym same) (loaded-live v.loaded f c)) v names given r h
 
-  pub own-ok : (result : Result ℤ Fault) → IfOk result (λ z. (g : Logged) × Completed v (Live live) names given (Ok g) × (g.value ≡ z)) → IfOk result (λ z. (g : Logged) × Completed v (Contains v.loaded) names given (Ok g) × (g.value ≡ z))
-  own-ok (Ok z) (g, h, is) = (g, own-to (Ok g) h, is)
-  own-ok (Err e) h = tt
+  pub own-value : (result : Result ℤ Fault) → ReturnsValue (Completed v (Live live) names given) result → ReturnsValue (Completed v (Contains v.loaded) names given) result
+  own-value = value-by (Completed v (Live live) names given) (Completed v (Contains v.loaded) names given) own-to
 
-  pub own-err : (result : Result ℤ Fault) → IfErr result (λ e. (e ≡ Memory) ⊎ Completed v (Live live) names given (Err e)) → IfErr result (λ e. (e ≡ Memory) ⊎ Completed v (Contains v.loaded) names given (Err e))
-  own-err (Ok z) h = tt
-  own-err (Err e) (inl memory) = inl memory
-  own-err (Err e) (inr h) = inr (own-to (Err e) h)
-
-  pub own-conflict : (e : Fault) → (e ≡ Memory) ⊎ ((e ≡ Conflict) × MeetsConflict (Live live) given) → (e ≡ Memory) ⊎ Completed v (Contains v.loaded) names given (Err e)
-  own-conflict e (inl memory) = inl memory
-  own-conflict e (inr (is, meets)) = inr (subst (λ (d : Fault). Completed v (Contains v.loaded) names given (Err d)) (sym is) (own-to (Err Conflict) (conflicting v (Live live) names given meets)))
+  pub own-conflict : (e : Fault) → (e ≡ Memory) ⊎ ((e ≡ Conflict) × MeetsConflict (Live live) given) → ReturnsValue (Completed v (Contains v.loaded) names given) (Err e)
+  own-conflict e h = own-value (Err e) (conflicting-value v (Live live) names given e h)
 
 module _ (old new : Running) (given : List NumberedLiteral) (written : List Literal) (numbers : given ≡ numbered old.names written) where
   pub sat-ok : new.best ≡ old.best → (g : Logged) → Shown (problem_of old) given g → ((logged : List Logged) → state_of new logged ≡ record (state_of old logged) { next = Closing; concluded = Some verdict.Sat }) → GoesAt old (Conclude (Sat (Some written))) (Ok tt) new

@@ -19,28 +19,23 @@ use Rattle.pb_replay.specs.engine.Bounds.{Demands, HasObjective}
 use Rattle.pb_replay.specs.meaning.Conclusions.{objective_with}
 use Rattle.pb_replay.specs.meaning.Problem.{Problem}
 use Rattle.pb_replay.specs.meaning.Replay.{Logged, State, added, normal_form}
-use Rattle.pb_replay.specs.contract.ReplayModel.{Adding, Goes, GoesAt, HasNamed, IsBest, IsBetter, IsProper, Keeps, Logs, problem_of, state_of, with_mentioned}
+use Rattle.pb_replay.specs.contract.ReplayModel.{Adding, Goes, GoesAt, HasNamed, IsBest, IsBetter, IsProper, Keeps, Logs, problem_of, does_in, state_of, with_mentioned}
 use Rattle.pb_replay.specs.meaning.Statements.{Does, mentioned}
 use Rattle.pb_replay.proofs.lemmas.conclusions.Best.{best-push}
+use Rattle.pb_replay.proofs.lemmas.rules.Carrying.{carries-from}
 use Rattle.pb_replay.proofs.lemmas.rules.Ready.{same_problem}
 use Rattle.pb_replay.proofs.lemmas.rules.States.{same-state, added-over}
 
 module _ (old m : Running) (st : Statement) (named : HasNamed (mentioned st) old m) (proper : IsProper old) (kept : Keeps old m) where
-  pub does-from : (logged : List Logged) (r : Result State Fault) → Does (largest m.limits) (top_of m.limits) (problem_of m) (state_of m logged) st r
-      → Does (largest old.limits) (top_of old.limits) (problem_of old) (with_mentioned (state_of old logged) st) st r
+  does-from : (logged : List Logged) (r : Result State Fault) → does_in m st (state_of m logged) r → does_in old st (with_mentioned (state_of old logged) st) r
   does-from logged r h =
       let same : state_of m logged ≡ with_mentioned (state_of old logged) st = same-state named.forms named.names named.next named.concluded in
-      let one = subst (λ (s : State). Does (largest m.limits) (top_of m.limits) (problem_of m) s st r) same h in
+      let one = subst (λ (s : State). does_in m st s r) same h in
       let two = subst (λ (v : Problem). Does (largest m.limits) (top_of m.limits) v (with_mentioned (state_of old logged) st) st r) (same_problem old m proper kept) one in
       subst (λ (l : Limits). Does (largest l) (top_of l) (problem_of old) (with_mentioned (state_of old logged) st) st r) kept.limits two
 
-  best-from : (logged : List Logged) → IsBest logged old.best → IsBest logged m.best
-  best-from logged h = subst (λ (b : Option ℤ). IsBest logged b) (sym named.best) h
-
   pub goes-from : (result : Result Unit Fault) (new : Running) → GoesAt m st result new → Goes old st result new
-  goes-from (Ok u) new g = λ logged best. let h = g logged (best-from logged best) in (h.0, h.1, does-from logged (Ok (state_of new h.0)) h.2)
-  goes-from (Err e) new (inl memory) = inl memory
-  goes-from (Err e) new (inr g) = inr (λ logged best. does-from logged (Err e) (g logged (best-from logged best)))
+  goes-from = carries-from old m (does_in m st) (λ s. does_in old st (with_mentioned s st)) named.best does-from
 
 -- a step that changed nothing but the number of visits
 module _ (old m : Running) (named : HasNamed [] old m) (kept : Keeps old m) where

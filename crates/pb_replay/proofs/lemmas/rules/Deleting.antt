@@ -6,7 +6,7 @@ use Rattle.pb_replay.specs.declared.fault.Fault.{Fault}
 use Rattle.pb_replay.specs.declared.state.Running.{Running}
 use Rattle.pb_replay.specs.meaning.Replay.{Deleted, State}
 use Rattle.pb_replay.specs.contract.ReplayModel.{Goes, IsInside, IsLinked}
-use Rattle.pb_replay.proofs.lemmas.rules.Rups.{goes-ok, goes-err}
+use Rattle.pb_replay.proofs.lemmas.rules.Carrying.{goes-ok, goes-err}
 use Rattle.pb_replay.proofs.lemmas.rules.States.{same-state}
 use Rattle.pb_replay.proofs.lemmas.meaning.Sound.{Deleted-live}
 

@@ -26,10 +26,9 @@ use Rattle.pb_replay.specs.meaning.Problem.{Problem, Opened, names_in, objective
 use Rattle.pb_replay.specs.meaning.Replay.{Logged, State}
 use Rattle.pb_replay.specs.declared.fault.Fault.TheVariants.{Memory, NotTotal}
 use Rattle.pb_replay.proofs.lemmas.names.Unvalued.{unvalued-old}
-use Rattle.pb_replay.specs.meaning.Statements.{Outcome}
 use Rattle.pb_replay.proofs.lemmas.rules.States.{same-state}
 use Rattle.pb_replay.specs.meaning.Meaning.{IsNamePrefix, IsSound, Means, MeansWritten}
-use Rattle.pb_replay.specs.contract.ReplayModel.{Comes, Keeps, IsBest, IsFirst, IsInside, IsKept, IsLinked, IsProper, IsReady, problem_of, state_of}
+use Rattle.pb_replay.specs.contract.ReplayModel.{Comes, Keeps, IsBest, IsInside, IsKept, IsLinked, IsOpened, IsProper, IsReady, outcome_in, problem_of, state_of}
 use Rattle.pb_text.specs.declared.Limits.{Limits}
 use Rattle.pb_propagate.proofs.lemmas.store.Gets.{contains-none}
 use Rattle.pb_replay.proofs.lemmas.meaning.Loads.{problems-proper, loaded-inside, meanings-agree}
@@ -83,26 +82,27 @@ pub stood : (r : Running) (s : State) → s.live ≡ r.engine.forms → s.names 
 stood r s e f g h = sym (same-state e f g h)
 
 pub step-ok : (old new : Running) (st : Statement) → Comes old st (Ok tt) new → (s : State) → s.live ≡ old.engine.forms → s.names ≡ old.names → IsBest s.logged old.best → s.next ≡ old.next → s.concluded ≡ old.concluded
-    → (more : List Logged) × IsBest more new.best × Outcome (largest old.limits) (top_of old.limits) (problem_of old) s st (Ok (state_of new more))
+    → (more : List Logged) × IsBest more new.best × outcome_in old st s (Ok (state_of new more))
 step-ok old new st comes s e f best g h =
     let k = comes s.logged best in
-    (k.0, k.1, subst (λ (x : State). Outcome (largest old.limits) (top_of old.limits) (problem_of old) x st (Ok (state_of new k.0))) (stood old s e f g h) k.2)
+    (k.0, k.1, subst (λ (x : State). outcome_in old st x (Ok (state_of new k.0))) (stood old s e f g h) k.2)
 
-pub step-err : (old new : Running) (st : Statement) (d : Fault) → (d ≡ Memory) ⊎ ((logged : List Logged) → IsBest logged old.best → Outcome (largest old.limits) (top_of old.limits) (problem_of old) (state_of old logged) st (Err d))
-    → (d ≡ Memory) ⊎ ((s : State) → s.live ≡ old.engine.forms → s.names ≡ old.names → IsBest s.logged old.best → s.next ≡ old.next → s.concluded ≡ old.concluded → Outcome (largest old.limits) (top_of old.limits) (problem_of old) s st (Err d))
+pub step-err : (old new : Running) (st : Statement) (d : Fault) → (d ≡ Memory) ⊎ ((logged : List Logged) → IsBest logged old.best → outcome_in old st (state_of old logged) (Err d))
+    → (d ≡ Memory) ⊎ ((s : State) → s.live ≡ old.engine.forms → s.names ≡ old.names → IsBest s.logged old.best → s.next ≡ old.next → s.concluded ≡ old.concluded → outcome_in old st s (Err d))
 step-err old new st d (inl memory) = inl memory
-step-err old new st d (inr h) = inr (λ s e f best g k. subst (λ (x : State). Outcome (largest old.limits) (top_of old.limits) (problem_of old) x st (Err d)) (stood old s e f g k) (h s.logged best))
+step-err old new st d (inr h) = inr (λ s e f best g k. subst (λ (x : State). outcome_in old st x (Err d)) (stood old s e f g k) (h s.logged best))
 
-pub ready_first : (limits : Limits) (i : Instance) (r : Running) → Opened (largest limits) i (Ok (problem_of r)) → IsFirst limits r → magnitude (objective_of (problem_of r).objective) ≤ largest limits → IsReady r
-ready_first limits i r opened first fits =
-    let proper = problems-proper (largest limits) i (problem_of r) opened in
+pub ready_first : (limits : Limits) (i : Instance) (r : Running) → IsOpened limits i r → IsReady r
+ready_first limits i r opened =
+    let first = opened.first in
+    let proper = problems-proper (largest limits) i (problem_of r) opened.opened in
     let none : r.engine.forms ≡ [] = ap (λ (s : State). s.live) first.state in
     record {
       proper = record {
         own = omega (arith, first.own);
         problem = proper;
-        fits = rw first.limits fits;
-        loaded = λ f c. let h = loaded-inside (largest limits) i (problem_of r) opened f c in rw (ap (λ n. length (take n r.names)) first.own ∙ ap length (take-length r.names) ∙ sym first.own) at h;
+        fits = rw first.limits opened.fits;
+        loaded = λ f c. let h = loaded-inside (largest limits) i (problem_of r) opened.opened f c in rw (ap (λ n. length (take n r.names)) first.own ∙ ap length (take-length r.names) ∙ sym first.own) at h;
       };
       linked = record {
         ready = first.ready;
@@ -151,7 +151,7 @@ step-unvalued old new st d n ready (inl memory) e = absurd (let bad = sym memory
 step-unvalued old new st d n ready (inr h) e =
     let s = ready.sound in
     unvalued-old (largest old.limits) (top_of old.limits) (problem_of old) (state_of old s.0) st n (s.2).distinct
-    (subst (λ (f : Fault). Outcome (largest old.limits) (top_of old.limits) (problem_of old) (state_of old s.0) st (Err f)) (same_err e) (h s.0 s.1))
+    (subst (λ (f : Fault). outcome_in old st (state_of old s.0) (Err f)) (same_err e) (h s.0 s.1))
 
 -- what is true after a statement
 pub kept-ok : (old new : Running) (st : Statement) (fault : Option Fault) → IsStatementValue (largest old.limits) (top_of old.limits) st → IsKept old fault → Comes old st (Ok tt) new → Keeps old new → IsLinked new → IsKept new fault

@@ -1,12 +1,10 @@
 -- `rup`, and what stays
 use Rattle.std.specs.Prelude.{Result, Ok, Err, ◌↔◌}
-use Rattle.std.proofs.Common.{◌≡◌, ◌⊎◌, ℕ, ◌<◌, ◌≤◌, List, refl, sym, ◌∙◌, ap, inl, inr, ◌++◌, append_assoc, Bool, true, false, rules, IsTrue}
+use Rattle.std.proofs.Common.{◌≡◌, ◌⊎◌, ℕ, ◌<◌, ◌≤◌, List, [], refl, sym, ◌∙◌, ap, inl, inr, ◌++◌, append_assoc, Bool, true, false, rules, IsTrue}
 use Rattle.std.proofs.lemmas.Bool.{cases_lt}
 use Rattle.pb_text.specs.meaning.Limits.{largest, top_of}
 use Rattle.pb_sums.specs.declared.Linear.{Linear}
-use Rattle.pb_proof.specs.meaning.Order.{stage_of}
 use Rattle.pb_proof.specs.declared.Stage.TheVariants.{Steps}
-use Rattle.pb_proof.specs.declared.Statement.{Statement}
 use Rattle.pb_proof.specs.declared.Statement.TheVariants.{F, Rup}
 use Rattle.pb_normal.specs.declared.NormalFault.{NormalFault}
 use Rattle.pb_normal.specs.declared.NormalFault.TheVariants as normal
@@ -24,9 +22,10 @@ use Rattle.pb_text.proofs.lemmas.text.Results.{same_err}
 use Rattle.pb_replay.proofs.lemmas.rules.States.{same-state, added-over}
 use Rattle.pb_replay.specs.declared.state.Running.{Running}
 use Rattle.pb_propagate.specs.meaning.Propagation.{IsRup, Live}
-use Rattle.pb_replay.specs.meaning.Replay.{Logged, State, added}
-use Rattle.pb_replay.specs.contract.ReplayModel.{Adding, Goes, Comes, Keeps, problem_of, state_of, with_mentioned}
-use Rattle.pb_replay.specs.meaning.Statements.{Does, IsCount}
+use Rattle.pb_replay.specs.meaning.Replay.{State}
+use Rattle.pb_replay.specs.contract.ReplayModel.{Adding, Goes, HasNamed, Keeps, does_in, state_of, with_mentioned}
+use Rattle.pb_replay.proofs.lemmas.rules.Carrying.{carries-added, goes-ok, goes-err}
+use Rattle.pb_replay.specs.meaning.Statements.{IsCount}
 use Rattle.pb_replay.specs.meaning.Meaning.{IsNamePrefix}
 
 -- a form was made, so its numbers fit
@@ -37,42 +36,24 @@ fits_of r x limit n e h =
       | inr le ↦ le
     ]
 
--- what holds for each list of logged solutions
-pub goes-ok : (old new : Running) (st : Statement) → new.best ≡ old.best
-    → ((logged : List Logged) → Does (largest old.limits) (top_of old.limits) (problem_of old) (with_mentioned (state_of old logged) st) st (Ok (state_of new logged)))
-    → Goes old st (Ok tt) new
-goes-ok old new st same h logged best = (logged, rw same best, h logged)
-
-pub goes-err : (old new : Running) (st : Statement) (e : Fault)
-    → ((logged : List Logged) → Does (largest old.limits) (top_of old.limits) (problem_of old) (with_mentioned (state_of old logged) st) st (Err e))
-    → Goes old st (Err e) new
-goes-err old new st e h = inr (λ logged best. h logged)
-
-module _ (old : Running) (linear : Linear) (names : List (List ℕ)) (form : Form) (appeared : names ≡ with_names old.names (names_of linear.terms)) (fits : Fits (largest old.limits) linear) (is : IsSideOf names least linear form) where
+module _ (old entered : Running) (linear : Linear) (form : Form) (named : HasNamed (names_of linear.terms) old entered) (fits : Fits (largest old.limits) linear) (is : IsSideOf entered.names least linear form) where
   over : IsSideOf (with_names old.names (names_of linear.terms)) least linear form
-  over = rw appeared at is
+  over = rw named.names at is
 
-  moved : (middle : Running) → middle.names ≡ names → middle.engine.forms ≡ old.engine.forms → middle.limits ≡ old.limits → middle.next ≡ old.next → middle.concluded ≡ old.concluded → (logged : List Logged) (r : Result State Fault)
-      → added (top_of middle.limits) (state_of middle logged) logged form r → added (top_of old.limits) (with_mentioned (state_of old logged) (Rup linear)) logged form r
-  moved middle e f l n c logged r =
-      added-over old.limits middle.limits l (state_of middle logged) (with_mentioned (state_of old logged) (Rup linear)) (same-state f (e ∙ appeared) n c) logged form r
-
-  pub rup_added : (middle : Running) (result : Result Unit Fault) (new : Running) → middle.names ≡ names → middle.engine.forms ≡ old.engine.forms → middle.limits ≡ old.limits → middle.next ≡ old.next → middle.concluded ≡ old.concluded → new.best ≡ old.best
-      → IsRup (Live old.engine.forms) form → Adding middle form result new → Goes old (Rup linear) result new
-  rup_added middle (Ok u) new e f l n c b implied h =
-      goes-ok old new (Rup linear) b (λ logged. inl (fits, (form, over, inl (implied, moved middle e f l n c logged (Ok (state_of new logged)) (h logged logged)))))
-  rup_added middle (Err d) new e f l n c b implied (inl memory) = inl memory
-  rup_added middle (Err d) new e f l n c b implied (inr h) =
-      goes-err old new (Rup linear) d (λ logged. inl (fits, (form, over, inl (implied, moved middle e f l n c logged (Err d) (h logged logged)))))
+  pub rup_added : (middle new : Running) (result : Result Unit Fault) → HasNamed [] entered middle → middle.limits ≡ old.limits → new.best ≡ middle.best → IsRup (Live old.engine.forms) form → Adding middle form result new → Goes old (Rup linear) result new
+  rup_added middle new result same l best implied =
+      carries-added old middle form (λ s. does_in old (Rup linear) (with_mentioned s (Rup linear)))
+      (λ logged r h. inl (fits, (form, over, inl (implied, added-over old.limits middle.limits l (state_of middle logged) (with_mentioned (state_of old logged) (Rup linear)) (same-state (same.forms ∙ named.forms) (same.names ∙ named.names) (same.next ∙ named.next) (same.concluded ∙ named.concluded)) logged form r h))))
+      result new (best ∙ same.best ∙ named.best)
 
   pub rup_refused : (new : Running) → (IsRup (Live old.engine.forms) form → ⊥) → Goes old (Rup linear) (Err NotImplied) new
   rup_refused new none = goes-err old new (Rup linear) NotImplied (λ logged. inl (fits, (form, over, inr (none, refl))))
 
-  pub rup_judged : (middle : Running) (result : Result Unit Fault) (new : Running) → middle.names ≡ names → middle.engine.forms ≡ old.engine.forms → middle.limits ≡ old.limits → middle.next ≡ old.next → middle.concluded ≡ old.concluded → new.best ≡ old.best
+  pub rup_judged : (middle new : Running) (result : Result Unit Fault) → HasNamed [] entered middle → middle.limits ≡ old.limits → new.best ≡ middle.best
       → (implied : Bool) → (implied ≡ true → IsRup (Live old.engine.forms) form) → (implied ≡ false → IsRup (Live old.engine.forms) form → ⊥)
       → (implied ≡ true → Adding middle form result new) → (implied ≡ false → result ≡ Err NotImplied) → Goes old (Rup linear) result new
-  rup_judged middle result new e f l n c b true is none adding refused = rup_added middle result new e f l n c b (is refl) (adding refl)
-  rup_judged middle result new e f l n c b false is none adding refused =
+  rup_judged middle new result same l best true is none adding refused = rup_added middle new result same l best (is refl) (adding refl)
+  rup_judged middle new result same l best false is none adding refused =
       subst (λ (r : Result Unit Fault). Goes old (Rup linear) r new) (sym (refused refl)) (rup_refused new (none refl))
 
 -- no form was made
@@ -107,17 +88,6 @@ keeps_then a b c h k = record {
   objective = k.objective ∙ h.objective;
   names = prefix_then a.names b.names c.names h.names k.names;
 }
-
--- a statement at a stage where it may come
-pub came : (old : Running) (st : Statement) (result : Result Unit Fault) (new : Running) → old.next ≡ stage_of st → Goes old st result new → Comes old st result new
-came old st (Ok u) new next g = λ logged best. let h = g logged best in (h.0, h.1, inl (next, h.2))
-came old st (Err d) new next (inl memory) = inl memory
-came old st (Err d) new next (inr g) = inr (λ logged best. inl (next, g logged best))
-
-pub came-counted : (old : Running) (visits : ℕ) (st : Statement) (result : Result Unit Fault) (new : Running) → old.next ≡ stage_of st → Goes (record old { visits = visits }) st result new → Comes old st result new
-came-counted old visits st (Ok u) new next g = λ logged best. let h = g logged best in (h.0, h.1, inl (next, h.2))
-came-counted old visits st (Err d) new next (inl memory) = inl memory
-came-counted old visits st (Err d) new next (inr g) = inr (λ logged best. inl (next, g logged best))
 
 pub not_so : (b : Bool) (P : Type 0) → b ≡ false → IsTrue b ↔ P → P → ⊥
 not_so true P e h p = cc

@@ -1,5 +1,5 @@
 -- From the values that an engine gives to the solution of a definition
-use Rattle.std.specs.Prelude.{Result, Ok, Err, Option, Some, None, Contains, IsSome, IfOk, IfErr, ℤ}
+use Rattle.std.specs.Prelude.{Result, Ok, Err, Option, Some, None, Contains, IsSome, ℤ}
 use Rattle.std.proofs.Common.{rules, ◌≡◌, ◌⊎◌, ℕ, ◌+◌, ◌<◌, Bool, true, false, not, List, length, get_or, refl, sym, ◌∙◌, ap, inl, inr}
 use Rattle.std.proofs.lemmas.Option.{none-some}
 use Rattle.pb_normal.specs.declared.numbered.NumberedLiteral.{NumberedLiteral}
@@ -8,6 +8,8 @@ use Rattle.pb_normal.specs.meaning.Rules.{assignment, on}
 use Rattle.pb_replay.specs.declared.fault.Fault.{Fault}
 use Rattle.pb_replay.specs.declared.fault.Fault.TheVariants.{Conflict, Memory, NotTotal, Violates}
 use Rattle.pb_propagate.specs.engine.Engine.Live.{Gives, value_says}
+use Rattle.pb_replay.specs.contract.ReplayModel.{ReturnsValue}
+use Rattle.pb_replay.specs.meaning.Answer.{Answer}
 use Rattle.pb_replay.specs.meaning.Problem.{Problem}
 use Rattle.pb_propagate.specs.meaning.Propagation.{MayPropagate, Derivation, begin, put, HasConflict, opposed, broken, MeetsConflict, IsCompletion}
 use Rattle.pb_replay.specs.meaning.Replay.{Logged, HasValue, AreValues, Solution, Completed, Shown, no_form, logged_of, value}
@@ -112,9 +114,6 @@ module _ (F G : Form → Type 0) (to : (f : Form) → F f → G f) (back : (f : 
 pub judged-completed : (v : Problem) (F : Form → Type 0) (names : ℕ) (given : List NumberedLiteral) (values : List (Option Bool)) → (MeetsConflict F given → ⊥) → (list : List NumberedLiteral) × IsCompletion F given list × Gives list values → (r : Result Logged Fault) → Judged v names values r → Completed v F names given r
 judged-completed v F names given values free (list, is, says) r h = inl (free, (list, is, judged-solution v list values says names r h))
 
-pub conflicting : (v : Problem) (F : Form → Type 0) (names : ℕ) (given : List NumberedLiteral) → MeetsConflict F given → Completed v F names given (Err Conflict)
-conflicting v F names given m = inr (λ free. free m, refl)
-
 -- the parts of a judgement
 pub judged-ok : (v : Problem) (names : ℕ) (given : List (Option Bool)) (values : List Bool) (u : Unit {0}) (z : ℤ) → AreTotal given names values → AllHold v.loaded values (Ok u) → z ≡ value v (assignment values) → (g : Logged) × Judged v names given (Ok g) × (g.value ≡ z)
 judged-ok v names given values u z total holds is =
@@ -124,21 +123,19 @@ pub judged-err : (v : Problem) (names : ℕ) (given : List (Option Bool)) (value
 judged-err v names given values e total holds =
     inl (values, inl (λ k lt. is-some (get_or given k None) (get_or values k false) (total.each k lt), (values, total, refl)), inr (e, holds, refl))
 
-module _ (v : Problem) (F : Form → Type 0) (names : ℕ) (given : List NumberedLiteral) (values : List (Option Bool)) (result : Result ℤ Fault) (free : MeetsConflict F given → ⊥) (done : (list : List NumberedLiteral) × IsCompletion F given list × Gives list values) where
-  pub completed-ok : IfOk result (λ z. (g : Logged) × Judged v names values (Ok g) × (g.value ≡ z)) → IfOk result (λ z. (g : Logged) × Completed v F names given (Ok g) × (g.value ≡ z))
-  completed-ok h = at result h
-    where
-      at : (r : Result ℤ Fault) → IfOk r (λ z. (g : Logged) × Judged v names values (Ok g) × (g.value ≡ z)) → IfOk r (λ z. (g : Logged) × Completed v F names given (Ok g) × (g.value ≡ z))
-      at (Ok z) (g, k, is) = (g, judged-completed v F names given values free done (Ok g) k, is)
-      at (Err e) k = tt
+-- the same value by another answer
+pub value-by : (P Q : Answer Logged) → ((r : Result Logged Fault) → P r → Q r) → (result : Result ℤ Fault) → ReturnsValue P result → ReturnsValue Q result
+value-by P Q to (Ok z) (g, h, is) = (g, to (Ok g) h, is)
+value-by P Q to (Err e) (inl memory) = inl memory
+value-by P Q to (Err e) (inr h) = inr (to (Err e) h)
 
-  pub completed-err : IfErr result (λ e. (e ≡ Memory) ⊎ Judged v names values (Err e)) → IfErr result (λ e. (e ≡ Memory) ⊎ Completed v F names given (Err e))
-  completed-err h = at result h
-    where
-      at : (r : Result ℤ Fault) → IfErr r (λ e. (e ≡ Memory) ⊎ Judged v names values (Err e)) → IfErr r (λ e. (e ≡ Memory) ⊎ Completed v F names given (Err e))
-      at (Ok z) k = tt
-      at (Err e) (inl memory) = inl memory
-      at (Err e) (inr k) = inr (judged-completed v F names given values free done (Err e) k)
+module _ (v : Problem) (F : Form → Type 0) (names : ℕ) (given : List NumberedLiteral) where
+  pub completed-value : (values : List (Option Bool)) → (MeetsConflict F given → ⊥) → (list : List NumberedLiteral) × IsCompletion F given list × Gives list values → (result : Result ℤ Fault) → ReturnsValue (Judged v names values) result → ReturnsValue (Completed v F names given) result
+  completed-value values free done = value-by (Judged v names values) (Completed v F names given) (judged-completed v F names given values free done)
+
+  pub conflicting-value : (e : Fault) → (e ≡ Memory) ⊎ ((e ≡ Conflict) × MeetsConflict F given) → ReturnsValue (Completed v F names given) (Err e)
+  conflicting-value e (inl memory) = inl memory
+  conflicting-value e (inr (is, meets)) = inr (inr (λ free. free meets, let to : Fault → Result Logged Fault = λ d. Err d in ap to is))
 
 -- a solution of the instance's own constraints is shown, or there is none
 pub shown-none : (v : Problem) (given : List NumberedLiteral) (e : Fault) → Completed v (Contains v.loaded) (length v.names) given (Err e) → (g : Logged) → Shown v given g → ⊥

@@ -4,7 +4,7 @@ use Rattle.pb_replay.proofs.replay.Replay.with_hasher.Goals as goal
 
 pub invariant_of-result : goal.invariant_of-result
 invariant_of-result c = record {
-  ready = λ none. ready_first c.args.limits c.args.instance.now c.in_ok-running.running c.in_ok-running.ensures.ok c.in_ok-running.ensures.first c.in_ok-running.ensures.fits;
+  ready = λ none. ready_first c.args.limits c.args.instance.now c.in_ok-running.running c.in_ok-running.ensures.ok;
   reported = λ n e. absurd cc;
 }
 

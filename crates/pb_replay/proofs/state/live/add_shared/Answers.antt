@@ -1,10 +1,14 @@
-use Rattle.std.proofs.Common.{◌∙◌}
+use Rattle.std.proofs.Common.{◌∙◌, refl, rules}
 use Rattle.pb_replay.proofs.lemmas.rules.Linked.{inside-added}
 use Rattle.pb_replay.proofs.state.live.add_shared.Goals as goal
 
-pub returns-in-Ok-clause-linked : goal.returns-in-Ok-clause-linked
-returns-in-Ok-clause-linked c = record {
-  ready = c.in-Ok.ensures.ready;
-  variables = c.in-Ok.ensures.variables ∙ c.requires.linked.variables;
-  inside = inside-added _ _ _ c.args.form c.requires.linked.inside c.requires.inside c.in-Ok.ensures.forms;
+pub returns-in-Ok-clause-preserves : goal.returns-in-Ok-clause-preserves
+returns-in-Ok-clause-preserves c = record {
+  linked = record {
+    ready = c.in-Ok.ensures.ready;
+    variables = c.in-Ok.ensures.variables ∙ c.requires.linked.variables;
+    inside = inside-added _ _ _ c.args.form c.requires.linked.inside c.requires.inside c.in-Ok.ensures.forms;
+  };
+  kept = search rules;
+  visits = refl;
 }

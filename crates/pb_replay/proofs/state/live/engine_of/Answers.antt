@@ -10,15 +10,21 @@ loop-form-preserved c =
     let k = c.loop-form.form-index in
     let forms = c.args.forms.now in
     let reported = c.in_ok-insert.ensures in
-    let some : Form → Option Form = λ f. Some f in (
-      reported.forms ∙ ap (λ (xs : List (Option Form)). xs ++ (Some c.in_ok-shared.shared ∷ [])) i.0
-          ∙ ap (λ (g : Form). map some (take k forms) ++ (Some g ∷ [])) (c.in_ok-shared.ensures ∙ c.form-item.is)
-          ∙ sym (map_more some forms k c.form-item.result c.loop-form-test.true),
-      reported.variables ∙ i.1,
-      reported.ready,
-    )
-
-pub returns-clause-forms : goal.returns-clause-forms
-returns-clause-forms c =
     let some : Form → Option Form = λ f. Some f in
-    c.loop-form.invariant.0 ∙ ap (map some) (take_all c.loop-form.form-index c.args.forms.now (omega (arith, c.loop-form-test.false)))
+    record {
+      forms = reported.forms ∙ ap (λ (xs : List (Option Form)). xs ++ (Some c.in_ok-shared.shared ∷ [])) i.forms
+          ∙ ap (λ (g : Form). map some (take k forms) ++ (Some g ∷ [])) (c.in_ok-shared.ensures ∙ c.form-item.is)
+          ∙ sym (map_more some forms k c.form-item.result c.loop-form-test.true);
+      variables = reported.variables ∙ i.variables;
+      ready = reported.ready;
+    }
+
+pub returns-clause-engine : goal.returns-clause-engine
+returns-clause-engine c =
+    let some : Form → Option Form = λ f. Some f in
+    let i = c.loop-form.invariant in
+    record {
+      forms = i.forms ∙ ap (map some) (take_all c.loop-form.form-index c.args.forms.now (omega (arith, c.loop-form-test.false)));
+      variables = i.variables;
+      ready = i.ready;
+    }

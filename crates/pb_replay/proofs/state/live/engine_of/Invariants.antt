@@ -1,11 +1,9 @@
 use Rattle.std.specs.Prelude.{Option, Some}
-use Rattle.std.proofs.Common.{◌≡◌, false, take, map}
+use Rattle.std.proofs.Common.{take, map}
 use Rattle.pb_normal.specs.meaning.Form.{Form}
+use Rattle.pb_replay.specs.contract.ReplayModel.{IsEngine}
 use Rattle.pb_replay.proofs.state.live.engine_of.Given as goal
 
 -- the forms so far were added
 abbrev pub invariant-loop-form : goal.invariant-loop-form
-invariant-loop-form l =
-    (l.engine.forms ≡ map (λ (f : Form). let o : Option Form = Some f in o) (take l.form-index l.forms))
-    × (l.engine.variables ≡ l.variables)
-    × (l.engine.spent ≡ false)
+invariant-loop-form l = IsEngine (map (λ (f : Form). let o : Option Form = Some f in o) (take l.form-index l.forms)) l.variables l.engine

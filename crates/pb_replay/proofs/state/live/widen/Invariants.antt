@@ -1,6 +1,6 @@
-use Rattle.std.proofs.Common.{◌≡◌, false}
+use Rattle.pb_replay.specs.contract.ReplayModel.{IsEngine}
 use Rattle.pb_replay.proofs.state.live.widen.Given as goal
 
 -- this many variables were added
 abbrev pub invariant-loop-number : goal.invariant-loop-number
-invariant-loop-number l = (l.engine.variables ≡ l._number) × (l.engine.forms ≡ l.fn.engine.forms) × (l.engine.spent ≡ false)
+invariant-loop-number l = IsEngine l.fn.engine.forms l._number l.engine

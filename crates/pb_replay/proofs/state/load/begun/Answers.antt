@@ -1,10 +1,23 @@
-use Rattle.std.proofs.Common.{Err, ap}
+use Rattle.std.proofs.Common.{Err, ap, refl, rules, sym, take, ◌∙◌}
+use Rattle.std.proofs.Math.Seq.{take-length}
 use Rattle.pb_replay.proofs.lemmas.rules.Ready.{opened_ok, opened_err}
+use Rattle.pb_replay.proofs.lemmas.rules.States.{same-state}
 use Rattle.pb_replay.proofs.state.load.begun.Goals as goal
 
 pub returns-clause-ok : goal.returns-clause-ok
-returns-clause-ok c =
-    rw c.in_ok-loaded.ensures (opened_ok _ c.args.instance.now _ _ _ _ _ c.as_slice.ensures c.in-Ok.ensures.terms (rw c.with_hasher-names.ensures at c.in-Ok.ensures.names) c.in-Ok-load.ensures.names c.in-Ok-load.ensures.fits c.in-Ok.ensures.fits c.in-Ok-load.ensures.forms _ c.len-own.ensures.length)
+returns-clause-ok c = record {
+  opened = rw c.in_ok-loaded.ensures (opened_ok _ c.args.instance.now _ _ _ _ _ c.as_slice.ensures c.in-Ok.ensures.terms (rw c.with_hasher-names.ensures at c.in-Ok.ensures.names) c.in-Ok-load.ensures.names c.in-Ok-load.ensures.fits c.in-Ok.ensures.fits c.in-Ok-load.ensures.forms _ c.len-own.ensures.length);
+  first = record {
+    limits = refl;
+    own = c.len-own.ensures.length;
+    best = refl;
+    state = same-state c.in_ok-engine.ensures.engine.forms (sym (ap (λ n. take n c.load.new.names) c.len-own.ensures.length ∙ take-length c.load.new.names)) refl refl;
+    ready = c.in_ok-engine.ensures.engine.ready;
+    variables = c.in_ok-engine.ensures.engine.variables ∙ c.len-own.ensures.length;
+    visits = refl;
+  };
+  fits = search rules;
+}
 
 pub returns-in-Err-load-clause-err : goal.returns-in-Err-load-clause-err
 returns-in-Err-load-clause-err c =

@@ -17,8 +17,14 @@ pub returns-clause-kept : goal.returns-clause-kept
 returns-clause-kept c =
     record { limits = refl; own = refl; loaded = refl; objective = sym (ap (option_map (λ (x : Linear). x.terms)) c.in-Some.is); names = prefix_after c.args.running.now.names c.from_linear.new.names (names_of c.in-Some.linear.terms) c.in_ok-form.ensures.names }
 
-pub returns-clause-names : goal.returns-clause-names
-returns-clause-names c = unchanged c.args.running.now c.in-Some.linear c.from_linear.new.names c.requires c.in-Some.is c.in_ok-form.ensures.names
+pub returns-clause-same : goal.returns-clause-same
+returns-clause-same c = record {
+  names = unchanged c.args.running.now c.in-Some.linear c.from_linear.new.names c.requires c.in-Some.is c.in_ok-form.ensures.names;
+  forms = refl;
+  best = refl;
+  next = refl;
+  concluded = refl;
+}
 
 pub returns-clause-ok : goal.returns-clause-ok
 returns-clause-ok c =

@@ -1,9 +1,13 @@
-use Rattle.std.proofs.Common.{refl}
+use Rattle.std.proofs.Common.{refl, rules}
 use Rattle.pb_replay.proofs.lemmas.rules.Deleting.{delete-goes, delete-linked}
 use Rattle.pb_replay.proofs.step.delete.delete.Goals as goal
 
 pub returns-clause-goes : goal.returns-clause-goes
 returns-clause-goes c = delete-goes c.args.running.now _ c.args.ids.now c.delete_each.result refl refl refl refl (rw c.as_slice.ensures at c.delete_each.ensures.ok) (rw c.as_slice.ensures at c.delete_each.ensures.err)
 
-pub returns-clause-linked : goal.returns-clause-linked
-returns-clause-linked c = delete-linked c.args.running.now _ c.as_slice.result.now c.delete_each.result c.requires.linked refl c.delete_each.ensures.ok c.delete_each.ensures.variables c.delete_each.ensures.ready
+pub returns-clause-preserves : goal.returns-clause-preserves
+returns-clause-preserves c = record {
+  linked = delete-linked c.args.running.now _ c.as_slice.result.now c.delete_each.result c.requires.linked refl c.delete_each.ensures.ok c.delete_each.ensures.variables c.delete_each.ensures.ready;
+  kept = search rules;
+  visits = refl;
+}

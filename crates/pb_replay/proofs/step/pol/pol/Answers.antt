@@ -9,10 +9,11 @@ expressed-requires-clause-named c =
 
 pub add_shared-requires-clause-inside : goal.add_shared-requires-clause-inside
 add_shared-requires-clause-inside c =
-    pol-inside c.args.running.now c.number_words.new.names c.widen.new.engine.forms _ c.as_slice-2.result.now c.in_ok-form.form c.requires.ready.linked c.in_default.ensures.prefix c.in_ok-widen.ensures.forms
+    pol-inside c.args.running.now c.number_words.new.names c.widen.new.engine.forms _ c.as_slice-2.result.now c.in_ok-form.form c.requires.ready.linked c.in_default.ensures.prefix c.in_ok-widen.ensures.engine.forms
     (words_named _ _ _ _ c.args.words.now c.in_default.ensures.names c.as_slice.ensures c.as_slice-2.ensures) c.in_ok-form.ensures.ok
 
 pub returns-clause-goes : goal.returns-clause-goes
 returns-clause-goes c =
-    pol-goes c.args.running.now (record c.args.running.now { names = c.number_words.new.names; engine = c.widen.new.engine }) c.args.words.now c.as_slice-2.result.now c.in_ok-form.form c.add_shared.result c.add_shared.new.running (sym c.as_slice-2.ensures) (rw c.as_slice.ensures at c.in_default.ensures.names) c.in_ok-widen.ensures.forms refl refl refl c.add_shared.ensures.best
-    c.in_ok-form.ensures.ok c.add_shared.ensures.adding
+    pol-goes c.args.running.now (record c.args.running.now { names = c.number_words.new.names; engine = c.widen.new.engine }) c.args.words.now c.as_slice-2.result.now c.in_ok-form.form
+    (record { names = rw c.as_slice.ensures at c.in_default.ensures.names; forms = c.in_ok-widen.ensures.engine.forms; best = refl; next = refl; concluded = refl })
+    c.add_shared.result c.add_shared.new.running (sym c.as_slice-2.ensures) refl c.add_shared.ensures.best c.in_ok-form.ensures.ok c.add_shared.ensures.adding

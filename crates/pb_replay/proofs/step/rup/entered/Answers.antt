@@ -1,29 +1,34 @@
-use Rattle.std.proofs.Common.{refl, take, arith, ◌∙◌}
+use Rattle.std.proofs.Common.{refl, take, arith, rules, ◌∙◌}
 use Rattle.pb_normal.specs.meaning.Written.{names_of}
 use Rattle.pb_replay.proofs.lemmas.rules.Linked.{grown, linked-wider}
 use Rattle.pb_replay.proofs.lemmas.rules.Rups.{fits_of, prefix_after}
 use Rattle.pb_replay.proofs.step.rup.entered.Goals as goal
 
-pub returns-in_err-form-clause-kept : goal.returns-in_err-form-clause-kept
-returns-in_err-form-clause-kept c =
+pub returns-in_err-form-clause-preserves : goal.returns-in_err-form-clause-preserves
+returns-in_err-form-clause-preserves c =
     let some = c.in_err-form.ensures.err in
-    record { limits = refl; own = refl; loaded = refl; objective = refl; names = prefix_after c.args.running.now.names c.from_linear.new.names (take some.0 (names_of c.args.linear.now.terms)) some.1 }
+    record {
+      linked = search rules;
+      kept = record { limits = refl; own = refl; loaded = refl; objective = refl; names = prefix_after c.args.running.now.names c.from_linear.new.names (take some.0 (names_of c.args.linear.now.terms)) some.1 };
+      visits = refl;
+    }
 
 pub widen-requires-clause-to : goal.widen-requires-clause-to
 widen-requires-clause-to c = omega (arith, c.len-before.ensures.length, c.len.ensures.length, grown c.args.running.now.names c.from_linear.new.names (names_of c.args.linear.now.terms) c.in_ok-form.ensures.names)
 
-pub returns-in_err-widen-clause-kept : goal.returns-in_err-widen-clause-kept
-returns-in_err-widen-clause-kept c =
-    record { limits = refl; own = refl; loaded = refl; objective = refl; names = prefix_after _ _ (names_of c.args.linear.now.terms) c.in_ok-form.ensures.names }
-
-pub returns-clause-kept : goal.returns-clause-kept
-returns-clause-kept c =
-    record { limits = refl; own = refl; loaded = refl; objective = refl; names = prefix_after _ _ (names_of c.args.linear.now.terms) c.in_ok-form.ensures.names }
+pub returns-in_err-widen-clause-preserves : goal.returns-in_err-widen-clause-preserves
+returns-in_err-widen-clause-preserves c = record {
+  linked = search rules;
+  kept = record { limits = refl; own = refl; loaded = refl; objective = refl; names = prefix_after _ _ (names_of c.args.linear.now.terms) c.in_ok-form.ensures.names };
+  visits = refl;
+}
 
 pub returns-clause-fits : goal.returns-clause-fits
 returns-clause-fits c = fits_of _ _ _ _ c.in_ok-form.was c.from_linear.ensures.overflow
 
-pub returns-clause-linked : goal.returns-clause-linked
-returns-clause-linked c =
-    linked-wider c.args.running.now _ c.requires (grown c.args.running.now.names c.from_linear.new.names (names_of c.args.linear.now.terms) c.in_ok-form.ensures.names) c.in_ok-widen.ensures.forms c.in_ok-widen.ensures.ready
-    (c.in_ok-widen.ensures.variables ∙ c.len.ensures.length)
+pub returns-clause-preserves : goal.returns-clause-preserves
+returns-clause-preserves c = record {
+  linked = linked-wider c.args.running.now _ c.requires (grown c.args.running.now.names c.from_linear.new.names (names_of c.args.linear.now.terms) c.in_ok-form.ensures.names) c.in_ok-widen.ensures.engine.forms c.in_ok-widen.ensures.engine.ready (c.in_ok-widen.ensures.engine.variables ∙ c.len.ensures.length);
+  kept = record { limits = refl; own = refl; loaded = refl; objective = refl; names = prefix_after _ _ (names_of c.args.linear.now.terms) c.in_ok-form.ensures.names };
+  visits = refl;
+}

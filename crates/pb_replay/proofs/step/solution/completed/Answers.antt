@@ -1,13 +1,15 @@
 use Rattle.std.proofs.Common.{length}
+use Rattle.std.proofs.lemmas.Result.{err_from_is_err_and}
 use Rattle.pb_propagate.specs.meaning.Propagation.{Live}
 use Rattle.pb_replay.specs.contract.ReplayModel.{problem_of}
-use Rattle.pb_replay.proofs.lemmas.solutions.Solved.{completed-ok, completed-err}
+use Rattle.pb_replay.proofs.lemmas.solutions.Solved.{completed-value, conflicting-value}
 use Rattle.pb_replay.proofs.step.solution.completed.Goals as goal
 
-pub returns-clause-ok : goal.returns-clause-ok
-returns-clause-ok c =
-    completed-ok (problem_of c.args.running.now) (Live c.args.running.now.engine.forms) (length c.args.running.now.names) c.args.given.now c.in_ok-values.values.items c.judged.result c.in_ok-values.ensures.free c.in_ok-values.ensures.list (rw (c.as_slice.ensures.value, c.len.ensures.length) at c.judged.ensures.ok)
+pub returns-clause-value : goal.returns-clause-value
+returns-clause-value c =
+    completed-value (problem_of c.args.running.now) (Live c.args.running.now.engine.forms) (length c.args.running.now.names) c.args.given.now c.in_ok-values.values.items c.in_ok-values.ensures.free c.in_ok-values.ensures.list c.judged.result (rw (c.as_slice.ensures.value, c.len.ensures.length) at c.judged.ensures.value)
 
-pub returns-clause-err : goal.returns-clause-err
-returns-clause-err c =
-    completed-err (problem_of c.args.running.now) (Live c.args.running.now.engine.forms) (length c.args.running.now.names) c.args.given.now c.in_ok-values.values.items c.judged.result c.in_ok-values.ensures.free c.in_ok-values.ensures.list (rw (c.as_slice.ensures.value, c.len.ensures.length) at c.judged.ensures.err)
+pub returns-in_err-values-clause-value : goal.returns-in_err-values-clause-value
+returns-in_err-values-clause-value c =
+    let p = err_from_is_err_and c.from_residual.result c.from_residual.ensures.1 in
+    rw (p.1, p.2) (conflicting-value (problem_of c.args.running.now) (Live c.args.running.now.engine.forms) (length c.args.running.now.names) c.args.given.now _ c.in_err-values.ensures.err)

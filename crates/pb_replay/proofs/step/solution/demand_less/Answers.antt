@@ -1,7 +1,6 @@
 use Rattle.std.specs.Int.{w128}
-use Rattle.std.proofs.Common.{◌≡◌, rules, FitsSigned, ap, pos, ◌-ℤ◌}
+use Rattle.std.proofs.Common.{◌≡◌, rules, FitsSigned, pos, ◌-ℤ◌}
 use Rattle.std.proofs.lemmas.Int.{fits_signed_from_abs, to_z-of_z}
-use Rattle.pb_propagate.specs.engine.Engine.Live.{Standing}
 use Rattle.pb_replay.proofs.lemmas.names.Going.{demands-ok, logs-from}
 use Rattle.pb_replay.proofs.step.solution.demand_less.Goals as goal
 
@@ -12,5 +11,4 @@ returns-clause-demands c =
     let less : c.below.result ≡ (c.args.value -ℤ pos 1) = rw (to_z-of_z w128 c.args.value here) at c.below.ensures in
     demands-ok c.args.running.now c.log.new.running c.args.value c.in_ok-demand.demand c.log.result (rw (to_z-of_z w128 c.below.result fits, less) at c.in_ok-demand.ensures.ok)
     (logs-from c.args.running.now c.objective_form.new.running
-    (record { names = c.in_ok-demand.ensures.names; forms = ap (λ (e : Standing). e.forms) c.objective_form.ensures.engine; best = c.objective_form.ensures.best; next = c.objective_form.ensures.next; concluded = c.objective_form.ensures.concluded })
-    c.objective_form.ensures.kept c.args.value c.in_ok-demand.demand c.log.result c.log.new.running (rw (to_z-of_z w128 c.args.value here) at c.log.ensures.logs))
+    c.in_ok-demand.ensures.same c.objective_form.ensures.kept c.args.value c.in_ok-demand.demand c.log.result c.log.new.running (rw (to_z-of_z w128 c.args.value here) at c.log.ensures.logs))

@@ -7,7 +7,7 @@ use Rattle.pb_replay.proofs.step.solution.soli.Goals as goal
 
 pub returns-clause-goes : goal.returns-clause-goes
 returns-clause-goes c =
-    goes-from c.args.running.now c.take_literals.new.running (Soli c.args.given.now) (rw c.as_slice.ensures at c.in_ok-numbers.ensures.named) c.requires.proper c.take_literals.ensures.kept c.improve.result c.improve.new.running
+    goes-from c.args.running.now c.take_literals.new.running (Soli c.args.given.now) (rw c.as_slice.ensures at c.in_ok-numbers.ensures.named) c.requires.proper c.take_literals.ensures.preserves.kept c.improve.result c.improve.new.running
     (c.improve.ensures.goes c.args.given.now (c.as_slice-2.ensures.value ∙ (rw c.as_slice.ensures at c.in_ok-numbers.ensures.literals)))
 
 pub returns-in_err-numbers-clause-memory : goal.returns-in_err-numbers-clause-memory
