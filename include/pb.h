@@ -5,7 +5,7 @@
 ** pb_check() what `pb check` does, pb_tidy() what `pb tidy` does, and pb_show() what `pb show` does. A pb_checker_t checks a
 ** proof in the pieces in which it is written, a pb_instance_t has an instance as arrays, and a pb_reader_t gives the statements
 ** of a text one at a time. pb_write_statement() writes a statement from arrays. Each function is proved against its contract in crates/pb_c. The proof relies on the toolchain, and
-** on callers that keep the rules for pointers, rooms and memory below.
+** on callers that keep the rules for pointers, buffers and memory below.
 */
 #ifndef PB_H
 #define PB_H
@@ -82,17 +82,17 @@ typedef struct pb_options_t {
 **
 ** Texts. A text is given by a pointer and a number of bytes. It need not end in a zero byte, and it may contain some.
 **
-** Room. A call writes one text, into the room that the caller gives by a pointer and a number of bytes. It writes as much of
+** Output. A call writes one text to a buffer that the caller gives by a pointer and a number of bytes. It writes as much of
 ** the text as fits, from its first byte on. The last parameter points to the length of the whole text. So the text is whole
-** where that length is at most the room, and else a prefix of it. The rest of the room stays as it was: no zero byte is
-** added. A call with a room of 0 bytes asks for the length alone, and the same call again writes the same text, unless
-** memory runs out.
+** if that length is at most the size of the buffer, and else a prefix of it. The rest of the buffer stays as it was: no zero
+** byte is added. A call with a buffer of 0 bytes asks for the length alone, and the same call again writes the same text,
+** unless memory runs out.
 **
 ** Pointers. No pointer may be null, not even if the number of bytes beside it is 0: the compiled code may rely on that. Pass
-** the address of any byte for an empty text or room, as "" is. In C++ the data() of an empty std::vector, std::string_view or
-** std::span may be null; that of a std::string is not. No text, room or object may be larger than PTRDIFF_MAX bytes. What a
-** call writes to, the room and the length, may not overlap anything else that it is given. While a call runs, no other thread
-** may write to the texts or the options, or read or write the room or the length.
+** the address of any byte for an empty text or buffer, as "" is. In C++ the data() of an empty std::vector, std::string_view
+** or std::span may be null; that of a std::string is not. No text, buffer or object may be larger than PTRDIFF_MAX bytes. What
+** a call writes to, the buffer and the length, may not overlap anything else that it is given. While a call runs, no other
+** thread may write to the texts or the options, or read or write the buffer or the length.
 **
 ** Memory. The library allocates by malloc(), realloc() and free() of the program. It frees all of it before a call returns,
 ** except what a checker, an instance or a reader stores until it is closed. These three have to belong to one allocator. They have to
@@ -194,7 +194,7 @@ uint8_t pb_show(const uint8_t *text, size_t text_len,
 ** pb_checker_held() sets how much of the current statement is stored. That is at most the number of its bytes so far, and 0
 ** between two statements.
 **
-** pb_checker_name() writes the name with a number, as of PB_NOT_TOTAL, into a room, as pb_tidy() writes its text. If there is no
+** pb_checker_name() writes the name with a number, as of PB_NOT_TOTAL, into a buffer, as pb_tidy() writes its text. If there is no
 ** such name, it writes nothing and returns PB_MISUSE.
 **
 ** pb_checker_step() takes a piece of the proof up to the end of the next statement. `used` is how many of its bytes belong to the
@@ -386,7 +386,7 @@ void pb_checker_close(pb_checker_t *checker);
 ** Each array has a pointer and a number of elements, which has to be the one of pb_instance_sizes(). Otherwise nothing is
 ** written, and the result is PB_MISUSE.
 **
-** pb_instance_name() writes the name with a number into a room, as pb_checker_name() does.
+** pb_instance_name() writes the name with a number into a buffer, as pb_checker_name() does.
 **
 ** pb_instance_names() copies all names at once: their bytes, one name after another with nothing between, to an array of
 ** `name_bytes` elements, and the offset in it at which each name begins to an array of `names` elements. A name ends where the
@@ -512,7 +512,7 @@ void pb_instance_close(pb_instance_t *instance);
 **     PB_EVENT_BOUNDS              the lower bound, maybe an id, the upper bound, then as for PB_EVENT_SAT
 **     PB_EVENT_END                 the last line of a proof
 **
-** pb_reader_bytes() writes the free text of the last event into a room, as pb_tidy() writes its text, and pb_reader_name() the
+** pb_reader_bytes() writes the free text of the last event into a buffer, as pb_tidy() writes its text, and pb_reader_name() the
 ** name with a number, as pb_checker_name() does.
 **
 ** It is proved (crates/pb_c/src/reader.rt) that the events are the statements of the text, whatever its cut, that the arrays are
@@ -594,7 +594,7 @@ void pb_reader_close(pb_reader_t *reader);
 /*
 ** CAPI: Write A Statement
 **
-** pb_write_statement() writes the canonical text of one statement from arrays, as pb_show() prints it, into a room. No line feed
+** pb_write_statement() writes the canonical text of one statement from arrays, as pb_show() prints it, into a buffer. No line feed
 ** is added. The tokens are in the four arrays that pb_reader_tokens() copies, all of one length, and `kind` is that of the event.
 ** `text` is the free text of a header or a comment, and empty for other kinds.
 **
@@ -612,7 +612,7 @@ void pb_reader_close(pb_reader_t *reader);
 **        text has no line feed, and in a header it is empty or begins with a blank.
 **
 ** If one of the rules 2 to 4 is broken, the result is PB_REFUSED, and `wrong` is the index of the token. It is the number of tokens
-** if a token is missing, or if the free text is wrong. At any result but PB_OK nothing is written to the room, and its length is 0.
+** if a token is missing, or if the free text is wrong. At any result but PB_OK nothing is written to the buffer, and its length is 0.
 ** At any result but PB_REFUSED `wrong` is the number of tokens.
 **
 ** A file has a line for each statement: write its text and then a line feed. The last line may do without one, except a header. This

@@ -236,7 +236,7 @@ inline const std::uint8_t *bytes_of(std::string_view text)
 // One element more than there are, so that no pointer is null.
 template <typename T> std::vector<T> room_for(std::size_t count) { return std::vector<T>(count + 1); }
 
-// A name, by a call that writes it into a room.
+// A name, by a call that writes it into a buffer.
 template <typename Call> std::string name_of(Call call)
 {
     std::string name(64, '\0');
