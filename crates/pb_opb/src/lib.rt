@@ -18,4 +18,4 @@ pub use instance::{Comment, Instance};
 pub use machine::OpbMachine;
 pub use read::{read_instance, read_instance_within};
 pub use validity::instance_is_value;
-pub use write::{write_event, write_instance};
+pub use write::{put_event, write_event, write_instance};

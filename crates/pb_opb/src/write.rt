@@ -1,6 +1,6 @@
 //! Canonical text.
 
-ghost use Rattle.std.specs.Prelude.{◌≡◌, ◌≤◌, [], ◌∷◌, ◌++◌, length};
+ghost use Rattle.std.specs.Prelude.{◌≡◌, ◌≤◌, [], ◌∷◌, ◌++◌, IsTrue, length};
 ghost use Rattle.pb_text.specs.meaning.Writing.{Writes};
 ghost use Rattle.pb_sums.specs.contract.Canonical.{linear_bytes};
 ghost use Rattle.pb_opb.specs.contract.Canonical.{header_bytes, objective_bytes, event_bytes, due, comment_events, constraint_events, in_order, lines, body_events, instance_bytes};
@@ -8,7 +8,8 @@ ghost use Rattle.pb_opb.specs.engine.Led.{led_lines};
 
 use crate::event::OpbEvent;
 use crate::instance::{Comment, Instance};
-use pb_sums::{Linear, Term, write_count, write_linear, write_sum};
+use pb_sums::piece::Piece;
+use pb_sums::{Linear, Term, put_linear, write_count, write_linear, write_sum};
 use pb_text::{Failed, Sink, write_bytes};
 
 fn write_header<S: Sink>(
@@ -42,6 +43,30 @@ fn write_objective<S: Sink>(terms: &[Term], out: &mut S) -> Result<(), Failed>
     write_bytes(b"min: ", out)?;
     write_sum(terms, out)?;
     write_bytes(b" ;", out)
+}
+
+/// Prepends a comment if it fits, and returns whether it did.
+fn put_comment(text: &[u8], piece: &mut Piece) -> bool
+    ensures { IsTrue result → piece.new ≡ (42 ∷ text.now) ++ piece.old }
+{
+    if text.len() >= piece.room() {
+        return false;
+    }
+    piece.put_text(text);
+    piece.put(b'*');
+    true
+}
+
+/// Prepends the line of a statement without its line feed, if it surely fits, and returns whether it did. If it did not,
+/// the piece may have a part of it.
+pub fn put_event(event: &OpbEvent, piece: &mut Piece) -> bool
+    ensures { IsTrue result → piece.new ≡ event_bytes event.now ++ piece.old }
+{
+    match event {
+        OpbEvent::Comment(text) => put_comment(text.as_slice(), piece),
+        OpbEvent::Constraint(linear) => put_linear(linear, piece),
+        _ => false,
+    }
 }
 
 /// Writes the line of a statement without its line feed.

@@ -6,14 +6,16 @@ ghost use Rattle.pb_text.specs.meaning.Writing.{Writes};
 ghost use Rattle.pb_proof.specs.meaning.Canonical.{literal_line, listed_bytes, bound_bytes, id_shown_bytes, shown_bytes, conclusion_bytes, count_bytes, statement_bytes, proof_bytes};
 ghost use Rattle.pb_proof.specs.engine.Line.Ended.{ended_lines};
 
+pub mod put;
 mod words;
 
 use crate::conclusion::{Bound, Conclusion};
-use crate::piece::Piece;
 use crate::proof::Proof;
 use crate::statement::Statement;
 use crate::word::PolWord;
+use crate::write::put::put_statement;
 use crate::write::words::write_words;
+use pb_sums::piece::Piece;
 use pb_sums::{Linear, Literal, write_count, write_linear, write_literal, write_number};
 use pb_text::{Failed, Sequence, Sink, write_bytes};
 
@@ -185,8 +187,8 @@ fn write_conclusion<S: Sink>(conclusion: &Conclusion, out: &mut S) -> Result<(),
     write_conclusion_text(conclusion, out)
 }
 
-/// Writes the line of a statement without its line feed.
-pub fn write_statement<S: Sink>(statement: &Statement, out: &mut S) -> Result<(), Failed>
+/// Writes the line of a statement without its line feed, in several pieces.
+fn write_pieces<S: Sink>(statement: &Statement, out: &mut S) -> Result<(), Failed>
     ensures { Writes S.contents S.faults out.old (statement_bytes statement.now) result out.new }
 {
     match statement {
@@ -203,11 +205,27 @@ pub fn write_statement<S: Sink>(statement: &Statement, out: &mut S) -> Result<()
     }
 }
 
+/// Writes the line of a statement without its line feed.
+pub fn write_statement<S: Sink>(statement: &Statement, out: &mut S) -> Result<(), Failed>
+    ensures { Writes S.contents S.faults out.old (statement_bytes statement.now) result out.new }
+{
+    let mut piece = Piece::new();
+    if put_statement(statement, &mut piece) {
+        return write_bytes(piece.as_bytes(), out);
+    }
+    write_pieces(statement, out)
+}
+
 /// Writes a statement and a line feed.
 fn write_line<S: Sink>(statement: &Statement, out: &mut S) -> Result<(), Failed>
     ensures { Writes S.contents S.faults out.old (statement_bytes statement.now ++ (10 ∷ [])) result out.new }
 {
-    write_statement(statement, out)?;
+    let mut piece = Piece::new();
+    piece.put(b'\n');
+    if put_statement(statement, &mut piece) {
+        return write_bytes(piece.as_bytes(), out);
+    }
+    write_pieces(statement, out)?;
     write_bytes(b"\n", out)
 }
 

@@ -5,16 +5,16 @@ ghost use Rattle.std.specs.Fmt.{signed_decimal};
 ghost use Rattle.pb_text.specs.meaning.Writing.{Writes};
 ghost use Rattle.pb_proof.specs.meaning.Canonical.{literal_line, word_bytes, listed_bytes};
 
-use crate::piece::{Piece, ROOM};
 use crate::word::PolWord;
+use pb_sums::piece::{Piece, ROOM};
 use pb_sums::{Literal, write_literal, write_number};
 use pb_text::{Failed, Sink, write_bytes};
 
 /// The maximum length of a word without its name but with a space before it, in bytes.
-const LONGEST: usize = 43;
+pub const LONGEST: usize = 43;
 
 /// The maximum number of words of a piece.
-const BATCH: usize = 8;
+pub const BATCH: usize = 64;
 
 /// Writes a number, and then an operator with a space before it.
 fn write_factor<S: Sink>(factor: i128, operator: &[u8], out: &mut S) -> Result<(), Failed>
@@ -75,7 +75,7 @@ fn put_factor(factor: i128, operator: u8, piece: &mut Piece)
 }
 
 /// Prepends a literal if it fits with one more byte, and returns whether it did.
-fn put_literal(literal: &Literal, piece: &mut Piece) -> bool
+pub fn put_literal(literal: &Literal, piece: &mut Piece) -> bool
     requires { 43 + length piece.old ≤ ROOM }
     ensures text { piece.new ≡ (if result then literal_line literal.now ++ piece.old else piece.old) }
     ensures short { length piece.new < ROOM }
@@ -137,7 +137,7 @@ fn put_next_word(word: &PolWord, piece: &mut Piece) -> bool
 }
 
 /// Prepends words, the last one first, as long as they fit, and returns how many are left.
-fn put_words(words: &[PolWord], piece: &mut Piece) -> usize
+pub fn put_words(words: &[PolWord], piece: &mut Piece) -> usize
     ensures within { result ≤ length words.now }
     ensures text { piece.new ≡ listed_bytes word_bytes (drop result words.now) ++ piece.old }
 {

@@ -14,14 +14,16 @@ ghost use Rattle.pb_tool.specs.contract.Seen.{SawStatements};
 ghost use Rattle.pb_tool.specs.contract.Show.{shown_line, EndsAt, ShowsLines};
 ghost use Rattle.pb_tool.specs.meaning.Tidy.{AsksInInstanceText, IsInstanceText};
 
-use crate::canonical::{Canonical, write_line};
+use crate::canonical::{Canonical, put_line, write_line};
 use crate::fault::{Input, ToolFault, text_fault};
 use crate::file::{Format, format_of, unread_file};
 use pb_opb::OpbMachine;
 use pb_proof::ProofMachine;
-use pb_sums::write_place;
+use pb_sums::piece::Piece;
+use pb_sums::{put_place, write_place};
 use pb_text::{
     BYTE_LIMIT, Failed, Feeder, Limits, Machine, Place, Sink, Source, Spanned, pull, rest_is_blank,
+    write_bytes,
 };
 use std::alloc::Global;
 
@@ -142,6 +144,10 @@ fn show_statement<W: Sink, E: Canonical + Drop>(read: Spanned<E>, out: &mut W) -
 fn write_spanned<W: Sink, E: Canonical>(read: &Spanned<E>, out: &mut W) -> Result<(), Failed>
     ensures { Writes W.contents W.faults out.old (shown_line E.text read.now) result out.new }
 {
+    let mut piece = Piece::new();
+    if put_line(&read.event, &mut piece) && put_place(read.first, &mut piece) {
+        return write_bytes(piece.as_bytes(), out);
+    }
     write_place(read.first, out)?;
     write_line(&read.event, out)
 }

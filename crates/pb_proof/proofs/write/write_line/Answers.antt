@@ -2,11 +2,11 @@ use Rattle.std.proofs.Common.{refl}
 use Rattle.pb_text.proofs.lemmas.text.Parts.{part_then, part_broke}
 use Rattle.pb_proof.proofs.write.write_line.Goals as goal
 
-pub returns-in_err-write_statement : goal.returns-in_err-write_statement
-returns-in_err-write_statement g c =
-    part_broke g.S.Sink.contents g.S.Sink.faults _ _ _ _ _ _ refl c.from_residual.ensures.0 c.in_err-write_statement.ensures
+pub returns-in_err-write_pieces : goal.returns-in_err-write_pieces
+returns-in_err-write_pieces g c =
+    part_broke g.S.Sink.contents g.S.Sink.faults _ _ _ _ _ _ refl c.from_residual.ensures.0 c.in_err-write_pieces.ensures
 
 pub returns : goal.returns
 returns g c =
-    part_then g.S.Sink.contents g.S.Sink.faults _ _ _ _ _ _ _ refl c.in_ok-write_statement.ensures
-    c.write_bytes.ensures
+    part_then g.S.Sink.contents g.S.Sink.faults _ _ _ _ _ _ _ refl c.in_ok-write_pieces.ensures
+    c.write_bytes-2.ensures

@@ -8,4 +8,4 @@ returns-in_err-write_text g c =
 
 pub returns : goal.returns
 returns g c =
-    part_then g.W.Sink.contents g.W.Sink.faults _ _ _ _ _ _ _ refl c.in_ok-write_text.ensures c.write_bytes.ensures
+    part_then g.W.Sink.contents g.W.Sink.faults _ _ _ _ _ _ _ refl c.in_ok-write_text.ensures c.write_bytes-2.ensures

@@ -7,6 +7,7 @@ ghost use Rattle.pb_tool.specs.engine.InstanceText.{line, line_if, text_of};
 use crate::canonical::{Canonical, write_line};
 use crate::commands::tidy::page::Page;
 use pb_opb::OpbEvent;
+use pb_sums::piece::Piece;
 use pb_text::{Failed, Gather, Sink, write_bytes};
 use std::alloc::{AllocError, Global};
 
@@ -83,6 +84,11 @@ impl Canonical for InstanceText {
         write_line_if(&self.header, out)?;
         write_bytes(self.page.as_slice(), out)?;
         write_line_if(&self.objective, out)
+    }
+
+    // It is stored in full, so it is never put into a piece.
+    fn put_text(&self, _piece: &mut Piece) -> bool {
+        false
     }
 }
 

@@ -7,6 +7,7 @@ ghost use Rattle.pb_tool.specs.engine.ProofText.{after_steps, before_steps, line
 use crate::canonical::{Canonical, write_line};
 use crate::commands::tidy::page::Page;
 use pb_proof::{Conclusion, Statement};
+use pb_sums::piece::Piece;
 use pb_text::{Failed, Gather, Sink, write_bytes};
 use std::alloc::{AllocError, Global};
 
@@ -73,6 +74,11 @@ impl Canonical for ProofText {
         self.write_before_steps(out)?;
         write_bytes(self.steps.as_slice(), out)?;
         self.write_after_steps(out)
+    }
+
+    // It is stored in full, so it is never put into a piece.
+    fn put_text(&self, _piece: &mut Piece) -> bool {
+        false
     }
 }
 
