@@ -3,7 +3,7 @@
 ghost use Rattle.std.specs.Prelude.{◌≡◌, ℕ, ◌+◌, ◌*◌, ◌^◌, ◌<◌, ◌⊎◌, ◌++◌, ◌∷◌, [], None, Some, not, true, false, length, take, sum_by, OnOk, OnErr, slice_index_or, slice_set};
 ghost use Rattle.pb_normal.specs.declared.numbered.NumberedLiteral.{NumberedLiteral};
 ghost use Rattle.pb_normal.specs.meaning.Rules.{negation};
-ghost use Rattle.pb_propagate.specs.engine.Engine.Lists.{has, says, vacancy};
+ghost use Rattle.pb_propagate.specs.engine.Engine.Lists.{has, says, vacancy, KeepsReasons, IsDue};
 ghost use Rattle.pb_propagate.specs.engine.Clauses.Truths.{true_at, false_at, AreMarked};
 
 use crate::clause::opposite;
@@ -18,9 +18,12 @@ pub struct Assignment {
     // Whether the literal of each code is falsified. Clauses read this in place of the values.
     failed: Vec<bool>,
     pub list: Vec<NumberedLiteral>,
+    // For each variable that has a literal on the list the slot of the form that has forced it, `usize::MAX` if none has.
+    pub reasons: Vec<usize>,
     ghost agrees: { (l : NumberedLiteral) → has list.items l ≡ says values.items l },
     ghost room: { length list.items + sum_by vacancy values.items ≡ length values.items },
     ghost sizes: { length failed.items ≡ 4 * length values.items },
+    ghost known: { length reasons.items ≡ length values.items },
     ghost marked: { (x : ℕ) → slice_index_or failed.items x false ≡ false_at values.items x },
 }
 
@@ -100,6 +103,7 @@ impl Assignment {
             values: Vec::new(alloc),
             failed: Vec::new(alloc),
             list: Vec::new(alloc),
+            reasons: Vec::new(alloc),
         }
     }
 
@@ -107,13 +111,17 @@ impl Assignment {
     pub fn widen(&mut self) -> Result<(), AllocError>
         ensures values { OnOk result (length self.new.values.items ≡ length self.old.values.items + 1) }
         ensures list { self.new.list.items ≡ self.old.list.items }
+        ensures reasons { OnOk result (
+            KeepsReasons self.old.list.items self.old.reasons.items self.new.reasons.items) }
     {
         self.failed.reserve(4)?;
+        self.reasons.reserve(1)?;
         self.values.push(None)?;
         self.failed.push_reserved(false);
         self.failed.push_reserved(false);
         self.failed.push_reserved(false);
         self.failed.push_reserved(false);
+        self.reasons.push_reserved(usize::MAX);
         Ok(())
     }
 
@@ -130,6 +138,7 @@ impl Assignment {
     pub fn cut(&mut self, count: usize)
         ensures values { length self.new.values.items ≡ length self.old.values.items }
         ensures list { self.new.list.items ≡ take count self.old.list.items }
+        ensures reasons { self.new.reasons ≡ self.old.reasons }
     {
         shorten(&mut self.values, &mut self.failed, &mut self.list, count);
     }
@@ -191,17 +200,43 @@ impl Assignment {
         !self.falsifies(code)
     }
 
-    /// Adds a literal to the list.
-    pub fn put(&mut self, literal: NumberedLiteral) -> Result<(), AllocError>
+    /// Adds a literal to the list. The form of the slot `reason` has forced it.
+    pub fn put(&mut self, literal: NumberedLiteral, reason: usize) -> Result<(), AllocError>
         requires inside { literal.variable < length self.old.values.items }
         requires absent { has self.old.list.items literal ≡ false }
         requires not_falsified { has self.old.list.items (negation literal) ≡ false }
         ensures values { length self.new.values.items ≡ length self.old.values.items }
         ensures ok { OnOk result (self.new.list.items ≡ self.old.list.items ++ literal ∷ []) }
         ensures err { OnErr result (self.new.list.items ≡ self.old.list.items) }
+        ensures reasons { OnOk result (
+            self.new.reasons.items ≡ slice_set self.old.reasons.items literal.variable reason) }
     {
         self.list.push(literal)?;
+        self.reasons[literal.variable] = reason;
         assign(&mut self.values, &mut self.failed, literal);
         Ok(())
+    }
+
+    /// Whether the literal is on the list, and the form of a slot is its reason.
+    pub fn is_due(&self, literal: NumberedLiteral, slot: usize) -> bool
+        requires { literal.variable < length self.now.values.items }
+        ensures yes { result ≡ true → IsDue slot self.now.list.items self.now.reasons.items literal }
+        ensures no { result ≡ false →
+            IsDue slot self.now.list.items self.now.reasons.items literal → ⊥ }
+    {
+        if self.reasons[literal.variable] != slot {
+            return false;
+        }
+        self.contains(literal)
+    }
+
+    /// Gives the literal of a variable another reason.
+    pub fn explain(&mut self, variable: usize, reason: usize)
+        requires { variable < length self.old.values.items }
+        ensures reasons { self.new.reasons.items ≡ slice_set self.old.reasons.items variable reason }
+        ensures values { self.new.values ≡ self.old.values }
+        ensures list { self.new.list ≡ self.old.list }
+    {
+        self.reasons[variable] = reason;
     }
 }

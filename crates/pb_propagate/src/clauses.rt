@@ -3,7 +3,7 @@
 ghost use Rattle.std.specs.Prelude.{◌≡◌, ℕ, ◌+◌, ◌*◌, ◌/◌, ◌<◌, ◌≤◌, ◌++◌, ◌∷◌, [], List, All, Bool, Option, length, slice_set, slice_index, true, false, OnOk, OnErr, IfSome};
 ghost use Rattle.pb_propagate.specs.engine.Clauses.Links.{lists_of, list_at, watch_at};
 ghost use Rattle.pb_propagate.specs.engine.Clauses.Runs.{AreReady, IsPair, IsRunning};
-ghost use Rattle.pb_propagate.specs.engine.Engine.Root.{IsServed, IsFree, HasOther, IsLast, IsSameWatch};
+ghost use Rattle.pb_propagate.specs.engine.Engine.Root.{IsServed, IsFree, IsSameWatch};
 
 pub mod lists;
 pub mod search;
@@ -12,7 +12,7 @@ pub mod watched;
 
 use crate::assignment::Assignment;
 use crate::clauses::lists::{Watch, put_in, take_out};
-use crate::clauses::search::{Search, may_watch};
+use crate::clauses::search::Search;
 use crate::clauses::watched::Pair;
 use std::alloc::{AllocError, Global};
 
@@ -27,20 +27,6 @@ fn free_literal(literals: &[u32], assignment: &Assignment) -> Option<u32>
         }
     }
     None
-}
-
-// Whether a literal other than this one is not falsified.
-fn has_other(literals: &[u32], assignment: &Assignment, literal: u32) -> bool
-    requires inside { All (λ x. x < 4 * length assignment.now.values.items) literals.now }
-    ensures yes { result ≡ true → HasOther assignment.now.values.items literals.now literal }
-    ensures no { result ≡ false → IsLast assignment.now.values.items literals.now literal }
-{
-    'literals: for i in 0..literals.len() {
-        if may_watch(assignment, literals[i], literal) {
-            return true;
-        }
-    }
-    false
 }
 
 /// Clauses by slots, each with two watched literals.
@@ -227,15 +213,12 @@ impl Clauses {
         free_literal(self.literals[slot].as_slice(), assignment)
     }
 
-    /// Whether a literal of a slot's clause, other than this one, is not falsified.
-    pub fn has_other(&self, assignment: &Assignment, slot: usize, literal: u32) -> bool
-        requires rest { AreReady self.now }
-        requires slot { slot < length self.now.literals.items }
-        requires values { length self.now.lists.items ≡ 4 * length assignment.now.values.items }
-        ensures yes { result ≡ true → HasOther assignment.now.values.items (list_at (lists_of self.now.literals.items) slot) literal }
-        ensures no { result ≡ false → IsLast assignment.now.values.items (list_at (lists_of self.now.literals.items) slot) literal }
+    /// The literals of a slot's clause.
+    pub fn codes(&self, slot: usize) -> &[u32]
+        requires { slot < length self.now.literals.items }
+        ensures { result.now ≡ list_at (lists_of self.now.literals.items) slot }
     {
-        has_other(self.literals[slot].as_slice(), assignment, literal)
+        self.literals[slot].as_slice()
     }
 
     /// Prepares for another run, whose searches go on where those of this run ended. Only the clauses in which a search has

@@ -5,7 +5,7 @@ ghost use Rattle.pb_normal.specs.declared.numbered.NumberedLiteral.{NumberedLite
 ghost use Rattle.pb_normal.specs.meaning.Rules.{negation};
 ghost use Rattle.pb_propagate.specs.engine.Engine.Lists.{has, Conflicts};
 ghost use Rattle.pb_propagate.specs.engine.Engine.Counts.{place, Grown, IsAbsent, Adopted, AreSingle};
-ghost use Rattle.pb_propagate.specs.engine.Engine.Progress.{progress, chosen, IfFound, IfNotFound, AreSettled, RunIsOpen, RunIsTidy, RunStaysTidy, shapes_in, list_of, values_of, RunIsCalm, RunIsUndone, RunVisitsEach, RunIsShort, RunFits, RunDerives, RunLowers, RunCosts, RunAdvances, RunSpends, RunPays, RunIsWalked};
+ghost use Rattle.pb_propagate.specs.engine.Engine.Progress.{progress, chosen, IfFound, IfNotFound, AreSettled, RunIsOpen, RunIsTidy, RunStaysTidy, shapes_in, list_of, values_of, RunIsCalm, RunIsUndone, RunVisitsEach, RunIsShort, RunFits, RunReasons, RunRecords, RunLowers, RunCosts, RunAdvances, RunSpends, RunPays, RunIsWalked};
 ghost use Rattle.pb_propagate.specs.engine.Engine.Rest.{waits};
 ghost use Rattle.pb_propagate.specs.engine.Engine.Fields.{shapes_of, IsSound};
 ghost use Rattle.pb_propagate.specs.engine.Engine.Links.{terms_at};
@@ -94,13 +94,14 @@ pub fn place_of(literal: NumberedLiteral) -> usize
     }
 }
 
-/// Assigns a literal, and subtracts the entries of its negation from the open sums, up to the first form that is then
+/// Assigns a literal that the form of the slot `reason` forces, and subtracts the entries of its negation from the open sums, up to the first form that is then
 /// falsified. Returns whether there is one.
 pub fn put(
     store: &Store,
     rests: &Rests,
     run: &mut Run,
     literal: NumberedLiteral,
+    reason: usize,
 ) -> Result<bool, AllocError>
     requires store { IsSound store.now }
     requires inside { literal.variable < store.now.variables }
@@ -114,11 +115,12 @@ pub fn put(
     ensures costs { OnErr result (RunCosts store.now rests.now 0 0 run.old run.new) }
     ensures candidates { run.new.candidates ≡ run.old.candidates }
     ensures list { OnOk result ((list_of run.new) ≡ list_of run.old ++ literal ∷ []) }
+    ensures reasons { OnOk result (RunRecords reason literal run.old run.new) }
     ensures tidy { OnOk result (RunStaysTidy store.now rests.now run.old run.new) }
     ensures counted { IfNotFound result (RunIsOpen store.now rests.now run.new) }
     ensures conflict { IfFound result (Conflicts (shapes_in store.now) (list_of run.new)) }
 {
-    run.assignment.put(literal)?;
+    run.assignment.put(literal, reason)?;
     let entries = &store.occurrences[place_of(literal.negation())];
     'entries: for j in 0..entries.len() {
         let entry = visit(entries, j, &mut run.visits);
@@ -135,6 +137,7 @@ pub fn try_put(
     rests: &Rests,
     run: &mut Run,
     literal: NumberedLiteral,
+    reason: usize,
 ) -> Result<bool, AllocError>
     requires store { IsSound store.now }
     requires inside { literal.variable < store.now.variables }
@@ -146,6 +149,7 @@ pub fn try_put(
     ensures costs { OnErr result (RunCosts store.now rests.now 0 0 run.old run.new) }
     ensures candidates { run.new.candidates ≡ run.old.candidates }
     ensures adopted { OnOk result (Adopted literal (list_of run.old) (list_of run.new)) }
+    ensures reasons { OnOk result (RunRecords reason literal run.old run.new) }
     ensures tidy { OnOk result (RunStaysTidy store.now rests.now run.old run.new) }
     ensures counted { IfNotFound result (RunIsOpen store.now rests.now run.new) }
     ensures conflict { IfFound result (Conflicts (shapes_in store.now) (list_of run.new)) }
@@ -156,7 +160,7 @@ pub fn try_put(
     if run.assignment.contains(literal.negation()) {
         return Ok(false);
     }
-    let found = put(store, rests, run, literal)?;
+    let found = put(store, rests, run, literal, reason)?;
     Ok(found)
 }
 
@@ -180,7 +184,7 @@ fn visit_form(
     requires there { IsAbsent run.old.work.items 0 form → ⊥ }
     ensures advances { OnOk result (RunAdvances store.now rests.now 0 1 run.old run.new) }
     ensures costs { OnErr result (RunCosts store.now rests.now 0 1 run.old run.new) }
-    ensures derived { OnOk result (RunDerives (shapes_in store.now) run.old run.new) }
+    ensures reasons { OnOk result (RunReasons (shapes_in store.now) run.old run.new) }
     ensures counted { IfNotFound result (RunIsOpen store.now rests.now run.new) }
     ensures tidy { IfNotFound result (
         RunIsCalm store.now rests.now waiting.now run.new) }
@@ -206,7 +210,7 @@ fn visit_form(
         if !demands {
             return Ok(false);
         }
-        let found = try_put(store, rests, run, term.literal)?;
+        let found = try_put(store, rests, run, term.literal, form)?;
         run.candidates[form] = candidate + 1;
         if found {
             return Ok(true);
@@ -262,7 +266,7 @@ pub fn propagate(
     ensures costs { RunSpends store.now rests.now clauses.old from waiting.now run.old run.new }
     ensures pays { IfNotFound result (
         RunPays store.now rests.now clauses.old clauses.new from waiting.now run.old run.new) }
-    ensures derived { OnOk result (RunDerives (all_of store.now clauses.old) run.old run.new) }
+    ensures reasons { OnOk result (RunReasons (all_of store.now clauses.old) run.old run.new) }
     ensures undone { OnOk result (RunIsUndone store.now rests.now 0 run.new) }
     ensures conflict { IfFound result (Conflicts (all_of store.now clauses.old) (list_of run.new)) }
     ensures settled { IfNotFound result (

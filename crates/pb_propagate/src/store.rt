@@ -2,6 +2,7 @@
 
 pub mod occurrence_lists;
 pub mod opened;
+pub mod reasons;
 pub mod sorted_form;
 pub mod stored_form;
 pub mod units;

@@ -2,7 +2,7 @@
 
 ghost use Rattle.std.specs.Prelude.{◌≡◌, ◌≤◌, ◌+◌, ◌<◌, true, false, length, OnOk, OnErr};
 ghost use Rattle.pb_propagate.specs.engine.Engine.Lists.{Conflicts};
-ghost use Rattle.pb_propagate.specs.engine.Engine.Progress.{IfFound, IfNotFound, RunIsOpen, RunStaysTidy, list_of, values_of, RunVisitsEach, RunDerives, WalkCosts, WalkAdvances, HasWalked};
+ghost use Rattle.pb_propagate.specs.engine.Engine.Progress.{IfFound, IfNotFound, RunIsOpen, RunStaysTidy, list_of, values_of, RunVisitsEach, RunReasons, WalkCosts, WalkAdvances, HasWalked};
 ghost use Rattle.pb_propagate.specs.engine.Engine.Fields.{shapes_of, IsSound};
 ghost use Rattle.pb_propagate.specs.engine.Clauses.Truths.{false_at};
 ghost use Rattle.pb_propagate.specs.engine.Clauses.Runs.{AreWithin, IsRunning, KeepsWalked, Grows, passed_of};
@@ -53,7 +53,7 @@ pub fn walk(
     ensures running { OnOk result (IsRunning (values_of run.new) clauses.new) }
     ensures walked { IfNotFound result (HasWalked clauses.old clauses.new literal run.old run.new) }
     ensures kept { OnOk result (KeepsWalked (values_of run.old) clauses.old clauses.new) }
-    ensures derived { OnOk result (RunDerives (all_of store.now clauses.old) run.old run.new) }
+    ensures reasons { OnOk result (RunReasons (all_of store.now clauses.old) run.old run.new) }
     ensures grows { OnOk result (Grows (values_of run.old) (values_of run.new)) }
     ensures conflict { IfFound result (Conflicts (all_of store.now clauses.old) (list_of run.new)) }
     ensures counted { IfNotFound result (RunIsOpen store.now rests.now run.new) }
@@ -69,8 +69,8 @@ pub fn walk(
                 index += 1;
             }
             Visit::Leaves => {}
-            Visit::Forces(code) => {
-                if put(store, rests, run, literal_of(code))? {
+            Visit::Forces(forced) => {
+                if put(store, rests, run, literal_of(forced.code), forced.slot)? {
                     return Ok(true);
                 }
                 index += 1;

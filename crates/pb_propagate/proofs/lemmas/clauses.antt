@@ -7,6 +7,7 @@ pub mod Linked
 pub mod Literals
 pub mod Marks
 pub mod Readings
+pub mod Reasons
 pub mod Searches
 pub mod Shapes
 pub mod Slots

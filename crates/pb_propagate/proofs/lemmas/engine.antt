@@ -10,6 +10,7 @@ pub mod Literals
 pub mod VisitSteps
 pub mod Propagated
 pub mod Puts
+pub mod Reasoned
 pub mod Rested
 pub mod Rests
 pub mod Runs

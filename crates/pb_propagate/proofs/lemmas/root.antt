@@ -6,6 +6,7 @@ pub mod Gained
 pub mod Lost
 pub mod Opens
 pub mod Questions
+pub mod Replaced
 pub mod Rooted
 pub mod Roots
 pub mod Asked

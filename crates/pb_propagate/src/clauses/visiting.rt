@@ -12,6 +12,13 @@ use crate::clauses::lists::{Watch, put_in, take_out};
 use crate::engine::visits::Visits;
 use std::alloc::AllocError;
 
+/// A literal that a clause forces, with the slot of the clause.
+#[derive(Clone, Copy)]
+pub struct Forced {
+    pub code: u32,
+    pub slot: usize,
+}
+
 /// What a visit to a watch of a falsified literal has found.
 #[derive(Clone, Copy)]
 pub enum Visit {
@@ -21,7 +28,7 @@ pub enum Visit {
     // position.
     Leaves,
     // All literals but this one are falsified, and this one is open.
-    Forces(u32),
+    Forces(Forced),
     // All literals are falsified.
     Falsified,
 }
@@ -124,7 +131,7 @@ pub fn visit_clause(
         if assignment.falsifies(other) {
             return Ok(Visit::Falsified);
         }
-        return Ok(Visit::Forces(other));
+        return Ok(Visit::Forces(Forced { code: other, slot }));
     }
     let found = literals[stop.position];
     clauses.searches[slot] = stop.next(literals.len());

@@ -4,7 +4,7 @@ ghost use Rattle.std.specs.Prelude.{◌≡◌, ◌*◌, ◌<◌, ◌≤◌, true
 ghost use Rattle.pb_normal.specs.declared.numbered.NumberedLiteral.{NumberedLiteral};
 ghost use Rattle.pb_propagate.specs.engine.Engine.Lists.{IsWithin, Extends};
 ghost use Rattle.pb_propagate.specs.engine.Engine.Counts.{AreSingle};
-ghost use Rattle.pb_propagate.specs.engine.Engine.Progress.{IfFound, IfNotFound, RunIsOpen, RunStaysTidy, shapes_in, list_of, values_of, RunIsCalm, RunIsUndone, RunAdvances, RunIsWalked};
+ghost use Rattle.pb_propagate.specs.engine.Engine.Progress.{IfFound, IfNotFound, RunIsOpen, RunStaysTidy, shapes_in, list_of, values_of, RunIsCalm, RunIsUndone, RunKeepsReasons, RunAdvances, RunIsWalked};
 ghost use Rattle.pb_propagate.specs.engine.Engine.Fields.{shapes_of, IsSound};
 ghost use Rattle.pb_propagate.specs.engine.Engine.Reached.{IsFrom, HasClash, HasEnded, IsMade, IsClashed};
 ghost use Rattle.pb_propagate.specs.engine.Engine.Root.{IsStanding, IsLeft};
@@ -35,6 +35,7 @@ fn assume(
     ensures advances { OnOk result (RunAdvances store.now rests.now 0 0 run.old run.new) }
     ensures counted { IfNotFound result (RunIsOpen store.now rests.now run.new) }
     ensures tidy { OnOk result (RunStaysTidy store.now rests.now run.old run.new) }
+    ensures reasons { OnOk result (RunKeepsReasons run.old run.new) }
     ensures clash { IfFound result (HasClash (shapes_in store.now) (list_of run.old) given.now) }
     ensures within { IfNotFound result (IsFrom (list_of run.old) given.now (list_of run.new)) }
     ensures covers { IfNotFound result (IsWithin given.now (list_of run.new)) }
@@ -44,7 +45,7 @@ fn assume(
         if run.assignment.contains(literal.negation()) {
             return Ok(true);
         }
-        if try_put(store, rests, run, literal)? {
+        if try_put(store, rests, run, literal, usize::MAX)? {
             return Ok(true);
         }
     }
@@ -83,6 +84,7 @@ pub fn settle(
         length run.new.candidates.items ≡ length store.now.stored.items) }
     ensures undone { OnOk result (RunIsUndone store.now rests.now 0 run.new) }
     ensures extends { OnOk result (Extends (list_of run.old) (list_of run.new)) }
+    ensures reasons { OnOk result (RunKeepsReasons run.old run.new) }
     ensures clash { IfOk result (λ found. IfNone found (
         HasClash (all_of store.now clauses.old) (list_of run.old) given.now)) }
     ensures ended { IfOk result (λ found. IfSome found (λ values.

@@ -6,7 +6,7 @@ ghost use Rattle.pb_normal.specs.meaning.Rules.{negation};
 ghost use Rattle.pb_propagate.specs.engine.Engine.Denial.{IsDisjunction, IsOne, IsHit, denial_of, AreDenied, RunRefutes};
 ghost use Rattle.pb_propagate.specs.engine.Engine.Lists.{has, Derives, Conflicts};
 ghost use Rattle.pb_propagate.specs.engine.Engine.Counts.{Adopted, AreSingle};
-ghost use Rattle.pb_propagate.specs.engine.Engine.Progress.{IfFound, IfNotFound, AreSettled, RunIsOpen, RunStaysTidy, shapes_in, list_of, values_of, RunIsCalm, RunIsUndone, RunVisitsEach, RunCosts, RunAdvances, RunIsWalked};
+ghost use Rattle.pb_propagate.specs.engine.Engine.Progress.{IfFound, IfNotFound, AreSettled, RunIsOpen, RunStaysTidy, shapes_in, list_of, values_of, RunIsCalm, RunIsUndone, RunVisitsEach, RunKeepsReasons, RunCosts, RunAdvances, RunIsWalked};
 ghost use Rattle.pb_propagate.specs.engine.Engine.Fields.{shapes_of, IsSound};
 ghost use Rattle.pb_propagate.specs.engine.Clauses.Runs.{IsRunning, KeepsWalked};
 ghost use Rattle.pb_propagate.specs.engine.Clauses.Shapes.{AreJoined, clauses_of, all_of};
@@ -54,6 +54,7 @@ fn deny(
     ensures costs { OnErr result (RunCosts store.now rests.now 0 1 run.old run.new) }
     ensures candidates { run.new.candidates ≡ run.old.candidates }
     ensures adopted { OnOk result (Adopted (negation literal) (list_of run.old) (list_of run.new)) }
+    ensures reasons { OnOk result (RunKeepsReasons run.old run.new) }
     ensures tidy { OnOk result (RunStaysTidy store.now rests.now run.old run.new) }
     ensures counted { IfNotFound result (RunIsOpen store.now rests.now run.new) }
     ensures denied { IfNotFound result (has (list_of run.new) (negation literal) ≡ true) }
@@ -64,7 +65,7 @@ fn deny(
     if run.assignment.contains(literal) {
         return Ok(true);
     }
-    let found = try_put(store, rests, run, literal.negation())?;
+    let found = try_put(store, rests, run, literal.negation(), usize::MAX)?;
     Ok(found)
 }
 
@@ -84,6 +85,7 @@ fn deny_all(store: &Store, rests: &Rests, run: &mut Run, goal: &[Entry]) -> Resu
     ensures candidates { run.new.candidates ≡ run.old.candidates }
     ensures derived { OnOk result (
         Derives (denial_of goal.now ∷ []) (list_of run.old) (list_of run.new)) }
+    ensures reasons { OnOk result (RunKeepsReasons run.old run.new) }
     ensures tidy { OnOk result (RunStaysTidy store.now rests.now run.old run.new) }
     ensures counted { IfNotFound result (RunIsOpen store.now rests.now run.new) }
     ensures denied { IfNotFound result (AreDenied goal.now (list_of run.new)) }
@@ -133,6 +135,7 @@ pub fn refute(
     ensures derived { OnOk result (
         Derives (all_of store.now clauses.old ++ denial_of goal.now ∷ [])
         (list_of run.old) (list_of run.new)) }
+    ensures reasons { OnOk result (RunKeepsReasons run.old run.new) }
     ensures undone { OnOk result (RunIsUndone store.now rests.now 0 run.new) }
     ensures conflict { IfFound result (
         Conflicts (all_of store.now clauses.old ++ denial_of goal.now ∷ []) (list_of run.new)) }

@@ -6,7 +6,7 @@ ghost use Rattle.pb_propagate.specs.declared.clauses.Clauses.{Clauses};
 ghost use Rattle.pb_propagate.specs.engine.Engine.Progress.{list_of};
 ghost use Rattle.pb_propagate.specs.engine.Engine.Waiting.{IsWithout};
 ghost use Rattle.pb_propagate.specs.engine.Engine.Fields.{shapes_of, IsSound};
-ghost use Rattle.pb_propagate.specs.engine.Engine.Root.{IsRootOf, IsFallen, IsMet, HasLost, IsReplaced};
+ghost use Rattle.pb_propagate.specs.engine.Engine.Root.{IsRootOf, IsFallen, IsMet, HasLost, IsNeedless};
 ghost use Rattle.pb_propagate.specs.engine.Clauses.Runs.{AreReady};
 ghost use Rattle.pb_propagate.specs.engine.Clauses.Shapes.{AreJoined, clauses_of, all_of};
 
@@ -14,38 +14,10 @@ use crate::clauses::Clauses;
 use crate::engine::root::Root;
 use crate::store::Store;
 use crate::store::opened::open_under;
+use crate::store::reasons::replace_reasons;
 use crate::store::stored_form::is_below;
-use crate::store::units::{has_unit, is_backed};
-use crate::walk::literal_of;
 
 impl Root {
-    // Whether the literals follow without the form of a slot. A clause with two literals that are not falsified has forced
-    // none. One with a single such literal may have forced it, and a unit of the literal does the same. So does one for
-    // each true literal of another form.
-    fn is_spare(&self, store: &Store, clauses: &Clauses, slot: usize) -> bool
-        requires slot { slot < length store.now.stored.items }
-        requires sound { IsSound store.now }
-        requires joined { AreJoined (shapes_of store.now.stored.items) (clauses_of clauses.now) }
-        requires ready { AreReady clauses.now }
-        requires known { length clauses.now.literals.items ≡ length store.now.stored.items }
-        requires widths { length clauses.now.lists.items ≡ 4 * store.now.variables }
-        requires values { length self.now.run.assignment.values.items ≡ store.now.variables }
-        ensures { result ≡ true →
-            IsReplaced (all_of store.now clauses.now) slot (list_of self.now.run) }
-    {
-        if !clauses.is_filled(slot) {
-            let values = self.run.assignment.values.as_slice();
-            return is_backed(store, self.units.as_slice(), slot, values);
-        }
-        let Some(code) = clauses.free_literal(&self.run.assignment, slot) else {
-            return false;
-        };
-        if clauses.has_other(&self.run.assignment, slot, code) {
-            return true;
-        }
-        has_unit(store, self.units.as_slice(), slot, literal_of(code))
-    }
-
     // Whether the form of a slot is falsified.
     fn is_falsified(&self, store: &Store, clauses: &Clauses, slot: usize) -> bool
         requires slot { slot < length store.now.stored.items }
@@ -67,7 +39,7 @@ impl Root {
         }
     }
 
-    // The form of a slot goes. A conflict stays if its literals follow without the form, which is not the falsified one.
+    // The form of a slot goes. A conflict stays if its literals have other reasons, and the form is not the falsified one.
     fn lose_conflict(&mut self, store: &Store, clauses: &Clauses, slot: usize)
         requires slot { slot < length store.now.stored.items }
         requires sound { IsSound store.now }
@@ -80,11 +52,12 @@ impl Root {
         ensures kept { self.new.fallen ≡ true →
             IsFallen (all_of store.now clauses.now) store.now.variables self.new }
         ensures spare { self.new.fallen ≡ true →
-            IsReplaced (all_of store.now clauses.now) slot (list_of self.new.run) }
+            IsNeedless (all_of store.now clauses.now) slot self.new.run.assignment }
         ensures met { self.new.fallen ≡ true →
             IsMet (all_of store.now clauses.now) slot (list_of self.new.run) }
     {
-        if !self.is_spare(store, clauses, slot) {
+        let units = self.units.as_slice();
+        if !replace_reasons(store, clauses, units, &mut self.run.assignment, slot) {
             self.end();
             return;
         }
@@ -93,7 +66,7 @@ impl Root {
         }
     }
 
-    /// The form of a slot goes. The root stays if its literals follow without the form, and ends otherwise.
+    /// The form of a slot goes. The root stays if its literals have other reasons, and ends otherwise.
     pub fn lose(&mut self, store: &Store, clauses: &Clauses, slot: usize)
         requires slot { slot < length store.now.stored.items }
         requires sound { IsSound store.now }
@@ -111,10 +84,10 @@ impl Root {
         ensures seats { self.new.live ≡ true →
             length self.new.waiting.seats.items ≡ length self.old.waiting.seats.items }
         ensures spare { self.new.live ≡ true →
-            IsReplaced (all_of store.now clauses.now) slot (list_of self.old.run) }
+            IsNeedless (all_of store.now clauses.now) slot self.new.run.assignment }
         ensures fallen { self.new.fallen ≡ true →
             IsFallen (all_of store.now clauses.now) store.now.variables self.new ×
-            IsReplaced (all_of store.now clauses.now) slot (list_of self.new.run) ×
+            IsNeedless (all_of store.now clauses.now) slot self.new.run.assignment ×
             IsMet (all_of store.now clauses.now) slot (list_of self.new.run) }
     {
         if self.fallen {
@@ -124,7 +97,8 @@ impl Root {
         if !self.live {
             return;
         }
-        if !self.is_spare(store, clauses, slot) {
+        let units = self.units.as_slice();
+        if !replace_reasons(store, clauses, units, &mut self.run.assignment, slot) {
             self.end();
             return;
         }

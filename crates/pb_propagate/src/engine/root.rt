@@ -3,8 +3,8 @@
 ghost use Rattle.std.specs.Prelude.{◌≡◌, ℕ, List, ◌+◌, ◌*◌, ◌<◌, ◌⊎◌, ◌++◌, ◌∷◌, [], true, false, length, take, slice_set, slice_index_or, Some, OnOk, IfOk};
 ghost use Rattle.pb_propagate.specs.declared.store.Store.{Store};
 ghost use Rattle.pb_propagate.specs.declared.clauses.Clauses.{Clauses};
-ghost use Rattle.pb_propagate.specs.engine.Engine.Lists.{Shape, Derives, Conflicts, open_sum};
-ghost use Rattle.pb_propagate.specs.engine.Engine.Progress.{RunIsUndone, RunSpends, RunPays, RunVisitsEach, IfFound, IfNotFound, list_of, values_of};
+ghost use Rattle.pb_propagate.specs.engine.Engine.Lists.{Shape, HaveReasons, Conflicts, open_sum};
+ghost use Rattle.pb_propagate.specs.engine.Engine.Progress.{RunIsUndone, RunSpends, RunPays, RunVisitsEach, IfFound, IfNotFound, list_of, reasons_of, values_of};
 ghost use Rattle.pb_propagate.specs.engine.Engine.Counts.{Grown, IsAbsent, IsCalm, IsUndone};
 ghost use Rattle.pb_propagate.specs.engine.Engine.Fields.{shapes_of, forms_of, IsSound};
 ghost use Rattle.pb_propagate.specs.engine.Engine.Rest.{IsAtRest};
@@ -294,7 +294,8 @@ impl Root {
         ensures pays { IfNotFound result (
             RunPays store.now self.old.rests clauses.old clauses.new (length (list_of self.old.run))
             self.old.waiting.list.items self.old.run self.new.run) }
-        ensures derived { OnOk result (Derives (all_of store.now clauses.old) [] (list_of self.new.run)) }
+        ensures reasons { OnOk result (HaveReasons (all_of store.now clauses.old)
+            (reasons_of self.new.run) [] (list_of self.new.run)) }
         ensures conflict { IfFound result (
             Conflicts (all_of store.now clauses.old) (list_of self.new.run)) }
         ensures found { OnOk result (RunVisitsEach self.old.run self.new.run) }
@@ -341,6 +342,7 @@ pub fn back(store: &Store, rests: &Rests, clauses: &mut Clauses, run: &mut Run, 
     ensures undone { IsUndone rests.now (shapes_of store.now.stored.items) run.new.opens.items run.new.candidates.items [] 0 }
     ensures values { length run.new.assignment.values.items ≡ length run.old.assignment.values.items }
     ensures list { run.new.assignment.list.items ≡ take count run.old.assignment.list.items }
+    ensures reasons { run.new.assignment.reasons ≡ run.old.assignment.reasons }
     ensures work { run.new.work.items ≡ [] }
     ensures trail { run.new.trail.items ≡ [] }
     ensures next { run.new.next ≡ 0 }

@@ -45,14 +45,3 @@ pub fn open_under(terms: &SortedForm, values: &[Option<bool>]) -> u128
     }
     sum
 }
-
-/// Whether a literal is true.
-pub fn is_true(values: &[Option<bool>], literal: NumberedLiteral) -> bool
-    requires { literal.variable < length values.now }
-    ensures { result ≡ says values.now literal }
-{
-    match values[literal.variable] {
-        Some(value) => value != literal.negated,
-        None => false,
-    }
-}

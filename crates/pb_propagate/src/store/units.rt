@@ -3,14 +3,12 @@
 ghost use Rattle.std.specs.Prelude.{◌≡◌, ℕ, ◌^◌, ◌<◌, ◌∷◌, [], true, length, IfSome, IfNone};
 ghost use Rattle.pb_normal.specs.declared.numbered.NumberedLiteral.{NumberedLiteral};
 ghost use Rattle.pb_propagate.specs.engine.Engine.Counts.{place};
-ghost use Rattle.pb_propagate.specs.engine.Engine.Fields.{shapes_of, IsSound};
-ghost use Rattle.pb_propagate.specs.engine.Engine.Lists.{says};
-ghost use Rattle.pb_propagate.specs.engine.Engine.Root.{AreBacked, HasUnit, IsOnly};
+ghost use Rattle.pb_propagate.specs.engine.Engine.Fields.{shapes_of};
+ghost use Rattle.pb_propagate.specs.engine.Engine.Root.{IsOtherUnit, IsOnly};
 ghost use Rattle.pb_propagate.specs.engine.Engine.Terms.{terms_of};
 
 use crate::run::place_of;
 use crate::store::Store;
-use crate::store::opened::is_true;
 use crate::store::sorted_form::SortedForm;
 use crate::store::stored_form::StoredForm;
 use pb_normal::NumberedLiteral;
@@ -39,55 +37,24 @@ pub fn is_unit(kept: &StoredForm, literal: NumberedLiteral) -> bool
     }
 }
 
-/// Whether another slot has a unit of the literal. For each literal, by its occurrence list, `units` has the last slot
-/// that took one. Only that slot is looked at.
-pub fn has_unit(store: &Store, units: &[usize], slot: usize, literal: NumberedLiteral) -> bool
-    requires fits { place literal < 2 ^ 64 }
-    ensures { result ≡ true → HasUnit (shapes_of store.now.stored.items) slot literal }
-{
-    let Some(unit) = units.get(place_of(literal)) else {
-        return false;
-    };
-    if *unit == slot {
-        return false;
-    }
-    match store.stored.get(*unit) {
-        Some(kept) => is_unit(kept, literal),
-        None => false,
-    }
-}
-
-// Whether the literal is not true, or another slot has a unit of it.
-fn is_needless(
+/// Another slot with a unit of the literal. For each literal, by its occurrence list, `units` has the last slot that took
+/// one. Only that slot is looked at.
+pub fn other_unit(
     store: &Store,
     units: &[usize],
     slot: usize,
     literal: NumberedLiteral,
-    values: &[Option<bool>],
-) -> bool
-    requires inside { literal.variable < length values.now }
+) -> Option<usize>
     requires fits { place literal < 2 ^ 64 }
-    ensures { result ≡ true → says values.now literal ≡ true →
-        HasUnit (shapes_of store.now.stored.items) slot literal }
+    ensures { IfSome result (IsOtherUnit (shapes_of store.now.stored.items) slot literal) }
 {
-    if !is_true(values, literal) {
-        return true;
+    let unit = *units.get(place_of(literal))?;
+    if unit == slot {
+        return None;
     }
-    has_unit(store, units, slot, literal)
-}
-
-/// Whether each true literal of a slot's form has a unit in another slot.
-pub fn is_backed(store: &Store, units: &[usize], slot: usize, values: &[Option<bool>]) -> bool
-    requires sound { IsSound store.now }
-    requires slot { slot < length store.now.stored.items }
-    requires values { length values.now ≡ store.now.variables }
-    ensures { result ≡ true → AreBacked values.now (shapes_of store.now.stored.items) slot }
-{
-    let terms = &store.stored[slot].terms;
-    'terms: for i in 0..terms.len() {
-        if !is_needless(store, units, slot, terms.term(i).literal, values) {
-            return false;
-        }
+    let kept = store.stored.get(unit)?;
+    if !is_unit(kept, literal) {
+        return None;
     }
-    true
+    Some(unit)
 }

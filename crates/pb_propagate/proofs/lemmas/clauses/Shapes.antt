@@ -1,9 +1,10 @@
 -- Clauses as constraints.
-use Rattle.std.specs.Prelude.{◌==◌, Bool, true, false, Option, map, Contains, count_by}
+use Rattle.std.specs.Prelude.{◌==◌, Bool, true, false, Option, Some, map, Contains, count_by, slice_get}
 use Rattle.std.proofs.Common.{◌≡◌, ℕ, zero, suc, ◌+◌, ◌<◌, ◌≤◌, cond, ◌⊎◌, ◌∷◌, [], List, refl, sym, ◌∙◌, ap, arith, inl, inr, length, get_or, eq-eqb}
 use Rattle.std.proofs.lemmas.Bool.{cases_Bool, both_ways}
 use Rattle.std.proofs.lemmas.List.{get_or-map, length-map}
 use Rattle.std.proofs.lemmas.List.Sums.{sum_by-cons}
+use Rattle.std.proofs.lemmas.Option.{slice_get-get_or}
 use Rattle.pb_normal.specs.declared.numbered.NumberedLiteral.{NumberedLiteral}
 use Rattle.pb_normal.specs.meaning.Rules.{negation}
 use Rattle.pb_propagate.specs.declared.term.Term.{Term}
@@ -14,7 +15,7 @@ use Rattle.pb_propagate.specs.engine.Clauses.Links.{list_at}
 use Rattle.pb_propagate.specs.engine.Clauses.Runs.{IsUnit, IsBroken}
 use Rattle.pb_propagate.specs.engine.Clauses.Shapes.{literal_at, one_term, clause_shape, slot_shape, joined, AreJoined}
 use Rattle.pb_propagate.proofs.lemmas.engine.Literals.{open_part-falsified, open_part-open}
-use Rattle.pb_propagate.proofs.lemmas.engine.Derivations.{settled-of_terms}
+use Rattle.pb_propagate.proofs.lemmas.engine.Derivations.{one_itself, settled-of_terms}
 use Rattle.pb_propagate.proofs.lemmas.clauses.Literals.{Agree, true-listed, false-listed}
 use Rattle.pb_propagate.proofs.lemmas.clauses.Stores.{slot-room}
 
@@ -88,6 +89,13 @@ joined-among xs clauses s j some =
     let inside : s < length xs = omega (arith, slot-room clauses s some, j.short) in
     (s, omega (arith, inside, joined-length xs clauses), joined-at xs clauses s (clause_shape (list_at clauses s)) inside ∙ shape-some _ (list_at clauses s) some)
 
+-- the clause of a slot is its constraint
+pub clause-stored : (xs : List Shape) (clauses : List (List ℕ)) (s : ℕ) → AreJoined xs clauses → 0 < length (list_at clauses s) → slice_get (joined xs clauses) s ≡ Some (clause_shape (list_at clauses s))
+unfolding joined-among
+clause-stored xs clauses s j some =
+    let here = joined-among xs clauses s j some in
+    slice_get-get_or (joined xs clauses) s (clause_shape (list_at clauses s)) here.1 ∙ ap (λ y. Some y) here.2
+
 -- a constraint is a clause, or is in the occurrence lists
 pub joined-source : (xs : List Shape) (clauses : List (List ℕ)) (f : Shape) → Contains (joined xs clauses) f → (Contains xs f) ⊎ ((s : ℕ) × (0 < length (list_at clauses s)) × (clause_shape (list_at clauses s) ≡ f))
 joined-source xs clauses f (s, inside, is) = by (list_at clauses s) refl
@@ -137,25 +145,25 @@ refuted-joined xs clauses given list j (derived d low) =
     derived (record { first = d.first; within = d.within; covers = d.covers; derived = derives-joined xs clauses d.first list j d.derived }) (conflicts-joined xs clauses list j low)
 
 -- what a clause derives
-unit-some : (codes : List ℕ) (x : ℕ) → Contains codes x → 0 < length codes
-unit-some codes x c = omega (arith, c.1)
-
 one-among : (codes : List ℕ) (x : ℕ) → Contains codes x → Contains (map one_term codes) (one_term x)
 one-among codes x (k, inside, is) = (k, omega (arith, inside, length-map codes one_term), get_or-map one_term codes k x (one_term x) inside ∙ ap one_term is)
 
-pub unit-puts : (xs : List Shape) (clauses : List (List ℕ)) (values : List (Option Bool)) (list : List NumberedLiteral) (x : ℕ) → AreJoined xs clauses → Agree values list → IsUnit values clauses x → Puts (joined xs clauses) list (literal_at x)
-unit-puts xs clauses values list x j a u =
-    let codes = list_at clauses u.slot in
+pub unit-some : (values : List (Option Bool)) (clauses : List (List ℕ)) (s x : ℕ) → IsUnit values clauses s x → 0 < length (list_at clauses s)
+unit-some values clauses s x u = omega (arith, u.stands.1)
+
+pub unit-puts : (xs : List Shape) (clauses : List (List ℕ)) (values : List (Option Bool)) (list : List NumberedLiteral) (s x : ℕ) → AreJoined xs clauses → Agree values list → IsUnit values clauses s x → Puts (clause_shape (list_at clauses s) ∷ []) list (literal_at x)
+unit-puts xs clauses values list s x j a u =
+    let codes = list_at clauses s in
     let few = few-open list codes x (λ k d h. elim (u.others k d h) [
       | inl f ↦ inl (sym (false-listed values list (get_or codes k d) a) ∙ f)
       | inr is ↦ inr is
     ]) in
-    let once = j.different u.slot x in
+    let once = j.different s x in
     record {
       absent = sym (true-listed values list x a) ∙ u.not_true;
       not_falsified = sym (false-listed values list x a) ∙ u.not_false;
       form = clause_shape codes;
-      among = joined-among xs clauses u.slot j (unit-some codes x u.stands);
+      among = one_itself (clause_shape codes);
       coefficient = 1;
       term = one-among codes x u.stands;
       forced = omega (arith, few, once);

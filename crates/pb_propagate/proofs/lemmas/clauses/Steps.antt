@@ -138,13 +138,12 @@ broken-of values clauses passed ws ls l index e other place g end failed = recor
   ];
 }
 
-pub unit-of : (values : List (Option Bool)) (clauses : List (List ℕ)) (passed : List ℕ) (ws : List Watch) (ls : List (List ℕ)) (l index e other place : ℕ) → Visiting values clauses passed ws ls l index e other place → length (list_at clauses (e / 2)) ≤ place → true_at values other ≡ false → false_at values other ≡ false → IsUnit values clauses other
+pub unit-of : (values : List (Option Bool)) (clauses : List (List ℕ)) (passed : List ℕ) (ws : List Watch) (ls : List (List ℕ)) (l index e other place : ℕ) → Visiting values clauses passed ws ls l index e other place → length (list_at clauses (e / 2)) ≤ place → true_at values other ≡ false → false_at values other ≡ false → IsUnit values clauses (e / 2) other
 unit-of values clauses passed ws ls l index e other place g end not_true not_false =
     let live = visiting-live values clauses passed ws ls l index e other place g in
     let at : Contains (list_at clauses (flip e / 2)) (watch_at ws (flip e)).literal = g.stored.watched (flip e) (g.stored.paired e live) in
     let at_slot : Contains (list_at clauses (e / 2)) (watch_at ws (flip e)).literal = subst (λ s. Contains (list_at clauses s) (watch_at ws (flip e)).literal) (flip-half e) at in
     record {
-      slot = e / 2;
       stands = subst (Contains (list_at clauses (e / 2))) (sym g.other_is) at_slot;
       others = all-but values clauses passed ws ls l index e other place g end;
       not_true = not_true;

@@ -94,11 +94,10 @@ module _ (starts : List ℕ) (clauses : List (List ℕ)) where
     inside = λ s k d less. each-from (λ x. x < length ls) s k d (λ j e l. h.inside s j e l) less;
   }
 
-  pub unit-back : (values : List (Option Bool)) (x : ℕ) → IsUnit values (all_turned starts clauses) x → IsUnit values clauses x
-  unit-back values x h = record {
-    slot = h.slot;
-    stands = from-turned h.slot x h.stands;
-    others = λ k d less. each-from (λ y. (false_at values y ≡ true) ⊎ (y ≡ x)) h.slot k d h.others less;
+  pub unit-back : (values : List (Option Bool)) (s x : ℕ) → IsUnit values (all_turned starts clauses) s x → IsUnit values clauses s x
+  unit-back values s x h = record {
+    stands = from-turned s x h.stands;
+    others = λ k d less. each-from (λ y. (false_at values y ≡ true) ⊎ (y ≡ x)) s k d h.others less;
     not_true = h.not_true;
     not_false = h.not_false;
   }

@@ -7,17 +7,17 @@ use Rattle.std.proofs.lemmas.Option.{slice_get_within}
 use Rattle.pb_normal.specs.declared.numbered.NumberedLiteral.{NumberedLiteral}
 use Rattle.pb_propagate.specs.declared.clauses.lists.Watch.{Watch}
 use Rattle.pb_propagate.specs.declared.clauses.Clauses.{Clauses}
+use Rattle.pb_propagate.specs.declared.clauses.visiting.Forced.{Forced}
 use Rattle.pb_propagate.specs.declared.clauses.visiting.Visit.{Visit}
 use Rattle.pb_propagate.specs.declared.clauses.visiting.Visit.TheVariants.{Forces}
-use Rattle.pb_propagate.specs.engine.Engine.Lists.{Shape, has, IsWithin, Derives, begin, put}
+use Rattle.pb_propagate.specs.engine.Engine.Lists.{has, IsWithin}
 use Rattle.pb_propagate.specs.engine.Engine.Progress.{visited_to, Progress, VisitsEach}
 use Rattle.pb_propagate.specs.engine.Clauses.Truths.{flip, true_at, false_at}
 use Rattle.pb_propagate.specs.engine.Clauses.Links.{watch_at, list_at, lists_of, AreLinked}
-use Rattle.pb_propagate.specs.engine.Clauses.Runs.{AreServed, AreWalked, IsRunning, IsUnit, Grows, Awaits, HasVisited, KeepsWalked, all_turned, index_after}
-use Rattle.pb_propagate.specs.engine.Clauses.Shapes.{joined, AreJoined, clauses_of, literal_at}
+use Rattle.pb_propagate.specs.engine.Clauses.Runs.{AreServed, AreWalked, IsRunning, Grows, Awaits, HasVisited, KeepsWalked, all_turned, index_after}
+use Rattle.pb_propagate.specs.engine.Clauses.Shapes.{literal_at}
 use Rattle.pb_propagate.proofs.lemmas.engine.Literals.{has-push_old, has-push_new}
 use Rattle.pb_propagate.proofs.lemmas.clauses.Literals.{Agree, true-listed, false-listed}
-use Rattle.pb_propagate.proofs.lemmas.clauses.Shapes.{unit-puts}
 
 pub grows-refl : (values : List (Option Bool)) → Grows values values
 grows-refl values = record { sizes = refl; met = λ x h. h; failed = λ x h. h }
@@ -91,27 +91,25 @@ walked-end values c walked l index linked end s = record {
 }
 
 -- a walk in progress
-pub record IsWalking (forms : List Shape) (c0 c : Clauses) (l index : ℕ) (start now : Progress) : Type 0 where
+pub record IsWalking (c0 c : Clauses) (l index : ℕ) (start now : Progress) : Type 0 where
   pub literals : c.literals ≡ c0.literals
   pub sizes : length c.lists.items ≡ length c0.lists.items
   pub running : IsRunning now.values c
   pub failed : false_at now.values l ≡ true
   pub within : index ≤ length (list_at (lists_of c.lists.items) l)
   pub served : (walked : List ℕ) → AreServed start.values c0.watches.items walked l 0 → AreServed now.values c.watches.items walked l index
-  pub derived : Derives (joined forms (clauses_of c0)) start.list now.list
   pub grows : Grows start.values now.values
   pub kept : KeepsWalked start.values c0 c
   pub found : VisitsEach start now
 
-pub walking-start : (forms : List Shape) (c : Clauses) (l : ℕ) (start : Progress) → IsRunning start.values c → false_at start.values l ≡ true → IsWalking forms c c l 0 start start
-walking-start forms c l start running failed = record {
+pub walking-start : (c : Clauses) (l : ℕ) (start : Progress) → IsRunning start.values c → false_at start.values l ≡ true → IsWalking c c l 0 start start
+walking-start c l start running failed = record {
   literals = refl;
   sizes = refl;
   running = running;
   failed = failed;
   within = omega arith;
   served = λ walked s. s;
-  derived = begin;
   grows = grows-refl start.values;
   kept = λ base codes more old. old;
   found = λ few. omega arith;
@@ -123,26 +121,24 @@ pub record IsVisit (seen v : ℕ) : Type 0 where
   pub rising : v ≤ seen
 
 -- what a visit that propagates nothing leaves
-pub walking-next : {forms : List Shape} {c0 c : Clauses} {l index : ℕ} {start now : Progress} (c' : Clauses) (r : Visit) (seen : ℕ) → IsWalking forms c0 c l index start now → HasVisited now.values c c' l index r → c'.literals ≡ c.literals → index_after index r ≤ length (list_at (lists_of c'.lists.items) l) → IsVisit seen now.visits → IsWalking forms c0 c' l (index_after index r) start (visited_to seen now)
-walking-next {forms} {c0} {c} {l} {index} {start} {now} c' r seen w v literals within visit = record {
+pub walking-next : {c0 c : Clauses} {l index : ℕ} {start now : Progress} (c' : Clauses) (r : Visit) (seen : ℕ) → IsWalking c0 c l index start now → HasVisited now.values c c' l index r → c'.literals ≡ c.literals → index_after index r ≤ length (list_at (lists_of c'.lists.items) l) → IsVisit seen now.visits → IsWalking c0 c' l (index_after index r) start (visited_to seen now)
+walking-next {c0} {c} {l} {index} {start} {now} c' r seen w v literals within visit = record {
   literals = literals ∙ w.literals;
   sizes = v.lists ∙ w.sizes;
   running = v.running;
   failed = w.failed;
   within = within;
   served = λ walked s. v.served walked (w.served walked s);
-  derived = w.derived;
   grows = w.grows;
   kept = λ base codes more old. v.kept base codes (grows-trans base start.values now.values more w.grows) (w.kept base codes more old);
   found = λ few. let more = visit.counted few in let old = w.found (omega (arith, few, more)) in omega (arith, old, more);
 }
 
 -- a visit, and the literal that it forces
-pub walking-forces : {forms : List Shape} {c0 c : Clauses} {l index : ℕ} {start now : Progress} (c' : Clauses) (seen x : ℕ) (after : Progress) → AreJoined forms (clauses_of c0) → IsWalking forms c0 c l index start now → HasVisited now.values c c' l index (Forces x) → c'.literals ≡ c.literals → index < length (list_at (lists_of c.lists.items) l) → IsVisit seen now.visits → seen ≤ after.visits → length after.values ≡ length now.values → after.list ≡ now.list ++ (literal_at x ∷ []) → Agree now.values now.list → Agree after.values after.list → IsWalking forms c0 c' l (index + 1) start after
-walking-forces {forms} {c0} {c} {l} {index} {start} {now} c' seen x after j w v literals inside visit risen widths listed agree agree' =
-    let g = grows-listed now.values after.values now.list after.list widths agree agree' (λ k h. subst (λ xs. has xs k ≡ true) (sym listed) (has-push_old now.list (literal_at x) k h)) in
-    let met : true_at after.values x ≡ true = true-listed after.values after.list x agree' ∙ ap (λ xs. has xs (literal_at x)) listed ∙ has-push_new now.list (literal_at x) in
-    let unit : IsUnit now.values (clauses_of c0) x = subst (λ ls. IsUnit now.values (lists_of ls.items) x) (literals ∙ w.literals) v.found.1 in
+pub walking-forces : {c0 c : Clauses} {l index : ℕ} {start now : Progress} (c' : Clauses) (seen : ℕ) (f : Forced) (after : Progress) → IsWalking c0 c l index start now → HasVisited now.values c c' l index (Forces f) → c'.literals ≡ c.literals → index < length (list_at (lists_of c.lists.items) l) → IsVisit seen now.visits → seen ≤ after.visits → length after.values ≡ length now.values → after.list ≡ now.list ++ (literal_at f.code ∷ []) → Agree now.values now.list → Agree after.values after.list → IsWalking c0 c' l (index + 1) start after
+walking-forces {c0} {c} {l} {index} {start} {now} c' seen f after w v literals inside visit risen widths listed agree agree' =
+    let g = grows-listed now.values after.values now.list after.list widths agree agree' (λ k h. subst (λ xs. has xs k ≡ true) (sym listed) (has-push_old now.list (literal_at f.code) k h)) in
+    let met : true_at after.values f.code ≡ true = true-listed after.values after.list f.code agree' ∙ ap (λ xs. has xs (literal_at f.code)) listed ∙ has-push_new now.list (literal_at f.code) in
     let same = v.found.0 in
     record {
       literals = literals ∙ w.literals;
@@ -150,9 +146,8 @@ walking-forces {forms} {c0} {c} {l} {index} {start} {now} c' seen x after j w v 
       running = running-grow c' now.values after.values g v.running;
       failed = g.failed l w.failed;
       within = omega (arith, inside, same);
-      served = λ walked s. served-next after.values c' walked l index x v.running.stored.linked v.found.2 met (served-grow now.values after.values c'.watches.items walked l index g (v.served walked (w.served walked s)));
-      derived = subst (Derives (joined forms (clauses_of c0)) start.list) (sym listed) (put (literal_at x) w.derived (unit-puts forms (clauses_of c0) now.values now.list x j agree unit));
+      served = λ walked s. served-next after.values c' walked l index f.code v.running.stored.linked v.found.2 met (served-grow now.values after.values c'.watches.items walked l index g (v.served walked (w.served walked s)));
       grows = grows-trans start.values now.values after.values w.grows g;
       kept = λ base codes more old. v.kept base codes (grows-trans base start.values now.values more w.grows) (w.kept base codes more old);
-      found = λ few. let more = visit.counted (omega (arith, few, risen)) in let old = w.found (omega (arith, few, more, risen)) in omega (arith, old, more, risen, ap length listed, length-append now.list (literal_at x ∷ []));
+      found = λ few. let more = visit.counted (omega (arith, few, risen)) in let old = w.found (omega (arith, few, more, risen)) in omega (arith, old, more, risen, ap length listed, length-append now.list (literal_at f.code ∷ []));
     }

@@ -6,11 +6,10 @@ use Rattle.std.proofs.lemmas.List.{get_or_read}
 use Rattle.pb_normal.specs.declared.numbered.NumberedLiteral.{NumberedLiteral}
 use Rattle.pb_propagate.specs.declared.store.Store.{Store}
 use Rattle.pb_propagate.specs.declared.rests.Rests.{Rests}
-use Rattle.pb_propagate.specs.engine.Engine.Lists.{Shape, Derives, Extends, begin, IsSettled}
+use Rattle.pb_propagate.specs.engine.Engine.Lists.{Shape, Extends, IsSettled}
 use Rattle.pb_propagate.specs.engine.Engine.Fields.{shapes_of, stored_shape}
 use Rattle.pb_propagate.specs.engine.Engine.Counts.{beside, IsTidy, IsAbsent, AreSingle, AreFalling, spent}
 use Rattle.pb_propagate.specs.engine.Engine.Progress.{Progress, Database, database, queued_to, taken_to, IsOpen, IsTidyAt, VisitsEach, Costs, Spends, Advances, queued}
-use Rattle.pb_propagate.proofs.lemmas.engine.Derivations.{derivation-then}
 use Rattle.pb_propagate.proofs.lemmas.engine.Runs.{Tidy-next, calm-settled, absent-push, absent-new, absent-more, absent-cons}
 use Rattle.pb_propagate.proofs.lemmas.engine.Sources.{source}
 use Rattle.pb_propagate.proofs.lemmas.engine.VisitSteps.{open-now}
@@ -22,9 +21,8 @@ use Rattle.pb_propagate.specs.engine.Clauses.Walked.{fallen}
 use Rattle.pb_propagate.specs.declared.heads.Heads.{Heads}
 
 -- a propagation between two visits: `extra` is what the visits to clauses may have cost, `before` what those had cost that
--- were made at its start, and `whole` has the constraints of all slots
-pub record IsPropagating (d : Database) (whole : List Shape) (waiting : List ℕ) (n before extra taken : ℕ) (start now : Progress) : Type 0 where
-  pub derived : Derives whole start.list now.list
+-- were made at its start
+pub record IsPropagating (d : Database) (waiting : List ℕ) (n before extra taken : ℕ) (start now : Progress) : Type 0 where
   pub counted : IsOpen d now
   pub tidy : IsTidyAt d (drop taken waiting) n now
   pub costs : Costs d before (extra + (now.next - start.next)) start now
@@ -37,9 +35,8 @@ pub record IsPropagating (d : Database) (whole : List Shape) (waiting : List ℕ
   pub candidate_sizes : length now.candidates ≡ n
   pub within : now.next ≤ length now.work
 
-pub propagating-start : (d : Database) (whole : List Shape) (waiting : List ℕ) (n before : ℕ) (start : Progress) → IsOpen d start → IsTidyAt d waiting n start → length start.opens ≡ n → length start.candidates ≡ n → start.next ≤ length start.work → IsPropagating d whole waiting n before before 0 start start
-propagating-start d whole waiting n before start counted tidy o c within = record {
-  derived = begin;
+pub propagating-start : (d : Database) (waiting : List ℕ) (n before : ℕ) (start : Progress) → IsOpen d start → IsTidyAt d waiting n start → length start.opens ≡ n → length start.candidates ≡ n → start.next ≤ length start.work → IsPropagating d waiting n before before 0 start start
+propagating-start d waiting n before start counted tidy o c within = record {
   counted = counted;
   tidy = tidy;
   costs = costs-as before (before + (start.next - start.next)) (omega arith) (costs-refl d start);
@@ -65,13 +62,12 @@ taken-tidy g rest forms opens cands list work trail next busy x inside within r 
   traced = λ s gone. absent-more work x s (absent-new trail x 0 s (omega arith) gone) (r.traced s (absent-push trail x 0 s gone));
 }
 
-pub propagating-take : {d : Database} {whole : List Shape} {waiting : List ℕ} {n before extra taken : ℕ} {start now : Progress} (x : ℕ) (work trail : List ℕ) → IsPropagating d whole waiting n before extra taken start now → taken < length waiting → x ≡ get_or waiting taken x → x < length d.forms → work ≡ now.work ++ (x ∷ []) → trail ≡ now.trail ++ (x ∷ []) → IsPropagating d whole waiting n before extra (taken + 1) start (queued_to work trail now)
-propagating-take {d} {whole} {waiting} {n} {before} {extra} {taken} {start} {now} x work trail s less is inside longer noted =
+pub propagating-take : {d : Database} {waiting : List ℕ} {n before extra taken : ℕ} {start now : Progress} (x : ℕ) (work trail : List ℕ) → IsPropagating d waiting n before extra taken start now → taken < length waiting → x ≡ get_or waiting taken x → x < length d.forms → work ≡ now.work ++ (x ∷ []) → trail ≡ now.trail ++ (x ∷ []) → IsPropagating d waiting n before extra (taken + 1) start (queued_to work trail now)
+propagating-take {d} {waiting} {n} {before} {extra} {taken} {start} {now} x work trail s less is inside longer noted =
     let rest = drop (taken + 1) waiting in
     let ahead : drop taken waiting ≡ x ∷ rest = drop_more waiting taken x less ∙ ap (λ y. y ∷ rest) (sym is) in
     let grown : length work ≡ length now.work + 1 = ap length longer ∙ length-append now.work (x ∷ []) in
     record {
-      derived = s.derived;
       counted = s.counted;
       tidy = rw (longer, noted) (taken-tidy d.rests rest d.forms now.opens now.candidates now.list now.work now.trail now.next n x inside s.within (rw ahead at s.tidy));
       costs = record { extends = s.costs.extends; single = s.costs.single; paid = s.costs.paid };
@@ -92,11 +88,10 @@ propagating-visit d aside {n} now form e inside is t =
     rw read (Tidy-next (beside d.rests aside) d.forms now.opens now.candidates now.list now.work now.trail now.next busy)
 
 -- after a visit to a form of the work list
-pub propagating-next : {d : Database} {whole : List Shape} {waiting : List ℕ} {n before extra taken : ℕ} {start now after : Progress} (extra' : ℕ) → IsPropagating d whole waiting n before extra taken start now → Derives whole now.list after.list → IsOpen d after → IsTidyAt d (drop taken waiting) n after → Advances d 0 1 (taken_to (now.next + 1) now) after → VisitsEach now after → now.next < length now.work → extra' ≡ extra → IsPropagating d whole waiting n before extra' taken start after
-propagating-next {d} {whole} {waiting} {n} {before} {extra} {taken} {start} {now} {after} extra' s derived counted tidy a found inside same =
+pub propagating-next : {d : Database} {waiting : List ℕ} {n before extra taken : ℕ} {start now after : Progress} (extra' : ℕ) → IsPropagating d waiting n before extra taken start now → IsOpen d after → IsTidyAt d (drop taken waiting) n after → Advances d 0 1 (taken_to (now.next + 1) now) after → VisitsEach now after → now.next < length now.work → extra' ≡ extra → IsPropagating d waiting n before extra' taken start after
+propagating-next {d} {waiting} {n} {before} {extra} {taken} {start} {now} {after} extra' s counted tidy a found inside same =
     let step : Costs d 0 1 now after = record { extends = a.costs.extends; single = a.costs.single; paid = a.costs.paid } in
     record {
-      derived = derivation-then whole start.list now.list after.list s.derived derived;
       counted = counted;
       tidy = tidy;
       costs = costs-as before (extra' + (after.next - start.next)) (omega (arith, a.next, s.started, same)) (costs-then s.costs step);
@@ -114,10 +109,9 @@ propagating-next {d} {whole} {waiting} {n} {before} {extra} {taken} {start} {now
     }
 
 -- after the walk over a literal's watches
-pub propagating-walk : {d : Database} {whole : List Shape} {waiting : List ℕ} {n before extra taken : ℕ} {start now after : Progress} {m k : ℕ} (extra' : ℕ) → IsPropagating d whole waiting n before extra taken start now → Derives whole now.list after.list → IsOpen d after → IsTidyAt d (drop taken waiting) n after → Advances d m k now after → VisitsEach now after → after.candidates ≡ now.candidates → after.visits + spent d.lists now.list + extra ≤ now.visits + extra' + spent d.lists after.list → IsPropagating d whole waiting n before extra' taken start after
-propagating-walk {d} {whole} {waiting} {n} {before} {extra} {taken} {start} {now} {after} extra' s derived counted tidy a found same paid =
+pub propagating-walk : {d : Database} {waiting : List ℕ} {n before extra taken : ℕ} {start now after : Progress} {m k : ℕ} (extra' : ℕ) → IsPropagating d waiting n before extra taken start now → IsOpen d after → IsTidyAt d (drop taken waiting) n after → Advances d m k now after → VisitsEach now after → after.candidates ≡ now.candidates → after.visits + spent d.lists now.list + extra ≤ now.visits + extra' + spent d.lists after.list → IsPropagating d waiting n before extra' taken start after
+propagating-walk {d} {waiting} {n} {before} {extra} {taken} {start} {now} {after} extra' s counted tidy a found same paid =
     record {
-      derived = derivation-then whole start.list now.list after.list s.derived derived;
       counted = counted;
       tidy = tidy;
       costs = record {
@@ -142,13 +136,13 @@ propagating-walk {d} {whole} {waiting} {n} {before} {extra} {taken} {start} {now
     sums v w v0 b x x' m m' m0 c0 c1 c2 s0 s1 s2 h k q r = omega arith
 
 -- the work list has a bound
-pub propagating-bound : {d : Database} {whole : List Shape} {waiting : List ℕ} {n before extra taken : ℕ} {start now : Progress} → AreSingle start.list → IsPropagating d whole waiting n before extra taken start now → length now.work ≤ length start.work + length waiting + sum_by length d.lists
-propagating-bound {d} {whole} {waiting} {n} {before} {extra} {taken} {start} {now} single s =
+pub propagating-bound : {d : Database} {waiting : List ℕ} {n before extra taken : ℕ} {start now : Progress} → AreSingle start.list → IsPropagating d waiting n before extra taken start now → length now.work ≤ length start.work + length waiting + sum_by length d.lists
+propagating-bound {d} {waiting} {n} {before} {extra} {taken} {start} {now} single s =
     let bound = spent-le d.lists now.list (s.costs.single single) in
     omega (arith, bound, s.works, length-append start.work (take taken waiting), length-take taken waiting)
 
-pub propagating-settled : (store : Store) (rests : Rests) {whole : List Shape} {waiting : List ℕ} {before extra taken : ℕ} {start now : Progress} → IsPropagating (database store rests) whole waiting (length store.stored.items) before extra taken start now → length now.work ≤ now.next → length waiting ≤ taken → (f : Shape) → Contains (shapes_of store.stored.items) f → IsSettled f now.list
-propagating-settled store rests {whole} {waiting} {before} {extra} {taken} {start} {now} state all none_waits f (s, inside, is) =
+pub propagating-settled : (store : Store) (rests : Rests) {waiting : List ℕ} {before extra taken : ℕ} {start now : Progress} → IsPropagating (database store rests) waiting (length store.stored.items) before extra taken start now → length now.work ≤ now.next → length waiting ≤ taken → (f : Shape) → Contains (shapes_of store.stored.items) f → IsSettled f now.list
+propagating-settled store rests {waiting} {before} {extra} {taken} {start} {now} state all none_waits f (s, inside, is) =
     let keep = store.stored.items in
     let from = source stored_shape keep s f inside is in
     let busy : s ≡ length keep → ⊥ = λ e. absurd (omega (arith, e, from.inside)) in
@@ -162,8 +156,8 @@ propagating-settled store rests {whole} {waiting} {before} {extra} {taken} {star
     calm-settled f (get_or now.opens s 0) (get_or now.candidates s 0) now.list falling sum_now calm passed
 
 -- the number of visits, also if the propagation was abandoned
-pub propagating-upper : {d : Database} {whole : List Shape} {waiting : List ℕ} {n before extra taken : ℕ} {start now : Progress} (extra' : ℕ) (after : Progress) (made : ℕ) → AreSingle start.list → start.next ≤ length start.work → IsPropagating d whole waiting n before extra taken start now → Extends now.list after.list → (AreSingle now.list → AreSingle after.list) → sum after.candidates ≤ sum_by (λ f. length f.terms) d.forms → now.next + made ≤ length now.work → after.visits + sum now.candidates + spent d.lists now.list + extra ≤ now.visits + made + sum after.candidates + spent d.lists after.list + extra' → Spends d before (queued waiting start + extra') start after
-propagating-upper {d} {whole} {waiting} {n} {before} {extra} {taken} {start} {now} extra' after made single begun s more one bounded room covered = record {
+pub propagating-upper : {d : Database} {waiting : List ℕ} {n before extra taken : ℕ} {start now : Progress} (extra' : ℕ) (after : Progress) (made : ℕ) → AreSingle start.list → start.next ≤ length start.work → IsPropagating d waiting n before extra taken start now → Extends now.list after.list → (AreSingle now.list → AreSingle after.list) → sum after.candidates ≤ sum_by (λ f. length f.terms) d.forms → now.next + made ≤ length now.work → after.visits + sum now.candidates + spent d.lists now.list + extra ≤ now.visits + made + sum after.candidates + spent d.lists after.list + extra' → Spends d before (queued waiting start + extra') start after
+propagating-upper {d} {waiting} {n} {before} {extra} {taken} {start} {now} extra' after made single begun s more one bounded room covered = record {
   extends = extends-then start.list now.list after.list s.costs.extends more;
   single = one (s.costs.single single);
   bounded = bounded;
@@ -178,6 +172,6 @@ pub spends-as : {d : Database} {m n k : ℕ} {a b : Progress} → n ≤ k → Sp
 spends-as h s = record { extends = s.extends; single = s.single; bounded = s.bounded; upper = omega (arith, s.upper, h) }
 
 -- the same for the clauses that were visited
-pub propagating-spends : {d : Database} {whole : List Shape} {waiting : List ℕ} {n before extra taken : ℕ} {start now : Progress} (clauses : List (List ℕ)) (h : Heads) (searched : ℕ) (after : Progress) (made : ℕ) → AreSingle start.list → start.next ≤ length start.work → IsPropagating d whole waiting n before extra taken start now → Extends now.list after.list → (AreSingle now.list → AreSingle after.list) → sum after.candidates ≤ sum_by (λ f. length f.terms) d.forms → now.next + made ≤ length now.work → after.visits + sum now.candidates + spent d.lists now.list + extra ≤ now.visits + made + sum after.candidates + spent d.lists after.list + (2 * reached clauses h now.list + searched) → Spends d before (queued waiting start + (2 * fallen clauses after.list + searched)) start after
-propagating-spends {d} {whole} {waiting} {n} {before} {extra} {taken} {start} {now} clauses h searched after made single begun s more one bounded room covered =
+pub propagating-spends : {d : Database} {waiting : List ℕ} {n before extra taken : ℕ} {start now : Progress} (clauses : List (List ℕ)) (h : Heads) (searched : ℕ) (after : Progress) (made : ℕ) → AreSingle start.list → start.next ≤ length start.work → IsPropagating d waiting n before extra taken start now → Extends now.list after.list → (AreSingle now.list → AreSingle after.list) → sum after.candidates ≤ sum_by (λ f. length f.terms) d.forms → now.next + made ≤ length now.work → after.visits + sum now.candidates + spent d.lists now.list + extra ≤ now.visits + made + sum after.candidates + spent d.lists after.list + (2 * reached clauses h now.list + searched) → Spends d before (queued waiting start + (2 * fallen clauses after.list + searched)) start after
+propagating-spends {d} {waiting} {n} {before} {extra} {taken} {start} {now} clauses h searched after made single begun s more one bounded room covered =
     spends-as (omega (arith, reached-extends clauses now.list after.list h more)) (propagating-upper (2 * reached clauses h now.list + searched) after made single begun s more one bounded room covered)

@@ -65,6 +65,13 @@ opposite values list l a here =
         a (negation l) ∙ says-some values (negation l) m h
         ∙ beq-opposite (not m) l.negated (sym (says-some values l m h) ∙ sym (a l) ∙ here)
 
+-- two literals of one variable on the list are the same
+pub one-literal : (values : List (Option Bool)) (list : List NumberedLiteral) (a b : NumberedLiteral) → Agree values list → has list a ≡ true → has list b ≡ true → a.variable ≡ b.variable → a ≡ b
+one-literal values list a b agree on_a on_b e = elim (beq-cases a.negated b.negated) [
+  | inl same ↦ literal_ext a b e same
+  | inr other ↦ absurd (both_ways _ (opposite values list b agree on_b) (ap (has list) (sym (literal_ext a (negation b) e other)) ∙ on_a))
+]
+
 same-other : (l k : NumberedLiteral) → (k.variable ≡ l.variable → ⊥) → same l k ≡ false
 unfolding same
 same-other l k ne =
@@ -77,7 +84,7 @@ same-here l k e =
     let one : (l.variable == k.variable) ≡ true = eq-eqb l.variable k.variable (sym e) in
     rw one
 
-has-neither : (list : List NumberedLiteral) (l k : NumberedLiteral) → has list l ≡ false → has list (negation l) ≡ false → k.variable ≡ l.variable → has list k ≡ false
+pub has-neither : (list : List NumberedLiteral) (l k : NumberedLiteral) → has list l ≡ false → has list (negation l) ≡ false → k.variable ≡ l.variable → has list k ≡ false
 has-neither list l k absent open' e =
     elim (beq-cases k.negated l.negated) [
       | inl s ↦ ap (has list) (literal_ext k l e s) ∙ absent

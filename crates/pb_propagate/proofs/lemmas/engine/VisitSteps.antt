@@ -1,11 +1,13 @@
-use Rattle.std.specs.Prelude.{sum, All}
-use Rattle.std.proofs.Common.{◌≡◌, ℕ, ◌+◌, ◌-◌, ◌^◌, ◌<◌, ◌≤◌, ◌∷◌, [], List, false, refl, sym, ◌∙◌, ap, arith, length, get_or, set, min, length-append, length-set}
+use Rattle.std.specs.Prelude.{sum, All, Contains, Some, slice_get}
+use Rattle.std.proofs.Common.{◌≡◌, ℕ, ◌+◌, ◌-◌, ◌^◌, ◌<◌, ◌≤◌, ◌∷◌, [], List, false, refl, sym, subst, ◌∙◌, ap, arith, length, get_or, set, min, length-append, length-set}
 use Rattle.std.proofs.lemmas.List.{get_or_default, get_or-map, get_or_read, length-map}
 use Rattle.std.proofs.lemmas.List.Sums.{sum_by-set}
 use Rattle.std.proofs.lemmas.List.Elements.{Contains-get_or}
+use Rattle.std.proofs.lemmas.Option.{slice_get-get_or}
 use Rattle.pb_normal.specs.declared.numbered.NumberedLiteral.{NumberedLiteral}
+use Rattle.pb_normal.specs.meaning.Rules.{negation}
 use Rattle.pb_propagate.specs.declared.term.Term.{Term}
-use Rattle.pb_propagate.specs.engine.Engine.Lists.{Shape, AreInside, open_sum, size, Derives, begin, put, Conflicts, broken}
+use Rattle.pb_propagate.specs.engine.Engine.Lists.{Shape, AreInside, has, open_sum, size, HaveReasons, by_reason, KeepsReasons, Conflicts, broken}
 use Rattle.pb_propagate.specs.engine.Engine.Counts.{beside, rest_open, IsCounted, IsAbsent, Adopted, kept, added, IsCalm, IsDone, Grown, pushed, spared, weight_in}
 use Rattle.pb_propagate.specs.declared.store.Store.{Store}
 use Rattle.pb_propagate.specs.engine.Engine.Progress.{visited_to, passed_to, Progress, Database, database, IsOpen, IsTidyAt, StaysTidy, VisitsEach, Advances}
@@ -15,12 +17,13 @@ use Rattle.pb_propagate.specs.engine.Engine.Fields.{shapes_of, stored_shape}
 use Rattle.pb_propagate.specs.engine.Engine.Terms.{terms_of}
 use Rattle.pb_propagate.specs.engine.Engine.Links.{coefficient_at}
 use Rattle.pb_propagate.proofs.lemmas.engine.Advances.{advances-refl, advances-then, advances-as, advances-visit, advances-pass}
+use Rattle.pb_propagate.proofs.lemmas.engine.Derivations.{one_itself}
+use Rattle.pb_propagate.proofs.lemmas.engine.Reasoned.{reasons-keep}
 use Rattle.pb_propagate.proofs.lemmas.engine.Runs.{Tidy-pass, Tidy-settle, done-new}
 
 -- a form's terms are being passed
 pub record IsVisiting (d : Database) (aside : List ℕ) (form : ℕ) (start now : Progress) : Type 0 where
   pub advances : Advances d 0 0 start now
-  pub derived : Derives d.forms start.list now.list
   pub tidy : IsTidyAt d aside form now
   pub there : IsAbsent now.work 0 form → ⊥
   pub found : VisitsEach start now
@@ -49,19 +52,6 @@ adopted-length : (l : NumberedLiteral) (old new : List NumberedLiteral) → Adop
 adopted-length l old _ (kept d) = omega arith
 adopted-length l old _ (added absent opened) = omega (arith, length-append old (l ∷ []))
 
-adopted-derived : (forms : List Shape) (list0 old new : List NumberedLiteral) (form : ℕ) (d : Shape) (k : ℕ) (e : Term) → form < length forms → k < length (get_or forms form d).terms → open_sum old (get_or forms form d).terms < (get_or forms form d).degree + (get_or (get_or forms form d).terms k e).coefficient → Adopted (get_or (get_or forms form d).terms k e).literal old new → Derives forms list0 old → Derives forms list0 new
-adopted-derived forms list0 old _ form d k e inside within low (kept done) p = p
-adopted-derived forms list0 old _ form d k e inside within low (added absent opened) p =
-    put (get_or (get_or forms form d).terms k e).literal p (record {
-      absent = absent;
-      not_falsified = opened;
-      form = get_or forms form d;
-      among = Contains-get_or forms form d inside;
-      coefficient = (get_or (get_or forms form d).terms k e).coefficient;
-      term = Contains-get_or (get_or forms form d).terms k e within;
-      forced = low;
-    })
-
 pub open-now : (forms : List Shape) (opens : List ℕ) (list : List NumberedLiteral) (form : ℕ) (d : Shape) → form < length forms → IsCounted forms opens list [] → get_or opens form 0 ≡ open_sum list (get_or forms form d).terms
 open-now forms opens list form d inside c =
     let all = c.each form d inside in
@@ -71,7 +61,6 @@ open-now forms opens list form d inside c =
 pub visiting-start : (d : Database) (aside : List ℕ) (form : ℕ) (start : Progress) → IsTidyAt d aside form start → (IsAbsent start.work 0 form → ⊥) → length start.opens ≡ length d.forms → length start.candidates ≡ length d.forms → IsVisiting d aside form start start
 visiting-start d aside form start tidy there opens candidates = record {
   advances = advances-refl d start;
-  derived = begin;
   tidy = tidy;
   there = there;
   found = λ few. omega arith;
@@ -79,25 +68,33 @@ visiting-start d aside form start tidy there opens candidates = record {
   candidates = candidates;
 }
 
+-- a forced literal that was tried has its form as its reason
+pub visiting-reasons : {d : Database} {form : ℕ} {now : Progress} {f : Shape} {t : Term} {c : ℕ} (given new : List NumberedLiteral) (reasons reasons' : List ℕ) → IsForced d form now f t c → IsOpen d now → Adopted t.literal now.list new → (has now.list t.literal ≡ false → has now.list (negation t.literal) ≡ false → slice_get reasons' t.literal.variable ≡ Some form) → KeepsReasons now.list reasons reasons' → HaveReasons d.forms reasons given now.list → HaveReasons d.forms reasons' given new
+visiting-reasons {d} {form} {now} {f} {t} {c} given _ reasons reasons' forced counted (kept done) reason keeps h = reasons-keep reasons reasons' keeps h
+visiting-reasons {d} {form} {now} {f} {t} {c} given _ reasons reasons' forced counted (added absent opened) reason keeps h =
+    let sum_now : get_or now.opens form 0 ≡ open_sum now.list (get_or d.forms form f).terms = open-now d.forms now.opens now.list form f forced.inside counted in
+    let sum_f : get_or now.opens form 0 ≡ open_sum now.list f.terms = rw (forced.is f) at sum_now in
+    by_reason t.literal form f (reasons-keep reasons reasons' keeps h) (reason absent opened) (slice_get-get_or d.forms form f forced.inside ∙ ap (λ y. Some y) (forced.is f)) (record {
+      absent = absent;
+      not_falsified = opened;
+      form = f;
+      among = one_itself f;
+      coefficient = t.coefficient;
+      term = subst (Contains f.terms) (sym forced.item) (Contains-get_or f.terms c t forced.here);
+      forced = omega (arith, sum_f, forced.low);
+    })
+
 -- a forced literal was tried, and its term is passed
 pub visiting-next : {d : Database} {aside : List ℕ} {form : ℕ} {start now : Progress} {f : Shape} {t : Term} {c : ℕ} (seen : ℕ) (mid : Progress) (passed : List ℕ) → IsVisiting d aside form start now → IsForced d form now f t c → IsOpen d now → seen ≡ min (now.visits + 1) (2 ^ 64 - 1) → now.visits ≤ seen → Adopted t.literal now.list mid.list → Advances d 0 0 (visited_to seen now) mid → StaysTidy d (visited_to seen now) mid → mid.candidates ≡ now.candidates → passed ≡ set mid.candidates form (c + 1) → IsVisiting d aside form start (passed_to passed mid)
 visiting-next {d} {aside} {form} {start} {now} {f} {t} {c} seen mid passed p forced counted count rising adopted a tidy same is =
     let room : form < length mid.candidates = omega (arith, forced.inside, p.candidates, ap length same) in
     let at : c ≡ get_or mid.candidates form 0 = forced.candidate ∙ ap (λ xs. get_or xs form 0) (sym same) in
-    let sum_now : get_or now.opens form 0 ≡ open_sum now.list (get_or d.forms form f).terms = open-now d.forms now.opens now.list form f forced.inside counted in
-    let sum_f : get_or now.opens form 0 ≡ open_sum now.list f.terms = rw (forced.is f) at sum_now in
-    let low_t : open_sum now.list f.terms < f.degree + t.coefficient = omega (arith, sum_f, forced.low) in
-    let low_f : open_sum now.list f.terms < f.degree + (get_or f.terms c t).coefficient = rw (← forced.item) low_t in
-    let low_is : open_sum now.list (get_or d.forms form f).terms < (get_or d.forms form f).degree + (get_or (get_or d.forms form f).terms c t).coefficient = rw (forced.is f) low_f in
-    let here_is : c < length (get_or d.forms form f).terms = rw (forced.is f) forced.here in
     let adopted_f : Adopted (get_or f.terms c t).literal now.list mid.list = rw (← forced.item) adopted in
-    let adopted_is : Adopted (get_or (get_or d.forms form f).terms c t).literal now.list mid.list = rw (forced.is f) adopted_f in
     let sizes : length passed ≡ length mid.candidates = ap length is ∙ length-set mid.candidates form (c + 1) in
     let raised : sum passed ≡ sum mid.candidates + 1 = ap sum (is ∙ ap (λ x. set mid.candidates form (x + 1)) at) ∙ sum-raise mid.candidates form room in
     let visit = advances-visit d now seen 0 1 rising (omega (arith, count)) in
     record {
       advances = advances-as 0 0 (omega arith) (advances-then p.advances (advances-then visit (advances-then a (advances-pass d mid passed sizes raised))));
-      derived = adopted-derived d.forms start.list now.list mid.list form f c t forced.inside here_is low_is adopted_is p.derived;
       tidy = Tidy-pass (beside d.rests aside) d.forms mid.opens mid.candidates passed mid.list mid.work mid.trail mid.next form c f.terms t is at room (λ x h. ap (λ (y : Shape). y.terms) (forced.is x)) forced.here (adopted-done (get_or f.terms c t).literal now.list mid.list adopted_f) (λ gone. p.there (a.absent form gone)) (tidy aside form p.tidy);
       there = λ gone. p.there (a.absent form gone);
       found = λ few. found_from now.visits seen mid.visits start.visits (length start.list) (length now.list) (length mid.list) count a.rising few p.found (adopted-length t.literal now.list mid.list adopted);

@@ -1,6 +1,6 @@
 -- A form that was added comes to the root.
 use Rattle.std.specs.Prelude.{All, Contains, Option, Bool, Some, None, slice_get, ◌/◌}
-use Rattle.std.proofs.Common.{Vec, Global, ◌≡◌, ℕ, zero, suc, ◌+◌, ◌*◌, ◌<◌, ◌≤◌, ◌⊎◌, ◌++◌, ◌∷◌, [], List, true, false, refl, sym, ◌∙◌, ap, subst, inl, inr, arith, length, length-append, get_or, set, get_or-set_same, get_or-set_other}
+use Rattle.std.proofs.Common.{Vec, Global, ◌≡◌, ℕ, zero, suc, ◌+◌, ◌*◌, ◌<◌, ◌≤◌, ◌⊎◌, ◌++◌, ◌∷◌, [], List, true, refl, sym, ◌∙◌, ap, subst, inl, inr, arith, length, length-append, get_or, set, get_or-set_same, get_or-set_other}
 use Rattle.std.proofs.lemmas.Bool.{cases_eq, cases_lt, both_ways}
 use Rattle.std.proofs.lemmas.List.{length-map, get_or-map, get_or_append_left, get_or_push, get_or_default}
 use Rattle.std.proofs.lemmas.Option.{get_or_from_slice_get, slice_get-get_or, slice_get_within}
@@ -12,7 +12,7 @@ use Rattle.pb_propagate.specs.declared.store.Store.{Store}
 use Rattle.pb_propagate.specs.declared.store.stored_form.StoredForm.{StoredForm}
 use Rattle.pb_propagate.specs.declared.clauses.Clauses.{Clauses}
 use Rattle.pb_propagate.specs.declared.clauses.lists.Watch.{Watch}
-use Rattle.pb_propagate.specs.engine.Engine.Lists.{Shape, Derives, open_sum, size, has}
+use Rattle.pb_propagate.specs.engine.Engine.Lists.{Shape, HaveReasons, open_sum, size, has}
 use Rattle.pb_propagate.specs.engine.Engine.Counts.{Grown, pushed, spared, IsAbsent, IsCalm, IsCounted, IsTidy, beside, weight_in}
 use Rattle.pb_propagate.specs.engine.Engine.Fields.{shapes_of, forms_of, stored_shape}
 use Rattle.pb_propagate.specs.engine.Engine.Root.{IsRooted, IsServed, HasForm, HasGained, HasReached}
@@ -27,7 +27,7 @@ use Rattle.pb_propagate.specs.engine.Clauses.Walked.{walked_codes}
 use Rattle.pb_propagate.proofs.lemmas.clauses.Shapes.{joined-at, joined-length}
 use Rattle.pb_propagate.proofs.lemmas.clauses.Truths.{flip-half, flip-even, flip-flip, same-slot, not_both}
 use Rattle.pb_propagate.proofs.lemmas.engine.Rests.{element}
-use Rattle.pb_propagate.proofs.lemmas.root.Rooted.{derives-without}
+use Rattle.pb_propagate.proofs.lemmas.engine.Reasoned.{moved-same, reasons-moved}
 
 -- the same form in both
 same-shape : (xs ys : List StoredForm) (s : ℕ) (d : Shape) → s < length ys → slice_get xs s ≡ slice_get ys s → get_or (shapes_of xs) s d ≡ get_or (shapes_of ys) s d
@@ -138,21 +138,12 @@ gained-at before store old clauses slot i x g apart at =
       | inr new ↦ omega (arith, new.0)
     ]
 
--- what followed still does
-pub gained-derives : (before store : Store) (old clauses : Clauses) (slot : ℕ) (list : List NumberedLiteral) → HasGained before old store clauses slot → Derives (all_of before old) [] list → Derives (all_of store clauses) [] list
-gained-derives before store old clauses slot list g d = derives-without (all_of before old) (all_of store clauses) [] list source d
-  where
-    source : (x : Shape) → Contains (all_of before old) x → (Contains (all_of store clauses) x) ⊎ ((l : NumberedLiteral) (c : ℕ) → Contains x.terms (record { literal = l; coefficient = c }) → has list l ≡ false)
-    source x (i, less, is) =
-        let at : slice_get (all_of before old) i ≡ Some x = slice_get-get_or (all_of before old) i x less ∙ ap (λ y. Some y) is in
-        elim (cases_eq i slot) [
-          | inl one ↦
-              let bare = g.bare x (ap (slice_get (all_of before old)) (sym one) ∙ at) in
-              inr (λ l c there. absurd (omega (arith, there.1, ap length bare)))
-          | inr apart ↦
-              let now = gained-at before store old clauses slot i x g apart at in
-              inl (i, slice_get_within (all_of store clauses) i x now, get_or_from_slice_get (all_of store clauses) i x x now)
-        ]
+-- the reasons still hold
+pub gained-reasons : (before store : Store) (old clauses : Clauses) (slot : ℕ) (reasons : List ℕ) (list : List NumberedLiteral) → HasGained before old store clauses slot → HaveReasons (all_of before old) reasons [] list → HaveReasons (all_of store clauses) reasons [] list
+gained-reasons before store old clauses slot reasons list g h = reasons-moved (all_of before old) (all_of store clauses) reasons reasons [] list (λ l s x on at stored some. elim (cases_eq s slot) [
+  | inl one ↦ absurd (omega (arith, some, ap length (g.bare x (ap (slice_get (all_of before old)) (sym one) ∙ stored))))
+  | inr apart ↦ moved-same (all_of store clauses) reasons l s x at (gained-at before store old clauses slot s x g apart stored)
+]) h
 
 -- the root for all forms but the new one
 pub gained-rooted : (before store : Store) (old clauses : Clauses) (run run' : Run) (rests rests' : Rests) (waiting waiting' : Eager) (slot : ℕ) → slot < length store.stored.items → IsRooted before old run rests waiting (length before.stored.items) → HasGained before old store clauses slot → HasReached run run' rests rests' waiting waiting' slot →
@@ -195,7 +186,7 @@ gained-rooted before store old clauses run run' rests rests' waiting waiting' sl
   work = ap (λ (v : Vec ℕ Global). v.items) h.work ∙ r.work;
   trail = ap (λ (v : Vec ℕ Global). v.items) h.trail ∙ r.trail;
   next = h.next ∙ r.next;
-  derived = rw h.assignment (gained-derives before store old clauses slot run.assignment.list.items g r.derived);
+  reasoned = rw h.assignment (gained-reasons before store old clauses slot run.assignment.reasons.items run.assignment.list.items g r.reasoned);
   walked = rw h.assignment walked;
   seats = h.seats (r.seats ∙ sym r.open_sizes) ∙ a.sizes;
   live = λ i s at. form-kept before store s (λ one. g.empty (subst (HasForm before) one (r.live i s (rw h.waits at at)))) (g.kept s) (r.live i s (rw h.waits at at));
@@ -299,7 +290,7 @@ clause-rooted store clauses run rests waiting slot inside bare none r = record {
   work = r.work;
   trail = r.trail;
   next = r.next;
-  derived = r.derived;
+  reasoned = r.reasoned;
   walked = r.walked;
   seats = r.seats;
   live = r.live;

@@ -21,7 +21,7 @@ use Rattle.pb_propagate.specs.engine.Clauses.Shapes.{joined, AreJoined}
 use Rattle.pb_propagate.proofs.lemmas.clauses.Shapes.{conflicts-joined}
 use Rattle.pb_propagate.proofs.lemmas.engine.Derivations.{one_itself, settled-of_terms, derivation-then}
 use Rattle.pb_propagate.proofs.lemmas.engine.Literals.{negation-negation, open_part-falsified, open_part-open, open_sum-lower, has-none, has-push_old, has-push_new}
-use Rattle.pb_propagate.proofs.lemmas.root.Rooted.{derives-without}
+use Rattle.pb_propagate.proofs.lemmas.root.Rooted.{derives-within}
 
 abbrev literal_of : Entry → NumberedLiteral
 literal_of e = (as_term e).literal
@@ -152,8 +152,8 @@ more-settled forms x list all mine f among = elim (Contains-push_cases forms x f
 pub denied-derives : (forms : List Shape) (x : Shape) (start mid new : List NumberedLiteral) → Derives (x ∷ []) start mid → Derives forms mid new → Derives (forms ++ (x ∷ [])) start new
 denied-derives forms x start mid new first second =
     derivation-then (forms ++ (x ∷ [])) start mid new
-    (derives-without (x ∷ []) (forms ++ (x ∷ [])) start mid (λ y h. inl (last y h)) first)
-    (derives-without forms (forms ++ (x ∷ [])) mid new (λ y h. inl (Contains-append_left forms (x ∷ []) y h)) second)
+    (derives-within (x ∷ []) (forms ++ (x ∷ [])) start mid last first)
+    (derives-within forms (forms ++ (x ∷ [])) mid new (Contains-append_left forms (x ∷ [])) second)
   where
     last : (y : Shape) → Contains (x ∷ []) y → Contains (forms ++ (x ∷ [])) y
     last y (zero, inside, is) = subst (λ z. Contains (forms ++ (x ∷ [])) z) is (Contains-push forms x)

@@ -12,27 +12,28 @@ use Rattle.pb_propagate.specs.declared.store.Store.{Store}
 use Rattle.pb_propagate.specs.declared.clauses.Clauses.{Clauses}
 use Rattle.pb_propagate.specs.engine.Engine.Counts.{none}
 use Rattle.pb_propagate.specs.engine.Engine.Fields.{shapes_of, forms_of, IsSound, stored_shape}
-use Rattle.pb_propagate.specs.engine.Engine.Lists.{Shape, Derives, Conflicts, opposed, broken, has, open_part, open_sum}
+use Rattle.pb_propagate.specs.engine.Engine.Lists.{Shape, HaveReasons, KeepsReasons, Conflicts, opposed, broken, has, open_part, open_sum}
 use Rattle.pb_propagate.specs.engine.Engine.Rest.{AreSlots}
-use Rattle.pb_propagate.specs.engine.Engine.Root.{IsFallen, IsFree, IsMet, IsReplaced, IsAnswered, HasGained, HasVacated}
+use Rattle.pb_propagate.specs.engine.Engine.Root.{IsFallen, IsFree, IsMet, IsNeedless, IsAnswered, HasGained, HasVacated}
 use Rattle.pb_propagate.specs.engine.Engine.Slots.{form_at}
 use Rattle.pb_propagate.specs.engine.Clauses.Shapes.{AreJoined, all_of, clauses_of, clause_shape, literal_at, one_term}
 use Rattle.pb_propagate.proofs.lemmas.clauses.Literals.{Agree, false-listed}
 use Rattle.pb_propagate.proofs.lemmas.engine.Literals.{open_part-open}
 use Rattle.pb_propagate.proofs.lemmas.engine.Spent.{derivation-single}
 use Rattle.pb_propagate.proofs.lemmas.engine.Values.{opposite}
-use Rattle.pb_propagate.proofs.lemmas.root.Admitted.{gained-at, gained-derives}
-use Rattle.pb_propagate.proofs.lemmas.root.Lost.{vacated-all, lost-derives}
+use Rattle.pb_propagate.proofs.lemmas.engine.Reasoned.{reasons-derive, reasons-keep}
+use Rattle.pb_propagate.proofs.lemmas.root.Admitted.{gained-at, gained-reasons}
+use Rattle.pb_propagate.proofs.lemmas.root.Lost.{vacated-all, lost-reasons}
 use Rattle.pb_propagate.proofs.lemmas.root.Questions.{root-few}
 use Rattle.pb_propagate.proofs.lemmas.store.Gets.{get-set_other}
 
 -- a conflict falsifies a constraint, since no two literals of the root are opposite
-pub conflicts-fallen : (forms : List Shape) (variables : ℕ) (root : Root) → root.live ≡ false → length root.run.assignment.values.items ≡ variables → Derives forms [] root.run.assignment.list.items → Conflicts forms root.run.assignment.list.items → IsFallen forms variables root
-conflicts-fallen forms variables root ended values derived (opposed l here there) = absurd (both_ways _ (opposite root.run.assignment.values.items root.run.assignment.list.items l root.run.assignment.agrees here) there)
-conflicts-fallen forms variables root ended values derived (broken f (s, inside, is) low) = record {
+pub conflicts-fallen : (forms : List Shape) (variables : ℕ) (root : Root) → root.live ≡ false → length root.run.assignment.values.items ≡ variables → HaveReasons forms root.run.assignment.reasons.items [] root.run.assignment.list.items → Conflicts forms root.run.assignment.list.items → IsFallen forms variables root
+conflicts-fallen forms variables root ended values reasoned (opposed l here there) = absurd (both_ways _ (opposite root.run.assignment.values.items root.run.assignment.list.items l root.run.assignment.agrees here) there)
+conflicts-fallen forms variables root ended values reasoned (broken f (s, inside, is) low) = record {
   ended = ended;
   values = values;
-  derived = derived;
+  reasoned = reasoned;
   slot = s;
   form = f;
   stored = slice_get-get_or forms s f inside ∙ ap (λ x. Some x) is;
@@ -61,7 +62,7 @@ free-met values list codes a x agree is free =
 pub fallen-answered : (forms : List Shape) (variables visits : ℕ) (root : Root) → length root.run.assignment.list.items ≤ visits → IsFallen forms variables root → IsAnswered forms visits true
 fallen-answered forms variables visits root few h = record {
   list = root.run.assignment.list.items;
-  derived = h.derived;
+  derived = reasons-derive h.reasoned;
   few = few;
   one_sided = λ l on. opposite root.run.assignment.values.items root.run.assignment.list.items l root.run.assignment.agrees on;
   conflict = λ found. fallen-conflicts forms variables root h;
@@ -71,14 +72,14 @@ fallen-answered forms variables visits root few h = record {
 pub fallen-few : (store : Store) (clauses : Clauses) (variables : ℕ) (root : Root) → IsSound store → AreJoined (shapes_of store.stored.items) (clauses_of clauses) → IsFallen (all_of store clauses) variables root → length root.run.assignment.list.items ≤ sum_by (λ (f : Shape). length f.terms) (all_of store clauses)
 fallen-few store clauses variables root sound j h =
     let list = root.run.assignment.list.items in
-    root-few store (clauses_of clauses) list sound j (derivation-single (all_of store clauses) [] list none h.derived) (λ l on. opposite root.run.assignment.values.items list l root.run.assignment.agrees on) h.derived
+    root-few store (clauses_of clauses) list sound j (derivation-single (all_of store clauses) [] list none (reasons-derive h.reasoned)) (λ l on. opposite root.run.assignment.values.items list l root.run.assignment.agrees on) (reasons-derive h.reasoned)
 
 -- the same of a root with these literals
-pub fallen-same : (forms : List Shape) (variables variables' : ℕ) (root root' : Root) → root'.live ≡ root.live → root'.run.assignment.list.items ≡ root.run.assignment.list.items → length root'.run.assignment.values.items ≡ variables' → IsFallen forms variables root → IsFallen forms variables' root'
-fallen-same forms variables variables' root root' live list values h = record {
+pub fallen-same : (forms : List Shape) (variables variables' : ℕ) (root root' : Root) → root'.live ≡ root.live → root'.run.assignment.list.items ≡ root.run.assignment.list.items → KeepsReasons root.run.assignment.list.items root.run.assignment.reasons.items root'.run.assignment.reasons.items → length root'.run.assignment.values.items ≡ variables' → IsFallen forms variables root → IsFallen forms variables' root'
+fallen-same forms variables variables' root root' live list keeps values h = record {
   ended = live ∙ h.ended;
   values = values;
-  derived = subst (Derives forms []) (sym list) h.derived;
+  reasoned = rw list (reasons-keep root.run.assignment.reasons.items root'.run.assignment.reasons.items keeps h.reasoned);
   slot = h.slot;
   form = h.form;
   stored = h.stored;
@@ -102,7 +103,7 @@ pub gained-fallen : (before store : Store) (old clauses : Clauses) (slot : ℕ) 
 gained-fallen before store old clauses slot root slots g h = record {
   ended = h.ended;
   values = h.values ∙ sym g.variables;
-  derived = gained-derives before store old clauses slot root.run.assignment.list.items g h.derived;
+  reasoned = gained-reasons before store old clauses slot root.run.assignment.reasons.items root.run.assignment.list.items g h.reasoned;
   slot = h.slot;
   form = h.form;
   stored = gained-at before store old clauses slot h.slot h.form g (λ is. g.empty (subst (λ s. (f : Form) × (form_at (forms_of before.stored.items) s ≡ Some f)) is here)) h.stored;
@@ -112,12 +113,12 @@ gained-fallen before store old clauses slot root slots g h = record {
     here : (f : Form) × (form_at (forms_of before.stored.items) h.slot ≡ Some f)
     here = live-slot (forms_of before.stored.items) (all_of before old) h.slot h.form slots h.stored (omega (arith, h.low))
 
--- a form went that has forced nothing alone, and is not the falsified one
-pub lost-fallen : (before store : Store) (old clauses : Clauses) (slot : ℕ) (root : Root) → HasVacated before old store clauses slot → IsReplaced (all_of before old) slot root.run.assignment.list.items → IsMet (all_of before old) slot root.run.assignment.list.items → IsFallen (all_of before old) before.variables root → IsFallen (all_of store clauses) store.variables root
+-- a form went that is no literal's reason, and is not the falsified one
+pub lost-fallen : (before store : Store) (old clauses : Clauses) (slot : ℕ) (root : Root) → HasVacated before old store clauses slot → IsNeedless (all_of before old) slot root.run.assignment → IsMet (all_of before old) slot root.run.assignment.list.items → IsFallen (all_of before old) before.variables root → IsFallen (all_of store clauses) store.variables root
 lost-fallen before store old clauses slot root g spare met h = record {
   ended = h.ended;
   values = h.values ∙ sym g.variables;
-  derived = lost-derives before store old clauses slot root.run.assignment.list.items g spare h.derived;
+  reasoned = lost-reasons before store old clauses slot root.run.assignment g spare;
   slot = h.slot;
   form = h.form;
   stored = ap (λ xs. slice_get xs h.slot) (vacated-all before store old clauses slot g) ∙ get-set_other (all_of before old) slot h.slot (stored_shape g.kept.0) apart ∙ h.stored;

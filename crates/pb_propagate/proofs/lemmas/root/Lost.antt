@@ -1,11 +1,10 @@
 -- The form of a slot goes, and the root stays.
 use Rattle.std.specs.Prelude.{Contains, Option, Bool, Some, map, slice_get, ◌/◌}
-use Rattle.std.proofs.Common.{Vec, Global, ◌≡◌, ℕ, ◌<◌, ◌⊎◌, ◌∷◌, [], List, true, false, refl, sym, ◌∙◌, ap, subst, inl, inr, arith, length, get_or, set, length-set, get_or-set_same, get_or-set_other}
-use Rattle.std.proofs.lemmas.Bool.{cases_eq, both_ways}
+use Rattle.std.proofs.Common.{Vec, Global, ◌≡◌, ℕ, ◌<◌, [], List, refl, sym, ◌∙◌, ap, subst, inl, inr, arith, length, get_or, set, length-set, get_or-set_same, get_or-set_other}
+use Rattle.std.proofs.lemmas.Bool.{cases_eq}
 use Rattle.std.proofs.lemmas.List.{length-map, get_or-map, get_or_default, map-set}
-use Rattle.std.proofs.lemmas.Option.{slice_get-get_or, get_or_from_slice_get, slice_get_within}
+use Rattle.std.proofs.lemmas.Option.{slice_get-get_or, get_or_from_slice_get}
 use Rattle.pb_normal.specs.declared.numbered.NumberedLiteral.{NumberedLiteral}
-use Rattle.pb_normal.specs.meaning.Rules.{negation}
 use Rattle.pb_propagate.specs.declared.term.Term.{Term}
 use Rattle.pb_propagate.specs.declared.rests.Rests.{Rests}
 use Rattle.pb_propagate.specs.declared.run.Run.{Run}
@@ -13,99 +12,58 @@ use Rattle.pb_propagate.specs.declared.assignment.Assignment.{Assignment}
 use Rattle.pb_propagate.specs.declared.store.Store.{Store}
 use Rattle.pb_propagate.specs.declared.store.stored_form.StoredForm.{StoredForm}
 use Rattle.pb_propagate.specs.declared.clauses.Clauses.{Clauses}
-use Rattle.pb_propagate.specs.engine.Engine.Lists.{Shape, Derives, Puts, IsWithin, has, open_part, open_sum, size}
+use Rattle.pb_propagate.specs.engine.Engine.Lists.{Shape, HaveReasons, open_part, open_sum, size}
 use Rattle.pb_propagate.specs.engine.Engine.Fields.{shapes_of, stored_shape}
-use Rattle.pb_propagate.specs.engine.Engine.Root.{IsRooted, IsSpare, IsFree, IsReplaced, HasUnit, HasVacated, HasLost, IsSameWatch}
+use Rattle.pb_propagate.specs.engine.Engine.Root.{IsRooted, IsNeedless, IsOtherUnit, HasVacated, HasLost, IsSameWatch}
 use Rattle.pb_propagate.specs.engine.Clauses.Truths.{flip, true_at}
 use Rattle.pb_propagate.specs.engine.Clauses.Links.{lists_of, list_at, watch_at}
 use Rattle.pb_propagate.specs.engine.Clauses.Runs.{AreReady, AreWalked}
-use Rattle.pb_propagate.specs.engine.Clauses.Shapes.{AreJoined, one_term, literal_at, clause_shape, slot_shape, joined, clauses_of, all_of}
+use Rattle.pb_propagate.specs.engine.Clauses.Shapes.{AreJoined, one_term, literal_at, slot_shape, joined, clauses_of, all_of}
 use Rattle.pb_propagate.specs.engine.Clauses.Walked.{walked_codes}
 use Rattle.pb_propagate.proofs.lemmas.clauses.Linked.{lists-length}
-use Rattle.pb_propagate.proofs.lemmas.clauses.Literals.{false-listed}
-use Rattle.pb_propagate.proofs.lemmas.clauses.Shapes.{joined-at, joined-length, two-open}
+use Rattle.pb_propagate.proofs.lemmas.clauses.Shapes.{joined-at}
 use Rattle.pb_propagate.proofs.lemmas.clauses.Slots.{joined-cleared}
 use Rattle.pb_propagate.proofs.lemmas.clauses.Truths.{flip-half}
-use Rattle.pb_propagate.proofs.lemmas.engine.Values.{Agree}
 use Rattle.pb_propagate.proofs.lemmas.root.Admitted.{no-watch, form-kept}
 use Rattle.pb_propagate.specs.engine.Engine.Waiting.{IsWithout}
 use Rattle.pb_propagate.specs.declared.eager.Eager.{Eager}
 use Rattle.pb_propagate.proofs.lemmas.store.Gets.{get-set_other}
-use Rattle.pb_propagate.proofs.lemmas.root.Rooted.{derives-spare, IsPutBy, puts-other, only-one}
+use Rattle.pb_propagate.proofs.lemmas.engine.Reasoned.{IsMoved, moved-same, reasons-moved}
+use Rattle.pb_propagate.proofs.lemmas.clauses.Reasons.{stored-joined}
 use Rattle.pb_propagate.proofs.lemmas.engine.Literals.{open_part-open}
 use Rattle.std.proofs.lemmas.List.Sums.{sum_by-cons}
 
 -- a term of a clause is one of its literals, with coefficient 1
-clause-term : (codes : List ℕ) (l : NumberedLiteral) (c : ℕ) → Contains (map one_term codes) (record { literal = l; coefficient = c }) → (x : ℕ) × Contains codes x × (literal_at x ≡ l) × (c ≡ 1)
+pub clause-term : (codes : List ℕ) (l : NumberedLiteral) (c : ℕ) → Contains (map one_term codes) (record { literal = l; coefficient = c }) → (x : ℕ) × Contains codes x × (literal_at x ≡ l) × (c ≡ 1)
 clause-term codes l c (k, within, at) =
     let t : Term = record { literal = l; coefficient = c } in
     let inside : k < length codes = omega (arith, within, length-map codes one_term) in
     let one : one_term (get_or codes k 0) ≡ t = sym (get_or-map one_term codes k 0 t inside) ∙ at in
     (get_or codes k 0, (k, inside, get_or_default codes k (get_or codes k 0) 0 inside), ap (λ (y : Term). y.literal) one, sym (ap (λ (y : Term). y.coefficient) one))
 
-not-within : (a b : List NumberedLiteral) (k : NumberedLiteral) → ((j : NumberedLiteral) → has a j ≡ true → has b j ≡ true) → has b k ≡ false → has a k ≡ false
-not-within a b k w none = by (has a k) refl
-  where
-    by : (v : Bool) → has a k ≡ v → has a k ≡ false
-    by true h = absurd (both_ways _ none (w k h))
-    by false h = h
-
--- a literal that a clause has put, at any time before, is the only one that is not falsified
-pub put-code : (values : List (Option Bool)) (list : List NumberedLiteral) (codes : List ℕ) → Agree values list → (l : NumberedLiteral) (earlier : List NumberedLiteral) → IsWithin earlier list → Puts (clause_shape codes ∷ []) earlier l → (x : ℕ) × (literal_at x ≡ l) × ((m : ℕ) → IsFree values codes m → m ≡ x)
-put-code values list codes agree l earlier within puts =
-    let whole : clause_shape codes ≡ puts.form = only-one (clause_shape codes) puts.form puts.among in
-    let term : Contains (map one_term codes) (record { literal = l; coefficient = puts.coefficient }) = subst (λ (y : Shape). Contains y.terms (record { literal = l; coefficient = puts.coefficient })) (sym whole) puts.term in
-    let x = clause-term codes l puts.coefficient term in (
-      x.0,
-      x.2,
-      λ m free. elim (cases_eq m x.0) [
-        | inl is ↦ is
-        | inr apart ↦
-            let mine : has earlier (negation (literal_at x.0)) ≡ false = ap (λ k. has earlier (negation k)) x.2 ∙ puts.not_falsified in
-            let other : has earlier (negation (literal_at m)) ≡ false = not-within earlier list (negation (literal_at m)) within (sym (false-listed values list m agree) ∙ free.1) in
-            let two = two-open earlier codes x.0 m x.1 free.0 apart mine other in
-            absurd (omega (arith, two, puts.forced, x.3, ap (λ (y : Shape). y.degree) whole, ap (λ (y : Shape). open_sum earlier y.terms) whole))
-      ],
-    )
-
--- a clause with two literals that are not falsified has put none
-pub two-spare : (values : List (Option Bool)) (list : List NumberedLiteral) (codes : List ℕ) (m n : ℕ) → Agree values list → IsFree values codes m → IsFree values codes n → (n ≡ m → ⊥) → IsSpare (clause_shape codes) list
-two-spare values list codes m n agree free_m free_n apart l earlier on within puts =
-    let put = put-code values list codes agree l earlier within puts in
-    apart (put.2 n free_n ∙ sym (put.2 m free_m))
-
 -- a unit puts its literal
-pub unit-puts : (forms : List Shape) (slot : ℕ) (l : NumberedLiteral) (earlier : List NumberedLiteral) (x : Shape) → (u : HasUnit forms slot l) → Puts (x ∷ []) earlier l → Puts (get_or forms u.unit x ∷ []) earlier l
-unit-puts forms slot l earlier x u puts =
-    let y = get_or forms u.unit x in
+pub unit-moved : (shapes : List Shape) (clauses : List (List ℕ)) (slot unit : ℕ) (l : NumberedLiteral) (reasons : List ℕ) (x : Shape) → AreJoined shapes clauses → IsOtherUnit shapes slot l unit → slice_get reasons l.variable ≡ Some unit → IsMoved (joined shapes clauses) reasons l x
+unit-moved shapes clauses slot unit l reasons x j u at =
+    let y = get_or shapes unit x in
     let only = u.only x in
     let t : Term = record { literal = l; coefficient = only.0 } in
-    let free : open_part earlier t ≡ only.0 = open_part-open earlier t puts.not_falsified in
-    let sum = ap (open_sum earlier) only.1 in
-    let one = sum_by-cons (open_part earlier) t [] in
     record {
-      absent = puts.absent;
-      not_falsified = puts.not_falsified;
+      slot = unit;
       form = y;
-      among = (0, omega arith, refl);
-      coefficient = only.0;
-      term = subst (λ ts. Contains ts t) (sym only.1) (0, omega arith, refl);
-      forced = let positive = u.positive x in omega (arith, sum, one, free, positive);
+      reason = at;
+      stored = stored-joined shapes clauses unit y j (slice_get-get_or shapes unit x u.inside) (omega (arith, ap length only.1));
+      puts = λ earlier puts.
+          let free : open_part earlier t ≡ only.0 = open_part-open earlier t puts.not_falsified in
+          record {
+            absent = puts.absent;
+            not_falsified = puts.not_falsified;
+            form = y;
+            among = (0, omega arith, refl);
+            coefficient = only.0;
+            term = subst (λ ts. Contains ts t) (sym only.1) (0, omega arith, refl);
+            forced = omega (arith, ap (open_sum earlier) only.1, sum_by-cons (open_part earlier) t [], free, u.positive x);
+          };
     }
-
--- the same among the constraints of all slots
-pub unit-replaces : (store : Store) (clauses : Clauses) (slot : ℕ) (l : NumberedLiteral) (earlier : List NumberedLiteral) (x : Shape) → AreJoined (shapes_of store.stored.items) (clauses_of clauses) → HasUnit (shapes_of store.stored.items) slot l → Puts (x ∷ []) earlier l → (s : ℕ) × (s ≡ slot → ⊥) × (y : Shape) × (slice_get (all_of store clauses) s ≡ Some y) × Puts (y ∷ []) earlier l
-unit-replaces store clauses slot l earlier x joined u puts =
-    let shapes = shapes_of store.stored.items in
-    let y = get_or shapes u.unit x in
-    let bare : list_at (clauses_of clauses) u.unit ≡ [] = none-there (list_at (clauses_of clauses) u.unit) (λ some. let e = (joined.apart u.unit x u.inside some).0 in omega (arith, ap length (sym e ∙ (u.only x).1))) in
-    let is : get_or (all_of store clauses) u.unit x ≡ y = joined-at shapes (clauses_of clauses) u.unit x u.inside ∙ ap (slot_shape y) bare in
-    let inside : u.unit < length (all_of store clauses) = omega (arith, u.inside, joined-length shapes (clauses_of clauses)) in
-    (u.unit, u.apart, y, slice_get-get_or (all_of store clauses) u.unit x inside ∙ ap (λ z. Some z) is, unit-puts shapes slot l earlier x u puts)
-  where
-    none-there : (xs : List ℕ) → (0 < length xs → ⊥) → xs ≡ []
-    none-there [] n = refl
-    none-there (z ∷ zs) n = absurd (n (omega arith))
 
 -- the constraint of a slot
 pub slot-is : (store : Store) (clauses : Clauses) (slot : ℕ) (x : Shape) → slot < length store.stored.items → slice_get (all_of store clauses) slot ≡ Some x → x ≡ slot_shape (get_or (shapes_of store.stored.items) slot x) (list_at (clauses_of clauses) slot)
@@ -131,43 +89,27 @@ vacated-all before store old clauses slot g =
     let shapes : shapes_of store.stored.items ≡ set (shapes_of before.stored.items) slot (stored_shape k) = ap shapes_of g.kept.2 ∙ map-set stored_shape before.stored.items slot k in
     ap (λ xs. joined xs (clauses_of clauses)) shapes ∙ ap (joined (set (shapes_of before.stored.items) slot (stored_shape k))) g.emptied ∙ joined-cleared (shapes_of before.stored.items) (clauses_of old) slot (stored_shape k)
 
--- what followed still does
-pub lost-derives : (before store : Store) (old clauses : Clauses) (slot : ℕ) (list : List NumberedLiteral) → HasVacated before old store clauses slot → IsReplaced (all_of before old) slot list → Derives (all_of before old) [] list → Derives (all_of store clauses) [] list
-lost-derives before store old clauses slot list g spare d = derives-spare (all_of before old) (all_of store clauses) [] list source d
-  where
-    k : StoredForm
-    k = g.kept.0
-
-    all : all_of store clauses ≡ set (all_of before old) slot (stored_shape k)
-    all = vacated-all before store old clauses slot g
-
-    source : (x : Shape) → Contains (all_of before old) x → (Contains (all_of store clauses) x) ⊎ (IsPutBy (all_of store clauses) x list)
-    source x (i, less, is) = elim (cases_eq i slot) [
-      | inl here ↦ inr (λ l earlier on within puts.
-          let at : slice_get (all_of before old) slot ≡ Some x = ap (slice_get (all_of before old)) (sym here) ∙ slice_get-get_or (all_of before old) i x less ∙ ap (λ y. Some y) is in
-          let by = spare x l earlier at on within puts in
-          puts-other (by.2 ∷ []) (all_of store clauses) earlier l by.4 (moved by.2 by.0 by.1 by.3 by.4))
-      | inr apart ↦ inl (i, omega (arith, less, ap length all, length-set (all_of before old) slot (stored_shape k)), ap (λ xs. get_or xs i x) all ∙ get_or-set_other (all_of before old) slot i (stored_shape k) x apart ∙ is)
-    ]
-      where
-        moved : (y : Shape) (t : ℕ) → (t ≡ slot → ⊥) → slice_get (all_of before old) t ≡ Some y → {earlier : List NumberedLiteral} {l : NumberedLiteral} (p : Puts (y ∷ []) earlier l) → Contains (all_of store clauses) p.form
-        moved y t apart at p =
-            let one : y ≡ p.form = only-one y p.form p.among in
-            let inside = slice_get_within (all_of before old) t y at in
-            subst (Contains (all_of store clauses)) one (t, omega (arith, inside, ap length all, length-set (all_of before old) slot (stored_shape k)), ap (λ xs. get_or xs t y) all ∙ get_or-set_other (all_of before old) slot t (stored_shape k) y apart ∙ get_or_from_slice_get (all_of before old) t y y at)
+-- the reasons still hold
+pub lost-reasons : (before store : Store) (old clauses : Clauses) (slot : ℕ) (a : Assignment) → HasVacated before old store clauses slot → IsNeedless (all_of before old) slot a → HaveReasons (all_of store clauses) a.reasons.items [] a.list.items
+lost-reasons before store old clauses slot a g n =
+    let all = vacated-all before store old clauses slot g in
+    reasons-moved (all_of before old) (all_of store clauses) a.reasons.items a.reasons.items [] a.list.items (λ l s x on at stored some. elim (cases_eq s slot) [
+      | inl here ↦ absurd (n.none l (on, at ∙ ap (λ y. Some y) here))
+      | inr apart ↦ moved-same (all_of store clauses) a.reasons.items l s x at (ap (λ xs. slice_get xs s) all ∙ get-set_other (all_of before old) slot s (stored_shape g.kept.0) apart ∙ stored)
+    ]) n.reasoned
 
 -- the root stays
 pub lost-rooted : (before store : Store) (old clauses : Clauses) (run run' : Run) (rests rests' : Rests) (waiting waiting' : Eager) (slot : ℕ) → slot < length before.stored.items → slot < length old.literals.items → AreReady clauses → HasVacated before old store clauses slot → HasLost run run' rests rests' slot → IsWithout slot waiting.list.items waiting'.list.items → length waiting'.seats.items ≡ length waiting.seats.items →
-    IsReplaced (all_of before old) slot run.assignment.list.items → IsRooted before old run rests waiting (length before.stored.items) → IsRooted store clauses run' rests' waiting' (length store.stored.items)
+    IsNeedless (all_of before old) slot run'.assignment → IsRooted before old run rests waiting (length before.stored.items) → IsRooted store clauses run' rests' waiting' (length store.stored.items)
 lost-rooted before store old clauses run run' rests rests' waiting waiting' slot inside room ready g h without seats spare r = record {
-  values = ap (λ (x : Assignment). length x.values.items) h.assignment ∙ r.values ∙ sym g.variables;
+  values = ap length valued ∙ r.values ∙ sym g.variables;
   opens = h.opens ∙ ap (λ xs. set xs slot 0) r.opens ∙ sym h.rest_opens;
   starts = h.candidates ∙ ap (λ xs. set xs slot 0) r.starts ∙ sym h.rest_starts;
   open_sizes = ap length h.opens ∙ length-set run.opens.items slot 0 ∙ r.open_sizes ∙ sym longer;
   start_sizes = ap length h.candidates ∙ length-set run.candidates.items slot 0 ∙ r.start_sizes ∙ sym longer;
   counted = λ s d less off. elim (cases_eq s slot) [
     | inl here ↦ open-here s here ∙ sym (ap (open_sum run'.assignment.list.items) (bare s d here).0)
-    | inr apart ↦ rw h.assignment (open-other s apart ∙ r.counted s d (was s less) (λ e. absurd (omega (arith, e, was s less))) ∙ ap (λ (f : Shape). open_sum run.assignment.list.items f.terms) (sym (shape s d apart)))
+    | inr apart ↦ rw listed (open-other s apart ∙ r.counted s d (was s less) (λ e. absurd (omega (arith, e, was s less))) ∙ ap (λ (f : Shape). open_sum run.assignment.list.items f.terms) (sym (shape s d apart)))
   ];
   tidy = record {
     calm = λ s d less off away gone. elim (cases_eq s slot) [
@@ -183,7 +125,7 @@ lost-rooted before store old clauses run run' rests rests' waiting waiting' slot
       | inl here ↦ absurd (omega (arith, within, ap length (bare s d here).0))
       | inr apart ↦
           let done = r.tidy.passed s d (shorter s less) k f (omega (arith, early, cand-other s apart)) (omega (arith, within, ap (λ (x : Shape). length x.terms) (shape s d apart))) in
-          rw (shape s d apart, h.assignment) done
+          rw (shape s d apart, listed) done
     ];
     bounded = λ s d less. elim (cases_eq s slot) [
       | inl here ↦ omega (arith, cand-here s here)
@@ -203,8 +145,8 @@ lost-rooted before store old clauses run run' rests rests' waiting waiting' slot
   work = ap (λ (v : Vec ℕ Global). v.items) h.work ∙ r.work;
   trail = ap (λ (v : Vec ℕ Global). v.items) h.trail ∙ r.trail;
   next = h.next ∙ r.next;
-  derived = rw h.assignment (lost-derives before store old clauses slot run.assignment.list.items g spare r.derived);
-  walked = rw h.assignment (vacated-walked run.assignment.values.items old clauses (walked_codes (length run.assignment.list.items) run.assignment.list.items) slot ready none_there g.watched r.walked);
+  reasoned = lost-reasons before store old clauses slot run'.assignment g spare;
+  walked = rw (valued, listed) (vacated-walked run.assignment.values.items old clauses (walked_codes (length run.assignment.list.items) run.assignment.list.items) slot ready none_there g.watched r.walked);
   seats = seats ∙ r.seats ∙ sym longer;
   live = λ i s at.
       let w = without.older i s at in
@@ -213,6 +155,12 @@ lost-rooted before store old clauses run run' rests rests' waiting waiting' slot
   where
     k : StoredForm
     k = g.kept.0
+
+    listed : run'.assignment.list.items ≡ run.assignment.list.items
+    listed = ap (λ (v : Vec NumberedLiteral Global). v.items) h.list
+
+    valued : run'.assignment.values.items ≡ run.assignment.values.items
+    valued = ap (λ (v : Vec (Option Bool) Global). v.items) h.values
 
     longer : length store.stored.items ≡ length before.stored.items
     longer = ap length g.kept.2 ∙ length-set before.stored.items slot k

@@ -29,7 +29,7 @@ use Rattle.pb_propagate.proofs.lemmas.clauses.Killed.{IsOneSided, risen, killed-
 use Rattle.pb_propagate.proofs.lemmas.engine.Bounds.{joined-terms}
 use Rattle.pb_propagate.proofs.lemmas.root.Admitted.{slot-counted, slot-tidy}
 use Rattle.pb_propagate.proofs.lemmas.root.Extends.{killed-longer}
-use Rattle.pb_propagate.proofs.lemmas.root.Rooted.{owned, derives-without, root-short, both-le}
+use Rattle.pb_propagate.proofs.lemmas.root.Rooted.{owned, derives-within, root-short, both-le}
 
 -- the root is no longer than the forms have terms
 pub root-few : (store : Store) (clauses : List (List ℕ)) (list : List NumberedLiteral) → IsSound store → AreJoined (shapes_of store.stored.items) clauses → AreSingle list → IsOneSided list → Derives (joined (shapes_of store.stored.items) clauses) [] list → length list ≤ sum_by (λ (f : Shape). length f.terms) (joined (shapes_of store.stored.items) clauses)
@@ -160,7 +160,7 @@ undone-same rests forms opens cands n u long o c r s = (
 
 -- the constraints that are asked about are those of the root and one more
 pub derives-entered : (shapes : List Shape) (x : Shape) (given list : List NumberedLiteral) → Derives shapes given list → Derives (shapes ++ (x ∷ [])) given list
-derives-entered shapes x given list d = derives-without shapes (shapes ++ (x ∷ [])) given list (λ f h. inl (Contains-append_left shapes (x ∷ []) f h)) d
+derives-entered shapes x given list d = derives-within shapes (shapes ++ (x ∷ [])) given list (Contains-append_left shapes (x ∷ [])) d
 
 pub kept-terms : (f : Form) (x : Shape) → IsStoredAs f x → length x.terms ≡ length f.terms
 kept-terms f x k = omega (arith, length_permutation (map entry_of x.terms) f.terms k.terms, length-map x.terms entry_of)

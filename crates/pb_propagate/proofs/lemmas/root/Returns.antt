@@ -17,7 +17,7 @@ use Rattle.pb_propagate.specs.declared.clause.Group.TheVariants.{Short, Long}
 use Rattle.pb_propagate.specs.engine.Engine.Counts.{AreSingle, IsCounted, IsUndone, spent, weight_in}
 use Rattle.pb_propagate.specs.engine.Engine.Denial.{RunRefutes}
 use Rattle.pb_propagate.specs.engine.Engine.Fields.{shapes_of, entries_of, stored_shape}
-use Rattle.pb_propagate.specs.engine.Engine.Lists.{same, has, IsWithin, Extends}
+use Rattle.pb_propagate.specs.engine.Engine.Lists.{same, has, IsWithin, Extends, KeepsReasons}
 use Rattle.pb_propagate.specs.engine.Engine.Progress.{Costs, Advances, RunSpends, RunPays, progress, database}
 use Rattle.pb_propagate.specs.engine.Engine.Root.{IsRooted}
 use Rattle.pb_propagate.specs.engine.Clauses.Runs.{Grows, AreWalked, AreWithin, passed_of}
@@ -26,6 +26,7 @@ use Rattle.pb_propagate.specs.engine.Clauses.Walked.{fallen, falsified_code, wal
 use Rattle.pb_propagate.proofs.lemmas.clauses.Counts.{passed-most}
 use Rattle.pb_propagate.proofs.lemmas.clauses.Literals.{Agree}
 use Rattle.pb_propagate.proofs.lemmas.clauses.Walks.{grows-listed}
+use Rattle.pb_propagate.proofs.lemmas.engine.Reasoned.{reasons-keep}
 use Rattle.pb_propagate.proofs.lemmas.root.Extends.{extends-then, spent-extends, killed-longer}
 use Rattle.pb_propagate.proofs.lemmas.root.Roots.{keep-all, walked-agree}
 
@@ -102,6 +103,7 @@ pub record IsBack (store : Store) (between after : Clauses) (run last : Run) (re
   pub literals : clauses_of after ≡ clauses_of between
   pub kept : AreWalked run.assignment.values.items between.watches.items (walked_codes (length run.assignment.list.items) run.assignment.list.items) → AreWalked run.assignment.values.items after.watches.items (walked_codes (length run.assignment.list.items) run.assignment.list.items)
   pub extends : Extends run.assignment.list.items new
+  pub reasons : KeepsReasons run.assignment.list.items run.assignment.reasons.items last.assignment.reasons.items
   pub cut : last.assignment.list.items ≡ take (length run.assignment.list.items) new
   pub values : length last.assignment.values.items ≡ length run.assignment.values.items
   pub opens : length last.opens.items ≡ length store.stored.items
@@ -132,7 +134,7 @@ back-rooted store between after run last rests waiting new r b =
       work = b.work;
       trail = b.trail;
       next = b.next;
-      derived = rw (b.literals, list_is) r.derived;
+      reasoned = rw (b.literals, list_is) (reasons-keep run.assignment.reasons.items last.assignment.reasons.items b.reasons r.reasoned);
       walked = rw list_is walked;
       seats = r.seats;
       live = r.live;

@@ -1,6 +1,6 @@
 -- Literals that forms force with nothing assumed.
 use Rattle.std.specs.Prelude.{Bool, true, false, Contains, map, sum_by, Some, slice_get, slice_index_or}
-use Rattle.std.proofs.Common.{◌≡◌, ℕ, zero, suc, ◌+◌, ◌<◌, ◌≤◌, ◌⊎◌, ◌++◌, ◌∷◌, [], List, refl, sym, ◌∙◌, ap, subst, arith, inl, inr, length, get_or, set, length-append, get_or-set_other}
+use Rattle.std.proofs.Common.{◌≡◌, ℕ, zero, suc, ◌+◌, ◌<◌, ◌≤◌, ◌++◌, ◌∷◌, [], List, refl, sym, ◌∙◌, ap, subst, arith, inl, inr, length, get_or, set, length-append, get_or-set_other}
 use Rattle.std.proofs.lemmas.Bool.{cases_lt, both_ways, or_left, or_right}
 use Rattle.std.proofs.lemmas.List.{get_or_past, set_past, get_or-map, length-map, get_or_default}
 use Rattle.std.proofs.lemmas.List.Sums.{sum_by-set, sum_by_push, sum_by-cons}
@@ -8,15 +8,13 @@ use Rattle.std.proofs.lemmas.Option.{slice_get-get_or, slice_get_past}
 use Rattle.pb_normal.specs.declared.numbered.NumberedLiteral.{NumberedLiteral}
 use Rattle.pb_normal.specs.meaning.Rules.{negation}
 use Rattle.pb_propagate.specs.declared.term.Term.{Term}
-use Rattle.pb_propagate.specs.engine.Engine.Lists.{Shape, Weighted, same, has, Puts, Derives, begin, put, IsWithin}
+use Rattle.pb_propagate.specs.engine.Engine.Lists.{Shape, Weighted, same, has, Puts, Derives, begin, put}
 use Rattle.pb_propagate.specs.engine.Engine.Counts.{place, spent, AreSingle, none, more}
 use Rattle.pb_propagate.specs.engine.Engine.Links.{terms_at, entry_cross, term_cross, entry_at, term_at, IsStored}
-use Rattle.pb_propagate.specs.engine.Engine.Root.{IsSpare}
 use Rattle.pb_propagate.specs.engine.Clauses.Links.{list_at}
 use Rattle.pb_propagate.specs.engine.Clauses.Shapes.{one_term, literal_at, code_in, joined}
 use Rattle.pb_propagate.specs.declared.clause.Group.TheVariants.{Short, Long}
 use Rattle.pb_propagate.proofs.lemmas.engine.Literals.{same-refl, negation-negation, has-push_old, has-push_new}
-use Rattle.pb_propagate.proofs.lemmas.engine.Derivations.{one_itself}
 use Rattle.pb_propagate.proofs.lemmas.store.Crosses.{to, to-none}
 use Rattle.pb_propagate.proofs.lemmas.root.Cuts.{absent-before}
 use Rattle.pb_propagate.proofs.lemmas.engine.Spent.{place-injective}
@@ -24,10 +22,6 @@ use Rattle.pb_propagate.proofs.lemmas.clauses.Literals.{code-of}
 use Rattle.pb_propagate.proofs.lemmas.clauses.Counts.{occurs}
 use Rattle.pb_propagate.proofs.lemmas.clauses.Shapes.{joined-source}
 use Rattle.pb_propagate.proofs.lemmas.clauses.Killed.{IsOneSided, risen, risen-push, occurs-some}
-
--- no literal of the form is on the list
-abbrev pub IsUnused : Shape → List NumberedLiteral → Type 0
-IsUnused x list = (l : NumberedLiteral) (c : ℕ) → Contains x.terms (record { literal = l; coefficient = c }) → has list l ≡ false
 
 pub puts-other : (a b : List Shape) (list : List NumberedLiteral) (l : NumberedLiteral) (m : Puts a list l) → Contains b m.form → Puts b list l
 puts-other a b list l m among = record {
@@ -40,44 +34,14 @@ puts-other a b list l m among = record {
   forced = m.forced;
 }
 
--- each literal that the form has put, at any time before, may be put by one of the others
-abbrev pub IsPutBy : List Shape → Shape → List NumberedLiteral → Type 0
-IsPutBy others x list = (l : NumberedLiteral) (earlier : List NumberedLiteral) → has list l ≡ true → IsWithin earlier list → Puts (x ∷ []) earlier l → Puts others earlier l
-
--- a derivation needs only the forms that have put one of its literals and have no substitute
-pub derives-spare : (a b : List Shape) (given list : List NumberedLiteral) → ((x : Shape) → Contains a x → (Contains b x) ⊎ (IsPutBy b x list)) → Derives a given list → Derives b given list
-derives-spare a b given _ h begin = begin
-derives-spare a b given _ h (put {list} l d m) = put l (derives-spare a b given list before d) used
-  where
-    before : (x : Shape) → Contains a x → (Contains b x) ⊎ (IsPutBy b x list)
-    before x c = elim (h x c) [
-      | inl in_b ↦ inl in_b
-      | inr spare ↦ inr (λ k earlier on within puts. spare k earlier (has-push_old list l k on) (λ j at. has-push_old list l j (within j at)) puts)
-    ]
-
-    used : Puts b list l
-    used = elim (h m.form m.among) [
-      | inl in_b ↦ puts-other a b list l m in_b
-      | inr spare ↦ spare l list (has-push_new list l) (λ j at. has-push_old list l j at) (puts-other a (m.form ∷ []) list l m (one_itself m.form))
-    ]
-
 pub only-one : (x y : Shape) → Contains (x ∷ []) y → x ≡ y
 only-one x y (zero, inside, is) = is
 only-one x y (suc i, inside, is) = absurd (omega (arith, inside))
 
--- a form has put no literal that it lacks
-pub unused-spare : (x : Shape) (list : List NumberedLiteral) → IsUnused x list → IsSpare x list
-unused-spare x list unused l earlier on within puts =
-    let mine : Contains x.terms (record { literal = l; coefficient = puts.coefficient }) = subst (λ (y : Shape). Contains y.terms (record { literal = l; coefficient = puts.coefficient })) (sym (only-one x puts.form puts.among)) puts.term in
-    both_ways _ (unused l puts.coefficient mine) on
-
--- a derivation needs only the forms that contain one of its literals
-pub derives-without : (a b : List Shape) (given list : List NumberedLiteral) → ((x : Shape) → Contains a x → (Contains b x) ⊎ (IsUnused x list)) → Derives a given list → Derives b given list
-derives-without a b given list h d = derives-spare a b given list
-    (λ x c. elim (h x c) [
-      | inl in_b ↦ inl in_b
-      | inr unused ↦ inr (λ l earlier on within puts. absurd (unused-spare x list unused l earlier on within puts))
-    ]) d
+-- a derivation holds among more constraints
+pub derives-within : (a b : List Shape) (given list : List NumberedLiteral) → ((x : Shape) → Contains a x → Contains b x) → Derives a given list → Derives b given list
+derives-within a b given _ h begin = begin
+derives-within a b given _ h (put {list} l d m) = put l (derives-within a b given list h d) (puts-other a b list l m (h m.form m.among))
 
 -- the number of entries in the lists of a list's literals
 abbrev pub owned : List (List Weighted) → List NumberedLiteral → ℕ

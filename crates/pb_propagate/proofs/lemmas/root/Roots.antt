@@ -15,7 +15,7 @@ use Rattle.pb_propagate.specs.declared.store.Store.{Store}
 use Rattle.pb_propagate.specs.declared.store.stored_form.StoredForm.{StoredForm}
 use Rattle.pb_propagate.specs.declared.clauses.Clauses.{Clauses}
 use Rattle.pb_propagate.specs.declared.clauses.lists.Watch.{Watch}
-use Rattle.pb_propagate.specs.engine.Engine.Lists.{Shape, Derives, size}
+use Rattle.pb_propagate.specs.engine.Engine.Lists.{Shape, HaveReasons, KeepsReasons, size}
 use Rattle.pb_propagate.specs.engine.Engine.Counts.{IsAbsent, IsCounted, IsTidy, IsUndone, beside, rest_open, rest_start, weight_in}
 use Rattle.pb_propagate.specs.engine.Engine.Fields.{shapes_of, stored_shape}
 use Rattle.pb_propagate.specs.engine.Engine.Rest.{AreAtRest, IsEager}
@@ -24,6 +24,7 @@ use Rattle.pb_propagate.specs.engine.Clauses.Runs.{AreWalked}
 use Rattle.pb_propagate.specs.engine.Clauses.Shapes.{all_of}
 use Rattle.pb_propagate.specs.engine.Clauses.Walked.{walked_codes}
 use Rattle.pb_propagate.proofs.lemmas.store.Gets.{lt_of_apart}
+use Rattle.pb_propagate.proofs.lemmas.engine.Reasoned.{reasons-keep}
 use Rattle.pb_propagate.proofs.lemmas.engine.VisitSteps.{open-now}
 use Rattle.pb_propagate.proofs.lemmas.engine.Rests.{rest-at, rest-lengths, calm-but}
 use Rattle.pb_propagate.proofs.lemmas.engine.Rested.{open_sum-empty}
@@ -94,7 +95,7 @@ pub record IsEnded (store : Store) (clauses : Clauses) (run : Run) : Type 0 wher
   pub opens : length run.opens.items ≡ length store.stored.items
   pub candidates : length run.candidates.items ≡ length store.stored.items
   pub counted : IsCounted (shapes_of store.stored.items) run.opens.items run.assignment.list.items []
-  pub derived : Derives (all_of store clauses) [] run.assignment.list.items
+  pub reasoned : HaveReasons (all_of store clauses) run.assignment.reasons.items [] run.assignment.list.items
   pub walked : AreWalked run.assignment.values.items clauses.watches.items (walked_codes (length run.assignment.list.items) run.assignment.list.items)
 
 pub kept-rooted : (store : Store) (clauses : Clauses) (run run' : Run) (rests rests' : Rests) (aside : List ℕ) (waiting' : Eager) → IsEnded store clauses run →
@@ -118,7 +119,7 @@ kept-rooted store clauses run run' rests rests' aside waiting' e tidy waits k se
       work = k.work;
       trail = k.trail;
       next = k.next;
-      derived = rw k.assignment e.derived;
+      reasoned = rw k.assignment e.reasoned;
       walked = rw k.assignment e.walked;
       seats = seats;
       live = live;
@@ -170,7 +171,7 @@ rooted-counted visits r = record {
   work = r.work;
   trail = r.trail;
   next = r.next;
-  derived = r.derived;
+  reasoned = r.reasoned;
   walked = r.walked;
   seats = r.seats;
   live = r.live;
@@ -184,9 +185,9 @@ walked-agree values values' list ws codes a b w = record {
 }
 
 -- one more variable, which has no value
-pub widened-rooted : (store store' : Store) (clauses clauses' : Clauses) (run : Run) (assignment : Assignment) (rests : Rests) (waiting : Eager) → store'.stored ≡ store.stored → store'.variables ≡ store.variables + 1 → clauses'.literals ≡ clauses.literals → clauses'.watches ≡ clauses.watches → assignment.list.items ≡ run.assignment.list.items → length assignment.values.items ≡ length run.assignment.values.items + 1 →
+pub widened-rooted : (store store' : Store) (clauses clauses' : Clauses) (run : Run) (assignment : Assignment) (rests : Rests) (waiting : Eager) → store'.stored ≡ store.stored → store'.variables ≡ store.variables + 1 → clauses'.literals ≡ clauses.literals → clauses'.watches ≡ clauses.watches → assignment.list.items ≡ run.assignment.list.items → length assignment.values.items ≡ length run.assignment.values.items + 1 → KeepsReasons run.assignment.list.items run.assignment.reasons.items assignment.reasons.items →
     IsRooted store clauses run rests waiting (length store.stored.items) → IsRooted store' clauses' (record { opens = run.opens; candidates = run.candidates; assignment = assignment; work = run.work; next = run.next; trail = run.trail; visits = run.visits }) rests waiting (length store'.stored.items)
-widened-rooted store store' clauses clauses' run assignment rests waiting stored variables literals watches list values r =
+widened-rooted store store' clauses clauses' run assignment rests waiting stored variables literals watches list values keeps r =
     let agrees : Agree assignment.values.items run.assignment.list.items = subst (Agree assignment.values.items) list assignment.agrees in
     let walked = walked-agree run.assignment.values.items assignment.values.items run.assignment.list.items clauses.watches.items (walked_codes (length run.assignment.list.items) run.assignment.list.items) run.assignment.agrees agrees r.walked in
     record {
@@ -200,7 +201,7 @@ widened-rooted store store' clauses clauses' run assignment rests waiting stored
       work = r.work;
       trail = r.trail;
       next = r.next;
-      derived = rw (stored, literals, list) r.derived;
+      reasoned = rw (stored, literals, list) (reasons-keep run.assignment.reasons.items assignment.reasons.items keeps r.reasoned);
       walked = rw (list, watches) walked;
       seats = rw stored r.seats;
       live = rw stored r.live;

@@ -1,17 +1,19 @@
 use Rattle.std.specs.Prelude.{sum, sum_by}
 use Rattle.std.proofs.Common.{◌+◌, ◌<◌, ◌≤◌, ◌++◌, ◌∷◌, [], ℕ, List, Vec, Global, length, drop, get_or, sym, ap, subst, inl, inr, ◌∙◌, arith}
 use Rattle.std.proofs.lemmas.List.{length-map, get_or_default, take_rest, drop_all}
-use Rattle.pb_propagate.specs.engine.Engine.Lists.{Derives, Conflicts, IsSettled}
+use Rattle.pb_propagate.specs.engine.Engine.Lists.{Conflicts, IsSettled}
 use Rattle.pb_propagate.specs.engine.Engine.Counts.{spent}
 use Rattle.pb_propagate.specs.engine.Engine.Fields.{shapes_of, entries_of, stored_shape}
 use Rattle.pb_propagate.specs.engine.Clauses.Truths.{false_at}
 use Rattle.pb_propagate.specs.engine.Clauses.Links.{lists_of}
 use Rattle.pb_propagate.specs.engine.Clauses.Runs.{AreServed, AreWalked, passed_of}
 use Rattle.pb_propagate.specs.engine.Clauses.Shapes.{all_of, clauses_of, joined}
-use Rattle.pb_propagate.proofs.lemmas.engine.Derivations.{derivation-then, derivation-keeps}
+use Rattle.pb_propagate.proofs.lemmas.engine.Derivations.{derivation-keeps}
+use Rattle.pb_propagate.proofs.lemmas.engine.Reasoned.{reasons-derive, run-reasons-none, run-reasons-then}
+use Rattle.pb_propagate.proofs.lemmas.clauses.Reasons.{run-reasons-joined}
 use Rattle.pb_propagate.proofs.lemmas.engine.Propagated.{propagating-start, propagating-visit, propagating-next, propagating-walk, propagating-bound, propagating-take, propagating-settled, propagating-spends}
 use Rattle.pb_propagate.proofs.lemmas.engine.Watched.{walk-covered}
-use Rattle.pb_propagate.specs.engine.Engine.Progress.{progress, database, queued_to}
+use Rattle.pb_propagate.specs.engine.Engine.Progress.{progress, database, queued_to, RunReasons}
 use Rattle.pb_propagate.proofs.lemmas.root.Extends.{extends-none}
 use Rattle.pb_propagate.specs.engine.Clauses.Walked.{IsAhead, head, advanced, falsified_code}
 use Rattle.pb_propagate.specs.declared.heads.Heads.{Heads}
@@ -32,7 +34,8 @@ work-init c =
       kept = λ base codes more old. old;
       taken = omega arith;
       watching = watching-start c.args.clauses.now run.assignment.values.items run.assignment.list.items c.args.from c.requires.running c.requires.from c.requires.walked;
-      state = propagating-start (database c.args.store.now c.args.rests.now) (all_of store c.args.clauses.now) c.args.waiting.now (length store.stored.items) (cost c.args.clauses.now c.args.clauses.now (record { short = c.args.from; long = c.args.from }) run.assignment.list.items) (progress run) c.requires.counted c.requires.tidy c.requires.opens c.requires.candidates c.requires.next;
+      reasons = run-reasons-none (all_of store c.args.clauses.now) run;
+      state = propagating-start (database c.args.store.now c.args.rests.now) c.args.waiting.now (length store.stored.items) (cost c.args.clauses.now c.args.clauses.now (record { short = c.args.from; long = c.args.from }) run.assignment.list.items) (progress run) c.requires.counted c.requires.tidy c.requires.opens c.requires.candidates c.requires.next;
     }
 
 pub next_walk-requires : goal.next_walk-requires
@@ -100,15 +103,10 @@ returns-then-branch-2-clause-costs c =
     let broken = cost-broken c.args.clauses.now c.work.clauses c.walk.new.clauses run.assignment.values.items run.assignment.list.items a.group c.work.heads run.visits done.visits (spent lists run.assignment.list.items) (spent lists done.assignment.list.items) a.literal (state.costs.single c.requires.single) a.inside a.is c.walk.ensures.bounded covered w in
     propagating-spends (clauses_of c.args.clauses.now) (advanced a.group c.work.heads) (sum_by length (clauses_of c.args.clauses.now)) (progress done) 0 c.requires.single c.requires.next state costs.extends costs.single (omega (arith, bounded, ap sum same)) (omega (arith, state.within)) (omega (arith, broken, ap sum same))
 
-pub returns-then-branch-2-clause-derived : goal.returns-then-branch-2-clause-derived
-returns-then-branch-2-clause-derived c =
-    let store = c.args.store.now in
-    let start = c.args.run.now in
-    let run = c.work.run in
-    let state = c.work.invariant.state in
+pub returns-then-branch-2-clause-reasons : goal.returns-then-branch-2-clause-reasons
+returns-then-branch-2-clause-reasons c =
     let w = c.work.invariant.watching in
-    let derived = subst (λ ls. Derives (joined (shapes_of c.args.store.now.stored.items) (lists_of ls.items)) c.work.run.assignment.list.items c.walk.new.run.assignment.list.items) w.literals c.in_ok-walk.ensures.derived in
-    derivation-then (all_of store c.args.clauses.now) start.assignment.list.items run.assignment.list.items c.walk.new.run.assignment.list.items state.derived derived
+    run-reasons-then c.work.invariant.reasons (subst (λ ls. RunReasons (joined (shapes_of c.args.store.now.stored.items) (lists_of ls.items)) c.work.run c.walk.new.run) w.literals c.in_ok-walk.ensures.reasons)
 
 pub returns-then-branch-2-clause-undone : goal.returns-then-branch-2-clause-undone
 returns-then-branch-2-clause-undone c =
@@ -194,7 +192,8 @@ work-preserved-in-Some c =
     let reported = c.in_ok-walk.ensures in
     let same = ap (λ (v : Vec ℕ Global). v.items) c.walk.ensures.candidates in
     let covered = walk-covered (database c.args.store.now c.args.rests.now) c.work.clauses c.walk.new.clauses c.in-Some.ahead.code (falsified_code a.group a.literal) same a.code reported.advances.costs in
-    let derived = subst (λ ls. Derives (joined (shapes_of c.args.store.now.stored.items) (lists_of ls.items)) c.work.run.assignment.list.items c.walk.new.run.assignment.list.items) w.literals reported.derived in
+    let reasons = subst (λ ls. RunReasons (joined (shapes_of c.args.store.now.stored.items) (lists_of ls.items)) c.work.run c.walk.new.run) w.literals reported.reasons in
+    let derived = reasons-derive reasons.added in
     let after = λ (n : ℕ) (within : n ≤ length run.assignment.list.items). derived-take (all_of store c.args.clauses.now) run.assignment.list.items done.assignment.list.items n within derived in
     let paid = subst (λ (h : Heads). done.visits + spent lists run.assignment.list.items + cost c.args.clauses.now c.work.clauses c.work.heads run.assignment.list.items ≤ run.visits + cost c.args.clauses.now c.walk.new.clauses h done.assignment.list.items + spent lists done.assignment.list.items) (sym a.after)
     (cost-next c.args.clauses.now c.work.clauses c.walk.new.clauses run.assignment.values.items run.assignment.list.items done.assignment.list.items a.group c.work.heads run.visits done.visits (spent lists run.assignment.list.items) (spent lists done.assignment.list.items) a.literal (state.costs.single c.requires.single) a.inside a.is after covered w) in
@@ -205,7 +204,8 @@ work-preserved-in-Some c =
       taken = c.work.invariant.taken;
       watching = subst (IsWatching c.args.clauses.now c.walk.new.clauses done.assignment.values.items done.assignment.list.items) (sym a.after)
           (watching-next (all_of store c.args.clauses.now) c.args.clauses.now c.work.clauses c.walk.new.clauses run.assignment.values.items done.assignment.values.items run.assignment.list.items done.assignment.list.items a.group c.work.heads a.literal a.inside a.is next.failed reported.literals reported.running derived walked w);
-      state = propagating-walk (cost c.args.clauses.now c.walk.new.clauses c.in-Some.ahead.heads done.assignment.list.items) state derived (reported.counted c.if-branch-2.false) (reported.tidy (drop c.work.taken c.args.waiting.now) (length store.stored.items) state.tidy) reported.advances reported.found same paid;
+      reasons = run-reasons-then c.work.invariant.reasons reasons;
+      state = propagating-walk (cost c.args.clauses.now c.walk.new.clauses c.in-Some.ahead.heads done.assignment.list.items) state (reported.counted c.if-branch-2.false) (reported.tidy (drop c.work.taken c.args.waiting.now) (length store.stored.items) state.tidy) reported.advances reported.found same paid;
     }
 
 pub visit_form-requires-clause-tidy : goal.visit_form-requires-clause-tidy
@@ -245,18 +245,13 @@ returns-then-branch-clause-running c =
     let state = c.work.invariant.state in
     let w = c.work.invariant.watching in
     let done = c.visit_form.new.run in
-    let derived = derives-joined (shapes_of store.stored.items) (clauses_of c.args.clauses.now) run.assignment.list.items done.assignment.list.items c.requires.joined c.in_ok-visit_form.ensures.derived in
+    let derived = derives-joined (shapes_of store.stored.items) (clauses_of c.args.clauses.now) run.assignment.list.items done.assignment.list.items c.requires.joined (reasons-derive c.in_ok-visit_form.ensures.reasons.added) in
     let grows = grows-listed run.assignment.values.items done.assignment.values.items run.assignment.list.items done.assignment.list.items c.in_ok-visit_form.ensures.advances.values run.assignment.agrees done.assignment.agrees (derivation-keeps (all_of store c.args.clauses.now) run.assignment.list.items done.assignment.list.items derived) in
     running-grow c.work.clauses run.assignment.values.items done.assignment.values.items grows w.running
 
-pub returns-then-branch-clause-derived : goal.returns-then-branch-clause-derived
-returns-then-branch-clause-derived c =
-    let store = c.args.store.now in
-    let run = c.work.run in
-    let state = c.work.invariant.state in
-    let done = c.visit_form.new.run in
-    let derived = derives-joined (shapes_of store.stored.items) (clauses_of c.args.clauses.now) run.assignment.list.items done.assignment.list.items c.requires.joined c.in_ok-visit_form.ensures.derived in
-    derivation-then (all_of store c.args.clauses.now) c.args.run.now.assignment.list.items run.assignment.list.items done.assignment.list.items state.derived derived
+pub returns-then-branch-clause-reasons : goal.returns-then-branch-clause-reasons
+returns-then-branch-clause-reasons c =
+    run-reasons-then c.work.invariant.reasons (run-reasons-joined (shapes_of c.args.store.now.stored.items) (clauses_of c.args.clauses.now) c.work.run c.visit_form.new.run c.requires.joined c.in_ok-visit_form.ensures.reasons.kept c.in_ok-visit_form.ensures.reasons.added)
 
 pub returns-then-branch-clause-conflict : goal.returns-then-branch-clause-conflict
 returns-then-branch-clause-conflict c =
@@ -280,7 +275,7 @@ work-preserved-else-branch c =
     let w = c.work.invariant.watching in
     let done = c.visit_form.new.run in
     let inside : run.next + 1 ≤ length run.work.items = omega (arith, c.if-run-len.true, c.len.ensures, run.work.ok.0) in
-    let derived = derives-joined (shapes_of store.stored.items) (clauses_of c.args.clauses.now) run.assignment.list.items done.assignment.list.items c.requires.joined c.in_ok-visit_form.ensures.derived in
+    let derived = derives-joined (shapes_of store.stored.items) (clauses_of c.args.clauses.now) run.assignment.list.items done.assignment.list.items c.requires.joined (reasons-derive c.in_ok-visit_form.ensures.reasons.added) in
     let grows = grows-listed run.assignment.values.items done.assignment.values.items run.assignment.list.items done.assignment.list.items c.in_ok-visit_form.ensures.advances.values run.assignment.agrees done.assignment.agrees (derivation-keeps (all_of store c.args.clauses.now) run.assignment.list.items done.assignment.list.items derived) in
     let reported = c.in_ok-visit_form.ensures in
     let tidy = rw (take_rest c.args.waiting.now c.work.taken) at (reported.tidy c.if-branch.false) in
@@ -289,7 +284,8 @@ work-preserved-else-branch c =
       kept = c.work.invariant.kept;
       taken = c.work.invariant.taken;
       watching = watching-grow (all_of store c.args.clauses.now) c.args.clauses.now c.work.clauses run.assignment.values.items done.assignment.values.items run.assignment.list.items done.assignment.list.items c.work.heads grows derived w;
-      state = propagating-next (cost c.args.clauses.now c.work.clauses c.work.heads done.assignment.list.items) state derived (reported.counted c.if-branch.false) tidy reported.advances reported.found (omega (arith, inside)) (cost-grow (all_of store c.args.clauses.now) c.args.clauses.now c.work.clauses run.assignment.list.items done.assignment.list.items c.work.heads w.short w.long derived);
+      reasons = run-reasons-then c.work.invariant.reasons (run-reasons-joined (shapes_of store.stored.items) (clauses_of c.args.clauses.now) run done c.requires.joined reported.reasons.kept reported.reasons.added);
+      state = propagating-next (cost c.args.clauses.now c.work.clauses c.work.heads done.assignment.list.items) state (reported.counted c.if-branch.false) tidy reported.advances reported.found (omega (arith, inside)) (cost-grow (all_of store c.args.clauses.now) c.args.clauses.now c.work.clauses run.assignment.list.items done.assignment.list.items c.work.heads w.short w.long derived);
     }
 
 pub returns-in_err-push-clause-costs : goal.returns-in_err-push-clause-costs
@@ -343,6 +339,7 @@ work-preserved c =
       kept = c.work.invariant.kept;
       taken = omega (arith, less);
       watching = w;
+      reasons = record { kept = c.work.invariant.reasons.kept; added = c.work.invariant.reasons.added };
       state = propagating-take (get_or c.args.waiting.now c.work.taken 0) c.push-then-taken-waiting.new.self.items c.push.new.self.items state less (get_or_default c.args.waiting.now c.work.taken 0 _ less)
           (omega (arith, c.requires.waiting c.work.taken 0 less, length-map store.stored.items stored_shape)) c.in_ok-push-2.ensures.items c.in_ok-push.ensures.items;
     }
@@ -374,6 +371,9 @@ returns-then-branch-clause-kept c = c.work.invariant.kept
 
 pub returns-then-branch-2-clause-kept : goal.returns-then-branch-2-clause-kept
 returns-then-branch-2-clause-kept c = λ base codes more old. c.in_ok-walk.ensures.kept base codes (grows-trans base c.args.run.now.assignment.values.items c.work.run.assignment.values.items more c.work.invariant.grows) (c.work.invariant.kept base codes more old)
+
+pub returns-else-taken-waiting-clause-reasons : goal.returns-else-taken-waiting-clause-reasons
+returns-else-taken-waiting-clause-reasons c = c.work.invariant.reasons
 
 pub returns-else-taken-waiting-clause-kept : goal.returns-else-taken-waiting-clause-kept
 returns-else-taken-waiting-clause-kept c = c.work.invariant.kept

@@ -1,6 +1,6 @@
 use Rattle.std.specs.Prelude.{sum, sum_by, take}
 use Rattle.pb_propagate.specs.engine.Clauses.Runs.{KeepsWalked, Grows, passed_of}
-use Rattle.pb_propagate.specs.engine.Engine.Progress.{progress, database, seen}
+use Rattle.pb_propagate.specs.engine.Engine.Progress.{progress, database, seen, RunReasons}
 use Rattle.std.proofs.Common.{◌+◌, ◌*◌, ◌-◌, ◌≤◌, length}
 use Rattle.pb_propagate.specs.engine.Engine.Fields.{shapes_of, entries_of}
 use Rattle.pb_propagate.specs.engine.Clauses.Shapes.{all_of}
@@ -14,7 +14,8 @@ invariant-work l = record {
   watching : IsWatching l.initial.clauses l.clauses l.run.assignment.values.items l.run.assignment.list.items l.heads;
   grows : Grows l.initial.run.assignment.values.items l.run.assignment.values.items;
   kept : KeepsWalked l.initial.run.assignment.values.items l.initial.clauses l.clauses;
-  state : IsPropagating (database l.store l.rests) (all_of l.store l.initial.clauses) l.waiting (length l.store.stored.items) (seen l.initial.clauses (take l.from l.initial.run.assignment.list.items) (sum (passed_of l.initial.clauses))) (cost l.initial.clauses l.clauses l.heads l.run.assignment.list.items) l.taken (progress l.initial.run) (progress l.run);
+  reasons : RunReasons (all_of l.store l.initial.clauses) l.initial.run l.run;
+  state : IsPropagating (database l.store l.rests) l.waiting (length l.store.stored.items) (seen l.initial.clauses (take l.from l.initial.run.assignment.list.items) (sum (passed_of l.initial.clauses))) (cost l.initial.clauses l.clauses l.heads l.run.assignment.list.items) l.taken (progress l.initial.run) (progress l.run);
 }
 
 abbrev pub decreases-work : goal.decreases-work

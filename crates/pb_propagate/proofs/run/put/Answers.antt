@@ -9,6 +9,7 @@ use Rattle.pb_propagate.proofs.lemmas.store.Places.{entries-length}
 use Rattle.pb_propagate.proofs.lemmas.engine.Runs.{Counted-put}
 use Rattle.pb_propagate.proofs.lemmas.engine.Advances.{costs-none, on-err}
 use Rattle.pb_propagate.proofs.lemmas.engine.Puts.{assigns, IsPutting, putting-start, putting-fits, putting-next, putting-advances, putting-costs, assigned-tidy, counted-conflict, entry-read, place-read, place-inside}
+use Rattle.pb_propagate.proofs.lemmas.engine.Reasoned.{run-records}
 use Rattle.pb_propagate.proofs.run.put.Goals as goal
 
 pub entries-init : goal.entries-init
@@ -77,6 +78,16 @@ returns-in_err-lower-clause-costs c =
 
 pub returns-clause-advances : goal.returns-clause-advances
 returns-clause-advances c = putting-advances (assigns c.put.new.self.values.items c.put.new.self.list.items c.args.literal (progress c.args.run.now) c.in_ok-put.ensures.ok c.requires.absent c.put.ensures.values) (c.requires.opens ∙ sym (length-map c.args.store.now.stored.items stored_shape)) c.entries.invariant.putting
+
+pub returns-clause-reasons : goal.returns-clause-reasons
+returns-clause-reasons c =
+    let run = c.args.run.now in
+    run-records c.args.reason c.args.literal run c.entries.run c.requires.absent c.requires.not_falsified (omega (arith, c.requires.inside, c.requires.values, run.assignment.known)) (ap (λ (a : Assignment). a.reasons.items) c.entries.invariant.assignment ∙ c.in_ok-put.ensures.reasons)
+
+pub returns-then-branch-clause-reasons : goal.returns-then-branch-clause-reasons
+returns-then-branch-clause-reasons c =
+    let run = c.args.run.now in
+    run-records c.args.reason c.args.literal run c.lower.new.run c.requires.absent c.requires.not_falsified (omega (arith, c.requires.inside, c.requires.values, run.assignment.known)) (ap (λ (a : Assignment). a.reasons.items) (c.lower.ensures.assignment ∙ c.entries.invariant.assignment) ∙ c.in_ok-put.ensures.reasons)
 
 pub returns-clause-tidy : goal.returns-clause-tidy
 returns-clause-tidy c = λ aside busy t. c.entries.invariant.putting.tidy aside busy (assigned-tidy (database c.args.store.now c.args.rests.now) (assigns c.put.new.self.values.items c.put.new.self.list.items c.args.literal (progress c.args.run.now) c.in_ok-put.ensures.ok c.requires.absent c.put.ensures.values) aside busy t)

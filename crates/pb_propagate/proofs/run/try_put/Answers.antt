@@ -1,5 +1,5 @@
 use Rattle.std.proofs.Common.{◌≡◌, true, false}
-use Rattle.std.proofs.lemmas.Bool.{or_left, or_right}
+use Rattle.std.proofs.lemmas.Bool.{or_left, or_right, both_ways}
 use Rattle.pb_normal.specs.meaning.Rules.{negation}
 use Rattle.pb_propagate.specs.engine.Engine.Lists.{has}
 use Rattle.pb_propagate.specs.engine.Engine.Counts.{kept, added}
@@ -28,3 +28,13 @@ returns-then-contains-clause-advances c = advances-refl (database c.args.store.n
 
 pub returns-then-contains-2-clause-advances : goal.returns-then-contains-2-clause-advances
 returns-then-contains-2-clause-advances c = advances-refl (database c.args.store.now c.args.rests.now) (progress c.args.run.now)
+
+pub returns-then-contains-clause-reasons : goal.returns-then-contains-clause-reasons
+returns-then-contains-clause-reasons c =
+    let on : has c.args.run.now.assignment.list.items c.args.literal ≡ true = cc (c.contains.ensures, c.if-contains.true) in
+    record { kept = λ l s there at. at; reason = λ absent opened. absurd (both_ways _ absent on) }
+
+pub returns-then-contains-2-clause-reasons : goal.returns-then-contains-2-clause-reasons
+returns-then-contains-2-clause-reasons c =
+    let off : has c.args.run.now.assignment.list.items (negation c.args.literal) ≡ true = cc (c.contains-2.ensures, c.if-contains-2.true, c.negation.ensures) in
+    record { kept = λ l s there at. at; reason = λ absent opened. absurd (both_ways _ opened off) }

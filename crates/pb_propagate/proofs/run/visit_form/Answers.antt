@@ -4,11 +4,12 @@ use Rattle.std.proofs.lemmas.List.{length-map, get_or_read}
 use Rattle.std.proofs.lemmas.List.Sums.{get_or-le-sum_by}
 use Rattle.pb_propagate.specs.declared.term.Term.{Term}
 use Rattle.pb_propagate.specs.engine.Engine.Fields.{shapes_of, stored_shape}
-use Rattle.pb_propagate.specs.engine.Engine.Progress.{passed_to, progress, database}
+use Rattle.pb_propagate.specs.engine.Engine.Progress.{passed_to, progress, database, list_of, reasons_of, RunReasons}
 use Rattle.pb_propagate.specs.engine.Engine.Terms.{terms_of}
 use Rattle.pb_propagate.proofs.lemmas.engine.Advances.{advances-visit, advances-then, advances-as, costs-then, on-err}
-use Rattle.pb_propagate.proofs.lemmas.engine.VisitSteps.{IsVisiting, visiting-start, visiting-next, forced-read, calm-by, waiting-by, visiting-settled, Visiting-conflict, shape-at, term-inside}
+use Rattle.pb_propagate.proofs.lemmas.engine.VisitSteps.{IsVisiting, visiting-start, visiting-next, visiting-reasons, forced-read, calm-by, waiting-by, visiting-settled, Visiting-conflict, shape-at, term-inside}
 use Rattle.pb_propagate.proofs.lemmas.engine.Spent.{sum-bounded}
+use Rattle.pb_propagate.proofs.lemmas.engine.Reasoned.{run-reasons-none, keeps-then, reasons-within}
 use Rattle.pb_propagate.proofs.run.visit_form.Goals as goal
 
 pub terms-init : goal.terms-init
@@ -17,6 +18,7 @@ terms-init c =
     let sizes = length-map store.stored.items stored_shape in
     record {
       counted = c.requires.counted;
+      reasons = run-reasons-none (shapes_of store.stored.items) c.args.run.now;
       in_visit = visiting-start (database store c.args.rests.now) c.args.waiting.now c.args.form (progress c.args.run.now) c.requires.tidy c.requires.there (c.requires.opens ∙ sym sizes) (c.requires.candidates ∙ sym sizes);
     }
 
@@ -24,8 +26,13 @@ pub terms-preserved : goal.terms-preserved
 terms-preserved c =
     let in_visit = c.terms.invariant.in_visit in
     let reported = c.in_ok-found.ensures in
+    let forced = (forced-read c.args.store.now c.args.rests.now c.args.form (progress c.terms.run) c.index-kept.result.now c.index-opened.result.now c.index-candidate.result.now c.visit_term-term.result c.requires.form c.index-kept.ensures in_visit.opens in_visit.candidates c.index-opened.ensures c.index-candidate.ensures (omega (arith, c.if-candidate-len.false, c.len.ensures)) (c.visit_term-term.ensures.item c.visit_term-term.result) (c.is_below-demands.ensures.below c.if-not-demands.false)) in
     record {
       counted = reported.counted c.if-found.false;
+      reasons = record {
+        kept = keeps-then (list_of c.args.run.now) (list_of c.terms.run) (reasons_of c.args.run.now) (reasons_of c.terms.run) (reasons_of c.try_put.new.run) (reasons-within (list_of c.args.run.now) (list_of c.terms.run) c.terms.invariant.reasons.added) c.terms.invariant.reasons.kept reported.reasons.kept;
+        added = visiting-reasons (list_of c.args.run.now) (list_of c.try_put.new.run) (reasons_of c.terms.run) (reasons_of c.try_put.new.run) forced c.terms.invariant.counted reported.adopted reported.reasons.reason reported.reasons.kept c.terms.invariant.reasons.added;
+      };
       in_visit = visiting-next c.visit_term-term.new.visits (progress c.try_put.new.run) (set c.try_put.new.run.candidates.items c.args.form (c.index-candidate.result.now + 1)) in_visit
           (forced-read c.args.store.now c.args.rests.now c.args.form (progress c.terms.run) c.index-kept.result.now c.index-opened.result.now c.index-candidate.result.now c.visit_term-term.result c.requires.form c.index-kept.ensures in_visit.opens in_visit.candidates c.index-opened.ensures c.index-candidate.ensures (omega (arith, c.if-candidate-len.false, c.len.ensures)) (c.visit_term-term.ensures.item c.visit_term-term.result) (c.is_below-demands.ensures.below c.if-not-demands.false))
           c.terms.invariant.counted c.visit_term-term.ensures.count c.visit_term-term.ensures.rising reported.adopted reported.advances reported.tidy (ap (λ (v : Vec ℕ Global). v.items) reported.candidates) refl;
@@ -39,6 +46,17 @@ passed c =
     visiting-next c.visit_term-term.new.visits (progress c.try_put.new.run) (set c.try_put.new.run.candidates.items c.args.form (c.index-candidate.result.now + 1)) in_visit
     (forced-read c.args.store.now c.args.rests.now c.args.form (progress c.terms.run) c.index-kept.result.now c.index-opened.result.now c.index-candidate.result.now c.visit_term-term.result c.requires.form c.index-kept.ensures in_visit.opens in_visit.candidates c.index-opened.ensures c.index-candidate.ensures (omega (arith, c.if-candidate-len.false, c.len.ensures)) (c.visit_term-term.ensures.item c.visit_term-term.result) (c.is_below-demands.ensures.below c.if-not-demands.false))
     c.terms.invariant.counted c.visit_term-term.ensures.count c.visit_term-term.ensures.rising reported.adopted reported.advances reported.tidy (ap (λ (v : Vec ℕ Global). v.items) reported.candidates) refl
+
+-- the literal has the form as its reason
+reasoned : (c : goal.Then-found) → RunReasons (shapes_of c.args.store.now.stored.items) c.args.run.now c.try_put.new.run
+reasoned c =
+    let in_visit = c.terms.invariant.in_visit in
+    let reported = c.in_ok-found.ensures in
+    let forced = (forced-read c.args.store.now c.args.rests.now c.args.form (progress c.terms.run) c.index-kept.result.now c.index-opened.result.now c.index-candidate.result.now c.visit_term-term.result c.requires.form c.index-kept.ensures in_visit.opens in_visit.candidates c.index-opened.ensures c.index-candidate.ensures (omega (arith, c.if-candidate-len.false, c.len.ensures)) (c.visit_term-term.ensures.item c.visit_term-term.result) (c.is_below-demands.ensures.below c.if-not-demands.false)) in
+    record {
+      kept = keeps-then (list_of c.args.run.now) (list_of c.terms.run) (reasons_of c.args.run.now) (reasons_of c.terms.run) (reasons_of c.try_put.new.run) (reasons-within (list_of c.args.run.now) (list_of c.terms.run) c.terms.invariant.reasons.added) c.terms.invariant.reasons.kept reported.reasons.kept;
+      added = visiting-reasons (list_of c.args.run.now) (list_of c.try_put.new.run) (reasons_of c.terms.run) (reasons_of c.try_put.new.run) forced c.terms.invariant.counted reported.adopted reported.reasons.reason reported.reasons.kept c.terms.invariant.reasons.added;
+    }
 
 pub overflow_add-kept : goal.overflow_add-kept
 overflow_add-kept c =
@@ -127,8 +145,8 @@ returns-in_err-found-clause-bounded c =
 pub returns-then-found-clause-advances : goal.returns-then-found-clause-advances
 returns-then-found-clause-advances c = advances-as 0 1 (omega arith) (passed c).advances
 
-pub returns-then-found-clause-derived : goal.returns-then-found-clause-derived
-returns-then-found-clause-derived c = (passed c).derived
+pub returns-then-found-clause-reasons : goal.returns-then-found-clause-reasons
+returns-then-found-clause-reasons c = record { kept = (reasoned c).kept; added = (reasoned c).added }
 
 pub returns-then-found-clause-undone : goal.returns-then-found-clause-undone
 returns-then-found-clause-undone c = record { clean = (passed c).tidy.clean; named = (passed c).tidy.marked }
@@ -145,8 +163,8 @@ returns-then-found-clause-found c = (passed c).found
 pub returns-then-falsified-clause-bounded : goal.returns-then-falsified-clause-bounded
 returns-then-falsified-clause-bounded c = sum-bounded (shapes_of c.args.store.now.stored.items) c.terms.run.candidates.items c.terms.invariant.in_visit.candidates c.terms.invariant.in_visit.tidy.bounded
 
-pub returns-then-falsified-clause-derived : goal.returns-then-falsified-clause-derived
-returns-then-falsified-clause-derived c = c.terms.invariant.in_visit.derived
+pub returns-then-falsified-clause-reasons : goal.returns-then-falsified-clause-reasons
+returns-then-falsified-clause-reasons c = c.terms.invariant.reasons
 
 pub returns-then-falsified-clause-undone : goal.returns-then-falsified-clause-undone
 returns-then-falsified-clause-undone c = record { clean = c.terms.invariant.in_visit.tidy.clean; named = c.terms.invariant.in_visit.tidy.marked }
@@ -154,8 +172,8 @@ returns-then-falsified-clause-undone c = record { clean = c.terms.invariant.in_v
 pub returns-then-candidate-len-clause-bounded : goal.returns-then-candidate-len-clause-bounded
 returns-then-candidate-len-clause-bounded c = sum-bounded (shapes_of c.args.store.now.stored.items) c.terms.run.candidates.items c.terms.invariant.in_visit.candidates c.terms.invariant.in_visit.tidy.bounded
 
-pub returns-then-candidate-len-clause-derived : goal.returns-then-candidate-len-clause-derived
-returns-then-candidate-len-clause-derived c = c.terms.invariant.in_visit.derived
+pub returns-then-candidate-len-clause-reasons : goal.returns-then-candidate-len-clause-reasons
+returns-then-candidate-len-clause-reasons c = c.terms.invariant.reasons
 
 pub returns-then-candidate-len-clause-undone : goal.returns-then-candidate-len-clause-undone
 returns-then-candidate-len-clause-undone c = record { clean = c.terms.invariant.in_visit.tidy.clean; named = c.terms.invariant.in_visit.tidy.marked }
@@ -163,8 +181,8 @@ returns-then-candidate-len-clause-undone c = record { clean = c.terms.invariant.
 pub returns-then-not-demands-clause-bounded : goal.returns-then-not-demands-clause-bounded
 returns-then-not-demands-clause-bounded c = sum-bounded (shapes_of c.args.store.now.stored.items) c.terms.run.candidates.items c.terms.invariant.in_visit.candidates c.terms.invariant.in_visit.tidy.bounded
 
-pub returns-then-not-demands-clause-derived : goal.returns-then-not-demands-clause-derived
-returns-then-not-demands-clause-derived c = c.terms.invariant.in_visit.derived
+pub returns-then-not-demands-clause-reasons : goal.returns-then-not-demands-clause-reasons
+returns-then-not-demands-clause-reasons c = record { kept = c.terms.invariant.reasons.kept; added = c.terms.invariant.reasons.added }
 
 pub returns-then-not-demands-clause-undone : goal.returns-then-not-demands-clause-undone
 returns-then-not-demands-clause-undone c = record { clean = c.terms.invariant.in_visit.tidy.clean; named = c.terms.invariant.in_visit.tidy.marked }

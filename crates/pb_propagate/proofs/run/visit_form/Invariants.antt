@@ -1,5 +1,6 @@
 use Rattle.std.proofs.Common.{◌-◌, length, get_or}
-use Rattle.pb_propagate.specs.engine.Engine.Progress.{progress, database, IsOpen}
+use Rattle.pb_propagate.specs.engine.Engine.Progress.{progress, database, IsOpen, RunReasons}
+use Rattle.pb_propagate.specs.engine.Engine.Fields.{shapes_of}
 use Rattle.pb_propagate.specs.engine.Engine.Terms.{terms_of}
 use Rattle.pb_propagate.proofs.lemmas.engine.VisitSteps.{IsVisiting}
 use Rattle.pb_propagate.proofs.run.visit_form.Given as goal
@@ -7,6 +8,7 @@ use Rattle.pb_propagate.proofs.run.visit_form.Given as goal
 abbrev pub invariant-terms : goal.invariant-terms
 invariant-terms l = record {
   counted : IsOpen (database l.store l.rests) (progress l.run);
+  reasons : RunReasons (shapes_of l.store.stored.items) l.initial.run l.run;
   in_visit : IsVisiting (database l.store l.rests) l.waiting l.form (progress l.initial.run) (progress l.run);
 }
 

@@ -4,23 +4,26 @@ use Rattle.pb_normal.specs.meaning.Rules.{negation}
 use Rattle.pb_propagate.specs.declared.clauses.visiting.Visit.TheVariants.{Stays, Leaves, Forces, Falsified}
 use Rattle.pb_propagate.specs.engine.Engine.Lists.{has}
 use Rattle.pb_propagate.specs.engine.Engine.Fields.{shapes_of}
-use Rattle.pb_propagate.specs.engine.Engine.Progress.{progress, database}
+use Rattle.pb_propagate.specs.engine.Engine.Progress.{progress, database, list_of, reasons_of}
 use Rattle.pb_propagate.specs.engine.Clauses.Links.{lists_of, list_at}
-use Rattle.pb_propagate.specs.engine.Clauses.Runs.{HasVisited, IsBroken}
-use Rattle.pb_propagate.specs.engine.Clauses.Shapes.{clauses_of}
+use Rattle.pb_propagate.specs.engine.Clauses.Runs.{HasVisited, IsBroken, IsUnit}
+use Rattle.pb_propagate.specs.engine.Clauses.Shapes.{clauses_of, all_of}
 use Rattle.pb_propagate.proofs.lemmas.clauses.Literals.{true-listed, false-listed}
 use Rattle.pb_propagate.proofs.lemmas.clauses.Shapes.{broken-conflicts, conflicts-joined}
 use Rattle.pb_propagate.proofs.lemmas.clauses.Walks.{grows-trans, IsWalking, walking-start, walking-next, walking-forces, walked-end}
 use Rattle.pb_propagate.proofs.lemmas.clauses.Readings.{running-bounded}
 use Rattle.pb_propagate.proofs.lemmas.engine.Watched.{walk-start, walk-next, walk-ends, walk-then, walk-costs, walk-done}
 use Rattle.pb_propagate.proofs.lemmas.engine.Advances.{on-err}
+use Rattle.pb_propagate.proofs.lemmas.engine.Reasoned.{run-reasons-none, keeps-then, reasons-within}
+use Rattle.pb_propagate.proofs.lemmas.clauses.Reasons.{unit-reasons}
 use Rattle.pb_propagate.proofs.walk.walk.Goals as goal
 
 pub watches-init : goal.watches-init
 watches-init c =
     let run = progress c.args.run.now in
     record {
-      walking = walking-start (shapes_of c.args.store.now.stored.items) c.args.clauses.now c.args.literal run c.requires.running c.requires.failed;
+      reasons = run-reasons-none (all_of c.args.store.now c.args.clauses.now) c.args.run.now;
+      walking = walking-start c.args.clauses.now c.args.literal run c.requires.running c.requires.failed;
       advances = walk-start (database c.args.store.now c.args.rests.now) c.args.clauses.now c.args.literal run;
       candidates = refl;
       counted = c.requires.counted;
@@ -33,6 +36,7 @@ watches-preserved-in-Stays c =
     let inside : c.watches.index < length (list_at (lists_of c.watches.clauses.lists.items) c.args.literal) = omega (arith, c.watches-test.true, c.watch_count.ensures) in
     let v : HasVisited c.watches.run.assignment.values.items c.watches.clauses c.visit_clause.new.clauses c.args.literal c.watches.index Stays = subst (HasVisited c.watches.run.assignment.values.items c.watches.clauses c.visit_clause.new.clauses c.args.literal c.watches.index) c.in-Stays.is c.in_ok-visit_clause.ensures.watch in
     record {
+      reasons = record { kept = i.reasons.kept; added = i.reasons.added };
       walking = walking-next c.visit_clause.new.clauses Stays c.visit_clause.new.visits i.walking v c.visit_clause.ensures.literals (omega (arith, inside, v.found)) (record { counted = c.visit_clause.ensures.counted; rising = c.visit_clause.ensures.rising });
       advances = walk-next (database c.args.store.now c.args.rests.now) c.args.clauses.now c.watches.clauses c.visit_clause.new.clauses c.args.literal c.watches.index (c.watches.index + 1) c.visit_clause.new.visits inside (omega (arith, inside, v.found)) (omega (arith, v.found)) c.visit_clause.ensures.covered c.visit_clause.ensures.rising i.advances;
       candidates = i.candidates;
@@ -46,6 +50,7 @@ watches-preserved-in-Leaves c =
     let inside : c.watches.index < length (list_at (lists_of c.watches.clauses.lists.items) c.args.literal) = omega (arith, c.watches-test.true, c.watch_count.ensures) in
     let v : HasVisited c.watches.run.assignment.values.items c.watches.clauses c.visit_clause.new.clauses c.args.literal c.watches.index Leaves = subst (HasVisited c.watches.run.assignment.values.items c.watches.clauses c.visit_clause.new.clauses c.args.literal c.watches.index) c.in-Leaves.is c.in_ok-visit_clause.ensures.watch in
     record {
+      reasons = record { kept = i.reasons.kept; added = i.reasons.added };
       walking = walking-next c.visit_clause.new.clauses Leaves c.visit_clause.new.visits i.walking v c.visit_clause.ensures.literals (omega (arith, inside, v.found)) (record { counted = c.visit_clause.ensures.counted; rising = c.visit_clause.ensures.rising });
       advances = walk-next (database c.args.store.now c.args.rests.now) c.args.clauses.now c.watches.clauses c.visit_clause.new.clauses c.args.literal c.watches.index c.watches.index c.visit_clause.new.visits inside (omega (arith, inside, v.found)) (omega (arith, v.found)) c.visit_clause.ensures.covered c.visit_clause.ensures.rising i.advances;
       candidates = i.candidates;
@@ -57,10 +62,16 @@ pub watches-preserved : goal.watches-preserved
 watches-preserved c =
     let i = c.watches.invariant in
     let inside : c.watches.index < length (list_at (lists_of c.watches.clauses.lists.items) c.args.literal) = omega (arith, c.watches-test.true, c.watch_count.ensures) in
-    let v : HasVisited c.watches.run.assignment.values.items c.watches.clauses c.visit_clause.new.clauses c.args.literal c.watches.index (Forces c.in-Forces.code) = subst (HasVisited c.watches.run.assignment.values.items c.watches.clauses c.visit_clause.new.clauses c.args.literal c.watches.index) c.in-Forces.is c.in_ok-visit_clause.ensures.watch in
+    let v : HasVisited c.watches.run.assignment.values.items c.watches.clauses c.visit_clause.new.clauses c.args.literal c.watches.index (Forces c.in-Forces.forced) = subst (HasVisited c.watches.run.assignment.values.items c.watches.clauses c.visit_clause.new.clauses c.args.literal c.watches.index) c.in-Forces.is c.in_ok-visit_clause.ensures.watch in
+    let shapes = shapes_of c.args.store.now.stored.items in
+    let unit : IsUnit c.watches.run.assignment.values.items (clauses_of c.args.clauses.now) c.in-Forces.forced.slot c.in-Forces.forced.code = subst (λ ls. IsUnit c.watches.run.assignment.values.items (lists_of ls.items) c.in-Forces.forced.slot c.in-Forces.forced.code) (c.visit_clause.ensures.literals ∙ c.watches.invariant.walking.literals) v.found.1 in
     let reported = c.in_ok-put-in-Forces.ensures in
     record {
-      walking = walking-forces c.visit_clause.new.clauses c.visit_clause.new.visits c.in-Forces.code (progress c.put.new.run) c.requires.joined c.watches.invariant.walking v c.visit_clause.ensures.literals inside (record { counted = c.visit_clause.ensures.counted; rising = c.visit_clause.ensures.rising }) reported.advances.rising reported.advances.values (reported.list ∙ ap (λ k. c.watches.run.assignment.list.items ++ (k ∷ [])) c.literal_of.ensures) c.watches.run.assignment.agrees c.put.new.run.assignment.agrees;
+      reasons = record {
+        kept = keeps-then (list_of c.args.run.now) (list_of c.watches.run) (reasons_of c.args.run.now) (reasons_of c.watches.run) (reasons_of c.put.new.run) (reasons-within (list_of c.args.run.now) (list_of c.watches.run) c.watches.invariant.reasons.added) c.watches.invariant.reasons.kept reported.reasons.kept;
+        added = unit-reasons shapes (clauses_of c.args.clauses.now) c.watches.run.assignment.values.items c.in-Forces.forced.slot c.in-Forces.forced.code c.literal_of.result (list_of c.args.run.now) (list_of c.watches.run) (list_of c.put.new.run) (reasons_of c.watches.run) (reasons_of c.put.new.run) c.requires.joined c.watches.run.assignment.agrees c.literal_of.ensures unit reported.list reported.reasons.reason reported.reasons.kept c.watches.invariant.reasons.added;
+      };
+      walking = walking-forces c.visit_clause.new.clauses c.visit_clause.new.visits c.in-Forces.forced (progress c.put.new.run) c.watches.invariant.walking v c.visit_clause.ensures.literals inside (record { counted = c.visit_clause.ensures.counted; rising = c.visit_clause.ensures.rising }) reported.advances.rising reported.advances.values (reported.list ∙ ap (λ k. c.watches.run.assignment.list.items ++ (k ∷ [])) c.literal_of.ensures) c.watches.run.assignment.agrees c.put.new.run.assignment.agrees;
       advances = walk-then (walk-next (database c.args.store.now c.args.rests.now) c.args.clauses.now c.watches.clauses c.visit_clause.new.clauses c.args.literal c.watches.index (c.watches.index + 1) c.visit_clause.new.visits inside (omega (arith, inside, v.found.0)) (omega (arith, v.found.0)) c.visit_clause.ensures.covered c.visit_clause.ensures.rising i.advances) reported.advances;
       candidates = reported.candidates ∙ i.candidates;
       counted = reported.counted c.if-branch.false;
@@ -70,28 +81,36 @@ watches-preserved c =
 pub put-requires-clause-absent : goal.put-requires-clause-absent
 put-requires-clause-absent c =
     let values = c.watches.run.assignment.values.items in
-    let v : HasVisited c.watches.run.assignment.values.items c.watches.clauses c.visit_clause.new.clauses c.args.literal c.watches.index (Forces c.in-Forces.code) = subst (HasVisited c.watches.run.assignment.values.items c.watches.clauses c.visit_clause.new.clauses c.args.literal c.watches.index) c.in-Forces.is c.in_ok-visit_clause.ensures.watch in
-    ap (λ (k : NumberedLiteral). has c.watches.run.assignment.list.items k) c.literal_of.ensures ∙ sym (true-listed values c.watches.run.assignment.list.items c.in-Forces.code c.watches.run.assignment.agrees) ∙ v.found.1.not_true
+    let v : HasVisited c.watches.run.assignment.values.items c.watches.clauses c.visit_clause.new.clauses c.args.literal c.watches.index (Forces c.in-Forces.forced) = subst (HasVisited c.watches.run.assignment.values.items c.watches.clauses c.visit_clause.new.clauses c.args.literal c.watches.index) c.in-Forces.is c.in_ok-visit_clause.ensures.watch in
+    ap (λ (k : NumberedLiteral). has c.watches.run.assignment.list.items k) c.literal_of.ensures ∙ sym (true-listed values c.watches.run.assignment.list.items c.in-Forces.forced.code c.watches.run.assignment.agrees) ∙ v.found.1.not_true
 
 pub put-requires-clause-not_falsified : goal.put-requires-clause-not_falsified
 put-requires-clause-not_falsified c =
     let values = c.watches.run.assignment.values.items in
-    let v : HasVisited c.watches.run.assignment.values.items c.watches.clauses c.visit_clause.new.clauses c.args.literal c.watches.index (Forces c.in-Forces.code) = subst (HasVisited c.watches.run.assignment.values.items c.watches.clauses c.visit_clause.new.clauses c.args.literal c.watches.index) c.in-Forces.is c.in_ok-visit_clause.ensures.watch in
-    ap (λ (k : NumberedLiteral). has c.watches.run.assignment.list.items (negation k)) c.literal_of.ensures ∙ sym (false-listed values c.watches.run.assignment.list.items c.in-Forces.code c.watches.run.assignment.agrees) ∙ v.found.1.not_false
+    let v : HasVisited c.watches.run.assignment.values.items c.watches.clauses c.visit_clause.new.clauses c.args.literal c.watches.index (Forces c.in-Forces.forced) = subst (HasVisited c.watches.run.assignment.values.items c.watches.clauses c.visit_clause.new.clauses c.args.literal c.watches.index) c.in-Forces.is c.in_ok-visit_clause.ensures.watch in
+    ap (λ (k : NumberedLiteral). has c.watches.run.assignment.list.items (negation k)) c.literal_of.ensures ∙ sym (false-listed values c.watches.run.assignment.list.items c.in-Forces.forced.code c.watches.run.assignment.agrees) ∙ v.found.1.not_false
 
 -- where a form is falsified: the literal was put
-forced : (c : goal.Then-branch) → IsWalking (shapes_of c.args.store.now.stored.items) c.args.clauses.now c.visit_clause.new.clauses c.args.literal (c.watches.index + 1) (progress c.args.run.now) (progress c.put.new.run)
+forced : (c : goal.Then-branch) → IsWalking c.args.clauses.now c.visit_clause.new.clauses c.args.literal (c.watches.index + 1) (progress c.args.run.now) (progress c.put.new.run)
 forced c =
     let inside : c.watches.index < length (list_at (lists_of c.watches.clauses.lists.items) c.args.literal) = omega (arith, c.watches-test.true, c.watch_count.ensures) in
-    let v : HasVisited c.watches.run.assignment.values.items c.watches.clauses c.visit_clause.new.clauses c.args.literal c.watches.index (Forces c.in-Forces.code) = subst (HasVisited c.watches.run.assignment.values.items c.watches.clauses c.visit_clause.new.clauses c.args.literal c.watches.index) c.in-Forces.is c.in_ok-visit_clause.ensures.watch in
+    let v : HasVisited c.watches.run.assignment.values.items c.watches.clauses c.visit_clause.new.clauses c.args.literal c.watches.index (Forces c.in-Forces.forced) = subst (HasVisited c.watches.run.assignment.values.items c.watches.clauses c.visit_clause.new.clauses c.args.literal c.watches.index) c.in-Forces.is c.in_ok-visit_clause.ensures.watch in
     let reported = c.in_ok-put-in-Forces.ensures in
-    walking-forces c.visit_clause.new.clauses c.visit_clause.new.visits c.in-Forces.code (progress c.put.new.run) c.requires.joined c.watches.invariant.walking v c.visit_clause.ensures.literals inside (record { counted = c.visit_clause.ensures.counted; rising = c.visit_clause.ensures.rising }) reported.advances.rising reported.advances.values (reported.list ∙ ap (λ k. c.watches.run.assignment.list.items ++ (k ∷ [])) c.literal_of.ensures) c.watches.run.assignment.agrees c.put.new.run.assignment.agrees
+    walking-forces c.visit_clause.new.clauses c.visit_clause.new.visits c.in-Forces.forced (progress c.put.new.run) c.watches.invariant.walking v c.visit_clause.ensures.literals inside (record { counted = c.visit_clause.ensures.counted; rising = c.visit_clause.ensures.rising }) reported.advances.rising reported.advances.values (reported.list ∙ ap (λ k. c.watches.run.assignment.list.items ++ (k ∷ [])) c.literal_of.ensures) c.watches.run.assignment.agrees c.put.new.run.assignment.agrees
 
 pub returns-then-branch-clause-running : goal.returns-then-branch-clause-running
 returns-then-branch-clause-running c = (forced c).running
 
-pub returns-then-branch-clause-derived : goal.returns-then-branch-clause-derived
-returns-then-branch-clause-derived c = (forced c).derived
+pub returns-then-branch-clause-reasons : goal.returns-then-branch-clause-reasons
+returns-then-branch-clause-reasons c =
+    let v : HasVisited c.watches.run.assignment.values.items c.watches.clauses c.visit_clause.new.clauses c.args.literal c.watches.index (Forces c.in-Forces.forced) = subst (HasVisited c.watches.run.assignment.values.items c.watches.clauses c.visit_clause.new.clauses c.args.literal c.watches.index) c.in-Forces.is c.in_ok-visit_clause.ensures.watch in
+    let shapes = shapes_of c.args.store.now.stored.items in
+    let unit : IsUnit c.watches.run.assignment.values.items (clauses_of c.args.clauses.now) c.in-Forces.forced.slot c.in-Forces.forced.code = subst (λ ls. IsUnit c.watches.run.assignment.values.items (lists_of ls.items) c.in-Forces.forced.slot c.in-Forces.forced.code) (c.visit_clause.ensures.literals ∙ c.watches.invariant.walking.literals) v.found.1 in
+    let reported = c.in_ok-put-in-Forces.ensures in
+    record {
+      kept = keeps-then (list_of c.args.run.now) (list_of c.watches.run) (reasons_of c.args.run.now) (reasons_of c.watches.run) (reasons_of c.put.new.run) (reasons-within (list_of c.args.run.now) (list_of c.watches.run) c.watches.invariant.reasons.added) c.watches.invariant.reasons.kept reported.reasons.kept;
+      added = unit-reasons shapes (clauses_of c.args.clauses.now) c.watches.run.assignment.values.items c.in-Forces.forced.slot c.in-Forces.forced.code c.literal_of.result (list_of c.args.run.now) (list_of c.watches.run) (list_of c.put.new.run) (reasons_of c.watches.run) (reasons_of c.put.new.run) c.requires.joined c.watches.run.assignment.agrees c.literal_of.ensures unit reported.list reported.reasons.reason reported.reasons.kept c.watches.invariant.reasons.added;
+    }
 
 pub returns-then-branch-clause-grows : goal.returns-then-branch-clause-grows
 returns-then-branch-clause-grows c = (forced c).grows
@@ -106,7 +125,7 @@ pub returns-then-branch-clause-advances : goal.returns-then-branch-clause-advanc
 returns-then-branch-clause-advances c =
     let i = c.watches.invariant in
     let inside : c.watches.index < length (list_at (lists_of c.watches.clauses.lists.items) c.args.literal) = omega (arith, c.watches-test.true, c.watch_count.ensures) in
-    let v : HasVisited c.watches.run.assignment.values.items c.watches.clauses c.visit_clause.new.clauses c.args.literal c.watches.index (Forces c.in-Forces.code) = subst (HasVisited c.watches.run.assignment.values.items c.watches.clauses c.visit_clause.new.clauses c.args.literal c.watches.index) c.in-Forces.is c.in_ok-visit_clause.ensures.watch in
+    let v : HasVisited c.watches.run.assignment.values.items c.watches.clauses c.visit_clause.new.clauses c.args.literal c.watches.index (Forces c.in-Forces.forced) = subst (HasVisited c.watches.run.assignment.values.items c.watches.clauses c.visit_clause.new.clauses c.args.literal c.watches.index) c.in-Forces.is c.in_ok-visit_clause.ensures.watch in
     walk-then (walk-ends (database c.args.store.now c.args.rests.now) c.args.clauses.now c.watches.clauses c.visit_clause.new.clauses c.args.literal c.watches.index c.visit_clause.new.visits inside c.visit_clause.ensures.covered c.visit_clause.ensures.rising i.advances) c.in_ok-put-in-Forces.ensures.advances
 
 pub returns-then-branch-clause-conflict : goal.returns-then-branch-clause-conflict
@@ -133,8 +152,8 @@ returns-in-Falsified-clause-kept c =
     let v : HasVisited c.watches.run.assignment.values.items c.watches.clauses c.visit_clause.new.clauses c.args.literal c.watches.index Falsified = subst (HasVisited c.watches.run.assignment.values.items c.watches.clauses c.visit_clause.new.clauses c.args.literal c.watches.index) c.in-Falsified.is c.in_ok-visit_clause.ensures.watch in
     λ base codes more old. v.kept base codes (grows-trans base c.args.run.now.assignment.values.items c.watches.run.assignment.values.items more c.watches.invariant.walking.grows) (c.watches.invariant.walking.kept base codes more old)
 
-pub returns-in-Falsified-clause-derived : goal.returns-in-Falsified-clause-derived
-returns-in-Falsified-clause-derived c = c.watches.invariant.walking.derived
+pub returns-in-Falsified-clause-reasons : goal.returns-in-Falsified-clause-reasons
+returns-in-Falsified-clause-reasons c = record { kept = c.watches.invariant.reasons.kept; added = c.watches.invariant.reasons.added }
 
 pub returns-in-Falsified-clause-grows : goal.returns-in-Falsified-clause-grows
 returns-in-Falsified-clause-grows c = c.watches.invariant.walking.grows
@@ -179,8 +198,8 @@ returns-clause-running c = c.watches.invariant.walking.running
 pub returns-clause-kept : goal.returns-clause-kept
 returns-clause-kept c = c.watches.invariant.walking.kept
 
-pub returns-clause-derived : goal.returns-clause-derived
-returns-clause-derived c = c.watches.invariant.walking.derived
+pub returns-clause-reasons : goal.returns-clause-reasons
+returns-clause-reasons c = c.watches.invariant.reasons
 
 pub returns-clause-grows : goal.returns-clause-grows
 returns-clause-grows c = c.watches.invariant.walking.grows

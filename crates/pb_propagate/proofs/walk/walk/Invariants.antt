@@ -1,14 +1,15 @@
 use Rattle.std.proofs.Common.{◌≡◌, ◌-◌, length}
-use Rattle.pb_propagate.specs.engine.Engine.Fields.{shapes_of}
-use Rattle.pb_propagate.specs.engine.Engine.Progress.{progress, database, IsOpen, StaysTidy}
+use Rattle.pb_propagate.specs.engine.Engine.Progress.{progress, database, IsOpen, StaysTidy, RunReasons}
 use Rattle.pb_propagate.specs.engine.Clauses.Links.{lists_of, list_at}
+use Rattle.pb_propagate.specs.engine.Clauses.Shapes.{all_of}
 use Rattle.pb_propagate.proofs.lemmas.clauses.Walks.{IsWalking}
 use Rattle.pb_propagate.proofs.lemmas.engine.Watched.{WalkIsAt}
 use Rattle.pb_propagate.proofs.walk.walk.Given as goal
 
 abbrev pub invariant-watches : goal.invariant-watches
 invariant-watches l = record {
-  walking : IsWalking (shapes_of l.store.stored.items) l.initial.clauses l.clauses l.literal l.index (progress l.initial.run) (progress l.run);
+  reasons : RunReasons (all_of l.store l.initial.clauses) l.initial.run l.run;
+  walking : IsWalking l.initial.clauses l.clauses l.literal l.index (progress l.initial.run) (progress l.run);
   advances : WalkIsAt (database l.store l.rests) l.initial.clauses l.clauses l.literal l.index (progress l.initial.run) (progress l.run);
   candidates : l.run.candidates ≡ l.initial.run.candidates;
   counted : IsOpen (database l.store l.rests) (progress l.run);

@@ -93,9 +93,8 @@ pub record AreServed (values : List (Option Bool)) (watches : List Watch) (walke
   pub done : (e : ℕ) → (watch_at watches e).live ≡ true → Contains walked (watch_at watches e).literal → true_at values (watch_at watches (flip e)).literal ≡ true
   pub here : (e : ℕ) → (watch_at watches e).live ≡ true → (watch_at watches e).literal ≡ l → (watch_at watches e).spot < index → true_at values (watch_at watches (flip e)).literal ≡ true
 
--- all literals of a clause but one are falsified, and that one is open
-pub record IsUnit (values : List (Option Bool)) (clauses : List (List ℕ)) (x : ℕ) : Type 0 where
-  pub slot : ℕ
+-- all literals of a slot's clause but one are falsified, and that one is open
+pub record IsUnit (values : List (Option Bool)) (clauses : List (List ℕ)) (slot x : ℕ) : Type 0 where
   pub stands : Contains (list_at clauses slot) x
   pub others : (k d : ℕ) → k < length (list_at clauses slot) → (false_at values (slice_index_or (list_at clauses slot) k d) ≡ true) ⊎ (slice_index_or (list_at clauses slot) k d ≡ x)
   pub not_true : true_at values x ≡ false
@@ -115,7 +114,7 @@ Awaits c l index x = (e : ℕ) → slice_get (list_at (lists_of c.lists.items) l
 abbrev pub HasFound : List (Option Bool) → Clauses → Clauses → ℕ → ℕ → Visit → Type 0
 HasFound values old new l index Stays = length (list_at (lists_of new.lists.items) l) ≡ length (list_at (lists_of old.lists.items) l)
 HasFound values old new l index Leaves = length (list_at (lists_of new.lists.items) l) + 1 ≡ length (list_at (lists_of old.lists.items) l)
-HasFound values old new l index (Forces x) = (length (list_at (lists_of new.lists.items) l) ≡ length (list_at (lists_of old.lists.items) l)) × IsUnit values (lists_of new.literals.items) x × Awaits new l index x
+HasFound values old new l index (Forces f) = (length (list_at (lists_of new.lists.items) l) ≡ length (list_at (lists_of old.lists.items) l)) × IsUnit values (lists_of new.literals.items) f.slot f.code × Awaits new l index f.code
 HasFound values old new l index Falsified = IsBroken values (lists_of new.literals.items)
 
 -- the position of the next visit

@@ -1,4 +1,4 @@
-use Rattle.std.specs.Prelude.{◌≡◌, ℕ, ◌+◌, ◌<◌, ◌≤◌, All, ◌==◌, ◌&&◌, ◌++◌, ◌∷◌, [], Bool, true, false, if◌then◌else◌, not, List, sum_by, Contains, Option, Some, None, slice_index_or}
+use Rattle.std.specs.Prelude.{◌≡◌, ℕ, ◌+◌, ◌<◌, ◌≤◌, All, ◌==◌, ◌&&◌, ◌++◌, ◌∷◌, [], Bool, true, false, if◌then◌else◌, not, List, sum_by, Contains, Option, Some, None, slice_get, slice_index_or}
 use Rattle.std.specs.List.{list_any}
 use Rattle.std.specs.Bool.{beq}
 use Rattle.pb_normal.specs.declared.numbered.NumberedLiteral.{NumberedLiteral}
@@ -46,6 +46,19 @@ pub record Puts (forms : List Shape) (list : List NumberedLiteral) (l : Numbered
 pub data Derives (forms : List Shape) (given : List NumberedLiteral) : List NumberedLiteral → Type 0 where
   begin : Derives forms given given
   put : {list : List NumberedLiteral} (l : NumberedLiteral) → Derives forms given list → Puts forms list l → Derives forms given (list ++ (l ∷ []))
+
+-- the list starts with the given literals, and each further one was propagated by the constraint that is its reason
+pub data HaveReasons (forms : List Shape) (reasons : List ℕ) (given : List NumberedLiteral) : List NumberedLiteral → Type 0 where
+  from_given : HaveReasons forms reasons given given
+  by_reason : {list : List NumberedLiteral} (l : NumberedLiteral) (s : ℕ) (x : Shape) → HaveReasons forms reasons given list → slice_get reasons l.variable ≡ Some s → slice_get forms s ≡ Some x → Puts (x ∷ []) list l → HaveReasons forms reasons given (list ++ (l ∷ []))
+
+-- the literals of the list keep their reasons
+abbrev pub KeepsReasons : List NumberedLiteral → List ℕ → List ℕ → Type 0
+KeepsReasons list old new = (l : NumberedLiteral) (s : ℕ) → has list l ≡ true → slice_get old l.variable ≡ Some s → slice_get new l.variable ≡ Some s
+
+-- the literal is on the list, and the constraint of the slot is its reason
+abbrev pub IsDue : ℕ → List NumberedLiteral → List ℕ → NumberedLiteral → Type 0
+IsDue slot list reasons l = (has list l ≡ true) × (slice_get reasons l.variable ≡ Some slot)
 
 -- the list holds a literal and its negation, or a constraint has negative slack
 pub data Conflicts (forms : List Shape) (list : List NumberedLiteral) : Type 0 where

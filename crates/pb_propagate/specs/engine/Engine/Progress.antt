@@ -1,5 +1,5 @@
 -- A run of propagation as lists, and what each function of propagation does to it.
-use Rattle.std.specs.Prelude.{◌≡◌, ℕ, ◌+◌, ◌-◌, ◌*◌, ◌<◌, ◌≤◌, ◌++◌, ◌∷◌, [], true, false, Contains, Result, IfOk, List, Bool, Option, filter, length, sum, sum_by, take, slice_set, slice_index, slice_index_or}
+use Rattle.std.specs.Prelude.{◌≡◌, ℕ, ◌+◌, ◌-◌, ◌*◌, ◌<◌, ◌≤◌, ◌++◌, ◌∷◌, [], true, false, Contains, Result, IfOk, List, Bool, Option, Some, filter, length, sum, sum_by, take, slice_get, slice_set, slice_index, slice_index_or}
 use Rattle.pb_normal.specs.declared.numbered.NumberedLiteral.{NumberedLiteral}
 use Rattle.pb_normal.specs.meaning.Rules.{negation}
 use Rattle.pb_propagate.specs.declared.store.Store.{Store}
@@ -7,7 +7,7 @@ use Rattle.pb_propagate.specs.declared.store.Visited.{Visited}
 use Rattle.pb_propagate.specs.declared.rests.Rests.{Rests}
 use Rattle.pb_propagate.specs.declared.run.Run.{Run}
 use Rattle.pb_propagate.specs.declared.clauses.Clauses.{Clauses}
-use Rattle.pb_propagate.specs.engine.Engine.Lists.{Shape, Weighted, Extends, Derives, IsSettled}
+use Rattle.pb_propagate.specs.engine.Engine.Lists.{Shape, Weighted, Extends, HaveReasons, KeepsReasons, IsSettled, has}
 use Rattle.pb_propagate.specs.engine.Engine.Counts.{place, Grown, IsCalm, IsCounted, IsTidy, IsAbsent, IsUndone, AreFound, AreSingle, beside, rest_open, spent}
 use Rattle.pb_propagate.specs.engine.Engine.Fields.{shapes_of, entries_of}
 use Rattle.pb_propagate.specs.engine.Engine.Rest.{waits}
@@ -191,8 +191,22 @@ RunIsShort store rests form run = IsShort (database store rests) form (progress 
 abbrev pub RunFits : Store → Visited → Run → Type 0
 RunFits store e run = coefficient_at (shapes_in store) e.form e.index ≤ slice_index run.opens.items e.form
 
-abbrev pub RunDerives : List Shape → Run → Run → Type 0
-RunDerives forms old new = Derives forms old.assignment.list.items new.assignment.list.items
+-- the reasons of literals, by variable
+abbrev pub reasons_of : Run → List ℕ
+reasons_of run = run.assignment.reasons.items
+
+abbrev pub RunKeepsReasons : Run → Run → Type 0
+RunKeepsReasons old new = KeepsReasons (list_of old) (reasons_of old) (reasons_of new)
+
+-- each new literal was propagated by the constraint that is its reason
+pub record RunReasons (forms : List Shape) (old new : Run) : Type 0 where
+  pub kept : RunKeepsReasons old new
+  pub added : HaveReasons forms (reasons_of new) (list_of old) (list_of new)
+
+-- the constraint of the slot is the literal's reason if it was added
+pub record RunRecords (slot : ℕ) (l : NumberedLiteral) (old new : Run) : Type 0 where
+  pub kept : RunKeepsReasons old new
+  pub reason : has (list_of old) l ≡ false → has (list_of old) (negation l) ≡ false → slice_get (reasons_of new) l.variable ≡ Some slot
 
 abbrev pub RunLowers : Store → Rests → Visited → Run → Run → Type 0
 RunLowers store rests e old new = Lowers (database store rests) e (progress old) (progress new)

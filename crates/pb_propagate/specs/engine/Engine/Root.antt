@@ -4,6 +4,7 @@ use Rattle.pb_normal.specs.declared.numbered.NumberedLiteral.{NumberedLiteral}
 use Rattle.pb_normal.specs.meaning.Rules.{negation}
 use Rattle.pb_propagate.specs.declared.store.stored_form.StoredForm.{StoredForm}
 use Rattle.pb_propagate.specs.declared.store.Store.{Store}
+use Rattle.pb_propagate.specs.declared.assignment.Assignment.{Assignment}
 use Rattle.pb_propagate.specs.declared.run.Run.{Run}
 use Rattle.pb_propagate.specs.declared.engine.root.Root.{Root}
 use Rattle.pb_propagate.specs.declared.rests.Rests.{Rests}
@@ -12,7 +13,7 @@ use Rattle.pb_normal.specs.meaning.Form.{Form}
 use Rattle.pb_propagate.specs.declared.clauses.Clauses.{Clauses}
 use Rattle.pb_propagate.specs.declared.clauses.lists.Watch.{Watch}
 use Rattle.pb_propagate.specs.declared.term.Term.{Term}
-use Rattle.pb_propagate.specs.engine.Engine.Lists.{Shape, Puts, Derives, Conflicts, IsSettled, IsWithin, has, says, open_sum}
+use Rattle.pb_propagate.specs.engine.Engine.Lists.{Shape, Derives, HaveReasons, IsDue, Conflicts, IsSettled, has, open_sum}
 use Rattle.pb_propagate.specs.engine.Engine.Counts.{IsTidy, beside}
 use Rattle.pb_propagate.specs.engine.Engine.Fields.{shapes_of, forms_of, IsSound, IsEmpty}
 use Rattle.pb_propagate.specs.engine.Engine.Forms.{IsStoredAs}
@@ -20,7 +21,7 @@ use Rattle.pb_propagate.specs.engine.Engine.Slots.{form_at, numbered, ArePlaced}
 use Rattle.pb_propagate.specs.engine.Clauses.Truths.{true_at, false_at}
 use Rattle.pb_propagate.specs.engine.Clauses.Links.{list_at, watch_at}
 use Rattle.pb_propagate.specs.engine.Clauses.Runs.{AreReady, AreWalked}
-use Rattle.pb_propagate.specs.engine.Clauses.Shapes.{AreJoined, clauses_of, all_of}
+use Rattle.pb_propagate.specs.engine.Clauses.Shapes.{AreJoined, clauses_of, all_of, joined}
 use Rattle.pb_propagate.specs.engine.Clauses.Walked.{walked_codes}
 
 -- the slot has a form
@@ -40,7 +41,7 @@ pub record IsRooted (store : Store) (clauses : Clauses) (run : Run) (rests : Res
   pub work : run.work.items ≡ []
   pub trail : run.trail.items ≡ []
   pub next : run.next ≡ 0
-  pub derived : Derives (all_of store clauses) [] run.assignment.list.items
+  pub reasoned : HaveReasons (all_of store clauses) run.assignment.reasons.items [] run.assignment.list.items
   pub walked : AreWalked run.assignment.values.items clauses.watches.items (walked_codes (length run.assignment.list.items) run.assignment.list.items)
   pub seats : length waiting.seats.items ≡ length store.stored.items
   pub live : (i s : ℕ) → slice_get waiting.list.items i ≡ Some s → HasForm store s
@@ -67,22 +68,6 @@ IsServed values watches s =
 abbrev pub IsFree : List (Option Bool) → List ℕ → ℕ → Type 0
 IsFree values codes x = Contains codes x × (false_at values x ≡ false)
 
--- a literal of the clause other than this one is not falsified
-abbrev pub HasOther : List (Option Bool) → List ℕ → ℕ → Type 0
-HasOther values codes x = (y : ℕ) × (y ≡ x → ⊥) × IsFree values codes y
-
--- all literals of the clause but this one are falsified
-abbrev pub IsLast : List (Option Bool) → List ℕ → ℕ → Type 0
-IsLast values codes x = (k d : ℕ) → k < length codes → (false_at values (slice_index_or codes k d) ≡ true) ⊎ (slice_index_or codes k d ≡ x)
-
--- the form has put no literal of the list, at any time before
-abbrev pub IsSpare : Shape → List NumberedLiteral → Type 0
-IsSpare x list = (l : NumberedLiteral) (earlier : List NumberedLiteral) → has list l ≡ true → IsWithin earlier list → Puts (x ∷ []) earlier l → ⊥
-
--- each literal of the list that the form of a slot has put may be put by that of another slot
-abbrev pub IsReplaced : List Shape → ℕ → List NumberedLiteral → Type 0
-IsReplaced forms slot list = (x : Shape) (l : NumberedLiteral) (earlier : List NumberedLiteral) → slice_get forms slot ≡ Some x → has list l ≡ true → IsWithin earlier list → Puts (x ∷ []) earlier l → (s : ℕ) × (s ≡ slot → ⊥) × (y : Shape) × (slice_get forms s ≡ Some y) × Puts (y ∷ []) earlier l
-
 -- the constraint of the slot is not falsified
 abbrev pub IsMet : List Shape → ℕ → List NumberedLiteral → Type 0
 IsMet forms slot list = (x : Shape) → slice_get forms slot ≡ Some x → x.degree ≤ open_sum list x.terms
@@ -91,7 +76,7 @@ IsMet forms slot list = (x : Shape) → slice_get forms slot ≡ Some x → x.de
 pub record IsFallen (forms : List Shape) (variables : ℕ) (root : Root) : Type 0 where
   pub ended : root.live ≡ false
   pub values : length root.run.assignment.values.items ≡ variables
-  pub derived : Derives forms [] root.run.assignment.list.items
+  pub reasoned : HaveReasons forms root.run.assignment.reasons.items [] root.run.assignment.list.items
   pub slot : ℕ
   pub form : Shape
   pub stored : slice_get forms slot ≡ Some form
@@ -118,17 +103,24 @@ pub record IsLeft (before store : Store) (old clauses : Clauses) (root : Root) :
 abbrev pub IsOnly : List Term → NumberedLiteral → Type 0
 IsOnly terms l = (c : ℕ) × (terms ≡ record { literal = l; coefficient = c } ∷ [])
 
--- a slot other than this one has a form that is a unit of the literal
-pub record HasUnit (forms : List Shape) (slot : ℕ) (l : NumberedLiteral) : Type 0 where
-  pub unit : ℕ
+-- the slot is another one, and its form is a unit of the literal
+pub record IsOtherUnit (forms : List Shape) (slot : ℕ) (l : NumberedLiteral) (unit : ℕ) : Type 0 where
   pub apart : unit ≡ slot → ⊥
   pub inside : unit < length forms
   pub only : (d : Shape) → IsOnly (slice_index_or forms unit d).terms l
   pub positive : (d : Shape) → 0 < (slice_index_or forms unit d).degree
 
--- each true literal of a slot's form has a unit in another slot
-abbrev pub AreBacked : List (Option Bool) → List Shape → ℕ → Type 0
-AreBacked values forms slot = (d : Shape) (i : ℕ) (t : Term) → i < length (slice_index_or forms slot d).terms → says values (slice_index_or (slice_index_or forms slot d).terms i t).literal ≡ true → HasUnit forms slot (slice_index_or (slice_index_or forms slot d).terms i t).literal
+-- reasons were replaced by others that hold too: no more literals are due to the slot
+pub record HasOtherReasons (shapes : List Shape) (slot : ℕ) (old new : Assignment) : Type 0 where
+  pub list : new.list ≡ old.list
+  pub values : new.values ≡ old.values
+  pub reasoned : (clauses : List (List ℕ)) → AreJoined shapes clauses → HaveReasons (joined shapes clauses) old.reasons.items [] old.list.items → HaveReasons (joined shapes clauses) new.reasons.items [] new.list.items
+  pub fewer : (l : NumberedLiteral) → IsDue slot new.list.items new.reasons.items l → IsDue slot old.list.items old.reasons.items l
+
+-- each literal of the list has a reason other than the constraint of the slot
+pub record IsNeedless (forms : List Shape) (slot : ℕ) (a : Assignment) : Type 0 where
+  pub reasoned : HaveReasons forms a.reasons.items [] a.list.items
+  pub none : (l : NumberedLiteral) → IsDue slot a.list.items a.reasons.items l → ⊥
 
 -- the same literal is watched
 abbrev pub IsSameWatch : Watch → Watch → Type 0
@@ -143,7 +135,8 @@ pub record HasVacated (before : Store) (old : Clauses) (store : Store) (clauses 
 
 -- the lists have the entry of an empty form for the slot
 pub record HasLost (run run' : Run) (rests rests' : Rests) (slot : ℕ) : Type 0 where
-  pub assignment : run'.assignment ≡ run.assignment
+  pub list : run'.assignment.list ≡ run.assignment.list
+  pub values : run'.assignment.values ≡ run.assignment.values
   pub work : run'.work ≡ run.work
   pub trail : run'.trail ≡ run.trail
   pub next : run'.next ≡ run.next

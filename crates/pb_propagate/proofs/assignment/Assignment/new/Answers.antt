@@ -1,3 +1,4 @@
+use Rattle.std.proofs.Common.{ap, sym, ◌∙◌, length}
 use Rattle.pb_propagate.proofs.lemmas.engine.Values.{Agree-start, vacancy-start}
 use Rattle.pb_propagate.proofs.lemmas.clauses.Marks.{marked-start}
 use Rattle.pb_propagate.proofs.assignment.Assignment.new.Goals as goal
@@ -9,5 +10,6 @@ invariant_of-result c =
       agrees = Agree-start c.new.result.items c.new-3.result.items c.new.ensures.items c.new-3.ensures.items;
       room = vacancy-start c.new.result.items c.new-3.result.items c.new.ensures.items c.new-3.ensures.items;
       sizes = marks.sizes;
+      known = ap length c.new-4.ensures.items ∙ sym (ap length c.new.ensures.items);
       marked = marks.each;
     }

@@ -13,5 +13,6 @@ invariant_of-self-2 c =
       agrees = λ l. rw (c.in_ok-push.ensures.items, now) (more l);
       room = rw now (omega (arith, less, c.args.self.now.room, length-set {A = Option Bool}, ap length c.in_ok-push.ensures.items, length-append {A = NumberedLiteral}));
       sizes = c.assign.ensures.marked.sizes;
+      known = omega (arith, length-set c.args.self.now.reasons.items c.args.literal.variable c.args.reason, c.args.self.now.known, ap length now, length-set {A = Option Bool});
       marked = c.assign.ensures.marked.each;
     }

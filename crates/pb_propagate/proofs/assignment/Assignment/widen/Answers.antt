@@ -1,7 +1,9 @@
-use Rattle.std.specs.Prelude.{Bool, true, false}
-use Rattle.std.proofs.Common.{List, ◌++◌, ◌∷◌, [], ap, ◌∙◌}
+use Rattle.std.specs.Prelude.{Bool, Option, true, false, slice_get}
+use Rattle.std.proofs.Common.{ℕ, ◌^◌, ◌-◌, List, ◌++◌, ◌∷◌, [], ap, ◌∙◌, arith, length, length-append}
+use Rattle.std.proofs.lemmas.Option.{slice_get_within}
 use Rattle.pb_propagate.proofs.lemmas.engine.Values.{Agree-widen_if, vacancy-widen_if}
 use Rattle.pb_propagate.proofs.lemmas.clauses.Marks.{marked-wider}
+use Rattle.pb_propagate.proofs.lemmas.store.Gets.{get-push_less}
 use Rattle.pb_propagate.proofs.assignment.Assignment.widen.Goals as goal
 
 pub invariant_of-self-2 : goal.invariant_of-self-2
@@ -14,5 +16,12 @@ invariant_of-self-2 c =
       agrees = Agree-widen_if s.values.items c.push.new.self.items s.list.items true c.in_ok-push.ensures.items s.agrees;
       room = vacancy-widen_if s.values.items c.push.new.self.items s.list.items true c.in_ok-push.ensures.items s.room;
       sizes = marks.sizes;
+      known = omega (arith, s.known, ap length c.push_reserved-5.ensures.items, ap length c.reserve-2.ensures.items, ap length c.in_ok-push.ensures.items, length-append {A = ℕ}, length-append {A = Option Bool});
       marked = marks.each;
     }
+
+pub returns-clause-reasons : goal.returns-clause-reasons
+returns-clause-reasons c = λ l s on at.
+    let old = c.args.self.now.reasons.items in
+    let more = c.push_reserved-5.ensures.items ∙ ap (λ (xs : List ℕ). xs ++ ((2 ^ 64 - 1) ∷ [])) c.reserve-2.ensures.items in
+    ap (λ xs. slice_get xs l.variable) more ∙ get-push_less old l.variable (2 ^ 64 - 1) (slice_get_within old l.variable s at) ∙ at

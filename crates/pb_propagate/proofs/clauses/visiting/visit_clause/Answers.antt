@@ -115,7 +115,7 @@ returns-then-stop-literals-clause-watch c =
       served = λ walked s. s;
       found = (
         refl,
-        unit-back c.requires.running.starts (lists_of me.literals.items) c.args.assignment.now.values.items c.visit_watch-other.result (unit-of c.args.assignment.now.values.items clauses (passed_of me) me.watches.items (lists_of me.lists.items) c.args.literal c.args.index c.visit_entry-watch.result c.visit_watch-other.result c.advance-stop.result.passed visiting end (sym c.satisfies.ensures ∙ c.if-satisfies.false) (sym c.if-falsifies.ensures)),
+        unit-back c.requires.running.starts (lists_of me.literals.items) c.args.assignment.now.values.items (c.visit_entry-watch.result / 2) c.visit_watch-other.result (unit-of c.args.assignment.now.values.items clauses (passed_of me) me.watches.items (lists_of me.lists.items) c.args.literal c.args.index c.visit_entry-watch.result c.visit_watch-other.result c.advance-stop.result.passed visiting end (sym c.satisfies.ensures ∙ c.if-satisfies.false) (sym c.if-falsifies.ensures)),
         λ e item. ap (λ k. (watch_at me.watches.items (flip k)).literal) (same_Some e c.visit_entry-watch.result (sym item ∙ reading-item me c.args.literal c.args.index c.visit_entry-watch.result c.visit_watch-other.result reading)) ∙ sym (reading-other me c.args.literal c.args.index c.visit_entry-watch.result c.visit_watch-other.result reading),
       );
       kept = λ base codes more old. old;

@@ -32,6 +32,7 @@ use Rattle.pb_propagate.proofs.lemmas.root.Asked.{asked-meets, asked-free}
 use Rattle.pb_propagate.proofs.lemmas.root.Fallen.{fallen-answered, fallen-few, fallen-same}
 use Rattle.pb_propagate.proofs.lemmas.clauses.Watching.{ready-running}
 use Rattle.pb_propagate.proofs.lemmas.engine.Rests.{slots-entered, joined-entered, rest-entered, rest-tidy-first, rest-undone, rest-lengths, rest-left, eager-entered, with-kept, opposite-inside}
+use Rattle.pb_propagate.proofs.lemmas.engine.Reasoned.{reasons-derive}
 use Rattle.pb_propagate.proofs.engine.Engine.rup.Goals as goal
 
 pub enter-requires-clause-inside : goal.enter-requires-clause-inside
@@ -163,7 +164,7 @@ returns-clause-implied c = λ found.
     let a = placed-with forms e.places.items g shapes both.1 (with-kept forms g shapes (slots-entered forms g keep new.store.stored.items (clauses_of e.clauses) e.run.opens.items new.run.opens.items e.run.candidates.items new.run.candidates.items r.joined.short h r.slots)) in
     let shown = numbered forms e.places.items in
     let empty = ap (λ (x : Assignment). x.list.items) c.enter.ensures.rest.0 ∙ r.list in
-    let d = derives (With (Live shown) g) shapes [] [] c.propagate.new.run.assignment.list.items a (λ v n. sym (on-none (record { variable = v; negated = n }))) (rw empty at reported.derived) in
+    let d = derives (With (Live shown) g) shapes [] [] c.propagate.new.run.assignment.list.items a (λ v n. sym (on-none (record { variable = v; negated = n }))) (rw empty at (reasons-derive reported.reasons.added)) in
     let meets : MeetsConflict (With (Live shown) g) [] = record { list = d.list; derived = d.derived; conflict = conflicts (With (Live shown) g) shapes d.list c.propagate.new.run.assignment.list.items a d.matches (reported.conflict found) } in
     rw (← c.self.view_is) (inr (rw c.in-Ok.ensures.negation at meets))
 
@@ -183,7 +184,7 @@ returns-clause-not_implied c = λ found rup.
     let a = placed-with forms e.places.items g shapes both.1 (with-kept forms g shapes (slots-entered forms g keep new.store.stored.items (clauses_of e.clauses) e.run.opens.items new.run.opens.items e.run.candidates.items new.run.candidates.items r.joined.short h r.slots)) in
     let shown = numbered forms e.places.items in
     let empty = ap (λ (x : Assignment). x.list.items) c.enter.ensures.rest.0 ∙ r.list in
-    let d = derives (With (Live shown) g) shapes [] [] run.assignment.list.items a (λ v n. sym (on-none (record { variable = v; negated = n }))) (rw empty at reported.derived) in
+    let d = derives (With (Live shown) g) shapes [] [] run.assignment.list.items a (λ v n. sym (on-none (record { variable = v; negated = n }))) (rw empty at (reasons-derive reported.reasons.added)) in
     let free : MeetsConflict (With (Live shown) g) [] → ⊥ = closed-none (With (Live shown) g) [] d.list d.derived
     (is-closed (With (Live shown) g) shapes d.list run.assignment.list.items a d.matches (reported.settled found))
     (has-none (With (Live shown) g) shapes d.list run.assignment.list.items a d.matches (λ l on. opposite run.assignment.values.items run.assignment.list.items l run.assignment.agrees on) (reported.settled found)) in
@@ -266,7 +267,7 @@ returns-clause-conflict c = λ found.
     let a = placed-with forms e.places.items g shapes both.1 (with-kept forms g shapes (slots-entered forms g keep new.store.stored.items (clauses_of e.clauses) e.run.opens.items new.run.opens.items e.run.candidates.items new.run.candidates.items r.joined.short h r.slots)) in
     let shown = numbered forms e.places.items in
     let empty = ap (λ (x : Assignment). x.list.items) c.enter.ensures.rest.0 ∙ r.list in
-    let d = derives (With (Live shown) g) shapes [] [] run.assignment.list.items a (λ v n. sym (on-none (record { variable = v; negated = n }))) (rw empty at reported.derived) in
+    let d = derives (With (Live shown) g) shapes [] [] run.assignment.list.items a (λ v n. sym (on-none (record { variable = v; negated = n }))) (rw empty at (reasons-derive reported.reasons.added)) in
     let least = found-least (length run.assignment.list.items) run.visits (length new.run.assignment.list.items) new.run.visits (ap length empty) (c.enter.ensures.rest.3 ∙ c.none-self-inside.ensures) reported.found (omega (arith, run.assignment.list.ok.0, run.assignment.list.ok.1)) in
     let small : length d.list ≤ c.leave.new.run.visits = omega (arith, least, d.count, c.leave.ensures.rest.3, c.rest.ensures.visits) in
     let meets : (m : MeetsConflict (With (Live shown) g) []) × (length m.list ≤ c.leave.new.run.visits) = (record { list = d.list; derived = d.derived; conflict = conflicts (With (Live shown) g) shapes d.list run.assignment.list.items a d.matches (reported.conflict found) }, small) in
@@ -288,7 +289,7 @@ returns-clause-completion c = λ found.
     let a = placed-with forms e.places.items g shapes both.1 (with-kept forms g shapes (slots-entered forms g keep new.store.stored.items (clauses_of e.clauses) e.run.opens.items new.run.opens.items e.run.candidates.items new.run.candidates.items r.joined.short h r.slots)) in
     let shown = numbered forms e.places.items in
     let empty = ap (λ (x : Assignment). x.list.items) c.enter.ensures.rest.0 ∙ r.list in
-    let d = derives (With (Live shown) g) shapes [] [] run.assignment.list.items a (λ v n. sym (on-none (record { variable = v; negated = n }))) (rw empty at reported.derived) in
+    let d = derives (With (Live shown) g) shapes [] [] run.assignment.list.items a (λ v n. sym (on-none (record { variable = v; negated = n }))) (rw empty at (reasons-derive reported.reasons.added)) in
     let least = found-least (length run.assignment.list.items) run.visits (length new.run.assignment.list.items) new.run.visits (ap length empty) (c.enter.ensures.rest.3 ∙ c.none-self-inside.ensures) reported.found (omega (arith, run.assignment.list.ok.0, run.assignment.list.ok.1)) in
     let small : length d.list ≤ c.leave.new.run.visits = omega (arith, least, d.count, c.leave.ensures.rest.3, c.rest.ensures.visits) in
     let done : IsCompletion (With (Live shown) g) [] d.list = record { derived = d.derived; closed = is-closed (With (Live shown) g) shapes d.list run.assignment.list.items a d.matches (reported.settled found) } in
@@ -449,7 +450,7 @@ invariant_of-self-then-self-2 c = λ ready.
       },
       rw reported.left.kept both.1,
       reported.left.rooted,
-      λ fallen. rw (reported.left.kept, lit) (fallen-same (all_of e.store e.clauses) e.store.variables c.ask.new.store.variables c.ask.new.root c.ask.new.root refl refl ((reported.left.fallen fallen).values ∙ sym c.ask.ensures.variables) (reported.left.fallen fallen)),
+      λ fallen. rw (reported.left.kept, lit) (fallen-same (all_of e.store e.clauses) e.store.variables c.ask.new.store.variables c.ask.new.root c.ask.new.root refl refl (λ l s on at. at) ((reported.left.fallen fallen).values ∙ sym c.ask.ensures.variables) (reported.left.fallen fallen)),
     )
 
 pub returns-then-self-2-clause-forms : goal.returns-then-self-2-clause-forms

@@ -37,8 +37,8 @@ invariant_of-self-2 c = λ ready.
         seats = r.seats;
       },
       both.1,
-      λ live. widened-rooted e.store _ e.clauses c.widen-3.new.self e.root.run c.widen-4.new.self e.root.rests e.root.waiting refl count (c.widen-3.ensures.literals ∙ c.widen-2.ensures.literals) (c.widen-3.ensures.watches ∙ c.widen-2.ensures.watches) c.widen-4.ensures.list c.in_ok-widen-4.ensures.values (both.2 live),
-      λ fallen. rw lit (fallen-same (all_of e.store e.clauses) e.store.variables _ e.root _ refl c.widen-4.ensures.list (omega (arith, c.in_ok-widen-4.ensures.values, (both.3 fallen).values, count)) (both.3 fallen)),
+      λ live. widened-rooted e.store _ e.clauses c.widen-3.new.self e.root.run c.widen-4.new.self e.root.rests e.root.waiting refl count (c.widen-3.ensures.literals ∙ c.widen-2.ensures.literals) (c.widen-3.ensures.watches ∙ c.widen-2.ensures.watches) c.widen-4.ensures.list c.in_ok-widen-4.ensures.values c.in_ok-widen-4.ensures.reasons (both.2 live),
+      λ fallen. rw lit (fallen-same (all_of e.store e.clauses) e.store.variables _ e.root _ refl c.widen-4.ensures.list c.in_ok-widen-4.ensures.reasons (omega (arith, c.in_ok-widen-4.ensures.values, (both.3 fallen).values, count)) (both.3 fallen)),
     )
 
 pub returns-clause-variables : goal.returns-clause-variables

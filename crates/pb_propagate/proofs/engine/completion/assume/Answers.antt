@@ -4,8 +4,10 @@ use Rattle.pb_normal.specs.meaning.Rules.{negation}
 use Rattle.pb_propagate.specs.engine.Engine.Lists.{has, begin}
 use Rattle.pb_propagate.specs.engine.Engine.Fields.{shapes_of}
 use Rattle.pb_propagate.proofs.lemmas.engine.Assumed.{Assumed, assumed-next, none-assumed, opposed-clash}
-use Rattle.pb_propagate.specs.engine.Engine.Progress.{progress, database}
+use Rattle.pb_propagate.specs.engine.Engine.Progress.{progress, database, list_of, reasons_of}
 use Rattle.pb_propagate.proofs.lemmas.engine.Advances.{advances-refl, advances-then}
+use Rattle.pb_propagate.proofs.lemmas.engine.Reasoned.{keeps-then}
+use Rattle.pb_propagate.proofs.lemmas.root.Returns.{extends-within}
 use Rattle.pb_propagate.proofs.engine.completion.assume.Goals as goal
 
 pub given-init : goal.given-init
@@ -15,6 +17,7 @@ given-init c =
       advances = advances-refl (database c.args.store.now c.args.rests.now) (progress c.args.run.now);
       counted = c.requires.counted;
       tidy = λ aside busy t. t;
+      reasons = λ l s on at. at;
       within = λ l h. inl h;
       covers = none-assumed list;
     }
@@ -47,6 +50,7 @@ given-preserved c =
       advances = advances-then i.advances reported.advances;
       counted = reported.counted c.if-branch.false;
       tidy = λ aside busy t. reported.tidy aside busy (i.tidy aside busy t);
+      reasons = keeps-then (list_of c.args.run.now) (list_of c.given.run) (reasons_of c.args.run.now) (reasons_of c.given.run) (reasons_of c.try_put.new.run) (extends-within (list_of c.args.run.now) (list_of c.given.run) c.given.invariant.advances.costs.extends) c.given.invariant.reasons c.in_ok-try_put.ensures.reasons.kept;
       within = a.within;
       covers = a.covers;
     }
@@ -80,3 +84,12 @@ pub try_put-requires-clause-next : goal.try_put-requires-clause-next
 try_put-requires-clause-next c =
     let a = c.given.invariant.advances in
     omega (arith, a.next, a.longer, c.requires.next)
+
+pub returns-then-branch-clause-reasons : goal.returns-then-branch-clause-reasons
+returns-then-branch-clause-reasons c = keeps-then (list_of c.args.run.now) (list_of c.given.run) (reasons_of c.args.run.now) (reasons_of c.given.run) (reasons_of c.try_put.new.run) (extends-within (list_of c.args.run.now) (list_of c.given.run) c.given.invariant.advances.costs.extends) c.given.invariant.reasons c.in_ok-try_put.ensures.reasons.kept
+
+pub returns-then-contains-clause-reasons : goal.returns-then-contains-clause-reasons
+returns-then-contains-clause-reasons c = c.given.invariant.reasons
+
+pub returns-clause-reasons : goal.returns-clause-reasons
+returns-clause-reasons c = c.given.invariant.reasons

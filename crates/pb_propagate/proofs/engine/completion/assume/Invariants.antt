@@ -1,6 +1,6 @@
 use Rattle.std.proofs.Common.{take}
 use Rattle.pb_propagate.specs.engine.Engine.Lists.{IsWithin}
-use Rattle.pb_propagate.specs.engine.Engine.Progress.{progress, database, IsOpen, StaysTidy, Advances}
+use Rattle.pb_propagate.specs.engine.Engine.Progress.{progress, database, IsOpen, StaysTidy, Advances, RunKeepsReasons}
 use Rattle.pb_propagate.specs.engine.Engine.Reached.{IsFrom}
 use Rattle.pb_propagate.proofs.engine.completion.assume.Given as goal
 
@@ -9,6 +9,7 @@ invariant-given l = record {
   advances : Advances (database l.store l.rests) 0 0 (progress l.initial.run) (progress l.run);
   counted : IsOpen (database l.store l.rests) (progress l.run);
   tidy : StaysTidy (database l.store l.rests) (progress l.initial.run) (progress l.run);
+  reasons : RunKeepsReasons l.initial.run l.run;
   within : IsFrom l.initial.run.assignment.list.items l.given l.run.assignment.list.items;
   covers : IsWithin (take l.i l.given) l.run.assignment.list.items;
 }

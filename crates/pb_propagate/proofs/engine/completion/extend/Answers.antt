@@ -12,13 +12,14 @@ use Rattle.pb_propagate.proofs.lemmas.clauses.Walks.{grows-refl}
 use Rattle.pb_propagate.proofs.lemmas.engine.Spent.{derivation-single}
 use Rattle.pb_propagate.proofs.lemmas.root.Returns.{back-rooted, root-counted}
 use Rattle.pb_propagate.proofs.lemmas.root.Transplants.{clash-refuted, ended-made, root-clash, map-none, map-some}
+use Rattle.pb_propagate.proofs.lemmas.engine.Reasoned.{reasons-derive}
 use Rattle.pb_propagate.proofs.engine.completion.extend.Goals as goal
 
 pub returns-then-branch-clause-clash : goal.returns-then-branch-clause-clash
 returns-then-branch-clause-clash c =
     let shapes = all_of c.args.store.now c.args.clauses.now in
     let list = c.update.new.self.run.assignment.list.items in
-    clash-refuted shapes list c.args.given.now c.in_ok-update.ensures.derived (root-clash shapes list c.args.given.now (c.in_ok-update.ensures.conflict c.if-branch.true))
+    clash-refuted shapes list c.args.given.now (reasons-derive c.in_ok-update.ensures.reasons) (root-clash shapes list c.args.given.now (c.in_ok-update.ensures.conflict c.if-branch.true))
 
 pub settle-requires-clause-values : goal.settle-requires-clause-values
 settle-requires-clause-values c = (c.in_ok-update.ensures.rooted c.if-branch.false).values
@@ -40,7 +41,7 @@ settle-requires-clause-waiting c = rw (c.as_slice.ensures.value, c.new-none.ensu
 pub settle-requires-clause-single : goal.settle-requires-clause-single
 settle-requires-clause-single c =
     let r = c.in_ok-update.ensures.rooted c.if-branch.false in
-    derivation-single (all_of c.args.store.now c.update.new.clauses) [] c.update.new.self.run.assignment.list.items none r.derived
+    derivation-single (all_of c.args.store.now c.update.new.clauses) [] c.update.new.self.run.assignment.list.items none (reasons-derive r.reasoned)
 
 pub settle-requires-clause-counted : goal.settle-requires-clause-counted
 settle-requires-clause-counted c =
@@ -69,7 +70,7 @@ returns-clause-clash c =
     let lit : clauses_of c.update.new.clauses ≡ clauses_of c.args.clauses.now = ap (λ (v : Vec (Vec ℕ Global) Global). lists_of v.items) c.update.ensures.literals in
     let same : all_of store c.update.new.clauses ≡ all_of store c.args.clauses.now = ap (joined (shapes_of store.stored.items)) lit in
     let found = subst (λ xs. IfNone c.in_ok-values.values (HasClash xs list c.args.given.now)) same c.in_ok-values.ensures.clash in
-    map-none c.in_ok-values.values (clash-refuted (all_of store c.args.clauses.now) list c.args.given.now c.in_ok-update.ensures.derived) found
+    map-none c.in_ok-values.values (clash-refuted (all_of store c.args.clauses.now) list c.args.given.now (reasons-derive c.in_ok-update.ensures.reasons)) found
 
 pub returns-clause-ended : goal.returns-clause-ended
 returns-clause-ended c =
@@ -78,7 +79,7 @@ returns-clause-ended c =
     let lit : clauses_of c.update.new.clauses ≡ clauses_of c.args.clauses.now = ap (λ (v : Vec (Vec ℕ Global) Global). lists_of v.items) c.update.ensures.literals in
     let same : all_of store c.update.new.clauses ≡ all_of store c.args.clauses.now = ap (joined (shapes_of store.stored.items)) lit in
     let found = subst (λ xs. IfSome c.in_ok-values.values (λ values. HasEnded xs list c.args.given.now values.items)) same c.in_ok-values.ensures.ended in
-    map-some c.in_ok-values.values (λ values. ended-made (all_of store c.args.clauses.now) list c.args.given.now values.items c.in_ok-update.ensures.derived) found
+    map-some c.in_ok-values.values (λ values. ended-made (all_of store c.args.clauses.now) list c.args.given.now values.items (reasons-derive c.in_ok-update.ensures.reasons)) found
 
 pub returns-then-branch-clause-left : goal.returns-then-branch-clause-left
 returns-then-branch-clause-left c = record {
@@ -112,6 +113,7 @@ returns-clause-left c =
         literals = ap (λ (v : Vec (Vec ℕ Global) Global). lists_of v.items) (c.back.ensures.literals ∙ c.settle.ensures.literals);
         kept = λ old. subst (λ ws. AreWalked run.assignment.values.items ws codes) (sym watches_is) (reported.kept run.assignment.values.items codes (grows-refl run.assignment.values.items) old);
         extends = reported.extends;
+        reasons = rw c.back.ensures.reasons reported.reasons;
         cut = c.back.ensures.list ∙ ap (λ n. take n c.settle.new.run.assignment.list.items) count_is;
         values = c.back.ensures.values ∙ reported.values;
         opens = c.back.ensures.opens;

@@ -1,5 +1,6 @@
 use Rattle.std.proofs.Common.{◌≡◌, ◌++◌, length, sym, ap, subst, ◌∙◌, arith, length-append}
 use Rattle.pb_propagate.specs.engine.Engine.Fields.{shapes_of}
+use Rattle.pb_propagate.specs.engine.Engine.Progress.{list_of, reasons_of}
 use Rattle.pb_propagate.specs.engine.Clauses.Runs.{AreWalked}
 use Rattle.pb_propagate.specs.engine.Clauses.Shapes.{all_of, clauses_of}
 use Rattle.pb_propagate.specs.engine.Clauses.Walked.{walked_codes}
@@ -8,6 +9,7 @@ use Rattle.pb_propagate.proofs.lemmas.engine.Derivations.{derivation-keeps}
 use Rattle.pb_propagate.proofs.lemmas.root.Extends.{extends-then, derives-extends}
 use Rattle.pb_propagate.proofs.lemmas.root.Returns.{assigned-grow, extends-within, walked-first}
 use Rattle.pb_propagate.proofs.lemmas.root.Transplants.{clash-joined}
+use Rattle.pb_propagate.proofs.lemmas.engine.Reasoned.{keeps-then, reasons-derive}
 use Rattle.pb_propagate.proofs.engine.completion.settle.Goals as goal
 
 pub propagate-requires-clause-values : goal.propagate-requires-clause-values
@@ -60,7 +62,7 @@ returns-then-branch-clause-clash c =
 pub returns-then-branch-2-clause-clash : goal.returns-then-branch-2-clause-clash
 returns-then-branch-2-clause-clash c = record {
   list = c.propagate.new.run.assignment.list.items;
-  reached = record { first = c.assume.new.run.assignment.list.items; within = c.in_ok-assume.ensures.within c.if-branch.false; derived = c.in_ok-propagate.ensures.derived };
+  reached = record { first = c.assume.new.run.assignment.list.items; within = c.in_ok-assume.ensures.within c.if-branch.false; derived = (reasons-derive c.in_ok-propagate.ensures.reasons.added) };
   conflict = c.in_ok-propagate.ensures.conflict c.if-branch-2.true;
 }
 
@@ -72,7 +74,7 @@ returns-then-branch-2-clause-kept c = λ base codes more old.
 pub returns-then-branch-2-clause-extends : goal.returns-then-branch-2-clause-extends
 returns-then-branch-2-clause-extends c =
     let mid = c.assume.new.run.assignment.list.items in
-    extends-then c.args.run.now.assignment.list.items mid c.propagate.new.run.assignment.list.items c.in_ok-assume.ensures.advances.costs.extends (derives-extends (all_of c.args.store.now c.args.clauses.now) mid c.propagate.new.run.assignment.list.items c.in_ok-propagate.ensures.derived)
+    extends-then c.args.run.now.assignment.list.items mid c.propagate.new.run.assignment.list.items c.in_ok-assume.ensures.advances.costs.extends (derives-extends (all_of c.args.store.now c.args.clauses.now) mid c.propagate.new.run.assignment.list.items (reasons-derive c.in_ok-propagate.ensures.reasons.added))
 
 pub returns-clause-kept : goal.returns-clause-kept
 returns-clause-kept c = λ base codes more old.
@@ -82,23 +84,35 @@ returns-clause-kept c = λ base codes more old.
 pub returns-clause-extends : goal.returns-clause-extends
 returns-clause-extends c =
     let mid = c.assume.new.run.assignment.list.items in
-    extends-then c.args.run.now.assignment.list.items mid c.propagate.new.run.assignment.list.items c.in_ok-assume.ensures.advances.costs.extends (derives-extends (all_of c.args.store.now c.args.clauses.now) mid c.propagate.new.run.assignment.list.items c.in_ok-propagate.ensures.derived)
+    extends-then c.args.run.now.assignment.list.items mid c.propagate.new.run.assignment.list.items c.in_ok-assume.ensures.advances.costs.extends (derives-extends (all_of c.args.store.now c.args.clauses.now) mid c.propagate.new.run.assignment.list.items (reasons-derive c.in_ok-propagate.ensures.reasons.added))
 
 pub returns-clause-ended : goal.returns-clause-ended
 returns-clause-ended c =
     let start = c.args.run.now.assignment.list.items in
     let mid = c.assume.new.run.assignment.list.items in
     let done = c.propagate.new.run.assignment in
-    let later = derivation-keeps (all_of c.args.store.now c.args.clauses.now) mid done.list.items c.in_ok-propagate.ensures.derived in
+    let later = derivation-keeps (all_of c.args.store.now c.args.clauses.now) mid done.list.items (reasons-derive c.in_ok-propagate.ensures.reasons.added) in
     let first = extends-within start mid c.in_ok-assume.ensures.advances.costs.extends in
     let copy : c.extend_from_slice.new.self.items ≡ done.values.items = c.in_ok-extend_from_slice.ensures.items ∙ ap (λ xs. xs ++ c.as_slice.result.now) c.new-values.ensures.items ∙ c.as_slice.ensures.value in
     record {
       list = done.list.items;
       covered = record {
-        reached = record { first = mid; within = c.in_ok-assume.ensures.within c.if-branch.false; derived = c.in_ok-propagate.ensures.derived };
+        reached = record { first = mid; within = c.in_ok-assume.ensures.within c.if-branch.false; derived = (reasons-derive c.in_ok-propagate.ensures.reasons.added) };
         keeps = λ l on. later l (first l on);
         covers = λ l on. later l (c.in_ok-assume.ensures.covers c.if-branch.false l on);
         settled = c.in_ok-propagate.ensures.settled c.if-branch-2.false;
       };
       agrees = rw copy done.agrees;
     }
+
+pub returns-then-branch-2-clause-reasons : goal.returns-then-branch-2-clause-reasons
+returns-then-branch-2-clause-reasons c =
+    let run = c.args.run.now in
+    let mid = c.assume.new.run in
+    keeps-then (list_of run) (list_of mid) (reasons_of run) (reasons_of mid) (reasons_of c.propagate.new.run) (extends-within (list_of run) (list_of mid) c.in_ok-assume.ensures.advances.costs.extends) c.in_ok-assume.ensures.reasons c.in_ok-propagate.ensures.reasons.kept
+
+pub returns-clause-reasons : goal.returns-clause-reasons
+returns-clause-reasons c =
+    let run = c.args.run.now in
+    let mid = c.assume.new.run in
+    keeps-then (list_of run) (list_of mid) (reasons_of run) (reasons_of mid) (reasons_of c.propagate.new.run) (extends-within (list_of run) (list_of mid) c.in_ok-assume.ensures.advances.costs.extends) c.in_ok-assume.ensures.reasons c.in_ok-propagate.ensures.reasons.kept

@@ -41,3 +41,9 @@ returns-clause-found c = adopted-found (negation c.args.literal) c.args.run.now.
 
 pub returns-clause-conflict : goal.returns-clause-conflict
 returns-clause-conflict c = λ found. inr (c.in_ok-found.ensures.conflict found)
+
+pub returns-then-contains-clause-reasons : goal.returns-then-contains-clause-reasons
+returns-then-contains-clause-reasons c = λ l s on at. at
+
+pub returns-clause-reasons : goal.returns-clause-reasons
+returns-clause-reasons c = c.in_ok-found.ensures.reasons.kept

@@ -7,9 +7,11 @@ use Rattle.pb_propagate.specs.engine.Engine.Denial.{IsHit}
 use Rattle.pb_propagate.specs.engine.Engine.Lists.{begin}
 use Rattle.pb_propagate.specs.engine.Engine.Counts.{Adopted}
 use Rattle.pb_propagate.specs.engine.Engine.Fields.{shapes_of}
-use Rattle.pb_propagate.specs.engine.Engine.Progress.{progress, database}
+use Rattle.pb_propagate.specs.engine.Engine.Progress.{progress, database, list_of, reasons_of}
 use Rattle.pb_propagate.proofs.lemmas.engine.Advances.{advances-refl, advances-then, advances-as, costs-then, costs-as, on-err}
 use Rattle.pb_propagate.proofs.lemmas.root.Denials.{denied-next, denied-more, hit-conflicts}
+use Rattle.pb_propagate.proofs.lemmas.engine.Reasoned.{keeps-then}
+use Rattle.pb_propagate.proofs.lemmas.root.Returns.{extends-within}
 use Rattle.pb_propagate.proofs.engine.denial.deny_all.Goals as goal
 
 abbrev bare : Entry
@@ -23,6 +25,7 @@ literals-init c = record {
   counted = c.requires.counted;
   tidy = λ aside busy t. t;
   derived = begin;
+  reasons = λ l s on at. at;
   denied = λ k d less. absurd (omega (arith, less));
   found = λ few. omega arith;
 }
@@ -56,6 +59,7 @@ literals-preserved c =
       counted = reported.counted c.if-branch.false;
       tidy = λ aside busy t. reported.tidy aside busy (i.tidy aside busy t);
       derived = denied-next c.args.goal.now c.args.run.now.assignment.list.items c.literals.run.assignment.list.items c.deny.new.run.assignment.list.items c.literals.i bare c.literals-test.true c.requires.light adopted i.derived;
+      reasons = keeps-then (list_of c.args.run.now) (list_of c.literals.run) (reasons_of c.args.run.now) (reasons_of c.literals.run) (reasons_of c.deny.new.run) (extends-within (list_of c.args.run.now) (list_of c.literals.run) c.literals.invariant.advances.costs.extends) c.literals.invariant.reasons c.in_ok-deny.ensures.reasons;
       denied = denied-more c.args.goal.now c.term_of-term.result.literal c.literals.run.assignment.list.items c.deny.new.run.assignment.list.items c.literals.i bare c.literals-test.true is reported.adopted (reported.denied c.if-branch.false) i.denied;
       found = λ few. let two = reported.found few in let one = i.found (omega (arith, few, reported.advances.rising)) in omega (arith, one, two);
     }
@@ -100,3 +104,9 @@ returns-clause-found c = c.literals.invariant.found
 
 pub returns-clause-tidy : goal.returns-clause-tidy
 returns-clause-tidy c = c.literals.invariant.tidy
+
+pub returns-then-branch-clause-reasons : goal.returns-then-branch-clause-reasons
+returns-then-branch-clause-reasons c = keeps-then (list_of c.args.run.now) (list_of c.literals.run) (reasons_of c.args.run.now) (reasons_of c.literals.run) (reasons_of c.deny.new.run) (extends-within (list_of c.args.run.now) (list_of c.literals.run) c.literals.invariant.advances.costs.extends) c.literals.invariant.reasons c.in_ok-deny.ensures.reasons
+
+pub returns-clause-reasons : goal.returns-clause-reasons
+returns-clause-reasons c = c.literals.invariant.reasons

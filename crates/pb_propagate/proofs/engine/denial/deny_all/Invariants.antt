@@ -4,7 +4,7 @@ use Rattle.pb_normal.specs.meaning.Rules.{negation}
 use Rattle.pb_propagate.specs.engine.Engine.Denial.{denial_of}
 use Rattle.pb_propagate.specs.engine.Engine.Forms.{as_term}
 use Rattle.pb_propagate.specs.engine.Engine.Lists.{has, Derives}
-use Rattle.pb_propagate.specs.engine.Engine.Progress.{progress, database, IsOpen, StaysTidy, Advances, VisitsEach}
+use Rattle.pb_propagate.specs.engine.Engine.Progress.{progress, database, IsOpen, StaysTidy, Advances, VisitsEach, RunKeepsReasons}
 use Rattle.pb_propagate.proofs.engine.denial.deny_all.Given as goal
 
 abbrev pub invariant-literals : goal.invariant-literals
@@ -15,6 +15,7 @@ invariant-literals l = record {
   counted : IsOpen (database l.store l.rests) (progress l.run);
   tidy : StaysTidy (database l.store l.rests) (progress l.initial.run) (progress l.run);
   derived : Derives (denial_of l.goal ∷ []) l.initial.run.assignment.list.items l.run.assignment.list.items;
+  reasons : RunKeepsReasons l.initial.run l.run;
   denied : (k : ℕ) (d : Entry) → k < l.i → has l.run.assignment.list.items (negation (as_term (get_or l.goal k d)).literal) ≡ true;
   found : VisitsEach (progress l.initial.run) (progress l.run);
 }

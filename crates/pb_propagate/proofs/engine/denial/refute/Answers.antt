@@ -4,6 +4,7 @@ use Rattle.std.proofs.lemmas.List.{length-map}
 use Rattle.pb_propagate.specs.engine.Engine.Denial.{denial_of}
 use Rattle.pb_propagate.specs.engine.Engine.Lists.{begin}
 use Rattle.pb_propagate.specs.engine.Engine.Fields.{shapes_of, stored_shape}
+use Rattle.pb_propagate.specs.engine.Engine.Progress.{list_of, reasons_of}
 use Rattle.pb_propagate.specs.engine.Clauses.Runs.{AreWalked}
 use Rattle.pb_propagate.specs.engine.Clauses.Shapes.{all_of, clauses_of}
 use Rattle.pb_propagate.specs.engine.Clauses.Walked.{walked_codes}
@@ -13,7 +14,8 @@ use Rattle.pb_propagate.proofs.lemmas.engine.Derivations.{derivation-keeps}
 use Rattle.pb_propagate.proofs.lemmas.engine.Spent.{sum-bounded}
 use Rattle.pb_propagate.proofs.lemmas.engine.Values.{opposite}
 use Rattle.pb_propagate.proofs.lemmas.root.Denials.{denied-conflicts, denied-derives, denied-later, denial-settled, more-conflicts, more-settled}
-use Rattle.pb_propagate.proofs.lemmas.root.Returns.{assigned-grow, refutes-short, refutes-long, walked-first}
+use Rattle.pb_propagate.proofs.lemmas.root.Returns.{assigned-grow, extends-within, refutes-short, refutes-long, walked-first}
+use Rattle.pb_propagate.proofs.lemmas.engine.Reasoned.{keeps-then, reasons-derive}
 use Rattle.pb_propagate.proofs.engine.denial.refute.Goals as goal
 
 pub returns-then-branch-clause-running : goal.returns-then-branch-clause-running
@@ -123,7 +125,13 @@ returns-clause-values c = c.in_ok-found.ensures.values ∙ c.in_ok-deny_all.ensu
 
 pub returns-clause-derived : goal.returns-clause-derived
 returns-clause-derived c =
-    denied-derives (all_of c.args.store.now c.args.clauses.now) (denial_of c.args.goal.now) c.args.run.now.assignment.list.items c.deny_all.new.run.assignment.list.items c.propagate.new.run.assignment.list.items c.in_ok-deny_all.ensures.derived c.in_ok-found.ensures.derived
+    denied-derives (all_of c.args.store.now c.args.clauses.now) (denial_of c.args.goal.now) c.args.run.now.assignment.list.items c.deny_all.new.run.assignment.list.items c.propagate.new.run.assignment.list.items c.in_ok-deny_all.ensures.derived (reasons-derive c.in_ok-found.ensures.reasons.added)
+
+pub returns-clause-reasons : goal.returns-clause-reasons
+returns-clause-reasons c =
+    let run = c.args.run.now in
+    let mid = c.deny_all.new.run in
+    keeps-then (list_of run) (list_of mid) (reasons_of run) (reasons_of mid) (reasons_of c.propagate.new.run) (extends-within (list_of run) (list_of mid) c.in_ok-deny_all.ensures.advances.costs.extends) c.in_ok-deny_all.ensures.reasons c.in_ok-found.ensures.reasons.kept
 
 pub returns-clause-conflict : goal.returns-clause-conflict
 returns-clause-conflict c = λ found.
@@ -133,7 +141,7 @@ pub returns-clause-settled : goal.returns-clause-settled
 returns-clause-settled c = λ found.
     let done = c.propagate.new.run.assignment in
     let shapes = all_of c.args.store.now c.args.clauses.now in
-    let denied = denied-later c.args.goal.now c.deny_all.new.run.assignment.list.items done.list.items (derivation-keeps shapes c.deny_all.new.run.assignment.list.items done.list.items c.in_ok-found.ensures.derived) (c.in_ok-deny_all.ensures.denied c.if-branch.false) in
+    let denied = denied-later c.args.goal.now c.deny_all.new.run.assignment.list.items done.list.items (derivation-keeps shapes c.deny_all.new.run.assignment.list.items done.list.items (reasons-derive c.in_ok-found.ensures.reasons.added)) (c.in_ok-deny_all.ensures.denied c.if-branch.false) in
     more-settled shapes (denial_of c.args.goal.now) done.list.items (c.in_ok-found.ensures.settled found) (denial-settled done.list.items c.args.goal.now c.requires.light (λ l on. opposite done.values.items done.list.items l done.agrees on) denied)
 
 pub returns-clause-found : goal.returns-clause-found

@@ -6,7 +6,8 @@ use Rattle.std.proofs.lemmas.List.Sums.{sum_by_push}
 use Rattle.pb_normal.specs.declared.numbered.NumberedLiteral.{NumberedLiteral}
 use Rattle.pb_propagate.specs.declared.assignment.Assignment.{Assignment}
 use Rattle.pb_propagate.specs.declared.clauses.lists.Watch.{Watch}
-use Rattle.pb_propagate.specs.engine.Engine.Lists.{Shape, Derives, Conflicts, open_sum}
+use Rattle.pb_propagate.specs.engine.Engine.Lists.{Shape, Derives, KeepsReasons, Conflicts, open_sum}
+use Rattle.pb_propagate.specs.engine.Engine.Progress.{list_of, reasons_of}
 use Rattle.pb_propagate.specs.engine.Engine.Counts.{none, IsTidy, beside}
 use Rattle.pb_propagate.specs.engine.Engine.Fields.{shapes_of, forms_of, stored_shape}
 use Rattle.pb_propagate.specs.engine.Engine.Root.{alone, posed}
@@ -27,26 +28,27 @@ use Rattle.pb_propagate.proofs.lemmas.root.Extends.{extends-then}
 use Rattle.pb_propagate.proofs.lemmas.root.Questions.{entered-shapes, laid-counted, laid-tidy, undone-same, derives-entered, kept-terms, found-after, found-both, question-most, updated-most, both-parts}
 use Rattle.pb_propagate.proofs.lemmas.root.Roots.{walked-agree}
 use Rattle.pb_propagate.proofs.lemmas.store.Placed.{numbered-entered}
+use Rattle.pb_propagate.proofs.lemmas.engine.Reasoned.{reasons-derive, reasons-keep}
 use Rattle.pb_propagate.proofs.engine.question.pose.Goals as goal
 
 pub returns-in_err-update-clause-most : goal.returns-in_err-update-clause-most
 returns-in_err-update-clause-most c =
-    let most = updated-most c.args.store.now c.args.clauses.now c.args.root.now.rests c.args.root.now.waiting.list.items c.args.root.now.run c.update.new.self.run c.requires.standing.sound c.requires.standing.joined c.requires.standing.rooted.derived c.requires.standing.rooted.work c.requires.visits c.update.ensures.costs in
+    let most = updated-most c.args.store.now c.args.clauses.now c.args.root.now.rests c.args.root.now.waiting.list.items c.args.root.now.run c.update.new.self.run c.requires.standing.sound c.requires.standing.joined (reasons-derive c.requires.standing.rooted.reasoned) c.requires.standing.rooted.work c.requires.visits c.update.ensures.costs in
     omega (arith, most)
 
 pub returns-then-branch-clause-most : goal.returns-then-branch-clause-most
 returns-then-branch-clause-most c =
-    let most = updated-most c.args.store.now c.args.clauses.now c.args.root.now.rests c.args.root.now.waiting.list.items c.args.root.now.run c.update.new.self.run c.requires.standing.sound c.requires.standing.joined c.requires.standing.rooted.derived c.requires.standing.rooted.work c.requires.visits c.update.ensures.costs in
+    let most = updated-most c.args.store.now c.args.clauses.now c.args.root.now.rests c.args.root.now.waiting.list.items c.args.root.now.run c.update.new.self.run c.requires.standing.sound c.requires.standing.joined (reasons-derive c.requires.standing.rooted.reasoned) c.requires.standing.rooted.work c.requires.visits c.update.ensures.costs in
     omega (arith, most)
 
 pub returns-in_err-enter-clause-most : goal.returns-in_err-enter-clause-most
 returns-in_err-enter-clause-most c =
-    let most = updated-most c.args.store.now c.args.clauses.now c.args.root.now.rests c.args.root.now.waiting.list.items c.args.root.now.run c.update.new.self.run c.requires.standing.sound c.requires.standing.joined c.requires.standing.rooted.derived c.requires.standing.rooted.work c.requires.visits c.update.ensures.costs in
+    let most = updated-most c.args.store.now c.args.clauses.now c.args.root.now.rests c.args.root.now.waiting.list.items c.args.root.now.run c.update.new.self.run c.requires.standing.sound c.requires.standing.joined (reasons-derive c.requires.standing.rooted.reasoned) c.requires.standing.rooted.work c.requires.visits c.update.ensures.costs in
     omega (arith, most, c.enter.ensures.rest.3)
 
 pub returns-in_err-lay-clause-most : goal.returns-in_err-lay-clause-most
 returns-in_err-lay-clause-most c =
-    let most = updated-most c.args.store.now c.args.clauses.now c.args.root.now.rests c.args.root.now.waiting.list.items c.args.root.now.run c.update.new.self.run c.requires.standing.sound c.requires.standing.joined c.requires.standing.rooted.derived c.requires.standing.rooted.work c.requires.visits c.update.ensures.costs in
+    let most = updated-most c.args.store.now c.args.clauses.now c.args.root.now.rests c.args.root.now.waiting.list.items c.args.root.now.run c.update.new.self.run c.requires.standing.sound c.requires.standing.joined (reasons-derive c.requires.standing.rooted.reasoned) c.requires.standing.rooted.work c.requires.visits c.update.ensures.costs in
     omega (arith, most, c.enter.ensures.rest.3, c.lay.ensures.visits)
 
 pub returns-in_err-lay-clause-forms : goal.returns-in_err-lay-clause-forms
@@ -69,7 +71,7 @@ returns-then-branch-clause-asked c =
     let reported = c.in_ok-update.ensures in
     alone refl (record {
       list = done.assignment.list.items;
-      derived = reported.derived;
+      derived = reasons-derive reported.reasons;
       few = found-after (length done.assignment.list.items) done.visits (length c.args.root.now.run.assignment.list.items) (rw c.requires.visits at reported.found) (omega (arith, done.assignment.list.ok.0, done.assignment.list.ok.1));
       one_sided = λ l on. opposite done.assignment.values.items done.assignment.list.items l done.assignment.agrees on;
       conflict = λ found. reported.conflict c.if-branch.true;
@@ -109,7 +111,7 @@ propagate-requires-clause-single c =
     let list_is = ap (λ (a : Assignment). a.list.items) c.enter.ensures.rest.0 in
     let laid_is = ap (λ (a : Assignment). a.list.items) (c.lay.ensures.assignment ∙ c.enter.ensures.rest.0) in
     let number_is : c.len-number.result ≡ length keep = omega (arith, c.len-number.ensures, store.stored.ok.0) in
-    rw laid_is (derivation-single (all_of store between) [] run.assignment.list.items none r.derived)
+    rw laid_is (derivation-single (all_of store between) [] run.assignment.list.items none (reasons-derive r.reasoned))
 
 pub propagate-requires-clause-joined : goal.propagate-requires-clause-joined
 propagate-requires-clause-joined c =
@@ -191,7 +193,7 @@ returns-in_err-found-clause-most c =
     let clauses = clauses_of c.args.clauses.now in
     let whole : all_of new.store c.args.clauses.now ≡ all_of store c.args.clauses.now ++ (stored_shape h.kept ∷ []) =
     ap (λ xs. joined xs clauses) (entered-shapes c.args.form keep new.store.stored.items run.opens.items new.run.opens.items run.candidates.items new.run.candidates.items h) ∙ joined-push (shapes_of keep) clauses (stored_shape h.kept) c.requires.standing.joined.short in
-    let start : Derives (all_of new.store c.args.clauses.now) [] c.args.root.now.run.assignment.list.items = rw whole (derives-entered (all_of store c.args.clauses.now) (stored_shape h.kept) [] c.args.root.now.run.assignment.list.items c.requires.standing.rooted.derived) in
+    let start : Derives (all_of new.store c.args.clauses.now) [] c.args.root.now.run.assignment.list.items = rw whole (derives-entered (all_of store c.args.clauses.now) (stored_shape h.kept) [] c.args.root.now.run.assignment.list.items (reasons-derive c.requires.standing.rooted.reasoned)) in
     let done = c.propagate.new.run in
     let work_is = ap (λ (v : Vec ℕ Global). v.items) c.enter.ensures.rest.1 ∙ r.work in
     let few = grown-length c.len-number.result c.enter.new.run.work.items c.lay.new.run.work.items c.in_ok-lay.ensures.work in
@@ -223,7 +225,7 @@ returns-clause-most c =
     let clauses = clauses_of c.args.clauses.now in
     let whole : all_of new.store c.args.clauses.now ≡ all_of store c.args.clauses.now ++ (stored_shape h.kept ∷ []) =
     ap (λ xs. joined xs clauses) (entered-shapes c.args.form keep new.store.stored.items run.opens.items new.run.opens.items run.candidates.items new.run.candidates.items h) ∙ joined-push (shapes_of keep) clauses (stored_shape h.kept) c.requires.standing.joined.short in
-    let start : Derives (all_of new.store c.args.clauses.now) [] c.args.root.now.run.assignment.list.items = rw whole (derives-entered (all_of store c.args.clauses.now) (stored_shape h.kept) [] c.args.root.now.run.assignment.list.items c.requires.standing.rooted.derived) in
+    let start : Derives (all_of new.store c.args.clauses.now) [] c.args.root.now.run.assignment.list.items = rw whole (derives-entered (all_of store c.args.clauses.now) (stored_shape h.kept) [] c.args.root.now.run.assignment.list.items (reasons-derive c.requires.standing.rooted.reasoned)) in
     let done = c.propagate.new.run in
     let work_is = ap (λ (v : Vec ℕ Global). v.items) c.enter.ensures.rest.1 ∙ r.work in
     let few = grown-length c.len-number.result c.enter.new.run.work.items c.lay.new.run.work.items c.in_ok-lay.ensures.work in
@@ -255,10 +257,10 @@ returns-clause-asked c =
     let whole : all_of new.store c.args.clauses.now ≡ all_of store c.args.clauses.now ++ (stored_shape h.kept ∷ []) =
     ap (λ xs. joined xs clauses) (entered-shapes c.args.form keep new.store.stored.items run.opens.items new.run.opens.items run.candidates.items new.run.candidates.items h) ∙ joined-push (shapes_of keep) clauses (stored_shape h.kept) c.requires.standing.joined.short in
     let whole_now : all_of new.store between ≡ all_of store c.args.clauses.now ++ (stored_shape h.kept ∷ []) = ap (joined (shapes_of new.store.stored.items)) lit ∙ whole in
-    let start : Derives (all_of new.store c.args.clauses.now) [] run.assignment.list.items = rw whole (derives-entered (all_of store c.args.clauses.now) (stored_shape h.kept) [] run.assignment.list.items c.in_ok-update.ensures.derived) in
+    let start : Derives (all_of new.store c.args.clauses.now) [] run.assignment.list.items = rw whole (derives-entered (all_of store c.args.clauses.now) (stored_shape h.kept) [] run.assignment.list.items (reasons-derive c.in_ok-update.ensures.reasons)) in
     let done = c.propagate.new.run in
     let reported = c.in_ok-found.ensures in
-    let derived : Derives (all_of new.store c.args.clauses.now) run.assignment.list.items done.assignment.list.items = rw (laid_is, lit) at reported.derived in
+    let derived : Derives (all_of new.store c.args.clauses.now) run.assignment.list.items done.assignment.list.items = rw (laid_is, lit) at (reasons-derive reported.reasons.added) in
     let all = derivation-then (all_of new.store c.args.clauses.now) [] run.assignment.list.items done.assignment.list.items start derived in
     posed (stored_shape h.kept) h.is (record {
       list = done.assignment.list.items;
@@ -307,6 +309,9 @@ returns-clause-left c =
     let cut : b.run.assignment.list.items ≡ run.assignment.list.items = c.back.ensures.list ∙ ap (λ xs. take c.len-count.result xs) extends.1 ∙ ap (λ n. take n (run.assignment.list.items ++ extends.0)) count_is ∙ take-append_seam run.assignment.list.items extends.0 in
     let end_is : last.run.assignment.list.items ≡ run.assignment.list.items = ap (λ (a : Assignment). a.list.items) c.leave.ensures.rest.0 ∙ cut in
     let lit : clauses_of b.clauses ≡ clauses_of between = ap (λ (v : Vec (Vec ℕ Global) Global). lists_of v.items) (c.back.ensures.literals ∙ c.propagate.ensures.literals) in
+    let mine : c.lay.new.run.assignment ≡ run.assignment = c.lay.ensures.assignment ∙ c.enter.ensures.rest.0 in
+    let last_is : reasons_of last.run ≡ reasons_of done = ap (λ (a : Assignment). a.reasons.items) c.leave.ensures.rest.0 ∙ ap (λ (v : Vec ℕ Global). v.items) c.back.ensures.reasons in
+    let keeps : KeepsReasons (list_of run) (reasons_of run) (reasons_of last.run) = subst (λ xs. KeepsReasons (list_of run) (reasons_of run) xs) (sym last_is) (subst (λ (a : Assignment). KeepsReasons a.list.items a.reasons.items (reasons_of done)) mine reported.reasons.kept) in
     let values_is = ap (λ (a : Assignment). a.values.items) (c.lay.ensures.assignment ∙ c.enter.ensures.rest.0) in
     let codes = walked_codes (length run.assignment.list.items) run.assignment.list.items in
     let served = reported.kept run.assignment.values.items codes (subst (λ vs. Grows run.assignment.values.items vs) (sym values_is) (grows-refl run.assignment.values.items)) r.walked in
@@ -330,7 +335,7 @@ returns-clause-left c =
         work = ap (λ (v : Vec ℕ Global). v.items) c.leave.ensures.rest.1 ∙ c.back.ensures.work;
         trail = ap (λ (v : Vec ℕ Global). v.items) c.leave.ensures.trail ∙ c.back.ensures.trail;
         next = c.leave.ensures.rest.2 ∙ c.back.ensures.next;
-        derived = rw (kept_is, lit, end_is) r.derived;
+        reasoned = rw (kept_is, lit, end_is) (reasons-keep (reasons_of run) (reasons_of last.run) keeps r.reasoned);
         walked = rw (end_is, watches_is) walked;
         seats = r.seats ∙ sym (ap length kept_is);
         live = rw kept_is r.live;

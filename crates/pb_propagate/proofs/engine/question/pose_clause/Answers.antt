@@ -20,16 +20,17 @@ use Rattle.pb_propagate.proofs.lemmas.root.Denials.{denial-stored}
 use Rattle.pb_propagate.proofs.lemmas.root.Extends.{extends-then}
 use Rattle.pb_propagate.proofs.lemmas.root.Questions.{derives-entered, found-after, found-both, question-most, updated-most}
 use Rattle.pb_propagate.proofs.lemmas.root.Returns.{both-costs, back-rooted, root-counted}
+use Rattle.pb_propagate.proofs.lemmas.engine.Reasoned.{reasons-derive}
 use Rattle.pb_propagate.proofs.engine.question.pose_clause.Goals as goal
 
 pub returns-in_err-update-clause-most : goal.returns-in_err-update-clause-most
 returns-in_err-update-clause-most c =
-    let most = updated-most c.args.store.now c.args.clauses.now c.args.root.now.rests c.args.root.now.waiting.list.items c.args.root.now.run c.update.new.self.run c.requires.standing.sound c.requires.standing.joined c.requires.standing.rooted.derived c.requires.standing.rooted.work c.requires.visits c.update.ensures.costs in
+    let most = updated-most c.args.store.now c.args.clauses.now c.args.root.now.rests c.args.root.now.waiting.list.items c.args.root.now.run c.update.new.self.run c.requires.standing.sound c.requires.standing.joined (reasons-derive c.requires.standing.rooted.reasoned) c.requires.standing.rooted.work c.requires.visits c.update.ensures.costs in
     omega (arith, most)
 
 pub returns-then-branch-clause-most : goal.returns-then-branch-clause-most
 returns-then-branch-clause-most c =
-    let most = updated-most c.args.store.now c.args.clauses.now c.args.root.now.rests c.args.root.now.waiting.list.items c.args.root.now.run c.update.new.self.run c.requires.standing.sound c.requires.standing.joined c.requires.standing.rooted.derived c.requires.standing.rooted.work c.requires.visits c.update.ensures.costs in
+    let most = updated-most c.args.store.now c.args.clauses.now c.args.root.now.rests c.args.root.now.waiting.list.items c.args.root.now.run c.update.new.self.run c.requires.standing.sound c.requires.standing.joined (reasons-derive c.requires.standing.rooted.reasoned) c.requires.standing.rooted.work c.requires.visits c.update.ensures.costs in
     omega (arith, most)
 
 pub returns-then-branch-clause-asked : goal.returns-then-branch-clause-asked
@@ -38,7 +39,7 @@ returns-then-branch-clause-asked c =
     let reported = c.in_ok-update.ensures in
     alone refl (record {
       list = done.assignment.list.items;
-      derived = reported.derived;
+      derived = reasons-derive reported.reasons;
       few = found-after (length done.assignment.list.items) done.visits (length c.args.root.now.run.assignment.list.items) (rw c.requires.visits at reported.found) (omega (arith, done.assignment.list.ok.0, done.assignment.list.ok.1));
       one_sided = λ l on. opposite done.assignment.values.items done.assignment.list.items l done.assignment.agrees on;
       conflict = λ found. reported.conflict c.if-branch.true;
@@ -68,7 +69,7 @@ refute-requires-clause-work c =
 pub refute-requires-clause-single : goal.refute-requires-clause-single
 refute-requires-clause-single c =
     let r = c.in_ok-update.ensures.rooted c.if-branch.false in
-    derivation-single (all_of c.args.store.now c.update.new.clauses) [] c.update.new.self.run.assignment.list.items none r.derived
+    derivation-single (all_of c.args.store.now c.update.new.clauses) [] c.update.new.self.run.assignment.list.items none (reasons-derive r.reasoned)
 
 pub refute-requires-clause-counted : goal.refute-requires-clause-counted
 refute-requires-clause-counted c =
@@ -103,7 +104,7 @@ returns-in_err-found-clause-most c =
     let costs = c.refute.ensures.costs in
     let upper = both-costs store c.args.clauses.now between c.args.root.now.rests root.rests c.args.root.now.waiting.list.items (length c.entries.result.now) start root.run done lit c.requires.standing.rooted.work c.requires.visits (c.in_ok-update.ensures.pays c.if-branch.false) costs in
     let extends = extends-then start.assignment.list.items root.run.assignment.list.items done.assignment.list.items c.update.ensures.costs.extends costs.extends in
-    let most = question-most store (clauses_of c.args.clauses.now) start.assignment.list.items done.assignment.list.items done.visits (length c.args.root.now.waiting.list.items + length c.entries.result.now) (sum done.candidates.items) c.requires.standing.sound c.requires.standing.joined costs.single (λ l on. opposite done.assignment.values.items done.assignment.list.items l done.assignment.agrees on) extends c.requires.standing.rooted.derived costs.bounded upper in
+    let most = question-most store (clauses_of c.args.clauses.now) start.assignment.list.items done.assignment.list.items done.visits (length c.args.root.now.waiting.list.items + length c.entries.result.now) (sum done.candidates.items) c.requires.standing.sound c.requires.standing.joined costs.single (λ l on. opposite done.assignment.values.items done.assignment.list.items l done.assignment.agrees on) extends (reasons-derive c.requires.standing.rooted.reasoned) costs.bounded upper in
     omega (arith, most, entries)
 
 pub returns-clause-most : goal.returns-clause-most
@@ -118,7 +119,7 @@ returns-clause-most c =
     let costs = c.refute.ensures.costs in
     let upper = both-costs store c.args.clauses.now between c.args.root.now.rests root.rests c.args.root.now.waiting.list.items (length c.entries.result.now) start root.run done lit c.requires.standing.rooted.work c.requires.visits (c.in_ok-update.ensures.pays c.if-branch.false) costs in
     let extends = extends-then start.assignment.list.items root.run.assignment.list.items done.assignment.list.items c.update.ensures.costs.extends costs.extends in
-    let most = question-most store (clauses_of c.args.clauses.now) start.assignment.list.items done.assignment.list.items done.visits (length c.args.root.now.waiting.list.items + length c.entries.result.now) (sum done.candidates.items) c.requires.standing.sound c.requires.standing.joined costs.single (λ l on. opposite done.assignment.values.items done.assignment.list.items l done.assignment.agrees on) extends c.requires.standing.rooted.derived costs.bounded upper in
+    let most = question-most store (clauses_of c.args.clauses.now) start.assignment.list.items done.assignment.list.items done.visits (length c.args.root.now.waiting.list.items + length c.entries.result.now) (sum done.candidates.items) c.requires.standing.sound c.requires.standing.joined costs.single (λ l on. opposite done.assignment.values.items done.assignment.list.items l done.assignment.agrees on) extends (reasons-derive c.requires.standing.rooted.reasoned) costs.bounded upper in
     omega (arith, most, entries, c.back.ensures.visits)
 
 pub returns-clause-asked : goal.returns-clause-asked
@@ -134,7 +135,7 @@ returns-clause-asked c =
     let all = all_of store c.args.clauses.now ++ (x ∷ []) in
     let whole : all_of store between ++ (denial_of c.entries.result.now ∷ []) ≡ all = rw (same, c.entries.ensures.entries) refl in
     let reported = c.in_ok-found.ensures in
-    let first = derives-entered (all_of store c.args.clauses.now) x [] root.run.assignment.list.items c.in_ok-update.ensures.derived in
+    let first = derives-entered (all_of store c.args.clauses.now) x [] root.run.assignment.list.items (reasons-derive c.in_ok-update.ensures.reasons) in
     let second = subst (λ xs. Derives xs root.run.assignment.list.items done.assignment.list.items) whole reported.derived in
     posed x (denial-stored c.args.goal.now c.entries.ensures.normal c.requires.clause) (record {
       list = done.assignment.list.items;
@@ -177,6 +178,7 @@ returns-clause-left c =
         literals = ap (λ (v : Vec (Vec ℕ Global) Global). lists_of v.items) (c.back.ensures.literals ∙ c.refute.ensures.literals);
         kept = λ old. subst (λ ws. AreWalked run.assignment.values.items ws codes) (sym watches_is) (reported.kept run.assignment.values.items codes (grows-refl run.assignment.values.items) old);
         extends = c.refute.ensures.costs.extends;
+        reasons = rw c.back.ensures.reasons reported.reasons;
         cut = c.back.ensures.list ∙ ap (λ n. take n c.refute.new.run.assignment.list.items) count_is;
         values = c.back.ensures.values ∙ reported.values;
         opens = c.back.ensures.opens;

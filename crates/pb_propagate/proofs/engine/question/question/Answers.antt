@@ -8,6 +8,7 @@ use Rattle.pb_propagate.proofs.lemmas.engine.Rests.{opposite-inside}
 use Rattle.pb_propagate.proofs.lemmas.engine.Spent.{derivation-single}
 use Rattle.pb_propagate.proofs.lemmas.engine.Values.{opposite}
 use Rattle.pb_propagate.proofs.lemmas.root.Questions.{root-few}
+use Rattle.pb_propagate.proofs.lemmas.engine.Reasoned.{reasons-derive}
 use Rattle.pb_propagate.proofs.engine.question.question.Goals as goal
 
 pub pose-requires-clause-inside : goal.pose-requires-clause-inside
@@ -18,8 +19,8 @@ pub returns-in_default-clause-most : goal.returns-in_default-clause-most
 returns-in_default-clause-most c =
     let run = c.args.root.now.run in
     let list = run.assignment.list.items in
-    let single = derivation-single (all_of c.args.store.now c.args.clauses.now) [] list none c.requires.standing.rooted.derived in
-    let few = root-few c.args.store.now (clauses_of c.args.clauses.now) list c.requires.standing.sound c.requires.standing.joined single (λ l on. opposite run.assignment.values.items list l run.assignment.agrees on) c.requires.standing.rooted.derived in
+    let single = derivation-single (all_of c.args.store.now c.args.clauses.now) [] list none (reasons-derive c.requires.standing.rooted.reasoned) in
+    let few = root-few c.args.store.now (clauses_of c.args.clauses.now) list c.requires.standing.sound c.requires.standing.joined single (λ l on. opposite run.assignment.values.items list l run.assignment.agrees on) (reasons-derive c.requires.standing.rooted.reasoned) in
     omega (arith, few, c.requires.visits)
 
 pub returns-clause-asked : goal.returns-clause-asked

@@ -132,7 +132,7 @@ returns-clause-rooted c =
       opens = opens_now;
       candidates = ap (λ (v : Vec ℕ Global). length v.items) c.lay.ensures.candidates ∙ r.start_sizes;
       counted = rw list_is (slot-counted (shapes_of store.stored.items) c.reach.new.run.opens.items run.opens.items c.reach.new.run.assignment.list.items c.args.slot (omega (arith, c.requires.slot, r.open_sizes)) (λ s e less apart. r.counted s e (omega (arith, less, long)) apart) c.in_ok-lay.ensures.opens);
-      derived = rw c.lay.ensures.assignment r.derived;
+      reasoned = rw c.lay.ensures.assignment r.reasoned;
       walked = rw c.lay.ensures.assignment r.walked;
     })
     laid

@@ -2,7 +2,7 @@ use Rattle.std.specs.Prelude.{slice_get}
 use Rattle.std.proofs.Common.{[], ◌∙◌, ap, sym, arith, length}
 use Rattle.std.proofs.lemmas.List.{length-map}
 use Rattle.pb_propagate.specs.engine.Engine.Fields.{shapes_of, forms_of, stored_shape}
-use Rattle.pb_propagate.specs.engine.Engine.Lists.{begin}
+use Rattle.pb_propagate.specs.engine.Engine.Lists.{from_given}
 use Rattle.pb_propagate.specs.engine.Clauses.Shapes.{clauses_of}
 use Rattle.pb_propagate.proofs.lemmas.engine.Bounds.{waits-form}
 use Rattle.pb_propagate.proofs.lemmas.engine.Rests.{rest-lengths}
@@ -33,7 +33,7 @@ returns-clause-rooted c =
       work = fresh.work;
       trail = fresh.trail;
       next = fresh.next;
-      derived = rw fresh.list begin;
+      reasoned = rw fresh.list from_given;
       walked = rw fresh.list (none-walked c.in_ok-self.field-0.assignment.values.items c.args.clauses.now.watches.items);
       seats = ap length copy.seats ∙ r.seats;
       live = λ i s at. waits-form (forms_of keep) keep (clauses_of c.args.clauses.now) s r.slots (r.exact i s (ap (λ xs. slice_get xs i) (sym copy.list) ∙ at));

@@ -6,14 +6,14 @@ use Rattle.pb_propagate.proofs.lemmas.engine.Bounds.{form-inside}
 use Rattle.pb_propagate.proofs.lemmas.store.Changes.{forms-length}
 use Rattle.pb_propagate.specs.engine.Clauses.Shapes.{all_of}
 use Rattle.pb_propagate.proofs.lemmas.clauses.Watching.{ready-running}
-use Rattle.pb_propagate.proofs.lemmas.engine.Derivations.{derivation-then}
 use Rattle.pb_propagate.proofs.lemmas.engine.Spent.{derivation-single}
 use Rattle.pb_propagate.proofs.lemmas.root.Fallen.{conflicts-fallen}
 use Rattle.pb_propagate.proofs.lemmas.root.Roots.{kept-rooted}
+use Rattle.pb_propagate.proofs.lemmas.engine.Reasoned.{reasons-derive, run-reasons-rooted}
 use Rattle.pb_propagate.proofs.engine.root.Root.update.Goals as goal
 
 pub propagate-requires-clause-single : goal.propagate-requires-clause-single
-propagate-requires-clause-single c = derivation-single (all_of c.args.store.now c.args.clauses.now) [] c.args.self.now.run.assignment.list.items none c.requires.standing.rooted.derived
+propagate-requires-clause-single c = derivation-single (all_of c.args.store.now c.args.clauses.now) [] c.args.self.now.run.assignment.list.items none (reasons-derive c.requires.standing.rooted.reasoned)
 
 pub propagate-requires-clause-waiting : goal.propagate-requires-clause-waiting
 propagate-requires-clause-waiting c =
@@ -46,15 +46,15 @@ returns-in_err-found-clause-costs c =
     let count_is : c.len-count.result ≡ length me.run.assignment.list.items = omega (arith, c.len-count.ensures, me.run.assignment.list.ok.0) in
     rw (count_is, c.as_slice.ensures.value) at c.propagate.ensures.costs
 
-pub returns-then-found-clause-derived : goal.returns-then-found-clause-derived
-returns-then-found-clause-derived c =
+pub returns-then-found-clause-reasons : goal.returns-then-found-clause-reasons
+returns-then-found-clause-reasons c =
     let store = c.args.store.now in
     let me = c.args.self.now in
     let r = c.requires.standing.rooted in
     let done = c.propagate.new.run in
     let reported = c.in_ok-found.ensures in
     let count_is : c.len-count.result ≡ length me.run.assignment.list.items = omega (arith, c.len-count.ensures, me.run.assignment.list.ok.0) in
-    rw c.fall.ensures.run (derivation-then (all_of store c.args.clauses.now) [] me.run.assignment.list.items done.assignment.list.items r.derived reported.derived)
+    rw c.fall.ensures.run (run-reasons-rooted r.reasoned reported.reasons)
 
 pub returns-then-found-clause-conflict : goal.returns-then-found-clause-conflict
 returns-then-found-clause-conflict c = λ found. rw c.fall.ensures.run (c.in_ok-found.ensures.conflict c.if-found.true)
@@ -62,15 +62,15 @@ returns-then-found-clause-conflict c = λ found. rw c.fall.ensures.run (c.in_ok-
 pub returns-then-found-clause-found : goal.returns-then-found-clause-found
 returns-then-found-clause-found c = rw c.fall.ensures.run c.in_ok-found.ensures.found
 
-pub returns-clause-derived : goal.returns-clause-derived
-returns-clause-derived c =
+pub returns-clause-reasons : goal.returns-clause-reasons
+returns-clause-reasons c =
     let store = c.args.store.now in
     let me = c.args.self.now in
     let r = c.requires.standing.rooted in
     let done = c.propagate.new.run in
     let reported = c.in_ok-found.ensures in
     let count_is : c.len-count.result ≡ length me.run.assignment.list.items = omega (arith, c.len-count.ensures, me.run.assignment.list.ok.0) in
-    rw c.keep.ensures.assignment (derivation-then (all_of store c.args.clauses.now) [] me.run.assignment.list.items done.assignment.list.items r.derived reported.derived)
+    rw c.keep.ensures.assignment (run-reasons-rooted r.reasoned reported.reasons)
 
 pub returns-clause-rooted : goal.returns-clause-rooted
 returns-clause-rooted c = λ found.
@@ -81,7 +81,7 @@ returns-clause-rooted c = λ found.
     let reported = c.in_ok-found.ensures in
     let count_is : c.len-count.result ≡ length me.run.assignment.list.items = omega (arith, c.len-count.ensures, me.run.assignment.list.ok.0) in
     let end = c.if-found.false in
-    let derived = derivation-then (all_of store c.args.clauses.now) [] me.run.assignment.list.items done.assignment.list.items r.derived reported.derived in
+    let reasoned = run-reasons-rooted r.reasoned reported.reasons in
     let lit = c.propagate.ensures.literals in
     kept-rooted store c.propagate.new.clauses done c.keep.new.run me.rests c.keep.new.rests [] c.clear.new.self
     (record {
@@ -89,7 +89,7 @@ returns-clause-rooted c = λ found.
       opens = reported.opens;
       candidates = reported.candidates;
       counted = reported.counted end;
-      derived = rw lit derived;
+      reasoned = rw lit reasoned;
       walked = reported.walked end;
     })
     (reported.tidy end)
@@ -120,5 +120,5 @@ returns-then-found-clause-fallen c = λ found.
     let done = c.propagate.new.run in
     let reported = c.in_ok-found.ensures in
     let forms = all_of store c.args.clauses.now in
-    let derived = derivation-then forms [] me.run.assignment.list.items done.assignment.list.items c.requires.standing.rooted.derived reported.derived in
-    conflicts-fallen forms store.variables c.fall.new.self c.fall.ensures.live (rw c.fall.ensures.run (reported.values ∙ c.requires.standing.rooted.values)) (rw c.fall.ensures.run derived) (rw c.fall.ensures.run (reported.conflict c.if-found.true))
+    let reasoned = run-reasons-rooted c.requires.standing.rooted.reasoned reported.reasons in
+    conflicts-fallen forms store.variables c.fall.new.self c.fall.ensures.live (rw c.fall.ensures.run (reported.values ∙ c.requires.standing.rooted.values)) (rw c.fall.ensures.run reasoned) (rw c.fall.ensures.run (reported.conflict c.if-found.true))

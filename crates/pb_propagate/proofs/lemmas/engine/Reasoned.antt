@@ -1,0 +1,118 @@
+-- Lists of literals with their reasons.
+use Rattle.std.specs.Prelude.{Contains, Some, true, false, slice_get}
+use Rattle.std.proofs.Common.{◌≡◌, ℕ, zero, suc, ◌<◌, ◌∷◌, [], List, inl, inr, sym, ◌∙◌, ap, subst, arith, length, set}
+use Rattle.std.proofs.lemmas.Bool.{both_ways}
+use Rattle.std.proofs.lemmas.Option.{get_or_from_slice_get, slice_get_within}
+use Rattle.pb_normal.specs.declared.numbered.NumberedLiteral.{NumberedLiteral}
+use Rattle.pb_normal.specs.meaning.Rules.{negation}
+use Rattle.pb_propagate.specs.declared.run.Run.{Run}
+use Rattle.pb_propagate.specs.engine.Engine.Lists.{Shape, has, Puts, Derives, begin, put, HaveReasons, from_given, by_reason, KeepsReasons, IsDue, IsWithin}
+use Rattle.pb_propagate.specs.engine.Engine.Progress.{RunReasons, RunRecords, list_of, reasons_of}
+use Rattle.pb_propagate.proofs.lemmas.engine.Literals.{has-none, has-push_old, has-push_new, has-push_cases}
+use Rattle.pb_propagate.proofs.lemmas.engine.Values.{has-neither}
+use Rattle.pb_propagate.proofs.lemmas.store.Gets.{get-set_same, get-set_other}
+
+-- some element is the only one of a list
+only-itself : (x y : Shape) → Contains (x ∷ []) y → x ≡ y
+only-itself x y (zero, inside, is) = is
+only-itself x y (suc k, inside, is) = absurd (omega (arith, inside))
+
+puts-among : (forms : List Shape) (s : ℕ) (x : Shape) (list : List NumberedLiteral) (l : NumberedLiteral) → slice_get forms s ≡ Some x → Puts (x ∷ []) list l → Puts forms list l
+puts-among forms s x list l at m = record {
+  absent = m.absent;
+  not_falsified = m.not_falsified;
+  form = m.form;
+  among = subst (Contains forms) (only-itself x m.form m.among) (s, slice_get_within forms s x at, get_or_from_slice_get forms s x x at);
+  coefficient = m.coefficient;
+  term = m.term;
+  forced = m.forced;
+}
+
+-- a constraint that puts a literal has a term of it
+pub puts-term : (x : Shape) (list : List NumberedLiteral) (l : NumberedLiteral) (m : Puts (x ∷ []) list l) → Contains x.terms (record { literal = l; coefficient = m.coefficient })
+puts-term x list l m = subst (λ (y : Shape). Contains y.terms (record { literal = l; coefficient = m.coefficient })) (sym (only-itself x m.form m.among)) m.term
+
+-- each literal with a reason was propagated
+pub reasons-derive : {forms : List Shape} {reasons : List ℕ} {a b : List NumberedLiteral} → HaveReasons forms reasons a b → Derives forms a b
+reasons-derive from_given = begin
+reasons-derive (by_reason {list} l s x h at stored puts) = put l (reasons-derive h) (puts-among _ s x list l stored puts)
+
+-- what the reason of a literal becomes: a slot with a constraint that puts it as well
+pub record IsMoved (forms : List Shape) (reasons : List ℕ) (l : NumberedLiteral) (x : Shape) : Type 0 where
+  pub slot : ℕ
+  pub form : Shape
+  pub reason : slice_get reasons l.variable ≡ Some slot
+  pub stored : slice_get forms slot ≡ Some form
+  pub puts : (earlier : List NumberedLiteral) → Puts (x ∷ []) earlier l → Puts (form ∷ []) earlier l
+
+pub reasons-moved : (a b : List Shape) (old new : List ℕ) (given list : List NumberedLiteral) → ((l : NumberedLiteral) (s : ℕ) (x : Shape) → has list l ≡ true → slice_get old l.variable ≡ Some s → slice_get a s ≡ Some x → 0 < length x.terms → IsMoved b new l x) → HaveReasons a old given list → HaveReasons b new given list
+reasons-moved a b old new given _ f from_given = from_given
+reasons-moved a b old new given _ f (by_reason {list} l s x h at stored puts) =
+    let term = puts-term x list l puts in
+    let m = f l s x (has-push_new list l) at stored (omega (arith, term.1)) in
+    by_reason l m.slot m.form (reasons-moved a b old new given list (λ k t y on. f k t y (has-push_old list l k on)) h) m.reason m.stored (m.puts list puts)
+
+-- the same constraint in the same slot
+pub moved-same : (b : List Shape) (new : List ℕ) (l : NumberedLiteral) (s : ℕ) (x : Shape) → slice_get new l.variable ≡ Some s → slice_get b s ≡ Some x → IsMoved b new l x
+moved-same b new l s x at stored = record { slot = s; form = x; reason = at; stored = stored; puts = λ earlier p. p }
+
+pub reasons-keep : {forms : List Shape} (old new : List ℕ) {given list : List NumberedLiteral} → KeepsReasons list old new → HaveReasons forms old given list → HaveReasons forms new given list
+reasons-keep {forms} old new {given} {list} keeps h = reasons-moved forms forms old new given list (λ l s x on at stored some. moved-same forms new l s x (keeps l s on at) stored) h
+
+pub reasons-then : {forms : List Shape} {reasons : List ℕ} {a b c : List NumberedLiteral} → HaveReasons forms reasons a b → HaveReasons forms reasons b c → HaveReasons forms reasons a c
+reasons-then h from_given = h
+reasons-then h (by_reason l s x k at stored puts) = by_reason l s x (reasons-then h k) at stored puts
+
+pub keeps-then : (a b : List NumberedLiteral) (old mid new : List ℕ) → IsWithin a b → KeepsReasons a old mid → KeepsReasons b mid new → KeepsReasons a old new
+keeps-then a b old mid new within f g l s on at = g l s (within l on) (f l s on at)
+
+pub reasons-within : {forms : List Shape} {reasons : List ℕ} (a b : List NumberedLiteral) → HaveReasons forms reasons a b → IsWithin a b
+reasons-within a _ from_given l h = h
+reasons-within a _ (by_reason {list} k s x h at stored puts) l on = has-push_old list k l (reasons-within a list h l on)
+
+-- a run to which nothing was added, and two runs after each other
+pub run-reasons-none : (forms : List Shape) (run : Run) → RunReasons forms run run
+run-reasons-none forms run = record { kept = λ l s on at. at; added = from_given }
+
+pub run-reasons-then : {forms : List Shape} {old mid new : Run} → RunReasons forms old mid → RunReasons forms mid new → RunReasons forms old new
+run-reasons-then {forms} {old} {mid} {new} f g = record {
+  kept = keeps-then (list_of old) (list_of mid) (reasons_of old) (reasons_of mid) (reasons_of new) (reasons-within (list_of old) (list_of mid) f.added) f.kept g.kept;
+  added = reasons-then (reasons-keep (reasons_of mid) (reasons_of new) g.kept f.added) g.added;
+}
+
+-- the same from the root's literals
+pub run-reasons-rooted : {forms : List Shape} {old new : Run} → HaveReasons forms (reasons_of old) [] (list_of old) → RunReasons forms old new → HaveReasons forms (reasons_of new) [] (list_of new)
+run-reasons-rooted {forms} {old} {new} h r = reasons-then (reasons-keep (reasons_of old) (reasons_of new) r.kept h) r.added
+
+-- the reason of a literal that is put
+pub recorded : (old new : List ℕ) (list : List NumberedLiteral) (l : NumberedLiteral) (reason : ℕ) → has list l ≡ false → has list (negation l) ≡ false → new ≡ set old l.variable reason → KeepsReasons list old new
+recorded old new list l reason absent opened is k s on at =
+    let apart = λ (e : k.variable ≡ l.variable). both_ways _ (has-neither list l k absent opened e) on in
+    ap (λ xs. slice_get xs k.variable) is ∙ get-set_other old l.variable k.variable reason apart ∙ at
+
+pub run-records : (reason : ℕ) (l : NumberedLiteral) (old new : Run) → has (list_of old) l ≡ false → has (list_of old) (negation l) ≡ false → l.variable < length (reasons_of old) → reasons_of new ≡ set (reasons_of old) l.variable reason → RunRecords reason l old new
+run-records reason l old new absent opened inside is = record {
+  kept = recorded (reasons_of old) (reasons_of new) (list_of old) l reason absent opened is;
+  reason = λ a o. ap (λ xs. slice_get xs l.variable) is ∙ get-set_same (reasons_of old) l.variable reason inside;
+}
+
+-- a literal whose reason is a slot has a term of its constraint
+pub record IsDueTerm (forms : List Shape) (slot : ℕ) (l : NumberedLiteral) : Type 0 where
+  pub form : Shape
+  pub stored : slice_get forms slot ≡ Some form
+  pub coefficient : ℕ
+  pub term : Contains form.terms (record { literal = l; coefficient = coefficient })
+
+pub due-term : (forms : List Shape) (reasons : List ℕ) (list : List NumberedLiteral) (slot : ℕ) (l : NumberedLiteral) → HaveReasons forms reasons [] list → IsDue slot list reasons l → IsDueTerm forms slot l
+due-term forms reasons _ slot l from_given due = absurd (both_ways _ (has-none l) due.0)
+due-term forms reasons _ slot l (by_reason {list} k s x h at stored puts) due = elim (has-push_cases list k l due.0) [
+  | inl old ↦ due-term forms reasons list slot l h (old, due.1)
+  | inr is ↦
+      let same : Some s ≡ Some slot = sym at ∙ ap (λ (n : NumberedLiteral). slice_get reasons n.variable) is ∙ due.1 in
+      record {
+        form = x;
+        stored = ap (slice_get forms) (sym (let e : s ≡ slot = cc same in e)) ∙ stored;
+        coefficient = puts.coefficient;
+        term = subst (λ n. Contains x.terms (record { literal = n; coefficient = puts.coefficient })) is (puts-term x list k puts);
+      }
+]

@@ -1,0 +1,43 @@
+use Rattle.std.specs.Prelude.{Bool, Option}
+use Rattle.std.proofs.Common.{Vec, Global, ◌≡◌, ◌<◌, ◌*◌, ℕ, sym, ◌∙◌, ap, subst, inl, inr, arith, length, get_or}
+use Rattle.std.proofs.lemmas.Bool.{cases_eq}
+use Rattle.std.proofs.lemmas.List.{get_or_default}
+use Rattle.pb_normal.specs.declared.numbered.NumberedLiteral.{NumberedLiteral}
+use Rattle.pb_propagate.specs.engine.Engine.Fields.{shapes_of}
+use Rattle.pb_propagate.specs.engine.Engine.Lists.{IsDue}
+use Rattle.pb_propagate.specs.engine.Clauses.Shapes.{literal_at}
+use Rattle.pb_propagate.proofs.lemmas.root.Replaced.{same-reasons, other-then}
+use Rattle.pb_propagate.proofs.store.reasons.replace_by_codes.Goals as goal
+
+pub literals-init : goal.literals-init
+literals-init c = record {
+  reasons = same-reasons (shapes_of c.args.store.now.stored.items) c.args.slot c.args.assignment.now;
+  needless = λ k d less. absurd (omega (arith, less));
+}
+
+pub replace_reason-requires-clause-inside : goal.replace_reason-requires-clause-inside
+replace_reason-requires-clause-inside c =
+    let all = c.requires.inside c.literals.i 0 c.literals-test.true in
+    let is = ap (λ (l : NumberedLiteral). l.variable) c.literal_of.ensures in
+    let widths = ap (λ (v : Vec (Option Bool) Global). length v.items) c.literals.invariant.reasons.values in
+    omega (arith, all, is, widths)
+
+pub literals-preserved : goal.literals-preserved
+literals-preserved c =
+    let i = c.literals.invariant in
+    let next = c.replace_reason.ensures in
+    record {
+      reasons = other-then i.reasons next.reasons;
+      needless = λ k d less due. elim (cases_eq k c.literals.i) [
+        | inl is ↦
+            let same : literal_at (get_or c.args.codes.now k d) ≡ c.literal_of.result = ap (λ n. literal_at (get_or c.args.codes.now n d)) is ∙ ap literal_at (get_or_default c.args.codes.now c.literals.i d 0 c.literals-test.true) ∙ sym c.literal_of.ensures in
+            next.needless c.if-not-replace_reason.false (subst (IsDue c.args.slot c.replace_reason.new.assignment.list.items c.replace_reason.new.assignment.reasons.items) same due)
+        | inr apart ↦ i.needless k d (grind (arith, less, apart)) (next.reasons.fewer (literal_at (get_or c.args.codes.now k d)) due)
+      ];
+    }
+
+pub returns-then-not-replace_reason-clause-reasons : goal.returns-then-not-replace_reason-clause-reasons
+returns-then-not-replace_reason-clause-reasons c = other-then c.literals.invariant.reasons c.replace_reason.ensures.reasons
+
+pub returns-clause-needless : goal.returns-clause-needless
+returns-clause-needless c = λ yes k d less. c.literals.invariant.needless k d (omega (arith, less, c.literals-test.false))

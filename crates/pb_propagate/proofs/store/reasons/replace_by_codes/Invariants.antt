@@ -1,0 +1,12 @@
+use Rattle.std.proofs.Common.{◌≡◌, ℕ, ◌<◌, get_or}
+use Rattle.pb_propagate.specs.engine.Engine.Fields.{shapes_of}
+use Rattle.pb_propagate.specs.engine.Engine.Lists.{IsDue}
+use Rattle.pb_propagate.specs.engine.Engine.Root.{HasOtherReasons}
+use Rattle.pb_propagate.specs.engine.Clauses.Shapes.{literal_at}
+use Rattle.pb_propagate.proofs.store.reasons.replace_by_codes.Given as goal
+
+abbrev pub invariant-literals : goal.invariant-literals
+invariant-literals l = record {
+  reasons : HasOtherReasons (shapes_of l.store.stored.items) l.slot l.initial.assignment l.assignment;
+  needless : (k d : ℕ) → k < l.i → IsDue l.slot l.assignment.list.items l.assignment.reasons.items (literal_at (get_or l.codes k d)) → ⊥;
+}

@@ -1,0 +1,17 @@
+use Rattle.std.proofs.Common.{◌<◌, ℕ, List, subst, length, get_or}
+use Rattle.pb_propagate.specs.engine.Engine.Lists.{IsDue}
+use Rattle.pb_propagate.specs.engine.Clauses.Shapes.{clauses_of, literal_at}
+use Rattle.pb_propagate.proofs.lemmas.root.Replaced.{needless-codes, needless-terms}
+use Rattle.pb_propagate.proofs.store.reasons.replace_reasons.Goals as goal
+
+pub returns-clause-needless : goal.returns-clause-needless
+returns-clause-needless c = λ yes.
+    let next = c.replace_by_terms.ensures in
+    needless-terms c.args.store.now c.args.clauses.now c.args.slot c.replace_by_terms.new.assignment c.requires.slot (c.is_filled.ensures.no c.if-is_filled.false) (next.reasons.reasoned (clauses_of c.args.clauses.now) c.requires.joined c.requires.reasoned) (next.needless yes)
+
+pub returns-then-is_filled-clause-needless : goal.returns-then-is_filled-clause-needless
+returns-then-is_filled-clause-needless c = λ yes.
+    let next = c.replace_by_codes.ensures in
+    let a = c.replace_by_codes.new.assignment in
+    let free = subst (λ (xs : List ℕ). (k d : ℕ) → k < length xs → IsDue c.args.slot a.list.items a.reasons.items (literal_at (get_or xs k d)) → ⊥) c.codes.ensures (next.needless yes) in
+    needless-codes c.args.store.now c.args.clauses.now c.args.slot a c.requires.slot (c.is_filled.ensures.yes c.if-is_filled.true) (next.reasons.reasoned (clauses_of c.args.clauses.now) c.requires.joined c.requires.reasoned) free

@@ -1,0 +1,121 @@
+//! A form goes: the literals that it has forced need other reasons.
+
+ghost use Rattle.std.specs.Prelude.{◌≡◌, ℕ, ◌*◌, ◌^◌, ◌<◌, [], true, All, length, slice_index_or};
+ghost use Rattle.pb_propagate.specs.declared.term.Term.{Term};
+ghost use Rattle.pb_propagate.specs.engine.Engine.Lists.{HaveReasons, IsDue};
+ghost use Rattle.pb_propagate.specs.engine.Engine.Counts.{place};
+ghost use Rattle.pb_propagate.specs.engine.Engine.Fields.{shapes_of, IsSound};
+ghost use Rattle.pb_propagate.specs.engine.Engine.Links.{terms_at};
+ghost use Rattle.pb_propagate.specs.engine.Engine.Root.{HasOtherReasons, IsNeedless};
+ghost use Rattle.pb_propagate.specs.engine.Clauses.Runs.{AreReady};
+ghost use Rattle.pb_propagate.specs.engine.Clauses.Shapes.{AreJoined, clauses_of, all_of, literal_at};
+
+use crate::assignment::Assignment;
+use crate::clauses::Clauses;
+use crate::store::Store;
+use crate::store::units::other_unit;
+use crate::walk::literal_of;
+use pb_normal::NumberedLiteral;
+
+// Gives a literal whose reason is the form of a slot a unit as its reason, if another slot has one. Returns whether the
+// literal does not need the form.
+fn replace_reason(
+    store: &Store,
+    units: &[usize],
+    assignment: &mut Assignment,
+    slot: usize,
+    literal: NumberedLiteral,
+) -> bool
+    requires inside { literal.variable < length assignment.old.values.items }
+    requires fits { place literal < 2 ^ 64 }
+    ensures reasons { HasOtherReasons (shapes_of store.now.stored.items) slot
+        assignment.old assignment.new }
+    ensures needless { result ≡ true →
+        IsDue slot assignment.new.list.items assignment.new.reasons.items literal → ⊥ }
+{
+    if !assignment.is_due(literal, slot) {
+        return true;
+    }
+    let Some(unit) = other_unit(store, units, slot, literal) else {
+        return false;
+    };
+    assignment.explain(literal.variable, unit);
+    true
+}
+
+// The same for each literal of a clause, up to one that needs the clause.
+fn replace_by_codes(
+    store: &Store,
+    units: &[usize],
+    assignment: &mut Assignment,
+    slot: usize,
+    codes: &[u32],
+) -> bool
+    requires inside { All (λ x. x < 4 * length assignment.old.values.items) codes.now }
+    ensures reasons { HasOtherReasons (shapes_of store.now.stored.items) slot
+        assignment.old assignment.new }
+    ensures needless { result ≡ true → (k d : ℕ) → k < length codes.now →
+        IsDue slot assignment.new.list.items assignment.new.reasons.items
+        (literal_at (slice_index_or codes.now k d)) → ⊥ }
+{
+    'literals: for i in 0..codes.len() {
+        if !replace_reason(store, units, assignment, slot, literal_of(codes[i])) {
+            return false;
+        }
+    }
+    true
+}
+
+// The same for each literal of a form in the occurrence lists.
+fn replace_by_terms(
+    store: &Store,
+    units: &[usize],
+    assignment: &mut Assignment,
+    slot: usize,
+) -> bool
+    requires sound { IsSound store.now }
+    requires slot { slot < length store.now.stored.items }
+    requires values { length assignment.old.values.items ≡ store.now.variables }
+    ensures reasons { HasOtherReasons (shapes_of store.now.stored.items) slot
+        assignment.old assignment.new }
+    ensures needless { result ≡ true → (k : ℕ) (d : Term) →
+        k < length (terms_at (shapes_of store.now.stored.items) slot) →
+        IsDue slot assignment.new.list.items assignment.new.reasons.items
+        (slice_index_or (terms_at (shapes_of store.now.stored.items) slot) k d).literal → ⊥ }
+{
+    let terms = &store.stored[slot].terms;
+    'terms: for i in 0..terms.len() {
+        if !replace_reason(store, units, assignment, slot, terms.term(i).literal) {
+            return false;
+        }
+    }
+    true
+}
+
+/// Gives each literal whose reason is the form of a slot another reason. Returns false if one has no other.
+pub fn replace_reasons(
+    store: &Store,
+    clauses: &Clauses,
+    units: &[usize],
+    assignment: &mut Assignment,
+    slot: usize,
+) -> bool
+    requires slot { slot < length store.now.stored.items }
+    requires sound { IsSound store.now }
+    requires joined { AreJoined (shapes_of store.now.stored.items) (clauses_of clauses.now) }
+    requires ready { AreReady clauses.now }
+    requires known { length clauses.now.literals.items ≡ length store.now.stored.items }
+    requires widths { length clauses.now.lists.items ≡ 4 * store.now.variables }
+    requires values { length assignment.old.values.items ≡ store.now.variables }
+    requires reasoned { HaveReasons (all_of store.now clauses.now) assignment.old.reasons.items []
+        assignment.old.list.items }
+    ensures list { assignment.new.list ≡ assignment.old.list }
+    ensures values { assignment.new.values ≡ assignment.old.values }
+    ensures needless { result ≡ true →
+        IsNeedless (all_of store.now clauses.now) slot assignment.new }
+{
+    if clauses.is_filled(slot) {
+        return replace_by_codes(store, units, assignment, slot, clauses.codes(slot));
+    }
+    replace_by_terms(store, units, assignment, slot)
+}
