@@ -1,4 +1,5 @@
 -- What the clauses of public functions add: nobody has to believe this for `verified UNSAT`.
+pub mod Checked
 pub mod Checker
 pub mod Checks
 pub mod Faults

@@ -62,6 +62,11 @@ module _ (limits : Limits) (longest : ℕ) where
   IsNoReplay before after (Memory of_instance) = (v : Instance) × IsInstanceFile limits longest before after v × FitsAll (largest limits) v
   IsNoReplay before after _ = ⊥
 
+  -- the result of opening the instance of a source
+  abbrev pub OpensAs : Option (List ℕ) → Option (List ℕ) → Result Replaying ToolFault → Type 0
+  OpensAs before after (Ok r) = IsReplayOf before after r
+  OpensAs before after (Err f) = IsNoReplay before after f
+
   module _ (v : Problem) (first : State) (before : Option (List ℕ)) where
     -- the statements of a source that were stepped through
     abbrev pub RunsProof : Result (Verdict × Place) CheckFault → Option (List ℕ) → Replaying → Type 0

@@ -17,9 +17,10 @@ use Rattle.pb_replay.specs.meaning.Statements.{Accepts}
 use Rattle.pb_replay.specs.contract.ReplayModel.{Replaying, StandsFor}
 use Rattle.pb_replay.specs.declared.verdict.Verdict.{Verdict}
 use Rattle.pb_tool.specs.contract.Checker.{Checking}
-use Rattle.pb_tool.specs.contract.Runs.{RunsProof}
-use Rattle.pb_tool.specs.contract.Watched.{Call, GotEach, ShowsEach, ShowsRun}
+use Rattle.pb_tool.specs.contract.Runs.{Replays, RunsProof}
+use Rattle.pb_tool.specs.contract.Watched.{Call, GotEach, ShowsEach, ShowsProof, ShowsRun}
 use Rattle.pb_tool.specs.declared.commands.check.checker.CheckFault.{CheckFault}
+use Rattle.pb_tool.specs.declared.fault.ToolFault.{ToolFault}
 
 -- The feeder began with this machine and has not stopped. It was fed what the calls have given since a history.
 abbrev pub HasGiven : {M E : Type 0} {g : Ghosts M E} → ℕ → M → List ℕ → List (Spanned E) → Feeder M E g → List ℕ → Type 0
@@ -68,3 +69,14 @@ module _ (longest : ℕ) (began : Replaying) {V : Type 0} (got : V → Call → 
   RunsOn (Ok None) c rest now new = HasRun c rest now new
   RunsOn (Ok (Some w)) c rest now new = RunsTo (Ok (w, place_of c.feeder)) c.replay rest now new
   RunsOn (Err f) c rest now new = RunsTo (Err f) c.replay rest now new
+
+  -- what the check of the proof comes to, with the rest after it, and what it shows
+  pub record IsChecked (first : State) (result : Result Verdict ToolFault) (rest : Option (List ℕ)) (now : List ℕ) (new : V) : Type 0 where
+    pub replayed : Replays began.limits longest began.problem first before result rest
+    pub given : OfGiven (λ left end. Replays began.limits longest began.problem first left result end) since now
+    pub shown : ShowsProof began.limits longest got began.problem first before old result rest new
+    pub shown_given : OfGiven (λ left end. ShowsProof began.limits longest got began.problem first left old result end new) since now
+
+  -- for each state that the replay may have begun with
+  abbrev pub ChecksTo : Result Verdict ToolFault → Option (List ℕ) → List ℕ → V → Type 0
+  ChecksTo result rest now new = (first : State) → StandsFor began first → IsChecked first result rest now new

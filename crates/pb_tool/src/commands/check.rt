@@ -2,6 +2,7 @@
 
 ghost use Rattle.std.specs.Prelude.{◌≡◌, ◌<◌, ◌^◌, Err, Result, unwrap_or, IfOk, IfSome};
 ghost use Rattle.pb_text.specs.meaning.Pulling.{OfGiven};
+ghost use Rattle.pb_tool.specs.contract.Checked.{Checked};
 ghost use Rattle.pb_tool.specs.contract.Given.{ChecksGiven};
 ghost use Rattle.pb_tool.specs.meaning.Headline.{TrueOf, UnsatOf};
 ghost use Rattle.pb_tool.specs.contract.Runs.{faults_of_instance, faults_of_proof};
@@ -96,36 +97,8 @@ pub fn check_with_hasher<I: Source, P: Source, W: Sink>(
     limits: Limits,
 ) -> Result<Verdict, ToolFault>
     requires { IfSome longest (λ n. 0 < n) }
-    ensures checks { ChecksFiles limits (unwrap_or longest (2 ^ 40)) W.contents W.faults record {
-      instance = I.left instance.old;
-      proof = P.left proof.old;
-      out = out.old;
-      result = result;
-      instance_after = I.left instance.new;
-      proof_after = P.left proof.new;
-      out_after = out.new;
-    } }
-    // For any sources, files included: the result is right for the bytes that their calls have given.
-    ensures given { ChecksGiven limits (unwrap_or longest (2 ^ 40)) W.contents W.faults record {
-      instance = I.history instance.old;
-      proof = P.history proof.old;
-      out = out.old;
-      result = result;
-      instance_after = I.history instance.new;
-      proof_after = P.history proof.new;
-      out_after = out.new;
-    } }
-    // What a verdict says is true of the instance that was read. For UNSAT, no assignment solves that instance.
-    ensures unsat { result ≡ Ok Verdict.Unsat → UnsatOf limits (unwrap_or longest (2 ^ 40)) (I.left instance.old) (I.left instance.new) }
-    ensures true_verdict { IfOk result (λ w. TrueOf limits (unwrap_or longest (2 ^ 40)) w (I.left instance.old) (I.left instance.new)) }
-    ensures unsat_given { result ≡ Ok Verdict.Unsat → OfGiven (UnsatOf limits (unwrap_or longest (2 ^ 40))) (I.history instance.old) (I.history instance.new) }
-    ensures true_given { IfOk result (λ w. OfGiven (TrueOf limits (unwrap_or longest (2 ^ 40)) w) (I.history instance.old) (I.history instance.new)) }
-    // A rejected byte is the one that its source has shown. A text ends only if its source has shown its end.
-    ensures seen_instance { SawInstance (I.shown instance.new) (I.ended instance.new) result }
-    ensures seen_proof { SawProof (P.shown proof.new) (P.ended proof.new) result }
-    // `Read` comes only if the source of that input failed.
-    ensures instance { I.faults instance.new ≡ faults_of_instance result (I.faults instance.old) }
-    ensures proof { P.faults proof.new ≡ faults_of_proof result (P.faults proof.old) }
+    ensures { Checked I.Source P.Source W.Sink limits (unwrap_or longest (2 ^ 40))
+        instance.old proof.old out.old result instance.new proof.new out.new }
 {
     check_watched(
         alloc,
@@ -151,36 +124,8 @@ pub fn check_watched<I: Source, P: Source, W: Sink, V: Watch>(
     limits: Limits,
 ) -> Result<Verdict, ToolFault>
     requires { IfSome longest (λ n. 0 < n) }
-    ensures checks { ChecksFiles limits (unwrap_or longest (2 ^ 40)) W.contents W.faults record {
-      instance = I.left instance.old;
-      proof = P.left proof.old;
-      out = out.old;
-      result = result;
-      instance_after = I.left instance.new;
-      proof_after = P.left proof.new;
-      out_after = out.new;
-    } }
-    // For any sources, files included: the result is right for the bytes that their calls have given.
-    ensures given { ChecksGiven limits (unwrap_or longest (2 ^ 40)) W.contents W.faults record {
-      instance = I.history instance.old;
-      proof = P.history proof.old;
-      out = out.old;
-      result = result;
-      instance_after = I.history instance.new;
-      proof_after = P.history proof.new;
-      out_after = out.new;
-    } }
-    // What a verdict says is true of the instance that was read. For UNSAT, no assignment solves that instance.
-    ensures unsat { result ≡ Ok Verdict.Unsat → UnsatOf limits (unwrap_or longest (2 ^ 40)) (I.left instance.old) (I.left instance.new) }
-    ensures true_verdict { IfOk result (λ w. TrueOf limits (unwrap_or longest (2 ^ 40)) w (I.left instance.old) (I.left instance.new)) }
-    ensures unsat_given { result ≡ Ok Verdict.Unsat → OfGiven (UnsatOf limits (unwrap_or longest (2 ^ 40))) (I.history instance.old) (I.history instance.new) }
-    ensures true_given { IfOk result (λ w. OfGiven (TrueOf limits (unwrap_or longest (2 ^ 40)) w) (I.history instance.old) (I.history instance.new)) }
-    // A rejected byte is the one that its source has shown. A text ends only if its source has shown its end.
-    ensures seen_instance { SawInstance (I.shown instance.new) (I.ended instance.new) result }
-    ensures seen_proof { SawProof (P.shown proof.new) (P.ended proof.new) result }
-    // `Read` comes only if the source of that input failed.
-    ensures instance { I.faults instance.new ≡ faults_of_instance result (I.faults instance.old) }
-    ensures proof { P.faults proof.new ≡ faults_of_proof result (P.faults proof.old) }
+    ensures checked { Checked I.Source P.Source W.Sink limits (unwrap_or longest (2 ^ 40))
+        instance.old proof.old out.old result instance.new proof.new out.new }
     // The watch got a call for each statement that was taken, in order, with its span and the replay after it. If a
     // statement was rejected, the last call says so. It got no other call.
     ensures watched { IsWatched limits (unwrap_or longest (2 ^ 40)) V.got (I.left instance.old) (P.left proof.old) watch.old

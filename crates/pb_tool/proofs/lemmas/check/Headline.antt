@@ -1,5 +1,5 @@
 -- What is verified is true of the instance as it is written.
-use Rattle.std.proofs.Common.{◌≡◌, ℕ, List, [], ◌∷◌, ◌++◌, Option, Some, Ok, ap, ◌∙◌, subst, All}
+use Rattle.std.proofs.Common.{◌≡◌, ℕ, List, [], ◌∷◌, ◌++◌, Option, Some, Ok, Err, Result, ap, ◌∙◌, subst, All}
 use Rattle.std.proofs.lemmas.List.Elements.{All-nil, All-cons, All-head, All-tail}
 use Rattle.pb_text.specs.meaning.Limits.{largest, top_of}
 use Rattle.pb_text.specs.meaning.Spelling.{Item}
@@ -15,7 +15,13 @@ use Rattle.pb_text.specs.declared.Limits.{Limits}
 use Rattle.pb_replay.specs.contract.Laws.{VerdictsMean}
 use Rattle.pb_replay.specs.declared.verdict.Verdict.{Verdict}
 use Rattle.pb_replay.specs.declared.verdict.Verdict.TheVariants.{Unsat}
+use Rattle.pb_text.specs.declared.sink.Sink.{Ghosts as Sink}
+use Rattle.pb_text.specs.declared.source.Source.{Ghosts as Source}
+use Rattle.pb_tool.specs.contract.Checked.{Checked, of_given, of_left}
 use Rattle.pb_tool.specs.contract.Given.{ChecksGiven}
+use Rattle.pb_tool.specs.contract.Runs.{faults_of_instance, faults_of_proof}
+use Rattle.pb_tool.specs.contract.Seen.{SawInstance, SawProof}
+use Rattle.pb_tool.specs.declared.fault.ToolFault.{ToolFault}
 use Rattle.pb_tool.specs.meaning.Headline.{TrueOf, UnsatIsTrue, UnsatOf, VerdictsAreTrue}
 use Rattle.pb_tool.specs.meaning.Verified.{CheckCall, ChecksFiles, Returns}
 
@@ -60,3 +66,39 @@ module _ (limits : Limits) (longest : ℕ) (w : Verdict) (is : w ≡ Unsat) wher
 
   pub unsat_given_is_true : (before after : List ℕ) → OfGiven (TrueOf limits longest w) before after → OfGiven (UnsatOf limits longest) before after
   unsat_given_is_true before after (given, seen, e, t) = (given, seen, e, unsat_is_true (Some (given ++ seen)) (Some seen) t)
+
+-- ---- every fact of a check, from those that each way out shows
+
+module _ (true : VerdictsAreTrue) {I P W : Type 0} (of_i : Source I) (of_p : Source P) (of_o : Sink W) (limits : Limits) (longest : ℕ) (i : I) (p : P) (o : W) (i' : I) (p' : P) (o' : W) where
+  pub all_checked : (result : Result Verdict ToolFault) → ChecksFiles limits longest of_o.contents of_o.faults (of_left of_i of_p of_o limits longest i p o result i' p' o')
+      → ChecksGiven limits longest of_o.contents of_o.faults (of_given of_i of_p of_o limits longest i p o result i' p' o')
+      → SawInstance (of_i.shown i') (of_i.ended i') result → SawProof (of_p.shown p') (of_p.ended p') result
+      → of_i.faults i' ≡ faults_of_instance result (of_i.faults i) → of_p.faults p' ≡ faults_of_proof result (of_p.faults p)
+      → Checked of_i of_p of_o limits longest i p o result i' p' o'
+  all_checked (Ok w) checks given seen_i seen_p faults_i faults_p =
+      let is_true = verdict_is_true true of_o.contents of_o.faults limits longest o o' w (of_i.left i) (of_p.left p) (of_i.left i') (of_p.left p') checks in
+      let is_given = given_is_true true of_o.contents of_o.faults limits longest o o' w (of_i.history i) (of_p.history p) (of_i.history i') (of_p.history p') given in
+      record {
+        checks = checks;
+        given = given;
+        unsat = λ e. let is : w ≡ Unsat = cc in unsat_is_true limits longest w is (of_i.left i) (of_i.left i') is_true;
+        true_verdict = is_true;
+        unsat_given = λ e. let is : w ≡ Unsat = cc in unsat_given_is_true limits longest w is (of_i.history i) (of_i.history i') is_given;
+        true_given = is_given;
+        seen_instance = seen_i;
+        seen_proof = seen_p;
+        instance = faults_i;
+        proof = faults_p;
+      }
+  all_checked (Err f) checks given seen_i seen_p faults_i faults_p = record {
+    checks = checks;
+    given = given;
+    unsat = λ e. absurd cc;
+    true_verdict = tt;
+    unsat_given = λ e. absurd cc;
+    true_given = tt;
+    seen_instance = seen_i;
+    seen_proof = seen_p;
+    instance = faults_i;
+    proof = faults_p;
+  }

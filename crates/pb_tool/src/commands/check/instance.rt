@@ -1,8 +1,8 @@
 //! The instance of a check, and the replay that begins with it.
 
-ghost use Rattle.std.specs.Prelude.{◌≡◌, ◌<◌, Err, Result, IfErr, IfOk};
+ghost use Rattle.std.specs.Prelude.{◌≡◌, ◌<◌, Err, Result};
 ghost use Rattle.pb_text.specs.meaning.Pulling.{OfGiven};
-ghost use Rattle.pb_tool.specs.contract.Runs.{IsNoReplay, IsReplayOf, faults_of_instance};
+ghost use Rattle.pb_tool.specs.contract.Runs.{OpensAs, faults_of_instance};
 ghost use Rattle.pb_tool.specs.contract.Seen.{SawInstance};
 
 use crate::fault::{Input, ToolFault, text_fault};
@@ -21,10 +21,8 @@ pub(crate) fn replay_of_instance<S: Source>(
     limits: Limits,
 ) -> Result<Replay, ToolFault>
     requires { 0 < longest }
-    ensures opened { IfOk result (λ r. IsReplayOf limits longest (S.left input.old) (S.left input.new) r) }
-    ensures refused { IfErr result (IsNoReplay limits longest (S.left input.old) (S.left input.new)) }
-    ensures given { IfOk result (λ r. OfGiven (λ left rest. IsReplayOf limits longest left rest r) (S.history input.old) (S.history input.new)) }
-    ensures refused_given { IfErr result (λ f. OfGiven (λ left rest. IsNoReplay limits longest left rest f) (S.history input.old) (S.history input.new)) }
+    ensures opened { OpensAs limits longest (S.left input.old) (S.left input.new) result }
+    ensures given { OfGiven (λ left rest. OpensAs limits longest left rest result) (S.history input.old) (S.history input.new) }
     ensures seen { SawInstance (S.shown input.new) (S.ended input.new) result }
     ensures faults { S.faults input.new ≡ faults_of_instance result (S.faults input.old) }
 {

@@ -2,14 +2,11 @@
 
 ghost use Rattle.std.specs.Prelude.{◌≡◌, ◌<◌, Err, None, Result, string_bytes, get_or, [], IfErr, IfOk, OnErr, ℕ};
 ghost use Rattle.pb_text.specs.meaning.Blank.{IsInReach};
-ghost use Rattle.pb_text.specs.meaning.Pulling.{OfGiven};
-ghost use Rattle.pb_replay.specs.meaning.Replay.{State};
-ghost use Rattle.pb_replay.specs.contract.ReplayModel.{Replaying, StandsFor};
+ghost use Rattle.pb_replay.specs.contract.ReplayModel.{Replaying};
 ghost use Rattle.pb_tool.specs.contract.Pieces.{fault_of};
-ghost use Rattle.pb_tool.specs.contract.Runs.{IsReportedAs, Replays, faults_of_proof, faults_of_text};
+ghost use Rattle.pb_tool.specs.contract.Runs.{IsReportedAs, faults_of_proof, faults_of_text};
 ghost use Rattle.pb_tool.specs.contract.Seen.{SawProof, SawText};
-ghost use Rattle.pb_tool.specs.contract.Watched.{ShowsProof};
-ghost use Rattle.pb_tool.specs.engine.Running.{Begins, RunsTo};
+ghost use Rattle.pb_tool.specs.engine.Running.{Begins, ChecksTo, RunsTo};
 ghost use Rattle.pb_tool.specs.meaning.Verified.{IsReported};
 
 use crate::commands::check::checker::{CheckFault, Checker};
@@ -30,15 +27,10 @@ pub(crate) fn check_proof<S: Source, V: Watch>(
 ) -> Result<Verdict, ToolFault>
     requires some { 0 < longest }
     requires running { replay.fault ≡ None }
-    ensures replayed { (first : State) → StandsFor replay first → Replays replay.limits longest replay.problem first (S.left input.old) result (S.left input.new) }
-    ensures given { (first : State) → StandsFor replay first →
-        OfGiven (λ left rest. Replays replay.limits longest replay.problem first left result rest) (S.history input.old) (S.history input.new) }
+    ensures comes { ChecksTo longest replay V.got (S.left input.old) (S.history input.old) watch.old
+        result (S.left input.new) (S.history input.new) watch.new }
     ensures seen { SawProof (S.shown input.new) (S.ended input.new) result }
     ensures faults { S.faults input.new ≡ faults_of_proof result (S.faults input.old) }
-    ensures shown { (first : State) → StandsFor replay first →
-        ShowsProof replay.limits longest V.got replay.problem first (S.left input.old) watch.old result (S.left input.new) watch.new }
-    ensures shown_given { (first : State) → StandsFor replay first →
-        OfGiven (λ left rest. ShowsProof replay.limits longest V.got replay.problem first left watch.old result rest watch.new) (S.history input.old) (S.history input.new) }
 {
     let mut checker = Checker::begin(alloc, replay, longest);
     run_checker(alloc, &mut checker, input, watch)
@@ -53,16 +45,11 @@ fn run_checker<S: Source, V: Watch>(
 ) -> Result<Verdict, ToolFault>
     requires running { fault_of checker.old ≡ None }
     requires unspent { checker.old.replay.fault ≡ None }
-    ensures replayed { (longest : ℕ) (began : Replaying) (first : State) → Begins longest began checker.old → StandsFor began first →
-        Replays began.limits longest began.problem first (S.left input.old) result (S.left input.new) }
-    ensures given { (longest : ℕ) (began : Replaying) (first : State) → Begins longest began checker.old → StandsFor began first →
-        OfGiven (λ left rest. Replays began.limits longest began.problem first left result rest) (S.history input.old) (S.history input.new) }
+    ensures comes { (longest : ℕ) (began : Replaying) → Begins longest began checker.old
+        → ChecksTo longest began V.got (S.left input.old) (S.history input.old) watch.old
+        result (S.left input.new) (S.history input.new) watch.new }
     ensures seen { SawProof (S.shown input.new) (S.ended input.new) result }
     ensures faults { S.faults input.new ≡ faults_of_proof result (S.faults input.old) }
-    ensures shown { (longest : ℕ) (began : Replaying) (first : State) → Begins longest began checker.old → StandsFor began first →
-        ShowsProof began.limits longest V.got began.problem first (S.left input.old) watch.old result (S.left input.new) watch.new }
-    ensures shown_given { (longest : ℕ) (began : Replaying) (first : State) → Begins longest began checker.old → StandsFor began first →
-        OfGiven (λ left rest. ShowsProof began.limits longest V.got began.problem first left watch.old result rest watch.new) (S.history input.old) (S.history input.new) }
 {
     outcomes_are_single();
     let (verdict, place) = match check_statements(checker, input, watch) {

@@ -10,59 +10,54 @@ use Rattle.pb_tool.proofs.lemmas.check.Peeked.{report_faults, report_unseen}
 use Rattle.pb_tool.proofs.lemmas.check.WatchCalls.{given_proof_rest, given_proof_ended, given_proof_rejected, given_proof_stopped, proof_rest, proof_ended, proof_rejected, proof_stopped}
 use Rattle.pb_tool.proofs.commands.check.proof.run_checker.Goals as goal
 
-pub returns-in-Err-Text-clause-replayed : goal.returns-in-Err-Text-clause-replayed
-returns-in-Err-Text-clause-replayed g c longest began first begins at =
+pub returns-in-Err-Text-clause-comes : goal.returns-in-Err-Text-clause-comes
+returns-in-Err-Text-clause-comes g c longest began begins first at =
     let t = rw (c.in-Err-Text.is, c.in-Err-Text.field-0-is) at c.check_statements.ensures in
     let run = t.runs longest began begins first at in
     let (last, accepted, asking) = run.runs in
-    subst (λ (f : ToolFault). Replays began.limits longest began.problem first (g.S.Source.left c.args.input.now) (Err f) (g.S.Source.left c.check_statements.new.input)) (sym c.text_fault.ensures) (InProof last accepted asking)
+    record {
+      replayed = subst (λ (f : ToolFault). Replays began.limits longest began.problem first (g.S.Source.left c.args.input.now) (Err f) (g.S.Source.left c.check_statements.new.input)) (sym c.text_fault.ensures) (InProof last accepted asking);
+      given = given_text began.limits longest began.problem first (g.S.Source.history c.args.input.now) (g.S.Source.history c.check_statements.new.input) c.check_statements.new.checker.replay c.text_fault.result c.in-Err-Text.stop c.text_fault.ensures run.given;
+      shown = proof_stopped began.limits longest g.V.Watch.got began.problem first c.args.watch.now c.check_statements.new.watch (g.S.Source.left c.args.input.now) (g.S.Source.left c.check_statements.new.input) c.in-Err-Text.stop c.text_fault.result c.text_fault.ensures run.shown;
+      shown_given = given_proof_stopped began.limits longest g.V.Watch.got began.problem first c.args.watch.now c.check_statements.new.watch (g.S.Source.history c.args.input.now) (g.S.Source.history c.check_statements.new.input) c.in-Err-Text.stop c.text_fault.result c.text_fault.ensures run.shown_given;
+    }
 
-pub returns-in-Err-Step-clause-replayed : goal.returns-in-Err-Step-clause-replayed
-returns-in-Err-Step-clause-replayed g c longest began first begins at =
+pub returns-in-Err-Step-clause-comes : goal.returns-in-Err-Step-clause-comes
+returns-in-Err-Step-clause-comes g c longest began begins first at =
     let t = rw (c.in-Err-Step.is, c.in-Err-Step.field-0-is) at c.check_statements.ensures in
     let run = t.runs longest began begins first at in
-    step_report began.limits longest began.problem first (g.S.Source.left c.args.input.now) c.outcomes_are_single.ensures.wanting (g.S.Source.left c.check_statements.new.input) c.check_statements.new.checker.replay c.in-Err-Step.place c.in-Err-Step.fault c.rejection.result run.runs c.rejection.ensures
+    record {
+      replayed = step_report began.limits longest began.problem first (g.S.Source.left c.args.input.now) c.outcomes_are_single.ensures.wanting (g.S.Source.left c.check_statements.new.input) c.check_statements.new.checker.replay c.in-Err-Step.place c.in-Err-Step.fault c.rejection.result run.runs c.rejection.ensures;
+      given = given_report began.limits longest began.problem first (g.S.Source.history c.args.input.now) (g.S.Source.history c.check_statements.new.input) c.check_statements.new.checker.replay c.rejection.result c.outcomes_are_single.ensures.wanting c.in-Err-Step.place c.in-Err-Step.fault c.rejection.ensures run.given;
+      shown = proof_rejected began.limits longest g.V.Watch.got began.problem first c.args.watch.now c.check_statements.new.watch (g.S.Source.left c.args.input.now) (g.S.Source.left c.check_statements.new.input) c.check_statements.new.checker.replay.names c.in-Err-Step.place c.in-Err-Step.fault c.rejection.result c.rejection.ensures run.shown;
+      shown_given = given_proof_rejected began.limits longest g.V.Watch.got began.problem first c.args.watch.now c.check_statements.new.watch (g.S.Source.history c.args.input.now) (g.S.Source.history c.check_statements.new.input) c.check_statements.new.checker.replay.names c.in-Err-Step.place c.in-Err-Step.fault c.rejection.result c.rejection.ensures run.shown_given;
+    }
 
-pub returns-in-Ok-rest_is_blank-clause-replayed : goal.returns-in-Ok-rest_is_blank-clause-replayed
-returns-in-Ok-rest_is_blank-clause-replayed g c longest began first begins at =
+pub returns-in-Ok-rest_is_blank-clause-comes : goal.returns-in-Ok-rest_is_blank-clause-comes
+returns-in-Ok-rest_is_blank-clause-comes g c longest began begins first at =
     let t = rw c.in-Ok.is at c.check_statements.ensures in
     let run = t.runs longest began begins first at in
     let (last, accepted, claimed) = run.runs in
-    whole_file began.limits longest began.problem first (g.S.Source.left c.args.input.now) (g.S.Source.left c.check_statements.new.input) (g.S.Source.left c.rest_is_blank.new.source) c.in-Ok.ended.1 last c.in-Ok.ended.0 accepted claimed c.in-Ok-rest_is_blank.ensures.blank
+    record {
+      replayed = whole_file began.limits longest began.problem first (g.S.Source.left c.args.input.now) (g.S.Source.left c.check_statements.new.input) (g.S.Source.left c.rest_is_blank.new.source) c.in-Ok.ended.1 last c.in-Ok.ended.0 accepted claimed c.in-Ok-rest_is_blank.ensures.blank;
+      given = given_whole began.limits longest began.problem first (g.S.Source.history c.args.input.now) (g.S.Source.history c.check_statements.new.input) (g.S.Source.history c.rest_is_blank.new.source) c.check_statements.new.checker.replay c.in-Ok.ended run.given c.in-Ok-rest_is_blank.ensures.given;
+      shown = proof_ended began.limits longest g.V.Watch.got began.problem first c.args.watch.now c.check_statements.new.watch (g.S.Source.left c.args.input.now) (g.S.Source.left c.check_statements.new.input) (g.S.Source.left c.rest_is_blank.new.source) c.in-Ok.ended run.shown;
+      shown_given = given_proof_ended began.limits longest g.V.Watch.got began.problem first c.args.watch.now c.check_statements.new.watch (g.S.Source.history c.args.input.now) (g.S.Source.history c.check_statements.new.input) (g.S.Source.history c.rest_is_blank.new.source) c.in-Ok.ended run.shown_given (λ left rest. ReadsBlank c.in-Ok.ended.1 left (Ok tt) rest) c.in-Ok-rest_is_blank.ensures.given;
+    }
 
-pub returns-in-Err-clause-replayed : goal.returns-in-Err-clause-replayed
-returns-in-Err-clause-replayed g c longest began first begins at =
+pub returns-in-Err-clause-comes : goal.returns-in-Err-clause-comes
+returns-in-Err-clause-comes g c longest began begins first at =
     let t = rw c.in-Ok.is at c.check_statements.ensures in
     let run = t.runs longest began begins first at in
     let (last, accepted, claimed) = run.runs in
-    subst (λ (f : ToolFault). Replays began.limits longest began.problem first (g.S.Source.left c.args.input.now) (Err f) (g.S.Source.left c.rest_is_blank.new.source)) (sym c.text_fault-in-Err.ensures)
-    (AfterProof (g.S.Source.left c.check_statements.new.input) c.in-Ok.ended.1 last c.in-Ok.ended.0 accepted claimed c.in-Err.ensures.blank)
-
--- ---- for what the calls gave
-
-pub returns-in-Err-Text-clause-given : goal.returns-in-Err-Text-clause-given
-returns-in-Err-Text-clause-given g c longest began first begins at =
-    let t = rw (c.in-Err-Text.is, c.in-Err-Text.field-0-is) at c.check_statements.ensures in
-    let run = t.runs longest began begins first at in
-    given_text began.limits longest began.problem first (g.S.Source.history c.args.input.now) (g.S.Source.history c.check_statements.new.input) c.check_statements.new.checker.replay c.text_fault.result c.in-Err-Text.stop c.text_fault.ensures run.given
-
-pub returns-in-Err-Step-clause-given : goal.returns-in-Err-Step-clause-given
-returns-in-Err-Step-clause-given g c longest began first begins at =
-    let t = rw (c.in-Err-Step.is, c.in-Err-Step.field-0-is) at c.check_statements.ensures in
-    let run = t.runs longest began begins first at in
-    given_report began.limits longest began.problem first (g.S.Source.history c.args.input.now) (g.S.Source.history c.check_statements.new.input) c.check_statements.new.checker.replay c.rejection.result c.outcomes_are_single.ensures.wanting c.in-Err-Step.place c.in-Err-Step.fault c.rejection.ensures run.given
-
-pub returns-in-Ok-rest_is_blank-clause-given : goal.returns-in-Ok-rest_is_blank-clause-given
-returns-in-Ok-rest_is_blank-clause-given g c longest began first begins at =
-    let t = rw c.in-Ok.is at c.check_statements.ensures in
-    let run = t.runs longest began begins first at in
-    given_whole began.limits longest began.problem first (g.S.Source.history c.args.input.now) (g.S.Source.history c.check_statements.new.input) (g.S.Source.history c.rest_is_blank.new.source) c.check_statements.new.checker.replay c.in-Ok.ended run.given c.in-Ok-rest_is_blank.ensures.given
-
-pub returns-in-Err-clause-given : goal.returns-in-Err-clause-given
-returns-in-Err-clause-given g c longest began first begins at =
-    let t = rw c.in-Ok.is at c.check_statements.ensures in
-    let run = t.runs longest began begins first at in
-    given_rest began.limits longest began.problem first (g.S.Source.history c.args.input.now) (g.S.Source.history c.check_statements.new.input) (g.S.Source.history c.rest_is_blank.new.source) c.check_statements.new.checker.replay c.in-Ok.ended c.in-Err.stop c.text_fault-in-Err.result c.text_fault-in-Err.ensures run.given c.in-Err.ensures.given
+    record {
+      replayed =
+          subst (λ (f : ToolFault). Replays began.limits longest began.problem first (g.S.Source.left c.args.input.now) (Err f) (g.S.Source.left c.rest_is_blank.new.source)) (sym c.text_fault-in-Err.ensures)
+          (AfterProof (g.S.Source.left c.check_statements.new.input) c.in-Ok.ended.1 last c.in-Ok.ended.0 accepted claimed c.in-Err.ensures.blank);
+      given = given_rest began.limits longest began.problem first (g.S.Source.history c.args.input.now) (g.S.Source.history c.check_statements.new.input) (g.S.Source.history c.rest_is_blank.new.source) c.check_statements.new.checker.replay c.in-Ok.ended c.in-Err.stop c.text_fault-in-Err.result c.text_fault-in-Err.ensures run.given c.in-Err.ensures.given;
+      shown = proof_rest began.limits longest g.V.Watch.got began.problem first c.args.watch.now c.check_statements.new.watch (g.S.Source.left c.args.input.now) (g.S.Source.left c.check_statements.new.input) (g.S.Source.left c.rest_is_blank.new.source) c.in-Ok.ended c.in-Err.stop c.text_fault-in-Err.result c.text_fault-in-Err.ensures run.shown;
+      shown_given = given_proof_rest began.limits longest g.V.Watch.got began.problem first c.args.watch.now c.check_statements.new.watch (g.S.Source.history c.args.input.now) (g.S.Source.history c.check_statements.new.input) (g.S.Source.history c.rest_is_blank.new.source) c.in-Ok.ended run.shown_given (λ left rest. ReadsBlank c.in-Ok.ended.1 left (Err c.in-Err.stop) rest) c.in-Err.ensures.given c.in-Err.stop c.text_fault-in-Err.result c.text_fault-in-Err.ensures;
+    }
 
 -- ---- what the source has shown
 
@@ -84,56 +79,6 @@ pub returns-in-Err-Text-clause-faults : goal.returns-in-Err-Text-clause-faults
 returns-in-Err-Text-clause-faults g c =
     let t = rw (c.in-Err-Text.is, c.in-Err-Text.field-0-is) at c.check_statements.ensures in
     rw c.text_fault.ensures t.faults
-
--- ---- what the watch got
-
-pub returns-in-Err-Text-clause-shown : goal.returns-in-Err-Text-clause-shown
-returns-in-Err-Text-clause-shown g c longest began first begins at =
-    let t = rw (c.in-Err-Text.is, c.in-Err-Text.field-0-is) at c.check_statements.ensures in
-    let run = t.runs longest began begins first at in
-    proof_stopped began.limits longest g.V.Watch.got began.problem first c.args.watch.now c.check_statements.new.watch (g.S.Source.left c.args.input.now) (g.S.Source.left c.check_statements.new.input) c.in-Err-Text.stop c.text_fault.result c.text_fault.ensures run.shown
-
-pub returns-in-Err-Text-clause-shown_given : goal.returns-in-Err-Text-clause-shown_given
-returns-in-Err-Text-clause-shown_given g c longest began first begins at =
-    let t = rw (c.in-Err-Text.is, c.in-Err-Text.field-0-is) at c.check_statements.ensures in
-    let run = t.runs longest began begins first at in
-    given_proof_stopped began.limits longest g.V.Watch.got began.problem first c.args.watch.now c.check_statements.new.watch (g.S.Source.history c.args.input.now) (g.S.Source.history c.check_statements.new.input) c.in-Err-Text.stop c.text_fault.result c.text_fault.ensures run.shown_given
-
-pub returns-in-Err-Step-clause-shown : goal.returns-in-Err-Step-clause-shown
-returns-in-Err-Step-clause-shown g c longest began first begins at =
-    let t = rw (c.in-Err-Step.is, c.in-Err-Step.field-0-is) at c.check_statements.ensures in
-    let run = t.runs longest began begins first at in
-    proof_rejected began.limits longest g.V.Watch.got began.problem first c.args.watch.now c.check_statements.new.watch (g.S.Source.left c.args.input.now) (g.S.Source.left c.check_statements.new.input) c.check_statements.new.checker.replay.names c.in-Err-Step.place c.in-Err-Step.fault c.rejection.result c.rejection.ensures run.shown
-
-pub returns-in-Err-Step-clause-shown_given : goal.returns-in-Err-Step-clause-shown_given
-returns-in-Err-Step-clause-shown_given g c longest began first begins at =
-    let t = rw (c.in-Err-Step.is, c.in-Err-Step.field-0-is) at c.check_statements.ensures in
-    let run = t.runs longest began begins first at in
-    given_proof_rejected began.limits longest g.V.Watch.got began.problem first c.args.watch.now c.check_statements.new.watch (g.S.Source.history c.args.input.now) (g.S.Source.history c.check_statements.new.input) c.check_statements.new.checker.replay.names c.in-Err-Step.place c.in-Err-Step.fault c.rejection.result c.rejection.ensures run.shown_given
-
-pub returns-in-Ok-rest_is_blank-clause-shown : goal.returns-in-Ok-rest_is_blank-clause-shown
-returns-in-Ok-rest_is_blank-clause-shown g c longest began first begins at =
-    let t = rw c.in-Ok.is at c.check_statements.ensures in
-    let run = t.runs longest began begins first at in
-    proof_ended began.limits longest g.V.Watch.got began.problem first c.args.watch.now c.check_statements.new.watch (g.S.Source.left c.args.input.now) (g.S.Source.left c.check_statements.new.input) (g.S.Source.left c.rest_is_blank.new.source) c.in-Ok.ended run.shown
-
-pub returns-in-Ok-rest_is_blank-clause-shown_given : goal.returns-in-Ok-rest_is_blank-clause-shown_given
-returns-in-Ok-rest_is_blank-clause-shown_given g c longest began first begins at =
-    let t = rw c.in-Ok.is at c.check_statements.ensures in
-    let run = t.runs longest began begins first at in
-    given_proof_ended began.limits longest g.V.Watch.got began.problem first c.args.watch.now c.check_statements.new.watch (g.S.Source.history c.args.input.now) (g.S.Source.history c.check_statements.new.input) (g.S.Source.history c.rest_is_blank.new.source) c.in-Ok.ended run.shown_given (λ left rest. ReadsBlank c.in-Ok.ended.1 left (Ok tt) rest) c.in-Ok-rest_is_blank.ensures.given
-
-pub returns-in-Err-clause-shown : goal.returns-in-Err-clause-shown
-returns-in-Err-clause-shown g c longest began first begins at =
-    let t = rw c.in-Ok.is at c.check_statements.ensures in
-    let run = t.runs longest began begins first at in
-    proof_rest began.limits longest g.V.Watch.got began.problem first c.args.watch.now c.check_statements.new.watch (g.S.Source.left c.args.input.now) (g.S.Source.left c.check_statements.new.input) (g.S.Source.left c.rest_is_blank.new.source) c.in-Ok.ended c.in-Err.stop c.text_fault-in-Err.result c.text_fault-in-Err.ensures run.shown
-
-pub returns-in-Err-clause-shown_given : goal.returns-in-Err-clause-shown_given
-returns-in-Err-clause-shown_given g c longest began first begins at =
-    let t = rw c.in-Ok.is at c.check_statements.ensures in
-    let run = t.runs longest began begins first at in
-    given_proof_rest began.limits longest g.V.Watch.got began.problem first c.args.watch.now c.check_statements.new.watch (g.S.Source.history c.args.input.now) (g.S.Source.history c.check_statements.new.input) (g.S.Source.history c.rest_is_blank.new.source) c.in-Ok.ended run.shown_given (λ left rest. ReadsBlank c.in-Ok.ended.1 left (Err c.in-Err.stop) rest) c.in-Err.ensures.given c.in-Err.stop c.text_fault-in-Err.result c.text_fault-in-Err.ensures
 
 pub returns-in-Err-Step-clause-faults : goal.returns-in-Err-Step-clause-faults
 returns-in-Err-Step-clause-faults g c =
