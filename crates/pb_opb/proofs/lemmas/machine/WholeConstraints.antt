@@ -1,6 +1,6 @@
 -- A whole constraint leads from one constraint to the next.
-use Rattle.std.proofs.Common.{◌≡◌, ℕ, zero, suc, ◌<◌, List, [], ◌∷◌, take, get_or, length, refl, sym, ap, subst, arith, ◌∙◌, Bool, true, false, cond, Option, Some, inl}
-use Rattle.pb_text.specs.contract.Automaton.{Go, End, Runs, IsState, TakesStatement, begins, begins_with}
+use Rattle.std.proofs.Common.{◌≡◌, ℕ, zero, suc, ◌<◌, List, [], ◌∷◌, take, get_or, length, refl, sym, ap, subst, arith, ◌∙◌, Bool, true, false, cond, Some, inl}
+use Rattle.pb_text.specs.contract.Automaton.{Go, End, TakesStatement, begins, begins_with}
 use Rattle.pb_sums.specs.declared.Linear.{Linear}
 use Rattle.pb_sums.specs.declared.SumEvent as sum
 use Rattle.pb_sums.specs.declared.Part as part
