@@ -33,14 +33,10 @@ HasFeed s = line_bytes s ≡ statement_bytes s ++ (10 ∷ [])
 step_feeds : (s : Statement) → IsStep s → HasFeed s
 step_feeds Header h = absurd h
 step_feeds (F count) h = absurd h
-step_feeds (Pol ws) h = refl
-step_feeds (Rup c) h = refl
-step_feeds (Soli ls) h = refl
-step_feeds (Solx ls) h = refl
-step_feeds (Delete ids) h = refl
 step_feeds Output h = absurd h
 step_feeds (Conclude c) h = absurd h
 step_feeds End h = absurd h
+step_feeds _ h = refl
 
 bytes-feeds : (xs : List Statement) (rest : List (Item Statement)) → All HasFeed xs → bytes_of (map item_of xs ++ rest) ≡ ended_lines xs ++ bytes_of rest
 bytes-feeds [] rest h = rw ended_none refl
