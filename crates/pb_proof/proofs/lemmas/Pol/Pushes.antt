@@ -1,5 +1,5 @@
 -- A push does what its transition says.
-use Rattle.std.proofs.Common.{◌≡◌, ℕ, ◌<◌, true, List, [], refl, sym, ap, ◌∙◌}
+use Rattle.std.proofs.Common.{◌≡◌, ℕ, ◌<◌, true, List, refl, sym, ap, ◌∙◌}
 use Rattle.std.specs.Prelude.{IsTrue}
 use Rattle.pb_text.specs.contract.Automaton.{End, Refuse, Admits, IsState, Pushes}
 use Rattle.pb_text.specs.declared.machine.Push.{Push}

@@ -14,7 +14,7 @@ use Rattle.pb_proof.specs.engine.Line.Ended.{ended_lines}
 use Rattle.pb_proof.specs.contract.ValueLaws.{CanonicalProof}
 use Rattle.pb_proof.specs.declared.proof.Proof.{Proof}
 use Rattle.pb_proof.specs.declared.statement.Statement.{Statement}
-use Rattle.pb_proof.specs.declared.statement.Statement.TheVariants.{Header, F, Pol, Rup, Soli, Solx, Delete, Output, Conclude, End}
+use Rattle.pb_proof.specs.declared.statement.Statement.TheVariants.{Header, F, Output, Conclude, End}
 use Rattle.pb_proof.proofs.lemmas.Line.Texts.{line_text, line_bytes, bytes-line}
 use Rattle.pb_proof.proofs.lemmas.Line.Spelled.{line_spelled}
 use Rattle.pb_proof.proofs.lemmas.Written.{ended_none, ended-cons, lines-ended}

@@ -1,4 +1,4 @@
-use Rattle.std.proofs.Common.{sym, ap, ◌∙◌}
+use Rattle.std.proofs.Common.{ap, ◌∙◌}
 use Rattle.pb_text.proofs.lemmas.text.Booleans.{never}
 use Rattle.pb_proof.specs.engine.Line.Pol.{transition}
 use Rattle.pb_proof.proofs.lemmas.Pol.Pushes.{stays}
