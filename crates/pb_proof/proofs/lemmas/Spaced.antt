@@ -127,14 +127,7 @@ first_word End = end_word
 -- each of them has at least one byte
 pub some_byte : (f : Keyword) → 0 < length (words_of f)
 some_byte Header = omega arith
-some_byte Formula = omega arith
-some_byte Pol = omega arith
-some_byte Rup = omega arith
-some_byte Solution = omega arith
-some_byte Delete = omega arith
-some_byte Output = omega arith
-some_byte Conclusion = omega arith
-some_byte End = omega arith
+some_byte _ = omega arith
 
 abbrev pub more_words : Keyword → List (List ℕ)
 more_words Header = proof_word ∷ version_word ∷ two_word ∷ []
@@ -148,14 +141,7 @@ KeywordWords f = Words (Bytes (first_word f)) (more_words f)
 
 same_words : (f : Keyword) → (words_of f ≡ first_word f ++ led (more_words f)) × (is_plain (first_word f) ≡ true) × (are_plain (more_words f) ≡ true)
 same_words Header = (refl, refl, refl)
-same_words Formula = (refl, refl, refl)
-same_words Pol = (refl, refl, refl)
-same_words Rup = (refl, refl, refl)
-same_words Solution = (refl, refl, refl)
-same_words Delete = (refl, refl, refl)
-same_words Output = (refl, refl, refl)
-same_words Conclusion = (refl, refl, refl)
-same_words End = (refl, refl, refl)
+same_words _ = (refl, refl, refl)
 
 pub keyword_only : (f : Keyword) (t : List Letter) → Spaced (words_of f) t → KeywordWords f t
 keyword_only f t h =

@@ -1,6 +1,6 @@
 //! The machine for ids.
 
-ghost use Rattle.std.specs.Prelude.{◌≡◌, ◌<◌, ◌≤◌, ◌^◌, ℕ};
+ghost use Rattle.std.specs.Prelude.{◌≡◌, ◌<◌, ◌≤◌, ◌^◌};
 ghost use Rattle.pb_text.specs.meaning.Limits.{top_of};
 ghost use Rattle.pb_proof.specs.engine.Line.ByteKind.{NumberByteFits};
 ghost use Rattle.pb_proof.specs.engine.Line.Ids.{digits, before, next_action, transition, ids_first, begins_id, is_done, PhaseFits};
@@ -151,6 +151,7 @@ impl IdsMachine {
             return 0;
         }
         self.phase = IdsPhase::Digits(false, value);
+        let _ = self.is_done();
         count
     }
 }

@@ -3,7 +3,7 @@
 ghost use Rattle.std.specs.Prelude.{◌≡◌, ◌<◌, ◌≤◌, ◌^◌};
 ghost use Rattle.pb_text.specs.meaning.Limits.{top_of};
 ghost use Rattle.pb_proof.specs.engine.Line.ByteKind.{NumberByteFits};
-ghost use Rattle.pb_proof.specs.engine.Line.Count.{digits, next_action, transition, counting, is_done, PhaseFits, ActionFits};
+ghost use Rattle.pb_proof.specs.engine.Line.Count.{digits, next_action, transition, counting, is_done, PhaseFits};
 
 mod phase;
 
@@ -38,8 +38,7 @@ fn digits(top: u64, value: u64, digit: u8) -> CountAction
     requires top { top < 2 ^ 63 }
     requires value { value ≤ top }
     requires digit { digit < 10 }
-    ensures transition { result ≡ digits top value digit }
-    ensures fits { ActionFits top result }
+    ensures { result ≡ digits top value digit }
 {
     match next_digit_u64(top, value, digit) {
         None => CountAction::Stop,
@@ -64,8 +63,7 @@ fn transition(top: u64, phase: CountPhase, kind: NumberByte) -> CountAction
     requires top { top < 2 ^ 63 }
     requires phase { PhaseFits top phase }
     requires kind { NumberByteFits kind }
-    ensures transition { result ≡ transition top phase kind }
-    ensures fits { ActionFits top result }
+    ensures { result ≡ transition top phase kind }
 {
     match (phase, kind) {
         (CountPhase::Gap, NumberByte::Digit(digit)) => digits(top, 0, digit),

@@ -1,10 +1,7 @@
 //! The machine for postfix words.
 
-ghost use Rattle.std.specs.Prelude.{◌≡◌, ◌&&◌, if◌then◌else◌};
-ghost use Rattle.pb_text.specs.contract.Automaton.{IsState};
-ghost use Rattle.pb_text.specs.meaning.Classes.{is_digit};
+ghost use Rattle.std.specs.Prelude.{◌≡◌};
 ghost use Rattle.pb_text.specs.meaning.Limits.{largest, top_of};
-ghost use Rattle.pb_proof.specs.engine.Line.Pol.{is_in_number};
 
 mod close;
 mod fast;
@@ -52,17 +49,6 @@ impl Model for PolMachine {
     ghost invariant = { λ m. (m.limit < 2 ^ 127) × (m.top < 2 ^ 63) × (m.depth ≤ vec_len m.words) × PhaseFits m.limit m.top m.depth m.phase × IsPolInOrder (pol_state m) };
 }
 
-/// The answer to a byte that the grammar does not allow.
-fn refusal(phase: Phase, byte: u8) -> Push<Sequence<PolWord>>
-    ensures { result ≡ (if is_in_number phase && is_digit byte then Push.Large else Push.No) }
-{
-    if is_in_number(phase) && is_digit(byte) {
-        Push::Large
-    } else {
-        Push::No
-    }
-}
-
 impl PolMachine {
     ghost use Rattle.pb_proof.specs.engine.Line.PolState.{pol_first};
 
@@ -108,6 +94,7 @@ impl PolMachine {
         self.name = Name::new(self.alloc);
         self.phase = Phase::Gap(held_number(self.limit, self.depth, id as u128));
         self.depth += 1;
+        let _ = self.is_done();
         length
     }
 
@@ -140,6 +127,7 @@ impl PolMachine {
             return 0;
         }
         self.phase = Phase::Gap(Held::Nothing);
+        let _ = self.is_done();
         2
     }
 
@@ -154,6 +142,7 @@ impl PolMachine {
             return false;
         }
         self.phase = Phase::Gap(Held::Nothing);
+        let _ = self.is_done();
         true
     }
 
@@ -173,6 +162,7 @@ impl PolMachine {
         }
         self.name = name;
         self.phase = Phase::Lone(Role::Saturate);
+        let _ = self.is_done();
         true
     }
 
@@ -213,7 +203,13 @@ impl PolMachine {
         ensures { Pushes pol_automaton self.old byte result self.new }
     {
         match action {
-            Action::Stop => refusal(self.phase, byte),
+            Action::Stop => {
+                if is_in_number(self.phase) && is_digit(byte) {
+                    Push::Large
+                } else {
+                    Push::No
+                }
+            }
             Action::To(phase) => {
                 self.phase = phase;
                 Push::Go

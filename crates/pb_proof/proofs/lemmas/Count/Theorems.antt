@@ -33,7 +33,7 @@ after_fits top count gap Blank f h = (f, h)
 after_fits top count gap Semicolon f h = (tt, refl)
 after_fits top count gap _ f h = tt
 
-transition_fits : (top : ℕ) (ph : CountPhase) (k : NumberByte) → ActionFits top (transition top ph k)
+pub transition_fits : (top : ℕ) (ph : CountPhase) (k : NumberByte) → ActionFits top (transition top ph k)
 transition_fits top Start k = after_fits top None Gap k tt refl
 transition_fits top Gap (Digit d) = digits_fit top 0 d
 transition_fits top Gap k = after_fits top None Gap k tt refl

@@ -20,14 +20,14 @@ use Rattle.pb_sums.proofs.lemmas.machine.Asked.{ends_nothing, ends_after, asks_a
 use Rattle.pb_sums.proofs.lemmas.machine.LiteralPrefixes.{IsFirst}
 use Rattle.pb_proof.specs.meaning.Asking.{EndsNumber}
 use Rattle.pb_proof.specs.engine.Line.Rup.{RupState, rup_automaton, rup_first, rup_asks, rup_transition}
-use Rattle.pb_proof.specs.engine.Line.Ids.{IdsState, ids_automaton, ids_first, transition, digits, before, keeps}
+use Rattle.pb_proof.specs.engine.Line.Ids.{IdsState, ids_automaton, ids_first, transition, digits, before, keeps, is_in_number}
 use Rattle.pb_proof.specs.engine.Line.Literals.{LiteralsState, literals_automaton, literals_first, adds, is_more}
 use Rattle.pb_proof.specs.engine.Line.Literals as literals
 use Rattle.pb_proof.specs.engine.Line.ByteKind.{number_byte, name_byte}
 use Rattle.pb_proof.specs.declared.line.rup.phase.RupPhase.{RupPhase}
 use Rattle.pb_proof.specs.declared.line.rup.phase.RupPhase.TheVariants as rup
 use Rattle.pb_proof.specs.declared.line.delete.phase.IdsPhase.{IdsPhase}
-use Rattle.pb_proof.specs.declared.line.delete.phase.IdsPhase.TheVariants.{Start, Gap, Between, Minus, Digits, Closing, Done}
+use Rattle.pb_proof.specs.declared.line.delete.phase.IdsPhase.TheVariants.{Gap, Between, Minus, Digits}
 use Rattle.pb_proof.specs.declared.line.solution.phase.LiteralsPhase.{LiteralsPhase}
 use Rattle.pb_proof.specs.declared.line.solution.phase.LiteralsPhase.TheVariants as at
 use Rattle.pb_proof.specs.declared.line.byte_kind.NumberByte.{NumberByte}
@@ -88,37 +88,22 @@ module _ (limit : ℕ) where
           → keeps (transition top (Digits negative n) (cond x number.Minus (cond y number.Semicolon (cond z number.Feed number.Other)))) ≡ true → is_digit b ≡ false
       dark e x y z h = e
 
+  -- no other byte may allocate
+  quiet : (top : ℕ) (ph : IdsPhase) (k : NumberByte) → is_in_number ph ≡ false → keeps (transition top ph k) ≡ false
+  quiet top Gap number.Blank h = refl
+  quiet top Gap k h = before_quiet top k
+  quiet top Between number.Blank h = refl
+  quiet top Between number.Semicolon h = refl
+  quiet top Between number.Feed h = refl
+  quiet top Between k h = before_quiet top k
+  quiet top Minus (number.Digit d) h = ids_quiet top true 0 d
+  quiet top (Digits negative n) k h = cc
+  quiet top _ number.Blank h = refl
+  quiet top _ _ h = refl
+
   ids_at : (ph : IdsPhase) (top : ℕ) (held : List ℤ) (t : List Letter) (b : ℕ) → ids.prefix top ph held t → keeps (transition top ph (number_byte b)) ≡ true → EndsNumber (bytes t) b
-  ids_at Start top held t b h k = absurd (false≢true (sym (start (number_byte b)) ∙ k))
-    where
-      start : (m : NumberByte) → keeps (transition top Start m) ≡ false
-      start number.Blank = refl
-      start _ = refl
-  ids_at Gap top held t b h k = absurd (false≢true (sym (gap (number_byte b)) ∙ k))
-    where
-      gap : (m : NumberByte) → keeps (transition top Gap m) ≡ false
-      gap number.Blank = refl
-      gap m = before_quiet top m
-  ids_at Between top held t b h k = absurd (false≢true (sym (between (number_byte b)) ∙ k))
-    where
-      between : (m : NumberByte) → keeps (transition top Between m) ≡ false
-      between number.Blank = refl
-      between number.Semicolon = refl
-      between number.Feed = refl
-      between m = before_quiet top m
-  ids_at Minus top held t b h k = absurd (false≢true (sym (minus (number_byte b)) ∙ k))
-    where
-      minus : (m : NumberByte) → keeps (transition top Minus m) ≡ false
-      minus (number.Digit d) = ids_quiet top true 0 d
-      minus _ = refl
   ids_at (Digits negative n) top held t b h k = number_end _ n t b h.1 (asks_dark top negative n b k)
-  ids_at Closing top held t b h k = absurd (false≢true (sym (closing (number_byte b)) ∙ k))
-    where
-      closing : (m : NumberByte) → keeps (transition top Closing m) ≡ false
-      closing number.Blank = refl
-      closing number.Feed = refl
-      closing _ = refl
-  ids_at Done top held t b h k = absurd h
+  ids_at ph top held t b h k = absurd (false≢true (sym (quiet top ph (number_byte b) refl) ∙ k))
 
   pub ids_asked : (top : ℕ) (t : List Letter) (s : IdsState) (b : ℕ) → Walks ids_automaton (ids_first top) t s → ids_automaton.asks s b ≡ true → EndsNumber (bytes t) b
   ids_asked top t s b w h =

@@ -1,5 +1,5 @@
 -- A push of the literals machine does what its transition says.
-use Rattle.std.proofs.Common.{◌≡◌, ℕ, ◌+◌, ◌-◌, ◌^◌, ◌<◌, min, take, get_or, Bool, true, ◌||◌, List, [], length, sym, ap, ◌∙◌}
+use Rattle.std.proofs.Common.{◌≡◌, ℕ, ◌+◌, ◌-◌, ◌^◌, ◌<◌, min, take, get_or, Bool, true, ◌||◌, List, length, sym, ap, ◌∙◌}
 use Rattle.std.proofs.lemmas.List.{take_more}
 use Rattle.std.specs.Prelude.{IsTrue}
 use Rattle.pb_text.specs.contract.Automaton.{Refuse, Admits, IsState}

@@ -24,7 +24,7 @@ use Rattle.pb_proof.specs.engine.Machine.State as state
 use Rattle.pb_proof.specs.engine.Machine.State.{ProofState, proofs, begin, at, idle, giving, act, over, step_line, asks, is_within}
 use Rattle.pb_proof.specs.declared.line.LineMachine.{LineMachine}
 use Rattle.pb_proof.specs.declared.machine.phase.Action.{Action}
-use Rattle.pb_proof.specs.declared.machine.phase.Action.TheVariants.{To, Begin, Give, EndHeader, EndOutput, EndProof, Stop}
+use Rattle.pb_proof.specs.declared.machine.phase.Action.TheVariants.{To, Begin, Give}
 use Rattle.pb_proof.specs.declared.machine.phase.Phase.{Phase}
 use Rattle.pb_proof.specs.declared.machine.phase.Phase.TheVariants as phase
 use Rattle.pb_proof.specs.declared.machine.phase.LineKind.{LineKind}

@@ -1,13 +1,16 @@
 -- A push does what its transition says.
-use Rattle.std.proofs.Common.{◌≡◌, ℕ, ◌<◌, true, List, [], sym, ap, ◌∙◌}
+use Rattle.std.proofs.Common.{◌≡◌, ℕ, ◌<◌, true, List, refl, sym, ap, ◌∙◌}
 use Rattle.std.specs.Prelude.{IsTrue}
-use Rattle.pb_text.specs.contract.Automaton.{Refuse, Admits, IsState}
+use Rattle.pb_text.specs.contract.Automaton.{End, Refuse, Admits, IsState, Pushes}
+use Rattle.pb_text.specs.declared.machine.Push.{Push}
+use Rattle.pb_text.specs.declared.machine.Push.TheVariants as push
 use Rattle.pb_text.proofs.lemmas.text.Booleans.{never}
-use Rattle.pb_text.proofs.lemmas.machine.Outcomes.{go_or_refuse, end_or_refuse}
+use Rattle.pb_text.proofs.lemmas.machine.Outcomes.{go_or_refuse, end_or_refuse, refuse_or_end, go_or_end, end_or_go}
 use Rattle.pb_proof.specs.engine.Line.Pol.{work, act, transition, kind_of, wants, is_midway}
 use Rattle.pb_proof.specs.engine.Line.PolState.{PolState, pol_automaton, over, IsPolInOrder}
 use Rattle.pb_proof.specs.declared.word.PolWord.{PolWord}
 use Rattle.pb_proof.specs.declared.line.pol.phase.Kind.{Kind}
+use Rattle.pb_proof.specs.declared.line.pol.phase.Change.{Change}
 use Rattle.pb_proof.specs.declared.line.pol.phase.Phase.{Phase}
 use Rattle.pb_proof.specs.declared.line.pol.phase.Action.{Action}
 use Rattle.pb_proof.specs.declared.line.pol.phase.Action.TheVariants.{To, Begin, Add, Turn, End as EndLine, Stop}
@@ -31,6 +34,31 @@ moved limit top ws d name ph b k m e f =
 pub asks_for : (s : PolState) (b : ℕ) (m : Action) → m ≡ transition s.limit s.top s.work.depth s.work.phase (kind_of b) → IsPolInOrder s → wants m ≡ true
     → IsTrue (pol_automaton.asks s b) × Admits pol_automaton s b
 asks_for s b m f g w = (ap wants (sym f) ∙ w, pol_admits s b (over s (act s.work b m)) g (ap (λ x. over s (act s.work b x)) (sym f)) (taken s b m w))
+
+no_end : (s new : PolState) (b : ℕ) (m : Action) (e : List PolWord) → ((x : Change) → m ≡ EndLine x → ⊥) → over s (act s.work b m) ≡ End e new → ⊥
+no_end s new b (EndLine x) e n h = n x refl
+no_end s new b Stop e n h = refuse_or_end e new h
+no_end s new b (To q) e n h = go_or_end _ e new h
+no_end s new b (Begin q) e n h = go_or_end _ e new h
+no_end s new b (Add q) e n h = go_or_end _ e new h
+no_end s new b (Turn c q) e n h = go_or_end _ e new h
+
+module _ (s new : PolState) (b : ℕ) (m : Action) (f : m ≡ transition s.limit s.top s.work.depth s.work.phase (kind_of b)) where
+  -- A byte with an action that does not end the line, and that is not taken, changes nothing.
+  pub stays : (r : Push (List PolWord)) → ((x : Change) → m ≡ EndLine x → ⊥) → (r ≡ push.Go → ⊥) → Pushes pol_automaton s b r new → new ≡ s
+  stays push.Go n g p = absurd (g refl)
+  stays (push.Event e) n g p = absurd (no_end s new b m e n (ap (λ x. over s (act s.work b x)) f ∙ p))
+  stays push.No n g p = p.2
+  stays push.Large n g p = p.2
+  stays push.Memory n g p = p.2
+
+  -- Nor does one with an action that ends it.
+  pub waits : (r : Push (List PolWord)) (x : Change) → m ≡ EndLine x → ((e : List PolWord) → r ≡ push.Event e → ⊥) → Pushes pol_automaton s b r new → new ≡ s
+  waits push.Go x i g p = end_or_go _ _ new (ap (λ y. over s (act s.work b y)) (sym i ∙ f) ∙ p)
+  waits (push.Event e) x i g p = absurd (g e refl)
+  waits push.No x i g p = p.2
+  waits push.Large x i g p = p.2
+  waits push.Memory x i g p = p.2
 
 pub same_state : (limit top : ℕ) (ws vs : List PolWord) (d n : ℕ) (name new : List ℕ) (ph q : Phase) → ws ≡ vs → d ≡ n → name ≡ new → ph ≡ q
     → state limit top ws d name ph ≡ state limit top vs n new q

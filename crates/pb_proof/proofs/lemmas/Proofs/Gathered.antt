@@ -13,7 +13,7 @@ use Rattle.pb_proof.specs.meaning.Reading.{AsksInProof}
 use Rattle.pb_proof.specs.declared.read.gather.ProofSoFar.{ProofSoFar}
 use Rattle.pb_proof.specs.declared.proof.Proof.{Proof}
 use Rattle.pb_proof.specs.declared.statement.Statement.{Statement}
-use Rattle.pb_proof.specs.declared.statement.Statement.TheVariants.{Header, F, Pol, Rup, Soli, Solx, Delete, Output, Conclude, End}
+use Rattle.pb_proof.specs.declared.statement.Statement.TheVariants.{Header, F, Output, Conclude, End}
 
 abbrev pub one_more : ProofSoFar → Statement → ProofSoFar
 one_more b e = record { proof = with b.proof e }
@@ -25,14 +25,10 @@ with_steps v steps = record v { steps = v.steps ++ steps }
 step_after : (v : Proof) (s : Statement) → IsStep s → with v s ≡ with_steps v (s ∷ [])
 step_after v Header h = absurd h
 step_after v (F count) h = absurd h
-step_after v (Pol ws) h = refl
-step_after v (Rup c) h = refl
-step_after v (Soli ls) h = refl
-step_after v (Solx ls) h = refl
-step_after v (Delete ids) h = refl
 step_after v Output h = absurd h
 step_after v (Conclude c) h = absurd h
 step_after v End h = absurd h
+step_after v _ h = refl
 
 steps_after : (steps rest : List Statement) (v : Proof) → All IsStep steps → gathered with v (steps ++ rest) ≡ gathered with (with_steps v steps) rest
 steps_after [] rest v h = ap (λ (xs : List Statement). gathered with (record v { steps = xs }) rest) (sym (append-nil v.steps))

@@ -14,7 +14,7 @@ use Rattle.pb_proof.specs.engine.Line.Ended.{ended_lines}
 use Rattle.pb_proof.specs.contract.ValueLaws.{CanonicalProof}
 use Rattle.pb_proof.specs.declared.proof.Proof.{Proof}
 use Rattle.pb_proof.specs.declared.statement.Statement.{Statement}
-use Rattle.pb_proof.specs.declared.statement.Statement.TheVariants.{Header, F, Pol, Rup, Soli, Solx, Delete, Output, Conclude, End}
+use Rattle.pb_proof.specs.declared.statement.Statement.TheVariants.{Header, F, Output, Conclude, End}
 use Rattle.pb_proof.proofs.lemmas.Line.Texts.{line_text, line_bytes, bytes-line}
 use Rattle.pb_proof.proofs.lemmas.Line.Spelled.{line_spelled}
 use Rattle.pb_proof.proofs.lemmas.Written.{ended_none, ended-cons, lines-ended}
@@ -33,14 +33,10 @@ HasFeed s = line_bytes s ≡ statement_bytes s ++ (10 ∷ [])
 step_feeds : (s : Statement) → IsStep s → HasFeed s
 step_feeds Header h = absurd h
 step_feeds (F count) h = absurd h
-step_feeds (Pol ws) h = refl
-step_feeds (Rup c) h = refl
-step_feeds (Soli ls) h = refl
-step_feeds (Solx ls) h = refl
-step_feeds (Delete ids) h = refl
 step_feeds Output h = absurd h
 step_feeds (Conclude c) h = absurd h
 step_feeds End h = absurd h
+step_feeds _ h = refl
 
 bytes-feeds : (xs : List Statement) (rest : List (Item Statement)) → All HasFeed xs → bytes_of (map item_of xs ++ rest) ≡ ended_lines xs ++ bytes_of rest
 bytes-feeds [] rest h = rw ended_none refl

@@ -144,7 +144,3 @@ PhaseFits limit top (phase.Infinity side k) = k < length inf_word
 PhaseFits limit top (phase.Digits side negative n) = n ≤ limit
 PhaseFits limit top (phase.IdDigits owner negative n) = n ≤ top
 PhaseFits limit top _ = Unit {0}
-
-abbrev pub ActionFits : ℕ → ℕ → Action → Type 0
-ActionFits limit top (To p) = PhaseFits limit top p
-ActionFits limit top _ = Unit {0}

@@ -1,7 +1,7 @@
 //! What the machine for conclusions does with a byte, given what it has read last.
 
-ghost use Rattle.std.specs.Prelude.{◌≡◌, ℕ, ◌<◌, ◌≤◌, ◌^◌, length, Bool};
-ghost use Rattle.pb_proof.specs.engine.Line.Conclusion.{word_of, phase_after_word, spell, first_word, digits, begin_bound, phase_after_bound, colon, next_action, between, after_bound, id_digits, after_id, transition, is_within, is_done, is_in_digits, PhaseFits, ActionFits};
+ghost use Rattle.std.specs.Prelude.{◌≡◌, ◌<◌, ◌≤◌, ◌^◌, length};
+ghost use Rattle.pb_proof.specs.engine.Line.Conclusion.{word_of, phase_after_word, spell, first_word, digits, begin_bound, phase_after_bound, colon, next_action, between, after_bound, id_digits, after_id, transition, is_within, is_done, is_in_digits, PhaseFits};
 
 use crate::conclusion::Bound;
 use crate::line::conclusion::phase::{Action, Concluding, Owner, Phase, Showing, Side, Word};
@@ -45,8 +45,7 @@ fn spell(word: &[u8], read: usize, byte: u8, more: Phase, whole: Phase) -> Actio
 
 /// The action for the first byte of a first word.
 fn first_word(byte: u8) -> Action
-    ensures transition { result ≡ first_word byte }
-    ensures fits { (limit top : ℕ) → ActionFits limit top result }
+    ensures { result ≡ first_word byte }
 {
     match byte {
         b'N' => Action::To(Phase::Word(Word::NoClaim, 1)),
@@ -61,8 +60,7 @@ fn first_word(byte: u8) -> Action
 fn digits(limit: u128, side: Side, negative: bool, magnitude: u128, byte: u8) -> Action
     requires room { limit < 2 ^ 127 }
     requires fits { magnitude ≤ limit }
-    ensures transition { result ≡ digits limit side negative magnitude byte }
-    ensures fits { (top : ℕ) → ActionFits limit top result }
+    ensures { result ≡ digits limit side negative magnitude byte }
 {
     if !is_digit(byte) {
         return Action::Stop;
@@ -76,8 +74,7 @@ fn digits(limit: u128, side: Side, negative: bool, magnitude: u128, byte: u8) ->
 /// The action for the first byte of a bound.
 fn begin_bound(limit: u128, side: Side, byte: u8) -> Action
     requires room { limit < 2 ^ 127 }
-    ensures transition { result ≡ begin_bound limit side byte }
-    ensures fits { (top : ℕ) → ActionFits limit top result }
+    ensures { result ≡ begin_bound limit side byte }
 {
     match byte {
         b'+' => Action::To(Phase::Signed(side, false)),
@@ -101,8 +98,7 @@ fn phase_after_bound(side: Side, bound: Bound) -> Phase
 
 /// The action for `:` after a conclusion.
 fn colon(concluding: Concluding) -> Action
-    ensures transition { result ≡ colon concluding }
-    ensures fits { (limit top : ℕ) → ActionFits limit top result }
+    ensures { result ≡ colon concluding }
 {
     match concluding {
         Concluding::Unsat(None) => Action::To(Phase::BeforeId(Owner::Unsat)),
@@ -113,8 +109,7 @@ fn colon(concluding: Concluding) -> Action
 
 /// The action for a byte after a conclusion.
 fn next_action(concluding: Concluding, byte: u8) -> Action
-    ensures transition { result ≡ next_action concluding byte }
-    ensures fits { (limit top : ℕ) → ActionFits limit top result }
+    ensures { result ≡ next_action concluding byte }
 {
     if is_blank(byte) {
         return Action::To(Phase::AfterValue(concluding));
@@ -129,8 +124,7 @@ fn next_action(concluding: Concluding, byte: u8) -> Action
 
 /// The action for a byte after the lower bound.
 fn between(bound: Bound, byte: u8) -> Action
-    ensures transition { result ≡ between bound byte }
-    ensures fits { (limit top : ℕ) → ActionFits limit top result }
+    ensures { result ≡ between bound byte }
 {
     if is_blank(byte) {
         return Action::To(Phase::Spaced(bound));
@@ -143,8 +137,7 @@ fn between(bound: Bound, byte: u8) -> Action
 
 /// The action for a byte after a bound.
 fn after_bound(side: Side, bound: Bound, byte: u8) -> Action
-    ensures transition { result ≡ after_bound side bound byte }
-    ensures fits { (limit top : ℕ) → ActionFits limit top result }
+    ensures { result ≡ after_bound side bound byte }
 {
     match side {
         Side::Lower => between(bound, byte),
@@ -159,8 +152,7 @@ fn after_bound(side: Side, bound: Bound, byte: u8) -> Action
 fn id_digits(top: u64, owner: Owner, negative: bool, magnitude: u64, byte: u8) -> Action
     requires top { top < 2 ^ 63 }
     requires fits { magnitude ≤ top }
-    ensures transition { result ≡ id_digits top owner negative magnitude byte }
-    ensures fits { (limit : ℕ) → ActionFits limit top result }
+    ensures { result ≡ id_digits top owner negative magnitude byte }
 {
     if !is_digit(byte) {
         return Action::Stop;
@@ -173,8 +165,7 @@ fn id_digits(top: u64, owner: Owner, negative: bool, magnitude: u64, byte: u8) -
 
 /// The action for a byte after an id.
 fn after_id(owner: Owner, id: i64, byte: u8) -> Action
-    ensures transition { result ≡ after_id owner id byte }
-    ensures fits { (limit top : ℕ) → ActionFits limit top result }
+    ensures { result ≡ after_id owner id byte }
 {
     match owner {
         Owner::Unsat => next_action(Concluding::Unsat(Some(id)), byte),
@@ -188,8 +179,7 @@ fn after_id(owner: Owner, id: i64, byte: u8) -> Action
 /// The action for a further byte of a first word.
 fn in_word(word: Word, read: usize, byte: u8) -> Action
     requires { read < length (word_of word) }
-    ensures transition { result ≡ transition 0 0 (Phase.Word word read) byte }
-    ensures fits { (limit top : ℕ) → ActionFits limit top result }
+    ensures { result ≡ transition 0 0 (Phase.Word word read) byte }
 {
     let more = Phase::Word(word, read + 1);
     spell(word_of(word), read, byte, more, phase_after_word(word))
@@ -197,8 +187,7 @@ fn in_word(word: Word, read: usize, byte: u8) -> Action
 
 /// The action for a byte after `;`.
 fn semicolon(concluding: Concluding, byte: u8) -> Action
-    ensures transition { result ≡ transition 0 0 (Phase.Semicolon concluding) byte }
-    ensures fits { (limit top : ℕ) → ActionFits limit top result }
+    ensures { result ≡ transition 0 0 (Phase.Semicolon concluding) byte }
 {
     if is_blank(byte) {
         return Action::To(Phase::Semicolon(concluding));
@@ -213,8 +202,7 @@ fn semicolon(concluding: Concluding, byte: u8) -> Action
 fn number(limit: u128, side: Side, negative: bool, magnitude: u128, byte: u8) -> Action
     requires room { limit < 2 ^ 127 }
     requires fits { magnitude ≤ limit }
-    ensures transition { result ≡ transition limit 0 (Phase.Digits side negative magnitude) byte }
-    ensures fits { (top : ℕ) → ActionFits limit top result }
+    ensures { result ≡ transition limit 0 (Phase.Digits side negative magnitude) byte }
 {
     if is_digit(byte) {
         return digits(limit, side, negative, magnitude, byte);
@@ -226,8 +214,7 @@ fn number(limit: u128, side: Side, negative: bool, magnitude: u128, byte: u8) ->
 /// The action for a further byte of `INF`.
 fn infinity(side: Side, read: usize, byte: u8) -> Action
     requires { read < 3 }
-    ensures transition { result ≡ transition 0 0 (Phase.Infinity side read) byte }
-    ensures fits { (limit top : ℕ) → ActionFits limit top result }
+    ensures { result ≡ transition 0 0 (Phase.Infinity side read) byte }
 {
     let more = Phase::Infinity(side, read + 1);
     spell(
@@ -242,8 +229,7 @@ fn infinity(side: Side, read: usize, byte: u8) -> Action
 /// The action for a byte after the lower bound and blanks.
 fn spaced(limit: u128, bound: Bound, byte: u8) -> Action
     requires room { limit < 2 ^ 127 }
-    ensures transition { result ≡ transition limit 0 (Phase.Spaced bound) byte }
-    ensures fits { (top : ℕ) → ActionFits limit top result }
+    ensures { result ≡ transition limit 0 (Phase.Spaced bound) byte }
 {
     if is_blank(byte) {
         return Action::To(Phase::Spaced(bound));
@@ -257,8 +243,7 @@ fn spaced(limit: u128, bound: Bound, byte: u8) -> Action
 /// The action for a byte after `:` and before an id.
 fn before_id(top: u64, owner: Owner, byte: u8) -> Action
     requires top { top < 2 ^ 63 }
-    ensures transition { result ≡ transition 0 top (Phase.BeforeId owner) byte }
-    ensures fits { (limit : ℕ) → ActionFits limit top result }
+    ensures { result ≡ transition 0 top (Phase.BeforeId owner) byte }
 {
     if is_blank(byte) {
         return Action::To(Phase::BeforeId(owner));
@@ -273,8 +258,7 @@ fn before_id(top: u64, owner: Owner, byte: u8) -> Action
 fn id_number(top: u64, owner: Owner, negative: bool, magnitude: u64, byte: u8) -> Action
     requires top { top < 2 ^ 63 }
     requires fits { magnitude ≤ top }
-    ensures transition { result ≡ transition 0 top (Phase.IdDigits owner negative magnitude) byte }
-    ensures fits { (limit : ℕ) → ActionFits limit top result }
+    ensures { result ≡ transition 0 top (Phase.IdDigits owner negative magnitude) byte }
 {
     if is_digit(byte) {
         return id_digits(top, owner, negative, magnitude, byte);
@@ -290,8 +274,7 @@ pub(crate) fn transition(limit: u128, top: u64, phase: Phase, byte: u8) -> Actio
     requires room { limit < 2 ^ 127 }
     requires top { top < 2 ^ 63 }
     requires phase { PhaseFits limit top phase }
-    ensures transition { result ≡ transition limit top phase byte }
-    ensures fits { ActionFits limit top result }
+    ensures { result ≡ transition limit top phase byte }
 {
     match phase {
         Phase::Start | Phase::Before if is_blank(byte) => Action::To(Phase::Before),

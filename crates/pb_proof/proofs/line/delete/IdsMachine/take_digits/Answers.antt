@@ -1,7 +1,6 @@
-use Rattle.std.proofs.Common.{◌≡◌, ◌<◌, take, length, refl, sym, arith, ◌∙◌}
+use Rattle.std.proofs.Common.{◌≡◌, ◌<◌, take, length, sym, arith, ◌∙◌}
 use Rattle.std.proofs.lemmas.List.{length-take-le}
 use Rattle.pb_proof.proofs.lemmas.Ids.AtOnce.{id_runs}
-use Rattle.pb_proof.proofs.lemmas.Ids.Pushes.{midway_state}
 use Rattle.pb_proof.proofs.line.delete.IdsMachine.take_digits.Goals as goal
 
 pub returns-clause-runs : goal.returns-clause-runs
@@ -12,6 +11,3 @@ returns-clause-runs c = rw (← c.self.view_is) (
     id_runs c.self.inside.top c.self.inside.ids c.self.invariant.0 c.self.invariant.1 c.self.inside.phase (take n c.args.text.now) c.number_prefix-count.result.1
     (sym c.begins_id.ensures ∙ c.if-not-begins_id.false) c.number_prefix-count.ensures.digits some c.number_prefix-count.ensures.value c.if-value-self.false
     )
-
-pub returns-clause-state : goal.returns-clause-state
-returns-clause-state c = midway_state c.self.inside.top c.self.inside.ids _ c.self.invariant.0 c.self.invariant.1 c.if-value-self.false refl

@@ -1,4 +1,4 @@
-use Rattle.std.proofs.Common.{◌≡◌, List, [], ◌∷◌, ◌++◌, not, take, pos, suc, ◌+◌, ◌<◌, ◌^◌, refl, sym, ap, subst, arith, ◌∙◌}
+use Rattle.std.proofs.Common.{◌≡◌, List, [], ◌∷◌, ◌++◌, not, take, pos, suc, ◌+◌, ◌<◌, ◌^◌, sym, ap, subst, arith, ◌∙◌}
 use Rattle.std.specs.Int.{w64}
 use Rattle.std.specs.Option.{is_some}
 use Rattle.std.proofs.lemmas.Int.{to_z_pos}
@@ -9,7 +9,7 @@ use Rattle.pb_proof.specs.declared.word.PolWord.TheVariants.{Id}
 use Rattle.pb_proof.specs.declared.line.pol.phase.Phase.TheVariants as phase
 use Rattle.pb_proof.proofs.lemmas.Pol.AtOnce.{id_runs}
 use Rattle.pb_proof.proofs.lemmas.Pol.Covers.{state}
-use Rattle.pb_proof.proofs.lemmas.Pol.Pushes.{same_state, midway_state}
+use Rattle.pb_proof.proofs.lemmas.Pol.Pushes.{same_state}
 use Rattle.pb_proof.proofs.line.pol.PolMachine.take_id.Goals as goal
 
 pub returns-clause-runs : goal.returns-clause-runs
@@ -31,6 +31,3 @@ returns-clause-runs c = rw (← c.self.view_is) (
     (id_runs limit top depth ws c.self.inside.name c.self.invariant.4.0 c.self.inside.phase prefix c.in-Some.id
     (ap is_some (sym c.held_before.ensures) ∙ (c.is_none.ensures ∙ ap not c.if-is_none.false)) c.in-Some.ensures.id)
     )
-
-pub returns-clause-state : goal.returns-clause-state
-returns-clause-state c = midway_state c.self.inside.limit c.self.inside.top _ _ _ (phase.Gap c.held_number.result) c.self.invariant.4.0 refl

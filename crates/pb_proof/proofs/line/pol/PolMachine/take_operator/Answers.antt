@@ -1,11 +1,9 @@
 use Rattle.std.proofs.Common.{take, refl, sym, subst}
 use Rattle.pb_text.specs.contract.Automaton.{Runs}
 use Rattle.pb_proof.specs.engine.Line.PolState.{PolState, pol_automaton}
-use Rattle.pb_proof.specs.declared.line.pol.phase.Held.TheVariants as held
-use Rattle.pb_proof.specs.declared.line.pol.phase.Phase.TheVariants as phase
 use Rattle.pb_proof.proofs.lemmas.Pol.AtOnce.{operator_runs}
 use Rattle.pb_proof.proofs.lemmas.Pol.Covers.{state}
-use Rattle.pb_proof.proofs.lemmas.Pol.Pushes.{same_state, midway_state}
+use Rattle.pb_proof.proofs.lemmas.Pol.Pushes.{same_state}
 use Rattle.pb_text.proofs.lemmas.text.Results.{when_ok}
 use Rattle.pb_proof.proofs.line.pol.PolMachine.take_operator.Goals as goal
 
@@ -21,6 +19,3 @@ returns-clause-runs c = rw (← c.self.view_is) (
     (operator_runs limit top depth ws c.self.inside.name c.self.invariant.4.0 c.self.inside.phase c.in-Some.held c.in-Some-operator.change c.args.text.now
     c.in-Some.ensures c.in-Some-operator.ensures c.if-text-lt2.false c.if-text-ne32.false)
     )
-
-pub returns-clause-state : goal.returns-clause-state
-returns-clause-state c = midway_state c.self.inside.limit c.self.inside.top _ _ _ (phase.Gap held.Nothing) c.self.invariant.4.0 refl
