@@ -34,10 +34,6 @@ puts-other a b list l m among = record {
   forced = m.forced;
 }
 
-pub only-one : (x y : Shape) → Contains (x ∷ []) y → x ≡ y
-only-one x y (zero, inside, is) = is
-only-one x y (suc i, inside, is) = absurd (omega (arith, inside))
-
 -- a derivation holds among more constraints
 pub derives-within : (a b : List Shape) (given list : List NumberedLiteral) → ((x : Shape) → Contains a x → Contains b x) → Derives a given list → Derives b given list
 derives-within a b given _ h begin = begin
