@@ -12,7 +12,7 @@ use Rattle.pb_propagate.specs.declared.store.Store.{Store}
 use Rattle.pb_propagate.specs.declared.store.stored_form.StoredForm.{StoredForm}
 use Rattle.pb_propagate.specs.declared.clauses.Clauses.{Clauses}
 use Rattle.pb_propagate.specs.declared.clauses.lists.Watch.{Watch}
-use Rattle.pb_propagate.specs.engine.Engine.Lists.{Shape, HaveReasons, open_sum, size, has}
+use Rattle.pb_propagate.specs.engine.Engine.Lists.{Shape, HaveReasons, open_sum, size}
 use Rattle.pb_propagate.specs.engine.Engine.Counts.{Grown, pushed, spared, IsAbsent, IsCalm, IsCounted, IsTidy, beside, weight_in}
 use Rattle.pb_propagate.specs.engine.Engine.Fields.{shapes_of, forms_of, stored_shape}
 use Rattle.pb_propagate.specs.engine.Engine.Root.{IsRooted, IsServed, HasForm, HasGained, HasReached}

@@ -1,6 +1,6 @@
 -- Literals that forms force with nothing assumed.
 use Rattle.std.specs.Prelude.{Bool, true, false, Contains, map, sum_by, Some, slice_get, slice_index_or}
-use Rattle.std.proofs.Common.{◌≡◌, ℕ, zero, suc, ◌+◌, ◌<◌, ◌≤◌, ◌++◌, ◌∷◌, [], List, refl, sym, ◌∙◌, ap, subst, arith, inl, inr, length, get_or, set, length-append, get_or-set_other}
+use Rattle.std.proofs.Common.{◌≡◌, ℕ, ◌+◌, ◌<◌, ◌≤◌, ◌++◌, ◌∷◌, [], List, refl, sym, ◌∙◌, ap, subst, arith, inl, inr, length, get_or, set, length-append, get_or-set_other}
 use Rattle.std.proofs.lemmas.Bool.{cases_lt, both_ways, or_left, or_right}
 use Rattle.std.proofs.lemmas.List.{get_or_past, set_past, get_or-map, length-map, get_or_default}
 use Rattle.std.proofs.lemmas.List.Sums.{sum_by-set, sum_by_push, sum_by-cons}
@@ -33,10 +33,6 @@ puts-other a b list l m among = record {
   term = m.term;
   forced = m.forced;
 }
-
-pub only-one : (x y : Shape) → Contains (x ∷ []) y → x ≡ y
-only-one x y (zero, inside, is) = is
-only-one x y (suc i, inside, is) = absurd (omega (arith, inside))
 
 -- a derivation holds among more constraints
 pub derives-within : (a b : List Shape) (given list : List NumberedLiteral) → ((x : Shape) → Contains a x → Contains b x) → Derives a given list → Derives b given list

@@ -1,5 +1,5 @@
-use Rattle.std.specs.Prelude.{Some, true, false, slice_get}
-use Rattle.std.proofs.Common.{◌≡◌, ◌<◌, sym, ap, ◌∙◌, arith, length}
+use Rattle.std.specs.Prelude.{Some}
+use Rattle.std.proofs.Common.{◌<◌, sym, ap, ◌∙◌, arith, length}
 use Rattle.std.proofs.lemmas.Bool.{both_ways}
 use Rattle.std.proofs.lemmas.List.{get_or_read}
 use Rattle.std.proofs.lemmas.Option.{slice_get-get_or}

@@ -14,6 +14,7 @@ use Rattle.pb_propagate.proofs.lemmas.root.Fallen.{fallen-conflicts}
 use Rattle.pb_propagate.proofs.lemmas.root.Roots.{none-walked}
 use Rattle.pb_propagate.proofs.lemmas.root.Transplants.{clash-refuted, root-clash, ended-made, map-none, map-some}
 use Rattle.pb_propagate.proofs.lemmas.store.Placed.{placed-kept}
+use Rattle.pb_propagate.proofs.lemmas.engine.Reasoned.{reasons-derive}
 use Rattle.pb_propagate.proofs.engine.Engine.complete.Goals as goal
 
 -- a completion that continues from the root
@@ -221,5 +222,5 @@ returns-then-self-clause-conflict c =
     let kept = placed-kept forms e.places.items shapes both.1 (slots-kept forms shapes both.0.slots) in
     let fallen = both.3 c.if-self.true in
     let list = e.root.run.assignment.list.items in
-    let clash = clash-refuted shapes list c.args.given.now fallen.derived (root-clash shapes list c.args.given.now (fallen-conflicts shapes e.store.variables e.root fallen)) in
+    let clash = clash-refuted shapes list c.args.given.now (reasons-derive fallen.reasoned) (root-clash shapes list c.args.given.now (fallen-conflicts shapes e.store.variables e.root fallen)) in
     rw (← c.self.view_is) (refuted-meets (Live (numbered forms e.places.items)) shapes c.args.given.now clash.0 kept clash.1)

@@ -1,5 +1,5 @@
 use Rattle.std.specs.Prelude.{Bool, Option}
-use Rattle.std.proofs.Common.{Vec, Global, ◌≡◌, ◌<◌, ◌*◌, ℕ, sym, ◌∙◌, ap, subst, inl, inr, arith, length, get_or}
+use Rattle.std.proofs.Common.{Vec, Global, ◌≡◌, sym, ◌∙◌, ap, subst, inl, inr, arith, length, get_or}
 use Rattle.std.proofs.lemmas.Bool.{cases_eq}
 use Rattle.std.proofs.lemmas.List.{get_or_default}
 use Rattle.pb_normal.specs.declared.numbered.NumberedLiteral.{NumberedLiteral}

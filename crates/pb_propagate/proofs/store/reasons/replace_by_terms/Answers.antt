@@ -1,8 +1,7 @@
 use Rattle.std.specs.Prelude.{Bool, Option}
-use Rattle.std.proofs.Common.{Vec, Global, ◌≡◌, ◌<◌, ◌∷◌, [], ℕ, List, sym, ◌∙◌, ap, subst, inl, inr, arith, length, get_or}
+use Rattle.std.proofs.Common.{Vec, Global, ◌≡◌, ◌<◌, [], ℕ, List, sym, ◌∙◌, ap, subst, inl, inr, arith, length, get_or}
 use Rattle.std.proofs.lemmas.Bool.{cases_eq}
 use Rattle.std.proofs.lemmas.List.{length-map}
-use Rattle.pb_normal.specs.declared.numbered.NumberedLiteral.{NumberedLiteral}
 use Rattle.pb_propagate.specs.declared.store.Store.{Store}
 use Rattle.pb_propagate.specs.declared.store.stored_form.StoredForm.{StoredForm}
 use Rattle.pb_propagate.specs.declared.term.Term.{Term}

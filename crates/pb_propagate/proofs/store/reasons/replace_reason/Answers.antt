@@ -1,6 +1,6 @@
 use Rattle.std.proofs.Common.{arith}
 use Rattle.pb_propagate.specs.engine.Engine.Fields.{shapes_of}
-use Rattle.pb_propagate.proofs.lemmas.root.Replaced.{same-reasons, explained-reasons, explained-needless}
+use Rattle.pb_propagate.proofs.lemmas.root.Replaced.{explained-reasons, explained-needless}
 use Rattle.pb_propagate.proofs.store.reasons.replace_reason.Goals as goal
 
 pub returns-clause-reasons : goal.returns-clause-reasons
