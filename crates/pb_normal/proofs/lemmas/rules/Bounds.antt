@@ -1,10 +1,9 @@
 -- The size and the degree of a sum are at most those of both forms together.
-use Rattle.std.proofs.Common.{inl, inr, ◌≡◌, ℕ, zero, suc, ◌+◌, ◌^◌, pos, ◌+ℤ◌, ◌<◌, ◌≤◌, ◌⊎◌, max, Bool, true, false, not, cond, ltb, IsTrue, ◌↔◌, List, [], ◌∷◌, refl, arith, rules, tests}
+use Rattle.std.proofs.Common.{inl, inr, ◌≡◌, ℕ, zero, suc, ◌+◌, pos, ◌+ℤ◌, ◌<◌, ◌≤◌, ◌⊎◌, max, Bool, true, false, not, cond, ltb, IsTrue, ◌↔◌, List, [], ◌∷◌, refl, arith, rules, tests}
 use Rattle.std.proofs.lemmas.Bool.{cases_eq, cases_lt}
 use Rattle.std.proofs.lemmas.Int.{ints}
 use Rattle.pb_normal.specs.declared.entry.Entry.{Entry}
-use Rattle.pb_normal.specs.engine.Adds.{SumFits}
-use Rattle.pb_normal.specs.meaning.Form.{Form, size, low, bound, total, each, negative, plain_of, negated_of, IsRising, IsWithin}
+use Rattle.pb_normal.specs.meaning.Form.{Form, size, low, bound, total, each, negative, plain_of, negated_of, IsRising}
 use Rattle.pb_normal.specs.meaning.Rules.{IsSum, SumMeasures, SumPasses}
 use Rattle.pb_normal.proofs.lemmas.rules.Measures.{SumPasses-not}
 use Rattle.pb_normal.proofs.lemmas.rules.Sums.{at_least_0-le, IsSum-swap}
@@ -70,21 +69,6 @@ degree-sum-le f g r s =
 pub SumPasses-small : (limit : ℕ) (f g : Form) → size f + size g ≤ limit → f.degree + g.degree ≤ limit → SumPasses limit f g → ⊥
 SumPasses-small limit f g p q w =
     elim w.2 [ inl h ↦ omega (arith, total-sum-le each f g w.0 w.1) | inr h ↦ omega (arith, degree-sum-le f g w.0 w.1) ]
-
--- a sum that does not exceed the limit is within it
-within_or_not : (limit n : ℕ) → (limit < n → ⊥) → n ≤ limit
-within_or_not limit n never = elim (cases_lt limit n) [ inl h ↦ absurd (never h) | inr le ↦ le ]
-
-pub IsWithin-sum : (limit : ℕ) (f g r : Form) → (SumPasses limit f g → ⊥) → IsSum f g r → IsWithin limit r
-IsWithin-sum limit f g r never s = record {
-  size_in = within_or_not limit (size r) (λ h. never (r, s, inl h));
-  degree_in = within_or_not limit r.degree (λ h. never (r, s, inr h));
-}
-
-pub SumFits-within : (limit : ℕ) (f g : Form) → limit < 2 ^ 127 → (SumPasses limit f g → ⊥) → SumFits f g
-SumFits-within limit f g room never r s =
-    let w = IsWithin-sum limit f g r never s in
-    record { ordered = s.ordered; size_in = omega (arith, w.size_in); degree_in = omega (arith, w.degree_in) }
 
 -- the measures of the sum decide
 pub SumPasses-measured : (limit : ℕ) (f g : Form) (s d : ℕ) → SumMeasures f g s d → (limit < s) ⊎ (limit < d) → SumPasses limit f g

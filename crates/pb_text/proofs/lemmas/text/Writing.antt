@@ -1,7 +1,7 @@
 -- Texts that are written consecutively. Offered to other crates.
 use Rattle.std.proofs.lemmas.List.{take_rest}
 use Rattle.std.proofs.Common.{◌≡◌, ℕ, ◌-◌, length, take, drop, take-append-drop, List, [], ◌++◌, Option, Some, None, Result, Ok, Err, refl, sym, ap, ◌∙◌, append_assoc, append-nil}
-use Rattle.std.specs.Io.KnownBytes.{Appends, Keeps}
+use Rattle.std.specs.Io.KnownBytes.{Appends}
 use Rattle.pb_text.specs.meaning.Writing.{Takes, Wrote, Broke, Writes, one_more}
 use Rattle.pb_text.specs.declared.source.Failed.{Failed}
 
@@ -14,11 +14,6 @@ Appends-append None b c x y h k = tt
 Appends-append (Some a) None c x y h k = absurd h
 Appends-append (Some a) (Some b) None x y h k = absurd k
 Appends-append (Some a) (Some b) (Some c) x y h k = k ∙ (ap (λ (z : List ℕ). z ++ y) h ∙ append_assoc a x y)
-
-pub Keeps-appends : (a b : Option (List ℕ)) → Keeps a b → Appends a b []
-Keeps-appends None b h = tt
-Keeps-appends (Some a) None h = absurd h
-Keeps-appends (Some a) (Some b) h = h ∙ sym (append-nil a)
 
 module _ {S : Type 0} (contents : S → Option (List ℕ)) (faults : S → ℕ) where
   pub writes_nothing : (s : S) → Writes contents faults s [] (Ok tt) s
