@@ -26,7 +26,8 @@ fn add_side(
     limits: Limits,
     forms: &mut Vec<Normal>,
 ) -> Result<(), NormalFault>
-    ensures forms { OnOk result ((added : Form) × AreFormsOf names.new ((side, constraint.now) ∷ []) (added ∷ []) ×
+    ensures forms { OnOk result ((added : Form) × AreFormsOf names.new ((side, constraint.now) ∷ [])
+        (added ∷ []) ×
         (forms.new.items ≡ forms.old.items ++ added ∷ [])) }
     ensures names { OnOk result (names.new ≡ with_names names.old (names_of constraint.now.terms)) }
     ensures named { OnOk result (HasNames names.new (names_of constraint.now.terms)) }
@@ -65,7 +66,8 @@ fn add(
 // Tests each constraint, before anything is allocated.
 fn test(constraints: &[Linear], limits: Limits) -> Result<(), NormalFault>
     ensures ok { OnOk result (All (Fits (largest limits)) constraints.now) }
-    ensures err { IfErr result (λ e. (e ≡ NormalFault.Overflow) × (c : Written) × Contains constraints.now c × ¬ Fits (largest limits) c) }
+    ensures err { IfErr result (λ e. (e ≡ NormalFault.Overflow) × (c : Written) ×
+        Contains constraints.now c × ¬ Fits (largest limits) c) }
 {
     for tested in constraints {
         if !fits(tested, limits) {
@@ -87,13 +89,15 @@ pub fn load(
     limits: Limits,
 ) -> Result<Vec<Normal>, NormalFault>
     ensures forms { IfOk result (λ v. AreFormsOf names.new (sides_in constraints.now) v.items) }
-    ensures names { OnOk result (names.new ≡ with_names names.old (constraint_names constraints.now)) }
+    ensures names { OnOk result (names.new ≡ with_names names.old
+        (constraint_names constraints.now)) }
     ensures fits { OnOk result (All (Fits (largest limits)) constraints.now) }
     ensures overflow { result ≡ Err NormalFault.Overflow →
         (c : Written) × Contains constraints.now c × ¬ Fits (largest limits) c }
     ensures memory { result ≡ Err NormalFault.Memory → All (Fits (largest limits)) constraints.now }
     ensures unchanged { result ≡ Err NormalFault.Overflow → names.new ≡ names.old }
-    ensures err { OnErr result (AfterPrefix names.old (constraint_names constraints.now) names.new) }
+    ensures err { OnErr result
+        (AfterPrefix names.old (constraint_names constraints.now) names.new) }
 {
     names.report_distinct();
     match test(constraints, limits) {
@@ -111,8 +115,10 @@ fn load_tested(
 ) -> Result<Vec<Normal>, NormalFault>
     requires { All (Fits (largest limits)) constraints.now }
     ensures forms { IfOk result (λ v. AreFormsOf names.new (sides_in constraints.now) v.items) }
-    ensures names { OnOk result (names.new ≡ with_names names.old (constraint_names constraints.now)) }
-    ensures err { IfErr result (λ e. (e ≡ NormalFault.Memory) × AfterPrefix names.old (constraint_names constraints.now) names.new) }
+    ensures names { OnOk result (names.new ≡ with_names names.old
+        (constraint_names constraints.now)) }
+    ensures err { IfErr result (λ e. (e ≡ NormalFault.Memory) ×
+        AfterPrefix names.old (constraint_names constraints.now) names.new) }
 {
     names.report_distinct();
     let mut forms = Vec::with_capacity(alloc, constraints.len())?;

@@ -47,36 +47,43 @@ pub fn written_forms_are_exact()
         SameAsForm names linear r }
     ensures equal { (names : List (List ℕ)) (linear : Linear) (r s : Form) →
         AreDistinct names → HasNames names (names_of linear.terms) →
-        IsSideOf names Side.AtLeast linear r → IsSideOf names Side.AtMost linear s → linear.relation ≡ Equal →
+        IsSideOf names Side.AtLeast linear r → IsSideOf names Side.AtMost linear s →
+        linear.relation ≡ Equal →
         SameAsForms names linear r s }
     ensures more_names { (names more : List (List ℕ)) (side : Side) (linear : Linear) (r : Form) →
         AreDistinct (names ++ more) → HasNames names (names_of linear.terms) →
         IsSideOf names side linear r → IsSideOf (names ++ more) side linear r }
     ensures written { (names : List (List ℕ)) (f : Form) → SameAsForm names (linear_of names f) f }
     ensures written_alike { (names more : List (List ℕ)) (f : Form) →
-        All (λ t. t.variable < length names) f.terms → linear_of (names ++ more) f ≡ linear_of names f }
+        All (λ t. t.variable < length names) f.terms →
+        linear_of (names ++ more) f ≡ linear_of names f }
 {}
 
 /// After other names appear, the names before them have the same numbers, and each of the others has a number. If the
 /// names were distinct, they still are. If each of the others had a number, no name is new.
 pub fn names_keep_their_numbers()
-    ensures prefix { (names others : List (List ℕ)) → (more : List (List ℕ)) × (with_names names others ≡ names ++ more) }
+    ensures prefix { (names others : List (List ℕ)) → (more : List (List ℕ)) ×
+        (with_names names others ≡ names ++ more) }
     ensures named { (names others : List (List ℕ)) → HasNames (with_names names others) others }
-    ensures distinct { (names others : List (List ℕ)) → AreDistinct names → AreDistinct (with_names names others) }
-    ensures present { (names others : List (List ℕ)) → HasNames names others → with_names names others ≡ names }
+    ensures distinct { (names others : List (List ℕ)) → AreDistinct names →
+        AreDistinct (with_names names others) }
+    ensures present { (names others : List (List ℕ)) → HasNames names others →
+        with_names names others ≡ names }
     ensures in_turn { (names others further : List (List ℕ)) →
         with_names names (others ++ further) ≡ with_names (with_names names others) further }
 {}
 
 /// The result of a rule has no other variables than its operands have.
 pub fn rules_keep_variables()
-    ensures sum { (p : ℕ → Bool) (f g r : Form) → IsSum f g r → IsOver p f → IsOver p g → IsOver p r }
+    ensures sum { (p : ℕ → Bool) (f g r : Form) → IsSum f g r → IsOver p f → IsOver p g →
+        IsOver p r }
     ensures product { (p : ℕ → Bool) (k : ℕ) (f : Form) → IsOver p f → IsOver p (multiplied k f) }
     ensures quotient { (p : ℕ → Bool) (k : ℕ) (f : Form) → IsOver p f → IsOver p (divided k f) }
     ensures saturation { (p : ℕ → Bool) (f : Form) → IsOver p f → IsOver p (saturated f) }
     ensures weakening { (p : ℕ → Bool) (x : ℕ) (f : Form) → IsOver p f → IsOver p (weakened x f) }
     ensures negation { (p : ℕ → Bool) (f : Form) → IsOver p f → IsOver p (negation_of f) }
-    ensures below { (n : ℕ) (f : Form) → IsOver (λ v. nat_lt v n) f ↔ All (λ t. t.variable < n) f.terms }
+    ensures below { (n : ℕ) (f : Form) →
+        IsOver (λ v. nat_lt v n) f ↔ All (λ t. t.variable < n) f.terms }
 {}
 
 /// Whether a form holds depends on the values of its variables only. The coefficients of any choice of literals add up
@@ -98,5 +105,6 @@ pub fn numbers_are_places()
         number_in (names ++ more) name ≡ number_in names name }
     ensures remains { (names more : List (List ℕ)) (name : List ℕ) → has_name names name ≡ true →
         has_name (names ++ more) name ≡ true }
-    ensures all_remain { (names more others : List (List ℕ)) → HasNames names others → HasNames (names ++ more) others }
+    ensures all_remain { (names more others : List (List ℕ)) → HasNames names others →
+        HasNames (names ++ more) others }
 {}

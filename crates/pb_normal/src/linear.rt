@@ -35,7 +35,8 @@ impl Normal {
         ensures normal { IfOk result (λ r. IsNormal r) }
         ensures within { IfOk result (λ r. IsWithin (largest limits) r) }
         ensures same { IfOk result (λ r. SameSolutions names.new side linear.now r) }
-        ensures overflow { (result ≡ Err NormalFault.Overflow) ↔ (largest limits < magnitude linear.now.terms + unsigned_abs linear.now.degree) }
+        ensures overflow { (result ≡ Err NormalFault.Overflow) ↔ (largest limits < magnitude
+            linear.now.terms + unsigned_abs linear.now.degree) }
         ensures names { OnOk result (names.new ≡ with_names names.old (names_of linear.now.terms)) }
         ensures named { OnOk result (HasNames names.new (names_of linear.now.terms)) }
         ensures unchanged { result ≡ Err NormalFault.Overflow → names.new ≡ names.old }
@@ -111,7 +112,8 @@ fn numbered(
     requires names_distinct { AreDistinct names.old }
     ensures names { OnOk result (names.new ≡ with_names names.old (names_of terms.now)) }
     ensures named { OnOk result (HasNames names.new (names_of terms.now)) }
-    ensures entries { IfOk result (λ v. v.items ≡ map (raw_of names.new) (side_terms side terms.now)) }
+    ensures entries { IfOk result (λ v. v.items ≡ map (raw_of names.new)
+        (side_terms side terms.now)) }
     ensures err { OnErr result (AfterPrefix names.old (names_of terms.now) names.new) }
     ensures distinct { AreDistinct names.new }
 {

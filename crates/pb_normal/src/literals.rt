@@ -19,7 +19,8 @@ impl Normal {
         literals: &[NumberedLiteral],
         degree: u128,
     ) -> Result<Normal, NormalFault>
-        requires apart { (x : ℕ) → on literals.now x true ≡ true → on literals.now x false ≡ true → ⊥ }
+        requires apart { (x : ℕ) → on literals.now x true ≡ true →
+            on literals.now x false ≡ true → ⊥ }
         requires small { degree < 2 ^ 127 }
         ensures count { IfOk result (λ r. IsCountOf literals.now degree r) }
         ensures normal { IfOk result (λ r. IsNormal r) }

@@ -71,7 +71,8 @@ impl Names {
 
     /// The number of a name, or `None` if it has none.
     pub fn number_of(&self, name: &str) -> Option<usize>
-        ensures number { result ≡ (if has_name self.now name.now then Some (number_in self.now name.now) else None) }
+        ensures number { result ≡ (if has_name self.now name.now then Some
+            (number_in self.now name.now) else None) }
         ensures named { IfSome result (λ n. slice_get self.now n ≡ Some name.now) }
     {
         self.set.get_index_of(name)

@@ -22,7 +22,8 @@ impl Normal {
         ensures sum { IfOk result (λ r. IsSum self.now other.now r) }
         ensures normal { IfOk result (λ r. IsNormal r) }
         ensures within { IfOk result (λ r. IsWithin (largest limits) r) }
-        ensures overflow { (result ≡ Err NormalFault.Overflow) ↔ SumPasses (largest limits) self.now other.now }
+        ensures overflow { (result ≡ Err NormalFault.Overflow) ↔ SumPasses
+            (largest limits) self.now other.now }
         ensures sound { IfOk result (λ r. FollowsBoth self.now other.now r) }
     {
         let limit = limits.largest();
@@ -54,7 +55,8 @@ impl Normal {
         ensures product { IfOk result (λ r. r ≡ multiplied (unsigned_abs factor) self.now) }
         ensures normal { IfOk result (λ r. IsNormal r) }
         ensures within { IfOk result (λ r. IsWithin (largest limits) r) }
-        ensures overflow { (result ≡ Err NormalFault.Overflow) ↔ Passes (largest limits) (multiplied (unsigned_abs factor) self.now) }
+        ensures overflow { (result ≡ Err NormalFault.Overflow) ↔ Passes (largest limits)
+            (multiplied (unsigned_abs factor) self.now) }
         ensures sound { IfOk result (λ r. Follows self.now r) }
     {
         let k = factor.unsigned_abs();
@@ -169,7 +171,8 @@ fn measures_of_sum(left: &Normal, right: &Normal) -> (u128, u128)
 
 fn multiplied_terms(alloc: Global, terms: &[Entry], k: u128) -> Result<Vec<Entry>, AllocError>
     requires { All (λ t. t.coefficient * k < 2 ^ 128) terms.now }
-    ensures { IfOk result (λ v. v.items ≡ map (λ t. with_coefficient t (t.coefficient * k)) terms.now) }
+    ensures { IfOk result (λ v.
+        v.items ≡ map (λ t. with_coefficient t (t.coefficient * k)) terms.now) }
 {
     let mut out = Vec::with_capacity(alloc, terms.len())?;
     out.extend(
@@ -183,7 +186,8 @@ fn multiplied_terms(alloc: Global, terms: &[Entry], k: u128) -> Result<Vec<Entry
 
 fn divided_terms(alloc: Global, terms: &[Entry], k: u128) -> Result<Vec<Entry>, AllocError>
     requires { 0 < k }
-    ensures { IfOk result (λ v. v.items ≡ map (λ t. with_coefficient t (div_ceil t.coefficient k)) terms.now) }
+    ensures { IfOk result (λ v.
+        v.items ≡ map (λ t. with_coefficient t (div_ceil t.coefficient k)) terms.now) }
 {
     let mut out = Vec::with_capacity(alloc, terms.len())?;
     out.extend(
@@ -196,7 +200,8 @@ fn divided_terms(alloc: Global, terms: &[Entry], k: u128) -> Result<Vec<Entry>, 
 }
 
 fn saturated_terms(alloc: Global, terms: &[Entry], degree: u128) -> Result<Vec<Entry>, AllocError>
-    ensures { IfOk result (λ v. v.items ≡ filter (λ t. nat_lt 0 t.coefficient) (map (λ t. with_coefficient t (min t.coefficient degree)) terms.now)) }
+    ensures { IfOk result (λ v. v.items ≡ filter (λ t. nat_lt 0 t.coefficient)
+        (map (λ t. with_coefficient t (min t.coefficient degree)) terms.now)) }
 {
     let mut out = Vec::with_capacity(alloc, terms.len())?;
     out.extend(

@@ -83,7 +83,8 @@ impl<'a> Sum<'a> {
     pub fn add(self, alloc: Global, other: Sum<'a>, limits: Limits) -> Result<Sum<'a>, NormalFault>
         ensures sum { IfOk result (λ r. IsSum self.entry other.entry r) }
         ensures within { IfOk result (λ r. IsWithin (largest limits) r) }
-        ensures overflow { (result ≡ Err NormalFault.Overflow) ↔ SumPasses (largest limits) self.entry other.entry }
+        ensures overflow { (result ≡ Err NormalFault.Overflow) ↔ SumPasses
+            (largest limits) self.entry other.entry }
     {
         if self.len() < other.len() {
             return other.take(alloc, self, limits);
@@ -95,7 +96,8 @@ impl<'a> Sum<'a> {
     fn take(self, alloc: Global, other: Sum<'a>, limits: Limits) -> Result<Sum<'a>, NormalFault>
         ensures sum { IfOk result (λ r. IsSum self.entry other.entry r) }
         ensures within { IfOk result (λ r. IsWithin (largest limits) r) }
-        ensures overflow { (result ≡ Err NormalFault.Overflow) ↔ SumPasses (largest limits) self.entry other.entry }
+        ensures overflow { (result ≡ Err NormalFault.Overflow) ↔ SumPasses
+            (largest limits) self.entry other.entry }
     {
         if self.kind.sum_exceeds(&other.kind, limits.largest()) {
             return Err(NormalFault::Overflow);
@@ -138,7 +140,8 @@ impl<'a> Sum<'a> {
         requires { pos 1 ≤ℤ factor }
         ensures product { IfOk result (λ r. r ≡ multiplied (unsigned_abs factor) self.entry) }
         ensures within { IfOk result (λ r. IsWithin (largest limits) r) }
-        ensures overflow { (result ≡ Err NormalFault.Overflow) ↔ Passes (largest limits) (multiplied (unsigned_abs factor) self.entry) }
+        ensures overflow { (result ≡ Err NormalFault.Overflow) ↔ Passes (largest limits)
+            (multiplied (unsigned_abs factor) self.entry) }
     {
         let k = factor.unsigned_abs();
         let most = limits.largest() / k;

@@ -135,7 +135,8 @@ fn take_out(terms: &mut BTreeMap<usize, Entry>, variable: usize) -> u128
     requires keyed { IsKeyed terms.old }
     requires rising { IsRising 0 (values terms.old) }
     ensures keyed { IsKeyed terms.new }
-    ensures weakened { values terms.new ≡ filter (λ t. not (t.variable == variable)) (values terms.old) }
+    ensures weakened { values terms.new ≡ filter (λ t. not (t.variable == variable))
+        (values terms.old) }
     ensures dropped { result ≡ total (of_variable variable) (values terms.old) }
     ensures size { total each (values terms.new) + result ≡ total each (values terms.old) }
 {
@@ -196,7 +197,8 @@ fn put(terms: &mut BTreeMap<usize, Entry>, term: Entry) -> Result<u128, AllocErr
     requires fits { total each (values terms.old) + term.coefficient < 2 ^ 128 }
     ensures keyed { IfOk result (λ _. IsKeyed terms.new) }
     ensures rising { IfOk result (λ _. IsRising 0 (values terms.new)) }
-    ensures adds { IfOk result (λ gone. Adds (values terms.old) (term ∷ []) (values terms.new) gone) }
+    ensures adds { IfOk result (λ gone. Adds (values terms.old) (term ∷ [])
+        (values terms.new) gone) }
 {
     let Some(before) = terms.insert(term.variable, term)? else {
         return Ok(0);

@@ -49,7 +49,8 @@ impl Gather for InstanceSoFar {
 
     type Event = OpbEvent;
 
-    ghost with = { λ b e. record { instance = with b.ended b.instance e; ended = ended_with b.ended e } };
+    ghost with = { λ b e.
+        record { instance = with b.ended b.instance e; ended = ended_with b.ended e } };
 
     ghost asks = { λ b e. asks b.ended e };
 

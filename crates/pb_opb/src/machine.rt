@@ -59,13 +59,17 @@ impl OpbMachine {
 
     /// A machine before an instance, which accepts exactly the instances under the limits. It allocates nothing.
     pub fn new(alloc: Global, limits: Limits) -> Self
-        ensures accepts { (items : List (Item OpbEvent)) → AcceptsItems opb result items ↔ IsInstance (largest limits) (top_of limits) items }
+        ensures accepts { (items : List (Item OpbEvent)) →
+            AcceptsItems opb result items ↔ IsInstance (largest limits) (top_of limits) items }
         // Whatever `Reads` says of this machine, it says of the instances.
-        ensures reads { (longest : ℕ) (input used : List ℕ) (spans : List (Spanned OpbEvent)) (place : Place) (done : Bool) (stop : Option Stop)
+        ensures reads { (longest : ℕ) (input used : List ℕ) (spans : List (Spanned OpbEvent))
+            (place : Place) (done : Bool) (stop : Option Stop)
             → Reads (AcceptsItems opb result) longest input used spans place done stop
-            → Reads (IsInstance (largest limits) (top_of limits)) longest input used spans place done stop }
+            → Reads (IsInstance (largest limits) (top_of limits)) longest input used spans place
+            done stop }
         // It may allocate only at a byte of a tail or a comment, at one of a name, and at one that ends a literal.
-        ensures asks { (used : List ℕ) (b : ℕ) → MayAsk opb result used b → AsksOnly (IsInstance (largest limits) (top_of limits)) (Asks (top_of limits)) used b }
+        ensures asks { (used : List ℕ) (b : ℕ) → MayAsk opb result used b →
+            AsksOnly (IsInstance (largest limits) (top_of limits)) (Asks (top_of limits)) used b }
         ensures begins { result ≡ begin (largest limits) (top_of limits) }
         ensures between { opb.begun result ≡ false }
     {

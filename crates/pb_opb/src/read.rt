@@ -26,9 +26,12 @@ pub fn read_instance<S: Source>(
 ) -> Result<Spanned<Instance>, Stop>
     // `Memory` comes only at a byte of a tail, comment or name, at one that ends a literal, or after a statement to be
     // stored.
-    ensures reads { ReadsInstance (largest limits) (top_of limits) BYTE_LIMIT (S.left input.old) result (S.left input.new) }
+    ensures reads { ReadsInstance (largest limits) (top_of limits) BYTE_LIMIT
+        (S.left input.old) result (S.left input.new) }
     // For any source, also a file: the contract holds for the bytes that the source's calls have given.
-    ensures given { OfGiven (λ left rest. ReadsInstance (largest limits) (top_of limits) BYTE_LIMIT left result rest) (S.history input.old) (S.history input.new) }
+    ensures given { OfGiven (λ left rest.
+        ReadsInstance (largest limits) (top_of limits) BYTE_LIMIT left result rest)
+        (S.history input.old) (S.history input.new) }
     // A rejected byte is the one that the source has shown. The input ends only if the source has shown its end.
     ensures shown { IfErr result (λ s. IsShown (S.shown input.new) (S.ended input.new) s.why) }
     ensures past { IfOk result (λ m. IsInReach m.past) }
@@ -49,9 +52,12 @@ pub fn read_instance_within<S: Source>(
     requires { 0 < longest }
     // `Memory` comes only at a byte of a tail, comment or name, at one that ends a literal, or after a statement to be
     // stored.
-    ensures reads { ReadsInstance (largest limits) (top_of limits) longest (S.left input.old) result (S.left input.new) }
+    ensures reads { ReadsInstance (largest limits) (top_of limits) longest (S.left input.old) result
+        (S.left input.new) }
     // For any source, also a file: the contract holds for the bytes that the source's calls have given.
-    ensures given { OfGiven (λ left rest. ReadsInstance (largest limits) (top_of limits) longest left result rest) (S.history input.old) (S.history input.new) }
+    ensures given { OfGiven (λ left rest.
+        ReadsInstance (largest limits) (top_of limits) longest left result rest)
+        (S.history input.old) (S.history input.new) }
     // A rejected byte is the one that the source has shown. The input ends only if the source has shown its end.
     ensures shown { IfErr result (λ s. IsShown (S.shown input.new) (S.ended input.new) s.why) }
     ensures past { IfOk result (λ m. IsInReach m.past) }

@@ -61,7 +61,8 @@ fn are_linears(constraints: &[Linear], limits: Limits) -> bool
 
 /// Whether a comment comes after at least this many statements and before the last one, in one line.
 fn comment_is_value(comment: &Comment, least: u64, statements: u64) -> bool
-    ensures { IsTrue result ↔ (least ≤ comment.now.before) × (comment.now.before < statements) × IsInLine comment.now.text }
+    ensures { IsTrue result ↔ (least ≤ comment.now.before) × (comment.now.before < statements) ×
+        IsInLine comment.now.text }
 {
     least <= comment.before && comment.before < statements && is_in_line(comment.text.as_slice())
 }
@@ -82,7 +83,8 @@ fn are_comments(comments: &[Comment], statements: u64) -> bool
 
 /// Whether the count of variables and the number of constraints are at most `top`.
 fn counts_are_within(instance: &Instance, top: u64) -> bool
-    ensures { IsTrue result ↔ (instance.now.variables ≤ top) × (length instance.now.constraints ≤ top) }
+    ensures { IsTrue result ↔ (instance.now.variables ≤ top) ×
+        (length instance.now.constraints ≤ top) }
 {
     instance.variables <= top && instance.constraints.len() as u64 <= top
 }

@@ -18,7 +18,8 @@ fn write_header<S: Sink>(
     tail: &[u8],
     out: &mut S,
 ) -> Result<(), Failed>
-    ensures { Writes S.contents S.faults out.old (header_bytes variables constraints tail.now) result out.new }
+    ensures { Writes S.contents S.faults out.old
+        (header_bytes variables constraints tail.now) result out.new }
 {
     write_bytes(b"* #variable= ", out)?;
     write_count(variables, out)?;
@@ -106,7 +107,8 @@ fn write_comment_line<S: Sink>(comment: &Comment, out: &mut S) -> Result<(), Fai
 
 /// Writes the comments, each after a line feed.
 fn write_comments<S: Sink>(comments: &[Comment], out: &mut S) -> Result<(), Failed>
-    ensures { Writes S.contents S.faults out.old (led_lines (comment_events comments.now)) result out.new }
+    ensures { Writes S.contents S.faults out.old (led_lines (comment_events comments.now)) result
+        out.new }
 {
     for comment in comments {
         write_comment_line(comment, out)?;
@@ -131,7 +133,9 @@ fn write_constraints<S: Sink>(
     out: &mut S,
 ) -> Result<(), Failed>
     requires { first ≤ 1 }
-    ensures { Writes S.contents S.faults out.old (led_lines (in_order first comments.now (constraint_events constraints.now))) result out.new }
+    ensures { Writes S.contents S.faults out.old
+        (led_lines (in_order first comments.now (constraint_events constraints.now))) result
+        out.new }
 {
     let mut rest = comments;
     for (index, linear) in constraints.iter().enumerate() {
@@ -150,7 +154,9 @@ fn write_all<S: Sink>(
     constraints: &[Linear],
     out: &mut S,
 ) -> Result<(), Failed>
-    ensures { Writes S.contents S.faults out.old (led_lines (in_order 0 comments.now (OpbEvent.Objective terms.now ∷ constraint_events constraints.now))) result out.new }
+    ensures { Writes S.contents S.faults out.old
+        (led_lines (in_order 0 comments.now
+        (OpbEvent.Objective terms.now ∷ constraint_events constraints.now))) result out.new }
 {
     let (due, later) = comments.split_at(count_due(comments, 0));
     write_comments(due, out)?;
@@ -161,7 +167,8 @@ fn write_all<S: Sink>(
 
 /// Writes what follows the counts of the header and its tail.
 fn write_body<S: Sink>(instance: &Instance, out: &mut S) -> Result<(), Failed>
-    ensures { Writes S.contents S.faults out.old (10 ∷ lines (body_events instance.now)) result out.new }
+    ensures { Writes S.contents S.faults out.old
+        (10 ∷ lines (body_events instance.now)) result out.new }
 {
     let comments = instance.comments.as_slice();
     let constraints = instance.constraints.as_slice();

@@ -68,13 +68,17 @@ impl ProofMachine {
     /// A machine at the start of a proof. It accepts exactly the proofs under the limits.
     /// Creating it does not allocate.
     pub fn new(alloc: Global, limits: Limits) -> Self
-        ensures accepts { (items : List (Item Statement)) → AcceptsItems proofs result items ↔ IsProof (largest limits) (top_of limits) items }
+        ensures accepts { (items : List (Item Statement)) →
+            AcceptsItems proofs result items ↔ IsProof (largest limits) (top_of limits) items }
         // What is read by this machine is read of the format of proofs.
-        ensures reads { (longest : ℕ) (input used : List ℕ) (spans : List (Spanned Statement)) (place : Place) (done : Bool) (stop : Option Stop)
+        ensures reads { (longest : ℕ) (input used : List ℕ) (spans : List (Spanned Statement))
+            (place : Place) (done : Bool) (stop : Option Stop)
             → Reads (AcceptsItems proofs result) longest input used spans place done stop
-            → Reads (IsProof (largest limits) (top_of limits)) longest input used spans place done stop }
+            → Reads (IsProof (largest limits) (top_of limits)) longest input used spans place done
+            stop }
         // It may allocate only at a byte of a name or `pol` operator, or at one that ends a literal, id or `pol` word.
-        ensures asks { (used : List ℕ) (b : ℕ) → MayAsk proofs result used b → AsksOnly (IsProof (largest limits) (top_of limits)) Asks used b }
+        ensures asks { (used : List ℕ) (b : ℕ) → MayAsk proofs result used b →
+            AsksOnly (IsProof (largest limits) (top_of limits)) Asks used b }
         ensures begins { result ≡ begin (largest limits) (top_of limits) }
         ensures between { proofs.begun result ≡ false }
     {

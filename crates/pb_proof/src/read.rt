@@ -32,9 +32,12 @@ pub fn read_proof<S: Source>(
 ) -> Result<Spanned<Proof>, Stop>
     // Memory runs out only at a byte that may allocate, or after a step, which is stored. A byte that may allocate
     // belongs to a name or a `pol` operator, or ends a literal, an id or a `pol` word.
-    ensures reads { ReadsProof (largest limits) (top_of limits) BYTE_LIMIT (S.left input.old) result (S.left input.new) }
+    ensures reads { ReadsProof (largest limits) (top_of limits) BYTE_LIMIT (S.left input.old) result
+        (S.left input.new) }
     // For every source, including files: this is a result of reading the bytes that its calls have given.
-    ensures given { OfGiven (λ left rest. ReadsProof (largest limits) (top_of limits) BYTE_LIMIT left result rest) (S.history input.old) (S.history input.new) }
+    ensures given { OfGiven (λ left rest.
+        ReadsProof (largest limits) (top_of limits) BYTE_LIMIT left result rest)
+        (S.history input.old) (S.history input.new) }
     // A rejected byte is the one that the source has shown. The input has ended only if the source has shown its end.
     ensures shown { IfErr result (λ s. IsShown (S.shown input.new) (S.ended input.new) s.why) }
     ensures past { IfOk result (λ m. IsInReach m.past) }
@@ -55,9 +58,12 @@ pub fn read_proof_within<S: Source>(
     requires { 0 < longest }
     // Memory runs out only at a byte that may allocate, or after a step, which is stored. A byte that may allocate
     // belongs to a name or a `pol` operator, or ends a literal, an id or a `pol` word.
-    ensures reads { ReadsProof (largest limits) (top_of limits) longest (S.left input.old) result (S.left input.new) }
+    ensures reads { ReadsProof (largest limits) (top_of limits) longest (S.left input.old) result
+        (S.left input.new) }
     // For every source, including files: this is a result of reading the bytes that its calls have given.
-    ensures given { OfGiven (λ left rest. ReadsProof (largest limits) (top_of limits) longest left result rest) (S.history input.old) (S.history input.new) }
+    ensures given { OfGiven (λ left rest.
+        ReadsProof (largest limits) (top_of limits) longest left result rest) (S.history input.old)
+        (S.history input.new) }
     // A rejected byte is the one that the source has shown. The input has ended only if the source has shown its end.
     ensures shown { IfErr result (λ s. IsShown (S.shown input.new) (S.ended input.new) s.why) }
     ensures past { IfOk result (λ m. IsInReach m.past) }
@@ -76,12 +82,17 @@ fn read_by<S: Source, M: Machine<Event = Statement> + Drop>(
     longest: u64,
     limits: Limits,
 ) -> Result<Spanned<Proof>, Stop>
-    requires accepts { (items : List (Item Statement)) → AcceptsItems M.automaton machine items ↔ IsProof (largest limits) (top_of limits) items }
-    requires asks { (used : List ℕ) (b : ℕ) → MayAsk M.automaton machine used b → AsksInProof (largest limits) (top_of limits) used b }
+    requires accepts { (items : List (Item Statement)) →
+        AcceptsItems M.automaton machine items ↔ IsProof (largest limits) (top_of limits) items }
+    requires asks { (used : List ℕ) (b : ℕ) → MayAsk M.automaton machine used b →
+        AsksInProof (largest limits) (top_of limits) used b }
     requires between { M.automaton.begun machine ≡ false }
     requires some { 0 < longest }
-    ensures reads { ReadsProof (largest limits) (top_of limits) longest (S.left input.old) result (S.left input.new) }
-    ensures given { OfGiven (λ left rest. ReadsProof (largest limits) (top_of limits) longest left result rest) (S.history input.old) (S.history input.new) }
+    ensures reads { ReadsProof (largest limits) (top_of limits) longest (S.left input.old) result
+        (S.left input.new) }
+    ensures given { OfGiven (λ left rest.
+        ReadsProof (largest limits) (top_of limits) longest left result rest) (S.history input.old)
+        (S.history input.new) }
     ensures shown { IfErr result (λ s. IsShown (S.shown input.new) (S.ended input.new) s.why) }
     ensures past { IfOk result (λ m. IsInReach m.past) }
     ensures faults { S.faults input.new ≡ faults_after None result (S.faults input.old) }

@@ -178,7 +178,8 @@ fn conclusion_is_value(conclusion: &Conclusion, limits: Limits) -> bool
 
 /// Whether the constraint may follow `rup`: its relation is `>=`, and it is within the limits.
 fn rup_is_value(goal: &Linear, limits: Limits) -> bool
-    ensures { IsTrue result ↔ IsStatementValue (largest limits) (top_of limits) (Statement.Rup goal.now) }
+    ensures { IsTrue result ↔ IsStatementValue (largest limits) (top_of limits)
+        (Statement.Rup goal.now) }
 {
     goal.relation == Relation::AtLeast && linear_is_value(goal, limits)
 }
@@ -217,14 +218,16 @@ fn is_step(statement: &Statement) -> bool
 
 /// Whether the statement is a step that meets the rules.
 fn step_is_value(step: &Statement, limits: Limits) -> bool
-    ensures { IsTrue result ↔ IsStep step.now × IsStatementValue (largest limits) (top_of limits) step.now }
+    ensures { IsTrue result ↔ IsStep step.now ×
+        IsStatementValue (largest limits) (top_of limits) step.now }
 {
     is_step(step) && statement_is_value(step, limits)
 }
 
 /// Whether each statement is a step that meets the rules.
 fn are_steps(steps: &[Statement], limits: Limits) -> bool
-    ensures { IsTrue result ↔ All (λ s. IsStep s × IsStatementValue (largest limits) (top_of limits) s) steps.now }
+    ensures { IsTrue result ↔ All (λ s. IsStep s ×
+        IsStatementValue (largest limits) (top_of limits) s) steps.now }
 {
     for step in steps {
         if !step_is_value(step, limits) {

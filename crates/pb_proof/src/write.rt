@@ -27,7 +27,8 @@ fn write_next_literal<S: Sink>(literal: &Literal, out: &mut S) -> Result<(), Fai
 }
 
 fn write_literals<S: Sink>(literals: &[Literal], out: &mut S) -> Result<(), Failed>
-    ensures { Writes S.contents S.faults out.old (listed_bytes literal_line literals.now) result out.new }
+    ensures { Writes S.contents S.faults out.old (listed_bytes literal_line literals.now) result
+        out.new }
 {
     for literal in literals {
         write_next_literal(literal, out)?;
@@ -45,7 +46,8 @@ fn write_next_id<S: Sink>(id: i64, out: &mut S) -> Result<(), Failed>
 }
 
 fn write_ids<S: Sink>(ids: &[i64], out: &mut S) -> Result<(), Failed>
-    ensures { Writes S.contents S.faults out.old (listed_bytes signed_decimal ids.now) result out.new }
+    ensures { Writes S.contents S.faults out.old
+        (listed_bytes signed_decimal ids.now) result out.new }
 {
     for id in ids {
         write_next_id(*id, out)?;
@@ -101,7 +103,8 @@ fn write_bounds<S: Sink>(
     shown: &Option<Sequence<Literal>>,
     out: &mut S,
 ) -> Result<(), Failed>
-    ensures { Writes S.contents S.faults out.old (conclusion_bytes (Conclusion.Bounds lower id upper shown.now)) result out.new }
+    ensures { Writes S.contents S.faults out.old
+        (conclusion_bytes (Conclusion.Bounds lower id upper shown.now)) result out.new }
 {
     write_bytes(b"BOUNDS", out)?;
     write_next_bound(lower, out)?;
@@ -111,14 +114,16 @@ fn write_bounds<S: Sink>(
 }
 
 fn write_unsat<S: Sink>(id: Option<i64>, out: &mut S) -> Result<(), Failed>
-    ensures { Writes S.contents S.faults out.old (conclusion_bytes (Conclusion.Unsat id)) result out.new }
+    ensures { Writes S.contents S.faults out.old (conclusion_bytes (Conclusion.Unsat id)) result
+        out.new }
 {
     write_bytes(b"UNSAT", out)?;
     write_id_shown(id, out)
 }
 
 fn write_sat<S: Sink>(shown: &Option<Sequence<Literal>>, out: &mut S) -> Result<(), Failed>
-    ensures { Writes S.contents S.faults out.old (conclusion_bytes (Conclusion.Sat shown.now)) result out.new }
+    ensures { Writes S.contents S.faults out.old
+        (conclusion_bytes (Conclusion.Sat shown.now)) result out.new }
 {
     write_bytes(b"SAT", out)?;
     write_shown(shown, out)
@@ -141,7 +146,8 @@ fn write_conclusion_text<S: Sink>(concluding: &Conclusion, out: &mut S) -> Resul
 }
 
 fn write_f<S: Sink>(count: Option<u64>, out: &mut S) -> Result<(), Failed>
-    ensures { Writes S.contents S.faults out.old (statement_bytes (Statement.F count)) result out.new }
+    ensures { Writes S.contents S.faults out.old
+        (statement_bytes (Statement.F count)) result out.new }
 {
     match count {
         None => write_bytes(b"f", out),
@@ -153,35 +159,40 @@ fn write_f<S: Sink>(count: Option<u64>, out: &mut S) -> Result<(), Failed>
 }
 
 fn write_pol<S: Sink>(words: &[PolWord], out: &mut S) -> Result<(), Failed>
-    ensures { Writes S.contents S.faults out.old (statement_bytes (Statement.Pol words.now)) result out.new }
+    ensures { Writes S.contents S.faults out.old (statement_bytes (Statement.Pol words.now)) result
+        out.new }
 {
     write_words(b"pol", words, out)
 }
 
 /// Writes a word, and the literals after it.
 fn write_listed<S: Sink>(word: &[u8], literals: &[Literal], out: &mut S) -> Result<(), Failed>
-    ensures { Writes S.contents S.faults out.old (word.now ++ listed_bytes literal_line literals.now) result out.new }
+    ensures { Writes S.contents S.faults out.old
+        (word.now ++ listed_bytes literal_line literals.now) result out.new }
 {
     write_bytes(word, out)?;
     write_literals(literals, out)
 }
 
 fn write_rup<S: Sink>(goal: &Linear, out: &mut S) -> Result<(), Failed>
-    ensures { Writes S.contents S.faults out.old (statement_bytes (Statement.Rup goal.now)) result out.new }
+    ensures { Writes S.contents S.faults out.old (statement_bytes (Statement.Rup goal.now)) result
+        out.new }
 {
     write_bytes(b"rup ", out)?;
     write_linear(goal, out)
 }
 
 fn write_delete<S: Sink>(ids: &[i64], out: &mut S) -> Result<(), Failed>
-    ensures { Writes S.contents S.faults out.old (statement_bytes (Statement.Delete ids.now)) result out.new }
+    ensures { Writes S.contents S.faults out.old (statement_bytes (Statement.Delete ids.now)) result
+        out.new }
 {
     write_bytes(b"del id", out)?;
     write_ids(ids, out)
 }
 
 fn write_conclusion<S: Sink>(conclusion: &Conclusion, out: &mut S) -> Result<(), Failed>
-    ensures { Writes S.contents S.faults out.old (statement_bytes (Statement.Conclude conclusion.now)) result out.new }
+    ensures { Writes S.contents S.faults out.old
+        (statement_bytes (Statement.Conclude conclusion.now)) result out.new }
 {
     write_bytes(b"conclusion ", out)?;
     write_conclusion_text(conclusion, out)
@@ -218,7 +229,8 @@ pub fn write_statement<S: Sink>(statement: &Statement, out: &mut S) -> Result<()
 
 /// Writes a statement and a line feed.
 fn write_line<S: Sink>(statement: &Statement, out: &mut S) -> Result<(), Failed>
-    ensures { Writes S.contents S.faults out.old (statement_bytes statement.now ++ (10 ∷ [])) result out.new }
+    ensures { Writes S.contents S.faults out.old (statement_bytes statement.now ++ (10 ∷ [])) result
+        out.new }
 {
     let mut piece = Piece::new();
     piece.put(b'\n');

@@ -50,7 +50,8 @@ impl Model for SumMachine {
 
     ghost view = { state_of };
 
-    ghost invariant = { λ m. (m.limit < 2 ^ 127) × IsInOrder m.limit (record { terms = m.terms; name = m.name; phase = m.phase }) };
+    ghost invariant = { λ m. (m.limit < 2 ^ 127) ×
+        IsInOrder m.limit (record { terms = m.terms; name = m.name; phase = m.phase }) };
 }
 
 /// Ends the term whose literal is complete, if there is one.
@@ -62,7 +63,8 @@ fn flush(
     phase: Phase,
 ) -> Result<(), AllocError>
     ensures ok { OnOk result ((terms.new ≡ flushed phase terms.old name.old) × (name.new ≡ [])) }
-    ensures err { OnErr result ((is_more phase ≡ true) × (terms.new ≡ terms.old) × (name.new ≡ name.old)) }
+    ensures err { OnErr result ((is_more phase ≡ true) × (terms.new ≡ terms.old) ×
+        (name.new ≡ name.old)) }
 {
     if let Phase::More(coefficient, negated) = phase {
         let whole = mem::replace(name, Name::new(alloc));
@@ -94,7 +96,8 @@ fn finish(
 ) -> Result<Sequence<Term>, AllocError>
     ensures terms { IfOk result (λ all. all ≡ flushed phase.old terms.old name.old) }
     ensures ok { OnOk result ((terms.new ≡ []) × (name.new ≡ []) × (phase.new ≡ Phase.Done)) }
-    ensures err { OnErr result ((is_more phase.old ≡ true) × (terms.new ≡ terms.old) × (name.new ≡ name.old) × (phase.new ≡ phase.old)) }
+    ensures err { OnErr result ((is_more phase.old ≡ true) × (terms.new ≡ terms.old) ×
+        (name.new ≡ name.old) × (phase.new ≡ phase.old)) }
 {
     flush(alloc, terms, name, *phase)?;
     *phase = Phase::Done;
@@ -122,9 +125,12 @@ impl SumMachine {
     /// A machine before its text. It does not allocate.
     pub fn new(alloc: Global, spaces: Spaces, part: Part, limits: Limits) -> Self
         ensures begins { result ≡ first spaces part (largest limits) }
-        ensures format { (items : List (Item SumEvent)) → AcceptsItems sums result items ↔ IsOneText spaces (largest limits) part items }
+        ensures format { (items : List (Item SumEvent)) →
+            AcceptsItems sums result items ↔ IsOneText spaces (largest limits) part items }
         // It may allocate only at a byte of a name, and at one that ends a literal.
-        ensures asks { (used : List ℕ) (b : ℕ) → MayAsk sums result used b → AsksOnly (IsOneText spaces (largest limits) part) (λ _ text next. AsksLiteral text next) used b }
+        ensures asks { (used : List ℕ) (b : ℕ) → MayAsk sums result used b →
+            AsksOnly (IsOneText spaces (largest limits) part) (λ _ text next.
+            AsksLiteral text next) used b }
         ensures between { sums.begun result ≡ false }
         ensures state { IsState sums result }
     {
@@ -197,7 +203,8 @@ impl SumMachine {
         ensures runs { Runs sums self.old (take result text.now) self.new }
         ensures state { IsState sums self.new }
         // It leaves one untaken only if a name is stored.
-        ensures none { result ≡ 0 → begins_relation self.old.work.phase ≡ true → self.old.work.name ≡ [] → LacksRelation self.old.part text.now }
+        ensures none { result ≡ 0 → begins_relation self.old.work.phase ≡ true →
+            self.old.work.name ≡ [] → LacksRelation self.old.part text.now }
     {
         let _ = self.is_done();
         if !begins_relation(self.phase) || !self.name.as_bytes().is_empty() {
@@ -252,7 +259,9 @@ impl SumMachine {
         ensures runs { Runs sums self.old (take result text.now) self.new }
         ensures state { IsState sums self.new }
         // It leaves one untaken only if a name is stored.
-        ensures none { result ≡ 0 → begins_number self.old.work.phase ≡ true → self.old.work.name ≡ [] → LacksNumber self.old.limit (sign_read self.old.work.phase) text.now }
+        ensures none { result ≡ 0 → begins_number self.old.work.phase ≡ true →
+            self.old.work.name ≡ [] →
+            LacksNumber self.old.limit (sign_read self.old.work.phase) text.now }
     {
         let _ = self.is_done();
         if !begins_number(self.phase) || !self.name.as_bytes().is_empty() {

@@ -17,7 +17,8 @@ use std::alloc::Global;
 pub fn linear_at(alloc: Global, limits: Limits, part: Part, text: &[u8]) -> Option<(usize, Linear)>
     ensures inside { IfSome result (λ r. r.0 < length text.now) }
     ensures semicolon { IfSome result (λ r. get_or text.now r.0 0 ≡ 59) }
-    ensures runs { IfSome result (λ r. LeadsToLinear (largest limits) part (take r.0 text.now) r.1) }
+    ensures runs { IfSome result (λ r. LeadsToLinear (largest limits) part
+        (take r.0 text.now) r.1) }
 {
     let limit = limits.largest();
     let Some((head, terms)) = terms_at(alloc, limit, text) else {

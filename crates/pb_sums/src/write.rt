@@ -95,7 +95,8 @@ fn put_literal(negated: bool, prefix: &[u8], piece: &mut Piece)
 /// Prepends the start of a term: all of it except the rest of its name.
 fn put_term(term: &Term, prefix: &[u8], piece: &mut Piece)
     requires { 42 + length prefix.now + length piece.old ≤ ROOM }
-    ensures text { piece.new ≡ (weight_bytes term.now.coefficient ++ (32 ∷ literal_bytes term.now.literal.negated prefix.now)) ++ piece.old }
+    ensures text { piece.new ≡ (weight_bytes term.now.coefficient ++ (32 ∷ literal_bytes
+        term.now.literal.negated prefix.now)) ++ piece.old }
     ensures short { length piece.new ≤ 42 + length prefix.now + length piece.old }
 {
     put_literal(term.literal.negated, prefix, piece);
@@ -113,7 +114,8 @@ fn write_both<S: Sink>(piece: &Piece, rest: &[u8], out: &mut S) -> Result<(), Fa
 
 /// Writes a literal: its name, after a `~` if it is negated.
 pub fn write_literal<S: Sink>(literal: &Literal, out: &mut S) -> Result<(), Failed>
-    ensures { Writes S.contents S.faults out.old (literal_bytes literal.now.negated literal.now.name) result out.new }
+    ensures { Writes S.contents S.faults out.old
+        (literal_bytes literal.now.negated literal.now.name) result out.new }
 {
     let (prefix, rest) = split_name(&literal.name);
     let mut piece = Piece::new();
@@ -236,7 +238,8 @@ fn put_sum(terms: &[Term], piece: &mut Piece) -> bool
 /// Prepends the end of a linear text: the relation, the degree and ` ;`.
 fn put_end(relation: Relation, degree: i128, piece: &mut Piece)
     requires { 45 + length piece.old ≤ ROOM }
-    ensures text { piece.new ≡ (relation_bytes relation ++ (32 ∷ (signed_decimal degree ++ (32 ∷ 59 ∷ [])))) ++ piece.old }
+    ensures text { piece.new ≡ (relation_bytes
+        relation ++ (32 ∷ (signed_decimal degree ++ (32 ∷ 59 ∷ [])))) ++ piece.old }
     ensures short { length piece.new ≤ 45 + length piece.old }
 {
     piece.put_text(b" ;");

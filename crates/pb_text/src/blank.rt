@@ -20,7 +20,8 @@ pub fn rest_is_blank<S: Source>(source: &mut S, place: Place) -> Result<(), Stop
     requires column { place.column ≤ 2 ^ 40 + 1 }
     ensures blank { ReadsBlank place (S.left source.old) result (S.left source.new) }
     // For any source, also a file: the rest is what its calls have given since.
-    ensures given { OfGiven (λ left rest. ReadsBlank place left result rest) (S.history source.old) (S.history source.new) }
+    ensures given { OfGiven (λ left rest. ReadsBlank place left result rest) (S.history source.old)
+        (S.history source.new) }
     // The rest ends only if the source has shown its end. A byte that does not belong there is the one it has shown.
     ensures ended { OnOk result (S.ended source.new ≡ true) }
     ensures shown { IfErr result (λ s. IsShown (S.shown source.new) (S.ended source.new) s.why) }

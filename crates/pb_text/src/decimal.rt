@@ -10,7 +10,8 @@ const SMALL: u128 = 1 << 60;
 #[inline(always)]
 pub fn next_digit(limit: u128, number: u128, digit: u8) -> Option<u128>
     requires { digit < 10 }
-    ensures { MatchOption result (limit < 10 * number + digit) (λ next. (next ≤ limit) × (next ≡ 10 * number + digit)) }
+    ensures { MatchOption result (limit < 10 * number + digit) (λ next. (next ≤ limit) ×
+        (next ≡ 10 * number + digit)) }
 {
     let digit = digit as u128;
     if number < SMALL {
@@ -30,7 +31,8 @@ pub fn next_digit(limit: u128, number: u128, digit: u8) -> Option<u128>
 #[inline(always)]
 pub fn next_digit_u64(limit: u64, number: u64, digit: u8) -> Option<u64>
     requires { digit < 10 }
-    ensures { MatchOption result (limit < 10 * number + digit) (λ next. (next ≤ limit) × (next ≡ 10 * number + digit)) }
+    ensures { MatchOption result (limit < 10 * number + digit) (λ next. (next ≤ limit) ×
+        (next ≡ 10 * number + digit)) }
 {
     let next = 10 * number as u128 + digit as u128;
     if next > limit as u128 {

@@ -17,7 +17,8 @@ pub fn number_prefix(text: &[u8]) -> (usize, u64)
     ensures digits { Each (λ b. IsTrue (is_digit b)) (take result.0 text.now) }
     ensures value { result.1 ≡ value_from 0 (take result.0 text.now) }
     // It stops only if the digits end, or if the value is no longer below `SMALL`.
-    ensures stops { result.0 < length text.now → result.1 < 2 ^ 60 → is_digit (get_or text.now result.0 0) ≡ false }
+    ensures stops { result.0 < length text.now → result.1 < 2 ^ 60 →
+        is_digit (get_or text.now result.0 0) ≡ false }
 {
     let mut value: u64 = 0;
     for (i, byte) in text.iter().enumerate() {

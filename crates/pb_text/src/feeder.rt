@@ -96,7 +96,8 @@ impl<M: Machine> Feeder<M> {
         // The spans that were returned, the position, this result and the stop are those of a read of the input.
         ensures reads { (longest : ℕ) (start : M) (input : List ℕ) (spans : List (Spanned M.Event))
             → StandsAt longest start input spans self.now
-            → (used : List ℕ) × Reads (AcceptsItems M.automaton start) longest input used spans (place_of self.now) result (halt_of self.now) }
+            → (used : List ℕ) × Reads (AcceptsItems M.automaton start) longest input used spans
+            (place_of self.now) result (halt_of self.now) }
     {
         self.machine.is_done()
     }
@@ -124,8 +125,10 @@ impl<M: Machine> Feeder<M> {
         ensures ends { (longest : ℕ) (start : M) (input : List ℕ) (spans : List (Spanned M.Event))
             → halt_of self.old ≡ None
             → StandsAt longest start input spans self.old
-            → (used : List ℕ) × EndsAs (AcceptsItems M.automaton start) longest input used spans (place_of self.new) result }
-        ensures again { (stop : Stop) → halt_of self.old ≡ Some stop → (result ≡ Err stop) × (self.new ≡ self.old) }
+            → (used : List ℕ) × EndsAs (AcceptsItems M.automaton start) longest input used spans
+            (place_of self.new) result }
+        ensures again { (stop : Stop) → halt_of self.old ≡ Some stop → (result ≡ Err stop) ×
+            (self.new ≡ self.old) }
         ensures ok { OnOk result (self.new ≡ self.old) }
         ensures stop { halt_of self.new ≡ stop_of result }
         ensures place { place_of self.new ≡ place_of self.old }
@@ -147,20 +150,27 @@ impl<M: Machine> Feeder<M> {
         // If `StandsAt` held for all earlier input, it holds for that input followed by these bytes.
         ensures feeds { FeedsOnce self.old piece.now result self.new }
         ensures stop { halt_of self.new ≡ stop_of result }
-        ensures used { IfOk result (λ fed. ((place_of self.new).offset ≡ (place_of self.old).offset + fed.used) × (fed.used ≤ length piece.now)) }
-        ensures again { (stop : Stop) → halt_of self.old ≡ Some stop → (result ≡ Err stop) × (self.new ≡ self.old) }
+        ensures used { IfOk result (λ fed.
+            ((place_of self.new).offset ≡ (place_of self.old).offset + fed.used) ×
+            (fed.used ≤ length piece.now)) }
+        ensures again { (stop : Stop) → halt_of self.old ≡ Some stop → (result ≡ Err stop) ×
+            (self.new ≡ self.old) }
         ensures done { is_complete self.old ≡ true → halt_of self.old ≡ None
             → (result ≡ Ok (record { used = 0; event = None })) × (self.new ≡ self.old) }
         // Without an event it takes the whole piece, unless the text was complete before.
-        ensures whole { (fed : Fed M.Event) → result ≡ Ok fed → fed.event ≡ None → is_complete self.old ≡ false → fed.used ≡ length piece.now }
+        ensures whole { (fed : Fed M.Event) → result ≡ Ok fed → fed.event ≡ None →
+            is_complete self.old ≡ false → fed.used ≡ length piece.now }
         // With an event, it takes the bytes through the last one of that event, and at least one.
-        ensures some { (fed : Fed M.Event) (event : Spanned M.Event) → result ≡ Ok fed → fed.event ≡ Some event → 0 < fed.used }
-        ensures past { (fed : Fed M.Event) (event : Spanned M.Event) → result ≡ Ok fed → fed.event ≡ Some event → event.past ≡ place_of self.new }
+        ensures some { (fed : Fed M.Event) (event : Spanned M.Event) → result ≡ Ok fed →
+            fed.event ≡ Some event → 0 < fed.used }
+        ensures past { (fed : Fed M.Event) (event : Spanned M.Event) → result ≡ Ok fed →
+            fed.event ≡ Some event → event.past ≡ place_of self.new }
         // There is no reader that can fail.
         ensures unread { halt_of self.old ≡ None → IfErr result (λ stop. stop.why ≢ Why.Read) }
         // `Memory` comes only at a byte that may allocate.
         ensures memory { halt_of self.old ≡ None → IfErr result (λ stop. (b : ℕ)
-            × (slice_get piece.now ((place_of self.new).offset - (place_of self.old).offset) ≡ Some b) × WantsMemory stop self.new b) }
+            × (slice_get piece.now ((place_of self.new).offset - (place_of self.old).offset) ≡ Some
+            b) × WantsMemory stop self.new b) }
     {
         if let Some(stop) = self.stop {
             return Err(stop);
@@ -213,9 +223,12 @@ impl<M: Machine> Feeder<M> {
         requires state { IsState M.automaton (state_of self.old) }
         ensures stands { (longest : ℕ) (start : M) (input : List ℕ) (spans : List (Spanned M.Event))
             → StandsAt longest start input spans self.old
-            → StandsAt longest start (input ++ (if is_some result then byte ∷ [] else [])) (spans ++ spans_in result) self.new }
-        ensures offset { (place_of self.new).offset ≡ (place_of self.old).offset + (if is_some result then 1 else 0) }
-        ensures past { (event : Spanned M.Event) → result ≡ Some event → event.past ≡ place_of self.new }
+            → StandsAt longest start (input ++ (if is_some result then byte ∷ [] else []))
+            (spans ++ spans_in result) self.new }
+        ensures offset { (place_of self.new).offset ≡ (place_of self.old).offset + (if is_some
+            result then 1 else 0) }
+        ensures past { (event : Spanned M.Event) → result ≡ Some event →
+            event.past ≡ place_of self.new }
         ensures unfinished { result ≡ None → is_complete self.new ≡ false }
         ensures running { halt_of self.new ≡ None }
         ensures state { IsState M.automaton (state_of self.new) }
@@ -283,7 +296,8 @@ impl<M: Machine> Feeder<M> {
         ensures stands { (longest : ℕ) (start : M) (input : List ℕ) (spans : List (Spanned M.Event))
             → StandsAt longest start input spans self.old
             → StandsAt longest start (input ++ (if result then byte ∷ [] else [])) spans self.new }
-        ensures offset { (place_of self.new).offset ≡ (place_of self.old).offset + (if result then 1 else 0) }
+        ensures offset { (place_of self.new).offset ≡ (place_of self.old).offset + (if
+            result then 1 else 0) }
         ensures running { halt_of self.new ≡ None }
         ensures unfinished { is_complete self.new ≡ false }
         ensures state { IsState M.automaton (state_of self.new) }
@@ -335,7 +349,8 @@ impl<M: Machine> Feeder<M> {
         ensures stop { halt_of self.new ≡ stop_of result }
         ensures counted { IsOpen (halt_of self.new) }
         ensures offset { OnOk result ((place_of self.new).offset ≡ (place_of self.old).offset + 1) }
-        ensures past { (event : Spanned M.Event) → result ≡ Ok (Some event) → event.past ≡ place_of self.new }
+        ensures past { (event : Spanned M.Event) → result ≡ Ok (Some event) →
+            event.past ≡ place_of self.new }
         ensures still { OnErr result ((place_of self.new).offset ≡ (place_of self.old).offset) }
         ensures unfinished { result ≡ Ok None → is_complete self.new ≡ false }
         ensures state { IsState M.automaton (state_of self.new) }

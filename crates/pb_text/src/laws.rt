@@ -17,15 +17,18 @@ use crate::machine::Machine;
 /// However the input is cut: after any sequence of feeds to a new feeder, the results are a read of all bytes fed.
 pub fn any_cutting<M: Machine>()
     // If none stopped, the number of bytes used is what the feeds report.
-    ensures reads { (longest : ℕ) (start : M) (before after : Feeder M M.Event M.Machine) (feeds : List (List ℕ × Result (Fed M.Event) Stop))
+    ensures reads { (longest : ℕ) (start : M) (before after : Feeder M M.Event M.Machine)
+        (feeds : List (List ℕ × Result (Fed M.Event) Stop))
         → StandsAt longest start [] [] before
         → IsOpen (halt_of before)
         → Feeds before feeds after
-        → (used : List ℕ) × Reads (AcceptsItems M.automaton start) longest (input_fed feeds) used (spans_answered feeds)
+        → (used : List ℕ) × Reads (AcceptsItems M.automaton start) longest (input_fed feeds) used
+        (spans_answered feeds)
         (place_of after) (is_complete after) (halt_of after)
         × (NoneStopped feeds → length used ≡ used_by feeds) }
     // There is no reader that can fail.
-    ensures unread { (before after : Feeder M M.Event M.Machine) (feeds : List (List ℕ × Result (Fed M.Event) Stop))
+    ensures unread { (before after : Feeder M M.Event M.Machine) (feeds : List (List ℕ ×
+        Result (Fed M.Event) Stop))
         → IsUnread (halt_of before)
         → Feeds before feeds after
         → IsUnread (halt_of after) }
@@ -34,7 +37,8 @@ pub fn any_cutting<M: Machine>()
 /// A feeder that `StandsAt` its input has read it. The spans that it returned, its position, whether the text is
 /// complete, and its stop are those of a read.
 pub fn standing_is_reading<M: Machine>()
-    ensures { (longest : ℕ) (start : M) (input : List ℕ) (spans : List (Spanned M.Event)) (feeder : Feeder M M.Event M.Machine)
+    ensures { (longest : ℕ) (start : M) (input : List ℕ) (spans : List (Spanned M.Event))
+        (feeder : Feeder M M.Event M.Machine)
         → StandsAt longest start input spans feeder
         → (used : List ℕ) × Reads (AcceptsItems M.automaton start) longest input used spans
         (place_of feeder) (is_complete feeder) (halt_of feeder) }

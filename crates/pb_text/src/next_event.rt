@@ -24,9 +24,11 @@ pub fn pull<S: Source, M: Machine>(
     ensures pulls { (longest : ℕ) (start : M) (input : List ℕ) (spans : List (Spanned M.Event))
         → IsOpen (halt_of feeder.old)
         → StandsAt longest start input spans feeder.old
-        → Pulls longest start input spans feeder.old (S.left source.old) result feeder.new (S.left source.new) (S.history source.old) (S.history source.new) }
+        → Pulls longest start input spans feeder.old (S.left source.old) result feeder.new
+        (S.left source.new) (S.history source.old) (S.history source.new) }
     // Consecutive pulls are a read of what they have taken.
-    ensures row { (longest : ℕ) (start : M) (before : Option (List ℕ)) (spans : List (Spanned M.Event))
+    ensures row { (longest : ℕ) (start : M) (before : Option (List ℕ))
+        (spans : List (Spanned M.Event))
         → HasPulled longest start before spans feeder.old (S.left source.old)
         → PullsOn longest start before spans result feeder.new (S.left source.new) }
     ensures again { (stop : Stop) → halt_of feeder.old ≡ Some stop
@@ -35,14 +37,19 @@ pub fn pull<S: Source, M: Machine>(
         → (result ≡ Ok None) × (feeder.new ≡ feeder.old) × (source.new ≡ source.old) }
     ensures stop { halt_of feeder.new ≡ stop_of result }
     ensures last { result ≡ Ok None → is_complete feeder.new ≡ true }
-    ensures onward { (event : Spanned M.Event) → result ≡ Ok (Some event) → (place_of feeder.old).offset < (place_of feeder.new).offset }
-    ensures past { (event : Spanned M.Event) → result ≡ Ok (Some event) → event.past ≡ place_of feeder.new }
+    ensures onward { (event : Spanned M.Event) → result ≡ Ok (Some event) →
+        (place_of feeder.old).offset < (place_of feeder.new).offset }
+    ensures past { (event : Spanned M.Event) → result ≡ Ok (Some event) →
+        event.past ≡ place_of feeder.new }
     // `Read` is first returned only if the source failed in this call.
-    ensures faults { S.faults source.new ≡ faults_after (halt_of feeder.old) result (S.faults source.old) }
+    ensures faults { S.faults source.new ≡ faults_after (halt_of feeder.old) result
+        (S.faults source.old) }
     // `Memory` comes only at a byte that may allocate.
-    ensures memory { halt_of feeder.old ≡ None → IfErr result (λ stop. (b : ℕ) × WantsMemory stop feeder.new b) }
+    ensures memory { halt_of feeder.old ≡ None → IfErr result (λ stop. (b : ℕ) ×
+        WantsMemory stop feeder.new b) }
     // A rejected byte is the one that the source has shown. The input ends only if the source has shown its end.
-    ensures shown { halt_of feeder.old ≡ None → IfErr result (λ stop. IsShown (S.shown source.new) (S.ended source.new) stop.why) }
+    ensures shown { halt_of feeder.old ≡ None →
+        IfErr result (λ stop. IsShown (S.shown source.new) (S.ended source.new) stop.why) }
     ensures state { halt_of feeder.old ≡ None → IsState M.automaton (state_of feeder.new) }
 {
     if let Some(stop) = feeder.stopped() {
@@ -68,14 +75,17 @@ fn draw<S: Source, M: Machine>(
     requires unfinished { is_complete feeder.old ≡ false }
     requires running { halt_of feeder.old ≡ None }
     requires state { IsState M.automaton (state_of feeder.old) }
-    ensures draws { Draws feeder.old (S.left source.old) (S.history source.old) result feeder.new (S.left source.new) (S.history source.new) }
+    ensures draws { Draws feeder.old (S.left source.old) (S.history source.old) result feeder.new
+        (S.left source.new) (S.history source.new) }
     ensures stop { halt_of feeder.new ≡ stop_of result }
     ensures unfinished { result ≡ Ok None → is_complete feeder.new ≡ false }
     ensures onward { OnOk result ((place_of feeder.old).offset < (place_of feeder.new).offset) }
-    ensures past { (event : Spanned M.Event) → result ≡ Ok (Some event) → event.past ≡ place_of feeder.new }
+    ensures past { (event : Spanned M.Event) → result ≡ Ok (Some event) →
+        event.past ≡ place_of feeder.new }
     ensures faults { S.faults source.new ≡ faults_after None result (S.faults source.old) }
     ensures memory { IfErr result (λ stop. (b : ℕ) × WantsMemory stop feeder.new b) }
-    ensures shown { IfErr result (λ stop. IsShown (S.shown source.new) (S.ended source.new) stop.why) }
+    ensures shown { IfErr result (λ stop.
+        IsShown (S.shown source.new) (S.ended source.new) stop.why) }
     ensures state { IsState M.automaton (state_of feeder.new) }
 {
     match source.pour(feeder) {
@@ -93,14 +103,17 @@ fn take_next<S: Source, M: Machine>(
     requires unfinished { is_complete feeder.old ≡ false }
     requires running { halt_of feeder.old ≡ None }
     requires state { IsState M.automaton (state_of feeder.old) }
-    ensures draws { Draws feeder.old (S.left source.old) (S.history source.old) result feeder.new (S.left source.new) (S.history source.new) }
+    ensures draws { Draws feeder.old (S.left source.old) (S.history source.old) result feeder.new
+        (S.left source.new) (S.history source.new) }
     ensures stop { halt_of feeder.new ≡ stop_of result }
     ensures unfinished { result ≡ Ok None → is_complete feeder.new ≡ false }
     ensures onward { OnOk result ((place_of feeder.old).offset < (place_of feeder.new).offset) }
-    ensures past { (event : Spanned M.Event) → result ≡ Ok (Some event) → event.past ≡ place_of feeder.new }
+    ensures past { (event : Spanned M.Event) → result ≡ Ok (Some event) →
+        event.past ≡ place_of feeder.new }
     ensures faults { S.faults source.new ≡ faults_after None result (S.faults source.old) }
     ensures memory { IfErr result (λ stop. (b : ℕ) × WantsMemory stop feeder.new b) }
-    ensures shown { IfErr result (λ stop. IsShown (S.shown source.new) (S.ended source.new) stop.why) }
+    ensures shown { IfErr result (λ stop.
+        IsShown (S.shown source.new) (S.ended source.new) stop.why) }
     ensures state { IsState M.automaton (state_of feeder.new) }
 {
     let byte = match source.peek() {

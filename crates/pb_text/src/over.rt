@@ -127,7 +127,8 @@ impl<T: Write> Sink for Over<T> {
 
 /// The next byte of a reader, or `None` at its end.
 fn next_of<T: BufRead>(reader: &mut T) -> Result<Option<u8>, Failed>
-    ensures { Shows (T.remaining reader.old) result (T.remaining reader.new) (T.consumable_len reader.new) }
+    ensures { Shows (T.remaining reader.old) result (T.remaining reader.new)
+        (T.consumable_len reader.new) }
 {
     match reader.fill_buf() {
         Ok(bytes) => Ok(bytes.first().copied()),
@@ -144,7 +145,8 @@ fn pour_from<T: BufRead, M: Machine>(
     requires unfinished { is_complete feeder.old ≡ false }
     requires running { halt_of feeder.old ≡ None }
     requires state { IsState M.automaton (state_of feeder.old) }
-    ensures pours { Pours feeder.old (T.remaining reader.old) history.old.bytes (brought result) feeder.new (T.remaining reader.new) history.new.bytes }
+    ensures pours { Pours feeder.old (T.remaining reader.old) history.old.bytes
+        (brought result) feeder.new (T.remaining reader.new) history.new.bytes }
     ensures unfinished { brought result ≡ None → is_complete feeder.new ≡ false }
     ensures running { halt_of feeder.new ≡ None }
     ensures state { IsState M.automaton (state_of feeder.new) }

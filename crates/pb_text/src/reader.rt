@@ -25,9 +25,13 @@ pub fn read_from<T: BufRead + Drop, M: Machine + Drop, G: Gather<Event = M::Even
 ) -> (Result<Spanned<G>, Stop>, Over<T>)
     requires between { M.automaton.begun machine ≡ false }
     requires some { 0 < longest }
-    ensures reads { ReadsWhole (AcceptsItems M.automaton machine) longest G.with empty (MayAsk M.automaton machine) G.asks (T.remaining reader) result.0 (T.remaining (inner_of result.1)) }
+    ensures reads { ReadsWhole (AcceptsItems M.automaton machine) longest G.with empty
+        (MayAsk M.automaton machine) G.asks (T.remaining reader) result.0
+        (T.remaining (inner_of result.1)) }
     // For any reader, also a file: what was read is a text of the bytes that the calls of the source have given.
-    ensures given { OfGiven (λ left rest. ReadsWhole (AcceptsItems M.automaton machine) longest G.with empty (MayAsk M.automaton machine) G.asks left result.0 rest) [] (history_of result.1) }
+    ensures given { OfGiven (λ left rest.
+        ReadsWhole (AcceptsItems M.automaton machine) longest G.with empty
+        (MayAsk M.automaton machine) G.asks left result.0 rest) [] (history_of result.1) }
     // A rejected byte is the one that the source has shown. The input ends only if the source has shown its end.
     ensures shown { IfErr result.0 (λ s. IsShown (shown_of result.1) (ended_of result.1) s.why) }
     ensures past { IfOk result.0 (λ m. IsInReach m.past) }

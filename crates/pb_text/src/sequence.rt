@@ -90,7 +90,8 @@ impl<'a, T> IntoIterator for &'a Sequence<T> {
 
     type IntoIter = Iter<'a, T>;
 
-    ghost into_iter_gives = { λ s it. (iter_rest it ≡ s.now) × (length (iter_rest it) < 2 ^ 64) × IterYieldsInOrder T };
+    ghost into_iter_gives = { λ s it. (iter_rest it ≡ s.now) × (length (iter_rest it) < 2 ^ 64) ×
+        IterYieldsInOrder T };
 
     fn into_iter(self) -> Iter<'a, T> {
         self.iter()

@@ -62,7 +62,8 @@ pub trait Source {
         requires unfinished { is_complete feeder.old ≡ false }
         requires running { halt_of feeder.old ≡ None }
         requires state { IsState M.automaton (state_of feeder.old) }
-        ensures pours { Pours feeder.old (left self.old) (history self.old) (brought result) feeder.new (left self.new) (history self.new) }
+        ensures pours { Pours feeder.old (left self.old) (history self.old)
+            (brought result) feeder.new (left self.new) (history self.new) }
         ensures unfinished { brought result ≡ None → is_complete feeder.new ≡ false }
         ensures running { halt_of feeder.new ≡ None }
         ensures state { IsState M.automaton (state_of feeder.new) }

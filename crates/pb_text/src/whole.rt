@@ -43,9 +43,13 @@ pub fn read_whole<S: Source, M: Machine + Drop, G: Gather<Event = M::Event> + Dr
 ) -> Result<Spanned<G>, Stop>
     requires between { M.automaton.begun machine ≡ false }
     requires some { 0 < longest }
-    ensures reads { ReadsWhole (AcceptsItems M.automaton machine) longest G.with empty (MayAsk M.automaton machine) G.asks (S.left source.old) result (S.left source.new) }
+    ensures reads { ReadsWhole (AcceptsItems M.automaton machine) longest G.with empty
+        (MayAsk M.automaton machine) G.asks (S.left source.old) result (S.left source.new) }
     // For any source, also a file: what was read is a text of the bytes that its calls have given.
-    ensures given { OfGiven (λ left rest. ReadsWhole (AcceptsItems M.automaton machine) longest G.with empty (MayAsk M.automaton machine) G.asks left result rest) (S.history source.old) (S.history source.new) }
+    ensures given { OfGiven (λ left rest.
+        ReadsWhole (AcceptsItems M.automaton machine) longest G.with empty
+        (MayAsk M.automaton machine) G.asks left result rest) (S.history source.old)
+        (S.history source.new) }
     // A rejected byte is the one that the source has shown. The input ends only if the source has shown its end.
     ensures shown { IfErr result (λ s. IsShown (S.shown source.new) (S.ended source.new) s.why) }
     ensures past { IfOk result (λ m. IsInReach m.past) }

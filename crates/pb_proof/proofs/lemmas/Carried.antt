@@ -1,12 +1,8 @@
 -- An automaton within another one.
-use Rattle.std.proofs.Common.{◌≡◌, ℕ, true, List, [], ◌∷◌, refl, sym, ap, subst, ◌∙◌, map, ◌++◌, ◌&&◌, Option, Some, None}
-use Rattle.pb_text.specs.contract.Automaton.{Automaton, Next, Go, End, Refuse, SkipsGap, ReadsStatement, Runs, AcceptsItems, Admits, Pushes, Finishes, IsState}
-use Rattle.pb_text.specs.meaning.Classes.{is_digit}
-use Rattle.pb_text.specs.declared.machine.Push.{Push}
+use Rattle.pb_proof.proofs.Common.{ℕ, ◌&&◌, ◌++◌, ◌∙◌, ◌∷◌, ◌≡◌, [], ap, List, map, None, Option, refl, Some, subst, sym, true, Walks, AcceptsItems}
+use Rattle.pb_proof.proofs.Common.{Admits, Automaton, End, Finishes, Go, IsState, Next, Pushes, ReadsStatement, Refuse, Runs, SkipsGap, Push}
+use Rattle.pb_proof.proofs.Common.{is_digit, bytes, Item, Letter, letters_of, plain, carried, IsCarried, IsEnded}
 use Rattle.pb_text.specs.declared.machine.Push.TheVariants as push
-use Rattle.pb_text.specs.meaning.Spelling.{Letter, Item, letters_of, bytes, plain}
-use Rattle.pb_text.proofs.lemmas.machine.Walking.{Walks}
-use Rattle.pb_proof.specs.engine.Line.Machine.{carried, IsCarried, IsEnded}
 
 module _ {S E R F : Type 0} (m : Automaton S E) (n : Automaton R F) (into : S → R) (event : E → F) where
   -- In the image of a state, `n` does what `m` does in the state.

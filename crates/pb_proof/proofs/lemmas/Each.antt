@@ -1,8 +1,5 @@
 -- Rules that each item of a list meets.
-use Rattle.std.proofs.Common.{◌≡◌, ℕ, ◌+◌, ◌<◌, ◌≤◌, true, List, length, take, get_or, refl, subst, All, ◌↔◌}
-use Rattle.std.specs.Prelude.{IsTrue}
-use Rattle.std.proofs.lemmas.List.{take_all}
-use Rattle.std.proofs.lemmas.List.Elements.{All-more}
+use Rattle.pb_proof.proofs.Common.{ℕ, ◌+◌, ◌<◌, ◌↔◌, ◌≡◌, ◌≤◌, All, get_or, IsTrue, length, List, refl, subst, take, true, take_all, All-more}
 
 -- one more item of the list
 pub each_more : {A : Type 0} (P : A → Type 0) (xs : List A) (i : ℕ) (x : A) → i < length xs → x ≡ get_or xs i x → All P (take i xs) → P x → All P (take (i + 1) xs)

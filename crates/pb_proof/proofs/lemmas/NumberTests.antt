@@ -1,7 +1,5 @@
 -- Tests of numbers.
-use Rattle.std.proofs.Common.{◌≡◌, ℕ, ◌<◌, false, arith}
-use Rattle.std.proofs.lemmas.Bool.Decides.{nat_tests}
-use Rattle.std.specs.Prelude.{nat_eq}
+use Rattle.pb_proof.proofs.Common.{ℕ, ◌<◌, ◌≡◌, arith, false, nat_eq, nat_tests}
 
 pub positive : (n : ℕ) → nat_eq n 0 ≡ false → 0 < n
 positive n e = grind (arith, nat_tests)

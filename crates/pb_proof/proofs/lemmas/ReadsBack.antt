@@ -1,10 +1,5 @@
 -- What is written reads back as the same value, if each text is of one proof only.
-use Rattle.std.proofs.Common.{◌≡◌, ℕ, List, sym, ◌∙◌, subst}
-use Rattle.pb_text.specs.meaning.Spelling.{Item, bytes_of}
-use Rattle.pb_text.specs.meaning.Whole.{events_of}
-use Rattle.pb_proof.specs.meaning.Proofs.{IsProof, IsProofOf}
-use Rattle.pb_proof.specs.contract.ValueLaws.{ReadsBack}
-use Rattle.pb_proof.specs.declared.statement.Statement.{Statement}
+use Rattle.pb_proof.proofs.Common.{ℕ, ◌∙◌, ◌≡◌, List, subst, sym, bytes_of, Item, events_of, ReadsBack, Statement, IsProof, IsProofOf}
 use Rattle.pb_proof.proofs.lemmas.Proofs.Spelled.{canonical_proof}
 use Rattle.pb_proof.proofs.lemmas.Proofs.Values.{one_value}
 

@@ -1,17 +1,9 @@
 -- Words with blanks between them, byte by byte.
-use Rattle.std.proofs.Common.{◌≡◌, ℕ, ◌<◌, Bool, true, false, not, ◌&&◌, List, [], ◌∷◌, ◌++◌, refl, sym, ap, subst, ◌∙◌, append_assoc, cond, length, arith}
-use Rattle.std.proofs.lemmas.List.{append-nil}
-use Rattle.std.proofs.lemmas.Bool.{eqb-true, and_parts, not-true}
-use Rattle.std.specs.Prelude.{nat_eq}
-use Rattle.pb_text.specs.meaning.Classes.{is_blank}
-use Rattle.pb_text.specs.meaning.Languages.{unmarked, Language, ◌⋅◌, Empty, Byte, Bytes, Blanks1}
-use Rattle.pb_text.specs.meaning.Spelling.{Letter, plain}
-use Rattle.pb_text.proofs.lemmas.text.Languages.{grown, none_yet, regroup, regroup⁻¹, after_it}
-use Rattle.pb_text.proofs.lemmas.text.Letters.{as_unmarked}
-use Rattle.pb_proof.specs.engine.Machine.Transition.{words_of, meets}
-use Rattle.pb_proof.specs.meaning.Lines.{pseudo_word, proof_word, version_word, two_word, f_word, pol_word, rup_word, del_word, id_word, output_word, none_word, conclusion_word, end_word}
-use Rattle.pb_proof.specs.engine.Machine.Transition.{sol_word}
-use Rattle.pb_proof.specs.declared.machine.phase.Keyword.{Keyword}
+use Rattle.pb_proof.proofs.Common.{ℕ, ◌&&◌, ◌++◌, ◌<◌, ◌∙◌, ◌∷◌, ◌≡◌, [], ap, append-nil, append_assoc, arith, Bool, cond, false, length, List}
+use Rattle.pb_proof.proofs.Common.{nat_eq, not, refl, subst, sym, true, and_parts, eqb-true, not-true, after_it, grown, none_yet, regroup, regroup⁻¹}
+use Rattle.pb_proof.proofs.Common.{as_unmarked, is_blank, ◌⋅◌, Blanks1, Byte, Bytes, Empty, Language, unmarked, Letter, plain, Keyword, meets}
+use Rattle.pb_proof.proofs.Common.{sol_word, words_of, conclusion_word, del_word, end_word, f_word, id_word, none_word, output_word, pol_word}
+use Rattle.pb_proof.proofs.Common.{proof_word, pseudo_word, rup_word, two_word, version_word}
 use Rattle.pb_proof.specs.declared.machine.phase.Keyword.TheVariants.{Header, Formula, Pol, Rup, Solution, Delete, Output, Conclusion, End}
 use Rattle.pb_proof.proofs.lemmas.Line.Ends.{first_blank, further_blank, nil_last}
 

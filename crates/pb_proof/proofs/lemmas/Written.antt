@@ -1,12 +1,10 @@
 -- What is written, in parts.
-use Rattle.std.proofs.Common.{◌≡◌, ℕ, suc, ◌+◌, ◌-◌, ◌<◌, ◌≤◌, List, [], ◌∷◌, ◌++◌, take, drop, length, refl, ap, sym, append_assoc, ◌∙◌, arith, get_or, take-append-drop}
-use Rattle.std.proofs.lemmas.List.{append-nil, take_more, drop_all}
-use Rattle.std.proofs.Math.Seq.{drop-cons}
-use Rattle.pb_proof.specs.meaning.Canonical.{listed_bytes, statement_bytes, lines, proof_bytes}
+use Rattle.pb_proof.proofs.Common.{ℕ, ◌++◌, ◌+◌, ◌-◌, ◌<◌, ◌∙◌, ◌∷◌, ◌≡◌, ◌≤◌, [], ap, append-nil, append_assoc, arith, drop, get_or, length, List}
+use Rattle.pb_proof.proofs.Common.{refl, suc, sym, take, take-append-drop, drop-cons, drop_all, take_more, Proof, Statement, Conclude, F, Header}
+use Rattle.pb_proof.proofs.Common.{Output, lines, proof_bytes, statement_bytes}
+use Rattle.pb_proof.specs.meaning.Canonical.{listed_bytes}
 use Rattle.pb_proof.specs.engine.Line.Ended.{ended_lines}
-use Rattle.pb_proof.specs.declared.proof.Proof.{Proof}
-use Rattle.pb_proof.specs.declared.statement.Statement.{Statement}
-use Rattle.pb_proof.specs.declared.statement.Statement.TheVariants.{Header, F, Output, Conclude, End}
+use Rattle.pb_proof.specs.declared.statement.Statement.TheVariants.{End}
 
 -- each with a space before it
 module _ {A : Type 0} (line : A → List ℕ) where

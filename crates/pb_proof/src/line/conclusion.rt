@@ -111,7 +111,8 @@ impl ConclusionMachine {
 
     /// Gives a byte to the machine for literals.
     fn give(&mut self, showing: Showing, byte: u8) -> Push<Conclusion>
-        requires { transition self.old.limit self.old.top self.old.phase byte ≡ Action.Give showing }
+        requires { transition self.old.limit self.old.top self.old.phase byte ≡ Action.Give
+            showing }
         ensures { Pushes conclusion_automaton self.old byte result self.new }
     {
         match self.literals.push(byte) {

@@ -46,7 +46,8 @@ impl Model for PolMachine {
 
     ghost view = { pol_state };
 
-    ghost invariant = { λ m. (m.limit < 2 ^ 127) × (m.top < 2 ^ 63) × (m.depth ≤ vec_len m.words) × PhaseFits m.limit m.top m.depth m.phase × IsPolInOrder (pol_state m) };
+    ghost invariant = { λ m. (m.limit < 2 ^ 127) × (m.top < 2 ^ 63) × (m.depth ≤ vec_len m.words) ×
+        PhaseFits m.limit m.top m.depth m.phase × IsPolInOrder (pol_state m) };
 }
 
 impl PolMachine {
@@ -197,8 +198,10 @@ impl PolMachine {
     /// Takes a byte with its action.
     #[inline(always)]
     fn take(&mut self, byte: u8, action: Action) -> Push<Sequence<PolWord>>
-        requires action { action ≡ transition self.old.limit self.old.top self.old.work.depth self.old.work.phase (kind_of byte) }
-        requires fits { ActionFits self.old.limit self.old.top self.old.work.depth (kind_of byte) action }
+        requires action { action ≡ transition self.old.limit self.old.top self.old.work.depth
+            self.old.work.phase (kind_of byte) }
+        requires fits { ActionFits self.old.limit self.old.top self.old.work.depth
+            (kind_of byte) action }
         requires ascii { is_name_kind (kind_of byte) ≡ true → byte < 128 }
         ensures { Pushes pol_automaton self.old byte result self.new }
     {

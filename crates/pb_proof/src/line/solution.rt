@@ -116,8 +116,10 @@ fn flush(
     name: &mut Name,
     phase: LiteralsPhase,
 ) -> Result<(), AllocError>
-    ensures ok { OnOk result ((literals.new ≡ flushed phase literals.old name.old) × (name.new ≡ [])) }
-    ensures err { OnErr result ((is_more phase ≡ true) × (literals.new ≡ literals.old) × (name.new ≡ name.old)) }
+    ensures ok { OnOk result ((literals.new ≡ flushed phase literals.old name.old) ×
+        (name.new ≡ [])) }
+    ensures err { OnErr result ((is_more phase ≡ true) × (literals.new ≡ literals.old) ×
+        (name.new ≡ name.old)) }
 {
     if let LiteralsPhase::More(negated) = phase {
         let whole = mem::replace(name, Name::new(alloc));
@@ -141,8 +143,10 @@ fn finish(
     phase: &mut LiteralsPhase,
 ) -> Result<Sequence<Literal>, AllocError>
     ensures literals { IfOk result (λ all. all ≡ flushed phase.old literals.old name.old) }
-    ensures ok { OnOk result ((literals.new ≡ []) × (name.new ≡ []) × (phase.new ≡ LiteralsPhase.Done)) }
-    ensures err { OnErr result ((is_more phase.old ≡ true) × (literals.new ≡ literals.old) × (name.new ≡ name.old) × (phase.new ≡ phase.old)) }
+    ensures ok { OnOk result ((literals.new ≡ []) × (name.new ≡ []) ×
+        (phase.new ≡ LiteralsPhase.Done)) }
+    ensures err { OnErr result ((is_more phase.old ≡ true) × (literals.new ≡ literals.old) ×
+        (name.new ≡ name.old) × (phase.new ≡ phase.old)) }
 {
     flush(alloc, literals, name, *phase)?;
     *phase = LiteralsPhase::Done;

@@ -23,7 +23,8 @@ fn put_lead(lead: &[u8], piece: &mut Piece) -> bool
 
 /// Prepends a space and a literal if they surely fit, and returns whether it did.
 fn put_next_literal(literal: &Literal, piece: &mut Piece) -> bool
-    ensures { piece.new ≡ (if result then (32 ∷ literal_line literal.now) ++ piece.old else piece.old) }
+    ensures { piece.new ≡ (if
+        result then (32 ∷ literal_line literal.now) ++ piece.old else piece.old) }
 {
     if piece.room() < LONGEST || !put_literal(literal, piece) {
         return false;
@@ -46,7 +47,8 @@ fn put_literals(literals: &[Literal], piece: &mut Piece) -> usize
 
 /// Prepends a word, and the literals after it, if they surely fit, and returns whether it did.
 fn put_listed(word: &[u8], literals: &[Literal], piece: &mut Piece) -> bool
-    ensures { IsTrue result → piece.new ≡ (word.now ++ listed_bytes literal_line literals.now) ++ piece.old }
+    ensures { IsTrue result →
+        piece.new ≡ (word.now ++ listed_bytes literal_line literals.now) ++ piece.old }
 {
     literals.len() <= BATCH && put_literals(literals, piece) == 0 && put_lead(word, piece)
 }

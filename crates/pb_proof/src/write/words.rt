@@ -18,7 +18,8 @@ pub const BATCH: usize = 64;
 
 /// Writes a number, and then an operator with a space before it.
 fn write_factor<S: Sink>(factor: i128, operator: &[u8], out: &mut S) -> Result<(), Failed>
-    ensures { Writes S.contents S.faults out.old (signed_decimal factor ++ operator.now) result out.new }
+    ensures { Writes S.contents S.faults out.old
+        (signed_decimal factor ++ operator.now) result out.new }
 {
     write_number(factor, out)?;
     write_bytes(operator, out)
@@ -55,7 +56,8 @@ fn write_next_word<S: Sink>(word: &PolWord, out: &mut S) -> Result<(), Failed>
 
 /// Writes words, each in pieces of its own.
 fn write_each<S: Sink>(words: &[PolWord], out: &mut S) -> Result<(), Failed>
-    ensures { Writes S.contents S.faults out.old (listed_bytes word_bytes words.now) result out.new }
+    ensures { Writes S.contents S.faults out.old
+        (listed_bytes word_bytes words.now) result out.new }
 {
     for word in words {
         write_next_word(word, out)?;
@@ -77,7 +79,8 @@ fn put_factor(factor: i128, operator: u8, piece: &mut Piece)
 /// Prepends a literal if it fits with one more byte, and returns whether it did.
 pub fn put_literal(literal: &Literal, piece: &mut Piece) -> bool
     requires { 43 + length piece.old ≤ ROOM }
-    ensures text { piece.new ≡ (if result then literal_line literal.now ++ piece.old else piece.old) }
+    ensures text { piece.new ≡ (if result then literal_line
+        literal.now ++ piece.old else piece.old) }
     ensures short { length piece.new < ROOM }
 {
     let name = literal.name.as_bytes();
@@ -94,7 +97,8 @@ pub fn put_literal(literal: &Literal, piece: &mut Piece) -> bool
 /// Prepends a name and ` w` if they fit with one more byte, and returns whether it did.
 fn put_weakened(name: &[u8], piece: &mut Piece) -> bool
     requires { 43 + length piece.old ≤ ROOM }
-    ensures text { piece.new ≡ (if result then (name.now ++ (32 ∷ 119 ∷ [])) ++ piece.old else piece.old) }
+    ensures text { piece.new ≡ (if
+        result then (name.now ++ (32 ∷ 119 ∷ [])) ++ piece.old else piece.old) }
     ensures short { length piece.new < ROOM }
 {
     if name.len() + LONGEST > piece.room() {
@@ -155,7 +159,8 @@ fn write_parts<S: Sink>(
     piece: &Piece,
     out: &mut S,
 ) -> Result<(), Failed>
-    ensures { Writes S.contents S.faults out.old (lead.now ++ (listed_bytes word_bytes words.now ++ piece.now)) result out.new }
+    ensures { Writes S.contents S.faults out.old
+        (lead.now ++ (listed_bytes word_bytes words.now ++ piece.now)) result out.new }
 {
     write_bytes(lead, out)?;
     write_each(words, out)?;
@@ -164,7 +169,8 @@ fn write_parts<S: Sink>(
 
 /// Writes a text and words, in one piece if they fit.
 fn write_batch<S: Sink>(lead: &[u8], words: &[PolWord], out: &mut S) -> Result<(), Failed>
-    ensures { Writes S.contents S.faults out.old (lead.now ++ listed_bytes word_bytes words.now) result out.new }
+    ensures { Writes S.contents S.faults out.old (lead.now ++ listed_bytes word_bytes words.now)
+        result out.new }
 {
     let mut piece = Piece::new();
     let left = put_words(words, &mut piece);
@@ -177,7 +183,8 @@ fn write_batch<S: Sink>(lead: &[u8], words: &[PolWord], out: &mut S) -> Result<(
 
 /// Writes words with a space before each.
 fn write_further<S: Sink>(words: &[PolWord], out: &mut S) -> Result<(), Failed>
-    ensures { Writes S.contents S.faults out.old (listed_bytes word_bytes words.now) result out.new }
+    ensures { Writes S.contents S.faults out.old
+        (listed_bytes word_bytes words.now) result out.new }
 {
     let mut rest = words;
     while !rest.is_empty() {
@@ -190,7 +197,8 @@ fn write_further<S: Sink>(words: &[PolWord], out: &mut S) -> Result<(), Failed>
 
 /// Writes a text, and words with a space before each.
 pub fn write_words<S: Sink>(lead: &[u8], words: &[PolWord], out: &mut S) -> Result<(), Failed>
-    ensures { Writes S.contents S.faults out.old (lead.now ++ listed_bytes word_bytes words.now) result out.new }
+    ensures { Writes S.contents S.faults out.old (lead.now ++ listed_bytes word_bytes words.now)
+        result out.new }
 {
     let (batch, rest) = words.split_at(words.len().min(BATCH));
     write_batch(lead, batch, out)?;

@@ -20,10 +20,12 @@ impl<M: Machine> Feeder<M> {
         ensures bound { result.used ≤ length piece.now }
         ensures stands { (longest : ℕ) (start : M) (input : List ℕ) (spans : List (Spanned M.Event))
             → StandsAt longest start input spans self.old
-            → StandsAt longest start (input ++ take result.used piece.now) (spans ++ spans_in result.event) self.new }
+            → StandsAt longest start (input ++ take result.used piece.now)
+            (spans ++ spans_in result.event) self.new }
         ensures offset { (place_of self.new).offset ≡ (place_of self.old).offset + result.used }
         ensures some { (event : Spanned M.Event) → result.event ≡ Some event → 0 < result.used }
-        ensures past { (event : Spanned M.Event) → result.event ≡ Some event → event.past ≡ place_of self.new }
+        ensures past { (event : Spanned M.Event) → result.event ≡ Some event →
+            event.past ≡ place_of self.new }
         ensures running { halt_of self.new ≡ None }
         ensures unfinished { result.event ≡ None → is_complete self.new ≡ false }
         ensures state { IsState M.automaton (state_of self.new) }

@@ -1,6 +1,4 @@
-use Rattle.std.proofs.Common.{arith, rules, ℕ, ◌+◌, ◌/◌, length, take, drop, []}
-use Rattle.std.proofs.lemmas.List.{take_rest, take-append-drop}
-use Rattle.pb_normal.specs.engine.Adds.{Adds}
+use Rattle.pb_normal.proofs.Common.{ℕ, ◌+◌, ◌/◌, [], arith, drop, length, rules, take, take-append-drop, take_rest, Adds}
 use Rattle.pb_normal.proofs.lemmas.terms.Totals.{size-Adds}
 use Rattle.pb_normal.proofs.lemmas.terms.Collecting.{Adds-halves, total-halves}
 use Rattle.pb_normal.proofs.collect.+added_up.Goals as goal

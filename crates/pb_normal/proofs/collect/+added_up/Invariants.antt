@@ -1,4 +1,4 @@
-use Rattle.std.proofs.Common.{length}
+use Rattle.pb_normal.proofs.Common.{length}
 use Rattle.pb_normal.proofs.collect.+added_up.Given as goal
 
 abbrev pub decreases-added_up : goal.decreases-added_up

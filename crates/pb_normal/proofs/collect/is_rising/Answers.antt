@@ -1,4 +1,4 @@
-use Rattle.std.proofs.Common.{◌≡◌, arith, refl}
+use Rattle.pb_normal.proofs.Common.{◌≡◌, arith, refl}
 use Rattle.pb_normal.proofs.lemmas.terms.Collecting.{IsRising-read}
 use Rattle.pb_normal.proofs.lemmas.terms.Merging.{no_entry}
 use Rattle.pb_normal.proofs.lemmas.terms.Totals.{IsRising-from}

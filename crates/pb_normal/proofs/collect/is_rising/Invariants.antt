@@ -1,5 +1,4 @@
-use Rattle.std.proofs.Common.{◌≤◌, drop, length}
-use Rattle.pb_normal.specs.meaning.Form.{IsRising}
+use Rattle.pb_normal.proofs.Common.{◌≤◌, drop, length, IsRising}
 use Rattle.pb_normal.proofs.collect.is_rising.Given as goal
 
 abbrev pub invariant-terms : goal.invariant-terms

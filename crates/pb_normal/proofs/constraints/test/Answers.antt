@@ -1,10 +1,5 @@
-use Rattle.std.proofs.Common.{All, List, arith, subst}
-use Rattle.std.proofs.lemmas.List.{take_all}
-use Rattle.std.proofs.lemmas.List.Elements.{All-nil, All-push}
-use Rattle.pb_text.specs.meaning.Limits.{largest}
-use Rattle.pb_text.proofs.lemmas.text.Lists.{take_read}
-use Rattle.pb_sums.specs.declared.linear.Linear.{Linear}
-use Rattle.pb_normal.specs.meaning.Constraints.{Fits}
+use Rattle.pb_normal.proofs.Common.{arith, List, subst, take_all, All-nil, All-push, Linear, take_read, largest, Fits}
+use Rattle.std.proofs.Common.{All}
 use Rattle.pb_normal.proofs.constraints.test.Goals as goal
 
 pub loop-tested-init : goal.loop-tested-init

@@ -1,6 +1,5 @@
-use Rattle.std.proofs.Common.{All, take}
-use Rattle.pb_text.specs.meaning.Limits.{largest}
-use Rattle.pb_normal.specs.meaning.Constraints.{Fits}
+use Rattle.pb_normal.proofs.Common.{take, largest, Fits}
+use Rattle.std.proofs.Common.{All}
 use Rattle.pb_normal.proofs.constraints.test.Given as goal
 
 -- the constraints so far fit

@@ -1,5 +1,4 @@
-use Rattle.std.proofs.Common.{◌≡◌, ◌+◌, drop}
-use Rattle.pb_normal.specs.meaning.Form.{total, each}
+use Rattle.pb_normal.proofs.Common.{◌+◌, ◌≡◌, drop, each, total}
 use Rattle.pb_normal.proofs.form.size_of.Given as goal
 
 abbrev pub invariant-loop-t : goal.invariant-loop-t

@@ -1,5 +1,4 @@
-use Rattle.std.proofs.Common.{arith}
-use Rattle.pb_normal.specs.meaning.Form.{true_at}
+use Rattle.pb_normal.proofs.Common.{arith, true_at}
 use Rattle.pb_normal.proofs.lemmas.rules.Sums.{Holds-sum}
 use Rattle.pb_normal.proofs.lemmas.rules.Scales.{Holds-multiplied, Holds-saturated}
 use Rattle.pb_normal.proofs.lemmas.terms.Maps.{Holds-divided, Holds-weakened, Holds-negation, Holds-negation_back, total-le-each}

@@ -1,6 +1,5 @@
 use Rattle.pb_normal.proofs.lemmas.rules.Keeps.{IsOver-sum, IsOver-mapped, IsOver-filtered, IsOver-opposite, IsOver-below}
-use Rattle.std.proofs.Common.{◌*◌, min}
-use Rattle.std.specs.Int.{div_ceil}
+use Rattle.pb_normal.proofs.Common.{◌*◌, min, div_ceil}
 use Rattle.pb_normal.proofs.laws.rules_keep_variables.Goals as goal
 
 pub returns-clause-sum : goal.returns-clause-sum

@@ -1,4 +1,4 @@
-use Rattle.pb_normal.specs.declared.side.Side.TheVariants.{AtLeast, AtMost}
+use Rattle.pb_normal.proofs.Common.{AtLeast, AtMost}
 use Rattle.pb_normal.proofs.lemmas.names.WrittenForms.{SameSolutions-side, SameAsForm-from, SameAsForms-from, SameAsForm-linear_of, IsSideOf-append}
 use Rattle.pb_normal.proofs.lemmas.names.Appearing.{written_alike}
 use Rattle.pb_normal.proofs.laws.written_forms_are_exact.Goals as goal

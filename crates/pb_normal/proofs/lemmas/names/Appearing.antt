@@ -1,14 +1,8 @@
 -- Names that appear one after another. Offered to other crates.
-use Rattle.std.proofs.Common.{◌≡◌, ℕ, ◌<◌, Bool, true, false, cond, List, [], ◌∷◌, ◌++◌, length, map, refl, sym, ◌∙◌, ap, subst, append_assoc, append-nil, pos}
-use Rattle.std.specs.List.{All}
-use Rattle.std.proofs.lemmas.List.{get_or_append_left}
-use Rattle.std.proofs.lemmas.List.Elements.{All-head, All-tail}
-use Rattle.pb_sums.specs.declared.linear.Term.{Term}
+use Rattle.pb_normal.proofs.Common.{ℕ, ◌++◌, ◌<◌, ◌∙◌, ◌∷◌, ◌≡◌, [], ap, append-nil, append_assoc, Bool, cond, false, length, List, map, pos, refl}
+use Rattle.pb_normal.proofs.Common.{subst, sym, true, get_or_append_left, All-head, All-tail, All, Term, Entry, Form, AreDistinct, has_name, HasNames}
+use Rattle.pb_normal.proofs.Common.{with_name, with_names, linear_of, term_of}
 use Rattle.pb_sums.specs.declared.linear.Relation.TheVariants.{AtLeast}
-use Rattle.pb_normal.specs.declared.entry.Entry.{Entry}
-use Rattle.pb_normal.specs.meaning.Form.{Form}
-use Rattle.pb_normal.specs.meaning.Names.{has_name, AreDistinct, with_name, with_names, HasNames}
-use Rattle.pb_normal.specs.meaning.Written.{term_of, linear_of}
 use Rattle.pb_normal.proofs.lemmas.names.Numbering.{has_name-append, with_name-has, AreDistinct-with}
 
 pub in_turn : (names others further : List (List ℕ)) → with_names names (others ++ further) ≡ with_names (with_names names others) further

@@ -1,20 +1,12 @@
 -- The forms that constraints load as, over the names so far. Offered to other crates.
-use Rattle.std.proofs.Common.{Result, Ok, Err, OnOk, OnErr, ◌≡◌, ℕ, ◌<◌, List, [], ◌∷◌, ◌++◌, length, zero, suc, arith, refl, sym, ◌∙◌, ap, subst, append_assoc, append-nil, take, get_or, ◌+◌}
-use Rattle.std.specs.List.{All, AllByRecursion}
-use Rattle.pb_normal.specs.declared.fault.NormalFault.{NormalFault}
-use Rattle.pb_normal.specs.declared.fault.NormalFault.TheVariants.{Memory, Overflow}
-use Rattle.std.proofs.lemmas.Grind.{flat_map-append}
-use Rattle.pb_sums.specs.declared.linear.Linear.{Linear}
+use Rattle.pb_normal.proofs.Common.{ℕ, ◌++◌, ◌+◌, ◌<◌, ◌∙◌, ◌∷◌, ◌≡◌, [], ap, append-nil, append_assoc, arith, Err, get_or, length, List, Ok, OnErr}
+use Rattle.pb_normal.proofs.Common.{OnOk, refl, Result, subst, suc, sym, take, zero, flat_map-append, All, AllByRecursion, Linear, take_read}
+use Rattle.pb_normal.proofs.Common.{NormalFault, Memory, Overflow, Side, AreFormsOf, constraint_names, sides_in, with_sides, Form, AfterPrefix}
+use Rattle.pb_normal.proofs.Common.{AreDistinct, HasNames, with_names, names_of}
 use Rattle.pb_sums.specs.declared.linear.Relation.{Relation}
 use Rattle.pb_sums.specs.declared.linear.Relation.TheVariants.{AtLeast, Equal}
-use Rattle.pb_normal.specs.declared.side.Side.{Side}
 use Rattle.pb_normal.specs.declared.side.Side.TheVariants.{AtLeast as least, AtMost as most}
-use Rattle.pb_normal.specs.meaning.Constraints.{AreFormsOf, constraint_names, sides_in, with_sides}
-use Rattle.pb_normal.specs.meaning.Form.{Form}
-use Rattle.pb_normal.specs.meaning.Names.{AfterPrefix, AreDistinct, HasNames, with_names}
-use Rattle.pb_normal.specs.meaning.Written.{names_of}
 use Rattle.pb_normal.proofs.lemmas.names.Appearing.{prefix, named, names_split, distinct, present, in_turn}
-use Rattle.pb_text.proofs.lemmas.text.Lists.{take_read}
 use Rattle.pb_normal.proofs.lemmas.names.WrittenForms.{IsSideOf-append}
 
 -- the names of each side's constraint have numbers

@@ -1,10 +1,6 @@
 -- A form written out, term by term.
-use Rattle.std.proofs.Common.{◌≡◌, ℕ, ◌+◌, ◌<◌, List, [], ◌∷◌, ◌++◌, map, take, length, get_or, slice_get, Some, refl, sym, ap, pos}
-use Rattle.std.proofs.lemmas.List.{map-append, take_more}
-use Rattle.std.proofs.lemmas.Option.{get_or_from_slice_get}
-use Rattle.pb_sums.specs.declared.linear.Term.{Term}
-use Rattle.pb_normal.specs.declared.entry.Entry.{Entry}
-use Rattle.pb_normal.specs.meaning.Written.{term_of}
+use Rattle.pb_normal.proofs.Common.{ℕ, ◌++◌, ◌+◌, ◌<◌, ◌∷◌, ◌≡◌, [], ap, get_or, length, List, map, pos, refl, slice_get, Some, sym, take, map-append}
+use Rattle.pb_normal.proofs.Common.{take_more, get_or_from_slice_get, Term, Entry, term_of}
 
 -- the term of an entry whose variable has this name
 abbrev pub term_named : List ℕ → Entry → Term

@@ -1,19 +1,10 @@
 -- A name keeps its number, and names appear one by one. Offered to other crates.
-use Rattle.std.proofs.Common.{◌≡◌, ℕ, zero, suc, ◌+◌, ◌<◌, Bool, true, false, not, ◌||◌, cond, List, [], ◌∷◌, ◌++◌, length, take, map, refl, sym, ◌∙◌, ap, arith, Option, Some, None, slice_get, Result, Ok, Err, OnErr, nat_lt}
-use Rattle.std.specs.List.{list_any, position, position_or_len}
-use Rattle.std.specs.Str.{bytes_eq}
-use Rattle.std.proofs.lemmas.List.{map-append, take-map}
-use Rattle.std.proofs.lemmas.Bool.Decides.{nat_tests}
-use Rattle.std.proofs.lemmas.Bool.{or_left, or_right, or_parts, or_from}
+use Rattle.pb_normal.proofs.Common.{ℕ, ◌++◌, ◌+◌, ◌<◌, ◌||◌, ◌∙◌, ◌∷◌, ◌≡◌, [], ap, arith, Bool, cond, Err, false, length, List, map, nat_lt, None}
+use Rattle.pb_normal.proofs.Common.{not, Ok, OnErr, Option, refl, Result, slice_get, Some, suc, sym, take, true, zero, or_from, or_left, or_parts}
+use Rattle.pb_normal.proofs.Common.{or_right, nat_tests, map-append, take-map, slice_get_within, bytes_eq-Decides, list_any, position}
+use Rattle.pb_normal.proofs.Common.{position_or_len, bytes_eq, Term, Entry, Side, entry_of, raw_of, AfterPrefix, AreDistinct, has_name, HasNames}
+use Rattle.pb_normal.proofs.Common.{number_in, with_name, with_names, names_of, side_number, side_terms}
 use Rattle.pb_normal.proofs.lemmas.terms.Positions.{position_or_len-none}
-use Rattle.std.proofs.lemmas.Slice.Eq.{bytes_eq-Decides}
-use Rattle.std.proofs.lemmas.Option.{slice_get_within}
-use Rattle.pb_sums.specs.declared.linear.Term.{Term}
-use Rattle.pb_normal.specs.declared.side.Side.{Side}
-use Rattle.pb_normal.specs.meaning.Names.{has_name, AreDistinct, with_name, with_names, number_in, HasNames, AfterPrefix}
-use Rattle.pb_normal.specs.engine.Raw.{raw_of, entry_of}
-use Rattle.pb_normal.specs.meaning.Written.{names_of, side_terms, side_number}
-use Rattle.pb_normal.specs.declared.entry.Entry.{Entry}
 
 stays : (b : Bool) (n m : ℕ) → (b ≡ false → n ≡ m) → cond (not b) (1 + n) 0 ≡ cond (not b) (1 + m) 0
 stays true n m h = refl

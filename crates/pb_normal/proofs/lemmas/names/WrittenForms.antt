@@ -1,34 +1,19 @@
 -- The form of a written constraint. Offered to other crates.
-use Rattle.std.proofs.Common.{inl, inr, ◌≡◌, ℕ, ◌+◌, ◌-◌, ◌*◌, ◌<◌, ◌≤◌, ◌^◌, Bool, true, false, not, ◌&&◌, cond, eqb, List, [], ◌∷◌, ◌++◌, map, length, take, drop, get_or, slice_get, Some, refl, sym, ◌∙◌, ap, arith, ℤ, pos, negsuc, ◌+ℤ◌, ◌-ℤ◌, ◌≤ℤ◌, neg_ℤ, unsigned_abs, ◌↔◌, FitsSigned, to_z, of_z}
-use Rattle.std.specs.Int.{w128}
-use Rattle.std.specs.List.{All}
-use Rattle.std.specs.Str.{bytes_eq}
-use Rattle.std.proofs.lemmas.Int.{ints, to_z-of_z}
-use Rattle.std.proofs.lemmas.Bool.Decides.{nat_tests}
-use Rattle.std.proofs.lemmas.Bool.{cases_lt}
-use Rattle.std.proofs.lemmas.Slice.Eq.{bytes_eq-Decides}
-use Rattle.std.proofs.lemmas.Option.{get_or_from_slice_get, slice_get-get_or}
-use Rattle.std.proofs.lemmas.List.{length-append, take-append-drop}
-use Rattle.std.proofs.lemmas.List.Elements.{All-nil, All-cons}
-use Rattle.pb_sums.specs.declared.linear.Term.{Term}
-use Rattle.pb_sums.specs.declared.linear.Linear.{Linear}
+use Rattle.pb_normal.proofs.Common.{ℕ, ℤ, ◌&&◌, ◌*◌, ◌++◌, ◌+ℤ◌, ◌+◌, ◌-ℤ◌, ◌-◌, ◌<◌, ◌^◌, ◌↔◌, ◌∙◌, ◌∷◌, ◌≡◌, ◌≤ℤ◌, ◌≤◌, [], ap, arith, Bool, cond}
+use Rattle.pb_normal.proofs.Common.{drop, eqb, false, FitsSigned, get_or, inl, inr, length, List, map, neg_ℤ, negsuc, not, of_z, pos, refl, slice_get}
+use Rattle.pb_normal.proofs.Common.{Some, sym, take, to_z, true, unsigned_abs, cases_lt, nat_tests, ints, to_z-of_z, length-append, take-append-drop}
+use Rattle.pb_normal.proofs.Common.{All-cons, All-nil, get_or_from_slice_get, slice_get-get_or, bytes_eq-Decides, w128, All, bytes_eq, Linear, Term}
+use Rattle.pb_normal.proofs.Common.{drop_read, Entry, Side, AtLeast, AtMost, Adds, flip, entry_of, is_below_0, raw_of, shift, AreFormsOf, at_least_0}
+use Rattle.pb_normal.proofs.Common.{each, Form, Holds, IsNormal, IsRising, IsWithin, low, negated_of, negative, plain_of, total, true_at, AreDistinct}
+use Rattle.pb_normal.proofs.Common.{has_name, HasNames, number_in, by_number, IsFormOf, IsSideOf, linear_of, magnitude, names_of, on_negations}
+use Rattle.pb_normal.proofs.Common.{SameAsForm, SameAsForms, SameSolutions, side_number, side_terms, term_of, true_sum, written_on}
 use Rattle.pb_sums.specs.declared.linear.Relation.TheVariants.{AtLeast as relation_least, Equal as relation_equal}
-use Rattle.pb_normal.specs.declared.side.Side.{Side}
-use Rattle.pb_normal.specs.declared.side.Side.TheVariants.{AtLeast, AtMost}
-use Rattle.pb_normal.specs.declared.entry.Entry.{Entry}
-use Rattle.pb_normal.specs.meaning.Form.{Form, total, each, negative, plain_of, negated_of, true_at, at_least_0, low, Holds, IsRising, IsNormal, IsWithin}
-use Rattle.pb_normal.specs.engine.Adds.{flip, Adds}
-use Rattle.pb_normal.specs.meaning.Names.{has_name, AreDistinct, number_in, HasNames}
-use Rattle.pb_normal.specs.meaning.Constraints.{AreFormsOf}
-use Rattle.pb_normal.specs.engine.Raw.{is_below_0, entry_of, raw_of, shift}
-use Rattle.pb_normal.specs.meaning.Written.{names_of, magnitude, written_on, on_negations, true_sum, IsFormOf, side_number, side_terms, IsSideOf, by_number, SameSolutions, SameAsForm, SameAsForms, term_of, linear_of}
 use Rattle.pb_normal.proofs.lemmas.terms.Maps.{counted-le-all}
 use Rattle.pb_normal.proofs.lemmas.terms.Totals.{size-Adds}
 use Rattle.pb_normal.proofs.lemmas.terms.Variables.{total-same}
 use Rattle.pb_normal.proofs.lemmas.rules.Sums.{at_least_0-is, flip_plain}
 use Rattle.pb_normal.proofs.lemmas.rules.Unique.{Balanced, IsRising-same, same_form}
 use Rattle.pb_normal.proofs.lemmas.terms.Balance.{total-balanced, total-past, All-below}
-use Rattle.pb_text.proofs.lemmas.text.Lists.{drop_read}
 use Rattle.pb_normal.proofs.lemmas.names.Numbering.{slice_get-number, number_in-below, number_in-get, number_in-append, has_name-append, AreDistinct-prefix}
 
 pub total-raw : (names : List (List ℕ)) (ts : List Term) → total each (map (raw_of names) ts) ≡ magnitude ts

@@ -1,10 +1,7 @@
 -- The size and the degree of a sum are at most those of both forms together.
-use Rattle.std.proofs.Common.{inl, inr, ◌≡◌, ℕ, zero, suc, ◌+◌, pos, ◌+ℤ◌, ◌<◌, ◌≤◌, ◌⊎◌, max, Bool, true, false, not, cond, ltb, IsTrue, ◌↔◌, List, [], ◌∷◌, refl, arith, rules, tests}
-use Rattle.std.proofs.lemmas.Bool.{cases_eq, cases_lt}
-use Rattle.std.proofs.lemmas.Int.{ints}
-use Rattle.pb_normal.specs.declared.entry.Entry.{Entry}
-use Rattle.pb_normal.specs.meaning.Form.{Form, size, low, bound, total, each, negative, plain_of, negated_of, IsRising}
-use Rattle.pb_normal.specs.meaning.Rules.{IsSum, SumMeasures, SumPasses}
+use Rattle.pb_normal.proofs.Common.{ℕ, ◌+ℤ◌, ◌+◌, ◌<◌, ◌↔◌, ◌∷◌, ◌≡◌, ◌≤◌, ◌⊎◌, [], arith, Bool, cond, false, inl, inr, IsTrue, List, ltb, max, not}
+use Rattle.pb_normal.proofs.Common.{pos, refl, rules, suc, tests, true, zero, cases_eq, cases_lt, ints, Entry, bound, each, Form, IsRising, low}
+use Rattle.pb_normal.proofs.Common.{negated_of, negative, plain_of, size, total, IsSum, SumMeasures, SumPasses}
 use Rattle.pb_normal.proofs.lemmas.rules.Measures.{SumPasses-not}
 use Rattle.pb_normal.proofs.lemmas.rules.Sums.{at_least_0-le, IsSum-swap}
 use Rattle.pb_normal.proofs.lemmas.rules.Unique.{none_below}

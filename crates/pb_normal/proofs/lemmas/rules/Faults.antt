@@ -1,8 +1,6 @@
 -- Which fault a result has.
-use Rattle.std.proofs.Common.{◌≡◌, ◌↔◌, Result, Ok, Err}
+use Rattle.pb_normal.proofs.Common.{◌↔◌, ◌≡◌, Err, Ok, Result, NormalFault, Memory, Overflow}
 use Rattle.std.specs.Result.{IsErrAnd}
-use Rattle.pb_normal.specs.declared.fault.NormalFault.{NormalFault}
-use Rattle.pb_normal.specs.declared.fault.NormalFault.TheVariants.{Overflow, Memory}
 
 -- `Memory` is not `Overflow`
 pub overflow-Memory : {A : Type 0} (r : Result A NormalFault) (P : Type 0) → IsErrAnd r (λ e. e ≡ Memory) → (P → ⊥) → (r ≡ Err Overflow) ↔ P

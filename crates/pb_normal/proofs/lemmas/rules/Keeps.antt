@@ -1,12 +1,9 @@
 -- The result of a rule has no other variables than its operands. Whether a form holds depends on the values of its
 -- variables only. Offered to other crates.
-use Rattle.std.proofs.Common.{◌≡◌, ◌≢◌, ℕ, ◌+◌, ◌<◌, ◌↔◌, nat_lt, Bool, true, false, not, ◌&&◌, cond, eqb, List, [], ◌∷◌, All, map, filter, refl, ap, arith}
-use Rattle.std.proofs.lemmas.Bool.{ltb-true, lt-ltb}
-use Rattle.std.proofs.lemmas.Int.{ints}
-use Rattle.std.proofs.lemmas.List.Elements.{All-nil, All-cons, All-head, All-tail, All-map, All-filter}
-use Rattle.pb_normal.specs.declared.entry.Entry.{Entry}
-use Rattle.pb_normal.specs.meaning.Form.{Form, counted, total, plain_of, negated_of, true_at, IsRising, IsOver, AgreeOn, Holds}
-use Rattle.pb_normal.specs.meaning.Rules.{IsSum, with_coefficient, opposite}
+use Rattle.pb_normal.proofs.Common.{ℕ, ◌&&◌, ◌+◌, ◌<◌, ◌↔◌, ◌∷◌, ◌≡◌, ◌≢◌, [], ap, arith, Bool, cond, eqb, false, List, map, nat_lt, not, refl, true}
+use Rattle.pb_normal.proofs.Common.{lt-ltb, ltb-true, ints, All-cons, All-filter, All-head, All-map, All-nil, All-tail, Entry, AgreeOn, counted, Form}
+use Rattle.pb_normal.proofs.Common.{Holds, IsOver, IsRising, negated_of, plain_of, total, true_at, IsSum, opposite, with_coefficient}
+use Rattle.std.proofs.Common.{All, filter}
 use Rattle.pb_normal.proofs.lemmas.rules.Unique.{none_below, one_sided}
 use Rattle.pb_normal.proofs.lemmas.terms.Variables.{counted-here, counted-other}
 

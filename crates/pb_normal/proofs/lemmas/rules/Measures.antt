@@ -1,9 +1,6 @@
 -- The size and the degree of a sum, in terms of what cancels.
-use Rattle.std.proofs.Common.{inl, inr, ◌≡◌, ℕ, ◌+◌, ◌-◌, ◌*◌, ◌<◌, ◌≤◌, List, refl, sym, ◌∙◌, ap, arith, ◌↔◌}
-use Rattle.pb_normal.specs.declared.entry.Entry.{Entry}
-use Rattle.pb_normal.specs.engine.Adds.{Adds, Cancels}
-use Rattle.pb_normal.specs.meaning.Form.{Form, size, total, each, IsRising}
-use Rattle.pb_normal.specs.meaning.Rules.{IsSum, SumMeasures, SumPasses, SumIsContradiction}
+use Rattle.pb_normal.proofs.Common.{ℕ, ◌*◌, ◌+◌, ◌-◌, ◌<◌, ◌↔◌, ◌∙◌, ◌≡◌, ◌≤◌, ap, arith, inl, inr, List, refl, sym, Entry, Adds, Cancels, each, Form}
+use Rattle.pb_normal.proofs.Common.{IsRising, size, total, IsSum, SumIsContradiction, SumMeasures, SumPasses}
 use Rattle.pb_normal.proofs.lemmas.terms.Totals.{size-Adds}
 use Rattle.pb_normal.proofs.lemmas.rules.Sums.{IsSum-from}
 use Rattle.pb_normal.proofs.lemmas.rules.Unique.{IsSum-unique}

@@ -1,9 +1,6 @@
 -- A factor and a divisor of 1 change nothing.
-use Rattle.std.proofs.Common.{◌≡◌, ℕ, ◌*◌, List, [], ◌∷◌, map, refl, sym, ◌∙◌, arith, Result, Ok, Err, IfOk}
-use Rattle.std.specs.Int.{div_ceil}
-use Rattle.pb_normal.specs.declared.entry.Entry.{Entry}
-use Rattle.pb_normal.specs.meaning.Form.{Form}
-use Rattle.pb_normal.specs.meaning.Rules.{with_coefficient, multiplied, divided}
+use Rattle.pb_normal.proofs.Common.{ℕ, ◌*◌, ◌∙◌, ◌∷◌, ◌≡◌, [], arith, Err, IfOk, List, map, Ok, refl, Result, sym, div_ceil, Entry, Form, divided}
+use Rattle.pb_normal.proofs.Common.{multiplied, with_coefficient}
 use Rattle.pb_normal.proofs.lemmas.rules.Unique.{same_entry, same_form}
 use Rattle.pb_normal.proofs.lemmas.terms.Maps.{le-div_ceil, div_ceil-le}
 

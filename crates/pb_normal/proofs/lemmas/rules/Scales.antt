@@ -1,13 +1,8 @@
 -- Multiplication and saturation. Offered to other crates.
-use Rattle.std.proofs.Common.{zero, suc, inl, inr, ◌≡◌, ℕ, ◌+◌, ◌*◌, ◌/◌, min, ◌^◌, ◌<◌, ◌≤◌, Bool, true, false, cond, ltb, List, [], ◌∷◌, get_or, map, refl, arith}
-use Rattle.std.specs.List.{filter, All}
-use Rattle.std.proofs.lemmas.Nat.{div-add-mod', le-div}
-use Rattle.std.proofs.lemmas.Bool.{cases_lt}
-use Rattle.std.proofs.lemmas.Bool.Decides.{nat_tests}
-use Rattle.std.proofs.Math.Nat.{mul-le-mul_left}
-use Rattle.pb_normal.specs.declared.entry.Entry.{Entry}
-use Rattle.pb_normal.specs.meaning.Form.{Form, size, IsNormal, IsWithin, Holds, true_at, counted, total, each, IsRising}
-use Rattle.pb_normal.specs.meaning.Rules.{Passes, with_coefficient, multiplied, saturated}
+use Rattle.pb_normal.proofs.Common.{ℕ, ◌*◌, ◌+◌, ◌/◌, ◌<◌, ◌^◌, ◌∷◌, ◌≡◌, ◌≤◌, [], arith, Bool, cond, false, get_or, inl, inr, List, ltb, map, min}
+use Rattle.pb_normal.proofs.Common.{refl, suc, true, zero, mul-le-mul_left, cases_lt, nat_tests, div-add-mod', le-div, All, filter, Entry, counted}
+use Rattle.pb_normal.proofs.Common.{each, Form, Holds, IsNormal, IsRising, IsWithin, size, total, true_at, multiplied, Passes, saturated}
+use Rattle.pb_normal.proofs.Common.{with_coefficient}
 use Rattle.pb_normal.proofs.lemmas.terms.Maps.{IsRising-map, total-filter-le, total-map-le, counted-le}
 use Rattle.pb_normal.proofs.lemmas.terms.Merging.{total-read}
 use Rattle.pb_normal.proofs.lemmas.terms.Totals.{IsRising-from}

@@ -1,10 +1,7 @@
 -- The sum of two forms: a merge computes it, and it holds if both forms hold. Offered to other crates.
-use Rattle.std.proofs.Common.{◌≡◌, ℕ, ◌+◌, ◌-◌, ◌≤◌, max, Result, Ok, Err, IfOk, Bool, true, false, not, ◌&&◌, cond, eqb, List, refl, sym, arith, ℤ, pos, negsuc, ◌+ℤ◌}
-use Rattle.std.proofs.lemmas.Int.{ints}
-use Rattle.pb_normal.specs.declared.entry.Entry.{Entry}
-use Rattle.pb_normal.specs.meaning.Form.{Form, total, negative, plain_of, negated_of, true_at, at_least_0, bound, low, Holds, IsRising}
-use Rattle.pb_normal.specs.meaning.Rules.{IsSum}
-use Rattle.pb_normal.specs.engine.Adds.{flip, Adds}
+use Rattle.pb_normal.proofs.Common.{ℕ, ℤ, ◌&&◌, ◌+ℤ◌, ◌+◌, ◌-◌, ◌≡◌, ◌≤◌, arith, Bool, cond, eqb, Err, false, IfOk, List, max, negsuc, not, Ok, pos}
+use Rattle.pb_normal.proofs.Common.{refl, Result, sym, true, ints, Entry, Adds, flip, at_least_0, bound, Form, Holds, IsRising, low, negated_of}
+use Rattle.pb_normal.proofs.Common.{negative, plain_of, total, true_at, IsSum}
 use Rattle.pb_normal.proofs.lemmas.terms.Variables.{total-same, total-by_variable, up_to-balance, share, top}
 
 pub at_least_0-is : (z : ℤ) (m k : ℕ) → (z +ℤ pos k) ≡ pos m → at_least_0 z ≡ m - k

@@ -1,10 +1,7 @@
 -- A form is determined by its coefficients and its degree. Offered to other crates.
-use Rattle.std.proofs.Common.{inl, inr, ◌≡◌, ℕ, ◌+◌, ◌<◌, Bool, true, false, not, ◌&&◌, cond, eqb, List, [], ◌∷◌, refl, sym, ◌∙◌, ap, arith}
-use Rattle.std.proofs.lemmas.Bool.{cases_order}
-use Rattle.std.proofs.lemmas.Int.{ints}
-use Rattle.pb_normal.specs.declared.entry.Entry.{Entry}
-use Rattle.pb_normal.specs.meaning.Rules.{IsSum}
-use Rattle.pb_normal.specs.meaning.Form.{Form, counted, total, negative, plain_of, negated_of, IsRising, IsOrdered, coefficient, low}
+use Rattle.pb_normal.proofs.Common.{ℕ, ◌&&◌, ◌+◌, ◌<◌, ◌∙◌, ◌∷◌, ◌≡◌, [], ap, arith, Bool, cond, eqb, false, inl, inr, List, not, refl, sym, true}
+use Rattle.pb_normal.proofs.Common.{cases_order, ints, Entry, coefficient, counted, Form, IsOrdered, IsRising, low, negated_of, negative, plain_of}
+use Rattle.pb_normal.proofs.Common.{total, IsSum}
 use Rattle.pb_normal.proofs.lemmas.terms.Variables.{counted-here, counted-other}
 
 -- a variable below all others has no coefficient

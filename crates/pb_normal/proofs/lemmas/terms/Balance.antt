@@ -1,9 +1,6 @@
 -- Lists of terms with the same coefficients.
-use Rattle.std.proofs.Common.{◌≡◌, ℕ, ◌+◌, ◌<◌, ◌≤◌, nat_lt, Bool, ◌&&◌, eqb, List, [], arith}
-use Rattle.std.specs.List.{All}
-use Rattle.std.proofs.lemmas.Bool.{le-ltb, ltb-false}
-use Rattle.pb_normal.specs.declared.entry.Entry.{Entry}
-use Rattle.pb_normal.specs.meaning.Form.{total, negative, plain_of, negated_of, true_at, IsRising}
+use Rattle.pb_normal.proofs.Common.{ℕ, ◌&&◌, ◌+◌, ◌<◌, ◌≡◌, ◌≤◌, [], arith, Bool, eqb, List, nat_lt, le-ltb, ltb-false, All, Entry, IsRising}
+use Rattle.pb_normal.proofs.Common.{negated_of, negative, plain_of, total, true_at}
 use Rattle.pb_normal.proofs.lemmas.rules.Keeps.{AreIn-below, balanced_outside, none_outside}
 use Rattle.pb_normal.proofs.lemmas.rules.Sums.{total-sum}
 use Rattle.pb_normal.proofs.lemmas.rules.Unique.{Balanced}

@@ -1,12 +1,9 @@
 -- A list of terms collected from two halves.
-use Rattle.std.proofs.Common.{◌≡◌, ℕ, ◌+◌, ◌-◌, ◌<◌, ◌≤◌, Bool, List, IsPermutation, [], ◌∷◌, ◌++◌, length, get_or, Result, Ok, Err, IfOk, take, drop, refl, sym, subst, ◌∙◌, ap, arith}
-use Rattle.std.proofs.lemmas.List.{drop_more, take-append-drop}
-use Rattle.pb_normal.specs.declared.entry.Entry.{Entry}
+use Rattle.pb_normal.proofs.Common.{ℕ, ◌++◌, ◌+◌, ◌-◌, ◌<◌, ◌∙◌, ◌∷◌, ◌≡◌, ◌≤◌, [], ap, arith, Bool, drop, Err, get_or, IfOk, IsPermutation, length}
+use Rattle.pb_normal.proofs.Common.{List, Ok, refl, Result, subst, sym, take, drop_more, take-append-drop, sum_by, Entry, Adds, flip, counted, each}
+use Rattle.pb_normal.proofs.Common.{IsRising, negative, total}
 use Rattle.std.proofs.lemmas.List.Sorted.{sum_by-IsPermutation}
 use Rattle.std.proofs.lemmas.List.Sums.{sum_by-cons}
-use Rattle.std.specs.List.{sum_by}
-use Rattle.pb_normal.specs.meaning.Form.{counted, total, each, negative, IsRising}
-use Rattle.pb_normal.specs.engine.Adds.{Adds, flip}
 use Rattle.pb_normal.proofs.lemmas.terms.Totals.{total-append, IsRising-from}
 
 pub Adds-halves : (xs ys ps qs rs : List Entry) (c d e : ℕ) → Adds xs [] ps c → Adds ys [] qs d → Adds ps qs rs e → Adds (xs ++ ys) [] rs (c + d + e)

@@ -1,12 +1,8 @@
 -- Literals that count once each.
-use Rattle.std.proofs.Common.{◌≡◌, ℕ, ◌+◌, ◌<◌, ◌^◌, Bool, true, false, not, ◌&&◌, ◌||◌, cond, eqb, List, [], ◌∷◌, map, length, refl, sym, ◌∙◌, ap, arith, ◌⊎◌, inl, inr, zero, suc}
-use Rattle.std.specs.Cmp.{both_ways}
-use Rattle.std.proofs.lemmas.Bool.{and_parts, eqb-true, eq-eqb, false_from_ne_true}
-use Rattle.pb_normal.specs.declared.entry.Entry.{Entry}
+use Rattle.pb_normal.proofs.Common.{ℕ, ◌&&◌, ◌+◌, ◌<◌, ◌^◌, ◌||◌, ◌∙◌, ◌∷◌, ◌≡◌, ◌⊎◌, [], ap, arith, Bool, cond, eqb, false, inl, inr, length, List}
+use Rattle.pb_normal.proofs.Common.{map, not, refl, suc, sym, true, zero, and_parts, eq-eqb, eqb-true, false_from_ne_true, both_ways, Entry, Adds}
+use Rattle.pb_normal.proofs.Common.{flip, each, IsNormal, IsRising, total, IsCountOf, on, only, unit_of, with_coefficient}
 use Rattle.pb_normal.specs.declared.numbered.NumberedLiteral.{NumberedLiteral}
-use Rattle.pb_normal.specs.meaning.Form.{total, each, IsRising, IsNormal}
-use Rattle.pb_normal.specs.meaning.Rules.{IsCountOf, only, on, unit_of, with_coefficient}
-use Rattle.pb_normal.specs.engine.Adds.{Adds, flip}
 use Rattle.pb_normal.proofs.lemmas.rules.Unique.{none_below}
 use Rattle.pb_normal.proofs.lemmas.terms.Variables.{total-same}
 

@@ -1,9 +1,6 @@
 -- Two entries are compared by their parts.
-use Rattle.std.proofs.Common.{◌≡◌, ◌&&◌, eqb, ap}
+use Rattle.pb_normal.proofs.Common.{◌&&◌, ◌≡◌, ap, eqb, Decides-and, Decides-eqb, booleans_Decides, Entry}
 use Rattle.std.specs.Bool.{beq, Decides}
-use Rattle.std.specs.Cmp.{booleans_Decides}
-use Rattle.std.proofs.lemmas.Bool.Decides.{Decides-and, Decides-eqb}
-use Rattle.pb_normal.specs.declared.entry.Entry.{Entry}
 use Rattle.pb_normal.proofs.lemmas.rules.Unique.{same_entry}
 
 pub entry-Decides : (a b : Entry) → Decides (eqb a.variable b.variable && (beq a.negated b.negated && eqb a.coefficient b.coefficient)) (a ≡ b)

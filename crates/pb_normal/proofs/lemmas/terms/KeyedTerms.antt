@@ -1,22 +1,14 @@
 -- Terms in a map by their variables: what an insertion and a removal change.
-use Rattle.std.proofs.Common.{◌≡◌, ℕ, ◌+◌, ◌<◌, ◌≤◌, Bool, true, false, cond, eqb, List, [], ◌∷◌, ◌++◌, Option, Some, None, refl, sym, ◌∙◌, ap, arith, take, drop, length, get_or, Ordering, Less, Equal, Greater}
-use Rattle.std.specs.List.{All, AllByRecursion}
+use Rattle.pb_normal.proofs.Common.{ℕ, ◌++◌, ◌+◌, ◌<◌, ◌∙◌, ◌∷◌, ◌≡◌, ◌≤◌, [], ap, arith, Bool, cond, drop, eqb, Equal, false, get_or, Greater}
+use Rattle.pb_normal.proofs.Common.{length, Less, List, None, Option, Ordering, refl, Some, sym, take, true, nat_cmp_total, ranked, take-append-drop}
+use Rattle.pb_normal.proofs.Common.{All-cons, All-head, All-tail, sum_by-insert_entry, sum_by-remove_entry, BTreeMap, get, insert_entry, is_at}
+use Rattle.pb_normal.proofs.Common.{values, All, AllByRecursion, keys_of, lookup, remove_entry, values_of, option_map, option_to_list, unwrap_or}
+use Rattle.pb_normal.proofs.Common.{is_eq, match_ordering, nat_cmp, drop_read, take_read, Entry, Adds, flip, IsAtItsKey, IsKeyed, counted, each}
+use Rattle.pb_normal.proofs.Common.{IsRising, negated_of, negative, plain_of, total}
 use Rattle.std.specs.List.Sorted.{IsStrictlySortedBy}
-use Rattle.std.specs.Option.{option_map, option_to_list, unwrap_or}
-use Rattle.std.specs.Map.{keys_of, values_of, lookup, remove_entry}
-use Rattle.std.specs.BTreeMap.{BTreeMap, IsOrdered, get, values, is_at, insert_entry}
-use Rattle.std.specs.Ordering.{nat_cmp, is_eq, match_ordering}
-use Rattle.std.proofs.lemmas.Cmp.{nat_cmp_total, ranked}
-use Rattle.std.proofs.lemmas.List.Elements.{All-cons, All-head, All-tail}
-use Rattle.std.proofs.lemmas.Map.Entries.{sum_by-insert_entry, sum_by-remove_entry}
+use Rattle.std.specs.BTreeMap.{IsOrdered}
 use Rattle.std.proofs.lemmas.Map.Keys.{sorted_head, sorted_tail}
-use Rattle.pb_normal.specs.declared.entry.Entry.{Entry}
-use Rattle.pb_normal.specs.engine.Adds.{flip, Adds}
-use Rattle.pb_normal.specs.meaning.Form.{counted, total, each, negative, plain_of, negated_of, IsRising}
-use Rattle.pb_normal.specs.engine.Keyed.{IsAtItsKey, IsKeyed}
 use Rattle.pb_normal.proofs.lemmas.terms.Collecting.{total-sum}
-use Rattle.pb_text.proofs.lemmas.text.Lists.{take_read, drop_read}
-use Rattle.std.proofs.lemmas.List.{take-append-drop}
 use Rattle.pb_normal.proofs.lemmas.rules.Sums.{flip_plain}
 use Rattle.pb_normal.proofs.lemmas.terms.Totals.{total-append, Adds-apart, size-Adds}
 use Rattle.pb_normal.proofs.lemmas.rules.Unique.{IsRising-same}

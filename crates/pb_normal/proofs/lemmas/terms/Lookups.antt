@@ -1,20 +1,10 @@
 -- What cancels in the sum of a map and a list, from lookups in the map alone.
-use Rattle.std.proofs.Common.{◌≡◌, ℕ, ◌+◌, ◌<◌, ◌≤◌, false, cond, List, [], ◌∷◌, ◌++◌, Option, Some, None, IfSome, refl, sym, ◌∙◌, ap, arith, Ordering, Less, Equal, Greater, take, length, get_or, append_assoc}
-use Rattle.std.specs.List.{All, AllByRecursion}
+use Rattle.pb_normal.proofs.Common.{ℕ, ◌++◌, ◌+◌, ◌<◌, ◌∙◌, ◌∷◌, ◌≡◌, ◌≤◌, [], ap, append_assoc, arith, cond, Equal, false, get_or, Greater, IfSome}
+use Rattle.pb_normal.proofs.Common.{length, Less, List, None, Option, Ordering, refl, Some, sym, take, ranked, All-head, All-tail, lookup_tail}
+use Rattle.pb_normal.proofs.Common.{BTreeMap, get, insert_entry, is_at, values, nat_cmp_is, All, AllByRecursion, keys_of, lookup, remove_entry}
+use Rattle.pb_normal.proofs.Common.{values_of, option_to_list, is_eq, match_ordering, nat_cmp, take_read, Entry, Adds, Cancels, IsAtItsKey, IsKeyed}
+use Rattle.pb_normal.proofs.Common.{TermCancels, each, IsRising, total}
 use Rattle.std.specs.List.Sorted.{IsStrictlySortedBy}
-use Rattle.std.specs.Cmp.{nat_cmp_is}
-use Rattle.std.specs.Option.{option_to_list}
-use Rattle.std.specs.Map.{keys_of, values_of, lookup, remove_entry}
-use Rattle.std.specs.BTreeMap.{BTreeMap, get, values, is_at, insert_entry}
-use Rattle.std.specs.Ordering.{nat_cmp, is_eq, match_ordering}
-use Rattle.std.proofs.lemmas.Cmp.{ranked}
-use Rattle.std.proofs.lemmas.List.Elements.{All-head, All-tail}
-use Rattle.std.proofs.lemmas.Map.Entries.{lookup_tail}
-use Rattle.pb_text.proofs.lemmas.text.Lists.{take_read}
-use Rattle.pb_normal.specs.declared.entry.Entry.{Entry}
-use Rattle.pb_normal.specs.engine.Adds.{Adds, Cancels}
-use Rattle.pb_normal.specs.engine.Keyed.{IsAtItsKey, IsKeyed, TermCancels}
-use Rattle.pb_normal.specs.meaning.Form.{total, each, IsRising}
 use Rattle.pb_normal.proofs.lemmas.terms.KeyedTerms.{All-insert, All-remove, IsKeyed-get, Replaces-put, Replaces-drop, Adds-replaced, total-prefix}
 use Rattle.pb_normal.proofs.lemmas.terms.Maps.{IsRising-filter}
 use Rattle.pb_normal.proofs.lemmas.terms.Removals.{values-removed}

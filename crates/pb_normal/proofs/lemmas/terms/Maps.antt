@@ -1,13 +1,8 @@
 -- What a change of every term and a filter preserve. Offered to other crates.
-use Rattle.std.proofs.Common.{zero, suc, inl, inr, ◌⊎◌, ◌≡◌, ℕ, ◌+◌, ◌*◌, ◌/◌, ◌%◌, min, ◌<◌, ◌≤◌, Bool, true, false, not, cond, eqb, List, [], ◌∷◌, map, refl, arith}
-use Rattle.std.specs.List.{filter}
-use Rattle.pb_normal.specs.declared.entry.Entry.{Entry}
-use Rattle.pb_normal.specs.meaning.Form.{Form, IsNormal, Holds, true_at, counted, total, each, IsRising}
-use Rattle.std.specs.Int.{div_ceil}
-use Rattle.std.proofs.lemmas.Nat.{div-add-mod', mod_below}
-use Rattle.std.proofs.lemmas.Bool.{cases_lt}
-use Rattle.std.proofs.Math.Nat.{mul-le-mul_left}
-use Rattle.pb_normal.specs.meaning.Rules.{with_coefficient, opposite, divided, weakened, of_variable, negation_of}
+use Rattle.pb_normal.proofs.Common.{ℕ, ◌%◌, ◌*◌, ◌+◌, ◌/◌, ◌<◌, ◌∷◌, ◌≡◌, ◌≤◌, ◌⊎◌, [], arith, Bool, cond, eqb, false, inl, inr, List, map, min, not}
+use Rattle.pb_normal.proofs.Common.{refl, suc, true, zero, mul-le-mul_left, cases_lt, div-add-mod', mod_below, div_ceil, filter, Entry, counted, each}
+use Rattle.pb_normal.proofs.Common.{Form, Holds, IsNormal, IsRising, total, true_at, divided, negation_of, of_variable, opposite, weakened}
+use Rattle.pb_normal.proofs.Common.{with_coefficient}
 use Rattle.pb_normal.proofs.lemmas.terms.Totals.{IsRising-from}
 
 pub IsRising-map : (g : Entry → Entry) (n : ℕ) (ts : List Entry) → ((t : Entry) → (g t).variable ≡ t.variable) → ((t : Entry) → 0 < t.coefficient → 0 < (g t).coefficient) → IsRising n ts → IsRising n (map g ts)

@@ -1,11 +1,7 @@
 -- What the merge of two lists preserves, and its steps. Offered to other crates.
-use Rattle.std.proofs.Common.{◌≡◌, ℕ, ◌+◌, ◌<◌, ◌≤◌, false, List, [], ◌∷◌, ◌++◌, length, take, drop, get_or, arith, append_assoc, add-zero, ◌⊎◌, inl, inr, Option, Some, None, IfSome}
-use Rattle.std.specs.Option.{option_to_list}
-use Rattle.std.proofs.lemmas.List.{append-nil, drop_all, take-append-drop}
-use Rattle.pb_normal.specs.declared.entry.Entry.{Entry}
-use Rattle.pb_normal.specs.meaning.Form.{total, each, IsRising}
-use Rattle.pb_normal.specs.engine.Adds.{Adds}
-use Rattle.pb_text.proofs.lemmas.text.Lists.{take_read, drop_read}
+use Rattle.pb_normal.proofs.Common.{ℕ, ◌++◌, ◌+◌, ◌<◌, ◌∷◌, ◌≡◌, ◌≤◌, ◌⊎◌, [], add-zero, append-nil, append_assoc, arith, drop, false, get_or, IfSome}
+use Rattle.pb_normal.proofs.Common.{inl, inr, length, List, None, Option, Some, take, drop_all, take-append-drop, option_to_list, drop_read}
+use Rattle.pb_normal.proofs.Common.{take_read, Entry, Adds, each, IsRising, total}
 use Rattle.pb_normal.proofs.lemmas.terms.Totals.{Adds-append, Adds-apart, IsRising-between, IsRising-without, IsRising-instead, total-append, size-Adds, IsRising-positive}
 
 pub record Merging (left right : List Entry) (i j : ℕ) (out : List Entry) (c : ℕ) : Type 0 where

@@ -1,16 +1,7 @@
 -- A term is removed from a map.
-use Rattle.std.proofs.Common.{◌≡◌, ℕ, ◌+◌, ◌<◌, Bool, true, false, not, cond, eqb, List, [], ◌∷◌, Some, None, refl, sym, ap, arith, Ordering, Less, Equal, Greater}
-use Rattle.std.specs.List.{All, filter}
-use Rattle.std.specs.Map.{values_of, remove_entry}
-use Rattle.std.specs.BTreeMap.{BTreeMap, get, values, is_at}
-use Rattle.std.specs.Ordering.{nat_cmp, is_eq}
-use Rattle.std.proofs.lemmas.Bool.{eq-eqb, ne_eqb}
-use Rattle.std.proofs.lemmas.Cmp.{ranked}
-use Rattle.std.proofs.lemmas.List.Elements.{All-head, All-tail}
-use Rattle.pb_normal.specs.declared.entry.Entry.{Entry}
-use Rattle.pb_normal.specs.meaning.Form.{total, each, IsRising}
-use Rattle.pb_normal.specs.meaning.Rules.{of_variable}
-use Rattle.pb_normal.specs.engine.Keyed.{IsAtItsKey, IsKeyed}
+use Rattle.pb_normal.proofs.Common.{ℕ, ◌+◌, ◌<◌, ◌∷◌, ◌≡◌, [], ap, arith, Bool, cond, eqb, Equal, false, Greater, Less, List, None, not, Ordering}
+use Rattle.pb_normal.proofs.Common.{refl, Some, sym, true, eq-eqb, ne_eqb, ranked, All-head, All-tail, BTreeMap, get, is_at, values, All, filter}
+use Rattle.pb_normal.proofs.Common.{remove_entry, values_of, is_eq, nat_cmp, Entry, IsAtItsKey, IsKeyed, each, IsRising, total, of_variable}
 use Rattle.pb_normal.proofs.lemmas.terms.KeyedTerms.{IsKeyed-get, Replaces-remove}
 
 -- the terms on other variables

@@ -1,8 +1,6 @@
 -- Lemmas on totals and on lists with rising variables
-use Rattle.std.proofs.Common.{◌≡◌, ℕ, ◌+◌, ◌*◌, ◌<◌, ◌≤◌, Bool, true, false, not, cond, List, [], ◌∷◌, ◌++◌, refl, arith}
-use Rattle.pb_normal.specs.declared.entry.Entry.{Entry}
-use Rattle.pb_normal.specs.meaning.Form.{total, each, negative, IsRising}
-use Rattle.pb_normal.specs.engine.Adds.{flip, Adds}
+use Rattle.pb_normal.proofs.Common.{ℕ, ◌*◌, ◌++◌, ◌+◌, ◌<◌, ◌∷◌, ◌≡◌, ◌≤◌, [], arith, Bool, cond, false, List, not, refl, true, Entry, Adds, flip}
+use Rattle.pb_normal.proofs.Common.{each, IsRising, negative, total}
 
 pub total-append : (p : ℕ → Bool → Bool) (xs ys : List Entry) → total p (xs ++ ys) ≡ total p xs + total p ys
 total-append p [] ys = omega arith

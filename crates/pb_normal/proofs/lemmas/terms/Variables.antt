@@ -1,8 +1,6 @@
 -- A total over a list of terms, as a sum over the variables
-use Rattle.std.proofs.Common.{◌≡◌, ◌≢◌, ℕ, zero, suc, ◌+◌, ◌<◌, ◌≤◌, max, Bool, true, false, not, ◌&&◌, cond, eqb, List, [], ◌∷◌, refl, sym, ◌∙◌, ap, arith, inl, inr}
-use Rattle.std.proofs.lemmas.Bool.{cases_eq, eq-eqb, ne_eqb}
-use Rattle.pb_normal.specs.declared.entry.Entry.{Entry}
-use Rattle.pb_normal.specs.meaning.Form.{counted, total, plain_of, negated_of}
+use Rattle.pb_normal.proofs.Common.{ℕ, ◌&&◌, ◌+◌, ◌<◌, ◌∙◌, ◌∷◌, ◌≡◌, ◌≢◌, ◌≤◌, [], ap, arith, Bool, cond, eqb, false, inl, inr, List, max, not, refl}
+use Rattle.pb_normal.proofs.Common.{suc, sym, true, zero, cases_eq, eq-eqb, ne_eqb, Entry, counted, negated_of, plain_of, total}
 
 pub total-same : (p q : ℕ → Bool → Bool) → ((v : ℕ) (n : Bool) → p v n ≡ q v n) → (ts : List Entry) → total p ts ≡ total q ts
 total-same p q h [] = refl

@@ -1,5 +1,4 @@
-use Rattle.std.proofs.Common.{◌≡◌, ◌+◌, drop, unsigned_abs}
-use Rattle.pb_normal.specs.meaning.Written.{magnitude}
+use Rattle.pb_normal.proofs.Common.{◌+◌, ◌≡◌, drop, unsigned_abs, magnitude}
 use Rattle.pb_normal.proofs.linear.is_within.Given as goal
 
 abbrev pub invariant-loop-t : goal.invariant-loop-t

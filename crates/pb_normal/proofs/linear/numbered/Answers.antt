@@ -1,10 +1,5 @@
-use Rattle.std.proofs.Common.{arith, ◌≡◌, ◌∙◌, FitsSigned, to_z, of_z, rules}
-use Rattle.std.specs.Int.{w128}
-use Rattle.std.proofs.lemmas.Int.{to_z-of_z}
-use Rattle.pb_normal.specs.meaning.Names.{AfterPrefix}
-use Rattle.pb_normal.specs.meaning.Written.{names_of}
+use Rattle.pb_normal.proofs.Common.{◌∙◌, ◌≡◌, arith, FitsSigned, of_z, rules, to_z, to_z-of_z, w128, take_read, AfterPrefix, names_of}
 use Rattle.pb_normal.proofs.lemmas.names.Numbering.{Numbering-push, AfterPrefix-from, OnErr-always}
-use Rattle.pb_text.proofs.lemmas.text.Lists.{take_read}
 use Rattle.pb_normal.proofs.lemmas.names.WrittenForms.{magnitude-read}
 use Rattle.pb_normal.proofs.linear.numbered.Goals as goal
 

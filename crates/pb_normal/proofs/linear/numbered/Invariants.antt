@@ -1,4 +1,4 @@
-use Rattle.std.proofs.Common.{take}
+use Rattle.pb_normal.proofs.Common.{take}
 use Rattle.pb_normal.proofs.lemmas.names.Numbering.{Numbering}
 use Rattle.pb_normal.proofs.linear.numbered.Given as goal
 

@@ -1,6 +1,4 @@
-use Rattle.std.proofs.Common.{arith, ◌≡◌, FitsSigned, to_z, of_z, rules}
-use Rattle.std.specs.Int.{w128}
-use Rattle.std.proofs.lemmas.Int.{to_z-of_z}
+use Rattle.pb_normal.proofs.Common.{◌≡◌, arith, FitsSigned, of_z, rules, to_z, to_z-of_z, w128}
 use Rattle.pb_normal.proofs.lemmas.names.WrittenForms.{magnitude-read, shift-side-le}
 use Rattle.pb_normal.proofs.linear.shift_of.Goals as goal
 

@@ -1,6 +1,4 @@
-use Rattle.std.proofs.Common.{◌≡◌, ◌+◌, drop}
-use Rattle.pb_normal.specs.engine.Raw.{shift}
-use Rattle.pb_normal.specs.meaning.Written.{side_terms}
+use Rattle.pb_normal.proofs.Common.{◌+◌, ◌≡◌, drop, shift, side_terms}
 use Rattle.pb_normal.proofs.linear.shift_of.Given as goal
 
 abbrev pub invariant-loop-t : goal.invariant-loop-t

@@ -1,4 +1,4 @@
-use Rattle.std.proofs.Common.{arith, ◌<◌, length, get_or, refl, inl, inr}
+use Rattle.pb_normal.proofs.Common.{◌<◌, arith, get_or, inl, inr, length, refl}
 use Rattle.pb_normal.proofs.lemmas.terms.Totals.{size-Adds}
 use Rattle.pb_normal.proofs.lemmas.terms.Merging.{Merging-left, Merging-right, Merging-combined, Merging-end, Merging-end_rising, Merging-fits, total-read, positive-read, no_entry}
 use Rattle.pb_normal.proofs.merge.cancelled.Goals as goal

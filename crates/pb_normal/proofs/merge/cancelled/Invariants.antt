@@ -1,5 +1,4 @@
-use Rattle.std.proofs.Common.{length, ◌+◌, ◌-◌, List}
-use Rattle.pb_normal.specs.declared.entry.Entry.{Entry}
+use Rattle.pb_normal.proofs.Common.{◌+◌, ◌-◌, length, List, Entry}
 use Rattle.pb_normal.proofs.lemmas.terms.Merging.{Merging}
 use Rattle.pb_normal.proofs.merge.cancelled.Given as goal
 

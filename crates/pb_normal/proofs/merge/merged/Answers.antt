@@ -1,5 +1,4 @@
-use Rattle.std.proofs.Common.{arith, ◌<◌, length, get_or, refl}
-use Rattle.std.proofs.lemmas.List.{take_rest}
+use Rattle.pb_normal.proofs.Common.{◌<◌, arith, get_or, length, refl, take_rest}
 use Rattle.pb_normal.proofs.lemmas.terms.Merging.{Merging-left, Merging-right, Merging-both, Merging-none, Merging-end, Merging-fits, total-read, positive-read, no_entry}
 use Rattle.pb_normal.proofs.lemmas.terms.Totals.{size-Adds}
 use Rattle.pb_normal.proofs.merge.merged.Goals as goal

@@ -1,4 +1,4 @@
-use Rattle.std.proofs.Common.{length, ◌+◌, ◌-◌}
+use Rattle.pb_normal.proofs.Common.{◌+◌, ◌-◌, length}
 use Rattle.pb_normal.proofs.lemmas.terms.Merging.{Merging}
 use Rattle.pb_normal.proofs.merge.merged.Given as goal
 

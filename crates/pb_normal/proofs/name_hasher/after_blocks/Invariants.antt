@@ -1,4 +1,4 @@
-use Rattle.std.specs.Prelude.{◌≡◌, ◌-◌, ◌/◌, ◌%◌, ◌≤◌, length}
+use Rattle.pb_normal.proofs.Common.{◌%◌, ◌-◌, ◌/◌, ◌≡◌, ◌≤◌, length}
 use Rattle.pb_normal.specs.contract.NameHasher.{mixed}
 use Rattle.pb_normal.proofs.name_hasher.after_blocks.Given as goal
 

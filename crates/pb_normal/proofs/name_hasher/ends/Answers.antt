@@ -1,4 +1,4 @@
-use Rattle.std.specs.Prelude.{length}
+use Rattle.pb_normal.proofs.Common.{length}
 use borrow.Author.Tests.{le-leb, lt-leb, lt-ltb, le-ltb}
 use Rattle.pb_normal.specs.contract.NameHasher.{ends_of}
 use Rattle.pb_normal.proofs.name_hasher.ends.Goals as goal

@@ -1,5 +1,4 @@
-use Rattle.std.proofs.Common.{arith, refl}
-use Rattle.pb_normal.specs.meaning.Rules.{of_variable}
+use Rattle.pb_normal.proofs.Common.{arith, refl, of_variable}
 use Rattle.pb_normal.proofs.lemmas.terms.Maps.{total-le-each}
 use Rattle.pb_normal.proofs.lemmas.terms.Merging.{total-read, no_entry}
 use Rattle.pb_normal.proofs.rules.coefficients_on.Goals as goal

@@ -1,6 +1,4 @@
-use Rattle.std.proofs.Common.{◌≡◌, ◌+◌, drop}
-use Rattle.pb_normal.specs.meaning.Form.{total}
-use Rattle.pb_normal.specs.meaning.Rules.{of_variable}
+use Rattle.pb_normal.proofs.Common.{◌+◌, ◌≡◌, drop, total, of_variable}
 use Rattle.pb_normal.proofs.rules.coefficients_on.Given as goal
 
 abbrev pub invariant-loop-t : goal.invariant-loop-t

@@ -1,9 +1,4 @@
-use Rattle.std.proofs.Common.{rules, tests}
-use Rattle.std.specs.Int.{div_ceil}
-use Rattle.std.proofs.lemmas.Iterator.{YieldsList-from_map, YieldsList-from_slice}
-use Rattle.std.proofs.lemmas.Iterator.Adapters.{items_from_extend}
-use Rattle.pb_normal.specs.declared.entry.Entry.{Entry}
-use Rattle.pb_normal.specs.meaning.Rules.{with_coefficient}
+use Rattle.pb_normal.proofs.Common.{rules, tests, YieldsList-from_map, YieldsList-from_slice, items_from_extend, div_ceil, Entry, with_coefficient}
 use Rattle.pb_normal.proofs.rules.divided_terms.Goals as goal
 
 pub returns : goal.returns

@@ -1,5 +1,4 @@
-use Rattle.std.proofs.Common.{arith}
-use Rattle.pb_normal.specs.meaning.Form.{Form}
+use Rattle.pb_normal.proofs.Common.{arith, Form}
 use Rattle.pb_normal.proofs.lemmas.terms.Totals.{size-Adds}
 use Rattle.pb_normal.proofs.lemmas.rules.Measures.{SumMeasures-from}
 use Rattle.pb_normal.proofs.rules.measures_of_sum.Goals as goal

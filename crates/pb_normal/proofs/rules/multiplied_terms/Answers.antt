@@ -1,8 +1,4 @@
-use Rattle.std.proofs.Common.{rules, tests, ◌*◌}
-use Rattle.std.proofs.lemmas.Iterator.{YieldsList-from_map, YieldsList-from_slice}
-use Rattle.std.proofs.lemmas.Iterator.Adapters.{items_from_extend}
-use Rattle.pb_normal.specs.declared.entry.Entry.{Entry}
-use Rattle.pb_normal.specs.meaning.Rules.{with_coefficient}
+use Rattle.pb_normal.proofs.Common.{◌*◌, rules, tests, YieldsList-from_map, YieldsList-from_slice, items_from_extend, Entry, with_coefficient}
 use Rattle.pb_normal.proofs.rules.multiplied_terms.Goals as goal
 
 pub returns : goal.returns

@@ -1,7 +1,4 @@
-use Rattle.std.proofs.Common.{rules, tests}
-use Rattle.std.proofs.lemmas.Iterator.{YieldsList-from_map, YieldsList-from_slice}
-use Rattle.std.proofs.lemmas.Iterator.Adapters.{items_from_extend}
-use Rattle.pb_normal.specs.meaning.Rules.{opposite}
+use Rattle.pb_normal.proofs.Common.{rules, tests, YieldsList-from_map, YieldsList-from_slice, items_from_extend, opposite}
 use Rattle.pb_normal.proofs.rules.opposite_terms.Goals as goal
 
 pub returns : goal.returns

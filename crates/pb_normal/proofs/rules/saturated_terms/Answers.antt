@@ -1,9 +1,5 @@
-use Rattle.std.proofs.Common.{rules, tests, min, nat_lt}
-use Rattle.std.proofs.lemmas.Iterator.{YieldsList-from_map, YieldsList-from_slice}
-use Rattle.std.proofs.lemmas.Iterator.Consumers.{YieldsList-at, YieldsList-from_filter}
-use Rattle.std.proofs.lemmas.Iterator.Adapters.{items_from_extend}
-use Rattle.pb_normal.specs.declared.entry.Entry.{Entry}
-use Rattle.pb_normal.specs.meaning.Rules.{with_coefficient}
+use Rattle.pb_normal.proofs.Common.{min, nat_lt, rules, tests, YieldsList-from_map, YieldsList-from_slice, items_from_extend, YieldsList-at}
+use Rattle.pb_normal.proofs.Common.{YieldsList-from_filter, Entry, with_coefficient}
 use Rattle.pb_normal.proofs.rules.saturated_terms.Goals as goal
 
 pub returns : goal.returns

@@ -1,8 +1,5 @@
-use Rattle.std.proofs.Common.{rules, tests, ◌==◌, not, map-id}
-use Rattle.std.proofs.lemmas.Iterator.{YieldsList-from_map, YieldsList-from_slice}
-use Rattle.std.proofs.lemmas.Iterator.Consumers.{YieldsList-at, YieldsList-from_filter}
-use Rattle.std.proofs.lemmas.Iterator.Adapters.{items_from_extend}
-use Rattle.pb_normal.specs.declared.entry.Entry.{Entry}
+use Rattle.pb_normal.proofs.Common.{◌==◌, map-id, not, rules, tests, YieldsList-from_map, YieldsList-from_slice, items_from_extend, YieldsList-at}
+use Rattle.pb_normal.proofs.Common.{YieldsList-from_filter, Entry}
 use Rattle.pb_normal.proofs.rules.terms_without.Goals as goal
 
 pub returns : goal.returns

@@ -1,6 +1,4 @@
-use Rattle.std.proofs.Common.{arith, ◌≡◌, Some, None, sym}
-use Rattle.std.specs.BTreeMap.{get}
-use Rattle.std.specs.Ordering.{nat_cmp}
+use Rattle.pb_normal.proofs.Common.{◌≡◌, arith, None, Some, sym, get, nat_cmp}
 use Rattle.pb_normal.proofs.lemmas.terms.KeyedTerms.{IsKeyed-get, get-le-total}
 use Rattle.pb_normal.proofs.lemmas.terms.Lookups.{TermCancels-absent, TermCancels-present}
 use Rattle.pb_normal.proofs.tree.cancelled_by.Goals as goal

@@ -1,6 +1,4 @@
-use Rattle.std.proofs.Common.{◌≡◌, ◌∷◌, ◌++◌, [], arith, rules}
-use Rattle.std.specs.BTreeMap.{values}
-use Rattle.std.proofs.lemmas.List.{append-nil}
+use Rattle.pb_normal.proofs.Common.{◌++◌, ◌∷◌, ◌≡◌, [], append-nil, arith, rules, values}
 use Rattle.pb_normal.proofs.lemmas.terms.Lookups.{AllCancel-le, AllCancel-more, Cancels-AllCancel, split-positive, split-le, split-next}
 use Rattle.pb_normal.proofs.tree.cancelled_by_tree.Goals as goal
 

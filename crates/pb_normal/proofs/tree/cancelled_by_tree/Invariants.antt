@@ -1,6 +1,4 @@
-use Rattle.std.proofs.Common.{◌≡◌, ◌++◌, List}
-use Rattle.std.specs.BTreeMap.{values}
-use Rattle.pb_normal.specs.declared.entry.Entry.{Entry}
+use Rattle.pb_normal.proofs.Common.{◌++◌, ◌≡◌, List, values, Entry}
 use Rattle.pb_normal.proofs.lemmas.terms.Lookups.{AllCancel}
 use Rattle.pb_normal.proofs.tree.cancelled_by_tree.Given as goal
 

@@ -1,6 +1,4 @@
-use Rattle.std.proofs.Common.{◌≡◌, arith, [], ◌∷◌, Some, None, sym, ◌∙◌}
-use Rattle.std.specs.BTreeMap.{get, values}
-use Rattle.std.specs.Ordering.{nat_cmp}
+use Rattle.pb_normal.proofs.Common.{◌∙◌, ◌∷◌, ◌≡◌, [], arith, None, Some, sym, get, values, nat_cmp}
 use Rattle.pb_normal.proofs.lemmas.terms.KeyedTerms.{IsKeyed-insert, IsKeyed-insert_at, IsKeyed-remove, IsKeyed-get, IsKeyed-rising, Replaces, Replaces-insert, Replaces-remove, Adds-absent, Adds-present, get-le-total}
 use Rattle.pb_normal.proofs.tree.put.Goals as goal
 

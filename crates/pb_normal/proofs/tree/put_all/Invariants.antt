@@ -1,8 +1,4 @@
-use Rattle.std.proofs.Common.{take}
-use Rattle.std.specs.BTreeMap.{values}
-use Rattle.pb_normal.specs.engine.Adds.{Adds}
-use Rattle.pb_normal.specs.meaning.Form.{IsRising}
-use Rattle.pb_normal.specs.engine.Keyed.{IsKeyed}
+use Rattle.pb_normal.proofs.Common.{take, values, Adds, IsKeyed, IsRising}
 use Rattle.pb_normal.proofs.tree.put_all.Given as goal
 
 -- the terms so far are added

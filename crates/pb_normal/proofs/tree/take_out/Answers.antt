@@ -1,4 +1,4 @@
-use Rattle.std.proofs.Common.{sym, ◌∙◌}
+use Rattle.pb_normal.proofs.Common.{◌∙◌, sym}
 use Rattle.pb_normal.proofs.lemmas.terms.KeyedTerms.{IsKeyed-remove}
 use Rattle.pb_normal.proofs.lemmas.terms.Removals.{values-remove, dropped-none, dropped-some, size-some}
 use Rattle.pb_normal.proofs.tree.take_out.Goals as goal

@@ -1,6 +1,4 @@
-use Rattle.std.proofs.Common.{arith, ◌≡◌, get_or, refl, pos, to_z}
-use Rattle.std.specs.Int.{w128}
-use Rattle.std.proofs.lemmas.Int.{fits_signed_from_abs, to_z_pos}
+use Rattle.pb_normal.proofs.Common.{◌≡◌, arith, get_or, pos, refl, to_z, fits_signed_from_abs, to_z_pos, w128}
 use Rattle.pb_normal.proofs.lemmas.terms.Merging.{total-read, no_entry}
 use Rattle.pb_normal.proofs.lemmas.names.Naming.{terms_push}
 use Rattle.pb_normal.proofs.written.named_terms.Goals as goal

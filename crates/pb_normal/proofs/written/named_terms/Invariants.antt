@@ -1,5 +1,4 @@
-use Rattle.std.proofs.Common.{◌≡◌, take, map}
-use Rattle.pb_normal.specs.meaning.Written.{term_of}
+use Rattle.pb_normal.proofs.Common.{◌≡◌, map, take, term_of}
 use Rattle.pb_normal.proofs.written.named_terms.Given as goal
 
 abbrev pub invariant-loop-t : goal.invariant-loop-t

@@ -1,5 +1,5 @@
 use Rattle.pb_text.proofs.lemmas.text.FixedSpans as spans
-use Rattle.pb_opb.specs.engine.State.{opb, begin}
+use Rattle.pb_opb.proofs.Common.{begin, opb}
 use Rattle.pb_opb.proofs.lemmas.machine.Bodies.{instance_each}
 use Rattle.pb_opb.proofs.laws.fixed_spans.Goals as goal
 

@@ -1,5 +1,4 @@
-use Rattle.pb_text.proofs.lemmas.text.Deterministic.{one_spelling}
-use Rattle.pb_opb.specs.engine.State.{opb, begin}
+use Rattle.pb_opb.proofs.Common.{one_spelling, begin, opb}
 use Rattle.pb_opb.proofs.lemmas.machine.Bodies.{instance_each, finishes}
 use Rattle.pb_opb.proofs.laws.one_instance.Goals as goal
 

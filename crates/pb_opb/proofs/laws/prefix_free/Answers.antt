@@ -1,5 +1,4 @@
-use Rattle.pb_text.proofs.lemmas.text.Deterministic.{prefix_free}
-use Rattle.pb_opb.specs.engine.State.{opb, begin}
+use Rattle.pb_opb.proofs.Common.{prefix_free, begin, opb}
 use Rattle.pb_opb.proofs.lemmas.machine.Bodies.{instance_each, finishes}
 use Rattle.pb_opb.proofs.laws.prefix_free.Goals as goal
 

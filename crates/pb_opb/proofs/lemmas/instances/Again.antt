@@ -1,15 +1,8 @@
 -- What is written for an instance reads back as that instance.
-use Rattle.std.proofs.Common.{◌≡◌, ℕ, suc, ◌+◌, ◌<◌, ◌≤◌, ◌^◌, List, [], ◌∷◌, ◌++◌, length, refl, ap, sym, ◌∙◌, append_assoc, arith, false, true, Option, Some, None}
-use Rattle.pb_text.specs.meaning.Spelling.{Item, bytes_of}
-use Rattle.pb_text.specs.meaning.Whole.{events_of}
-use Rattle.pb_sums.specs.declared.linear.Term.{Term}
-use Rattle.pb_sums.specs.declared.linear.Linear.{Linear}
-use Rattle.pb_opb.specs.meaning.Values.{IsValueOf, IsObjective, AreLinears, AreComments, is_one, statements}
-use Rattle.pb_opb.specs.contract.Canonical.{header_bytes, lines, objective_events, constraint_events, in_order, body_events, instance_bytes}
-use Rattle.pb_opb.specs.contract.Laws.{CanonicalInstance}
-use Rattle.pb_opb.specs.declared.event.OpbEvent.{OpbEvent}
-use Rattle.pb_opb.specs.declared.event.OpbEvent.TheVariants.{Header}
-use Rattle.pb_opb.specs.declared.instance.Instance.{Instance}
+use Rattle.pb_opb.proofs.Common.{ℕ, ◌++◌, ◌+◌, ◌<◌, ◌^◌, ◌∙◌, ◌∷◌, ◌≡◌, ◌≤◌, [], ap, append_assoc, arith, false, length, List, None, Option, refl}
+use Rattle.pb_opb.proofs.Common.{Some, suc, sym, true, Linear, Term, bytes_of, Item, events_of, body_events, constraint_events, header_bytes}
+use Rattle.pb_opb.proofs.Common.{in_order, instance_bytes, lines, objective_events, CanonicalInstance, OpbEvent, Header, Instance, AreComments}
+use Rattle.pb_opb.proofs.Common.{AreLinears, is_one, IsObjective, IsValueOf, statements}
 use Rattle.pb_opb.specs.declared.instance.Comment.{Comment}
 use Rattle.pb_opb.proofs.lemmas.instances.Counted.{IsCounted, body_of}
 use Rattle.pb_opb.proofs.lemmas.instances.Spelled.{AreMain, AreInLines, spelled, header_text, header-spelled, header-bytes, item-bytes, body-bytes, constraints-body, objective-body}

@@ -1,12 +1,5 @@
 -- What is written reads back as the same value.
-use Rattle.std.proofs.Common.{List, sym, ◌∙◌, subst}
-use Rattle.pb_text.specs.meaning.Spelling.{Item}
-use Rattle.pb_text.specs.meaning.Whole.{events_of}
-use Rattle.pb_text.proofs.lemmas.text.Deterministic.{one_spelling}
-use Rattle.pb_opb.specs.engine.State.{opb, begin}
-use Rattle.pb_opb.specs.contract.Laws.{ReadsBack}
-use Rattle.pb_opb.specs.meaning.Values.{IsValueOf}
-use Rattle.pb_opb.specs.declared.event.OpbEvent.{OpbEvent}
+use Rattle.pb_opb.proofs.Common.{◌∙◌, List, subst, sym, one_spelling, Item, events_of, ReadsBack, OpbEvent, begin, opb, IsValueOf}
 use Rattle.pb_opb.proofs.lemmas.instances.Again.{canonical_instance}
 use Rattle.pb_opb.proofs.lemmas.machine.Bodies.{instance_each, finishes}
 use Rattle.pb_opb.proofs.lemmas.instances.OneValue.{same_value}

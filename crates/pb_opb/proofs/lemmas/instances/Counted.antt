@@ -1,16 +1,9 @@
 -- The body of an instance, read from its start: how many constraints are to come, and whether an objective may come.
 -- Offered to other crates.
-use Rattle.pb_text.specs.meaning.Blank.{IsInLine}
-use Rattle.std.proofs.Common.{◌≡◌, ℕ, zero, suc, Bool, true, false, List, [], ◌∷◌, refl, sym, ap, subst, IsTrue, arith}
-use Rattle.pb_text.specs.meaning.Classes.{is_white}
-use Rattle.pb_text.specs.meaning.Languages.{Each}
-use Rattle.pb_text.specs.meaning.Spelling.{Item, Letter}
-use Rattle.pb_text.specs.meaning.Whole.{events_of}
-use Rattle.pb_sums.specs.meaning.Sums.{SpellsLinear}
-use Rattle.pb_sums.specs.declared.Spaces.TheVariants.{White}
-use Rattle.pb_opb.specs.meaning.Instances.{AreSpelled, EndsInConstraint, HasNoObjective, HasObjectiveFirst, IsBody, SpellsComment, SpellsEntry, SpellsObjective, constraint_count}
-use Rattle.pb_opb.specs.declared.event.OpbEvent.{OpbEvent}
-use Rattle.pb_opb.specs.declared.event.OpbEvent.TheVariants.{Header, Comment, Objective, Constraint}
+use Rattle.pb_opb.proofs.Common.{ℕ, ◌∷◌, ◌≡◌, [], ap, arith, Bool, false, IsTrue, List, refl, subst, suc, sym, true, zero, White, SpellsLinear}
+use Rattle.pb_opb.proofs.Common.{IsInLine, is_white, Each, Item, Letter, events_of, OpbEvent, Comment, Constraint, Header, Objective, AreSpelled}
+use Rattle.pb_opb.proofs.Common.{constraint_count, EndsInConstraint, HasNoObjective, HasObjectiveFirst, IsBody, SpellsComment, SpellsEntry}
+use Rattle.pb_opb.proofs.Common.{SpellsObjective}
 
 module _ (limit : ℕ) where
   -- A statement after the header, and what follows it. `follows objective_allowed n` holds of the statements after it: n of them are

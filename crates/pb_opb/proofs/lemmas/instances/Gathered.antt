@@ -1,16 +1,12 @@
 -- Statements that are gathered one by one have the value that they state.
-use Rattle.std.proofs.Common.{◌≡◌, ℕ, ◌+◌, List, [], ◌∷◌, ◌++◌, IsTrue, refl, sym, ap, ◌∙◌, subst, append_assoc, append-nil, arith}
+use Rattle.pb_opb.proofs.Common.{ℕ, ◌++◌, ◌+◌, ◌∙◌, ◌∷◌, ◌≡◌, [], ap, append-nil, append_assoc, arith, IsTrue, List, refl, subst, sym, Spanned, Item}
+use Rattle.pb_opb.proofs.Common.{events_of, gathered, IsRead, IsWhole, MayHold, StopsIn, OpbEvent, Comment, Constraint, Header, Objective, Instance}
+use Rattle.pb_opb.proofs.Common.{counted_statements, ended_with, MayKeep, nothing, with, comment_at, comments_in, constraints_in, IsValueOf, last_or}
+use Rattle.pb_opb.proofs.Common.{objectives_in, tails_in, variables_in}
 use Rattle.pb_text.proofs.lemmas.source.Unkept as stopped
-use Rattle.pb_text.specs.meaning.Spelling.{Item}
-use Rattle.pb_text.specs.meaning.Whole.{gathered, events_of, IsRead, IsWhole, MayHold, StopsIn}
-use Rattle.pb_text.specs.declared.Spanned.{Spanned}
 use Rattle.pb_text.specs.declared.Stop.{Stop}
-use Rattle.pb_opb.specs.meaning.Gather.{with, ended_with, asks, counted_statements, MayKeep, nothing}
-use Rattle.pb_opb.specs.meaning.Values.{IsValueOf, last_or, variables_in, tails_in, objectives_in, constraints_in, comments_in, comment_at}
+use Rattle.pb_opb.specs.meaning.Gather.{asks}
 use Rattle.pb_opb.specs.declared.gather.InstanceSoFar.{InstanceSoFar}
-use Rattle.pb_opb.specs.declared.instance.Instance.{Instance}
-use Rattle.pb_opb.specs.declared.event.OpbEvent.{OpbEvent}
-use Rattle.pb_opb.specs.declared.event.OpbEvent.TheVariants.{Header, Comment, Objective, Constraint}
 
 abbrev pub one_more : InstanceSoFar → OpbEvent → InstanceSoFar
 one_more b e = record { instance = with b.ended b.instance e; ended = ended_with b.ended e }

@@ -1,21 +1,12 @@
 -- The value of an instance that was read meets the rules; and what the statements after its header state. Offered to
 -- other crates.
-use Rattle.std.proofs.Common.{◌≡◌, ℕ, zero, suc, ◌+◌, ◌<◌, ◌≤◌, List, [], ◌∷◌, length, refl, ap, sym, ◌∙◌, subst, arith, Bool, true, false, Option, Some, None}
-use Rattle.std.specs.Prelude.{IsTrue}
-use Rattle.pb_text.specs.meaning.Spelling.{Letter, Item}
-use Rattle.pb_text.specs.meaning.Whole.{events_of}
-use Rattle.pb_sums.specs.contract.Canonical.{AreTerms}
-use Rattle.pb_sums.specs.declared.linear.Term.{Term}
-use Rattle.pb_sums.specs.declared.linear.Linear.{Linear}
-use Rattle.pb_sums.specs.declared.sum_kind.Spaces.TheVariants.{White}
+use Rattle.pb_opb.proofs.Common.{ℕ, ◌+◌, ◌<◌, ◌∙◌, ◌∷◌, ◌≡◌, ◌≤◌, [], ap, arith, Bool, false, IsTrue, length, List, None, Option, refl, Some, subst}
+use Rattle.pb_opb.proofs.Common.{suc, sym, true, zero, AreTerms, Linear, Term, White, Item, Letter, events_of, InstanceValues, IsOneHeader, OpbEvent}
+use Rattle.pb_opb.proofs.Common.{Comment, Constraint, Header, Objective, Instance, IsBegun, IsTail, SpellsHeader, SpellsObjective, AreComments}
+use Rattle.pb_opb.proofs.Common.{AreLinears, comments_in, constraints_in, is_one, IsInstanceValue, IsObjective, IsValueOf, last_or, objectives_in}
+use Rattle.pb_opb.proofs.Common.{tails_in, variables_in}
 use Rattle.pb_sums.proofs.lemmas.values.Within.{sum-within, linear-within}
-use Rattle.pb_opb.specs.meaning.Instances.{IsTail, SpellsHeader, SpellsObjective, IsBegun}
-use Rattle.pb_opb.specs.meaning.Values.{last_or, variables_in, tails_in, objectives_in, constraints_in, comments_in, IsValueOf, IsInstanceValue, IsObjective, AreLinears, AreComments, is_one}
-use Rattle.pb_opb.specs.contract.Laws.{InstanceValues, IsOneHeader}
-use Rattle.pb_opb.specs.declared.event.OpbEvent.{OpbEvent}
-use Rattle.pb_opb.specs.declared.event.OpbEvent.TheVariants.{Header, Comment, Objective, Constraint}
 use Rattle.pb_opb.specs.declared.instance.Comment as comment
-use Rattle.pb_opb.specs.declared.instance.Instance.{Instance}
 use Rattle.pb_opb.proofs.lemmas.instances.Counted.{IsEntry, IsCounted, counted}
 
 objective-within : (limit : ℕ) (terms : List Term) (t : List Letter) → SpellsObjective limit terms t → AreTerms limit terms

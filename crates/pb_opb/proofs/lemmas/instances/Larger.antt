@@ -1,18 +1,10 @@
 -- An instance remains an instance if numbers may be larger.
-use Rattle.std.proofs.Common.{ℕ, zero, suc, ◌≤◌, Bool, true, false, List, [], ◌∷◌, arith, refl}
-use Rattle.pb_text.specs.meaning.Languages.{Language, ◌⋅◌, Byte, Bytes, Blanks0, Blanks1}
-use Rattle.pb_text.specs.meaning.Numbers.{Count}
-use Rattle.pb_text.specs.meaning.Spelling.{Item, Letter}
-use Rattle.pb_text.proofs.lemmas.text.Languages.{inside, after_it}
-use Rattle.pb_sums.specs.meaning.Sums.{Spells}
+use Rattle.pb_opb.proofs.Common.{ℕ, ◌∷◌, ◌≤◌, [], arith, Bool, false, List, refl, suc, true, zero, Term, White, Spells, after_it, inside, ◌⋅◌}
+use Rattle.pb_opb.proofs.Common.{Blanks0, Blanks1, Byte, Bytes, Language, Count, Item, Letter, OpbEvent, Comment, Constraint, Header, Objective}
+use Rattle.pb_opb.proofs.Common.{constraint_word, IsBegun, IsInstance, SpellsHeader, SpellsObjective, variable_word}
 use Rattle.pb_sums.specs.declared.sum_kind.Part as part
-use Rattle.pb_sums.specs.declared.sum_kind.Spaces.TheVariants.{White}
 use Rattle.pb_sums.specs.declared.linear.SumEvent as sum
-use Rattle.pb_sums.specs.declared.linear.Term.{Term}
 use Rattle.pb_sums.proofs.lemmas.values.Larger.{spells_larger}
-use Rattle.pb_opb.specs.meaning.Instances.{variable_word, constraint_word, SpellsHeader, SpellsObjective, IsBegun, IsInstance}
-use Rattle.pb_opb.specs.declared.event.OpbEvent.{OpbEvent}
-use Rattle.pb_opb.specs.declared.event.OpbEvent.TheVariants.{Header, Comment, Objective, Constraint}
 use Rattle.pb_opb.proofs.lemmas.instances.Counted.{IsEntry, IsCounted, counted, body_of}
 use Rattle.pb_opb.proofs.lemmas.machine.Objectives.{MinPrefix, objective_of, objective_parts}
 

@@ -1,12 +1,6 @@
 -- Rules that each element of a list meets.
-use Rattle.pb_text.specs.meaning.Blank.{IsInLine}
-use Rattle.std.proofs.Common.{◌≡◌, ℕ, suc, ◌+◌, ◌<◌, ◌≤◌, Bool, true, false, List, ◌∷◌, length, drop, get_or, sym, subst, arith, ◌↔◌, refl, ◌∙◌}
-use Rattle.std.specs.Prelude.{IsTrue}
-use Rattle.std.proofs.lemmas.List.{drop_all}
-use Rattle.std.proofs.Math.Seq.{drop-cons}
-use Rattle.pb_sums.specs.contract.Canonical.{IsLinear}
-use Rattle.pb_sums.specs.declared.linear.Linear.{Linear}
-use Rattle.pb_opb.specs.meaning.Values.{AreLinears, AreComments}
+use Rattle.pb_opb.proofs.Common.{ℕ, ◌+◌, ◌<◌, ◌↔◌, ◌∙◌, ◌∷◌, ◌≡◌, ◌≤◌, arith, Bool, drop, false, get_or, IsTrue, length, List, refl, subst, suc, sym}
+use Rattle.pb_opb.proofs.Common.{true, drop-cons, drop_all, IsLinear, Linear, IsInLine, AreComments, AreLinears}
 use Rattle.pb_opb.specs.declared.instance.Comment.{Comment}
 
 -- the rest of a list, as its first element and what follows

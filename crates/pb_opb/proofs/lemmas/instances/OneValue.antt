@@ -1,11 +1,6 @@
 -- Statements have the value of one instance only. Offered to other crates.
-use Rattle.std.proofs.Common.{◌≡◌, ℕ, List, Option, refl, sym, ◌∙◌}
-use Rattle.pb_sums.specs.declared.linear.Term.{Term}
-use Rattle.pb_sums.specs.declared.linear.Linear.{Linear}
-use Rattle.pb_opb.specs.meaning.Values.{IsValueOf}
+use Rattle.pb_opb.proofs.Common.{ℕ, ◌∙◌, ◌≡◌, List, Option, refl, sym, Linear, Term, OpbEvent, Instance, IsValueOf}
 use Rattle.pb_opb.specs.declared.instance.Comment.{Comment}
-use Rattle.pb_opb.specs.declared.instance.Instance.{Instance}
-use Rattle.pb_opb.specs.declared.event.OpbEvent.{OpbEvent}
 
 abbrev instance : ℕ → List ℕ → List Comment → Option (List Term) → List Linear → Instance
 instance variables tail comments objective constraints =

@@ -1,13 +1,8 @@
 -- What statements in order state.
-use Rattle.std.proofs.Common.{◌≡◌, ℕ, suc, ◌+◌, ◌≤◌, List, [], ◌∷◌, ◌++◌, length, take, drop, refl, ap, sym, ◌∙◌, arith, Bool, true, false, cond, subst, Option, Some, None, nat_le, take-append-drop}
-use Rattle.std.proofs.lemmas.Bool.{leb-true, leb-false}
-use Rattle.pb_text.specs.meaning.Whole.{events_of}
-use Rattle.pb_sums.specs.declared.linear.Term.{Term}
-use Rattle.pb_sums.specs.declared.linear.Linear.{Linear}
-use Rattle.pb_opb.specs.contract.Canonical.{comment_events, constraint_events, objective_events, due, in_order}
-use Rattle.pb_opb.specs.meaning.Values.{last_or, variables_in, tails_in, objectives_in, constraints_in, comments_in, comment_at, AreComments}
-use Rattle.pb_opb.specs.declared.event.OpbEvent.{OpbEvent}
-use Rattle.pb_opb.specs.declared.event.OpbEvent.TheVariants.{Header, Comment, Objective, Constraint}
+use Rattle.pb_opb.proofs.Common.{ℕ, ◌++◌, ◌+◌, ◌∙◌, ◌∷◌, ◌≡◌, ◌≤◌, [], ap, arith, Bool, cond, drop, false, length, List, nat_le, None, Option, refl}
+use Rattle.pb_opb.proofs.Common.{Some, subst, suc, sym, take, take-append-drop, true, leb-false, leb-true, Linear, Term, events_of, comment_events}
+use Rattle.pb_opb.proofs.Common.{constraint_events, due, in_order, objective_events, OpbEvent, Comment, Constraint, Header, Objective, AreComments}
+use Rattle.pb_opb.proofs.Common.{comment_at, comments_in, constraints_in, last_or, objectives_in, tails_in, variables_in}
 use Rattle.pb_opb.specs.declared.instance.Comment as comment
 use Rattle.pb_opb.proofs.lemmas.instances.Spelled.{spelled, IsMain, AreMain, AreInLines}
 

@@ -1,23 +1,11 @@
 -- The canonical text of an instance is one of its texts.
-use Rattle.pb_text.specs.meaning.Blank.{IsInLine}
-use Rattle.std.proofs.Common.{◌≡◌, ℕ, zero, suc, ◌+◌, ◌<◌, ◌≤◌, ◌^◌, List, [], ◌∷◌, ◌++◌, length, take, drop, refl, ap, sym, ◌∙◌, append_assoc, append-nil, arith, Bool, true, false}
-use Rattle.std.specs.Prelude.{decimal, IsTrue}
-use Rattle.pb_text.specs.meaning.Languages.{unmarked, Each}
-use Rattle.pb_text.specs.meaning.Classes.{is_white}
-use Rattle.pb_text.specs.meaning.Spelling.{Letter, Item, plain, digits_of, bytes, letters_of, bytes_of}
-use Rattle.pb_text.proofs.lemmas.text.Languages.{bytes-append, bytes-plain, bytes-digits}
-use Rattle.pb_text.proofs.lemmas.numbers.Numbers.{decimal-digits}
-use Rattle.pb_sums.specs.contract.Canonical.{AreTerms, sum_text, linear_text, head_bytes, linear_bytes, space}
-use Rattle.pb_sums.specs.declared.linear.Term.{Term}
-use Rattle.pb_sums.specs.declared.linear.Linear.{Linear}
-use Rattle.pb_sums.specs.declared.sum_kind.Spaces.TheVariants.{White}
+use Rattle.pb_opb.proofs.Common.{ℕ, ◌++◌, ◌+◌, ◌<◌, ◌^◌, ◌∙◌, ◌∷◌, ◌≡◌, ◌≤◌, [], ap, append-nil, append_assoc, arith, Bool, drop, false, IsTrue}
+use Rattle.pb_opb.proofs.Common.{length, List, refl, suc, sym, take, true, zero, decimal, AreTerms, head_bytes, linear_bytes, linear_text, space}
+use Rattle.pb_opb.proofs.Common.{sum_text, Linear, Term, White, decimal-digits, bytes-append, bytes-digits, bytes-plain, IsInLine, is_white, Each}
+use Rattle.pb_opb.proofs.Common.{unmarked, bytes, bytes_of, digits_of, Item, Letter, letters_of, plain, comment_events, constraint_events, due}
+use Rattle.pb_opb.proofs.Common.{event_bytes, header_bytes, in_order, lines, objective_bytes, OpbEvent, Comment, Constraint, Header, Objective}
+use Rattle.pb_opb.proofs.Common.{led_lines, constraint_word, min_word, SpellsComment, SpellsHeader, SpellsObjective, variable_word, AreLinears}
 use Rattle.pb_sums.proofs.lemmas.values.CanonicalLaws.{linear-spelled, sum-spelled, bytes-linear, bytes-sum}
-use Rattle.pb_opb.specs.meaning.Instances.{variable_word, constraint_word, min_word, SpellsHeader, SpellsComment, SpellsObjective}
-use Rattle.pb_opb.specs.contract.Canonical.{header_bytes, objective_bytes, event_bytes, lines, comment_events, constraint_events, due, in_order}
-use Rattle.pb_opb.specs.engine.Led.{led_lines}
-use Rattle.pb_opb.specs.meaning.Values.{AreLinears}
-use Rattle.pb_opb.specs.declared.event.OpbEvent.{OpbEvent}
-use Rattle.pb_opb.specs.declared.event.OpbEvent.TheVariants.{Header, Comment, Objective, Constraint}
 use Rattle.pb_opb.specs.declared.instance.Comment as comment
 use Rattle.pb_opb.proofs.lemmas.instances.Counted.{IsCounted}
 use Rattle.pb_opb.proofs.lemmas.instances.Texts.{led-lines, led-between}

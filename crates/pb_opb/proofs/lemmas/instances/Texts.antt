@@ -1,17 +1,9 @@
 -- What is written for an instance, in parts.
-use Rattle.std.proofs.Common.{◌≡◌, ℕ, zero, suc, ◌+◌, ◌<◌, ◌≤◌, List, [], ◌∷◌, ◌++◌, take, drop, length, refl, ap, ap₂, sym, append_assoc, ◌∙◌, arith, get_or, Option, Some, None}
-use Rattle.std.proofs.lemmas.List.{append-nil, take_more, drop_all}
-use Rattle.std.proofs.Math.Seq.{drop-cons}
-use Rattle.pb_sums.specs.contract.Canonical.{sum_bytes, linear_bytes}
-use Rattle.pb_sums.specs.declared.linear.Term.{Term}
-use Rattle.pb_sums.specs.declared.linear.Linear.{Linear}
-use Rattle.pb_opb.specs.meaning.Instances.{min_word}
-use Rattle.pb_opb.specs.contract.Canonical.{event_bytes, objective_bytes, lines, comment_events, constraint_events, objective_events, due, in_order, body_events}
-use Rattle.pb_opb.specs.engine.Led.{led_lines}
-use Rattle.pb_opb.specs.declared.event.OpbEvent.{OpbEvent}
-use Rattle.pb_opb.specs.declared.event.OpbEvent.TheVariants.{Objective, Constraint}
+use Rattle.pb_opb.proofs.Common.{ℕ, ◌++◌, ◌+◌, ◌<◌, ◌∙◌, ◌∷◌, ◌≡◌, ◌≤◌, [], ap, append-nil, append_assoc, ap₂, arith, drop, get_or, length, List}
+use Rattle.pb_opb.proofs.Common.{None, Option, refl, Some, suc, sym, take, zero, drop-cons, drop_all, take_more, linear_bytes, sum_bytes, Linear}
+use Rattle.pb_opb.proofs.Common.{Term, body_events, comment_events, constraint_events, due, event_bytes, in_order, lines, objective_bytes}
+use Rattle.pb_opb.proofs.Common.{objective_events, OpbEvent, Constraint, Objective, Instance, led_lines, min_word}
 use Rattle.pb_opb.specs.declared.instance.Comment.{Comment}
-use Rattle.pb_opb.specs.declared.instance.Instance.{Instance}
 
 -- `min: `, the sum, ` ;`
 pub objective_parts : (xs : List Term) → 0 < length xs → objective_bytes xs ≡ (109 ∷ 105 ∷ 110 ∷ 58 ∷ 32 ∷ []) ++ (sum_bytes xs ++ (32 ∷ 59 ∷ []))

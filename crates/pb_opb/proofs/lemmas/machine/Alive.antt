@@ -1,26 +1,14 @@
 -- Each state that a machine of instances can be in accepts some text.
-use Rattle.std.proofs.Common.{◌≡◌, ℕ, zero, suc, ◌+◌, ◌-◌, ◌<◌, Bool, true, false, cond, List, [], length, refl, sym, ap, ◌∙◌, subst, arith, le-leb}
-use Rattle.pb_text.specs.contract.Automaton.{ReadsStatement, AcceptsItems}
-use Rattle.pb_text.specs.meaning.Spelling.{Letter, Item}
-use Rattle.pb_text.proofs.lemmas.machine.Living.{IsAlive, before, final, accepted}
-use Rattle.std.proofs.lemmas.Bool.{eq-eqb, ne_eqb}
-use Rattle.std.specs.Prelude.{nat_eq, slice_index}
-use Rattle.pb_sums.specs.engine.State.{SumState, sums}
-use Rattle.pb_sums.specs.declared.SumEvent.{SumEvent}
+use Rattle.pb_opb.proofs.Common.{ℕ, ◌+◌, ◌-◌, ◌<◌, ◌∙◌, ◌≡◌, [], ap, arith, Bool, cond, false, le-leb, length, List, nat_eq, refl, subst, suc, sym}
+use Rattle.pb_opb.proofs.Common.{true, zero, slice_index, eq-eqb, ne_eqb, reads_something, SumEvent, sums, SumState, accepted, before, final, IsAlive}
+use Rattle.pb_opb.proofs.Common.{AcceptsItems, ReadsStatement, Item, Letter, OpbEvent, Stop, To, Field, Constraints, Variables, Phase, count}
+use Rattle.pb_opb.proofs.Common.{transition, word_of, Holds, IsIdle, IsInOrder, PhaseFits, act, after, between, giving, is_done, objectives, opb}
+use Rattle.pb_opb.proofs.Common.{OpbState, remaining_after, statement_of}
 use Rattle.pb_sums.specs.declared.Spaces as grammar
 use Rattle.pb_sums.specs.declared.Part as part
 use Rattle.pb_sums.specs.declared.phase.Phase as sum_phase
-use Rattle.pb_sums.proofs.lemmas.machine.Links.{reads_something}
-use Rattle.pb_opb.specs.engine.Machine.{transition, count, word_of}
-use Rattle.pb_opb.specs.engine.Order.{PhaseFits, Holds, IsIdle, IsInOrder}
 use Rattle.pb_opb.specs.declared.event.OpbEvent as event
-use Rattle.pb_opb.specs.engine.State.{OpbState, opb, between, after, remaining_after, statement_of, giving, objectives, act, is_done}
-use Rattle.pb_opb.specs.declared.event.OpbEvent.{OpbEvent}
-use Rattle.pb_opb.specs.declared.phase.Field.{Field}
-use Rattle.pb_opb.specs.declared.phase.Field.TheVariants.{Variables, Constraints}
-use Rattle.pb_opb.specs.declared.phase.Phase.{Phase}
 use Rattle.pb_opb.specs.declared.phase.Phase as phase
-use Rattle.pb_opb.specs.declared.phase.Action.TheVariants.{To, Stop}
 use Rattle.pb_opb.proofs.lemmas.machine.GivenBytes.{Gives, gives_objective, gives_constraint, within_reads}
 use Rattle.pb_opb.proofs.lemmas.machine.Stands.{stands}
 

@@ -1,40 +1,19 @@
 -- If a machine of instances may allocate at a byte, then that byte's position in its statement is one that may
 -- allocate.
-use Rattle.pb_text.specs.meaning.Blank.{IsInLine}
-use Rattle.std.proofs.Common.{◌≡◌, ℕ, zero, suc, ◌+◌, ◌-◌, ◌*◌, ◌≤◌, Bool, true, false, cond, ◌&&◌, List, [], ◌∷◌, ◌++◌, length, refl, sym, ap, ap₂, subst, ◌∙◌, ◌⊎◌, inl, inr, append-nil}
-use Rattle.std.proofs.lemmas.Bool.{false≢true, cond_both}
-use Rattle.std.specs.Prelude.{IsTrue, nat_eq, nat_le, slice_index}
-use Rattle.pb_text.specs.contract.Automaton.{Next, Go, End, Refuse, ReadsStatement, MayAsk}
+use Rattle.pb_opb.proofs.Common.{ℕ, ◌&&◌, ◌*◌, ◌++◌, ◌+◌, ◌-◌, ◌∙◌, ◌∷◌, ◌≡◌, ◌≤◌, ◌⊎◌, [], ap, append-nil, ap₂, Bool, cond, false, inl, inr, IsTrue}
+use Rattle.pb_opb.proofs.Common.{length, List, nat_eq, nat_le, refl, subst, suc, sym, true, zero, slice_index, cond_both, false≢true, reads_grammar}
+use Rattle.pb_opb.proofs.Common.{continues-midway, SumEvent, White, sums, SumState, Spells, prefixes_of, reads_after, Walks, never, bytes-append}
+use Rattle.pb_opb.proofs.Common.{bytes-plain, End, Go, MayAsk, Next, ReadsStatement, Refuse, IsInLine, is_blank, is_digit, is_white, ◌⋅◌, Blanks0}
+use Rattle.pb_opb.proofs.Common.{Byte, Bytes, Digits, bytes, Letter, OpbEvent, Comment, Constraint, Header, Objective, Action, EndComment, Keep}
+use Rattle.pb_opb.proofs.Common.{Field, Constraints, Variables, Phase, count, transition, word_of, act, asks, begin, giving, linears, objectives, opb}
+use Rattle.pb_opb.proofs.Common.{OpbState, over, statement_of, constraint_word, IsInstance, IsTail, min_word}
 use Rattle.pb_text.specs.meaning.Asking.{AsksOnly}
-use Rattle.pb_text.specs.meaning.Classes.{is_blank, is_white, is_digit}
-use Rattle.pb_text.specs.meaning.Languages.{◌⋅◌, Byte, Bytes, Blanks0}
-use Rattle.pb_text.specs.meaning.Numbers.{Digits}
-use Rattle.pb_text.specs.meaning.Spelling.{Letter, bytes}
 use Rattle.pb_text.proofs.lemmas.machine.Asked as asked
-use Rattle.pb_text.proofs.lemmas.text.Languages.{bytes-plain, bytes-append}
-use Rattle.pb_text.proofs.lemmas.text.Booleans.{never}
-use Rattle.pb_text.proofs.lemmas.machine.Walking.{Walks, reads_after, prefixes_of}
-use Rattle.pb_sums.specs.engine.State.{SumState, sums}
-use Rattle.pb_sums.specs.meaning.Sums.{Spells}
 use Rattle.pb_sums.specs.declared.sum_kind.Part as part
-use Rattle.pb_sums.specs.declared.sum_kind.Spaces.TheVariants.{White}
-use Rattle.pb_sums.specs.declared.linear.SumEvent.{SumEvent}
 use Rattle.pb_sums.specs.declared.linear.SumEvent as sum
 use Rattle.pb_sums.proofs.lemmas.machine.Asked.{sums_asked, first_asks_nothing}
-use Rattle.pb_sums.proofs.lemmas.machine.Links.{reads_grammar}
-use Rattle.pb_sums.proofs.lemmas.machine.States.{continues-midway}
 use Rattle.pb_opb.specs.meaning.Asking.{MinLead, Asks}
-use Rattle.pb_opb.specs.meaning.Instances.{constraint_word, min_word, IsTail, IsInstance}
-use Rattle.pb_opb.specs.engine.Machine.{word_of, transition, count}
-use Rattle.pb_opb.specs.engine.State.{OpbState, opb, begin, act, asks, over, giving, statement_of, linears, objectives}
-use Rattle.pb_opb.specs.declared.event.OpbEvent.{OpbEvent}
-use Rattle.pb_opb.specs.declared.event.OpbEvent.TheVariants.{Header, Comment, Objective, Constraint}
-use Rattle.pb_opb.specs.declared.phase.Field.{Field}
-use Rattle.pb_opb.specs.declared.phase.Field.TheVariants.{Variables, Constraints}
-use Rattle.pb_opb.specs.declared.phase.Phase.{Phase}
 use Rattle.pb_opb.specs.declared.phase.Phase as phase
-use Rattle.pb_opb.specs.declared.phase.Action.{Action}
-use Rattle.pb_opb.specs.declared.phase.Action.TheVariants.{Keep, EndComment}
 use Rattle.pb_opb.proofs.lemmas.machine.Bodies.{InGap, gap_given, nothing_read, instance_each}
 use Rattle.pb_opb.proofs.lemmas.machine.EntryPrefix as entry
 use Rattle.pb_opb.proofs.lemmas.machine.Prefixes.{line_grown, tail_grown}

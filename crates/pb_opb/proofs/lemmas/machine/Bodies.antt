@@ -1,22 +1,9 @@
 -- The machine accepts the statements of an instance, and no others.
-use Rattle.std.proofs.Common.{◌≡◌, ℕ, zero, suc, Bool, true, false, ◌&&◌, List, [], ◌∷◌, refl, sym, ap, subst, ◌∙◌, ◌↔◌}
-use Rattle.std.proofs.lemmas.Bool.{cond_both}
-use Rattle.std.specs.Prelude.{IsTrue, nat_eq}
-use Rattle.pb_text.specs.contract.Automaton.{Next, Go, End, Refuse, SkipsGap, ReadsStatement, AcceptsItems}
-use Rattle.pb_text.specs.meaning.Classes.{is_white}
-use Rattle.pb_text.specs.meaning.Languages.{Each}
-use Rattle.pb_text.specs.meaning.Spelling.{Item, Letter}
-use Rattle.pb_text.proofs.lemmas.machine.Outcomes.{refuse_or_go, refuse_or_end}
-use Rattle.pb_text.proofs.lemmas.text.Booleans.{never}
-use Rattle.pb_sums.specs.engine.State.{SumState, sums}
-use Rattle.pb_sums.specs.declared.linear.SumEvent.{SumEvent}
-use Rattle.pb_opb.specs.meaning.Instances.{IsBegun, IsInstance}
-use Rattle.pb_opb.specs.engine.State.{OpbState, opb, begin, act, over, linears}
-use Rattle.pb_opb.specs.declared.event.OpbEvent.{OpbEvent}
-use Rattle.pb_opb.specs.declared.event.OpbEvent.TheVariants.{Header, Comment, Objective, Constraint}
-use Rattle.pb_opb.specs.declared.phase.Phase.{Phase}
+use Rattle.pb_opb.proofs.Common.{ℕ, ◌&&◌, ◌↔◌, ◌∙◌, ◌∷◌, ◌≡◌, [], ap, Bool, false, IsTrue, List, nat_eq, refl, subst, suc, sym, true, zero, cond_both}
+use Rattle.pb_opb.proofs.Common.{SumEvent, sums, SumState, refuse_or_end, refuse_or_go, never, AcceptsItems, End, Go, Next, ReadsStatement, Refuse}
+use Rattle.pb_opb.proofs.Common.{SkipsGap, is_white, Each, Item, Letter, OpbEvent, Comment, Constraint, Header, Objective, Action, Phase, act, begin}
+use Rattle.pb_opb.proofs.Common.{linears, opb, OpbState, over, IsBegun, IsInstance}
 use Rattle.pb_opb.specs.declared.phase.Phase as phase
-use Rattle.pb_opb.specs.declared.phase.Action.{Action}
 use Rattle.pb_opb.proofs.lemmas.instances.Counted.{IsEntry, IsCounted, counted, body_of}
 use Rattle.pb_opb.proofs.lemmas.machine.EntryPrefix.{entry_only}
 use Rattle.pb_opb.proofs.lemmas.machine.EntryWalk.{entry_reads}

@@ -1,32 +1,14 @@
 -- What the machine reads after a header is a comment, an objective or a constraint.
-use Rattle.pb_text.specs.meaning.Blank.{IsInLine}
-use Rattle.std.proofs.Common.{◌≡◌, ℕ, suc, ◌+◌, ◌-◌, ◌<◌, Bool, true, false, ◌&&◌, List, [], ◌∷◌, ◌++◌, length, take, refl, sym, ap, subst, arith, ◌∙◌}
-use Rattle.std.proofs.lemmas.Bool.{eqb-true, and_parts, cond_both}
-use Rattle.std.specs.Prelude.{IsTrue, nat_eq, slice_index}
-use Rattle.pb_text.specs.contract.Automaton.{Next, Go, End, Refuse, ReadsStatement}
-use Rattle.pb_text.specs.meaning.Classes.{is_white}
-use Rattle.pb_text.specs.meaning.Languages.{unmarked, Language, ◌⋅◌, Byte, Bytes}
-use Rattle.pb_text.specs.meaning.Spelling.{Letter, plain}
-use Rattle.pb_text.proofs.lemmas.text.Languages.{grown, next, none_yet, many-grown}
-use Rattle.pb_text.proofs.lemmas.text.Letters.{as_unmarked, bytes_grown, word_grown, word_whole, further}
-use Rattle.pb_text.proofs.lemmas.text.Booleans.{never}
-use Rattle.pb_text.proofs.lemmas.machine.Walking.{Walks, walks_more, ends_walk, On, Keeps, reported}
-use Rattle.pb_sums.specs.engine.State.{SumState, sums}
-use Rattle.pb_sums.specs.meaning.Sums.{SpellsLinear, Spells}
+use Rattle.pb_opb.proofs.Common.{ℕ, ◌&&◌, ◌++◌, ◌+◌, ◌-◌, ◌<◌, ◌∙◌, ◌∷◌, ◌≡◌, [], ap, arith, Bool, false, IsTrue, length, List, nat_eq, refl, subst}
+use Rattle.pb_opb.proofs.Common.{suc, sym, take, true, slice_index, and_parts, cond_both, eqb-true, reads_grammar, continues-midway, SumEvent, White}
+use Rattle.pb_opb.proofs.Common.{sums, SumState, Spells, SpellsLinear, ends_walk, Keeps, On, reported, Walks, walks_more, never, grown, many-grown}
+use Rattle.pb_opb.proofs.Common.{next, none_yet, as_unmarked, bytes_grown, further, word_grown, word_whole, End, Go, Next, ReadsStatement, Refuse}
+use Rattle.pb_opb.proofs.Common.{IsInLine, is_white, ◌⋅◌, Byte, Bytes, Language, unmarked, Letter, plain, OpbEvent, Action, BeginSum, To, Phase}
+use Rattle.pb_opb.proofs.Common.{transition, act, after, is_in_number, linears, objectives, opb, OpbState, over, statement_of, min_word}
+use Rattle.pb_opb.proofs.Common.{SpellsObjective, Whites0}
 use Rattle.pb_sums.specs.declared.sum_kind.Part as part
-use Rattle.pb_sums.specs.declared.sum_kind.Spaces.TheVariants.{White}
-use Rattle.pb_sums.specs.declared.linear.SumEvent.{SumEvent}
 use Rattle.pb_sums.specs.declared.linear.SumEvent as sum
-use Rattle.pb_sums.proofs.lemmas.machine.Links.{reads_grammar}
-use Rattle.pb_sums.proofs.lemmas.machine.States.{continues-midway}
-use Rattle.pb_opb.specs.meaning.Instances.{min_word, Whites0, SpellsObjective}
-use Rattle.pb_opb.specs.engine.Machine.{transition}
-use Rattle.pb_opb.specs.engine.State.{OpbState, opb, act, over, after, statement_of, linears, objectives, is_in_number}
-use Rattle.pb_opb.specs.declared.event.OpbEvent.{OpbEvent}
-use Rattle.pb_opb.specs.declared.phase.Phase.{Phase}
 use Rattle.pb_opb.specs.declared.phase.Phase as phase
-use Rattle.pb_opb.specs.declared.phase.Action.{Action}
-use Rattle.pb_opb.specs.declared.phase.Action.TheVariants.{To, BeginSum}
 use Rattle.pb_opb.proofs.lemmas.instances.Counted.{IsEntry}
 use Rattle.pb_opb.proofs.lemmas.machine.Prefixes.{line_grown}
 use Rattle.pb_opb.proofs.lemmas.machine.Objectives.{MinPrefix, objective_of}

@@ -1,29 +1,12 @@
 -- The machine reads each comment, objective and constraint.
-use Rattle.pb_text.specs.meaning.Blank.{IsInLine}
-use Rattle.std.proofs.Common.{◌≡◌, ℕ, suc, ◌-◌, Bool, true, false, cond, List, [], ◌∷◌, ◌++◌, refl, sym, ap, subst, arith, ◌∙◌}
-use Rattle.std.specs.Prelude.{IsTrue, nat_eq}
-use Rattle.pb_text.specs.contract.Automaton.{Go, ReadsStatement}
-use Rattle.pb_text.specs.meaning.Classes.{is_white}
-use Rattle.pb_text.specs.meaning.Languages.{unmarked, ◌⋅◌, Byte, Bytes}
-use Rattle.pb_text.specs.meaning.Spelling.{Letter, plain}
-use Rattle.pb_text.proofs.lemmas.machine.Walking.{Walks, Leads, leads_then, longer, reads_after}
-use Rattle.pb_sums.specs.engine.State.{SumState, sums, last}
-use Rattle.pb_sums.specs.meaning.Sums.{Spaces0, SpellsSum, SpellsLinear, Spells}
+use Rattle.pb_opb.proofs.Common.{ℕ, ◌++◌, ◌-◌, ◌∙◌, ◌∷◌, ◌≡◌, [], ap, arith, Bool, cond, false, IsTrue, List, nat_eq, refl, subst, suc, sym, true}
+use Rattle.pb_opb.proofs.Common.{reads_grammar, Linear, SumEvent, Term, White, last, sums, SumState, Spaces0, Spells, SpellsLinear, SpellsSum, Leads}
+use Rattle.pb_opb.proofs.Common.{leads_then, longer, reads_after, Walks, Go, ReadsStatement, IsInLine, is_white, ◌⋅◌, Byte, Bytes, unmarked, Letter}
+use Rattle.pb_opb.proofs.Common.{plain, OpbEvent, Comment, Constraint, Header, Objective, Give, To, Phase, transition, act, linears, objectives, opb}
+use Rattle.pb_opb.proofs.Common.{OpbState, min_word, SpellsComment, SpellsObjective, Whites0}
 use Rattle.pb_sums.specs.declared.sum_kind.Part as part
-use Rattle.pb_sums.specs.declared.sum_kind.Spaces.TheVariants.{White}
-use Rattle.pb_sums.specs.declared.linear.Linear.{Linear}
-use Rattle.pb_sums.specs.declared.linear.SumEvent.{SumEvent}
 use Rattle.pb_sums.specs.declared.linear.SumEvent as sum
-use Rattle.pb_sums.specs.declared.linear.Term.{Term}
-use Rattle.pb_sums.proofs.lemmas.machine.Links.{reads_grammar}
-use Rattle.pb_opb.specs.meaning.Instances.{min_word, Whites0, SpellsComment, SpellsObjective}
-use Rattle.pb_opb.specs.engine.Machine.{transition}
-use Rattle.pb_opb.specs.engine.State.{OpbState, opb, act, linears, objectives}
-use Rattle.pb_opb.specs.declared.event.OpbEvent.{OpbEvent}
-use Rattle.pb_opb.specs.declared.event.OpbEvent.TheVariants.{Header, Comment, Objective, Constraint}
-use Rattle.pb_opb.specs.declared.phase.Phase.{Phase}
 use Rattle.pb_opb.specs.declared.phase.Phase as phase
-use Rattle.pb_opb.specs.declared.phase.Action.TheVariants.{To, Give}
 use Rattle.pb_opb.proofs.lemmas.instances.Counted.{IsEntry}
 use Rattle.pb_opb.proofs.lemmas.machine.FirstLetters.{spaces_white, IsDark, sum-dark, linear_first}
 use Rattle.pb_opb.proofs.lemmas.machine.GivenBytes.{gives_objective, gives_constraint, given_reads}

@@ -1,21 +1,12 @@
 -- What the machine reads, in terms of instances.
-use Rattle.std.proofs.Common.{ℕ, List, Bool, Option}
-use Rattle.pb_text.specs.contract.Automaton.{AcceptsItems, MayAsk}
-use Rattle.pb_text.specs.meaning.Spelling.{Item}
+use Rattle.pb_opb.proofs.Common.{ℕ, Bool, List, Option, AcceptsItems, MayAsk, Spanned, Item, IsRead, StopsIn, OpbEvent, Instance, begin, opb, MayKeep}
+use Rattle.pb_opb.proofs.Common.{IsInstance, IsValueOf}
 use Rattle.pb_text.specs.meaning.Reading.{Reads}
 use Rattle.pb_text.specs.declared.Place.{Place}
-use Rattle.pb_text.specs.declared.Spanned.{Spanned}
 use Rattle.pb_text.specs.declared.Stop.{Stop}
-use Rattle.pb_text.specs.meaning.Whole.{IsRead, StopsIn}
 use Rattle.pb_text.proofs.lemmas.text.Formats as formats
 use Rattle.pb_text.proofs.lemmas.source.Unkept.{stops_in}
-use Rattle.pb_opb.specs.meaning.Instances.{IsInstance}
-use Rattle.pb_opb.specs.engine.State.{opb, begin}
-use Rattle.pb_opb.specs.meaning.Values.{IsValueOf}
 use Rattle.pb_opb.specs.meaning.Reading.{AsksInInstance}
-use Rattle.pb_opb.specs.meaning.Gather.{MayKeep}
-use Rattle.pb_opb.specs.declared.instance.Instance.{Instance}
-use Rattle.pb_opb.specs.declared.event.OpbEvent.{OpbEvent}
 use Rattle.pb_opb.proofs.lemmas.machine.Asked.{asks_only}
 use Rattle.pb_opb.proofs.lemmas.machine.Bodies.{instance_only, instance_each}
 

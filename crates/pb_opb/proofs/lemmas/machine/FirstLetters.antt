@@ -1,21 +1,9 @@
 -- The first letters of sums and of linear texts.
-use Rattle.std.proofs.Common.{◌≡◌, ℕ, true, false, ◌||◌, List, [], ◌∷◌, ◌++◌, map, refl, sym, ap, subst, ◌∙◌, inl, inr}
+use Rattle.pb_opb.proofs.Common.{ℕ, ◌++◌, ◌||◌, ◌∙◌, ◌∷◌, ◌≡◌, [], ap, false, inl, inr, IsTrue, List, map, nat_eq, refl, subst, sym, true, ℤ}
+use Rattle.pb_opb.proofs.Common.{eqb-true, false_from_ne_true, SumEvent, Term, White, sums, SumState, is_space, Spaces1, SpellsFurther, SpellsLiteral}
+use Rattle.pb_opb.proofs.Common.{SpellsSum, SpellsTerm, refuse_or_end, refuse_or_go, digit_dark, white_each, ReadsStatement, Refuse, is_blank}
+use Rattle.pb_opb.proofs.Common.{is_white, ◌⋅◌, digit, Each, Language, unmarked, Number, Letter, linears}
 use Rattle.std.proofs.Math.Bool.{and-true}
-use Rattle.std.proofs.lemmas.Bool.{eqb-true, false_from_ne_true}
-use Rattle.std.specs.Prelude.{IsTrue, nat_eq, ℤ}
-use Rattle.pb_text.specs.contract.Automaton.{Refuse, ReadsStatement}
-use Rattle.pb_text.specs.meaning.Classes.{is_blank, is_white}
-use Rattle.pb_text.specs.meaning.Languages.{unmarked, digit, Language, ◌⋅◌, Each}
-use Rattle.pb_text.specs.meaning.Numbers.{Number}
-use Rattle.pb_text.specs.meaning.Spelling.{Letter}
-use Rattle.pb_text.proofs.lemmas.text.ByteTests.{white_each, digit_dark}
-use Rattle.pb_text.proofs.lemmas.machine.Outcomes.{refuse_or_go, refuse_or_end}
-use Rattle.pb_sums.specs.engine.State.{SumState, sums}
-use Rattle.pb_sums.specs.meaning.Sums.{is_space, Spaces1, SpellsLiteral, SpellsTerm, SpellsFurther, SpellsSum}
-use Rattle.pb_sums.specs.declared.sum_kind.Spaces.TheVariants.{White}
-use Rattle.pb_sums.specs.declared.linear.SumEvent.{SumEvent}
-use Rattle.pb_sums.specs.declared.linear.Term.{Term}
-use Rattle.pb_opb.specs.engine.State.{linears}
 
 white-space : (b : ℕ) → is_space White b ≡ is_white b
 white-space b = ap (λ x. is_blank b || x) (and-true (nat_eq b 10))

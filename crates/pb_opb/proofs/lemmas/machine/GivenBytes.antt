@@ -1,16 +1,8 @@
 -- A machine of instances in the phases in which it gives bytes to its machine of sums.
-use Rattle.std.proofs.Common.{◌≡◌, ℕ, ◌<◌, true, false, List, [], ◌∷◌, refl, sym, ap, ◌∙◌, subst, ◌⊎◌, inl, inr}
-use Rattle.pb_text.specs.contract.Automaton.{Next, Go, End, ReadsStatement}
-use Rattle.pb_text.specs.meaning.Spelling.{Letter}
-use Rattle.pb_text.proofs.lemmas.machine.Walking.{same_first}
-use Rattle.pb_sums.specs.engine.State.{SumState, sums}
-use Rattle.pb_sums.specs.declared.SumEvent.{SumEvent}
-use Rattle.pb_opb.specs.engine.Machine.{transition}
-use Rattle.pb_opb.specs.engine.Order.{PhaseFits, Holds}
-use Rattle.pb_opb.specs.engine.State.{OpbState, opb, act, over, giving, after, statement_of, is_within, is_in_number}
-use Rattle.pb_opb.specs.declared.phase.Phase.{Phase}
+use Rattle.pb_opb.proofs.Common.{ℕ, ◌<◌, ◌∙◌, ◌∷◌, ◌≡◌, ◌⊎◌, [], ap, false, inl, inr, List, refl, subst, sym, true, SumEvent, sums, SumState}
+use Rattle.pb_opb.proofs.Common.{same_first, End, Go, Next, ReadsStatement, Letter, Give, Phase, transition, Holds, PhaseFits, act, after, giving}
+use Rattle.pb_opb.proofs.Common.{is_in_number, is_within, opb, OpbState, over, statement_of}
 use Rattle.pb_opb.specs.declared.phase.Phase as phase
-use Rattle.pb_opb.specs.declared.phase.Action.TheVariants.{Give}
 
 -- a phase in which bytes are given to the machine of sums
 pub record Gives (p : Phase) : Type 0 where

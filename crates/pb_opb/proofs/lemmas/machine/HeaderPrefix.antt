@@ -1,27 +1,12 @@
 -- What the machine reads as a header is a header.
-use Rattle.std.proofs.Common.{◌≡◌, ℕ, ◌+◌, ◌-◌, ◌*◌, ◌<◌, ◌≤◌, true, false, ◌&&◌, List, [], ◌∷◌, ◌++◌, length, take, refl, sym, ap, subst, arith, ◌∙◌}
-use Rattle.std.proofs.lemmas.Bool.{eqb-true, leb-true, and_parts, cond_both}
-use Rattle.std.specs.Prelude.{IsTrue, nat_eq, nat_le, slice_index}
-use Rattle.pb_text.specs.contract.Automaton.{ReadsStatement}
-use Rattle.pb_text.specs.meaning.Classes.{is_blank, is_digit}
-use Rattle.pb_text.specs.meaning.Languages.{unmarked, digit, Language, ◌⋅◌, Byte, Bytes, Blanks0, Blanks1}
-use Rattle.pb_text.specs.meaning.Numbers.{Digits, Count}
-use Rattle.pb_text.specs.meaning.Spelling.{Letter, plain}
-use Rattle.pb_text.proofs.lemmas.text.Languages.{grown, next, none_yet, after_it, many-grown, some-grown, some-one}
-use Rattle.pb_text.proofs.lemmas.text.Letters.{as_unmarked, some_digit, bytes_grown, word_grown, word_whole, further}
-use Rattle.pb_text.proofs.lemmas.numbers.Numbers.{digits-grown, digits-one}
-use Rattle.pb_text.proofs.lemmas.machine.Walking.{On, Keeps, reported}
-use Rattle.pb_opb.specs.meaning.Instances.{variable_word, constraint_word, IsTail, SpellsHeader}
-use Rattle.pb_opb.specs.engine.Machine.{word_of, after_count, transition}
-use Rattle.pb_opb.specs.engine.State.{OpbState, opb, begin, act, is_in_number}
-use Rattle.pb_opb.specs.declared.event.OpbEvent.{OpbEvent}
-use Rattle.pb_opb.specs.declared.event.OpbEvent.TheVariants.{Header}
-use Rattle.pb_opb.specs.declared.phase.Field.{Field}
-use Rattle.pb_opb.specs.declared.phase.Field.TheVariants.{Variables, Constraints}
-use Rattle.pb_opb.specs.declared.phase.Phase.{Phase}
+use Rattle.pb_opb.proofs.Common.{ℕ, ◌&&◌, ◌*◌, ◌++◌, ◌+◌, ◌-◌, ◌<◌, ◌∙◌, ◌∷◌, ◌≡◌, ◌≤◌, [], ap, arith, false, IsTrue, length, List, nat_eq, nat_le}
+use Rattle.pb_opb.proofs.Common.{refl, subst, sym, take, true, slice_index, and_parts, cond_both, eqb-true, leb-true, Keeps, On, reported}
+use Rattle.pb_opb.proofs.Common.{digits-grown, digits-one, after_it, grown, many-grown, next, none_yet, some-grown, some-one, as_unmarked}
+use Rattle.pb_opb.proofs.Common.{bytes_grown, further, some_digit, word_grown, word_whole, ReadsStatement, is_blank, is_digit, ◌⋅◌, Blanks0, Blanks1}
+use Rattle.pb_opb.proofs.Common.{Byte, Bytes, digit, Language, unmarked, Count, Digits, Letter, plain, OpbEvent, Header, Action, To, Field}
+use Rattle.pb_opb.proofs.Common.{Constraints, Variables, Phase, after_count, transition, word_of, act, begin, is_in_number, opb, OpbState}
+use Rattle.pb_opb.proofs.Common.{constraint_word, IsTail, SpellsHeader, variable_word}
 use Rattle.pb_opb.specs.declared.phase.Phase as phase
-use Rattle.pb_opb.specs.declared.phase.Action.{Action}
-use Rattle.pb_opb.specs.declared.phase.Action.TheVariants.{To}
 use Rattle.pb_opb.proofs.lemmas.machine.Prefixes.{tail_grown}
 use Rattle.pb_opb.proofs.lemmas.machine.Stands.{idle}
 

@@ -1,26 +1,13 @@
 -- The machine reads each header: one lemma for each word of the grammar.
-use Rattle.std.proofs.Common.{◌≡◌, ℕ, ◌+◌, ◌-◌, ◌*◌, ◌<◌, ◌≤◌, Bool, true, false, cond, List, [], ◌∷◌, ◌++◌, length, refl, sym, ap, subst, arith, ◌∙◌, append_assoc, length-append}
-use Rattle.std.proofs.Math.Seq.{get_or-append_seam}
-use Rattle.std.proofs.lemmas.Bool.{le-leb, eq-eqb}
+use Rattle.pb_opb.proofs.Common.{ℕ, ◌*◌, ◌++◌, ◌+◌, ◌-◌, ◌<◌, ◌∙◌, ◌∷◌, ◌≡◌, ◌≤◌, [], ap, append_assoc, arith, Bool, cond, false, IsTrue, le-leb}
+use Rattle.pb_opb.proofs.Common.{length, length-append, List, nat_eq, refl, subst, sym, true, slice_index, get_or-append_seam, eq-eqb, Leads}
+use Rattle.pb_opb.proofs.Common.{leads_then, longer, reads_after, Walks, blank_each, digit_blank, digit_byte, Go, ReadsStatement, is_blank, ◌⋅◌}
+use Rattle.pb_opb.proofs.Common.{Blanks0, Blanks1, Byte, Bytes, Language, unmarked, Count, Letter, plain, Header, To, Field, Constraints, Variables}
+use Rattle.pb_opb.proofs.Common.{Phase, after_count, count, spell, transition, word_of, act, begin, opb, OpbState, constraint_word, IsTail}
+use Rattle.pb_opb.proofs.Common.{SpellsHeader, variable_word}
 use Rattle.std.proofs.lemmas.Bool.Decides.{nat_tests}
-use Rattle.std.specs.Prelude.{IsTrue, nat_eq, slice_index}
-use Rattle.pb_text.specs.contract.Automaton.{Go, ReadsStatement}
-use Rattle.pb_text.specs.meaning.Classes.{is_blank}
-use Rattle.pb_text.specs.meaning.Languages.{unmarked, Language, ◌⋅◌, Byte, Bytes, Blanks0, Blanks1}
-use Rattle.pb_text.specs.meaning.Numbers.{Count}
-use Rattle.pb_text.specs.meaning.Spelling.{Letter, plain}
-use Rattle.pb_text.proofs.lemmas.text.ByteTests.{blank_each, digit_byte, digit_blank}
 use Rattle.pb_text.proofs.lemmas.numbers.DigitWalks.{TakesDigits, digits_lead}
-use Rattle.pb_text.proofs.lemmas.machine.Walking.{Walks, Leads, leads_then, longer, reads_after}
-use Rattle.pb_opb.specs.meaning.Instances.{variable_word, constraint_word, IsTail, SpellsHeader}
-use Rattle.pb_opb.specs.engine.Machine.{word_of, spell, count, after_count, transition}
-use Rattle.pb_opb.specs.engine.State.{OpbState, opb, begin, act}
-use Rattle.pb_opb.specs.declared.event.OpbEvent.TheVariants.{Header}
-use Rattle.pb_opb.specs.declared.phase.Field.{Field}
-use Rattle.pb_opb.specs.declared.phase.Field.TheVariants.{Variables, Constraints}
-use Rattle.pb_opb.specs.declared.phase.Phase.{Phase}
 use Rattle.pb_opb.specs.declared.phase.Phase as phase
-use Rattle.pb_opb.specs.declared.phase.Action.TheVariants.{To}
 use Rattle.pb_opb.proofs.lemmas.machine.Stands.{stands, idle, stays_many, Keeps, line_reads}
 
 spell_next : (w prefix left : List ℕ) (b : ℕ) (more whole : Phase) (x : Bool) → w ≡ prefix ++ b ∷ left → nat_eq (length prefix + 1) (length w) ≡ x

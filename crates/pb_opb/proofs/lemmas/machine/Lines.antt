@@ -1,16 +1,9 @@
 -- Bytes of a line that are stored at once, and the run that they are.
-use Rattle.pb_text.specs.meaning.Blank.{IsInLine}
-use Rattle.std.proofs.Common.{◌≡◌, ℕ, true, false, List, [], ◌∷◌, ◌++◌, take, refl, ap, subst, append-nil, append_assoc}
-use Rattle.std.proofs.lemmas.Bool.{not-true}
-use Rattle.std.specs.Prelude.{nat_eq, Option, Some, None, IfSome}
+use Rattle.pb_opb.proofs.Common.{ℕ, ◌++◌, ◌∷◌, ◌≡◌, [], ap, append-nil, append_assoc, false, List, nat_eq, None, Option, refl, Some, subst, take}
+use Rattle.pb_opb.proofs.Common.{true, IfSome, not-true, Go, Runs, IsInLine, Keep, Phase, transition, Holds, IsInOrder, act, keeps_line, opb}
+use Rattle.pb_opb.proofs.Common.{OpbState}
 use Rattle.std.specs.Option.{unwrap_or}
-use Rattle.pb_text.specs.contract.Automaton.{Go, Runs}
-use Rattle.pb_opb.specs.engine.Machine.{transition}
-use Rattle.pb_opb.specs.engine.Order.{Holds, IsInOrder}
-use Rattle.pb_opb.specs.engine.State.{OpbState, opb, act, keeps_line}
-use Rattle.pb_opb.specs.declared.phase.Phase.{Phase}
 use Rattle.pb_opb.specs.declared.phase.Phase as phase
-use Rattle.pb_opb.specs.declared.phase.Action.TheVariants.{Keep}
 use Rattle.pb_opb.proofs.lemmas.machine.States.{is_state}
 
 abbrev pub keeping : OpbState → List ℕ → OpbState

@@ -1,14 +1,8 @@
 -- The texts of objectives: `min:` and white space, and what a machine of sums reads after that.
-use Rattle.std.proofs.Common.{ℕ, List, refl}
-use Rattle.pb_text.specs.meaning.Languages.{Language, ◌⋅◌, Byte, Bytes}
-use Rattle.pb_text.specs.meaning.Spelling.{Letter}
-use Rattle.pb_text.proofs.lemmas.text.Languages.{inside, after_it, regroup3, regroup⁻¹}
-use Rattle.pb_sums.specs.meaning.Sums.{Spaces0, SpellsSum, Spells}
+use Rattle.pb_opb.proofs.Common.{ℕ, List, refl, Term, White, Spaces0, Spells, SpellsSum, after_it, inside, regroup3, regroup⁻¹, ◌⋅◌, Byte, Bytes}
+use Rattle.pb_opb.proofs.Common.{Language, Letter, min_word, SpellsObjective, Whites0}
 use Rattle.pb_sums.specs.declared.sum_kind.Part as part
-use Rattle.pb_sums.specs.declared.sum_kind.Spaces.TheVariants.{White}
 use Rattle.pb_sums.specs.declared.linear.SumEvent as sum
-use Rattle.pb_sums.specs.declared.linear.Term.{Term}
-use Rattle.pb_opb.specs.meaning.Instances.{min_word, Whites0, SpellsObjective}
 use Rattle.pb_opb.proofs.lemmas.machine.FirstLetters.{spaces_white, whites_space}
 
 -- `min:` and white space

@@ -1,9 +1,5 @@
 -- Lines and tails that grow at their end.
-use Rattle.pb_text.specs.meaning.Blank.{IsInLine}
-use Rattle.std.proofs.Common.{◌≡◌, ℕ, false, not, List, [], ◌∷◌, ◌++◌, refl, ap}
-use Rattle.std.specs.Prelude.{IsTrue, nat_eq}
-use Rattle.pb_text.proofs.lemmas.text.Languages.{each-append}
-use Rattle.pb_opb.specs.meaning.Instances.{IsTail}
+use Rattle.pb_opb.proofs.Common.{ℕ, ◌++◌, ◌∷◌, ◌≡◌, [], ap, false, IsTrue, List, nat_eq, not, refl, each-append, IsInLine, IsTail}
 
 pub line_grown : (bs : List ℕ) (b : ℕ) → nat_eq b 10 ≡ false → IsInLine bs → IsInLine (bs ++ b ∷ [])
 line_grown bs b e h = each-append (λ x. IsTrue (not (nat_eq x 10))) bs b h (ap not e)

@@ -1,28 +1,16 @@
 -- The state of a machine of instances after a byte.
-use Rattle.std.proofs.Common.{◌≡◌, ℕ, zero, suc, ◌+◌, ◌-◌, ◌*◌, ◌<◌, Bool, true, false, ◌&&◌, nat_le, nat_eq, List, [], ◌∷◌, ◌++◌, length, refl, sym, ap, ◌∙◌, subst, arith, IsTrue}
-use Rattle.std.specs.Prelude.{slice_index}
-use Rattle.pb_text.specs.meaning.Classes.{is_blank, is_white, is_digit}
-use Rattle.pb_text.specs.contract.Automaton.{Next, Go, End, Refuse, Admits, IsState, Continues, is_large, begins, begins_with}
+use Rattle.pb_opb.proofs.Common.{ℕ, ◌&&◌, ◌*◌, ◌++◌, ◌+◌, ◌-◌, ◌<◌, ◌∙◌, ◌∷◌, ◌≡◌, [], ap, arith, Bool, false, IsTrue, length, List, nat_eq, nat_le}
+use Rattle.pb_opb.proofs.Common.{refl, subst, suc, sym, true, zero, slice_index, midway-not-done, continues, continues-midway, ended-last, SumEvent}
+use Rattle.pb_opb.proofs.Common.{White, first, sums, SumState, admits_before, admits_final, Admits, begins, begins_with, Continues, End, Go, is_large}
+use Rattle.pb_opb.proofs.Common.{IsState, Next, Refuse, is_blank, is_digit, is_white, Action, BeginSum, BeginTail, Declare, EndComment, EndHeader}
+use Rattle.pb_opb.proofs.Common.{EndTail, Give, Keep, Stop, To, Field, Constraints, Variables, Phase, after_count, count, transition, word_of, Holds}
+use Rattle.pb_opb.proofs.Common.{IsIdle, IsInOrder, PhaseFits, act, after, asks, at, giving, is_done, is_in_number, is_within, linears, opb, OpbState}
+use Rattle.pb_opb.proofs.Common.{over, phase_owing, remaining_after, statement_of, min_word}
 use Rattle.pb_text.proofs.lemmas.machine.Residual.{refuses}
 use Rattle.pb_text.proofs.lemmas.machine.Admitted.{admits_within}
-use Rattle.pb_sums.specs.engine.State.{SumState, sums, first}
-use Rattle.pb_sums.specs.declared.Spaces.TheVariants.{White}
 use Rattle.pb_sums.specs.declared.Part as part
-use Rattle.pb_sums.specs.declared.SumEvent.{SumEvent}
-use Rattle.pb_sums.proofs.lemmas.machine.States.{continues, continues-midway, ended-last}
-use Rattle.pb_sums.proofs.lemmas.machine.Links.{midway-not-done}
-use Rattle.pb_opb.specs.meaning.Instances.{min_word}
-use Rattle.pb_opb.specs.engine.Machine.{transition, count, after_count, word_of}
-use Rattle.pb_opb.specs.engine.State.{OpbState, opb, at, asks, after, remaining_after, phase_owing, statement_of, giving, linears, act, over, is_within, is_done, is_in_number}
-use Rattle.pb_opb.specs.engine.Order.{PhaseFits, Holds, IsIdle, IsInOrder}
-use Rattle.pb_opb.specs.declared.phase.Field.{Field}
-use Rattle.pb_opb.specs.declared.phase.Field.TheVariants.{Variables, Constraints}
-use Rattle.pb_opb.specs.declared.phase.Phase.{Phase}
 use Rattle.pb_opb.specs.declared.phase.Phase as phase
-use Rattle.pb_opb.specs.declared.phase.Action.{Action}
-use Rattle.pb_opb.specs.declared.phase.Action.TheVariants.{To, Declare, BeginTail, Keep, EndHeader, EndTail, EndComment, BeginSum, Give, Stop}
 use Rattle.pb_opb.proofs.lemmas.machine.Alive.{giving_alive, owed_read}
-use Rattle.pb_text.proofs.lemmas.machine.Living.{admits_before, admits_final}
 use Rattle.pb_opb.proofs.lemmas.machine.GivenBytes.{Gives, IsGiving, gives_at, gives_objective, gives_constraint}
 use Rattle.pb_opb.proofs.lemmas.machine.States.{either_way, is_state, outside}
 

@@ -1,16 +1,7 @@
 -- The states of a machine of instances, within a header and between two statements.
-use Rattle.pb_text.specs.meaning.Blank.{IsInLine}
-use Rattle.std.proofs.Common.{◌≡◌, ℕ, Bool, true, false, List, [], ◌∷◌, ◌++◌, refl, sym, ap, subst, ◌∙◌, append_assoc}
-use Rattle.std.proofs.lemmas.Bool.{not-true}
-use Rattle.std.proofs.lemmas.List.{append-nil}
-use Rattle.std.specs.Prelude.{nat_eq}
-use Rattle.pb_text.specs.contract.Automaton.{Go, End, ReadsStatement}
-use Rattle.pb_text.specs.meaning.Languages.{unmarked, Each, Many}
-use Rattle.pb_text.specs.meaning.Spelling.{plain}
-use Rattle.pb_text.proofs.lemmas.machine.Walking.{Walks, Leads, longer}
-use Rattle.pb_opb.specs.engine.State.{OpbState, opb, phase_owing, linears}
-use Rattle.pb_opb.specs.declared.event.OpbEvent.{OpbEvent}
-use Rattle.pb_opb.specs.declared.phase.Phase.{Phase}
+use Rattle.pb_opb.proofs.Common.{ℕ, ◌++◌, ◌∙◌, ◌∷◌, ◌≡◌, [], ap, append-nil, append_assoc, Bool, false, List, nat_eq, refl, subst, sym, true}
+use Rattle.pb_opb.proofs.Common.{not-true, Leads, longer, Walks, End, Go, ReadsStatement, IsInLine, Each, Many, unmarked, plain, OpbEvent, Phase}
+use Rattle.pb_opb.proofs.Common.{linears, opb, OpbState, phase_owing}
 
 -- with the machine of sums at the start of a linear text
 abbrev pub stands : ℕ → ℕ → ℕ → ℕ → Phase → List ℕ → OpbState

@@ -1,22 +1,10 @@
 -- What holds for each state that a machine of instances can be in.
-use Rattle.std.proofs.Common.{◌≡◌, ℕ, zero, suc, ◌+◌, ◌-◌, ◌*◌, ◌≤◌, Bool, true, false, cond, ◌&&◌, nat_le, nat_eq, [], ◌∷◌, length, length-append, refl, sym, ap, subst, arith}
-use Rattle.std.specs.Prelude.{slice_index}
-use Rattle.std.proofs.lemmas.Bool.{false≢true}
-use Rattle.pb_text.specs.meaning.Classes.{is_blank, is_white, is_digit}
-use Rattle.pb_text.specs.contract.Automaton.{Next, Go, End, Refuse, IsState}
-use Rattle.pb_sums.specs.engine.State.{SumState, sums}
-use Rattle.pb_sums.specs.declared.SumEvent.{SumEvent}
-use Rattle.pb_opb.specs.meaning.Instances.{min_word}
-use Rattle.pb_opb.specs.engine.Machine.{transition, count, after_count, word_of}
-use Rattle.pb_opb.specs.engine.State.{OpbState, opb, remaining_after, phase_owing, act, over, is_within, is_done, is_in_number}
-use Rattle.pb_opb.specs.engine.Order.{Holds, IsIdle, IsInOrder}
-use Rattle.pb_opb.specs.declared.event.OpbEvent.{OpbEvent}
-use Rattle.pb_opb.specs.declared.phase.Field.{Field}
-use Rattle.pb_opb.specs.declared.phase.Field.TheVariants.{Variables, Constraints}
-use Rattle.pb_opb.specs.declared.phase.Phase.{Phase}
+use Rattle.pb_opb.proofs.Common.{ℕ, ◌&&◌, ◌*◌, ◌+◌, ◌-◌, ◌∷◌, ◌≡◌, ◌≤◌, [], ap, arith, Bool, cond, false, length, length-append, nat_eq, nat_le, refl}
+use Rattle.pb_opb.proofs.Common.{subst, suc, sym, true, zero, slice_index, false≢true, SumEvent, sums, SumState, End, Go, IsState, Next, Refuse}
+use Rattle.pb_opb.proofs.Common.{is_blank, is_digit, is_white, OpbEvent, Action, BeginSum, BeginTail, Declare, EndComment, EndHeader, EndTail, Give}
+use Rattle.pb_opb.proofs.Common.{Keep, Stop, To, Field, Constraints, Variables, Phase, after_count, count, transition, word_of, Holds, IsIdle}
+use Rattle.pb_opb.proofs.Common.{IsInOrder, act, is_done, is_in_number, is_within, opb, OpbState, over, phase_owing, remaining_after, min_word}
 use Rattle.pb_opb.specs.declared.phase.Phase as phase
-use Rattle.pb_opb.specs.declared.phase.Action.{Action}
-use Rattle.pb_opb.specs.declared.phase.Action.TheVariants.{To, Declare, BeginTail, Keep, EndHeader, EndTail, EndComment, BeginSum, Give, Stop}
 use Rattle.pb_opb.proofs.lemmas.machine.Alive.{live}
 
 abbrev N : Type 0

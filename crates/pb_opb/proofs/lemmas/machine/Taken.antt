@@ -1,9 +1,6 @@
 -- A run of the machine of sums is a run of the machine of instances.
-use Rattle.std.proofs.Common.{◌≡◌, ℕ, true, List, [], ◌∷◌, refl, sym, ap, ◌∙◌, subst}
-use Rattle.pb_text.specs.contract.Automaton.{Go, Runs}
-use Rattle.pb_sums.specs.engine.State.{SumState, sums}
-use Rattle.pb_opb.specs.engine.Order.{IsInOrder}
-use Rattle.pb_opb.specs.engine.State.{OpbState, opb, giving, over}
+use Rattle.pb_opb.proofs.Common.{ℕ, ◌∙◌, ◌∷◌, ◌≡◌, [], ap, List, refl, subst, sym, true, sums, SumState, Go, Runs, IsInOrder, giving, opb, OpbState}
+use Rattle.pb_opb.proofs.Common.{over}
 use Rattle.pb_opb.proofs.lemmas.machine.GivenBytes.{IsGiving, gives_at, given_step}
 use Rattle.pb_opb.proofs.lemmas.machine.Pushed.{goes_order}
 use Rattle.pb_opb.proofs.lemmas.machine.States.{is_state}

@@ -1,21 +1,14 @@
 -- A whole constraint leads from one constraint to the next.
-use Rattle.std.proofs.Common.{◌≡◌, ℕ, zero, suc, ◌<◌, List, [], ◌∷◌, take, get_or, length, refl, sym, ap, subst, arith, ◌∙◌, Bool, true, false, cond, Some, inl}
-use Rattle.pb_text.specs.contract.Automaton.{Go, End, TakesStatement, begins, begins_with}
-use Rattle.pb_sums.specs.declared.Linear.{Linear}
+use Rattle.pb_opb.proofs.Common.{ℕ, ◌<◌, ◌∙◌, ◌∷◌, ◌≡◌, [], ap, arith, Bool, cond, false, get_or, inl, length, List, refl, Some, subst, suc, sym}
+use Rattle.pb_opb.proofs.Common.{take, true, zero, first_is_state, Linear, White, last, sums, SumState, begins, begins_with, End, Go, TakesStatement}
+use Rattle.pb_opb.proofs.Common.{Give, To, Phase, transition, Holds, IsInOrder, act, giving, is_within, linears, opb, OpbState, over, phase_owing}
+use Rattle.pb_opb.proofs.Common.{remaining_after}
 use Rattle.pb_sums.specs.declared.SumEvent as sum
 use Rattle.pb_sums.specs.declared.Part as part
-use Rattle.pb_sums.specs.declared.Spaces.TheVariants.{White}
-use Rattle.pb_sums.specs.engine.State.{SumState, sums, last}
 use Rattle.pb_sums.specs.engine.TermParts.{LeadsToLinear}
-use Rattle.pb_sums.proofs.lemmas.machine.States.{first_is_state}
 use Rattle.pb_sums.proofs.lemmas.machine.WholeTexts.{before_semicolon, linear_ends, linear_some}
-use Rattle.pb_opb.specs.engine.Machine.{transition}
-use Rattle.pb_opb.specs.engine.Order.{Holds, IsInOrder}
-use Rattle.pb_opb.specs.engine.State.{OpbState, opb, giving, linears, act, over, is_within, remaining_after, phase_owing}
 use Rattle.pb_opb.specs.declared.event.OpbEvent as event
-use Rattle.pb_opb.specs.declared.phase.Phase.{Phase}
 use Rattle.pb_opb.specs.declared.phase.Phase as phase
-use Rattle.pb_opb.specs.declared.phase.Action.TheVariants.{To, Give}
 use Rattle.pb_opb.proofs.lemmas.machine.Pushed.{give_order, end_order, end_step}
 use Rattle.pb_opb.proofs.lemmas.machine.States.{is_state}
 use Rattle.pb_opb.proofs.lemmas.machine.Taken.{runs_given}

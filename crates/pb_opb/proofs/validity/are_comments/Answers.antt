@@ -1,4 +1,4 @@
-use Rattle.std.proofs.Common.{arith}
+use Rattle.pb_opb.proofs.Common.{arith}
 use Rattle.pb_opb.proofs.lemmas.instances.Meets.{comment_passes, comment_fails, comments_end}
 use Rattle.pb_opb.proofs.validity.are_comments.Goals as goal
 

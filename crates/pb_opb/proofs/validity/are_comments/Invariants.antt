@@ -1,5 +1,4 @@
-use Rattle.std.proofs.Common.{drop, ◌↔◌}
-use Rattle.pb_opb.specs.meaning.Values.{AreComments}
+use Rattle.pb_opb.proofs.Common.{◌↔◌, drop, AreComments}
 use Rattle.pb_opb.proofs.validity.are_comments.Given as goal
 
 -- all meet the rules if the rest do

@@ -1,5 +1,4 @@
-use Rattle.std.proofs.Common.{arith}
-use Rattle.pb_text.specs.meaning.Limits.{largest}
+use Rattle.pb_opb.proofs.Common.{arith, largest}
 use Rattle.pb_opb.proofs.lemmas.instances.Meets.{linear_passes, linear_fails, linears_end}
 use Rattle.pb_opb.proofs.validity.are_linears.Goals as goal
 

@@ -1,6 +1,4 @@
-use Rattle.std.proofs.Common.{drop, ◌↔◌}
-use Rattle.pb_text.specs.meaning.Limits.{largest}
-use Rattle.pb_opb.specs.meaning.Values.{AreLinears}
+use Rattle.pb_opb.proofs.Common.{◌↔◌, drop, largest, AreLinears}
 use Rattle.pb_opb.proofs.validity.are_linears.Given as goal
 
 -- all meet the rules if the rest do

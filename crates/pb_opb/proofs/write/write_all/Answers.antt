@@ -1,6 +1,4 @@
-use Rattle.std.proofs.Common.{refl}
-use Rattle.pb_text.proofs.lemmas.text.Parts.{part_then, part_broke}
-use Rattle.pb_opb.specs.contract.Canonical.{constraint_events}
+use Rattle.pb_opb.proofs.Common.{refl, part_broke, part_then, constraint_events}
 use Rattle.pb_opb.proofs.lemmas.instances.Texts.{objective_turn}
 use Rattle.pb_opb.proofs.write.write_all.Goals as goal
 

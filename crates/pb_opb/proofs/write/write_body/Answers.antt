@@ -1,5 +1,4 @@
-use Rattle.std.proofs.Common.{List, ℕ, subst, sym, rules}
-use Rattle.pb_text.specs.meaning.Writing.{Writes}
+use Rattle.pb_opb.proofs.Common.{ℕ, List, rules, subst, sym, Writes}
 use Rattle.pb_opb.proofs.lemmas.instances.Texts.{body_without, body_with}
 use Rattle.pb_opb.proofs.write.write_body.Goals as goal
 

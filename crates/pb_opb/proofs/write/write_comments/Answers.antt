@@ -1,6 +1,4 @@
-use Rattle.std.proofs.Common.{refl, arith}
-use Rattle.pb_text.proofs.lemmas.text.Writing.{writes_nothing}
-use Rattle.pb_text.proofs.lemmas.text.Parts.{part_then, part_broke, part_wrote}
+use Rattle.pb_opb.proofs.Common.{arith, refl, part_broke, part_then, part_wrote, writes_nothing}
 use Rattle.pb_opb.proofs.lemmas.instances.Texts.{comments_more, comments_at}
 use Rattle.pb_opb.proofs.write.write_comments.Goals as goal
 

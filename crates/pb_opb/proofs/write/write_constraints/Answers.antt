@@ -1,10 +1,5 @@
-use Rattle.std.proofs.Common.{[], ◌∷◌, ◌++◌, refl, arith, subst, List, ℕ, ap, add-zero, sym}
-use Rattle.pb_text.specs.meaning.Writing.{Wrote}
-use Rattle.pb_text.proofs.lemmas.text.Writing.{writes_nothing}
-use Rattle.pb_text.proofs.lemmas.text.Parts.{part_then, part_broke, part_wrote}
-use Rattle.pb_sums.specs.contract.Canonical.{linear_bytes}
-use Rattle.pb_opb.specs.contract.Canonical.{in_order, constraint_events, comment_events}
-use Rattle.pb_opb.specs.engine.Led.{led_lines}
+use Rattle.pb_opb.proofs.Common.{ℕ, ◌++◌, ◌∷◌, [], add-zero, ap, arith, List, refl, subst, sym, linear_bytes, part_broke, part_then, part_wrote}
+use Rattle.pb_opb.proofs.Common.{writes_nothing, Wrote, comment_events, constraint_events, in_order, led_lines}
 use Rattle.pb_opb.proofs.lemmas.instances.Texts.{constraint_turn, constraint_done, constraints_end}
 use Rattle.pb_opb.proofs.write.write_constraints.Goals as goal
 

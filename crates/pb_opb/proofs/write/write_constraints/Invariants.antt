@@ -1,7 +1,4 @@
-use Rattle.std.proofs.Common.{◌≡◌, ℕ, ◌+◌, List, ◌++◌, drop}
-use Rattle.pb_text.specs.meaning.Writing.{Wrote}
-use Rattle.pb_opb.specs.contract.Canonical.{in_order, constraint_events}
-use Rattle.pb_opb.specs.engine.Led.{led_lines}
+use Rattle.pb_opb.proofs.Common.{ℕ, ◌++◌, ◌+◌, ◌≡◌, drop, List, Wrote, constraint_events, in_order, led_lines}
 use Rattle.pb_opb.proofs.write.write_constraints.Given as goal
 
 -- what was written, and what is left

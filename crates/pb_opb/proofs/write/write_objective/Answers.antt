@@ -1,5 +1,4 @@
-use Rattle.std.proofs.Common.{refl, rules}
-use Rattle.pb_text.proofs.lemmas.text.Parts.{part_then, part_broke}
+use Rattle.pb_opb.proofs.Common.{refl, rules, part_broke, part_then}
 use Rattle.pb_opb.proofs.lemmas.instances.Texts.{objective_parts}
 use Rattle.pb_opb.proofs.write.write_objective.Goals as goal
 

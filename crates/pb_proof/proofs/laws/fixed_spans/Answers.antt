@@ -1,5 +1,5 @@
 use Rattle.pb_text.proofs.lemmas.text.FixedSpans as spans
-use Rattle.pb_proof.specs.engine.Machine.State.{proofs, begin}
+use Rattle.pb_proof.proofs.Common.{begin, proofs}
 use Rattle.pb_proof.proofs.lemmas.Machine.Exact.{reads_proofs}
 use Rattle.pb_proof.proofs.laws.fixed_spans.Goals as goal
 

@@ -1,5 +1,4 @@
-use Rattle.pb_text.proofs.lemmas.text.Deterministic.{prefix_free}
-use Rattle.pb_proof.specs.engine.Machine.State.{proofs, begin}
+use Rattle.pb_proof.proofs.Common.{prefix_free, begin, proofs}
 use Rattle.pb_proof.proofs.lemmas.Machine.Exact.{reads_proofs, finishes}
 use Rattle.pb_proof.proofs.laws.prefix_free.Goals as goal
 

@@ -1,28 +1,15 @@
 -- Where the conclusion machine may allocate.
-use Rattle.std.proofs.Common.{◌≡◌, ℕ, ◌+◌, ◌-◌, ◌*◌, Bool, true, false, ◌&&◌, List, [], ◌∷◌, ◌++◌, refl, sym, ap, subst, ◌∙◌, append_assoc, Some, None}
-use Rattle.std.proofs.lemmas.Bool.{false≢true, cond_both}
-use Rattle.std.specs.Prelude.{ℤ, nat_eq, nat_le, slice_index}
-use Rattle.pb_text.specs.contract.Automaton.{Next, Go, End, Refuse, ReadsStatement}
-use Rattle.pb_text.specs.meaning.Classes.{is_blank, is_digit}
-use Rattle.pb_text.specs.meaning.Spelling.{Letter, bytes}
-use Rattle.pb_text.proofs.lemmas.text.Languages.{bytes-append}
-use Rattle.pb_text.proofs.lemmas.machine.Walking.{Walks, prefixes_of}
-use Rattle.pb_sums.specs.declared.Literal.{Literal}
-use Rattle.pb_proof.specs.meaning.Asking.{AsksShown, AsksConclusion}
-use Rattle.pb_proof.specs.engine.Line.Conclusion.{word_of, phase_after_word, phase_after_bound, spell, first_word, digits, begin_bound, colon, next_action, between, after_bound, id_digits, after_id, transition}
-use Rattle.pb_proof.specs.engine.Line.ConclusionState.{ConclusionState, conclusion_automaton, conclusion_first, showing_value, act, over, giving, asks}
-use Rattle.pb_proof.specs.engine.Line.Literals.{LiteralsState, literals_automaton}
-use Rattle.pb_proof.specs.meaning.Lines.{inf_word}
-use Rattle.pb_proof.specs.declared.conclusion.Bound.{Bound}
-use Rattle.pb_proof.specs.declared.conclusion.Bound.TheVariants.{Infinite}
-use Rattle.pb_proof.specs.declared.conclusion.Conclusion.{Conclusion}
-use Rattle.pb_proof.specs.declared.line.conclusion.phase.Owner.{Owner}
+use Rattle.pb_proof.proofs.Common.{ℕ, ℤ, ◌&&◌, ◌*◌, ◌++◌, ◌+◌, ◌-◌, ◌∙◌, ◌∷◌, ◌≡◌, [], ap, append_assoc, Bool, false, List, nat_eq, nat_le, None}
+use Rattle.pb_proof.proofs.Common.{refl, Some, subst, sym, true, slice_index, cond_both, false≢true, Literal, prefixes_of, Walks, bytes-append, End}
+use Rattle.pb_proof.proofs.Common.{Go, Next, ReadsStatement, Refuse, is_blank, is_digit, bytes, Letter, Bound, Infinite, Conclusion, Concluding}
+use Rattle.pb_proof.proofs.Common.{Owner, Showing, Side, after_bound, after_id, begin_bound, between, colon, digits, first_word, id_digits}
+use Rattle.pb_proof.proofs.Common.{phase_after_bound, phase_after_word, spell, word_of, asks, conclusion_automaton, conclusion_first, ConclusionState}
+use Rattle.pb_proof.proofs.Common.{showing_value, literals_automaton, LiteralsState, AsksConclusion, AsksShown, inf_word}
+use Rattle.pb_proof.specs.engine.Line.Conclusion.{next_action, transition}
+use Rattle.pb_proof.specs.engine.Line.ConclusionState.{act, over, giving}
 use Rattle.pb_proof.specs.declared.line.conclusion.phase.Owner.TheVariants as owner
-use Rattle.pb_proof.specs.declared.line.conclusion.phase.Side.{Side}
 use Rattle.pb_proof.specs.declared.line.conclusion.phase.Side.TheVariants as side
-use Rattle.pb_proof.specs.declared.line.conclusion.phase.Showing.{Showing}
 use Rattle.pb_proof.specs.declared.line.conclusion.phase.Showing.TheVariants as showing
-use Rattle.pb_proof.specs.declared.line.conclusion.phase.Concluding.{Concluding}
 use Rattle.pb_proof.specs.declared.line.conclusion.phase.Concluding.TheVariants as concluding
 use Rattle.pb_proof.specs.declared.line.conclusion.phase.Phase.{Phase}
 use Rattle.pb_proof.specs.declared.line.conclusion.phase.Phase.TheVariants as phase

@@ -1,29 +1,16 @@
 -- The conclusion machine reads each conclusion.
-use Rattle.std.proofs.Common.{◌≡◌, ℕ, ◌<◌, Bool, true, List, [], ◌∷◌, ◌++◌, refl, sym, ap, subst, ◌∙◌}
-use Rattle.std.specs.Prelude.{IsTrue, ℤ, Option, Some, None}
-use Rattle.pb_text.specs.contract.Automaton.{Go, ReadsStatement}
-use Rattle.pb_text.specs.meaning.Classes.{is_blank}
-use Rattle.pb_text.specs.meaning.Languages.{unmarked, Language, ◌⋅◌, Empty, Byte, Bytes, Blanks0, Blanks1}
-use Rattle.pb_text.specs.meaning.Numbers.{signed}
-use Rattle.pb_text.specs.meaning.Spelling.{Letter}
-use Rattle.pb_text.proofs.lemmas.text.Languages.{inside, regroup, after_it}
-use Rattle.pb_text.proofs.lemmas.machine.Walking.{Walks, longer, reads_after}
-use Rattle.pb_text.proofs.lemmas.text.ByteTests.{blank_digit}
-use Rattle.pb_sums.specs.declared.Literal.{Literal}
-use Rattle.pb_proof.specs.meaning.Lines.{none_word, unsat_word, bounds_word, LineEnd, SpellsId, SpellsBound, SpellsShown, LiteralsShown, IdShown, SpellsConclusionLine}
-use Rattle.pb_proof.specs.engine.Line.Conclusion.{word_of, phase_after_word}
-use Rattle.pb_proof.specs.engine.Line.ConclusionState.{ConclusionState, conclusion_automaton, conclusion_first, conclusion_last, conclusion_value, showing_value, giving, over}
-use Rattle.pb_proof.specs.engine.Line.Literals.{LiteralsState, literals_automaton, literals_first, literals_last, SpellsJoined}
-use Rattle.pb_proof.specs.declared.conclusion.Bound.{Bound}
-use Rattle.pb_proof.specs.declared.conclusion.Conclusion.{Conclusion}
-use Rattle.pb_proof.specs.declared.conclusion.Conclusion.TheVariants.{NoClaim, Unsat, Sat, Bounds}
+use Rattle.pb_proof.proofs.Common.{ℕ, ℤ, ◌++◌, ◌<◌, ◌∙◌, ◌∷◌, ◌≡◌, [], ap, Bool, IsTrue, List, None, Option, refl, Some, subst, sym, true, Literal}
+use Rattle.pb_proof.proofs.Common.{longer, reads_after, Walks, blank_digit, after_it, inside, regroup, Go, ReadsStatement, is_blank, ◌⋅◌, Blanks0}
+use Rattle.pb_proof.proofs.Common.{Blanks1, Byte, Bytes, Empty, Language, unmarked, signed, Letter, Bound, Conclusion, Bounds, NoClaim, Sat, Unsat}
+use Rattle.pb_proof.proofs.Common.{Concluding, Owner, Showing, phase_after_word, word_of, conclusion_automaton, conclusion_first, conclusion_last}
+use Rattle.pb_proof.proofs.Common.{conclusion_value, ConclusionState, showing_value, literals_automaton, literals_first, literals_last, LiteralsState}
+use Rattle.pb_proof.proofs.Common.{SpellsJoined, bounds_word, IdShown, LineEnd, LiteralsShown, none_word, SpellsBound, SpellsConclusionLine, SpellsId}
+use Rattle.pb_proof.proofs.Common.{SpellsShown, unsat_word}
+use Rattle.pb_proof.specs.engine.Line.ConclusionState.{giving, over}
 use Rattle.pb_proof.specs.declared.line.conclusion.phase.Word as word
-use Rattle.pb_proof.specs.declared.line.conclusion.phase.Owner.{Owner}
 use Rattle.pb_proof.specs.declared.line.conclusion.phase.Owner.TheVariants as owner
 use Rattle.pb_proof.specs.declared.line.conclusion.phase.Side.TheVariants as side
-use Rattle.pb_proof.specs.declared.line.conclusion.phase.Showing.{Showing}
 use Rattle.pb_proof.specs.declared.line.conclusion.phase.Showing.TheVariants as showing
-use Rattle.pb_proof.specs.declared.line.conclusion.phase.Concluding.{Concluding}
 use Rattle.pb_proof.specs.declared.line.conclusion.phase.Concluding.TheVariants as concluding
 use Rattle.pb_proof.specs.declared.line.conclusion.phase.Phase.{Phase}
 use Rattle.pb_proof.specs.declared.line.conclusion.phase.Phase.TheVariants as phase

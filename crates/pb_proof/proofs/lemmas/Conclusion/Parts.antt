@@ -1,28 +1,14 @@
 -- How the conclusion machine walks through bounds and ids.
-use Rattle.std.proofs.Common.{◌≡◌, ℕ, ◌+◌, ◌-◌, ◌*◌, ◌<◌, ◌≤◌, Bool, true, false, cond, List, [], ◌∷◌, ◌++◌, length, drop, refl, sym, ap, subst, arith, inl, inr, ◌∙◌}
-use Rattle.std.proofs.lemmas.Bool.{le-leb}
-use Rattle.std.proofs.lemmas.Bool.Decides.{nat_tests}
-use Rattle.std.specs.Prelude.{ℤ, None, nat_eq}
-use Rattle.pb_text.specs.contract.Automaton.{Go}
-use Rattle.pb_text.specs.meaning.Classes.{is_digit}
-use Rattle.pb_text.specs.meaning.Languages.{unmarked}
-use Rattle.pb_text.specs.meaning.Numbers.{Digits, Number, signed}
-use Rattle.pb_text.specs.meaning.Spelling.{Letter, plain}
-use Rattle.pb_text.proofs.lemmas.machine.Walking.{Walks, Leads}
-use Rattle.pb_text.proofs.lemmas.text.ByteTests.{digit_byte, digit_blank}
-use Rattle.pb_proof.specs.meaning.Lines.{inf_word, SpellsId, SpellsBound}
-use Rattle.pb_proof.specs.engine.Line.Conclusion.{phase_after_bound, digits, after_bound, id_digits, after_id, is_within}
-use Rattle.pb_proof.specs.engine.Line.ConclusionState.{ConclusionState, conclusion_automaton, act, is_in_number}
-use Rattle.pb_proof.specs.declared.conclusion.Bound.{Bound}
-use Rattle.pb_proof.specs.declared.conclusion.Bound.TheVariants.{Finite, Infinite}
-use Rattle.pb_proof.specs.declared.line.conclusion.phase.Owner.{Owner}
-use Rattle.pb_proof.specs.declared.line.conclusion.phase.Side.{Side}
+use Rattle.pb_proof.proofs.Common.{ℕ, ℤ, ◌*◌, ◌++◌, ◌+◌, ◌-◌, ◌<◌, ◌∙◌, ◌∷◌, ◌≡◌, ◌≤◌, [], ap, arith, Bool, cond, drop, false, inl, inr, length, List}
+use Rattle.pb_proof.proofs.Common.{nat_eq, None, refl, subst, sym, true, le-leb, nat_tests, Leads, Walks, digits_lead, TakesDigits, digit_blank}
+use Rattle.pb_proof.proofs.Common.{digit_byte, Go, is_digit, unmarked, Digits, Number, signed, Letter, plain, Bound, Finite, Infinite, Stop, To}
+use Rattle.pb_proof.proofs.Common.{Owner, Side, after_bound, after_id, digits, id_digits, is_within, phase_after_bound, conclusion_automaton}
+use Rattle.pb_proof.proofs.Common.{ConclusionState, is_in_number, inf_word, SpellsBound, SpellsId}
+use Rattle.pb_proof.specs.engine.Line.ConclusionState.{act}
 use Rattle.pb_proof.specs.declared.line.conclusion.phase.Side.TheVariants as side
 use Rattle.pb_proof.specs.declared.line.conclusion.phase.Phase.{Phase}
 use Rattle.pb_proof.specs.declared.line.conclusion.phase.Phase.TheVariants as phase
-use Rattle.pb_proof.specs.declared.line.conclusion.phase.Action.TheVariants.{To, Stop}
 use Rattle.pb_proof.proofs.lemmas.Conclusion.Walk.{at, Carries, Is, Follows, number_follows, Spelled, left_walk}
-use Rattle.pb_text.proofs.lemmas.numbers.DigitWalks.{TakesDigits, digits_lead}
 
 -- a digit differs from each byte that is not a digit
 digit-not : (d b : ℕ) → d < 10 → is_digit b ≡ false → nat_eq (48 + d) b ≡ false

@@ -1,38 +1,25 @@
 -- What the conclusion machine reads is a conclusion.
-use Rattle.std.proofs.Common.{◌≡◌, ℕ, ◌+◌, ◌-◌, ◌*◌, ◌<◌, ◌≤◌, Bool, true, false, ◌&&◌, List, [], ◌∷◌, ◌++◌, length, take, refl, sym, ap, subst, inl, inr, ◌∙◌}
-use Rattle.std.proofs.lemmas.Bool.{eqb-true, cond_both, and_parts}
-use Rattle.std.specs.Prelude.{ℤ, Some, None, nat_eq, nat_le, slice_index}
-use Rattle.pb_text.specs.contract.Automaton.{Next, Go, End, Refuse, ReadsStatement}
-use Rattle.pb_text.specs.meaning.Classes.{is_blank, is_digit}
-use Rattle.pb_text.specs.meaning.Languages.{unmarked, digit, Language, ◌⋅◌, Empty, Byte, Bytes, Blanks0, Blanks1}
-use Rattle.pb_text.specs.meaning.Numbers.{Digits, Sign, signed}
-use Rattle.pb_text.specs.meaning.Spelling.{Letter, plain}
-use Rattle.pb_text.proofs.lemmas.text.Languages.{grown, next, none_yet, inside, after_it, regroup}
-use Rattle.pb_text.proofs.lemmas.numbers.Numbers.{digits-grown, digits-one}
-use Rattle.pb_text.proofs.lemmas.machine.Walking.{Walks, walks_more, ends_walk, On, Keeps, reported}
-use Rattle.pb_text.proofs.lemmas.text.Letters.{as_unmarked, some_digit, word_grown, word_whole}
-use Rattle.pb_sums.specs.declared.Literal.{Literal}
-use Rattle.pb_proof.specs.meaning.Lines.{unsat_word, bounds_word, inf_word, Minus, SpellsId, SpellsBound, IdShown, SpellsConclusionLine}
-use Rattle.pb_proof.specs.engine.Line.Conclusion.{word_of, phase_after_word, phase_after_bound, spell, first_word, digits, begin_bound, colon, next_action, between, after_bound, id_digits, after_id, transition, PhaseFits}
-use Rattle.pb_proof.specs.engine.Line.ConclusionState.{ConclusionState, conclusion_automaton, conclusion_first, conclusion_at, giving, act, over, is_in_number}
-use Rattle.pb_proof.specs.engine.Line.Literals.{LiteralsState, literals_automaton, literals_first, SpellsJoined}
-use Rattle.pb_proof.specs.declared.conclusion.Bound.{Bound}
-use Rattle.pb_proof.specs.declared.conclusion.Bound.TheVariants.{Finite, Infinite}
-use Rattle.pb_proof.specs.declared.conclusion.Conclusion.{Conclusion}
-use Rattle.pb_proof.specs.declared.line.conclusion.phase.Word.{Word}
+use Rattle.pb_proof.proofs.Common.{ℕ, ℤ, ◌&&◌, ◌*◌, ◌++◌, ◌+◌, ◌-◌, ◌<◌, ◌∙◌, ◌∷◌, ◌≡◌, ◌≤◌, [], ap, Bool, false, inl, inr, length, List, nat_eq}
+use Rattle.pb_proof.proofs.Common.{nat_le, None, refl, Some, subst, sym, take, true, slice_index, and_parts, cond_both, eqb-true, Literal, ends_walk}
+use Rattle.pb_proof.proofs.Common.{Keeps, On, reported, Walks, walks_more, digits-grown, digits-one, after_it, grown, inside, next, none_yet, regroup}
+use Rattle.pb_proof.proofs.Common.{as_unmarked, some_digit, word_grown, word_whole, End, Go, Next, ReadsStatement, Refuse, is_blank, is_digit, ◌⋅◌}
+use Rattle.pb_proof.proofs.Common.{Blanks0, Blanks1, Byte, Bytes, digit, Empty, Language, unmarked, Digits, Sign, signed, Letter, plain, Bound}
+use Rattle.pb_proof.proofs.Common.{Finite, Infinite, Conclusion, To, Concluding, Owner, Showing, Side, Word, after_bound, after_id, begin_bound}
+use Rattle.pb_proof.proofs.Common.{between, colon, digits, first_word, id_digits, phase_after_bound, phase_after_word, PhaseFits, spell, word_of}
+use Rattle.pb_proof.proofs.Common.{conclusion_at, conclusion_automaton, conclusion_first, ConclusionState, is_in_number, literals_automaton}
+use Rattle.pb_proof.proofs.Common.{literals_first, LiteralsState, SpellsJoined, bounds_word, IdShown, inf_word, SpellsBound, SpellsConclusionLine}
+use Rattle.pb_proof.proofs.Common.{SpellsId, unsat_word}
+use Rattle.pb_proof.specs.meaning.Lines.{Minus}
+use Rattle.pb_proof.specs.engine.Line.Conclusion.{next_action, transition}
+use Rattle.pb_proof.specs.engine.Line.ConclusionState.{giving, act, over}
 use Rattle.pb_proof.specs.declared.line.conclusion.phase.Word.TheVariants as word
-use Rattle.pb_proof.specs.declared.line.conclusion.phase.Owner.{Owner}
 use Rattle.pb_proof.specs.declared.line.conclusion.phase.Owner.TheVariants as owner
-use Rattle.pb_proof.specs.declared.line.conclusion.phase.Side.{Side}
 use Rattle.pb_proof.specs.declared.line.conclusion.phase.Side.TheVariants as side
-use Rattle.pb_proof.specs.declared.line.conclusion.phase.Showing.{Showing}
 use Rattle.pb_proof.specs.declared.line.conclusion.phase.Showing.TheVariants as showing
-use Rattle.pb_proof.specs.declared.line.conclusion.phase.Concluding.{Concluding}
 use Rattle.pb_proof.specs.declared.line.conclusion.phase.Concluding.TheVariants as concluding
 use Rattle.pb_proof.specs.declared.line.conclusion.phase.Phase.{Phase}
 use Rattle.pb_proof.specs.declared.line.conclusion.phase.Phase.TheVariants as phase
 use Rattle.pb_proof.specs.declared.line.conclusion.phase.Action.{Action}
-use Rattle.pb_proof.specs.declared.line.conclusion.phase.Action.TheVariants.{To}
 use Rattle.pb_proof.proofs.lemmas.Conclusion.Steps.{continues}
 use Rattle.pb_proof.proofs.lemmas.Conclusion.Texts.{ConclusionRead, LowerRead, Lead, IdLead, Colon, BeforeIdRead, id_shown, bounds_body, conclusion_line, showing_line}
 use Rattle.pb_proof.proofs.lemmas.Line.Ends.{Gapped, Closing, blank_more, blank_closing, semicolon_after_blanks, line_after_blanks, line_closing, gapped, gapped_some, first_blank, further_blank, blanks_begin, blanks_go_on}

@@ -1,23 +1,16 @@
 -- A push of the conclusion machine does what its transition says.
-use Rattle.std.proofs.Common.{◌≡◌, ℕ, ◌-◌, ◌^◌, ◌<◌, ◌≤◌, false, ◌&&◌, List, IsTrue, refl, sym, ap, subst, arith, ◌∙◌}
+use Rattle.pb_proof.proofs.Common.{ℕ, ◌&&◌, ◌-◌, ◌<◌, ◌^◌, ◌∙◌, ◌≡◌, ◌≤◌, ap, arith, false, IsTrue, List, refl, subst, sym, Literal, admits}
+use Rattle.pb_proof.proofs.Common.{end_or_refuse, go_or_refuse, refuses, Admits, End, Go, is_large, Next, Refuse, Limits, is_digit, largest, top_of}
+use Rattle.pb_proof.proofs.Common.{Showing, asks, conclusion_automaton, conclusion_first, ConclusionState, is_in_number, IsConclusionInOrder}
+use Rattle.pb_proof.proofs.Common.{literals_automaton, LiteralsState}
 use Rattle.std.proofs.Math.Pow.{pow_mono}
-use Rattle.pb_text.specs.contract.Automaton.{Next, Go, End, Refuse, Admits, is_large}
-use Rattle.pb_text.specs.meaning.Classes.{is_digit}
-use Rattle.pb_text.specs.meaning.Limits.{largest, top_of}
-use Rattle.pb_text.specs.declared.limits.Limits.{Limits}
-use Rattle.pb_text.proofs.lemmas.machine.Residual.{refuses}
-use Rattle.pb_text.proofs.lemmas.machine.Outcomes.{go_or_refuse, end_or_refuse}
-use Rattle.pb_sums.specs.declared.Literal.{Literal}
 use Rattle.pb_proof.specs.engine.Line.Conclusion.{transition}
-use Rattle.pb_proof.specs.engine.Line.ConclusionState.{ConclusionState, conclusion_automaton, conclusion_first, giving, act, over, asks, is_in_number, IsConclusionInOrder}
-use Rattle.pb_proof.specs.engine.Line.Literals.{LiteralsState, literals_automaton}
-use Rattle.pb_proof.specs.declared.line.conclusion.phase.Showing.{Showing}
+use Rattle.pb_proof.specs.engine.Line.ConclusionState.{giving, act, over}
 use Rattle.pb_proof.specs.declared.line.conclusion.phase.Phase.TheVariants as phase
 use Rattle.pb_proof.specs.declared.line.conclusion.phase.Action.{Action}
 use Rattle.pb_proof.specs.declared.line.conclusion.phase.Action.TheVariants.{Give}
 use Rattle.pb_proof.proofs.lemmas.Conclusion.Steps.{continues, give_phase, idle_order}
 use Rattle.pb_proof.proofs.lemmas.Conclusion.Theorems.{conclusion_of_one}
-use Rattle.pb_text.proofs.lemmas.machine.OneText.{admits}
 
 module _ (s : ConclusionState) (h : IsConclusionInOrder s) (b : ℕ) (x : Showing) (planned : transition s.limit s.top s.phase b ≡ Give x) where
   given : (n : Next LiteralsState (List Literal)) → literals_automaton.step s.literals b ≡ n → conclusion_automaton.step s b ≡ over s x n

@@ -1,33 +1,22 @@
 -- What a byte preserves in the conclusion machine.
-use Rattle.std.proofs.Common.{◌≡◌, ℕ, ◌+◌, ◌-◌, ◌*◌, ◌^◌, ◌<◌, ◌≤◌, Bool, true, false, cond, ◌&&◌, nat_eq, nat_le, length, refl, sym, ap, subst, arith}
-use Rattle.std.proofs.lemmas.Bool.{leb-true, false≢true, cond_both, and_parts}
-use Rattle.std.specs.Prelude.{ℤ, Some, None, slice_index, List}
-use Rattle.pb_text.specs.contract.Automaton.{Next, Go, End, Refuse}
-use Rattle.pb_text.specs.meaning.Classes.{is_blank, is_digit}
-use Rattle.pb_text.specs.meaning.Numbers.{signed}
-use Rattle.pb_text.proofs.lemmas.text.Letters.{further}
-use Rattle.pb_sums.specs.declared.Literal.{Literal}
-use Rattle.pb_proof.specs.meaning.Lines.{inf_word}
-use Rattle.pb_proof.specs.engine.Line.Conclusion.{word_of, phase_after_word, phase_after_bound, spell, first_word, digits, begin_bound, colon, next_action, between, after_bound, id_digits, after_id, transition, is_within, is_done, PhaseFits}
-use Rattle.pb_proof.specs.engine.Line.ConclusionState.{ConclusionState, conclusion_automaton, conclusion_at, conclusion_last, giving, act, over, is_in_number, spent, Holds, IsConclusionInOrder}
-use Rattle.pb_proof.specs.engine.Line.Literals.{LiteralsState, literals_automaton}
-use Rattle.pb_proof.specs.declared.conclusion.Bound.{Bound}
-use Rattle.pb_proof.specs.declared.conclusion.Bound.TheVariants.{Finite, Infinite}
-use Rattle.pb_proof.specs.declared.conclusion.Conclusion.{Conclusion}
-use Rattle.pb_proof.specs.declared.line.conclusion.phase.Word.{Word}
+use Rattle.pb_proof.proofs.Common.{ℕ, ℤ, ◌&&◌, ◌*◌, ◌+◌, ◌-◌, ◌<◌, ◌^◌, ◌≡◌, ◌≤◌, ap, arith, Bool, cond, false, length, List, nat_eq, nat_le, None}
+use Rattle.pb_proof.proofs.Common.{refl, Some, subst, sym, true, slice_index, and_parts, cond_both, false≢true, leb-true, Literal, further, End, Go}
+use Rattle.pb_proof.proofs.Common.{Next, Refuse, is_blank, is_digit, signed, Bound, Finite, Infinite, Conclusion, Finish, Stop, To, Concluding, Owner}
+use Rattle.pb_proof.proofs.Common.{Showing, Side, Word, after_bound, after_id, begin_bound, between, colon, digits, first_word, id_digits, is_within}
+use Rattle.pb_proof.proofs.Common.{phase_after_bound, phase_after_word, PhaseFits, spell, word_of, conclusion_at, conclusion_automaton}
+use Rattle.pb_proof.proofs.Common.{conclusion_last, ConclusionState, is_in_number, IsConclusionInOrder, spent, literals_automaton, LiteralsState}
+use Rattle.pb_proof.proofs.Common.{inf_word}
+use Rattle.pb_proof.specs.engine.Line.Conclusion.{next_action, transition, is_done}
+use Rattle.pb_proof.specs.engine.Line.ConclusionState.{giving, act, over, Holds}
 use Rattle.pb_proof.specs.declared.line.conclusion.phase.Word.TheVariants as word
-use Rattle.pb_proof.specs.declared.line.conclusion.phase.Owner.{Owner}
 use Rattle.pb_proof.specs.declared.line.conclusion.phase.Owner.TheVariants as owner
-use Rattle.pb_proof.specs.declared.line.conclusion.phase.Side.{Side}
 use Rattle.pb_proof.specs.declared.line.conclusion.phase.Side.TheVariants as side
-use Rattle.pb_proof.specs.declared.line.conclusion.phase.Showing.{Showing}
 use Rattle.pb_proof.specs.declared.line.conclusion.phase.Showing.TheVariants as showing
-use Rattle.pb_proof.specs.declared.line.conclusion.phase.Concluding.{Concluding}
 use Rattle.pb_proof.specs.declared.line.conclusion.phase.Concluding.TheVariants as concluding
 use Rattle.pb_proof.specs.declared.line.conclusion.phase.Phase.{Phase}
 use Rattle.pb_proof.specs.declared.line.conclusion.phase.Phase.TheVariants as phase
 use Rattle.pb_proof.specs.declared.line.conclusion.phase.Action.{Action}
-use Rattle.pb_proof.specs.declared.line.conclusion.phase.Action.TheVariants.{To, Finish, Give, Stop}
+use Rattle.pb_proof.specs.declared.line.conclusion.phase.Action.TheVariants.{Give}
 use Rattle.pb_proof.proofs.lemmas.Literals.Theorems.{literals_of_one}
 
 abbrev N : Type 0

@@ -1,22 +1,11 @@
 -- The texts of conclusions, part by part.
-use Rattle.std.proofs.Common.{ℕ, true, List, [], ◌∷◌, refl}
-use Rattle.std.specs.Prelude.{ℤ, Option, Some, None}
-use Rattle.pb_text.specs.meaning.Languages.{Language, ◌⋅◌, Empty, Byte, Bytes, Blanks0, Blanks1}
-use Rattle.pb_text.specs.meaning.Spelling.{Letter}
-use Rattle.pb_text.proofs.lemmas.text.Languages.{none_yet, regroup, regroup⁻¹, inside, after_it}
-use Rattle.pb_sums.specs.meaning.Sums.{SpellsLiteral}
-use Rattle.pb_sums.specs.declared.Literal.{Literal}
-use Rattle.pb_proof.specs.meaning.Lines.{none_word, unsat_word, sat_word, bounds_word, LineEnd, Listed, SpellsId, SpellsBound, SpellsShown, IdShown, SpellsConclusion, SpellsConclusionLine}
-use Rattle.pb_proof.specs.engine.Line.ConclusionState.{showing_value, conclusion_value}
-use Rattle.pb_proof.specs.engine.Line.Literals.{SpellsJoined}
-use Rattle.pb_proof.specs.declared.conclusion.Bound.{Bound}
-use Rattle.pb_proof.specs.declared.line.conclusion.phase.Owner.{Owner}
+use Rattle.pb_proof.proofs.Common.{ℕ, ℤ, ◌∷◌, [], List, None, Option, refl, Some, true, Literal, SpellsLiteral, after_it, inside, none_yet, regroup}
+use Rattle.pb_proof.proofs.Common.{regroup⁻¹, ◌⋅◌, Blanks0, Blanks1, Byte, Bytes, Empty, Language, Letter, Bound, Concluding, Owner, Showing, Side}
+use Rattle.pb_proof.proofs.Common.{conclusion_value, showing_value, SpellsJoined, bounds_word, IdShown, LineEnd, Listed, none_word, sat_word}
+use Rattle.pb_proof.proofs.Common.{SpellsBound, SpellsConclusion, SpellsConclusionLine, SpellsId, SpellsShown, unsat_word}
 use Rattle.pb_proof.specs.declared.line.conclusion.phase.Owner.TheVariants as owner
-use Rattle.pb_proof.specs.declared.line.conclusion.phase.Side.{Side}
 use Rattle.pb_proof.specs.declared.line.conclusion.phase.Side.TheVariants as side
-use Rattle.pb_proof.specs.declared.line.conclusion.phase.Showing.{Showing}
 use Rattle.pb_proof.specs.declared.line.conclusion.phase.Showing.TheVariants as showing
-use Rattle.pb_proof.specs.declared.line.conclusion.phase.Concluding.{Concluding}
 use Rattle.pb_proof.specs.declared.line.conclusion.phase.Concluding.TheVariants as concluding
 
 -- the part before the last one, split in two

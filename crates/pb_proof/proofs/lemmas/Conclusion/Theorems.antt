@@ -1,28 +1,17 @@
 -- The laws of the conclusion machine.
-use Rattle.std.proofs.Common.{◌≡◌, ℕ, zero, suc, ◌<◌, ◌≤◌, Bool, true, false, List, [], ◌∷◌, ◌++◌, drop, refl, inl, inr, ◌⊎◌, sym, ap, subst, arith, ◌↔◌}
-use Rattle.std.proofs.lemmas.Bool.{false≢true}
-use Rattle.std.specs.Prelude.{ℤ, Option, Some, None}
-use Rattle.pb_text.specs.contract.Automaton.{Go, ReadsStatement, IsState}
-use Rattle.pb_text.specs.meaning.Languages.{unmarked}
-use Rattle.pb_text.specs.meaning.Numbers.{signed}
-use Rattle.pb_text.specs.meaning.Spelling.{Letter, plain}
-use Rattle.pb_text.proofs.lemmas.machine.Walking.{Walks, reads_after}
-use Rattle.pb_proof.specs.meaning.Lines.{none_word, inf_word, SpellsConclusionLine}
-use Rattle.pb_proof.specs.engine.Line.Conclusion.{word_of, phase_after_word, phase_after_bound, is_within, is_done, PhaseFits}
-use Rattle.pb_proof.specs.engine.Line.ConclusionState.{ConclusionState, conclusion_automaton, conclusion_at, conclusion_first, conclusion_last, conclusion_value, showing_value, kept, spent, act, Holds, IsConclusionInOrder}
-use Rattle.pb_proof.specs.engine.Line.Literals.{LiteralsState, literals_automaton, literals_first, IsLiteralsInOrder}
-use Rattle.pb_proof.specs.declared.conclusion.Bound.{Bound}
-use Rattle.pb_proof.specs.declared.conclusion.Bound.TheVariants.{Infinite}
-use Rattle.pb_proof.specs.declared.conclusion.Conclusion.{Conclusion}
-use Rattle.pb_proof.specs.declared.line.conclusion.phase.Word.{Word}
+use Rattle.pb_proof.proofs.Common.{ℕ, ℤ, ◌++◌, ◌<◌, ◌↔◌, ◌∷◌, ◌≡◌, ◌≤◌, ◌⊎◌, [], ap, arith, Bool, drop, false, inl, inr, List, None, Option, refl}
+use Rattle.pb_proof.proofs.Common.{Some, subst, suc, sym, true, zero, false≢true, reads_before, ReadsOn, is_state, IsOfOne, reads_last, reads_after}
+use Rattle.pb_proof.proofs.Common.{Walks, Go, IsState, ReadsStatement, unmarked, signed, Letter, plain, Bound, Infinite, Conclusion, Concluding}
+use Rattle.pb_proof.proofs.Common.{Owner, Showing, Side, Word, is_within, phase_after_bound, phase_after_word, PhaseFits, word_of, conclusion_at}
+use Rattle.pb_proof.proofs.Common.{conclusion_automaton, conclusion_first, conclusion_last, conclusion_value, ConclusionState, IsConclusionInOrder}
+use Rattle.pb_proof.proofs.Common.{kept, showing_value, spent, IsLiteralsInOrder, literals_automaton, literals_first, LiteralsState, inf_word}
+use Rattle.pb_proof.proofs.Common.{none_word, SpellsConclusionLine}
+use Rattle.pb_proof.specs.engine.Line.Conclusion.{is_done}
+use Rattle.pb_proof.specs.engine.Line.ConclusionState.{act, Holds}
 use Rattle.pb_proof.specs.declared.line.conclusion.phase.Word.TheVariants as word
-use Rattle.pb_proof.specs.declared.line.conclusion.phase.Owner.{Owner}
 use Rattle.pb_proof.specs.declared.line.conclusion.phase.Owner.TheVariants as owner
-use Rattle.pb_proof.specs.declared.line.conclusion.phase.Side.{Side}
 use Rattle.pb_proof.specs.declared.line.conclusion.phase.Side.TheVariants as side
-use Rattle.pb_proof.specs.declared.line.conclusion.phase.Showing.{Showing}
 use Rattle.pb_proof.specs.declared.line.conclusion.phase.Showing.TheVariants as showing
-use Rattle.pb_proof.specs.declared.line.conclusion.phase.Concluding.{Concluding}
 use Rattle.pb_proof.specs.declared.line.conclusion.phase.Concluding.TheVariants as concluding
 use Rattle.pb_proof.specs.declared.line.conclusion.phase.Phase.{Phase}
 use Rattle.pb_proof.specs.declared.line.conclusion.phase.Phase.TheVariants as phase
@@ -32,8 +21,6 @@ use Rattle.pb_proof.proofs.lemmas.Conclusion.Parts.{before_opens, spaced_opens, 
 use Rattle.pb_proof.proofs.lemmas.Conclusion.Steps.{continues, ends, not_done, done_stops, no_number, nothing_spent}
 use Rattle.pb_proof.proofs.lemmas.Conclusion.Walk.{at, word_left, word_leads, id_steps}
 use Rattle.pb_proof.proofs.lemmas.Literals.Theorems.{literals_of_one}
-use Rattle.pb_text.proofs.lemmas.machine.OneText.{IsOfOne, reads_last, is_state}
-use Rattle.pb_text.proofs.lemmas.machine.Living.{ReadsOn, reads_before}
 
 abbrev last : ConclusionState → ConclusionState
 last s = conclusion_last s.limit s.top

@@ -1,34 +1,20 @@
 -- How the conclusion machine walks through the parts of a conclusion.
-use Rattle.std.proofs.Common.{◌≡◌, ℕ, ◌+◌, ◌<◌, Bool, true, false, cond, List, [], ◌∷◌, ◌++◌, length, drop, take, refl, sym, ap, subst, arith, ◌∙◌, append_assoc, length-append, take-append-drop}
-use Rattle.std.proofs.Math.Seq.{get_or-append_seam}
-use Rattle.std.proofs.lemmas.List.{length-take-le, append-nil}
-use Rattle.std.proofs.lemmas.Bool.Decides.{nat_tests}
-use Rattle.std.specs.Prelude.{IsTrue, Some, None, nat_eq, slice_index}
-use Rattle.std.proofs.lemmas.Bool.{eq-eqb}
-use Rattle.pb_text.specs.contract.Automaton.{Go}
-use Rattle.pb_text.specs.meaning.Classes.{is_blank, is_digit}
-use Rattle.pb_text.specs.meaning.Languages.{Language, ◌⋅◌, Bytes}
-use Rattle.pb_text.specs.meaning.Numbers.{signed}
-use Rattle.pb_text.specs.meaning.Spelling.{Letter, plain}
-use Rattle.pb_text.proofs.lemmas.machine.Walking.{Walks, Leads, walks_then}
-use Rattle.pb_text.proofs.lemmas.text.ByteTests.{blank_digit}
-use Rattle.pb_proof.specs.engine.Line.Conclusion.{word_of, phase_after_word, phase_after_bound, spell, digits, colon, next_action, between, after_bound, after_id, transition, is_within}
-use Rattle.pb_proof.specs.engine.Line.ConclusionState.{ConclusionState, conclusion_automaton, conclusion_at, conclusion_last, conclusion_value, act}
-use Rattle.pb_proof.specs.declared.conclusion.Bound.{Bound}
-use Rattle.pb_proof.specs.declared.conclusion.Bound.TheVariants.{Finite}
-use Rattle.pb_proof.specs.declared.line.conclusion.phase.Word.{Word}
+use Rattle.pb_proof.proofs.Common.{ℕ, ◌++◌, ◌+◌, ◌<◌, ◌∙◌, ◌∷◌, ◌≡◌, [], ap, append-nil, append_assoc, arith, Bool, cond, drop, false, IsTrue, length}
+use Rattle.pb_proof.proofs.Common.{length-append, List, nat_eq, None, refl, Some, subst, sym, take, take-append-drop, true, slice_index}
+use Rattle.pb_proof.proofs.Common.{get_or-append_seam, eq-eqb, nat_tests, length-take-le, Leads, Walks, walks_then, blank_digit, Go, is_blank}
+use Rattle.pb_proof.proofs.Common.{is_digit, ◌⋅◌, Bytes, Language, signed, Letter, plain, Bound, Finite, To, Concluding, Owner, Side, Word}
+use Rattle.pb_proof.proofs.Common.{after_bound, after_id, between, colon, digits, is_within, phase_after_bound, phase_after_word, spell, word_of}
+use Rattle.pb_proof.proofs.Common.{conclusion_at, conclusion_automaton, conclusion_last, conclusion_value, ConclusionState}
+use Rattle.pb_proof.specs.engine.Line.Conclusion.{next_action, transition}
+use Rattle.pb_proof.specs.engine.Line.ConclusionState.{act}
 use Rattle.pb_proof.specs.declared.line.conclusion.phase.Word.TheVariants as word
-use Rattle.pb_proof.specs.declared.line.conclusion.phase.Owner.{Owner}
 use Rattle.pb_proof.specs.declared.line.conclusion.phase.Owner.TheVariants as owner
-use Rattle.pb_proof.specs.declared.line.conclusion.phase.Side.{Side}
 use Rattle.pb_proof.specs.declared.line.conclusion.phase.Side.TheVariants as side
 use Rattle.pb_proof.specs.declared.line.conclusion.phase.Showing.TheVariants as showing
-use Rattle.pb_proof.specs.declared.line.conclusion.phase.Concluding.{Concluding}
 use Rattle.pb_proof.specs.declared.line.conclusion.phase.Concluding.TheVariants as concluding
 use Rattle.pb_proof.specs.declared.line.conclusion.phase.Phase.{Phase}
 use Rattle.pb_proof.specs.declared.line.conclusion.phase.Phase.TheVariants as phase
 use Rattle.pb_proof.specs.declared.line.conclusion.phase.Action.{Action}
-use Rattle.pb_proof.specs.declared.line.conclusion.phase.Action.TheVariants.{To}
 use Rattle.pb_proof.proofs.lemmas.Line.Ends.{TakesBlanks, MayEnd}
 use Rattle.pb_proof.proofs.lemmas.NumberTests.{not_zero}
 

@@ -1,19 +1,10 @@
 -- The count machine reads each text of its grammar.
-use Rattle.std.proofs.Common.{◌≡◌, ℕ, ◌+◌, ◌*◌, ◌<◌, ◌≤◌, List, refl, sym, ap, subst, arith, ◌∙◌}
-use Rattle.std.proofs.lemmas.Bool.{le-leb}
-use Rattle.std.specs.Prelude.{IsTrue, Option, Some, None}
-use Rattle.pb_text.specs.contract.Automaton.{Go, ReadsStatement}
-use Rattle.pb_text.specs.meaning.Classes.{is_blank}
-use Rattle.pb_text.specs.meaning.Languages.{Blanks1}
-use Rattle.pb_text.specs.meaning.Numbers.{Count}
-use Rattle.pb_text.specs.meaning.Spelling.{Letter}
-use Rattle.pb_text.proofs.lemmas.machine.Walking.{Leads, leads_then, reads_after}
-use Rattle.pb_proof.specs.meaning.Lines.{SpellsCount}
-use Rattle.pb_proof.specs.engine.Line.Count.{at, count_automaton, counting, count_last, act, transition, digits}
-use Rattle.pb_proof.specs.declared.line.byte_kind.NumberByte.TheVariants.{Blank, Digit}
-use Rattle.pb_proof.specs.declared.line.formula.phase.CountPhase.{CountPhase}
-use Rattle.pb_proof.specs.declared.line.formula.phase.CountPhase.TheVariants.{Start, Gap, Digits, Tail, Closing}
-use Rattle.pb_text.proofs.lemmas.numbers.DigitWalks.{TakesDigits, digits_lead}
+use Rattle.pb_proof.proofs.Common.{ℕ, ◌*◌, ◌+◌, ◌<◌, ◌∙◌, ◌≡◌, ◌≤◌, ap, arith, IsTrue, List, None, Option, refl, Some, subst, sym, le-leb, Leads}
+use Rattle.pb_proof.proofs.Common.{leads_then, reads_after, digits_lead, TakesDigits, Go, ReadsStatement, is_blank, Blanks1, Count, Letter, Digit}
+use Rattle.pb_proof.proofs.Common.{CountPhase, Start, count_automaton, count_last, counting, SpellsCount}
+use Rattle.pb_proof.specs.engine.Line.Count.{at, act, transition, digits}
+use Rattle.pb_proof.specs.declared.line.byte_kind.NumberByte.TheVariants.{Blank}
+use Rattle.pb_proof.specs.declared.line.formula.phase.CountPhase.TheVariants.{Gap, Digits, Tail, Closing}
 use Rattle.pb_proof.proofs.lemmas.Line.ByteKinds.{number_blank, number_digit}
 use Rattle.pb_proof.proofs.lemmas.Line.Ends.{TakesBlanks, Feeds, MayEnd, blanks1_lead, line_reads}
 

@@ -1,23 +1,12 @@
 -- What the count machine has read in each of its states.
-use Rattle.std.proofs.Common.{◌≡◌, ℕ, ◌+◌, ◌*◌, ◌≤◌, true, false, List, [], ◌∷◌, ◌++◌, refl, ◌∙◌}
-use Rattle.std.proofs.lemmas.Bool.{leb-true, cond_both}
-use Rattle.std.specs.Prelude.{IsTrue, nat_le, Option, Some, None}
-use Rattle.pb_text.proofs.lemmas.text.Languages.{grown, next, after_it, nil_first}
-use Rattle.pb_text.proofs.lemmas.numbers.Numbers.{digits-grown, digits-one}
-use Rattle.pb_text.specs.contract.Automaton.{Next}
-use Rattle.pb_text.specs.meaning.Classes.{is_blank}
-use Rattle.pb_text.specs.meaning.Languages.{Language, ◌⋅◌, Empty, Blanks1}
-use Rattle.pb_text.specs.meaning.Numbers.{Digits as DigitsOf, Count}
-use Rattle.pb_text.specs.meaning.Spelling.{Letter}
-use Rattle.pb_text.proofs.lemmas.machine.Walking.{On, Keeps}
-use Rattle.pb_text.proofs.lemmas.text.Letters.{as_digit}
-use Rattle.pb_proof.specs.meaning.Lines.{LineEnd, SpellsCount}
-use Rattle.pb_proof.specs.engine.Line.Count.{CountState, count_automaton, act, transition, digits, next_action, is_in_number}
-use Rattle.pb_proof.specs.engine.Line.ByteKind.{number_byte}
-use Rattle.pb_proof.specs.declared.line.byte_kind.NumberByte.{NumberByte}
-use Rattle.pb_proof.specs.declared.line.byte_kind.NumberByte.TheVariants.{Blank, Digit, Semicolon, Feed}
-use Rattle.pb_proof.specs.declared.line.formula.phase.CountPhase.{CountPhase}
-use Rattle.pb_proof.specs.declared.line.formula.phase.CountPhase.TheVariants.{Start, Gap, Digits, Tail, Closing, Done}
+use Rattle.pb_proof.proofs.Common.{ℕ, ◌*◌, ◌++◌, ◌+◌, ◌∙◌, ◌∷◌, ◌≡◌, ◌≤◌, [], false, IsTrue, List, nat_le, None, Option, refl, Some, true, cond_both}
+use Rattle.pb_proof.proofs.Common.{leb-true, Keeps, On, digits-grown, digits-one, after_it, grown, next, nil_first, as_digit, Next, is_blank, ◌⋅◌}
+use Rattle.pb_proof.proofs.Common.{Blanks1, Empty, Language, Count, Letter, NumberByte, Digit, Semicolon, CountPhase, Start, number_byte}
+use Rattle.pb_proof.proofs.Common.{count_automaton, CountState, LineEnd, SpellsCount}
+use Rattle.pb_text.specs.meaning.Numbers.{Digits as DigitsOf}
+use Rattle.pb_proof.specs.engine.Line.Count.{act, transition, digits, next_action, is_in_number}
+use Rattle.pb_proof.specs.declared.line.byte_kind.NumberByte.TheVariants.{Blank, Feed}
+use Rattle.pb_proof.specs.declared.line.formula.phase.CountPhase.TheVariants.{Gap, Digits, Tail, Closing, Done}
 use Rattle.pb_proof.specs.declared.line.formula.phase.CountAction.TheVariants.{To, Stop}
 use Rattle.pb_proof.proofs.lemmas.Line.ByteKinds.{NumberMeans, number_means}
 use Rattle.pb_proof.proofs.lemmas.Line.Ends as ends

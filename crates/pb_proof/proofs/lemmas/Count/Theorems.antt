@@ -1,25 +1,15 @@
 -- The laws of the count machine.
-use Rattle.std.proofs.Common.{◌≡◌, ℕ, ◌+◌, ◌*◌, ◌^◌, ◌<◌, true, false, List, [], ◌∷◌, refl, sym, ap, subst, arith, ◌↔◌}
-use Rattle.std.proofs.lemmas.Bool.{leb-true, cond_both}
-use Rattle.std.specs.Prelude.{nat_le, Option, Some, None}
-use Rattle.pb_text.specs.contract.Automaton.{Next, Go, End, Refuse, ReadsStatement, IsState}
-use Rattle.pb_text.specs.meaning.Languages.{unmarked}
-use Rattle.pb_text.specs.meaning.Spelling.{Letter}
-use Rattle.pb_text.proofs.lemmas.machine.Walking.{reported}
-use Rattle.pb_text.proofs.lemmas.machine.Outcomes.{one_state}
-use Rattle.pb_proof.specs.meaning.Lines.{SpellsCount}
-use Rattle.pb_proof.specs.engine.Line.Count.{CountState, at, count_automaton, counting, count_last, act, transition, digits, next_action, is_midway, is_done, PhaseFits, ActionFits, IsCountInOrder}
-use Rattle.pb_proof.specs.engine.Line.ByteKind.{number_byte}
-use Rattle.pb_proof.specs.declared.line.byte_kind.NumberByte.{NumberByte}
-use Rattle.pb_proof.specs.declared.line.byte_kind.NumberByte.TheVariants.{Blank, Digit, Semicolon, Feed}
-use Rattle.pb_proof.specs.declared.line.formula.phase.CountPhase.{CountPhase}
-use Rattle.pb_proof.specs.declared.line.formula.phase.CountPhase.TheVariants.{Start, Gap, Digits, Tail, Closing, Done}
+use Rattle.pb_proof.proofs.Common.{ℕ, ◌*◌, ◌+◌, ◌<◌, ◌^◌, ◌↔◌, ◌∷◌, ◌≡◌, [], ap, arith, false, List, nat_le, None, Option, refl, Some, subst, sym}
+use Rattle.pb_proof.proofs.Common.{true, cond_both, leb-true, ReadsOn, is_state, IsOfOne, reads_last, one_state, reported, End, Go, IsState, Next}
+use Rattle.pb_proof.proofs.Common.{ReadsStatement, Refuse, unmarked, Letter, NumberByte, Digit, Semicolon, CountPhase, Start, number_byte, ActionFits}
+use Rattle.pb_proof.proofs.Common.{count_automaton, count_last, counting, CountState, IsCountInOrder, SpellsCount}
+use Rattle.pb_proof.specs.engine.Line.Count.{at, act, transition, digits, next_action, is_midway, is_done, PhaseFits}
+use Rattle.pb_proof.specs.declared.line.byte_kind.NumberByte.TheVariants.{Blank, Feed}
+use Rattle.pb_proof.specs.declared.line.formula.phase.CountPhase.TheVariants.{Gap, Digits, Tail, Closing, Done}
 use Rattle.pb_proof.specs.declared.line.formula.phase.CountAction.{CountAction}
 use Rattle.pb_proof.specs.declared.line.formula.phase.CountAction as action
 use Rattle.pb_proof.proofs.lemmas.Count.Complete.{reads_each}
 use Rattle.pb_proof.proofs.lemmas.Count.Sound.{Prefix, Whole, keeps_prefix}
-use Rattle.pb_text.proofs.lemmas.machine.OneText.{IsOfOne, reads_last, is_state}
-use Rattle.pb_text.proofs.lemmas.machine.Living.{ReadsOn}
 
 abbrev N : Type 0
 N = Next CountState (Option ℕ)

@@ -1,15 +1,10 @@
 -- The digits of an id that are taken in one call are a run of the automaton.
-use Rattle.std.proofs.Common.{◌≡◌, ℕ, ◌+◌, ◌-◌, ◌*◌, ◌<◌, ◌≤◌, ◌^◌, true, false, List, [], ◌∷◌, length, refl, subst, ap, arith, ◌∙◌}
-use Rattle.std.proofs.lemmas.Bool.{le-leb}
-use Rattle.std.specs.Prelude.{IsTrue, ℤ}
-use Rattle.pb_text.specs.contract.Automaton.{Go, Runs}
-use Rattle.pb_text.specs.meaning.Classes.{is_digit}
-use Rattle.pb_text.specs.contract.Digits.{value_from}
-use Rattle.pb_text.proofs.lemmas.numbers.DigitValues.{AreDigits, value-grows}
-use Rattle.pb_proof.specs.engine.Line.Ids.{ids_automaton, ids_at, act, transition, digits, begins_id}
+use Rattle.pb_proof.proofs.Common.{ℕ, ℤ, ◌*◌, ◌+◌, ◌-◌, ◌<◌, ◌^◌, ◌∙◌, ◌∷◌, ◌≡◌, ◌≤◌, [], ap, arith, false, IsTrue, length, List, refl, subst, true}
+use Rattle.pb_proof.proofs.Common.{le-leb, AreDigits, value-grows, Go, Runs, value_from, is_digit, IdsPhase, Between, Gap, begins_id, ids_at}
+use Rattle.pb_proof.proofs.Common.{ids_automaton}
+use Rattle.pb_proof.specs.engine.Line.Ids.{act, transition, digits}
 use Rattle.pb_proof.specs.declared.line.byte_kind.NumberByte.TheVariants as kind
-use Rattle.pb_proof.specs.declared.line.delete.phase.IdsPhase.{IdsPhase}
-use Rattle.pb_proof.specs.declared.line.delete.phase.IdsPhase.TheVariants.{Gap, Between, Digits}
+use Rattle.pb_proof.specs.declared.line.delete.phase.IdsPhase.TheVariants.{Digits}
 use Rattle.pb_proof.specs.declared.line.delete.phase.IdsAction.TheVariants as action
 use Rattle.pb_proof.proofs.lemmas.Ids.Pushes.{midway_state}
 use Rattle.pb_proof.proofs.lemmas.Line.ByteKinds.{number_of_digit}

@@ -1,23 +1,14 @@
 -- The ids machine reads each text of its grammar.
-use Rattle.std.proofs.Common.{◌≡◌, ℕ, ◌+◌, ◌*◌, ◌<◌, ◌≤◌, Bool, true, false, cond, List, [], ◌∷◌, ◌++◌, refl, sym, ap, subst, arith, append_assoc, ◌∙◌}
-use Rattle.std.proofs.lemmas.Bool.{le-leb}
-use Rattle.std.specs.Prelude.{IsTrue, ℤ, nat_eq}
-use Rattle.pb_text.specs.contract.Automaton.{Go, End, ReadsStatement}
-use Rattle.pb_text.specs.meaning.Classes.{is_blank}
-use Rattle.pb_text.specs.meaning.Languages.{◌⋅◌, Blanks1}
-use Rattle.pb_text.specs.meaning.Numbers.{signed, Digits as DigitsOf}
-use Rattle.pb_text.specs.meaning.Spelling.{Letter}
-use Rattle.pb_text.proofs.lemmas.machine.Walking.{Walks, walks_then, reads_after}
-use Rattle.pb_proof.specs.meaning.Lines.{LineEnd, Listed, SpellsId, SpellsIds, Minus as Sign}
-use Rattle.pb_proof.specs.engine.Line.Ids.{IdsState, ids_automaton, ids_at, ids_first, ids_last, step, act, digits, next_action}
-use Rattle.pb_proof.specs.engine.Line.ByteKind.{number_byte}
-use Rattle.pb_proof.specs.declared.line.byte_kind.NumberByte.{NumberByte}
+use Rattle.pb_proof.proofs.Common.{ℕ, ℤ, ◌*◌, ◌++◌, ◌+◌, ◌<◌, ◌∙◌, ◌∷◌, ◌≡◌, ◌≤◌, [], ap, append_assoc, arith, Bool, cond, false, IsTrue, List}
+use Rattle.pb_proof.proofs.Common.{nat_eq, refl, subst, sym, true, le-leb, reads_after, Walks, walks_then, digits_lead, TakesDigits, End, Go}
+use Rattle.pb_proof.proofs.Common.{ReadsStatement, is_blank, ◌⋅◌, Blanks1, signed, Letter, NumberByte, IdsAction, IdsPhase, Between, Gap, Minus}
+use Rattle.pb_proof.proofs.Common.{number_byte, ids_at, ids_automaton, ids_first, ids_last, IdsState, step, LineEnd, Listed, SpellsId, SpellsIds}
+use Rattle.pb_text.specs.meaning.Numbers.{Digits as DigitsOf}
+use Rattle.pb_proof.specs.meaning.Lines.{Minus as Sign}
+use Rattle.pb_proof.specs.engine.Line.Ids.{act, digits, next_action}
 use Rattle.pb_proof.specs.declared.line.byte_kind.NumberByte.TheVariants as kind
-use Rattle.pb_proof.specs.declared.line.delete.phase.IdsPhase.{IdsPhase}
-use Rattle.pb_proof.specs.declared.line.delete.phase.IdsPhase.TheVariants.{Gap, Between, Minus, Digits, Closing}
-use Rattle.pb_proof.specs.declared.line.delete.phase.IdsAction.{IdsAction}
+use Rattle.pb_proof.specs.declared.line.delete.phase.IdsPhase.TheVariants.{Digits, Closing}
 use Rattle.pb_proof.specs.declared.line.delete.phase.IdsAction.TheVariants as action
-use Rattle.pb_text.proofs.lemmas.numbers.DigitWalks.{TakesDigits, digits_lead}
 use Rattle.pb_proof.proofs.lemmas.Line.ByteKinds.{number_blank, number_digit}
 use Rattle.pb_proof.proofs.lemmas.Line.Ends.{TakesBlanks, MayEnd, blanks1_lead, line_reads, listed_walks}
 use Rattle.pb_proof.proofs.lemmas.NumberTests.{not_zero}

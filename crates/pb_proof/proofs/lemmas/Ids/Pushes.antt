@@ -1,16 +1,9 @@
 -- A push of the ids machine does what its transition says.
-use Rattle.std.proofs.Common.{◌≡◌, ℕ, ◌<◌, ◌^◌, true, List, sym, ap, ◌∙◌}
-use Rattle.std.specs.Prelude.{IsTrue, ℤ}
-use Rattle.pb_text.specs.contract.Automaton.{Refuse, Admits, IsState}
-use Rattle.pb_text.proofs.lemmas.machine.Outcomes.{go_or_refuse, end_or_refuse}
-use Rattle.pb_text.proofs.lemmas.text.Booleans.{never}
-use Rattle.pb_proof.specs.engine.Line.Ids.{IdsState, ids_automaton, ids_at, act, transition, keeps, is_midway, PhaseFits, IsIdsInOrder}
-use Rattle.pb_proof.specs.engine.Line.ByteKind.{number_byte}
-use Rattle.pb_proof.specs.declared.line.delete.phase.IdsPhase.{IdsPhase}
-use Rattle.pb_proof.specs.declared.line.delete.phase.IdsAction.{IdsAction}
+use Rattle.pb_proof.proofs.Common.{ℕ, ℤ, ◌<◌, ◌^◌, ◌∙◌, ◌≡◌, ap, IsTrue, List, sym, true, admits, end_or_refuse, go_or_refuse, never, Admits, IsState}
+use Rattle.pb_proof.proofs.Common.{Refuse, IdsAction, IdsPhase, number_byte, ids_at, ids_automaton, IdsState, IsIdsInOrder, keeps}
+use Rattle.pb_proof.specs.engine.Line.Ids.{act, transition, is_midway, PhaseFits}
 use Rattle.pb_proof.specs.declared.line.delete.phase.IdsAction.TheVariants as action
 use Rattle.pb_proof.proofs.lemmas.Ids.Theorems.{ids_of_one, ids_is_state}
-use Rattle.pb_text.proofs.lemmas.machine.OneText.{admits}
 
 kept_acts : (top : ℕ) (ids : List ℤ) (m : IdsAction) → keeps m ≡ true → act top ids m ≡ Refuse → ⊥
 kept_acts top ids (action.Keep p id) h e = go_or_refuse _ e

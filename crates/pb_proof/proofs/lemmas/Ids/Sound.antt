@@ -1,23 +1,13 @@
 -- What the ids machine has read in each of its states.
-use Rattle.std.proofs.Common.{◌≡◌, ℕ, ◌+◌, ◌*◌, ◌<◌, ◌≤◌, Bool, true, false, List, [], ◌∷◌, ◌++◌, length, refl, sym, ap, subst, arith}
-use Rattle.std.proofs.lemmas.Bool.{leb-true, cond_both}
-use Rattle.std.proofs.lemmas.List.{length-append}
-use Rattle.std.specs.Prelude.{ℤ, nat_le, nat_eq}
-use Rattle.pb_text.proofs.lemmas.text.Languages.{grown, next, regroup, none_yet, after_it}
-use Rattle.pb_text.proofs.lemmas.numbers.Numbers.{digits-grown, digits-one}
-use Rattle.pb_text.specs.contract.Automaton.{Next}
-use Rattle.pb_text.specs.meaning.Languages.{Language, ◌⋅◌, Empty, Blanks1}
-use Rattle.pb_text.specs.meaning.Numbers.{signed, Digits as DigitsOf}
-use Rattle.pb_text.specs.meaning.Spelling.{Letter}
-use Rattle.pb_text.proofs.lemmas.machine.Walking.{On, Keeps}
-use Rattle.pb_text.proofs.lemmas.text.Letters.{as_unmarked, as_digit}
-use Rattle.pb_proof.specs.meaning.Lines.{Listed, SpellsId, SpellsIds, Minus as Sign}
-use Rattle.pb_proof.specs.engine.Line.Ids.{IdsState, ids_automaton, act, transition, digits, before, next_action}
-use Rattle.pb_proof.specs.engine.Line.ByteKind.{number_byte}
-use Rattle.pb_proof.specs.declared.line.byte_kind.NumberByte.{NumberByte}
+use Rattle.pb_proof.proofs.Common.{ℕ, ℤ, ◌*◌, ◌++◌, ◌+◌, ◌<◌, ◌∷◌, ◌≡◌, ◌≤◌, [], ap, arith, Bool, false, length, length-append, List, nat_eq, nat_le}
+use Rattle.pb_proof.proofs.Common.{refl, subst, sym, true, cond_both, leb-true, Keeps, On, digits-grown, digits-one, after_it, grown, next, none_yet}
+use Rattle.pb_proof.proofs.Common.{regroup, as_digit, as_unmarked, Next, ◌⋅◌, Blanks1, Empty, Language, signed, Letter, NumberByte, IdsPhase, Between}
+use Rattle.pb_proof.proofs.Common.{Done, Gap, Minus, number_byte, before, ids_automaton, IdsState, Listed, SpellsId, SpellsIds}
+use Rattle.pb_text.specs.meaning.Numbers.{Digits as DigitsOf}
+use Rattle.pb_proof.specs.meaning.Lines.{Minus as Sign}
+use Rattle.pb_proof.specs.engine.Line.Ids.{act, transition, digits, next_action}
 use Rattle.pb_proof.specs.declared.line.byte_kind.NumberByte.TheVariants as kind
-use Rattle.pb_proof.specs.declared.line.delete.phase.IdsPhase.{IdsPhase}
-use Rattle.pb_proof.specs.declared.line.delete.phase.IdsPhase.TheVariants.{Start, Gap, Between, Minus, Digits, Closing, Done}
+use Rattle.pb_proof.specs.declared.line.delete.phase.IdsPhase.TheVariants.{Start, Digits, Closing}
 use Rattle.pb_proof.specs.declared.line.delete.phase.IdsAction.TheVariants as action
 use Rattle.pb_proof.proofs.lemmas.Line.ByteKinds.{NumberMeans, number_means}
 use Rattle.pb_proof.proofs.lemmas.Line.Ends as ends

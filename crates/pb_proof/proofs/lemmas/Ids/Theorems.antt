@@ -1,29 +1,15 @@
 -- The laws of the ids machine.
-use Rattle.std.proofs.Common.{◌≡◌, ℕ, zero, suc, ◌+◌, ◌*◌, ◌-◌, ◌^◌, ◌<◌, ◌≤◌, Bool, true, false, List, [], ◌∷◌, ◌++◌, length, refl, sym, ap, subst, arith, ◌↔◌}
-use Rattle.std.proofs.Math.Nat.{min-le_left}
-use Rattle.std.proofs.lemmas.Bool.{leb-true, le-leb, cond_both}
-use Rattle.std.proofs.lemmas.List.{length-append}
-use Rattle.std.specs.Prelude.{ℤ, nat_le, nat_eq}
-use Rattle.pb_text.specs.contract.Automaton.{Next, Go, End, Refuse, ReadsStatement, IsState}
-use Rattle.pb_text.specs.meaning.Languages.{unmarked, digit}
-use Rattle.pb_text.specs.meaning.Numbers.{signed}
-use Rattle.pb_text.specs.meaning.Spelling.{Letter}
-use Rattle.pb_text.proofs.lemmas.machine.Walking.{reported}
-use Rattle.pb_text.proofs.lemmas.machine.Outcomes.{one_state}
-use Rattle.pb_text.proofs.lemmas.text.Booleans.{never}
-use Rattle.pb_proof.specs.meaning.Lines.{SpellsIds}
-use Rattle.pb_proof.specs.engine.Line.Ids.{IdsState, ids_automaton, ids_at, ids_first, ids_last, act, transition, digits, before, next_action, is_midway, is_done, is_in_number, ActionFits, PhaseFits, IsIdsInOrder}
-use Rattle.pb_proof.specs.engine.Line.ByteKind.{number_byte}
-use Rattle.pb_proof.specs.declared.line.byte_kind.NumberByte.{NumberByte}
+use Rattle.pb_proof.proofs.Common.{ℕ, ℤ, ◌*◌, ◌++◌, ◌+◌, ◌-◌, ◌<◌, ◌^◌, ◌↔◌, ◌∷◌, ◌≡◌, ◌≤◌, [], ap, arith, Bool, false, length, length-append, List}
+use Rattle.pb_proof.proofs.Common.{nat_eq, nat_le, refl, subst, suc, sym, true, zero, min-le_left, cond_both, le-leb, leb-true, ReadsOn, is_state}
+use Rattle.pb_proof.proofs.Common.{IsOfOne, reads_last, one_state, reported, never, End, Go, IsState, Next, ReadsStatement, Refuse, digit, unmarked}
+use Rattle.pb_proof.proofs.Common.{signed, Letter, NumberByte, IdsAction, IdsPhase, Between, Done, Gap, Minus, number_byte, before, ids_at}
+use Rattle.pb_proof.proofs.Common.{ids_automaton, ids_first, ids_last, IdsState, IsIdsInOrder, SpellsIds}
+use Rattle.pb_proof.specs.engine.Line.Ids.{act, transition, digits, next_action, is_midway, is_done, is_in_number, ActionFits, PhaseFits}
 use Rattle.pb_proof.specs.declared.line.byte_kind.NumberByte.TheVariants as kind
-use Rattle.pb_proof.specs.declared.line.delete.phase.IdsPhase.{IdsPhase}
-use Rattle.pb_proof.specs.declared.line.delete.phase.IdsPhase.TheVariants.{Start, Gap, Between, Minus, Digits, Closing, Done}
-use Rattle.pb_proof.specs.declared.line.delete.phase.IdsAction.{IdsAction}
+use Rattle.pb_proof.specs.declared.line.delete.phase.IdsPhase.TheVariants.{Start, Digits, Closing}
 use Rattle.pb_proof.specs.declared.line.delete.phase.IdsAction.TheVariants as action
 use Rattle.pb_proof.proofs.lemmas.Ids.Complete.{digits_after, reads_each}
 use Rattle.pb_proof.proofs.lemmas.Ids.Sound.{Prefix, Whole, keeps_prefix}
-use Rattle.pb_text.proofs.lemmas.machine.OneText.{IsOfOne, reads_last, is_state}
-use Rattle.pb_text.proofs.lemmas.machine.Living.{ReadsOn}
 
 abbrev N : Type 0
 N = Next IdsState (List ℤ)

@@ -1,38 +1,21 @@
 -- Where the machines of ids, literals and linear texts may allocate.
-use Rattle.std.proofs.Common.{◌≡◌, ℕ, ◌+◌, ◌-◌, ◌*◌, ◌<◌, Bool, true, false, cond, ◌||◌, List, [], ◌∷◌, ◌++◌, map, refl, sym, ap, subst, ◌∙◌, inl}
-use Rattle.std.proofs.lemmas.Bool.{false≢true, cond_both}
-use Rattle.std.specs.Prelude.{IsTrue, ℤ, nat_eq, nat_le}
-use Rattle.std.proofs.Math.Bool.{or-false}
-use Rattle.pb_text.specs.meaning.Classes.{is_blank, is_digit, is_letter, is_name_byte}
-use Rattle.pb_text.specs.meaning.Languages.{digit, Language, ◌⋅◌, Bytes, Each}
+use Rattle.pb_proof.proofs.Common.{ℕ, ℤ, ◌*◌, ◌++◌, ◌+◌, ◌-◌, ◌<◌, ◌||◌, ◌∙◌, ◌∷◌, ◌≡◌, [], ap, Bool, cond, false, inl, IsTrue, List, map, nat_eq}
+use Rattle.pb_proof.proofs.Common.{nat_le, refl, subst, sym, true, or-false, cond_both, false≢true, asks_after, at_name, ends_after, ends_nothing}
+use Rattle.pb_proof.proofs.Common.{first_asks_nothing, first_further, sums_asked, IsFirst, Literal, sums, SumState, AsksLiteral, EndsIn}
+use Rattle.pb_proof.proofs.Common.{literal_bytes, prefixes_of, Walks, blank_digit, digit_byte, letter_name, bytes-append, bytes-plain, is_blank}
+use Rattle.pb_proof.proofs.Common.{is_digit, is_letter, is_name_byte, ◌⋅◌, Bytes, digit, Each, Language, bytes, Letter, NameByte, NumberByte}
+use Rattle.pb_proof.proofs.Common.{IdsPhase, Between, Gap, Minus, RupPhase, LiteralsPhase, name_byte, number_byte, before, ids_automaton, ids_first}
+use Rattle.pb_proof.proofs.Common.{IdsState, keeps, adds, is_more, literals_automaton, literals_first, LiteralsState, rup_asks, rup_automaton}
+use Rattle.pb_proof.proofs.Common.{rup_first, rup_transition, RupState, EndsNumber}
 use Rattle.pb_text.specs.meaning.Numbers.{Digits as DigitsOf}
-use Rattle.pb_text.specs.meaning.Spelling.{Letter, bytes}
-use Rattle.pb_text.proofs.lemmas.text.Languages.{bytes-plain, bytes-append}
-use Rattle.pb_text.proofs.lemmas.machine.Walking.{Walks, prefixes_of}
-use Rattle.pb_text.proofs.lemmas.text.ByteTests.{digit_byte, blank_digit, letter_name}
-use Rattle.pb_sums.specs.meaning.Asking.{EndsIn, AsksLiteral}
-use Rattle.pb_sums.specs.engine.State.{SumState, sums}
-use Rattle.pb_sums.specs.meaning.Sums.{literal_bytes}
-use Rattle.pb_sums.specs.declared.Literal.{Literal}
 use Rattle.pb_sums.specs.declared.Part as part
 use Rattle.pb_sums.specs.declared.Spaces.TheVariants.{Blank as BlankSpaces}
-use Rattle.pb_sums.proofs.lemmas.machine.Asked.{ends_nothing, ends_after, asks_after, at_name, sums_asked, first_asks_nothing, first_further}
-use Rattle.pb_sums.proofs.lemmas.machine.LiteralPrefixes.{IsFirst}
-use Rattle.pb_proof.specs.meaning.Asking.{EndsNumber}
-use Rattle.pb_proof.specs.engine.Line.Rup.{RupState, rup_automaton, rup_first, rup_asks, rup_transition}
-use Rattle.pb_proof.specs.engine.Line.Ids.{IdsState, ids_automaton, ids_first, transition, digits, before, keeps, is_in_number}
-use Rattle.pb_proof.specs.engine.Line.Literals.{LiteralsState, literals_automaton, literals_first, adds, is_more}
+use Rattle.pb_proof.specs.engine.Line.Ids.{transition, digits, is_in_number}
 use Rattle.pb_proof.specs.engine.Line.Literals as literals
-use Rattle.pb_proof.specs.engine.Line.ByteKind.{number_byte, name_byte}
-use Rattle.pb_proof.specs.declared.line.rup.phase.RupPhase.{RupPhase}
 use Rattle.pb_proof.specs.declared.line.rup.phase.RupPhase.TheVariants as rup
-use Rattle.pb_proof.specs.declared.line.delete.phase.IdsPhase.{IdsPhase}
-use Rattle.pb_proof.specs.declared.line.delete.phase.IdsPhase.TheVariants.{Gap, Between, Minus, Digits}
-use Rattle.pb_proof.specs.declared.line.solution.phase.LiteralsPhase.{LiteralsPhase}
+use Rattle.pb_proof.specs.declared.line.delete.phase.IdsPhase.TheVariants.{Digits}
 use Rattle.pb_proof.specs.declared.line.solution.phase.LiteralsPhase.TheVariants as at
-use Rattle.pb_proof.specs.declared.line.byte_kind.NumberByte.{NumberByte}
 use Rattle.pb_proof.specs.declared.line.byte_kind.NumberByte.TheVariants as number
-use Rattle.pb_proof.specs.declared.line.byte_kind.NameByte.{NameByte}
 use Rattle.pb_proof.specs.declared.line.byte_kind.NameByte.TheVariants as name
 use Rattle.pb_proof.proofs.lemmas.Rup.Reads as reads
 use Rattle.pb_proof.proofs.lemmas.Ids.Sound as ids

@@ -1,14 +1,8 @@
 -- What the kind of a byte says of the byte, and the converse.
-use Rattle.std.proofs.Common.{◌≡◌, ℕ, ◌+◌, ◌-◌, ◌<◌, ◌≤◌, Bool, true, false, refl, ap, arith, ◌⊎◌, inl, inr}
-use Rattle.std.proofs.lemmas.Bool.{eqb-true, cond_both}
-use Rattle.std.proofs.lemmas.Bool.Decides.{nat_tests}
-use Rattle.std.specs.Prelude.{IsTrue, nat_eq}
-use Rattle.pb_text.specs.meaning.Classes.{is_blank, is_digit, is_letter, is_name_byte}
-use Rattle.pb_text.proofs.lemmas.text.ByteTests.{digit_byte, digit_blank, digit_of, name_high, letter_name}
-use Rattle.pb_proof.specs.engine.Line.ByteKind.{number_byte, name_byte}
-use Rattle.pb_proof.specs.declared.line.byte_kind.NumberByte.{NumberByte}
+use Rattle.pb_proof.proofs.Common.{ℕ, ◌+◌, ◌-◌, ◌<◌, ◌≡◌, ◌≤◌, ◌⊎◌, ap, arith, Bool, false, inl, inr, IsTrue, nat_eq, refl, true, cond_both, eqb-true}
+use Rattle.pb_proof.proofs.Common.{nat_tests, digit_blank, digit_byte, digit_of, letter_name, name_high, is_blank, is_digit, is_letter, is_name_byte}
+use Rattle.pb_proof.proofs.Common.{NameByte, NumberByte, name_byte, number_byte}
 use Rattle.pb_proof.specs.declared.line.byte_kind.NumberByte as number
-use Rattle.pb_proof.specs.declared.line.byte_kind.NameByte.{NameByte}
 use Rattle.pb_proof.specs.declared.line.byte_kind.NameByte as name
 
 abbrev pub NumberMeans : NumberByte → ℕ → Type 0

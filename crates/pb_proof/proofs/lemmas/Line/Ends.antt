@@ -1,15 +1,8 @@
 -- How a machine reads the end of a line, and what it has read at a position where a line may end.
-use Rattle.std.proofs.Common.{◌≡◌, ℕ, true, false, List, [], ◌∷◌, ◌++◌, refl, ap, subst, inl, inr, sym, ◌∙◌, append_assoc}
-use Rattle.std.proofs.lemmas.List.{append-nil}
-use Rattle.std.specs.Prelude.{IsTrue}
-use Rattle.pb_text.proofs.lemmas.text.Languages.{grown, next, none_yet, regroup, regroup3, after_it, many-grown, some-one, some-grown, some-many}
-use Rattle.pb_text.specs.contract.Automaton.{Automaton, Go, End, ReadsStatement}
-use Rattle.pb_text.specs.meaning.Classes.{is_blank}
-use Rattle.pb_text.specs.meaning.Languages.{unmarked, Language, ◌⋅◌, Empty, Byte, Bytes, Each, Blanks0, Blanks1}
-use Rattle.pb_text.specs.meaning.Spelling.{Letter}
-use Rattle.pb_text.proofs.lemmas.machine.Walking.{Walks, Leads, walks_then, reads_after, longer}
-use Rattle.pb_text.proofs.lemmas.text.Letters.{as_unmarked}
-use Rattle.pb_proof.specs.meaning.Lines.{Feed, LineEnd, Listed}
+use Rattle.pb_proof.proofs.Common.{ℕ, ◌++◌, ◌∙◌, ◌∷◌, ◌≡◌, [], ap, append-nil, append_assoc, false, inl, inr, IsTrue, List, refl, subst, sym, true}
+use Rattle.pb_proof.proofs.Common.{Leads, longer, reads_after, Walks, walks_then, after_it, grown, many-grown, next, none_yet, regroup, regroup3}
+use Rattle.pb_proof.proofs.Common.{some-grown, some-many, some-one, as_unmarked, Automaton, End, Go, ReadsStatement, is_blank, ◌⋅◌, Blanks0, Blanks1}
+use Rattle.pb_proof.proofs.Common.{Byte, Bytes, Each, Empty, Language, unmarked, Letter, Feed, LineEnd, Listed}
 
 module _ {S E : Type 0} (m : Automaton S E) where
   -- A blank leads from `s` to `gap`, and further blanks stay there.

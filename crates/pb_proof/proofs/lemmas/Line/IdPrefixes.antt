@@ -1,9 +1,6 @@
 -- An id at the start of a text.
-use Rattle.std.proofs.Common.{◌≡◌, ℕ, ◌+◌, ◌<◌, ◌≤◌, List, ◌∷◌, ◌++◌, [], take, get_or, length, ap, ◌∙◌}
-use Rattle.std.proofs.lemmas.List.{take_more}
-use Rattle.pb_text.specs.contract.Digits.{value_from}
-use Rattle.pb_text.proofs.lemmas.numbers.DigitValues.{AreDigits}
-use Rattle.pb_proof.specs.engine.Line.IdPrefix.{IsSpacedId}
+use Rattle.pb_proof.proofs.Common.{ℕ, ◌++◌, ◌+◌, ◌<◌, ◌∙◌, ◌∷◌, ◌≡◌, ◌≤◌, [], ap, get_or, length, List, take, take_more, AreDigits, value_from}
+use Rattle.pb_proof.proofs.Common.{IsSpacedId}
 
 -- digits, and the space after them
 pub spaced : (top : ℕ) (text : List ℕ) (n id : ℕ) → n < length text → AreDigits (take n text) → id ≡ value_from 0 (take n text) → get_or text n 0 ≡ 32 → 0 < id → id ≤ top

@@ -1,22 +1,11 @@
 -- What holds of the machines that read the text after the first word of a statement.
-use Rattle.std.proofs.Common.{◌≡◌, ℕ, ◌<◌, ◌^◌, false, List, refl, sym, subst}
-use Rattle.pb_text.specs.contract.Automaton.{ReadsStatement, IsState}
-use Rattle.pb_text.specs.meaning.Spelling.{Letter}
-use Rattle.pb_sums.proofs.lemmas.machine.States.{first_is_state}
-use Rattle.pb_sums.specs.declared.Spaces.TheVariants.{Blank}
+use Rattle.pb_proof.proofs.Common.{ℕ, ◌<◌, ◌^◌, ◌≡◌, false, List, refl, subst, sym, first_is_state, Blank, IsState, ReadsStatement, Letter}
+use Rattle.pb_proof.proofs.Common.{LineMachine, LineKind, Statement, conclusion_automaton, conclusion_first, conclusion_last, count_automaton}
+use Rattle.pb_proof.proofs.Common.{count_last, counting, ids_automaton, ids_first, ids_last, literals_automaton, literals_first, literals_last}
+use Rattle.pb_proof.proofs.Common.{line_automaton, line_first, SpellsRest, pol_automaton, pol_first, pol_last, rup_automaton, rup_first, rup_last}
 use Rattle.pb_sums.specs.declared.Part as part
-use Rattle.pb_proof.specs.engine.Line.Machine.{line_automaton, line_first, SpellsRest}
-use Rattle.pb_proof.specs.engine.Line.Count.{count_automaton, counting, count_last}
-use Rattle.pb_proof.specs.engine.Line.PolState.{pol_automaton, pol_first, pol_last}
-use Rattle.pb_proof.specs.engine.Line.Rup.{rup_automaton, rup_first, rup_last}
-use Rattle.pb_proof.specs.engine.Line.Literals.{literals_automaton, literals_first, literals_last}
-use Rattle.pb_proof.specs.engine.Line.Ids.{ids_automaton, ids_first, ids_last}
-use Rattle.pb_proof.specs.engine.Line.ConclusionState.{conclusion_automaton, conclusion_first, conclusion_last}
-use Rattle.pb_proof.specs.declared.line.LineMachine.{LineMachine}
 use Rattle.pb_proof.specs.declared.line.LineMachine as line
-use Rattle.pb_proof.specs.declared.machine.phase.LineKind.{LineKind}
 use Rattle.pb_proof.specs.declared.machine.phase.LineKind.TheVariants.{Count, Pol, Rup, Soli, Solx, Delete, Conclusion}
-use Rattle.pb_proof.specs.declared.statement.Statement.{Statement}
 use Rattle.pb_proof.specs.declared.statement.Statement as statement
 use Rattle.pb_proof.proofs.lemmas.Carried.{Carries, reads_in, reads_out, state_in, begins_in}
 use Rattle.pb_proof.proofs.lemmas.Count.Theorems.{count_reads, count_is_state, count_of_one}

@@ -1,27 +1,15 @@
 -- The canonical text of a statement that meets the rules is a text of it.
-use Rattle.std.proofs.Common.{ℕ, suc, ◌<◌, ◌≤◌, ◌^◌, List, [], ◌∷◌, ◌++◌, refl, arith, true, false, Option, Some, None, All}
-use Rattle.std.specs.Prelude.{ℤ, pos, negsuc, decimal}
-use Rattle.std.proofs.lemmas.Int.{ints}
-use Rattle.std.proofs.lemmas.List.Elements.{All-head, All-tail}
-use Rattle.pb_text.specs.meaning.Languages.{Language, ◌⋅◌, Byte, Bytes, Blanks0, Blanks1}
-use Rattle.pb_text.specs.meaning.Numbers.{Count}
-use Rattle.pb_text.specs.meaning.Spelling.{Letter, plain, digits_of}
-use Rattle.pb_text.proofs.lemmas.numbers.Numbers.{decimal-digits}
-use Rattle.pb_sums.specs.contract.Canonical.{space, degree_text, literal_text, linear_text}
-use Rattle.pb_sums.specs.meaning.Sums.{IsName, SpellsLiteral, SpellsLinear}
-use Rattle.pb_sums.specs.declared.linear.Literal.{Literal}
-use Rattle.pb_sums.specs.declared.sum_kind.Spaces.TheVariants.{Blank}
-use Rattle.pb_sums.proofs.lemmas.values.CanonicalLaws.{linear-spelled, degree}
-use Rattle.pb_proof.specs.meaning.Lines.{pseudo_word, proof_word, version_word, two_word, f_word, pol_word, rup_word, soli_word, solx_word, del_word, id_word, output_word, conclusion_word, end_word, none_word, unsat_word, sat_word, bounds_word, Feed, LineEnd, Listed, SpellsId, Factor, SpellsBound, SpellsShown, LiteralsShown, IdShown, SpellsWord, SpellsConclusion, SpellsCount, SpellsWords, SpellsRup, SpellsLiterals, SpellsIds, SpellsConclusionLine, SpellsStatement}
-use Rattle.pb_proof.specs.contract.Values.{IfGiven, IsId, IsFactor, AreLiterals, IsBound, IsWord, IsConclusion, IsStatementValue}
-use Rattle.pb_proof.specs.declared.word.PolWord.{PolWord}
-use Rattle.pb_proof.specs.declared.word.PolWord.TheVariants.{Id, Axiom, Add, Multiply, Divide, Saturate, Weaken}
-use Rattle.pb_proof.specs.declared.conclusion.Bound.{Bound}
-use Rattle.pb_proof.specs.declared.conclusion.Bound.TheVariants.{Finite, Infinite}
-use Rattle.pb_proof.specs.declared.conclusion.Conclusion.{Conclusion}
-use Rattle.pb_proof.specs.declared.conclusion.Conclusion.TheVariants.{NoClaim, Unsat, Sat, Bounds}
-use Rattle.pb_proof.specs.declared.statement.Statement.{Statement}
-use Rattle.pb_proof.specs.declared.statement.Statement.TheVariants.{Header, F, Pol, Rup, Soli, Solx, Delete, Output, Conclude, End}
+use Rattle.pb_proof.proofs.Common.{ℕ, ℤ, ◌++◌, ◌<◌, ◌^◌, ◌∷◌, ◌≤◌, [], All, arith, false, List, None, Option, pos, refl, Some, suc, true, decimal}
+use Rattle.pb_proof.proofs.Common.{negsuc, ints, All-head, All-tail, degree, linear-spelled, degree_text, linear_text, literal_text, space, Literal}
+use Rattle.pb_proof.proofs.Common.{Blank, IsName, SpellsLinear, SpellsLiteral, decimal-digits, ◌⋅◌, Blanks0, Blanks1, Byte, Bytes, Language, Count}
+use Rattle.pb_proof.proofs.Common.{digits_of, Letter, plain, AreLiterals, IfGiven, IsBound, IsConclusion, IsFactor, IsId, IsStatementValue, IsWord}
+use Rattle.pb_proof.proofs.Common.{Bound, Finite, Infinite, Conclusion, Bounds, NoClaim, Sat, Unsat, Statement, Conclude, Delete, F, Header, Output}
+use Rattle.pb_proof.proofs.Common.{Pol, Rup, Soli, Solx, PolWord, Add, Axiom, Divide, Id, Multiply, Saturate, Weaken, bounds_word, conclusion_word}
+use Rattle.pb_proof.proofs.Common.{del_word, end_word, f_word, Factor, Feed, id_word, IdShown, LineEnd, Listed, LiteralsShown, none_word, output_word}
+use Rattle.pb_proof.proofs.Common.{pol_word, proof_word, pseudo_word, rup_word, sat_word, soli_word, solx_word, SpellsBound, SpellsConclusion}
+use Rattle.pb_proof.proofs.Common.{SpellsConclusionLine, SpellsCount, SpellsId, SpellsIds, SpellsLiterals, SpellsRup, SpellsShown, SpellsStatement}
+use Rattle.pb_proof.proofs.Common.{SpellsWord, SpellsWords, two_word, unsat_word, version_word}
+use Rattle.pb_proof.specs.declared.statement.Statement.TheVariants.{End}
 use Rattle.pb_proof.proofs.lemmas.Line.Texts.{one, feed, word_text, listed_text, bound_text, id_shown_text, list_text, shown_text, conclusion_text, count_text, line_text}
 use Rattle.pb_proof.proofs.lemmas.Line.Ends.{fed, ended}
 

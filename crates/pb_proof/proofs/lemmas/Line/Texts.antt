@@ -1,24 +1,13 @@
 -- The letters of canonical text.
-use Rattle.std.proofs.Common.{◌≡◌, ℕ, List, [], ◌∷◌, ◌++◌, refl, ap, ap₂, sym, ◌∙◌, append_assoc, Option, Some, None}
-use Rattle.std.specs.Fmt.{signed_decimal}
-use Rattle.std.specs.Prelude.{ℤ, decimal}
-use Rattle.pb_text.specs.meaning.Languages.{unmarked}
-use Rattle.pb_text.specs.meaning.Spelling.{Letter, plain, digits_of, bytes}
-use Rattle.pb_text.proofs.lemmas.text.Languages.{bytes-append, bytes-plain, bytes-digits}
-use Rattle.pb_sums.specs.contract.Canonical.{space, degree_text, literal_text, linear_text, linear_bytes}
-use Rattle.pb_sums.specs.meaning.Sums.{literal_bytes}
-use Rattle.pb_sums.specs.declared.linear.Literal.{Literal}
-use Rattle.pb_sums.proofs.lemmas.values.CanonicalLaws.{bytes-linear, bytes-degree}
-use Rattle.pb_proof.specs.meaning.Lines.{pseudo_word, proof_word, version_word, two_word, f_word, pol_word, rup_word, soli_word, solx_word, del_word, id_word, output_word, conclusion_word, end_word, none_word, unsat_word, sat_word, bounds_word, inf_word}
-use Rattle.pb_proof.specs.meaning.Canonical.{literal_line, word_bytes, listed_bytes, bound_bytes, id_shown_bytes, shown_bytes, conclusion_bytes, statement_bytes}
-use Rattle.pb_proof.specs.declared.word.PolWord.{PolWord}
-use Rattle.pb_proof.specs.declared.word.PolWord.TheVariants.{Id, Axiom, Add, Multiply, Divide, Saturate, Weaken}
-use Rattle.pb_proof.specs.declared.conclusion.Bound.{Bound}
-use Rattle.pb_proof.specs.declared.conclusion.Bound.TheVariants.{Finite, Infinite}
-use Rattle.pb_proof.specs.declared.conclusion.Conclusion.{Conclusion}
-use Rattle.pb_proof.specs.declared.conclusion.Conclusion.TheVariants.{NoClaim, Unsat, Sat, Bounds}
-use Rattle.pb_proof.specs.declared.statement.Statement.{Statement}
-use Rattle.pb_proof.specs.declared.statement.Statement.TheVariants.{Header, F, Pol, Rup, Soli, Solx, Delete, Output, Conclude, End}
+use Rattle.pb_proof.proofs.Common.{ℕ, ℤ, ◌++◌, ◌∙◌, ◌∷◌, ◌≡◌, [], ap, append_assoc, ap₂, List, None, Option, refl, Some, sym, decimal, signed_decimal}
+use Rattle.pb_proof.proofs.Common.{bytes-degree, bytes-linear, degree_text, linear_bytes, linear_text, literal_text, space, Literal, literal_bytes}
+use Rattle.pb_proof.proofs.Common.{bytes-append, bytes-digits, bytes-plain, unmarked, bytes, digits_of, Letter, plain, Bound, Finite, Infinite}
+use Rattle.pb_proof.proofs.Common.{Conclusion, Bounds, NoClaim, Sat, Unsat, Statement, Conclude, Delete, F, Header, Output, Pol, Rup, Soli, Solx}
+use Rattle.pb_proof.proofs.Common.{PolWord, Add, Axiom, Divide, Id, Multiply, Saturate, Weaken, bound_bytes, conclusion_bytes, id_shown_bytes}
+use Rattle.pb_proof.proofs.Common.{listed_bytes, literal_line, shown_bytes, statement_bytes, word_bytes, bounds_word, conclusion_word, del_word}
+use Rattle.pb_proof.proofs.Common.{end_word, f_word, id_word, inf_word, none_word, output_word, pol_word, proof_word, pseudo_word, rup_word, sat_word}
+use Rattle.pb_proof.proofs.Common.{soli_word, solx_word, two_word, unsat_word, version_word}
+use Rattle.pb_proof.specs.declared.statement.Statement.TheVariants.{End}
 use Rattle.pb_proof.proofs.lemmas.Written.{listed_none, listed-cons}
 
 abbrev pub one : ℕ → List Letter

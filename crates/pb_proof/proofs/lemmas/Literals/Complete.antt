@@ -1,20 +1,11 @@
 -- The literals machine reads each text of its grammar.
-use Rattle.std.proofs.Common.{◌≡◌, ℕ, Bool, true, false, List, [], ◌∷◌, ◌++◌, map, refl, sym, ap, subst, inl, inr, append_assoc, ◌∙◌}
-use Rattle.std.proofs.lemmas.List.{append-nil}
-use Rattle.std.specs.Prelude.{IsTrue}
-use Rattle.pb_text.specs.contract.Automaton.{Go, End, ReadsStatement}
-use Rattle.pb_text.specs.meaning.Classes.{is_blank, is_letter, is_name_byte}
-use Rattle.pb_text.specs.meaning.Languages.{unmarked, ◌⋅◌, Each, Blanks0, Blanks1}
-use Rattle.pb_text.specs.meaning.Spelling.{Letter}
-use Rattle.pb_text.proofs.lemmas.machine.Walking.{Walks, walks_then, reads_after}
-use Rattle.pb_sums.specs.meaning.Sums.{SpellsLiteral}
-use Rattle.pb_sums.specs.declared.Literal.{Literal}
-use Rattle.pb_proof.specs.meaning.Lines.{LineEnd, Listed}
-use Rattle.pb_proof.specs.engine.Line.Literals.{LiteralsState, SpellsJoined, literals_automaton, literals_at, literals_first, literals_last, literal, step}
-use Rattle.pb_proof.specs.engine.Line.ByteKind.{name_byte}
-use Rattle.pb_proof.specs.declared.line.byte_kind.NameByte.{NameByte}
+use Rattle.pb_proof.proofs.Common.{ℕ, ◌++◌, ◌∙◌, ◌∷◌, ◌≡◌, [], ap, append-nil, append_assoc, Bool, false, inl, inr, IsTrue, List, map, refl, subst}
+use Rattle.pb_proof.proofs.Common.{sym, true, Literal, SpellsLiteral, reads_after, Walks, walks_then, End, Go, ReadsStatement, is_blank, is_letter}
+use Rattle.pb_proof.proofs.Common.{is_name_byte, ◌⋅◌, Blanks0, Blanks1, Each, unmarked, Letter, NameByte, First, More, Negation, name_byte, literal}
+use Rattle.pb_proof.proofs.Common.{literals_at, literals_automaton, literals_first, literals_last, LiteralsState, SpellsJoined, LineEnd, Listed}
+use Rattle.pb_proof.specs.engine.Line.Literals.{step}
 use Rattle.pb_proof.specs.declared.line.byte_kind.NameByte.TheVariants as kind
-use Rattle.pb_proof.specs.declared.line.solution.phase.LiteralsPhase.TheVariants.{Gap, Negation, First, More, Closing}
+use Rattle.pb_proof.specs.declared.line.solution.phase.LiteralsPhase.TheVariants.{Gap, Closing}
 use Rattle.pb_proof.proofs.lemmas.Line.ByteKinds.{name_blank, name_letter, name_inner}
 use Rattle.pb_proof.proofs.lemmas.Line.Ends.{TakesBlanks, MayEnd, blanks1_lead, line_reads, listed_walks}
 

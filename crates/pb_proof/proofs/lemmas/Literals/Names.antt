@@ -1,11 +1,6 @@
 -- Names and literals that grow at their end.
-use Rattle.std.proofs.Common.{◌≡◌, ℕ, Bool, List, [], ◌∷◌, ◌++◌}
-use Rattle.std.specs.Prelude.{IsTrue}
-use Rattle.pb_text.proofs.lemmas.text.Languages.{grown}
-use Rattle.pb_text.specs.meaning.Classes.{is_name_byte}
-use Rattle.pb_text.specs.meaning.Languages.{unmarked, Language, ◌⋅◌}
-use Rattle.pb_text.specs.meaning.Spelling.{Letter}
-use Rattle.pb_sums.proofs.lemmas.machine.LiteralPrefixes.{name-append, first-append, FirstOf, LiteralOf, name-bytes}
+use Rattle.pb_proof.proofs.Common.{ℕ, ◌++◌, ◌∷◌, ◌≡◌, [], Bool, IsTrue, List, first-append, FirstOf, LiteralOf, name-append, name-bytes, grown}
+use Rattle.pb_proof.proofs.Common.{is_name_byte, ◌⋅◌, Language, unmarked, Letter}
 
 -- a second byte, and more of them
 pub first_grown : (P : Language) (negated : Bool) (name : List ℕ) (b : ℕ) (l : Letter) (p : List Letter) → l ≡ unmarked b → IsTrue (is_name_byte b) →

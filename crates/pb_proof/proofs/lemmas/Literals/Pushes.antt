@@ -1,19 +1,11 @@
 -- A push of the literals machine does what its transition says.
-use Rattle.std.proofs.Common.{◌≡◌, ℕ, ◌+◌, ◌-◌, ◌^◌, ◌<◌, min, take, get_or, Bool, true, ◌||◌, List, length, sym, ap, ◌∙◌}
-use Rattle.std.proofs.lemmas.List.{take_more}
-use Rattle.std.specs.Prelude.{IsTrue}
-use Rattle.pb_text.specs.contract.Automaton.{Refuse, Admits, IsState}
-use Rattle.pb_text.proofs.lemmas.machine.Outcomes.{go_or_refuse, end_or_refuse}
-use Rattle.pb_text.proofs.lemmas.text.Booleans.{never}
-use Rattle.pb_sums.specs.declared.Literal.{Literal}
+use Rattle.pb_proof.proofs.Common.{ℕ, ◌+◌, ◌-◌, ◌<◌, ◌^◌, ◌||◌, ◌∙◌, ◌≡◌, ap, Bool, get_or, IsTrue, length, List, min, sym, take, true, take_more}
+use Rattle.pb_proof.proofs.Common.{Literal, admits, end_or_refuse, go_or_refuse, never, Admits, IsState, Refuse, LiteralsAction, LiteralsPhase}
+use Rattle.pb_proof.proofs.Common.{name_byte, adds, flushed, is_more, IsLiteralsInOrder, literals_at, literals_automaton, LiteralsState}
 use Rattle.pb_sums.proofs.lemmas.machine.Counts.{counted}
-use Rattle.pb_proof.specs.engine.Line.Literals.{LiteralsState, literals_automaton, literals_at, flushed, act, transition, adds, is_more, is_midway, units, IsLiteralsInOrder}
-use Rattle.pb_proof.specs.engine.Line.ByteKind.{name_byte}
-use Rattle.pb_proof.specs.declared.line.solution.phase.LiteralsPhase.{LiteralsPhase}
-use Rattle.pb_proof.specs.declared.line.solution.phase.LiteralsAction.{LiteralsAction}
+use Rattle.pb_proof.specs.engine.Line.Literals.{act, transition, is_midway, units}
 use Rattle.pb_proof.specs.declared.line.solution.phase.LiteralsAction.TheVariants as action
 use Rattle.pb_proof.proofs.lemmas.Literals.Theorems.{literals_of_one, literals_is_state, units_append}
-use Rattle.pb_text.proofs.lemmas.machine.OneText.{admits}
 
 abbrev pub IsTaken : LiteralsAction → Type 0
 IsTaken action.Stop = ⊥

@@ -1,24 +1,11 @@
 -- What the literals machine has read in each of its states.
-use Rattle.std.proofs.Common.{◌≡◌, ℕ, Bool, true, false, cond, List, [], ◌∷◌, ◌++◌, refl, sym, ap, subst, ◌∙◌}
-use Rattle.std.specs.Prelude.{IsTrue}
-use Rattle.pb_text.proofs.lemmas.text.Languages.{grown, next, regroup3, none_yet, after_it, nil_first}
-use Rattle.pb_text.specs.contract.Automaton.{Next}
-use Rattle.pb_text.specs.meaning.Classes.{is_blank}
-use Rattle.pb_text.specs.meaning.Languages.{unmarked, Language, ◌⋅◌, Empty, Byte, Blanks0, Blanks1}
-use Rattle.pb_text.specs.meaning.Spelling.{Letter}
-use Rattle.pb_text.proofs.lemmas.machine.Walking.{On, Keeps}
-use Rattle.pb_text.proofs.lemmas.text.Letters.{as_unmarked}
-use Rattle.pb_text.proofs.lemmas.text.ByteTests.{letter_name}
-use Rattle.pb_sums.specs.meaning.Sums.{SpellsLiteral}
-use Rattle.pb_sums.specs.declared.Literal.{Literal}
-use Rattle.pb_sums.proofs.lemmas.machine.LiteralPrefixes.{FirstOf, LiteralOf}
-use Rattle.pb_proof.specs.meaning.Lines.{LineEnd, Listed}
-use Rattle.pb_proof.specs.engine.Line.Literals.{LiteralsState, SpellsJoined, literals_automaton, literal, flushed, act, transition, next_action, before}
-use Rattle.pb_proof.specs.engine.Line.ByteKind.{name_byte}
-use Rattle.pb_proof.specs.declared.line.byte_kind.NameByte.{NameByte}
+use Rattle.pb_proof.proofs.Common.{ℕ, ◌++◌, ◌∙◌, ◌∷◌, ◌≡◌, [], ap, Bool, cond, false, IsTrue, List, refl, subst, sym, true, FirstOf, LiteralOf}
+use Rattle.pb_proof.proofs.Common.{Literal, SpellsLiteral, Keeps, On, letter_name, after_it, grown, next, nil_first, none_yet, regroup3, as_unmarked}
+use Rattle.pb_proof.proofs.Common.{Next, is_blank, ◌⋅◌, Blanks0, Blanks1, Byte, Empty, Language, unmarked, Letter, NameByte, LiteralsPhase, First}
+use Rattle.pb_proof.proofs.Common.{More, Negation, name_byte, flushed, literal, literals_automaton, LiteralsState, SpellsJoined, LineEnd, Listed}
+use Rattle.pb_proof.specs.engine.Line.Literals.{act, transition, next_action, before}
 use Rattle.pb_proof.specs.declared.line.byte_kind.NameByte.TheVariants as kind
-use Rattle.pb_proof.specs.declared.line.solution.phase.LiteralsPhase.{LiteralsPhase}
-use Rattle.pb_proof.specs.declared.line.solution.phase.LiteralsPhase.TheVariants.{Start, Gap, Negation, First, More, Closing, Done}
+use Rattle.pb_proof.specs.declared.line.solution.phase.LiteralsPhase.TheVariants.{Start, Gap, Closing, Done}
 use Rattle.pb_proof.proofs.lemmas.Line.ByteKinds.{NameMeans, name_means}
 use Rattle.pb_proof.proofs.lemmas.Literals.Names.{first_grown, more_grown}
 use Rattle.pb_proof.proofs.lemmas.Line.Ends as ends

@@ -1,27 +1,15 @@
 -- The laws of the literals machine.
-use Rattle.std.proofs.Common.{◌≡◌, ℕ, ◌+◌, ◌-◌, ◌^◌, ◌≤◌, Bool, true, false, cond, List, [], ◌∷◌, ◌++◌, length, refl, sym, ap, subst, arith, ◌↔◌}
-use Rattle.std.proofs.Math.Nat.{min-le_left}
-use Rattle.std.proofs.lemmas.List.{length-append}
-use Rattle.pb_text.specs.contract.Automaton.{Next, Go, End, Refuse, ReadsStatement, IsState}
-use Rattle.pb_text.specs.meaning.Languages.{unmarked}
-use Rattle.pb_text.specs.meaning.Spelling.{Letter}
-use Rattle.pb_text.proofs.lemmas.machine.Walking.{reported}
-use Rattle.pb_text.proofs.lemmas.machine.Outcomes.{one_state}
-use Rattle.pb_text.proofs.lemmas.text.Booleans.{never}
-use Rattle.pb_sums.specs.declared.Literal.{Literal}
-use Rattle.pb_sums.proofs.lemmas.machine.Counts.{to-grows, begin-grows, add-grows}
-use Rattle.pb_proof.specs.engine.Line.Literals.{LiteralsState, SpellsJoined, literals_automaton, literals_at, literals_first, literals_last, literal, flushed, act, transition, next_action, before, is_midway, is_begun, is_done, units, in_hand, ready, all_units, IsLiteralsInOrder}
-use Rattle.pb_proof.specs.engine.Line.ByteKind.{name_byte}
-use Rattle.pb_proof.specs.declared.line.byte_kind.NameByte.{NameByte}
+use Rattle.pb_proof.proofs.Common.{ℕ, ◌++◌, ◌+◌, ◌-◌, ◌^◌, ◌↔◌, ◌∷◌, ◌≡◌, ◌≤◌, [], ap, arith, Bool, cond, false, length, length-append, List, refl}
+use Rattle.pb_proof.proofs.Common.{subst, sym, true, min-le_left, add-grows, begin-grows, to-grows, Literal, ReadsOn, is_state, IsOfOne, reads_last}
+use Rattle.pb_proof.proofs.Common.{one_state, reported, never, End, Go, IsState, Next, ReadsStatement, Refuse, unmarked, Letter, NameByte}
+use Rattle.pb_proof.proofs.Common.{LiteralsAction, LiteralsPhase, First, More, Negation, name_byte, flushed, is_begun, IsLiteralsInOrder, literal}
+use Rattle.pb_proof.proofs.Common.{literals_at, literals_automaton, literals_first, literals_last, LiteralsState, SpellsJoined}
+use Rattle.pb_proof.specs.engine.Line.Literals.{act, transition, next_action, before, is_midway, is_done, units, in_hand, ready, all_units}
 use Rattle.pb_proof.specs.declared.line.byte_kind.NameByte.TheVariants as kind
-use Rattle.pb_proof.specs.declared.line.solution.phase.LiteralsPhase.{LiteralsPhase}
-use Rattle.pb_proof.specs.declared.line.solution.phase.LiteralsPhase.TheVariants.{Start, Gap, Negation, First, More, Closing, Done}
-use Rattle.pb_proof.specs.declared.line.solution.phase.LiteralsAction.{LiteralsAction}
+use Rattle.pb_proof.specs.declared.line.solution.phase.LiteralsPhase.TheVariants.{Start, Gap, Closing, Done}
 use Rattle.pb_proof.specs.declared.line.solution.phase.LiteralsAction as action
 use Rattle.pb_proof.proofs.lemmas.Literals.Complete.{reads_each}
 use Rattle.pb_proof.proofs.lemmas.Literals.Sound.{Prefix, Whole, keeps_prefix}
-use Rattle.pb_text.proofs.lemmas.machine.OneText.{IsOfOne, reads_last, is_state}
-use Rattle.pb_text.proofs.lemmas.machine.Living.{ReadsOn}
 
 abbrev N : Type 0
 N = Next LiteralsState (List Literal)

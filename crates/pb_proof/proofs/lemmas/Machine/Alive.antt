@@ -1,31 +1,19 @@
 -- From each state that the proof machine can be in, some text is accepted.
-use Rattle.std.proofs.Common.{◌≡◌, ℕ, ◌+◌, ◌<◌, Bool, true, false, List, [], ◌∷◌, ◌++◌, length, take, drop, refl, sym, subst, ◌∙◌, arith, append_assoc, length-append, Some, None, ◌^◌, suc}
-use Rattle.std.proofs.Math.Seq.{split_at}
-use Rattle.std.proofs.lemmas.List.{length-take-le}
-use Rattle.std.proofs.lemmas.Bool.{eqb-true}
-use Rattle.std.specs.Prelude.{nat_eq, slice_index}
-use Rattle.pb_text.specs.contract.Automaton.{AcceptsItems, IsState}
-use Rattle.pb_text.specs.meaning.Languages.{unmarked, Blanks1, Byte}
-use Rattle.pb_text.specs.meaning.Spelling.{Letter, Item, plain}
-use Rattle.pb_proof.specs.engine.Line.Machine.{line_automaton, line_first}
-use Rattle.pb_proof.specs.meaning.Lines.{none_word, conclusion_word, f_word}
-use Rattle.pb_proof.specs.engine.Machine.Transition.{words_of, next_action}
-use Rattle.pb_proof.specs.meaning.Order.{IsStaged}
-use Rattle.pb_proof.specs.engine.Machine.State.{ProofState, proofs, at, idle, giving, next_stage, act, PhaseFits, HasGaps, Holds, IsInOrder}
-use Rattle.pb_proof.specs.declared.conclusion.Conclusion.TheVariants.{NoClaim}
-use Rattle.pb_proof.specs.declared.line.LineMachine.{LineMachine}
-use Rattle.pb_proof.specs.declared.machine.phase.Keyword.{Keyword}
+use Rattle.pb_proof.proofs.Common.{ℕ, ◌++◌, ◌+◌, ◌<◌, ◌^◌, ◌∙◌, ◌∷◌, ◌≡◌, [], append_assoc, arith, Bool, drop, false, length, length-append, List}
+use Rattle.pb_proof.proofs.Common.{nat_eq, None, refl, Some, subst, suc, sym, take, true, slice_index, split_at, eqb-true, length-take-le, accepted}
+use Rattle.pb_proof.proofs.Common.{final, IsAlive, reads_on, ReadsOn, AcceptsItems, IsState, Blanks1, Byte, unmarked, Item, Letter, plain, NoClaim}
+use Rattle.pb_proof.proofs.Common.{LineMachine, Keyword, LineKind, Stage, Closing, Complete, Formula, Opening, Steps, Statement, line_automaton}
+use Rattle.pb_proof.proofs.Common.{line_first, act, at, giving, HasGaps, Holds, idle, IsInOrder, next_stage, proofs, ProofState, next_action}
+use Rattle.pb_proof.proofs.Common.{words_of, conclusion_word, f_word, none_word, IsStaged}
+use Rattle.pb_proof.specs.engine.Machine.State.{PhaseFits}
 use Rattle.pb_proof.specs.declared.machine.phase.Keyword.TheVariants as keyword
-use Rattle.pb_proof.specs.declared.machine.phase.Stage.{Stage}
-use Rattle.pb_proof.specs.declared.machine.phase.Stage.TheVariants.{Opening, Formula, Steps, Concluding, Closing, Complete}
-use Rattle.pb_proof.specs.declared.machine.phase.LineKind.{LineKind}
+use Rattle.pb_proof.specs.declared.machine.phase.Stage.TheVariants.{Concluding}
 use Rattle.pb_proof.specs.declared.machine.phase.LineKind.TheVariants as kind
 use Rattle.pb_proof.specs.declared.machine.phase.Phase.{Phase}
 use Rattle.pb_proof.specs.declared.machine.phase.Phase.TheVariants as phase
-use Rattle.pb_proof.specs.declared.statement.Statement.{Statement}
 use Rattle.pb_proof.specs.declared.statement.Statement as statement
 use Rattle.pb_proof.proofs.lemmas.Line.Laws.{line_begins, line_fresh, line_first_state}
-use Rattle.pb_text.proofs.lemmas.machine.Living.{IsAlive, before, final, accepted, ReadsOn, reads_on}
+use Rattle.pb_text.proofs.lemmas.machine.Living.{before}
 use Rattle.pb_proof.proofs.lemmas.Machine.Complete.{spelt, header_end, output_end, step_on, step_last, given_reads, meets_any}
 use Rattle.pb_proof.proofs.lemmas.Machine.Exact.{no_gap}
 use Rattle.pb_proof.proofs.lemmas.Machine.Orders.{ordered_each}

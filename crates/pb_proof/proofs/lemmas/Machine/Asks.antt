@@ -1,37 +1,19 @@
 -- If the proof machine may allocate at a byte, that byte is at a position of its statement that may allocate.
-use Rattle.std.proofs.Common.{◌≡◌, ℕ, Bool, true, false, List, [], ◌∷◌, ◌++◌, refl, sym, ap, subst, ◌∙◌, Some, None}
-use Rattle.std.proofs.lemmas.Bool.{false≢true}
-use Rattle.std.specs.Prelude.{IsTrue, nat_eq}
+use Rattle.pb_proof.proofs.Common.{ℕ, ◌++◌, ◌∙◌, ◌∷◌, ◌≡◌, [], ap, Bool, false, IsTrue, List, nat_eq, None, refl, Some, subst, sym, true, false≢true}
+use Rattle.pb_proof.proofs.Common.{prefixes_of, reads_after, Walks, never, bytes-append, End, Go, MayAsk, Next, ReadsStatement, Refuse, bytes, Letter}
+use Rattle.pb_proof.proofs.Common.{LineMachine, LineKind, Stage, Opening, Statement, conclusion_first, counting, ids_first, literals_first}
+use Rattle.pb_proof.proofs.Common.{line_automaton, line_first, SpellsRest, pol_first, rup_first, act, at, begin, giving, idle, proofs, ProofState}
+use Rattle.pb_proof.proofs.Common.{step_line, Asks, AsksAfter, FirstWord, stage_after, IsProof}
 use Rattle.pb_text.specs.meaning.Asking.{AsksOnly}
-use Rattle.pb_text.specs.contract.Automaton.{Next, Go, End, Refuse, ReadsStatement, MayAsk}
-use Rattle.pb_text.specs.meaning.Spelling.{Letter, bytes}
 use Rattle.pb_text.proofs.lemmas.machine.Asked as asked
-use Rattle.pb_text.proofs.lemmas.text.Languages.{bytes-append}
-use Rattle.pb_text.proofs.lemmas.machine.Walking.{Walks, reads_after, prefixes_of}
-use Rattle.pb_text.proofs.lemmas.text.Booleans.{never}
-use Rattle.pb_proof.specs.meaning.Asking.{AsksAfter, FirstWord, Asks}
-use Rattle.pb_proof.specs.engine.Line.ConclusionState.{conclusion_first}
-use Rattle.pb_proof.specs.engine.Line.Count.{counting}
-use Rattle.pb_proof.specs.engine.Line.Rup.{rup_first}
-use Rattle.pb_proof.specs.engine.Line.Ids.{ids_first}
-use Rattle.pb_proof.specs.engine.Line.Machine.{line_automaton, line_first, SpellsRest}
-use Rattle.pb_proof.specs.engine.Line.Literals.{literals_first}
 use Rattle.pb_proof.specs.engine.Machine.Transition.{transition}
-use Rattle.pb_proof.specs.meaning.Order.{stage_after}
-use Rattle.pb_proof.specs.engine.Line.PolState.{pol_first}
-use Rattle.pb_proof.specs.meaning.Proofs.{IsProof}
 use Rattle.pb_proof.specs.engine.Machine.State as state
-use Rattle.pb_proof.specs.engine.Machine.State.{ProofState, proofs, begin, at, idle, giving, act, over, step_line, asks, is_within}
-use Rattle.pb_proof.specs.declared.line.LineMachine.{LineMachine}
+use Rattle.pb_proof.specs.engine.Machine.State.{over, asks, is_within}
 use Rattle.pb_proof.specs.declared.machine.phase.Action.{Action}
 use Rattle.pb_proof.specs.declared.machine.phase.Action.TheVariants.{To, Begin, Give}
 use Rattle.pb_proof.specs.declared.machine.phase.Phase.{Phase}
 use Rattle.pb_proof.specs.declared.machine.phase.Phase.TheVariants as phase
-use Rattle.pb_proof.specs.declared.machine.phase.LineKind.{LineKind}
 use Rattle.pb_proof.specs.declared.machine.phase.LineKind.TheVariants as kind
-use Rattle.pb_proof.specs.declared.machine.phase.Stage.{Stage}
-use Rattle.pb_proof.specs.declared.machine.phase.Stage.TheVariants.{Opening}
-use Rattle.pb_proof.specs.declared.statement.Statement.{Statement}
 use Rattle.pb_proof.specs.declared.statement.Statement.TheVariants as statement
 use Rattle.pb_proof.proofs.lemmas.Carried.{walks_out, reads_out}
 use Rattle.pb_proof.proofs.lemmas.Conclusion.Asks.{conclusion_asked}

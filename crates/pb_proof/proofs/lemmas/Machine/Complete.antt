@@ -1,31 +1,19 @@
 -- The proof machine reads each statement from its stage.
-use Rattle.std.proofs.lemmas.Bool.{eqb-true, and_parts, false_from_ne_true, eq-eqb, not-true}
-use Rattle.std.proofs.Common.{◌≡◌, ℕ, ◌+◌, ◌-◌, Bool, true, false, cond, not, ◌&&◌, ◌||◌, List, [], ◌∷◌, ◌++◌, length, refl, sym, ap, ap₂, subst, ◌∙◌, arith, append_assoc, length-append}
-use Rattle.std.proofs.Math.Seq.{get_or-append_seam}
-use Rattle.std.proofs.lemmas.Bool.Decides.{nat_tests}
-use Rattle.std.proofs.lemmas.List.{append-nil}
-use Rattle.std.specs.Prelude.{IsTrue, nat_eq, slice_index}
-use Rattle.pb_text.specs.contract.Automaton.{Go, ReadsStatement}
-use Rattle.pb_text.specs.meaning.Classes.{is_blank}
-use Rattle.pb_text.specs.meaning.Languages.{unmarked, Language, ◌⋅◌, Byte, Each, Blanks1}
-use Rattle.pb_text.specs.meaning.Spelling.{Letter, plain}
-use Rattle.pb_text.proofs.lemmas.machine.Walking.{Walks, walks_then, walks_more, ends_walk, reads_after, same_first, longer}
-use Rattle.pb_text.proofs.lemmas.text.Booleans.{never}
-use Rattle.pb_proof.specs.engine.Line.Machine.{line_automaton, line_first, SpellsRest}
-use Rattle.pb_proof.specs.meaning.Lines.{Feed, LineEnd, SpellsStatement}
-use Rattle.pb_proof.specs.engine.Machine.Transition.{words_of, sol_word, next_action, meets, spell, transition}
-use Rattle.pb_proof.specs.meaning.Order.{stage_of, stage_after}
-use Rattle.pb_proof.specs.engine.Machine.State.{ProofState, proofs, at, idle, giving, next_stage, over, act}
-use Rattle.pb_proof.specs.declared.line.LineMachine.{LineMachine}
-use Rattle.pb_proof.specs.declared.machine.phase.Keyword.{Keyword}
+use Rattle.pb_proof.proofs.Common.{ℕ, ◌&&◌, ◌++◌, ◌+◌, ◌-◌, ◌||◌, ◌∙◌, ◌∷◌, ◌≡◌, [], ap, append-nil, append_assoc, ap₂, arith, Bool, cond, false}
+use Rattle.pb_proof.proofs.Common.{IsTrue, length, length-append, List, nat_eq, not, refl, subst, sym, true, slice_index, get_or-append_seam}
+use Rattle.pb_proof.proofs.Common.{and_parts, eq-eqb, eqb-true, false_from_ne_true, not-true, nat_tests, ends_walk, longer, reads_after, same_first}
+use Rattle.pb_proof.proofs.Common.{Walks, walks_more, walks_then, never, Go, ReadsStatement, is_blank, ◌⋅◌, Blanks1, Byte, Each, Language, unmarked}
+use Rattle.pb_proof.proofs.Common.{Letter, plain, LineMachine, Keyword, LineKind, Closing, Complete, Formula, Opening, Steps, Statement}
+use Rattle.pb_proof.proofs.Common.{line_automaton, line_first, SpellsRest, act, at, giving, idle, next_stage, proofs, ProofState, meets, next_action}
+use Rattle.pb_proof.proofs.Common.{sol_word, words_of, Feed, LineEnd, SpellsStatement, stage_after, stage_of}
+use Rattle.pb_proof.specs.engine.Machine.Transition.{spell, transition}
+use Rattle.pb_proof.specs.engine.Machine.State.{over}
 use Rattle.pb_proof.specs.declared.machine.phase.Keyword.TheVariants as keyword
-use Rattle.pb_proof.specs.declared.machine.phase.Stage.TheVariants.{Opening, Formula, Steps, Concluding, Closing, Complete}
-use Rattle.pb_proof.specs.declared.machine.phase.LineKind.{LineKind}
+use Rattle.pb_proof.specs.declared.machine.phase.Stage.TheVariants.{Concluding}
 use Rattle.pb_proof.specs.declared.machine.phase.LineKind.TheVariants as kind
 use Rattle.pb_proof.specs.declared.machine.phase.Phase.TheVariants as phase
 use Rattle.pb_proof.specs.declared.machine.phase.Action.{Action}
 use Rattle.pb_proof.specs.declared.machine.phase.Action.TheVariants as action
-use Rattle.pb_proof.specs.declared.statement.Statement.{Statement}
 use Rattle.pb_proof.specs.declared.statement.Statement as statement
 use Rattle.pb_proof.proofs.lemmas.Line.Laws.{line_each, line_fresh}
 use Rattle.pb_proof.proofs.lemmas.Line.Ends.{Feeds, feed_reads, MayEnd, line_reads}

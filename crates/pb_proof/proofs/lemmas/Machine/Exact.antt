@@ -1,27 +1,16 @@
 -- The statements of a proof in order: the proof machine accepts exactly these.
-use Rattle.std.proofs.Common.{◌≡◌, ℕ, true, false, List, [], ◌∷◌, ◌++◌, refl, sym, ap, subst, ◌↔◌}
-use Rattle.std.proofs.lemmas.List.Elements.{All-nil, All-cons, All-head, All-tail}
-use Rattle.std.specs.Prelude.{IsTrue, All}
-use Rattle.pb_text.specs.contract.Automaton.{Refuse, AcceptsItems}
-use Rattle.pb_text.specs.meaning.Spelling.{Item}
-use Rattle.pb_text.specs.meaning.Whole.{events_of}
-use Rattle.pb_proof.specs.meaning.Lines.{SpellsStatement}
+use Rattle.pb_proof.proofs.Common.{ℕ, ◌++◌, ◌↔◌, ◌∷◌, ◌≡◌, [], All, ap, false, IsTrue, List, refl, subst, sym, true, All-cons, All-head, All-nil}
+use Rattle.pb_proof.proofs.Common.{All-tail, never, one_spelling, AcceptsItems, Refuse, Nothing, Item, events_of, Conclusion, Stage, Closing}
+use Rattle.pb_proof.proofs.Common.{Complete, Formula, Opening, Steps, Proof, Statement, Conclude, Delete, F, Header, Output, Pol, Rup, Soli, Solx}
+use Rattle.pb_proof.proofs.Common.{act, begin, proofs, ProofState, SpellsStatement, GapAt, IsStaged, stage_after, stage_of, AreSpelled, BeginsAtOnce}
+use Rattle.pb_proof.proofs.Common.{IsGap, IsProof, IsStep, statements_of}
 use Rattle.pb_proof.specs.engine.Machine.Transition.{transition}
-use Rattle.pb_proof.specs.meaning.Order.{stage_of, stage_after, GapAt, IsStaged}
-use Rattle.pb_text.proofs.lemmas.text.Deterministic.{one_spelling}
-use Rattle.pb_text.proofs.lemmas.text.Booleans.{never}
 use Rattle.pb_proof.specs.contract.Formats.{OneProof}
-use Rattle.pb_text.specs.meaning.Blank.{Nothing}
-use Rattle.pb_proof.specs.meaning.Proofs.{IsGap, IsStep, statements_of, AreSpelled, BeginsAtOnce, IsProof}
-use Rattle.pb_proof.specs.engine.Machine.State.{ProofState, proofs, begin, act, is_done}
-use Rattle.pb_proof.specs.declared.conclusion.Conclusion.{Conclusion}
-use Rattle.pb_proof.specs.declared.proof.Proof.{Proof}
-use Rattle.pb_proof.specs.declared.machine.phase.Stage.{Stage}
-use Rattle.pb_proof.specs.declared.machine.phase.Stage.TheVariants.{Opening, Formula, Steps, Concluding, Closing, Complete}
+use Rattle.pb_proof.specs.engine.Machine.State.{is_done}
+use Rattle.pb_proof.specs.declared.machine.phase.Stage.TheVariants.{Concluding}
 use Rattle.pb_proof.specs.declared.machine.phase.Phase.{Phase}
 use Rattle.pb_proof.specs.declared.machine.phase.Phase.TheVariants as phase
-use Rattle.pb_proof.specs.declared.statement.Statement.{Statement}
-use Rattle.pb_proof.specs.declared.statement.Statement.TheVariants.{Header, F, Pol, Rup, Soli, Solx, Delete, Output, Conclude, End}
+use Rattle.pb_proof.specs.declared.statement.Statement.TheVariants.{End}
 use Rattle.pb_proof.proofs.lemmas.Machine.Orders.{ordered_only, ordered_each}
 
 -- statements in order

@@ -1,27 +1,17 @@
 -- White space and comments between two statements.
-use Rattle.std.proofs.lemmas.Bool.{eqb-true, cond_both}
-use Rattle.std.proofs.Common.{◌≡◌, ℕ, Bool, true, false, cond, not, ◌&&◌, ◌||◌, List, [], ◌∷◌, ◌++◌, length, refl, sym, ap, ap₂, subst, ◌∙◌, append_assoc, ◌+◌}
-use Rattle.std.proofs.lemmas.List.{append-nil}
-use Rattle.std.specs.Prelude.{nat_eq, slice_index}
-use Rattle.std.proofs.Math.Bool.{or-true}
-use Rattle.pb_text.specs.contract.Automaton.{Next, Go, End, Refuse, SkipsGap, ReadsStatement}
-use Rattle.pb_text.specs.meaning.Blank.{IsBlank, Nothing, in_comment}
-use Rattle.pb_text.specs.meaning.Classes.{is_white}
-use Rattle.pb_text.specs.meaning.Spelling.{Letter}
+use Rattle.pb_proof.proofs.Common.{ℕ, ◌&&◌, ◌++◌, ◌+◌, ◌||◌, ◌∙◌, ◌∷◌, ◌≡◌, [], ap, append-nil, append_assoc, ap₂, Bool, cond, false, length, List}
+use Rattle.pb_proof.proofs.Common.{nat_eq, not, refl, subst, sym, true, slice_index, or-true, cond_both, eqb-true, never, white_each, End, Go, Next}
+use Rattle.pb_proof.proofs.Common.{ReadsStatement, Refuse, SkipsGap, in_comment, IsBlank, Nothing, is_white, Letter, Keyword, Stage, Closing}
+use Rattle.pb_proof.proofs.Common.{Complete, Formula, Opening, Steps, Statement, act, at, HasGaps, idle, proofs, ProofState, enter, meets}
+use Rattle.pb_proof.proofs.Common.{next_action, pass, step_keyword, words_of, IsGap}
 use Rattle.pb_text.proofs.lemmas.text.Blanks.{blank_passes, in_comment-snoc, IsBlank-snoc, passes_at}
-use Rattle.pb_text.proofs.lemmas.text.Booleans.{never}
-use Rattle.pb_text.proofs.lemmas.text.ByteTests.{white_each}
-use Rattle.pb_proof.specs.engine.Machine.Transition.{enter, between, pass, spell, meets, words_of, next_action, step_keyword}
-use Rattle.pb_proof.specs.meaning.Proofs.{IsGap}
-use Rattle.pb_proof.specs.engine.Machine.State.{ProofState, proofs, at, idle, act, is_within, HasGaps}
-use Rattle.pb_proof.specs.declared.machine.phase.Keyword.{Keyword}
+use Rattle.pb_proof.specs.engine.Machine.Transition.{between, spell}
+use Rattle.pb_proof.specs.engine.Machine.State.{is_within}
 use Rattle.pb_proof.specs.declared.machine.phase.Keyword.TheVariants as keyword
-use Rattle.pb_proof.specs.declared.machine.phase.Stage.{Stage}
-use Rattle.pb_proof.specs.declared.machine.phase.Stage.TheVariants.{Opening, Formula, Steps, Concluding, Closing, Complete}
+use Rattle.pb_proof.specs.declared.machine.phase.Stage.TheVariants.{Concluding}
 use Rattle.pb_proof.specs.declared.machine.phase.Phase.TheVariants as phase
 use Rattle.pb_proof.specs.declared.machine.phase.Action.{Action}
 use Rattle.pb_proof.specs.declared.machine.phase.Action.TheVariants as action
-use Rattle.pb_proof.specs.declared.statement.Statement.{Statement}
 
 passing : (s : Stage) (b : ℕ) → HasGaps s → between s b ≡ pass s b
 passing Opening b h = absurd h

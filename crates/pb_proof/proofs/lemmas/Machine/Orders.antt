@@ -1,17 +1,10 @@
 -- What the proof machine accepts from a stage is the statements in order.
-use Rattle.std.proofs.Common.{◌≡◌, ℕ, true, false, List, [], ◌∷◌, refl, sym, ap, subst, ◌∙◌}
-use Rattle.pb_text.specs.contract.Automaton.{Next, Go, End, Refuse, SkipsGap, ReadsStatement, AcceptsItems}
-use Rattle.pb_text.specs.meaning.Spelling.{Item, Letter}
-use Rattle.pb_text.proofs.lemmas.text.Booleans.{never}
-use Rattle.pb_text.proofs.lemmas.machine.Outcomes.{refuse_or_go, refuse_or_end}
-use Rattle.pb_proof.specs.engine.Machine.Transition.{enter}
-use Rattle.pb_proof.specs.meaning.Order.{stage_of, stage_after, GapAt, IsStaged}
-use Rattle.pb_proof.specs.engine.Machine.State.{ProofState, proofs, idle, act, is_complete}
-use Rattle.pb_proof.specs.declared.machine.phase.Stage.{Stage}
-use Rattle.pb_proof.specs.declared.machine.phase.Stage.TheVariants.{Opening, Formula, Steps, Concluding, Closing, Complete}
+use Rattle.pb_proof.proofs.Common.{ℕ, ◌∙◌, ◌∷◌, ◌≡◌, [], ap, false, List, refl, subst, sym, true, refuse_or_end, refuse_or_go, never, AcceptsItems}
+use Rattle.pb_proof.proofs.Common.{End, Go, Next, ReadsStatement, Refuse, SkipsGap, Item, Letter, Stage, Closing, Complete, Formula, Opening, Steps}
+use Rattle.pb_proof.proofs.Common.{Statement, act, idle, is_complete, proofs, ProofState, enter, GapAt, IsStaged, stage_after, stage_of}
+use Rattle.pb_proof.specs.declared.machine.phase.Stage.TheVariants.{Concluding}
 use Rattle.pb_proof.specs.declared.machine.phase.Action.{Action}
 use Rattle.pb_proof.specs.declared.machine.phase.Action.TheVariants as action
-use Rattle.pb_proof.specs.declared.statement.Statement.{Statement}
 use Rattle.pb_proof.specs.declared.statement.Statement as statement
 use Rattle.pb_proof.proofs.lemmas.Machine.Complete.{statement_each}
 use Rattle.pb_proof.proofs.lemmas.Machine.Gaps.{Inside, enter_inside, gap_before, gap_skips}

@@ -1,34 +1,20 @@
 -- What the proof machine reads from a stage is a statement of that stage.
-use Rattle.std.proofs.Common.{◌≡◌, ℕ, ◌+◌, ◌-◌, ◌<◌, Bool, true, false, ◌&&◌, List, [], ◌∷◌, ◌++◌, length, take, refl, sym, ap, subst, ◌∙◌, arith, add-one, Some, None}
-use Rattle.std.proofs.Math.Seq.{take-suc}
-use Rattle.std.proofs.lemmas.Bool.{eqb-true, cond_both, and_parts}
-use Rattle.std.proofs.lemmas.List.{take_all}
-use Rattle.std.specs.Prelude.{nat_eq, slice_index}
-use Rattle.pb_text.specs.contract.Automaton.{Next, Go, End, Refuse, ReadsStatement}
-use Rattle.pb_text.specs.meaning.Classes.{is_blank, is_white}
-use Rattle.pb_text.specs.meaning.Languages.{Language, ◌⋅◌, Bytes}
-use Rattle.pb_text.specs.meaning.Spelling.{Letter, plain}
-use Rattle.pb_text.proofs.lemmas.text.Languages.{grown, none_yet}
-use Rattle.pb_text.proofs.lemmas.machine.Walking.{Walks, walks_more, ends_walk, On, Keeps, reported}
-use Rattle.pb_text.proofs.lemmas.text.Booleans.{never}
-use Rattle.pb_text.proofs.lemmas.text.Letters.{as_unmarked, further}
-use Rattle.pb_proof.specs.engine.Line.Machine.{line_automaton, line_first, SpellsRest}
-use Rattle.pb_proof.specs.meaning.Lines.{f_word, pol_word, rup_word, soli_word, solx_word, conclusion_word, SpellsStatement}
-use Rattle.pb_proof.specs.engine.Machine.Transition.{words_of, sol_word, next_action, meets, spell, step_keyword, enter, pass, between, transition}
-use Rattle.pb_proof.specs.meaning.Order.{stage_of, stage_after}
-use Rattle.pb_proof.specs.engine.Machine.State.{ProofState, proofs, idle, next_stage, over, step_line, act, asked}
-use Rattle.pb_proof.specs.declared.line.LineMachine.{LineMachine}
-use Rattle.pb_proof.specs.declared.machine.phase.Keyword.{Keyword}
+use Rattle.pb_proof.proofs.Common.{ℕ, ◌&&◌, ◌++◌, ◌+◌, ◌-◌, ◌<◌, ◌∙◌, ◌∷◌, ◌≡◌, [], add-one, ap, arith, Bool, false, length, List, nat_eq, None, refl}
+use Rattle.pb_proof.proofs.Common.{Some, subst, sym, take, true, slice_index, take-suc, and_parts, cond_both, eqb-true, take_all, ends_walk, Keeps}
+use Rattle.pb_proof.proofs.Common.{On, reported, Walks, walks_more, never, grown, none_yet, as_unmarked, further, End, Go, Next, ReadsStatement}
+use Rattle.pb_proof.proofs.Common.{Refuse, is_blank, is_white, ◌⋅◌, Bytes, Language, Letter, plain, LineMachine, Keyword, LineKind, Stage, Closing}
+use Rattle.pb_proof.proofs.Common.{Complete, Formula, Opening, Steps, Statement, line_automaton, line_first, SpellsRest, act, asked, idle, next_stage}
+use Rattle.pb_proof.proofs.Common.{proofs, ProofState, step_line, enter, meets, next_action, pass, sol_word, step_keyword, words_of, conclusion_word}
+use Rattle.pb_proof.proofs.Common.{f_word, pol_word, rup_word, soli_word, solx_word, SpellsStatement, stage_after, stage_of}
+use Rattle.pb_proof.specs.engine.Machine.Transition.{spell, between, transition}
+use Rattle.pb_proof.specs.engine.Machine.State.{over}
 use Rattle.pb_proof.specs.declared.machine.phase.Keyword.TheVariants as keyword
-use Rattle.pb_proof.specs.declared.machine.phase.Stage.{Stage}
-use Rattle.pb_proof.specs.declared.machine.phase.Stage.TheVariants.{Opening, Formula, Steps, Concluding, Closing, Complete}
-use Rattle.pb_proof.specs.declared.machine.phase.LineKind.{LineKind}
+use Rattle.pb_proof.specs.declared.machine.phase.Stage.TheVariants.{Concluding}
 use Rattle.pb_proof.specs.declared.machine.phase.LineKind.TheVariants as kind
 use Rattle.pb_proof.specs.declared.machine.phase.Phase.{Phase}
 use Rattle.pb_proof.specs.declared.machine.phase.Phase.TheVariants as phase
 use Rattle.pb_proof.specs.declared.machine.phase.Action.{Action}
 use Rattle.pb_proof.specs.declared.machine.phase.Action.TheVariants as action
-use Rattle.pb_proof.specs.declared.statement.Statement.{Statement}
 use Rattle.pb_proof.specs.declared.statement.Statement as statement
 use Rattle.pb_proof.proofs.lemmas.Line.Laws.{line_only, line_begins, line_fresh}
 use Rattle.pb_proof.proofs.lemmas.Line.Ends.{Gapped, Closing as Closed, blank_more, semicolon_after_blanks, blank_closing, line_after_blanks, line_closing, feed_after_blanks, gapped}

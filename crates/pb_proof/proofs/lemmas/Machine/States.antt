@@ -1,29 +1,19 @@
 -- What holds of each state that the proof machine can be in.
-use Rattle.std.proofs.Common.{◌≡◌, ℕ, ◌+◌, ◌-◌, ◌<◌, ◌≤◌, true, false, ◌&&◌, length, refl, sym, ap, subst, ◌∙◌, arith, Option, Some, None}
-use Rattle.std.specs.Prelude.{IsTrue, nat_eq, slice_index}
-use Rattle.std.proofs.lemmas.Bool.{cond_both}
-use Rattle.std.proofs.lemmas.Option.{same_Some}
-use Rattle.pb_text.specs.contract.Automaton.{Next, Go, End, Refuse, Admits, IsState}
-use Rattle.pb_text.specs.meaning.Classes.{is_blank, is_white}
-use Rattle.pb_text.proofs.lemmas.machine.Residual.{refuses}
-use Rattle.pb_text.proofs.lemmas.text.Booleans.{never}
-use Rattle.pb_proof.specs.engine.Line.Machine.{line_automaton, line_first}
-use Rattle.pb_proof.specs.engine.Machine.Transition.{words_of, next_action, meets, spell, step_keyword, enter, pass, between, transition}
-use Rattle.pb_proof.specs.engine.Machine.State.{ProofState, proofs, idle, giving, next_stage, over, step_line, act, asked, asks, is_within, is_done, is_complete, HasGaps, PhaseFits, Holds, IsInOrder}
-use Rattle.pb_proof.specs.declared.line.LineMachine.{LineMachine}
-use Rattle.pb_proof.specs.declared.machine.phase.Keyword.{Keyword}
+use Rattle.pb_proof.proofs.Common.{ℕ, ◌&&◌, ◌+◌, ◌-◌, ◌<◌, ◌∙◌, ◌≡◌, ◌≤◌, ap, arith, false, IsTrue, length, nat_eq, None, Option, refl, Some, subst}
+use Rattle.pb_proof.proofs.Common.{sym, true, slice_index, cond_both, same_Some, admits_before, admits_final, admitted_on, refuses, never, further}
+use Rattle.pb_proof.proofs.Common.{Admits, End, Go, IsState, Next, Refuse, is_blank, is_white, LineMachine, Keyword, LineKind, Stage, Closing}
+use Rattle.pb_proof.proofs.Common.{Complete, Formula, Opening, Steps, Statement, line_automaton, line_first, act, asked, giving, HasGaps, Holds, idle}
+use Rattle.pb_proof.proofs.Common.{is_complete, IsInOrder, next_stage, proofs, ProofState, step_line, enter, meets, next_action, pass, step_keyword}
+use Rattle.pb_proof.proofs.Common.{words_of}
+use Rattle.pb_proof.specs.engine.Machine.Transition.{spell, between, transition}
+use Rattle.pb_proof.specs.engine.Machine.State.{over, asks, is_within, is_done, PhaseFits}
 use Rattle.pb_proof.specs.declared.machine.phase.Keyword.TheVariants as keyword
-use Rattle.pb_proof.specs.declared.machine.phase.Stage.{Stage}
-use Rattle.pb_proof.specs.declared.machine.phase.Stage.TheVariants.{Opening, Formula, Steps, Concluding, Closing, Complete}
-use Rattle.pb_proof.specs.declared.machine.phase.LineKind.{LineKind}
+use Rattle.pb_proof.specs.declared.machine.phase.Stage.TheVariants.{Concluding}
 use Rattle.pb_proof.specs.declared.machine.phase.Phase.{Phase}
 use Rattle.pb_proof.specs.declared.machine.phase.Phase.TheVariants as phase
 use Rattle.pb_proof.specs.declared.machine.phase.Action.{Action}
 use Rattle.pb_proof.specs.declared.machine.phase.Action.TheVariants as action
-use Rattle.pb_proof.specs.declared.statement.Statement.{Statement}
 use Rattle.pb_proof.proofs.lemmas.Line.Laws.{line_begins, line_fresh, line_first_state}
-use Rattle.pb_text.proofs.lemmas.text.Letters.{further}
-use Rattle.pb_text.proofs.lemmas.machine.Living.{admits_before, admits_final, admitted_on}
 use Rattle.pb_proof.proofs.lemmas.Machine.Alive.{live, reading_alive, stage_accepts, example}
 use Rattle.pb_proof.proofs.lemmas.Machine.Exact.{finishes}
 use Rattle.pb_proof.proofs.lemmas.Spaced.{some_byte}

@@ -1,20 +1,12 @@
 -- A run of the line machine is a run of the proof machine.
 -- A run of the sum machine is a run of the `rup` machine.
-use Rattle.std.proofs.Common.{◌≡◌, ℕ, zero, suc, ◌<◌, ◌≤◌, false, List, [], ◌∷◌, length, take, get_or, refl, sym, ap, ap₂, subst, arith, ◌∙◌, Option, Some}
-use Rattle.pb_text.specs.meaning.Classes.{is_blank}
-use Rattle.pb_text.specs.contract.Automaton.{Next, Go, End, Refuse, Pushes, Runs}
-use Rattle.pb_text.specs.declared.machine.Push.{Push}
+use Rattle.pb_proof.proofs.Common.{ℕ, ◌<◌, ◌∙◌, ◌∷◌, ◌≡◌, ◌≤◌, [], ap, ap₂, arith, false, get_or, length, List, Option, refl, Some, subst, suc, sym}
+use Rattle.pb_proof.proofs.Common.{take, zero, Linear, SumEvent, sums, SumState, End, Go, Next, Pushes, Refuse, Runs, Push, is_blank, LineMachine}
+use Rattle.pb_proof.proofs.Common.{Give, LineKind, line_automaton, IsRupInOrder, rup_act, rup_automaton, rup_over, rup_transition, RupState, giving}
+use Rattle.pb_proof.proofs.Common.{Holds, IsInOrder, proofs, ProofState}
 use Rattle.pb_text.specs.declared.machine.Push.TheVariants as push
-use Rattle.pb_sums.specs.engine.State.{SumState, sums}
-use Rattle.pb_sums.specs.declared.Linear.{Linear}
-use Rattle.pb_sums.specs.declared.SumEvent.{SumEvent}
-use Rattle.pb_proof.specs.engine.Line.Rup.{RupState, rup_automaton, rup_transition, rup_act, rup_over, IsRupInOrder}
-use Rattle.pb_proof.specs.engine.Line.Machine.{line_automaton}
-use Rattle.pb_proof.specs.engine.Machine.State.{ProofState, proofs, giving, over, Holds, IsInOrder}
+use Rattle.pb_proof.specs.engine.Machine.State.{over}
 use Rattle.pb_proof.specs.declared.line.rup.phase.RupPhase.TheVariants.{Gap as GapRup, Inside as InsideRup}
-use Rattle.pb_proof.specs.declared.line.rup.phase.RupAction.TheVariants.{Give}
-use Rattle.pb_proof.specs.declared.line.LineMachine.{LineMachine}
-use Rattle.pb_proof.specs.declared.machine.phase.LineKind.{LineKind}
 use Rattle.pb_proof.specs.declared.machine.phase.Phase.{Phase}
 use Rattle.pb_proof.specs.declared.machine.phase.Phase.TheVariants as phase
 use Rattle.pb_proof.proofs.lemmas.Rup.States as rup_states

@@ -1,20 +1,12 @@
 -- The words of a statement, taken in one call.
-use Rattle.std.proofs.Common.{◌≡◌, ℕ, suc, ◌+◌, ◌<◌, false, List, [], ◌∷◌, ◌++◌, take, drop, get_or, length, refl, sym, ap, ap₂, subst, arith, ◌∙◌, ◌==◌, ◌-◌, append_assoc, length-append, length-drop, Option, None}
-use Rattle.std.proofs.Math.Seq.{drop-cons, take-length}
-use Rattle.std.proofs.lemmas.List.{take-append-drop, length-take-le}
-use Rattle.std.specs.Cmp.Lexicographic.{pointwise, bytes_decides}
-use Rattle.pb_text.specs.contract.Automaton.{Go, IsState, Runs}
-use Rattle.pb_text.proofs.lemmas.text.Booleans.{never}
-use Rattle.pb_proof.specs.engine.Line.Machine.{line_first}
-use Rattle.pb_proof.specs.engine.Machine.Transition.{words_of, next_action}
-use Rattle.pb_proof.specs.engine.Machine.State.{ProofState, proofs, at, giving, act, PhaseFits, Holds, IsInOrder}
-use Rattle.pb_proof.specs.engine.Machine.Words.{IsRest, LacksRest}
-use Rattle.pb_proof.specs.declared.machine.phase.Keyword.{Keyword}
-use Rattle.pb_proof.specs.declared.machine.phase.LineKind.{LineKind}
+use Rattle.pb_proof.proofs.Common.{ℕ, ◌++◌, ◌+◌, ◌-◌, ◌<◌, ◌==◌, ◌∙◌, ◌∷◌, ◌≡◌, [], ap, append_assoc, ap₂, arith, drop, false, get_or, length}
+use Rattle.pb_proof.proofs.Common.{length-append, length-drop, List, None, Option, refl, subst, suc, sym, take, take-append-drop, drop-cons}
+use Rattle.pb_proof.proofs.Common.{take-length, length-take-le, bytes_decides, pointwise, never, Go, IsState, Runs, LineMachine, Keyword, LineKind}
+use Rattle.pb_proof.proofs.Common.{line_first, act, at, giving, Holds, IsInOrder, proofs, ProofState, next_action, words_of, IsRest, LacksRest}
+use Rattle.pb_proof.specs.engine.Machine.State.{PhaseFits}
 use Rattle.pb_proof.specs.declared.machine.phase.Phase.{Phase}
 use Rattle.pb_proof.specs.declared.machine.phase.Phase.TheVariants as phase
 use Rattle.pb_proof.specs.declared.machine.phase.Action.TheVariants as action
-use Rattle.pb_proof.specs.declared.line.LineMachine.{LineMachine}
 use Rattle.pb_proof.proofs.lemmas.Machine.Complete.{meets_any, spelt, step_on, step_last}
 use Rattle.pb_proof.proofs.lemmas.Machine.States.{OnAction, on_after, plain_holds, at_order, begin_order, is_state}
 

@@ -1,25 +1,17 @@
 -- From each state of the `pol` machine but the last, some text is read.
-use Rattle.std.proofs.Common.{◌≡◌, ℕ, zero, suc, ◌+◌, ◌-◌, ◌*◌, ◌<◌, Bool, true, false, cond, List, [], ◌∷◌, ◌++◌, refl, sym, ap, subst, arith, ◌∙◌}
-use Rattle.std.proofs.lemmas.Bool.{le-leb, true≢false}
-use Rattle.std.specs.Prelude.{pos, neg_ℤ, nat_le, Some}
-use Rattle.pb_text.specs.contract.Automaton.{End}
-use Rattle.pb_proof.specs.engine.Line.Pol.{act, close, held_number, held_name, changed, counted, bound, is_done}
-use Rattle.pb_proof.specs.engine.Line.PolState.{PolState, pol_automaton, over}
-use Rattle.pb_proof.specs.declared.word.PolWord.{PolWord}
+use Rattle.pb_proof.proofs.Common.{ℕ, ◌*◌, ◌++◌, ◌+◌, ◌-◌, ◌<◌, ◌∙◌, ◌∷◌, ◌≡◌, [], ap, arith, Bool, cond, false, List, nat_le, pos, refl, Some, subst}
+use Rattle.pb_proof.proofs.Common.{suc, sym, true, zero, neg_ℤ, le-leb, true≢false, reads_before, ReadsOn, End, Change, Held, Phase, Role, PolWord}
+use Rattle.pb_proof.proofs.Common.{bound, changed, close, counted, held_name, held_number, is_done, over, pol_automaton, PolState}
+use Rattle.pb_proof.specs.engine.Line.Pol.{act}
 use Rattle.pb_proof.specs.declared.word.PolWord.TheVariants as word
-use Rattle.pb_proof.specs.declared.line.pol.phase.Held.{Held}
 use Rattle.pb_proof.specs.declared.line.pol.phase.Held.TheVariants as held
-use Rattle.pb_proof.specs.declared.line.pol.phase.Role.{Role}
 use Rattle.pb_proof.specs.declared.line.pol.phase.Role.TheVariants as role
-use Rattle.pb_proof.specs.declared.line.pol.phase.Phase.{Phase}
 use Rattle.pb_proof.specs.declared.line.pol.phase.Phase.TheVariants as phase
-use Rattle.pb_proof.specs.declared.line.pol.phase.Change.{Change}
 use Rattle.pb_proof.specs.declared.line.pol.phase.Change.TheVariants as change
 use Rattle.pb_proof.specs.declared.line.pol.phase.Action.TheVariants as action
 use Rattle.pb_proof.proofs.lemmas.Pol.Covers.{state, as_gap}
 use Rattle.pb_proof.proofs.lemmas.Pol.Prefixes.{NotLarge, bound_of_id}
 use Rattle.pb_proof.proofs.lemmas.Pol.Walks.{takes_blanks}
-use Rattle.pb_text.proofs.lemmas.machine.Living.{ReadsOn, reads_before}
 use Rattle.pb_proof.proofs.lemmas.NumberTests.{not_zero}
 
 abbrev pub Alive : PolState → Type 0

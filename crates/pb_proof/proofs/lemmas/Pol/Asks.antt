@@ -1,29 +1,16 @@
 -- Where the `pol` machine may allocate.
-use Rattle.std.proofs.Common.{◌≡◌, ℕ, ◌+◌, ◌*◌, Bool, true, false, cond, ◌&&◌, List, [], ◌∷◌, refl, ap, subst, ◌∙◌, inl, inr, arith, Some, None}
-use Rattle.std.proofs.lemmas.Bool.{false≢true, cond_both, and_parts}
-use Rattle.std.proofs.lemmas.Bool.Decides.{nat_tests}
-use Rattle.std.specs.Prelude.{IsTrue, nat_eq, nat_le}
-use Rattle.pb_text.specs.meaning.Classes.{is_blank, is_digit, is_letter, is_name_byte}
-use Rattle.pb_text.specs.meaning.Languages.{Language, ◌⋅◌, Blanks1}
-use Rattle.pb_text.specs.meaning.Spelling.{Letter, bytes}
-use Rattle.pb_text.proofs.lemmas.machine.Walking.{Walks, prefixes_of}
-use Rattle.pb_sums.specs.meaning.Asking.{EndsIn}
-use Rattle.pb_sums.proofs.lemmas.machine.Asked.{ends_nothing, at_name, name_further, first_further}
-use Rattle.pb_sums.proofs.lemmas.machine.LiteralPrefixes.{FirstOf, LiteralOf}
-use Rattle.pb_proof.specs.meaning.Asking.{AsksWord}
-use Rattle.pb_proof.specs.engine.Line.Pol.{transition, read, next, next_word, next_large, star, late, blank, semicolon, feed, close, number, signed, role_of, bound, kind_of, is_letter_kind, is_name_kind, may_be_name, counted, adds, wants, Closing}
-use Rattle.pb_proof.specs.engine.Line.PolState.{PolState, pol_automaton, pol_first}
-use Rattle.pb_proof.specs.declared.word.PolWord.{PolWord}
-use Rattle.pb_proof.specs.declared.line.pol.phase.Kind.{Kind}
+use Rattle.pb_proof.proofs.Common.{ℕ, ◌&&◌, ◌*◌, ◌+◌, ◌∙◌, ◌∷◌, ◌≡◌, [], ap, arith, Bool, cond, false, inl, inr, IsTrue, List, nat_eq, nat_le, None}
+use Rattle.pb_proof.proofs.Common.{refl, Some, subst, true, and_parts, cond_both, false≢true, nat_tests, at_name, ends_nothing, first_further}
+use Rattle.pb_proof.proofs.Common.{name_further, FirstOf, LiteralOf, EndsIn, prefixes_of, Walks, is_blank, is_digit, is_letter, is_name_byte, ◌⋅◌}
+use Rattle.pb_proof.proofs.Common.{Blanks1, Language, bytes, Letter, Action, Change, Held, Kind, Phase, PolWord, blank, bound, close, counted, feed}
+use Rattle.pb_proof.proofs.Common.{is_letter_kind, is_name_kind, kind_of, late, may_be_name, next_large, next_word, number, read, role_of, semicolon}
+use Rattle.pb_proof.proofs.Common.{star, transition, wants, pol_automaton, pol_first, PolState, AsksWord}
+use Rattle.pb_proof.specs.engine.Line.Pol.{next, signed, adds, Closing}
 use Rattle.pb_proof.specs.declared.line.pol.phase.Kind.TheVariants as kind
-use Rattle.pb_proof.specs.declared.line.pol.phase.Held.{Held}
 use Rattle.pb_proof.specs.declared.line.pol.phase.Held.TheVariants as held
 use Rattle.pb_proof.specs.declared.line.pol.phase.Role.TheVariants as role
-use Rattle.pb_proof.specs.declared.line.pol.phase.Phase.{Phase}
 use Rattle.pb_proof.specs.declared.line.pol.phase.Phase.TheVariants as phase
-use Rattle.pb_proof.specs.declared.line.pol.phase.Change.{Change}
 use Rattle.pb_proof.specs.declared.line.pol.phase.Change.TheVariants as change
-use Rattle.pb_proof.specs.declared.line.pol.phase.Action.{Action}
 use Rattle.pb_proof.specs.declared.line.pol.phase.Action.TheVariants as action
 use Rattle.pb_proof.proofs.lemmas.Line.Asks.{number_end, literal_end}
 use Rattle.pb_proof.proofs.lemmas.Pol.Prefixes.{Settled, Before, prefix, Prefix, Whole}

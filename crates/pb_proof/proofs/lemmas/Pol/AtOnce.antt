@@ -1,29 +1,14 @@
 -- Postfix words that are taken in one call are a run of the automaton.
-use Rattle.std.proofs.Common.{◌≡◌, ℕ, suc, ◌+◌, ◌-◌, ◌*◌, ◌<◌, ◌≤◌, Bool, true, false, ◌&&◌, List, [], ◌∷◌, ◌++◌, pos, take, get_or, length, refl, sym, ap, subst, arith, ◌∙◌, Option, Some}
-use Rattle.std.proofs.lemmas.Bool.{eqb-true, le-leb, and_parts}
-use Rattle.std.specs.Option.{is_some}
-use Rattle.std.specs.Prelude.{IsTrue, nat_eq, nat_le, cond}
-use Rattle.std.proofs.lemmas.Option.{same_Some}
-use Rattle.pb_text.specs.contract.Automaton.{Go, IsState, Runs}
-use Rattle.pb_text.specs.meaning.Classes.{is_digit}
-use Rattle.pb_text.specs.contract.Digits.{value_from}
-use Rattle.pb_text.proofs.lemmas.numbers.DigitValues.{AreDigits, value-grows}
-use Rattle.pb_text.proofs.lemmas.machine.Running.{runs_more}
-use Rattle.pb_proof.specs.engine.Line.IdPrefix.{IsSpacedId}
-use Rattle.pb_proof.specs.engine.Line.Pol.{transition, number, bound, kind_of, changed, counted, held_number}
+use Rattle.pb_proof.proofs.Common.{ℕ, ◌&&◌, ◌*◌, ◌++◌, ◌+◌, ◌-◌, ◌<◌, ◌∙◌, ◌∷◌, ◌≡◌, ◌≤◌, [], ap, arith, Bool, cond, false, get_or, IsTrue, length}
+use Rattle.pb_proof.proofs.Common.{List, nat_eq, nat_le, Option, pos, refl, Some, subst, suc, sym, take, true, and_parts, eqb-true, le-leb, same_Some}
+use Rattle.pb_proof.proofs.Common.{is_some, runs_more, AreDigits, value-grows, Go, IsState, Runs, value_from, is_digit, Change, Held, Kind, Phase}
+use Rattle.pb_proof.proofs.Common.{Role, PolWord, Id, IsSpacedId, bound, changed, counted, held_number, kind_of, number, transition, pol_automaton}
+use Rattle.pb_proof.proofs.Common.{PolState}
 use Rattle.pb_proof.specs.engine.Line.PolFast.{held_before, held_operator, operator}
-use Rattle.pb_proof.specs.engine.Line.PolState.{PolState, pol_automaton}
-use Rattle.pb_proof.specs.declared.word.PolWord.{PolWord}
-use Rattle.pb_proof.specs.declared.word.PolWord.TheVariants.{Id}
-use Rattle.pb_proof.specs.declared.line.pol.phase.Kind.{Kind}
 use Rattle.pb_proof.specs.declared.line.pol.phase.Kind.TheVariants as kind
-use Rattle.pb_proof.specs.declared.line.pol.phase.Held.{Held}
 use Rattle.pb_proof.specs.declared.line.pol.phase.Held.TheVariants as held
-use Rattle.pb_proof.specs.declared.line.pol.phase.Phase.{Phase}
 use Rattle.pb_proof.specs.declared.line.pol.phase.Phase.TheVariants as phase
-use Rattle.pb_proof.specs.declared.line.pol.phase.Role.{Role}
 use Rattle.pb_proof.specs.declared.line.pol.phase.Role.TheVariants as role
-use Rattle.pb_proof.specs.declared.line.pol.phase.Change.{Change}
 use Rattle.pb_proof.specs.declared.line.pol.phase.Change.TheVariants as change
 use Rattle.pb_proof.specs.declared.line.pol.phase.Action.TheVariants as action
 use Rattle.pb_proof.proofs.lemmas.Pol.Covers.{state}

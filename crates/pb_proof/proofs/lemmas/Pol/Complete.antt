@@ -1,25 +1,14 @@
 -- The `pol` machine reads each line of postfix words: one lemma for each word.
-use Rattle.std.proofs.Common.{◌≡◌, ℕ, zero, suc, ◌-◌, ◌<◌, ◌≤◌, Bool, true, false, cond, List, [], ◌∷◌, ◌++◌, refl, sym, ap, subst, arith, append_assoc, append-nil, ◌∙◌}
-use Rattle.std.proofs.lemmas.Bool.{le-leb}
-use Rattle.std.specs.Prelude.{pos, neg_ℤ, nat_le, ℤ, Some}
-use Rattle.pb_text.specs.contract.Automaton.{Go, ReadsStatement}
-use Rattle.pb_text.specs.meaning.Languages.{unmarked, ◌⋅◌, Byte, Bytes, Blanks1}
-use Rattle.pb_text.specs.meaning.Numbers.{Digits}
-use Rattle.pb_text.specs.meaning.Spelling.{Letter, plain}
-use Rattle.pb_text.proofs.lemmas.machine.Walking.{Walks, walks_then, reads_after, longer}
-use Rattle.pb_sums.specs.meaning.Sums.{IsName, SpellsLiteral}
-use Rattle.pb_proof.specs.meaning.Lines.{LineEnd, Listed, Factor, SpellsId, SpellsWord, SpellsWords}
-use Rattle.pb_proof.specs.engine.Line.Pol.{act, close, held_number, held_name, changed, counted, turned, with_last}
-use Rattle.pb_proof.specs.engine.Line.PolState.{PolState, pol_automaton, pol_first, pol_last, over}
-use Rattle.pb_proof.specs.declared.word.PolWord.{PolWord}
+use Rattle.pb_proof.proofs.Common.{ℕ, ℤ, ◌++◌, ◌-◌, ◌<◌, ◌∙◌, ◌∷◌, ◌≡◌, ◌≤◌, [], ap, append-nil, append_assoc, arith, Bool, cond, false, List, nat_le}
+use Rattle.pb_proof.proofs.Common.{pos, refl, Some, subst, suc, sym, true, zero, neg_ℤ, le-leb, IsName, SpellsLiteral, longer, reads_after, Walks}
+use Rattle.pb_proof.proofs.Common.{walks_then, Go, ReadsStatement, ◌⋅◌, Blanks1, Byte, Bytes, unmarked, Digits, Letter, plain, Change, Held, Phase}
+use Rattle.pb_proof.proofs.Common.{Role, PolWord, changed, close, counted, held_name, held_number, turned, with_last, over, pol_automaton, pol_first}
+use Rattle.pb_proof.proofs.Common.{pol_last, PolState, Factor, LineEnd, Listed, SpellsId, SpellsWord, SpellsWords}
+use Rattle.pb_proof.specs.engine.Line.Pol.{act}
 use Rattle.pb_proof.specs.declared.word.PolWord.TheVariants as word
-use Rattle.pb_proof.specs.declared.line.pol.phase.Held.{Held}
 use Rattle.pb_proof.specs.declared.line.pol.phase.Held.TheVariants as held
-use Rattle.pb_proof.specs.declared.line.pol.phase.Role.{Role}
 use Rattle.pb_proof.specs.declared.line.pol.phase.Role.TheVariants as role
-use Rattle.pb_proof.specs.declared.line.pol.phase.Phase.{Phase}
 use Rattle.pb_proof.specs.declared.line.pol.phase.Phase.TheVariants as phase
-use Rattle.pb_proof.specs.declared.line.pol.phase.Change.{Change}
 use Rattle.pb_proof.specs.declared.line.pol.phase.Change.TheVariants as change
 use Rattle.pb_proof.specs.declared.line.pol.phase.Action.TheVariants as action
 use Rattle.pb_proof.proofs.lemmas.Line.Ends.{MayEnd, blanks1_lead, line_reads}

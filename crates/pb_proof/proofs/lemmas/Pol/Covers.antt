@@ -1,22 +1,13 @@
 -- A state that reads everything that another one reads.
-use Rattle.std.proofs.Common.{◌≡◌, ℕ, Bool, true, false, cond, ◌&&◌, List, [], ◌∷◌, refl, sym, subst, ◌∙◌}
-use Rattle.std.specs.Prelude.{nat_eq, Some}
-use Rattle.pb_text.specs.contract.Automaton.{Automaton, Next, Go, End, Refuse, ReadsStatement}
-use Rattle.pb_text.specs.meaning.Spelling.{Letter}
-use Rattle.pb_proof.specs.engine.Line.Pol.{work, act, transition, close, blank, semicolon, feed, changed, counted, may_be_name, is_name_kind, kind_of}
-use Rattle.pb_proof.specs.engine.Line.PolState.{PolState, pol_automaton, over}
-use Rattle.pb_proof.specs.declared.word.PolWord.{PolWord}
-use Rattle.pb_proof.specs.declared.line.pol.phase.Kind.{Kind}
+use Rattle.pb_proof.proofs.Common.{ℕ, ◌&&◌, ◌∙◌, ◌∷◌, ◌≡◌, [], Bool, cond, false, List, nat_eq, refl, Some, subst, sym, true, Automaton, End, Go}
+use Rattle.pb_proof.proofs.Common.{Next, ReadsStatement, Refuse, Letter, Action, Change, Held, Kind, Phase, Role, PolWord, blank, changed, close}
+use Rattle.pb_proof.proofs.Common.{counted, feed, is_name_kind, kind_of, may_be_name, semicolon, transition, work, over, pol_automaton, PolState}
+use Rattle.pb_proof.specs.engine.Line.Pol.{act}
 use Rattle.pb_proof.specs.declared.line.pol.phase.Kind.TheVariants as kind
-use Rattle.pb_proof.specs.declared.line.pol.phase.Held.{Held}
 use Rattle.pb_proof.specs.declared.line.pol.phase.Held.TheVariants as held
-use Rattle.pb_proof.specs.declared.line.pol.phase.Role.{Role}
 use Rattle.pb_proof.specs.declared.line.pol.phase.Role.TheVariants as role
-use Rattle.pb_proof.specs.declared.line.pol.phase.Phase.{Phase}
 use Rattle.pb_proof.specs.declared.line.pol.phase.Phase.TheVariants as phase
-use Rattle.pb_proof.specs.declared.line.pol.phase.Change.{Change}
 use Rattle.pb_proof.specs.declared.line.pol.phase.Change.TheVariants as change
-use Rattle.pb_proof.specs.declared.line.pol.phase.Action.{Action}
 use Rattle.pb_proof.specs.declared.line.pol.phase.Action.TheVariants as action
 use Rattle.pb_proof.proofs.lemmas.Pol.Prefixes.{NotLarge}
 

@@ -1,9 +1,7 @@
 -- Words are those of one expression if and only if they lead from no finished expression to one.
-use Rattle.std.proofs.Common.{◌≡◌, ◌↔◌, ℕ, zero, suc, List, [], ◌∷◌, Option, Some, None}
-use Rattle.pb_proof.specs.meaning.Postfix.{IsPostfix}
+use Rattle.pb_proof.proofs.Common.{ℕ, ◌↔◌, ◌∷◌, ◌≡◌, [], List, None, Option, Some, suc, zero, PolWord, Add, Axiom, Divide, Id, Multiply, Saturate}
+use Rattle.pb_proof.proofs.Common.{Weaken, IsPostfix}
 use Rattle.pb_proof.specs.engine.Line.Finished.{finished_with}
-use Rattle.pb_proof.specs.declared.word.PolWord.{PolWord}
-use Rattle.pb_proof.specs.declared.word.PolWord.TheVariants.{Id, Axiom, Add, Multiply, Divide, Saturate, Weaken}
 use Rattle.pb_proof.proofs.lemmas.Pol.Trees.{Counts, postfix_counts, counts_postfix}
 
 abbrev Given : Option ℕ → (ℕ → Type 0) → Type 0

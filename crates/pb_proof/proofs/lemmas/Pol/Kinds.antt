@@ -1,12 +1,7 @@
 -- What the kind of a byte says of the byte, and the converse.
-use Rattle.std.proofs.Common.{◌≡◌, ℕ, ◌+◌, ◌-◌, ◌<◌, Bool, true, false, cond, refl, ap, arith}
-use Rattle.std.proofs.lemmas.Bool.{eqb-true, cond_both, false≢true}
-use Rattle.std.proofs.lemmas.Bool.Decides.{nat_tests}
-use Rattle.std.specs.Prelude.{IsTrue, nat_eq}
-use Rattle.pb_text.specs.meaning.Classes.{is_blank, is_digit, is_letter, is_name_byte}
-use Rattle.pb_text.proofs.lemmas.text.ByteTests.{digit_byte, blank_digit, digit_of, letter_name}
-use Rattle.pb_proof.specs.engine.Line.Pol.{letter, symbol, kind_of, is_letter_kind, is_name_kind}
-use Rattle.pb_proof.specs.declared.line.pol.phase.Kind.{Kind}
+use Rattle.pb_proof.proofs.Common.{ℕ, ◌+◌, ◌-◌, ◌<◌, ◌≡◌, ap, arith, Bool, cond, false, IsTrue, nat_eq, refl, true, cond_both, eqb-true, false≢true}
+use Rattle.pb_proof.proofs.Common.{nat_tests, blank_digit, digit_byte, digit_of, letter_name, is_blank, is_digit, is_letter, is_name_byte, Kind}
+use Rattle.pb_proof.proofs.Common.{is_letter_kind, is_name_kind, kind_of, letter, symbol}
 use Rattle.pb_proof.specs.declared.line.pol.phase.Kind.TheVariants.{Digit, D, S, W, Letter, Mark, Blank, Feed, Semicolon, Plus, Star, Minus, Tilde, Other}
 
 abbrev pub Says : Kind → ℕ → Type 0

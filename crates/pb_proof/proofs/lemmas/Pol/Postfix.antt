@@ -1,9 +1,7 @@
 -- Postfix words determine their expression, and leave one. Offered to other crates.
-use Rattle.std.proofs.Common.{◌≡◌, ℕ, zero, suc, List, [], ◌∷◌, ◌++◌, refl, sym, ap, ◌∙◌, subst, arith}
+use Rattle.pb_proof.proofs.Common.{ℕ, ◌++◌, ◌∙◌, ◌∷◌, ◌≡◌, [], ap, arith, List, refl, subst, suc, sym, zero, PolWord, Add, Axiom, Divide, Id}
+use Rattle.pb_proof.proofs.Common.{Multiply, Saturate, Weaken, Constraint, LiteralAxiom, Product, Quotient, Saturation, Sum, Tree, Weakening, words}
 use Rattle.pb_proof.specs.contract.Leaving.{Leaves, WordsReport, WordsLeaveOne}
-use Rattle.pb_proof.specs.meaning.Postfix.{Tree, Constraint, LiteralAxiom, Sum, Product, Quotient, Saturation, Weakening, words}
-use Rattle.pb_proof.specs.declared.word.PolWord.{PolWord}
-use Rattle.pb_proof.specs.declared.word.PolWord.TheVariants.{Id, Axiom, Add, Multiply, Divide, Saturate, Weaken}
 use Rattle.pb_proof.proofs.lemmas.Pol.Trees.{Counts, postfix_counts, counts_postfix}
 
 -- a word applied to a stack of expressions, the last one first

@@ -1,23 +1,10 @@
 -- What the `pol` machine has read.
-use Rattle.std.proofs.Common.{◌≡◌, ℕ, zero, suc, ◌-◌, ◌<◌, ◌≤◌, true, false, List, [], ◌∷◌, ◌++◌, refl, sym, ap, subst, arith, append_assoc, ◌∙◌}
-use Rattle.std.specs.Prelude.{pos}
-use Rattle.std.proofs.Math.Nat.{le-max_left, le-max_right}
-use Rattle.pb_text.specs.meaning.Languages.{Language, ◌⋅◌, Byte, Bytes, Blanks1}
-use Rattle.pb_text.specs.meaning.Numbers.{Digits}
-use Rattle.pb_text.specs.meaning.Spelling.{Letter}
-use Rattle.pb_text.proofs.lemmas.text.Languages.{regroup3}
-use Rattle.pb_sums.specs.meaning.Sums.{IsName}
-use Rattle.pb_sums.proofs.lemmas.machine.LiteralPrefixes.{FirstOf, LiteralOf}
-use Rattle.pb_proof.specs.meaning.Lines.{Listed, SpellsWord, SpellsWords}
-use Rattle.pb_proof.specs.engine.Line.Pol.{bound, with_last}
-use Rattle.pb_proof.specs.engine.Line.PolState.{PolState}
-use Rattle.pb_proof.specs.declared.word.PolWord.{PolWord}
-use Rattle.pb_proof.specs.declared.word.PolWord.TheVariants.{Id, Axiom, Multiply}
-use Rattle.pb_proof.specs.declared.line.pol.phase.Held.{Held}
+use Rattle.pb_proof.proofs.Common.{ℕ, ◌++◌, ◌-◌, ◌<◌, ◌∙◌, ◌∷◌, ◌≡◌, ◌≤◌, [], ap, append_assoc, arith, false, List, pos, refl, subst, suc, sym, true}
+use Rattle.pb_proof.proofs.Common.{zero, le-max_left, le-max_right, FirstOf, LiteralOf, IsName, regroup3, ◌⋅◌, Blanks1, Byte, Bytes, Language, Digits}
+use Rattle.pb_proof.proofs.Common.{Letter, Held, Phase, Role, PolWord, Axiom, Id, Multiply, bound, with_last, PolState, Listed, SpellsWord}
+use Rattle.pb_proof.proofs.Common.{SpellsWords}
 use Rattle.pb_proof.specs.declared.line.pol.phase.Held.TheVariants as held
-use Rattle.pb_proof.specs.declared.line.pol.phase.Role.{Role}
 use Rattle.pb_proof.specs.declared.line.pol.phase.Role.TheVariants as role
-use Rattle.pb_proof.specs.declared.line.pol.phase.Phase.{Phase}
 use Rattle.pb_proof.specs.declared.line.pol.phase.Phase.TheVariants as phase
 use Rattle.pb_proof.proofs.lemmas.Line.Ends.{Closing, listed_append}
 use Rattle.pb_proof.proofs.lemmas.Pol.Trees.{Counts}

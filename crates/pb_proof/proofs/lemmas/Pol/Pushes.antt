@@ -1,18 +1,9 @@
 -- A push does what its transition says.
-use Rattle.std.proofs.Common.{◌≡◌, ℕ, ◌<◌, true, List, refl, sym, ap, ◌∙◌}
-use Rattle.std.specs.Prelude.{IsTrue}
-use Rattle.pb_text.specs.contract.Automaton.{End, Refuse, Admits, IsState, Pushes}
-use Rattle.pb_text.specs.declared.machine.Push.{Push}
+use Rattle.pb_proof.proofs.Common.{ℕ, ◌<◌, ◌∙◌, ◌≡◌, ap, IsTrue, List, refl, sym, true, end_or_go, end_or_refuse, go_or_end, go_or_refuse}
+use Rattle.pb_proof.proofs.Common.{refuse_or_end, never, Admits, End, IsState, Pushes, Refuse, Push, Action, Change, Kind, Phase, PolWord, is_midway}
+use Rattle.pb_proof.proofs.Common.{kind_of, transition, wants, work, IsPolInOrder, over, pol_automaton, PolState}
 use Rattle.pb_text.specs.declared.machine.Push.TheVariants as push
-use Rattle.pb_text.proofs.lemmas.text.Booleans.{never}
-use Rattle.pb_text.proofs.lemmas.machine.Outcomes.{go_or_refuse, end_or_refuse, refuse_or_end, go_or_end, end_or_go}
-use Rattle.pb_proof.specs.engine.Line.Pol.{work, act, transition, kind_of, wants, is_midway}
-use Rattle.pb_proof.specs.engine.Line.PolState.{PolState, pol_automaton, over, IsPolInOrder}
-use Rattle.pb_proof.specs.declared.word.PolWord.{PolWord}
-use Rattle.pb_proof.specs.declared.line.pol.phase.Kind.{Kind}
-use Rattle.pb_proof.specs.declared.line.pol.phase.Change.{Change}
-use Rattle.pb_proof.specs.declared.line.pol.phase.Phase.{Phase}
-use Rattle.pb_proof.specs.declared.line.pol.phase.Action.{Action}
+use Rattle.pb_proof.specs.engine.Line.Pol.{act}
 use Rattle.pb_proof.specs.declared.line.pol.phase.Action.TheVariants.{To, Begin, Add, Turn, End as EndLine, Stop}
 use Rattle.pb_proof.proofs.lemmas.Pol.Covers.{state}
 use Rattle.pb_proof.proofs.lemmas.Pol.Theorems.{pol_admits, pol_is_state}

@@ -1,24 +1,18 @@
 -- What the transition for a phase and a kind says of the state that it leads to.
-use Rattle.std.proofs.Common.{◌≡◌, ℕ, ◌+◌, ◌*◌, ◌≤◌, Bool, true, false, cond, ◌&&◌, List, [], ◌∷◌, ◌++◌, length, refl, sym, subst, arith, length-append}
-use Rattle.std.specs.Prelude.{pos, neg_ℤ, nat_eq, nat_le, Some, None}
-use Rattle.std.proofs.lemmas.Bool.{false≢true, true≢false}
-use Rattle.pb_text.specs.contract.Automaton.{Go, End}
-use Rattle.pb_text.proofs.lemmas.machine.Outcomes.{one_state, one_end, go_or_end, refuse_or_go, refuse_or_end, end_or_go}
-use Rattle.pb_proof.specs.engine.Line.Pol.{Work, work, act, transition, read, next, next_word, late, blank, semicolon, feed, close, held_number, number, signed, role_of, bound, is_letter_kind, is_name_kind, may_be_name, is_midway, is_done, adds, changed, counted, turned, with_last, finished}
+use Rattle.pb_proof.proofs.Common.{ℕ, ◌&&◌, ◌*◌, ◌++◌, ◌+◌, ◌∷◌, ◌≡◌, ◌≤◌, [], arith, Bool, cond, false, length, length-append, List, nat_eq, nat_le}
+use Rattle.pb_proof.proofs.Common.{None, pos, refl, Some, subst, sym, true, neg_ℤ, false≢true, true≢false, end_or_go, go_or_end, one_end, one_state}
+use Rattle.pb_proof.proofs.Common.{refuse_or_end, refuse_or_go, End, Go, Action, Change, Held, Kind, Phase, PolWord, blank, bound, changed, close}
+use Rattle.pb_proof.proofs.Common.{counted, feed, finished, held_number, is_done, is_letter_kind, is_midway, is_name_kind, late, may_be_name}
+use Rattle.pb_proof.proofs.Common.{next_word, number, read, role_of, semicolon, transition, turned, with_last, Work, work, all_units, in_hand, ready}
+use Rattle.pb_proof.proofs.Common.{units, word_units}
+use Rattle.pb_proof.specs.engine.Line.Pol.{act, next, signed, adds}
 use Rattle.pb_proof.specs.engine.Line.Pol as pol
-use Rattle.pb_proof.specs.engine.Line.PolState.{word_units, units, in_hand, ready, all_units}
-use Rattle.pb_proof.specs.declared.word.PolWord.{PolWord}
 use Rattle.pb_proof.specs.declared.word.PolWord.TheVariants as word
-use Rattle.pb_proof.specs.declared.line.pol.phase.Kind.{Kind}
 use Rattle.pb_proof.specs.declared.line.pol.phase.Kind.TheVariants as kind
-use Rattle.pb_proof.specs.declared.line.pol.phase.Held.{Held}
 use Rattle.pb_proof.specs.declared.line.pol.phase.Held.TheVariants as held
 use Rattle.pb_proof.specs.declared.line.pol.phase.Role.TheVariants as role
-use Rattle.pb_proof.specs.declared.line.pol.phase.Phase.{Phase}
 use Rattle.pb_proof.specs.declared.line.pol.phase.Phase.TheVariants as phase
-use Rattle.pb_proof.specs.declared.line.pol.phase.Change.{Change}
 use Rattle.pb_proof.specs.declared.line.pol.phase.Change.TheVariants as change
-use Rattle.pb_proof.specs.declared.line.pol.phase.Action.{Action}
 use Rattle.pb_proof.specs.declared.line.pol.phase.Action.TheVariants as action
 
 -- The text has begun. A literal is being read if a name has begun.

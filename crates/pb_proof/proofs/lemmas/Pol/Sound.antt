@@ -1,34 +1,21 @@
 -- The `pol` machine has read a prefix of a line of postfix words: one lemma for each step that continues.
-use Rattle.std.proofs.Common.{◌≡◌, ℕ, zero, suc, ◌+◌, ◌-◌, ◌*◌, ◌<◌, ◌≤◌, Bool, true, false, cond, ◌&&◌, List, [], ◌∷◌, ◌++◌, refl, sym, ap, subst, arith, append-nil, ◌∙◌}
-use Rattle.std.proofs.lemmas.Bool.{eqb-true, leb-true, and_parts, false≢true}
-use Rattle.std.proofs.lemmas.Bool.Decides.{nat_tests}
-use Rattle.std.specs.Prelude.{IsTrue, pos, neg_ℤ, nat_eq, nat_le, Some, None}
-use Rattle.pb_text.specs.contract.Automaton.{Next, ReadsStatement}
-use Rattle.pb_text.specs.meaning.Classes.{is_blank, is_name_byte}
-use Rattle.pb_text.specs.meaning.Languages.{unmarked, Language, ◌⋅◌, Byte, Bytes, Blanks0, Blanks1}
-use Rattle.pb_text.specs.meaning.Numbers.{Digits}
-use Rattle.pb_text.specs.meaning.Spelling.{Letter, plain}
-use Rattle.pb_text.proofs.lemmas.text.Languages.{grown, next as next_part, regroup, regroup3, inside}
-use Rattle.pb_text.proofs.lemmas.numbers.Numbers.{digits-grown, digits-one}
-use Rattle.pb_text.proofs.lemmas.machine.Walking.{On, Keeps, reported}
-use Rattle.pb_text.proofs.lemmas.text.Letters.{as_unmarked, as_digit}
-use Rattle.pb_sums.proofs.lemmas.machine.LiteralPrefixes.{FirstOf, LiteralOf}
-use Rattle.pb_proof.specs.meaning.Lines.{LineEnd, SpellsWord, SpellsWords}
-use Rattle.pb_proof.specs.engine.Line.Pol.{work, act, transition, read, next, next_word, next_large, star, late, blank, semicolon, feed, close, close_number, held_number, close_lone, held_name, number, signed, role_of, bound, kind_of, is_letter_kind, is_name_kind, may_be_name, changed, counted, turned, with_last}
+use Rattle.pb_proof.proofs.Common.{ℕ, ◌&&◌, ◌*◌, ◌++◌, ◌+◌, ◌-◌, ◌<◌, ◌∙◌, ◌∷◌, ◌≡◌, ◌≤◌, [], ap, append-nil, arith, Bool, cond, false, IsTrue, List}
+use Rattle.pb_proof.proofs.Common.{nat_eq, nat_le, None, pos, refl, Some, subst, suc, sym, true, zero, neg_ℤ, and_parts, eqb-true, false≢true}
+use Rattle.pb_proof.proofs.Common.{leb-true, nat_tests, FirstOf, LiteralOf, Keeps, On, reported, digits-grown, digits-one, grown, inside, regroup}
+use Rattle.pb_proof.proofs.Common.{regroup3, as_digit, as_unmarked, Next, ReadsStatement, is_blank, is_name_byte, ◌⋅◌, Blanks0, Blanks1, Byte, Bytes}
+use Rattle.pb_proof.proofs.Common.{Language, unmarked, Digits, Letter, plain, Action, Held, Kind, Phase, Role, PolWord, blank, bound, changed, close}
+use Rattle.pb_proof.proofs.Common.{close_lone, close_number, counted, feed, held_name, held_number, is_letter_kind, is_name_kind, kind_of, late}
+use Rattle.pb_proof.proofs.Common.{may_be_name, next_large, next_word, number, read, role_of, semicolon, star, transition, turned, with_last, work}
+use Rattle.pb_proof.proofs.Common.{over, pol_automaton, pol_first, PolState, LineEnd, SpellsWord, SpellsWords}
+use Rattle.pb_text.proofs.lemmas.text.Languages.{next as next_part}
+use Rattle.pb_proof.specs.engine.Line.Pol.{act, next, signed}
 use Rattle.pb_proof.specs.engine.Line.Pol as pol
-use Rattle.pb_proof.specs.engine.Line.PolState.{PolState, pol_automaton, pol_first, over}
-use Rattle.pb_proof.specs.declared.word.PolWord.{PolWord}
 use Rattle.pb_proof.specs.declared.word.PolWord.TheVariants as word
-use Rattle.pb_proof.specs.declared.line.pol.phase.Kind.{Kind}
 use Rattle.pb_proof.specs.declared.line.pol.phase.Kind.TheVariants as kind
-use Rattle.pb_proof.specs.declared.line.pol.phase.Held.{Held}
 use Rattle.pb_proof.specs.declared.line.pol.phase.Held.TheVariants as held
-use Rattle.pb_proof.specs.declared.line.pol.phase.Role.{Role}
 use Rattle.pb_proof.specs.declared.line.pol.phase.Role.TheVariants as role
-use Rattle.pb_proof.specs.declared.line.pol.phase.Phase.{Phase}
 use Rattle.pb_proof.specs.declared.line.pol.phase.Phase.TheVariants as phase
 use Rattle.pb_proof.specs.declared.line.pol.phase.Change.TheVariants as change
-use Rattle.pb_proof.specs.declared.line.pol.phase.Action.{Action}
 use Rattle.pb_proof.specs.declared.line.pol.phase.Action.TheVariants as action
 use Rattle.pb_proof.proofs.lemmas.Line.Ends.{semicolon_after_blanks, blank_closing, line_after_blanks, line_closing, gapped, first_blank, further_blank, gapped_some}
 use Rattle.pb_proof.proofs.lemmas.Pol.Kinds.{Says, kind_says, letter_kind, name_kind}

@@ -1,15 +1,10 @@
 -- The automaton of postfix words reads one line and has then ended.
-use Rattle.std.proofs.Common.{◌≡◌, ℕ, ◌+◌, ◌-◌, ◌^◌, ◌<◌, ◌≤◌, true, false, List, length, refl, sym, ap, subst, arith, ◌∙◌}
-use Rattle.std.proofs.Math.Nat.{min-le_left}
-use Rattle.std.proofs.lemmas.Bool.{false≢true, true≢false}
-use Rattle.pb_text.specs.contract.Automaton.{Go, End, Refuse}
-use Rattle.pb_text.proofs.lemmas.machine.Outcomes.{one_state, one_end, go_or_end, refuse_or_go, refuse_or_end, end_or_go}
-use Rattle.pb_proof.specs.engine.Line.Pol.{Work, Outcome, act, step, transition, kind_of, is_midway, is_done, is_in_number, finished}
-use Rattle.pb_proof.specs.engine.Line.PolState.{PolState, pol_with, pol_automaton, over, all_units, in_hand, ready, units, IsPolInOrder}
-use Rattle.pb_proof.specs.declared.word.PolWord.{PolWord}
-use Rattle.pb_proof.specs.declared.line.pol.phase.Phase.{Phase}
+use Rattle.pb_proof.proofs.Common.{ℕ, ◌+◌, ◌-◌, ◌<◌, ◌^◌, ◌∙◌, ◌≡◌, ◌≤◌, ap, arith, false, length, List, refl, subst, sym, true, min-le_left}
+use Rattle.pb_proof.proofs.Common.{false≢true, true≢false, IsOfOne, end_or_go, go_or_end, one_end, one_state, refuse_or_end, refuse_or_go, End, Go}
+use Rattle.pb_proof.proofs.Common.{Refuse, Phase, PolWord, finished, is_done, is_midway, kind_of, Outcome, transition, Work, all_units, in_hand}
+use Rattle.pb_proof.proofs.Common.{IsPolInOrder, over, pol_automaton, pol_with, PolState, ready, units}
+use Rattle.pb_proof.specs.engine.Line.Pol.{act, step, is_in_number}
 use Rattle.pb_proof.specs.declared.line.pol.phase.Phase.TheVariants as phase
-use Rattle.pb_text.proofs.lemmas.machine.OneText.{IsOfOne}
 use Rattle.pb_proof.proofs.lemmas.Pol.Alive.{alive}
 use Rattle.pb_proof.proofs.lemmas.Pol.Sane.{transition-sane, potential, IsNext, continues, ends, stops}
 

@@ -1,11 +1,6 @@
 -- The laws of the `pol` machine.
-use Rattle.std.proofs.Common.{◌≡◌, ℕ, ◌<◌, List, refl, subst, sym, ◌↔◌}
-use Rattle.pb_text.specs.contract.Automaton.{Next, Refuse, ReadsStatement, IsState, Admits}
-use Rattle.pb_text.specs.meaning.Spelling.{Letter}
-use Rattle.pb_proof.specs.meaning.Lines.{SpellsWords}
-use Rattle.pb_proof.specs.engine.Line.PolState.{PolState, pol_first, pol_last, pol_automaton, IsPolInOrder}
-use Rattle.pb_proof.specs.declared.word.PolWord.{PolWord}
-use Rattle.pb_text.proofs.lemmas.machine.OneText.{reads_last, is_state, admits}
+use Rattle.pb_proof.proofs.Common.{ℕ, ◌<◌, ◌↔◌, ◌≡◌, List, refl, subst, sym, admits, is_state, reads_last, Admits, IsState, Next, ReadsStatement}
+use Rattle.pb_proof.proofs.Common.{Refuse, Letter, PolWord, IsPolInOrder, pol_automaton, pol_first, pol_last, PolState, SpellsWords}
 use Rattle.pb_proof.proofs.lemmas.Pol.Complete.{reads_each}
 use Rattle.pb_proof.proofs.lemmas.Pol.Sound.{reads_only}
 use Rattle.pb_proof.proofs.lemmas.Pol.States.{HasIds, last_of, of_one, empties}

@@ -1,8 +1,7 @@
 -- Words are those of one expression if and only if the count of expressions goes from 0 to 1 and none is missing.
-use Rattle.std.proofs.Common.{◌≡◌, ℕ, suc, List, [], ◌∷◌, ◌++◌, length, refl, arith, append_assoc, append-nil}
-use Rattle.pb_proof.specs.meaning.Postfix.{Tree, Constraint, LiteralAxiom, Sum, Product, Quotient, Saturation, Weakening, words, IsPostfix}
-use Rattle.pb_proof.specs.declared.word.PolWord.{PolWord}
-use Rattle.pb_proof.specs.declared.word.PolWord.TheVariants.{Id, Axiom, Add, Multiply, Divide, Saturate, Weaken}
+use Rattle.pb_proof.proofs.Common.{ℕ, ◌++◌, ◌∷◌, ◌≡◌, [], append-nil, append_assoc, arith, length, List, refl, suc, PolWord, Add, Axiom, Divide, Id}
+use Rattle.pb_proof.proofs.Common.{Multiply, Saturate, Weaken, Constraint, IsPostfix, LiteralAxiom, Product, Quotient, Saturation, Sum, Tree}
+use Rattle.pb_proof.proofs.Common.{Weakening, words}
 
 -- from `d` expressions, these words lead to one
 abbrev pub Counts : ℕ → List PolWord → Type 0

@@ -1,8 +1,6 @@
 -- A count of units that stays at its maximum.
-use Rattle.std.proofs.Common.{◌≡◌, ℕ, ◌+◌, ◌-◌, ◌^◌, ◌<◌, min, take, get_or, length, List, sym, ap, arith, ◌∙◌}
-use Rattle.std.proofs.lemmas.List.{take_more}
-use Rattle.pb_proof.specs.engine.Line.PolState.{word_units, units}
-use Rattle.pb_proof.specs.declared.word.PolWord.{PolWord}
+use Rattle.pb_proof.proofs.Common.{ℕ, ◌+◌, ◌-◌, ◌<◌, ◌^◌, ◌∙◌, ◌≡◌, ap, arith, get_or, length, List, min, sym, take, take_more, PolWord, units}
+use Rattle.pb_proof.proofs.Common.{word_units}
 use Rattle.pb_proof.proofs.lemmas.Pol.Sane.{units_append}
 
 pub count_more : (ws : List PolWord) (i : ℕ) (d : PolWord) (c m r : ℕ) → i < length ws → c ≡ min (units (take i ws)) (2 ^ 64 - 1) → m ≡ min (word_units (get_or ws i d)) (2 ^ 64 - 1)

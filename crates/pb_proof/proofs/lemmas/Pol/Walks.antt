@@ -1,28 +1,13 @@
 -- How the `pol` machine reads digits, names and blanks.
-use Rattle.std.proofs.Common.{◌≡◌, ℕ, ◌+◌, ◌*◌, ◌≤◌, Bool, true, false, cond, ◌&&◌, List, [], ◌∷◌, ◌++◌, refl, ap, subst, arith, append_assoc, append-nil, ◌∙◌}
-use Rattle.std.proofs.lemmas.Bool.{le-leb, false≢true}
-use Rattle.std.specs.Prelude.{IsTrue, nat_le, Some}
-use Rattle.pb_text.specs.contract.Automaton.{Go}
-use Rattle.pb_text.specs.meaning.Classes.{is_name_byte}
-use Rattle.pb_text.specs.meaning.Languages.{Each}
-use Rattle.pb_text.specs.meaning.Numbers.{Digits}
-use Rattle.pb_text.specs.meaning.Spelling.{Letter, plain}
-use Rattle.pb_text.proofs.lemmas.machine.Walking.{Walks}
-use Rattle.pb_text.proofs.lemmas.numbers.DigitWalks.{digits_lead}
-use Rattle.pb_sums.specs.meaning.Sums.{IsName}
-use Rattle.pb_proof.specs.engine.Line.Pol.{act, transition, close, blank, changed, counted, bound, may_be_name, is_letter_kind, is_name_kind, role_of, kind_of}
-use Rattle.pb_proof.specs.engine.Line.PolState.{PolState, pol_automaton, over}
-use Rattle.pb_proof.specs.declared.word.PolWord.{PolWord}
-use Rattle.pb_proof.specs.declared.line.pol.phase.Kind.{Kind}
+use Rattle.pb_proof.proofs.Common.{ℕ, ◌&&◌, ◌*◌, ◌++◌, ◌+◌, ◌∙◌, ◌∷◌, ◌≡◌, ◌≤◌, [], ap, append-nil, append_assoc, arith, Bool, cond, false, IsTrue}
+use Rattle.pb_proof.proofs.Common.{List, nat_le, refl, Some, subst, true, false≢true, le-leb, IsName, Walks, digits_lead, Go, is_name_byte, Each}
+use Rattle.pb_proof.proofs.Common.{Digits, Letter, plain, Action, Change, Held, Kind, Phase, Role, PolWord, blank, bound, changed, close, counted}
+use Rattle.pb_proof.proofs.Common.{is_letter_kind, is_name_kind, kind_of, may_be_name, role_of, transition, over, pol_automaton, PolState}
+use Rattle.pb_proof.specs.engine.Line.Pol.{act}
 use Rattle.pb_proof.specs.declared.line.pol.phase.Kind.TheVariants as kind
-use Rattle.pb_proof.specs.declared.line.pol.phase.Held.{Held}
 use Rattle.pb_proof.specs.declared.line.pol.phase.Held.TheVariants as held
-use Rattle.pb_proof.specs.declared.line.pol.phase.Role.{Role}
 use Rattle.pb_proof.specs.declared.line.pol.phase.Role.TheVariants as role
-use Rattle.pb_proof.specs.declared.line.pol.phase.Phase.{Phase}
 use Rattle.pb_proof.specs.declared.line.pol.phase.Phase.TheVariants as phase
-use Rattle.pb_proof.specs.declared.line.pol.phase.Change.{Change}
-use Rattle.pb_proof.specs.declared.line.pol.phase.Action.{Action}
 use Rattle.pb_proof.specs.declared.line.pol.phase.Action.TheVariants as action
 use Rattle.pb_proof.proofs.lemmas.Line.Ends.{TakesBlanks}
 use Rattle.pb_proof.proofs.lemmas.Pol.Covers.{state}

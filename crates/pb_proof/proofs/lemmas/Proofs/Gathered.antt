@@ -1,19 +1,14 @@
 -- Statements of a proof that are collected one by one are that proof.
-use Rattle.std.proofs.Common.{◌≡◌, ◌↔◌, ℕ, List, [], ◌∷◌, ◌++◌, refl, sym, ap, ◌∙◌, append_assoc, append-nil, All}
+use Rattle.pb_proof.proofs.Common.{ℕ, ◌++◌, ◌↔◌, ◌∙◌, ◌∷◌, ◌≡◌, [], All, ap, append-nil, append_assoc, List, refl, sym, All-head, All-tail, Spanned}
+use Rattle.pb_proof.proofs.Common.{Item, events_of, gathered, IsRead, IsWhole, MayHold, StopsIn, Proof, Statement, Conclude, F, Header, Output}
+use Rattle.pb_proof.proofs.Common.{IsProof, IsProofOf, IsStep, statements_of}
 use Rattle.pb_text.proofs.lemmas.source.Unkept as stopped
-use Rattle.std.proofs.lemmas.List.Elements.{All-head, All-tail}
-use Rattle.pb_text.specs.meaning.Spelling.{Item}
-use Rattle.pb_text.specs.meaning.Whole.{gathered, events_of, IsRead, IsWhole, MayHold, StopsIn}
-use Rattle.pb_text.specs.declared.Spanned.{Spanned}
 use Rattle.pb_text.specs.declared.Stop.{Stop}
 use Rattle.pb_text.proofs.lemmas.text.Formats as formats
 use Rattle.pb_proof.specs.contract.Gather.{with, asks, MayKeep, nothing}
-use Rattle.pb_proof.specs.meaning.Proofs.{IsStep, statements_of, IsProof, IsProofOf}
 use Rattle.pb_proof.specs.meaning.Reading.{AsksInProof}
 use Rattle.pb_proof.specs.declared.read.gather.ProofSoFar.{ProofSoFar}
-use Rattle.pb_proof.specs.declared.proof.Proof.{Proof}
-use Rattle.pb_proof.specs.declared.statement.Statement.{Statement}
-use Rattle.pb_proof.specs.declared.statement.Statement.TheVariants.{Header, F, Output, Conclude, End}
+use Rattle.pb_proof.specs.declared.statement.Statement.TheVariants.{End}
 
 abbrev pub one_more : ProofSoFar → Statement → ProofSoFar
 one_more b e = record { proof = with b.proof e }

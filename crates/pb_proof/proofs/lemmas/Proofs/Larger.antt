@@ -1,28 +1,15 @@
 -- A proof remains a proof if numbers may be larger.
-use Rattle.std.proofs.Common.{ℕ, ◌≤◌, List, [], ◌∷◌, arith, refl}
-use Rattle.std.proofs.lemmas.List.Elements.{All-nil, All-cons, All-head, All-tail}
-use Rattle.std.specs.Prelude.{ℤ, Option, Some, None}
-use Rattle.pb_text.specs.meaning.Languages.{Language, ◌⋅◌, Byte, Bytes, Blanks0, Blanks1}
-use Rattle.pb_text.specs.meaning.Numbers.{Count}
-use Rattle.pb_text.specs.meaning.Spelling.{Item, Letter}
-use Rattle.pb_text.proofs.lemmas.text.Languages.{inside, after_it}
+use Rattle.pb_proof.proofs.Common.{ℕ, ℤ, ◌∷◌, ◌≤◌, [], arith, List, None, Option, refl, Some, All-cons, All-head, All-nil, All-tail, Linear, Blank}
+use Rattle.pb_proof.proofs.Common.{SpellsLinear, after_it, inside, ◌⋅◌, Blanks0, Blanks1, Byte, Bytes, Language, Count, Item, Letter, Bound, Finite}
+use Rattle.pb_proof.proofs.Common.{Infinite, Conclusion, Bounds, NoClaim, Sat, Unsat, Statement, Conclude, Delete, F, Header, Output, Pol, Rup, Soli}
+use Rattle.pb_proof.proofs.Common.{Solx, PolWord, Add, Axiom, Divide, Id, Multiply, Saturate, Weaken, bounds_word, conclusion_word, f_word, Factor}
+use Rattle.pb_proof.proofs.Common.{Feed, IdShown, LineEnd, Listed, LiteralsShown, rup_word, SpellsBound, SpellsConclusion, SpellsCount, SpellsId}
+use Rattle.pb_proof.proofs.Common.{SpellsRup, SpellsStatement, SpellsWord, unsat_word, AreSpelled, BeginsAtOnce, IsGap, IsProof}
 use Rattle.pb_text.proofs.lemmas.numbers.Numbers.{number-within}
-use Rattle.pb_sums.specs.meaning.Sums.{SpellsLinear}
-use Rattle.pb_sums.specs.declared.Linear.{Linear}
-use Rattle.pb_sums.specs.declared.Spaces.TheVariants.{Blank}
 use Rattle.pb_sums.specs.declared.Part as part
 use Rattle.pb_sums.specs.declared.SumEvent as sum
 use Rattle.pb_sums.proofs.lemmas.values.Larger.{spells_larger}
-use Rattle.pb_proof.specs.meaning.Lines.{Feed, LineEnd, Listed, SpellsId, Factor, SpellsBound, LiteralsShown, IdShown, SpellsWord, SpellsConclusion, SpellsCount, SpellsRup, SpellsStatement, rup_word, f_word, conclusion_word, unsat_word, bounds_word}
-use Rattle.pb_proof.specs.meaning.Proofs.{IsGap, AreSpelled, BeginsAtOnce, IsProof}
-use Rattle.pb_proof.specs.declared.word.PolWord.{PolWord}
-use Rattle.pb_proof.specs.declared.word.PolWord.TheVariants.{Id, Axiom, Add, Multiply, Divide, Saturate, Weaken}
-use Rattle.pb_proof.specs.declared.conclusion.Bound.{Bound}
-use Rattle.pb_proof.specs.declared.conclusion.Bound.TheVariants.{Finite, Infinite}
-use Rattle.pb_proof.specs.declared.conclusion.Conclusion.{Conclusion}
-use Rattle.pb_proof.specs.declared.conclusion.Conclusion.TheVariants.{NoClaim, Unsat, Sat, Bounds}
-use Rattle.pb_proof.specs.declared.statement.Statement.{Statement}
-use Rattle.pb_proof.specs.declared.statement.Statement.TheVariants.{Header, F, Pol, Rup, Soli, Solx, Delete, Output, Conclude, End}
+use Rattle.pb_proof.specs.declared.statement.Statement.TheVariants.{End}
 
 abbrev Within : Language → Language → Type 0
 Within P Q = (t : List Letter) → P t → Q t

@@ -1,20 +1,12 @@
 -- The statements that were read of a proof are its first ones, and they meet the rules.
-use Rattle.std.proofs.Common.{◌≡◌, ℕ, ◌<◌, ◌≤◌, Bool, true, false, List, [], ◌∷◌, ◌++◌, length, Option, Some, None, All, refl, sym, ap, ◌∙◌, subst, arith, length-append}
-use Rattle.std.proofs.lemmas.Bool.{false≢true, lt-leb, leb-false}
-use Rattle.std.proofs.lemmas.List.{append-nil}
-use Rattle.std.proofs.lemmas.List.Elements.{All-nil, All-cons, All-head, All-tail}
-use Rattle.std.specs.Prelude.{nat_le}
+use Rattle.pb_proof.proofs.Common.{ℕ, ◌++◌, ◌<◌, ◌∙◌, ◌∷◌, ◌≡◌, ◌≤◌, [], All, ap, append-nil, arith, Bool, false, length, length-append, List, nat_le}
+use Rattle.pb_proof.proofs.Common.{None, Option, refl, Some, subst, sym, true, false≢true, leb-false, lt-leb, All-cons, All-head, All-nil, All-tail}
+use Rattle.pb_proof.proofs.Common.{Spanned, bytes, Item, place_after, spans_of, spans_since, events_at, events_of, BeginProof, ReadStatements}
+use Rattle.pb_proof.proofs.Common.{IsStatementValue, Statement, IsProof}
 use Rattle.pb_text.specs.meaning.Reading.{ended_within, IsUnderWay, IsSpelled}
-use Rattle.pb_text.specs.meaning.Spelling.{Item, bytes, place_after, spans_since, spans_of}
-use Rattle.pb_text.specs.meaning.Whole.{events_at, events_of}
 use Rattle.pb_text.specs.declared.Place.{Place}
-use Rattle.pb_text.specs.declared.Spanned.{Spanned}
 use Rattle.pb_text.proofs.lemmas.text.Short.{place_after-offset}
 use Rattle.pb_text.proofs.lemmas.source.Wholes.{spans_events}
-use Rattle.pb_proof.specs.meaning.Proofs.{IsProof}
-use Rattle.pb_proof.specs.contract.Values.{IsStatementValue}
-use Rattle.pb_proof.specs.contract.ValueLaws.{BeginProof, ReadStatements}
-use Rattle.pb_proof.specs.declared.statement.Statement.{Statement}
 use Rattle.pb_proof.proofs.lemmas.Proofs.Values.{events_values, proof_values}
 
 abbrev following : List ℕ → Item Statement → List ℕ

@@ -1,20 +1,9 @@
 -- The canonical text of a proof that meets the rules is a text of it.
-use Rattle.std.proofs.Common.{◌≡◌, ℕ, ◌<◌, ◌^◌, List, [], ◌∷◌, ◌++◌, map, refl, ap, sym, ◌∙◌, append_assoc, All}
-use Rattle.std.proofs.lemmas.List.{map-append}
-use Rattle.std.proofs.lemmas.List.Elements.{All-nil, All-cons, All-head, All-tail, All-append, All-map, All-weaker}
-use Rattle.pb_text.specs.meaning.Spelling.{Item, letters_of, bytes_of}
-use Rattle.pb_text.specs.meaning.Whole.{events_of}
-use Rattle.pb_text.proofs.lemmas.text.Languages.{bytes-append}
-use Rattle.pb_proof.specs.meaning.Lines.{SpellsStatement}
-use Rattle.pb_text.specs.meaning.Blank.{Nothing}
-use Rattle.pb_proof.specs.meaning.Proofs.{IsGap, IsStep, statements_of, AreSpelled}
-use Rattle.pb_proof.specs.contract.Values.{IsStatementValue, IsProofValue}
-use Rattle.pb_proof.specs.meaning.Canonical.{statement_bytes, lines, proof_bytes}
-use Rattle.pb_proof.specs.engine.Line.Ended.{ended_lines}
-use Rattle.pb_proof.specs.contract.ValueLaws.{CanonicalProof}
-use Rattle.pb_proof.specs.declared.proof.Proof.{Proof}
-use Rattle.pb_proof.specs.declared.statement.Statement.{Statement}
-use Rattle.pb_proof.specs.declared.statement.Statement.TheVariants.{Header, F, Output, Conclude, End}
+use Rattle.pb_proof.proofs.Common.{ℕ, ◌++◌, ◌<◌, ◌^◌, ◌∙◌, ◌∷◌, ◌≡◌, [], All, ap, append_assoc, List, map, refl, sym, map-append, All-append}
+use Rattle.pb_proof.proofs.Common.{All-cons, All-head, All-map, All-nil, All-tail, All-weaker, bytes-append, Nothing, bytes_of, Item, letters_of}
+use Rattle.pb_proof.proofs.Common.{events_of, CanonicalProof, IsProofValue, IsStatementValue, Proof, Statement, Conclude, F, Header, Output}
+use Rattle.pb_proof.proofs.Common.{ended_lines, lines, proof_bytes, statement_bytes, SpellsStatement, AreSpelled, IsGap, IsStep, statements_of}
+use Rattle.pb_proof.specs.declared.statement.Statement.TheVariants.{End}
 use Rattle.pb_proof.proofs.lemmas.Line.Texts.{line_text, line_bytes, bytes-line}
 use Rattle.pb_proof.proofs.lemmas.Line.Spelled.{line_spelled}
 use Rattle.pb_proof.proofs.lemmas.Written.{ended_none, ended-cons, lines-ended}

@@ -1,29 +1,13 @@
 -- A value that has a text meets the rules.
-use Rattle.std.proofs.Common.{◌≡◌, ℕ, zero, suc, ◌<◌, ◌≤◌, List, [], ◌∷◌, ◌++◌, length, refl, ap, sym, ◌∙◌, subst, arith, Bool, true, false, Option, Some, None, All, length-append}
-use Rattle.std.specs.Prelude.{ℤ}
-use Rattle.std.proofs.lemmas.Int.{ints}
-use Rattle.std.proofs.lemmas.List.Elements.{All-nil, All-cons, All-head, All-tail}
-use Rattle.pb_text.specs.meaning.Languages.{Language}
-use Rattle.pb_text.specs.meaning.Numbers.{signed}
-use Rattle.pb_text.specs.meaning.Spelling.{Letter, Item}
-use Rattle.pb_text.specs.meaning.Whole.{events_of}
-use Rattle.pb_sums.specs.meaning.Sums.{IsName, SpellsLiteral}
-use Rattle.pb_sums.specs.declared.linear.Literal.{Literal}
-use Rattle.pb_sums.specs.declared.sum_kind.Spaces.TheVariants.{Blank}
+use Rattle.pb_proof.proofs.Common.{ℕ, ℤ, ◌++◌, ◌<◌, ◌∙◌, ◌∷◌, ◌≡◌, ◌≤◌, [], All, ap, arith, Bool, false, length, length-append, List, None, Option}
+use Rattle.pb_proof.proofs.Common.{refl, Some, subst, suc, sym, true, zero, ints, All-cons, All-head, All-nil, All-tail, Literal, Blank, IsName}
+use Rattle.pb_proof.proofs.Common.{SpellsLiteral, Language, signed, Item, Letter, events_of, OneValue, ProofValues, StatementValues, AreLiterals}
+use Rattle.pb_proof.proofs.Common.{IfGiven, IsBound, IsConclusion, IsFactor, IsId, IsProofValue, IsStatementValue, IsWord, Bound, Finite, Infinite}
+use Rattle.pb_proof.proofs.Common.{Conclusion, Bounds, NoClaim, Sat, Unsat, Proof, Statement, Conclude, Delete, F, Header, Output, Pol, Rup, Soli}
+use Rattle.pb_proof.proofs.Common.{Solx, PolWord, Add, Axiom, Divide, Id, Multiply, Saturate, Weaken, Factor, IdShown, Listed, LiteralsShown}
+use Rattle.pb_proof.proofs.Common.{SpellsBound, SpellsConclusion, SpellsId, SpellsStatement, SpellsWord, IsGap, IsStep, statements_of}
 use Rattle.pb_sums.proofs.lemmas.values.Within.{number-within, linear-within}
-use Rattle.pb_proof.specs.meaning.Lines.{Listed, SpellsId, Factor, SpellsBound, LiteralsShown, IdShown, SpellsWord, SpellsConclusion, SpellsStatement}
-use Rattle.pb_proof.specs.meaning.Proofs.{IsGap, IsStep, statements_of}
-use Rattle.pb_proof.specs.contract.Values.{IfGiven, IsId, IsFactor, AreLiterals, IsBound, IsWord, IsConclusion, IsStatementValue, IsProofValue}
-use Rattle.pb_proof.specs.contract.ValueLaws.{StatementValues, ProofValues, OneValue}
-use Rattle.pb_proof.specs.declared.word.PolWord.{PolWord}
-use Rattle.pb_proof.specs.declared.word.PolWord.TheVariants.{Id, Axiom, Add, Multiply, Divide, Saturate, Weaken}
-use Rattle.pb_proof.specs.declared.conclusion.Bound.{Bound}
-use Rattle.pb_proof.specs.declared.conclusion.Bound.TheVariants.{Finite, Infinite}
-use Rattle.pb_proof.specs.declared.conclusion.Conclusion.{Conclusion}
-use Rattle.pb_proof.specs.declared.conclusion.Conclusion.TheVariants.{NoClaim, Unsat, Sat, Bounds}
-use Rattle.pb_proof.specs.declared.proof.Proof.{Proof}
-use Rattle.pb_proof.specs.declared.statement.Statement.{Statement}
-use Rattle.pb_proof.specs.declared.statement.Statement.TheVariants.{Header, F, Pol, Rup, Soli, Solx, Delete, Output, Conclude, End}
+use Rattle.pb_proof.specs.declared.statement.Statement.TheVariants.{End}
 
 listed_values : {A : Type 0} (P : A → Language) (R : A → Type 0) → ((x : A) (t : List Letter) → P x t → R x) → (xs : List A) (t : List Letter) → Listed P xs t → All R xs
 listed_values P R f [] t h = All-nil R

@@ -1,33 +1,15 @@
 -- What the `rup` machine reads is the grammar.
-use Rattle.std.proofs.Common.{◌≡◌, ℕ, true, false, List, [], ◌∷◌, ◌++◌, refl, sym, ap, subst, ◌∙◌, ◌↔◌}
-use Rattle.std.proofs.lemmas.Bool.{eqb-true, cond_both, false_from_ne_true}
-use Rattle.std.specs.Prelude.{IsTrue, nat_eq, Option, Some, None}
-use Rattle.pb_text.specs.contract.Automaton.{Next, Go, End, Refuse, ReadsStatement}
-use Rattle.pb_text.specs.meaning.Classes.{is_blank}
-use Rattle.pb_text.specs.meaning.Languages.{Language, ◌⋅◌, Blanks0, Blanks1}
-use Rattle.pb_text.specs.meaning.Spelling.{Letter}
-use Rattle.pb_text.proofs.lemmas.text.Languages.{grown, none_yet}
-use Rattle.pb_text.proofs.lemmas.machine.Walking.{Walks, walks_then, walks_more, ends_walk, reads_after, On, Keeps, reported}
-use Rattle.pb_text.proofs.lemmas.text.Booleans.{never}
-use Rattle.pb_text.proofs.lemmas.text.ByteTests.{blank_each}
-use Rattle.pb_text.proofs.lemmas.machine.Outcomes.{refuse_or_go, refuse_or_end}
-use Rattle.pb_sums.specs.engine.State.{SumState, sums}
-use Rattle.pb_sums.specs.meaning.Sums.{SpellsLinear, Spells, allows}
-use Rattle.pb_sums.specs.declared.Linear.{Linear}
+use Rattle.pb_proof.proofs.Common.{ℕ, ◌++◌, ◌↔◌, ◌∙◌, ◌∷◌, ◌≡◌, [], ap, false, IsTrue, List, nat_eq, None, Option, refl, Some, subst, sym, true}
+use Rattle.pb_proof.proofs.Common.{cond_both, eqb-true, false_from_ne_true, reads_grammar, continues-midway, Linear, Blank, SumEvent, sums, SumState}
+use Rattle.pb_proof.proofs.Common.{allows, Spells, SpellsLinear, refuse_or_end, refuse_or_go, ends_walk, Keeps, On, reads_after, reported, Walks}
+use Rattle.pb_proof.proofs.Common.{walks_more, walks_then, never, blank_each, grown, none_yet, End, Go, Next, ReadsStatement, Refuse, is_blank, ◌⋅◌}
+use Rattle.pb_proof.proofs.Common.{Blanks0, Blanks1, Language, Letter, RupAction, Give, RupPhase, Inside, Tail, linear_of, rup_act, rup_automaton}
+use Rattle.pb_proof.proofs.Common.{rup_finish, rup_first, rup_last, rup_over, rup_transition, RupState, sum_first, sum_last, SpellsRup}
 use Rattle.pb_sums.specs.declared.Relation.{Relation}
 use Rattle.pb_sums.specs.declared.Relation.TheVariants.{AtLeast, Equal}
-use Rattle.pb_sums.specs.declared.Spaces.TheVariants.{Blank}
 use Rattle.pb_sums.specs.declared.Part as part
-use Rattle.pb_sums.specs.declared.SumEvent.{SumEvent}
 use Rattle.pb_sums.specs.declared.SumEvent as sum
-use Rattle.pb_sums.proofs.lemmas.machine.Links.{reads_grammar}
-use Rattle.pb_sums.proofs.lemmas.machine.States.{continues-midway}
-use Rattle.pb_proof.specs.engine.Line.Rup.{RupState, rup_automaton, rup_first, rup_last, sum_first, sum_last, rup_transition, rup_act, rup_over, linear_of, rup_finish}
-use Rattle.pb_proof.specs.meaning.Lines.{SpellsRup}
-use Rattle.pb_proof.specs.declared.line.rup.phase.RupPhase.{RupPhase}
-use Rattle.pb_proof.specs.declared.line.rup.phase.RupPhase.TheVariants.{Start, Gap, Inside, Tail, Done}
-use Rattle.pb_proof.specs.declared.line.rup.phase.RupAction.{RupAction}
-use Rattle.pb_proof.specs.declared.line.rup.phase.RupAction.TheVariants.{Give}
+use Rattle.pb_proof.specs.declared.line.rup.phase.RupPhase.TheVariants.{Start, Gap, Done}
 use Rattle.pb_proof.proofs.lemmas.Line.Ends.{TakesBlanks, blanks1_lead, Feeds, feed_reads, gapped, first_blank, further_blank, blank_more, feed_after_blanks}
 
 -- what the sum machine reads

@@ -1,31 +1,20 @@
 -- What holds of each state that the `rup` machine can be in.
-use Rattle.std.proofs.Common.{◌≡◌, ℕ, ◌+◌, ◌≤◌, Bool, true, false, cond, List, [], ◌++◌, refl, sym, ap, subst, ◌∙◌, arith, ◌&&◌}
-use Rattle.std.specs.Prelude.{IsTrue, nat_eq, Option, Some, None}
-use Rattle.std.proofs.lemmas.Bool.{cond_both}
-use Rattle.pb_text.specs.contract.Automaton.{Next, Go, End, Refuse, AcceptsItems, Admits, IsState, is_large}
-use Rattle.pb_text.specs.meaning.Classes.{is_blank, is_digit}
-use Rattle.pb_text.specs.meaning.Spelling.{Item}
-use Rattle.pb_text.proofs.lemmas.machine.Residual.{refuses}
-use Rattle.pb_text.proofs.lemmas.machine.Walking.{reads_after}
-use Rattle.pb_text.proofs.lemmas.text.Booleans.{never}
+use Rattle.pb_proof.proofs.Common.{ℕ, ◌&&◌, ◌++◌, ◌+◌, ◌∙◌, ◌≡◌, ◌≤◌, [], ap, arith, Bool, cond, false, IsTrue, List, nat_eq, None, Option, refl}
+use Rattle.pb_proof.proofs.Common.{Some, subst, sym, true, cond_both, flushed-units, midway-not-done, reads_something, continues-midway, ended-last}
+use Rattle.pb_proof.proofs.Common.{Linear, SumEvent, sums, SumState, accepted, admits_before, final, IsAlive, refuses, reads_after, never}
+use Rattle.pb_proof.proofs.Common.{AcceptsItems, Admits, End, Go, is_large, IsState, Next, Refuse, is_blank, is_digit, Item, RupAction, Give}
+use Rattle.pb_proof.proofs.Common.{RupPhase, Inside, Tail, IsRupInOrder, linear_of, rup_act, rup_asks, rup_automaton, rup_done, rup_finish, rup_first}
+use Rattle.pb_proof.proofs.Common.{rup_in_number, rup_midway, rup_over, rup_transition, RupHolds, RupState, sum_first}
 use Rattle.pb_sums.specs.engine.Machine.{Work, Outcome, act, flushed, transition, kind, letter_at, is_numeric}
-use Rattle.pb_sums.specs.engine.State.{SumState, sums, over, units}
-use Rattle.pb_sums.specs.declared.Linear.{Linear}
+use Rattle.pb_sums.specs.engine.State.{over, units}
 use Rattle.pb_sums.specs.declared.linear.Term.{Term}
 use Rattle.pb_sums.specs.declared.phase.Phase as sum_phase
 use Rattle.pb_sums.specs.declared.phase.Action.{Action}
 use Rattle.pb_sums.specs.declared.phase.Action.TheVariants as action
-use Rattle.pb_sums.specs.declared.SumEvent.{SumEvent}
 use Rattle.pb_sums.specs.declared.SumEvent as sum
-use Rattle.pb_sums.proofs.lemmas.machine.Counts.{flushed-units}
-use Rattle.pb_sums.proofs.lemmas.machine.Links.{reads_something, midway-not-done}
-use Rattle.pb_sums.proofs.lemmas.machine.States.{continues-midway, ended-last}
-use Rattle.pb_proof.specs.engine.Line.Rup.{RupState, rup_automaton, rup_first, sum_first, rup_transition, rup_act, rup_over, rup_finish, rup_midway, rup_done, rup_in_number, rup_asks, linear_of, RupHolds, IsRupInOrder}
-use Rattle.pb_proof.specs.declared.line.rup.phase.RupPhase.{RupPhase}
-use Rattle.pb_proof.specs.declared.line.rup.phase.RupPhase.TheVariants.{Start, Gap, Inside, Tail, Done}
-use Rattle.pb_proof.specs.declared.line.rup.phase.RupAction.{RupAction}
-use Rattle.pb_proof.specs.declared.line.rup.phase.RupAction.TheVariants.{To, Give, Finish, Stop}
-use Rattle.pb_text.proofs.lemmas.machine.Living.{IsAlive, before, final, accepted, admits_before}
+use Rattle.pb_proof.specs.declared.line.rup.phase.RupPhase.TheVariants.{Start, Gap, Done}
+use Rattle.pb_proof.specs.declared.line.rup.phase.RupAction.TheVariants.{To, Finish, Stop}
+use Rattle.pb_text.proofs.lemmas.machine.Living.{before}
 use Rattle.pb_proof.proofs.lemmas.Rup.Reads.{given_walks}
 
 -- The constraint that the sum machine gives has at most as many units as that machine had.

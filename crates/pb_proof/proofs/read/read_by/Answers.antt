@@ -1,5 +1,4 @@
-use Rattle.pb_text.specs.contract.Automaton.{AcceptsItems, MayAsk}
-use Rattle.pb_text.specs.meaning.Limits.{largest, top_of}
+use Rattle.pb_proof.proofs.Common.{AcceptsItems, MayAsk, largest, top_of}
 use Rattle.pb_proof.proofs.lemmas.Proofs.Gathered.{is_read, stops_in}
 use Rattle.pb_proof.proofs.read.read_by.Goals as goal
 

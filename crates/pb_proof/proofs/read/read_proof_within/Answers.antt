@@ -1,4 +1,4 @@
-use Rattle.std.proofs.Common.{rules}
+use Rattle.pb_proof.proofs.Common.{rules}
 use Rattle.pb_proof.proofs.read.read_proof_within.Goals as goal
 
 pub returns-clause-reads : goal.returns-clause-reads

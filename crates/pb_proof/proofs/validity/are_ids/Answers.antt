@@ -1,9 +1,5 @@
-use Rattle.std.proofs.Common.{arith, rules, ℤ, pos, get_or}
+use Rattle.pb_proof.proofs.Common.{ℤ, arith, get_or, pos, rules, to_z-of_z, All-more, w64, IsId}
 use mir.Val.{SFits}
-use Rattle.std.specs.Int.{w64}
-use Rattle.std.proofs.lemmas.Int.{to_z-of_z}
-use Rattle.std.proofs.lemmas.List.Elements.{All-more}
-use Rattle.pb_proof.specs.contract.Values.{IsId}
 use Rattle.pb_proof.proofs.lemmas.Each.{each_end}
 use Rattle.pb_proof.proofs.validity.are_ids.Goals as goal
 

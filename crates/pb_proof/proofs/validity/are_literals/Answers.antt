@@ -1,5 +1,4 @@
-use Rattle.std.proofs.Common.{arith}
-use Rattle.pb_sums.specs.meaning.Sums.{IsName}
+use Rattle.pb_proof.proofs.Common.{arith, IsName}
 use Rattle.pb_proof.proofs.lemmas.Each.{each_more, each_end}
 use Rattle.pb_proof.proofs.validity.are_literals.Goals as goal
 

@@ -1,5 +1,4 @@
-use Rattle.std.proofs.Common.{take}
-use Rattle.pb_proof.specs.contract.Values.{AreLiterals}
+use Rattle.pb_proof.proofs.Common.{take, AreLiterals}
 use Rattle.pb_proof.proofs.validity.are_literals.Given as goal
 
 abbrev pub invariant-loop-literal : goal.invariant-loop-literal

@@ -1,9 +1,4 @@
-use Rattle.std.proofs.Common.{arith}
-use Rattle.pb_text.specs.meaning.Limits.{largest, top_of}
-use Rattle.pb_text.specs.declared.Limits.{Limits}
-use Rattle.pb_proof.specs.meaning.Proofs.{IsStep}
-use Rattle.pb_proof.specs.contract.Values.{IsStatementValue}
-use Rattle.pb_proof.specs.declared.statement.Statement.{Statement}
+use Rattle.pb_proof.proofs.Common.{arith, Limits, largest, top_of, IsStatementValue, Statement, IsStep}
 use Rattle.pb_proof.proofs.lemmas.Each.{each_more, each_end}
 use Rattle.pb_proof.proofs.validity.are_steps.Goals as goal
 

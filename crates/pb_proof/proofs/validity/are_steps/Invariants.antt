@@ -1,7 +1,4 @@
-use Rattle.std.proofs.Common.{take, All}
-use Rattle.pb_text.specs.meaning.Limits.{largest, top_of}
-use Rattle.pb_proof.specs.meaning.Proofs.{IsStep}
-use Rattle.pb_proof.specs.contract.Values.{IsStatementValue}
+use Rattle.pb_proof.proofs.Common.{All, take, largest, top_of, IsStatementValue, IsStep}
 use Rattle.pb_proof.proofs.validity.are_steps.Given as goal
 
 abbrev pub invariant-loop-step : goal.invariant-loop-step

@@ -1,6 +1,4 @@
-use Rattle.std.proofs.Common.{arith}
-use Rattle.pb_text.specs.meaning.Limits.{largest, top_of}
-use Rattle.pb_proof.specs.contract.Values.{IsWord}
+use Rattle.pb_proof.proofs.Common.{arith, largest, top_of, IsWord}
 use Rattle.pb_proof.proofs.lemmas.Each.{each_more, each_end}
 use Rattle.pb_proof.proofs.validity.are_words.Goals as goal
 

@@ -1,6 +1,4 @@
-use Rattle.std.proofs.Common.{take, All}
-use Rattle.pb_text.specs.meaning.Limits.{largest, top_of}
-use Rattle.pb_proof.specs.contract.Values.{IsWord}
+use Rattle.pb_proof.proofs.Common.{All, take, largest, top_of, IsWord}
 use Rattle.pb_proof.proofs.validity.are_words.Given as goal
 
 abbrev pub invariant-loop-word : goal.invariant-loop-word

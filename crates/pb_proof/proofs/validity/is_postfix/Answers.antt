@@ -1,4 +1,4 @@
-use Rattle.std.proofs.Common.{arith}
+use Rattle.pb_proof.proofs.Common.{arith}
 use Rattle.pb_proof.proofs.lemmas.Pol.Finished.{postfix_leads}
 use Rattle.pb_proof.proofs.validity.is_postfix.Goals as goal
 

@@ -1,5 +1,4 @@
-use Rattle.std.proofs.Common.{drop, ◌↔◌, ◌≤◌}
-use Rattle.pb_proof.specs.meaning.Postfix.{IsPostfix}
+use Rattle.pb_proof.proofs.Common.{◌↔◌, ◌≤◌, drop, IsPostfix}
 use Rattle.pb_proof.proofs.lemmas.Pol.Finished.{Leads}
 use Rattle.pb_proof.proofs.validity.is_postfix.Given as goal
 

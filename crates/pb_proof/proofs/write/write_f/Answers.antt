@@ -1,7 +1,4 @@
-use Rattle.pb_text.proofs.lemmas.text.Parts.{part_then, part_broke}
-use Rattle.std.proofs.Common.{ap, ℕ, Option}
-use Rattle.pb_proof.specs.meaning.Canonical.{statement_bytes}
-use Rattle.pb_proof.specs.declared.statement.Statement.TheVariants.{F}
+use Rattle.pb_proof.proofs.Common.{ℕ, ap, Option, part_broke, part_then, F, statement_bytes}
 use Rattle.pb_proof.proofs.write.write_f.Goals as goal
 
 pub returns-in_err-write_bytes-in-Some : goal.returns-in_err-write_bytes-in-Some

@@ -1,9 +1,5 @@
-use Rattle.pb_text.proofs.lemmas.text.Parts.{part_then, part_broke}
-use Rattle.std.proofs.Common.{ap, rules}
+use Rattle.pb_proof.proofs.Common.{ap, rules, to_z-of_z, w64, part_broke, part_then, id_shown_bytes}
 use mir.Val.{SFits}
-use Rattle.std.specs.Int.{w64}
-use Rattle.std.proofs.lemmas.Int.{to_z-of_z}
-use Rattle.pb_proof.specs.meaning.Canonical.{id_shown_bytes}
 use Rattle.pb_proof.proofs.write.write_id_shown.Goals as goal
 
 pub returns-in_err-write_bytes-in-Some : goal.returns-in_err-write_bytes-in-Some

@@ -1,11 +1,6 @@
-use Rattle.std.proofs.Common.{ℕ, ℤ, pos, List, refl, arith, sym, subst, get_or, rules}
+use Rattle.pb_proof.proofs.Common.{ℕ, ℤ, arith, get_or, List, pos, refl, rules, subst, sym, to_z-of_z, signed_decimal, w64, part_broke, part_then}
+use Rattle.pb_proof.proofs.Common.{part_wrote, writes_nothing, Wrote}
 use mir.Val.{SFits}
-use Rattle.std.specs.Int.{w64}
-use Rattle.std.specs.Fmt.{signed_decimal}
-use Rattle.std.proofs.lemmas.Int.{to_z-of_z}
-use Rattle.pb_text.specs.meaning.Writing.{Wrote}
-use Rattle.pb_text.proofs.lemmas.text.Writing.{writes_nothing}
-use Rattle.pb_text.proofs.lemmas.text.Parts.{part_then, part_broke, part_wrote}
 use Rattle.pb_proof.proofs.lemmas.Written.{listed_none, listed_more, listed_at}
 use Rattle.pb_proof.proofs.write.write_ids.Goals as goal
 

@@ -1,7 +1,4 @@
-use Rattle.std.proofs.Common.{take}
-use Rattle.std.specs.Fmt.{signed_decimal}
-use Rattle.pb_text.specs.meaning.Writing.{Wrote}
-use Rattle.pb_proof.specs.meaning.Canonical.{listed_bytes}
+use Rattle.pb_proof.proofs.Common.{take, signed_decimal, Wrote, listed_bytes}
 use Rattle.pb_proof.proofs.write.write_ids.Given as goal
 
 abbrev pub invariant-loop-id : goal.invariant-loop-id

@@ -1,8 +1,4 @@
-use Rattle.std.proofs.Common.{ℕ, List, refl, arith, sym, subst}
-use Rattle.pb_text.specs.meaning.Writing.{Wrote}
-use Rattle.pb_text.proofs.lemmas.text.Writing.{writes_nothing}
-use Rattle.pb_text.proofs.lemmas.text.Parts.{part_then, part_broke, part_wrote}
-use Rattle.pb_proof.specs.meaning.Canonical.{literal_line}
+use Rattle.pb_proof.proofs.Common.{ℕ, arith, List, refl, subst, sym, part_broke, part_then, part_wrote, writes_nothing, Wrote, literal_line}
 use Rattle.pb_proof.proofs.lemmas.Written.{listed_none, listed_more, listed_at}
 use Rattle.pb_proof.proofs.write.write_literals.Goals as goal
 

@@ -1,7 +1,4 @@
-use Rattle.std.proofs.Common.{take}
-use Rattle.pb_text.specs.meaning.Writing.{Wrote}
-use Rattle.pb_proof.specs.meaning.Canonical.{listed_bytes}
-use Rattle.pb_proof.specs.meaning.Canonical.{literal_line}
+use Rattle.pb_proof.proofs.Common.{take, Wrote, listed_bytes, literal_line}
 use Rattle.pb_proof.proofs.write.write_literals.Given as goal
 
 abbrev pub invariant-loop-literal : goal.invariant-loop-literal

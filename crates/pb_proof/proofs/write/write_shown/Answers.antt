@@ -1,6 +1,4 @@
-use Rattle.pb_text.proofs.lemmas.text.Parts.{part_then, part_broke}
-use Rattle.std.proofs.Common.{ap}
-use Rattle.pb_proof.specs.meaning.Canonical.{shown_bytes}
+use Rattle.pb_proof.proofs.Common.{ap, part_broke, part_then, shown_bytes}
 use Rattle.pb_proof.proofs.write.write_shown.Goals as goal
 
 pub returns-in_err-write_bytes-in-Some : goal.returns-in_err-write_bytes-in-Some

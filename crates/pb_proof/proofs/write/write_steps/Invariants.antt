@@ -1,6 +1,4 @@
-use Rattle.std.proofs.Common.{take}
-use Rattle.pb_text.specs.meaning.Writing.{Wrote}
-use Rattle.pb_proof.specs.engine.Line.Ended.{ended_lines}
+use Rattle.pb_proof.proofs.Common.{take, Wrote, ended_lines}
 use Rattle.pb_proof.proofs.write.write_steps.Given as goal
 
 abbrev pub invariant-loop-step : goal.invariant-loop-step

@@ -55,7 +55,8 @@ fn turn_last(words: &mut Vec<PolWord>, change: Change)
 fn change_words(words: &mut Vec<PolWord>, name: Name, change: Change)
     requires room { adds change ≡ true → vec_len words.old < vec_capacity words.old }
     ensures words { words.new.items ≡ changed change words.old.items name }
-    ensures trees { (depth : ℕ) → depth ≤ vec_len words.old → counted change depth ≤ vec_len words.new }
+    ensures trees { (depth : ℕ) → depth ≤ vec_len words.old →
+        counted change depth ≤ vec_len words.new }
 {
     match change {
         Change::Keep => {}
@@ -93,8 +94,10 @@ pub fn turn(
 ) -> Result<(), AllocError>
     requires trees { depth.old ≤ vec_len words.old }
     ensures trees { depth.new ≤ vec_len words.new }
-    ensures ok { OnOk result ((words.new.items ≡ changed change words.old.items name.old) × (depth.new ≡ counted change depth.old) × (name.new ≡ [])) }
-    ensures err { OnErr result ((adds change ≡ true) × (words.new.items ≡ words.old.items) × (depth.new ≡ depth.old) × (name.new ≡ name.old)) }
+    ensures ok { OnOk result ((words.new.items ≡ changed change words.old.items name.old) ×
+        (depth.new ≡ counted change depth.old) × (name.new ≡ [])) }
+    ensures err { OnErr result ((adds change ≡ true) × (words.new.items ≡ words.old.items) ×
+        (depth.new ≡ depth.old) × (name.new ≡ name.old)) }
 {
     if adds(change) {
         make_room(words)?;
@@ -117,8 +120,10 @@ pub fn finish(
     requires trees { depth.old ≤ vec_len words.old }
     ensures trees { depth.new ≤ vec_len words.new }
     ensures words { IfOk result (λ all. all ≡ changed change words.old.items name.old) }
-    ensures ok { OnOk result ((words.new.items ≡ []) × (depth.new ≡ 0) × (name.new ≡ []) × (phase.new ≡ Phase.Done)) }
-    ensures err { OnErr result ((adds change ≡ true) × (words.new.items ≡ words.old.items) × (depth.new ≡ depth.old) × (name.new ≡ name.old) × (phase.new ≡ phase.old)) }
+    ensures ok { OnOk result ((words.new.items ≡ []) × (depth.new ≡ 0) × (name.new ≡ []) ×
+        (phase.new ≡ Phase.Done)) }
+    ensures err { OnErr result ((adds change ≡ true) × (words.new.items ≡ words.old.items) ×
+        (depth.new ≡ depth.old) × (name.new ≡ name.old) × (phase.new ≡ phase.old)) }
 {
     turn(alloc, words, depth, name, change)?;
     *depth = 0;

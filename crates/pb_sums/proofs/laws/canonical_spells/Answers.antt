@@ -1,4 +1,4 @@
-use Rattle.std.proofs.Common.{arith}
+use Rattle.pb_sums.proofs.Common.{arith}
 use Rattle.pb_sums.proofs.lemmas.values.CanonicalLaws.{linear-spelled, sum-spelled, bytes-linear, bytes-sum}
 use Rattle.pb_sums.proofs.laws.canonical_spells.Goals as goal
 

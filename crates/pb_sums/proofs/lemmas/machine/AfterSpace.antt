@@ -1,14 +1,6 @@
 -- The state after a space.
-use Rattle.std.proofs.Common.{◌≡◌, ℕ, true, List, refl, subst, Some, None}
-use Rattle.pb_text.specs.contract.Automaton.{IsState}
-use Rattle.pb_text.specs.meaning.Numbers.{signed}
-use Rattle.pb_sums.specs.engine.Machine.{PhaseFits, is_midway}
-use Rattle.pb_sums.specs.engine.Prefix.{after_space}
-use Rattle.pb_sums.specs.engine.State.{SumState, sums}
-use Rattle.pb_sums.specs.declared.linear.Term.{Term}
-use Rattle.pb_sums.specs.declared.sum_kind.Spaces.{Spaces}
-use Rattle.pb_sums.specs.declared.sum_kind.Part.{Part}
-use Rattle.pb_sums.specs.declared.phase.Phase.{Phase}
+use Rattle.pb_sums.proofs.Common.{ℕ, ◌≡◌, List, None, refl, Some, subst, true, IsState, signed, Term, Phase, Part, Spaces, is_midway, PhaseFits}
+use Rattle.pb_sums.proofs.Common.{after_space, sums, SumState}
 use Rattle.pb_sums.specs.declared.phase.Phase as phase
 use Rattle.pb_sums.proofs.lemmas.machine.States.{midway_state}
 

@@ -1,31 +1,16 @@
 -- If a machine of sums may allocate, the next byte is in a name, or ends a literal. Offered to other crates.
-use Rattle.std.proofs.Common.{◌≡◌, ℕ, ◌+◌, ◌*◌, Bool, true, false, ◌||◌, List, [], ◌∷◌, ◌++◌, refl, sym, ap, subst, ◌∙◌, append_assoc, append-nil, inl, inr, ◌⊎◌}
-use Rattle.std.proofs.lemmas.Bool.{false≢true, cond_both}
-use Rattle.std.specs.Prelude.{IsTrue, Option, Some, None, nat_le, nat_eq}
+use Rattle.pb_sums.proofs.Common.{ℕ, ◌*◌, ◌++◌, ◌+◌, ◌||◌, ◌∙◌, ◌∷◌, ◌≡◌, ◌⊎◌, [], ap, append-nil, append_assoc, Bool, false, inl, inr, List, None}
+use Rattle.pb_sums.proofs.Common.{Option, refl, Some, subst, sym, true, IsTrue, nat_eq, nat_le, cond_both, false≢true, never, letter_name}
+use Rattle.pb_sums.proofs.Common.{each-append, End, Go, MayAsk, Next, ReadsStatement, Refuse, is_digit, is_letter, is_name_byte, bytes, Letter}
+use Rattle.pb_sums.proofs.Common.{Relation, AtLeast, Equal, SumEvent, Action, Add, Begin, EndLinear, EndSum, Stop, To, Kind, Digit, Equals, Greater}
+use Rattle.pb_sums.proofs.Common.{Inner, Minus, Plus, Semicolon, Space, Start, Tilde, Phase, Part, Spaces, act, adds, digits, flushed, is_more}
+use Rattle.pb_sums.proofs.Common.{is_numeric, kind, letter_at, next_action, number, symbol, transition, asks, first, over, sums, SumState, allows}
+use Rattle.pb_sums.proofs.Common.{is_space, IsName, IsOneText, reads_sums}
 use Rattle.pb_text.specs.meaning.Asking.{AsksOnly}
-use Rattle.pb_text.specs.contract.Automaton.{Next, Go, End, Refuse, MayAsk, ReadsStatement}
-use Rattle.pb_text.specs.meaning.Classes.{is_digit, is_letter, is_name_byte}
-use Rattle.pb_text.specs.meaning.Spelling.{Letter, bytes}
-use Rattle.pb_text.proofs.lemmas.text.ByteTests.{letter_name}
 use Rattle.pb_text.proofs.lemmas.machine.Asked as asked
-use Rattle.pb_text.proofs.lemmas.text.Booleans.{never}
 use Rattle.pb_text.proofs.lemmas.machine.Walking.{Walks, reads_after}
-use Rattle.pb_text.proofs.lemmas.text.Languages.{each-append}
 use Rattle.pb_sums.specs.meaning.Asking.{EndsIn, IsNameStart, InName, AsksLiteral}
-use Rattle.pb_sums.specs.engine.Machine.{act, transition, digits, number, next_action, kind, symbol, letter_at, is_numeric, flushed, adds, is_more}
-use Rattle.pb_sums.specs.engine.State.{SumState, sums, first, over, asks}
-use Rattle.pb_sums.specs.meaning.Sums.{IsName, IsOneText, is_space, allows, reads_sums}
-use Rattle.pb_sums.specs.declared.sum_kind.Spaces.{Spaces}
-use Rattle.pb_sums.specs.declared.sum_kind.Part.{Part}
-use Rattle.pb_sums.specs.declared.linear.Relation.{Relation}
-use Rattle.pb_sums.specs.declared.linear.Relation.TheVariants.{AtLeast, Equal}
-use Rattle.pb_sums.specs.declared.linear.SumEvent.{SumEvent}
-use Rattle.pb_sums.specs.declared.phase.Kind.{Kind}
-use Rattle.pb_sums.specs.declared.phase.Kind.TheVariants.{Space, Digit, Start, Inner, Tilde, Plus, Minus, Greater, Equals, Semicolon}
-use Rattle.pb_sums.specs.declared.phase.Phase.{Phase}
 use Rattle.pb_sums.specs.declared.phase.Phase as phase
-use Rattle.pb_sums.specs.declared.phase.Action.{Action}
-use Rattle.pb_sums.specs.declared.phase.Action.TheVariants.{To, Begin, Add, EndSum, EndLinear, Stop}
 use Rattle.pb_sums.proofs.lemmas.machine.LiteralPrefixes.{IsFirst, name-append, first-append}
 use Rattle.pb_sums.proofs.lemmas.machine.States.{accepts_one, ended-last, continues-midway, nothing-after}
 

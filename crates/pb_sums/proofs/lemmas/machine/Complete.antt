@@ -1,31 +1,13 @@
 -- The machine reads each text of the grammar: one lemma for each word of the grammar.
 use Rattle.pb_sums.proofs.lemmas.machine.LetterKinds.{on_letter, kind-digit, kind-space, kind-letter, kind-name}
-use Rattle.pb_sums.specs.engine.Machine.{Work, action, act, kind, to, at_name, digits, next_action, fresh, finished}
-use Rattle.pb_sums.specs.meaning.Sums.{is_space, SpellsLiteral, Spaces0, Spaces1, SpellsTerm, SpellsFurther, SpellsSum, Head, SpellsRelation, SpellsLinear, Spells, reads_sums, allows}
-use Rattle.pb_sums.specs.declared.phase.Kind.{Kind}
-use Rattle.pb_sums.specs.declared.phase.Kind.TheVariants.{Space, Digit, Start, Tilde, Plus, Minus, Greater, Equals, Semicolon}
-use Rattle.pb_sums.specs.declared.phase.Action.{Action}
-use Rattle.pb_sums.specs.declared.phase.Action.TheVariants.{To, EndSum, Stop}
-use Rattle.pb_sums.specs.declared.sum_kind.Part.{Part}
-use Rattle.pb_sums.specs.declared.phase.Phase.{Phase}
-use Rattle.pb_sums.specs.declared.sum_kind.Spaces.{Spaces}
-use Rattle.pb_sums.specs.declared.linear.Relation.{Relation}
-use Rattle.pb_sums.specs.declared.linear.Relation.TheVariants.{AtLeast, Equal}
-use Rattle.pb_sums.specs.declared.linear.SumEvent.{SumEvent}
-use Rattle.pb_sums.specs.declared.linear.Term.{Term}
+use Rattle.pb_sums.proofs.Common.{ℕ, ℤ, ◌*◌, ◌++◌, ◌+◌, ◌<◌, ◌^◌, ◌∙◌, ◌∷◌, ◌≡◌, ◌≤◌, ◌⊎◌, [], ap, append-nil, append_assoc, arith, Bool, cond, false}
+use Rattle.pb_sums.proofs.Common.{inl, inr, length, List, map, None, Option, refl, Some, subst, suc, sym, true, IsTrue, nat_le, le-mul_of_pos_right}
+use Rattle.pb_sums.proofs.Common.{pow-succ', le-leb, run, run-refuse, Takes, takes_then, nil_first, End, Go, Next, Refuse, is_name_byte, ◌⋅◌, Byte}
+use Rattle.pb_sums.proofs.Common.{digit, Each, Language, unmarked, Number, signed, value, Letter, Relation, AtLeast, Equal, SumEvent, Term, Action}
+use Rattle.pb_sums.proofs.Common.{EndSum, Stop, To, Kind, Digit, Equals, Greater, Minus, Plus, Semicolon, Space, Start, Tilde, Phase, Part, Spaces}
+use Rattle.pb_sums.proofs.Common.{act, action, at_name, digits, finished, fresh, kind, next_action, to, Work, allows, Head, is_space, reads_sums}
+use Rattle.pb_sums.proofs.Common.{Spaces0, Spaces1, Spells, SpellsFurther, SpellsLinear, SpellsLiteral, SpellsRelation, SpellsSum, SpellsTerm}
 use Rattle.pb_text.proofs.lemmas.numbers.DigitWalks.{ten_pos}
-use Rattle.pb_text.proofs.lemmas.text.Languages.{nil_first}
-use Rattle.pb_text.proofs.lemmas.machine.Runs.{run, Takes, takes_then, run-refuse}
-use Rattle.pb_text.specs.contract.Automaton.{Next, Go, End, Refuse}
-use Rattle.pb_text.specs.meaning.Classes.{is_name_byte}
-use Rattle.pb_text.specs.meaning.Languages.{unmarked, digit, Language, ◌⋅◌, Byte, Each}
-use Rattle.pb_text.specs.meaning.Numbers.{value, signed, Number}
-use Rattle.pb_text.specs.meaning.Spelling.{Letter}
-use Rattle.std.proofs.Common.{◌≡◌, ℕ, suc, ◌+◌, ◌*◌, ◌^◌, ◌<◌, ◌≤◌, Bool, true, false, cond, List, [], ◌∷◌, ◌++◌, length, map, refl, sym, ap, subst, arith, ◌⊎◌, inl, inr, append_assoc, ◌∙◌}
-use Rattle.std.proofs.Math.Nat.{pow-succ', le-mul_of_pos_right}
-use Rattle.std.proofs.lemmas.Bool.{le-leb}
-use Rattle.std.proofs.lemmas.List.{append-nil}
-use Rattle.std.specs.Prelude.{IsTrue, nat_le, ℤ, Option, Some, None}
 use Rattle.pb_sums.specs.declared.linear.SumEvent as event
 use Rattle.pb_sums.specs.declared.phase.Phase as phase
 

@@ -1,20 +1,10 @@
 -- What is stored grows by at most one unit per byte. Offered to other crates.
-use Rattle.std.proofs.Common.{◌≡◌, ℕ, ◌+◌, ◌-◌, ◌^◌, ◌<◌, ◌≤◌, min, take, get_or, List, [], ◌∷◌, ◌++◌, length, sym, ap, subst, arith, ◌∙◌}
-use Rattle.std.proofs.lemmas.List.{length-append, take_more}
-use Rattle.pb_text.specs.contract.Automaton.{Go}
-use Rattle.pb_sums.specs.engine.Machine.{Work, act, term, flushed, transition, finished}
-use Rattle.pb_sums.specs.engine.State.{units, in_hand, ready, all_units}
+use Rattle.pb_sums.proofs.Common.{ℕ, ◌++◌, ◌+◌, ◌-◌, ◌<◌, ◌^◌, ◌∙◌, ◌∷◌, ◌≡◌, ◌≤◌, [], ap, arith, get_or, length, length-append, List, min, subst}
+use Rattle.pb_sums.proofs.Common.{sym, take, take_more, end_or_go, one_state, refuse_or_go, Go, Term, Action, Add, Begin, EndLinear, EndSum, Stop, To}
+use Rattle.pb_sums.proofs.Common.{Kind, Phase, Part, Spaces, act, finished, flushed, term, transition, Work, all_units, in_hand, ready, units}
 use Rattle.pb_sums.specs.declared.linear.SumEvent as event
-use Rattle.pb_sums.specs.declared.linear.Term.{Term}
-use Rattle.pb_sums.specs.declared.phase.Kind.{Kind}
-use Rattle.pb_sums.specs.declared.phase.Phase.{Phase}
 use Rattle.pb_sums.specs.declared.phase.Phase as phase
-use Rattle.pb_sums.specs.declared.sum_kind.Part.{Part}
-use Rattle.pb_sums.specs.declared.sum_kind.Spaces.{Spaces}
-use Rattle.pb_sums.specs.declared.phase.Action.{Action}
-use Rattle.pb_sums.specs.declared.phase.Action.TheVariants.{To, Begin, Add, EndSum, EndLinear, Stop}
 use Rattle.pb_sums.proofs.lemmas.machine.Flags.{IsSane, transition-sane}
-use Rattle.pb_text.proofs.lemmas.machine.Outcomes.{one_state, refuse_or_go, end_or_go}
 
 pub units-append : (xs : List Term) (x : Term) → units (xs ++ x ∷ []) ≡ units xs + (1 + length x.literal.name)
 units-append [] x = omega arith

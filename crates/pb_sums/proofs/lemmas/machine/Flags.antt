@@ -1,28 +1,13 @@
 -- Which letter a byte is: digits of a number have their flag.
 use Rattle.pb_sums.proofs.lemmas.machine.LetterKinds.{on_letter, Means, kind-means}
-use Rattle.pb_sums.specs.engine.State.{in_hand, ready}
-use Rattle.pb_text.specs.meaning.Languages.{unmarked}
-use Rattle.pb_sums.specs.engine.Machine.{digits, is_midway, Work, transition, act, kind, number, next_action, letter_at, is_numeric, is_in_number, kind_of_plain, kind_of_numeral, flushed, finished}
-use Rattle.pb_sums.specs.meaning.Sums.{is_space, reads_sums, allows}
-use Rattle.pb_sums.specs.declared.phase.Kind.{Kind}
-use Rattle.pb_sums.specs.declared.phase.Kind.TheVariants.{Space, Digit, Start, Inner, Tilde, Plus, Minus, Greater, Equals, Semicolon, Other}
-use Rattle.pb_sums.specs.declared.phase.Action.{Action}
-use Rattle.pb_sums.specs.declared.phase.Action.TheVariants.{To, Begin, Add, EndSum, EndLinear, Stop}
-use Rattle.pb_sums.specs.declared.sum_kind.Part.{Part}
-use Rattle.pb_sums.specs.declared.phase.Phase.{Phase}
-use Rattle.pb_sums.specs.declared.sum_kind.Spaces.{Spaces}
-use Rattle.pb_sums.specs.declared.linear.Relation.{Relation}
-use Rattle.pb_sums.specs.declared.linear.Relation.TheVariants.{AtLeast, Equal}
-use Rattle.pb_sums.specs.declared.linear.SumEvent.{SumEvent}
-use Rattle.pb_sums.specs.declared.linear.Term.{Term}
-use Rattle.pb_text.proofs.lemmas.machine.Outcomes.{one_state, one_end, go_or_end, refuse_or_go, refuse_or_end, end_or_go}
-use Rattle.pb_text.specs.contract.Automaton.{Go, End}
-use Rattle.pb_text.specs.meaning.Classes.{is_digit, is_letter, is_name_byte}
-use Rattle.pb_text.specs.meaning.Spelling.{Letter}
-use Rattle.std.proofs.Common.{◌≡◌, ℕ, ◌+◌, ◌*◌, ◌-◌, Bool, true, false, cond, ◌&&◌, List, [], ◌∷◌, ◌++◌, refl, sym, ap, subst, arith, ◌⊎◌, inl, inr, ◌∙◌}
+use Rattle.pb_sums.proofs.Common.{ℕ, ◌&&◌, ◌*◌, ◌++◌, ◌+◌, ◌-◌, ◌∙◌, ◌∷◌, ◌≡◌, ◌⊎◌, [], ap, arith, Bool, cond, false, inl, inr, List, None, Option}
+use Rattle.pb_sums.proofs.Common.{refl, Some, subst, sym, true, nat_le, nat_tests, end_or_go, go_or_end, one_end, one_state, refuse_or_end}
+use Rattle.pb_sums.proofs.Common.{refuse_or_go, End, Go, is_digit, is_letter, is_name_byte, unmarked, Letter, Relation, AtLeast, Equal, SumEvent}
+use Rattle.pb_sums.proofs.Common.{Term, Action, Add, Begin, EndLinear, EndSum, Stop, To, Kind, Digit, Equals, Greater, Inner, Minus, Other, Plus}
+use Rattle.pb_sums.proofs.Common.{Semicolon, Space, Start, Tilde, Phase, Part, Spaces, act, digits, finished, flushed, is_in_number, is_midway}
+use Rattle.pb_sums.proofs.Common.{is_numeric, kind, kind_of_numeral, kind_of_plain, letter_at, next_action, number, transition, Work, in_hand, ready}
+use Rattle.pb_sums.proofs.Common.{allows, is_space, reads_sums}
 use Rattle.std.proofs.Math.Bool.{and-false}
-use Rattle.std.proofs.lemmas.Bool.Decides.{nat_tests}
-use Rattle.std.specs.Prelude.{nat_le, Option, Some, None}
 use Rattle.pb_sums.specs.declared.linear.SumEvent as event
 use Rattle.pb_sums.specs.declared.phase.Phase as phase
 

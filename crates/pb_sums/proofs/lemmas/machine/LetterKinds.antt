@@ -1,19 +1,9 @@
 -- What the kind of a letter says about the letter, and conversely.
-use Rattle.pb_sums.specs.engine.Machine.{Work, Outcome, action, kind, kind_of_plain, kind_of_numeral, symbol}
-use Rattle.pb_sums.specs.declared.sum_kind.Part.{Part}
-use Rattle.pb_sums.specs.meaning.Sums.{is_space}
-use Rattle.pb_sums.specs.declared.phase.Kind.{Kind}
-use Rattle.pb_sums.specs.declared.phase.Kind.TheVariants.{Space, Digit, Start, Inner, Tilde, Plus, Minus, Greater, Equals, Semicolon, Other}
-use Rattle.pb_sums.specs.declared.sum_kind.Spaces.{Spaces}
+use Rattle.pb_sums.proofs.Common.{ℕ, ◌+◌, ◌-◌, ◌<◌, ◌≡◌, ◌≤◌, ◌⊎◌, ap, arith, Bool, cond, false, inl, inr, refl, true, IsTrue, nat_eq, cond_both}
+use Rattle.pb_sums.proofs.Common.{eqb-true, nat_tests, digit_of, letter_name, name_high, is_digit, is_letter, is_name_byte, digit, unmarked, Letter}
+use Rattle.pb_sums.proofs.Common.{Kind, Digit, Equals, Greater, Inner, Minus, Other, Plus, Semicolon, Space, Start, Tilde, Part, Spaces, action, kind}
+use Rattle.pb_sums.proofs.Common.{kind_of_numeral, kind_of_plain, Outcome, symbol, Work, is_space}
 use Rattle.pb_sums.specs.declared.sum_kind.Spaces.TheVariants.{White, Blank}
-use Rattle.pb_text.specs.meaning.Classes.{is_digit, is_letter, is_name_byte}
-use Rattle.pb_text.specs.meaning.Languages.{unmarked, digit}
-use Rattle.pb_text.specs.meaning.Spelling.{Letter}
-use Rattle.pb_text.proofs.lemmas.text.ByteTests.{digit_of, name_high, letter_name}
-use Rattle.std.proofs.Common.{◌≡◌, ℕ, ◌+◌, ◌-◌, ◌<◌, ◌≤◌, Bool, true, false, cond, refl, ap, arith, ◌⊎◌, inl, inr}
-use Rattle.std.proofs.lemmas.Bool.{eqb-true, cond_both}
-use Rattle.std.proofs.lemmas.Bool.Decides.{nat_tests}
-use Rattle.std.specs.Prelude.{IsTrue, nat_eq}
 
 -- what a kind says about its letter
 abbrev pub Means : Spaces → Kind → Letter → Type 0

@@ -1,17 +1,9 @@
 -- What an automaton of sums reads is what its machine over letters ends with. Offered to other crates.
-use Rattle.std.proofs.Common.{◌≡◌, ℕ, Bool, true, false, List, [], ◌∷◌, refl, sym, ap, subst, ◌⊎◌, inl, inr, ◌∙◌, ◌↔◌}
-use Rattle.pb_text.proofs.lemmas.machine.Outcomes.{one_state, one_end, go_or_end, go_or_refuse, end_or_refuse, refuse_or_go, refuse_or_end, end_or_go}
-use Rattle.pb_text.proofs.lemmas.machine.Runs.{run, run-refuse}
-use Rattle.pb_text.specs.contract.Automaton.{Go, End, Refuse, ReadsStatement}
-use Rattle.pb_text.specs.meaning.Spelling.{Letter}
-use Rattle.pb_sums.specs.meaning.Sums.{Spells}
-use Rattle.pb_sums.specs.engine.Machine.{Work, Outcome, act, step, letter_at, is_numeric, is_in_number, is_midway, is_done, flushed, fresh, finished}
-use Rattle.pb_sums.specs.engine.State.{SumState, sums, over, first, last}
-use Rattle.pb_sums.specs.declared.linear.SumEvent.{SumEvent}
-use Rattle.pb_sums.specs.declared.phase.Phase.{Phase}
+use Rattle.pb_sums.proofs.Common.{ℕ, ◌↔◌, ◌∙◌, ◌∷◌, ◌≡◌, ◌⊎◌, [], ap, Bool, false, inl, inr, List, refl, subst, sym, true, end_or_go, end_or_refuse}
+use Rattle.pb_sums.proofs.Common.{go_or_end, go_or_refuse, one_end, one_state, refuse_or_end, refuse_or_go, run, run-refuse, End, Go, ReadsStatement}
+use Rattle.pb_sums.proofs.Common.{Refuse, Letter, SumEvent, Phase, Part, Spaces, act, finished, flushed, fresh, is_done, is_in_number, is_midway}
+use Rattle.pb_sums.proofs.Common.{is_numeric, letter_at, Outcome, step, Work, first, last, over, sums, SumState, Spells}
 use Rattle.pb_sums.specs.declared.phase.Phase as phase
-use Rattle.pb_sums.specs.declared.sum_kind.Spaces.{Spaces}
-use Rattle.pb_sums.specs.declared.sum_kind.Part.{Part}
 use Rattle.pb_sums.proofs.lemmas.machine.LetterKinds.{on_letter}
 use Rattle.pb_sums.proofs.lemmas.machine.Flags.{flag, gone, ended}
 use Rattle.pb_sums.proofs.lemmas.machine.Theorems.{exact, alive}

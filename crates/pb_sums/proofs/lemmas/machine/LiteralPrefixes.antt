@@ -1,12 +1,7 @@
 -- A literal that is read byte by byte: the first byte of its name, and more of them. Offered to other crates.
-use Rattle.std.proofs.Common.{◌≡◌, ℕ, Bool, true, false, List, [], ◌∷◌, ◌++◌, refl, sym, subst}
-use Rattle.std.specs.Prelude.{IsTrue}
-use Rattle.pb_text.specs.meaning.Classes.{is_letter, is_name_byte}
-use Rattle.pb_text.specs.meaning.Languages.{unmarked, Language, Bytes}
-use Rattle.pb_text.specs.meaning.Spelling.{Letter}
-use Rattle.pb_text.proofs.lemmas.text.Languages.{each-append}
+use Rattle.pb_sums.proofs.Common.{ℕ, ◌++◌, ◌∷◌, ◌≡◌, [], Bool, false, List, refl, subst, sym, true, IsTrue, each-append, is_letter, is_name_byte}
+use Rattle.pb_sums.proofs.Common.{Bytes, Language, unmarked, Letter, IsName, literal_bytes, SpellsLiteral}
 use Rattle.pb_text.proofs.lemmas.text.Letters.{bytes_one_more}
-use Rattle.pb_sums.specs.meaning.Sums.{IsName, literal_bytes, SpellsLiteral}
 
 abbrev pub IsFirst : List ℕ → Type 0
 IsFirst [] = ⊥

@@ -1,11 +1,6 @@
 -- What comes before a state: the text that the machine has read is a part of the grammar.
-use Rattle.pb_text.proofs.lemmas.text.Languages.{none_yet, regroup, regroup3, after_it, nil_first}
-use Rattle.pb_sums.specs.meaning.Sums.{Spaces1, SpellsTerm, SpellsFurther, SpellsSum}
-use Rattle.pb_sums.specs.declared.sum_kind.Spaces.{Spaces}
-use Rattle.pb_sums.specs.declared.linear.Term.{Term}
-use Rattle.pb_text.specs.meaning.Languages.{Language, ◌⋅◌, Empty}
-use Rattle.pb_text.specs.meaning.Spelling.{Letter}
-use Rattle.std.proofs.Common.{ℕ, List, [], ◌∷◌, ◌++◌, refl}
+use Rattle.pb_sums.proofs.Common.{ℕ, ◌++◌, ◌∷◌, [], List, refl, after_it, nil_first, none_yet, regroup, regroup3, ◌⋅◌, Empty, Language, Letter, Term}
+use Rattle.pb_sums.proofs.Common.{Spaces, Spaces1, SpellsFurther, SpellsSum, SpellsTerm}
 
 abbrev pub IsCons : List Term → Type 0
 IsCons [] = ⊥

@@ -1,25 +1,12 @@
 -- A push does what the transition says.
-use Rattle.std.proofs.Common.{◌≡◌, ℕ, ℤ, Bool, true, false, ◌||◌, ◌&&◌, List, [], ◌∷◌, ◌++◌, refl, sym, ap, subst, ◌∙◌}
-use Rattle.std.specs.Prelude.{IsTrue, if◌then◌else◌}
-use Rattle.pb_text.specs.contract.Automaton.{Go, End, Refuse, Admits, IsState, Pushes}
-use Rattle.pb_text.specs.meaning.Classes.{is_digit}
+use Rattle.pb_sums.proofs.Common.{ℕ, ℤ, ◌&&◌, ◌++◌, ◌||◌, ◌∙◌, ◌∷◌, ◌≡◌, [], ap, Bool, false, List, refl, subst, sym, true, if◌then◌else◌, IsTrue}
+use Rattle.pb_sums.proofs.Common.{end_or_refuse, go_or_refuse, Admits, End, Go, IsState, Pushes, Refuse, is_digit, Relation, SumEvent, Term, Action}
+use Rattle.pb_sums.proofs.Common.{Add, Begin, EndLinear, EndSum, Stop, To, Kind, Phase, Part, Spaces, act, adds, at_name, flushed, is_in_number}
+use Rattle.pb_sums.proofs.Common.{is_more, is_numeric, kind, letter_at, to, transition, asks, IsInOrder, over, sums, SumState, standing}
 use Rattle.pb_text.specs.declared.machine.Push.{Push}
 use Rattle.pb_text.specs.declared.machine.Push.TheVariants as push
-use Rattle.pb_sums.specs.engine.Machine.{act, transition, kind, letter_at, is_numeric, is_in_number, flushed, to, at_name, adds, is_more}
-use Rattle.pb_sums.specs.engine.State.{SumState, sums, over, asks, IsInOrder}
-use Rattle.pb_sums.specs.declared.linear.Term.{Term}
-use Rattle.pb_sums.specs.declared.linear.Relation.{Relation}
-use Rattle.pb_sums.specs.declared.linear.SumEvent.{SumEvent}
 use Rattle.pb_sums.specs.declared.linear.SumEvent as event
-use Rattle.pb_sums.specs.declared.sum_kind.Spaces.{Spaces}
-use Rattle.pb_sums.specs.declared.sum_kind.Part.{Part}
-use Rattle.pb_sums.specs.declared.phase.Phase.{Phase}
 use Rattle.pb_sums.specs.declared.phase.Phase as phase
-use Rattle.pb_sums.specs.declared.phase.Kind.{Kind}
-use Rattle.pb_sums.specs.declared.phase.Action.{Action}
-use Rattle.pb_sums.specs.declared.phase.Action.TheVariants.{To, Begin, Add, EndSum, EndLinear, Stop}
-use Rattle.pb_sums.specs.engine.TermParts.{standing}
-use Rattle.pb_text.proofs.lemmas.machine.Outcomes.{go_or_refuse, end_or_refuse}
 use Rattle.pb_sums.proofs.lemmas.machine.States.{admits, is_state}
 
 abbrev pub IsTaken : Action → Type 0

@@ -2,31 +2,14 @@
 use Rattle.pb_sums.proofs.lemmas.machine.Prefixes.{IsCons, cons-append, Before, sum-append}
 use Rattle.pb_sums.proofs.lemmas.machine.LiteralPrefixes.{first-append, name-append, FirstOf, LiteralOf, name-bytes}
 use Rattle.pb_sums.proofs.lemmas.machine.LetterKinds.{on_letter, Means, kind-means}
-use Rattle.pb_sums.specs.engine.Machine.{Work, action, act, kind, term, digits, number, next_action, fresh, finished}
-use Rattle.pb_sums.specs.meaning.Sums.{is_space, Spaces0, Spaces1, SpellsSum, Head, SpellsRelation, Spells, reads_sums, allows}
-use Rattle.pb_sums.specs.declared.phase.Kind.{Kind}
-use Rattle.pb_sums.specs.declared.phase.Kind.TheVariants.{Space, Digit, Start, Inner, Tilde, Plus, Minus, Greater, Equals, Semicolon}
-use Rattle.pb_sums.specs.declared.phase.Action.{Action}
-use Rattle.pb_sums.specs.declared.phase.Action.TheVariants.{To, EndSum, Stop}
-use Rattle.pb_sums.specs.declared.sum_kind.Part.{Part}
-use Rattle.pb_sums.specs.declared.phase.Phase.{Phase}
-use Rattle.pb_sums.specs.declared.sum_kind.Spaces.{Spaces}
-use Rattle.pb_sums.specs.declared.linear.Relation.{Relation}
-use Rattle.pb_sums.specs.declared.linear.Relation.TheVariants.{AtLeast, Equal}
-use Rattle.pb_sums.specs.declared.linear.SumEvent.{SumEvent}
-use Rattle.pb_sums.specs.declared.linear.Term.{Term}
-use Rattle.pb_text.proofs.lemmas.text.ByteTests.{letter_name}
-use Rattle.pb_text.proofs.lemmas.text.Languages.{grown, next, none_yet, regroup, inside, after_it, many-grown, some-grown, some-one, some-many}
-use Rattle.pb_text.proofs.lemmas.numbers.Numbers.{digits-grown, digits-one}
-use Rattle.pb_text.proofs.lemmas.machine.Runs.{run, OnPrefix, kept}
-use Rattle.pb_text.specs.contract.Automaton.{Next, Go, End}
-use Rattle.pb_text.specs.meaning.Classes.{is_name_byte}
-use Rattle.pb_text.specs.meaning.Languages.{unmarked, Language, ◌⋅◌, Empty, Byte}
-use Rattle.pb_text.specs.meaning.Numbers.{Digits, Sign, signed, Number}
-use Rattle.pb_text.specs.meaning.Spelling.{Letter}
-use Rattle.std.proofs.Common.{◌≡◌, ℕ, ◌+◌, ◌*◌, ◌≤◌, Bool, true, false, cond, List, [], ◌∷◌, ◌++◌, refl, sym, ap, subst, inl, inr, ◌∙◌}
-use Rattle.std.proofs.lemmas.Bool.{leb-true}
-use Rattle.std.specs.Prelude.{IsTrue, nat_le, ℤ, Option, Some, None}
+use Rattle.pb_sums.proofs.Common.{ℕ, ℤ, ◌*◌, ◌++◌, ◌+◌, ◌∙◌, ◌∷◌, ◌≡◌, ◌≤◌, [], ap, Bool, cond, false, inl, inr, List, None, Option, refl, Some}
+use Rattle.pb_sums.proofs.Common.{subst, sym, true, IsTrue, nat_le, leb-true, kept, OnPrefix, run, digits-grown, digits-one, letter_name, after_it}
+use Rattle.pb_sums.proofs.Common.{inside, many-grown, next, none_yet, regroup, some-grown, some-many, some-one, End, Go, Next, is_name_byte, ◌⋅◌}
+use Rattle.pb_sums.proofs.Common.{Byte, Empty, Language, unmarked, Digits, Number, Sign, signed, Letter, Relation, AtLeast, Equal, SumEvent, Term}
+use Rattle.pb_sums.proofs.Common.{Action, EndSum, Stop, To, Kind, Digit, Equals, Greater, Inner, Minus, Plus, Semicolon, Space, Start, Tilde, Phase}
+use Rattle.pb_sums.proofs.Common.{Part, Spaces, act, action, digits, finished, fresh, kind, next_action, number, term, Work, allows, Head, is_space}
+use Rattle.pb_sums.proofs.Common.{reads_sums, Spaces0, Spaces1, Spells, SpellsRelation, SpellsSum}
+use Rattle.pb_text.proofs.lemmas.text.Languages.{grown}
 use Rattle.pb_sums.specs.declared.phase.Phase as phase
 
 module _ (spaces : Spaces) (want : Part) (limit : ℕ) where

@@ -1,22 +1,12 @@
 -- What holds of each state of a machine, and what its first state accepts. Offered to other crates.
-use Rattle.std.proofs.Common.{◌≡◌, ℕ, ◌+◌, ◌≤◌, ◌^◌, ◌-◌, min, true, false, List, [], ◌∷◌, length, refl, sym, ap, subst, arith, ◌∙◌, ◌↔◌}
-use Rattle.std.proofs.Math.Nat.{min-le_left}
-use Rattle.pb_text.specs.contract.Automaton.{Next, Go, End, Refuse, ReadsStatement, SkipsGap, AcceptsItems, Admits, IsState}
-use Rattle.pb_text.specs.meaning.Spelling.{Letter, Item}
-use Rattle.pb_sums.specs.declared.linear.Term.{Term}
-use Rattle.pb_sums.specs.engine.Machine.{PhaseFits, Work, Outcome, act, step, transition, kind, letter_at, is_numeric, is_in_number, is_midway, is_done, finished, flushed, is_more}
-use Rattle.pb_sums.specs.engine.State.{SumState, sums, over, first, last, with_work, units, in_hand, ready, all_units, IsInOrder}
-use Rattle.pb_sums.specs.meaning.Sums.{IsOneText}
-use Rattle.pb_sums.specs.declared.linear.SumEvent.{SumEvent}
-use Rattle.pb_sums.specs.declared.phase.Kind.{Kind}
-use Rattle.pb_sums.specs.declared.phase.Phase.{Phase}
+use Rattle.pb_sums.proofs.Common.{ℕ, ◌+◌, ◌-◌, ◌^◌, ◌↔◌, ◌∙◌, ◌∷◌, ◌≡◌, ◌≤◌, [], ap, arith, false, length, List, min, refl, subst, sym, true}
+use Rattle.pb_sums.proofs.Common.{min-le_left, end_or_go, go_or_end, one_end, one_state, refuse_or_end, refuse_or_go, never, AcceptsItems, Admits}
+use Rattle.pb_sums.proofs.Common.{End, Go, IsState, Next, ReadsStatement, Refuse, SkipsGap, Item, Letter, SumEvent, Term, Stop, Kind, Phase, Part}
+use Rattle.pb_sums.proofs.Common.{Spaces, act, finished, flushed, is_done, is_in_number, is_midway, is_more, is_numeric, kind, letter_at, Outcome}
+use Rattle.pb_sums.proofs.Common.{PhaseFits, step, transition, Work, all_units, first, in_hand, IsInOrder, last, over, ready, sums, SumState, units}
+use Rattle.pb_sums.proofs.Common.{with_work, IsOneText}
 use Rattle.pb_sums.specs.declared.phase.Phase as phase
-use Rattle.pb_sums.specs.declared.sum_kind.Spaces.{Spaces}
-use Rattle.pb_sums.specs.declared.sum_kind.Part.{Part}
-use Rattle.pb_sums.specs.declared.phase.Action.TheVariants.{Stop}
-use Rattle.pb_text.proofs.lemmas.machine.Outcomes.{one_state, one_end, go_or_end, refuse_or_go, refuse_or_end, end_or_go}
 use Rattle.pb_text.proofs.lemmas.machine.OneText.{IsOfOne, is_state as of_one_state, admits as of_one_admits}
-use Rattle.pb_text.proofs.lemmas.text.Booleans.{never}
 use Rattle.pb_sums.proofs.lemmas.machine.Flags.{gone, ended}
 use Rattle.pb_sums.proofs.lemmas.machine.Links.{midway-not-done, reads_grammar, reads_something}
 use Rattle.pb_sums.proofs.lemmas.machine.Counts.{potential, letter-grows}

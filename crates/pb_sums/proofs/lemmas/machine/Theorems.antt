@@ -2,25 +2,10 @@
 use Rattle.pb_sums.proofs.lemmas.machine.Complete.{reads_each}
 use Rattle.pb_sums.proofs.lemmas.machine.LetterKinds.{on_letter}
 use Rattle.pb_sums.proofs.lemmas.machine.Sound.{reads_only}
-use Rattle.pb_sums.specs.engine.Machine.{is_done, Work, act, term, to, at_name, digits, next_action, fresh, finished}
-use Rattle.pb_sums.specs.meaning.Sums.{Spells}
-use Rattle.pb_sums.specs.declared.phase.Kind.TheVariants.{Greater, Semicolon}
-use Rattle.pb_sums.specs.declared.phase.Action.TheVariants.{To, Stop}
-use Rattle.pb_sums.specs.declared.sum_kind.Part.{Part}
-use Rattle.pb_sums.specs.declared.phase.Phase.{Phase}
-use Rattle.pb_sums.specs.declared.sum_kind.Spaces.{Spaces}
-use Rattle.pb_sums.specs.declared.linear.Relation.{Relation}
-use Rattle.pb_sums.specs.declared.linear.Relation.TheVariants.{AtLeast}
-use Rattle.pb_sums.specs.declared.linear.SumEvent.{SumEvent}
-use Rattle.pb_sums.specs.declared.linear.Term.{Term}
-use Rattle.pb_text.proofs.lemmas.machine.Runs.{run, run-append}
-use Rattle.pb_text.specs.contract.Automaton.{Next, Go, End, Refuse}
-use Rattle.pb_text.specs.meaning.Languages.{unmarked, digit, Language}
-use Rattle.pb_text.specs.meaning.Numbers.{signed}
-use Rattle.pb_text.specs.meaning.Spelling.{Letter}
-use Rattle.std.proofs.Common.{◌≡◌, ℕ, Bool, true, false, cond, List, [], ◌∷◌, ◌++◌, refl, sym, ap, arith, ◌∙◌, ◌↔◌}
-use Rattle.std.proofs.lemmas.Bool.{le-leb}
-use Rattle.std.specs.Prelude.{ℤ, Option, Some, None}
+use Rattle.pb_sums.proofs.Common.{ℕ, ℤ, ◌++◌, ◌↔◌, ◌∙◌, ◌∷◌, ◌≡◌, [], ap, arith, Bool, cond, false, List, None, Option, refl, Some, sym, true, le-leb}
+use Rattle.pb_sums.proofs.Common.{run, run-append, End, Go, Next, Refuse, digit, Language, unmarked, signed, Letter, Relation, AtLeast, SumEvent}
+use Rattle.pb_sums.proofs.Common.{Term, Stop, To, Greater, Semicolon, Phase, Part, Spaces, act, at_name, digits, finished, fresh, is_done}
+use Rattle.pb_sums.proofs.Common.{next_action, term, to, Work, Spells}
 use Rattle.pb_sums.specs.declared.sum_kind.Part as part
 use Rattle.pb_sums.specs.declared.linear.SumEvent as event
 use Rattle.pb_sums.specs.declared.phase.Phase as phase

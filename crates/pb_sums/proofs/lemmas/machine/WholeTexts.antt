@@ -1,14 +1,8 @@
 -- A linear text that is read at once. Offered to other crates.
-use Rattle.std.proofs.Common.{◌≡◌, ℕ, zero, suc, ◌<◌, List, [], take, refl, sym, ap, arith}
-use Rattle.std.proofs.lemmas.Bool.{false≢true}
-use Rattle.pb_text.specs.contract.Automaton.{End, IsState}
-use Rattle.pb_sums.specs.engine.State.{SumState, sums, last}
-use Rattle.pb_sums.specs.engine.TermParts.{standing, LeadsToLinear}
-use Rattle.pb_sums.specs.declared.linear.Linear.{Linear}
+use Rattle.pb_sums.proofs.Common.{ℕ, ◌<◌, ◌≡◌, [], ap, arith, List, refl, suc, sym, take, zero, false≢true, End, IsState, Linear, Part, Spaces, last}
+use Rattle.pb_sums.proofs.Common.{sums, SumState, LeadsToLinear, standing}
 use Rattle.pb_sums.specs.declared.linear.SumEvent as event
 use Rattle.pb_sums.specs.declared.phase.Phase as phase
-use Rattle.pb_sums.specs.declared.sum_kind.Part.{Part}
-use Rattle.pb_sums.specs.declared.sum_kind.Spaces.{Spaces}
 use Rattle.pb_sums.proofs.lemmas.machine.States.{is_state}
 
 -- the state before the `;`

@@ -1,26 +1,11 @@
 -- Numbers that are taken at once, and the run that they form.
-use Rattle.std.proofs.Common.{◌≡◌, ℕ, ◌+◌, ◌-◌, ◌*◌, ◌<◌, ◌≤◌, Bool, true, false, List, [], ◌∷◌, ◌++◌, take, drop, length, Option, refl, sym, subst, ap, arith, ◌∙◌, ◌==◌}
-use Rattle.std.proofs.lemmas.Bool.{eqb-true, le-leb}
-use Rattle.std.proofs.lemmas.List.{length-take-le}
-use Rattle.std.specs.Prelude.{IsTrue}
+use Rattle.pb_sums.proofs.Common.{ℕ, ◌*◌, ◌++◌, ◌+◌, ◌-◌, ◌<◌, ◌==◌, ◌∙◌, ◌∷◌, ◌≡◌, ◌≤◌, [], ap, arith, Bool, drop, false, length, List, Option, refl}
+use Rattle.pb_sums.proofs.Common.{subst, sym, take, true, IsTrue, eqb-true, le-leb, length-take-le, prefix_parts, Go, Runs, value_from, is_digit}
+use Rattle.pb_sums.proofs.Common.{Relation, Term, To, Kind, Digit, Minus, Plus, Phase, Part, Spaces, digits, flushed, is_numeric, kind, letter_at}
+use Rattle.pb_sums.proofs.Common.{transition, begins_number, HasSign, IsSign, role, sign_read, sums, SumState}
 use Rattle.pb_text.proofs.lemmas.numbers.DigitValues.{AreDigits, value-grows}
-use Rattle.pb_text.specs.contract.Automaton.{Go, Runs}
-use Rattle.pb_text.specs.meaning.Classes.{is_digit}
-use Rattle.pb_text.specs.contract.Digits.{value_from}
-use Rattle.pb_sums.specs.engine.Machine.{transition, digits, kind, letter_at, flushed, is_numeric}
-use Rattle.pb_sums.specs.engine.Prefix.{IsSign, HasSign, begins_number, role, sign_read}
-use Rattle.pb_sums.specs.engine.State.{SumState, sums}
-use Rattle.pb_sums.specs.declared.linear.Relation.{Relation}
-use Rattle.pb_sums.specs.declared.linear.Term.{Term}
-use Rattle.pb_sums.specs.declared.sum_kind.Spaces.{Spaces}
-use Rattle.pb_sums.specs.declared.sum_kind.Part.{Part}
-use Rattle.pb_sums.specs.declared.phase.Kind.{Kind}
-use Rattle.pb_sums.specs.declared.phase.Kind.TheVariants.{Digit, Plus, Minus}
-use Rattle.pb_sums.specs.declared.phase.Action.TheVariants.{To}
-use Rattle.pb_sums.specs.declared.phase.Phase.{Phase}
 use Rattle.pb_sums.specs.declared.phase.Phase as phase
 use Rattle.pb_sums.proofs.lemmas.machine.Pushes.{goes_to}
-use Rattle.pb_text.proofs.lemmas.text.Spans.{prefix_parts}
 use Rattle.pb_sums.proofs.lemmas.machine.States.{midway_state}
 
 pub none_there : (name : List ℕ) → (length name == 0) ≡ true → name ≡ []

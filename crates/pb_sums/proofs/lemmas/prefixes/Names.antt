@@ -1,18 +1,7 @@
 -- Names that are taken at once, and the run that they form.
-use Rattle.std.proofs.Common.{◌≡◌, ℕ, ℤ, ◌≤◌, Bool, true, false, List, [], ◌∷◌, ◌++◌, length, get_or, Some, refl, sym, ap, subst, arith, ◌∙◌, ◌⊎◌, inl, inr, append-nil, append_assoc}
-use Rattle.std.specs.Prelude.{IsTrue}
-use Rattle.pb_text.specs.contract.Automaton.{Go, IsState, Runs}
-use Rattle.pb_text.specs.meaning.Classes.{is_letter, is_name_byte}
-use Rattle.pb_text.specs.meaning.Languages.{Each, unmarked}
-use Rattle.pb_sums.specs.engine.Machine.{action, kind, is_more}
-use Rattle.pb_sums.specs.engine.Prefix.{after_name}
-use Rattle.pb_sums.specs.engine.State.{SumState, sums, over}
-use Rattle.pb_sums.specs.declared.linear.Term.{Term}
-use Rattle.pb_sums.specs.declared.sum_kind.Spaces.{Spaces}
-use Rattle.pb_sums.specs.declared.sum_kind.Part.{Part}
-use Rattle.pb_sums.specs.declared.phase.Kind.{Kind}
-use Rattle.pb_sums.specs.declared.phase.Kind.TheVariants.{Start, Inner}
-use Rattle.pb_sums.specs.declared.phase.Phase.{Phase}
+use Rattle.pb_sums.proofs.Common.{ℕ, ℤ, ◌++◌, ◌∙◌, ◌∷◌, ◌≡◌, ◌≤◌, ◌⊎◌, [], ap, append-nil, append_assoc, arith, Bool, false, get_or, inl, inr, length}
+use Rattle.pb_sums.proofs.Common.{List, refl, Some, subst, sym, true, IsTrue, Go, IsState, Runs, is_letter, is_name_byte, Each, unmarked, Term, Kind}
+use Rattle.pb_sums.proofs.Common.{Inner, Start, Phase, Part, Spaces, action, is_more, kind, after_name, over, sums, SumState}
 use Rattle.pb_sums.specs.declared.phase.Phase as phase
 use Rattle.pb_sums.proofs.lemmas.machine.LetterKinds.{kind-name, kind-letter}
 use Rattle.pb_sums.proofs.lemmas.machine.States.{midway_state}

@@ -1,28 +1,14 @@
 -- Whole terms that are taken at once, and the run that they form.
-use Rattle.std.proofs.Common.{◌≡◌, ℕ, ℤ, ◌+◌, ◌<◌, ◌≤◌, Bool, true, false, List, [], ◌∷◌, ◌++◌, take, get_or, length, Option, Some, None, refl, sym, subst, arith}
-use Rattle.std.specs.Prelude.{IsTrue, Result, Ok, Err, is_ok, is_err, if◌then◌else◌}
-use Rattle.pb_text.specs.contract.Automaton.{Go, IsState, Runs}
-use Rattle.pb_text.specs.meaning.Classes.{is_digit, is_letter, is_name_byte}
-use Rattle.pb_text.specs.contract.Digits.{value_from}
-use Rattle.pb_text.specs.meaning.Languages.{Each}
-use Rattle.pb_text.specs.meaning.Numbers.{signed}
+use Rattle.pb_sums.proofs.Common.{ℕ, ℤ, ◌++◌, ◌+◌, ◌<◌, ◌∷◌, ◌≡◌, ◌≤◌, [], arith, Bool, false, get_or, length, List, None, Option, refl, Some, subst}
+use Rattle.pb_sums.proofs.Common.{sym, take, true, Err, if◌then◌else◌, is_err, is_ok, IsTrue, Ok, Result, runs_further, Go, IsState, Runs, value_from}
+use Rattle.pb_sums.proofs.Common.{is_digit, is_letter, is_name_byte, Each, signed, relation_bytes, Relation, AtLeast, Equal, Term, Phase, Part}
+use Rattle.pb_sums.proofs.Common.{Spaces, after_name, after_number, begins_number, begins_relation, HasSign, role, sign_read, text_after, sums}
+use Rattle.pb_sums.proofs.Common.{SumState, begins_term, IsLiteral, IsSpacedNumber, IsTilde, standing, allows}
 use Rattle.pb_text.proofs.lemmas.machine.Running.{runs_on}
-use Rattle.pb_sums.specs.engine.Prefix.{HasSign, begins_number, begins_relation, role, sign_read, after_name, after_number, text_after}
-use Rattle.pb_sums.specs.engine.State.{SumState, sums}
-use Rattle.pb_sums.specs.engine.TermParts.{begins_term, IsTilde, standing, IsSpacedNumber, IsLiteral}
-use Rattle.pb_sums.specs.contract.Canonical.{relation_bytes}
-use Rattle.pb_sums.specs.meaning.Sums.{allows}
 use Rattle.pb_sums.specs.declared.linear.Literal.{Literal}
-use Rattle.pb_sums.specs.declared.linear.Relation.{Relation}
-use Rattle.pb_sums.specs.declared.linear.Relation.TheVariants.{AtLeast, Equal}
-use Rattle.pb_sums.specs.declared.linear.Term.{Term}
-use Rattle.pb_sums.specs.declared.sum_kind.Spaces.{Spaces}
-use Rattle.pb_sums.specs.declared.sum_kind.Part.{Part}
-use Rattle.pb_sums.specs.declared.phase.Phase.{Phase}
 use Rattle.pb_sums.specs.declared.phase.Phase as phase
 use Rattle.pb_sums.proofs.lemmas.prefixes.Digits.{number_runs}
 use Rattle.pb_sums.proofs.lemmas.prefixes.Names.{name_runs}
-use Rattle.pb_text.proofs.lemmas.text.Spans.{runs_further}
 use Rattle.pb_sums.proofs.lemmas.machine.States.{midway_state}
 
 pub grown : {A T E : Type 0} (r : Result T E) (new more old : List A) → new ≡ (if is_ok r then more else old) → is_err r ≡ false → new ≡ more

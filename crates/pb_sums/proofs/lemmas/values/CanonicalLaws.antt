@@ -1,19 +1,12 @@
 -- The canonical text of a value is a text of that value. Offered to other crates.
-use Rattle.std.proofs.Common.{◌≡◌, ℕ, suc, ◌^◌, ◌<◌, ◌≤◌, List, [], ◌∷◌, ◌++◌, refl, ap, arith, inl, inr, append_assoc, ◌∙◌, true, false}
+use Rattle.pb_sums.proofs.Common.{ℕ, ℤ, ◌++◌, ◌<◌, ◌^◌, ◌∙◌, ◌∷◌, ◌≡◌, ◌≤◌, [], ap, append_assoc, arith, decimal, false, inl, inr, List, refl, suc}
+use Rattle.pb_sums.proofs.Common.{true, nat_abs, negsuc, pos, decimal-digits, bytes-append, bytes-digits, bytes-plain, unmarked, Number, bytes}
+use Rattle.pb_sums.proofs.Common.{digits_of, Letter, AreTerms, degree_text, further_text, head_bytes, head_text, IsLinear, IsTerm, linear_bytes}
+use Rattle.pb_sums.proofs.Common.{linear_text, literal_text, relation_bytes, relation_text, space, sum_bytes, sum_text, term_bytes, term_text}
+use Rattle.pb_sums.proofs.Common.{weight_bytes, weight_text, Linear, Relation, AtLeast, Equal, Term, Spaces, Head, literal_bytes, Spaces0, Spaces1}
+use Rattle.pb_sums.proofs.Common.{SpellsFurther, SpellsLinear, SpellsRelation, SpellsSum, SpellsTerm}
 use Rattle.std.specs.Fmt.{signed_decimal}
-use Rattle.std.specs.Prelude.{ℤ, pos, negsuc, nat_abs, decimal}
-use Rattle.pb_text.specs.meaning.Languages.{unmarked}
-use Rattle.pb_text.specs.meaning.Numbers.{Number}
-use Rattle.pb_text.specs.meaning.Spelling.{Letter, digits_of, bytes}
-use Rattle.pb_text.proofs.lemmas.text.Languages.{bytes-append, bytes-plain, bytes-digits}
-use Rattle.pb_text.proofs.lemmas.numbers.Numbers.{decimal-digits}
-use Rattle.pb_sums.specs.meaning.Sums.{literal_bytes, Spaces0, Spaces1, SpellsTerm, SpellsFurther, SpellsSum, Head, SpellsRelation, SpellsLinear}
-use Rattle.pb_sums.specs.contract.Canonical.{space, degree_text, weight_text, literal_text, term_text, further_text, sum_text, head_text, relation_text, linear_text, IsTerm, AreTerms, IsLinear, weight_bytes, term_bytes, further_bytes, sum_bytes, head_bytes, relation_bytes, linear_bytes}
-use Rattle.pb_sums.specs.declared.linear.Term.{Term}
-use Rattle.pb_sums.specs.declared.linear.Relation.{Relation}
-use Rattle.pb_sums.specs.declared.linear.Relation.TheVariants.{AtLeast, Equal}
-use Rattle.pb_sums.specs.declared.linear.Linear.{Linear}
-use Rattle.pb_sums.specs.declared.sum_kind.Spaces.{Spaces}
+use Rattle.pb_sums.specs.contract.Canonical.{further_bytes}
 
 module _ (limit : ℕ) (small : limit < 10 ^ 64) where
   weight : (z : ℤ) → nat_abs z ≤ limit → Number limit z (weight_text z)

@@ -1,9 +1,6 @@
 -- Rules that each term of a list satisfies.
-use Rattle.std.proofs.Common.{◌≡◌, ℕ, zero, suc, ◌+◌, ◌<◌, Bool, true, false, List, [], ◌∷◌, ◌++◌, length, take, get_or, sym, subst, arith, ◌∙◌, ◌↔◌}
-use Rattle.std.specs.Prelude.{IsTrue}
-use Rattle.std.proofs.lemmas.List.{take_more}
-use Rattle.pb_sums.specs.contract.Canonical.{IsTerm, AreTerms}
-use Rattle.pb_sums.specs.declared.linear.Term.{Term}
+use Rattle.pb_sums.proofs.Common.{ℕ, ◌++◌, ◌+◌, ◌<◌, ◌↔◌, ◌∙◌, ◌∷◌, ◌≡◌, [], arith, Bool, false, get_or, length, List, subst, suc, sym, take, true}
+use Rattle.pb_sums.proofs.Common.{zero, IsTrue, take_more, AreTerms, IsTerm, Term}
 
 terms-append : (limit : ℕ) (xs : List Term) (x : Term) → AreTerms limit xs → IsTerm limit x → AreTerms limit (xs ++ x ∷ [])
 terms-append limit [] x e f = (f, tt)

@@ -1,17 +1,8 @@
 -- A text of a value remains one if numbers may be larger. Offered to other crates.
-use Rattle.std.proofs.Common.{ℕ, ◌≤◌, List, [], ◌∷◌}
-use Rattle.pb_text.specs.meaning.Languages.{Language, ◌⋅◌, Byte}
-use Rattle.pb_text.specs.meaning.Numbers.{Number}
-use Rattle.pb_text.specs.meaning.Spelling.{Letter}
-use Rattle.pb_text.proofs.lemmas.text.Languages.{each_side}
-use Rattle.pb_text.proofs.lemmas.numbers.Numbers.{number-within}
-use Rattle.pb_sums.specs.meaning.Sums.{Spaces0, Spaces1, SpellsLiteral, SpellsTerm, SpellsFurther, SpellsSum, Head, SpellsRelation, SpellsLinear, Spells}
-use Rattle.pb_sums.specs.declared.linear.Term.{Term}
-use Rattle.pb_sums.specs.declared.linear.Linear.{Linear}
-use Rattle.pb_sums.specs.declared.linear.SumEvent.{SumEvent}
+use Rattle.pb_sums.proofs.Common.{ℕ, ◌∷◌, ◌≤◌, [], List, number-within, each_side, ◌⋅◌, Byte, Language, Number, Letter, Linear, SumEvent, Term, Part}
+use Rattle.pb_sums.proofs.Common.{Spaces, Head, Spaces0, Spaces1, Spells, SpellsFurther, SpellsLinear, SpellsLiteral, SpellsRelation, SpellsSum}
+use Rattle.pb_sums.proofs.Common.{SpellsTerm}
 use Rattle.pb_sums.specs.declared.linear.SumEvent as event
-use Rattle.pb_sums.specs.declared.sum_kind.Spaces.{Spaces}
-use Rattle.pb_sums.specs.declared.sum_kind.Part.{Part}
 
 module _ (spaces : Spaces) (small large : ℕ) (h : small ≤ large) where
   abbrev Grows : (ℕ → Language) → Type 0

@@ -1,13 +1,6 @@
 -- The value of a text under a limit is within that limit. Offered to other crates.
-use Rattle.std.proofs.Common.{ℕ, zero, suc, ◌≤◌, List, [], ◌∷◌, Bool, true, false, subst, sym}
-use Rattle.std.specs.Prelude.{ℤ, nat_abs}
-use Rattle.pb_text.specs.meaning.Spelling.{Letter}
-use Rattle.pb_text.specs.meaning.Numbers.{Number, signed}
-use Rattle.pb_sums.specs.meaning.Sums.{SpellsTerm, SpellsFurther, SpellsSum, Head, SpellsLinear}
-use Rattle.pb_sums.specs.contract.Canonical.{IsTerm, AreTerms, IsLinear}
-use Rattle.pb_sums.specs.declared.linear.Term.{Term}
-use Rattle.pb_sums.specs.declared.linear.Linear.{Linear}
-use Rattle.pb_sums.specs.declared.sum_kind.Spaces.{Spaces}
+use Rattle.pb_sums.proofs.Common.{ℕ, ℤ, ◌∷◌, ◌≤◌, [], Bool, false, List, subst, suc, sym, true, zero, nat_abs, Number, signed, Letter, AreTerms}
+use Rattle.pb_sums.proofs.Common.{IsLinear, IsTerm, Linear, Term, Spaces, Head, SpellsFurther, SpellsLinear, SpellsSum, SpellsTerm}
 
 signed-within : (limit : ℕ) (negative : Bool) (n : ℕ) → n ≤ limit → nat_abs (signed negative n) ≤ limit
 signed-within limit false n h = h

@@ -1,9 +1,8 @@
 -- What is written, in parts.
-use Rattle.std.proofs.Common.{◌≡◌, ℕ, suc, ◌+◌, ◌-◌, ◌<◌, ◌≤◌, List, [], ◌∷◌, ◌++◌, take, drop, length, refl, ap, sym, append_assoc, ◌∙◌, arith, get_or, take-append-drop}
-use Rattle.std.proofs.lemmas.List.{append-nil, take_more, drop_all}
+use Rattle.pb_sums.proofs.Common.{ℕ, ◌++◌, ◌+◌, ◌-◌, ◌<◌, ◌∙◌, ◌∷◌, ◌≡◌, ◌≤◌, [], ap, append-nil, append_assoc, arith, drop, get_or, length, List}
+use Rattle.pb_sums.proofs.Common.{refl, suc, sym, take, take-append-drop, drop_all, take_more, head_bytes, sum_bytes, term_bytes, Term}
 use Rattle.std.proofs.Math.Seq.{drop-cons}
-use Rattle.pb_sums.specs.contract.Canonical.{term_bytes, further_bytes, sum_bytes, head_bytes}
-use Rattle.pb_sums.specs.declared.linear.Term.{Term}
+use Rattle.pb_sums.specs.contract.Canonical.{further_bytes}
 
 pub further-append : (xs ys : List Term) → further_bytes (xs ++ ys) ≡ further_bytes xs ++ further_bytes ys
 unfolding further_bytes

@@ -1,8 +1,5 @@
-use Rattle.std.proofs.Common.{◌≡◌, ◌≤◌, length, take, get_or, sym, ap, ◌∙◌, arith}
-use Rattle.std.proofs.lemmas.List.{length-take-le, get_or-take}
-use Rattle.pb_text.specs.meaning.Classes.{is_letter}
+use Rattle.pb_sums.proofs.Common.{◌∙◌, ◌≡◌, ◌≤◌, ap, arith, get_or, length, sym, take, get_or-take, length-take-le, is_letter, text_after}
 use Rattle.pb_sums.proofs.lemmas.values.Shorts.{name_utf8}
-use Rattle.pb_sums.specs.engine.Prefix.{text_after}
 use Rattle.pb_sums.proofs.lemmas.prefixes.TermParts.{literal_runs}
 use Rattle.pb_sums.proofs.term_prefix.literal_prefix.Goals as goal
 

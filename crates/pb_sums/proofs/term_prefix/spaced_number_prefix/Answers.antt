@@ -1,7 +1,5 @@
-use Rattle.std.proofs.Common.{arith}
+use Rattle.pb_sums.proofs.Common.{arith, ints, to_z-of_z, w128}
 use mir.Val.{SFits}
-use Rattle.std.specs.Int.{w128}
-use Rattle.std.proofs.lemmas.Int.{ints, to_z-of_z}
 use Rattle.pb_sums.proofs.lemmas.prefixes.TermParts.{spaced_number_runs}
 use Rattle.pb_sums.proofs.term_prefix.spaced_number_prefix.Goals as goal
 

@@ -1,4 +1,4 @@
-use Rattle.std.proofs.Common.{◌+◌, ◌-◌, ◌^◌, min, length, ap, ◌∙◌, arith}
+use Rattle.pb_sums.proofs.Common.{◌+◌, ◌-◌, ◌^◌, ◌∙◌, ap, arith, length, min}
 use Rattle.pb_sums.proofs.lemmas.machine.Counts.{count_more}
 use Rattle.pb_sums.proofs.units.count_units.Goals as goal
 

@@ -1,5 +1,4 @@
-use Rattle.std.proofs.Common.{◌≡◌, ◌-◌, ◌^◌, min, take}
-use Rattle.pb_sums.specs.engine.State.{units}
+use Rattle.pb_sums.proofs.Common.{◌-◌, ◌^◌, ◌≡◌, min, take, units}
 use Rattle.pb_sums.proofs.units.count_units.Given as goal
 
 abbrev pub invariant-loop-term : goal.invariant-loop-term

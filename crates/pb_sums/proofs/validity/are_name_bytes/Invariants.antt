@@ -1,7 +1,4 @@
-use Rattle.std.proofs.Common.{take}
-use Rattle.std.specs.Prelude.{IsTrue}
-use Rattle.pb_text.specs.meaning.Classes.{is_name_byte}
-use Rattle.pb_text.specs.meaning.Languages.{Each}
+use Rattle.pb_sums.proofs.Common.{take, IsTrue, is_name_byte, Each}
 use Rattle.pb_sums.proofs.validity.are_name_bytes.Given as goal
 
 abbrev pub invariant-loop-byte : goal.invariant-loop-byte

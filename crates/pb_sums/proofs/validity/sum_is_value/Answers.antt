@@ -1,5 +1,4 @@
-use Rattle.std.proofs.Common.{arith}
-use Rattle.pb_text.specs.meaning.Limits.{largest}
+use Rattle.pb_sums.proofs.Common.{arith, largest}
 use Rattle.pb_sums.proofs.lemmas.values.Elements.{one_passes, one_fails}
 use Rattle.pb_sums.proofs.validity.sum_is_value.Goals as goal
 

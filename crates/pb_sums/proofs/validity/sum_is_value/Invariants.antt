@@ -1,6 +1,4 @@
-use Rattle.std.proofs.Common.{take}
-use Rattle.pb_text.specs.meaning.Limits.{largest}
-use Rattle.pb_sums.specs.contract.Canonical.{AreTerms}
+use Rattle.pb_sums.proofs.Common.{take, largest, AreTerms}
 use Rattle.pb_sums.proofs.validity.sum_is_value.Given as goal
 
 abbrev pub invariant-loop-term : goal.invariant-loop-term

@@ -1,10 +1,5 @@
-use Rattle.std.proofs.Common.{arith, []}
+use Rattle.pb_sums.proofs.Common.{[], arith, ints, to_z-of_z, w128, runs_further, first, sums, standing}
 use mir.Val.{SFits}
-use Rattle.std.specs.Int.{w128}
-use Rattle.std.proofs.lemmas.Int.{ints, to_z-of_z}
-use Rattle.pb_text.proofs.lemmas.text.Spans.{runs_further}
-use Rattle.pb_sums.specs.engine.State.{sums, first}
-use Rattle.pb_sums.specs.engine.TermParts.{standing}
 use Rattle.pb_sums.specs.declared.phase.Phase as phase
 use Rattle.pb_sums.proofs.whole.linear_at.Goals as goal
 

@@ -1,7 +1,5 @@
-use Rattle.std.proofs.Common.{refl, arith, ◌++◌, ◌∷◌, []}
+use Rattle.pb_sums.proofs.Common.{◌++◌, ◌∷◌, [], arith, refl, ints, to_z-of_z, w128}
 use mir.Val.{SFits}
-use Rattle.std.specs.Int.{w128}
-use Rattle.std.proofs.lemmas.Int.{ints, to_z-of_z}
 use Rattle.pb_sums.proofs.lemmas.prefixes.TermParts.{term_runs}
 use Rattle.pb_sums.proofs.whole.term_at.Goals as goal
 

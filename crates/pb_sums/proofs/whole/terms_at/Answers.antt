@@ -1,8 +1,4 @@
-use Rattle.std.proofs.Common.{arith, ◌∷◌, ◌++◌, [], length, ◌-◌, drop, refl, sym}
-use Rattle.std.proofs.lemmas.List.{length-take, length-drop}
-use Rattle.pb_text.proofs.lemmas.text.Spans.{runs_further}
-use Rattle.pb_sums.specs.engine.State.{sums}
-use Rattle.pb_sums.specs.engine.TermParts.{standing}
+use Rattle.pb_sums.proofs.Common.{◌++◌, ◌-◌, ◌∷◌, [], arith, drop, length, length-drop, refl, sym, length-take, runs_further, sums, standing}
 use Rattle.pb_sums.specs.declared.phase.Phase as phase
 use Rattle.pb_sums.proofs.lemmas.prefixes.TermParts.{grown}
 use Rattle.pb_sums.proofs.whole.terms_at.Goals as goal

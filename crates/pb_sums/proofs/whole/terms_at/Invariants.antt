@@ -1,5 +1,4 @@
-use Rattle.std.proofs.Common.{◌≡◌, ◌-◌, ◌≤◌, length, take, true}
-use Rattle.pb_sums.specs.engine.TermParts.{begins_term, AreSpacedTerms}
+use Rattle.pb_sums.proofs.Common.{◌-◌, ◌≡◌, ◌≤◌, length, take, true, AreSpacedTerms, begins_term}
 use Rattle.pb_sums.proofs.whole.terms_at.Given as goal
 
 -- the bytes so far lead to this state

@@ -1,5 +1,4 @@
-use Rattle.std.proofs.Common.{ℕ, List, ◌++◌, ◌∷◌, length, drop, arith, sym, ap, append_assoc, ◌∙◌}
-use Rattle.pb_sums.specs.contract.Canonical.{term_bytes, further_bytes}
+use Rattle.pb_sums.proofs.Common.{ℕ, ◌++◌, ◌∙◌, ◌∷◌, ap, append_assoc, arith, drop, length, List, sym, further_bytes, term_bytes}
 use Rattle.pb_sums.proofs.lemmas.values.Written.{further_past, further_from}
 use Rattle.pb_sums.proofs.write.put_further.Goals as goal
 

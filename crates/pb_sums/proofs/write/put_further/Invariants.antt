@@ -1,5 +1,4 @@
-use Rattle.std.proofs.Common.{◌≡◌, ◌≤◌, ◌++◌, length, drop}
-use Rattle.pb_sums.specs.contract.Canonical.{further_bytes}
+use Rattle.pb_sums.proofs.Common.{◌++◌, ◌≡◌, ◌≤◌, drop, length, further_bytes}
 use Rattle.pb_sums.proofs.write.put_further.Given as goal
 
 abbrev pub invariant-loop-left : goal.invariant-loop-left

@@ -1,6 +1,4 @@
-use Rattle.std.proofs.Common.{◌≡◌, ◌++◌, take, drop, append-nil}
-use Rattle.pb_text.proofs.lemmas.text.Parts.{part_then, part_broke}
-use Rattle.pb_sums.specs.contract.Canonical.{further_bytes}
+use Rattle.pb_sums.proofs.Common.{◌++◌, ◌≡◌, append-nil, drop, take, part_broke, part_then, further_bytes}
 use Rattle.pb_sums.proofs.lemmas.values.Written.{further_split}
 use Rattle.pb_sums.proofs.write.write_batch.Goals as goal
 

@@ -1,5 +1,4 @@
-use Rattle.std.proofs.Common.{List, ℕ, ◌++◌, ap, sym}
-use Rattle.pb_text.proofs.lemmas.text.Parts.{part_then}
+use Rattle.pb_sums.proofs.Common.{ℕ, ◌++◌, ap, List, sym, part_then}
 use Rattle.pb_sums.proofs.write.write_both.Goals as goal
 
 pub returns : goal.returns

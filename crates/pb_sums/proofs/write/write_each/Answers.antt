@@ -1,7 +1,4 @@
-use Rattle.std.proofs.Common.{ℕ, List, refl, arith, sym, subst}
-use Rattle.pb_text.specs.meaning.Writing.{Wrote}
-use Rattle.pb_text.proofs.lemmas.text.Writing.{writes_nothing}
-use Rattle.pb_text.proofs.lemmas.text.Parts.{part_then, part_broke, part_wrote}
+use Rattle.pb_sums.proofs.Common.{ℕ, arith, List, refl, subst, sym, part_broke, part_then, part_wrote, writes_nothing, Wrote}
 use Rattle.pb_sums.proofs.lemmas.values.Written.{further_none, further_more, further_at}
 use Rattle.pb_sums.proofs.write.write_each.Goals as goal
 

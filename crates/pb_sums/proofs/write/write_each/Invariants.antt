@@ -1,6 +1,4 @@
-use Rattle.std.proofs.Common.{take}
-use Rattle.pb_text.specs.meaning.Writing.{Wrote}
-use Rattle.pb_sums.specs.contract.Canonical.{further_bytes}
+use Rattle.pb_sums.proofs.Common.{take, Wrote, further_bytes}
 use Rattle.pb_sums.proofs.write.write_each.Given as goal
 
 abbrev pub invariant-loop-term : goal.invariant-loop-term

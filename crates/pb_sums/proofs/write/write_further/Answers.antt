@@ -1,9 +1,5 @@
-use Rattle.std.proofs.Common.{◌≡◌, ℕ, List, [], ◌++◌, refl, sym, ap, subst, append_assoc, ◌∙◌}
-use Rattle.pb_text.specs.meaning.Writing.{Wrote}
-use Rattle.pb_text.proofs.lemmas.text.Writing.{writes_nothing}
-use Rattle.pb_text.proofs.lemmas.text.Parts.{part_then, part_broke, part_wrote}
-use Rattle.pb_sums.specs.contract.Canonical.{further_bytes}
-use Rattle.pb_sums.specs.declared.linear.Term.{Term}
+use Rattle.pb_sums.proofs.Common.{ℕ, ◌++◌, ◌∙◌, ◌≡◌, [], ap, append_assoc, List, refl, subst, sym, part_broke, part_then, part_wrote, writes_nothing}
+use Rattle.pb_sums.proofs.Common.{Wrote, further_bytes, Term}
 use Rattle.pb_sums.proofs.lemmas.values.Written.{further_none, further-append}
 use Rattle.pb_sums.proofs.write.write_further.Goals as goal
 

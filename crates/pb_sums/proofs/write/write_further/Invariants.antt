@@ -1,7 +1,4 @@
-use Rattle.std.proofs.Common.{◌≡◌, ◌++◌, List, length}
-use Rattle.pb_text.specs.meaning.Writing.{Wrote}
-use Rattle.pb_sums.specs.contract.Canonical.{further_bytes}
-use Rattle.pb_sums.specs.declared.linear.Term.{Term}
+use Rattle.pb_sums.proofs.Common.{◌++◌, ◌≡◌, length, List, Wrote, further_bytes, Term}
 use Rattle.pb_sums.proofs.write.write_further.Given as goal
 
 abbrev pub invariant-loop-rest : goal.invariant-loop-rest

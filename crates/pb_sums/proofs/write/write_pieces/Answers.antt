@@ -1,6 +1,4 @@
-use Rattle.std.proofs.Common.{◌≡◌, ◌++◌, append-nil}
-use Rattle.pb_text.proofs.lemmas.text.Parts.{part_then, part_broke}
-use Rattle.pb_sums.specs.contract.Canonical.{sum_bytes, linear_bytes}
+use Rattle.pb_sums.proofs.Common.{◌++◌, ◌≡◌, append-nil, part_broke, part_then, linear_bytes, sum_bytes}
 use Rattle.pb_sums.proofs.write.write_pieces.Goals as goal
 
 pub returns-in_err-write_sum : goal.returns-in_err-write_sum

@@ -1,6 +1,4 @@
-use Rattle.std.proofs.Common.{arith}
-use Rattle.std.proofs.lemmas.List.{take_rest}
-use Rattle.pb_text.proofs.lemmas.text.Parts.{part_then, part_broke}
+use Rattle.pb_sums.proofs.Common.{arith, take_rest, part_broke, part_then}
 use Rattle.pb_sums.proofs.lemmas.values.Written.{sum_parts}
 use Rattle.pb_sums.proofs.write.write_sum.Goals as goal
 

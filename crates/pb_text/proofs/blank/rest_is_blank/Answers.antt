@@ -1,8 +1,5 @@
-use Rattle.std.proofs.Common.{rules, ◌≡◌, ◌||◌, ◌&&◌, not, ℕ, List, [], ◌∷◌, ◌++◌, Bool, nat_eq, sym, ap, ◌∙◌, refl, arith, length-append}
-use Rattle.pb_text.specs.meaning.Classes.{is_white}
-use Rattle.pb_text.specs.meaning.Spelling.{place_next}
-use Rattle.pb_text.specs.meaning.Blank.{Nothing, passes, in_comment}
-use Rattle.pb_text.specs.declared.place.Place.{Place}
+use Rattle.pb_text.proofs.Common.{ℕ, ◌&&◌, ◌++◌, ◌||◌, ◌∙◌, ◌∷◌, ◌≡◌, [], ap, arith, Bool, length-append, List, nat_eq, not, refl, rules, sym, Place}
+use Rattle.pb_text.proofs.Common.{in_comment, Nothing, passes, is_white, place_next}
 use Rattle.pb_text.proofs.lemmas.machine.Running.{past_more}
 use Rattle.pb_text.proofs.lemmas.source.Pulled.{lost_byte, given_byte, seen_byte}
 use Rattle.pb_text.proofs.lemmas.text.Blanks.{IsBlank-snoc, in_comment-snoc, next_within}

@@ -1,7 +1,4 @@
-use Rattle.std.proofs.Common.{◌≡◌, ◌+◌, ◌-◌, ◌^◌, ◌≤◌, ℕ, List, ◌++◌, length}
-use Rattle.pb_text.specs.meaning.Blank.{IsBlank, in_comment}
-use Rattle.pb_text.specs.meaning.Spelling.{place_past}
-use Rattle.pb_text.specs.contract.Source.{Lost}
+use Rattle.pb_text.proofs.Common.{ℕ, ◌++◌, ◌+◌, ◌-◌, ◌^◌, ◌≡◌, ◌≤◌, length, List, Lost, in_comment, IsBlank, place_past}
 use Rattle.pb_text.proofs.blank.rest_is_blank.Given as goal
 
 -- what was taken so far is blank

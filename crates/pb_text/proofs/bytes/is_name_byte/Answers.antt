@@ -1,4 +1,4 @@
-use Rattle.std.proofs.Common.{sym, ◌∙◌}
+use Rattle.pb_text.proofs.Common.{◌∙◌, sym}
 use Rattle.pb_text.proofs.lemmas.text.NameBytes.{in_table, name_ascii}
 use Rattle.pb_text.proofs.bytes.is_name_byte.Goals as goal
 

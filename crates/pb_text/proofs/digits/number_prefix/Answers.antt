@@ -1,4 +1,4 @@
-use Rattle.std.proofs.Common.{sym, ◌∙◌}
+use Rattle.pb_text.proofs.Common.{◌∙◌, sym}
 use Rattle.pb_text.proofs.lemmas.numbers.DigitValues.{value_on, digits_on}
 use Rattle.pb_text.proofs.digits.number_prefix.Goals as goal
 

@@ -1,8 +1,4 @@
-use Rattle.std.proofs.Common.{◌≡◌, take}
-use Rattle.std.specs.Prelude.{IsTrue}
-use Rattle.pb_text.specs.meaning.Classes.{is_digit}
-use Rattle.pb_text.specs.meaning.Languages.{Each}
-use Rattle.pb_text.specs.contract.Digits.{value_from}
+use Rattle.pb_text.proofs.Common.{◌≡◌, IsTrue, take, value_from, is_digit, Each}
 use Rattle.pb_text.proofs.digits.number_prefix.Given as goal
 
 abbrev pub invariant-loop-i : goal.invariant-loop-i

@@ -1,6 +1,4 @@
-use Rattle.std.specs.Prelude.{refl}
-use Rattle.pb_text.specs.contract.Feeding.{is_complete}
-use Rattle.pb_text.specs.meaning.Spelling.{bytes}
+use Rattle.pb_text.proofs.Common.{refl, is_complete, bytes}
 use Rattle.pb_text.proofs.lemmas.feeder.Reported.{stands_reads}
 use Rattle.pb_text.proofs.laws.standing_is_reading.Goals as goal
 

@@ -1,17 +1,13 @@
 -- A state with `Stands` for its text gives what a read of the text must give.
-use Rattle.std.proofs.Common.{min, ◌-◌, ◌≡◌, ◌≢◌, ℕ, ◌+◌, ◌<◌, ◌≤◌, List, [], ◌∷◌, ◌++◌, length, take, nat_le, Bool, cond, IsTrue, Option, Some, None, refl, sym, ap, ◌∙◌, append_assoc, arith, length-append, subst, ◌⊎◌, inl, inr, eq-or-lt_of_le, le-leb}
-use Rattle.std.proofs.Math.Seq.{take-append_seam}
-use Rattle.std.proofs.lemmas.List.{append_cancel_left, append-nil, nil_from_length}
-use Rattle.std.proofs.lemmas.Bool.{lt-leb}
+use Rattle.pb_text.proofs.Common.{ℕ, ◌++◌, ◌+◌, ◌-◌, ◌<◌, ◌∙◌, ◌∷◌, ◌≡◌, ◌≢◌, ◌≤◌, ◌⊎◌, [], ap, append-nil, append_assoc, arith, Bool, cond}
+use Rattle.pb_text.proofs.Common.{eq-or-lt_of_le, inl, inr, IsTrue, le-leb, length, length-append, List, min, nat_le, None, Option, refl, Some, subst}
+use Rattle.pb_text.proofs.Common.{sym, take, take-append_seam, lt-leb, append_cancel_left, nil_from_length, EndBy, Follows, Place, Spanned, end_of}
+use Rattle.pb_text.proofs.Common.{AreSeen, AreShort, byte_limit, ended_within, EndsInNumber, HasNoSpelling, HasOpen, IsFull, IsPrefix, IsShort}
+use Rattle.pb_text.proofs.Common.{IsUnderWay, last_numeral, open_bytes, Overruns, Viable, bytes, bytes_of, Item, Letter, letters_of, place_after}
+use Rattle.pb_text.proofs.Common.{place_or, spans_since}
 use Rattle.std.proofs.lemmas.List.Elements.{filter-append}
-use Rattle.pb_text.specs.meaning.Spelling.{Letter, Item, bytes, letters_of, bytes_of, place_after, place_or, spans_since}
-use Rattle.pb_text.specs.meaning.Reading.{ended_within, IsPrefix, IsUnderWay, IsShort, IsFull, AreShort, Overruns, HasOpen, open_bytes, Viable, AreSeen, HasNoSpelling, EndsInNumber, last_numeral, byte_limit}
-use Rattle.pb_text.specs.contract.Standing.{EndBy, Follows}
-use Rattle.pb_text.specs.engine.SpentBytes.{end_of}
 use Rattle.pb_text.proofs.lemmas.machine.Residual.{IsResidual, Refuses}
 use Rattle.pb_text.proofs.lemmas.text.Short.{place_after-offset, AreShort-append, since_short, Overruns-append, Overruns-split, since_fits, begun_bytes, open-ended}
-use Rattle.pb_text.specs.declared.place.Place.{Place}
-use Rattle.pb_text.specs.declared.place.Spanned.{Spanned}
 use Rattle.pb_text.proofs.lemmas.text.Languages.{bytes-append}
 use Rattle.pb_text.proofs.lemmas.text.Lists.{length-bytes}
 use Rattle.pb_text.proofs.lemmas.feeder.Follows.{no_letters}

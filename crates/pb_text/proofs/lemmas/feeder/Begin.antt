@@ -1,15 +1,8 @@
 -- A machine that has taken nothing, and more input that it does not take.
-use Rattle.std.proofs.Common.{◌≡◌, ℕ, ◌<◌, List, [], ◌∷◌, ◌++◌, true, false, Option, Some, None, refl, sym, ap, ◌∙◌, arith, inr, inl, ◌⊎◌, append_assoc}
-use Rattle.std.proofs.lemmas.Bool.{false≢true}
-use Rattle.pb_text.specs.meaning.Spelling.{Letter, bytes, place_after}
-use Rattle.pb_text.specs.contract.Automaton.{Automaton, IsState}
-use Rattle.pb_text.specs.engine.SpentBytes.{end_of}
-use Rattle.pb_text.specs.contract.Standing.{Stands, Waits, Halts, IsOpen, Counts}
-use Rattle.pb_text.specs.declared.place.Place.{Place}
-use Rattle.pb_text.specs.declared.place.Spanned.{Spanned}
-use Rattle.pb_text.specs.declared.place.Stop.{Stop}
-use Rattle.pb_text.specs.declared.place.Why.{Why}
-use Rattle.pb_text.specs.declared.place.Why.TheVariants.{Byte, TooLarge, Ended, TooLong, Read, Memory}
+use Rattle.pb_text.proofs.Common.{ℕ, ◌++◌, ◌<◌, ◌∙◌, ◌∷◌, ◌≡◌, ◌⊎◌, [], ap, append_assoc, arith, false, inl, inr, List, None, Option, refl, Some, sym}
+use Rattle.pb_text.proofs.Common.{true, false≢true, Automaton, IsState, Counts, Halts, IsOpen, Stands, Waits, Place, Spanned, Stop, Why, Byte, Ended}
+use Rattle.pb_text.proofs.Common.{Memory, Read, TooLarge, TooLong, end_of, bytes, Letter}
+use Rattle.pb_text.specs.meaning.Spelling.{place_after}
 
 module _ {S E : Type 0} (m : Automaton S E) (longest : ℕ) (start : S) where
   pub stands_new : IsState m start → m.begun start ≡ false → 0 < longest → Stands m longest start [] [] start (record { line = 1; column = 1; offset = 0 }) None None

@@ -1,16 +1,8 @@
 -- Consecutive feeds are one feed of all that they were fed.
-use Rattle.std.proofs.Common.{◌≡◌, ◌+◌, ◌∙◌, ℕ, List, [], ◌∷◌, ◌++◌, length, Result, Ok, Err, refl, sym, ap, arith, subst, subst₂, append-nil, append_assoc}
-use Rattle.pb_text.specs.contract.Automaton.{AcceptsItems}
-use Rattle.pb_text.specs.meaning.Spelling.{bytes}
-use Rattle.pb_text.specs.meaning.Reading.{Reads}
-use Rattle.pb_text.specs.contract.Standing.{IsOpen, IsUnread}
-use Rattle.pb_text.specs.contract.Feeding.{StandsAt, Feeds, NoneStopped, used_by, input_fed, spans_answered, bytes_fed, spans_fed, is_complete}
-use Rattle.pb_text.specs.declared.place.Place.{Place}
-use Rattle.pb_text.specs.declared.place.Spanned.{Spanned}
-use Rattle.pb_text.specs.declared.place.Stop.{Stop}
+use Rattle.pb_text.proofs.Common.{ℕ, ◌++◌, ◌+◌, ◌∙◌, ◌∷◌, ◌≡◌, [], ap, append-nil, append_assoc, arith, Err, length, List, Ok, refl, Result, subst}
+use Rattle.pb_text.proofs.Common.{subst₂, sym, AcceptsItems, bytes_fed, Feeds, input_fed, is_complete, NoneStopped, spans_answered, spans_fed}
+use Rattle.pb_text.proofs.Common.{StandsAt, used_by, IsOpen, IsUnread, Feeder, Ghosts, Place, Spanned, Stop, Reads, bytes}
 use Rattle.pb_text.specs.declared.feeder.Fed.{Fed}
-use Rattle.pb_text.specs.declared.feeder.Feeder.{Feeder}
-use Rattle.pb_text.specs.declared.machine.Machine.{Ghosts}
 use Rattle.pb_text.proofs.lemmas.text.Short.{place_after-offset}
 use Rattle.pb_text.proofs.lemmas.feeder.Reported.{stands_reads}
 

@@ -1,13 +1,7 @@
 -- A feeder is determined by its parts: its other fields follow from them, and facts have one proof.
-use Rattle.std.proofs.Common.{◌≡◌, ℕ, ◌+◌, ◌<◌, ◌≤◌, Option, sym, ap, ap₂, ◌∙◌, subst}
+use Rattle.pb_text.proofs.Common.{ℕ, ◌+◌, ◌<◌, ◌∙◌, ◌≡◌, ◌≤◌, ap, ap₂, Option, subst, sym, ℕ_set, Feeder, Ghosts, Place, Stop, end_of}
 use Rattle.std.proofs.Math.Bridge.{le_prop}
-use Rattle.std.proofs.Math.Nat.{ℕ_set}
-use Rattle.pb_text.specs.engine.SpentBytes.{end_of}
 use Rattle.pb_text.specs.contract.Parts.{KeepsItsParts}
-use Rattle.pb_text.specs.declared.place.Place.{Place}
-use Rattle.pb_text.specs.declared.place.Stop.{Stop}
-use Rattle.pb_text.specs.declared.feeder.Feeder.{Feeder}
-use Rattle.pb_text.specs.declared.machine.Machine.{Ghosts}
 
 -- what the facts of a feeder are about
 record Data : Type 0 where

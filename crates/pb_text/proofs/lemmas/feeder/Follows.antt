@@ -1,12 +1,8 @@
 -- A state that follows a text leads to one that follows the text with one more byte.
-use Rattle.std.proofs.Common.{◌≡◌, ℕ, ◌<◌, ◌≤◌, List, [], ◌∷◌, ◌++◌, length, take, Option, refl, sym, ap, ◌∙◌, append_assoc, arith, length-append, subst, ◌⊎◌, inl, inr, eq-or-lt_of_le}
-use Rattle.std.proofs.Math.Seq.{take-length}
-use Rattle.std.proofs.lemmas.List.{append_cancel_left, append-nil, take-append-le}
-use Rattle.pb_text.specs.meaning.Spelling.{Letter, Item, plain, bytes, letters_of, bytes_of, spans_since}
-use Rattle.pb_text.specs.contract.Standing.{EndBy, Follows, IsJoined}
+use Rattle.pb_text.proofs.Common.{ℕ, ◌++◌, ◌<◌, ◌∙◌, ◌∷◌, ◌≡◌, ◌≤◌, ◌⊎◌, [], ap, append-nil, append_assoc, arith, eq-or-lt_of_le, inl, inr, length}
+use Rattle.pb_text.proofs.Common.{length-append, List, Option, refl, subst, sym, take, take-length, append_cancel_left, take-append-le, EndBy}
+use Rattle.pb_text.proofs.Common.{Follows, IsJoined, Place, Spanned, bytes, bytes_of, Item, Letter, letters_of, plain, spans_since}
 use Rattle.pb_text.proofs.lemmas.machine.Residual.{Takes, IsResidual}
-use Rattle.pb_text.specs.declared.place.Place.{Place}
-use Rattle.pb_text.specs.declared.place.Spanned.{Spanned}
 use Rattle.pb_text.proofs.lemmas.text.Languages.{bytes-append}
 use Rattle.pb_text.proofs.lemmas.text.Lists.{length-bytes, Advances}
 

@@ -1,18 +1,9 @@
 -- What a state with `Stands` for its text says is what a read of the text must give.
-use Rattle.std.proofs.Common.{◌≡◌, ℕ, ◌≤◌, List, [], ◌∷◌, ◌++◌, length, Bool, true, false, ◌&&◌, IsTrue, Option, Some, None, is_some, refl, sym, ap, ◌∙◌, append_assoc, arith, subst, inl, inr}
-use Rattle.std.proofs.lemmas.List.{append-nil}
-use Rattle.std.proofs.lemmas.Bool.{false≢true}
-use Rattle.pb_text.specs.meaning.Classes.{is_digit}
-use Rattle.pb_text.specs.meaning.Spelling.{bytes}
-use Rattle.pb_text.specs.meaning.Reading.{Reads, Answers, Explains, IsUnderWay, Viable, HasOpen, AreShort, byte_limit}
-use Rattle.pb_text.specs.contract.Automaton.{Automaton, AcceptsItems, Admits}
-use Rattle.pb_text.specs.engine.SpentBytes.{end_of, SpentSince}
-use Rattle.pb_text.specs.contract.Standing.{Stands, Waits, Halts}
-use Rattle.pb_text.specs.declared.place.Place.{Place}
-use Rattle.pb_text.specs.declared.place.Spanned.{Spanned}
-use Rattle.pb_text.specs.declared.place.Stop.{Stop}
-use Rattle.pb_text.specs.declared.place.Why.{Why}
-use Rattle.pb_text.specs.declared.place.Why.TheVariants.{Byte, TooLarge, Ended, TooLong, Read, Memory}
+use Rattle.pb_text.proofs.Common.{ℕ, ◌&&◌, ◌++◌, ◌∙◌, ◌∷◌, ◌≡◌, ◌≤◌, [], ap, append-nil, append_assoc, arith, Bool, false, inl, inr, IsTrue, length}
+use Rattle.pb_text.proofs.Common.{List, None, Option, refl, Some, subst, sym, true, false≢true, AcceptsItems, Admits, Automaton, Halts, Stands, Waits}
+use Rattle.pb_text.proofs.Common.{Place, Spanned, Stop, Why, Byte, Ended, Memory, Read, TooLarge, TooLong, end_of, SpentSince, is_digit, Answers}
+use Rattle.pb_text.proofs.Common.{AreShort, byte_limit, Explains, HasOpen, IsUnderWay, Reads, Viable, bytes}
+use Rattle.std.proofs.Common.{is_some}
 use Rattle.pb_text.proofs.lemmas.text.Lists.{length-bytes}
 use Rattle.pb_text.proofs.lemmas.machine.Residual.{IsResidual, residual, refuses}
 use Rattle.pb_text.proofs.lemmas.text.Short.{begun_bytes}

@@ -1,16 +1,10 @@
 -- A byte that is given to the machine preserves `Stands`, for the input extended by it.
-use Rattle.std.proofs.Common.{◌≡◌, ◌≢◌, ℕ, ◌+◌, ◌<◌, ◌≤◌, List, [], ◌∷◌, ◌++◌, ap₂, length, Bool, true, false, IsTrue, Option, Some, None, is_some, refl, sym, ap, ◌∙◌, arith, length-append, subst, inl, inr}
-use Rattle.std.proofs.lemmas.List.{append-nil}
-use Rattle.std.proofs.lemmas.Bool.{false≢true}
-use Rattle.pb_text.specs.meaning.Spelling.{Letter, bytes, place_after, place_next, place_or}
-use Rattle.pb_text.specs.meaning.Reading.{last_numeral, byte_limit, AreShort}
-use Rattle.pb_text.specs.contract.Automaton.{Automaton, Go, End, Refuse, AcceptsItems, Admits, Leads, state_after, IsState, is_large, begins, begins_with}
-use Rattle.pb_text.specs.engine.SpentBytes.{end_of, SpentSince}
-use Rattle.pb_text.specs.contract.Standing.{EndBy, Follows, Stands, Waits, Halts, opened}
-use Rattle.pb_text.specs.declared.place.Place.{Place}
-use Rattle.pb_text.specs.declared.place.Spanned.{Spanned}
-use Rattle.pb_text.specs.declared.place.Stop.{Stop}
-use Rattle.pb_text.specs.declared.place.Why.TheVariants.{Byte, TooLarge, TooLong, Memory}
+use Rattle.pb_text.proofs.Common.{ℕ, ◌++◌, ◌+◌, ◌<◌, ◌∙◌, ◌∷◌, ◌≡◌, ◌≢◌, ◌≤◌, [], ap, append-nil, ap₂, arith, Bool, false, inl, inr, IsTrue, length}
+use Rattle.pb_text.proofs.Common.{length-append, List, None, Option, refl, Some, subst, sym, true, false≢true, AcceptsItems, Admits, Automaton}
+use Rattle.pb_text.proofs.Common.{begins, begins_with, End, Go, is_large, IsState, Leads, Refuse, state_after, EndBy, Follows, Halts, opened, Stands}
+use Rattle.pb_text.proofs.Common.{Waits, Place, Spanned, Stop, Byte, Memory, TooLarge, TooLong, end_of, SpentSince, AreShort, byte_limit}
+use Rattle.pb_text.proofs.Common.{last_numeral, bytes, Letter, place_after, place_next, place_or}
+use Rattle.std.proofs.Common.{is_some}
 use Rattle.pb_text.proofs.lemmas.machine.Residual.{Put, PutLast, residual, takes_between, takes_within, takes_last}
 use Rattle.pb_text.proofs.lemmas.text.Languages.{bytes-append}
 use Rattle.pb_text.proofs.lemmas.text.Lists.{length-bytes, gap_advances, letter_advances, last_advances}

@@ -1,11 +1,7 @@
 -- A whole statement preserves `Stands`, for the input extended by its bytes.
-use Rattle.std.proofs.Common.{◌≡◌, ℕ, suc, ◌+◌, ◌<◌, List, [], ◌∷◌, ◌++◌, length, take, get_or, true, false, Some, None, refl, ap, ◌∙◌, arith, subst, append-nil, append_assoc}
-use Rattle.pb_text.specs.contract.Automaton.{Automaton, End, IsState, Runs, begins}
-use Rattle.pb_text.specs.engine.SpentBytes.{end_of}
-use Rattle.pb_text.specs.meaning.Spelling.{place_next, place_past}
-use Rattle.pb_text.specs.contract.Standing.{Stands, opened}
-use Rattle.pb_text.specs.declared.place.Place.{Place}
-use Rattle.pb_text.specs.declared.place.Spanned.{Spanned}
+use Rattle.pb_text.proofs.Common.{ℕ, ◌++◌, ◌+◌, ◌<◌, ◌∙◌, ◌∷◌, ◌≡◌, [], ap, append-nil, append_assoc, arith, false, get_or, length, List, None, refl}
+use Rattle.pb_text.proofs.Common.{Some, subst, suc, take, true, Automaton, begins, End, IsState, Runs, opened, Stands, Place, Spanned, end_of}
+use Rattle.pb_text.proofs.Common.{place_next, place_past}
 use Rattle.pb_text.proofs.lemmas.feeder.Steps.{stands_go, stands_event}
 use Rattle.pb_text.proofs.lemmas.machine.Running.{stands_run, past_offset}
 use Rattle.pb_text.proofs.lemmas.text.Short.{end_limit}

@@ -1,10 +1,7 @@
 -- A byte that is taken is admitted. Offered to other crates.
-use Rattle.std.proofs.Common.{◌≡◌, ℕ, ◌∷◌, true, false, ap}
-use Rattle.pb_text.specs.meaning.Spelling.{Letter, bytes, letters_of}
-use Rattle.pb_text.specs.contract.Automaton.{Automaton, Go, Admits, IsState}
+use Rattle.pb_text.proofs.Common.{ℕ, ◌∷◌, ◌≡◌, [], ap, false, None, true, Admits, Automaton, Go, IsState, bytes, Letter, letters_of}
 use Rattle.pb_text.proofs.lemmas.machine.Residual.{takes_within}
 use Rattle.pb_text.proofs.lemmas.text.Lists.{letter_advances}
-use Rattle.std.proofs.Common.{None, []}
 
 module _ {S E : Type 0} (m : Automaton S E) where
   -- a byte of a statement

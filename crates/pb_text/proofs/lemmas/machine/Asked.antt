@@ -1,10 +1,9 @@
 -- If an automaton may allocate, the next byte of any text is in a statement, at a position that may allocate. Offered to
 -- other crates.
-use Rattle.std.proofs.Common.{◌≡◌, ℕ, List, [], ◌∷◌, ◌++◌, true, false, IsTrue, Some, refl, sym, ap, ap₂, ◌∙◌, subst, append_assoc, append-nil, ◌⊎◌, inl, inr}
-use Rattle.std.proofs.lemmas.Bool.{false≢true}
-use Rattle.pb_text.specs.contract.Automaton.{Automaton, Next, Go, End, SkipsGap, ReadsStatement, AcceptsItems, state_after, Leads}
+use Rattle.pb_text.proofs.Common.{ℕ, ◌++◌, ◌∙◌, ◌∷◌, ◌≡◌, ◌⊎◌, [], ap, append-nil, append_assoc, ap₂, false, inl, inr, IsTrue, List, refl, Some}
+use Rattle.pb_text.proofs.Common.{subst, sym, true, false≢true, AcceptsItems, Automaton, End, Go, Leads, Next, ReadsStatement, SkipsGap, state_after}
+use Rattle.pb_text.proofs.Common.{bytes, bytes_of, Item, Letter, letters_of, plain}
 use Rattle.pb_text.specs.meaning.Asking.{AsksWithin}
-use Rattle.pb_text.specs.meaning.Spelling.{Letter, Item, plain, bytes, letters_of, bytes_of}
 use Rattle.pb_text.proofs.lemmas.text.FirstBytes.{head, tail}
 use Rattle.pb_text.proofs.lemmas.text.Languages.{bytes-append, bytes-plain}
 use Rattle.pb_text.proofs.lemmas.machine.Walking.{Walks, walks_more}

@@ -1,7 +1,6 @@
 -- States from which a text can be completed. Offered to other crates.
-use Rattle.std.proofs.Common.{◌≡◌, ℕ, true, false, List, [], ◌∷◌, refl, sym, ap, subst, ◌∙◌}
-use Rattle.pb_text.specs.contract.Automaton.{Automaton, Go, End, SkipsGap, ReadsStatement, AcceptsItems, Admits, IsState}
-use Rattle.pb_text.specs.meaning.Spelling.{Letter, Item, bytes_of}
+use Rattle.pb_text.proofs.Common.{ℕ, ◌∙◌, ◌∷◌, ◌≡◌, [], ap, false, List, refl, subst, sym, true, AcceptsItems, Admits, Automaton, End, Go, IsState}
+use Rattle.pb_text.proofs.Common.{ReadsStatement, SkipsGap, bytes_of, Item, Letter}
 use Rattle.pb_text.proofs.lemmas.machine.Residual.{First, Nothing, InGap, InText, AtLast, first_of}
 use Rattle.pb_text.proofs.lemmas.machine.Walking.{longer}
 use Rattle.pb_text.proofs.lemmas.text.Booleans.{never}

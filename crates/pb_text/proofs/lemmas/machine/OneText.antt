@@ -1,8 +1,7 @@
 -- Machines of one text, which begin with its first byte and end with its last one: what holds of their states. Offered to
 -- other crates.
-use Rattle.std.proofs.Common.{◌≡◌, ℕ, ◌+◌, ◌≤◌, Bool, true, false, List, [], ◌∷◌, refl, ap, ◌∙◌}
-use Rattle.pb_text.specs.contract.Automaton.{Automaton, Next, Go, End, Refuse, ReadsStatement, AcceptsItems, Admits, IsState}
-use Rattle.pb_text.specs.meaning.Spelling.{Letter, Item}
+use Rattle.pb_text.proofs.Common.{ℕ, ◌+◌, ◌∙◌, ◌∷◌, ◌≡◌, ◌≤◌, [], ap, Bool, false, List, refl, true, AcceptsItems, Admits, Automaton, End, Go}
+use Rattle.pb_text.proofs.Common.{IsState, Next, ReadsStatement, Refuse, Item, Letter}
 use Rattle.pb_text.proofs.lemmas.text.Booleans.{never}
 use Rattle.pb_text.proofs.lemmas.machine.Living.{ReadsOn, IsAlive, accepted, admits_before, admits_final}
 

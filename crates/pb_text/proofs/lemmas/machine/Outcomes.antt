@@ -1,7 +1,6 @@
 -- A byte has one outcome: a machine continues in one state, ends a statement with one event, or rejects the byte. Offered to
 -- other crates.
-use Rattle.std.proofs.Common.{◌≡◌}
-use Rattle.pb_text.specs.contract.Automaton.{Next, Go, End, Refuse}
+use Rattle.pb_text.proofs.Common.{◌≡◌, End, Go, Next, Refuse}
 
 pub one_state : {S E : Type 0} (u v : S) → ◌≡◌ {A = Next S E} (Go u) (Go v) → u ≡ v
 one_state u v e = cc

@@ -1,7 +1,6 @@
 -- A state accepts, after a byte, exactly what it accepted before with that byte prepended. Offered to other crates.
-use Rattle.std.proofs.Common.{◌≡◌, ◌≢◌, ℕ, List, [], ◌∷◌, Bool, true, false, IsTrue, refl, sym, ap, ap₂, ◌∙◌, subst}
-use Rattle.pb_text.specs.meaning.Spelling.{Letter, Item, bytes_of}
-use Rattle.pb_text.specs.contract.Automaton.{Automaton, Go, End, Refuse, SkipsGap, ReadsStatement, AcceptsItems, IsState}
+use Rattle.pb_text.proofs.Common.{ℕ, ◌∙◌, ◌∷◌, ◌≡◌, ◌≢◌, [], ap, ap₂, Bool, false, IsTrue, List, refl, subst, sym, true, AcceptsItems, Automaton, End}
+use Rattle.pb_text.proofs.Common.{Go, IsState, ReadsStatement, Refuse, SkipsGap, bytes_of, Item, Letter}
 use Rattle.pb_text.proofs.lemmas.text.FirstBytes.{head}
 use Rattle.pb_text.proofs.lemmas.machine.Outcomes.{one_state, one_end, go_or_end, go_or_refuse, end_or_refuse}
 use Rattle.pb_text.proofs.lemmas.text.Booleans.{never}

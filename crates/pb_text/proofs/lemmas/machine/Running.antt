@@ -1,14 +1,7 @@
 -- Consecutive bytes of a statement. Offered to other crates.
-use Rattle.std.proofs.Common.{◌≡◌, ◌≢◌, ℕ, suc, ap, ap₂, eqb-true, ◌+◌, ◌-◌, ◌<◌, ◌≤◌, List, [], ◌∷◌, ◌++◌, length, take, get_or, Bool, true, false, cond, ◌==◌, Option, Some, None, refl, sym, subst, ◌∙◌, arith, append-nil, append_assoc}
-use Rattle.std.proofs.lemmas.List.{take_more}
-use Rattle.std.specs.Option.{is_some}
-use Rattle.pb_text.specs.contract.Automaton.{Automaton, Go, IsState, Runs, begins}
-use Rattle.pb_text.specs.meaning.Languages.{Each}
-use Rattle.pb_text.specs.engine.SpentBytes.{end_of}
-use Rattle.pb_text.specs.meaning.Spelling.{place_next, place_past}
-use Rattle.pb_text.specs.contract.Standing.{Stands, opened}
-use Rattle.pb_text.specs.declared.place.Place.{Place}
-use Rattle.pb_text.specs.declared.place.Spanned.{Spanned}
+use Rattle.pb_text.proofs.Common.{ℕ, ◌++◌, ◌+◌, ◌-◌, ◌<◌, ◌==◌, ◌∙◌, ◌∷◌, ◌≡◌, ◌≢◌, ◌≤◌, [], ap, append-nil, append_assoc, ap₂, arith, Bool, cond}
+use Rattle.pb_text.proofs.Common.{eqb-true, false, get_or, length, List, None, Option, refl, Some, subst, suc, sym, take, true, take_more, is_some}
+use Rattle.pb_text.proofs.Common.{Automaton, begins, Go, IsState, Runs, opened, Stands, Place, Spanned, end_of, Each, place_next, place_past}
 use Rattle.pb_text.proofs.lemmas.feeder.Steps.{stands_go}
 
 module _ {S E : Type 0} (m : Automaton S E) where

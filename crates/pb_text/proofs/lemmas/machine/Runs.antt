@@ -1,9 +1,6 @@
 -- What a machine over letters does with a text. Offered to other crates.
-use Rattle.std.proofs.Common.{◌≡◌, List, [], ◌∷◌, ◌++◌, refl, sym, Bool, true, false, cond, subst, append_assoc}
-use Rattle.std.proofs.lemmas.List.{append-nil}
-use Rattle.pb_text.specs.contract.Automaton.{Next, Go, End, Refuse}
-use Rattle.pb_text.specs.meaning.Languages.{Language, ◌⋅◌}
-use Rattle.pb_text.specs.meaning.Spelling.{Letter}
+use Rattle.pb_text.proofs.Common.{◌++◌, ◌∷◌, ◌≡◌, [], append-nil, append_assoc, Bool, cond, false, List, refl, subst, sym, true, End, Go, Next}
+use Rattle.pb_text.proofs.Common.{Refuse, ◌⋅◌, Language, Letter}
 
 module _ {S E : Type 0} (step : S → Letter → Next S E) where
   -- the outcome of a text: nothing may follow an end

@@ -1,9 +1,6 @@
 -- A machine on the way through a statement, and what it reads after that. Offered to other crates.
-use Rattle.std.proofs.Common.{◌≡◌, List, [], ◌∷◌, ◌++◌, true, false, refl, sym, subst, ◌∙◌, append_assoc}
-use Rattle.pb_text.specs.contract.Automaton.{Automaton, Next, Go, End, Refuse, ReadsStatement}
-use Rattle.pb_text.specs.meaning.Languages.{Language, ◌⋅◌}
-use Rattle.pb_text.specs.meaning.Spelling.{Letter}
-use Rattle.std.proofs.lemmas.List.{append-nil}
+use Rattle.pb_text.proofs.Common.{◌++◌, ◌∙◌, ◌∷◌, ◌≡◌, [], append-nil, append_assoc, false, List, refl, subst, sym, true, Automaton, End, Go, Next}
+use Rattle.pb_text.proofs.Common.{ReadsStatement, Refuse, ◌⋅◌, Language, Letter}
 
 module _ {S E : Type 0} (m : Automaton S E) where
   -- the letters lead from old to new, and none of them ends a statement

@@ -1,11 +1,7 @@
 -- The values of digits that are read one by one. Offered to other crates.
-use Rattle.std.proofs.Common.{◌≡◌, ℕ, ◌+◌, ◌-◌, ◌*◌, ◌<◌, ◌≤◌, List, [], ◌∷◌, ◌++◌, take, get_or, length, refl, sym, subst, ap, arith, ◌∙◌}
-use Rattle.std.proofs.lemmas.List.{take_more}
-use Rattle.std.specs.Prelude.{IsTrue}
+use Rattle.pb_text.proofs.Common.{ℕ, ◌*◌, ◌++◌, ◌+◌, ◌-◌, ◌<◌, ◌∙◌, ◌∷◌, ◌≡◌, ◌≤◌, [], ap, arith, get_or, IsTrue, length, List, refl, subst, sym}
+use Rattle.pb_text.proofs.Common.{take, take_more, value_from, is_digit, Each}
 use Rattle.pb_text.proofs.lemmas.text.Languages.{each-append}
-use Rattle.pb_text.specs.meaning.Classes.{is_digit}
-use Rattle.pb_text.specs.contract.Digits.{value_from}
-use Rattle.pb_text.specs.meaning.Languages.{Each}
 
 abbrev pub AreDigits : List ℕ → Type 0
 AreDigits text = Each (λ d. IsTrue (is_digit d)) text

@@ -1,9 +1,6 @@
 -- A machine on its way through the digits of a number. Offered to other crates.
-use Rattle.std.proofs.Common.{◌≡◌, ℕ, zero, suc, ◌+◌, ◌*◌, ◌^◌, ◌<◌, ◌≤◌, true, List, [], ◌∷◌, length, map, sym, subst, arith, ◌∙◌, ap}
-use Rattle.std.proofs.Math.Nat.{pow-succ', le-mul_of_pos_right}
-use Rattle.pb_text.specs.contract.Automaton.{Automaton, Go}
-use Rattle.pb_text.specs.meaning.Languages.{digit, Each}
-use Rattle.pb_text.specs.meaning.Numbers.{value, Digits}
+use Rattle.pb_text.proofs.Common.{ℕ, ◌*◌, ◌+◌, ◌<◌, ◌^◌, ◌∙◌, ◌∷◌, ◌≡◌, ◌≤◌, [], ap, arith, length, List, map, subst, suc, sym, true, zero}
+use Rattle.pb_text.proofs.Common.{le-mul_of_pos_right, pow-succ', Automaton, Go, digit, Each, Digits, value}
 use Rattle.pb_text.proofs.lemmas.machine.Walking.{Walks, Leads}
 
 pub ten_pos : (k : ℕ) → 0 < 10 ^ k

@@ -1,8 +1,6 @@
 -- The hexadecimal digits of a byte, as they are written.
-use Rattle.std.proofs.Common.{◌≡◌, ◌<◌, ◌-◌, ◌^◌, ◌/◌, ◌%◌, ℕ, zero, suc, refl, false, [], ◌∷◌, arith, ap₂, ◌∙◌}
-use Rattle.std.proofs.lemmas.Fmt.{hex_byte}
-use Rattle.std.specs.Fmt.{digit_glyph, digits, format_spec, padded_integral}
-use Rattle.pb_text.specs.contract.Reasons.{hex_digit, hex_of}
+use Rattle.pb_text.proofs.Common.{ℕ, ◌%◌, ◌-◌, ◌/◌, ◌<◌, ◌^◌, ◌∙◌, ◌∷◌, ◌≡◌, [], ap₂, arith, false, refl, suc, zero, hex_byte, digit_glyph, digits}
+use Rattle.pb_text.proofs.Common.{format_spec, padded_integral, hex_digit, hex_of}
 
 digit_glyph-is_hex_digit : (n : ℕ) → n < 16 → digit_glyph false n ≡ hex_digit n
 digit_glyph-is_hex_digit zero small = refl

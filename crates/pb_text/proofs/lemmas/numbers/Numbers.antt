@@ -1,14 +1,9 @@
 -- Digits that grow at their end, and those that are written. Offered to other crates.
-use Rattle.std.proofs.Common.{◌≡◌, ℕ, suc, ◌+◌, ◌*◌, ◌/◌, ◌%◌, ◌^◌, ◌<◌, ◌≤◌, List, [], ◌∷◌, ◌++◌, length, map, refl, sym, ap, subst, arith, ◌∙◌, length-append, true}
-use Rattle.std.specs.Prelude.{ℤ, decimal}
-use Rattle.std.proofs.Math.Nat.{pow-succ'}
-use Rattle.std.proofs.Math.Pow.{pow_mono}
-use Rattle.std.proofs.lemmas.Fmt.{decimal_by_steps_wide}
-use Rattle.pb_text.specs.meaning.Spelling.{Letter, digits_of}
-use Rattle.pb_text.specs.meaning.Languages.{digit}
+use Rattle.pb_text.proofs.Common.{ℕ, ◌%◌, ◌*◌, ◌++◌, ◌+◌, ◌/◌, ◌<◌, ◌^◌, ◌∙◌, ◌∷◌, ◌≡◌, ◌≤◌, [], ap, arith, length, length-append, List, map, refl}
+use Rattle.pb_text.proofs.Common.{subst, suc, sym, true, ℤ, decimal, pow-succ', pow_mono, decimal_by_steps_wide, digit, Digits, Number, value}
+use Rattle.pb_text.proofs.Common.{digits_of, Letter}
 use Rattle.pb_text.specs.meaning.Limits.{largest}
 use Rattle.pb_text.specs.declared.limits.Limits.{Limits}
-use Rattle.pb_text.specs.meaning.Numbers.{value, Digits, Number}
 use Rattle.pb_text.proofs.lemmas.text.Languages.{map-append, each-append}
 
 value-append : (ds : List ℕ) (d : ℕ) → value (ds ++ d ∷ []) ≡ 10 * value ds + d

@@ -1,7 +1,5 @@
 -- The largest magnitude with a given number of bits.
-use Rattle.std.proofs.Common.{◌≡◌, ℕ, ◌+◌, ◌-◌, ◌*◌, ◌^◌, ◌%◌, ◌<◌, ◌≤◌, arith, ap, ◌∙◌}
-use Rattle.std.proofs.Math.Pow.{pow_mono}
-use Rattle.std.proofs.Math.Nat.{mod-eq_of_lt}
+use Rattle.pb_text.proofs.Common.{ℕ, ◌%◌, ◌*◌, ◌+◌, ◌-◌, ◌<◌, ◌^◌, ◌∙◌, ◌≡◌, ◌≤◌, ap, arith, mod-eq_of_lt, pow_mono}
 
 low : (n : ℕ) → n ≤ 2 ^ 127 → n % 2 ^ 128 ≡ n
 low n h = mod-eq_of_lt (omega arith)

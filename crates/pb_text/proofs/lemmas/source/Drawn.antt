@@ -1,12 +1,7 @@
 -- The consecutive parts of a pull.
-use Rattle.std.proofs.Common.{◌≡◌, ℕ, List, [], ◌++◌, Option, Some, None, Result, Ok, Err, sym, ap, ◌∙◌, subst, length-append, append-nil, append_assoc, arith}
-use Rattle.pb_text.specs.contract.Feeding.{spans_taken, StandsAt}
+use Rattle.pb_text.proofs.Common.{ℕ, ◌++◌, ◌∙◌, ◌≡◌, [], ap, append-nil, append_assoc, arith, Err, length-append, List, None, Ok, Option, Result}
+use Rattle.pb_text.proofs.Common.{Some, subst, sym, spans_taken, StandsAt, Feeder, Ghosts, Spanned, Stop, Draws, input_drawn, Pulls}
 use Rattle.pb_text.specs.contract.Pouring.{Pours}
-use Rattle.pb_text.specs.meaning.Pulling.{Pulls, Draws, input_drawn}
-use Rattle.pb_text.specs.declared.feeder.Feeder.{Feeder}
-use Rattle.pb_text.specs.declared.machine.Machine.{Ghosts}
-use Rattle.pb_text.specs.declared.place.Spanned.{Spanned}
-use Rattle.pb_text.specs.declared.place.Stop.{Stop}
 use Rattle.pb_text.proofs.lemmas.source.Pulled.{lost_nothing, seen_after}
 use Rattle.pb_text.proofs.lemmas.source.PullsInARow.{took_join}
 

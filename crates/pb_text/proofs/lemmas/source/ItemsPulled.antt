@@ -1,7 +1,5 @@
 -- An item of the events of a source, and the result of its pull.
-use Rattle.std.proofs.Common.{◌≡◌, false, Option, Some, None, Result, Ok, Err, refl}
-use Rattle.std.specs.Option.{is_some, option_transpose}
-use Rattle.std.specs.Result.{result_transpose}
+use Rattle.pb_text.proofs.Common.{◌≡◌, Err, false, None, Ok, Option, refl, Result, Some, is_some, option_transpose, result_transpose}
 
 pub transposed : {T E : Type 0} (r : Result (Option T) E) → option_transpose (result_transpose r) ≡ r
 transposed (Ok None) = refl

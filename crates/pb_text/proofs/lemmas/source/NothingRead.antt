@@ -1,11 +1,7 @@
 -- A machine that has taken nothing, from a source that failed.
-use Rattle.std.proofs.Common.{◌≡◌, ℕ, ◌<◌, List, [], false, None, Some, sym, ap, ◌∙◌, subst}
-use Rattle.std.proofs.lemmas.List.{nil_from_length}
-use Rattle.pb_text.specs.contract.Automaton.{Automaton, AcceptsItems, IsState}
+use Rattle.pb_text.proofs.Common.{ℕ, ◌<◌, ◌∙◌, ◌≡◌, [], ap, false, List, None, Some, subst, sym, nil_from_length, AcceptsItems, Automaton, IsState}
+use Rattle.pb_text.proofs.Common.{Place, Reads, bytes}
 use Rattle.pb_text.specs.contract.NothingRead.{ReadsNothing, first_place, first_fault}
-use Rattle.pb_text.specs.meaning.Reading.{Reads}
-use Rattle.pb_text.specs.meaning.Spelling.{bytes}
-use Rattle.pb_text.specs.declared.place.Place.{Place}
 use Rattle.pb_text.proofs.lemmas.feeder.Begin.{stands_new, stands_failed}
 use Rattle.pb_text.proofs.lemmas.text.Short.{place_after-offset}
 use Rattle.pb_text.proofs.lemmas.feeder.Reported.{stands_reads}

@@ -1,13 +1,6 @@
 -- A peek at a reader is a peek at the source over it.
-use Rattle.std.proofs.Common.{◌≡◌, ℕ, zero, suc, List, Bool, true, false, not, Option, Some, None, Result, Ok, Err, refl, arith}
-use Rattle.std.specs.Option.{is_none, is_some}
-use Rattle.std.specs.Io.KnownBytes.{Keeps}
-use Rattle.pb_text.specs.meaning.Pulling.{Took}
-use Rattle.pb_text.specs.meaning.Spelling.{Item}
-use Rattle.pb_text.specs.meaning.Whole.{ReadsWhole}
-use Rattle.pb_text.specs.declared.place.Spanned.{Spanned}
-use Rattle.pb_text.specs.declared.place.Stop.{Stop}
-use Rattle.pb_text.specs.contract.Source.{StartWith, HaveEnded, Peeks}
+use Rattle.pb_text.proofs.Common.{ℕ, ◌≡◌, arith, Bool, Err, false, List, None, not, Ok, Option, refl, Result, Some, suc, true, zero, Keeps, is_none}
+use Rattle.pb_text.proofs.Common.{is_some, HaveEnded, Peeks, StartWith, Spanned, Stop, Took, Item, ReadsWhole}
 use Rattle.pb_text.specs.declared.over.Over.{Over}
 use Rattle.pb_text.specs.contract.Over.{reported, LetsOne, Shows}
 

@@ -1,8 +1,6 @@
 -- What a pull leaves in its source.
-use Rattle.std.proofs.Common.{◌≡◌, ℕ, List, [], ◌∷◌, ◌++◌, Option, Some, None, refl, sym, ap, ◌∙◌, append_assoc}
-use Rattle.std.specs.Io.KnownBytes.{Keeps, Consumes}
-use Rattle.pb_text.specs.contract.Source.{StartWith, HaveEnded, LosesFirst, Lost}
-use Rattle.pb_text.specs.meaning.Pulling.{Took}
+use Rattle.pb_text.proofs.Common.{ℕ, ◌++◌, ◌∙◌, ◌∷◌, ◌≡◌, [], ap, append_assoc, List, None, Option, refl, Some, sym, Consumes, Keeps, HaveEnded}
+use Rattle.pb_text.proofs.Common.{LosesFirst, Lost, StartWith, Took}
 
 pub lost_nothing : (before : Option (List ℕ)) → Lost before [] before
 lost_nothing None = tt

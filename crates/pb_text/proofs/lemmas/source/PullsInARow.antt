@@ -1,21 +1,10 @@
 -- Consecutive pulls are a read. Offered to other crates.
-use Rattle.std.proofs.Common.{◌≡◌, ℕ, List, [], ◌∷◌, ◌++◌, length, true, false, IsTrue, Option, Some, None, Result, Ok, Err, refl, sym, ap, ◌∙◌, subst, subst₂, append-nil, append_assoc, arith, length-append}
-use Rattle.pb_text.specs.contract.Automaton.{AcceptsItems, Leads, MayAsk}
-use Rattle.pb_text.specs.meaning.Spelling.{bytes}
-use Rattle.pb_text.specs.meaning.Reading.{Reads}
-use Rattle.pb_text.specs.engine.SpentBytes.{end_of}
-use Rattle.pb_text.specs.contract.Standing.{Stands}
-use Rattle.pb_text.specs.contract.Feeding.{stop_of, is_complete}
-use Rattle.pb_text.specs.meaning.Pulling.{Pulls, Took}
-use Rattle.pb_text.specs.meaning.PullsInARow.{HasPulled, PullsOn}
-use Rattle.pb_text.specs.declared.place.Place.{Place}
-use Rattle.pb_text.specs.declared.place.Spanned.{Spanned}
-use Rattle.pb_text.specs.declared.place.Stop.{Stop}
-use Rattle.pb_text.specs.declared.feeder.Feeder.{Feeder}
-use Rattle.pb_text.specs.declared.machine.Machine.{Ghosts}
+use Rattle.pb_text.proofs.Common.{ℕ, ◌++◌, ◌∙◌, ◌∷◌, ◌≡◌, [], ap, append-nil, append_assoc, arith, Err, false, IsTrue, length, length-append, List}
+use Rattle.pb_text.proofs.Common.{None, Ok, Option, refl, Result, Some, subst, subst₂, sym, true, append_cancel_left, AcceptsItems, Leads, MayAsk}
+use Rattle.pb_text.proofs.Common.{is_complete, stop_of, Stands, Feeder, Ghosts, Place, Spanned, Stop, end_of, Pulls, Took, HasPulled, PullsOn, Reads}
+use Rattle.pb_text.proofs.Common.{bytes}
 use Rattle.pb_text.proofs.lemmas.text.Short.{place_after-offset}
 use Rattle.pb_text.proofs.lemmas.feeder.Reported.{stands_reads}
-use Rattle.std.proofs.lemmas.List.{append_cancel_left}
 use Rattle.pb_text.proofs.lemmas.source.Wholes.{asking, same_prefix, halted}
 
 -- what was taken before, and what was taken now

@@ -1,11 +1,6 @@
 -- The stop of a whole read, under a format with the same texts. Offered to other crates.
-use Rattle.std.proofs.Common.{ℕ, List, [], ◌∷◌, ◌++◌, None}
-use Rattle.pb_text.specs.meaning.Stopping.{IsAsking}
-use Rattle.pb_text.specs.meaning.Spelling.{Item}
-use Rattle.pb_text.specs.meaning.Whole.{StopsIn, Reading, Keeping, events_at}
-use Rattle.pb_text.specs.declared.place.Stop.{Stop}
-use Rattle.pb_text.specs.declared.place.Why.{Why}
-use Rattle.pb_text.specs.declared.place.Why.TheVariants.{Byte, TooLarge, Ended, TooLong, Read, Memory}
+use Rattle.pb_text.proofs.Common.{ℕ, ◌++◌, ◌∷◌, [], List, None, Stop, Why, Byte, Ended, Memory, Read, TooLarge, TooLong, Item, IsAsking, events_at}
+use Rattle.pb_text.proofs.Common.{Keeping, Reading, StopsIn}
 use Rattle.pb_text.proofs.lemmas.text.Formats as formats
 
 -- what may allocate under one condition may allocate under another

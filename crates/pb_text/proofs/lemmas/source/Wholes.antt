@@ -1,24 +1,11 @@
 -- Consecutive pulls are a whole read. Offered to other crates.
-use Rattle.std.proofs.Common.{◌≡◌, ℕ, List, [], ◌∷◌, ◌++◌, length, map, take, Bool, true, false, IsTrue, Option, Some, None, Result, Ok, Err, refl, sym, ap, ap₂, ◌∙◌, subst, subst₂, append-nil, append_assoc, arith, length-append}
-use Rattle.std.proofs.Math.Seq.{take-append_seam}
-use Rattle.std.proofs.lemmas.List.{append_cancel_left}
-use Rattle.pb_text.specs.contract.Automaton.{Automaton, AcceptsItems, Leads, MayAsk}
-use Rattle.pb_text.specs.meaning.Spelling.{Letter, Item, bytes, spans_since, place_after}
-use Rattle.pb_text.specs.meaning.Reading.{Reads, IsSpelled}
-use Rattle.pb_text.specs.engine.SpentBytes.{end_of}
-use Rattle.pb_text.specs.contract.Standing.{Stands, Waits, Halts}
-use Rattle.pb_text.specs.contract.Feeding.{StandsAt, is_complete}
-use Rattle.pb_text.specs.meaning.Pulling.{OfGiven, Pulls, Took}
-use Rattle.pb_text.specs.meaning.Stopping.{IsAsking}
-use Rattle.pb_text.specs.meaning.Whole.{events_at, gathered, events_of, IsWhole, MayHold, StopsIn, Reading, Keeping}
-use Rattle.pb_text.specs.declared.place.Place.{Place}
-use Rattle.pb_text.specs.declared.place.Spanned.{Spanned}
-use Rattle.pb_text.specs.declared.place.Stop.{Stop}
-use Rattle.pb_text.specs.declared.place.Why.{Why}
-use Rattle.pb_text.specs.declared.place.Why.TheVariants.{Byte, TooLarge, Ended, TooLong, Read, Memory}
-use Rattle.pb_text.specs.declared.feeder.Feeder.{Feeder}
-use Rattle.pb_text.specs.declared.machine.Machine.{Ghosts}
-use Rattle.pb_text.specs.contract.Source.{Lost}
+use Rattle.pb_text.proofs.Common.{ℕ, ◌++◌, ◌∙◌, ◌∷◌, ◌≡◌, [], ap, append-nil, append_assoc, ap₂, arith, Bool, Err, false, IsTrue, length}
+use Rattle.pb_text.proofs.Common.{length-append, List, map, None, Ok, Option, refl, Result, Some, subst, subst₂, sym, take, true, take-append_seam}
+use Rattle.pb_text.proofs.Common.{append_cancel_left, AcceptsItems, Automaton, Leads, MayAsk, is_complete, StandsAt, Lost, Halts, Stands, Waits}
+use Rattle.pb_text.proofs.Common.{Feeder, Ghosts, Place, Spanned, Stop, Why, Byte, Ended, Memory, Read, TooLarge, TooLong, end_of, OfGiven, Pulls}
+use Rattle.pb_text.proofs.Common.{Took, IsSpelled, Reads, bytes, Item, Letter, spans_since, IsAsking, events_at, events_of, gathered, IsWhole}
+use Rattle.pb_text.proofs.Common.{Keeping, MayHold, Reading, StopsIn}
+use Rattle.pb_text.specs.meaning.Spelling.{place_after}
 use Rattle.pb_text.proofs.lemmas.text.Short.{place_after-offset}
 use Rattle.pb_text.proofs.lemmas.feeder.Reported.{stands_reads}
 

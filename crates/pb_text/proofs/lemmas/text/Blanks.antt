@@ -1,14 +1,10 @@
 -- White space and comments, byte by byte. Offered to other crates.
-use Rattle.std.proofs.Common.{cond, ◌==◌, ◌^◌, ◌≢◌, ◌≡◌, ◌⊎◌, inl, inr, ℕ, ◌+◌, ◌<◌, ◌≤◌, List, [], ◌∷◌, ◌++◌, length, take, get_or, Bool, true, false, not, ◌&&◌, ◌||◌, nat_eq, IsTrue, refl, sym, ap, ap₂, ◌∙◌, subst, arith, append_assoc, length-append, below_more}
-use Rattle.std.proofs.lemmas.Bool.{eqb-true}
+use Rattle.pb_text.proofs.Common.{ℕ, ◌&&◌, ◌++◌, ◌+◌, ◌<◌, ◌==◌, ◌^◌, ◌||◌, ◌∙◌, ◌∷◌, ◌≡◌, ◌≢◌, ◌≤◌, ◌⊎◌, [], ap, append-nil, append_assoc, ap₂}
+use Rattle.pb_text.proofs.Common.{arith, below_more, Bool, cond, eqb-true, false, get_or, inl, inr, IsTrue, length, length-append, List, nat_eq, not}
+use Rattle.pb_text.proofs.Common.{refl, subst, sym, take, true, slice_index, get_or-append_seam, take-append_seam, get_or_append_left, reverse-append}
+use Rattle.pb_text.proofs.Common.{take-append-le, Place, Comment, has_star, in_comment, IsBlank, IsInLine, Nothing, OpenComment, passes, White}
+use Rattle.pb_text.proofs.Common.{is_white, place_next}
 use Rattle.std.proofs.Math.Bool.{or-true}
-use Rattle.std.specs.Prelude.{slice_index}
-use Rattle.std.proofs.lemmas.List.{append-nil, reverse-append, take-append-le, get_or_append_left}
-use Rattle.std.proofs.Math.Seq.{get_or-append_seam, take-append_seam}
-use Rattle.pb_text.specs.meaning.Blank.{has_star, in_comment, passes, IsInLine, IsBlank, Nothing, White, Comment, OpenComment}
-use Rattle.pb_text.specs.meaning.Classes.{is_white}
-use Rattle.pb_text.specs.meaning.Spelling.{place_next}
-use Rattle.pb_text.specs.declared.place.Place.{Place}
 use Rattle.pb_text.proofs.lemmas.text.ByteTests.{white_each}
 
 -- whether a text ends in a comment, with one more byte

@@ -1,5 +1,5 @@
 -- A test is not both true and false, and what a disjunction of tests gives. Offered to other crates.
-use Rattle.std.proofs.Common.{◌≡◌, Bool, true, false, ◌||◌, refl}
+use Rattle.pb_text.proofs.Common.{◌||◌, ◌≡◌, Bool, false, refl, true}
 
 pub never : {A : Type 0} (b : Bool) → b ≡ true → b ≡ false → A
 never b h k = cc

@@ -1,9 +1,6 @@
 -- Tests of bytes: blanks and white space byte by byte, and the bytes of digits and names. Offered to other crates.
-use Rattle.std.proofs.Common.{◌≡◌, ℕ, ◌+◌, ◌-◌, ◌<◌, ◌≤◌, true, false, ◌||◌, refl, sym, subst, arith}
-use Rattle.std.proofs.lemmas.Bool.{eqb-true}
-use Rattle.std.proofs.lemmas.Bool.Decides.{nat_tests}
-use Rattle.std.specs.Prelude.{IsTrue, nat_eq}
-use Rattle.pb_text.specs.meaning.Classes.{is_blank, is_white, is_digit, is_letter, is_name_byte}
+use Rattle.pb_text.proofs.Common.{ℕ, ◌+◌, ◌-◌, ◌<◌, ◌||◌, ◌≡◌, ◌≤◌, arith, eqb-true, false, IsTrue, nat_eq, refl, subst, sym, true, nat_tests}
+use Rattle.pb_text.proofs.Common.{is_blank, is_digit, is_letter, is_name_byte, is_white}
 use Rattle.pb_text.proofs.lemmas.text.Booleans.{by_or}
 
 -- one of three bytes

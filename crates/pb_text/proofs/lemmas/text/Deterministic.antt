@@ -1,9 +1,7 @@
 -- A text has at most one list of statements. If nothing may follow a complete text, none is a proper prefix of another.
 -- Offered to other crates.
-use Rattle.std.proofs.Common.{◌≡◌, ℕ, List, [], ◌∷◌, ◌++◌, true, false, IsTrue, refl, sym, ap, ap₂, ◌∙◌, subst}
-use Rattle.std.proofs.lemmas.List.{append-nil}
-use Rattle.pb_text.specs.meaning.Spelling.{Letter, Item, bytes_of}
-use Rattle.pb_text.specs.contract.Automaton.{Automaton, Go, End, Refuse, AcceptsItems}
+use Rattle.pb_text.proofs.Common.{ℕ, ◌++◌, ◌∙◌, ◌∷◌, ◌≡◌, [], ap, append-nil, ap₂, false, IsTrue, List, refl, subst, sym, true, AcceptsItems}
+use Rattle.pb_text.proofs.Common.{Automaton, End, Go, Refuse, bytes_of, Item, Letter}
 use Rattle.pb_text.proofs.lemmas.text.FirstBytes.{head, tail}
 use Rattle.pb_text.proofs.lemmas.machine.Outcomes.{one_state, one_end, go_or_end, go_or_refuse, end_or_refuse}
 use Rattle.pb_text.proofs.lemmas.text.Booleans.{never}

@@ -1,5 +1,5 @@
 -- Texts that begin alike: their first bytes, and what follows.
-use Rattle.std.proofs.Common.{◌≡◌, ℕ, List, ◌∷◌}
+use Rattle.pb_text.proofs.Common.{ℕ, ◌∷◌, ◌≡◌, List}
 
 pub head : (b c : ℕ) (bs cs : List ℕ) → b ∷ bs ≡ c ∷ cs → b ≡ c
 head b c bs cs e = cc

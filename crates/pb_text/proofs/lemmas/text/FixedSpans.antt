@@ -1,10 +1,7 @@
 -- In all texts that begin with the same prefix, the spans that end within it are the same. Offered to other crates.
-use Rattle.std.proofs.Common.{◌≡◌, ℕ, ◌+◌, List, [], ◌∷◌, ◌++◌, length, nat_le, true, false, cond, Option, Some, None, refl, sym, ap, ◌∙◌, subst, arith, length-append}
-use Rattle.pb_text.specs.meaning.Spelling.{Letter, Item, bytes_of, place_after, place_or, spans_since}
-use Rattle.pb_text.specs.meaning.Reading.{ended_within, HasFixedSpans}
-use Rattle.pb_text.specs.contract.Automaton.{Automaton, Go, End, AcceptsItems}
-use Rattle.pb_text.specs.declared.place.Place.{Place}
-use Rattle.pb_text.specs.declared.place.Spanned.{Spanned}
+use Rattle.pb_text.proofs.Common.{ℕ, ◌++◌, ◌+◌, ◌∙◌, ◌∷◌, ◌≡◌, [], ap, arith, cond, false, length, length-append, List, nat_le, None, Option, refl}
+use Rattle.pb_text.proofs.Common.{Some, subst, sym, true, AcceptsItems, Automaton, End, Go, Place, Spanned, ended_within, HasFixedSpans, bytes_of}
+use Rattle.pb_text.proofs.Common.{Item, Letter, place_after, place_or, spans_since}
 use Rattle.pb_text.proofs.lemmas.feeder.Answer.{not_ended}
 use Rattle.pb_text.proofs.lemmas.text.FirstBytes.{head, tail}
 use Rattle.pb_text.proofs.lemmas.machine.Outcomes.{one_state, one_end, go_or_end}

@@ -1,12 +1,6 @@
 -- What holds of a read under a format also holds under a format with the same texts. Offered to other crates.
-use Rattle.std.proofs.Common.{ℕ, List, ◌∷◌, ◌++◌, Bool, true, false, Option, Some, None, [], inl, inr}
-use Rattle.pb_text.specs.meaning.Spelling.{Item}
-use Rattle.pb_text.specs.meaning.Reading.{Viable, IsFull, IsUnderWay, IsBad, Explains, IsSpelled, Answers, Reads}
-use Rattle.pb_text.specs.declared.place.Place.{Place}
-use Rattle.pb_text.specs.declared.place.Spanned.{Spanned}
-use Rattle.pb_text.specs.declared.place.Stop.{Stop}
-use Rattle.pb_text.specs.declared.place.Why.{Why}
-use Rattle.pb_text.specs.declared.place.Why.TheVariants.{Byte, TooLarge, Ended, TooLong, Read, Memory}
+use Rattle.pb_text.proofs.Common.{ℕ, ◌++◌, ◌∷◌, [], Bool, false, inl, inr, List, None, Option, Some, true, Place, Spanned, Stop, Why, Byte, Ended}
+use Rattle.pb_text.proofs.Common.{Memory, Read, TooLarge, TooLong, Answers, Explains, IsBad, IsFull, IsSpelled, IsUnderWay, Reads, Viable, Item}
 
 module _ {E : Type 0} (one other : List (Item E) → Type 0) (to : (items : List (Item E)) → one items → other items) (from : (items : List (Item E)) → other items → one items) (longest : ℕ) where
   pub viable : (prefix : List ℕ) → Viable one prefix → Viable other prefix

@@ -1,8 +1,7 @@
 -- Texts that grow at their end, within languages. Offered to other crates.
-use Rattle.std.proofs.Common.{◌≡◌, ℕ, List, [], ◌∷◌, ◌++◌, map, refl, sym, ap, subst, append_assoc, ◌∙◌}
-use Rattle.std.proofs.lemmas.List.{append-nil}
-use Rattle.pb_text.specs.meaning.Spelling.{Letter, plain, digits_of, bytes}
-use Rattle.pb_text.specs.meaning.Languages.{unmarked, Language, ◌⋅◌, Empty, Each, Many, Some as OneOrMore}
+use Rattle.pb_text.proofs.Common.{ℕ, ◌++◌, ◌∙◌, ◌∷◌, ◌≡◌, [], ap, append-nil, append_assoc, List, map, refl, subst, sym, ◌⋅◌, Each, Empty, Language}
+use Rattle.pb_text.proofs.Common.{Many, unmarked, bytes, digits_of, Letter, plain}
+use Rattle.pb_text.specs.meaning.Languages.{Some as OneOrMore}
 
 -- Languages: the last part grows, or a new part begins.
 pub grown : (P Q R : Language) (p : List Letter) (c : Letter) → ((q : List Letter) → Q q → R (q ++ c ∷ [])) → (P ⋅ Q) p → (P ⋅ R) (p ++ c ∷ [])

@@ -1,12 +1,6 @@
 -- The letters of bytes, and words that grow letter by letter. Offered to other crates.
-use Rattle.std.proofs.Common.{◌≡◌, ℕ, ◌+◌, ◌-◌, ◌<◌, true, false, List, [], ◌∷◌, ◌++◌, length, take, refl, sym, ap, subst, arith, ◌∙◌, add-one}
-use Rattle.std.proofs.Math.Seq.{take-suc}
-use Rattle.std.proofs.lemmas.Bool.Decides.{nat_tests}
-use Rattle.std.proofs.lemmas.List.{take_all}
-use Rattle.std.specs.Prelude.{nat_eq, slice_index}
-use Rattle.pb_text.specs.meaning.Classes.{is_digit}
-use Rattle.pb_text.specs.meaning.Languages.{unmarked, digit, Bytes}
-use Rattle.pb_text.specs.meaning.Spelling.{Letter, plain}
+use Rattle.pb_text.proofs.Common.{ℕ, ◌++◌, ◌+◌, ◌-◌, ◌<◌, ◌∙◌, ◌∷◌, ◌≡◌, [], add-one, ap, arith, false, length, List, nat_eq, refl, subst, sym, take}
+use Rattle.pb_text.proofs.Common.{true, slice_index, take-suc, nat_tests, take_all, is_digit, Bytes, digit, unmarked, Letter, plain}
 use Rattle.pb_text.proofs.lemmas.text.ByteTests.{digit_of}
 use Rattle.pb_text.proofs.lemmas.text.Languages.{map-append}
 

@@ -1,10 +1,8 @@
 -- Lists, letters and spans. Offered to other crates.
-use Rattle.std.proofs.Common.{◌≡◌, ℕ, ◌+◌, ◌<◌, List, [], ◌∷◌, ◌++◌, length, take, drop, get_or, Bool, true, false, Option, Some, None, refl, sym, ap, ◌∙◌, append_assoc}
-use Rattle.std.proofs.lemmas.List.{length-map, append-nil, take_more, drop_more}
-use Rattle.pb_text.specs.meaning.Spelling.{Letter, Item, plain, bytes, letters_of, place_after, place_or, spans_since}
+use Rattle.pb_text.proofs.Common.{ℕ, ◌++◌, ◌+◌, ◌<◌, ◌∙◌, ◌∷◌, ◌≡◌, [], ap, append-nil, append_assoc, Bool, drop, false, get_or, length, List, None}
+use Rattle.pb_text.proofs.Common.{Option, refl, Some, sym, take, true, drop_more, length-map, take_more, Place, Spanned, bytes, Item, Letter}
+use Rattle.pb_text.proofs.Common.{letters_of, place_after, place_or, plain, spans_since}
 use Rattle.pb_text.proofs.lemmas.machine.Residual.{Put, PutGap, PutLetter, PutLast}
-use Rattle.pb_text.specs.declared.place.Place.{Place}
-use Rattle.pb_text.specs.declared.place.Spanned.{Spanned}
 
 pub length-bytes : (ls : List Letter) → length (bytes ls) ≡ length ls
 length-bytes ls = length-map ls (λ (l : Letter). l.byte)

@@ -1,9 +1,7 @@
 -- The table of name bytes, compared with the definition at each byte by computing. Offered to other crates.
-use Rattle.std.proofs.Common.{◌≡◌, ℕ, zero, suc, ◌<◌, Bool, true, false, ◌&&◌, not, nat_eq, get_or, List, refl, arith, inl, inr}
+use Rattle.pb_text.proofs.Common.{ℕ, ◌&&◌, ◌<◌, ◌≡◌, arith, Bool, false, get_or, inl, inr, List, nat_eq, not, refl, suc, true, zero, cases_eq}
+use Rattle.pb_text.proofs.Common.{nat_tests, is_name_byte}
 use Rattle.std.specs.Bool.{beq}
-use Rattle.std.proofs.lemmas.Bool.{cases_eq}
-use Rattle.std.proofs.lemmas.Bool.Decides.{nat_tests}
-use Rattle.pb_text.specs.meaning.Classes.{is_name_byte}
 use Rattle.pb_text.specs.declared.bytes.TheConstants.{NAME_BYTES}
 
 -- the two tests agree below n

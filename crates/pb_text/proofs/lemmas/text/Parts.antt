@@ -1,8 +1,5 @@
 -- Texts that are written in parts. Offered to other crates.
-use Rattle.std.proofs.Common.{◌≡◌, ℕ, List, ◌++◌, Option, Result, Ok, Err, sym, subst}
-use Rattle.std.specs.Prelude.{IsErr}
-use Rattle.pb_text.specs.meaning.Writing.{Wrote, Broke, Writes}
-use Rattle.pb_text.specs.declared.source.Failed.{Failed}
+use Rattle.pb_text.proofs.Common.{ℕ, ◌++◌, ◌≡◌, Err, List, Ok, Option, Result, subst, sym, IsErr, Failed, Broke, Writes, Wrote}
 use Rattle.pb_text.proofs.lemmas.text.Writing.{writes_then, broke_more}
 
 module _ {S : Type 0} (contents : S → Option (List ℕ)) (faults : S → ℕ) where

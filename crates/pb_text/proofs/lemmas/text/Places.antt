@@ -1,10 +1,9 @@
 -- The position after one more byte.
-use Rattle.std.proofs.Common.{◌≡◌, ℕ, ◌+◌, List, [], ◌∷◌, ◌++◌, length, count_by, Bool, true, false, not, cond, ◌==◌, zero-add, ap, ap₂, ◌∙◌, arith, length-append}
-use Rattle.std.proofs.lemmas.List.{reverse-append}
+use Rattle.pb_text.proofs.Common.{ℕ, ◌++◌, ◌+◌, ◌==◌, ◌∙◌, ◌∷◌, ◌≡◌, [], ap, ap₂, arith, Bool, cond, count_by, false, length, length-append, List}
+use Rattle.pb_text.proofs.Common.{not, true, zero-add, reverse-append, Place, place_next}
 use Rattle.std.proofs.lemmas.List.Sums.{sum_by-append}
 use Rattle.std.specs.List.{suffix_len, prefix_len}
-use Rattle.pb_text.specs.meaning.Spelling.{place_after, place_next}
-use Rattle.pb_text.specs.declared.place.Place.{Place}
+use Rattle.pb_text.specs.meaning.Spelling.{place_after}
 
 abbrev is_feed : ℕ → Bool
 is_feed b = b == 10

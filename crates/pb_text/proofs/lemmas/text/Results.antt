@@ -1,6 +1,5 @@
 -- What is known of a result, given whether it is an error. Offered to other crates.
-use Rattle.std.proofs.Common.{◌≡◌, true, false}
-use Rattle.std.specs.Prelude.{Result, OnOk, OnErr, is_ok, is_err, Ok, Err, if◌then◌else◌}
+use Rattle.pb_text.proofs.Common.{◌≡◌, Err, false, Ok, Result, true, if◌then◌else◌, is_err, is_ok, OnErr, OnOk}
 
 pub when_ok : {T E : Type 0} (r : Result T E) (P : Type 0) → OnOk r P → is_err r ≡ false → P
 when_ok (Ok x) P h e = h

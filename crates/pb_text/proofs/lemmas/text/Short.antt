@@ -1,11 +1,8 @@
 -- The bytes of a text that belong to statements. Offered to other crates.
-use Rattle.std.proofs.Common.{◌≡◌, ℕ, ◌-◌, ◌<◌, ◌≤◌, List, [], ◌∷◌, ◌++◌, length, Bool, cond, Option, Some, None, refl, ap, ◌∙◌, arith, length-append, inl, inr, le-leb}
-use Rattle.pb_text.specs.meaning.Spelling.{Item, bytes, place_after, spans_since}
-use Rattle.pb_text.specs.meaning.Reading.{AreShort, Overruns, open_bytes, byte_limit}
-use Rattle.pb_text.specs.contract.Standing.{EndBy}
-use Rattle.pb_text.specs.engine.SpentBytes.{end_of}
-use Rattle.pb_text.specs.declared.place.Place.{Place}
-use Rattle.pb_text.specs.declared.place.Spanned.{Spanned}
+use Rattle.pb_text.proofs.Common.{ℕ, ◌++◌, ◌-◌, ◌<◌, ◌∙◌, ◌∷◌, ◌≡◌, ◌≤◌, [], ap, arith, Bool, cond, inl, inr, le-leb, length, length-append, List}
+use Rattle.pb_text.proofs.Common.{None, Option, refl, Some, EndBy, Place, Spanned, end_of, AreShort, byte_limit, open_bytes, Overruns, bytes, Item}
+use Rattle.pb_text.proofs.Common.{spans_since}
+use Rattle.pb_text.specs.meaning.Spelling.{place_after}
 
 pub place_after-offset : (text : List ℕ) → (place_after text).offset ≡ length text
 unfolding place_after

@@ -1,8 +1,6 @@
 -- Consecutive runs. Offered to other crates.
-use Rattle.std.proofs.Common.{◌≡◌, ℕ, ◌+◌, ◌-◌, List, [], ◌∷◌, ◌++◌, take, drop, length, sym, ap, subst, ◌∙◌, ◌<◌, get_or, append_assoc, length-drop}
-use Rattle.std.proofs.lemmas.List.{take_more}
-use Rattle.std.proofs.Math.Seq.{take-add, take-length}
-use Rattle.pb_text.specs.contract.Automaton.{Automaton, Runs}
+use Rattle.pb_text.proofs.Common.{ℕ, ◌++◌, ◌+◌, ◌-◌, ◌<◌, ◌∙◌, ◌∷◌, ◌≡◌, [], ap, append_assoc, drop, get_or, length, length-drop, List, subst, sym}
+use Rattle.pb_text.proofs.Common.{take, take-add, take-length, take_more, Automaton, Runs}
 
 -- the whole rest after a position
 pub all_rest : (piece : List ℕ) (i : ℕ) → take (length piece - i) (drop i piece) ≡ drop i piece

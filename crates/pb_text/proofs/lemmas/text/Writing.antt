@@ -1,9 +1,6 @@
 -- Texts that are written consecutively. Offered to other crates.
-use Rattle.std.proofs.lemmas.List.{take_rest}
-use Rattle.std.proofs.Common.{◌≡◌, ℕ, ◌-◌, length, take, drop, take-append-drop, List, [], ◌++◌, Option, Some, None, Result, Ok, Err, refl, sym, ap, ◌∙◌, append_assoc, append-nil}
-use Rattle.std.specs.Io.KnownBytes.{Appends}
-use Rattle.pb_text.specs.meaning.Writing.{Takes, Wrote, Broke, Writes, one_more}
-use Rattle.pb_text.specs.declared.source.Failed.{Failed}
+use Rattle.pb_text.proofs.Common.{ℕ, ◌++◌, ◌-◌, ◌∙◌, ◌≡◌, [], ap, append-nil, append_assoc, drop, Err, length, List, None, Ok, Option, refl, Result}
+use Rattle.pb_text.proofs.Common.{Some, sym, take, take-append-drop, take_rest, Appends, Failed, Broke, one_more, Takes, Writes, Wrote}
 
 pub Appends-nil : (a : Option (List ℕ)) → Appends a a []
 Appends-nil None = tt

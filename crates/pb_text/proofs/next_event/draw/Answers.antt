@@ -1,7 +1,4 @@
-use Rattle.std.proofs.Common.{refl, append_assoc, ◌++◌, ◌∙◌, ap, append-nil, subst, Option, None, Some}
-use Rattle.pb_text.specs.contract.Standing.{Stands}
-use Rattle.pb_text.specs.declared.place.Place.{Place}
-use Rattle.pb_text.specs.declared.place.Stop.{Stop}
+use Rattle.pb_text.proofs.Common.{◌++◌, ◌∙◌, ap, append-nil, append_assoc, None, Option, refl, Some, subst, Stands, Place, Stop}
 use Rattle.pb_text.proofs.lemmas.feeder.Begin.{stands_failed}
 use Rattle.pb_text.proofs.lemmas.source.Drawn.{draws_poured, draws_join}
 use Rattle.pb_text.proofs.lemmas.source.Pulled.{seen_after}

@@ -1,4 +1,4 @@
-use Rattle.std.proofs.Common.{◌≡◌, ◌∙◌, [], sym, refl, append-nil, None, Some, Ok, Err, true, arith}
+use Rattle.pb_text.proofs.Common.{◌∙◌, ◌≡◌, [], append-nil, arith, Err, None, Ok, refl, Some, sym, true}
 use Rattle.pb_text.proofs.lemmas.feeder.Begin.{stands_more}
 use Rattle.pb_text.proofs.lemmas.source.Drawn.{draws_none, draws_join, pulls_event, pulls_stop}
 use Rattle.pb_text.proofs.lemmas.source.Pulled.{lost_nothing, seen_after}

@@ -1,6 +1,4 @@
-use Rattle.std.proofs.Common.{◌≡◌, ◌≤◌, ◌+◌, ◌-◌, ◌^◌, None, Ok, false}
-use Rattle.pb_text.specs.contract.Automaton.{IsState}
-use Rattle.pb_text.specs.meaning.Pulling.{Draws}
+use Rattle.pb_text.proofs.Common.{◌+◌, ◌-◌, ◌^◌, ◌≡◌, ◌≤◌, false, None, Ok, IsState, Draws}
 use Rattle.pb_text.proofs.next_event.pull.Given as goal
 
 -- the feeder was fed the input followed by the bytes taken from the source

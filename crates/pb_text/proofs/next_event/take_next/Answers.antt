@@ -1,7 +1,4 @@
-use Rattle.std.proofs.Common.{◌++◌, ◌∷◌, ◌∙◌, List, ℕ, [], ap, sym, append-nil, append_assoc, subst, Option, None, arith}
-use Rattle.pb_text.specs.contract.Standing.{Stands}
-use Rattle.pb_text.specs.declared.place.Place.{Place}
-use Rattle.pb_text.specs.declared.place.Stop.{Stop}
+use Rattle.pb_text.proofs.Common.{ℕ, ◌++◌, ◌∙◌, ◌∷◌, [], ap, append-nil, append_assoc, arith, List, None, Option, subst, sym, Stands, Place, Stop}
 use Rattle.pb_text.proofs.lemmas.feeder.Begin.{stands_more, stands_ended, stands_failed}
 use Rattle.pb_text.proofs.lemmas.source.Pulled.{lost_nothing, lost_byte, seen_byte, seen_end, seen_rest, seen_after}
 use Rattle.pb_text.proofs.next_event.take_next.Goals as goal

@@ -1,4 +1,4 @@
-use Rattle.std.proofs.Common.{[], take, subst, sym, arith, append-nil, length-take-le}
+use Rattle.pb_text.proofs.Common.{[], append-nil, arith, length-take-le, subst, sym, take}
 use Rattle.std.specs.Io.BufRead.{FillKeeps}
 use Rattle.std.proofs.BufReadLemmas.{Consumes_shown}
 use Rattle.pb_text.proofs.lemmas.source.Pulled.{lost_kept, lost_consumed}

@@ -1,7 +1,5 @@
-use Rattle.std.proofs.Common.{◌≡◌, ◌≢◌, ◌+◌, ◌<◌, ℕ, List, length, take, get_or, true≢false, sym, subst, ap, ◌∙◌, arith}
-use Rattle.std.proofs.Math.Seq.{take-length}
-use Rattle.std.proofs.lemmas.List.{take_more}
-use Rattle.pb_text.specs.meaning.Languages.{Each}
+use Rattle.pb_text.proofs.Common.{ℕ, ◌+◌, ◌<◌, ◌∙◌, ◌≡◌, ◌≢◌, ap, arith, get_or, length, List, subst, sym, take, true≢false, take-length, take_more}
+use Rattle.pb_text.proofs.Common.{Each}
 use Rattle.pb_text.proofs.lemmas.text.Languages.{each-append}
 use Rattle.pb_text.proofs.place.has_line_feed.Goals.{then-byte-eq10, else-byte-eq10}
 use Rattle.pb_text.proofs.place.has_line_feed.Goals as goal

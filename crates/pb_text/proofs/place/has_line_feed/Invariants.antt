@@ -1,5 +1,4 @@
-use Rattle.std.proofs.Common.{◌≡◌, ◌≢◌, false, take}
-use Rattle.pb_text.specs.meaning.Languages.{Each}
+use Rattle.pb_text.proofs.Common.{◌≡◌, ◌≢◌, false, take, Each}
 use Rattle.pb_text.proofs.place.has_line_feed.Given as goal
 
 -- no byte so far is a line feed, if none was found

@@ -1,6 +1,4 @@
-use Rattle.std.proofs.Common.{ap, ◌∙◌, ℕ, None}
-use Rattle.pb_text.specs.contract.Automaton.{AcceptsItems, MayAsk}
-use Rattle.pb_text.specs.meaning.Pulling.{faults_after}
+use Rattle.pb_text.proofs.Common.{ℕ, ◌∙◌, ap, None, AcceptsItems, MayAsk, faults_after}
 use Rattle.pb_text.proofs.lemmas.source.Overs.{reads_reported}
 use Rattle.pb_text.proofs.reader.read_from.Goals as goal
 

@@ -1,5 +1,4 @@
-use Rattle.std.proofs.Common.{◌≡◌, ℕ, List, ◌++◌, length}
-use Rattle.pb_text.specs.meaning.Writing.{Wrote}
+use Rattle.pb_text.proofs.Common.{ℕ, ◌++◌, ◌≡◌, length, List, Wrote}
 use Rattle.pb_text.proofs.sink.write_bytes.Given as goal
 
 -- what is no longer in the rest was written

@@ -1,7 +1,6 @@
-use Rattle.std.proofs.Common.{◌≡◌, ◌+◌, ◌-◌, ◌≤◌, ◌<◌, ◌^◌, ℕ, [], ◌∷◌, ◌++◌, sym, append-nil, ap, ◌∙◌, refl, subst, IsTrue, Option, arith}
-use Rattle.pb_text.specs.engine.SpentBytes.{end_of}
+use Rattle.pb_text.proofs.Common.{ℕ, ◌++◌, ◌+◌, ◌-◌, ◌<◌, ◌^◌, ◌∙◌, ◌∷◌, ◌≡◌, ◌≤◌, [], ap, append-nil, arith, IsTrue, Option, refl, subst, sym, Place}
+use Rattle.pb_text.proofs.Common.{end_of}
 use Rattle.pb_text.proofs.lemmas.text.Short.{end_limit}
-use Rattle.pb_text.specs.declared.place.Place.{Place}
 use Rattle.pb_text.proofs.lemmas.source.Pulled.{lost_nothing}
 use Rattle.pb_text.proofs.lemmas.source.Wholes.{whole_done, whole_stopped, whole_event, whole_unkept, gathered_more}
 use Rattle.pb_text.proofs.whole.read_whole.Goals as goal

@@ -1,8 +1,4 @@
-use Rattle.std.proofs.Common.{◌≡◌, ◌+◌, ◌-◌, ◌^◌, ℕ, List, ◌++◌, None, map, length}
-use Rattle.pb_text.specs.declared.place.Spanned.{Spanned}
-use Rattle.pb_text.specs.contract.Feeding.{StandsAt}
-use Rattle.pb_text.specs.meaning.Whole.{gathered}
-use Rattle.pb_text.specs.contract.Source.{Lost}
+use Rattle.pb_text.proofs.Common.{ℕ, ◌++◌, ◌+◌, ◌-◌, ◌^◌, ◌≡◌, length, List, map, None, StandsAt, Lost, Spanned, gathered}
 use Rattle.pb_text.proofs.whole.read_whole.Given as goal
 
 -- the value is that of the events so far

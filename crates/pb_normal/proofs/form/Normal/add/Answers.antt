@@ -1,6 +1,4 @@
-use Rattle.std.proofs.Common.{arith, ◌≡◌}
-use Rattle.pb_normal.specs.meaning.Form.{total, each}
-use Rattle.pb_normal.specs.meaning.Rules.{IsSum}
+use Rattle.pb_normal.proofs.Common.{◌≡◌, arith, each, total, IsSum}
 use Rattle.pb_normal.proofs.lemmas.rules.Faults.{overflow-Memory, overflow-Ok}
 use Rattle.pb_normal.proofs.lemmas.rules.Measures.{IsSum-measured, SumPasses-not}
 use Rattle.pb_normal.proofs.lemmas.rules.Sums.{Holds-sum}

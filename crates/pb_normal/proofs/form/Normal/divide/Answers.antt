@@ -1,5 +1,4 @@
-use Rattle.std.proofs.Common.{rules, ◌<◌}
-use Rattle.pb_normal.specs.meaning.Form.{Form}
+use Rattle.pb_normal.proofs.Common.{◌<◌, rules, Form}
 use Rattle.pb_normal.proofs.lemmas.terms.Maps.{IsNormal-divided, Holds-divided}
 use Rattle.pb_normal.proofs.form.Normal.divide.Goals as goal
 

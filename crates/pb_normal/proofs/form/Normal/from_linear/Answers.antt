@@ -1,7 +1,4 @@
-use Rattle.std.proofs.Common.{arith, rules, ◌+◌, ◌≤◌, unsigned_abs, FitsSigned}
-use Rattle.std.specs.Int.{w128}
-use Rattle.pb_text.specs.meaning.Limits.{largest}
-use Rattle.pb_normal.specs.meaning.Written.{magnitude}
+use Rattle.pb_normal.proofs.Common.{◌+◌, ◌≤◌, arith, FitsSigned, rules, unsigned_abs, w128, largest, magnitude}
 use Rattle.pb_normal.proofs.lemmas.names.WrittenForms.{total-raw, magnitude-side, shift-side-le, Collected, Collected-from, size-Collected, IsNormal-Collected, IsWithin-Collected, IsSideOf-Collected, SameSolutions-side}
 use Rattle.pb_normal.proofs.form.Normal.from_linear.Goals as goal
 

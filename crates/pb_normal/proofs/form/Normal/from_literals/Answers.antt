@@ -1,4 +1,4 @@
-use Rattle.std.proofs.Common.{arith}
+use Rattle.pb_normal.proofs.Common.{arith}
 use Rattle.pb_normal.proofs.lemmas.terms.Counts.{total-units, IsCountOf-ones, IsNormal-ones}
 use Rattle.pb_normal.proofs.form.Normal.from_literals.Goals as goal
 

@@ -1,6 +1,4 @@
-use Rattle.std.proofs.Common.{arith, refl}
-use Rattle.pb_normal.specs.meaning.Form.{true_at}
-use Rattle.pb_normal.specs.meaning.Rules.{assignment}
+use Rattle.pb_normal.proofs.Common.{arith, refl, true_at, assignment}
 use Rattle.pb_normal.proofs.lemmas.terms.Merging.{total-read, no_entry}
 use Rattle.pb_normal.proofs.lemmas.terms.Maps.{total-le-each}
 use Rattle.pb_normal.proofs.form.Normal.holds.Goals as goal

@@ -1,6 +1,4 @@
-use Rattle.std.proofs.Common.{◌≡◌, ◌+◌, drop}
-use Rattle.pb_normal.specs.meaning.Form.{total, true_at}
-use Rattle.pb_normal.specs.meaning.Rules.{assignment}
+use Rattle.pb_normal.proofs.Common.{◌+◌, ◌≡◌, drop, total, true_at, assignment}
 use Rattle.pb_normal.proofs.form.Normal.holds.Given as goal
 
 abbrev pub invariant-loop-t : goal.invariant-loop-t

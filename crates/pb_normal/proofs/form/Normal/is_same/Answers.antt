@@ -1,6 +1,4 @@
-use Rattle.std.proofs.Common.{ap}
-use Rattle.pb_normal.specs.meaning.Form.{Form}
-use Rattle.std.proofs.lemmas.Slice.Eq.{slice_eq-Decides}
+use Rattle.pb_normal.proofs.Common.{ap, slice_eq-Decides, Form}
 use Rattle.pb_normal.proofs.lemmas.rules.Unique.{same_form}
 use Rattle.pb_normal.proofs.lemmas.terms.Entries.{entry-Decides}
 use Rattle.pb_normal.proofs.form.Normal.is_same.Goals as goal

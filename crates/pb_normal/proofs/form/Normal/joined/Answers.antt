@@ -1,5 +1,4 @@
-use Rattle.std.proofs.Common.{◌+◌, ◌-◌}
-use Rattle.pb_normal.specs.meaning.Rules.{IsSum}
+use Rattle.pb_normal.proofs.Common.{◌+◌, ◌-◌, IsSum}
 use Rattle.pb_normal.proofs.lemmas.rules.Sums.{IsSum-from}
 use Rattle.pb_normal.proofs.form.Normal.joined.Goals as goal
 

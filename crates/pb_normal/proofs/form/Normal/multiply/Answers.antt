@@ -1,7 +1,4 @@
-use Rattle.std.proofs.Common.{arith, rules, refl, ◌≡◌, ◌<◌, unsigned_abs}
-use Rattle.std.proofs.lemmas.Grind.{common_steps}
-use Rattle.pb_normal.specs.meaning.Form.{Form, IsWithin}
-use Rattle.pb_normal.specs.meaning.Rules.{multiplied, Passes}
+use Rattle.pb_normal.proofs.Common.{◌<◌, ◌≡◌, arith, refl, rules, unsigned_abs, common_steps, Form, IsWithin, multiplied, Passes}
 use Rattle.pb_normal.proofs.lemmas.rules.Faults.{overflow-Memory, overflow-Ok}
 use Rattle.pb_normal.proofs.lemmas.rules.Scales.{All-multiplied, within_quotient, Passes-size, Passes-degree, Passes-not, IsNormal-multiplied, IsWithin-multiplied, Holds-multiplied}
 use Rattle.pb_normal.proofs.form.Normal.multiply.Goals as goal

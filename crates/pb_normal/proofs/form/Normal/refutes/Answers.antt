@@ -1,4 +1,4 @@
-use Rattle.std.proofs.Common.{◌<◌, ℕ, IsTrue, ltb, ◌↔◌, rules, tests}
+use Rattle.pb_normal.proofs.Common.{ℕ, ◌<◌, ◌↔◌, IsTrue, ltb, rules, tests}
 use Rattle.pb_normal.proofs.lemmas.rules.Measures.{SumIsContradiction-measured}
 use Rattle.pb_normal.proofs.form.Normal.refutes.Goals as goal
 

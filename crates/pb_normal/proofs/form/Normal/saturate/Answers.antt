@@ -1,4 +1,4 @@
-use Rattle.pb_normal.specs.meaning.Form.{Form}
+use Rattle.pb_normal.proofs.Common.{Form}
 use Rattle.pb_normal.proofs.lemmas.rules.Scales.{IsNormal-saturated, Holds-saturated}
 use Rattle.pb_normal.proofs.form.Normal.saturate.Goals as goal
 

@@ -1,5 +1,4 @@
-use Rattle.std.proofs.Common.{arith, ◌≤◌, ◌*◌, ◌-◌, ◌^◌}
-use Rattle.pb_normal.specs.meaning.Form.{total, each}
+use Rattle.pb_normal.proofs.Common.{◌*◌, ◌-◌, ◌^◌, ◌≤◌, arith, each, total}
 use Rattle.pb_normal.proofs.lemmas.rules.Scales.{All-multiplied, total-multiplied}
 use Rattle.pb_normal.proofs.form.Normal.scaled.Goals as goal
 

@@ -1,8 +1,5 @@
-use Rattle.std.proofs.Common.{arith, ◌≡◌, ◌<◌, length, pos, to_z}
-use Rattle.std.specs.Int.{w128}
-use Rattle.std.proofs.lemmas.Int.{fits_signed_from_abs, to_z_pos, ints}
-use Rattle.std.proofs.lemmas.List.{take-append-drop}
-use Rattle.std.proofs.lemmas.Option.{slice_get-get_or}
+use Rattle.pb_normal.proofs.Common.{◌<◌, ◌≡◌, arith, length, pos, to_z, fits_signed_from_abs, ints, to_z_pos, take-append-drop, slice_get-get_or}
+use Rattle.pb_normal.proofs.Common.{w128}
 use Rattle.pb_normal.proofs.lemmas.terms.Merging.{total-read, positive-read}
 use Rattle.pb_normal.proofs.form.Normal.term.Goals as goal
 

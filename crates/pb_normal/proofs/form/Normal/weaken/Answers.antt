@@ -1,4 +1,4 @@
-use Rattle.pb_normal.specs.meaning.Form.{Form}
+use Rattle.pb_normal.proofs.Common.{Form}
 use Rattle.pb_normal.proofs.lemmas.terms.Maps.{IsNormal-weakened, Holds-weakened}
 use Rattle.pb_normal.proofs.form.Normal.weaken.Goals as goal
 

@@ -1,4 +1,4 @@
-use Rattle.std.proofs.Common.{rules}
+use Rattle.pb_normal.proofs.Common.{rules}
 use Rattle.pb_normal.proofs.hash_keys.HashKeysBuildHasher.build_hasher.Goals as goal
 
 pub returns : goal.returns

@@ -1,6 +1,4 @@
-use Rattle.std.proofs.Common.{arith, inl, ◌+◌, ◌-◌, ◌*◌}
-use Rattle.pb_normal.specs.engine.Growing.{kind_form}
-use Rattle.pb_normal.specs.meaning.Rules.{SumMeasures}
+use Rattle.pb_normal.proofs.Common.{◌*◌, ◌+◌, ◌-◌, arith, inl, kind_form, SumMeasures}
 use Rattle.pb_normal.proofs.lemmas.rules.Bounds.{SumPasses-small, SumPasses-measured, SumPasses-by_degree, reports, reports_none}
 use Rattle.pb_normal.proofs.lemmas.rules.Measures.{SumMeasures-from}
 use Rattle.pb_normal.proofs.lemmas.terms.Totals.{size-Adds}

@@ -1,9 +1,5 @@
-use Rattle.std.proofs.Common.{◌≡◌, sym, ◌∙◌, ap, refl, List, ℕ, true, false, [], ◌∷◌, ◌++◌, map, String, Global}
-use Rattle.std.specs.Str.{bytes_eq}
-use Rattle.std.specs.List.{list_any}
-use Rattle.std.specs.String.{string_bytes, string_eq}
-use Rattle.std.proofs.lemmas.Slice.Eq.{bytes_eq-Decides}
-use Rattle.pb_normal.specs.meaning.Names.{has_name}
+use Rattle.pb_normal.proofs.Common.{ℕ, ◌++◌, ◌∙◌, ◌∷◌, ◌≡◌, [], ap, false, Global, List, map, refl, String, sym, true, bytes_eq-Decides, list_any}
+use Rattle.pb_normal.proofs.Common.{bytes_eq, string_bytes, string_eq, has_name}
 use Rattle.pb_normal.proofs.lemmas.names.Numbering.{AreDistinct-push, number_in-position, with_name-has}
 use Rattle.pb_normal.proofs.lemmas.terms.Positions.{position-map, list_any-map, map-inserted, position-inserted, slice_get-position}
 use Rattle.pb_normal.proofs.names.Names.number.Goals as goal

@@ -1,7 +1,4 @@
-use Rattle.std.proofs.Common.{◌≡◌, ◌∙◌, sym, map}
-use Rattle.std.specs.List.{position}
-use Rattle.std.specs.Str.{bytes_eq}
-use Rattle.std.specs.String.{string_bytes}
+use Rattle.pb_normal.proofs.Common.{◌∙◌, ◌≡◌, map, sym, position, bytes_eq, string_bytes}
 use Rattle.pb_normal.proofs.lemmas.names.Numbering.{position-number}
 use Rattle.pb_normal.proofs.lemmas.terms.Positions.{position-map, named_at}
 use Rattle.pb_normal.proofs.names.Names.number_of.Goals as goal

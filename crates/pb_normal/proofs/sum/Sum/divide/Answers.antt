@@ -1,5 +1,4 @@
-use Rattle.std.proofs.Common.{arith, ◌≡◌, sym, ◌∙◌, unsigned_abs}
-use Rattle.std.proofs.lemmas.Grind.{common_steps}
+use Rattle.pb_normal.proofs.Common.{◌∙◌, ◌≡◌, arith, sym, unsigned_abs, common_steps}
 use Rattle.pb_normal.proofs.lemmas.rules.Ones.{divided-one}
 use Rattle.pb_normal.proofs.sum.Sum.divide.Goals as goal
 

@@ -1,7 +1,4 @@
-use Rattle.std.proofs.Common.{arith, rules, refl, ◌≡◌, ◌<◌, unsigned_abs}
-use Rattle.std.proofs.lemmas.Grind.{common_steps}
-use Rattle.pb_normal.specs.engine.Growing.{kind_form}
-use Rattle.pb_normal.specs.meaning.Rules.{multiplied, Passes}
+use Rattle.pb_normal.proofs.Common.{◌<◌, ◌≡◌, arith, refl, rules, unsigned_abs, common_steps, kind_form, multiplied, Passes}
 use Rattle.pb_normal.proofs.lemmas.rules.Faults.{overflow-Memory, overflow-Ok}
 use Rattle.pb_normal.proofs.lemmas.rules.Scales.{Passes-size, Passes-degree, Passes-not, IsNormal-multiplied, IsWithin-multiplied}
 use Rattle.pb_normal.proofs.sum.Sum.multiply.Goals as goal

@@ -1,7 +1,4 @@
-use Rattle.std.proofs.Common.{◌≡◌, ◌+◌, ◌-◌, ◌*◌, arith}
-use Rattle.std.specs.BTreeMap.{values}
-use Rattle.pb_normal.specs.meaning.Form.{total, each}
-use Rattle.pb_normal.specs.meaning.Rules.{IsSum}
+use Rattle.pb_normal.proofs.Common.{◌*◌, ◌+◌, ◌-◌, ◌≡◌, arith, values, each, total, IsSum}
 use Rattle.pb_normal.proofs.lemmas.terms.Totals.{size-Adds}
 use Rattle.pb_normal.proofs.lemmas.rules.Sums.{IsSum-from}
 use Rattle.pb_normal.proofs.tree.Tree.joined.Goals as goal

@@ -1,5 +1,4 @@
-use Rattle.std.proofs.Common.{ap}
-use Rattle.std.specs.Map.{values_of}
+use Rattle.pb_normal.proofs.Common.{ap, values_of}
 use Rattle.pb_normal.proofs.lemmas.terms.KeyedTerms.{Adds-from_none}
 use Rattle.pb_normal.proofs.tree.Tree.of.Goals as goal
 

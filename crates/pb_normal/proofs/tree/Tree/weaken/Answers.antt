@@ -1,4 +1,4 @@
-use Rattle.std.proofs.Common.{arith}
+use Rattle.pb_normal.proofs.Common.{arith}
 use Rattle.pb_normal.proofs.lemmas.terms.Maps.{IsNormal-weakened}
 use Rattle.pb_normal.proofs.tree.Tree.weaken.Goals as goal
 

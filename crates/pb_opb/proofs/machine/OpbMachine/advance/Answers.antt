@@ -1,8 +1,5 @@
-use Rattle.std.proofs.Common.{ℕ, subst}
-use Rattle.pb_opb.specs.engine.Order.{PhaseFits}
-use Rattle.pb_opb.specs.engine.State.{OpbState}
+use Rattle.pb_opb.proofs.Common.{ℕ, subst, Give, To, PhaseFits, OpbState}
 use Rattle.pb_opb.specs.contracts.machine.OpbMachine.{the_view}
-use Rattle.pb_opb.specs.declared.phase.Action.TheVariants.{To, Give}
 use Rattle.pb_opb.proofs.lemmas.machine.Pushed.{planned_at, to_order, give_order}
 use Rattle.pb_opb.proofs.machine.OpbMachine.advance.Goals as goal
 

@@ -1,8 +1,5 @@
-use Rattle.std.proofs.Common.{◌≡◌, sym, subst}
-use Rattle.pb_opb.specs.engine.Machine.{transition}
-use Rattle.pb_opb.specs.engine.State.{OpbState}
+use Rattle.pb_opb.proofs.Common.{◌≡◌, subst, sym, Give, transition, OpbState}
 use Rattle.pb_opb.specs.contracts.machine.OpbMachine.{the_view}
-use Rattle.pb_opb.specs.declared.phase.Action.TheVariants.{Give}
 use Rattle.pb_opb.proofs.lemmas.machine.Pushed.{end_order, end_step}
 use Rattle.pb_opb.proofs.machine.OpbMachine.end_sum.Goals as goal
 

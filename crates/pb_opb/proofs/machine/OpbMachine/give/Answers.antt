@@ -1,10 +1,5 @@
-use Rattle.std.proofs.Common.{◌≡◌, ◌∙◌, ap, sym, subst, true, false, IsTrue}
-use Rattle.pb_text.specs.contract.Automaton.{Refuse, Admits, is_large}
-use Rattle.pb_sums.specs.engine.State.{SumState}
-use Rattle.pb_opb.specs.engine.Machine.{transition}
-use Rattle.pb_opb.specs.engine.State.{OpbState, opb}
+use Rattle.pb_opb.proofs.Common.{◌∙◌, ◌≡◌, ap, false, IsTrue, subst, sym, true, SumState, Admits, is_large, Refuse, Give, transition, opb, OpbState}
 use Rattle.pb_opb.specs.contracts.machine.OpbMachine.{the_view}
-use Rattle.pb_opb.specs.declared.phase.Action.TheVariants.{Give}
 use Rattle.pb_opb.proofs.lemmas.machine.Pushed.{give_order, end_order, end_step, give_refused, give_admits}
 use Rattle.pb_opb.proofs.machine.OpbMachine.give.Goals as goal
 

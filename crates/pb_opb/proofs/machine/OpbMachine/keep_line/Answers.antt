@@ -1,7 +1,5 @@
-use Rattle.std.proofs.Common.{◌≡◌, ◌∙◌, List, ℕ, true, take, sym, subst}
-use Rattle.pb_text.specs.contract.Automaton.{Runs}
+use Rattle.pb_opb.proofs.Common.{ℕ, ◌∙◌, ◌≡◌, List, subst, sym, take, true, Runs, keeps_line, opb, OpbState}
 use Rattle.pb_text.proofs.lemmas.text.Results.{grown}
-use Rattle.pb_opb.specs.engine.State.{OpbState, opb, keeps_line}
 use Rattle.pb_opb.specs.contracts.machine.OpbMachine.{the_view}
 use Rattle.pb_opb.proofs.lemmas.machine.Lines.{line_order, line_runs}
 use Rattle.pb_opb.proofs.lemmas.machine.States.{is_state}

@@ -1,4 +1,4 @@
-use Rattle.pb_text.specs.meaning.Limits.{largest, top_of}
+use Rattle.pb_opb.proofs.Common.{largest, top_of}
 use Rattle.pb_opb.proofs.lemmas.machine.Asked.{asks_only}
 use Rattle.pb_opb.proofs.lemmas.machine.Bodies.{reads_instances}
 use Rattle.pb_opb.proofs.lemmas.machine.Exactly.{reads_exactly}

@@ -1,10 +1,6 @@
-use Rattle.std.proofs.Common.{◌≡◌, ◌∙◌, ℕ, List, IsTrue, ap, sym, subst}
-use Rattle.pb_text.specs.contract.Automaton.{Admits}
+use Rattle.pb_opb.proofs.Common.{ℕ, ◌∙◌, ◌≡◌, ap, IsTrue, List, subst, sym, Admits, BeginTail, Keep, To, PhaseFits, opb, OpbState}
 use Rattle.pb_text.proofs.lemmas.text.Results.{unchanged}
-use Rattle.pb_opb.specs.engine.Order.{PhaseFits}
-use Rattle.pb_opb.specs.engine.State.{OpbState, opb}
 use Rattle.pb_opb.specs.contracts.machine.OpbMachine.{the_view}
-use Rattle.pb_opb.specs.declared.phase.Action.TheVariants.{To, BeginTail, Keep}
 use Rattle.pb_opb.proofs.lemmas.machine.Pushed.{planned_at, to_order, tail_admits, keep_admits}
 use Rattle.pb_opb.proofs.machine.OpbMachine.take.Goals as goal
 

@@ -1,8 +1,5 @@
-use Rattle.std.proofs.Common.{◌≡◌, get_or}
-use Rattle.pb_opb.specs.engine.Machine.{transition}
-use Rattle.pb_opb.specs.engine.State.{OpbState}
+use Rattle.pb_opb.proofs.Common.{◌≡◌, get_or, Give, transition, OpbState}
 use Rattle.pb_opb.specs.contracts.machine.OpbMachine.{the_view}
-use Rattle.pb_opb.specs.declared.phase.Action.TheVariants.{Give}
 use Rattle.pb_opb.proofs.lemmas.machine.Pushed.{planned_at}
 use Rattle.pb_opb.proofs.lemmas.machine.WholeConstraints.{constraint_taken}
 use Rattle.pb_opb.proofs.machine.OpbMachine.take_constraint.Goals as goal

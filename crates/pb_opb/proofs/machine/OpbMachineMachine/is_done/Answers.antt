@@ -1,6 +1,4 @@
-use Rattle.std.proofs.Common.{subst}
-use Rattle.pb_text.specs.contract.Automaton.{IsState}
-use Rattle.pb_opb.specs.engine.State.{OpbState, opb}
+use Rattle.pb_opb.proofs.Common.{subst, IsState, opb, OpbState}
 use Rattle.pb_opb.proofs.lemmas.machine.States.{is_state}
 use Rattle.pb_opb.proofs.machine.OpbMachineMachine.is_done.Goals as goal
 

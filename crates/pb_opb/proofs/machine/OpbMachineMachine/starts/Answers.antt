@@ -1,8 +1,5 @@
-use Rattle.std.proofs.Common.{◌∙◌, ap, sym}
-use Rattle.pb_text.specs.contract.Automaton.{begins}
-use Rattle.pb_opb.specs.engine.State.{OpbState, opb}
+use Rattle.pb_opb.proofs.Common.{◌∙◌, ap, sym, begins, Give, opb, OpbState}
 use Rattle.pb_opb.specs.contracts.machine.OpbMachine.{the_view}
-use Rattle.pb_opb.specs.declared.phase.Action.TheVariants.{Give}
 use Rattle.pb_opb.proofs.lemmas.machine.Pushed.{planned_at, give_begins}
 use Rattle.pb_opb.proofs.machine.OpbMachineMachine.starts.Goals as goal
 

@@ -1,4 +1,4 @@
-use Rattle.std.proofs.Common.{take, refl}
+use Rattle.pb_opb.proofs.Common.{refl, take}
 use Rattle.pb_opb.specs.contracts.machine.OpbMachine.{the_view}
 use Rattle.pb_opb.proofs.lemmas.machine.Lines.{kept_or_none}
 use Rattle.pb_opb.proofs.lemmas.machine.Taken.{runs_given}

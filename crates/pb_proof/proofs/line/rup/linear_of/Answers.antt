@@ -1,5 +1,4 @@
-use Rattle.std.proofs.Common.{ap, sym}
-use Rattle.pb_proof.specs.engine.Line.Rup.{linear_of}
+use Rattle.pb_proof.proofs.Common.{ap, sym, linear_of}
 use Rattle.pb_proof.proofs.line.rup.linear_of.Goals as goal
 
 pub returns-in-Linear : goal.returns-in-Linear

@@ -1,4 +1,4 @@
-use Rattle.std.proofs.Common.{◌+◌, ◌-◌, ◌^◌, min, length, ap, ◌∙◌, arith}
+use Rattle.pb_proof.proofs.Common.{◌+◌, ◌-◌, ◌^◌, ◌∙◌, ap, arith, length, min}
 use Rattle.pb_proof.proofs.lemmas.Literals.Pushes.{count_more}
 use Rattle.pb_proof.proofs.line.solution.count_units.Goals as goal
 

@@ -1,4 +1,4 @@
-use Rattle.std.proofs.Common.{◌≡◌, ◌-◌, ◌^◌, min, take}
+use Rattle.pb_proof.proofs.Common.{◌-◌, ◌^◌, ◌≡◌, min, take}
 use Rattle.pb_proof.specs.engine.Line.Literals.{units}
 use Rattle.pb_proof.proofs.line.solution.count_units.Given as goal
 

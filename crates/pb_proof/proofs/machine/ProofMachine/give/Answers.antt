@@ -1,9 +1,6 @@
-use Rattle.std.proofs.Common.{◌≡◌, sym, subst, Some, IsTrue, refl}
-use Rattle.pb_text.specs.contract.Automaton.{Admits}
+use Rattle.pb_proof.proofs.Common.{◌≡◌, IsTrue, refl, Some, subst, sym, Admits, LineMachine, IsInOrder, proofs, ProofState}
 use Rattle.pb_proof.specs.engine.Machine.Transition.{transition}
-use Rattle.pb_proof.specs.engine.Machine.State.{ProofState, IsInOrder, proofs}
 use Rattle.pb_proof.specs.contracts.machine.ProofMachine.{the_view}
-use Rattle.pb_proof.specs.declared.line.LineMachine.{LineMachine}
 use Rattle.pb_proof.specs.declared.machine.phase.Action.TheVariants.{Give}
 use Rattle.pb_proof.proofs.lemmas.Machine.States.{give_order, give_admits, known}
 use Rattle.pb_proof.proofs.machine.ProofMachine.give.Goals as goal

@@ -1,8 +1,5 @@
-use Rattle.pb_text.specs.meaning.Limits.{largest, top_of}
-use Rattle.pb_text.specs.contract.Automaton.{AcceptsItems}
+use Rattle.pb_proof.proofs.Common.{AcceptsItems, largest, top_of, begin, proofs, IsProof}
 use Rattle.pb_text.proofs.lemmas.text.Formats as formats
-use Rattle.pb_proof.specs.meaning.Proofs.{IsProof}
-use Rattle.pb_proof.specs.engine.Machine.State.{proofs, begin}
 use Rattle.pb_proof.proofs.lemmas.Machine.Asks.{asks_only}
 use Rattle.pb_proof.proofs.lemmas.Machine.Exact.{reads_proofs}
 use Rattle.pb_proof.proofs.machine.ProofMachine.new.Goals as goal

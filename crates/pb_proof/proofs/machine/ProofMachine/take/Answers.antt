@@ -1,5 +1,4 @@
-use Rattle.std.proofs.Common.{sym, subst}
-use Rattle.pb_proof.specs.engine.Machine.State.{ProofState, IsInOrder}
+use Rattle.pb_proof.proofs.Common.{subst, sym, IsInOrder, ProofState}
 use Rattle.pb_proof.specs.contracts.machine.ProofMachine.{the_view}
 use Rattle.pb_proof.specs.declared.machine.phase.Phase.TheVariants.{Inside}
 use Rattle.pb_proof.proofs.lemmas.Machine.States.{to_order, begin_order}

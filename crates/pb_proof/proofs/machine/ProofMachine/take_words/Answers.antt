@@ -1,7 +1,4 @@
-use Rattle.std.proofs.Common.{take, sym, subst}
-use Rattle.pb_text.specs.contract.Automaton.{Runs}
-use Rattle.pb_proof.specs.engine.Machine.State.{ProofState, proofs, IsInOrder}
-use Rattle.pb_proof.specs.engine.Machine.Words.{IsRest}
+use Rattle.pb_proof.proofs.Common.{subst, sym, take, Runs, IsInOrder, proofs, ProofState, IsRest}
 use Rattle.pb_proof.specs.contracts.machine.ProofMachine.{the_view}
 use Rattle.pb_proof.specs.declared.machine.phase.Phase.TheVariants.{Inside}
 use Rattle.pb_proof.proofs.lemmas.Machine.Words.{words_to, words_begin}

@@ -1,6 +1,4 @@
-use Rattle.std.proofs.Common.{subst}
-use Rattle.pb_text.specs.contract.Automaton.{IsState}
-use Rattle.pb_proof.specs.engine.Machine.State.{ProofState, proofs}
+use Rattle.pb_proof.proofs.Common.{subst, IsState, proofs, ProofState}
 use Rattle.pb_proof.proofs.lemmas.Machine.States.{is_state}
 use Rattle.pb_proof.proofs.machine.ProofMachineMachine.is_done.Goals as goal
 

@@ -1,4 +1,4 @@
-use Rattle.std.proofs.Common.{rules}
+use Rattle.pb_proof.proofs.Common.{rules}
 use Rattle.pb_proof.proofs.machine.ProofMachineMachine.starts.Goals as goal
 
 pub returns-in-To : goal.returns-in-To

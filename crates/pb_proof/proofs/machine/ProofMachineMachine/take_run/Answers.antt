@@ -1,7 +1,4 @@
-use Rattle.std.proofs.Common.{◌≡◌, ℕ, ◌+◌, take, subst, arith, length-drop, length-take}
-use Rattle.pb_text.specs.contract.Automaton.{Runs}
-use Rattle.pb_text.proofs.lemmas.text.Spans.{runs_further}
-use Rattle.pb_proof.specs.engine.Machine.State.{proofs}
+use Rattle.pb_proof.proofs.Common.{ℕ, ◌+◌, ◌≡◌, arith, length-drop, length-take, subst, take, runs_further, Runs, proofs}
 use Rattle.pb_proof.proofs.machine.ProofMachineMachine.take_run.Goals as goal
 
 pub returns-then-more-eq0-clause-runs : goal.returns-then-more-eq0-clause-runs

@@ -1,6 +1,4 @@
-use Rattle.std.proofs.Common.{◌-◌, ◌≤◌, length, take}
-use Rattle.pb_text.specs.contract.Automaton.{IsState, Runs}
-use Rattle.pb_proof.specs.engine.Machine.State.{proofs}
+use Rattle.pb_proof.proofs.Common.{◌-◌, ◌≤◌, length, take, IsState, Runs, proofs}
 use Rattle.pb_proof.proofs.machine.ProofMachineMachine.take_run.Given as goal
 
 -- the bytes so far were taken

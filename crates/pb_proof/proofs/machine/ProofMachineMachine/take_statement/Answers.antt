@@ -1,12 +1,9 @@
-use Rattle.std.proofs.Common.{◌≡◌, ◌∙◌, ap, ap₂, subst, Option, Some, None}
-use Rattle.pb_text.specs.contract.Automaton.{TakesStatement}
+use Rattle.pb_proof.proofs.Common.{◌∙◌, ◌≡◌, ap, ap₂, None, Option, Some, subst, TakesStatement, LineMachine, Holds, idle, proofs, ProofState}
 use Rattle.pb_proof.specs.contracts.machine.ProofMachine.{the_view}
-use Rattle.pb_proof.specs.declared.line.LineMachine.{LineMachine}
 use Rattle.pb_proof.specs.declared.machine.phase.Phase.{Phase}
 use Rattle.pb_proof.specs.declared.machine.phase.Phase.TheVariants as phase
 use Rattle.pb_proof.specs.declared.machine.phase.Stage.TheVariants as stage
 use Rattle.pb_proof.specs.declared.statement.Statement.TheVariants as statement
-use Rattle.pb_proof.specs.engine.Machine.State.{ProofState, proofs, idle, Holds}
 use Rattle.pb_proof.proofs.lemmas.Machine.Whole.{rup_taken}
 use Rattle.pb_proof.proofs.machine.ProofMachineMachine.take_statement.Goals as goal
 

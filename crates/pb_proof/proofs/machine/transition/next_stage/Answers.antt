@@ -1,4 +1,4 @@
-use Rattle.std.proofs.Common.{rules}
+use Rattle.pb_proof.proofs.Common.{rules}
 use Rattle.pb_proof.proofs.machine.transition.next_stage.Goals as goal
 
 pub returns-in-Conclusion : goal.returns-in-Conclusion

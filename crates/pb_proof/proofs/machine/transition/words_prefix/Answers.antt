@@ -1,5 +1,4 @@
-use Rattle.std.proofs.Common.{◌-◌, take, drop, length, sym, subst, ◌∙◌}
-use Rattle.std.specs.Cmp.Lexicographic.{bytes_decides}
+use Rattle.pb_proof.proofs.Common.{◌-◌, ◌∙◌, drop, length, subst, sym, take, bytes_decides}
 use Rattle.pb_proof.proofs.lemmas.Machine.Words.{rest_is, lacks_rest, LacksPrefix}
 use Rattle.pb_proof.proofs.machine.transition.words_prefix.Goals as goal
 

@@ -1,4 +1,4 @@
-use Rattle.std.proofs.Common.{rules}
+use Rattle.pb_proof.proofs.Common.{rules}
 use Rattle.pb_proof.proofs.statement.Statement.stage.Goals as goal
 
 pub returns-in-Conclude : goal.returns-in-Conclude

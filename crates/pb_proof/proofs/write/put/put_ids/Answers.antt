@@ -1,10 +1,6 @@
-use Rattle.std.proofs.Common.{ℕ, ℤ, pos, List, ◌-◌, ◌++◌, ◌∷◌, length, drop, arith, rules, get_or, sym, ap, append_assoc, ◌∙◌}
+use Rattle.pb_proof.proofs.Common.{ℕ, ℤ, ◌++◌, ◌-◌, ◌∙◌, ◌∷◌, ap, append_assoc, arith, drop, get_or, length, List, pos, rules, sym, to_z-of_z}
+use Rattle.pb_proof.proofs.Common.{get_or_default, signed_decimal, w64, listed_bytes}
 use mir.Val.{SFits}
-use Rattle.std.specs.Int.{w64}
-use Rattle.std.specs.Fmt.{signed_decimal}
-use Rattle.std.proofs.lemmas.Int.{to_z-of_z}
-use Rattle.std.proofs.lemmas.List.{get_or_default}
-use Rattle.pb_proof.specs.meaning.Canonical.{listed_bytes}
 use Rattle.pb_proof.proofs.lemmas.Written.{listed_past, listed_from}
 use Rattle.pb_proof.proofs.write.put.put_ids.Goals as goal
 

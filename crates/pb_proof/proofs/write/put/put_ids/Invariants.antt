@@ -1,6 +1,4 @@
-use Rattle.std.proofs.Common.{◌≡◌, ◌≤◌, ◌++◌, length, drop}
-use Rattle.pb_proof.specs.meaning.Canonical.{listed_bytes}
-use Rattle.std.specs.Fmt.{signed_decimal}
+use Rattle.pb_proof.proofs.Common.{◌++◌, ◌≡◌, ◌≤◌, drop, length, signed_decimal, listed_bytes}
 use Rattle.pb_proof.proofs.write.put.put_ids.Given as goal
 
 abbrev pub invariant-loop-left : goal.invariant-loop-left

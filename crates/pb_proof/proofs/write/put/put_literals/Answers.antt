@@ -1,5 +1,4 @@
-use Rattle.std.proofs.Common.{ℕ, List, ◌++◌, ◌∷◌, length, drop, arith, sym, ap, append_assoc, ◌∙◌}
-use Rattle.pb_proof.specs.meaning.Canonical.{literal_line, listed_bytes}
+use Rattle.pb_proof.proofs.Common.{ℕ, ◌++◌, ◌∙◌, ◌∷◌, ap, append_assoc, arith, drop, length, List, sym, listed_bytes, literal_line}
 use Rattle.pb_proof.proofs.lemmas.Written.{listed_past, listed_from}
 use Rattle.pb_proof.proofs.write.put.put_literals.Goals as goal
 

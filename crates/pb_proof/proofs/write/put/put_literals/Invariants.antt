@@ -1,5 +1,4 @@
-use Rattle.std.proofs.Common.{◌≡◌, ◌≤◌, ◌++◌, length, drop}
-use Rattle.pb_proof.specs.meaning.Canonical.{literal_line, listed_bytes}
+use Rattle.pb_proof.proofs.Common.{◌++◌, ◌≡◌, ◌≤◌, drop, length, listed_bytes, literal_line}
 use Rattle.pb_proof.proofs.write.put.put_literals.Given as goal
 
 abbrev pub invariant-loop-left : goal.invariant-loop-left

@@ -1,5 +1,4 @@
-use Rattle.std.proofs.Common.{◌≡◌, ◌≤◌, ◌++◌, length, drop}
-use Rattle.pb_proof.specs.meaning.Canonical.{word_bytes, listed_bytes}
+use Rattle.pb_proof.proofs.Common.{◌++◌, ◌≡◌, ◌≤◌, drop, length, listed_bytes, word_bytes}
 use Rattle.pb_proof.proofs.write.words.put_words.Given as goal
 
 abbrev pub invariant-loop-left : goal.invariant-loop-left

@@ -1,6 +1,4 @@
-use Rattle.std.proofs.Common.{◌≡◌, ◌++◌, ℕ, List, take, drop, append-nil, sym, subst}
-use Rattle.pb_text.specs.meaning.Writing.{Writes}
-use Rattle.pb_proof.specs.meaning.Canonical.{word_bytes, listed_bytes}
+use Rattle.pb_proof.proofs.Common.{ℕ, ◌++◌, ◌≡◌, append-nil, drop, List, subst, sym, take, Writes, listed_bytes, word_bytes}
 use Rattle.pb_proof.proofs.lemmas.Written.{listed_split}
 use Rattle.pb_proof.proofs.write.words.write_batch.Goals as goal
 

@@ -1,7 +1,4 @@
-use Rattle.std.proofs.Common.{take}
-use Rattle.pb_text.specs.meaning.Writing.{Wrote}
-use Rattle.pb_proof.specs.meaning.Canonical.{listed_bytes}
-use Rattle.pb_proof.specs.meaning.Canonical.{word_bytes}
+use Rattle.pb_proof.proofs.Common.{take, Wrote, listed_bytes, word_bytes}
 use Rattle.pb_proof.proofs.write.words.write_each.Given as goal
 
 abbrev pub invariant-loop-word : goal.invariant-loop-word

@@ -1,9 +1,5 @@
-use Rattle.std.proofs.Common.{◌≡◌, ℕ, List, [], ◌++◌, refl, sym, ap, subst, append_assoc, ◌∙◌}
-use Rattle.pb_text.specs.meaning.Writing.{Wrote}
-use Rattle.pb_text.proofs.lemmas.text.Writing.{writes_nothing}
-use Rattle.pb_text.proofs.lemmas.text.Parts.{part_then, part_broke, part_wrote}
-use Rattle.pb_proof.specs.meaning.Canonical.{word_bytes, listed_bytes}
-use Rattle.pb_proof.specs.declared.word.PolWord.{PolWord}
+use Rattle.pb_proof.proofs.Common.{ℕ, ◌++◌, ◌∙◌, ◌≡◌, [], ap, append_assoc, List, refl, subst, sym, part_broke, part_then, part_wrote, writes_nothing}
+use Rattle.pb_proof.proofs.Common.{Wrote, PolWord, listed_bytes, word_bytes}
 use Rattle.pb_proof.proofs.lemmas.Written.{listed_none, listed-append}
 use Rattle.pb_proof.proofs.write.words.write_further.Goals as goal
 

@@ -1,7 +1,4 @@
-use Rattle.std.proofs.Common.{◌≡◌, ◌++◌, List, length}
-use Rattle.pb_text.specs.meaning.Writing.{Wrote}
-use Rattle.pb_proof.specs.meaning.Canonical.{word_bytes, listed_bytes}
-use Rattle.pb_proof.specs.declared.word.PolWord.{PolWord}
+use Rattle.pb_proof.proofs.Common.{◌++◌, ◌≡◌, length, List, Wrote, PolWord, listed_bytes, word_bytes}
 use Rattle.pb_proof.proofs.write.words.write_further.Given as goal
 
 abbrev pub invariant-loop-rest : goal.invariant-loop-rest

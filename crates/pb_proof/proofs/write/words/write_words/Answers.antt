@@ -1,7 +1,4 @@
-use Rattle.std.proofs.Common.{◌≡◌, ◌++◌, ℕ, List, ap, sym, append_assoc, ◌∙◌}
-use Rattle.pb_text.proofs.lemmas.text.Parts.{part_then, part_broke}
-use Rattle.pb_proof.specs.meaning.Canonical.{word_bytes, listed_bytes}
-use Rattle.pb_proof.specs.declared.word.PolWord.{PolWord}
+use Rattle.pb_proof.proofs.Common.{ℕ, ◌++◌, ◌∙◌, ◌≡◌, ap, append_assoc, List, sym, part_broke, part_then, PolWord, listed_bytes, word_bytes}
 use Rattle.pb_proof.proofs.lemmas.Written.{listed-append}
 use Rattle.pb_proof.proofs.write.words.write_words.Goals as goal
 

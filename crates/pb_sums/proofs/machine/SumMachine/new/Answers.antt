@@ -1,4 +1,4 @@
-use Rattle.pb_text.specs.meaning.Limits.{largest}
+use Rattle.pb_sums.proofs.Common.{largest}
 use Rattle.pb_sums.proofs.lemmas.machine.Asked.{asks_one}
 use Rattle.pb_sums.proofs.lemmas.machine.States.{accepts_one, first_is_state}
 use Rattle.pb_sums.proofs.machine.SumMachine.new.Goals as goal

@@ -1,5 +1,4 @@
-use Rattle.std.proofs.Common.{◌≡◌, List, ℕ, ◌++◌, take, ap, sym, ◌∙◌}
-use Rattle.pb_text.proofs.lemmas.text.Results.{grown}
+use Rattle.pb_sums.proofs.Common.{ℕ, ◌++◌, ◌∙◌, ◌≡◌, ap, List, sym, take, grown}
 use Rattle.pb_sums.proofs.lemmas.prefixes.Names.{more_runs}
 use Rattle.pb_sums.proofs.lemmas.machine.States.{more_state}
 use Rattle.pb_sums.proofs.machine.SumMachine.take_more.Goals as goal

@@ -1,6 +1,4 @@
-use Rattle.std.proofs.Common.{◌≡◌, ◌≤◌, length, take, get_or, sym, ap, ◌∙◌, arith}
-use Rattle.std.proofs.lemmas.List.{length-take-le, get_or-take}
-use Rattle.pb_text.specs.meaning.Classes.{is_letter}
+use Rattle.pb_sums.proofs.Common.{◌∙◌, ◌≡◌, ◌≤◌, ap, arith, get_or, length, sym, take, get_or-take, length-take-le, is_letter}
 use Rattle.pb_sums.proofs.lemmas.values.Shorts.{name_utf8}
 use Rattle.pb_sums.proofs.lemmas.prefixes.Names.{name_runs, after_state}
 use Rattle.pb_sums.proofs.machine.SumMachine.take_name.Goals as goal

@@ -1,4 +1,4 @@
-use Rattle.std.proofs.Common.{refl, sym, ap, ◌==◌, length, ◌∙◌}
+use Rattle.pb_sums.proofs.Common.{◌==◌, ◌∙◌, ap, length, refl, sym}
 use Rattle.pb_sums.proofs.lemmas.prefixes.Digits.{none_there}
 use Rattle.pb_sums.proofs.lemmas.machine.States.{midway_state}
 use Rattle.pb_sums.proofs.lemmas.prefixes.TermParts.{relation_runs, spaced_relation_runs}

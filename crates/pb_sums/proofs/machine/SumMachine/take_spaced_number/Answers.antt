@@ -1,7 +1,5 @@
-use Rattle.std.proofs.Common.{sym, ap, ◌==◌, length, ◌∙◌, arith}
+use Rattle.pb_sums.proofs.Common.{◌==◌, ◌∙◌, ap, arith, length, sym, ints, to_z-of_z, w128}
 use mir.Val.{SFits}
-use Rattle.std.specs.Int.{w128}
-use Rattle.std.proofs.lemmas.Int.{ints, to_z-of_z}
 use Rattle.pb_sums.proofs.lemmas.prefixes.Digits.{none_there}
 use Rattle.pb_sums.proofs.lemmas.prefixes.TermParts.{number_state}
 use Rattle.pb_sums.proofs.machine.SumMachine.take_spaced_number.Goals as goal

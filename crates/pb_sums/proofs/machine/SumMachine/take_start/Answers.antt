@@ -1,6 +1,4 @@
-use Rattle.std.proofs.Common.{◌≡◌, ℕ, take, subst, ◌∙◌, arith}
-use Rattle.pb_text.specs.contract.Automaton.{Runs}
-use Rattle.pb_sums.specs.engine.State.{SumState, sums}
+use Rattle.pb_sums.proofs.Common.{ℕ, ◌∙◌, ◌≡◌, arith, subst, take, Runs, sums, SumState}
 use Rattle.pb_sums.proofs.machine.SumMachine.take_start.Goals as goal
 
 pub returns-clause-runs : goal.returns-clause-runs

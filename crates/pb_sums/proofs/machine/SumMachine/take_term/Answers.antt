@@ -1,7 +1,5 @@
-use Rattle.std.proofs.Common.{refl, sym, ap, ◌==◌, length, ◌∙◌, arith}
+use Rattle.pb_sums.proofs.Common.{◌==◌, ◌∙◌, ap, arith, length, refl, sym, ints, to_z-of_z, w128}
 use mir.Val.{SFits}
-use Rattle.std.specs.Int.{w128}
-use Rattle.std.proofs.lemmas.Int.{ints, to_z-of_z}
 use Rattle.pb_sums.proofs.lemmas.prefixes.Digits.{none_there}
 use Rattle.pb_sums.proofs.lemmas.machine.States.{midway_state}
 use Rattle.pb_sums.proofs.lemmas.prefixes.TermParts.{term_runs, grown}

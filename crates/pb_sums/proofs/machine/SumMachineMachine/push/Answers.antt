@@ -1,11 +1,8 @@
-use Rattle.std.proofs.Common.{List, ℕ, [], ◌∷◌, ◌++◌, refl, sym, ap, ◌∙◌, arith}
+use Rattle.pb_sums.proofs.Common.{ℕ, ◌++◌, ◌∙◌, ◌∷◌, [], ap, arith, List, refl, sym, ints, to_z-of_z, w128, grown, unchanged, when_err, when_ok, Add}
+use Rattle.pb_sums.proofs.Common.{Begin, EndLinear, EndSum, Stop, To}
 use mir.Val.{SFits}
-use Rattle.std.specs.Int.{w128}
-use Rattle.std.proofs.lemmas.Int.{ints, to_z-of_z}
-use Rattle.pb_sums.specs.declared.phase.Action.TheVariants.{To, Begin, Add, EndSum, EndLinear, Stop}
 use Rattle.pb_sums.proofs.lemmas.machine.States.{is_state, midway_order, midway_state}
 use Rattle.pb_sums.proofs.lemmas.machine.Pushes.{wants, refuses, goes_to, begins_to, adds_to, ends_sum, ends_linear, ended_order, ended_state, same_state}
-use Rattle.pb_text.proofs.lemmas.text.Results.{when_ok, when_err, grown, unchanged}
 use Rattle.pb_sums.proofs.machine.SumMachineMachine.push.Goals as goal
 
 pub returns-then-is_err-clause-pushes : goal.returns-then-is_err-clause-pushes

@@ -1,8 +1,7 @@
-use Rattle.std.proofs.Common.{List, ℕ, [], ◌∷◌, ◌++◌, refl, sym, ap, ◌∙◌}
+use Rattle.pb_sums.proofs.Common.{ℕ, ◌++◌, ◌∙◌, ◌∷◌, [], ap, List, refl, sym, grown, unchanged, when_err, when_ok}
 use Rattle.pb_sums.proofs.lemmas.prefixes.Names.{more_goes}
 use Rattle.pb_sums.proofs.lemmas.machine.States.{is_state, midway_order, midway_state, more_midway, more_state}
 use Rattle.pb_sums.proofs.lemmas.machine.Pushes.{goes_to, begins_to, adds_to, same_state}
-use Rattle.pb_text.proofs.lemmas.text.Results.{when_ok, when_err, grown, unchanged}
 use Rattle.pb_sums.proofs.machine.SumMachineMachine.try_continue.Goals as goal
 
 pub returns-then-is_err-clause-state : goal.returns-then-is_err-clause-state

@@ -1,4 +1,4 @@
-use Rattle.std.proofs.Common.{◌≤◌, length, decimal, arith, ap, length-append, length-drop}
+use Rattle.pb_sums.proofs.Common.{◌≤◌, ap, arith, decimal, length, length-append, length-drop}
 use Rattle.std.proofs.lemmas.Fmt.{length-decimal-le}
 use Rattle.pb_sums.proofs.piece.Piece.put_count.Goals as goal
 

@@ -1,5 +1,4 @@
-use Rattle.std.proofs.Common.{◌≡◌, take, sym, subst, ap, ◌∙◌, arith, take-take}
-use Rattle.std.specs.Str.{IsUtf8}
+use Rattle.pb_sums.proofs.Common.{◌∙◌, ◌≡◌, ap, arith, subst, sym, take, take-take, IsUtf8}
 use Rattle.pb_sums.proofs.short.ShortText.from_prefix.Goals as goal
 
 pub from_block-requires-clause-text : goal.from_block-requires-clause-text

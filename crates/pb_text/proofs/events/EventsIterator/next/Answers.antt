@@ -1,11 +1,5 @@
-use Rattle.std.proofs.Common.{◌≡◌, ℕ, None, IfErr, sym, ap, ◌∙◌, subst}
-use Rattle.std.specs.Option.{option_transpose}
-use Rattle.std.specs.Result.{result_transpose}
-use Rattle.pb_text.specs.contract.Standing.{IsOpen}
-use Rattle.pb_text.specs.contract.Feeding.{WantsMemory, stop_of}
-use Rattle.pb_text.specs.meaning.Pulling.{Pulls, faults_after}
-use Rattle.pb_text.specs.meaning.PullsInARow.{PullsOn}
-use Rattle.pb_text.specs.meaning.Stopping.{IsShown}
+use Rattle.pb_text.proofs.Common.{ℕ, ◌∙◌, ◌≡◌, ap, IfErr, None, subst, sym, option_transpose, result_transpose, stop_of, WantsMemory, IsOpen}
+use Rattle.pb_text.proofs.Common.{faults_after, Pulls, PullsOn, IsShown}
 use Rattle.pb_text.proofs.lemmas.source.ItemsPulled.{transposed, event_pulled, none_pulled, none_there}
 use Rattle.pb_text.proofs.events.EventsIterator.next.Goals as goal
 

@@ -1,9 +1,7 @@
-use Rattle.std.proofs.Common.{◌≡◌, ◌+◌, ◌-◌, ◌<◌, ◌≤◌, ℕ, List, [], ◌∷◌, ◌++◌, length, subst, sym, ap, ◌∙◌, append-nil, append_assoc, take, drop, get_or, slice_get, Some, take-append-drop, arith}
-use Rattle.std.proofs.lemmas.List.{take-take, length-take, length-drop}
+use Rattle.pb_text.proofs.Common.{ℕ, ◌++◌, ◌+◌, ◌-◌, ◌<◌, ◌∙◌, ◌∷◌, ◌≡◌, ◌≤◌, [], ap, append-nil, append_assoc, arith, drop, get_or, length}
+use Rattle.pb_text.proofs.Common.{length-drop, length-take, List, slice_get, Some, subst, sym, take, take-append-drop, take-add, take-length}
+use Rattle.pb_text.proofs.Common.{take-take, StandsAt, Stands}
 use Rattle.std.proofs.lemmas.Option.{slice_get-get_or}
-use Rattle.std.proofs.Math.Seq.{take-length, take-add}
-use Rattle.pb_text.specs.contract.Standing.{Stands}
-use Rattle.pb_text.specs.contract.Feeding.{StandsAt}
 use Rattle.pb_text.proofs.lemmas.feeder.Begin.{stands_more}
 use Rattle.pb_text.proofs.lemmas.text.Spans.{one_further}
 use Rattle.pb_text.proofs.feeder.Feeder.feed.Goals as goal

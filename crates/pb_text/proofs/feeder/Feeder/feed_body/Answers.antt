@@ -1,10 +1,5 @@
-use Rattle.std.proofs.Common.{◌≡◌, ◌≤◌, ◌-◌, ◌+◌, ℕ, arith, sym, subst, ap, ◌∙◌, None, Option, List, length, take, min, length-take-le}
-use Rattle.std.proofs.lemmas.List.{length-take, take-take}
-use Rattle.pb_text.specs.contract.Automaton.{Runs}
-use Rattle.pb_text.specs.engine.SpentBytes.{end_of}
-use Rattle.pb_text.specs.meaning.Spelling.{place_past}
-use Rattle.pb_text.specs.contract.Standing.{Stands}
-use Rattle.pb_text.specs.declared.place.Stop.{Stop}
+use Rattle.pb_text.proofs.Common.{ℕ, ◌+◌, ◌-◌, ◌∙◌, ◌≡◌, ◌≤◌, ap, arith, length, length-take, length-take-le, List, min, None, Option, subst, sym}
+use Rattle.pb_text.proofs.Common.{take, take-take, Runs, Stands, Stop, end_of, place_past}
 use Rattle.pb_text.proofs.lemmas.machine.Running.{stands_run, runs_unfinished, place_fits}
 use Rattle.pb_text.proofs.feeder.Feeder.feed_body.Goals as goal
 

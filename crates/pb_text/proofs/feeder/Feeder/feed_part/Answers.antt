@@ -1,5 +1,4 @@
-use Rattle.std.proofs.Common.{arith, ◌∷◌, ◌++◌, ℕ, List, [], subst, append-nil, take}
-use Rattle.pb_text.specs.contract.Feeding.{StandsAt}
+use Rattle.pb_text.proofs.Common.{ℕ, ◌++◌, ◌∷◌, [], append-nil, arith, List, subst, take, StandsAt}
 use Rattle.pb_text.proofs.lemmas.text.Spans.{one_further}
 use Rattle.pb_text.proofs.feeder.Feeder.feed_part.Goals as goal
 

@@ -1,5 +1,4 @@
-use Rattle.std.proofs.Common.{arith, append-nil, subst, ◌++◌, [], List, ℕ}
-use Rattle.pb_text.specs.contract.Feeding.{StandsAt}
+use Rattle.pb_text.proofs.Common.{ℕ, ◌++◌, [], append-nil, arith, List, subst, StandsAt}
 use Rattle.pb_text.proofs.feeder.Feeder.feed_rest.Goals as goal
 
 pub returns-in-None : goal.returns-in-None

@@ -1,5 +1,4 @@
-use Rattle.std.proofs.Common.{ℕ, ◌++◌, List, take, drop, length, ◌-◌, ap, sym, subst, ◌∙◌, append_assoc, append-nil}
-use Rattle.pb_text.specs.contract.Feeding.{StandsAt, spans_in}
+use Rattle.pb_text.proofs.Common.{ℕ, ◌++◌, ◌-◌, ◌∙◌, ap, append-nil, append_assoc, drop, length, List, subst, sym, take, spans_in, StandsAt}
 use Rattle.pb_text.proofs.lemmas.text.Spans.{prefix_parts}
 use Rattle.pb_text.proofs.feeder.Feeder.feed_statement.Goals as goal
 

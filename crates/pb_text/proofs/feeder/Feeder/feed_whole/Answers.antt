@@ -1,14 +1,6 @@
-use Rattle.std.proofs.Common.{◌≡◌, ◌+◌, ◌-◌, ◌<◌, ◌≤◌, ℕ, suc, List, [], ◌∷◌, ◌++◌, true, false, arith, refl, sym, subst, ap, ◌∙◌, None, Some, Option, length, take, get_or, min, length-take-le, length-append}
-use Rattle.std.proofs.lemmas.List.{length-take, take-take, take_more}
-use Rattle.std.specs.Option.{is_some}
-use Rattle.pb_text.specs.contract.Automaton.{begins}
-use Rattle.pb_text.specs.engine.SpentBytes.{end_of}
-use Rattle.pb_text.specs.meaning.Reading.{byte_limit}
-use Rattle.pb_text.specs.meaning.Spelling.{place_next, place_past}
-use Rattle.pb_text.specs.contract.Standing.{Stands}
-use Rattle.pb_text.specs.declared.place.Place.{Place}
-use Rattle.pb_text.specs.declared.place.Spanned.{Spanned}
-use Rattle.pb_text.specs.declared.place.Stop.{Stop}
+use Rattle.pb_text.proofs.Common.{ℕ, ◌++◌, ◌+◌, ◌-◌, ◌<◌, ◌∙◌, ◌∷◌, ◌≡◌, ◌≤◌, [], ap, arith, false, get_or, length, length-append, length-take}
+use Rattle.pb_text.proofs.Common.{length-take-le, List, min, None, Option, refl, Some, subst, suc, sym, take, true, take-take, take_more, is_some}
+use Rattle.pb_text.proofs.Common.{begins, Stands, Place, Spanned, Stop, end_of, byte_limit, place_next, place_past}
 use Rattle.pb_text.proofs.lemmas.machine.Running.{place_fits, past_more}
 use Rattle.pb_text.proofs.lemmas.feeder.Whole.{stands_whole, first_of, span}
 use Rattle.pb_text.proofs.feeder.Feeder.feed_whole.Goals as goal

@@ -1,7 +1,4 @@
-use Rattle.std.proofs.Common.{◌≡◌, Option, None, subst, refl, true, false, sym}
-use Rattle.pb_text.specs.meaning.Spelling.{bytes}
-use Rattle.pb_text.specs.contract.Standing.{Stands}
-use Rattle.pb_text.specs.declared.place.Stop.{Stop}
+use Rattle.pb_text.proofs.Common.{◌≡◌, false, None, Option, refl, subst, sym, true, Stands, Stop, bytes}
 use Rattle.pb_text.proofs.lemmas.feeder.Reported.{stands_reads}
 use Rattle.pb_text.proofs.lemmas.feeder.Begin.{stands_ended}
 use Rattle.pb_text.proofs.feeder.Feeder.finish.Goals as goal

@@ -1,5 +1,4 @@
-use Rattle.std.proofs.Common.{length, arith}
-use Rattle.pb_text.specs.meaning.Spelling.{bytes}
+use Rattle.pb_text.proofs.Common.{arith, length, bytes}
 use Rattle.pb_text.proofs.lemmas.text.Short.{begun_bytes}
 use Rattle.pb_text.proofs.lemmas.feeder.Reported.{stands_open, kept_within}
 use Rattle.pb_text.proofs.feeder.Feeder.held.Goals as goal

@@ -1,4 +1,4 @@
-use Rattle.pb_text.specs.meaning.Spelling.{bytes}
+use Rattle.pb_text.proofs.Common.{bytes}
 use Rattle.pb_text.proofs.lemmas.feeder.Reported.{stands_reads}
 use Rattle.pb_text.proofs.feeder.Feeder.is_done.Goals as goal
 

@@ -1,7 +1,4 @@
-use Rattle.std.proofs.Common.{◌≡◌, ◌+◌, ◌-◌, ◌≤◌, ℕ, List, ◌++◌, length, take, None, false}
-use Rattle.pb_text.specs.contract.Automaton.{IsState}
-use Rattle.pb_text.specs.declared.place.Spanned.{Spanned}
-use Rattle.pb_text.specs.contract.Feeding.{StandsAt}
+use Rattle.pb_text.proofs.Common.{ℕ, ◌++◌, ◌+◌, ◌-◌, ◌≡◌, ◌≤◌, false, length, List, None, take, IsState, StandsAt, Spanned}
 use Rattle.pb_text.proofs.feeder.Feeder.skip_gap.Given as goal
 
 -- the feeder was fed the input followed by the bytes so far

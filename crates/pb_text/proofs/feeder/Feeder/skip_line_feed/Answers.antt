@@ -1,5 +1,5 @@
-use Rattle.std.proofs.Common.{◌≡◌, ◌==◌, ◌∙◌, false, ◌<◌, ◌++◌, ℕ, List, [], ◌∷◌, arith, subst, sym, ap, append-nil, length, take, get_or}
-use Rattle.pb_text.specs.contract.Feeding.{StandsAt}
+use Rattle.pb_text.proofs.Common.{ℕ, ◌++◌, ◌<◌, ◌==◌, ◌∙◌, ◌∷◌, ◌≡◌, [], ap, append-nil, arith, false, get_or, length, List, subst, sym, take}
+use Rattle.pb_text.proofs.Common.{StandsAt}
 use Rattle.pb_text.proofs.feeder.Feeder.skip_line_feed.Goals as goal
 
 has_first : (piece : List ℕ) → (length piece == 0) ≡ false → 0 < length piece

@@ -1,8 +1,4 @@
-use Rattle.std.proofs.Common.{◌≡◌, ℕ, refl, subst, ap, ◌∙◌, None, Option}
-use Rattle.pb_text.specs.engine.SpentBytes.{end_of}
-use Rattle.pb_text.specs.declared.place.Place.{Place}
-use Rattle.pb_text.specs.declared.place.Stop.{Stop}
-use Rattle.pb_text.specs.contract.Standing.{Stands}
+use Rattle.pb_text.proofs.Common.{ℕ, ◌∙◌, ◌≡◌, ap, None, Option, refl, subst, Stands, Place, Stop, end_of}
 use Rattle.pb_text.proofs.lemmas.feeder.Steps.{before_end, stands_go, stands_event, stands_no, stands_large, stands_lacks, stands_long}
 use Rattle.pb_text.proofs.feeder.Feeder.take.Goals as goal
 

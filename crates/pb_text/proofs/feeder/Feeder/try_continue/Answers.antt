@@ -1,6 +1,4 @@
-use Rattle.std.proofs.Common.{◌∙◌, subst, None, Option, append-nil}
-use Rattle.pb_text.specs.declared.place.Stop.{Stop}
-use Rattle.pb_text.specs.contract.Standing.{Stands}
+use Rattle.pb_text.proofs.Common.{◌∙◌, append-nil, None, Option, subst, Stands, Stop}
 use Rattle.pb_text.proofs.lemmas.feeder.Steps.{before_end, stands_go}
 use Rattle.pb_text.proofs.feeder.Feeder.try_continue.Goals as goal
 

@@ -1,4 +1,4 @@
-use Rattle.std.proofs.Common.{refl}
+use Rattle.pb_text.proofs.Common.{refl}
 use Rattle.pb_text.proofs.lemmas.feeder.Begin.{stands_new}
 use Rattle.pb_text.proofs.feeder.Feeder.within.Goals as goal
 

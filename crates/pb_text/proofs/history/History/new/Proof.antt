@@ -21,7 +21,7 @@ use denote.Triple.Entry.{on_entry}
 use denote.Triple.Spec.{Meets, triple_of}
 use denote.Triple.Table.{entered}
 use denote.Triple.Walked.{says, ends_at, walked, walk_Meets}
-use Rattle.pb_text.specs.declared.history.History.{History}
+use Rattle.pb_text.proofs.Common.{History}
 use Rattle.pb_text.specs.contracts.history.History as T
 use Rattle.pb_text.specs.contracts.history.History.new.Key.{name as #it}
 use Rattle.pb_text.specs.contracts.history.History.new as it

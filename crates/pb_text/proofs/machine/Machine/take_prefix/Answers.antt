@@ -1,4 +1,4 @@
-use Rattle.std.proofs.Common.{refl}
+use Rattle.pb_text.proofs.Common.{refl}
 use Rattle.pb_text.proofs.lemmas.machine.Running.{runs_on}
 use Rattle.pb_text.proofs.machine.Machine.take_prefix.Goals as goal
 

@@ -1,5 +1,4 @@
-use Rattle.std.proofs.Common.{◌≡◌, ℕ, ◌+◌, take, subst, arith, length-drop, length-take}
-use Rattle.pb_text.specs.contract.Automaton.{Runs}
+use Rattle.pb_text.proofs.Common.{ℕ, ◌+◌, ◌≡◌, arith, length-drop, length-take, subst, take, Runs}
 use Rattle.pb_text.proofs.lemmas.text.Spans.{runs_further}
 use Rattle.pb_text.proofs.machine.Machine.take_run.Goals as goal
 

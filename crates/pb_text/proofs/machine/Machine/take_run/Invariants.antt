@@ -1,5 +1,4 @@
-use Rattle.std.proofs.Common.{◌-◌, ◌≤◌, length, take}
-use Rattle.pb_text.specs.contract.Automaton.{IsState, Runs}
+use Rattle.pb_text.proofs.Common.{◌-◌, ◌≤◌, length, take, IsState, Runs}
 use Rattle.pb_text.proofs.machine.Machine.take_run.Given as goal
 
 -- the bytes so far were taken

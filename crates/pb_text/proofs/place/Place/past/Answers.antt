@@ -1,8 +1,5 @@
-use Rattle.std.proofs.Common.{◌≡◌, ℕ, List, length, take, get_or, refl, sym, ap, ◌∙◌, arith, length-take-le}
-use Rattle.std.proofs.Math.Seq.{take-length}
-use Rattle.std.proofs.lemmas.List.{take_more}
-use Rattle.pb_text.specs.meaning.Spelling.{place_next, place_past}
-use Rattle.pb_text.specs.declared.place.Place.{Place}
+use Rattle.pb_text.proofs.Common.{ℕ, ◌∙◌, ◌≡◌, ap, arith, get_or, length, length-take-le, List, refl, sym, take, take-length, take_more, Place}
+use Rattle.pb_text.proofs.Common.{place_next, place_past}
 use Rattle.pb_text.proofs.lemmas.machine.Running.{past_offset, past_line, past_column, past_more, past_on_line}
 use Rattle.pb_text.proofs.place.Place.past.Goals as goal
 

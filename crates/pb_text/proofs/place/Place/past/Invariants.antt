@@ -1,5 +1,4 @@
-use Rattle.std.proofs.Common.{◌≡◌, take}
-use Rattle.pb_text.specs.meaning.Spelling.{place_past}
+use Rattle.pb_text.proofs.Common.{◌≡◌, take, place_past}
 use Rattle.pb_text.proofs.place.Place.past.Given as goal
 
 -- the position after the bytes so far

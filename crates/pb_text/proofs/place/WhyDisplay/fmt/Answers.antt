@@ -1,6 +1,4 @@
-use Rattle.std.proofs.Common.{arith, Some, ◌≡◌, ◌++◌, ap, codes}
-use Rattle.std.specs.Fmt.{DisplaysOnOk, styled_digits_output}
-use Rattle.pb_text.specs.contract.Reasons.{hex_of}
+use Rattle.pb_text.proofs.Common.{◌++◌, ◌≡◌, ap, arith, codes, Some, DisplaysOnOk, styled_digits_output, hex_of}
 use Rattle.pb_text.proofs.lemmas.numbers.HexDigits.{hex_is_hex_of}
 use Rattle.pb_text.proofs.place.WhyDisplay.fmt.Goals as goal
 

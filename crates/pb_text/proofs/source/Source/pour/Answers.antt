@@ -1,4 +1,4 @@
-use Rattle.std.proofs.Common.{[], sym, arith, append-nil}
+use Rattle.pb_text.proofs.Common.{[], append-nil, arith, sym}
 use Rattle.pb_text.proofs.lemmas.source.Pulled.{lost_nothing}
 use Rattle.pb_text.proofs.source.Source.pour.Goals as goal
 

@@ -1,7 +1,6 @@
-use Rattle.std.proofs.Common.{◌≡◌, false, IsTrue, sym, subst}
-use Rattle.pb_text.specs.contract.Automaton.{Refuse, Admits, is_large}
+use Rattle.pb_proof.proofs.Common.{◌≡◌, false, IsTrue, subst, sym, Admits, is_large, Refuse, conclusion_automaton, ConclusionState}
 use Rattle.pb_proof.specs.engine.Line.Conclusion.{transition}
-use Rattle.pb_proof.specs.engine.Line.ConclusionState.{ConclusionState, conclusion_automaton, giving}
+use Rattle.pb_proof.specs.engine.Line.ConclusionState.{giving}
 use Rattle.pb_proof.specs.contracts.line.conclusion.ConclusionMachine.{the_view}
 use Rattle.pb_proof.specs.declared.line.conclusion.phase.Action.TheVariants.{Give}
 use Rattle.pb_proof.proofs.lemmas.Conclusion.Pushes.{give_order, give_refused, give_admits, same_inner}

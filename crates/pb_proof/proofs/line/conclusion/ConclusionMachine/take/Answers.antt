@@ -1,6 +1,5 @@
-use Rattle.std.proofs.Common.{◌≡◌, rules, sym, ap}
-use Rattle.pb_text.specs.contract.Automaton.{Go}
-use Rattle.pb_proof.specs.engine.Line.ConclusionState.{ConclusionState, conclusion_automaton, conclusion_at, act}
+use Rattle.pb_proof.proofs.Common.{◌≡◌, ap, rules, sym, Go, conclusion_at, conclusion_automaton, ConclusionState}
+use Rattle.pb_proof.specs.engine.Line.ConclusionState.{act}
 use Rattle.pb_proof.specs.contracts.line.conclusion.ConclusionMachine.{the_view}
 use Rattle.pb_proof.proofs.lemmas.Conclusion.Steps.{continues}
 use Rattle.pb_proof.proofs.line.conclusion.ConclusionMachine.take.Goals as goal

@@ -1,4 +1,4 @@
-use Rattle.std.proofs.Common.{rules}
+use Rattle.pb_proof.proofs.Common.{rules}
 use Rattle.pb_proof.proofs.line.delete.IdsMachine.new.Goals as goal
 
 pub invariant_of-result : goal.invariant_of-result

@@ -1,6 +1,4 @@
-use Rattle.std.proofs.Common.{sym, ap, subst, rules, ◌∙◌}
-use Rattle.pb_text.proofs.lemmas.text.Results.{unchanged}
-use Rattle.pb_proof.specs.engine.Line.Ids.{ids_at, keeps, IsIdsInOrder}
+use Rattle.pb_proof.proofs.Common.{◌∙◌, ap, rules, subst, sym, unchanged, ids_at, IsIdsInOrder, keeps}
 use Rattle.pb_proof.proofs.lemmas.Ids.Pushes.{wants}
 use Rattle.pb_proof.proofs.line.delete.IdsMachine.take.Goals as goal
 

@@ -1,5 +1,4 @@
-use Rattle.std.proofs.Common.{◌≡◌, ◌<◌, take, length, sym, arith, ◌∙◌}
-use Rattle.std.proofs.lemmas.List.{length-take-le}
+use Rattle.pb_proof.proofs.Common.{◌<◌, ◌∙◌, ◌≡◌, arith, length, sym, take, length-take-le}
 use Rattle.pb_proof.proofs.lemmas.Ids.AtOnce.{id_runs}
 use Rattle.pb_proof.proofs.line.delete.IdsMachine.take_digits.Goals as goal
 

@@ -1,7 +1,4 @@
-use Rattle.std.proofs.Common.{◌≡◌, ℕ, take, subst, arith}
-use Rattle.pb_text.specs.contract.Automaton.{Runs}
-use Rattle.pb_text.proofs.lemmas.machine.Running.{runs_on}
-use Rattle.pb_proof.specs.engine.Line.Ids.{ids_automaton}
+use Rattle.pb_proof.proofs.Common.{ℕ, ◌≡◌, arith, subst, take, runs_on, Runs, ids_automaton}
 use Rattle.pb_proof.proofs.line.delete.IdsMachineMachine.take_prefix.Goals as goal
 
 pub returns-then-try_continue-clause-runs : goal.returns-then-try_continue-clause-runs

@@ -1,7 +1,4 @@
-use Rattle.std.proofs.Common.{refl, sym, ap, subst, ◌∙◌}
-use Rattle.pb_text.proofs.lemmas.text.Results.{when_err, unchanged}
-use Rattle.pb_proof.specs.engine.Line.Pol.{wants}
-use Rattle.pb_proof.specs.engine.Line.PolState.{IsPolInOrder}
+use Rattle.pb_proof.proofs.Common.{◌∙◌, ap, refl, subst, sym, unchanged, when_err, wants, IsPolInOrder}
 use Rattle.pb_proof.proofs.lemmas.Pol.Pushes.{asks_for, same_state}
 use Rattle.pb_proof.proofs.line.pol.PolMachine.take.Goals as goal
 

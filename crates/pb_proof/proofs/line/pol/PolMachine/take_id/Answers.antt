@@ -1,11 +1,5 @@
-use Rattle.std.proofs.Common.{◌≡◌, List, [], ◌∷◌, ◌++◌, not, take, pos, suc, ◌+◌, ◌<◌, ◌^◌, sym, ap, subst, arith, ◌∙◌}
-use Rattle.std.specs.Int.{w64}
-use Rattle.std.specs.Option.{is_some}
-use Rattle.std.proofs.lemmas.Int.{to_z_pos}
-use Rattle.pb_text.specs.contract.Automaton.{Runs}
-use Rattle.pb_proof.specs.engine.Line.PolState.{PolState, pol_automaton}
-use Rattle.pb_proof.specs.declared.word.PolWord.{PolWord}
-use Rattle.pb_proof.specs.declared.word.PolWord.TheVariants.{Id}
+use Rattle.pb_proof.proofs.Common.{◌++◌, ◌+◌, ◌<◌, ◌^◌, ◌∙◌, ◌∷◌, ◌≡◌, [], ap, arith, List, not, pos, subst, suc, sym, take, to_z_pos, w64, is_some}
+use Rattle.pb_proof.proofs.Common.{Runs, PolWord, Id, pol_automaton, PolState}
 use Rattle.pb_proof.specs.declared.line.pol.phase.Phase.TheVariants as phase
 use Rattle.pb_proof.proofs.lemmas.Pol.AtOnce.{id_runs}
 use Rattle.pb_proof.proofs.lemmas.Pol.Covers.{state}

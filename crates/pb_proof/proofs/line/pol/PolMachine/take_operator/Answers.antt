@@ -1,10 +1,7 @@
-use Rattle.std.proofs.Common.{take, refl, sym, subst}
-use Rattle.pb_text.specs.contract.Automaton.{Runs}
-use Rattle.pb_proof.specs.engine.Line.PolState.{PolState, pol_automaton}
+use Rattle.pb_proof.proofs.Common.{refl, subst, sym, take, when_ok, Runs, pol_automaton, PolState}
 use Rattle.pb_proof.proofs.lemmas.Pol.AtOnce.{operator_runs}
 use Rattle.pb_proof.proofs.lemmas.Pol.Covers.{state}
 use Rattle.pb_proof.proofs.lemmas.Pol.Pushes.{same_state}
-use Rattle.pb_text.proofs.lemmas.text.Results.{when_ok}
 use Rattle.pb_proof.proofs.line.pol.PolMachine.take_operator.Goals as goal
 
 pub returns-clause-runs : goal.returns-clause-runs

@@ -1,7 +1,4 @@
-use Rattle.std.proofs.Common.{◌≡◌, ℕ, [], take, subst, sym, arith}
-use Rattle.pb_text.specs.contract.Automaton.{Runs}
-use Rattle.pb_text.proofs.lemmas.machine.Running.{runs_on}
-use Rattle.pb_proof.specs.engine.Line.PolState.{pol_automaton}
+use Rattle.pb_proof.proofs.Common.{ℕ, ◌≡◌, [], arith, subst, sym, take, runs_on, Runs, pol_automaton}
 use Rattle.pb_proof.proofs.line.pol.PolMachine.take_word.Goals as goal
 
 pub returns-then-take_space-clause-runs : goal.returns-then-take_space-clause-runs

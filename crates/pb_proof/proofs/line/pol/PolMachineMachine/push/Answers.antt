@@ -1,5 +1,4 @@
-use Rattle.std.proofs.Common.{ap, ◌∙◌}
-use Rattle.pb_proof.specs.engine.Line.Pol.{transition}
+use Rattle.pb_proof.proofs.Common.{◌∙◌, ap, transition}
 use Rattle.pb_proof.proofs.line.pol.PolMachineMachine.push.Goals as goal
 
 pub take-answer-requires-clause-action : goal.take-answer-requires-clause-action

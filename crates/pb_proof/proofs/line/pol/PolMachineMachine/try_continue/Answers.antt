@@ -1,6 +1,4 @@
-use Rattle.std.proofs.Common.{ap, ◌∙◌}
-use Rattle.pb_text.proofs.lemmas.text.Booleans.{never}
-use Rattle.pb_proof.specs.engine.Line.Pol.{transition}
+use Rattle.pb_proof.proofs.Common.{◌∙◌, ap, never, transition}
 use Rattle.pb_proof.proofs.lemmas.Pol.Pushes.{stays}
 use Rattle.pb_proof.proofs.line.pol.PolMachineMachine.try_continue.Goals.{in-End, in_default}
 use Rattle.pb_proof.proofs.line.pol.PolMachineMachine.try_continue.Goals as goal

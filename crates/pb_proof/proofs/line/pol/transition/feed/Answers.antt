@@ -1,4 +1,4 @@
-use Rattle.std.proofs.Common.{rules}
+use Rattle.pb_proof.proofs.Common.{rules}
 use Rattle.pb_proof.proofs.line.pol.transition.feed.Goals as goal
 
 pub returns-in-Some-clause-transition : goal.returns-in-Some-clause-transition

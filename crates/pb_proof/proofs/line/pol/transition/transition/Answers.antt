@@ -1,8 +1,5 @@
-use Rattle.std.proofs.Common.{◌≡◌, ℕ, refl, sym, ap, ◌∙◌}
-use Rattle.pb_proof.specs.engine.Line.Pol.{read, transition, semicolon, close}
-use Rattle.pb_proof.specs.declared.line.pol.phase.Kind.{Kind}
+use Rattle.pb_proof.proofs.Common.{ℕ, ◌∙◌, ◌≡◌, ap, refl, sym, Kind, Phase, close, read, semicolon, transition}
 use Rattle.pb_proof.specs.declared.line.pol.phase.Kind.TheVariants as kind
-use Rattle.pb_proof.specs.declared.line.pol.phase.Phase.{Phase}
 use Rattle.pb_proof.specs.declared.line.pol.phase.Phase.TheVariants as phase
 use Rattle.pb_proof.proofs.line.pol.transition.transition.Goals as goal
 

@@ -1,5 +1,4 @@
-use Rattle.std.proofs.Common.{◌-◌, ◌^◌, min, ap, ◌∙◌, arith}
-use Rattle.pb_proof.specs.engine.Line.PolState.{word_units}
+use Rattle.pb_proof.proofs.Common.{◌-◌, ◌^◌, ◌∙◌, ap, arith, min, word_units}
 use Rattle.pb_proof.proofs.lemmas.Pol.Units.{count_more}
 use Rattle.pb_proof.proofs.line.pol.words.count_units.Goals as goal
 

@@ -1,5 +1,4 @@
-use Rattle.std.proofs.Common.{◌≡◌, ◌-◌, ◌^◌, min, take}
-use Rattle.pb_proof.specs.engine.Line.PolState.{units}
+use Rattle.pb_proof.proofs.Common.{◌-◌, ◌^◌, ◌≡◌, min, take, units}
 use Rattle.pb_proof.proofs.line.pol.words.count_units.Given as goal
 
 abbrev pub invariant-loop-word : goal.invariant-loop-word

@@ -1,5 +1,4 @@
-use Rattle.std.proofs.Common.{[], ◌∷◌, ◌++◌, ◌∙◌, sym, ap}
-use Rattle.pb_proof.specs.engine.Line.Pol.{turned, with_last}
+use Rattle.pb_proof.proofs.Common.{◌++◌, ◌∙◌, ◌∷◌, [], ap, sym, turned, with_last}
 use Rattle.pb_proof.proofs.lemmas.Pol.Prefixes.{with_last_append}
 use Rattle.pb_proof.proofs.line.pol.words.turn_last.Goals as goal
 

@@ -1,4 +1,4 @@
-use Rattle.std.proofs.Common.{rules}
+use Rattle.pb_proof.proofs.Common.{rules}
 use Rattle.pb_proof.proofs.line.pol.words.turned.Goals as goal
 
 pub returns-in-Multiply-Id : goal.returns-in-Multiply-Id

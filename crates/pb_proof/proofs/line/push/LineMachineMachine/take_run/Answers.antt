@@ -1,4 +1,4 @@
-use Rattle.std.proofs.Common.{take}
+use Rattle.pb_proof.proofs.Common.{take}
 use Rattle.pb_proof.proofs.lemmas.Carried.{state_in, runs_in}
 use Rattle.pb_proof.proofs.lemmas.Line.Laws.{count_carries, pol_carries, rup_carries, soli_carries, solx_carries, delete_carries, conclusion_carries}
 use Rattle.pb_proof.proofs.line.push.LineMachineMachine.take_run.Goals as goal

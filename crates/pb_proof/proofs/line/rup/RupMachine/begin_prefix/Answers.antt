@@ -1,6 +1,4 @@
-use Rattle.std.proofs.Common.{◌≡◌, ◌<◌, false, get_or, arith, subst, sym, ◌∙◌}
-use Rattle.pb_text.specs.meaning.Classes.{is_blank}
-use Rattle.pb_proof.specs.engine.Line.Rup.{RupState}
+use Rattle.pb_proof.proofs.Common.{◌<◌, ◌∙◌, ◌≡◌, arith, false, get_or, subst, sym, is_blank, RupState}
 use Rattle.pb_proof.specs.contracts.line.rup.RupMachine.{the_view}
 use Rattle.pb_proof.specs.declared.line.rup.phase.RupPhase.TheVariants.{Gap}
 use Rattle.pb_proof.proofs.lemmas.Machine.Taken.{rup_runs_begun}

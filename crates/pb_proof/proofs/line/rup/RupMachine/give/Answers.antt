@@ -1,11 +1,6 @@
-use Rattle.std.proofs.Common.{◌≡◌, ◌∙◌, ap, sym, subst, true, false, IsTrue}
-use Rattle.pb_text.specs.contract.Automaton.{Refuse, Admits, is_large}
-use Rattle.pb_sums.specs.engine.State.{SumState}
-use Rattle.pb_proof.specs.engine.Line.Rup.{RupState, rup_automaton, rup_transition, IsRupInOrder}
+use Rattle.pb_proof.proofs.Common.{◌∙◌, ◌≡◌, ap, false, IsTrue, Some, subst, sym, true, SumState, Admits, is_large, Refuse, Give, Tail, IsRupInOrder}
+use Rattle.pb_proof.proofs.Common.{rup_automaton, rup_transition, RupState}
 use Rattle.pb_proof.specs.contracts.line.rup.RupMachine.{the_view}
-use Rattle.pb_proof.specs.declared.line.rup.phase.RupPhase.TheVariants.{Tail}
-use Rattle.pb_proof.specs.declared.line.rup.phase.RupAction.TheVariants.{Give}
-use Rattle.std.specs.Prelude.{Some}
 use Rattle.pb_proof.proofs.lemmas.Rup.States.{give_order, tail_order, give_refused, give_admits}
 use Rattle.pb_proof.proofs.line.rup.RupMachine.give.Goals as goal
 

@@ -1,6 +1,4 @@
-use Rattle.std.proofs.Common.{subst}
-use Rattle.pb_text.specs.contract.Automaton.{Pushes}
-use Rattle.pb_proof.specs.engine.Line.Rup.{rup_automaton}
+use Rattle.pb_proof.proofs.Common.{subst, Pushes, rup_automaton}
 use Rattle.pb_proof.proofs.lemmas.Machine.Taken.{unmoved}
 use Rattle.pb_proof.proofs.line.rup.RupMachine.gives.Goals as goal
 use Rattle.pb_proof.proofs.line.rup.RupMachine.gives.Goals.{in-Go, in_default}

@@ -1,8 +1,5 @@
-use Rattle.std.proofs.Common.{sym, subst}
-use Rattle.std.specs.Prelude.{Some}
-use Rattle.pb_proof.specs.engine.Line.Rup.{RupState, IsRupInOrder}
+use Rattle.pb_proof.proofs.Common.{Some, subst, sym, Tail, IsRupInOrder, RupState}
 use Rattle.pb_proof.specs.contracts.line.rup.RupMachine.{the_view}
-use Rattle.pb_proof.specs.declared.line.rup.phase.RupPhase.TheVariants.{Tail}
 use Rattle.pb_proof.proofs.lemmas.Rup.States.{tail_order}
 use Rattle.pb_proof.proofs.line.rup.RupMachine.take_end.Goals as goal
 

@@ -1,6 +1,4 @@
-use Rattle.std.proofs.Common.{◌<◌, length, arith}
-use Rattle.pb_text.proofs.lemmas.machine.Running.{runs_on}
-use Rattle.pb_proof.specs.engine.Line.Rup.{rup_automaton}
+use Rattle.pb_proof.proofs.Common.{◌<◌, arith, length, runs_on, rup_automaton}
 use Rattle.pb_proof.proofs.line.rup.RupMachine.take_linear.Goals as goal
 
 pub returns-then-take_end-clause-runs : goal.returns-then-take_end-clause-runs

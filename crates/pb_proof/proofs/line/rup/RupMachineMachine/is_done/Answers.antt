@@ -1,6 +1,4 @@
-use Rattle.std.proofs.Common.{subst}
-use Rattle.pb_text.specs.contract.Automaton.{IsState}
-use Rattle.pb_proof.specs.engine.Line.Rup.{RupState, rup_automaton}
+use Rattle.pb_proof.proofs.Common.{subst, IsState, rup_automaton, RupState}
 use Rattle.pb_proof.proofs.lemmas.Rup.States.{rup_is_state}
 use Rattle.pb_proof.proofs.line.rup.RupMachineMachine.is_done.Goals as goal
 

@@ -1,5 +1,4 @@
-use Rattle.std.proofs.Common.{sym, ◌∙◌, arith}
-use Rattle.pb_text.specs.meaning.Limits.{largest}
+use Rattle.pb_proof.proofs.Common.{◌∙◌, arith, sym, largest}
 use Rattle.pb_proof.proofs.lemmas.Machine.Whole.{rup_leads}
 use Rattle.pb_proof.proofs.line.rup.whole.rup_at.Goals as goal
 

@@ -1,6 +1,4 @@
-use Rattle.std.proofs.Common.{◌||◌, refl, sym, ap, subst, ◌∙◌}
-use Rattle.pb_text.proofs.lemmas.text.Results.{when_err, unchanged}
-use Rattle.pb_proof.specs.engine.Line.Literals.{adds, is_more, IsLiteralsInOrder}
+use Rattle.pb_proof.proofs.Common.{◌||◌, ◌∙◌, ap, refl, subst, sym, unchanged, when_err, adds, is_more, IsLiteralsInOrder}
 use Rattle.pb_proof.proofs.lemmas.Literals.Pushes.{IsTaken, wants, same_state}
 use Rattle.pb_proof.proofs.line.solution.LiteralsMachine.take.Goals as goal
 
