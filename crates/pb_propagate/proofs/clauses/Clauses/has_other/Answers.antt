@@ -1,12 +1,12 @@
-use Rattle.std.proofs.Common.{◌∙◌, ap, sym, subst, arith, length, get_or}
+use Rattle.std.proofs.Common.{ap, subst, arith, length, get_or}
 use Rattle.pb_propagate.specs.engine.Engine.Root.{HasOther, IsLast}
-use Rattle.pb_propagate.proofs.lemmas.clauses.Linked.{lists-length, list-here}
+use Rattle.pb_propagate.proofs.lemmas.clauses.Listed.{lists-length}
 use Rattle.pb_propagate.proofs.clauses.Clauses.has_other.Goals as goal
 
 pub has_other-requires : goal.has_other-requires
 has_other-requires c =
     let me = c.args.self.now in
-    let same = c.as_slice.ensures.value ∙ sym (list-here me.literals.items c.args.slot c.index.result.now c.requires.slot c.index.ensures) in
+    let same = c.literals.ensures.literals in
     record {
       inside = λ k d h.
           let small = c.requires.rest.stored.inside c.args.slot k d (omega (arith, h, ap length same)) in
@@ -14,11 +14,7 @@ has_other-requires c =
     }
 
 pub returns-clause-yes : goal.returns-clause-yes
-returns-clause-yes c = λ found.
-    let same = c.as_slice.ensures.value ∙ sym (list-here c.args.self.now.literals.items c.args.slot c.index.result.now c.requires.slot c.index.ensures) in
-    subst (λ xs. HasOther c.args.assignment.now.values.items xs c.args.literal) same (c.has_other.ensures.yes found)
+returns-clause-yes c = λ found. subst (λ xs. HasOther c.args.assignment.now.values.items xs c.args.literal) c.literals.ensures.literals (c.has_other.ensures.yes found)
 
 pub returns-clause-no : goal.returns-clause-no
-returns-clause-no c = λ none.
-    let same = c.as_slice.ensures.value ∙ sym (list-here c.args.self.now.literals.items c.args.slot c.index.result.now c.requires.slot c.index.ensures) in
-    subst (λ xs. IsLast c.args.assignment.now.values.items xs c.args.literal) same (c.has_other.ensures.no none)
+returns-clause-no c = λ none. subst (λ xs. IsLast c.args.assignment.now.values.items xs c.args.literal) c.literals.ensures.literals (c.has_other.ensures.no none)
