@@ -152,13 +152,7 @@ impl Clauses {
     {
         let first = literals[pair.first];
         let second = literals[pair.second];
-        put_in(
-            &mut self.lists,
-            &mut self.blocks,
-            2 * slot,
-            first,
-            second,
-        )?;
+        put_in(&mut self.lists, &mut self.blocks, 2 * slot, first, second)?;
         put_in(
             &mut self.lists,
             &mut self.blocks,

@@ -16,13 +16,14 @@ fn size_of(room: usize) -> usize {
     if room <= 32 {
         return room;
     }
-    let mut size = 33;
-    let mut most = 64;
-    'sizes: while most < room && size < 64 {
-        most *= 2;
-        size += 1;
+    let mut most = 64usize;
+    'sizes: for size in 33..64 {
+        if room <= most {
+            return size;
+        }
+        most = most.saturating_mul(2);
     }
-    size
+    64
 }
 
 impl Free {

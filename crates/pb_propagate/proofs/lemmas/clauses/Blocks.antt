@@ -154,7 +154,7 @@ module _ (words words' starts rooms : List ℕ) (s : ℕ) (old : AreBlocks words
       let room = old.inside t inside in
       let count = beside t (a + 6) n (omega arith) (omega arith) in
       ap (λ k. take k (drop (a + 7) words')) count ∙ slice-same words words' (a + 7) (number_at words (a + 6)) (omega (arith, most, room)) (omega (arith, most, room, kept.size))
-          (λ i from below. beside t i n (omega (arith, from)) (omega (arith, below, most)))
+      (λ i from below. beside t i n (omega (arith, from)) (omega (arith, below, most)))
 
   pub search-beside : (t : ℕ) → (t ≡ s → ⊥) → stored_search words' starts t ≡ stored_search words starts t
   search-beside t n =
@@ -383,8 +383,8 @@ idle-written words starts rooms e p old some at =
     let inside = old.inside (e / 2) (room-inside words starts rooms old (e / 2) some) in
     let now : number_at (set words (p + 1) nowhere) (watch_place starts e + 1) ≡ nowhere = ap (λ i. number_at (set words (p + 1) nowhere) (i + 1)) (sym at) ∙ get_or-set_same words (p + 1) nowhere 0 (omega (arith, inside, at)) in
     watch-written words (set words (p + 1) nowhere) starts rooms e idle old some
-        (record { size = length-set words (p + 1) nowhere; others = λ i n m. get_or-set_other words (p + 1) i nowhere 0 (λ h. m (omega (arith, h, at))) })
-        (ap (watch_of (number_at (set words (p + 1) nowhere) (watch_place starts e))) now)
+    (record { size = length-set words (p + 1) nowhere; others = λ i n m. get_or-set_other words (p + 1) i nowhere 0 (λ h. m (omega (arith, h, at))) })
+    (ap (watch_of (number_at (set words (p + 1) nowhere) (watch_place starts e))) now)
 
 pub place-written : (words starts rooms : List ℕ) (e p spot : ℕ) → AreBlocks words starts rooms → 0 < number_at rooms (e / 2) → p ≡ watch_place starts e → spot < nowhere → HasRewatched words (set words (p + 1) spot) starts rooms e (record { literal = number_at words (watch_place starts e); live = true; spot = spot })
 place-written words starts rooms e p spot old some at small =
@@ -393,8 +393,8 @@ place-written words starts rooms e p spot old some at small =
     let there : number_at words' (watch_place starts e) ≡ number_at words (watch_place starts e) = get_or-set_other words (p + 1) (watch_place starts e) spot 0 (λ h. absurd (omega (arith, h, at))) in
     let now : number_at words' (watch_place starts e + 1) ≡ spot = ap (λ i. number_at words' (i + 1)) (sym at) ∙ get_or-set_same words (p + 1) spot 0 (omega (arith, inside, at)) in
     watch-written words words' starts rooms e _ old some
-        (record { size = length-set words (p + 1) spot; others = λ i n m. get_or-set_other words (p + 1) i spot 0 (λ h. m (omega (arith, h, at))) })
-        (ap (λ l. watch_of l (number_at words' (watch_place starts e + 1))) there ∙ ap (watch_of (number_at words (watch_place starts e))) now ∙ watch-live (number_at words (watch_place starts e)) spot (λ h. absurd (omega (arith, h, small))))
+    (record { size = length-set words (p + 1) spot; others = λ i n m. get_or-set_other words (p + 1) i spot 0 (λ h. m (omega (arith, h, at))) })
+    (ap (λ l. watch_of l (number_at words' (watch_place starts e + 1))) there ∙ ap (watch_of (number_at words (watch_place starts e))) now ∙ watch-live (number_at words (watch_place starts e)) spot (λ h. absurd (omega (arith, h, small))))
 
 pub both-written : (words starts rooms : List ℕ) (e p literal spot : ℕ) → AreBlocks words starts rooms → 0 < number_at rooms (e / 2) → p ≡ watch_place starts e → spot < nowhere → HasRewatched words (set (set words p literal) (p + 1) spot) starts rooms e (record { literal = literal; live = true; spot = spot })
 both-written words starts rooms e p literal spot old some at small =
@@ -404,8 +404,8 @@ both-written words starts rooms e p literal spot old some at small =
     let there : number_at words' (watch_place starts e) ≡ literal = get_or-set_other words1 (p + 1) (watch_place starts e) spot 0 (λ h. absurd (omega (arith, h, at))) ∙ ap (number_at words1) (sym at) ∙ get_or-set_same words p literal 0 (omega (arith, inside, at)) in
     let now : number_at words' (watch_place starts e + 1) ≡ spot = ap (λ i. number_at words' (i + 1)) (sym at) ∙ get_or-set_same words1 (p + 1) spot 0 (omega (arith, inside, at, length-set words p literal)) in
     watch-written words words' starts rooms e _ old some
-        (record { size = length-set words1 (p + 1) spot ∙ length-set words p literal; others = λ i n m. get_or-set_other words1 (p + 1) i spot 0 (λ h. m (omega (arith, h, at))) ∙ get_or-set_other words p i literal 0 (λ h. n (omega (arith, h, at))) })
-        (ap (λ l. watch_of l (number_at words' (watch_place starts e + 1))) there ∙ ap (watch_of literal) now ∙ watch-live literal spot (λ h. absurd (omega (arith, h, small))))
+    (record { size = length-set words1 (p + 1) spot ∙ length-set words p literal; others = λ i n m. get_or-set_other words1 (p + 1) i spot 0 (λ h. m (omega (arith, h, at))) ∙ get_or-set_other words p i literal 0 (λ h. n (omega (arith, h, at))) })
+    (ap (λ l. watch_of l (number_at words' (watch_place starts e + 1))) there ∙ ap (watch_of literal) now ∙ watch-live literal spot (λ h. absurd (omega (arith, h, small))))
 
 pub seek-written : (words starts rooms : List ℕ) (s a : ℕ) (x : Search) → AreBlocks words starts rooms → 0 < number_at rooms s → a ≡ number_at starts s → HasSought words (set (set words (a + 4) x.position) (a + 5) x.passed) starts rooms s x
 seek-written words starts rooms s a x old some at =
@@ -415,8 +415,8 @@ seek-written words starts rooms s a x old some at =
     let p : number_at words' (number_at starts s + 4) ≡ x.position = get_or-set_other words1 (a + 5) (number_at starts s + 4) x.passed 0 (λ h. absurd (omega (arith, h, at))) ∙ ap (λ i. number_at words1 (i + 4)) (sym at) ∙ get_or-set_same words (a + 4) x.position 0 (omega (arith, inside, at)) in
     let q : number_at words' (number_at starts s + 5) ≡ x.passed = ap (λ i. number_at words' (i + 5)) (sym at) ∙ get_or-set_same words1 (a + 5) x.passed 0 (omega (arith, inside, at, length-set words (a + 4) x.position)) in
     search-written words words' starts rooms s x old some
-        (record { size = length-set words1 (a + 5) x.passed ∙ length-set words (a + 4) x.position; others = λ i n m. get_or-set_other words1 (a + 5) i x.passed 0 (λ h. m (omega (arith, h, at))) ∙ get_or-set_other words (a + 4) i x.position 0 (λ h. n (omega (arith, h, at))) })
-        (rw (p, q) refl)
+    (record { size = length-set words1 (a + 5) x.passed ∙ length-set words (a + 4) x.position; others = λ i n m. get_or-set_other words1 (a + 5) i x.passed 0 (λ h. m (omega (arith, h, at))) ∙ get_or-set_other words (a + 4) i x.position 0 (λ h. n (omega (arith, h, at))) })
+    (rw (p, q) refl)
 
 pub begin-written : (words starts rooms : List ℕ) (s a : ℕ) → AreBlocks words starts rooms → 0 < number_at rooms s → a ≡ number_at starts s → HasSought words (set words (a + 5) 0) starts rooms s (record { position = number_at words (number_at starts s + 4); passed = 0 })
 begin-written words starts rooms s a old some at =
@@ -425,33 +425,33 @@ begin-written words starts rooms s a old some at =
     let p : number_at words' (number_at starts s + 4) ≡ number_at words (number_at starts s + 4) = get_or-set_other words (a + 5) (number_at starts s + 4) 0 0 (λ h. absurd (omega (arith, h, at))) in
     let q : number_at words' (number_at starts s + 5) ≡ 0 = ap (λ i. number_at words' (i + 5)) (sym at) ∙ get_or-set_same words (a + 5) 0 0 (omega (arith, inside, at)) in
     search-written words words' starts rooms s _ old some
-        (record { size = length-set words (a + 5) 0; others = λ i n m. get_or-set_other words (a + 5) i 0 0 (λ h. m (omega (arith, h, at))) })
-        (rw (p, q) refl)
+    (record { size = length-set words (a + 5) 0; others = λ i n m. get_or-set_other words (a + 5) i 0 0 (λ h. m (omega (arith, h, at))) })
+    (rw (p, q) refl)
 
 pub clear-written : (words starts rooms : List ℕ) (s a : ℕ) → AreBlocks words starts rooms → 0 < number_at rooms s → a ≡ number_at starts s → HasRewritten words (set words (a + 6) 0) starts rooms s []
 clear-written words starts rooms s a old some at =
     let inside = old.inside s (room-inside words starts rooms old s some) in
     clause-written words (set words (a + 6) 0) starts rooms s [] old some (omega arith)
-        (kept-only words (set words (a + 6) 0) starts rooms s (a + 6) (a + 6) (only-set words (a + 6) 0) (omega (arith, at)) (omega (arith, at)) (omega (arith, at)) (omega (arith, at)))
-        (λ i h. get_or-set_other words (a + 6) i 0 0 (λ is. absurd (omega (arith, is, h, at))))
-        (ap (λ i. number_at (set words (a + 6) 0) (i + 6)) (sym at) ∙ get_or-set_same words (a + 6) 0 0 (omega (arith, inside, at)))
-        (λ k h. absurd (omega (arith, h)))
+    (kept-only words (set words (a + 6) 0) starts rooms s (a + 6) (a + 6) (only-set words (a + 6) 0) (omega (arith, at)) (omega (arith, at)) (omega (arith, at)) (omega (arith, at)))
+    (λ i h. get_or-set_other words (a + 6) i 0 0 (λ is. absurd (omega (arith, is, h, at))))
+    (ap (λ i. number_at (set words (a + 6) 0) (i + 6)) (sym at) ∙ get_or-set_same words (a + 6) 0 0 (omega (arith, inside, at)))
+    (λ k h. absurd (omega (arith, h)))
 
 pub whole-written : (words words' starts rooms : List ℕ) (s a : ℕ) (xs : List ℕ) → AreBlocks words starts rooms → 0 < number_at rooms s → length xs ≤ number_at rooms s → a ≡ number_at starts s → length words' ≡ length (set words (a + 6) (length xs)) →
     ((i : ℕ) → (i < a + 7) ⊎ (a + 7 + length xs ≤ i) → number_at words' i ≡ number_at (set words (a + 6) (length xs)) i) → ((k : ℕ) → k < length xs → number_at words' (a + 7 + k) ≡ number_at xs k) → HasRewritten words words' starts rooms s xs
 whole-written words words' starts rooms s a xs old some fits at size outside each =
     let inside = old.inside s (room-inside words starts rooms old s some) in
     clause-written words words' starts rooms s xs old some fits
-        (record {
-          size = size ∙ length-set words (a + 6) (length xs);
-          outside = λ i h. elim h [
-            | inl less ↦ outside i (inl (omega (arith, less, at))) ∙ get_or-set_other words (a + 6) i (length xs) 0 (λ is. absurd (omega (arith, is, less, at)))
-            | inr more ↦ outside i (inr (omega (arith, more, at, fits))) ∙ get_or-set_other words (a + 6) i (length xs) 0 (λ is. absurd (omega (arith, is, more, at)))
-          ];
-        })
-        (λ i h. outside i (inl (omega (arith, h, at))) ∙ get_or-set_other words (a + 6) i (length xs) 0 (λ is. absurd (omega (arith, is, h, at))))
-        (ap (λ i. number_at words' (i + 6)) (sym at) ∙ outside (a + 6) (inl (omega arith)) ∙ get_or-set_same words (a + 6) (length xs) 0 (omega (arith, inside, at)))
-        (λ k h. ap (λ i. number_at words' (i + 7 + k)) (sym at) ∙ each k h)
+    (record {
+      size = size ∙ length-set words (a + 6) (length xs);
+      outside = λ i h. elim h [
+        | inl less ↦ outside i (inl (omega (arith, less, at))) ∙ get_or-set_other words (a + 6) i (length xs) 0 (λ is. absurd (omega (arith, is, less, at)))
+        | inr more ↦ outside i (inr (omega (arith, more, at, fits))) ∙ get_or-set_other words (a + 6) i (length xs) 0 (λ is. absurd (omega (arith, is, more, at)))
+      ];
+    })
+    (λ i h. outside i (inl (omega (arith, h, at))) ∙ get_or-set_other words (a + 6) i (length xs) 0 (λ is. absurd (omega (arith, is, h, at))))
+    (ap (λ i. number_at words' (i + 6)) (sym at) ∙ outside (a + 6) (inl (omega arith)) ∙ get_or-set_same words (a + 6) (length xs) 0 (omega (arith, inside, at)))
+    (λ k h. ap (λ i. number_at words' (i + 7 + k)) (sym at) ∙ each k h)
 
 -- the common block is not written, and its search has passed nothing
 pub shared-begun : (words starts rooms : List ℕ) (s : ℕ) → AreBlocks words starts rooms → s < length starts → number_at starts s ≡ 0 → contents words starts rooms ≡ searched (contents words starts rooms) s (record { position = number_at words (number_at starts s + 4); passed = 0 })
@@ -568,8 +568,8 @@ pub none-contents : (words words' starts rooms : List ℕ) → length starts ≡
 none-contents words words' starts rooms none =
     let bare : starts ≡ [] = none-long starts none in
     contents-are _ _ (table-same (length starts) (stored_clause words starts) (stored_clause words' starts) (λ k h. absurd (omega (arith, h, none))))
-        (table-same (length starts) (stored_search words starts) (stored_search words' starts) (λ k h. absurd (omega (arith, h, none))))
-        (table-same (2 * length starts) (stored_watch words starts) (stored_watch words' starts) (λ k h. absurd (omega (arith, h, none)))) refl
+    (table-same (length starts) (stored_search words starts) (stored_search words' starts) (λ k h. absurd (omega (arith, h, none))))
+    (table-same (2 * length starts) (stored_watch words starts) (stored_watch words' starts) (λ k h. absurd (omega (arith, h, none)))) refl
 
 -- a block is made for a slot that has none
 pub record HasFitted (words words' starts rooms : List ℕ) (s start room : ℕ) : Type 0 where
@@ -670,7 +670,7 @@ module _ (words words' starts rooms : List ℕ) (s room : ℕ) (old : AreBlocks 
   fit-search : (t : ℕ) → t < length starts → (t ≡ s) ⊎ (t ≡ s → ⊥) → stored_search words' starts' t ≡ stored_search words starts t
   fit-search t h (inl is) = subst (λ u. stored_search words' starts' u ≡ stored_search words starts u) (sym is)
       (search-made _ _ _ _ (ap (λ a. number_at words' (a + 4)) start-here ∙ bare.position ∙ sym (ap (λ a. number_at words (a + 4)) none-start ∙ common.position))
-          (ap (λ a. number_at words' (a + 5)) start-here ∙ bare.passed ∙ sym (ap (λ a. number_at words (a + 5)) none-start ∙ common.passed)))
+      (ap (λ a. number_at words' (a + 5)) start-here ∙ bare.passed ∙ sym (ap (λ a. number_at words (a + 5)) none-start ∙ common.passed)))
     where
       search-made : (p q p' q' : ℕ) → p ≡ p' → q ≡ q' → ◌≡◌ {A = Search} (record { position = p; passed = q }) (record { position = p'; passed = q' })
       search-made p q p' q' e f = rw (e, f) refl
@@ -711,7 +711,7 @@ extended-from v words words' starts starts1 rooms is old same first kept = subst
   | inr some ↦
       let any : 0 < length starts = grind arith in
       subst (λ ws. HasExtended ws starts rooms (contents words starts rooms)) (sym (kept (omega (arith, any, ap length same))))
-          (extended words starts rooms old (old.common any) (omega (arith, old.inside 0 any)))
+      (extended words starts rooms old (old.common any) (omega (arith, old.inside 0 any)))
 ])
 
 pub fitted-from : (v : Contents) (words words' starts rooms : List ℕ) (s start room : ℕ) → contents words starts rooms ≡ v → AreBlocks words starts rooms → s < length v.literals → number_at rooms s ≡ 0 → s < 2 ^ 31 - 1 → start ≡ length words →

@@ -47,9 +47,9 @@ map-swap es q d some =
 pub set-older : (es : List Listed) (q i : ℕ) (y x : Listed) → slice_get (set es q y) i ≡ Some x → (x ≡ y) ⊎ ((j : ℕ) × (slice_get es j ≡ Some x))
 set-older es q i y x h = elim (cases_eq i q) [
   | inl is ↦ elim (cases_lt q (length es)) [
-      | inl inside ↦ inl (same_Some x y (sym h ∙ ap (slice_get (set es q y)) is ∙ get-set_same es q y inside))
-      | inr past ↦ absurd (omega (arith, is, past, slice_get_within (set es q y) i x h, length-set es q y))
-    ]
+    | inl inside ↦ inl (same_Some x y (sym h ∙ ap (slice_get (set es q y)) is ∙ get-set_same es q y inside))
+    | inr past ↦ absurd (omega (arith, is, past, slice_get_within (set es q y) i x h, length-set es q y))
+  ]
   | inr n ↦ inr (i, sym (get-set_other es q i y n) ∙ h)
 ]
 
@@ -63,9 +63,9 @@ pub swap-older : (es : List Listed) (q i : ℕ) (d x : Listed) → slice_get (sw
 swap-older es q i d x h = elim (cases_lt i (length es - 1)) [
   | inr past ↦ absurd (none-some x (sym (swap-past es q i d past) ∙ h))
   | inl less ↦ elim (set-older es q i (get_or es (length es - 1) d) x (sym (get-take_less (set es q (get_or es (length es - 1) d)) (length es - 1) i less) ∙ h)) [
-      | inl is ↦ (length es - 1, get-there es (length es - 1) d (omega (arith, less)) ∙ ap (λ y. Some y) (sym is))
-      | inr old ↦ old
-    ]
+    | inl is ↦ (length es - 1, get-there es (length es - 1) d (omega (arith, less)) ∙ ap (λ y. Some y) (sym is))
+    | inr old ↦ old
+  ]
 ]
   where
     get-there : (xs : List Listed) (k : ℕ) (e : Listed) → k < length xs → slice_get xs k ≡ Some (get_or xs k e)
@@ -136,5 +136,5 @@ watch-kept occ p v v1 i x room value item now =
     let ms = map (λ (y : Listed). y.watch) v.items in
     let was : get_or ms i 0 ≡ x.watch = get_or_from_slice_get ms i x.watch 0 (ap (λ xs. slice_get xs i) (sym here) ∙ item) in
     let same : map (λ (y : Listed). y.watch) v1.items ≡ list_at (watch_lists occ) p =
-        ap (map (λ (y : Listed). y.watch)) now ∙ map-set (λ (y : Listed). y.watch) v.items i x ∙ ap (set ms i) (sym was) ∙ set-get_or ms i 0 ∙ sym here in
+    ap (map (λ (y : Listed). y.watch)) now ∙ map-set (λ (y : Listed). y.watch) v.items i x ∙ ap (set ms i) (sym was) ∙ set-get_or ms i 0 ∙ sym here in
     watch-set occ p v1 (list_at (watch_lists occ) p) same ∙ set-get_or (watch_lists occ) p []

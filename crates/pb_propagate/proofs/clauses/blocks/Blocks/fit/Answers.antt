@@ -26,7 +26,7 @@ invariant_of-self-2 c =
     let none : number_at c.self.inside.rooms.items c.args.slot ≡ 0 = omega (arith, c.if-held-gt0.false, get_or_read c.self.inside.rooms.items c.args.slot c.index.result.now (omega (arith, slot, c.self.invariant.sizes)) c.index.ensures 0) in
     let at : c.len-start.result ≡ length c.self.inside.words.items = omega (arith, c.len-start.ensures, c.self.inside.words.ok.0) in
     let h = fitted-from c.args.self.now c.self.inside.words.items c.append.new.words.items c.self.inside.starts.items c.self.inside.rooms.items c.args.slot c.len-start.result c.room_of-room.result c.self.view_is c.self.invariant c.requires.slot none (omega (arith, c.if-slot-ge2147483647.false)) at
-            c.in_ok-append.ensures.size c.in_ok-append.ensures.kept c.in_ok-append.ensures.bare (omega (arith, c.requires.some, c.room_of-room.ensures)) in
+    c.in_ok-append.ensures.size c.in_ok-append.ensures.kept c.in_ok-append.ensures.bare (omega (arith, c.requires.some, c.room_of-room.ensures)) in
     h.blocks
 
 pub returns-clause-literals : goal.returns-clause-literals
@@ -35,7 +35,7 @@ returns-clause-literals c =
     let none : number_at c.self.inside.rooms.items c.args.slot ≡ 0 = omega (arith, c.if-held-gt0.false, get_or_read c.self.inside.rooms.items c.args.slot c.index.result.now (omega (arith, slot, c.self.invariant.sizes)) c.index.ensures 0) in
     let at : c.len-start.result ≡ length c.self.inside.words.items = omega (arith, c.len-start.ensures, c.self.inside.words.ok.0) in
     let h = fitted-from c.args.self.now c.self.inside.words.items c.append.new.words.items c.self.inside.starts.items c.self.inside.rooms.items c.args.slot c.len-start.result c.room_of-room.result c.self.view_is c.self.invariant c.requires.slot none (omega (arith, c.if-slot-ge2147483647.false)) at
-            c.in_ok-append.ensures.size c.in_ok-append.ensures.kept c.in_ok-append.ensures.bare (omega (arith, c.requires.some, c.room_of-room.ensures)) in
+    c.in_ok-append.ensures.size c.in_ok-append.ensures.kept c.in_ok-append.ensures.bare (omega (arith, c.requires.some, c.room_of-room.ensures)) in
     h.literals ∙ ap (λ (v : Contents). v.literals) c.self.view_is
 
 pub returns-clause-searches : goal.returns-clause-searches
@@ -44,7 +44,7 @@ returns-clause-searches c =
     let none : number_at c.self.inside.rooms.items c.args.slot ≡ 0 = omega (arith, c.if-held-gt0.false, get_or_read c.self.inside.rooms.items c.args.slot c.index.result.now (omega (arith, slot, c.self.invariant.sizes)) c.index.ensures 0) in
     let at : c.len-start.result ≡ length c.self.inside.words.items = omega (arith, c.len-start.ensures, c.self.inside.words.ok.0) in
     let h = fitted-from c.args.self.now c.self.inside.words.items c.append.new.words.items c.self.inside.starts.items c.self.inside.rooms.items c.args.slot c.len-start.result c.room_of-room.result c.self.view_is c.self.invariant c.requires.slot none (omega (arith, c.if-slot-ge2147483647.false)) at
-            c.in_ok-append.ensures.size c.in_ok-append.ensures.kept c.in_ok-append.ensures.bare (omega (arith, c.requires.some, c.room_of-room.ensures)) in
+    c.in_ok-append.ensures.size c.in_ok-append.ensures.kept c.in_ok-append.ensures.bare (omega (arith, c.requires.some, c.room_of-room.ensures)) in
     h.searches ∙ ap (λ (v : Contents). v.searches) c.self.view_is
 
 pub returns-clause-watches : goal.returns-clause-watches
@@ -53,7 +53,7 @@ returns-clause-watches c =
     let none : number_at c.self.inside.rooms.items c.args.slot ≡ 0 = omega (arith, c.if-held-gt0.false, get_or_read c.self.inside.rooms.items c.args.slot c.index.result.now (omega (arith, slot, c.self.invariant.sizes)) c.index.ensures 0) in
     let at : c.len-start.result ≡ length c.self.inside.words.items = omega (arith, c.len-start.ensures, c.self.inside.words.ok.0) in
     let h = fitted-from c.args.self.now c.self.inside.words.items c.append.new.words.items c.self.inside.starts.items c.self.inside.rooms.items c.args.slot c.len-start.result c.room_of-room.result c.self.view_is c.self.invariant c.requires.slot none (omega (arith, c.if-slot-ge2147483647.false)) at
-            c.in_ok-append.ensures.size c.in_ok-append.ensures.kept c.in_ok-append.ensures.bare (omega (arith, c.requires.some, c.room_of-room.ensures)) in
+    c.in_ok-append.ensures.size c.in_ok-append.ensures.kept c.in_ok-append.ensures.bare (omega (arith, c.requires.some, c.room_of-room.ensures)) in
     h.watches ∙ ap (λ (v : Contents). v.watches) c.self.view_is
 
 pub returns-then-held-gt0-clause-fits : goal.returns-then-held-gt0-clause-fits
@@ -63,3 +63,9 @@ returns-then-held-gt0-clause-fits c = λ fits.
     let room : number_at c.args.self.now.rooms c.args.slot ≡ number_at c.self.inside.rooms.items c.args.slot = ap (λ (v : Contents). number_at v.rooms c.args.slot) (sym c.self.view_is) in
     let most : c.args.count ≤ c.index.result.now = leb-true c.args.count c.index.result.now fits in
     (omega (arith, most, held, room), omega (arith, c.if-count-ge2147483648.false), c.self.invariant.small c.args.slot (omega (arith, held, c.if-held-gt0.true)))
+
+pub returns-clause-fits : goal.returns-clause-fits
+returns-clause-fits c = λ same.
+    let slot = slot-behind c.args.self.now c.self.inside.words.items c.self.inside.starts.items c.self.inside.rooms.items c.args.slot c.self.view_is c.requires.slot in
+    let room = get_or-set_same c.self.inside.rooms.items c.args.slot c.room_of-room.result 0 (omega (arith, slot, c.self.invariant.sizes)) in
+    (omega (arith, room, c.room_of-room.ensures), omega (arith, c.if-count-ge2147483648.false), omega (arith, c.if-slot-ge2147483647.false))
