@@ -1,18 +1,21 @@
 //! Clauses by slots.
 
-ghost use Rattle.std.specs.Prelude.{◌≡◌, ℕ, ◌+◌, ◌*◌, ◌/◌, ◌<◌, ◌≤◌, ◌++◌, ◌∷◌, [], List, All, Bool, Option, length, slice_set, slice_index, true, false, OnOk, OnErr, IfSome};
-ghost use Rattle.pb_propagate.specs.engine.Clauses.Links.{lists_of, list_at, watch_at};
-ghost use Rattle.pb_propagate.specs.engine.Clauses.Runs.{AreReady, IsPair, IsRunning};
+ghost use Rattle.std.specs.Prelude.{◌≡◌, ℕ, ◌+◌, ◌*◌, ◌/◌, ◌<◌, ◌≤◌, ◌++◌, ◌∷◌, [], List, All, Bool, Option, length, slice_set, slice_index, true, false, OnOk, OnErr, IfOk, IfSome};
+ghost use Rattle.pb_propagate.specs.engine.Clauses.Links.{watch_lists, list_at, idle, watch_at};
+ghost use Rattle.pb_propagate.specs.engine.Clauses.Blocks.{number_at};
+ghost use Rattle.pb_propagate.specs.engine.Clauses.Runs.{AreReady, CanHold, IsPair, IsRefitted, IsRunning};
 ghost use Rattle.pb_propagate.specs.engine.Engine.Root.{IsServed, IsFree, IsSameWatch};
 
+pub mod blocks;
 pub mod lists;
 pub mod search;
 pub mod visiting;
 pub mod watched;
 
 use crate::assignment::Assignment;
-use crate::clauses::lists::{Watch, put_in, take_out};
-use crate::clauses::search::Search;
+use crate::clauses::blocks::Blocks;
+use crate::clauses::lists::{Listed, put_in, take_out};
+use crate::clauses::search::{Search, may_watch};
 use crate::clauses::watched::Pair;
 use std::alloc::{AllocError, Global};
 
@@ -32,30 +35,24 @@ fn free_literal(literals: &[u32], assignment: &Assignment) -> Option<u32>
 /// Clauses by slots, each with two watched literals.
 #[derive(Drop)]
 pub struct Clauses {
-    // The literals of each slot's clause, none if the slot is empty.
-    literals: Vec<Vec<u32>>,
-    // The search in each slot's clause.
-    searches: Vec<Search>,
+    // The clause of each slot, with its search and its watches.
+    blocks: Blocks,
     // The slots whose search has begun in this run.
     moved: Vec<usize>,
-    // Two watches for each slot.
-    watches: Vec<Watch>,
     // For each code, the watches on it.
-    lists: Vec<Vec<usize>>,
+    lists: Vec<Vec<Listed>>,
 }
 
 impl Clauses {
     /// No slots, over no variables.
     pub fn new(alloc: Global) -> Clauses
         ensures rest { AreReady result }
-        ensures literals { result.literals.items ≡ [] }
+        ensures literals { result.blocks.literals ≡ [] }
         ensures lists { result.lists.items ≡ [] }
     {
         Clauses {
-            literals: Vec::new(alloc),
-            searches: Vec::new(alloc),
+            blocks: Blocks::new(alloc),
             moved: Vec::new(alloc),
-            watches: Vec::new(alloc),
             lists: Vec::new(alloc),
         }
     }
@@ -64,8 +61,8 @@ impl Clauses {
     pub fn widen(&mut self) -> Result<(), AllocError>
         requires rest { AreReady self.old }
         ensures rest { OnOk result (AreReady self.new) }
-        ensures literals { self.new.literals ≡ self.old.literals }
-        ensures watches { self.new.watches ≡ self.old.watches }
+        ensures literals { self.new.blocks.literals ≡ self.old.blocks.literals }
+        ensures watches { self.new.blocks.watches ≡ self.old.blocks.watches }
         ensures lists { OnOk result (length self.new.lists.items ≡ length self.old.lists.items + 2) }
     {
         let alloc = *self.lists.allocator();
@@ -78,74 +75,90 @@ impl Clauses {
     pub fn extend(&mut self) -> Result<(), AllocError>
         requires rest { AreReady self.old }
         ensures rest { OnOk result (AreReady self.new) }
-        ensures literals { OnOk result (lists_of self.new.literals.items ≡ lists_of self.old.literals.items ++ [] ∷ []) }
-        ensures unchanged { OnErr result (self.new.literals.items ≡ self.old.literals.items) }
-        ensures watches { OnOk result ((e : ℕ) → watch_at self.new.watches.items e ≡ watch_at self.old.watches.items e) }
+        ensures literals { OnOk result (self.new.blocks.literals ≡ self.old.blocks.literals ++ [] ∷ []) }
+        ensures unchanged { OnErr result (self.new.blocks.literals ≡ self.old.blocks.literals) }
+        ensures watches { OnOk result ((e : ℕ) → watch_at self.new.blocks.watches e ≡ watch_at self.old.blocks.watches e) }
         ensures lists { self.new.lists ≡ self.old.lists }
     {
-        let alloc = *self.lists.allocator();
-        self.searches.push(Search::new())?;
-        let idle = Watch {
-            literal: 0,
-            live: false,
-            spot: 0,
-        };
-        self.watches.push(idle)?;
-        self.watches.push(idle)?;
-        self.literals.push(Vec::new(alloc))?;
+        self.blocks.extend()?;
         Ok(())
     }
 
     /// How many watches a literal has.
     pub fn watch_count(&self, literal: usize) -> usize
         requires { literal < length self.now.lists.items }
-        ensures { result ≡ length (list_at (lists_of self.now.lists.items) literal) }
+        ensures { result ≡ length (list_at (watch_lists self.now.lists.items) literal) }
     {
         self.lists[literal].len()
     }
 
     /// Whether the slot holds a clause.
     pub fn is_filled(&self, slot: usize) -> bool
-        ensures yes { result ≡ true → 0 < length (list_at (lists_of self.now.literals.items) slot) }
-        ensures no { result ≡ false → list_at (lists_of self.now.literals.items) slot ≡ [] }
+        ensures yes { result ≡ true → 0 < length (list_at self.now.blocks.literals slot) }
+        ensures no { result ≡ false → list_at self.now.blocks.literals slot ≡ [] }
     {
-        if slot >= self.literals.len() {
+        if slot >= self.blocks.len() {
             return false;
         }
-        let filled = self.literals[slot].len() > 0;
+        let filled = self.blocks.literals(slot).len() > 0;
         filled
+    }
+
+    /// How many literals the slot has room for.
+    pub fn room(&self, slot: usize) -> usize {
+        self.blocks.room(slot)
+    }
+
+    /// Makes room for a clause of that number of literals in a slot. Returns whether it can be stored: the numbers of watches
+    /// and the positions of blocks have 32 bits.
+    pub fn fit(&mut self, slot: usize, count: usize) -> Result<bool, AllocError>
+        requires rest { AreReady self.old }
+        requires slot { slot < length self.old.blocks.literals }
+        requires some { 0 < count }
+        ensures same { IsRefitted self.old self.new }
+        ensures fits { IfOk result (λ fits. fits ≡ true → CanHold self.new slot count) }
+    {
+        let fits = self.blocks.fit(slot, count)?;
+        Ok(fits)
     }
 
     /// Stores a clause in an empty slot. Two of its literals are watched.
     pub fn fill(&mut self, slot: usize, literals: Vec<u32>, pair: Pair) -> Result<(), AllocError>
         requires rest { AreReady self.old }
-        requires slot { slot < length self.old.literals.items }
-        requires empty { list_at (lists_of self.old.literals.items) slot ≡ [] }
+        requires slot { slot < length self.old.blocks.literals }
+        requires empty { list_at self.old.blocks.literals slot ≡ [] }
+        requires room { CanHold self.old slot (length literals.items) }
         requires pair { IsPair literals.items pair }
         requires inside { All (λ x. x < length self.old.lists.items) literals.items }
         ensures rest { OnOk result (AreReady self.new) }
-        ensures literals { OnOk result (lists_of self.new.literals.items ≡ slice_set (lists_of self.old.literals.items) slot literals.items) }
-        ensures unchanged { OnErr result (self.new.literals ≡ self.old.literals) }
-        ensures watches { OnOk result ((e : ℕ) → (e / 2 ≡ slot → ⊥) → watch_at self.new.watches.items e ≡ watch_at self.old.watches.items e) }
+        ensures literals { OnOk result (self.new.blocks.literals ≡ slice_set self.old.blocks.literals slot literals.items) }
+        ensures unchanged { OnErr result (self.new.blocks.literals ≡ self.old.blocks.literals) }
+        ensures watches { OnOk result ((e : ℕ) → (e / 2 ≡ slot → ⊥) → watch_at self.new.blocks.watches e ≡ watch_at self.old.blocks.watches e) }
         ensures lists { OnOk result (length self.new.lists.items ≡ length self.old.lists.items) }
     {
         let first = literals[pair.first];
         let second = literals[pair.second];
-        put_in(&mut self.lists, &mut self.watches, 2 * slot, first)?;
-        put_in(&mut self.lists, &mut self.watches, 2 * slot + 1, second)?;
-        self.searches[slot] = Search::new();
-        self.literals[slot] = literals;
+        put_in(&mut self.lists, &mut self.blocks, 2 * slot, first, second)?;
+        put_in(
+            &mut self.lists,
+            &mut self.blocks,
+            2 * slot + 1,
+            second,
+            first,
+        )?;
+        self.blocks.seek(slot, Search::new());
+        self.blocks.write(slot, literals.as_slice());
         Ok(())
     }
 
     /// Makes a slot empty. Nothing is allocated.
     pub fn empty(&mut self, slot: usize)
         requires rest { AreReady self.old }
-        requires slot { slot < length self.old.literals.items }
+        requires slot { slot < length self.old.blocks.literals }
         ensures rest { AreReady self.new }
-        ensures literals { lists_of self.new.literals.items ≡ slice_set (lists_of self.old.literals.items) slot [] }
+        ensures literals { self.new.blocks.literals ≡ slice_set self.old.blocks.literals slot [] }
         ensures lists { length self.new.lists.items ≡ length self.old.lists.items }
-        ensures watches { (e : ℕ) → (e / 2 ≡ slot → ⊥) → IsSameWatch (watch_at self.old.watches.items e) (watch_at self.new.watches.items e) }
+        ensures watches { (e : ℕ) → (e / 2 ≡ slot → ⊥) → IsSameWatch (watch_at self.old.blocks.watches e) (watch_at self.new.blocks.watches e) }
     {
         if !self.is_filled(slot) {
             return;
@@ -156,40 +169,31 @@ impl Clauses {
     // Removes the clause of a slot, which is then empty.
     fn vacate(&mut self, slot: usize)
         requires rest { AreReady self.old }
-        requires some { 0 < length (list_at (lists_of self.old.literals.items) slot) }
+        requires some { 0 < length (list_at self.old.blocks.literals slot) }
         ensures rest { AreReady self.new }
-        ensures literals { lists_of self.new.literals.items ≡ slice_set (lists_of self.old.literals.items) slot [] }
+        ensures literals { self.new.blocks.literals ≡ slice_set self.old.blocks.literals slot [] }
         ensures lists { length self.new.lists.items ≡ length self.old.lists.items }
-        ensures watches { (e : ℕ) → (e / 2 ≡ slot → ⊥) → IsSameWatch (watch_at self.old.watches.items e) (watch_at self.new.watches.items e) }
+        ensures watches { (e : ℕ) → (e / 2 ≡ slot → ⊥) → IsSameWatch (watch_at self.old.blocks.watches e) (watch_at self.new.blocks.watches e) }
     {
-        let alloc = *self.lists.allocator();
-        let first = self.watches[2 * slot];
-        take_out(
-            &mut self.lists,
-            &mut self.watches,
-            first.literal as usize,
-            first.spot,
-        );
-        let second = self.watches[2 * slot + 1];
-        take_out(
-            &mut self.lists,
-            &mut self.watches,
-            second.literal as usize,
-            second.spot,
-        );
-        self.literals[slot] = Vec::new(alloc);
+        let first = self.blocks.watched(2 * slot) as usize;
+        let spot = self.blocks.spot(2 * slot);
+        take_out(&mut self.lists, &mut self.blocks, first, spot);
+        let second = self.blocks.watched(2 * slot + 1) as usize;
+        let spot = self.blocks.spot(2 * slot + 1);
+        take_out(&mut self.lists, &mut self.blocks, second, spot);
+        self.blocks.clear(slot);
     }
 
     /// Whether the watches of a clause are on literals that are not falsified, or one of them is true.
     pub fn is_served(&self, assignment: &Assignment, slot: usize) -> bool
         requires rest { AreReady self.now }
-        requires filled { 0 < length (list_at (lists_of self.now.literals.items) slot) }
+        requires filled { 0 < length (list_at self.now.blocks.literals slot) }
         requires values { length self.now.lists.items ≡ 4 * length assignment.now.values.items }
-        ensures yes { result ≡ true → IsServed assignment.now.values.items self.now.watches.items slot }
-        ensures no { result ≡ false → IsServed assignment.now.values.items self.now.watches.items slot → ⊥ }
+        ensures yes { result ≡ true → IsServed assignment.now.values.items self.now.blocks.watches slot }
+        ensures no { result ≡ false → IsServed assignment.now.values.items self.now.blocks.watches slot → ⊥ }
     {
-        let first = self.watches[2 * slot].literal;
-        let second = self.watches[2 * slot + 1].literal;
+        let first = self.blocks.watched(2 * slot);
+        let second = self.blocks.watched(2 * slot + 1);
         if assignment.satisfies(first) {
             return true;
         }
@@ -205,20 +209,20 @@ impl Clauses {
     /// A literal of a slot's clause that is not falsified.
     pub fn free_literal(&self, assignment: &Assignment, slot: usize) -> Option<u32>
         requires rest { AreReady self.now }
-        requires slot { slot < length self.now.literals.items }
+        requires slot { slot < length self.now.blocks.literals }
         requires values { length self.now.lists.items ≡ 4 * length assignment.now.values.items }
         ensures some { IfSome result (
-            IsFree assignment.now.values.items (list_at (lists_of self.now.literals.items) slot)) }
+            IsFree assignment.now.values.items (list_at self.now.blocks.literals slot)) }
     {
-        free_literal(self.literals[slot].as_slice(), assignment)
+        free_literal(self.blocks.literals(slot), assignment)
     }
 
     /// The literals of a slot's clause.
     pub fn codes(&self, slot: usize) -> &[u32]
-        requires { slot < length self.now.literals.items }
-        ensures { result.now ≡ list_at (lists_of self.now.literals.items) slot }
+        requires { slot < length self.now.blocks.literals }
+        ensures { result.now ≡ list_at self.now.blocks.literals slot }
     {
-        self.literals[slot].as_slice()
+        self.blocks.literals(slot)
     }
 
     /// Prepares for another run, whose searches go on where those of this run ended. Only the clauses in which a search has
@@ -226,13 +230,13 @@ impl Clauses {
     pub fn rest(&mut self)
         requires running { (values : List (Option Bool)) × IsRunning values self.old }
         ensures rest { AreReady self.new }
-        ensures literals { self.new.literals ≡ self.old.literals }
+        ensures literals { self.new.blocks.literals ≡ self.old.blocks.literals }
         ensures lists { self.new.lists ≡ self.old.lists }
-        ensures watches { self.new.watches ≡ self.old.watches }
+        ensures watches { self.new.blocks.watches ≡ self.old.blocks.watches }
     {
         'slots: for i in 0..self.moved.len() {
             let slot = self.moved[i];
-            self.searches[slot].passed = 0;
+            self.blocks.begin(slot);
         }
         self.moved.clear();
     }

@@ -28,10 +28,11 @@ use crate::engine::completion::{extend, settle};
 use crate::engine::question::ask;
 use crate::engine::root::Root;
 use crate::engine::visits::Visits;
+use crate::free::Free;
 use crate::rests::Rests;
 use crate::run::{Run, choose, propagate, undo_forms};
 use crate::shared::Shared;
-use crate::slots::{occupy, quit, vacancy};
+use crate::slots::{clause_size, occupy, quit, vacancy};
 use crate::store::Store;
 use crate::store::occurrence_lists::{enter, leave};
 use pb_normal::{Normal, NormalFault, NumberedLiteral};
@@ -51,7 +52,7 @@ pub struct Engine {
     // again.
     places: Vec<usize>,
     // The slots of removed forms.
-    free: Vec<usize>,
+    free: Free,
     // Set while a call runs. It stays set if an allocation failed in the middle of the call.
     spent: bool,
 }
@@ -81,7 +82,7 @@ fn rest(store: &Store, rests: &Rests, clauses: &mut Clauses, run: &mut Run)
     requires bare { (rests.now.opens.items ≡ []) × (rests.now.starts.items ≡ []) }
     requires running { IsRunning (values_of run.old) clauses.old }
     ensures ready { AreReady clauses.new }
-    ensures literals { clauses.new.literals ≡ clauses.old.literals }
+    ensures literals { clauses.new.blocks.literals ≡ clauses.old.blocks.literals }
     ensures lists { clauses.new.lists ≡ clauses.old.lists }
     ensures rest { AreAtRest store.now.stored.items run.new.opens.items run.new.candidates.items }
     ensures values { length (values_of run.new) ≡ length (values_of run.old) }
@@ -161,7 +162,7 @@ impl Engine {
             clauses: Clauses::new(alloc),
             root: Root::new(alloc),
             places: Vec::new(alloc),
-            free: Vec::new(alloc),
+            free: Free::new(alloc),
             spent: false,
         }
     }
@@ -208,6 +209,7 @@ impl Engine {
             &mut self.eager,
             &mut self.clauses,
             &mut self.free,
+            clause_size(form.form()),
         )?;
         occupy(
             &mut self.store,
@@ -253,7 +255,7 @@ impl Engine {
             &mut self.clauses,
             slot,
         );
-        let _noted = self.free.push(slot);
+        self.free.put(slot, self.clauses.room(slot));
     }
 
     /// The form with this number.

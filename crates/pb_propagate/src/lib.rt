@@ -6,6 +6,7 @@ mod clause;
 mod clauses;
 mod eager;
 mod engine;
+mod free;
 mod heads;
 pub mod laws;
 mod rests;

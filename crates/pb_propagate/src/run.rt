@@ -254,7 +254,7 @@ pub fn propagate(
     requires running { IsRunning (values_of run.old) clauses.old }
     requires from { from ≤ length (list_of run.old) }
     requires walked { RunIsWalked from clauses.old run.old }
-    ensures literals { clauses.new.literals ≡ clauses.old.literals }
+    ensures literals { clauses.new.blocks.literals ≡ clauses.old.blocks.literals }
     ensures running { OnOk result (IsRunning (values_of run.new) clauses.new) }
     ensures walked { IfNotFound result (
         RunIsWalked (length (list_of run.new)) clauses.new run.new) }

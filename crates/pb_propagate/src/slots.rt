@@ -6,12 +6,14 @@ ghost use Rattle.pb_propagate.specs.engine.Engine.Fields.{forms_of};
 ghost use Rattle.pb_propagate.specs.engine.Engine.Rest.{IsAtRest, waits};
 ghost use Rattle.pb_propagate.specs.engine.Engine.Root.{HasWidened, HasGained, HasVacated};
 ghost use Rattle.pb_propagate.specs.engine.Clauses.Shapes.{IsPlanned};
+ghost use Rattle.pb_propagate.specs.engine.Clauses.Runs.{AreReady, CanHold, IsRefitted};
 
 use crate::assignment::Assignment;
 use crate::clause::{codes_of, is_clause};
 use crate::clauses::Clauses;
 use crate::clauses::watched::{Pair, pair_of, pick};
 use crate::eager::Eager;
+use crate::free::Free;
 use crate::run::Run;
 use crate::shared::Shared;
 use crate::store::Store;
@@ -21,10 +23,10 @@ use pb_normal::Normal;
 use std::alloc::{AllocError, Global};
 
 // The slot of a removed form.
-fn left_slot(kept: &[StoredForm], free: &mut Vec<usize>) -> Option<usize>
+fn left_slot(kept: &[StoredForm], free: &mut Free, count: usize) -> Option<usize>
     ensures { IfSome result (λ slot. slice_get (forms_of kept.now) slot ≡ Some None) }
 {
-    let slot = free.pop()?;
+    let slot = free.take(count)?;
     let kept = kept.get(slot)?;
     if kept.terms.has_form() {
         return None;
@@ -32,13 +34,24 @@ fn left_slot(kept: &[StoredForm], free: &mut Vec<usize>) -> Option<usize>
     Some(slot)
 }
 
-/// A slot without a form: that of a removed form, or a new one.
+/// How many literals the clause has, or 0 if the form is no clause.
+pub fn clause_size(form: &Normal) -> usize {
+    if form.degree() == 1 {
+        form.entries().len()
+    } else {
+        0
+    }
+}
+
+/// A slot without a form: that of a removed form, or a new one. A clause of `count` literals fits into its block, if it has
+/// one.
 pub fn vacancy(
     store: &mut Store,
     run: &mut Run,
     eager: &mut Eager,
     clauses: &mut Clauses,
-    free: &mut Vec<usize>,
+    free: &mut Free,
+    count: usize,
 ) -> Result<usize, AllocError>
     requires rest { IsAtRest store.old run.old eager.old clauses.old (forms_of store.old.stored.items) }
     ensures rest { OnOk result (IsAtRest store.new run.new eager.new clauses.new (forms_of store.new.stored.items)) }
@@ -48,15 +61,14 @@ pub fn vacancy(
     ensures variables { store.new.variables ≡ store.old.variables }
     ensures visits { run.new.visits ≡ run.old.visits }
 {
-    if let Some(slot) = left_slot(store.stored.as_slice(), free) {
+    if let Some(slot) = left_slot(store.stored.as_slice(), free, count) {
         return Ok(slot);
     }
     let slot = store.stored.len();
     widen(store, run)?;
     eager.widen()?;
     clauses.extend()?;
-    // Reserves room for each slot, so that none is lost when its form is removed.
-    free.reserve(slot.saturating_add(1).saturating_sub(free.len()))?;
+    free.widen(slot)?;
     Ok(slot)
 }
 
@@ -83,13 +95,18 @@ struct Planned {
 }
 
 // How a form is stored if it is a clause that can be watched: it has two literals that the assigned ones do not falsify,
-// or one that is true.
+// or one that is true, and the slot has room for it.
 fn plan(
     alloc: Global,
     form: &Normal,
     assigned: Option<&Assignment>,
+    clauses: &mut Clauses,
+    slot: usize,
 ) -> Result<Option<Planned>, AllocError>
-    ensures { IfOk result (λ planned. IfSome planned (IsPlanned form.now)) }
+    requires ready { AreReady clauses.old }
+    requires slot { slot < length clauses.old.blocks.literals }
+    ensures planned { IfOk result (λ planned. IfSome planned (λ p. IsPlanned form.now p × CanHold clauses.new slot (length p.codes.items))) }
+    ensures clauses { IsRefitted clauses.old clauses.new }
 {
     if !is_clause(form) {
         return Ok(None);
@@ -99,10 +116,13 @@ fn plan(
         Some(assignment) => pick(assignment, codes.as_slice()),
         None => pair_of(codes.as_slice(), 0, 1),
     };
-    match pair {
-        Some(pair) => Ok(Some(Planned { codes, pair })),
-        None => Ok(None),
+    let Some(pair) = pair else {
+        return Ok(None);
+    };
+    if !clauses.fit(slot, codes.len())? {
+        return Ok(None);
     }
+    Ok(Some(Planned { codes, pair }))
 }
 
 /// Stores a form in an empty slot. A clause with fewer than two literals that the assigned ones leave open, and none
@@ -127,7 +147,13 @@ pub fn occupy(
     ensures variables { store.new.variables ≡ store.old.variables }
     ensures visits { run.new.visits ≡ run.old.visits }
 {
-    if let Some(planned) = plan(*store.stored.allocator(), form.form(), assigned)? {
+    if let Some(planned) = plan(
+        *store.stored.allocator(),
+        form.form(),
+        assigned,
+        clauses,
+        slot,
+    )? {
         watch(store, clauses, slot, form, planned.codes, planned.pair)?;
         return Ok(());
     }

@@ -44,7 +44,7 @@ pub fn walk(
     requires running { IsRunning (values_of run.old) clauses.old }
     requires failed { false_at (values_of run.old) literal ≡ true }
     requires literal { literal < length clauses.old.lists.items }
-    ensures literals { clauses.new.literals ≡ clauses.old.literals }
+    ensures literals { clauses.new.blocks.literals ≡ clauses.old.blocks.literals }
     ensures candidates { run.new.candidates ≡ run.old.candidates }
     ensures advances { OnOk result (
         WalkAdvances store.now rests.now clauses.old clauses.new literal run.old run.new) }

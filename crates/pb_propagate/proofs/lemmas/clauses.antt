@@ -1,9 +1,12 @@
 -- Lemmas of clauses and their watches.
+pub mod Blocks
 pub mod Codes
 pub mod Counts
+pub mod Few
 pub mod Gets
 pub mod Killed
 pub mod Linked
+pub mod Listed
 pub mod Literals
 pub mod Marks
 pub mod Readings
@@ -15,5 +18,6 @@ pub mod Steps
 pub mod Stores
 pub mod Truths
 pub mod Turned
+pub mod Visited
 pub mod Walks
 pub mod Watching

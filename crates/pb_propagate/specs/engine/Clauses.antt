@@ -1,6 +1,7 @@
 -- Clauses with two watched literals each.
 pub mod Truths
 pub mod Links
+pub mod Blocks
 pub mod Runs
 pub mod Shapes
 pub mod Walked

@@ -1,12 +1,14 @@
-//! The two watches of each clause, and for each literal the list of the watches on it.
+//! For each literal the list of the watches on it.
 
-ghost use Rattle.std.specs.Prelude.{◌≡◌, ℕ, ◌+◌, ◌-◌, ◌<◌, ◌++◌, ◌∷◌, [], true, false, length, slice_get, slice_set, slice_index_or, swap_remove, OnOk, IfOk, IfSome, IfNone, Some};
-ghost use Rattle.pb_propagate.specs.engine.Clauses.Links.{lists_of, list_at, watch_at, AreLinked, Remains};
+ghost use Rattle.std.specs.Prelude.{◌≡◌, ℕ, ◌+◌, ◌-◌, ◌/◌, ◌^◌, ◌<◌, ◌++◌, ◌∷◌, [], true, false, length, slice_get, slice_set, swap_remove, OnOk, IfOk, IfSome, IfNone, Some};
+ghost use Rattle.pb_propagate.specs.declared.clauses.lists.Listed.{Listed};
+ghost use Rattle.pb_propagate.specs.engine.Clauses.Links.{watch_lists, list_at, watch_at, idle, AreLinked, Remains, AreFewer, AreMore};
+ghost use Rattle.pb_propagate.specs.engine.Clauses.Blocks.{HasBlock, rewatched};
 
+use crate::clauses::blocks::Blocks;
 use std::alloc::AllocError;
 
-/// A watch: the literal that it watches, and its position in that literal's list. The watches of slot `s` are `2 * s`
-/// and `2 * s + 1`.
+/// A watch: the literal that it watches, and its position in that literal's list.
 #[derive(Clone, Copy)]
 pub struct Watch {
     pub literal: u32,
@@ -14,90 +16,116 @@ pub struct Watch {
     pub spot: usize,
 }
 
+/// An entry of a list: a watch and its blocker, another literal of the clause. If the blocker is true, nothing more is read.
+#[derive(Clone, Copy)]
+pub struct Listed {
+    pub watch: u32,
+    pub blocker: u32,
+}
+
 // The watch that was removed from a list, and the one that moved to its position.
 #[derive(Clone, Copy)]
 struct Removed {
-    watch: usize,
-    moved: Option<usize>,
+    watch: u32,
+    moved: Option<u32>,
 }
 
 // Removes an entry from a list. The last entry moves to its position.
-fn remove_entry(lists: &mut Vec<Vec<usize>>, literal: usize, index: usize) -> Removed
+fn remove_entry(lists: &mut Vec<Vec<Listed>>, literal: usize, index: usize) -> Removed
     requires literal { literal < length lists.old.items }
-    requires index { index < length (list_at (lists_of lists.old.items) literal) }
-    ensures watch { slice_get (list_at (lists_of lists.old.items) literal) index ≡ Some result.watch }
-    ensures lists { lists_of lists.new.items ≡ slice_set (lists_of lists.old.items) literal (swap_remove (list_at (lists_of lists.old.items) literal) index result.watch) }
-    ensures none { IfNone result.moved (index + 1 ≡ length (list_at (lists_of lists.old.items) literal)) }
-    ensures some { IfSome result.moved (λ t. (index + 1 < length (list_at (lists_of lists.old.items) literal)) × (slice_get (list_at (lists_of lists.old.items) literal) (length (list_at (lists_of lists.old.items) literal) - 1) ≡ Some t)) }
+    requires index { index < length (list_at (watch_lists lists.old.items) literal) }
+    ensures watch { slice_get (list_at (watch_lists lists.old.items) literal) index ≡ Some result.watch }
+    ensures lists { watch_lists lists.new.items ≡ slice_set (watch_lists lists.old.items) literal (swap_remove (list_at (watch_lists lists.old.items) literal) index result.watch) }
+    ensures none { IfNone result.moved (index + 1 ≡ length (list_at (watch_lists lists.old.items) literal)) }
+    ensures some { IfSome result.moved (λ t. (index + 1 < length (list_at (watch_lists lists.old.items) literal)) × (slice_get (list_at (watch_lists lists.old.items) literal) (length (list_at (watch_lists lists.old.items) literal) - 1) ≡ Some t)) }
+    ensures fewer { AreFewer lists.old.items lists.new.items }
 {
     let list = &mut lists[literal];
-    let watch = list.swap_remove(index);
+    let removed = list.swap_remove(index);
+    let watch = removed.watch;
     if index >= list.len() {
         return Removed { watch, moved: None };
     }
-    let moved = list[index];
+    let last = list[index];
     Removed {
         watch,
-        moved: Some(moved),
+        moved: Some(last.watch),
     }
 }
 
 // Appends an entry to a list, and returns its position.
 fn push_entry(
-    lists: &mut Vec<Vec<usize>>,
+    lists: &mut Vec<Vec<Listed>>,
     literal: usize,
-    watch: usize,
+    entry: Listed,
 ) -> Result<usize, AllocError>
     requires literal { literal < length lists.old.items }
-    ensures lists { OnOk result (lists_of lists.new.items ≡ slice_set (lists_of lists.old.items) literal (list_at (lists_of lists.old.items) literal ++ watch ∷ [])) }
-    ensures spot { IfOk result (λ spot. spot ≡ length (list_at (lists_of lists.old.items) literal)) }
+    ensures lists { OnOk result (watch_lists lists.new.items ≡ slice_set (watch_lists lists.old.items) literal (list_at (watch_lists lists.old.items) literal ++ entry.watch ∷ [])) }
+    ensures spot { IfOk result (λ spot. spot ≡ length (list_at (watch_lists lists.old.items) literal)) }
+    ensures more { OnOk result (AreMore entry lists.old.items lists.new.items) }
 {
     let list = &mut lists[literal];
     let spot = list.len();
-    list.push(watch)?;
+    list.push(entry)?;
     Ok(spot)
 }
 
-/// Removes the watch at a position of a literal's list. The last of the list moves to its position.
-pub fn take_out(lists: &mut Vec<Vec<usize>>, watches: &mut Vec<Watch>, literal: usize, index: usize)
+/// Writes an entry of a list, with the same watch and another blocker.
+pub fn block(lists: &mut Vec<Vec<Listed>>, literal: usize, index: usize, entry: Listed)
     requires literal { literal < length lists.old.items }
-    requires index { index < length (list_at (lists_of lists.old.items) literal) }
-    requires linked { AreLinked watches.old.items (lists_of lists.old.items) }
-    ensures linked { AreLinked watches.new.items (lists_of lists.new.items) }
-    ensures taken { (e : ℕ) → slice_get (list_at (lists_of lists.old.items) literal) index ≡ Some e → (watch_at watches.new.items e).live ≡ false }
-    ensures remain { (e k : ℕ) → slice_get (list_at (lists_of lists.old.items) literal) index ≡ Some e → (k ≡ e → ⊥) → Remains index (watch_at watches.old.items k) (watch_at watches.new.items k) }
-    ensures sizes { (length watches.new.items ≡ length watches.old.items) × (length lists.new.items ≡ length lists.old.items) }
-    ensures shorter { length (list_at (lists_of lists.new.items) literal) + 1 ≡ length (list_at (lists_of lists.old.items) literal) }
-    ensures others { (l : ℕ) → (l ≡ literal → ⊥) → list_at (lists_of lists.new.items) l ≡ list_at (lists_of lists.old.items) l }
+    requires item { slice_get (list_at (watch_lists lists.old.items) literal) index ≡ Some entry.watch }
+    ensures watches { watch_lists lists.new.items ≡ watch_lists lists.old.items }
+    ensures more { AreMore entry lists.old.items lists.new.items }
+{
+    lists[literal][index] = entry;
+}
+
+/// Removes the watch at a position of a literal's list. The last of the list moves to its position.
+pub fn take_out(lists: &mut Vec<Vec<Listed>>, blocks: &mut Blocks, literal: usize, index: usize)
+    requires literal { literal < length lists.old.items }
+    requires index { index < length (list_at (watch_lists lists.old.items) literal) }
+    requires linked { AreLinked blocks.old.watches (watch_lists lists.old.items) }
+    ensures linked { AreLinked blocks.new.watches (watch_lists lists.new.items) }
+    ensures taken { (e : ℕ) → slice_get (list_at (watch_lists lists.old.items) literal) index ≡ Some e → (watch_at blocks.new.watches e).live ≡ false }
+    ensures remain { (e k : ℕ) → slice_get (list_at (watch_lists lists.old.items) literal) index ≡ Some e → (k ≡ e → ⊥) → Remains index (watch_at blocks.old.watches k) (watch_at blocks.new.watches k) }
+    ensures sizes { (length blocks.new.watches ≡ length blocks.old.watches) × (length lists.new.items ≡ length lists.old.items) }
+    ensures shorter { length (list_at (watch_lists lists.new.items) literal) + 1 ≡ length (list_at (watch_lists lists.old.items) literal) }
+    ensures kept { blocks.new ≡ rewatched blocks.old blocks.new.watches }
+    ensures fewer { AreFewer lists.old.items lists.new.items }
 {
     let removed = remove_entry(lists, literal, index);
-    watches[removed.watch].live = false;
+    blocks.idle(removed.watch as usize);
     if let Some(moved) = removed.moved {
-        watches[moved].spot = index;
+        blocks.place(moved as usize, index);
     }
 }
 
-/// Appends a watch to a literal's list.
+/// Appends a watch and its blocker to a literal's list.
 pub fn put_in(
-    lists: &mut Vec<Vec<usize>>,
-    watches: &mut Vec<Watch>,
+    lists: &mut Vec<Vec<Listed>>,
+    blocks: &mut Blocks,
     watch: usize,
     literal: u32,
+    blocker: u32,
 ) -> Result<(), AllocError>
     requires literal { literal < length lists.old.items }
-    requires watch { watch < length watches.old.items }
-    requires dead { (watch_at watches.old.items watch).live ≡ false }
-    requires linked { AreLinked watches.old.items (lists_of lists.old.items) }
-    ensures linked { OnOk result (AreLinked watches.new.items (lists_of lists.new.items)) }
-    ensures watches { OnOk result (watches.new.items ≡ slice_set watches.old.items watch record { literal = literal; live = true; spot = length (list_at (lists_of lists.old.items) literal) }) }
+    requires watch { watch < length blocks.old.watches }
+    requires small { watch < 2 ^ 32 - 2 }
+    requires block { HasBlock blocks.old (watch / 2) }
+    requires dead { (watch_at blocks.old.watches watch).live ≡ false }
+    requires linked { AreLinked blocks.old.watches (watch_lists lists.old.items) }
+    ensures linked { OnOk result (AreLinked blocks.new.watches (watch_lists lists.new.items)) }
+    ensures watches { OnOk result (blocks.new ≡ rewatched blocks.old (slice_set blocks.old.watches watch record { literal = literal; live = true; spot = length (list_at (watch_lists lists.old.items) literal) })) }
+    ensures kept { blocks.new ≡ rewatched blocks.old blocks.new.watches }
     ensures sizes { OnOk result (length lists.new.items ≡ length lists.old.items) }
-    ensures others { OnOk result ((l : ℕ) → (l ≡ literal → ⊥) → list_at (lists_of lists.new.items) l ≡ list_at (lists_of lists.old.items) l) }
+    ensures others { OnOk result ((l : ℕ) → (l ≡ literal → ⊥) → list_at (watch_lists lists.new.items) l ≡ list_at (watch_lists lists.old.items) l) }
+    ensures more { OnOk result (AreMore record { watch = watch; blocker = blocker } lists.old.items lists.new.items) }
 {
-    let spot = push_entry(lists, literal as usize, watch)?;
-    watches[watch] = Watch {
-        literal,
-        live: true,
-        spot,
+    let entry = Listed {
+        watch: watch as u32,
+        blocker,
     };
+    let spot = push_entry(lists, literal as usize, entry)?;
+    blocks.watch(watch, literal, spot);
     Ok(())
 }

@@ -1,14 +1,16 @@
 //! A visit to one watch of a falsified literal.
 
-ghost use Rattle.std.specs.Prelude.{◌≡◌, ℕ, ◌+◌, ◌-◌, ◌^◌, ◌<◌, ◌≤◌, ◌⊎◌, ◌++◌, ◌∷◌, [], true, All, length, min, sum, slice_get, OnOk, IfOk, Some};
-ghost use Rattle.pb_propagate.specs.engine.Clauses.Truths.{false_at};
-ghost use Rattle.pb_propagate.specs.engine.Clauses.Links.{lists_of, list_at, watch_at, AreLinked, Remains};
+ghost use Rattle.std.specs.Prelude.{◌≡◌, ℕ, ◌+◌, ◌-◌, ◌/◌, ◌^◌, ◌<◌, ◌≤◌, ◌⊎◌, ◌++◌, ◌∷◌, [], true, false, All, length, min, sum, slice_get, OnOk, IfOk, Some};
+ghost use Rattle.pb_propagate.specs.engine.Clauses.Truths.{flip, true_at, false_at};
+ghost use Rattle.pb_propagate.specs.engine.Clauses.Links.{watch_lists, list_at, watch_at, AreLinked, Remains, IsListed, AreMore};
+ghost use Rattle.pb_propagate.specs.engine.Clauses.Blocks.{HasBlock, rewatched};
 ghost use Rattle.pb_propagate.specs.engine.Clauses.Runs.{AreWithin, IsRunning, HasVisited, passed_of};
 
 use crate::assignment::Assignment;
 use crate::clause::opposite;
 use crate::clauses::Clauses;
-use crate::clauses::lists::{Watch, put_in, take_out};
+use crate::clauses::blocks::Blocks;
+use crate::clauses::lists::{Listed, block, put_in, take_out};
 use crate::engine::visits::Visits;
 use std::alloc::AllocError;
 
@@ -22,7 +24,7 @@ pub struct Forced {
 /// What a visit to a watch of a falsified literal has found.
 #[derive(Clone, Copy)]
 pub enum Visit {
-    // The other watched literal is true.
+    // The blocker or the other watched literal is true.
     Stays,
     // The watch has moved to another literal's list. The last watch of the old list, if it is another one, has its
     // position.
@@ -34,26 +36,27 @@ pub enum Visit {
 }
 
 // Reads an entry of a list of watches, and counts the visit.
-fn visit_entry(lists: &[Vec<usize>], literal: usize, index: usize, visits: &mut Visits) -> usize
-    requires literal { literal < length lists.now }
-    requires index { index < length (list_at (lists_of lists.now) literal) }
-    ensures item { slice_get (list_at (lists_of lists.now) literal) index ≡ Some result }
+fn visit_entry(clauses: &Clauses, literal: usize, index: usize, visits: &mut Visits) -> Listed
+    requires literal { literal < length clauses.now.lists.items }
+    requires index { index < length (list_at (watch_lists clauses.now.lists.items) literal) }
+    ensures item { slice_get (list_at (watch_lists clauses.now.lists.items) literal) index ≡ Some result.watch }
+    ensures listed { IsListed clauses.now.lists.items result }
     ensures rising { visits.old ≤ visits.new }
     ensures count { visits.new ≡ min (visits.old + 1) (2 ^ 64 - 1) }
 {
     visits.count();
-    lists[literal][index]
+    clauses.lists[literal][index]
 }
 
 // Reads the literal of the other watch, and counts the visit.
-fn visit_watch(watches: &[Watch], watch: usize, visits: &mut Visits) -> u32
-    requires { watch < length watches.now }
-    ensures item { result ≡ (watch_at watches.now watch).literal }
+fn visit_watch(blocks: &Blocks, watch: usize, visits: &mut Visits) -> u32
+    requires { (watch_at blocks.now.watches watch).live ≡ true }
+    ensures item { result ≡ (watch_at blocks.now.watches watch).literal }
     ensures rising { visits.old ≤ visits.new }
     ensures count { visits.new ≡ min (visits.old + 1) (2 ^ 64 - 1) }
 {
     visits.count();
-    watches[watch].literal
+    blocks.watched(watch)
 }
 
 // Adds a slot to the trail when its search begins.
@@ -69,29 +72,83 @@ fn note(moved: &mut Vec<usize>, slot: usize, passed: usize) -> Result<(), AllocE
 
 // Moves a watch from a position of a literal's list to another literal's list.
 fn shift(
-    lists: &mut Vec<Vec<usize>>,
-    watches: &mut Vec<Watch>,
-    watch: usize,
+    lists: &mut Vec<Vec<Listed>>,
+    blocks: &mut Blocks,
     literal: usize,
     index: usize,
+    watch: usize,
     found: u32,
+    blocker: u32,
 ) -> Result<(), AllocError>
     requires literal { literal < length lists.old.items }
     requires found { found < length lists.old.items }
     requires apart { found ≡ literal → ⊥ }
-    requires item { slice_get (list_at (lists_of lists.old.items) literal) index ≡ Some watch }
-    requires linked { AreLinked watches.old.items (lists_of lists.old.items) }
-    ensures linked { OnOk result (AreLinked watches.new.items (lists_of lists.new.items)) }
-    ensures literal { OnOk result ((watch_at watches.new.items watch).literal ≡ found) }
-    ensures live { OnOk result ((watch_at watches.new.items watch).live ≡ true) }
-    ensures others { OnOk result ((k : ℕ) → (k ≡ watch → ⊥) → Remains index (watch_at watches.old.items k) (watch_at watches.new.items k)) }
-    ensures watches { OnOk result (length watches.new.items ≡ length watches.old.items) }
+    requires item { slice_get (list_at (watch_lists lists.old.items) literal) index ≡ Some watch }
+    requires block { HasBlock blocks.old (watch / 2) }
+    requires linked { AreLinked blocks.old.watches (watch_lists lists.old.items) }
+    ensures linked { OnOk result (AreLinked blocks.new.watches (watch_lists lists.new.items)) }
+    ensures literal { OnOk result ((watch_at blocks.new.watches watch).literal ≡ found) }
+    ensures live { OnOk result ((watch_at blocks.new.watches watch).live ≡ true) }
+    ensures others { OnOk result ((k : ℕ) → (k ≡ watch → ⊥) → Remains index (watch_at blocks.old.watches k) (watch_at blocks.new.watches k)) }
+    ensures watches { OnOk result (length blocks.new.watches ≡ length blocks.old.watches) }
     ensures lists { OnOk result (length lists.new.items ≡ length lists.old.items) }
-    ensures shorter { OnOk result (length (list_at (lists_of lists.new.items) literal) + 1 ≡ length (list_at (lists_of lists.old.items) literal)) }
+    ensures shorter { OnOk result (length (list_at (watch_lists lists.new.items) literal) + 1 ≡ length (list_at (watch_lists lists.old.items) literal)) }
+    ensures kept { blocks.new ≡ rewatched blocks.old blocks.new.watches }
+    ensures more { OnOk result (AreMore record { watch = watch; blocker = blocker } lists.old.items lists.new.items) }
 {
-    take_out(lists, watches, literal, index);
-    put_in(lists, watches, watch, found)?;
+    take_out(lists, blocks, literal, index);
+    put_in(lists, blocks, watch, found, blocker)?;
     Ok(())
+}
+
+// Searches a clause for a literal to watch in place of a falsified one. The other watched literal is not true.
+fn search_clause(
+    clauses: &mut Clauses,
+    assignment: &Assignment,
+    literal: usize,
+    index: usize,
+    watch: usize,
+    other: u32,
+    visits: &mut Visits,
+) -> Result<Visit, AllocError>
+    requires running { IsRunning assignment.now.values.items clauses.old }
+    requires failed { false_at assignment.now.values.items literal ≡ true }
+    requires literal { literal < length clauses.old.lists.items }
+    requires item { slice_get (list_at (watch_lists clauses.old.lists.items) literal) index ≡ Some watch }
+    requires other { other ≡ (watch_at clauses.old.blocks.watches (flip watch)).literal }
+    requires untrue { true_at assignment.now.values.items other ≡ false }
+    ensures literals { clauses.new.blocks.literals ≡ clauses.old.blocks.literals }
+    ensures watch { IfOk result (
+        λ r. HasVisited assignment.now.values.items clauses.old clauses.new literal index r) }
+    ensures covered { visits.new + sum (passed_of clauses.old) ≤ visits.old + sum (passed_of clauses.new) }
+    ensures bounded { AreWithin (passed_of clauses.new) clauses.old.blocks.literals }
+    ensures rising { visits.old ≤ visits.new }
+{
+    let slot = watch / 2;
+    let from = clauses.blocks.search(slot);
+    note(&mut clauses.moved, slot, from.passed)?;
+    let literals = clauses.blocks.literals(slot);
+    let stop = from.advance(literals, other, assignment, visits);
+    if stop.passed >= literals.len() {
+        clauses.blocks.seek(slot, stop);
+        if assignment.falsifies(other) {
+            return Ok(Visit::Falsified);
+        }
+        return Ok(Visit::Forces(Forced { code: other, slot }));
+    }
+    let found = literals[stop.position];
+    let next = stop.next(literals.len());
+    clauses.blocks.seek(slot, next);
+    shift(
+        &mut clauses.lists,
+        &mut clauses.blocks,
+        literal,
+        index,
+        watch,
+        found,
+        other,
+    )?;
+    Ok(Visit::Leaves)
 }
 
 /// Visits a clause by its watch on a falsified literal.
@@ -105,43 +162,31 @@ pub fn visit_clause(
     requires running { IsRunning assignment.now.values.items clauses.old }
     requires failed { false_at assignment.now.values.items literal ≡ true }
     requires literal { literal < length clauses.old.lists.items }
-    requires index { index < length (list_at (lists_of clauses.old.lists.items) literal) }
-    ensures literals { clauses.new.literals ≡ clauses.old.literals }
+    requires index { index < length (list_at (watch_lists clauses.old.lists.items) literal) }
+    ensures literals { clauses.new.blocks.literals ≡ clauses.old.blocks.literals }
     ensures watch { IfOk result (
         λ r. HasVisited assignment.now.values.items clauses.old clauses.new literal index r) }
 
     // Upper and lower bounds on the number of visits.
     ensures covered { visits.new + sum (passed_of clauses.old) ≤ visits.old + 2 + sum (passed_of clauses.new) }
-    ensures bounded { AreWithin (passed_of clauses.new) (lists_of clauses.old.literals.items) }
+    ensures bounded { AreWithin (passed_of clauses.new) clauses.old.blocks.literals }
     ensures counted { visits.new < 2 ^ 64 - 1 → visits.old + 1 ≤ visits.new }
     ensures rising { visits.old ≤ visits.new }
 {
-    let watch = visit_entry(clauses.lists.as_slice(), literal, index, visits);
-    let other = visit_watch(clauses.watches.as_slice(), opposite(watch), visits);
-    if assignment.satisfies(other) {
+    let entry = visit_entry(clauses, literal, index, visits);
+    if assignment.satisfies(entry.blocker) {
         return Ok(Visit::Stays);
     }
-    let slot = watch / 2;
-    let from = clauses.searches[slot];
-    note(&mut clauses.moved, slot, from.passed)?;
-    let literals = clauses.literals[slot].as_slice();
-    let stop = from.advance(literals, other, assignment, visits);
-    if stop.passed >= literals.len() {
-        clauses.searches[slot] = stop;
-        if assignment.falsifies(other) {
-            return Ok(Visit::Falsified);
-        }
-        return Ok(Visit::Forces(Forced { code: other, slot }));
+    let watch = entry.watch as usize;
+    let other = visit_watch(&clauses.blocks, opposite(watch), visits);
+    if assignment.satisfies(other) {
+        let entry = Listed {
+            watch: entry.watch,
+            blocker: other,
+        };
+        block(&mut clauses.lists, literal, index, entry);
+        return Ok(Visit::Stays);
     }
-    let found = literals[stop.position];
-    clauses.searches[slot] = stop.next(literals.len());
-    shift(
-        &mut clauses.lists,
-        &mut clauses.watches,
-        watch,
-        literal,
-        index,
-        found,
-    )?;
-    Ok(Visit::Leaves)
+    let visit = search_clause(clauses, assignment, literal, index, watch, other, visits)?;
+    Ok(visit)
 }

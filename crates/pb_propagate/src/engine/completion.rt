@@ -75,7 +75,7 @@ pub fn settle(
     requires joined { AreJoined (shapes_of store.now.stored.items) (clauses_of clauses.old) }
     requires running { IsRunning (values_of run.old) clauses.old }
     requires walked { RunIsWalked (length (list_of run.old)) clauses.old run.old }
-    ensures literals { clauses.new.literals ≡ clauses.old.literals }
+    ensures literals { clauses.new.blocks.literals ≡ clauses.old.blocks.literals }
     ensures running { OnOk result (IsRunning (values_of run.new) clauses.new) }
     ensures kept { OnOk result (KeepsWalked (values_of run.old) clauses.old clauses.new) }
     ensures values { OnOk result (length (values_of run.new) ≡ length (values_of run.old)) }
@@ -113,7 +113,7 @@ pub fn extend(
 ) -> Result<Option<Vec<Option<bool>>>, AllocError>
     requires standing { IsStanding store.now clauses.old root.old }
     requires inside { All (λ l. l.variable < store.now.variables) given.now }
-    ensures literals { clauses.new.literals ≡ clauses.old.literals }
+    ensures literals { clauses.new.blocks.literals ≡ clauses.old.blocks.literals }
     ensures left { OnOk result (IsLeft store.now store.now clauses.old clauses.new root.new) }
     ensures clash { IfOk result (λ found. IfNone found (
         IsClashed (all_of store.now clauses.old) given.now)) }

@@ -124,7 +124,7 @@ pub fn refute(
     requires joined { AreJoined (shapes_of store.now.stored.items) (clauses_of clauses.old) }
     requires running { IsRunning (values_of run.old) clauses.old }
     requires walked { RunIsWalked (length (list_of run.old)) clauses.old run.old }
-    ensures literals { clauses.new.literals ≡ clauses.old.literals }
+    ensures literals { clauses.new.blocks.literals ≡ clauses.old.blocks.literals }
     ensures running { OnOk result (IsRunning (values_of run.new) clauses.new) }
     ensures kept { OnOk result (KeepsWalked (values_of run.old) clauses.old clauses.new) }
     ensures values { OnOk result (length (values_of run.new) ≡ length (values_of run.old)) }

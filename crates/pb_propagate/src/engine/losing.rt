@@ -23,7 +23,7 @@ impl Root {
         requires slot { slot < length store.now.stored.items }
         requires sound { IsSound store.now }
         requires ready { AreReady clauses.now }
-        requires known { length clauses.now.literals.items ≡ length store.now.stored.items }
+        requires known { length clauses.now.blocks.literals ≡ length store.now.stored.items }
         requires widths { length clauses.now.lists.items ≡ 4 * store.now.variables }
         requires values { length self.now.run.assignment.values.items ≡ store.now.variables }
         ensures { result ≡ false → IsMet (all_of store.now clauses.now) slot (list_of self.now.run) }
@@ -45,7 +45,7 @@ impl Root {
         requires sound { IsSound store.now }
         requires joined { AreJoined (shapes_of store.now.stored.items) (clauses_of clauses.now) }
         requires ready { AreReady clauses.now }
-        requires known { length clauses.now.literals.items ≡ length store.now.stored.items }
+        requires known { length clauses.now.blocks.literals ≡ length store.now.stored.items }
         requires widths { length clauses.now.lists.items ≡ 4 * store.now.variables }
         requires fallen { IsFallen (all_of store.now clauses.now) store.now.variables self.old }
         ensures live { self.new.live ≡ false }
@@ -72,7 +72,7 @@ impl Root {
         requires sound { IsSound store.now }
         requires joined { AreJoined (shapes_of store.now.stored.items) (clauses_of clauses.now) }
         requires ready { AreReady clauses.now }
-        requires known { length clauses.now.literals.items ≡ length store.now.stored.items }
+        requires known { length clauses.now.blocks.literals ≡ length store.now.stored.items }
         requires widths { length clauses.now.lists.items ≡ 4 * store.now.variables }
         requires rooted { self.old.live ≡ true → IsRootOf store.now clauses.now self.old }
         requires fallen { self.old.fallen ≡ true →

@@ -32,7 +32,7 @@ fn pose(
     requires visits { root.old.run.visits ≡ length (list_of root.old.run) }
     ensures forms { OnErr result (HasSameForms store.old store.new) }
     ensures variables { store.new.variables ≡ store.old.variables }
-    ensures literals { clauses.new.literals ≡ clauses.old.literals }
+    ensures literals { clauses.new.blocks.literals ≡ clauses.old.blocks.literals }
     ensures left { OnOk result (IsLeft store.old store.new clauses.old clauses.new root.new) }
     ensures asked { IfOk result (
         IsAsked form (all_of store.old clauses.old) root.new.run.visits) }
@@ -73,7 +73,7 @@ fn pose_clause(
     requires inside { All (λ t. t.variable < store.now.variables) goal.now.terms }
     requires clause { IsDisjunction goal.now }
     requires visits { root.old.run.visits ≡ length (list_of root.old.run) }
-    ensures literals { clauses.new.literals ≡ clauses.old.literals }
+    ensures literals { clauses.new.blocks.literals ≡ clauses.old.blocks.literals }
     ensures left { OnOk result (IsLeft store.now store.now clauses.old clauses.new root.new) }
     ensures asked { IfOk result (
         IsAsked (negation_of goal.now) (all_of store.now clauses.old) root.new.run.visits) }
@@ -104,7 +104,7 @@ fn question(
     requires visits { root.old.run.visits ≡ length (list_of root.old.run) }
     ensures forms { OnErr result (HasSameForms store.old store.new) }
     ensures variables { store.new.variables ≡ store.old.variables }
-    ensures literals { clauses.new.literals ≡ clauses.old.literals }
+    ensures literals { clauses.new.blocks.literals ≡ clauses.old.blocks.literals }
     ensures left { OnOk result (IsLeft store.old store.new clauses.old clauses.new root.new) }
     ensures asked { IfOk result (
         IsAsked (negation_of goal.now) (all_of store.old clauses.old) root.new.run.visits) }
@@ -137,7 +137,7 @@ pub fn ask(
     requires degree { 1 ≤ goal.now.degree }
     ensures forms { OnErr result (HasSameForms store.old store.new) }
     ensures variables { store.new.variables ≡ store.old.variables }
-    ensures literals { clauses.new.literals ≡ clauses.old.literals }
+    ensures literals { clauses.new.blocks.literals ≡ clauses.old.blocks.literals }
     ensures left { OnOk result (IsLeft store.old store.new clauses.old clauses.new root.new) }
     ensures asked { IfOk result (
         IsAsked (negation_of goal.now) (all_of store.old clauses.old) visits.new) }

@@ -265,7 +265,7 @@ impl Root {
         requires joined { AreJoined (shapes_of store.now.stored.items) (clauses_of clauses.now) }
         requires ready { AreReady clauses.now }
         requires widths { length clauses.now.lists.items ≡ 4 * store.now.variables }
-        requires known { length clauses.now.literals.items ≡ length store.now.stored.items }
+        requires known { length clauses.now.blocks.literals ≡ length store.now.stored.items }
         requires slot { slot < length store.now.stored.items }
         requires gained { WasRootOf store.now clauses.now slot self.old }
         ensures rooted { OnOk result (self.new.live ≡ true → IsRootOf store.now clauses.now self.new) }
@@ -285,7 +285,7 @@ impl Root {
     /// Propagates the forms that wait. Returns whether a conflict is met. Then the root ends, and the conflict is kept.
     pub fn update(&mut self, store: &Store, clauses: &mut Clauses) -> Result<bool, AllocError>
         requires standing { IsStanding store.now clauses.old self.old }
-        ensures literals { clauses.new.literals ≡ clauses.old.literals }
+        ensures literals { clauses.new.blocks.literals ≡ clauses.old.blocks.literals }
         ensures running { OnOk result (IsRunning (values_of self.new.run) clauses.new) }
         ensures lists { OnOk result (
             length clauses.new.lists.items ≡ length clauses.old.lists.items) }
@@ -334,9 +334,9 @@ pub fn back(store: &Store, rests: &Rests, clauses: &mut Clauses, run: &mut Run, 
     requires undone { RunIsUndone store.now rests.now 0 run.old }
     requires running { IsRunning run.old.assignment.values.items clauses.old }
     ensures ready { AreReady clauses.new }
-    ensures literals { clauses.new.literals ≡ clauses.old.literals }
+    ensures literals { clauses.new.blocks.literals ≡ clauses.old.blocks.literals }
     ensures lists { clauses.new.lists ≡ clauses.old.lists }
-    ensures watches { clauses.new.watches ≡ clauses.old.watches }
+    ensures watches { clauses.new.blocks.watches ≡ clauses.old.blocks.watches }
     ensures opens { length run.new.opens.items ≡ length store.now.stored.items }
     ensures candidates { length run.new.candidates.items ≡ length store.now.stored.items }
     ensures undone { IsUndone rests.now (shapes_of store.now.stored.items) run.new.opens.items run.new.candidates.items [] 0 }

@@ -11,7 +11,7 @@ ghost use Rattle.pb_propagate.specs.engine.Engine.Terms.{terms_of};
 ghost use Rattle.pb_propagate.specs.engine.Engine.Fields.{stored_shape, shapes_of, forms_of, spots_of, lists_of, entries_of, IsSound, HasEntered, HasFilled, IsEmpty, IsUnlisted, AreLonger};
 ghost use Rattle.pb_propagate.specs.engine.Engine.Links.{IsLinked, Moved, cut, terms_at};
 ghost use Rattle.pb_propagate.specs.engine.Clauses.Links.{list_at, watch_at};
-ghost use Rattle.pb_propagate.specs.engine.Clauses.Runs.{AreReady, IsPair};
+ghost use Rattle.pb_propagate.specs.engine.Clauses.Runs.{AreReady, CanHold, IsPair};
 ghost use Rattle.pb_propagate.specs.engine.Clauses.Shapes.{clauses_of, codes_of_terms};
 
 use crate::clauses::Clauses;
@@ -183,16 +183,17 @@ pub fn watch(
 ) -> Result<(), AllocError>
     requires ready { AreReady clauses.old }
     requires slot { slot < length store.old.stored.items }
-    requires known { length clauses.old.literals.items ≡ length store.old.stored.items }
+    requires known { length clauses.old.blocks.literals ≡ length store.old.stored.items }
     requires empty { list_at (clauses_of clauses.old) slot ≡ [] }
     requires codes { codes.items ≡ codes_of_terms form.terms }
+    requires room { CanHold clauses.old slot (length codes.items) }
     requires pair { IsPair codes.items pair }
     requires inside { All (λ t. t.variable < store.old.variables) form.terms }
     requires widths { length clauses.old.lists.items ≡ 4 * store.old.variables }
     ensures ready { OnOk result (AreReady clauses.new) }
     ensures literals { OnOk result (clauses_of clauses.new ≡ slice_set (clauses_of clauses.old) slot (codes_of_terms form.terms)) }
     ensures lists { OnOk result (length clauses.new.lists.items ≡ length clauses.old.lists.items) }
-    ensures watches { OnOk result ((e : ℕ) → (e / 2 ≡ slot → ⊥) → watch_at clauses.new.watches.items e ≡ watch_at clauses.old.watches.items e) }
+    ensures watches { OnOk result ((e : ℕ) → (e / 2 ≡ slot → ⊥) → watch_at clauses.new.blocks.watches e ≡ watch_at clauses.old.blocks.watches e) }
     ensures kept { OnOk result ((k : StoredForm) × (k.terms.form ≡ Some form) × IsUnlisted k × (store.new.stored.items ≡ slice_set store.old.stored.items slot k)) }
     ensures unchanged { OnErr result (store.new.stored.items ≡ store.old.stored.items) }
     ensures rest { (store.new.spots ≡ store.old.spots) × (store.new.occurrences ≡ store.old.occurrences) × (store.new.variables ≡ store.old.variables) }

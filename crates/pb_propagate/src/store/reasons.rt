@@ -104,7 +104,7 @@ pub fn replace_reasons(
     requires sound { IsSound store.now }
     requires joined { AreJoined (shapes_of store.now.stored.items) (clauses_of clauses.now) }
     requires ready { AreReady clauses.now }
-    requires known { length clauses.now.literals.items ≡ length store.now.stored.items }
+    requires known { length clauses.now.blocks.literals ≡ length store.now.stored.items }
     requires widths { length clauses.now.lists.items ≡ 4 * store.now.variables }
     requires values { length assignment.old.values.items ≡ store.now.variables }
     requires reasoned { HaveReasons (all_of store.now clauses.now) assignment.old.reasons.items []

@@ -1,12 +1,12 @@
 -- A watch is removed from a list or added to one.
-use Rattle.std.specs.Prelude.{true, false, Some, slice_get, swap_remove, Vec}
-use Rattle.std.specs.Global.{Global}
+use Rattle.std.specs.Prelude.{true, false, Some, slice_get, swap_remove, ◌^◌}
 use Rattle.std.proofs.Common.{◌≡◌, ℕ, ◌+◌, ◌-◌, ◌<◌, ◌≤◌, ◌⊎◌, ◌++◌, ◌∷◌, [], List, refl, sym, ◌∙◌, ap, subst, arith, inl, inr, length, get_or, set, length-set, get_or-set_same, get_or-set_other}
 use Rattle.std.proofs.lemmas.Bool.{cases_eq, cases_lt, both_ways}
-use Rattle.std.proofs.lemmas.List.{get_or_past, get_or-map, map-set, length-map, get_or_read}
+use Rattle.std.proofs.lemmas.List.{get_or_past}
 use Rattle.std.proofs.lemmas.Option.{same_Some, slice_get_within, none-some}
 use Rattle.pb_propagate.specs.declared.clauses.lists.Watch.{Watch}
-use Rattle.pb_propagate.specs.engine.Clauses.Links.{idle, watch_at, list_at, lists_of, Sits, AreLinked}
+use Rattle.pb_propagate.specs.engine.Clauses.Links.{idle, watch_at, list_at, Sits, AreLinked, Remains}
+use Rattle.pb_propagate.proofs.lemmas.clauses.Few.{numbers-few}
 use Rattle.pb_propagate.proofs.lemmas.clauses.Gets.{get-push_less, get-push_same, get-push_past, swap-other, swap-here, swap-past, lt_of_apart}
 
 pub sits-of : (w : Watch) (l i : ℕ) → w.live ≡ true → w.literal ≡ l → w.spot ≡ i → Sits w l i
@@ -49,8 +49,13 @@ pub taking-last : (ws ws' : List Watch) (ls ls' : List (List ℕ)) (l i e : ℕ)
 taking-last ws ws' ls ls' l i e t end same = record {
   sits = λ k p j s. sits-at k p j s (cases_eq k e) (cases_eq p l);
   named = λ k p j h. named-at k p j h (cases_eq p l) (cases_lt j i);
+  small = λ k live. small-at k live (cases_eq k e);
 }
   where
+    small-at : (k : ℕ) → (watch_at ws' k).live ≡ true → (k ≡ e) ⊎ (k ≡ e → ⊥) → k < 2 ^ 32 - 2
+    small-at k live (inl is) = absurd (both_ways _ (ap (λ x. (watch_at ws' x).live) is ∙ t.dead) live)
+    small-at k live (inr n) = t.old.small k (ap (λ (w : Watch). w.live) (sym (same k n)) ∙ live)
+
     apart : (k p j : ℕ) → slice_get (list_at ls p) j ≡ Some k → ((p ≡ l) × (j ≡ i) → ⊥) → k ≡ e → ⊥
     apart k p j h n is = n (one-place ws ls e p j l i t.old (h ∙ ap (λ x. Some x) is) t.item)
 
@@ -82,8 +87,14 @@ pub taking-moved : (ws ws' : List Watch) (ls ls' : List (List ℕ)) (l i e m : �
 taking-moved ws ws' ls ls' l i e m t more last same moved = record {
   sits = λ k p j s. sits-at k p j s (cases_eq k e) (cases_eq k m) (cases_eq p l);
   named = λ k p j h. named-at k p j h (cases_eq p l) (cases_eq j i) (cases_lt j (length (list_at ls l) - 1));
+  small = λ k live. small-at k live (cases_eq k e) (cases_eq k m);
 }
   where
+    small-at : (k : ℕ) → (watch_at ws' k).live ≡ true → (k ≡ e) ⊎ (k ≡ e → ⊥) → (k ≡ m) ⊎ (k ≡ m → ⊥) → k < 2 ^ 32 - 2
+    small-at k live (inl is) q = absurd (both_ways _ (ap (λ x. (watch_at ws' x).live) is ∙ t.dead) live)
+    small-at k live (inr n) (inl is) = omega (arith, is, t.old.small m (t.old.named m l (length (list_at ls l) - 1) last).live)
+    small-at k live (inr n) (inr n_m) = t.old.small k (ap (λ (w : Watch). w.live) (sym (same k n n_m)) ∙ live)
+
     m-apart : m ≡ e → ⊥
     m-apart is = absurd (omega (arith, (one-place ws ls e l (length (list_at ls l) - 1) l i t.old (last ∙ ap (λ x. Some x) is) t.item).1, more))
 
@@ -131,12 +142,17 @@ taking-moved ws ws' ls ls' l i e m t more last same moved = record {
         absurd (none-some k (sym (swap-past (list_at ls l) i j e past) ∙ at_now))
 
 -- a watch that is in no list is appended to one
-pub put-linked : (ws : List Watch) (ls ls' : List (List ℕ)) (e l : ℕ) (w : Watch) → AreLinked ws ls → (watch_at ws e).live ≡ false → e < length ws → w.live ≡ true → w.literal ≡ l → w.spot ≡ length (list_at ls l) → list_at ls' l ≡ list_at ls l ++ (e ∷ []) → ((k : ℕ) → (k ≡ l → ⊥) → list_at ls' k ≡ list_at ls k) → AreLinked (set ws e w) ls'
-put-linked ws ls ls' e l w old dead inside live literal spot now others = record {
+pub put-linked : (ws : List Watch) (ls ls' : List (List ℕ)) (e l : ℕ) (w : Watch) → AreLinked ws ls → (watch_at ws e).live ≡ false → e < length ws → e < 2 ^ 32 - 2 → w.live ≡ true → w.literal ≡ l → w.spot ≡ length (list_at ls l) → list_at ls' l ≡ list_at ls l ++ (e ∷ []) → ((k : ℕ) → (k ≡ l → ⊥) → list_at ls' k ≡ list_at ls k) → AreLinked (set ws e w) ls'
+put-linked ws ls ls' e l w old dead inside tiny live literal spot now others = record {
   sits = λ k p j s. sits-at k p j s (cases_eq k e) (cases_eq p l);
   named = λ k p j h. named-at k p j h (cases_eq p l) (cases_lt j (length (list_at ls l))) (cases_eq j (length (list_at ls l)));
+  small = λ k on. small-at k on (cases_eq k e);
 }
   where
+    small-at : (k : ℕ) → (watch_at (set ws e w) k).live ≡ true → (k ≡ e) ⊎ (k ≡ e → ⊥) → k < 2 ^ 32 - 2
+    small-at k on (inl is) = omega (arith, is, tiny)
+    small-at k on (inr n) = old.small k (ap (λ (x : Watch). x.live) (sym (get_or-set_other ws e k w idle n)) ∙ on)
+
     here-is : watch_at (set ws e w) e ≡ w
     here-is = get_or-set_same ws e w idle inside
 
@@ -174,68 +190,88 @@ put-linked ws ls ls' e l w old dead inside live literal spot now others = record
         let got : slice_get (list_at ls l ++ (e ∷ [])) j ≡ Some k = ap (λ (xs : List ℕ). slice_get xs j) (sym now) ∙ ap (λ x. slice_get (list_at ls' x) j) (sym here) ∙ h in
         absurd (none-some k (sym (get-push_past (list_at ls l) j e (lt_of_apart (length (list_at ls l)) j past off)) ∙ got))
 
--- the lists as they are stored
-pub list-here : (occ : List (Vec ℕ Global)) (p : ℕ) (v : Vec ℕ Global) → p < length occ → v ≡ get_or occ p v → list_at (lists_of occ) p ≡ v.items
-list-here occ p v room value = get_or-map (λ (x : Vec ℕ Global). x.items) occ p v [] room ∙ ap (λ (x : Vec ℕ Global). x.items) (sym value)
-
-pub lists-set : (occ : List (Vec ℕ Global)) (p : ℕ) (v v1 : Vec ℕ Global) (xs : List ℕ) → p < length occ → v ≡ get_or occ p v → v1.items ≡ xs → lists_of (set occ p v1) ≡ set (lists_of occ) p xs
-lists-set occ p v v1 xs room value now = map-set (λ (x : Vec ℕ Global). x.items) occ p v1 ∙ ap (set (lists_of occ) p) now
-
-pub lists-length : (occ : List (Vec ℕ Global)) → length (lists_of occ) ≡ length occ
-lists-length occ = length-map occ (λ (x : Vec ℕ Global). x.items)
-
-abbrev pub dead : Watch → Watch
-dead w = record { literal = w.literal; live = false; spot = w.spot }
-
 -- what the program does to a list and to the watches
-pub record Removing (ws : List Watch) (ls ls' : List (List ℕ)) (l i e : ℕ) (w : Watch) : Type 0 where
+pub record Removing (ws : List Watch) (ls ls' : List (List ℕ)) (l i e : ℕ) : Type 0 where
   pub old : AreLinked ws ls
   pub item : slice_get (list_at ls l) i ≡ Some e
   pub now : ls' ≡ set ls l (swap_remove (list_at ls l) i e)
   pub room : l < length ls
-  pub watch : w ≡ get_or ws e w
 
-removing-inside : (ws : List Watch) (ls ls' : List (List ℕ)) (l i e : ℕ) (w : Watch) → Removing ws ls ls' l i e w → e < length ws
-removing-inside ws ls ls' l i e w r = sits-within ws e l i (r.old.named e l i r.item)
+pub removing-inside : (ws : List Watch) (ls ls' : List (List ℕ)) (l i e : ℕ) → Removing ws ls ls' l i e → e < length ws
+removing-inside ws ls ls' l i e r = sits-within ws e l i (r.old.named e l i r.item)
 
-removing-now : (ws : List Watch) (ls ls' : List (List ℕ)) (l i e : ℕ) (w : Watch) → Removing ws ls ls' l i e w → list_at ls' l ≡ swap_remove (list_at ls l) i e
-removing-now ws ls ls' l i e w r = ap (λ (x : List (List ℕ)). list_at x l) r.now ∙ get_or-set_same ls l (swap_remove (list_at ls l) i e) [] r.room
+removing-now : (ws : List Watch) (ls ls' : List (List ℕ)) (l i e : ℕ) → Removing ws ls ls' l i e → list_at ls' l ≡ swap_remove (list_at ls l) i e
+removing-now ws ls ls' l i e r = ap (λ (x : List (List ℕ)). list_at x l) r.now ∙ get_or-set_same ls l (swap_remove (list_at ls l) i e) [] r.room
 
-pub removing-others : (ws : List Watch) (ls ls' : List (List ℕ)) (l i e : ℕ) (w : Watch) → Removing ws ls ls' l i e w → (k : ℕ) → (k ≡ l → ⊥) → list_at ls' k ≡ list_at ls k
-removing-others ws ls ls' l i e w r k n = ap (λ (x : List (List ℕ)). list_at x k) r.now ∙ get_or-set_other ls l k (swap_remove (list_at ls l) i e) [] n
+removing-others : (ws : List Watch) (ls ls' : List (List ℕ)) (l i e : ℕ) → Removing ws ls ls' l i e → (k : ℕ) → (k ≡ l → ⊥) → list_at ls' k ≡ list_at ls k
+removing-others ws ls ls' l i e r k n = ap (λ (x : List (List ℕ)). list_at x k) r.now ∙ get_or-set_other ls l k (swap_remove (list_at ls l) i e) [] n
 
-pub take-last : (ws : List Watch) (ls ls' : List (List ℕ)) (l i e : ℕ) (w : Watch) → Removing ws ls ls' l i e w → i + 1 ≡ length (list_at ls l) → AreLinked (set ws e (dead w)) ls'
-take-last ws ls ls' l i e w r end =
-    let inside = removing-inside ws ls ls' l i e w r in
-    taking-last ws (set ws e (dead w)) ls ls' l i e (record {
+pub take-last : (ws : List Watch) (ls ls' : List (List ℕ)) (l i e : ℕ) → Removing ws ls ls' l i e → i + 1 ≡ length (list_at ls l) → AreLinked (set ws e idle) ls'
+take-last ws ls ls' l i e r end =
+    taking-last ws (set ws e idle) ls ls' l i e (record {
       old = r.old;
       item = r.item;
-      now = removing-now ws ls ls' l i e w r;
-      others = removing-others ws ls ls' l i e w r;
-      dead = ap (λ (x : Watch). x.live) (get_or-set_same ws e (dead w) idle inside);
-    }) end (λ k n. get_or-set_other ws e k (dead w) idle n)
+      now = removing-now ws ls ls' l i e r;
+      others = removing-others ws ls ls' l i e r;
+      dead = ap (λ (x : Watch). x.live) (get_or-set_same ws e idle idle (removing-inside ws ls ls' l i e r));
+    }) end (λ k n. get_or-set_other ws e k idle idle n)
 
 pub moved-apart : (ws : List Watch) (ls : List (List ℕ)) (l i e m : ℕ) → AreLinked ws ls → slice_get (list_at ls l) i ≡ Some e → i + 1 < length (list_at ls l) → slice_get (list_at ls l) (length (list_at ls l) - 1) ≡ Some m → m ≡ e → ⊥
 moved-apart ws ls l i e m old item more last is =
     let two = one-place ws ls e l (length (list_at ls l) - 1) l i old (last ∙ ap (λ x. Some x) is) item in
     absurd (omega (arith, two.1, more))
 
-pub take-moved : (ws : List Watch) (ls ls' : List (List ℕ)) (l i e m : ℕ) (w w1 : Watch) → Removing ws ls ls' l i e w → i + 1 < length (list_at ls l) → slice_get (list_at ls l) (length (list_at ls l) - 1) ≡ Some m → w1 ≡ get_or (set ws e (dead w)) m w1 →
-    AreLinked (set (set ws e (dead w)) m (record { literal = w1.literal; live = w1.live; spot = i })) ls'
-take-moved ws ls ls' l i e m w w1 r more last w1-is =
-    let inside = removing-inside ws ls ls' l i e w r in
+-- the last of the list has the position of the removed one
+abbrev pub placed : List Watch → ℕ → ℕ → ℕ → List Watch
+placed ws e m i = set (set ws e idle) m (record { literal = (watch_at (set ws e idle) m).literal; live = true; spot = i })
+
+pub take-moved : (ws : List Watch) (ls ls' : List (List ℕ)) (l i e m : ℕ) → Removing ws ls ls' l i e → i + 1 < length (list_at ls l) → slice_get (list_at ls l) (length (list_at ls l) - 1) ≡ Some m → AreLinked (placed ws e m i) ls'
+take-moved ws ls ls' l i e m r more last =
+    let inside = removing-inside ws ls ls' l i e r in
     let apart = moved-apart ws ls l i e m r.old r.item more last in
-    let inside_m : m < length ws = sits-within ws m l (length (list_at ls l) - 1) (r.old.named m l (length (list_at ls l) - 1) last) in
-    let ws1 : List Watch = set ws e (dead w) in
-    let inside_1 : m < length ws1 = omega (arith, inside_m, length-set ws e (dead w)) in
-    let w1-was : w1 ≡ watch_at ws m = get_or_read ws1 m w1 inside_1 w1-is idle ∙ get_or-set_other ws e m (dead w) idle apart in
-    let new : Watch = record { literal = w1.literal; live = w1.live; spot = i } in
-    taking-moved ws (set ws1 m new) ls ls' l i e m (record {
+    let sat = r.old.named m l (length (list_at ls l) - 1) last in
+    let inside_1 : m < length (set ws e idle) = omega (arith, sits-within ws m l (length (list_at ls l) - 1) sat, length-set ws e idle) in
+    let was : watch_at (set ws e idle) m ≡ watch_at ws m = get_or-set_other ws e m idle idle apart in
+    let new : Watch = record { literal = (watch_at (set ws e idle) m).literal; live = true; spot = i } in
+    let same : new ≡ record (watch_at ws m) { spot = i } = rw (was, sat.live) refl in
+    taking-moved ws (placed ws e m i) ls ls' l i e m (record {
       old = r.old;
       item = r.item;
-      now = removing-now ws ls ls' l i e w r;
-      others = removing-others ws ls ls' l i e w r;
-      dead = ap (λ (x : Watch). x.live) (get_or-set_other ws1 m e new idle (λ h. apart (sym h)) ∙ get_or-set_same ws e (dead w) idle inside);
+      now = removing-now ws ls ls' l i e r;
+      others = removing-others ws ls ls' l i e r;
+      dead = ap (λ (x : Watch). x.live) (get_or-set_other (set ws e idle) m e new idle (λ h. apart (sym h)) ∙ get_or-set_same ws e idle idle inside);
     }) more last
-    (λ k n n_m. get_or-set_other ws1 m k new idle n_m ∙ get_or-set_other ws e k (dead w) idle n)
-    (get_or-set_same ws1 m new idle inside_1 ∙ ap (λ (x : Watch). record x { spot = i }) w1-was)
+    (λ k n n_m. get_or-set_other (set ws e idle) m k new idle n_m ∙ get_or-set_other ws e k idle idle n)
+    (get_or-set_same (set ws e idle) m new idle inside_1 ∙ same)
+
+-- another watch than the two keeps its literal, and its position if this comes before
+pub placed-remains : (ws : List Watch) (ls : List (List ℕ)) (l i e m k : ℕ) → AreLinked ws ls → slice_get (list_at ls l) (length (list_at ls l) - 1) ≡ Some m → (m ≡ e → ⊥) → (k ≡ e → ⊥) → Remains i (watch_at ws k) (watch_at (placed ws e m i) k)
+placed-remains ws ls l i e m k old last apart n = by (cases_eq k m)
+  where
+    new : Watch
+    new = record { literal = (watch_at (set ws e idle) m).literal; live = true; spot = i }
+
+    sat : Sits (watch_at ws m) l (length (list_at ls l) - 1)
+    sat = old.named m l (length (list_at ls l) - 1) last
+
+    was : watch_at (set ws e idle) m ≡ watch_at ws m
+    was = get_or-set_other ws e m idle idle apart
+
+    here : watch_at (placed ws e m i) m ≡ new
+    here = get_or-set_same (set ws e idle) m new idle (omega (arith, sits-within ws m l (length (list_at ls l) - 1) sat, length-set ws e idle))
+
+    by : (k ≡ m) ⊎ (k ≡ m → ⊥) → Remains i (watch_at ws k) (watch_at (placed ws e m i) k)
+    by (inl is) = subst (λ t. Remains i (watch_at ws t) (watch_at (placed ws e m i) t)) (sym is) (record {
+      live = ap (λ (w : Watch). w.live) here ∙ sym sat.live;
+      literal = ap (λ (w : Watch). w.literal) here ∙ ap (λ (w : Watch). w.literal) was;
+      spot = λ less. absurd (omega (arith, less, ap (λ (w : Watch). w.spot) here));
+    })
+    by (inr n_m) =
+        let same = get_or-set_other (set ws e idle) m k new idle n_m ∙ get_or-set_other ws e k idle idle n in
+        subst (Remains i (watch_at ws k)) (sym same) (record { live = refl; literal = refl; spot = λ less. refl })
+
+-- a list has fewer entries than there are numbers of watches
+pub list-small : (ws : List Watch) (ls : List (List ℕ)) (l : ℕ) → AreLinked ws ls → length (list_at ls l) ≤ 2 ^ 32 - 2
+list-small ws ls l old = numbers-few (list_at ls l) (2 ^ 32 - 2)
+    (λ i j e a b. (one-place ws ls e l i l j old a b).1)
+    (λ i e h. old.small e (old.named e l i h).live)

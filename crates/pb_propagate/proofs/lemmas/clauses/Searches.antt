@@ -93,8 +93,8 @@ ready-round ss s count none inside =
       is = sym (ap (λ n. around n count) (omega (arith, start, none)) ∙ around-less (search_at ss s).position count inside);
     }
 
-pub passed-length : (c : Clauses) → length (passed_of c) ≡ length c.searches.items
-passed-length c = length-map c.searches.items (λ (y : Search). y.passed)
+pub passed-length : (c : Clauses) → length (passed_of c) ≡ length c.blocks.searches
+passed-length c = length-map c.blocks.searches (λ (y : Search). y.passed)
 
 -- a search is replaced by one at the same position
 pub position-kept : (ss : List Search) (s t : ℕ) (x : Search) → s < length ss → x.position ≡ (search_at ss s).position → (search_at (set ss s x) t).position ≡ (search_at ss t).position
@@ -104,8 +104,8 @@ position-kept ss s t x inside same = by (cases_eq t s)
     by (inl is) = ap (λ u. (search_at (set ss s x) u).position) is ∙ ap (λ (y : Search). y.position) (get_or-set_same ss s x (record { position = 0; passed = 0 }) inside) ∙ same ∙ ap (λ u. (search_at ss u).position) (sym is)
     by (inr n) = ap (λ (y : Search). y.position) (get_or-set_other ss s t x (record { position = 0; passed = 0 }) n)
 
-pub passed-set : (c : Clauses) (ss' : List Search) (s : ℕ) (x : Search) → ss' ≡ set c.searches.items s x → map (λ (y : Search). y.passed) ss' ≡ set (passed_of c) s x.passed
-passed-set c ss' s x now = ap (map (λ (y : Search). y.passed)) now ∙ map-set (λ (y : Search). y.passed) c.searches.items s x
+pub passed-set : (c : Clauses) (ss' : List Search) (s : ℕ) (x : Search) → ss' ≡ set c.blocks.searches s x → map (λ (y : Search). y.passed) ss' ≡ set (passed_of c) s x.passed
+passed-set c ss' s x now = ap (map (λ (y : Search). y.passed)) now ∙ map-set (λ (y : Search). y.passed) c.blocks.searches s x
 
 pub round-set : (starts : List ℕ) (clauses : List (List ℕ)) (ss ss' : List Search) (s : ℕ) (x : Search) → s < length ss → ss' ≡ set ss s x → AreRound starts clauses ss → IsRound (get_or starts s 0) x (length (list_at clauses s)) → AreRound starts clauses ss'
 round-set starts clauses ss ss' s x inside now old here t some = by (cases_eq t s)

@@ -7,9 +7,10 @@ use Rattle.std.proofs.lemmas.List.Elements.{All-contains, Contains-get_or, Conta
 use Rattle.pb_propagate.specs.declared.clauses.lists.Watch.{Watch}
 use Rattle.pb_propagate.specs.engine.Clauses.Truths.{flip, true_at, false_at}
 use Rattle.pb_propagate.specs.engine.Clauses.Links.{watch_at, list_at, AreLinked, Remains}
-use Rattle.pb_propagate.specs.engine.Clauses.Runs.{AreWalked, Grows, AreStored, IsWatched, ArePassed, AreNoted, AreServed, IsUnit, IsBroken}
+use Rattle.pb_propagate.specs.engine.Clauses.Runs.{AreWalked, HasTrue, Grows, AreStored, IsWatched, ArePassed, AreNoted, AreServed, IsUnit, IsBroken}
 use Rattle.pb_propagate.proofs.lemmas.clauses.Linked.{sits-within}
-use Rattle.pb_propagate.proofs.lemmas.clauses.Truths.{flip-half, flip-flip, flip-apart, same-slot, not_both}
+use Rattle.pb_propagate.proofs.lemmas.clauses.Truths.{flip-half, flip-flip, flip-apart, same-slot}
+use Rattle.std.proofs.lemmas.Option.{same_Some}
 
 -- a live watch is one of the stored ones
 pub live-within : (ws : List Watch) (e : ℕ) → (watch_at ws e).live ≡ true → e < length ws
@@ -256,66 +257,45 @@ stored-move values clauses passed ws ws' ls ls' l index e other place g m = reco
     full-at s some (inl is) = ap (λ t. (watch_at ws' t).live) is ∙ m.live
     full-at s some (inr n) = (m.others (2 * s) n).live ∙ g.stored.full s some
 
-pub served-move : (values : List (Option Bool)) (clauses : List (List ℕ)) (passed : List ℕ) (ws ws' : List Watch) (ls ls' : List (List ℕ)) (l index e other place : ℕ) (walked : List ℕ) → Visiting values clauses passed ws ls l index e other place → Shifted values clauses ws ws' ls ls' index e place → AreServed values ws walked l index → AreServed values ws' walked l index
-served-move values clauses passed ws ws' ls ls' l index e other place walked g m old = record {
+-- a watch that stayed, or that is on a literal which is not falsified
+shifted-old : (values : List (Option Bool)) (clauses : List (List ℕ)) (passed : List ℕ) (ws ws' : List Watch) (ls ls' : List (List ℕ)) (l index e other place k : ℕ) → Visiting values clauses passed ws ls l index e other place → Shifted values clauses ws ws' ls ls' index e place → false_at values (watch_at ws' k).literal ≡ true → Remains index (watch_at ws k) (watch_at ws' k)
+shifted-old values clauses passed ws ws' ls ls' l index e other place k g m low = elim (cases_eq k e) [
+  | inl is ↦ absurd (both_ways _ (ap (λ t. false_at values (watch_at ws' t).literal) is ∙ (found-open values clauses passed ws ws' ls ls' l index e other place g m).0) low)
+  | inr n ↦ m.others k n
+]
+
+pub served-move : (values : List (Option Bool)) (all clauses : List (List ℕ)) (passed : List ℕ) (ws ws' : List Watch) (ls ls' : List (List ℕ)) (l index e other place : ℕ) (walked : List ℕ) → Visiting values clauses passed ws ls l index e other place → Shifted values clauses ws ws' ls ls' index e place → AreServed values all ws walked l index → AreServed values all ws' walked l index
+served-move values all clauses passed ws ws' ls ls' l index e other place walked g m old = record {
   failed = old.failed;
   now = old.now;
-  done = λ k live h. done-at k live h (cases_eq k e) (cases_eq (flip k) e);
-  here = λ k live h less. here-at k live h less (cases_eq k e) (cases_eq (flip k) e);
+  done = λ k live h.
+      let r = shifted-old values clauses passed ws ws' ls ls' l index e other place k g m (old.failed (watch_at ws' k).literal h) in
+      old.done k (sym r.live ∙ live) (subst (Contains walked) r.literal h);
+  here = λ k live h less.
+      let r = shifted-old values clauses passed ws ws' ls ls' l index e other place k g m (ap (false_at values) h ∙ g.failed) in
+      old.here k (sym r.live ∙ live) (sym r.literal ∙ h) (omega (arith, r.spot less, less));
 }
-  where
-    open' : false_at values (watch_at ws' e).literal ≡ false
-    open' = (found-open values clauses passed ws ws' ls ls' l index e other place g m).0
 
-    was-live : (k : ℕ) → (k ≡ e → ⊥) → (watch_at ws' k).live ≡ true → (watch_at ws k).live ≡ true
-    was-live k n live = sym (m.others k n).live ∙ live
-
-    -- the watch was on a falsified literal
-    not-true : (k : ℕ) → flip k ≡ e → true_at values (watch_at ws (flip k)).literal ≡ true → ⊥
-    not-true k is h =
-        not_both values l (ap (true_at values) (sym (visiting-literal values clauses passed ws ls l index e other place g)) ∙ ap (λ t. true_at values (watch_at ws t).literal) (sym is) ∙ h) g.failed
-
-    done-at : (k : ℕ) → (watch_at ws' k).live ≡ true → Contains walked (watch_at ws' k).literal → (k ≡ e) ⊎ (k ≡ e → ⊥) → (flip k ≡ e) ⊎ (flip k ≡ e → ⊥) → true_at values (watch_at ws' (flip k)).literal ≡ true
-    done-at k live h (inl is) q = absurd (both_ways _ (ap (λ t. false_at values (watch_at ws' t).literal) is ∙ open') (old.failed (watch_at ws' k).literal h))
-    done-at k live h (inr n) q =
-        let was = old.done k (was-live k n live) (subst (Contains walked) (m.others k n).literal h) in
-        elim q [
-          | inl is ↦ absurd (not-true k is was)
-          | inr n_flip ↦ ap (true_at values) (m.others (flip k) n_flip).literal ∙ was
-        ]
-
-    here-at : (k : ℕ) → (watch_at ws' k).live ≡ true → (watch_at ws' k).literal ≡ l → (watch_at ws' k).spot < index → (k ≡ e) ⊎ (k ≡ e → ⊥) → (flip k ≡ e) ⊎ (flip k ≡ e → ⊥) → true_at values (watch_at ws' (flip k)).literal ≡ true
-    here-at k live h less (inl is) q = absurd (both_ways _ (ap (λ t. false_at values (watch_at ws' t).literal) is ∙ open') (ap (false_at values) h ∙ g.failed))
-    here-at k live h less (inr n) q =
-        let spot = (m.others k n).spot less in
-        let was = old.here k (was-live k n live) (sym (m.others k n).literal ∙ h) (omega (arith, spot, less)) in
-        elim q [
-          | inl is ↦ absurd (not-true k is was)
-          | inr n_flip ↦ ap (true_at values) (m.others (flip k) n_flip).literal ∙ was
-        ]
-
--- how a search is paid for
 -- what was walked under fewer values stays so
-pub walked-move : (base values : List (Option Bool)) (clauses : List (List ℕ)) (passed : List ℕ) (ws ws' : List Watch) (ls ls' : List (List ℕ)) (l index e other place : ℕ) (codes : List ℕ) → Grows base values → Visiting values clauses passed ws ls l index e other place → Shifted values clauses ws ws' ls ls' index e place → AreWalked base ws codes → AreWalked base ws' codes
-walked-move base values clauses passed ws ws' ls ls' l index e other place codes more g m old = record {
+pub walked-move : (base values : List (Option Bool)) (all clauses : List (List ℕ)) (passed : List ℕ) (ws ws' : List Watch) (ls ls' : List (List ℕ)) (l index e other place : ℕ) (codes : List ℕ) → Grows base values → Visiting values clauses passed ws ls l index e other place → Shifted values clauses ws ws' ls ls' index e place → AreWalked base all ws codes → AreWalked base all ws' codes
+walked-move base values all clauses passed ws ws' ls ls' l index e other place codes more g m old = record {
   failed = old.failed;
-  done = λ k live h. done-at k live h (cases_eq k e) (cases_eq (flip k) e);
+  done = λ k live h.
+      let r = shifted-old values clauses passed ws ws' ls ls' l index e other place k g m (more.failed (watch_at ws' k).literal (old.failed (watch_at ws' k).literal h)) in
+      old.done k (sym r.live ∙ live) (subst (Contains codes) r.literal h);
+}
+
+-- a true literal of a visited clause
+pub served-true : (values : List (Option Bool)) (clauses : List (List ℕ)) (ws : List Watch) (ls : List (List ℕ)) (walked : List ℕ) (l index e : ℕ) → AreLinked ws ls → slice_get (list_at ls l) index ≡ Some e → HasTrue values clauses (e / 2) → AreServed values clauses ws walked l index → AreServed values clauses ws walked l (index + 1)
+served-true values clauses ws ls walked l index e linked item met s = record {
+  failed = s.failed;
+  now = s.now;
+  done = s.done;
+  here = λ k live at less. here-at k live at less (cases_eq (watch_at ws k).spot index);
 }
   where
-    open' : false_at values (watch_at ws' e).literal ≡ false
-    open' = (found-open values clauses passed ws ws' ls ls' l index e other place g m).0
-
-    -- the watch was on a falsified literal
-    not-true : (k : ℕ) → flip k ≡ e → true_at base (watch_at ws (flip k)).literal ≡ true → ⊥
-    not-true k is h =
-        let at : true_at values (watch_at ws e).literal ≡ true = ap (λ t. true_at values (watch_at ws t).literal) (sym is) ∙ more.met (watch_at ws (flip k)).literal h in
-        not_both values l (ap (true_at values) (sym (visiting-literal values clauses passed ws ls l index e other place g)) ∙ at) g.failed
-
-    done-at : (k : ℕ) → (watch_at ws' k).live ≡ true → Contains codes (watch_at ws' k).literal → (k ≡ e) ⊎ (k ≡ e → ⊥) → (flip k ≡ e) ⊎ (flip k ≡ e → ⊥) → true_at base (watch_at ws' (flip k)).literal ≡ true
-    done-at k live h (inl is) q = absurd (both_ways _ (ap (λ t. false_at values (watch_at ws' t).literal) is ∙ open') (more.failed (watch_at ws' k).literal (old.failed (watch_at ws' k).literal h)))
-    done-at k live h (inr n) q =
-        let was = old.done k (sym (m.others k n).live ∙ live) (subst (Contains codes) (m.others k n).literal h) in
-        elim q [
-          | inl is ↦ absurd (not-true k is was)
-          | inr n_flip ↦ ap (true_at base) (m.others (flip k) n_flip).literal ∙ was
-        ]
+    here-at : (k : ℕ) → (watch_at ws k).live ≡ true → (watch_at ws k).literal ≡ l → (watch_at ws k).spot < index + 1 → ((watch_at ws k).spot ≡ index) ⊎ ((watch_at ws k).spot ≡ index → ⊥) → HasTrue values clauses (k / 2)
+    here-at k live at less (inl is) =
+        let same : k ≡ e = same_Some k e (sym (linked.sits k l index (record { live = live; literal = at; spot = is })) ∙ item) in
+        subst (λ t. HasTrue values clauses (t / 2)) (sym same) met
+    here-at k live at less (inr n) = s.here k live at (grind (arith, less, n))

@@ -7,13 +7,16 @@ use Rattle.std.proofs.lemmas.List.{get_or_past, get_or_read, get_or_append_left,
 use Rattle.std.proofs.lemmas.List.Elements.{Contains-get_or}
 use Rattle.std.proofs.lemmas.Option.{slice_get_within}
 use Rattle.pb_propagate.specs.declared.clauses.lists.Watch.{Watch}
+use Rattle.pb_propagate.specs.declared.clauses.lists.Listed.{Listed}
 use Rattle.pb_propagate.specs.declared.clauses.search.Search.{Search}
 use Rattle.pb_propagate.specs.declared.clauses.Clauses.{Clauses}
 use Rattle.pb_propagate.specs.declared.clauses.watched.Pair.{Pair}
 use Rattle.pb_propagate.specs.engine.Clauses.Truths.{flip}
-use Rattle.pb_propagate.specs.engine.Clauses.Links.{idle, watch_at, list_at, lists_of, Sits, AreLinked}
+use Rattle.pb_propagate.specs.engine.Clauses.Links.{idle, watch_at, list_at, watch_lists, entries_at, Sits, AreLinked, AreBlocked, IsListed, AreFewer, AreMore}
+use Rattle.pb_propagate.specs.engine.Clauses.Blocks.{Contents, begun}
 use Rattle.pb_propagate.specs.engine.Clauses.Runs.{AreStored, AreNoted, AreReady, IsPair, IsRunning, passed_of, search_at}
-use Rattle.pb_propagate.proofs.lemmas.clauses.Linked.{list-within, lists-length}
+use Rattle.pb_propagate.proofs.lemmas.clauses.Linked.{list-within}
+use Rattle.pb_propagate.proofs.lemmas.clauses.Listed.{lists-length, watch-entries, listed-live, blocked-set}
 use Rattle.pb_propagate.proofs.lemmas.clauses.Truths.{flip-half, flip-flip, flip-even}
 use Rattle.pb_propagate.proofs.lemmas.clauses.Steps.{live-within}
 use Rattle.pb_propagate.proofs.lemmas.clauses.Readings.{running-bounded, searches-length}
@@ -27,6 +30,7 @@ stored-same clauses clauses' ws ws' ls ls' same same_w same_l pairs longer old =
   linked = record {
     sits = λ e l i s. ap (λ (xs : List ℕ). slice_get xs i) (same_l l) ∙ old.linked.sits e l i (subst (λ w. Sits w l i) (same_w e) s);
     named = λ e l i h. subst (λ w. Sits w l i) (sym (same_w e)) (old.linked.named e l i (ap (λ (xs : List ℕ). slice_get xs i) (sym (same_l l)) ∙ h));
+    small = λ e live. old.linked.small e (was e live);
   };
   pairs = pairs;
   watched = λ e live. subst (λ w. Contains (list_at clauses' (e / 2)) w.literal) (sym (same_w e)) (subst (λ xs. Contains xs (watch_at ws e).literal) (sym (same (e / 2))) (old.watched e (was e live)));
@@ -68,22 +72,22 @@ left-none passed moved i end old s = elim (old.each s) [
 ]
 
 -- the slots on the trail are those of clauses
-pub noted-slot : (values : List (Option Bool)) (c : Clauses) (moved : List ℕ) (i slot : ℕ) → IsRunning values c → moved ≡ c.moved.items → i < length moved → slot ≡ get_or moved i slot → slot < length c.literals.items
+pub noted-slot : (values : List (Option Bool)) (c : Clauses) (moved : List ℕ) (i slot : ℕ) → IsRunning values c → moved ≡ c.moved.items → i < length moved → slot ≡ get_or moved i slot → slot < length c.blocks.literals
 noted-slot values c moved i slot run same inside is =
     let named = run.noted.named i slot (omega (arith, inside, ap length same)) in
-    omega (arith, named, is, ap (λ ms. get_or ms i slot) same, run.passed.sizes, turned-count run.starts (lists_of c.literals.items), lists-length c.literals.items)
+    omega (arith, named, is, ap (λ ms. get_or ms i slot) same, run.passed.sizes, turned-count run.starts c.blocks.literals)
 
 -- once no search has passed anything, the clauses are ready
-pub rest-ready : (values : List (Option Bool)) (c c' : Clauses) (i : ℕ) → IsRunning values c → c'.literals ≡ c.literals → c'.watches ≡ c.watches → c'.lists ≡ c.lists → length c'.searches.items ≡ length c.searches.items → ((s : ℕ) → (search_at c'.searches.items s).position ≡ (search_at c.searches.items s).position) →
+pub rest-ready : (values : List (Option Bool)) (c c' : Clauses) (i : ℕ) → IsRunning values c → c'.blocks.literals ≡ c.blocks.literals → c'.blocks.watches ≡ c.blocks.watches → c'.lists ≡ c.lists → length c'.blocks.searches ≡ length c.blocks.searches → ((s : ℕ) → (search_at c'.blocks.searches s).position ≡ (search_at c.blocks.searches s).position) →
     AreLeft (passed_of c') c.moved.items i → length c.moved.items ≤ i → c'.moved.items ≡ [] → AreReady c'
 rest-ready values c c' i run literals watches lists searches positions left end none =
-    let as_many : length c'.literals.items ≡ length c.literals.items = ap (λ (v : Vec (Vec ℕ Global) Global). length v.items) literals in
     record {
       stored = rw (literals, watches, lists) run.stored;
-      sizes = omega (arith, searches, as_many, searches-length c values run);
+      blocked = rw (literals, lists) run.blocked;
+      sizes = omega (arith, searches, ap length literals, searches-length c values run);
       inside = λ s some.
-          let same : length (list_at (lists_of c'.literals.items) s) ≡ length (list_at (lists_of c.literals.items) s) = ap (λ (v : Vec (Vec ℕ Global) Global). length (list_at (lists_of v.items) s)) literals in
-          let low = round-inside (get_or run.starts s 0) (search_at c.searches.items s) (length (list_at (lists_of c.literals.items) s)) (run.round s (omega (arith, some, same))) (omega (arith, running-bounded c values run s, passed-at c.searches.items s)) in
+          let same : length (list_at c'.blocks.literals s) ≡ length (list_at c.blocks.literals s) = ap (λ cs. length (list_at cs s)) literals in
+          let low = round-inside (get_or run.starts s 0) (search_at c.blocks.searches s) (length (list_at c.blocks.literals s)) (run.round s (omega (arith, some, same))) (omega (arith, running-bounded c values run s, passed-at c.blocks.searches s)) in
           omega (arith, low, same, positions s);
       none = left-none (passed_of c') c.moved.items i end left;
       trail = none;
@@ -234,116 +238,176 @@ stored-vacate clauses ws ws' ls ls' s old linked room sizes sizes_l dead_x dead_
         omega (arith, small, sizes_l, ap (λ (zs : List ℕ). get_or zs k d) (other t n))
 
 -- one more empty list
-pub lists-push : (occ occ' : List (Vec ℕ Global)) (v : Vec ℕ Global) → occ' ≡ occ ++ (v ∷ []) → v.items ≡ [] → (l : ℕ) → list_at (lists_of occ') l ≡ list_at (lists_of occ) l
+lists-push : (occ occ' : List (Vec Listed Global)) (v : Vec Listed Global) → occ' ≡ occ ++ (v ∷ []) → v.items ≡ [] → (l : ℕ) → entries_at occ' l ≡ entries_at occ l
 lists-push occ occ' v pushed none l =
-    let whole : lists_of occ' ≡ lists_of occ ++ ([] ∷ []) = ap lists_of pushed ∙ map-append (λ (x : Vec ℕ Global). x.items) occ (v ∷ []) ∙ ap (λ (x : List ℕ). lists_of occ ++ (x ∷ [])) none in
-    ap (λ xs. list_at xs l) whole ∙ push-default (lists_of occ) l []
+    ap (λ (xs : List (Vec Listed Global)). entries_at xs l) pushed
+    ∙ ap (λ es. get_or es l []) (map-append (λ (x : Vec Listed Global). x.items) occ (v ∷ []) ∙ ap (λ (x : List Listed). map (λ (y : Vec Listed Global). y.items) occ ++ (x ∷ [])) none)
+    ∙ push-default (map (λ (x : Vec Listed Global). x.items) occ) l []
 
-pub rest-widen : (c : Clauses) (lists' : Vec (Vec ℕ Global) Global) (occ1 : List (Vec ℕ Global)) (v w : Vec ℕ Global) → AreReady c → occ1 ≡ c.lists.items ++ (v ∷ []) → lists'.items ≡ occ1 ++ (w ∷ []) → v.items ≡ [] → w.items ≡ [] →
-    AreReady (record { literals = c.literals; searches = c.searches; moved = c.moved; watches = c.watches; lists = lists' })
+pub rest-widen : (c : Clauses) (lists' : Vec (Vec Listed Global) Global) (occ1 : List (Vec Listed Global)) (v w : Vec Listed Global) → AreReady c → occ1 ≡ c.lists.items ++ (v ∷ []) → lists'.items ≡ occ1 ++ (w ∷ []) → v.items ≡ [] → w.items ≡ [] →
+    AreReady (record { blocks = c.blocks; moved = c.moved; lists = lists' })
 rest-widen c lists' occ1 v w r one two none_v none_w = record {
-  stored = stored-same (lists_of c.literals.items) (lists_of c.literals.items) c.watches.items c.watches.items (lists_of c.lists.items) (lists_of lists'.items) (λ s. refl) (λ e. refl)
-      (λ l. lists-push occ1 lists'.items w two none_w l ∙ lists-push c.lists.items occ1 v one none_v l)
+  stored = stored-same c.blocks.literals c.blocks.literals c.blocks.watches c.blocks.watches (watch_lists c.lists.items) (watch_lists lists'.items) (λ s. refl) (λ e. refl)
+      (λ l. watch-entries lists'.items l ∙ ap (map (λ (x : Listed). x.watch)) (same l) ∙ sym (watch-entries c.lists.items l))
       r.stored.pairs (omega (arith, lists-length c.lists.items, lists-length lists'.items, ap length one, ap length two, length-append c.lists.items (v ∷ []), length-append occ1 (w ∷ []))) r.stored;
+  blocked = λ x there. r.blocked x (there.0, there.1, ap (λ es. slice_get es there.1) (sym (same there.0)) ∙ there.2);
   sizes = r.sizes;
   inside = r.inside;
   none = r.none;
   trail = r.trail;
 }
+  where
+    same : (l : ℕ) → entries_at lists'.items l ≡ entries_at c.lists.items l
+    same l = lists-push occ1 lists'.items w two none_w l ∙ lists-push c.lists.items occ1 v one none_v l
 
-pub rest-extend : (c : Clauses) (literals' : Vec (Vec ℕ Global) Global) (searches' : Vec Search Global) (watches' : Vec Watch Global) (ws1 : List Watch) (v : Vec ℕ Global) (i : Watch) (x : Search) → AreReady c → i ≡ idle → x.passed ≡ 0 → literals'.items ≡ c.literals.items ++ (v ∷ []) → v.items ≡ [] → searches'.items ≡ c.searches.items ++ (x ∷ []) → ws1 ≡ c.watches.items ++ (i ∷ []) → watches'.items ≡ ws1 ++ (i ∷ []) →
-    AreReady (record { literals = literals'; searches = searches'; moved = c.moved; watches = watches'; lists = c.lists })
-rest-extend c literals' searches' watches' ws1 v i x r is_idle fresh pushed none_v searching one two =
-    let one_idle : ws1 ≡ c.watches.items ++ (idle ∷ []) = one ∙ ap (λ (w : Watch). c.watches.items ++ (w ∷ [])) is_idle in
-    let two_idle : watches'.items ≡ ws1 ++ (idle ∷ []) = two ∙ ap (λ (w : Watch). ws1 ++ (w ∷ [])) is_idle in
-    let same = lists-push c.literals.items literals'.items v pushed none_v in
-    let passed : map (λ (y : Search). y.passed) searches'.items ≡ passed_of c ++ (0 ∷ []) = ap (map (λ (y : Search). y.passed)) searching ∙ map-append (λ (y : Search). y.passed) c.searches.items (x ∷ []) ∙ ap (λ (n : ℕ). passed_of c ++ (n ∷ [])) fresh in
+pub rest-extend : (c : Clauses) (b : Contents) → AreReady c → b.literals ≡ c.blocks.literals ++ ([] ∷ []) → b.searches ≡ c.blocks.searches ++ (begun ∷ []) → b.watches ≡ (c.blocks.watches ++ (idle ∷ [])) ++ (idle ∷ []) →
+    AreReady (record { blocks = b; moved = c.moved; lists = c.lists })
+rest-extend c b r pushed searching both =
+    let same : (s : ℕ) → list_at b.literals s ≡ list_at c.blocks.literals s = λ s. ap (λ xs. list_at xs s) pushed ∙ push-default c.blocks.literals s [] in
+    let passed : map (λ (y : Search). y.passed) b.searches ≡ passed_of c ++ (0 ∷ []) = ap (map (λ (y : Search). y.passed)) searching ∙ map-append (λ (y : Search). y.passed) c.blocks.searches (begun ∷ []) in
     record {
-      stored = stored-same (lists_of c.literals.items) (lists_of literals'.items) c.watches.items watches'.items (lists_of c.lists.items) (lists_of c.lists.items)
+      stored = stored-same c.blocks.literals b.literals c.blocks.watches b.watches (watch_lists c.lists.items) (watch_lists c.lists.items)
           same
-          (λ e. ap (λ ws. watch_at ws e) two_idle ∙ push-default ws1 e idle ∙ ap (λ ws. watch_at ws e) one_idle ∙ push-default c.watches.items e idle)
+          (λ e. ap (λ ws. watch_at ws e) both ∙ push-default (c.blocks.watches ++ (idle ∷ [])) e idle ∙ push-default c.blocks.watches e idle)
           (λ l. refl)
-          (omega (arith, ap length one_idle, ap length two_idle, length-append c.watches.items (idle ∷ []), length-append ws1 (idle ∷ []), ap length pushed, length-append c.literals.items (v ∷ []), lists-length c.literals.items, lists-length literals'.items, r.stored.pairs))
+          (omega (arith, ap length both, length-append c.blocks.watches (idle ∷ []), length-append (c.blocks.watches ++ (idle ∷ [])) (idle ∷ []), ap length pushed, length-append c.blocks.literals ([] ∷ []), r.stored.pairs))
           (omega arith) r.stored;
-      sizes = omega (arith, r.sizes, ap length searching, ap length pushed, length-append c.searches.items (x ∷ []), length-append c.literals.items (v ∷ []));
+      blocked = λ x there. subst (λ xs. Contains xs x.blocker) (sym (same (x.watch / 2))) (r.blocked x there);
+      sizes = omega (arith, r.sizes, ap length searching, ap length pushed, length-append c.blocks.searches (begun ∷ []), length-append c.blocks.literals ([] ∷ []));
       inside = λ s some.
-          let many : 0 < length (list_at (lists_of c.literals.items) s) = omega (arith, some, ap length (same s)) in
-          let room : s < length c.searches.items = omega (arith, slot-room (lists_of c.literals.items) s many, lists-length c.literals.items, r.sizes) in
-          let old : search_at searches'.items s ≡ search_at c.searches.items s = ap (λ ss. search_at ss s) searching ∙ get_or_append_left c.searches.items (x ∷ []) (record { position = 0; passed = 0 }) s room in
+          let many : 0 < length (list_at c.blocks.literals s) = omega (arith, some, ap length (same s)) in
+          let old : search_at b.searches s ≡ search_at c.blocks.searches s = ap (λ ss. search_at ss s) searching ∙ push-default c.blocks.searches s begun in
           omega (arith, r.inside s many, ap length (same s), ap (λ (y : Search). y.position) old);
       none = λ s. ap (λ ps. get_or ps s 0) passed ∙ push-default (passed_of c) s 0 ∙ r.none s;
       trail = r.trail;
     }
 
--- a clause is stored in a slot
-pub literals-set : (occ : List (Vec ℕ Global)) (s : ℕ) (v : Vec ℕ Global) → lists_of (set occ s v) ≡ set (lists_of occ) s v.items
-literals-set occ s v = map-set (λ (x : Vec ℕ Global). x.items) occ s v
+-- only the room in blocks is another
+pub rest-fit : (c : Clauses) (b : Contents) → AreReady c → b.literals ≡ c.blocks.literals → b.searches ≡ c.blocks.searches → b.watches ≡ c.blocks.watches → AreReady (record { blocks = b; moved = c.moved; lists = c.lists })
+rest-fit c b r literals searches watches = record {
+  stored = rw (literals, watches) r.stored;
+  blocked = rw literals r.blocked;
+  sizes = rw (literals, searches) r.sizes;
+  inside = rw (literals, searches) r.inside;
+  none = rw searches r.none;
+  trail = r.trail;
+}
 
-pub rest-fill : (c : Clauses) (literals' : Vec (Vec ℕ Global) Global) (watches' : Vec Watch Global) (lists' : Vec (Vec ℕ Global) Global) (ws1 : List Watch) (w1 w2 : Watch) (searches' : Vec Search Global) (f : Search) (s x y : ℕ) (v : Vec ℕ Global) (p : Pair) → AreReady c → searches'.items ≡ set c.searches.items s f → (f.position ≡ 0) × (f.passed ≡ 0) → s < length c.literals.items → list_at (lists_of c.literals.items) s ≡ [] →
-    IsPair v.items p → x ≡ get_or v.items p.first 0 → y ≡ get_or v.items p.second 0 → All (λ z. z < length c.lists.items) v.items →
-    literals'.items ≡ set c.literals.items s v → ws1 ≡ set c.watches.items (2 * s) w1 → watches'.items ≡ set ws1 (2 * s + 1) w2 → w1.live ≡ true → w1.literal ≡ x → w2.live ≡ true → w2.literal ≡ y → AreLinked watches'.items (lists_of lists'.items) → length lists'.items ≡ length c.lists.items →
-    AreReady (record { literals = literals'; searches = searches'; moved = c.moved; watches = watches'; lists = lists' })
-rest-fill c literals' watches' lists' ws1 w1 w2 searches' f s x y v p r searching fresh room empty pair x_is y_is inside now one both live_1 at_1 live_2 at_2 linked sizes =
-    let clauses = lists_of c.literals.items in
-    let room_c : s < length clauses = omega (arith, room, lists-length c.literals.items) in
-    let wide : 2 * s + 1 < length c.watches.items = omega (arith, room_c, r.stored.pairs) in
-    let wide_1 : 2 * s + 1 < length ws1 = omega (arith, wide, ap length one, length-set c.watches.items (2 * s) w1) in
-    let first : watch_at watches'.items (2 * s) ≡ w1 = ap (λ ws. watch_at ws (2 * s)) both ∙ get_or-set_other ws1 (2 * s + 1) (2 * s) w2 idle (λ h. absurd (omega (arith, h))) ∙ ap (λ ws. watch_at ws (2 * s)) one ∙ get_or-set_same c.watches.items (2 * s) w1 idle (omega (arith, wide)) in
-    let second : watch_at watches'.items (2 * s + 1) ≡ w2 = ap (λ ws. watch_at ws (2 * s + 1)) both ∙ get_or-set_same ws1 (2 * s + 1) w2 idle wide_1 in
-    let stored : AreStored (set clauses s v.items) watches'.items (lists_of lists'.items) =
-    stored-fill clauses c.watches.items watches'.items (lists_of c.lists.items) (lists_of lists'.items) s x y v.items p r.stored linked room_c
-    (ap length both ∙ length-set ws1 (2 * s + 1) w2 ∙ ap length one ∙ length-set c.watches.items (2 * s) w1)
-    (lists-length lists'.items ∙ sizes ∙ sym (lists-length c.lists.items)) pair x_is y_is
-    (λ k d h. let small = inside k d h in omega (arith, small, lists-length c.lists.items))
-    (ap (λ (w : Watch). w.live) first ∙ live_1) (ap (λ (w : Watch). w.literal) first ∙ at_1) (ap (λ (w : Watch). w.live) second ∙ live_2) (ap (λ (w : Watch). w.literal) second ∙ at_2)
-    (λ k n. ap (λ ws. watch_at ws k) both ∙ get_or-set_other ws1 (2 * s + 1) k w2 idle (λ h. n (omega (arith, h))) ∙ ap (λ ws. watch_at ws k) one ∙ get_or-set_other c.watches.items (2 * s) k w1 idle (λ h. n (omega (arith, h)))) in
-    let filled : lists_of literals'.items ≡ set clauses s v.items = ap lists_of now ∙ literals-set c.literals.items s v in
+-- a clause is stored in a slot
+pub rest-fill : (c : Clauses) (b : Contents) (lists1 lists' : Vec (Vec Listed Global) Global) (n m s x y : ℕ) (xs : List ℕ) (p : Pair) → AreReady c → s < length c.blocks.literals → list_at c.blocks.literals s ≡ [] →
+    IsPair xs p → x ≡ get_or xs p.first 0 → y ≡ get_or xs p.second 0 → All (λ z. z < length c.lists.items) xs →
+    b.literals ≡ set c.blocks.literals s xs → b.searches ≡ set c.blocks.searches s begun → b.watches ≡ set (set c.blocks.watches (2 * s) (record { literal = x; live = true; spot = n })) (2 * s + 1) (record { literal = y; live = true; spot = m }) →
+    AreLinked b.watches (watch_lists lists'.items) → length lists'.items ≡ length c.lists.items →
+    AreMore (record { watch = 2 * s; blocker = y }) c.lists.items lists1.items → AreMore (record { watch = 2 * s + 1; blocker = x }) lists1.items lists'.items →
+    AreReady (record { blocks = b; moved = c.moved; lists = lists' })
+rest-fill c b lists1 lists' n m s x y xs p r room empty pair x_is y_is inside filled searching both linked sizes more_1 more_2 =
     record {
-      stored = subst (λ cs. AreStored cs watches'.items (lists_of lists'.items)) (sym filled) stored;
-      sizes = omega (arith, r.sizes, ap length searching, length-set c.searches.items s f, ap length now, length-set c.literals.items s v);
-      inside = λ t some. inside-at filled t some (cases_eq t s);
+      stored = subst (λ cs. AreStored cs b.watches (watch_lists lists'.items)) (sym filled)
+          (stored-fill c.blocks.literals c.blocks.watches b.watches (watch_lists c.lists.items) (watch_lists lists'.items) s x y xs p r.stored linked room
+          (ap length both ∙ length-set ws1 (2 * s + 1) w2 ∙ length-set c.blocks.watches (2 * s) w1)
+          (lists-length lists'.items ∙ sizes ∙ sym (lists-length c.lists.items)) pair x_is y_is
+          (λ k d h. let small = inside k d h in omega (arith, small, lists-length c.lists.items))
+          (ap (λ (w : Watch). w.live) first) (ap (λ (w : Watch). w.literal) first) (ap (λ (w : Watch). w.live) second) (ap (λ (w : Watch). w.literal) second)
+          (λ k off. ap (λ ws. watch_at ws k) both ∙ get_or-set_other ws1 (2 * s + 1) k w2 idle (λ h. off (omega (arith, h))) ∙ get_or-set_other c.blocks.watches (2 * s) k w1 idle (λ h. off (omega (arith, h)))));
+      blocked = subst (λ cs. AreBlocked cs lists'.items) (sym filled) (blocked-set c.blocks.literals s xs lists'.items room (λ e there is. here-blocked e is (more_2 e there)) (λ e there off. other-blocked e off (more_2 e there)));
+      sizes = omega (arith, r.sizes, ap length searching, length-set c.blocks.searches s begun, ap length filled, length-set c.blocks.literals s xs);
+      inside = λ t some. inside-at t some (cases_eq t s);
       none = λ t. none-at t (cases_eq t s);
       trail = r.trail;
     }
   where
-    here : search_at searches'.items s ≡ f
-    here = ap (λ ss. search_at ss s) searching ∙ get_or-set_same c.searches.items s f (record { position = 0; passed = 0 }) (omega (arith, room, r.sizes))
+    w1 : Watch
+    w1 = record { literal = x; live = true; spot = n }
 
-    other : (t : ℕ) → (t ≡ s → ⊥) → search_at searches'.items t ≡ search_at c.searches.items t
-    other t n = ap (λ ss. search_at ss t) searching ∙ get_or-set_other c.searches.items s t f (record { position = 0; passed = 0 }) n
+    w2 : Watch
+    w2 = record { literal = y; live = true; spot = m }
 
-    inside-at : lists_of literals'.items ≡ set (lists_of c.literals.items) s v.items → (t : ℕ) → 0 < length (list_at (lists_of literals'.items) t) → (t ≡ s) ⊎ (t ≡ s → ⊥) → (search_at searches'.items t).position < length (list_at (lists_of literals'.items) t)
-    inside-at filled t some (inl is) = omega (arith, some, ap (λ u. (search_at searches'.items u).position) is, ap (λ (y : Search). y.position) here, fresh.0)
-    inside-at filled t some (inr n) =
-        let same : list_at (lists_of literals'.items) t ≡ list_at (lists_of c.literals.items) t = ap (λ cs. list_at cs t) filled ∙ get_or-set_other (lists_of c.literals.items) s t v.items [] n in
-        omega (arith, r.inside t (omega (arith, some, ap length same)), ap length same, ap (λ (y : Search). y.position) (other t n))
+    ws1 : List Watch
+    ws1 = set c.blocks.watches (2 * s) w1
 
-    none-at : (t : ℕ) → (t ≡ s) ⊎ (t ≡ s → ⊥) → get_or (map (λ (y : Search). y.passed) searches'.items) t 0 ≡ 0
-    none-at t (inl is) = passed-at searches'.items t ∙ ap (λ u. (search_at searches'.items u).passed) is ∙ ap (λ (y : Search). y.passed) here ∙ fresh.1
-    none-at t (inr n) = passed-at searches'.items t ∙ ap (λ (y : Search). y.passed) (other t n) ∙ sym (passed-at c.searches.items t) ∙ r.none t
+    wide : 2 * s + 1 < length c.blocks.watches
+    wide = omega (arith, room, r.stored.pairs)
+
+    first : watch_at b.watches (2 * s) ≡ w1
+    first = ap (λ ws. watch_at ws (2 * s)) both ∙ get_or-set_other ws1 (2 * s + 1) (2 * s) w2 idle (λ h. absurd (omega (arith, h))) ∙ get_or-set_same c.blocks.watches (2 * s) w1 idle (omega (arith, wide))
+
+    second : watch_at b.watches (2 * s + 1) ≡ w2
+    second = ap (λ ws. watch_at ws (2 * s + 1)) both ∙ get_or-set_same ws1 (2 * s + 1) w2 idle (omega (arith, wide, length-set c.blocks.watches (2 * s) w1))
+
+    x_in : Contains xs x
+    x_in = subst (Contains xs) (sym x_is) (Contains-get_or xs p.first 0 pair.first)
+
+    y_in : Contains xs y
+    y_in = subst (Contains xs) (sym y_is) (Contains-get_or xs p.second 0 pair.second)
+
+    -- an old entry is of another slot
+    old-entry : (e : Listed) → IsListed c.lists.items e → e.watch / 2 ≡ s → ⊥
+    old-entry e there is = both_ways _ (empty-dead c.blocks.literals c.blocks.watches (watch_lists c.lists.items) s e.watch r.stored empty is) (listed-live c.blocks.watches c.lists.items e r.stored.linked there)
+
+    here-blocked : (e : Listed) → e.watch / 2 ≡ s → (e ≡ record { watch = 2 * s + 1; blocker = x }) ⊎ IsListed lists1.items e → Contains xs e.blocker
+    here-blocked e is (inl new) = subst (λ (z : Listed). Contains xs z.blocker) (sym new) x_in
+    here-blocked e is (inr there) = elim (more_1 e there) [
+      | inl new ↦ subst (λ (z : Listed). Contains xs z.blocker) (sym new) y_in
+      | inr old ↦ absurd (old-entry e old is)
+    ]
+
+    other-blocked : (e : Listed) → (e.watch / 2 ≡ s → ⊥) → (e ≡ record { watch = 2 * s + 1; blocker = x }) ⊎ IsListed lists1.items e → Contains (list_at c.blocks.literals (e.watch / 2)) e.blocker
+    other-blocked e off (inl new) = absurd (off (omega (arith, ap (λ (z : Listed). z.watch) new)))
+    other-blocked e off (inr there) = elim (more_1 e there) [
+      | inl new ↦ absurd (off (omega (arith, ap (λ (z : Listed). z.watch) new)))
+      | inr old ↦ r.blocked e old
+    ]
+
+    here : search_at b.searches s ≡ begun
+    here = ap (λ ss. search_at ss s) searching ∙ get_or-set_same c.blocks.searches s begun begun (omega (arith, room, r.sizes))
+
+    other : (t : ℕ) → (t ≡ s → ⊥) → search_at b.searches t ≡ search_at c.blocks.searches t
+    other t off = ap (λ ss. search_at ss t) searching ∙ get_or-set_other c.blocks.searches s t begun begun off
+
+    inside-at : (t : ℕ) → 0 < length (list_at b.literals t) → (t ≡ s) ⊎ (t ≡ s → ⊥) → (search_at b.searches t).position < length (list_at b.literals t)
+    inside-at t some (inl is) = omega (arith, some, ap (λ u. (search_at b.searches u).position) is, ap (λ (z : Search). z.position) here)
+    inside-at t some (inr off) =
+        let same : list_at b.literals t ≡ list_at c.blocks.literals t = ap (λ cs. list_at cs t) filled ∙ get_or-set_other c.blocks.literals s t xs [] off in
+        omega (arith, r.inside t (omega (arith, some, ap length same)), ap length same, ap (λ (z : Search). z.position) (other t off))
+
+    none-at : (t : ℕ) → (t ≡ s) ⊎ (t ≡ s → ⊥) → get_or (map (λ (z : Search). z.passed) b.searches) t 0 ≡ 0
+    none-at t (inl is) = passed-at b.searches t ∙ ap (λ u. (search_at b.searches u).passed) is ∙ ap (λ (z : Search). z.passed) here
+    none-at t (inr off) = passed-at b.searches t ∙ ap (λ (z : Search). z.passed) (other t off) ∙ sym (passed-at c.blocks.searches t) ∙ r.none t
+
+-- a clause was removed
+pub rest-vacate : (c : Clauses) (b : Contents) (lists1 lists' : Vec (Vec Listed Global) Global) (s : ℕ) → AreReady c → 0 < length (list_at c.blocks.literals s) → b.literals ≡ set c.blocks.literals s [] → b.searches ≡ c.blocks.searches → AreLinked b.watches (watch_lists lists'.items) →
+    length b.watches ≡ length c.blocks.watches → length lists'.items ≡ length c.lists.items → (watch_at b.watches (2 * s)).live ≡ false → (watch_at b.watches (2 * s + 1)).live ≡ false →
+    ((k : ℕ) → (k / 2 ≡ s → ⊥) → ((watch_at b.watches k).live ≡ (watch_at c.blocks.watches k).live) × ((watch_at b.watches k).literal ≡ (watch_at c.blocks.watches k).literal)) → AreFewer c.lists.items lists1.items → AreFewer lists1.items lists'.items →
+    AreReady (record { blocks = b; moved = c.moved; lists = lists' })
+rest-vacate c b lists1 lists' s r some vacated searching linked sizes sizes_l dead_1 dead_2 same fewer_1 fewer_2 = record {
+  stored = subst (λ cs. AreStored cs b.watches (watch_lists lists'.items)) (sym vacated)
+      (stored-vacate c.blocks.literals c.blocks.watches b.watches (watch_lists c.lists.items) (watch_lists lists'.items) s r.stored linked room sizes (lists-length lists'.items ∙ sizes_l ∙ sym (lists-length c.lists.items)) dead_1 dead_2 same);
+  blocked = subst (λ cs. AreBlocked cs lists'.items) (sym vacated) (blocked-set c.blocks.literals s [] lists'.items room (λ e there is. absurd (gone e there (two-of e.watch s is))) (λ e there off. r.blocked e (fewer_1 e (fewer_2 e there))));
+  sizes = omega (arith, r.sizes, ap length searching, ap length vacated, length-set c.blocks.literals s []);
+  inside = λ t any. inside-at t any (cases_eq t s);
+  none = λ t. ap (λ ss. get_or (map (λ (z : Search). z.passed) ss) t 0) searching ∙ r.none t;
+  trail = r.trail;
+}
+  where
+    room : s < length c.blocks.literals
+    room = slot-room c.blocks.literals s some
+
+    gone : (e : Listed) → IsListed lists'.items e → (e.watch ≡ 2 * s) ⊎ (e.watch ≡ 2 * s + 1) → ⊥
+    gone e there (inl is) = both_ways _ (ap (λ k. (watch_at b.watches k).live) is ∙ dead_1) (listed-live b.watches lists'.items e linked there)
+    gone e there (inr is) = both_ways _ (ap (λ k. (watch_at b.watches k).live) is ∙ dead_2) (listed-live b.watches lists'.items e linked there)
+
+    inside-at : (t : ℕ) → 0 < length (list_at b.literals t) → (t ≡ s) ⊎ (t ≡ s → ⊥) → (search_at b.searches t).position < length (list_at b.literals t)
+    inside-at t any (inl is) =
+        let none : list_at b.literals t ≡ [] = ap (λ cs. list_at cs t) vacated ∙ ap (list_at (set c.blocks.literals s [])) is ∙ get_or-set_same c.blocks.literals s [] [] room in
+        absurd (omega (arith, any, ap length none))
+    inside-at t any (inr off) =
+        let there : list_at b.literals t ≡ list_at c.blocks.literals t = ap (λ cs. list_at cs t) vacated ∙ get_or-set_other c.blocks.literals s t [] [] off in
+        omega (arith, r.inside t (omega (arith, any, ap length there)), ap length there, ap (λ ss. (search_at ss t).position) searching)
 
 -- the position of a live watch of a slot
 pub slot-sits : (clauses : List (List ℕ)) (ws : List Watch) (ls : List (List ℕ)) (s e : ℕ) → AreStored clauses ws ls → 0 < length (list_at clauses s) → (e ≡ 2 * s) ⊎ (e ≡ 2 * s + 1) → (watch_at ws e).live ≡ true
 slot-sits clauses ws ls s e stored some (inl is) = ap (λ k. (watch_at ws k).live) is ∙ stored.full s some
 slot-sits clauses ws ls s e stored some (inr is) = ap (λ k. (watch_at ws k).live) (is ∙ sym (flip-even s)) ∙ stored.paired (2 * s) (stored.full s some)
-
--- the other searches stand inside their clauses if one clause goes
-pub vacated-inside : (c : Clauses) (literals' : List (Vec ℕ Global)) (s : ℕ) (v : Vec ℕ Global) → AreReady c → literals' ≡ set c.literals.items s v → v.items ≡ [] → (t : ℕ) → 0 < length (list_at (lists_of literals') t) → (t ≡ s) ⊎ (t ≡ s → ⊥) → (search_at c.searches.items t).position < length (list_at (lists_of literals') t)
-vacated-inside c literals' s v r now none t some by =
-    let vacated : lists_of literals' ≡ set (lists_of c.literals.items) s [] = ap lists_of now ∙ literals-set c.literals.items s v ∙ ap (set (lists_of c.literals.items) s) none in
-    elim by [
-      | inl is ↦
-          let gone : list_at (lists_of literals') t ≡ [] = ap (λ cs. list_at cs t) vacated ∙ ap (list_at (set (lists_of c.literals.items) s [])) is ∙ set-nothing (lists_of c.literals.items) s in
-          absurd (omega (arith, some, ap length gone))
-      | inr n ↦
-          let same : list_at (lists_of literals') t ≡ list_at (lists_of c.literals.items) t = ap (λ cs. list_at cs t) vacated ∙ get_or-set_other (lists_of c.literals.items) s t [] [] n in
-          omega (arith, r.inside t (omega (arith, some, ap length same)), ap length same)
-    ]
-  where
-    set-nothing : (cs : List (List ℕ)) (i : ℕ) → list_at (set cs i []) i ≡ []
-    set-nothing [] i = refl
-    set-nothing (xs ∷ cs) zero = refl
-    set-nothing (xs ∷ cs) (suc i) = set-nothing cs i
 
 -- a live watch as it is read
 pub record Stands (ws : List Watch) (ls : List (List ℕ)) (e : ℕ) (w : Watch) : Type 0 where
@@ -351,12 +415,11 @@ pub record Stands (ws : List Watch) (ls : List (List ℕ)) (e : ℕ) (w : Watch)
   pub literal : w.literal < length ls
   pub spot : w.spot < length (list_at ls w.literal)
 
-pub stands-by : (ws : List Watch) (ls : List (List ℕ)) (e : ℕ) (w : Watch) → AreLinked ws ls → (watch_at ws e).live ≡ true → w ≡ get_or ws e w → Stands ws ls e w
+pub stands-by : (ws : List Watch) (ls : List (List ℕ)) (e : ℕ) (w : Watch) → AreLinked ws ls → (watch_at ws e).live ≡ true → w ≡ watch_at ws e → Stands ws ls e w
 stands-by ws ls e w linked live is =
-    let w_is : w ≡ watch_at ws e = get_or_read ws e w (live-within ws e live) is idle in
-    let item : slice_get (list_at ls w.literal) w.spot ≡ Some e = linked.sits e w.literal w.spot (record { live = live; literal = ap (λ (x : Watch). x.literal) (sym w_is); spot = ap (λ (x : Watch). x.spot) (sym w_is) }) in
+    let item : slice_get (list_at ls w.literal) w.spot ≡ Some e = linked.sits e w.literal w.spot (record { live = live; literal = ap (λ (x : Watch). x.literal) (sym is); spot = ap (λ (x : Watch). x.spot) (sym is) }) in
     record { item = item; literal = list-within ls w.literal w.spot e item; spot = slice_get_within (list_at ls w.literal) w.spot e item }
 
 -- a slot with one more clause
-pub slot-pushed : (occ occ' : List (Vec ℕ Global)) (s : ℕ) → lists_of occ' ≡ lists_of occ ++ ([] ∷ []) → list_at (lists_of occ') s ≡ list_at (lists_of occ) s
-slot-pushed occ occ' s pushed = ap (λ xs. list_at xs s) pushed ∙ push-default (lists_of occ) s []
+pub slot-pushed : (clauses clauses' : List (List ℕ)) (s : ℕ) → clauses' ≡ clauses ++ ([] ∷ []) → list_at clauses' s ≡ list_at clauses s
+slot-pushed clauses clauses' s pushed = ap (λ xs. list_at xs s) pushed ∙ push-default clauses s []

@@ -15,8 +15,8 @@ use Rattle.pb_propagate.specs.declared.heads.Heads.{Heads}
 use Rattle.pb_propagate.specs.engine.Engine.Lists.{Shape, same, has, Derives, begin, put, IsSettled}
 use Rattle.pb_propagate.specs.engine.Engine.Counts.{AreSingle, none, more}
 use Rattle.pb_propagate.specs.engine.Clauses.Truths.{flip, true_at, false_at}
-use Rattle.pb_propagate.specs.engine.Clauses.Links.{watch_at, list_at, lists_of}
-use Rattle.pb_propagate.specs.engine.Clauses.Runs.{AreStored, AreServed, AreWalked, IsRunning, AreReady, Grows, passed_of}
+use Rattle.pb_propagate.specs.engine.Clauses.Links.{watch_at, list_at, watch_lists}
+use Rattle.pb_propagate.specs.engine.Clauses.Runs.{AreStored, AreServed, AreWalked, HasTrue, IsRunning, AreReady, Grows, passed_of}
 use Rattle.pb_propagate.specs.engine.Clauses.Shapes.{clauses_of, clause_shape, literal_at, offset, code_in}
 pub use Rattle.pb_propagate.specs.engine.Clauses.Walked.{falsified_code, walked_codes, reached_codes, head, advanced}
 use Rattle.pb_propagate.proofs.lemmas.engine.Literals.{same-true, same-refl, negation-negation, has-get}
@@ -26,7 +26,6 @@ use Rattle.pb_propagate.proofs.lemmas.clauses.Readings.{running-bounded}
 use Rattle.pb_propagate.proofs.lemmas.clauses.Searches.{ready-round, passed-at}
 use Rattle.pb_propagate.proofs.lemmas.clauses.Turned.{turned-count}
 use Rattle.pb_propagate.proofs.lemmas.clauses.Truths.{flip-half, flip-flip}
-use Rattle.pb_propagate.proofs.lemmas.clauses.Linked.{lists-length}
 use Rattle.pb_propagate.proofs.lemmas.clauses.Codes.{has as stands}
 use Rattle.pb_propagate.proofs.lemmas.clauses.Counts.{killed, killed-more, occurs, list-short, passed-most}
 use Rattle.pb_propagate.proofs.lemmas.clauses.Literals.{Agree, false-listed, false-code, code-injective, code-of}
@@ -42,23 +41,24 @@ abbrev pub cost : Clauses → Clauses → Heads → List NumberedLiteral → ℕ
 cost c0 c h list = 2 * reached (clauses_of c0) h list + sum (passed_of c)
 
 pub record IsWatching (c0 c : Clauses) (values : List (Option Bool)) (list : List NumberedLiteral) (h : Heads) : Type 0 where
-  pub literals : c.literals ≡ c0.literals
+  pub literals : c.blocks.literals ≡ c0.blocks.literals
   pub running : IsRunning values c
   pub short : h.short ≤ length list
   pub long : h.long ≤ length list
-  pub served : AreWalked values c.watches.items (reached_codes h list)
+  pub served : AreWalked values c.blocks.literals c.blocks.watches (reached_codes h list)
 
 -- between two calls
 pub ready-running : (c : Clauses) (values : List (Option Bool)) → AreReady c → length c.lists.items ≡ 4 * length values → IsRunning values c
 ready-running c values r sizes = record {
-  starts = map (λ (x : Search). x.position) c.searches.items;
+  starts = map (λ (x : Search). x.position) c.blocks.searches;
   stored = r.stored;
+  blocked = r.blocked;
   passed = record {
-    sizes = length-map c.searches.items (λ (x : Search). x.passed) ∙ r.sizes ∙ sym (lists-length c.literals.items) ∙ sym (turned-count (map (λ (x : Search). x.position) c.searches.items) (lists_of c.literals.items));
+    sizes = length-map c.blocks.searches (λ (x : Search). x.passed) ∙ r.sizes ∙ sym (turned-count (map (λ (x : Search). x.position) c.blocks.searches) c.blocks.literals);
     bounded = λ s. omega (arith, r.none s);
     each = λ s k d h. absurd (omega (arith, h, r.none s));
   };
-  round = λ s some. ready-round c.searches.items s (length (list_at (lists_of c.literals.items) s)) (sym (passed-at c.searches.items s) ∙ r.none s) (r.inside s some);
+  round = λ s some. ready-round c.blocks.searches s (length (list_at c.blocks.literals s)) (sym (passed-at c.blocks.searches s) ∙ r.none s) (r.inside s some);
   noted = record {
     noted = λ s. inl (r.none s);
     named = λ k d h. absurd (omega (arith, h, ap length r.trail));
@@ -66,7 +66,7 @@ ready-running c values r sizes = record {
   sizes = sizes;
 }
 
-pub watching-start : (c : Clauses) (values : List (Option Bool)) (list : List NumberedLiteral) (n : ℕ) → IsRunning values c → n ≤ length list → AreWalked values c.watches.items (walked_codes n list) → IsWatching c c values list (record { short = n; long = n })
+pub watching-start : (c : Clauses) (values : List (Option Bool)) (list : List NumberedLiteral) (n : ℕ) → IsRunning values c → n ≤ length list → AreWalked values c.blocks.literals c.blocks.watches (walked_codes n list) → IsWatching c c values list (record { short = n; long = n })
 watching-start c values list n running within walked = record {
   literals = refl;
   running = running;
@@ -101,7 +101,7 @@ watching-grow forms c0 c values values' list list' h g d w = record {
   running = running-grow c values values' g w.running;
   short = omega (arith, w.short, derived-longer forms list list' d);
   long = omega (arith, w.long, derived-longer forms list list' d);
-  served = subst (AreWalked values' c.watches.items) (sym (codes-same h list list' w.short w.long (λ n within. derived-take forms list list' n within d))) (walked-grow values values' c.watches.items (reached_codes h list) g w.served);
+  served = subst (AreWalked values' c.blocks.literals c.blocks.watches) (sym (codes-same h list list' w.short w.long (λ n within. derived-take forms list list' n within d))) (walked-grow values values' c.blocks.literals c.blocks.watches (reached_codes h list) g w.served);
 }
 
 pub cost-grow : (forms : List Shape) (c0 c : Clauses) (list list' : List NumberedLiteral) (h : Heads) → h.short ≤ length list → h.long ≤ length list → Derives forms list list' → cost c0 c h list' ≡ cost c0 c h list
@@ -150,8 +150,8 @@ pub ahead-room : (g : Group) (h : Heads) (n : ℕ) → head g h < n → h.short 
 ahead-room Short h n inside short long = omega (arith, inside, long)
 ahead-room Long h n inside short long = omega (arith, inside, short)
 
-pub start-served : (values : List (Option Bool)) (ws : List Watch) (walked : List ℕ) (x : ℕ) → false_at values x ≡ true → AreWalked values ws walked → AreServed values ws walked x 0
-start-served values ws walked x h s = record {
+pub start-served : (values : List (Option Bool)) (clauses : List (List ℕ)) (ws : List Watch) (walked : List ℕ) (x : ℕ) → false_at values x ≡ true → AreWalked values clauses ws walked → AreServed values clauses ws walked x 0
+start-served values clauses ws walked x h s = record {
   failed = s.failed;
   now = h;
   done = s.done;
@@ -159,28 +159,28 @@ start-served values ws walked x h s = record {
 }
 
 -- fewer codes
-walked-within : (values : List (Option Bool)) (ws : List Watch) (a b : List ℕ) → ((x : ℕ) → Contains b x → Contains a x) → AreWalked values ws a → AreWalked values ws b
-walked-within values ws a b within w = record {
+walked-within : (values : List (Option Bool)) (clauses : List (List ℕ)) (ws : List Watch) (a b : List ℕ) → ((x : ℕ) → Contains b x → Contains a x) → AreWalked values clauses ws a → AreWalked values clauses ws b
+walked-within values clauses ws a b within w = record {
   failed = λ x there. w.failed x (within x there);
   done = λ e live there. w.done e live (within (watch_at ws e).literal there);
 }
 
 pub watching-next : (forms : List Shape) (c0 c c' : Clauses) (values values' : List (Option Bool)) (list list' : List NumberedLiteral) (g : Group) (h : Heads) (l : NumberedLiteral) → head g h < length list → l ≡ get_or list (head g h) l → false_at values (falsified_code g l) ≡ true →
-    c'.literals ≡ c.literals → IsRunning values' c' → Derives forms list list' →
-    ((walked : List ℕ) → AreServed values c.watches.items walked (falsified_code g l) 0 → AreWalked values' c'.watches.items (walked ++ (falsified_code g l ∷ []))) →
+    c'.blocks.literals ≡ c.blocks.literals → IsRunning values' c' → Derives forms list list' →
+    ((walked : List ℕ) → AreServed values c.blocks.literals c.blocks.watches walked (falsified_code g l) 0 → AreWalked values' c'.blocks.literals c'.blocks.watches (walked ++ (falsified_code g l ∷ []))) →
     IsWatching c0 c values list h → IsWatching c0 c' values' list' (advanced g h)
 watching-next forms c0 c c' values values' list list' g h l inside is failed literals running d walked w =
     let short = advanced-short g h (length list) inside w.short in
     let long = advanced-long g h (length list) inside w.long in
     let longer = derived-longer forms list list' d in
-    let all = walked (reached_codes h list) (start-served values c.watches.items (reached_codes h list) (falsified_code g l) failed w.served) in
-    let mine = walked-within values' c'.watches.items (reached_codes h list ++ (falsified_code g l ∷ [])) (reached_codes (advanced g h) list) (λ x there. reached-next g h list l x inside is there) all in
+    let all = walked (reached_codes h list) (start-served values c.blocks.literals c.blocks.watches (reached_codes h list) (falsified_code g l) failed w.served) in
+    let mine = walked-within values' c'.blocks.literals c'.blocks.watches (reached_codes h list ++ (falsified_code g l ∷ [])) (reached_codes (advanced g h) list) (λ x there. reached-next g h list l x inside is there) all in
     record {
       literals = literals ∙ w.literals;
       running = running;
       short = omega (arith, short, longer);
       long = omega (arith, long, longer);
-      served = subst (AreWalked values' c'.watches.items) (sym (codes-same (advanced g h) list list' short long (λ n within. derived-take forms list list' n within d))) mine;
+      served = subst (AreWalked values' c'.blocks.literals c'.blocks.watches) (sym (codes-same (advanced g h) list list' short long (λ n within. derived-take forms list list' n within d))) mine;
     }
 
 -- the next literal is not walked yet
@@ -252,37 +252,37 @@ reached-more Long clauses h list l single inside is =
 
 -- what a walk costs
 pub cost-next : (c0 c c' : Clauses) (values : List (Option Bool)) (list list' : List NumberedLiteral) (g : Group) (h : Heads) (v v' s s' : ℕ) (l : NumberedLiteral) → AreSingle list → head g h < length list → l ≡ get_or list (head g h) l → AreSameFirst list list' →
-    v' + sum (passed_of c) + s ≤ v + 2 * length (list_at (lists_of c.lists.items) (falsified_code g l)) + sum (passed_of c') + s' → IsWatching c0 c values list h →
+    v' + sum (passed_of c) + s ≤ v + 2 * length (list_at (watch_lists c.lists.items) (falsified_code g l)) + sum (passed_of c') + s' → IsWatching c0 c values list h →
     v' + s + cost c0 c h list ≤ v + cost c0 c' (advanced g h) list' + s'
 cost-next c0 c c' values list list' g h v v' s s' l single inside is same covered w =
     let clauses = clauses_of c0 in
-    let stored : AreStored clauses c.watches.items (lists_of c.lists.items) = subst (λ ls. AreStored (lists_of ls.items) c.watches.items (lists_of c.lists.items)) w.literals w.running.stored in
-    let few = list-short clauses c.watches.items (lists_of c.lists.items) (falsified_code g l) stored in
+    let stored : AreStored clauses c.blocks.watches (watch_lists c.lists.items) = subst (λ cs. AreStored cs c.blocks.watches (watch_lists c.lists.items)) w.literals w.running.stored in
+    let few = list-short clauses c.blocks.watches (watch_lists c.lists.items) (falsified_code g l) stored in
     let grown = reached-more g clauses h list l single inside is in
     let codes = reached-same clauses (advanced g h) list list' (advanced-short g h (length list) inside w.short) (advanced-long g h (length list) inside w.long) same in
-    sums v v' s s' (sum (passed_of c)) (sum (passed_of c')) (reached clauses h list) (reached clauses (advanced g h) list) (reached clauses (advanced g h) list') (occurs clauses (falsified_code g l)) (length (list_at (lists_of c.lists.items) (falsified_code g l))) covered few grown codes
+    sums v v' s s' (sum (passed_of c)) (sum (passed_of c')) (reached clauses h list) (reached clauses (advanced g h) list) (reached clauses (advanced g h) list') (occurs clauses (falsified_code g l)) (length (list_at (watch_lists c.lists.items) (falsified_code g l))) covered few grown codes
   where
     sums : (v v' s s' p p' r r' r'' o n : ℕ) → v' + p + s ≤ v + 2 * n + p' + s' → n ≤ o → r' ≡ r + o → r'' ≡ r' → v' + s + (2 * r + p) ≤ v + (2 * r'' + p') + s'
     sums v v' s s' p p' r r' r'' o n a b d e = omega (arith, a, b, d, e)
 
 -- what a walk costs that was abandoned
 pub cost-broken : (c0 c c' : Clauses) (values : List (Option Bool)) (list : List NumberedLiteral) (g : Group) (h : Heads) (v v' s s' : ℕ) (l : NumberedLiteral) → AreSingle list → head g h < length list → l ≡ get_or list (head g h) l → ((t : ℕ) → get_or (passed_of c') t 0 ≤ length (list_at (clauses_of c) t)) →
-    v' + sum (passed_of c) + s ≤ v + 2 * length (list_at (lists_of c.lists.items) (falsified_code g l)) + sum (passed_of c') + s' → IsWatching c0 c values list h →
+    v' + sum (passed_of c) + s ≤ v + 2 * length (list_at (watch_lists c.lists.items) (falsified_code g l)) + sum (passed_of c') + s' → IsWatching c0 c values list h →
     v' + s + cost c0 c h list ≤ v + s' + (2 * reached (clauses_of c0) (advanced g h) list + sum_by length (clauses_of c0))
 cost-broken c0 c c' values list g h v v' s s' l single inside is bounded covered w =
     let clauses = clauses_of c0 in
     let more_cost = cost-next c0 c c' values list list g h v v' s s' l single inside is (λ n within. refl) covered w in
-    let bounded_0 = subst (λ ls. (t : ℕ) → get_or (passed_of c') t 0 ≤ length (list_at (lists_of ls.items) t)) w.literals bounded in
+    let bounded_0 = subst (λ cs. (t : ℕ) → get_or (passed_of c') t 0 ≤ length (list_at cs t)) w.literals bounded in
     omega (arith, more_cost, passed-most (passed_of c') clauses bounded_0)
 
 pub cost-most : (c0 c : Clauses) (values : List (Option Bool)) (list : List NumberedLiteral) (h : Heads) → IsWatching c0 c values list h → cost c0 c h list ≤ 2 * reached (clauses_of c0) h list + sum_by length (clauses_of c0)
 cost-most c0 c values list h w =
     let clauses = clauses_of c0 in
-    let bounded = subst (λ ls. (t : ℕ) → get_or (passed_of c) t 0 ≤ length (list_at (lists_of ls.items) t)) w.literals (running-bounded c values w.running) in
+    let bounded = subst (λ cs. (t : ℕ) → get_or (passed_of c) t 0 ≤ length (list_at cs t)) w.literals (running-bounded c values w.running) in
     omega (arith, passed-most (passed_of c) clauses bounded)
 
 -- if all falsified literals are walked, each clause is settled
-served-by : (values : List (Option Bool)) (clauses : List (List ℕ)) (ws : List Watch) (ls : List (List ℕ)) (walked : List ℕ) (s : ℕ) → AreStored clauses ws ls → AreWalked values ws walked → ((y : ℕ) → false_at values y ≡ true → Contains walked y) → 0 < length (list_at clauses s) → Served values (list_at clauses s)
+served-by : (values : List (Option Bool)) (clauses : List (List ℕ)) (ws : List Watch) (ls : List (List ℕ)) (walked : List ℕ) (s : ℕ) → AreStored clauses ws ls → AreWalked values clauses ws walked → ((y : ℕ) → false_at values y ≡ true → Contains walked y) → 0 < length (list_at clauses s) → Served values (list_at clauses s)
 served-by values clauses ws ls walked s stored served all some = by (false_at values (watch_at ws (2 * s)).literal) (false_at values (watch_at ws (flip (2 * s))).literal) refl refl
   where
     live : (watch_at ws (2 * s)).live ≡ true
@@ -299,11 +299,12 @@ served-by values clauses ws ls walked s stored served all some = by (false_at va
         let half : flip (2 * s) / 2 ≡ s = omega (arith, flip-half (2 * s)) in
         subst (λ t. Contains (list_at clauses t) (watch_at ws (flip (2 * s))).literal) half (stored.watched (flip (2 * s)) (stored.paired (2 * s) (stored.full s some)))
 
+    by-true : (e : ℕ) → e / 2 ≡ s → HasTrue values clauses (e / 2) → Served values (list_at clauses s)
+    by-true e is there = met there.0 (subst (λ t. Contains (list_at clauses t) there.0) is there.1) there.2
+
     by : (p q : Bool) → false_at values (watch_at ws (2 * s)).literal ≡ p → false_at values (watch_at ws (flip (2 * s))).literal ≡ q → Served values (list_at clauses s)
-    by true q h k = met (watch_at ws (flip (2 * s))).literal at_b (served.done (2 * s) live (all (watch_at ws (2 * s)).literal h))
-    by false true h k =
-        let there = served.done (flip (2 * s)) live' (all (watch_at ws (flip (2 * s))).literal k) in
-        met (watch_at ws (2 * s)).literal at_a (ap (λ t. true_at values (watch_at ws t).literal) (sym (flip-flip (2 * s))) ∙ there)
+    by true q h k = by-true (2 * s) (omega arith) (served.done (2 * s) live (all (watch_at ws (2 * s)).literal h))
+    by false true h k = by-true (flip (2 * s)) (omega (arith, flip-half (2 * s))) (served.done (flip (2 * s)) live' (all (watch_at ws (flip (2 * s))).literal k))
     by false false h k = free (watch_at ws (2 * s)).literal (watch_at ws (flip (2 * s))).literal at_a at_b (stored.apart (2 * s) live) h k
 
 -- the position of a literal of the list
@@ -333,9 +334,9 @@ all-walked values list h y a short long failed =
 
 pub watching-settled : (c0 c : Clauses) (values : List (Option Bool)) (list : List NumberedLiteral) (h : Heads) (s : ℕ) → Agree values list → ((l : NumberedLiteral) → has list l ≡ true → has list (negation l) ≡ false) → length list ≤ h.short → length list ≤ h.long → 0 < length (list_at (clauses_of c0) s) → IsWatching c0 c values list h → IsSettled (clause_shape (list_at (clauses_of c0) s)) list
 watching-settled c0 c values list h s a one short long some w =
-    let stored : AreStored (clauses_of c0) c.watches.items (lists_of c.lists.items) = subst (λ ls. AreStored (lists_of ls.items) c.watches.items (lists_of c.lists.items)) w.literals w.running.stored in
-    served-settled values list (list_at (clauses_of c0) s) a one (served-by values (clauses_of c0) c.watches.items (lists_of c.lists.items) (reached_codes h list) s stored w.served (λ y failed. all-walked values list h y a short long failed) some)
+    let stored : AreStored (clauses_of c0) c.blocks.watches (watch_lists c.lists.items) = subst (λ cs. AreStored cs c.blocks.watches (watch_lists c.lists.items)) w.literals w.running.stored in
+    served-settled values list (list_at (clauses_of c0) s) a one (served-by values (clauses_of c0) c.blocks.watches (watch_lists c.lists.items) (reached_codes h list) s stored (subst (λ cs. AreWalked values cs c.blocks.watches (reached_codes h list)) w.literals w.served) (λ y failed. all-walked values list h y a short long failed) some)
 
 -- at the end all literals are walked
-pub walked-whole : (values : List (Option Bool)) (ws : List Watch) (list : List NumberedLiteral) (h : Heads) → h.short ≡ length list → h.long ≡ length list → AreWalked values ws (reached_codes h list) → AreWalked values ws (walked_codes (length list) list)
-walked-whole values ws list h short long w = subst (λ n. AreWalked values ws (map (falsified_code Short) (take (length list) list) ++ map (falsified_code Long) (take n list))) long (subst (λ n. AreWalked values ws (map (falsified_code Short) (take n list) ++ map (falsified_code Long) (take h.long list))) short w)
+pub walked-whole : (values : List (Option Bool)) (clauses : List (List ℕ)) (ws : List Watch) (list : List NumberedLiteral) (h : Heads) → h.short ≡ length list → h.long ≡ length list → AreWalked values clauses ws (reached_codes h list) → AreWalked values clauses ws (walked_codes (length list) list)
+walked-whole values clauses ws list h short long w = subst (λ n. AreWalked values clauses ws (map (falsified_code Short) (take (length list) list) ++ map (falsified_code Long) (take n list))) long (subst (λ n. AreWalked values clauses ws (map (falsified_code Short) (take n list) ++ map (falsified_code Long) (take h.long list))) short w)

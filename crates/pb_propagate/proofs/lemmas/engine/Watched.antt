@@ -2,7 +2,7 @@
 use Rattle.std.specs.Prelude.{sum}
 use Rattle.std.proofs.Common.{◌≡◌, ℕ, ◌+◌, ◌-◌, ◌*◌, ◌<◌, ◌≤◌, length, ap, arith}
 use Rattle.pb_propagate.specs.declared.clauses.Clauses.{Clauses}
-use Rattle.pb_propagate.specs.engine.Clauses.Links.{lists_of, list_at}
+use Rattle.pb_propagate.specs.engine.Clauses.Links.{watch_lists, list_at}
 use Rattle.pb_propagate.specs.engine.Clauses.Runs.{passed_of}
 use Rattle.pb_propagate.specs.engine.Engine.Counts.{spent}
 use Rattle.pb_propagate.specs.engine.Engine.Progress.{Progress, Database, visited_to, Costs, Advances}
@@ -10,7 +10,7 @@ use Rattle.pb_propagate.proofs.lemmas.engine.Advances.{costs-as, costs-then, adv
 
 -- the length of a literal's list of watches
 abbrev pub size_at : Clauses → ℕ → ℕ
-size_at c l = length (list_at (lists_of c.lists.items) l)
+size_at c l = length (list_at (watch_lists c.lists.items) l)
 
 -- two visits are left for each watch from a position on
 abbrev pub WalkIsAt : Database → Clauses → Clauses → ℕ → ℕ → Progress → Progress → Type 0

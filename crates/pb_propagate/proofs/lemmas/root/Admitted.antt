@@ -20,8 +20,8 @@ use Rattle.pb_propagate.specs.engine.Engine.Slots.{form_at}
 use Rattle.pb_propagate.specs.declared.eager.Eager.{Eager}
 use Rattle.pb_normal.specs.meaning.Form.{Form}
 use Rattle.pb_propagate.specs.engine.Clauses.Truths.{flip, true_at, false_at}
-use Rattle.pb_propagate.specs.engine.Clauses.Links.{lists_of, list_at, watch_at}
-use Rattle.pb_propagate.specs.engine.Clauses.Runs.{AreStored, AreReady, AreWalked}
+use Rattle.pb_propagate.specs.engine.Clauses.Links.{watch_lists, list_at, watch_at}
+use Rattle.pb_propagate.specs.engine.Clauses.Runs.{AreStored, AreReady, AreWalked, HasTrue}
 use Rattle.pb_propagate.specs.engine.Clauses.Shapes.{one_term, slot_shape, joined, clauses_of, all_of}
 use Rattle.pb_propagate.specs.engine.Clauses.Walked.{walked_codes}
 use Rattle.pb_propagate.proofs.lemmas.clauses.Shapes.{joined-at, joined-length}
@@ -147,7 +147,7 @@ gained-reasons before store old clauses slot reasons list g h = reasons-moved (a
 
 -- the root for all forms but the new one
 pub gained-rooted : (before store : Store) (old clauses : Clauses) (run run' : Run) (rests rests' : Rests) (waiting waiting' : Eager) (slot : ℕ) → slot < length store.stored.items → IsRooted before old run rests waiting (length before.stored.items) → HasGained before old store clauses slot → HasReached run run' rests rests' waiting waiting' slot →
-    AreWalked run.assignment.values.items clauses.watches.items (walked_codes (length run.assignment.list.items) run.assignment.list.items) → IsRooted store clauses run' rests' waiting' slot
+    AreWalked run.assignment.values.items clauses.blocks.literals clauses.blocks.watches (walked_codes (length run.assignment.list.items) run.assignment.list.items) → IsRooted store clauses run' rests' waiting' slot
 gained-rooted before store old clauses run run' rests rests' waiting waiting' slot inside r g h walked = record {
   values = ap (λ (x : Assignment). length x.values.items) h.assignment ∙ r.values ∙ sym g.variables;
   opens = opens_same;
@@ -211,14 +211,14 @@ gained-rooted before store old clauses run run' rests rests' waiting waiting' sl
     shape s d less apart = same-shape store.stored.items before.stored.items s d less (g.kept s apart)
 
 -- the watches of a slot are served, as those of the others are
-pub served-walked : (values : List (Option Bool)) (ws ws' : List Watch) (codes : List ℕ) (slot : ℕ) → ((e : ℕ) → (e / 2 ≡ slot → ⊥) → watch_at ws' e ≡ watch_at ws e) → ((e : ℕ) → e / 2 ≡ slot → (watch_at ws' e).live ≡ true → Contains codes (watch_at ws' e).literal → true_at values (watch_at ws' (flip e)).literal ≡ true) → AreWalked values ws codes → AreWalked values ws' codes
-served-walked values ws ws' codes slot same mine w = record {
+pub served-walked : (values : List (Option Bool)) (clauses clauses' : List (List ℕ)) (ws ws' : List Watch) (codes : List ℕ) (slot : ℕ) → ((s : ℕ) → (s ≡ slot → ⊥) → list_at clauses' s ≡ list_at clauses s) → ((e : ℕ) → (e / 2 ≡ slot → ⊥) → watch_at ws' e ≡ watch_at ws e) → ((e : ℕ) → e / 2 ≡ slot → (watch_at ws' e).live ≡ true → Contains codes (watch_at ws' e).literal → HasTrue values clauses' (e / 2)) → AreWalked values clauses ws codes → AreWalked values clauses' ws' codes
+served-walked values clauses clauses' ws ws' codes slot kept same mine w = record {
   failed = w.failed;
   done = λ e live h. elim (cases_eq (e / 2) slot) [
     | inl here ↦ mine e here live h
     | inr apart ↦
-        let flipped : flip e / 2 ≡ slot → ⊥ = λ is. apart (sym (flip-half e) ∙ is) in
-        ap (λ (x : Watch). true_at values x.literal) (same (flip e) flipped) ∙ w.done e (ap (λ (x : Watch). x.live) (sym (same e apart)) ∙ live) (subst (Contains codes) (ap (λ (x : Watch). x.literal) (same e apart)) h)
+        let met = w.done e (ap (λ (x : Watch). x.live) (sym (same e apart)) ∙ live) (subst (Contains codes) (ap (λ (x : Watch). x.literal) (same e apart)) h) in
+        (met.0, subst (λ xs. Contains xs met.0) (sym (kept (e / 2) apart)) met.1, met.2)
   ];
 }
 
@@ -233,12 +233,12 @@ pub admitted-rooted : (before store : Store) (old clauses : Clauses) (run run' :
     AreReady clauses → list_at (clauses_of clauses) slot ≡ [] → IsRooted store clauses run' rests' waiting' slot
 admitted-rooted before store old clauses run run' rests rests' waiting waiting' slot inside r g h ready none =
     let codes = walked_codes (length run.assignment.list.items) run.assignment.list.items in
-    let walked = served-walked run.assignment.values.items old.watches.items clauses.watches.items codes slot g.watched (λ e here live k. absurd (no-watch (clauses_of clauses) clauses.watches.items (lists_of clauses.lists.items) slot e ready.stored none here live)) r.walked in
+    let walked = served-walked run.assignment.values.items old.blocks.literals clauses.blocks.literals old.blocks.watches clauses.blocks.watches codes slot g.filled g.watched (λ e here live k. absurd (no-watch (clauses_of clauses) clauses.blocks.watches (watch_lists clauses.lists.items) slot e ready.stored none here live)) r.walked in
     gained-rooted before store old clauses run run' rests rests' waiting waiting' slot inside r g h walked
 
--- two served watches
-pub served-watch : (values : List (Option Bool)) (ws : List Watch) (codes : List ℕ) (slot e : ℕ) → ((x : ℕ) → Contains codes x → false_at values x ≡ true) → IsServed values ws slot → e / 2 ≡ slot → Contains codes (watch_at ws e).literal → true_at values (watch_at ws (flip e)).literal ≡ true
-served-watch values ws codes slot e failed served here h = by served (cases_eq e (2 * slot))
+-- a served clause with a walked watch has a true literal
+pub served-watch : (values : List (Option Bool)) (clauses : List (List ℕ)) (ws : List Watch) (ls : List (List ℕ)) (codes : List ℕ) (slot e : ℕ) → AreStored clauses ws ls → 0 < length (list_at clauses slot) → ((x : ℕ) → Contains codes x → false_at values x ≡ true) → IsServed values ws slot → e / 2 ≡ slot → Contains codes (watch_at ws e).literal → HasTrue values clauses (e / 2)
+served-watch values clauses ws ls codes slot e stored some failed served here h = by served (cases_eq e (2 * slot))
   where
     low : false_at values (watch_at ws e).literal ≡ true
     low = failed (watch_at ws e).literal h
@@ -246,17 +246,16 @@ served-watch values ws codes slot e failed served here h = by served (cases_eq e
     second : (e ≡ 2 * slot → ⊥) → e ≡ 2 * slot + 1
     second n = same-slot e (2 * slot) (omega (arith, here)) n ∙ flip-even slot
 
-    first-flip : e ≡ 2 * slot → flip e ≡ 2 * slot + 1
-    first-flip is = ap flip is ∙ flip-even slot
+    live_2 : (watch_at ws (2 * slot + 1)).live ≡ true
+    live_2 = ap (λ t. (watch_at ws t).live) (sym (flip-even slot)) ∙ stored.paired (2 * slot) (stored.full slot some)
 
-    second-flip : (e ≡ 2 * slot → ⊥) → flip e ≡ 2 * slot
-    second-flip n = ap flip (second n ∙ sym (flip-even slot)) ∙ flip-flip (2 * slot)
+    -- a watch of the slot on a true literal
+    met : (k : ℕ) → k / 2 ≡ e / 2 → (watch_at ws k).live ≡ true → true_at values (watch_at ws k).literal ≡ true → HasTrue values clauses (e / 2)
+    met k is live truth = ((watch_at ws k).literal, subst (λ t. Contains (list_at clauses t) (watch_at ws k).literal) is (stored.watched k live), truth)
 
-    by : IsServed values ws slot → (e ≡ 2 * slot) ⊎ (e ≡ 2 * slot → ⊥) → true_at values (watch_at ws (flip e)).literal ≡ true
-    by (inl one) (inl is) = absurd (not_both values (watch_at ws e).literal (ap (λ t. true_at values (watch_at ws t).literal) is ∙ one) low)
-    by (inl one) (inr n) = ap (λ t. true_at values (watch_at ws t).literal) (second-flip n) ∙ one
-    by (inr (inl two)) (inl is) = ap (λ t. true_at values (watch_at ws t).literal) (first-flip is) ∙ two
-    by (inr (inl two)) (inr n) = absurd (not_both values (watch_at ws e).literal (ap (λ t. true_at values (watch_at ws t).literal) (second n) ∙ two) low)
+    by : IsServed values ws slot → (e ≡ 2 * slot) ⊎ (e ≡ 2 * slot → ⊥) → HasTrue values clauses (e / 2)
+    by (inl one) q = met (2 * slot) (omega (arith, here)) (stored.full slot some) one
+    by (inr (inl two)) q = met (2 * slot + 1) (omega (arith, here)) live_2 two
     by (inr (inr free)) (inl is) = absurd (both_ways _ (ap (λ t. false_at values (watch_at ws t).literal) is ∙ free.0) low)
     by (inr (inr free)) (inr n) = absurd (both_ways _ (ap (λ t. false_at values (watch_at ws t).literal) (second n) ∙ free.1) low)
 

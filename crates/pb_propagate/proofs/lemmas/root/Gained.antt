@@ -49,7 +49,7 @@ vacant-bare xs clauses s x v at =
     ap (λ (f : Shape). f.terms) (sym is ∙ shape) ∙ v.terms x
 
 -- a form in a vacant slot
-pub gained-filled : (before store : Store) (old clauses : Clauses) (slot : ℕ) (k : StoredForm) → store.variables ≡ before.variables → store.stored.items ≡ set before.stored.items slot k → ((s : ℕ) → (s ≡ slot → ⊥) → list_at (clauses_of clauses) s ≡ list_at (clauses_of old) s) → ((e : ℕ) → (e / 2 ≡ slot → ⊥) → watch_at clauses.watches.items e ≡ watch_at old.watches.items e) → IsVacant (shapes_of before.stored.items) (clauses_of old) slot → slice_get (forms_of before.stored.items) slot ≡ Some None → (f : Form) → k.terms.form ≡ Some f → HasGained before old store clauses slot
+pub gained-filled : (before store : Store) (old clauses : Clauses) (slot : ℕ) (k : StoredForm) → store.variables ≡ before.variables → store.stored.items ≡ set before.stored.items slot k → ((s : ℕ) → (s ≡ slot → ⊥) → list_at (clauses_of clauses) s ≡ list_at (clauses_of old) s) → ((e : ℕ) → (e / 2 ≡ slot → ⊥) → watch_at clauses.blocks.watches e ≡ watch_at old.blocks.watches e) → IsVacant (shapes_of before.stored.items) (clauses_of old) slot → slice_get (forms_of before.stored.items) slot ≡ Some None → (f : Form) → k.terms.form ≡ Some f → HasGained before old store clauses slot
 gained-filled before store old clauses slot k variables keeps filled watched v none f some = record {
   variables = variables;
   longer = inl (ap length keeps ∙ length-set before.stored.items slot k);

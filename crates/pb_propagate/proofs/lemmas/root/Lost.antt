@@ -16,11 +16,10 @@ use Rattle.pb_propagate.specs.engine.Engine.Lists.{Shape, HaveReasons, open_part
 use Rattle.pb_propagate.specs.engine.Engine.Fields.{shapes_of, stored_shape}
 use Rattle.pb_propagate.specs.engine.Engine.Root.{IsRooted, IsNeedless, IsOtherUnit, HasVacated, HasLost, IsSameWatch}
 use Rattle.pb_propagate.specs.engine.Clauses.Truths.{flip, true_at}
-use Rattle.pb_propagate.specs.engine.Clauses.Links.{lists_of, list_at, watch_at}
+use Rattle.pb_propagate.specs.engine.Clauses.Links.{watch_lists, list_at, watch_at}
 use Rattle.pb_propagate.specs.engine.Clauses.Runs.{AreReady, AreWalked}
 use Rattle.pb_propagate.specs.engine.Clauses.Shapes.{AreJoined, one_term, literal_at, slot_shape, joined, clauses_of, all_of}
 use Rattle.pb_propagate.specs.engine.Clauses.Walked.{walked_codes}
-use Rattle.pb_propagate.proofs.lemmas.clauses.Linked.{lists-length}
 use Rattle.pb_propagate.proofs.lemmas.clauses.Shapes.{joined-at}
 use Rattle.pb_propagate.proofs.lemmas.clauses.Slots.{joined-cleared}
 use Rattle.pb_propagate.proofs.lemmas.clauses.Truths.{flip-half}
@@ -71,14 +70,15 @@ slot-is store clauses slot x less at =
     sym (get_or_from_slice_get (all_of store clauses) slot x x at) ∙ joined-at (shapes_of store.stored.items) (clauses_of clauses) slot x (omega (arith, less, length-map store.stored.items stored_shape))
 
 -- the walked watches are still served
-vacated-walked : (values : List (Option Bool)) (old clauses : Clauses) (codes : List ℕ) (slot : ℕ) → AreReady clauses → list_at (clauses_of clauses) slot ≡ [] → ((e : ℕ) → (e / 2 ≡ slot → ⊥) → IsSameWatch (watch_at old.watches.items e) (watch_at clauses.watches.items e)) → AreWalked values old.watches.items codes → AreWalked values clauses.watches.items codes
-vacated-walked values old clauses codes slot ready none same w = record {
+vacated-walked : (values : List (Option Bool)) (old clauses : Clauses) (codes : List ℕ) (slot : ℕ) → AreReady clauses → list_at (clauses_of clauses) slot ≡ [] → clauses_of clauses ≡ set (clauses_of old) slot [] → ((e : ℕ) → (e / 2 ≡ slot → ⊥) → IsSameWatch (watch_at old.blocks.watches e) (watch_at clauses.blocks.watches e)) → AreWalked values old.blocks.literals old.blocks.watches codes → AreWalked values clauses.blocks.literals clauses.blocks.watches codes
+vacated-walked values old clauses codes slot ready none emptied same w = record {
   failed = w.failed;
   done = λ e live h. elim (cases_eq (e / 2) slot) [
-    | inl here ↦ absurd (no-watch (clauses_of clauses) clauses.watches.items (lists_of clauses.lists.items) slot e ready.stored none here live)
+    | inl here ↦ absurd (no-watch (clauses_of clauses) clauses.blocks.watches (watch_lists clauses.lists.items) slot e ready.stored none here live)
     | inr apart ↦
-        let flipped : flip e / 2 ≡ slot → ⊥ = λ is. apart (sym (flip-half e) ∙ is) in
-        ap (true_at values) (same (flip e) flipped).1 ∙ w.done e (sym (same e apart).0 ∙ live) (subst (Contains codes) (same e apart).1 h)
+        let met = w.done e (sym (same e apart).0 ∙ live) (subst (Contains codes) (same e apart).1 h) in
+        let there : list_at (clauses_of clauses) (e / 2) ≡ list_at (clauses_of old) (e / 2) = ap (λ cs. list_at cs (e / 2)) emptied ∙ get_or-set_other (clauses_of old) slot (e / 2) [] [] apart in
+        (met.0, subst (λ xs. Contains xs met.0) (sym there) met.1, met.2)
   ];
 }
 
@@ -99,7 +99,7 @@ lost-reasons before store old clauses slot a g n =
     ]) n.reasoned
 
 -- the root stays
-pub lost-rooted : (before store : Store) (old clauses : Clauses) (run run' : Run) (rests rests' : Rests) (waiting waiting' : Eager) (slot : ℕ) → slot < length before.stored.items → slot < length old.literals.items → AreReady clauses → HasVacated before old store clauses slot → HasLost run run' rests rests' slot → IsWithout slot waiting.list.items waiting'.list.items → length waiting'.seats.items ≡ length waiting.seats.items →
+pub lost-rooted : (before store : Store) (old clauses : Clauses) (run run' : Run) (rests rests' : Rests) (waiting waiting' : Eager) (slot : ℕ) → slot < length before.stored.items → slot < length old.blocks.literals → AreReady clauses → HasVacated before old store clauses slot → HasLost run run' rests rests' slot → IsWithout slot waiting.list.items waiting'.list.items → length waiting'.seats.items ≡ length waiting.seats.items →
     IsNeedless (all_of before old) slot run'.assignment → IsRooted before old run rests waiting (length before.stored.items) → IsRooted store clauses run' rests' waiting' (length store.stored.items)
 lost-rooted before store old clauses run run' rests rests' waiting waiting' slot inside room ready g h without seats spare r = record {
   values = ap length valued ∙ r.values ∙ sym g.variables;
@@ -146,7 +146,7 @@ lost-rooted before store old clauses run run' rests rests' waiting waiting' slot
   trail = ap (λ (v : Vec ℕ Global). v.items) h.trail ∙ r.trail;
   next = h.next ∙ r.next;
   reasoned = lost-reasons before store old clauses slot run'.assignment g spare;
-  walked = rw (valued, listed) (vacated-walked run.assignment.values.items old clauses (walked_codes (length run.assignment.list.items) run.assignment.list.items) slot ready none_there g.watched r.walked);
+  walked = rw (valued, listed) (vacated-walked run.assignment.values.items old clauses (walked_codes (length run.assignment.list.items) run.assignment.list.items) slot ready none_there g.emptied g.watched r.walked);
   seats = seats ∙ r.seats ∙ sym longer;
   live = λ i s at.
       let w = without.older i s at in
@@ -198,4 +198,4 @@ lost-rooted before store old clauses run run' rests rests' waiting waiting' slot
     cand-other s apart = ap (λ xs. get_or xs s 0) h.candidates ∙ get_or-set_other run.candidates.items slot s 0 0 apart
 
     none_there : list_at (clauses_of clauses) slot ≡ []
-    none_there = ap (λ cs. list_at cs slot) g.emptied ∙ get_or-set_same (clauses_of old) slot [] [] (omega (arith, room, lists-length old.literals.items))
+    none_there = ap (λ cs. list_at cs slot) g.emptied ∙ get_or-set_same (clauses_of old) slot [] [] (omega (arith, room))

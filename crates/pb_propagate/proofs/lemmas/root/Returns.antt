@@ -101,7 +101,7 @@ root-counted store clauses run rests waiting r = record {
 -- what undoing a question leaves
 pub record IsBack (store : Store) (between after : Clauses) (run last : Run) (rests : Rests) (new : List NumberedLiteral) : Type 0 where
   pub literals : clauses_of after ≡ clauses_of between
-  pub kept : AreWalked run.assignment.values.items between.watches.items (walked_codes (length run.assignment.list.items) run.assignment.list.items) → AreWalked run.assignment.values.items after.watches.items (walked_codes (length run.assignment.list.items) run.assignment.list.items)
+  pub kept : AreWalked run.assignment.values.items between.blocks.literals between.blocks.watches (walked_codes (length run.assignment.list.items) run.assignment.list.items) → AreWalked run.assignment.values.items after.blocks.literals after.blocks.watches (walked_codes (length run.assignment.list.items) run.assignment.list.items)
   pub extends : Extends run.assignment.list.items new
   pub reasons : KeepsReasons run.assignment.list.items run.assignment.reasons.items last.assignment.reasons.items
   pub cut : last.assignment.list.items ≡ take (length run.assignment.list.items) new
@@ -122,7 +122,7 @@ back-rooted store between after run last rests waiting new r b =
     let starts_is : last.candidates.items ≡ run.candidates.items = sym same.1 ∙ sym r.starts in
     let list_is : last.assignment.list.items ≡ run.assignment.list.items = b.cut ∙ ap (take (length run.assignment.list.items)) b.extends.1 ∙ take-append_seam run.assignment.list.items b.extends.0 in
     let agrees : Agree last.assignment.values.items run.assignment.list.items = subst (λ xs. Agree last.assignment.values.items xs) list_is last.assignment.agrees in
-    let walked = walked-agree run.assignment.values.items last.assignment.values.items run.assignment.list.items after.watches.items (walked_codes (length run.assignment.list.items) run.assignment.list.items) run.assignment.agrees agrees (b.kept r.walked) in
+    let walked = walked-agree run.assignment.values.items last.assignment.values.items run.assignment.list.items after.blocks.literals after.blocks.watches (walked_codes (length run.assignment.list.items) run.assignment.list.items) run.assignment.agrees agrees (b.kept r.walked) in
     record {
       values = b.values ∙ r.values;
       opens = sym same.0;

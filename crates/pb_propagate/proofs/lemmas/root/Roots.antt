@@ -96,7 +96,7 @@ pub record IsEnded (store : Store) (clauses : Clauses) (run : Run) : Type 0 wher
   pub candidates : length run.candidates.items ≡ length store.stored.items
   pub counted : IsCounted (shapes_of store.stored.items) run.opens.items run.assignment.list.items []
   pub reasoned : HaveReasons (all_of store clauses) run.assignment.reasons.items [] run.assignment.list.items
-  pub walked : AreWalked run.assignment.values.items clauses.watches.items (walked_codes (length run.assignment.list.items) run.assignment.list.items)
+  pub walked : AreWalked run.assignment.values.items clauses.blocks.literals clauses.blocks.watches (walked_codes (length run.assignment.list.items) run.assignment.list.items)
 
 pub kept-rooted : (store : Store) (clauses : Clauses) (run run' : Run) (rests rests' : Rests) (aside : List ℕ) (waiting' : Eager) → IsEnded store clauses run →
     IsTidy (beside rests aside) (shapes_of store.stored.items) run.opens.items run.candidates.items run.assignment.list.items run.work.items run.trail.items run.next (length store.stored.items) →
@@ -152,8 +152,8 @@ start-tidy rests keep eager opens cands opened started r e = record {
 }
 
 -- no literal is walked yet
-pub none-walked : (values : List (Option Bool)) (ws : List Watch) → AreWalked values ws (walked_codes 0 [])
-none-walked values ws = record {
+pub none-walked : (values : List (Option Bool)) (clauses : List (List ℕ)) (ws : List Watch) → AreWalked values clauses ws (walked_codes 0 [])
+none-walked values clauses ws = record {
   failed = λ x there. absurd (omega (arith, there.1));
   done = λ e live there. absurd (omega (arith, there.1));
 }
@@ -178,18 +178,18 @@ rooted-counted visits r = record {
 }
 
 -- values of one list have the same watches served
-pub walked-agree : (values values' : List (Option Bool)) (list : List NumberedLiteral) (ws : List Watch) (codes : List ℕ) → Agree values list → Agree values' list → AreWalked values ws codes → AreWalked values' ws codes
-walked-agree values values' list ws codes a b w = record {
+pub walked-agree : (values values' : List (Option Bool)) (list : List NumberedLiteral) (clauses : List (List ℕ)) (ws : List Watch) (codes : List ℕ) → Agree values list → Agree values' list → AreWalked values clauses ws codes → AreWalked values' clauses ws codes
+walked-agree values values' list clauses ws codes a b w = record {
   failed = λ x h. false-listed values' list x b ∙ sym (false-listed values list x a) ∙ w.failed x h;
-  done = λ e live h. true-listed values' list (watch_at ws (flip e)).literal b ∙ sym (true-listed values list (watch_at ws (flip e)).literal a) ∙ w.done e live h;
+  done = λ e live h. let met = w.done e live h in (met.0, met.1, true-listed values' list met.0 b ∙ sym (true-listed values list met.0 a) ∙ met.2);
 }
 
 -- one more variable, which has no value
-pub widened-rooted : (store store' : Store) (clauses clauses' : Clauses) (run : Run) (assignment : Assignment) (rests : Rests) (waiting : Eager) → store'.stored ≡ store.stored → store'.variables ≡ store.variables + 1 → clauses'.literals ≡ clauses.literals → clauses'.watches ≡ clauses.watches → assignment.list.items ≡ run.assignment.list.items → length assignment.values.items ≡ length run.assignment.values.items + 1 → KeepsReasons run.assignment.list.items run.assignment.reasons.items assignment.reasons.items →
+pub widened-rooted : (store store' : Store) (clauses clauses' : Clauses) (run : Run) (assignment : Assignment) (rests : Rests) (waiting : Eager) → store'.stored ≡ store.stored → store'.variables ≡ store.variables + 1 → clauses'.blocks.literals ≡ clauses.blocks.literals → clauses'.blocks.watches ≡ clauses.blocks.watches → assignment.list.items ≡ run.assignment.list.items → length assignment.values.items ≡ length run.assignment.values.items + 1 → KeepsReasons run.assignment.list.items run.assignment.reasons.items assignment.reasons.items →
     IsRooted store clauses run rests waiting (length store.stored.items) → IsRooted store' clauses' (record { opens = run.opens; candidates = run.candidates; assignment = assignment; work = run.work; next = run.next; trail = run.trail; visits = run.visits }) rests waiting (length store'.stored.items)
 widened-rooted store store' clauses clauses' run assignment rests waiting stored variables literals watches list values keeps r =
     let agrees : Agree assignment.values.items run.assignment.list.items = subst (Agree assignment.values.items) list assignment.agrees in
-    let walked = walked-agree run.assignment.values.items assignment.values.items run.assignment.list.items clauses.watches.items (walked_codes (length run.assignment.list.items) run.assignment.list.items) run.assignment.agrees agrees r.walked in
+    let walked = walked-agree run.assignment.values.items assignment.values.items run.assignment.list.items clauses.blocks.literals clauses.blocks.watches (walked_codes (length run.assignment.list.items) run.assignment.list.items) run.assignment.agrees agrees r.walked in
     record {
       values = omega (arith, values, r.values, variables);
       opens = r.opens;
@@ -202,7 +202,7 @@ widened-rooted store store' clauses clauses' run assignment rests waiting stored
       trail = r.trail;
       next = r.next;
       reasoned = rw (stored, literals, list) (reasons-keep run.assignment.reasons.items assignment.reasons.items keeps r.reasoned);
-      walked = rw (list, watches) walked;
+      walked = rw (list, literals, watches) walked;
       seats = rw stored r.seats;
       live = rw stored r.live;
     }

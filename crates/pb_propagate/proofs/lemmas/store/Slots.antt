@@ -1,4 +1,5 @@
 -- Forms take slots and leave them.
+use Rattle.pb_propagate.specs.declared.clauses.lists.Listed.{Listed}
 use Rattle.std.specs.Prelude.{map, filter, sum_by, Option, Some, None, slice_get, swap_remove}
 use Rattle.std.proofs.Common.{◌≡◌, ℕ, zero, suc, ◌+◌, ◌<◌, ◌≤◌, ◌*◌, ◌++◌, ◌∷◌, [], List, Bool, true, false, if◌then◌else◌, Vec, Global, refl, sym, ◌∙◌, ap, arith, inl, inr, length, get_or, set, length-set, length-append}
 use Rattle.std.proofs.lemmas.Bool.{cases_eq, cases_lt, cases_Bool, both_ways}
@@ -26,10 +27,9 @@ use Rattle.pb_propagate.specs.declared.clauses.Clauses.{Clauses}
 use Rattle.pb_propagate.specs.engine.Engine.Lists.{Shape}
 use Rattle.pb_propagate.specs.engine.Engine.Fields.{IsUnlisted}
 use Rattle.pb_propagate.specs.engine.Engine.Terms.{terms_of}
-use Rattle.pb_propagate.specs.engine.Clauses.Runs.{AreReady}
+use Rattle.pb_propagate.specs.engine.Clauses.Runs.{AreReady, IsRefitted}
 use Rattle.pb_propagate.specs.engine.Clauses.Shapes.{code, group_by, codes_of_terms, joined, clauses_of, clause_shape, IsClause}
 use Rattle.pb_normal.specs.meaning.Form.{IsNormal}
-use Rattle.pb_propagate.proofs.lemmas.clauses.Linked.{lists-length}
 use Rattle.pb_propagate.proofs.lemmas.clauses.Slots.{IsVacant, slots-vacant, joined-widen, AreJoined-widen, joined-set, AreJoined-set, joined-clause, AreJoined-clause, joined-cleared, AreJoined-cleared, clause-kept, rising-different}
 use Rattle.pb_propagate.proofs.lemmas.clauses.Shapes.{joined-length}
 
@@ -109,7 +109,7 @@ pub rest-widened : (store store' : Store) (run run' : Run) (waiting waiting' : E
     IsAtRest store run waiting clauses forms → IsAtRest store' run' waiting' clauses' (forms ++ (None ∷ []))
 rest-widened store store' run run' waiting waiting' clauses clauses' forms k sound e keeps opens cands variables trail same list seats ready literals lists r =
     let keep = store.stored.items in
-    let sizes : length (clauses_of clauses) ≡ length (shapes_of keep) = omega (arith, lists-length clauses.literals.items, r.known, length-map keep stored_shape) in
+    let sizes : length (clauses_of clauses) ≡ length (shapes_of keep) = omega (arith, r.known, length-map keep stored_shape) in
     let x = exact-widened keep k waiting.list.items e (record { eager = r.eager; exact = r.exact; few = r.few }) in
     let y : IsExact store'.stored.items waiting'.list.items = rw (keeps, list) x in
     record {
@@ -117,8 +117,8 @@ rest-widened store store' run run' waiting waiting' clauses clauses' forms k sou
       slots = rw (keeps, map-append stored_shape keep (k ∷ []), literals, joined-widen (shapes_of keep) (clauses_of clauses) (stored_shape k) sizes) (slots-more forms (joined (shapes_of keep) (clauses_of clauses)) None (stored_shape k) r.slots (e.terms, e.degree));
       joined = rw (keeps, map-append stored_shape keep (k ∷ []), literals) (AreJoined-widen (shapes_of keep) (clauses_of clauses) (stored_shape k) r.joined);
       ready = ready;
-      widths = ap (λ (v : Vec (Vec ℕ Global) Global). length v.items) lists ∙ r.widths ∙ ap (λ n. 4 * n) (sym variables);
-      known = omega (arith, ap length literals, length-append (clauses_of clauses) ([] ∷ []), lists-length clauses.literals.items, lists-length clauses'.literals.items, r.known, ap length keeps, length-append keep (k ∷ []));
+      widths = ap (λ (v : Vec (Vec Listed Global) Global). length v.items) lists ∙ r.widths ∙ ap (λ n. 4 * n) (sym variables);
+      known = omega (arith, ap length literals, length-append (clauses_of clauses) ([] ∷ []), r.known, ap length keeps, length-append keep (k ∷ []));
       rest = record {
         opened = opens ∙ ap (λ (xs : List ℕ). xs ++ (0 ∷ [])) r.rest.opened ∙ ap (λ n. map (λ (z : StoredForm). z.total) keep ++ (n ∷ [])) (sym e.total) ∙ sym (ap (map (λ z. z.total)) keeps ∙ map-append (λ (z : StoredForm). z.total) keep (k ∷ []));
         passed = cands ∙ ap (λ (xs : List ℕ). xs ++ (0 ∷ [])) r.rest.passed ∙ sym (ap (map (λ z. 0)) keeps ∙ map-append (λ (z : StoredForm). 0) keep (k ∷ []));
@@ -296,7 +296,7 @@ rest-watched store store' run waiting clauses clauses' forms f k s none e keeps 
     let vacant = slots-vacant forms (shapes_of keep) (clauses_of clauses) s r.slots none in
     let bare = vacant-bare keep (clauses_of clauses) s vacant in
     let same = shapes-watched keep store'.stored.items k (clauses_of clauses) s vacant e keeps in
-    let room : s < length (clauses_of clauses) = omega (arith, bare.inside, r.known, lists-length clauses.literals.items) in
+    let room : s < length (clauses_of clauses) = omega (arith, bare.inside, r.known) in
     let some : 0 < length codes = omega (arith, clause.two, length-map f.terms (code (group_by (length f.terms)))) in
     let x = exact-quit keep k waiting.list.items waiting.list.items waiting.seats.items s bare.inside e.eager waiting.seated (λ w. absurd (both_ways _ bare.idle w)) (λ w. refl) (record { eager = r.eager; exact = r.exact; few = r.few }) in
     let y : IsExact store'.stored.items waiting.list.items = rw keeps x in
@@ -309,7 +309,7 @@ rest-watched store store' run waiting clauses clauses' forms f k s none e keeps 
       joined = rw (same, literals) (AreJoined-clause (shapes_of keep) (clauses_of clauses) s codes room (λ d. (vacant.terms d, vacant.degree d)) (rising-different (group_by (length f.terms)) 0 f.terms normal.ordered) r.joined);
       ready = ready;
       widths = omega (arith, lists, r.widths, variables);
-      known = omega (arith, ap length literals, length-set (clauses_of clauses) s codes, lists-length clauses.literals.items, lists-length clauses'.literals.items, r.known, ap length keeps, length-set keep s k);
+      known = omega (arith, ap length literals, length-set (clauses_of clauses) s codes, r.known, ap length keeps, length-set keep s k);
       rest = record {
         opened = r.rest.opened ∙ sym (ap (map (λ z. z.total)) keeps ∙ map-set_same (λ (z : StoredForm). z.total) keep s k k nothing);
         passed = r.rest.passed ∙ sym (ap (map (λ z. 0)) keeps ∙ map-zero keep s k);
@@ -338,10 +338,10 @@ rest-quit store store' run run' waiting waiting' clauses clauses' forms k s less
     record {
       sound = sound;
       slots = rw (keeps, map-set stored_shape keep s k, literals, joined-cleared (shapes_of keep) (clauses_of clauses) s (stored_shape k)) (slots-set forms (joined (shapes_of keep) (clauses_of clauses)) s None (stored_shape k) (e.terms, e.degree) r.slots);
-      joined = rw (keeps, map-set stored_shape keep s k, literals) (AreJoined-cleared (shapes_of keep) (clauses_of clauses) s (stored_shape k) (omega (arith, inside, r.known, lists-length clauses.literals.items)) r.joined);
+      joined = rw (keeps, map-set stored_shape keep s k, literals) (AreJoined-cleared (shapes_of keep) (clauses_of clauses) s (stored_shape k) (omega (arith, inside, r.known)) r.joined);
       ready = ready;
       widths = omega (arith, lists, r.widths, variables);
-      known = omega (arith, ap length literals, length-set (clauses_of clauses) s [], lists-length clauses.literals.items, lists-length clauses'.literals.items, r.known, ap length keeps, length-set keep s k);
+      known = omega (arith, ap length literals, length-set (clauses_of clauses) s [], r.known, ap length keeps, length-set keep s k);
       rest = record {
         opened = opens ∙ ap (λ (xs : List ℕ). set xs s 0) r.rest.opened ∙ sym (ap (map (λ z. z.total)) keeps ∙ map-set (λ (z : StoredForm). z.total) keep s k ∙ ap (set (map (λ (z : StoredForm). z.total) keep) s) e.total);
         passed = ap (λ (v : Vec ℕ Global). v.items) same.0 ∙ r.rest.passed ∙ sym (ap (map (λ z. 0)) keeps ∙ map-zero keep s k);
@@ -356,3 +356,24 @@ rest-quit store store' run run' waiting waiting' clauses clauses' forms k s less
       few = y.few;
       seats = omega (arith, seats, r.seats, ap length keeps, length-set keep s k);
     }
+
+-- only the room in the blocks of clauses is another
+pub rest-refitted : (store : Store) (run : Run) (waiting : Eager) (clauses clauses' : Clauses) (forms : List (Option Form)) → IsRefitted clauses clauses' → IsAtRest store run waiting clauses forms → IsAtRest store run waiting clauses' forms
+rest-refitted store run waiting clauses clauses' forms same r = record {
+  sound = r.sound;
+  slots = rw same.literals r.slots;
+  joined = rw same.literals r.joined;
+  ready = same.ready;
+  widths = rw same.lists r.widths;
+  known = rw same.literals r.known;
+  rest = r.rest;
+  values = r.values;
+  list = r.list;
+  work = r.work;
+  trail = r.trail;
+  next = r.next;
+  eager = r.eager;
+  exact = r.exact;
+  few = r.few;
+  seats = r.seats;
+}

@@ -5,7 +5,6 @@ use Rattle.pb_propagate.specs.engine.Engine.Lists.{Conflicts, IsSettled}
 use Rattle.pb_propagate.specs.engine.Engine.Counts.{spent}
 use Rattle.pb_propagate.specs.engine.Engine.Fields.{shapes_of, entries_of, stored_shape}
 use Rattle.pb_propagate.specs.engine.Clauses.Truths.{false_at}
-use Rattle.pb_propagate.specs.engine.Clauses.Links.{lists_of}
 use Rattle.pb_propagate.specs.engine.Clauses.Runs.{AreServed, AreWalked, passed_of}
 use Rattle.pb_propagate.specs.engine.Clauses.Shapes.{all_of, clauses_of, joined}
 use Rattle.pb_propagate.proofs.lemmas.engine.Derivations.{derivation-keeps}
@@ -106,7 +105,7 @@ returns-then-branch-2-clause-costs c =
 pub returns-then-branch-2-clause-reasons : goal.returns-then-branch-2-clause-reasons
 returns-then-branch-2-clause-reasons c =
     let w = c.work.invariant.watching in
-    run-reasons-then c.work.invariant.reasons (subst (λ ls. RunReasons (joined (shapes_of c.args.store.now.stored.items) (lists_of ls.items)) c.work.run c.walk.new.run) w.literals c.in_ok-walk.ensures.reasons)
+    run-reasons-then c.work.invariant.reasons (subst (λ ls. RunReasons (joined (shapes_of c.args.store.now.stored.items) ls) c.work.run c.walk.new.run) w.literals c.in_ok-walk.ensures.reasons)
 
 pub returns-then-branch-2-clause-undone : goal.returns-then-branch-2-clause-undone
 returns-then-branch-2-clause-undone c =
@@ -123,7 +122,7 @@ returns-then-branch-2-clause-conflict c =
     let run = c.work.run in
     let state = c.work.invariant.state in
     let w = c.work.invariant.watching in
-    λ found. subst (λ ls. Conflicts (joined (shapes_of c.args.store.now.stored.items) (lists_of ls.items)) c.walk.new.run.assignment.list.items) w.literals (c.in_ok-walk.ensures.conflict c.if-branch-2.true)
+    λ found. subst (λ ls. Conflicts (joined (shapes_of c.args.store.now.stored.items) ls) c.walk.new.run.assignment.list.items) w.literals (c.in_ok-walk.ensures.conflict c.if-branch-2.true)
 
 pub returns-then-branch-2-clause-values : goal.returns-then-branch-2-clause-values
 returns-then-branch-2-clause-values c =
@@ -192,12 +191,12 @@ work-preserved-in-Some c =
     let reported = c.in_ok-walk.ensures in
     let same = ap (λ (v : Vec ℕ Global). v.items) c.walk.ensures.candidates in
     let covered = walk-covered (database c.args.store.now c.args.rests.now) c.work.clauses c.walk.new.clauses c.in-Some.ahead.code (falsified_code a.group a.literal) same a.code reported.advances.costs in
-    let reasons = subst (λ ls. RunReasons (joined (shapes_of c.args.store.now.stored.items) (lists_of ls.items)) c.work.run c.walk.new.run) w.literals reported.reasons in
+    let reasons = subst (λ ls. RunReasons (joined (shapes_of c.args.store.now.stored.items) ls) c.work.run c.walk.new.run) w.literals reported.reasons in
     let derived = reasons-derive reasons.added in
     let after = λ (n : ℕ) (within : n ≤ length run.assignment.list.items). derived-take (all_of store c.args.clauses.now) run.assignment.list.items done.assignment.list.items n within derived in
     let paid = subst (λ (h : Heads). done.visits + spent lists run.assignment.list.items + cost c.args.clauses.now c.work.clauses c.work.heads run.assignment.list.items ≤ run.visits + cost c.args.clauses.now c.walk.new.clauses h done.assignment.list.items + spent lists done.assignment.list.items) (sym a.after)
     (cost-next c.args.clauses.now c.work.clauses c.walk.new.clauses run.assignment.values.items run.assignment.list.items done.assignment.list.items a.group c.work.heads run.visits done.visits (spent lists run.assignment.list.items) (spent lists done.assignment.list.items) a.literal (state.costs.single c.requires.single) a.inside a.is after covered w) in
-    let walked = subst (λ t. (xs : List ℕ) → AreServed c.work.run.assignment.values.items c.work.clauses.watches.items xs t 0 → AreWalked c.walk.new.run.assignment.values.items c.walk.new.clauses.watches.items (xs ++ (t ∷ []))) a.code (reported.walked c.if-branch-2.false) in
+    let walked = subst (λ t. (xs : List ℕ) → AreServed c.work.run.assignment.values.items c.work.clauses.blocks.literals c.work.clauses.blocks.watches xs t 0 → AreWalked c.walk.new.run.assignment.values.items c.walk.new.clauses.blocks.literals c.walk.new.clauses.blocks.watches (xs ++ (t ∷ []))) a.code (reported.walked c.if-branch-2.false) in
     record {
       grows = grows-trans start.assignment.values.items run.assignment.values.items done.assignment.values.items c.work.invariant.grows reported.grows;
       kept = λ base codes more old. reported.kept base codes (grows-trans base start.assignment.values.items run.assignment.values.items more c.work.invariant.grows) (c.work.invariant.kept base codes more old);
@@ -364,7 +363,7 @@ returns-else-taken-waiting-clause-walked c = λ found.
     let run = c.work.run in
     let w = c.work.invariant.watching in
     let end = subst (λ (xs : List NumberedLiteral). (length xs ≤ c.work.heads.short) × (length xs ≤ c.work.heads.long)) c.as_slice.ensures.value c.in_default.ensures.none in
-    walked-whole run.assignment.values.items c.work.clauses.watches.items run.assignment.list.items c.work.heads (omega (arith, w.short, end.0)) (omega (arith, w.long, end.1)) w.served
+    walked-whole run.assignment.values.items c.work.clauses.blocks.literals c.work.clauses.blocks.watches run.assignment.list.items c.work.heads (omega (arith, w.short, end.0)) (omega (arith, w.long, end.1)) w.served
 
 pub returns-then-branch-clause-kept : goal.returns-then-branch-clause-kept
 returns-then-branch-clause-kept c = c.work.invariant.kept

@@ -3,11 +3,11 @@ use Rattle.std.proofs.Common.{rules, refl, ◌∙◌, [], ◌≡◌, ◌⊎◌, 
 use Rattle.pb_propagate.specs.engine.Engine.Fields.{forms_of, shapes_of}
 use Rattle.pb_propagate.proofs.lemmas.store.Changes.{forms-filled}
 use Rattle.pb_propagate.specs.engine.Clauses.Shapes.{clauses_of}
-use Rattle.pb_propagate.proofs.lemmas.store.Slots.{slots-bare, exact-absent, rest-filled, rest-watched}
+use Rattle.pb_propagate.proofs.lemmas.store.Slots.{slots-bare, exact-absent, rest-filled, rest-watched, rest-refitted}
 use Rattle.pb_propagate.proofs.lemmas.clauses.Slots.{slots-vacant}
 use Rattle.std.proofs.Common.{ℕ, List, get_or-set_other}
 use Rattle.pb_propagate.specs.engine.Clauses.Shapes.{codes_of_terms}
-use Rattle.pb_propagate.specs.engine.Clauses.Links.{list_at}
+use Rattle.pb_propagate.specs.engine.Clauses.Links.{list_at, watch_at}
 use Rattle.pb_propagate.proofs.lemmas.root.Gained.{gained-filled}
 use Rattle.pb_propagate.proofs.slots.occupy.Goals as goal
 
@@ -40,8 +40,8 @@ returns-clause-rest c =
     let h = reported.filled in
     let keep = c.args.store.now.stored.items in
     rw (forms-filled keep c.fill.new.store.stored.items h.kept c.args.slot (Some c.args.form) h.keeps h.form)
-    (rest-filled c.args.store.now c.fill.new.store c.args.run.now c.fill.new.run c.args.eager.now c.seat.new.eager c.args.clauses.now (forms_of keep) c.args.form c.args.slot reported.sound c.requires.slot h
-    c.fill.ensures.variables c.fill.ensures.trail c.fill.ensures.rest c.in_ok-seat.ensures.list c.seat.ensures.seats c.requires.rest)
+    (rest-filled c.args.store.now c.fill.new.store c.args.run.now c.fill.new.run c.args.eager.now c.seat.new.eager c.plan.new.clauses (forms_of keep) c.args.form c.args.slot reported.sound c.requires.slot h
+    c.fill.ensures.variables c.fill.ensures.trail c.fill.ensures.rest c.in_ok-seat.ensures.list c.seat.ensures.seats (rest-refitted c.args.store.now c.args.run.now c.args.eager.now c.args.clauses.now c.plan.new.clauses (forms_of keep) c.plan.ensures.clauses c.requires.rest))
 
 pub returns-clause-forms : goal.returns-clause-forms
 returns-clause-forms c =
@@ -70,18 +70,18 @@ watch-requires-clause-slot c =
 
 pub watch-requires-clause-empty : goal.watch-requires-clause-empty
 watch-requires-clause-empty c =
-    (slots-vacant (forms_of c.args.store.now.stored.items) (shapes_of c.args.store.now.stored.items) (clauses_of c.args.clauses.now) c.args.slot c.requires.rest.slots c.requires.slot).clause
+    ap (λ (cs : List (List ℕ)). list_at cs c.args.slot) c.plan.ensures.clauses.literals ∙ (slots-vacant (forms_of c.args.store.now.stored.items) (shapes_of c.args.store.now.stored.items) (clauses_of c.args.clauses.now) c.args.slot c.requires.rest.slots c.requires.slot).clause
 
 pub returns-in-Some-clause-rest : goal.returns-in-Some-clause-rest
 returns-in-Some-clause-rest c =
-    let planned = rw c.in-Some.is at c.in_ok-planned.ensures in
+    let planned = rw c.in-Some.is at c.in_ok-planned.ensures.planned in
     let reported = c.in_ok-watch.ensures in
     let k = reported.kept in
     let rest = c.watch.ensures.rest in
     let keep = c.args.store.now.stored.items in
     rw (forms-filled keep c.watch.new.store.stored.items k.0 c.args.slot (Some c.args.form) k.3 k.1)
-    (rest-watched c.args.store.now c.watch.new.store c.args.run.now c.args.eager.now c.args.clauses.now c.watch.new.clauses (forms_of keep) c.args.form k.0 c.args.slot c.requires.slot k.2 k.3
-    rest.0 rest.1 rest.2 (rw c.form-2.ensures at planned.normal) (rw c.form-2.ensures at planned.clause) reported.ready reported.literals reported.lists c.requires.rest)
+    (rest-watched c.args.store.now c.watch.new.store c.args.run.now c.args.eager.now c.plan.new.clauses c.watch.new.clauses (forms_of keep) c.args.form k.0 c.args.slot c.requires.slot k.2 k.3
+    rest.0 rest.1 rest.2 (rw c.form-2.ensures at planned.0.normal) (rw c.form-2.ensures at planned.0.clause) reported.ready reported.literals reported.lists (rest-refitted c.args.store.now c.args.run.now c.args.eager.now c.args.clauses.now c.plan.new.clauses (forms_of keep) c.plan.ensures.clauses c.requires.rest))
 
 pub returns-in-Some-clause-forms : goal.returns-in-Some-clause-forms
 returns-in-Some-clause-forms c =
@@ -100,7 +100,7 @@ returns-clause-gained c =
     let store = c.args.store.now in
     let h = c.in_ok-fill.ensures.filled in
     let vacant = slots-vacant (forms_of store.stored.items) (shapes_of store.stored.items) (clauses_of c.args.clauses.now) c.args.slot c.requires.rest.slots c.requires.slot in
-    gained-filled store c.fill.new.store c.args.clauses.now c.args.clauses.now c.args.slot h.kept c.fill.ensures.variables h.keeps (λ s apart. refl) (λ e apart. refl) vacant c.requires.slot c.args.form h.form
+    gained-filled store c.fill.new.store c.args.clauses.now c.plan.new.clauses c.args.slot h.kept c.fill.ensures.variables h.keeps (λ s apart. ap (λ (cs : List (List ℕ)). list_at cs s) c.plan.ensures.clauses.literals) (λ e apart. ap (λ ws. watch_at ws e) c.plan.ensures.clauses.watches) vacant c.requires.slot c.args.form h.form
 
 pub returns-in-Some-clause-gained : goal.returns-in-Some-clause-gained
 returns-in-Some-clause-gained c =
@@ -108,14 +108,30 @@ returns-in-Some-clause-gained c =
     let reported = c.in_ok-watch.ensures in
     let k = reported.kept in
     let vacant = slots-vacant (forms_of store.stored.items) (shapes_of store.stored.items) (clauses_of c.args.clauses.now) c.args.slot c.requires.rest.slots c.requires.slot in
-    gained-filled store c.watch.new.store c.args.clauses.now c.watch.new.clauses c.args.slot k.0 c.watch.ensures.rest.2 k.3 (λ s apart. ap (λ (cs : List (List ℕ)). list_at cs s) reported.literals ∙ get_or-set_other (clauses_of c.args.clauses.now) c.args.slot s (codes_of_terms c.args.form.terms) [] apart) reported.watches vacant c.requires.slot c.args.form k.1
+    gained-filled store c.watch.new.store c.args.clauses.now c.watch.new.clauses c.args.slot k.0 c.watch.ensures.rest.2 k.3 (λ s apart. ap (λ (cs : List (List ℕ)). list_at cs s) reported.literals ∙ get_or-set_other (clauses_of c.plan.new.clauses) c.args.slot s (codes_of_terms c.args.form.terms) [] apart ∙ ap (λ (cs : List (List ℕ)). list_at cs s) c.plan.ensures.clauses.literals) (λ e apart. reported.watches e apart ∙ ap (λ ws. watch_at ws e) c.plan.ensures.clauses.watches) vacant c.requires.slot c.args.form k.1
 
 pub watch-requires-clause-codes : goal.watch-requires-clause-codes
 watch-requires-clause-codes c =
-    let planned = rw c.in-Some.is at c.in_ok-planned.ensures in
-    rw c.form-2.ensures at planned.codes
+    let planned = rw c.in-Some.is at c.in_ok-planned.ensures.planned in
+    rw c.form-2.ensures at planned.0.codes
 
 pub watch-requires-clause-pair : goal.watch-requires-clause-pair
 watch-requires-clause-pair c =
-    let planned = rw c.in-Some.is at c.in_ok-planned.ensures in
-    planned.pair
+    let planned = rw c.in-Some.is at c.in_ok-planned.ensures.planned in
+    planned.0.pair
+
+pub watch-requires-clause-known : goal.watch-requires-clause-known
+watch-requires-clause-known c = ap length c.plan.ensures.clauses.literals ∙ c.requires.rest.known
+
+pub watch-requires-clause-widths : goal.watch-requires-clause-widths
+watch-requires-clause-widths c = let same = c.plan.ensures.clauses.lists in ap (λ v. length v.items) same ∙ c.requires.rest.widths
+
+pub watch-requires-clause-room : goal.watch-requires-clause-room
+watch-requires-clause-room c =
+    let planned = rw c.in-Some.is at c.in_ok-planned.ensures.planned in
+    planned.1
+
+pub plan-requires-clause-slot : goal.plan-requires-clause-slot
+plan-requires-clause-slot c =
+    let bare = slots-bare (forms_of c.args.store.now.stored.items) c.args.store.now.stored.items (clauses_of c.args.clauses.now) c.args.slot c.requires.rest.slots c.requires.slot in
+    omega (arith, bare.inside, c.requires.rest.known)

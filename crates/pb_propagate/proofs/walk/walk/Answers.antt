@@ -5,7 +5,7 @@ use Rattle.pb_propagate.specs.declared.clauses.visiting.Visit.TheVariants.{Stays
 use Rattle.pb_propagate.specs.engine.Engine.Lists.{has}
 use Rattle.pb_propagate.specs.engine.Engine.Fields.{shapes_of}
 use Rattle.pb_propagate.specs.engine.Engine.Progress.{progress, database, list_of, reasons_of}
-use Rattle.pb_propagate.specs.engine.Clauses.Links.{lists_of, list_at}
+use Rattle.pb_propagate.specs.engine.Clauses.Links.{watch_lists, list_at}
 use Rattle.pb_propagate.specs.engine.Clauses.Runs.{HasVisited, IsBroken, IsUnit}
 use Rattle.pb_propagate.specs.engine.Clauses.Shapes.{clauses_of, all_of}
 use Rattle.pb_propagate.proofs.lemmas.clauses.Literals.{true-listed, false-listed}
@@ -33,7 +33,7 @@ watches-init c =
 pub watches-preserved-in-Stays : goal.watches-preserved-in-Stays
 watches-preserved-in-Stays c =
     let i = c.watches.invariant in
-    let inside : c.watches.index < length (list_at (lists_of c.watches.clauses.lists.items) c.args.literal) = omega (arith, c.watches-test.true, c.watch_count.ensures) in
+    let inside : c.watches.index < length (list_at (watch_lists c.watches.clauses.lists.items) c.args.literal) = omega (arith, c.watches-test.true, c.watch_count.ensures) in
     let v : HasVisited c.watches.run.assignment.values.items c.watches.clauses c.visit_clause.new.clauses c.args.literal c.watches.index Stays = subst (HasVisited c.watches.run.assignment.values.items c.watches.clauses c.visit_clause.new.clauses c.args.literal c.watches.index) c.in-Stays.is c.in_ok-visit_clause.ensures.watch in
     record {
       reasons = record { kept = i.reasons.kept; added = i.reasons.added };
@@ -47,7 +47,7 @@ watches-preserved-in-Stays c =
 pub watches-preserved-in-Leaves : goal.watches-preserved-in-Leaves
 watches-preserved-in-Leaves c =
     let i = c.watches.invariant in
-    let inside : c.watches.index < length (list_at (lists_of c.watches.clauses.lists.items) c.args.literal) = omega (arith, c.watches-test.true, c.watch_count.ensures) in
+    let inside : c.watches.index < length (list_at (watch_lists c.watches.clauses.lists.items) c.args.literal) = omega (arith, c.watches-test.true, c.watch_count.ensures) in
     let v : HasVisited c.watches.run.assignment.values.items c.watches.clauses c.visit_clause.new.clauses c.args.literal c.watches.index Leaves = subst (HasVisited c.watches.run.assignment.values.items c.watches.clauses c.visit_clause.new.clauses c.args.literal c.watches.index) c.in-Leaves.is c.in_ok-visit_clause.ensures.watch in
     record {
       reasons = record { kept = i.reasons.kept; added = i.reasons.added };
@@ -61,10 +61,10 @@ watches-preserved-in-Leaves c =
 pub watches-preserved : goal.watches-preserved
 watches-preserved c =
     let i = c.watches.invariant in
-    let inside : c.watches.index < length (list_at (lists_of c.watches.clauses.lists.items) c.args.literal) = omega (arith, c.watches-test.true, c.watch_count.ensures) in
+    let inside : c.watches.index < length (list_at (watch_lists c.watches.clauses.lists.items) c.args.literal) = omega (arith, c.watches-test.true, c.watch_count.ensures) in
     let v : HasVisited c.watches.run.assignment.values.items c.watches.clauses c.visit_clause.new.clauses c.args.literal c.watches.index (Forces c.in-Forces.forced) = subst (HasVisited c.watches.run.assignment.values.items c.watches.clauses c.visit_clause.new.clauses c.args.literal c.watches.index) c.in-Forces.is c.in_ok-visit_clause.ensures.watch in
     let shapes = shapes_of c.args.store.now.stored.items in
-    let unit : IsUnit c.watches.run.assignment.values.items (clauses_of c.args.clauses.now) c.in-Forces.forced.slot c.in-Forces.forced.code = subst (λ ls. IsUnit c.watches.run.assignment.values.items (lists_of ls.items) c.in-Forces.forced.slot c.in-Forces.forced.code) (c.visit_clause.ensures.literals ∙ c.watches.invariant.walking.literals) v.found.1 in
+    let unit : IsUnit c.watches.run.assignment.values.items (clauses_of c.args.clauses.now) c.in-Forces.forced.slot c.in-Forces.forced.code = subst (λ ls. IsUnit c.watches.run.assignment.values.items ls c.in-Forces.forced.slot c.in-Forces.forced.code) (c.visit_clause.ensures.literals ∙ c.watches.invariant.walking.literals) v.found.1 in
     let reported = c.in_ok-put-in-Forces.ensures in
     record {
       reasons = record {
@@ -93,7 +93,7 @@ put-requires-clause-not_falsified c =
 -- where a form is falsified: the literal was put
 forced : (c : goal.Then-branch) → IsWalking c.args.clauses.now c.visit_clause.new.clauses c.args.literal (c.watches.index + 1) (progress c.args.run.now) (progress c.put.new.run)
 forced c =
-    let inside : c.watches.index < length (list_at (lists_of c.watches.clauses.lists.items) c.args.literal) = omega (arith, c.watches-test.true, c.watch_count.ensures) in
+    let inside : c.watches.index < length (list_at (watch_lists c.watches.clauses.lists.items) c.args.literal) = omega (arith, c.watches-test.true, c.watch_count.ensures) in
     let v : HasVisited c.watches.run.assignment.values.items c.watches.clauses c.visit_clause.new.clauses c.args.literal c.watches.index (Forces c.in-Forces.forced) = subst (HasVisited c.watches.run.assignment.values.items c.watches.clauses c.visit_clause.new.clauses c.args.literal c.watches.index) c.in-Forces.is c.in_ok-visit_clause.ensures.watch in
     let reported = c.in_ok-put-in-Forces.ensures in
     walking-forces c.visit_clause.new.clauses c.visit_clause.new.visits c.in-Forces.forced (progress c.put.new.run) c.watches.invariant.walking v c.visit_clause.ensures.literals inside (record { counted = c.visit_clause.ensures.counted; rising = c.visit_clause.ensures.rising }) reported.advances.rising reported.advances.values (reported.list ∙ ap (λ k. c.watches.run.assignment.list.items ++ (k ∷ [])) c.literal_of.ensures) c.watches.run.assignment.agrees c.put.new.run.assignment.agrees
@@ -105,7 +105,7 @@ pub returns-then-branch-clause-reasons : goal.returns-then-branch-clause-reasons
 returns-then-branch-clause-reasons c =
     let v : HasVisited c.watches.run.assignment.values.items c.watches.clauses c.visit_clause.new.clauses c.args.literal c.watches.index (Forces c.in-Forces.forced) = subst (HasVisited c.watches.run.assignment.values.items c.watches.clauses c.visit_clause.new.clauses c.args.literal c.watches.index) c.in-Forces.is c.in_ok-visit_clause.ensures.watch in
     let shapes = shapes_of c.args.store.now.stored.items in
-    let unit : IsUnit c.watches.run.assignment.values.items (clauses_of c.args.clauses.now) c.in-Forces.forced.slot c.in-Forces.forced.code = subst (λ ls. IsUnit c.watches.run.assignment.values.items (lists_of ls.items) c.in-Forces.forced.slot c.in-Forces.forced.code) (c.visit_clause.ensures.literals ∙ c.watches.invariant.walking.literals) v.found.1 in
+    let unit : IsUnit c.watches.run.assignment.values.items (clauses_of c.args.clauses.now) c.in-Forces.forced.slot c.in-Forces.forced.code = subst (λ ls. IsUnit c.watches.run.assignment.values.items ls c.in-Forces.forced.slot c.in-Forces.forced.code) (c.visit_clause.ensures.literals ∙ c.watches.invariant.walking.literals) v.found.1 in
     let reported = c.in_ok-put-in-Forces.ensures in
     record {
       kept = keeps-then (list_of c.args.run.now) (list_of c.watches.run) (reasons_of c.args.run.now) (reasons_of c.watches.run) (reasons_of c.put.new.run) (reasons-within (list_of c.args.run.now) (list_of c.watches.run) c.watches.invariant.reasons.added) c.watches.invariant.reasons.kept reported.reasons.kept;
@@ -124,7 +124,7 @@ returns-then-branch-clause-found c = (forced c).found
 pub returns-then-branch-clause-advances : goal.returns-then-branch-clause-advances
 returns-then-branch-clause-advances c =
     let i = c.watches.invariant in
-    let inside : c.watches.index < length (list_at (lists_of c.watches.clauses.lists.items) c.args.literal) = omega (arith, c.watches-test.true, c.watch_count.ensures) in
+    let inside : c.watches.index < length (list_at (watch_lists c.watches.clauses.lists.items) c.args.literal) = omega (arith, c.watches-test.true, c.watch_count.ensures) in
     let v : HasVisited c.watches.run.assignment.values.items c.watches.clauses c.visit_clause.new.clauses c.args.literal c.watches.index (Forces c.in-Forces.forced) = subst (HasVisited c.watches.run.assignment.values.items c.watches.clauses c.visit_clause.new.clauses c.args.literal c.watches.index) c.in-Forces.is c.in_ok-visit_clause.ensures.watch in
     walk-then (walk-ends (database c.args.store.now c.args.rests.now) c.args.clauses.now c.watches.clauses c.visit_clause.new.clauses c.args.literal c.watches.index c.visit_clause.new.visits inside c.visit_clause.ensures.covered c.visit_clause.ensures.rising i.advances) c.in_ok-put-in-Forces.ensures.advances
 
@@ -140,7 +140,7 @@ returns-in-Falsified-clause-conflict c = λ yes.
     let shapes = shapes_of c.args.store.now.stored.items in
     let v : HasVisited c.watches.run.assignment.values.items c.watches.clauses c.visit_clause.new.clauses c.args.literal c.watches.index Falsified = subst (HasVisited c.watches.run.assignment.values.items c.watches.clauses c.visit_clause.new.clauses c.args.literal c.watches.index) c.in-Falsified.is c.in_ok-visit_clause.ensures.watch in
     let same = c.visit_clause.ensures.literals ∙ c.watches.invariant.walking.literals in
-    broken-conflicts shapes (clauses_of c.args.clauses.now) c.watches.run.assignment.values.items c.watches.run.assignment.list.items c.requires.joined c.watches.run.assignment.agrees (subst (λ ls. IsBroken c.watches.run.assignment.values.items (lists_of ls.items)) same v.found)
+    broken-conflicts shapes (clauses_of c.args.clauses.now) c.watches.run.assignment.values.items c.watches.run.assignment.list.items c.requires.joined c.watches.run.assignment.agrees (subst (λ ls. IsBroken c.watches.run.assignment.values.items ls) same v.found)
 
 pub returns-in-Falsified-clause-running : goal.returns-in-Falsified-clause-running
 returns-in-Falsified-clause-running c =
@@ -169,17 +169,17 @@ returns-in-Falsified-clause-found c = λ few.
 
 pub returns-in-Falsified-clause-advances : goal.returns-in-Falsified-clause-advances
 returns-in-Falsified-clause-advances c =
-    let inside : c.watches.index < length (list_at (lists_of c.watches.clauses.lists.items) c.args.literal) = omega (arith, c.watches-test.true, c.watch_count.ensures) in
+    let inside : c.watches.index < length (list_at (watch_lists c.watches.clauses.lists.items) c.args.literal) = omega (arith, c.watches-test.true, c.watch_count.ensures) in
     walk-ends (database c.args.store.now c.args.rests.now) c.args.clauses.now c.watches.clauses c.visit_clause.new.clauses c.args.literal c.watches.index c.visit_clause.new.visits inside c.visit_clause.ensures.covered c.visit_clause.ensures.rising c.watches.invariant.advances
 
 pub returns-in_err-visit_clause-clause-costs : goal.returns-in_err-visit_clause-clause-costs
 returns-in_err-visit_clause-clause-costs c =
-    let inside : c.watches.index < length (list_at (lists_of c.watches.clauses.lists.items) c.args.literal) = omega (arith, c.watches-test.true, c.watch_count.ensures) in
+    let inside : c.watches.index < length (list_at (watch_lists c.watches.clauses.lists.items) c.args.literal) = omega (arith, c.watches-test.true, c.watch_count.ensures) in
     on-err _ ((walk-ends (database c.args.store.now c.args.rests.now) c.args.clauses.now c.watches.clauses c.visit_clause.new.clauses c.args.literal c.watches.index c.visit_clause.new.visits inside c.visit_clause.ensures.covered c.visit_clause.ensures.rising c.watches.invariant.advances).costs)
 
 pub returns-in_err-put-in-Forces-clause-costs : goal.returns-in_err-put-in-Forces-clause-costs
 returns-in_err-put-in-Forces-clause-costs c =
-    let inside : c.watches.index < length (list_at (lists_of c.watches.clauses.lists.items) c.args.literal) = omega (arith, c.watches-test.true, c.watch_count.ensures) in
+    let inside : c.watches.index < length (list_at (watch_lists c.watches.clauses.lists.items) c.args.literal) = omega (arith, c.watches-test.true, c.watch_count.ensures) in
     on-err _ (walk-costs (walk-ends (database c.args.store.now c.args.rests.now) c.args.clauses.now c.watches.clauses c.visit_clause.new.clauses c.args.literal c.watches.index c.visit_clause.new.visits inside c.visit_clause.ensures.covered c.visit_clause.ensures.rising c.watches.invariant.advances).costs c.in_err-put-in-Forces.ensures.costs)
 
 pub returns-clause-advances : goal.returns-clause-advances
@@ -212,4 +212,4 @@ returns-clause-tidy c = c.watches.invariant.tidy
 
 pub returns-clause-bounded : goal.returns-clause-bounded
 returns-clause-bounded c = λ s.
-    omega (arith, running-bounded c.watches.clauses _ c.watches.invariant.walking.running s, ap (λ (v : Vec (Vec ℕ Global) Global). length (list_at (lists_of v.items) s)) c.watches.invariant.walking.literals)
+    omega (arith, running-bounded c.watches.clauses _ c.watches.invariant.walking.running s, ap (λ cs. length (list_at cs s)) c.watches.invariant.walking.literals)

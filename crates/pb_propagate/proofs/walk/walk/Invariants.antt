@@ -1,6 +1,6 @@
 use Rattle.std.proofs.Common.{◌≡◌, ◌-◌, length}
 use Rattle.pb_propagate.specs.engine.Engine.Progress.{progress, database, IsOpen, StaysTidy, RunReasons}
-use Rattle.pb_propagate.specs.engine.Clauses.Links.{lists_of, list_at}
+use Rattle.pb_propagate.specs.engine.Clauses.Links.{watch_lists, list_at}
 use Rattle.pb_propagate.specs.engine.Clauses.Shapes.{all_of}
 use Rattle.pb_propagate.proofs.lemmas.clauses.Walks.{IsWalking}
 use Rattle.pb_propagate.proofs.lemmas.engine.Watched.{WalkIsAt}
@@ -17,4 +17,4 @@ invariant-watches l = record {
 }
 
 abbrev pub decreases-watches : goal.decreases-watches
-decreases-watches l = length (list_at (lists_of l.clauses.lists.items) l.literal) - l.index
+decreases-watches l = length (list_at (watch_lists l.clauses.lists.items) l.literal) - l.index

@@ -1,10 +1,12 @@
 -- Watches, and the lists that contain them.
-use Rattle.std.specs.Prelude.{◌≡◌, ℕ, ◌<◌, true, false, List, [], map, Some, slice_get, slice_index_or, Vec}
+use Rattle.std.specs.Prelude.{◌≡◌, ℕ, ◌-◌, ◌/◌, ◌^◌, ◌<◌, ◌⊎◌, true, false, Contains, List, [], map, Some, slice_get, slice_index_or, Vec}
 use Rattle.std.specs.Global.{Global}
 use Rattle.pb_propagate.specs.declared.clauses.lists.Watch.{Watch}
+use Rattle.pb_propagate.specs.declared.clauses.lists.Listed.{Listed}
 
-abbrev pub lists_of : List (Vec ℕ Global) → List (List ℕ)
-lists_of lists = map (λ v. v.items) lists
+-- the watches on each literal
+abbrev pub watch_lists : List (Vec Listed Global) → List (List ℕ)
+watch_lists lists = map (λ v. map (λ x. x.watch) v.items) lists
 
 -- the list of a literal
 abbrev pub list_at : List (List ℕ) → ℕ → List ℕ
@@ -23,13 +25,34 @@ pub record Sits (w : Watch) (l i : ℕ) : Type 0 where
   pub literal : w.literal ≡ l
   pub spot : w.spot ≡ i
 
--- each live watch is where it says, and the lists contain nothing else
+-- each live watch is where it says, and the lists contain nothing else. Its number has 32 bits.
 pub record AreLinked (watches : List Watch) (lists : List (List ℕ)) : Type 0 where
   pub sits : (e l i : ℕ) → Sits (watch_at watches e) l i → slice_get (list_at lists l) i ≡ Some e
   pub named : (e l i : ℕ) → slice_get (list_at lists l) i ≡ Some e → Sits (watch_at watches e) l i
+  pub small : (e : ℕ) → (watch_at watches e).live ≡ true → e < 2 ^ 32 - 2
 
 -- a watch keeps its literal, and has a position before `index` only if it had that position
 pub record Remains (index : ℕ) (old new : Watch) : Type 0 where
   pub live : new.live ≡ old.live
   pub literal : new.literal ≡ old.literal
   pub spot : new.spot < index → new.spot ≡ old.spot
+
+-- the entries of a literal's list
+abbrev pub entries_at : List (Vec Listed Global) → ℕ → List Listed
+entries_at lists l = slice_index_or (map (λ v. v.items) lists) l []
+
+-- the entry is in a list
+abbrev pub IsListed : List (Vec Listed Global) → Listed → Type 0
+IsListed lists x = (l : ℕ) × (i : ℕ) × (slice_get (entries_at lists l) i ≡ Some x)
+
+-- no entry is new
+abbrev pub AreFewer : List (Vec Listed Global) → List (Vec Listed Global) → Type 0
+AreFewer old new = (x : Listed) → IsListed new x → IsListed old x
+
+-- no entry but this one is new
+abbrev pub AreMore : Listed → List (Vec Listed Global) → List (Vec Listed Global) → Type 0
+AreMore entry old new = (x : Listed) → IsListed new x → (x ≡ entry) ⊎ IsListed old x
+
+-- the blocker of each entry is a literal of the clause that its watch is of
+abbrev pub AreBlocked : List (List ℕ) → List (Vec Listed Global) → Type 0
+AreBlocked clauses lists = (x : Listed) → IsListed lists x → Contains (list_at clauses (x.watch / 2)) x.blocker

@@ -1,5 +1,5 @@
 -- A run of propagation: what it knows of the clauses, and what a visit to a watch finds.
-use Rattle.std.specs.Prelude.{◌≡◌, ℕ, ◌+◌, ◌*◌, ◌/◌, ◌<◌, ◌≤◌, ◌⊎◌, ◌++◌, ◌∷◌, ◌-◌, nat_lt, if◌then◌else◌, true, false, [], List, map, length, take, drop, All, Contains, Bool, Option, Some, slice_get, slice_index, slice_index_or}
+use Rattle.std.specs.Prelude.{◌≡◌, ℕ, ◌+◌, ◌*◌, ◌/◌, ◌<◌, ◌≤◌, ◌⊎◌, ◌++◌, ◌∷◌, ◌-◌, ◌^◌, nat_lt, if◌then◌else◌, true, false, [], List, map, length, take, drop, All, Contains, Bool, Option, Some, slice_get, slice_index, slice_index_or}
 use Rattle.pb_propagate.specs.declared.clauses.lists.Watch.{Watch}
 use Rattle.pb_propagate.specs.declared.clauses.Clauses.{Clauses}
 use Rattle.pb_propagate.specs.declared.clauses.search.Search.{Search}
@@ -7,7 +7,8 @@ use Rattle.pb_propagate.specs.declared.clauses.visiting.Visit.{Visit}
 use Rattle.pb_propagate.specs.declared.clauses.watched.Pair.{Pair}
 use Rattle.pb_propagate.specs.declared.clauses.visiting.Visit.TheVariants.{Stays, Leaves, Forces, Falsified}
 use Rattle.pb_propagate.specs.engine.Clauses.Truths.{flip, true_at, false_at}
-use Rattle.pb_propagate.specs.engine.Clauses.Links.{lists_of, list_at, watch_at, AreLinked}
+use Rattle.pb_propagate.specs.engine.Clauses.Links.{watch_lists, list_at, watch_at, AreLinked, AreBlocked}
+use Rattle.pb_propagate.specs.engine.Clauses.Blocks.{number_at}
 
 -- a list from a position on, and then from its beginning
 abbrev pub turned : ℕ → List ℕ → List ℕ
@@ -32,7 +33,7 @@ AreRound starts clauses searches = (s : ℕ) → 0 < length (list_at clauses s) 
 
 -- how many literals the search of each slot has passed
 abbrev pub passed_of : Clauses → List ℕ
-passed_of c = map (λ s. s.passed) c.searches.items
+passed_of c = map (λ s. s.passed) c.blocks.searches
 
 -- no search has passed more than its clause
 abbrev pub AreWithin : List ℕ → List (List ℕ) → Type 0
@@ -80,18 +81,23 @@ pub record AreNoted (passed moved : List ℕ) : Type 0 where
 pub record IsRunning (values : List (Option Bool)) (c : Clauses) : Type 0 where
   -- where the searches of this run began
   pub starts : List ℕ
-  pub stored : AreStored (lists_of c.literals.items) c.watches.items (lists_of c.lists.items)
-  pub passed : ArePassed values (all_turned starts (lists_of c.literals.items)) (passed_of c) c.watches.items
-  pub round : AreRound starts (lists_of c.literals.items) c.searches.items
+  pub stored : AreStored c.blocks.literals c.blocks.watches (watch_lists c.lists.items)
+  pub blocked : AreBlocked c.blocks.literals c.lists.items
+  pub passed : ArePassed values (all_turned starts c.blocks.literals) (passed_of c) c.blocks.watches
+  pub round : AreRound starts c.blocks.literals c.blocks.searches
   pub noted : AreNoted (passed_of c) c.moved.items
   pub sizes : length c.lists.items ≡ 4 * length values
 
--- if a walked literal is watched, the other watched literal is true; in the list being walked this holds before `index`
-pub record AreServed (values : List (Option Bool)) (watches : List Watch) (walked : List ℕ) (l index : ℕ) : Type 0 where
+-- some literal of the clause is true
+abbrev pub HasTrue : List (Option Bool) → List (List ℕ) → ℕ → Type 0
+HasTrue values clauses s = (x : ℕ) × Contains (list_at clauses s) x × (true_at values x ≡ true)
+
+-- if a walked literal is watched, its clause has a true one; in the list being walked this holds before `index`
+pub record AreServed (values : List (Option Bool)) (clauses : List (List ℕ)) (watches : List Watch) (walked : List ℕ) (l index : ℕ) : Type 0 where
   pub failed : (x : ℕ) → Contains walked x → false_at values x ≡ true
   pub now : false_at values l ≡ true
-  pub done : (e : ℕ) → (watch_at watches e).live ≡ true → Contains walked (watch_at watches e).literal → true_at values (watch_at watches (flip e)).literal ≡ true
-  pub here : (e : ℕ) → (watch_at watches e).live ≡ true → (watch_at watches e).literal ≡ l → (watch_at watches e).spot < index → true_at values (watch_at watches (flip e)).literal ≡ true
+  pub done : (e : ℕ) → (watch_at watches e).live ≡ true → Contains walked (watch_at watches e).literal → HasTrue values clauses (e / 2)
+  pub here : (e : ℕ) → (watch_at watches e).live ≡ true → (watch_at watches e).literal ≡ l → (watch_at watches e).spot < index → HasTrue values clauses (e / 2)
 
 -- all literals of a slot's clause but one are falsified, and that one is open
 pub record IsUnit (values : List (Option Bool)) (clauses : List (List ℕ)) (slot x : ℕ) : Type 0 where
@@ -106,16 +112,16 @@ pub record IsBroken (values : List (Option Bool)) (clauses : List (List ℕ)) : 
   pub some : 0 < length (list_at clauses slot)
   pub all : (k d : ℕ) → k < length (list_at clauses slot) → false_at values (slice_index_or (list_at clauses slot) k d) ≡ true
 
--- the watch at a position of a list is the other one of a watch on the literal
+-- the watch at a position of a list is of a clause with the literal
 abbrev pub Awaits : Clauses → ℕ → ℕ → ℕ → Type 0
-Awaits c l index x = (e : ℕ) → slice_get (list_at (lists_of c.lists.items) l) index ≡ Some e → (watch_at c.watches.items (flip e)).literal ≡ x
+Awaits c l index x = (e : ℕ) × (slice_get (list_at (watch_lists c.lists.items) l) index ≡ Some e) × Contains (list_at c.blocks.literals (e / 2)) x
 
 -- what a visit has found, and what it leaves
 abbrev pub HasFound : List (Option Bool) → Clauses → Clauses → ℕ → ℕ → Visit → Type 0
-HasFound values old new l index Stays = length (list_at (lists_of new.lists.items) l) ≡ length (list_at (lists_of old.lists.items) l)
-HasFound values old new l index Leaves = length (list_at (lists_of new.lists.items) l) + 1 ≡ length (list_at (lists_of old.lists.items) l)
-HasFound values old new l index (Forces f) = (length (list_at (lists_of new.lists.items) l) ≡ length (list_at (lists_of old.lists.items) l)) × IsUnit values (lists_of new.literals.items) f.slot f.code × Awaits new l index f.code
-HasFound values old new l index Falsified = IsBroken values (lists_of new.literals.items)
+HasFound values old new l index Stays = length (list_at (watch_lists new.lists.items) l) ≡ length (list_at (watch_lists old.lists.items) l)
+HasFound values old new l index Leaves = length (list_at (watch_lists new.lists.items) l) + 1 ≡ length (list_at (watch_lists old.lists.items) l)
+HasFound values old new l index (Forces f) = (length (list_at (watch_lists new.lists.items) l) ≡ length (list_at (watch_lists old.lists.items) l)) × IsUnit values new.blocks.literals f.slot f.code × Awaits new l index f.code
+HasFound values old new l index Falsified = IsBroken values new.blocks.literals
 
 -- the position of the next visit
 abbrev pub index_after : ℕ → Visit → ℕ
@@ -126,9 +132,10 @@ index_after index Falsified = index
 
 -- no search has begun
 pub record AreReady (c : Clauses) : Type 0 where
-  pub stored : AreStored (lists_of c.literals.items) c.watches.items (lists_of c.lists.items)
-  pub sizes : length c.searches.items ≡ length c.literals.items
-  pub inside : (s : ℕ) → 0 < length (list_at (lists_of c.literals.items) s) → (search_at c.searches.items s).position < length (list_at (lists_of c.literals.items) s)
+  pub stored : AreStored c.blocks.literals c.blocks.watches (watch_lists c.lists.items)
+  pub blocked : AreBlocked c.blocks.literals c.lists.items
+  pub sizes : length c.blocks.searches ≡ length c.blocks.literals
+  pub inside : (s : ℕ) → 0 < length (list_at c.blocks.literals s) → (search_at c.blocks.searches s).position < length (list_at c.blocks.literals s)
   pub none : (s : ℕ) → slice_index_or (passed_of c) s 0 ≡ 0
   pub trail : c.moved.items ≡ []
 
@@ -138,19 +145,30 @@ pub record Grows (old new : List (Option Bool)) : Type 0 where
   pub met : (x : ℕ) → true_at old x ≡ true → true_at new x ≡ true
   pub failed : (x : ℕ) → false_at old x ≡ true → false_at new x ≡ true
 
--- if a walked literal is watched, the other watched literal is true
-pub record AreWalked (values : List (Option Bool)) (watches : List Watch) (walked : List ℕ) : Type 0 where
+-- if a walked literal is watched, its clause has a true one
+pub record AreWalked (values : List (Option Bool)) (clauses : List (List ℕ)) (watches : List Watch) (walked : List ℕ) : Type 0 where
   pub failed : (x : ℕ) → Contains walked x → false_at values x ≡ true
-  pub done : (e : ℕ) → (watch_at watches e).live ≡ true → Contains walked (watch_at watches e).literal → true_at values (watch_at watches (flip e)).literal ≡ true
+  pub done : (e : ℕ) → (watch_at watches e).live ≡ true → Contains walked (watch_at watches e).literal → HasTrue values clauses (e / 2)
 
 -- what was walked, at a state that has only grown since, stays so
 abbrev pub KeepsWalked : List (Option Bool) → Clauses → Clauses → Type 0
-KeepsWalked values old new = (base : List (Option Bool)) (codes : List ℕ) → Grows base values → AreWalked base old.watches.items codes → AreWalked base new.watches.items codes
+KeepsWalked values old new = (base : List (Option Bool)) (codes : List ℕ) → Grows base values → AreWalked base old.blocks.literals old.blocks.watches codes → AreWalked base new.blocks.literals new.blocks.watches codes
 
 -- what a visit to the watch at a position of a list leaves, and what it has found
 pub record HasVisited (values : List (Option Bool)) (old new : Clauses) (l index : ℕ) (r : Visit) : Type 0 where
   pub lists : length new.lists.items ≡ length old.lists.items
   pub running : IsRunning values new
-  pub served : (walked : List ℕ) → AreServed values old.watches.items walked l index → AreServed values new.watches.items walked l (index_after index r)
+  pub served : (walked : List ℕ) → AreServed values old.blocks.literals old.blocks.watches walked l index → AreServed values new.blocks.literals new.blocks.watches walked l (index_after index r)
   pub found : HasFound values old new l index r
   pub kept : KeepsWalked values old new
+
+-- the slot can store a clause of that number of literals
+abbrev pub CanHold : Clauses → ℕ → ℕ → Type 0
+CanHold c s count = (count ≤ number_at c.blocks.rooms s) × (count < 2 ^ 32) × (s < 2 ^ 31 - 1)
+
+-- the clauses and their watches are as before
+pub record IsRefitted (old new : Clauses) : Type 0 where
+  pub ready : AreReady new
+  pub literals : new.blocks.literals ≡ old.blocks.literals
+  pub watches : new.blocks.watches ≡ old.blocks.watches
+  pub lists : new.lists ≡ old.lists

@@ -12,7 +12,7 @@ use Rattle.pb_propagate.specs.engine.Engine.Lists.{Shape}
 use Rattle.pb_propagate.specs.engine.Engine.Forms.{as_term}
 use Rattle.pb_propagate.specs.engine.Engine.Fields.{shapes_of}
 use Rattle.pb_propagate.specs.declared.slots.Planned.{Planned}
-use Rattle.pb_propagate.specs.engine.Clauses.Links.{lists_of, list_at}
+use Rattle.pb_propagate.specs.engine.Clauses.Links.{list_at}
 use Rattle.pb_propagate.specs.engine.Clauses.Runs.{IsPair}
 
 -- the literal of a code
@@ -69,7 +69,7 @@ pub record AreJoined (shapes : List Shape) (clauses : List (List ℕ)) : Type 0 
 
 -- the literals of each slot's clause
 abbrev pub clauses_of : Clauses → List (List ℕ)
-clauses_of c = lists_of c.literals.items
+clauses_of c = c.blocks.literals
 
 -- the constraints of all slots
 abbrev pub all_of : Store → Clauses → List Shape

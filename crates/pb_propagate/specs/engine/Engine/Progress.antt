@@ -12,7 +12,7 @@ use Rattle.pb_propagate.specs.engine.Engine.Counts.{place, Grown, IsCalm, IsCoun
 use Rattle.pb_propagate.specs.engine.Engine.Fields.{shapes_of, entries_of}
 use Rattle.pb_propagate.specs.engine.Engine.Rest.{waits}
 use Rattle.pb_propagate.specs.engine.Engine.Links.{coefficient_at}
-use Rattle.pb_propagate.specs.engine.Clauses.Links.{lists_of, list_at}
+use Rattle.pb_propagate.specs.engine.Clauses.Links.{watch_lists, list_at}
 use Rattle.pb_propagate.specs.engine.Clauses.Runs.{AreServed, AreWalked, passed_of}
 use Rattle.pb_propagate.specs.engine.Clauses.Walked.{fallen, walked_codes}
 use Rattle.pb_propagate.specs.engine.Clauses.Shapes.{clauses_of}
@@ -219,10 +219,10 @@ RunAdvances store rests before after old new = Advances (database store rests) b
 
 -- the same for a walk over the watches of a literal: two visits for each watch, and one for each literal that a search passed
 abbrev pub WalkCosts : Store → Rests → Clauses → Clauses → ℕ → Run → Run → Type 0
-WalkCosts store rests c c' literal old new = RunCosts store rests (sum (passed_of c)) (2 * length (list_at (lists_of c.lists.items) literal) + sum (passed_of c')) old new
+WalkCosts store rests c c' literal old new = RunCosts store rests (sum (passed_of c)) (2 * length (list_at (watch_lists c.lists.items) literal) + sum (passed_of c')) old new
 
 abbrev pub WalkAdvances : Store → Rests → Clauses → Clauses → ℕ → Run → Run → Type 0
-WalkAdvances store rests c c' literal old new = RunAdvances store rests (sum (passed_of c)) (2 * length (list_at (lists_of c.lists.items) literal) + sum (passed_of c')) old new
+WalkAdvances store rests c c' literal old new = RunAdvances store rests (sum (passed_of c)) (2 * length (list_at (watch_lists c.lists.items) literal) + sum (passed_of c')) old new
 
 -- the first `from` literals were walked before; all clauses may have been searched to their ends
 abbrev pub RunSpends : Store → Rests → Clauses → ℕ → List ℕ → Run → Run → Type 0
@@ -236,8 +236,8 @@ RunPays store rests c c' from waiting old new =
 
 -- the watches of the first literals of the list were walked
 abbrev pub RunIsWalked : ℕ → Clauses → Run → Type 0
-RunIsWalked count c run = AreWalked run.assignment.values.items c.watches.items (walked_codes count run.assignment.list.items)
+RunIsWalked count c run = AreWalked run.assignment.values.items c.blocks.literals c.blocks.watches (walked_codes count run.assignment.list.items)
 
 -- the watches of one more literal were walked
 abbrev pub HasWalked : Clauses → Clauses → ℕ → Run → Run → Type 0
-HasWalked c c' literal old new = (walked : List ℕ) → AreServed old.assignment.values.items c.watches.items walked literal 0 → AreWalked new.assignment.values.items c'.watches.items (walked ++ literal ∷ [])
+HasWalked c c' literal old new = (walked : List ℕ) → AreServed old.assignment.values.items c.blocks.literals c.blocks.watches walked literal 0 → AreWalked new.assignment.values.items c'.blocks.literals c'.blocks.watches (walked ++ literal ∷ [])

@@ -58,7 +58,7 @@ pub record IsAtRest (store : Store) (run : Run) (waiting : Eager) (clauses : Cla
   pub joined : AreJoined (shapes_of store.stored.items) (clauses_of clauses)
   pub ready : AreReady clauses
   pub widths : length clauses.lists.items ≡ 4 * store.variables
-  pub known : length clauses.literals.items ≡ length store.stored.items
+  pub known : length clauses.blocks.literals ≡ length store.stored.items
   pub rest : AreAtRest store.stored.items run.opens.items run.candidates.items
   pub values : length run.assignment.values.items ≡ store.variables
   pub list : run.assignment.list.items ≡ []

@@ -42,7 +42,7 @@ pub record IsRooted (store : Store) (clauses : Clauses) (run : Run) (rests : Res
   pub trail : run.trail.items ≡ []
   pub next : run.next ≡ 0
   pub reasoned : HaveReasons (all_of store clauses) run.assignment.reasons.items [] run.assignment.list.items
-  pub walked : AreWalked run.assignment.values.items clauses.watches.items (walked_codes (length run.assignment.list.items) run.assignment.list.items)
+  pub walked : AreWalked run.assignment.values.items clauses.blocks.literals clauses.blocks.watches (walked_codes (length run.assignment.list.items) run.assignment.list.items)
   pub seats : length waiting.seats.items ≡ length store.stored.items
   pub live : (i s : ℕ) → slice_get waiting.list.items i ≡ Some s → HasForm store s
 
@@ -131,7 +131,7 @@ pub record HasVacated (before : Store) (old : Clauses) (store : Store) (clauses 
   pub variables : store.variables ≡ before.variables
   pub kept : (k : StoredForm) × IsEmpty k × (store.stored.items ≡ slice_set before.stored.items slot k)
   pub emptied : clauses_of clauses ≡ slice_set (clauses_of old) slot []
-  pub watched : (e : ℕ) → (e / 2 ≡ slot → ⊥) → IsSameWatch (watch_at old.watches.items e) (watch_at clauses.watches.items e)
+  pub watched : (e : ℕ) → (e / 2 ≡ slot → ⊥) → IsSameWatch (watch_at old.blocks.watches e) (watch_at clauses.blocks.watches e)
 
 -- the lists have the entry of an empty form for the slot
 pub record HasLost (run run' : Run) (rests rests' : Rests) (slot : ℕ) : Type 0 where
@@ -154,7 +154,7 @@ pub record HasGained (before : Store) (old : Clauses) (store : Store) (clauses :
   pub bare : (x : Shape) → slice_get (all_of before old) slot ≡ Some x → x.terms ≡ []
   pub empty : HasForm before slot → ⊥
   pub full : HasForm store slot
-  pub watched : (e : ℕ) → (e / 2 ≡ slot → ⊥) → watch_at clauses.watches.items e ≡ watch_at old.watches.items e
+  pub watched : (e : ℕ) → (e / 2 ≡ slot → ⊥) → watch_at clauses.blocks.watches e ≡ watch_at old.blocks.watches e
 
 -- the root is that of the forms before one came into the slot
 abbrev pub WasRootOf : Store → Clauses → ℕ → Root → Type 0
@@ -175,7 +175,7 @@ pub record HasReached (run run' : Run) (rests rests' : Rests) (waiting waiting' 
 -- nothing changed, or an empty slot came after the others
 pub record HasWidened (before : Store) (old : Clauses) (store : Store) (clauses : Clauses) (slot : ℕ) : Type 0 where
   pub kept : ((store.stored.items ≡ before.stored.items) × (clauses_of clauses ≡ clauses_of old)) ⊎ ((slot ≡ length before.stored.items) × (k : StoredForm) × (store.stored.items ≡ before.stored.items ++ (k ∷ [])) × (clauses_of clauses ≡ clauses_of old ++ ([] ∷ [])))
-  pub watched : (e : ℕ) → watch_at clauses.watches.items e ≡ watch_at old.watches.items e
+  pub watched : (e : ℕ) → watch_at clauses.blocks.watches e ≡ watch_at old.blocks.watches e
 
 -- what a propagation from nothing has found: each literal of its list was visited
 pub record IsAnswered (shapes : List Shape) (visits : ℕ) (found : Bool) : Type 0 where

@@ -1,11 +1,11 @@
-use Rattle.std.proofs.Common.{◌∙◌, ap, sym, arith, length, get_or}
-use Rattle.pb_propagate.proofs.lemmas.clauses.Linked.{lists-length, list-here}
+use Rattle.std.proofs.Common.{ap, arith, length, get_or}
+use Rattle.pb_propagate.proofs.lemmas.clauses.Listed.{lists-length}
 use Rattle.pb_propagate.proofs.clauses.Clauses.free_literal.Goals as goal
 
 pub free_literal-requires : goal.free_literal-requires
 free_literal-requires c =
     let me = c.args.self.now in
-    let same = c.as_slice.ensures.value ∙ sym (list-here me.literals.items c.args.slot c.index.result.now c.requires.slot c.index.ensures) in
+    let same = c.literals.ensures.literals in
     record {
       inside = λ k d h.
           let small = c.requires.rest.stored.inside c.args.slot k d (omega (arith, h, ap length same)) in

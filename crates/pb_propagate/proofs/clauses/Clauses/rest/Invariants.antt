@@ -5,11 +5,11 @@ use Rattle.pb_propagate.proofs.clauses.Clauses.rest.Given as goal
 
 abbrev pub invariant-slots : goal.invariant-slots
 invariant-slots l = record {
-  literals : l.self.literals ≡ l.initial.self.literals;
+  literals : l.self.blocks.literals ≡ l.initial.self.blocks.literals;
   moved : l.self.moved ≡ l.initial.self.moved;
-  watches : l.self.watches ≡ l.initial.self.watches;
+  watches : l.self.blocks.watches ≡ l.initial.self.blocks.watches;
   lists : l.self.lists ≡ l.initial.self.lists;
   left : AreLeft (passed_of l.self) l.initial.self.moved.items l.i;
-  sizes : length l.self.searches.items ≡ length l.initial.self.searches.items;
-  positions : (s : ℕ) → (search_at l.self.searches.items s).position ≡ (search_at l.initial.self.searches.items s).position;
+  sizes : length l.self.blocks.searches ≡ length l.initial.self.blocks.searches;
+  positions : (s : ℕ) → (search_at l.self.blocks.searches s).position ≡ (search_at l.initial.self.blocks.searches s).position;
 }

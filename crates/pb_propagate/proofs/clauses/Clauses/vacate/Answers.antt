@@ -1,96 +1,121 @@
-use Rattle.std.specs.Prelude.{true, false}
-use Rattle.std.proofs.Common.{◌≡◌, ◌+◌, ◌*◌, ◌<◌, refl, sym, ◌∙◌, ap, subst, arith, length, inl, inr, set, length-set}
-use Rattle.std.proofs.lemmas.Bool.{cases_eq}
-use Rattle.pb_propagate.specs.engine.Clauses.Links.{lists_of, watch_at}
-use Rattle.pb_propagate.specs.engine.Clauses.Runs.{AreStored}
-use Rattle.pb_propagate.proofs.lemmas.clauses.Linked.{lists-length}
-use Rattle.pb_propagate.proofs.lemmas.clauses.Stores.{slot-sits, slot-room, stands-by, stored-vacate, literals-set, vacated-inside}
+use Rattle.std.specs.Prelude.{true, false, ◌/◌}
+use Rattle.std.proofs.Common.{◌≡◌, [], ℕ, ◌+◌, ◌*◌, ◌<◌, refl, sym, ◌∙◌, ap, subst, arith, length, inl, inr, set}
+use Rattle.pb_propagate.specs.declared.clauses.lists.Watch.{Watch}
+use Rattle.pb_propagate.specs.engine.Clauses.Links.{watch_lists, list_at, watch_at, AreLinked}
+use Rattle.pb_propagate.specs.engine.Clauses.Blocks.{Contents}
+use Rattle.pb_propagate.proofs.lemmas.clauses.Listed.{lists-length}
+use Rattle.pb_propagate.proofs.lemmas.clauses.Stores.{slot-sits, stands-by, rest-vacate}
 use Rattle.pb_propagate.proofs.clauses.Clauses.vacate.Goals as goal
+
+-- a live watch as it is read
+shown : (w : Watch) (l i : ℕ) → w.live ≡ true → l ≡ w.literal → i ≡ w.spot → w ≡ record { literal = l; live = true; spot = i }
+shown w l i live a b = rw (a, b, sym live) refl
+
+pub watched-first-requires : goal.watched-first-requires
+watched-first-requires c = c.requires.rest.stored.full c.args.slot c.requires.some
+
+pub spot-spot-requires : goal.spot-spot-requires
+spot-spot-requires c = c.requires.rest.stored.full c.args.slot c.requires.some
 
 pub take_out-requires-clause-literal : goal.take_out-requires-clause-literal
 take_out-requires-clause-literal c =
     let me = c.args.self.now in
     let st = c.requires.rest.stored in
-    let live : (watch_at me.watches.items (2 * c.args.slot)).live ≡ true = slot-sits (lists_of me.literals.items) me.watches.items (lists_of me.lists.items) c.args.slot (2 * c.args.slot) st c.requires.some (inl refl) in
-    let one = stands-by me.watches.items (lists_of me.lists.items) (2 * c.args.slot) c.index-first.result.now st.linked live c.index-first.ensures in
+    let live : (watch_at me.blocks.watches (2 * c.args.slot)).live ≡ true = st.full c.args.slot c.requires.some in
+    let one = stands-by me.blocks.watches (watch_lists me.lists.items) (2 * c.args.slot) (record { literal = c.watched-first.result; live = true; spot = c.spot-spot.result }) st.linked live (sym (shown (watch_at me.blocks.watches (2 * c.args.slot)) c.watched-first.result c.spot-spot.result live c.watched-first.ensures c.spot-spot.ensures)) in
     omega (arith, one.literal, lists-length me.lists.items)
 
 pub take_out-requires-clause-index : goal.take_out-requires-clause-index
 take_out-requires-clause-index c =
     let me = c.args.self.now in
     let st = c.requires.rest.stored in
-    let live : (watch_at me.watches.items (2 * c.args.slot)).live ≡ true = slot-sits (lists_of me.literals.items) me.watches.items (lists_of me.lists.items) c.args.slot (2 * c.args.slot) st c.requires.some (inl refl) in
-    (stands-by me.watches.items (lists_of me.lists.items) (2 * c.args.slot) c.index-first.result.now st.linked live c.index-first.ensures).spot
+    let live : (watch_at me.blocks.watches (2 * c.args.slot)).live ≡ true = st.full c.args.slot c.requires.some in
+    let one = stands-by me.blocks.watches (watch_lists me.lists.items) (2 * c.args.slot) (record { literal = c.watched-first.result; live = true; spot = c.spot-spot.result }) st.linked live (sym (shown (watch_at me.blocks.watches (2 * c.args.slot)) c.watched-first.result c.spot-spot.result live c.watched-first.ensures c.spot-spot.ensures)) in
+    one.spot
+
+pub watched-second-requires : goal.watched-second-requires
+watched-second-requires c =
+    let me = c.args.self.now in
+    let st = c.requires.rest.stored in
+    let live : (watch_at me.blocks.watches (2 * c.args.slot)).live ≡ true = st.full c.args.slot c.requires.some in
+    let live_2 : (watch_at me.blocks.watches (2 * c.args.slot + 1)).live ≡ true = slot-sits me.blocks.literals me.blocks.watches (watch_lists me.lists.items) c.args.slot (2 * c.args.slot + 1) st c.requires.some (inr refl) in
+    let one = stands-by me.blocks.watches (watch_lists me.lists.items) (2 * c.args.slot) (record { literal = c.watched-first.result; live = true; spot = c.spot-spot.result }) st.linked live (sym (shown (watch_at me.blocks.watches (2 * c.args.slot)) c.watched-first.result c.spot-spot.result live c.watched-first.ensures c.spot-spot.ensures)) in
+    let apart : 2 * c.args.slot + 1 ≡ 2 * c.args.slot → ⊥ = λ h. absurd (omega (arith, h)) in
+    let still = c.take_out.ensures.remain (2 * c.args.slot) (2 * c.args.slot + 1) one.item apart in
+    still.live ∙ live_2
+
+pub spot-spot-requires-2 : goal.spot-spot-requires-2
+spot-spot-requires-2 c =
+    let me = c.args.self.now in
+    let st = c.requires.rest.stored in
+    let live : (watch_at me.blocks.watches (2 * c.args.slot)).live ≡ true = st.full c.args.slot c.requires.some in
+    let live_2 : (watch_at me.blocks.watches (2 * c.args.slot + 1)).live ≡ true = slot-sits me.blocks.literals me.blocks.watches (watch_lists me.lists.items) c.args.slot (2 * c.args.slot + 1) st c.requires.some (inr refl) in
+    let one = stands-by me.blocks.watches (watch_lists me.lists.items) (2 * c.args.slot) (record { literal = c.watched-first.result; live = true; spot = c.spot-spot.result }) st.linked live (sym (shown (watch_at me.blocks.watches (2 * c.args.slot)) c.watched-first.result c.spot-spot.result live c.watched-first.ensures c.spot-spot.ensures)) in
+    let apart : 2 * c.args.slot + 1 ≡ 2 * c.args.slot → ⊥ = λ h. absurd (omega (arith, h)) in
+    let still = c.take_out.ensures.remain (2 * c.args.slot) (2 * c.args.slot + 1) one.item apart in
+    still.live ∙ live_2
 
 pub take_out-requires-2-clause-literal : goal.take_out-requires-2-clause-literal
 take_out-requires-2-clause-literal c =
     let me = c.args.self.now in
     let st = c.requires.rest.stored in
-    let live : (watch_at me.watches.items (2 * c.args.slot)).live ≡ true = slot-sits (lists_of me.literals.items) me.watches.items (lists_of me.lists.items) c.args.slot (2 * c.args.slot) st c.requires.some (inl refl) in
-    let live_2 : (watch_at me.watches.items (2 * c.args.slot + 1)).live ≡ true = slot-sits (lists_of me.literals.items) me.watches.items (lists_of me.lists.items) c.args.slot (2 * c.args.slot + 1) st c.requires.some (inr refl) in
-    let one = stands-by me.watches.items (lists_of me.lists.items) (2 * c.args.slot) c.index-first.result.now st.linked live c.index-first.ensures in
+    let live : (watch_at me.blocks.watches (2 * c.args.slot)).live ≡ true = st.full c.args.slot c.requires.some in
+    let live_2 : (watch_at me.blocks.watches (2 * c.args.slot + 1)).live ≡ true = slot-sits me.blocks.literals me.blocks.watches (watch_lists me.lists.items) c.args.slot (2 * c.args.slot + 1) st c.requires.some (inr refl) in
+    let one = stands-by me.blocks.watches (watch_lists me.lists.items) (2 * c.args.slot) (record { literal = c.watched-first.result; live = true; spot = c.spot-spot.result }) st.linked live (sym (shown (watch_at me.blocks.watches (2 * c.args.slot)) c.watched-first.result c.spot-spot.result live c.watched-first.ensures c.spot-spot.ensures)) in
     let apart : 2 * c.args.slot + 1 ≡ 2 * c.args.slot → ⊥ = λ h. absurd (omega (arith, h)) in
     let still = c.take_out.ensures.remain (2 * c.args.slot) (2 * c.args.slot + 1) one.item apart in
-    let two = stands-by c.take_out.new.watches.items (lists_of c.take_out.new.lists.items) (2 * c.args.slot + 1) c.index-second.result.now c.take_out.ensures.linked (still.live ∙ live_2) c.index-second.ensures in
+    let two = stands-by c.take_out.new.blocks.watches (watch_lists c.take_out.new.lists.items) (2 * c.args.slot + 1) (record { literal = c.watched-second.result; live = true; spot = c.spot-spot-2.result }) c.take_out.ensures.linked (still.live ∙ live_2) (sym (shown (watch_at c.take_out.new.blocks.watches (2 * c.args.slot + 1)) c.watched-second.result c.spot-spot-2.result (still.live ∙ live_2) c.watched-second.ensures c.spot-spot-2.ensures)) in
     omega (arith, two.literal, lists-length c.take_out.new.lists.items)
 
 pub take_out-requires-2-clause-index : goal.take_out-requires-2-clause-index
 take_out-requires-2-clause-index c =
     let me = c.args.self.now in
     let st = c.requires.rest.stored in
-    let live : (watch_at me.watches.items (2 * c.args.slot)).live ≡ true = slot-sits (lists_of me.literals.items) me.watches.items (lists_of me.lists.items) c.args.slot (2 * c.args.slot) st c.requires.some (inl refl) in
-    let live_2 : (watch_at me.watches.items (2 * c.args.slot + 1)).live ≡ true = slot-sits (lists_of me.literals.items) me.watches.items (lists_of me.lists.items) c.args.slot (2 * c.args.slot + 1) st c.requires.some (inr refl) in
-    let one = stands-by me.watches.items (lists_of me.lists.items) (2 * c.args.slot) c.index-first.result.now st.linked live c.index-first.ensures in
+    let live : (watch_at me.blocks.watches (2 * c.args.slot)).live ≡ true = st.full c.args.slot c.requires.some in
+    let live_2 : (watch_at me.blocks.watches (2 * c.args.slot + 1)).live ≡ true = slot-sits me.blocks.literals me.blocks.watches (watch_lists me.lists.items) c.args.slot (2 * c.args.slot + 1) st c.requires.some (inr refl) in
+    let one = stands-by me.blocks.watches (watch_lists me.lists.items) (2 * c.args.slot) (record { literal = c.watched-first.result; live = true; spot = c.spot-spot.result }) st.linked live (sym (shown (watch_at me.blocks.watches (2 * c.args.slot)) c.watched-first.result c.spot-spot.result live c.watched-first.ensures c.spot-spot.ensures)) in
     let apart : 2 * c.args.slot + 1 ≡ 2 * c.args.slot → ⊥ = λ h. absurd (omega (arith, h)) in
     let still = c.take_out.ensures.remain (2 * c.args.slot) (2 * c.args.slot + 1) one.item apart in
-    let two = stands-by c.take_out.new.watches.items (lists_of c.take_out.new.lists.items) (2 * c.args.slot + 1) c.index-second.result.now c.take_out.ensures.linked (still.live ∙ live_2) c.index-second.ensures in
+    let two = stands-by c.take_out.new.blocks.watches (watch_lists c.take_out.new.lists.items) (2 * c.args.slot + 1) (record { literal = c.watched-second.result; live = true; spot = c.spot-spot-2.result }) c.take_out.ensures.linked (still.live ∙ live_2) (sym (shown (watch_at c.take_out.new.blocks.watches (2 * c.args.slot + 1)) c.watched-second.result c.spot-spot-2.result (still.live ∙ live_2) c.watched-second.ensures c.spot-spot-2.ensures)) in
     two.spot
 
-pub returns-clause-literals : goal.returns-clause-literals
-returns-clause-literals c = literals-set c.args.self.now.literals.items c.args.slot c.new.result ∙ ap (set (lists_of c.args.self.now.literals.items) c.args.slot) c.new.ensures.items
+pub clear-requires : goal.clear-requires
+clear-requires c = omega (arith, c.requires.some, ap (λ (b : Contents). length (list_at b.literals c.args.slot)) c.take_out-2.ensures.kept, ap (λ (b : Contents). length (list_at b.literals c.args.slot)) c.take_out.ensures.kept)
 
-pub returns-clause-rest : goal.returns-clause-rest
-returns-clause-rest c =
-    let me = c.args.self.now in
-    let st = c.requires.rest.stored in
-    let live : (watch_at me.watches.items (2 * c.args.slot)).live ≡ true = slot-sits (lists_of me.literals.items) me.watches.items (lists_of me.lists.items) c.args.slot (2 * c.args.slot) st c.requires.some (inl refl) in
-    let live_2 : (watch_at me.watches.items (2 * c.args.slot + 1)).live ≡ true = slot-sits (lists_of me.literals.items) me.watches.items (lists_of me.lists.items) c.args.slot (2 * c.args.slot + 1) st c.requires.some (inr refl) in
-    let one = stands-by me.watches.items (lists_of me.lists.items) (2 * c.args.slot) c.index-first.result.now st.linked live c.index-first.ensures in
-    let apart : 2 * c.args.slot + 1 ≡ 2 * c.args.slot → ⊥ = λ h. absurd (omega (arith, h)) in
-    let still = c.take_out.ensures.remain (2 * c.args.slot) (2 * c.args.slot + 1) one.item apart in
-    let two = stands-by c.take_out.new.watches.items (lists_of c.take_out.new.lists.items) (2 * c.args.slot + 1) c.index-second.result.now c.take_out.ensures.linked (still.live ∙ live_2) c.index-second.ensures in
-    let room : c.args.slot < length (lists_of me.literals.items) = slot-room (lists_of me.literals.items) c.args.slot c.requires.some in
-    let dead_1 : (watch_at c.take_out-2.new.watches.items (2 * c.args.slot)).live ≡ false = (c.take_out-2.ensures.remain (2 * c.args.slot + 1) (2 * c.args.slot) two.item (λ h. apart (sym h))).live ∙ c.take_out.ensures.taken (2 * c.args.slot) one.item in
-    let stored = stored-vacate (lists_of me.literals.items) me.watches.items c.take_out-2.new.watches.items (lists_of me.lists.items) (lists_of c.take_out-2.new.lists.items) c.args.slot st c.take_out-2.ensures.linked room
-    (c.take_out-2.ensures.sizes.0 ∙ c.take_out.ensures.sizes.0)
-    (lists-length c.take_out-2.new.lists.items ∙ c.take_out-2.ensures.sizes.1 ∙ c.take_out.ensures.sizes.1 ∙ sym (lists-length me.lists.items))
-    dead_1 (c.take_out-2.ensures.taken (2 * c.args.slot + 1) two.item)
-    (λ k n.
-    let off : k ≡ 2 * c.args.slot → ⊥ = λ h. n (omega (arith, h)) in
-    let off_2 : k ≡ 2 * c.args.slot + 1 → ⊥ = λ h. n (omega (arith, h)) in
-    let a = c.take_out.ensures.remain (2 * c.args.slot) k one.item off in
-    let b = c.take_out-2.ensures.remain (2 * c.args.slot + 1) k two.item off_2 in
-    (b.live ∙ a.live, b.literal ∙ a.literal)) in
-    record {
-      stored = subst (λ cs. AreStored cs c.take_out-2.new.watches.items (lists_of c.take_out-2.new.lists.items)) (sym (literals-set me.literals.items c.args.slot c.new.result ∙ ap (set (lists_of me.literals.items) c.args.slot) c.new.ensures.items)) stored;
-      sizes = c.requires.rest.sizes ∙ sym (length-set me.literals.items c.args.slot c.new.result);
-      inside = λ s some. vacated-inside me _ c.args.slot c.new.result c.requires.rest refl c.new.ensures.items s some (cases_eq s c.args.slot);
-      none = c.requires.rest.none;
-      trail = c.requires.rest.trail;
-    }
+pub returns-clause-literals : goal.returns-clause-literals
+returns-clause-literals c =
+    ap (λ (b : Contents). b.literals) c.clear.ensures ∙ ap (λ (b : Contents). set b.literals c.args.slot []) c.take_out-2.ensures.kept ∙ ap (λ (b : Contents). set b.literals c.args.slot []) c.take_out.ensures.kept
 
 pub returns-clause-watches : goal.returns-clause-watches
 returns-clause-watches c = λ k n.
     let me = c.args.self.now in
     let st = c.requires.rest.stored in
-    let live : (watch_at me.watches.items (2 * c.args.slot)).live ≡ true = slot-sits (lists_of me.literals.items) me.watches.items (lists_of me.lists.items) c.args.slot (2 * c.args.slot) st c.requires.some (inl refl) in
-    let live_2 : (watch_at me.watches.items (2 * c.args.slot + 1)).live ≡ true = slot-sits (lists_of me.literals.items) me.watches.items (lists_of me.lists.items) c.args.slot (2 * c.args.slot + 1) st c.requires.some (inr refl) in
-    let one = stands-by me.watches.items (lists_of me.lists.items) (2 * c.args.slot) c.index-first.result.now st.linked live c.index-first.ensures in
+    let live : (watch_at me.blocks.watches (2 * c.args.slot)).live ≡ true = st.full c.args.slot c.requires.some in
+    let live_2 : (watch_at me.blocks.watches (2 * c.args.slot + 1)).live ≡ true = slot-sits me.blocks.literals me.blocks.watches (watch_lists me.lists.items) c.args.slot (2 * c.args.slot + 1) st c.requires.some (inr refl) in
+    let one = stands-by me.blocks.watches (watch_lists me.lists.items) (2 * c.args.slot) (record { literal = c.watched-first.result; live = true; spot = c.spot-spot.result }) st.linked live (sym (shown (watch_at me.blocks.watches (2 * c.args.slot)) c.watched-first.result c.spot-spot.result live c.watched-first.ensures c.spot-spot.ensures)) in
     let apart : 2 * c.args.slot + 1 ≡ 2 * c.args.slot → ⊥ = λ h. absurd (omega (arith, h)) in
     let still = c.take_out.ensures.remain (2 * c.args.slot) (2 * c.args.slot + 1) one.item apart in
-    let two = stands-by c.take_out.new.watches.items (lists_of c.take_out.new.lists.items) (2 * c.args.slot + 1) c.index-second.result.now c.take_out.ensures.linked (still.live ∙ live_2) c.index-second.ensures in
-    let off : k ≡ 2 * c.args.slot → ⊥ = λ h. n (omega (arith, h)) in
-    let off_2 : k ≡ 2 * c.args.slot + 1 → ⊥ = λ h. n (omega (arith, h)) in
-    let a = c.take_out.ensures.remain (2 * c.args.slot) k one.item off in
-    let b = c.take_out-2.ensures.remain (2 * c.args.slot + 1) k two.item off_2 in
-    (b.live ∙ a.live, b.literal ∙ a.literal)
+    let two = stands-by c.take_out.new.blocks.watches (watch_lists c.take_out.new.lists.items) (2 * c.args.slot + 1) (record { literal = c.watched-second.result; live = true; spot = c.spot-spot-2.result }) c.take_out.ensures.linked (still.live ∙ live_2) (sym (shown (watch_at c.take_out.new.blocks.watches (2 * c.args.slot + 1)) c.watched-second.result c.spot-spot-2.result (still.live ∙ live_2) c.watched-second.ensures c.spot-spot-2.ensures)) in
+    let a = c.take_out.ensures.remain (2 * c.args.slot) k one.item (λ h. n (omega (arith, h))) in
+    let b = c.take_out-2.ensures.remain (2 * c.args.slot + 1) k two.item (λ h. n (omega (arith, h))) in
+    let same = ap (λ (x : Contents). watch_at x.watches k) c.clear.ensures in
+    (ap (λ (w : Watch). w.live) same ∙ b.live ∙ a.live, ap (λ (w : Watch). w.literal) same ∙ b.literal ∙ a.literal)
+
+pub returns-clause-rest : goal.returns-clause-rest
+returns-clause-rest c =
+    let me = c.args.self.now in
+    let st = c.requires.rest.stored in
+    let live : (watch_at me.blocks.watches (2 * c.args.slot)).live ≡ true = st.full c.args.slot c.requires.some in
+    let live_2 : (watch_at me.blocks.watches (2 * c.args.slot + 1)).live ≡ true = slot-sits me.blocks.literals me.blocks.watches (watch_lists me.lists.items) c.args.slot (2 * c.args.slot + 1) st c.requires.some (inr refl) in
+    let one = stands-by me.blocks.watches (watch_lists me.lists.items) (2 * c.args.slot) (record { literal = c.watched-first.result; live = true; spot = c.spot-spot.result }) st.linked live (sym (shown (watch_at me.blocks.watches (2 * c.args.slot)) c.watched-first.result c.spot-spot.result live c.watched-first.ensures c.spot-spot.ensures)) in
+    let apart : 2 * c.args.slot + 1 ≡ 2 * c.args.slot → ⊥ = λ h. absurd (omega (arith, h)) in
+    let still = c.take_out.ensures.remain (2 * c.args.slot) (2 * c.args.slot + 1) one.item apart in
+    let two = stands-by c.take_out.new.blocks.watches (watch_lists c.take_out.new.lists.items) (2 * c.args.slot + 1) (record { literal = c.watched-second.result; live = true; spot = c.spot-spot-2.result }) c.take_out.ensures.linked (still.live ∙ live_2) (sym (shown (watch_at c.take_out.new.blocks.watches (2 * c.args.slot + 1)) c.watched-second.result c.spot-spot-2.result (still.live ∙ live_2) c.watched-second.ensures c.spot-spot-2.ensures)) in
+    let same = ap (λ (x : Contents). x.watches) c.clear.ensures in
+    let dead_1 = (c.take_out-2.ensures.remain (2 * c.args.slot + 1) (2 * c.args.slot) two.item (λ h. apart (sym h))).live ∙ c.take_out.ensures.taken (2 * c.args.slot) one.item in
+    rest-vacate me c.clear.new.self c.take_out.new.lists c.take_out-2.new.lists c.args.slot c.requires.rest c.requires.some (returns-clause-literals c)
+    (ap (λ (b : Contents). b.searches) c.clear.ensures ∙ ap (λ (b : Contents). b.searches) c.take_out-2.ensures.kept ∙ ap (λ (b : Contents). b.searches) c.take_out.ensures.kept)
+    (subst (λ ws. AreLinked ws (watch_lists c.take_out-2.new.lists.items)) (sym same) c.take_out-2.ensures.linked)
+    (ap length same ∙ c.take_out-2.ensures.sizes.0 ∙ c.take_out.ensures.sizes.0) (c.take_out-2.ensures.sizes.1 ∙ c.take_out.ensures.sizes.1)
+    (ap (λ ws. (watch_at ws (2 * c.args.slot)).live) same ∙ dead_1) (ap (λ ws. (watch_at ws (2 * c.args.slot + 1)).live) same ∙ c.take_out-2.ensures.taken (2 * c.args.slot + 1) two.item)
+    (returns-clause-watches c) c.take_out.ensures.fewer c.take_out-2.ensures.fewer

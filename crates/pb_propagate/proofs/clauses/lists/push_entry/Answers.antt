@@ -1,8 +1,19 @@
-use Rattle.std.proofs.Common.{◌++◌, ◌∷◌, [], List, ℕ, sym, ap, ◌∙◌}
-use Rattle.pb_propagate.proofs.lemmas.clauses.Linked.{list-here, lists-set}
+use Rattle.std.proofs.Common.{◌≡◌, ◌∙◌, ap, sym, ◌++◌, ◌∷◌, [], List, subst}
+use Rattle.std.proofs.lemmas.List.{map-append}
+use Rattle.pb_propagate.specs.declared.clauses.lists.Listed.{Listed}
+use Rattle.pb_propagate.proofs.lemmas.clauses.Listed.{watch-here, watch-set, list-older, push-older}
+use Rattle.std.specs.Prelude.{map, slice_get, Some}
 use Rattle.pb_propagate.proofs.clauses.lists.push_entry.Goals as goal
 
 pub returns-clause-lists : goal.returns-clause-lists
 returns-clause-lists c =
-    lists-set c.args.lists.now.items c.args.literal c.index_mut-list.result.now c.push.new.self _ c.requires.literal c.index_mut-list.ensures.value
-    (c.in_ok-push.ensures.items ∙ ap (λ (xs : List ℕ). xs ++ (c.args.watch ∷ [])) (sym (list-here c.args.lists.now.items c.args.literal c.index_mut-list.result.now c.requires.literal c.index_mut-list.ensures.value)))
+    let occ = c.args.lists.now.items in
+    let v = c.index_mut-list.result.now in
+    watch-set occ c.args.literal c.push.new.self _
+    (ap (map (λ (x : Listed). x.watch)) c.in_ok-push.ensures.items ∙ map-append (λ (x : Listed). x.watch) v.items (c.args.entry ∷ []) ∙ ap (λ xs. xs ++ (c.args.entry.watch ∷ [])) (sym (watch-here occ c.args.literal v c.requires.literal c.index_mut-list.ensures.value)))
+
+pub returns-clause-more : goal.returns-clause-more
+returns-clause-more c =
+    let v = c.index_mut-list.result.now in
+    list-older c.args.lists.now.items c.args.literal v c.push.new.self (λ x. x ≡ c.args.entry) c.requires.literal c.index_mut-list.ensures.value
+    (λ i x h. push-older v.items i c.args.entry x (subst (λ (es : List Listed). slice_get es i ≡ Some x) c.in_ok-push.ensures.items h))

@@ -1,20 +1,30 @@
-use Rattle.std.proofs.Common.{ap, ◌∙◌, arith, get_or-set_same}
+use Rattle.std.proofs.Common.{◌<◌, ap, ◌∙◌, arith, length, get_or-set_same, inl, inr}
 use Rattle.pb_propagate.specs.declared.clauses.lists.Watch.{Watch}
 use Rattle.pb_propagate.specs.engine.Clauses.Links.{idle, watch_at}
+use Rattle.pb_propagate.specs.engine.Clauses.Blocks.{Contents}
 use Rattle.pb_propagate.proofs.lemmas.clauses.Linked.{sits-within}
 use Rattle.pb_propagate.proofs.clauses.visiting.shift.Goals as goal
 
 pub put_in-requires-clause-watch : goal.put_in-requires-clause-watch
 put_in-requires-clause-watch c =
-    let h = sits-within c.args.watches.now.items c.args.watch c.args.literal c.args.index (c.requires.linked.named c.args.watch c.args.literal c.args.index c.requires.item) in
+    let h = sits-within c.args.blocks.now.watches c.args.watch c.args.literal c.args.index (c.requires.linked.named c.args.watch c.args.literal c.args.index c.requires.item) in
     omega (arith, h, c.take_out.ensures.sizes.0)
+
+pub put_in-requires-clause-small : goal.put_in-requires-clause-small
+put_in-requires-clause-small c = c.requires.linked.small c.args.watch (c.requires.linked.named c.args.watch c.args.literal c.args.index c.requires.item).live
 
 pub returns-clause-literal : goal.returns-clause-literal
 returns-clause-literal c =
-    let h = sits-within c.args.watches.now.items c.args.watch c.args.literal c.args.index (c.requires.linked.named c.args.watch c.args.literal c.args.index c.requires.item) in
-    ap (λ ws. (watch_at ws c.args.watch).literal) c.in_ok-put_in.ensures.watches ∙ ap (λ (w : Watch). w.literal) (get_or-set_same c.take_out.new.watches.items c.args.watch _ idle (omega (arith, h, c.take_out.ensures.sizes.0)))
+    let h = sits-within c.args.blocks.now.watches c.args.watch c.args.literal c.args.index (c.requires.linked.named c.args.watch c.args.literal c.args.index c.requires.item) in
+    ap (λ (b : Contents). (watch_at b.watches c.args.watch).literal) c.in_ok-put_in.ensures.watches ∙ ap (λ (w : Watch). w.literal) (get_or-set_same c.take_out.new.blocks.watches c.args.watch _ idle (omega (arith, h, c.take_out.ensures.sizes.0)))
 
 pub returns-clause-live : goal.returns-clause-live
 returns-clause-live c =
-    let h = sits-within c.args.watches.now.items c.args.watch c.args.literal c.args.index (c.requires.linked.named c.args.watch c.args.literal c.args.index c.requires.item) in
-    ap (λ ws. (watch_at ws c.args.watch).live) c.in_ok-put_in.ensures.watches ∙ ap (λ (w : Watch). w.live) (get_or-set_same c.take_out.new.watches.items c.args.watch _ idle (omega (arith, h, c.take_out.ensures.sizes.0)))
+    let h = sits-within c.args.blocks.now.watches c.args.watch c.args.literal c.args.index (c.requires.linked.named c.args.watch c.args.literal c.args.index c.requires.item) in
+    ap (λ (b : Contents). (watch_at b.watches c.args.watch).live) c.in_ok-put_in.ensures.watches ∙ ap (λ (w : Watch). w.live) (get_or-set_same c.take_out.new.blocks.watches c.args.watch _ idle (omega (arith, h, c.take_out.ensures.sizes.0)))
+
+pub returns-clause-more : goal.returns-clause-more
+returns-clause-more c = λ x there. elim (c.in_ok-put_in.ensures.more x there) [
+  | inl is ↦ inl is
+  | inr old ↦ inr (c.take_out.ensures.fewer x old)
+]

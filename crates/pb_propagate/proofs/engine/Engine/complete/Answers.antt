@@ -1,5 +1,5 @@
+use Rattle.pb_propagate.specs.declared.clauses.lists.Listed.{Listed}
 use Rattle.std.proofs.Common.{true, false, Vec, Global, ℕ, ◌≡◌, ◌*◌, length, ◌∙◌, [], refl, ap, sym}
-use Rattle.pb_propagate.specs.engine.Clauses.Links.{lists_of}
 use Rattle.pb_propagate.specs.engine.Clauses.Shapes.{all_of, clauses_of}
 use Rattle.pb_propagate.specs.engine.Engine.Counts.{none}
 use Rattle.pb_propagate.specs.engine.Engine.Lists.{begin}
@@ -35,14 +35,14 @@ invariant_of-self-then-self-2 c = λ ready.
     let both = c.self.invariant (ap (λ (v : Standing). v.spent) c.self.view_is ∙ c.requires.ready) in
     let r = both.0 in
     let reported = c.in_ok-values.ensures in
-    let lit : clauses_of c.extend.new.clauses ≡ clauses_of e.clauses = ap (λ (v : Vec (Vec ℕ Global) Global). lists_of v.items) c.extend.ensures.literals in (
+    let lit : clauses_of c.extend.new.clauses ≡ clauses_of e.clauses = c.extend.ensures.literals in (
       record {
         sound = r.sound;
         slots = rw lit r.slots;
         joined = rw lit r.joined;
         ready = reported.left.ready;
         widths = reported.left.lists ∙ r.widths;
-        known = ap (λ (v : Vec (Vec ℕ Global) Global). length v.items) c.extend.ensures.literals ∙ r.known;
+        known = ap length c.extend.ensures.literals ∙ r.known;
         rest = r.rest;
         values = r.values;
         list = r.list;
@@ -127,21 +127,21 @@ pub settle-requires-clause-walked : goal.settle-requires-clause-walked
 settle-requires-clause-walked c =
     let e = c.self.inside in
     let both = c.self.invariant (ap (λ (v : Standing). v.spent) c.self.view_is ∙ c.requires.ready) in
-    rw both.0.list (none-walked e.run.assignment.values.items e.clauses.watches.items)
+    rw both.0.list (none-walked e.run.assignment.values.items e.clauses.blocks.literals e.clauses.blocks.watches)
 
 pub invariant_of-self-2 : goal.invariant_of-self-2
 invariant_of-self-2 c = λ ready.
     let e = c.self.inside in
     let both = c.self.invariant (ap (λ (v : Standing). v.spent) c.self.view_is ∙ c.requires.ready) in
     let r = both.0 in
-    let lit : clauses_of c.rest.new.clauses ≡ clauses_of e.clauses = ap (λ (v : Vec (Vec ℕ Global) Global). lists_of v.items) (c.rest.ensures.literals ∙ c.settle.ensures.literals) in (
+    let lit : clauses_of c.rest.new.clauses ≡ clauses_of e.clauses = (c.rest.ensures.literals ∙ c.settle.ensures.literals) in (
       record {
         sound = r.sound;
         slots = rw lit r.slots;
         joined = rw lit r.joined;
         ready = c.rest.ensures.ready;
-        widths = ap (λ (v : Vec (Vec ℕ Global) Global). length v.items) c.rest.ensures.lists ∙ c.in_ok-values-2.ensures.running.sizes ∙ ap (λ n. 4 * n) (c.in_ok-values-2.ensures.values ∙ r.values);
-        known = ap (λ (v : Vec (Vec ℕ Global) Global). length v.items) (c.rest.ensures.literals ∙ c.settle.ensures.literals) ∙ r.known;
+        widths = ap (λ (v : Vec (Vec Listed Global) Global). length v.items) c.rest.ensures.lists ∙ c.in_ok-values-2.ensures.running.sizes ∙ ap (λ n. 4 * n) (c.in_ok-values-2.ensures.values ∙ r.values);
+        known = ap length (c.rest.ensures.literals ∙ c.settle.ensures.literals) ∙ r.known;
         rest = c.rest.ensures.rest;
         values = c.rest.ensures.values ∙ c.in_ok-values-2.ensures.values ∙ r.values;
         list = c.rest.ensures.list;

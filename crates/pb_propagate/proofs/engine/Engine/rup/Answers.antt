@@ -1,3 +1,4 @@
+use Rattle.pb_propagate.specs.declared.clauses.lists.Listed.{Listed}
 use Rattle.std.specs.Prelude.{filter, pos, All, Some, sum, sum_by}
 use Rattle.std.proofs.Common.{true, false, of_z, inl, inr, Vec, Global, ℕ, subst, ◌≡◌, ◌≤◌, ◌<◌, ◌+◌, ◌*◌, ◌++◌, ◌∷◌, [], List, refl, sym, ◌∙◌, ap, length, length-append, arith}
 use Rattle.std.specs.Int.{w128}
@@ -21,7 +22,6 @@ use Rattle.pb_normal.specs.meaning.Rules.{opposite as opposite_entry}
 use Rattle.pb_propagate.specs.engine.Engine.Lists.{Shape}
 use Rattle.pb_propagate.specs.engine.Engine.Slots.{numbered}
 use Rattle.pb_propagate.proofs.lemmas.store.Placed.{placed-with, numbered-same, numbered-entered}
-use Rattle.pb_propagate.specs.engine.Clauses.Links.{lists_of}
 use Rattle.pb_propagate.specs.engine.Clauses.Shapes.{all_of, clauses_of}
 use Rattle.pb_propagate.proofs.lemmas.engine.Bounds.{joined-terms, slots-terms, slots-eager, filter-few, found-least, most-visits}
 use Rattle.pb_propagate.proofs.lemmas.engine.Spent.{spent-le}
@@ -125,14 +125,14 @@ invariant_of-self-2 c = λ ready.
     let left = rest-left c.in-Ok.negation keep new.store.stored.items last.store.stored.items e.run.opens.items new.run.opens.items e.run.candidates.items new.run.candidates.items done.opens.items last.run.opens.items done.candidates.items last.run.candidates.items h c.rest.ensures.rest c.leave.ensures.kept c.leave.ensures.opens c.leave.ensures.candidates in
     let same = c.leave.ensures.rest in
     let entered = c.enter.ensures.rest in
-    let lit : clauses_of c.rest.new.clauses ≡ clauses_of e.clauses = ap (λ (v : Vec (Vec ℕ Global) Global). lists_of v.items) (c.rest.ensures.literals ∙ c.propagate.ensures.literals) in (
+    let lit : clauses_of c.rest.new.clauses ≡ clauses_of e.clauses = (c.rest.ensures.literals ∙ c.propagate.ensures.literals) in (
       record {
         sound = c.leave.ensures.sound;
         slots = rw (left.0, lit) r.slots;
         joined = rw (left.0, lit) r.joined;
         ready = c.rest.ensures.ready;
-        widths = ap (λ (v : Vec (Vec ℕ Global) Global). length v.items) c.rest.ensures.lists ∙ c.in_ok-found.ensures.running.sizes ∙ ap (λ n. 4 * n) (c.in_ok-found.ensures.values ∙ ap (λ (a : Assignment). length a.values.items) entered.0 ∙ r.values ∙ sym c.in_ok-enter.ensures.variables ∙ sym c.leave.ensures.variables);
-        known = ap (λ (v : Vec (Vec ℕ Global) Global). length v.items) (c.rest.ensures.literals ∙ c.propagate.ensures.literals) ∙ r.known ∙ ap length (sym left.0);
+        widths = ap (λ (v : Vec (Vec Listed Global) Global). length v.items) c.rest.ensures.lists ∙ c.in_ok-found.ensures.running.sizes ∙ ap (λ n. 4 * n) (c.in_ok-found.ensures.values ∙ ap (λ (a : Assignment). length a.values.items) entered.0 ∙ r.values ∙ sym c.in_ok-enter.ensures.variables ∙ sym c.leave.ensures.variables);
+        known = ap length (c.rest.ensures.literals ∙ c.propagate.ensures.literals) ∙ r.known ∙ ap length (sym left.0);
         rest = left.1;
         values = ap (λ (a : Assignment). length a.values.items) same.0 ∙ c.rest.ensures.values ∙ c.in_ok-found.ensures.values ∙ ap (λ (a : Assignment). length a.values.items) entered.0 ∙ r.values ∙ sym c.in_ok-enter.ensures.variables ∙ sym c.leave.ensures.variables;
         list = ap (λ (a : Assignment). a.list.items) same.0 ∙ c.rest.ensures.list;
@@ -429,14 +429,14 @@ invariant_of-self-then-self-2 c = λ ready.
     let both = c.self.invariant (ap (λ (v : Standing). v.spent) c.self.view_is ∙ c.requires.ready) in
     let r = both.0 in
     let reported = c.in_ok-answer.ensures in
-    let lit : clauses_of c.ask.new.clauses ≡ clauses_of e.clauses = ap (λ (v : Vec (Vec ℕ Global) Global). lists_of v.items) c.ask.ensures.literals in (
+    let lit : clauses_of c.ask.new.clauses ≡ clauses_of e.clauses = c.ask.ensures.literals in (
       record {
         sound = reported.left.sound;
         slots = rw (reported.left.kept, lit) r.slots;
         joined = rw (reported.left.kept, lit) r.joined;
         ready = reported.left.ready;
         widths = reported.left.lists ∙ r.widths ∙ ap (λ n. 4 * n) (sym c.ask.ensures.variables);
-        known = ap (λ (v : Vec (Vec ℕ Global) Global). length v.items) c.ask.ensures.literals ∙ r.known ∙ sym (ap length reported.left.kept);
+        known = ap length c.ask.ensures.literals ∙ r.known ∙ sym (ap length reported.left.kept);
         rest = rw reported.left.kept r.rest;
         values = r.values ∙ sym c.ask.ensures.variables;
         list = r.list;

@@ -1,7 +1,6 @@
 use Rattle.std.proofs.Common.{Vec, Global, refl, ℕ, ◌≡◌, ◌∷◌, [], ◌∙◌, ap, length, length-append, arith}
 use Rattle.pb_propagate.specs.engine.Engine.Live.{Standing}
 use Rattle.pb_propagate.specs.engine.Engine.Fields.{shapes_of, spots_of}
-use Rattle.pb_propagate.specs.engine.Clauses.Links.{lists_of}
 use Rattle.pb_propagate.specs.engine.Clauses.Shapes.{all_of, clauses_of}
 use Rattle.pb_propagate.proofs.lemmas.store.Places.{entries-length}
 use Rattle.pb_propagate.proofs.lemmas.engine.Wider.{widened-stored, half}
@@ -15,7 +14,7 @@ invariant_of-self-2 c = λ ready.
     let both = c.self.invariant (ap (λ (v : Standing). v.spent) c.self.view_is ∙ c.requires.ready) in
     let r = both.0 in
     let occ = e.store.occurrences.items in
-    let lit : clauses_of c.widen-3.new.self ≡ clauses_of e.clauses = ap (λ (v : Vec (Vec ℕ Global) Global). lists_of v.items) (c.widen-3.ensures.literals ∙ c.widen-2.ensures.literals) in
+    let lit : clauses_of c.widen-3.new.self ≡ clauses_of e.clauses = (c.widen-3.ensures.literals ∙ c.widen-2.ensures.literals) in
     let count = half c.len.result (length c.push-2.new.self.items) e.store.variables (omega (arith, c.len.ensures, c.push-2.new.self.ok.0))
     (omega (arith, ap length c.in_ok-push.ensures.items, ap length c.in_ok-push-2.ensures.items, length-append occ (c.new.result ∷ []), length-append c.push.new.self.items (c.new-2.result ∷ []), entries-length (shapes_of e.store.stored.items) occ, r.sound.places)) in (
       record {
@@ -24,7 +23,7 @@ invariant_of-self-2 c = λ ready.
         joined = rw lit r.joined;
         ready = c.in_ok-widen-3.ensures.rest;
         widths = omega (arith, c.in_ok-widen-3.ensures.lists, c.in_ok-widen-2.ensures.lists, r.widths, count);
-        known = ap (λ (v : Vec (Vec ℕ Global) Global). length v.items) (c.widen-3.ensures.literals ∙ c.widen-2.ensures.literals) ∙ r.known;
+        known = ap length (c.widen-3.ensures.literals ∙ c.widen-2.ensures.literals) ∙ r.known;
         rest = r.rest;
         values = omega (arith, c.in_ok-widen.ensures.values, r.values, count);
         list = c.widen.ensures.list ∙ r.list;

@@ -1,10 +1,10 @@
+use Rattle.pb_propagate.specs.declared.clauses.lists.Listed.{Listed}
 use Rattle.std.specs.Prelude.{IfNone, IfSome}
 use Rattle.std.proofs.Common.{refl, ◌≡◌, ℕ, [], Vec, Global, ap, subst, sym, ◌∙◌, arith, length, take}
 use Rattle.pb_propagate.specs.declared.clauses.lists.Watch.{Watch}
 use Rattle.pb_propagate.specs.engine.Engine.Counts.{none}
 use Rattle.pb_propagate.specs.engine.Engine.Reached.{HasClash, HasEnded}
 use Rattle.pb_propagate.specs.engine.Engine.Fields.{shapes_of}
-use Rattle.pb_propagate.specs.engine.Clauses.Links.{lists_of}
 use Rattle.pb_propagate.specs.engine.Clauses.Runs.{AreWalked}
 use Rattle.pb_propagate.specs.engine.Clauses.Shapes.{all_of, clauses_of, joined}
 use Rattle.pb_propagate.specs.engine.Clauses.Walked.{walked_codes}
@@ -54,7 +54,7 @@ settle-requires-clause-tidy c =
 
 pub settle-requires-clause-joined : goal.settle-requires-clause-joined
 settle-requires-clause-joined c =
-    let lit : clauses_of c.update.new.clauses ≡ clauses_of c.args.clauses.now = ap (λ (v : Vec (Vec ℕ Global) Global). lists_of v.items) c.update.ensures.literals in
+    let lit : clauses_of c.update.new.clauses ≡ clauses_of c.args.clauses.now = c.update.ensures.literals in
     rw lit c.requires.standing.joined
 
 pub settle-requires-clause-running : goal.settle-requires-clause-running
@@ -67,7 +67,7 @@ pub returns-clause-clash : goal.returns-clause-clash
 returns-clause-clash c =
     let store = c.args.store.now in
     let list = c.update.new.self.run.assignment.list.items in
-    let lit : clauses_of c.update.new.clauses ≡ clauses_of c.args.clauses.now = ap (λ (v : Vec (Vec ℕ Global) Global). lists_of v.items) c.update.ensures.literals in
+    let lit : clauses_of c.update.new.clauses ≡ clauses_of c.args.clauses.now = c.update.ensures.literals in
     let same : all_of store c.update.new.clauses ≡ all_of store c.args.clauses.now = ap (joined (shapes_of store.stored.items)) lit in
     let found = subst (λ xs. IfNone c.in_ok-values.values (HasClash xs list c.args.given.now)) same c.in_ok-values.ensures.clash in
     map-none c.in_ok-values.values (clash-refuted (all_of store c.args.clauses.now) list c.args.given.now (reasons-derive c.in_ok-update.ensures.reasons)) found
@@ -76,7 +76,7 @@ pub returns-clause-ended : goal.returns-clause-ended
 returns-clause-ended c =
     let store = c.args.store.now in
     let list = c.update.new.self.run.assignment.list.items in
-    let lit : clauses_of c.update.new.clauses ≡ clauses_of c.args.clauses.now = ap (λ (v : Vec (Vec ℕ Global) Global). lists_of v.items) c.update.ensures.literals in
+    let lit : clauses_of c.update.new.clauses ≡ clauses_of c.args.clauses.now = c.update.ensures.literals in
     let same : all_of store c.update.new.clauses ≡ all_of store c.args.clauses.now = ap (joined (shapes_of store.stored.items)) lit in
     let found = subst (λ xs. IfSome c.in_ok-values.values (λ values. HasEnded xs list c.args.given.now values.items)) same c.in_ok-values.ensures.ended in
     map-some c.in_ok-values.values (λ values. ended-made (all_of store c.args.clauses.now) list c.args.given.now values.items (reasons-derive c.in_ok-update.ensures.reasons)) found
@@ -86,7 +86,7 @@ returns-then-branch-clause-left c = record {
   sound = c.requires.standing.sound;
   kept = refl;
   ready = c.rest.ensures.rest;
-  lists = ap (λ (v : Vec (Vec ℕ Global) Global). length v.items) c.rest.ensures.lists ∙ c.in_ok-update.ensures.lists;
+  lists = ap (λ (v : Vec (Vec Listed Global) Global). length v.items) c.rest.ensures.lists ∙ c.in_ok-update.ensures.lists;
   rooted = λ live. absurd (let e = sym live ∙ c.in_ok-update.ensures.ended c.if-branch.true in cc);
   fallen = λ fallen. c.in_ok-update.ensures.fallen c.if-branch.true;
 }
@@ -101,17 +101,16 @@ returns-clause-left c =
     let last = c.back.new.run in
     let count_is : c.len-count.result ≡ length run.assignment.list.items = omega (arith, c.len-count.ensures, run.assignment.list.ok.0) in
     let codes = walked_codes (length run.assignment.list.items) run.assignment.list.items in
-    let watches_is = ap (λ (v : Vec Watch Global). v.items) c.back.ensures.watches in
     let r = c.in_ok-update.ensures.rooted c.if-branch.false in
     record {
       sound = c.requires.standing.sound;
       kept = refl;
       ready = c.back.ensures.ready;
-      lists = omega (arith, ap (λ (v : Vec (Vec ℕ Global) Global). length v.items) c.back.ensures.lists, reported.running.sizes, reported.values, r.values, c.requires.standing.widths);
+      lists = omega (arith, ap (λ (v : Vec (Vec Listed Global) Global). length v.items) c.back.ensures.lists, reported.running.sizes, reported.values, r.values, c.requires.standing.widths);
       fallen = λ fallen. absurd (let e = sym fallen ∙ c.in_ok-update.ensures.risen c.if-branch.false in cc);
       rooted = λ live. back-rooted store between c.back.new.clauses run last root.rests root.waiting c.settle.new.run.assignment.list.items (c.in_ok-update.ensures.rooted c.if-branch.false) (record {
-        literals = ap (λ (v : Vec (Vec ℕ Global) Global). lists_of v.items) (c.back.ensures.literals ∙ c.settle.ensures.literals);
-        kept = λ old. subst (λ ws. AreWalked run.assignment.values.items ws codes) (sym watches_is) (reported.kept run.assignment.values.items codes (grows-refl run.assignment.values.items) old);
+        literals = (c.back.ensures.literals ∙ c.settle.ensures.literals);
+        kept = λ old. subst (λ cs. AreWalked run.assignment.values.items cs c.back.new.clauses.blocks.watches codes) (sym c.back.ensures.literals) (subst (λ ws. AreWalked run.assignment.values.items c.settle.new.clauses.blocks.literals ws codes) (sym c.back.ensures.watches) (reported.kept run.assignment.values.items codes (grows-refl run.assignment.values.items) old));
         extends = reported.extends;
         reasons = rw c.back.ensures.reasons reported.reasons;
         cut = c.back.ensures.list ∙ ap (λ n. take n c.settle.new.run.assignment.list.items) count_is;

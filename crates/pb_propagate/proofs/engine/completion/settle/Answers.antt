@@ -44,8 +44,8 @@ pub propagate-requires-clause-walked : goal.propagate-requires-clause-walked
 propagate-requires-clause-walked c =
     let old = c.args.run.now.assignment.list.items in
     let count_is : c.len-count.result ≡ length old = omega (arith, c.len-count.ensures, c.args.run.now.assignment.list.ok.0) in
-    let walked = walked-grow c.args.run.now.assignment.values.items c.assume.new.run.assignment.values.items c.args.clauses.now.watches.items (walked_codes (length old) old) (assigned-grow c.args.run.now.assignment c.assume.new.run.assignment c.in_ok-assume.ensures.advances.values c.in_ok-assume.ensures.advances.costs.extends) c.requires.walked in
-    subst (AreWalked c.assume.new.run.assignment.values.items c.args.clauses.now.watches.items) (sym (walked-first c.len-count.result old c.assume.new.run.assignment.list.items count_is c.in_ok-assume.ensures.advances.costs.extends)) walked
+    let walked = walked-grow c.args.run.now.assignment.values.items c.assume.new.run.assignment.values.items c.args.clauses.now.blocks.literals c.args.clauses.now.blocks.watches (walked_codes (length old) old) (assigned-grow c.args.run.now.assignment c.assume.new.run.assignment c.in_ok-assume.ensures.advances.values c.in_ok-assume.ensures.advances.costs.extends) c.requires.walked in
+    subst (AreWalked c.assume.new.run.assignment.values.items c.args.clauses.now.blocks.literals c.args.clauses.now.blocks.watches) (sym (walked-first c.len-count.result old c.assume.new.run.assignment.list.items count_is c.in_ok-assume.ensures.advances.costs.extends)) walked
 
 pub returns-then-branch-clause-running : goal.returns-then-branch-clause-running
 returns-then-branch-clause-running c = running-grow c.args.clauses.now c.args.run.now.assignment.values.items c.assume.new.run.assignment.values.items (assigned-grow c.args.run.now.assignment c.assume.new.run.assignment c.in_ok-assume.ensures.advances.values c.in_ok-assume.ensures.advances.costs.extends) c.requires.running

@@ -98,8 +98,8 @@ pub propagate-requires-clause-walked : goal.propagate-requires-clause-walked
 propagate-requires-clause-walked c =
     let old = c.args.run.now.assignment.list.items in
     let count_is : c.len-count.result ≡ length old = omega (arith, c.len-count.ensures, c.args.run.now.assignment.list.ok.0) in
-    let walked = walked-grow c.args.run.now.assignment.values.items c.deny_all.new.run.assignment.values.items c.args.clauses.now.watches.items (walked_codes (length old) old) (assigned-grow c.args.run.now.assignment c.deny_all.new.run.assignment c.in_ok-deny_all.ensures.advances.values c.in_ok-deny_all.ensures.advances.costs.extends) c.requires.walked in
-    subst (AreWalked c.deny_all.new.run.assignment.values.items c.args.clauses.now.watches.items) (sym (walked-first c.len-count.result old c.deny_all.new.run.assignment.list.items count_is c.in_ok-deny_all.ensures.advances.costs.extends)) walked
+    let walked = walked-grow c.args.run.now.assignment.values.items c.deny_all.new.run.assignment.values.items c.args.clauses.now.blocks.literals c.args.clauses.now.blocks.watches (walked_codes (length old) old) (assigned-grow c.args.run.now.assignment c.deny_all.new.run.assignment c.in_ok-deny_all.ensures.advances.values c.in_ok-deny_all.ensures.advances.costs.extends) c.requires.walked in
+    subst (AreWalked c.deny_all.new.run.assignment.values.items c.args.clauses.now.blocks.literals c.args.clauses.now.blocks.watches) (sym (walked-first c.len-count.result old c.deny_all.new.run.assignment.list.items count_is c.in_ok-deny_all.ensures.advances.costs.extends)) walked
 
 pub returns-in_err-found-clause-costs : goal.returns-in_err-found-clause-costs
 returns-in_err-found-clause-costs c =

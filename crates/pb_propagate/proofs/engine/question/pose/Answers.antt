@@ -1,3 +1,4 @@
+use Rattle.pb_propagate.specs.declared.clauses.lists.Listed.{Listed}
 use Rattle.std.specs.Prelude.{sum, sum_by, Contains}
 use Rattle.std.proofs.Common.{rules, ◌≡◌, ℕ, ◌+◌, ◌++◌, ◌∷◌, [], List, Vec, Global, refl, ap, subst, sym, ◌∙◌, arith, length, length-append, length-set, get_or, set, take}
 use Rattle.std.proofs.Math.Seq.{take-append_seam}
@@ -12,7 +13,6 @@ use Rattle.pb_propagate.specs.engine.Engine.Counts.{none, IsTidy, beside}
 use Rattle.pb_propagate.specs.engine.Engine.Fields.{shapes_of, forms_of, stored_shape}
 use Rattle.pb_propagate.specs.engine.Engine.Root.{alone, posed}
 use Rattle.pb_propagate.specs.engine.Engine.Slots.{numbered, ArePlaced}
-use Rattle.pb_propagate.specs.engine.Clauses.Links.{lists_of}
 use Rattle.pb_propagate.specs.engine.Clauses.Runs.{Grows}
 use Rattle.pb_propagate.specs.engine.Clauses.Shapes.{all_of, clauses_of, joined}
 use Rattle.pb_propagate.specs.engine.Clauses.Walked.{walked_codes}
@@ -125,7 +125,7 @@ propagate-requires-clause-joined c =
     let new = c.enter.new in
     let h = c.in_ok-enter.ensures.entered in
     let list_is = ap (λ (a : Assignment). a.list.items) c.enter.ensures.rest.0 in
-    let lit : clauses_of between ≡ clauses_of c.args.clauses.now = ap (λ (v : Vec (Vec ℕ Global) Global). lists_of v.items) c.update.ensures.literals in
+    let lit : clauses_of between ≡ clauses_of c.args.clauses.now = c.update.ensures.literals in
     rw lit (joined-entered c.args.form keep new.store.stored.items (clauses_of c.args.clauses.now) run.opens.items new.run.opens.items run.candidates.items new.run.candidates.items h c.requires.standing.joined)
 
 pub propagate-requires-clause-counted : goal.propagate-requires-clause-counted
@@ -188,7 +188,7 @@ returns-in_err-found-clause-most c =
     let list_is = ap (λ (a : Assignment). a.list.items) c.enter.ensures.rest.0 in
     let laid_is = ap (λ (a : Assignment). a.list.items) (c.lay.ensures.assignment ∙ c.enter.ensures.rest.0) in
     let number_is : c.len-number.result ≡ length keep = omega (arith, c.len-number.ensures, store.stored.ok.0) in
-    let lit : clauses_of between ≡ clauses_of c.args.clauses.now = ap (λ (v : Vec (Vec ℕ Global) Global). lists_of v.items) c.update.ensures.literals in
+    let lit : clauses_of between ≡ clauses_of c.args.clauses.now = c.update.ensures.literals in
     let count_is : c.len-count.result ≡ length run.assignment.list.items = omega (arith, c.len-count.ensures, run.assignment.list.ok.0) in
     let clauses = clauses_of c.args.clauses.now in
     let whole : all_of new.store c.args.clauses.now ≡ all_of store c.args.clauses.now ++ (stored_shape h.kept ∷ []) =
@@ -220,7 +220,7 @@ returns-clause-most c =
     let list_is = ap (λ (a : Assignment). a.list.items) c.enter.ensures.rest.0 in
     let laid_is = ap (λ (a : Assignment). a.list.items) (c.lay.ensures.assignment ∙ c.enter.ensures.rest.0) in
     let number_is : c.len-number.result ≡ length keep = omega (arith, c.len-number.ensures, store.stored.ok.0) in
-    let lit : clauses_of between ≡ clauses_of c.args.clauses.now = ap (λ (v : Vec (Vec ℕ Global) Global). lists_of v.items) c.update.ensures.literals in
+    let lit : clauses_of between ≡ clauses_of c.args.clauses.now = c.update.ensures.literals in
     let count_is : c.len-count.result ≡ length run.assignment.list.items = omega (arith, c.len-count.ensures, run.assignment.list.ok.0) in
     let clauses = clauses_of c.args.clauses.now in
     let whole : all_of new.store c.args.clauses.now ≡ all_of store c.args.clauses.now ++ (stored_shape h.kept ∷ []) =
@@ -252,7 +252,7 @@ returns-clause-asked c =
     let list_is = ap (λ (a : Assignment). a.list.items) c.enter.ensures.rest.0 in
     let laid_is = ap (λ (a : Assignment). a.list.items) (c.lay.ensures.assignment ∙ c.enter.ensures.rest.0) in
     let number_is : c.len-number.result ≡ length keep = omega (arith, c.len-number.ensures, store.stored.ok.0) in
-    let lit : clauses_of between ≡ clauses_of c.args.clauses.now = ap (λ (v : Vec (Vec ℕ Global) Global). lists_of v.items) c.update.ensures.literals in
+    let lit : clauses_of between ≡ clauses_of c.args.clauses.now = c.update.ensures.literals in
     let clauses = clauses_of c.args.clauses.now in
     let whole : all_of new.store c.args.clauses.now ≡ all_of store c.args.clauses.now ++ (stored_shape h.kept ∷ []) =
     ap (λ xs. joined xs clauses) (entered-shapes c.args.form keep new.store.stored.items run.opens.items new.run.opens.items run.candidates.items new.run.candidates.items h) ∙ joined-push (shapes_of keep) clauses (stored_shape h.kept) c.requires.standing.joined.short in
@@ -276,7 +276,7 @@ returns-then-branch-clause-left c = record {
   sound = c.requires.standing.sound;
   kept = refl;
   ready = c.rest.ensures.rest;
-  lists = ap (λ (v : Vec (Vec ℕ Global) Global). length v.items) c.rest.ensures.lists ∙ c.in_ok-update.ensures.lists;
+  lists = ap (λ (v : Vec (Vec Listed Global) Global). length v.items) c.rest.ensures.lists ∙ c.in_ok-update.ensures.lists;
   rooted = λ live. absurd (let e = sym live ∙ c.in_ok-update.ensures.ended c.if-branch.true in cc);
   fallen = λ fallen. c.in_ok-update.ensures.fallen c.if-branch.true;
 }
@@ -308,21 +308,21 @@ returns-clause-left c =
     let starts_is : last.run.candidates.items ≡ rests.starts.items = c.leave.ensures.candidates ∙ same.1 in
     let cut : b.run.assignment.list.items ≡ run.assignment.list.items = c.back.ensures.list ∙ ap (λ xs. take c.len-count.result xs) extends.1 ∙ ap (λ n. take n (run.assignment.list.items ++ extends.0)) count_is ∙ take-append_seam run.assignment.list.items extends.0 in
     let end_is : last.run.assignment.list.items ≡ run.assignment.list.items = ap (λ (a : Assignment). a.list.items) c.leave.ensures.rest.0 ∙ cut in
-    let lit : clauses_of b.clauses ≡ clauses_of between = ap (λ (v : Vec (Vec ℕ Global) Global). lists_of v.items) (c.back.ensures.literals ∙ c.propagate.ensures.literals) in
+    let lit : clauses_of b.clauses ≡ clauses_of between = (c.back.ensures.literals ∙ c.propagate.ensures.literals) in
     let mine : c.lay.new.run.assignment ≡ run.assignment = c.lay.ensures.assignment ∙ c.enter.ensures.rest.0 in
     let last_is : reasons_of last.run ≡ reasons_of done = ap (λ (a : Assignment). a.reasons.items) c.leave.ensures.rest.0 ∙ ap (λ (v : Vec ℕ Global). v.items) c.back.ensures.reasons in
     let keeps : KeepsReasons (list_of run) (reasons_of run) (reasons_of last.run) = subst (λ xs. KeepsReasons (list_of run) (reasons_of run) xs) (sym last_is) (subst (λ (a : Assignment). KeepsReasons a.list.items a.reasons.items (reasons_of done)) mine reported.reasons.kept) in
     let values_is = ap (λ (a : Assignment). a.values.items) (c.lay.ensures.assignment ∙ c.enter.ensures.rest.0) in
     let codes = walked_codes (length run.assignment.list.items) run.assignment.list.items in
     let served = reported.kept run.assignment.values.items codes (subst (λ vs. Grows run.assignment.values.items vs) (sym values_is) (grows-refl run.assignment.values.items)) r.walked in
-    let watches_is = ap (λ (v : Vec Watch Global). v.items) c.back.ensures.watches in
+    let watches_is = c.back.ensures.watches in
     let agrees : Agree last.run.assignment.values.items run.assignment.list.items = subst (λ xs. Agree last.run.assignment.values.items xs) end_is last.run.assignment.agrees in
-    let walked = walked-agree run.assignment.values.items last.run.assignment.values.items run.assignment.list.items c.propagate.new.clauses.watches.items codes run.assignment.agrees agrees served in
+    let walked = walked-agree run.assignment.values.items last.run.assignment.values.items run.assignment.list.items c.propagate.new.clauses.blocks.literals c.propagate.new.clauses.blocks.watches codes run.assignment.agrees agrees served in
     record {
       sound = c.leave.ensures.sound;
       kept = kept_is;
       ready = c.back.ensures.ready;
-      lists = omega (arith, ap (λ (v : Vec (Vec ℕ Global) Global). length v.items) c.back.ensures.lists, reported.running.sizes, reported.values, ap length values_is, r.values, c.requires.standing.widths);
+      lists = omega (arith, ap (λ (v : Vec (Vec Listed Global) Global). length v.items) c.back.ensures.lists, reported.running.sizes, reported.values, ap length values_is, r.values, c.requires.standing.widths);
       fallen = λ fallen. absurd (let e = sym fallen ∙ c.in_ok-update.ensures.risen c.if-branch.false in cc);
       rooted = λ live. record {
         values = ap (λ (a : Assignment). length a.values.items) c.leave.ensures.rest.0 ∙ c.back.ensures.values ∙ reported.values ∙ ap (λ (a : Assignment). length a.values.items) (c.lay.ensures.assignment ∙ c.enter.ensures.rest.0) ∙ r.values ∙ sym (c.leave.ensures.variables ∙ c.enter.ensures.variables);
@@ -336,7 +336,7 @@ returns-clause-left c =
         trail = ap (λ (v : Vec ℕ Global). v.items) c.leave.ensures.trail ∙ c.back.ensures.trail;
         next = c.leave.ensures.rest.2 ∙ c.back.ensures.next;
         reasoned = rw (kept_is, lit, end_is) (reasons-keep (reasons_of run) (reasons_of last.run) keeps r.reasoned);
-        walked = rw (end_is, watches_is) walked;
+        walked = rw (end_is, watches_is, c.back.ensures.literals) walked;
         seats = r.seats ∙ sym (ap length kept_is);
         live = rw kept_is r.live;
       };

@@ -1,3 +1,4 @@
+use Rattle.pb_propagate.specs.declared.clauses.lists.Listed.{Listed}
 use Rattle.std.specs.Prelude.{sum}
 use Rattle.std.proofs.Common.{◌≡◌, ℕ, ◌+◌, ◌++◌, ◌∷◌, [], List, Vec, Global, refl, ap, subst, sym, ◌∙◌, arith, length, take}
 use Rattle.pb_normal.specs.declared.entry.Entry.{Entry}
@@ -8,7 +9,6 @@ use Rattle.pb_propagate.specs.engine.Engine.Lists.{Derives, Conflicts}
 use Rattle.pb_propagate.specs.engine.Engine.Fields.{shapes_of}
 use Rattle.pb_propagate.specs.engine.Engine.Progress.{AreSettled}
 use Rattle.pb_propagate.specs.engine.Engine.Root.{alone, posed}
-use Rattle.pb_propagate.specs.engine.Clauses.Links.{lists_of}
 use Rattle.pb_propagate.specs.engine.Clauses.Runs.{AreWalked}
 use Rattle.pb_propagate.specs.engine.Clauses.Shapes.{all_of, clauses_of, joined}
 use Rattle.pb_propagate.specs.engine.Clauses.Walked.{walked_codes}
@@ -83,7 +83,7 @@ refute-requires-clause-tidy c =
 
 pub refute-requires-clause-joined : goal.refute-requires-clause-joined
 refute-requires-clause-joined c =
-    let lit : clauses_of c.update.new.clauses ≡ clauses_of c.args.clauses.now = ap (λ (v : Vec (Vec ℕ Global) Global). lists_of v.items) c.update.ensures.literals in
+    let lit : clauses_of c.update.new.clauses ≡ clauses_of c.args.clauses.now = c.update.ensures.literals in
     rw lit c.requires.standing.joined
 
 pub refute-requires-clause-running : goal.refute-requires-clause-running
@@ -99,7 +99,7 @@ returns-in_err-found-clause-most c =
     let root = c.update.new.self in
     let done = c.refute.new.run in
     let between = c.update.new.clauses in
-    let lit : clauses_of between ≡ clauses_of c.args.clauses.now = ap (λ (v : Vec (Vec ℕ Global) Global). lists_of v.items) c.update.ensures.literals in
+    let lit : clauses_of between ≡ clauses_of c.args.clauses.now = c.update.ensures.literals in
     let entries = ap (λ (xs : List Entry). length xs) c.entries.ensures.entries in
     let costs = c.refute.ensures.costs in
     let upper = both-costs store c.args.clauses.now between c.args.root.now.rests root.rests c.args.root.now.waiting.list.items (length c.entries.result.now) start root.run done lit c.requires.standing.rooted.work c.requires.visits (c.in_ok-update.ensures.pays c.if-branch.false) costs in
@@ -114,7 +114,7 @@ returns-clause-most c =
     let root = c.update.new.self in
     let done = c.refute.new.run in
     let between = c.update.new.clauses in
-    let lit : clauses_of between ≡ clauses_of c.args.clauses.now = ap (λ (v : Vec (Vec ℕ Global) Global). lists_of v.items) c.update.ensures.literals in
+    let lit : clauses_of between ≡ clauses_of c.args.clauses.now = c.update.ensures.literals in
     let entries = ap (λ (xs : List Entry). length xs) c.entries.ensures.entries in
     let costs = c.refute.ensures.costs in
     let upper = both-costs store c.args.clauses.now between c.args.root.now.rests root.rests c.args.root.now.waiting.list.items (length c.entries.result.now) start root.run done lit c.requires.standing.rooted.work c.requires.visits (c.in_ok-update.ensures.pays c.if-branch.false) costs in
@@ -129,7 +129,7 @@ returns-clause-asked c =
     let root = c.update.new.self in
     let done = c.refute.new.run in
     let between = c.update.new.clauses in
-    let lit : clauses_of between ≡ clauses_of c.args.clauses.now = ap (λ (v : Vec (Vec ℕ Global) Global). lists_of v.items) c.update.ensures.literals in
+    let lit : clauses_of between ≡ clauses_of c.args.clauses.now = c.update.ensures.literals in
     let same : all_of store between ≡ all_of store c.args.clauses.now = ap (joined (shapes_of store.stored.items)) lit in
     let x = denial_of c.args.goal.now.terms in
     let all = all_of store c.args.clauses.now ++ (x ∷ []) in
@@ -151,7 +151,7 @@ returns-then-branch-clause-left c = record {
   sound = c.requires.standing.sound;
   kept = refl;
   ready = c.rest.ensures.rest;
-  lists = ap (λ (v : Vec (Vec ℕ Global) Global). length v.items) c.rest.ensures.lists ∙ c.in_ok-update.ensures.lists;
+  lists = ap (λ (v : Vec (Vec Listed Global) Global). length v.items) c.rest.ensures.lists ∙ c.in_ok-update.ensures.lists;
   rooted = λ live. absurd (let e = sym live ∙ c.in_ok-update.ensures.ended c.if-branch.true in cc);
   fallen = λ fallen. c.in_ok-update.ensures.fallen c.if-branch.true;
 }
@@ -166,17 +166,16 @@ returns-clause-left c =
     let last = c.back.new.run in
     let count_is : c.len-count.result ≡ length run.assignment.list.items = omega (arith, c.len-count.ensures, run.assignment.list.ok.0) in
     let codes = walked_codes (length run.assignment.list.items) run.assignment.list.items in
-    let watches_is = ap (λ (v : Vec Watch Global). v.items) c.back.ensures.watches in
     let r = c.in_ok-update.ensures.rooted c.if-branch.false in
     record {
       sound = c.requires.standing.sound;
       kept = refl;
       ready = c.back.ensures.ready;
-      lists = omega (arith, ap (λ (v : Vec (Vec ℕ Global) Global). length v.items) c.back.ensures.lists, reported.running.sizes, reported.values, r.values, c.requires.standing.widths);
+      lists = omega (arith, ap (λ (v : Vec (Vec Listed Global) Global). length v.items) c.back.ensures.lists, reported.running.sizes, reported.values, r.values, c.requires.standing.widths);
       fallen = λ fallen. absurd (let e = sym fallen ∙ c.in_ok-update.ensures.risen c.if-branch.false in cc);
       rooted = λ live. back-rooted store between c.back.new.clauses run last root.rests root.waiting c.refute.new.run.assignment.list.items (c.in_ok-update.ensures.rooted c.if-branch.false) (record {
-        literals = ap (λ (v : Vec (Vec ℕ Global) Global). lists_of v.items) (c.back.ensures.literals ∙ c.refute.ensures.literals);
-        kept = λ old. subst (λ ws. AreWalked run.assignment.values.items ws codes) (sym watches_is) (reported.kept run.assignment.values.items codes (grows-refl run.assignment.values.items) old);
+        literals = (c.back.ensures.literals ∙ c.refute.ensures.literals);
+        kept = λ old. subst (λ cs. AreWalked run.assignment.values.items cs c.back.new.clauses.blocks.watches codes) (sym c.back.ensures.literals) (subst (λ ws. AreWalked run.assignment.values.items c.refute.new.clauses.blocks.literals ws codes) (sym c.back.ensures.watches) (reported.kept run.assignment.values.items codes (grows-refl run.assignment.values.items) old));
         extends = c.refute.ensures.costs.extends;
         reasons = rw c.back.ensures.reasons reported.reasons;
         cut = c.back.ensures.list ∙ ap (λ n. take n c.refute.new.run.assignment.list.items) count_is;

@@ -8,6 +8,7 @@ use Rattle.pb_propagate.specs.engine.Engine.Counts.{IsTidy, beside}
 use Rattle.pb_propagate.specs.engine.Engine.Fields.{shapes_of, stored_shape}
 use Rattle.pb_propagate.specs.engine.Engine.Root.{IsServed, HasForm}
 use Rattle.pb_propagate.specs.engine.Clauses.Walked.{walked_codes}
+use Rattle.pb_propagate.specs.engine.Clauses.Links.{watch_lists}
 use Rattle.pb_propagate.proofs.lemmas.root.Roots.{kept-rooted}
 use Rattle.pb_propagate.proofs.lemmas.root.Admitted.{arrived, gained-rooted, admitted-rooted, served-walked, served-watch, clause-rooted, slot-counted, slot-tidy, grown-off}
 use Rattle.pb_propagate.proofs.lemmas.engine.Runs.{absent-push, absent-new}
@@ -26,8 +27,8 @@ returns-then-is_filled-clause-rooted c =
     let filled = c.is_filled.ensures.yes c.if-is_filled.true in
     let values_are = ap (λ (a : Assignment). a.values.items) reached.assignment in
     λ live.
-    let served : IsServed run.assignment.values.items c.args.clauses.now.watches.items c.args.slot = subst (λ vs. IsServed vs c.args.clauses.now.watches.items c.args.slot) values_are (c.is_served-self.ensures.yes live) in
-    let walked = served-walked run.assignment.values.items g.1.watches.items c.args.clauses.now.watches.items codes c.args.slot g.3.watched (λ e here live h. served-watch run.assignment.values.items c.args.clauses.now.watches.items codes c.args.slot e r.walked.failed served here h) r.walked in
+    let served : IsServed run.assignment.values.items c.args.clauses.now.blocks.watches c.args.slot = subst (λ vs. IsServed vs c.args.clauses.now.blocks.watches c.args.slot) values_are (c.is_served-self.ensures.yes live) in
+    let walked = served-walked run.assignment.values.items g.1.blocks.literals c.args.clauses.now.blocks.literals g.1.blocks.watches c.args.clauses.now.blocks.watches codes c.args.slot g.3.filled g.3.watched (λ e here live h. served-watch run.assignment.values.items c.args.clauses.now.blocks.literals c.args.clauses.now.blocks.watches (watch_lists c.args.clauses.now.lists.items) codes c.args.slot e c.requires.ready.stored filled r.walked.failed served here h) r.walked in
     let rooted = gained-rooted g.0 store g.1 c.args.clauses.now run c.reach.new.run me.rests c.reach.new.rests me.waiting c.reach.new.waiting c.args.slot c.requires.slot r g.3 reached walked in
     let there = arrived g.0 store g.1 c.args.clauses.now run c.reach.new.run me.rests c.reach.new.rests me.waiting c.reach.new.waiting c.args.slot c.requires.slot r g.3 reached in
     clause-rooted store c.args.clauses.now c.reach.new.run c.reach.new.rests c.reach.new.waiting c.args.slot c.requires.slot (λ d. c.requires.joined.apart c.args.slot d (omega (arith, c.requires.slot, length-map store.stored.items stored_shape)) filled) there.open_none rooted

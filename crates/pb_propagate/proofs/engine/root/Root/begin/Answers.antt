@@ -34,7 +34,7 @@ returns-clause-rooted c =
       trail = fresh.trail;
       next = fresh.next;
       reasoned = rw fresh.list from_given;
-      walked = rw fresh.list (none-walked c.in_ok-self.field-0.assignment.values.items c.args.clauses.now.watches.items);
+      walked = rw fresh.list (none-walked c.in_ok-self.field-0.assignment.values.items c.args.clauses.now.blocks.literals c.args.clauses.now.blocks.watches);
       seats = ap length copy.seats ∙ r.seats;
       live = λ i s at. waits-form (forms_of keep) keep (clauses_of c.args.clauses.now) s r.slots (r.exact i s (ap (λ xs. slice_get xs i) (sym copy.list) ∙ at));
     }

@@ -1,0 +1,48 @@
+use Rattle.std.specs.Prelude.{◌/◌, ◌%◌}
+use Rattle.std.proofs.Common.{◌≡◌, ℕ, ◌+◌, ◌*◌, ◌<◌, List, refl, sym, ◌∙◌, ap, arith, length, set, true}
+use Rattle.std.proofs.lemmas.List.{get_or_read}
+use Rattle.pb_propagate.specs.declared.clauses.lists.Watch.{Watch}
+use Rattle.pb_propagate.specs.declared.clauses.search.Search.{Search}
+use Rattle.pb_propagate.specs.engine.Clauses.Links.{idle, watch_at, list_at}
+use Rattle.pb_propagate.specs.engine.Clauses.Runs.{search_at}
+use Rattle.pb_propagate.specs.engine.Clauses.Blocks.{Contents, contents, number_at, watch_place, rewatched, searched, rewritten, stored_clause, stored_search}
+use Rattle.pb_propagate.proofs.lemmas.clauses.Blocks.{block-behind, room-inside, seek-written}
+use Rattle.pb_propagate.proofs.clauses.blocks.Blocks.seek.Goals as goal
+
+pub index-requires : goal.index-requires
+index-requires c =
+    let room = block-behind c.args.self.now c.self.inside.words.items c.self.inside.starts.items c.self.inside.rooms.items c.args.slot c.self.view_is c.self.invariant c.requires.block in
+    let slot = room-inside c.self.inside.words.items c.self.inside.starts.items c.self.inside.rooms.items c.self.invariant c.args.slot room in
+    omega (arith, slot, c.self.inside.starts.ok.0)
+
+pub index_mut-requires : goal.index_mut-requires
+index_mut-requires c =
+    let room = block-behind c.args.self.now c.self.inside.words.items c.self.inside.starts.items c.self.inside.rooms.items c.args.slot c.self.view_is c.self.invariant c.requires.block in
+    let slot = room-inside c.self.inside.words.items c.self.inside.starts.items c.self.inside.rooms.items c.self.invariant c.args.slot room in
+    let at = get_or_read c.self.inside.starts.items c.args.slot c.index.result.now slot c.index.ensures 0 in
+    let inside = c.self.invariant.inside c.args.slot slot in
+    omega (arith, at, inside, c.self.inside.words.ok.0)
+
+pub index_mut-requires-2 : goal.index_mut-requires-2
+index_mut-requires-2 c =
+    let room = block-behind c.args.self.now c.self.inside.words.items c.self.inside.starts.items c.self.inside.rooms.items c.args.slot c.self.view_is c.self.invariant c.requires.block in
+    let slot = room-inside c.self.inside.words.items c.self.inside.starts.items c.self.inside.rooms.items c.self.invariant c.args.slot room in
+    let at = get_or_read c.self.inside.starts.items c.args.slot c.index.result.now slot c.index.ensures 0 in
+    let inside = c.self.invariant.inside c.args.slot slot in
+    omega (arith, at, inside, c.self.inside.words.ok.0)
+
+pub invariant_of-self : goal.invariant_of-self
+invariant_of-self c =
+    let room = block-behind c.args.self.now c.self.inside.words.items c.self.inside.starts.items c.self.inside.rooms.items c.args.slot c.self.view_is c.self.invariant c.requires.block in
+    let slot = room-inside c.self.inside.words.items c.self.inside.starts.items c.self.inside.rooms.items c.self.invariant c.args.slot room in
+    let at = get_or_read c.self.inside.starts.items c.args.slot c.index.result.now slot c.index.ensures 0 in
+    let inside = c.self.invariant.inside c.args.slot slot in
+    (seek-written c.self.inside.words.items c.self.inside.starts.items c.self.inside.rooms.items c.args.slot c.index.result.now c.args.search c.self.invariant room at).blocks
+
+pub returns : goal.returns
+returns c =
+    let room = block-behind c.args.self.now c.self.inside.words.items c.self.inside.starts.items c.self.inside.rooms.items c.args.slot c.self.view_is c.self.invariant c.requires.block in
+    let slot = room-inside c.self.inside.words.items c.self.inside.starts.items c.self.inside.rooms.items c.self.invariant c.args.slot room in
+    let at = get_or_read c.self.inside.starts.items c.args.slot c.index.result.now slot c.index.ensures 0 in
+    let inside = c.self.invariant.inside c.args.slot slot in
+    (seek-written c.self.inside.words.items c.self.inside.starts.items c.self.inside.rooms.items c.args.slot c.index.result.now c.args.search c.self.invariant room at).is ∙ ap (λ (v : Contents). searched v c.args.slot c.args.search) c.self.view_is

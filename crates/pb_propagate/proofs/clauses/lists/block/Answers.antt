@@ -1,0 +1,13 @@
+use Rattle.std.proofs.Common.{refl}
+use Rattle.pb_propagate.specs.declared.clauses.lists.Listed.{Listed}
+use Rattle.pb_propagate.proofs.lemmas.clauses.Listed.{watch-kept, list-older, set-older}
+use Rattle.std.proofs.Common.{◌≡◌}
+use Rattle.pb_propagate.proofs.clauses.lists.block.Goals as goal
+
+pub returns-clause-watches : goal.returns-clause-watches
+returns-clause-watches c =
+    watch-kept c.args.lists.now.items c.args.literal c.index_mut.result.now _ c.args.index c.args.entry c.requires.literal c.index_mut.ensures.value c.requires.item refl
+
+pub returns-clause-more : goal.returns-clause-more
+returns-clause-more c =
+    list-older c.args.lists.now.items c.args.literal c.index_mut.result.now _ (λ x. x ≡ c.args.entry) c.requires.literal c.index_mut.ensures.value (λ i x h. set-older c.index_mut.result.now.items c.args.index i c.args.entry x h)

@@ -1,0 +1,14 @@
+use Rattle.std.proofs.Common.{◌<◌, ap, arith, length, ◌∙◌}
+use Rattle.std.specs.Prelude.{slice_get}
+use Rattle.std.proofs.lemmas.List.{length-map}
+use Rattle.pb_propagate.specs.declared.clauses.lists.Listed.{Listed}
+use Rattle.pb_propagate.proofs.lemmas.clauses.Listed.{entries-here, watch-here, entry-read}
+use Rattle.pb_propagate.proofs.clauses.visiting.visit_entry.Goals as goal
+
+pub returns-clause-listed : goal.returns-clause-listed
+returns-clause-listed c =
+    let occ = c.args.clauses.now.lists.items in
+    let v = c.index.result.now in
+    let here = watch-here occ c.args.literal v c.requires.literal c.index.ensures in
+    let inside : c.args.index < length v.items = omega (arith, c.requires.index, ap length here, length-map v.items (λ (y : Listed). y.watch)) in
+    (c.args.literal, c.args.index, ap (λ es. slice_get es c.args.index) (entries-here occ c.args.literal v c.requires.literal c.index.ensures) ∙ entry-read v.items c.args.index c.index-2.result.now inside c.index-2.ensures)

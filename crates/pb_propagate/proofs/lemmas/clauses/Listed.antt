@@ -1,0 +1,140 @@
+-- Entries of lists are written, added and removed.
+use Rattle.std.specs.Prelude.{Some, None, option_map, slice_get, swap_remove, map, Contains, Vec, ◌/◌, ◌-◌, slice_index_or}
+use Rattle.std.specs.Global.{Global}
+use Rattle.std.proofs.Common.{◌≡◌, ℕ, zero, suc, true, ◌+◌, ◌*◌, ◌<◌, ◌≤◌, ◌⊎◌, ◌++◌, ◌∷◌, [], List, refl, sym, ◌∙◌, ap, subst, arith, inl, inr, length, get_or, set, take, get_or-set_same, get_or-set_other, length-set}
+use Rattle.std.proofs.lemmas.Bool.{cases_eq, cases_lt}
+use Rattle.std.proofs.lemmas.List.{get_or_past, get_or-map, map-set, length-map, take-map, set-get_or}
+use Rattle.std.proofs.lemmas.Option.{slice_get-map, slice_get_within, same_Some, none-some, get_or_from_slice_get}
+use Rattle.pb_propagate.specs.declared.clauses.lists.Listed.{Listed}
+use Rattle.pb_propagate.specs.declared.clauses.lists.Watch.{Watch}
+use Rattle.pb_propagate.specs.engine.Clauses.Links.{list_at, watch_at, watch_lists, entries_at, IsListed, AreFewer, AreMore, AreBlocked, AreLinked}
+use Rattle.pb_propagate.proofs.lemmas.clauses.Gets.{get-take_less, get-set_same, get-set_other, get-push_same, get-push_other, swap-past}
+
+pub lists-length : (occ : List (Vec Listed Global)) → length (watch_lists occ) ≡ length occ
+lists-length occ = length-map occ (λ (v : Vec Listed Global). map (λ (x : Listed). x.watch) v.items)
+
+pub entries-here : (occ : List (Vec Listed Global)) (p : ℕ) (v : Vec Listed Global) → p < length occ → v ≡ get_or occ p v → entries_at occ p ≡ v.items
+entries-here occ p v room value = get_or-map (λ (x : Vec Listed Global). x.items) occ p v [] room ∙ ap (λ (x : Vec Listed Global). x.items) (sym value)
+
+-- the watches of a list are those of its entries
+pub watch-here : (occ : List (Vec Listed Global)) (p : ℕ) (v : Vec Listed Global) → p < length occ → v ≡ get_or occ p v → list_at (watch_lists occ) p ≡ map (λ (x : Listed). x.watch) v.items
+watch-here occ p v room value = get_or-map (λ (x : Vec Listed Global). map (λ (y : Listed). y.watch) x.items) occ p v [] room ∙ ap (λ (x : Vec Listed Global). map (λ (y : Listed). y.watch) x.items) (sym value)
+
+pub watch-entries : (occ : List (Vec Listed Global)) (p : ℕ) → list_at (watch_lists occ) p ≡ map (λ (x : Listed). x.watch) (entries_at occ p)
+watch-entries [] p = refl
+watch-entries (v ∷ occ) zero = refl
+watch-entries (v ∷ occ) (suc p) = watch-entries occ p
+
+pub some-map : (es : List Listed) (i : ℕ) (x : Listed) → slice_get es i ≡ Some x → slice_get (map (λ (y : Listed). y.watch) es) i ≡ Some x.watch
+some-map es i x h = slice_get-map (λ (y : Listed). y.watch) es i ∙ ap (option_map (λ (y : Listed). y.watch)) h
+
+-- an entry's watch is in the list of watches
+pub listed-watch : (occ : List (Vec Listed Global)) (x : Listed) (there : IsListed occ x) → slice_get (list_at (watch_lists occ) there.0) there.1 ≡ Some x.watch
+listed-watch occ x there = ap (λ es. slice_get es there.1) (watch-entries occ there.0) ∙ some-map (entries_at occ there.0) there.1 x there.2
+
+pub watch-set : (occ : List (Vec Listed Global)) (p : ℕ) (v : Vec Listed Global) (xs : List ℕ) → map (λ (y : Listed). y.watch) v.items ≡ xs → watch_lists (set occ p v) ≡ set (watch_lists occ) p xs
+watch-set occ p v xs now = map-set (λ (x : Vec Listed Global). map (λ (y : Listed). y.watch) x.items) occ p v ∙ ap (set (watch_lists occ) p) now
+
+pub map-swap : (es : List Listed) (q : ℕ) (d : Listed) → 0 < length es → map (λ (y : Listed). y.watch) (swap_remove es q d) ≡ swap_remove (map (λ (y : Listed). y.watch) es) q d.watch
+map-swap es q d some =
+    let many : length (map (λ (y : Listed). y.watch) es) ≡ length es = length-map es (λ (y : Listed). y.watch) in
+    let last : get_or (map (λ (y : Listed). y.watch) es) (length es - 1) d.watch ≡ (get_or es (length es - 1) d).watch = get_or-map (λ (y : Listed). y.watch) es (length es - 1) d d.watch (omega (arith, some)) in
+    sym (take-map (λ (y : Listed). y.watch) (length es - 1) (set es q (get_or es (length es - 1) d)))
+    ∙ ap (take (length es - 1)) (map-set (λ (y : Listed). y.watch) es q (get_or es (length es - 1) d) ∙ ap (set (map (λ (y : Listed). y.watch) es) q) (sym last))
+    ∙ ap (λ n. take (n - 1) (set (map (λ (y : Listed). y.watch) es) q (get_or (map (λ (y : Listed). y.watch) es) (n - 1) d.watch))) (sym many)
+
+-- where an element of a changed list was before
+pub set-older : (es : List Listed) (q i : ℕ) (y x : Listed) → slice_get (set es q y) i ≡ Some x → (x ≡ y) ⊎ ((j : ℕ) × (slice_get es j ≡ Some x))
+set-older es q i y x h = elim (cases_eq i q) [
+  | inl is ↦ elim (cases_lt q (length es)) [
+    | inl inside ↦ inl (same_Some x y (sym h ∙ ap (slice_get (set es q y)) is ∙ get-set_same es q y inside))
+    | inr past ↦ absurd (omega (arith, is, past, slice_get_within (set es q y) i x h, length-set es q y))
+  ]
+  | inr n ↦ inr (i, sym (get-set_other es q i y n) ∙ h)
+]
+
+pub push-older : (es : List Listed) (i : ℕ) (y x : Listed) → slice_get (es ++ (y ∷ [])) i ≡ Some x → (x ≡ y) ⊎ ((j : ℕ) × (slice_get es j ≡ Some x))
+push-older es i y x h = elim (cases_eq i (length es)) [
+  | inl is ↦ inl (same_Some x y (sym h ∙ get-push_same es i y is))
+  | inr n ↦ inr (i, sym (get-push_other es i y n) ∙ h)
+]
+
+pub swap-older : (es : List Listed) (q i : ℕ) (d x : Listed) → slice_get (swap_remove es q d) i ≡ Some x → (j : ℕ) × (slice_get es j ≡ Some x)
+swap-older es q i d x h = elim (cases_lt i (length es - 1)) [
+  | inr past ↦ absurd (none-some x (sym (swap-past es q i d past) ∙ h))
+  | inl less ↦ elim (set-older es q i (get_or es (length es - 1) d) x (sym (get-take_less (set es q (get_or es (length es - 1) d)) (length es - 1) i less) ∙ h)) [
+    | inl is ↦ (length es - 1, get-there es (length es - 1) d (omega (arith, less)) ∙ ap (λ y. Some y) (sym is))
+    | inr old ↦ old
+  ]
+]
+  where
+    get-there : (xs : List Listed) (k : ℕ) (e : Listed) → k < length xs → slice_get xs k ≡ Some (get_or xs k e)
+    get-there [] k e inside = absurd (omega (arith, inside))
+    get-there (y ∷ xs) zero e inside = refl
+    get-there (y ∷ xs) (suc k) e inside = get-there xs k e (omega (arith, inside))
+
+-- one of the lists is another
+pub entries-set : (occ : List (Vec Listed Global)) (p : ℕ) (v1 : Vec Listed Global) (l : ℕ) → (l ≡ p → ⊥) → entries_at (set occ p v1) l ≡ entries_at occ l
+entries-set occ p v1 l n = ap (λ es. get_or es l []) (map-set (λ (x : Vec Listed Global). x.items) occ p v1) ∙ get_or-set_other (map (λ (x : Vec Listed Global). x.items) occ) p l v1.items [] n
+
+pub entries-now : (occ : List (Vec Listed Global)) (p : ℕ) (v1 : Vec Listed Global) → p < length occ → entries_at (set occ p v1) p ≡ v1.items
+entries-now occ p v1 room = ap (λ es. get_or es p []) (map-set (λ (x : Vec Listed Global). x.items) occ p v1) ∙ get_or-set_same (map (λ (x : Vec Listed Global). x.items) occ) p v1.items [] (omega (arith, room, length-map occ (λ (x : Vec Listed Global). x.items)))
+
+-- each entry of a changed list is an old one or another
+pub list-older : (occ : List (Vec Listed Global)) (p : ℕ) (v v1 : Vec Listed Global) (P : Listed → Type 0) → p < length occ → v ≡ get_or occ p v → ((i : ℕ) (x : Listed) → slice_get v1.items i ≡ Some x → P x ⊎ ((j : ℕ) × (slice_get v.items j ≡ Some x))) → (x : Listed) → IsListed (set occ p v1) x → P x ⊎ IsListed occ x
+list-older occ p v v1 P room value each x there = by (cases_eq there.0 p)
+  where
+    by : (there.0 ≡ p) ⊎ (there.0 ≡ p → ⊥) → P x ⊎ IsListed occ x
+    by (inr n) = inr (there.0, there.1, ap (λ es. slice_get es there.1) (sym (entries-set occ p v1 there.0 n)) ∙ there.2)
+    by (inl is) = elim (each there.1 x (ap (λ es. slice_get es there.1) (sym (ap (entries_at (set occ p v1)) is ∙ entries-now occ p v1 room)) ∙ there.2)) [
+      | inl new ↦ inl new
+      | inr old ↦ inr (p, old.0, ap (λ es. slice_get es old.0) (entries-here occ p v room value) ∙ old.1)
+    ]
+
+pub list-fewer : (occ : List (Vec Listed Global)) (p : ℕ) (v v1 : Vec Listed Global) → p < length occ → v ≡ get_or occ p v → ((i : ℕ) (x : Listed) → slice_get v1.items i ≡ Some x → (j : ℕ) × (slice_get v.items j ≡ Some x)) → AreFewer occ (set occ p v1)
+list-fewer occ p v v1 room value each x there = elim (list-older occ p v v1 (λ y. ⊥) room value (λ i y h. inr (each i y h)) x there) [
+  | inl none ↦ absurd none
+  | inr old ↦ old
+]
+
+-- blockers
+pub blocked-fewer : (clauses : List (List ℕ)) (old new : List (Vec Listed Global)) → AreFewer old new → AreBlocked clauses old → AreBlocked clauses new
+blocked-fewer clauses old new fewer b x there = b x (fewer x there)
+
+pub blocked-more : (clauses : List (List ℕ)) (entry : Listed) (old new : List (Vec Listed Global)) → AreMore entry old new → Contains (list_at clauses (entry.watch / 2)) entry.blocker → AreBlocked clauses old → AreBlocked clauses new
+blocked-more clauses entry old new more here b x there = elim (more x there) [
+  | inl is ↦ subst (λ (y : Listed). Contains (list_at clauses (y.watch / 2)) y.blocker) (sym is) here
+  | inr older ↦ b x older
+]
+
+-- a live watch is that of each entry
+pub listed-live : (ws : List Watch) (occ : List (Vec Listed Global)) (x : Listed) → AreLinked ws (watch_lists occ) → IsListed occ x → (watch_at ws x.watch).live ≡ true
+listed-live ws occ x linked there = (linked.named x.watch there.0 there.1 (listed-watch occ x there)).live
+
+-- one clause is another, which has the blockers of its entries
+pub blocked-set : (clauses : List (List ℕ)) (s : ℕ) (xs : List ℕ) (occ : List (Vec Listed Global)) → s < length clauses → ((x : Listed) → IsListed occ x → x.watch / 2 ≡ s → Contains xs x.blocker) → ((x : Listed) → IsListed occ x → (x.watch / 2 ≡ s → ⊥) → Contains (list_at clauses (x.watch / 2)) x.blocker) → AreBlocked (set clauses s xs) occ
+blocked-set clauses s xs occ room here others x there = elim (cases_eq (x.watch / 2) s) [
+  | inl is ↦ subst (λ ys. Contains ys x.blocker) (sym (ap (list_at (set clauses s xs)) is ∙ get_or-set_same clauses s xs [] room)) (here x there is)
+  | inr n ↦ subst (λ ys. Contains ys x.blocker) (sym (get_or-set_other clauses s (x.watch / 2) xs [] n)) (others x there n)
+]
+
+-- an entry that is read
+pub entry-read : (es : List Listed) (i : ℕ) (x : Listed) → i < length es → x ≡ get_or es i x → slice_get es i ≡ Some x
+entry-read [] i x h is = absurd (omega (arith, h))
+entry-read (y ∷ es) zero x h is = ap (λ z. Some z) (sym is)
+entry-read (y ∷ es) (suc i) x h is = entry-read es i x (omega (arith, h)) is
+
+pub watch-read : (occ : List (Vec Listed Global)) (p : ℕ) (v : Vec Listed Global) (i : ℕ) (x : Listed) → p < length occ → v ≡ get_or occ p v → i < length (list_at (watch_lists occ) p) → x ≡ get_or v.items i x → slice_get (list_at (watch_lists occ) p) i ≡ Some x.watch
+watch-read occ p v i x room value inside is =
+    let here = watch-here occ p v room value in
+    ap (λ xs. slice_get xs i) here ∙ some-map v.items i x (entry-read v.items i x (omega (arith, inside, ap length here, length-map v.items (λ (y : Listed). y.watch))) is)
+
+-- the same watch with another blocker
+pub watch-kept : (occ : List (Vec Listed Global)) (p : ℕ) (v v1 : Vec Listed Global) (i : ℕ) (x : Listed) → p < length occ → v ≡ get_or occ p v → slice_get (list_at (watch_lists occ) p) i ≡ Some x.watch → v1.items ≡ set v.items i x → watch_lists (set occ p v1) ≡ watch_lists occ
+watch-kept occ p v v1 i x room value item now =
+    let here = watch-here occ p v room value in
+    let ms = map (λ (y : Listed). y.watch) v.items in
+    let was : get_or ms i 0 ≡ x.watch = get_or_from_slice_get ms i x.watch 0 (ap (λ xs. slice_get xs i) (sym here) ∙ item) in
+    let same : map (λ (y : Listed). y.watch) v1.items ≡ list_at (watch_lists occ) p =
+    ap (map (λ (y : Listed). y.watch)) now ∙ map-set (λ (y : Listed). y.watch) v.items i x ∙ ap (set ms i) (sym was) ∙ set-get_or ms i 0 ∙ sym here in
+    watch-set occ p v1 (list_at (watch_lists occ) p) same ∙ set-get_or (watch_lists occ) p []
