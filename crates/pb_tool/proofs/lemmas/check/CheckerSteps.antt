@@ -57,9 +57,6 @@ ReportsOld old x = (at : Place) (n : ℕ) → failed x ≡ failed (Step at (NotT
 pub prefix_on : (a b c : List (List ℕ)) → IsNamePrefix a b → IsNamePrefix b c → IsNamePrefix a c
 prefix_on a b c (m, e) (n, f) = (m ++ n, f ∙ (ap (λ (x : List (List ℕ)). x ++ n) e ∙ append_assoc a m n))
 
-pub prefix_all : (a : List (List ℕ)) → IsNamePrefix a a
-prefix_all a = ([], sym (append-nil a))
-
 -- ---- one statement more
 module _ (limit top : ℕ) (v : Problem) where
   pub accepts_more : (spans : List (Spanned Statement)) (m : Spanned Statement) (s u t : State) → Accepts limit top v s (events_at spans) u → Outcome limit top v u m.event (Ok t) → Accepts limit top v s (events_at (spans ++ m ∷ [])) t

@@ -12,14 +12,12 @@ use Rattle.pb_text.specs.declared.Spanned.{Spanned}
 use Rattle.pb_text.specs.declared.Stop.{Stop}
 use Rattle.pb_proof.specs.contract.Formats.{ReadsProofs}
 use Rattle.pb_proof.specs.engine.Machine.State.{begin, proofs}
-use Rattle.pb_proof.specs.contract.ValueLaws.{ReadStatements}
-use Rattle.pb_proof.specs.contract.Values.{IsStatementValue}
 use Rattle.pb_proof.specs.declared.Statement.{Statement}
 use Rattle.pb_proof.specs.declared.Stage.{Stage}
 use Rattle.pb_proof.specs.declared.Stage.TheVariants.{Opening, Formula, Steps, Concluding, Closing, Complete}
 use Rattle.pb_replay.specs.contract.Laws.{WholeProofsConclude}
 use Rattle.pb_replay.specs.meaning.Problem.{Problem}
-use Rattle.pb_replay.specs.meaning.Meaning.{IsNamePrefix, IsSound}
+use Rattle.pb_replay.specs.meaning.Meaning.{IsNamePrefix}
 use Rattle.pb_replay.specs.meaning.Replay.{State}
 use Rattle.pb_replay.specs.contract.ReplayModel.{Replaying, verdict_at, verdict_in}
 use Rattle.pb_replay.specs.meaning.Statements.{Outcome, Accepts, MayWantAt}
@@ -31,36 +29,17 @@ use Rattle.pb_text.specs.meaning.Whole.{events_at}
 use Rattle.pb_tool.specs.contract.Checks.{KeepsNames, Rejects, StepsTo}
 use Rattle.pb_replay.specs.contract.ReplayModel.{StandsFor}
 use Rattle.pb_tool.specs.meaning.Files.{AsksInProofText, IsProofText}
-use Rattle.pb_tool.specs.contract.Runs.{RunsProof, faults_of_text}
-use Rattle.pb_tool.specs.contract.Seen.{SawText}
+use Rattle.pb_tool.specs.contract.Runs.{RunsProof}
 use Rattle.pb_tool.specs.meaning.Verified.{IsAccepted}
 use Rattle.pb_tool.specs.declared.commands.check.checker.CheckFault.{CheckFault}
 use Rattle.pb_tool.specs.declared.commands.check.checker.CheckFault.TheVariants as check
 use Rattle.pb_text.proofs.lemmas.source.Unkept.{asking_to}
-use Rattle.pb_tool.proofs.lemmas.check.CheckerSteps.{ReportsOld, accepts_more, failed, last_is_value, proofs_read, shown_at, there}
+use Rattle.pb_tool.proofs.lemmas.check.CheckerSteps.{ReportsOld, accepts_more, failed, proofs_read, shown_at, there}
 use Rattle.pb_tool.proofs.lemmas.show.ShownStatements.{all_to, so_far_to}
 
 -- the result of a step, from any state of the replay
 abbrev Answers : Replaying → Spanned Statement → Result Unit CheckFault → Replaying → Type 0
 Answers old m result new = (now : Result State Fault) → IsAt old now → StepsFrom old.limits old.problem now m result new
-
--- a sound state that it stands for
-abbrev pub Somewhere : Replaying → Type 0
-Somewhere r = (s : State) × StandsFor r s × IsSound r.problem s
-
-pub unspent_after : (old new : Replaying) (m : Spanned Statement) → Somewhere old → old.fault ≡ None → Answers old m (Ok tt) new → new.fault ≡ None
-unspent_after old new m (s, at, right) none steps = (steps (Ok s) (none, at)).1.0
-
-pub refused_faults : (old new : Replaying) (m : Spanned Statement) (x : CheckFault) → Somewhere old → old.fault ≡ None → Answers old m (Err x) new → (k n : ℕ) → k ≡ n → k ≡ faults_of_text {A = Unit} (Err x) n
-refused_faults old new m x (s, at, right) none steps k n h =
-    let (e, is, refuses) = steps (Ok s) (none, at) in
-    subst (λ (y : CheckFault). k ≡ faults_of_text {A = Unit} (Err y) n) (sym is) h
-
--- a rejected statement is not a text that stopped the reader
-pub step_unseen : (shown : Option ℕ) (ended : Bool) (old new : Replaying) (m : Spanned Statement) (x : CheckFault) → Somewhere old → old.fault ≡ None → Answers old m (Err x) new → SawText shown ended x
-step_unseen shown ended old new m x (s, at, right) none steps =
-    let (e, is, refuses) = steps (Ok s) (none, at) in
-    subst (SawText shown ended) (sym is) tt
 
 claimed : (p : Stage) (c : Option Verdict) (w : Verdict) → verdict_at p c ≡ Some w → c ≡ Some w
 claimed Complete c w h = h
@@ -96,11 +75,6 @@ module _ (exact : ReadsProofs) (limits : Limits) (longest : ℕ) where
 
     read_so_far : (spans : List (Spanned Statement)) (place : Place) → HasSoFar spans place → TookSoFar (IsProofText limits) longest before after spans place
     read_so_far = so_far_to (Taken limits) (IsProofText limits) longest to_proof before after
-
-    pub value_pulled : ReadStatements → (current : Limits) → current ≡ limits → (spans : List (Spanned Statement)) (m : Spanned Statement) (place : Place) → HasSoFar (spans ++ m ∷ []) place → IsStatementValue (largest current) (top_of current) m.event
-    value_pulled values current same spans m place t =
-        let all = read_so_far (spans ++ m ∷ []) place t in
-        subst (λ (x : Limits). IsStatementValue (largest x) (top_of x) m.event) (sym same) (last_is_value values (largest limits) (top_of limits) longest all.used all.used spans m place all.done all.reads)
 
     module _ (v : Problem) (first : State) (r : Replaying) (spans : List (Spanned Statement)) (led : (t : State) × StandsFor r t × Accepts (largest limits) (top_of limits) v first (events_at spans) t) where
       abbrev pub accepted : (place : Place) (done : Bool) (stop : Option Stop) → HasAll spans place done stop → IsAccepted limits longest v first before after place done stop led.0

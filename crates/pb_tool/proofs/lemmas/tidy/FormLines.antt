@@ -2,7 +2,7 @@
 use Rattle.std.proofs.Common.{◌≡◌, ◌⊎◌, inl, inr, ℕ, zero, suc, ◌<◌, ◌+◌, List, [], ◌∷◌, ◌++◌, length, length-append, sym, ◌∙◌, ap, ap₂, refl, subst, append-nil, arith, Contains, take, get_or}
 use Rattle.std.proofs.lemmas.Grind.{flat_map-append}
 use Rattle.std.proofs.lemmas.List.{map-append}
-use Rattle.std.proofs.lemmas.List.Elements.{Contains-append_left, Contains-append_right, Contains-append_cases}
+use Rattle.std.proofs.lemmas.List.Elements.{Contains-append_right, Contains-append_cases}
 use Rattle.pb_sums.specs.declared.Term.{Term}
 use Rattle.pb_sums.specs.declared.Linear.{Linear}
 use Rattle.pb_opb.specs.declared.OpbEvent.TheVariants.{Constraint}
@@ -101,9 +101,6 @@ lines_added seen cs c old new added h e loaded p k =
 only : (c x : Linear) → Contains (c ∷ []) x → c ≡ x
 only c x (zero, lt, e) = e
 only c x (suc i, lt, e) = absurd (omega (arith, lt))
-
-pub passes_still : (limit : ℕ) (cs : List Linear) (c : Linear) → SomePasses limit cs → SomePasses limit (cs ++ c ∷ [])
-passes_still limit cs c (x, in_cs, large) = (x, Contains-append_left cs (c ∷ []) x in_cs, large)
 
 pub passes_now : (limit : ℕ) (cs : List Linear) (c : Linear) → ¬ Fits limit c → SomePasses limit (cs ++ c ∷ [])
 passes_now limit cs c large = (c, Contains-append_right cs (c ∷ []) c (0, omega arith, refl), large)
