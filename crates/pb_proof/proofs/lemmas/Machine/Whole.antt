@@ -1,26 +1,24 @@
 -- A whole `rup` line leads from one step of a proof to the next.
-use Rattle.std.proofs.Common.{◌≡◌, ℕ, suc, ◌+◌, ◌-◌, ◌<◌, ◌≤◌, List, [], ◌∷◌, ◌++◌, take, drop, get_or, length, refl, sym, ap, subst, arith, ◌∙◌, Option, None, Some, true, false}
+use Rattle.std.proofs.Common.{◌≡◌, ℕ, suc, ◌+◌, ◌<◌, ◌≤◌, List, [], ◌∷◌, ◌++◌, take, get_or, length, refl, sym, ap, subst, arith, ◌∙◌, None, Some, false}
 use Rattle.std.proofs.lemmas.List.{take_more}
-use Rattle.pb_text.specs.contract.Automaton.{Go, End, Runs, IsState, TakesStatement}
+use Rattle.pb_text.specs.contract.Automaton.{Runs, IsState, TakesStatement}
 use Rattle.pb_text.specs.meaning.Classes.{is_blank}
 use Rattle.pb_text.proofs.lemmas.machine.Running.{runs_more}
 use Rattle.pb_text.proofs.lemmas.text.Spans.{all_rest}
 use Rattle.pb_sums.specs.declared.Linear.{Linear}
 use Rattle.pb_sums.specs.declared.SumEvent.TheVariants as sum
 use Rattle.pb_sums.specs.engine.Prefix.{text_after}
-use Rattle.pb_sums.specs.engine.State.{SumState, sums}
+use Rattle.pb_sums.specs.engine.State.{SumState}
 use Rattle.pb_sums.specs.engine.TermParts.{LeadsToLinear}
 use Rattle.pb_sums.specs.declared.Spaces.TheVariants.{Blank}
 use Rattle.pb_sums.specs.declared.Part.TheVariants.{AtLeast}
 use Rattle.pb_sums.proofs.lemmas.machine.States.{first_is_state}
 use Rattle.pb_sums.proofs.lemmas.machine.WholeTexts.{linear_ends, last_is_state, before_semicolon, linear_some}
 use Rattle.pb_proof.specs.engine.Line.Rup.{RupState, rup_automaton, rup_first, IsRupInOrder, sum_first, sum_last}
-use Rattle.pb_proof.specs.engine.Line.Machine.{line_automaton, line_first}
 use Rattle.pb_proof.specs.engine.Machine.State.{ProofState, proofs, idle, giving, at, IsInOrder}
 use Rattle.pb_proof.specs.engine.Machine.Whole.{LeadsToRup, rup_read, with_rup}
-use Rattle.pb_proof.specs.declared.line.LineMachine.{LineMachine}
 use Rattle.pb_proof.specs.declared.line.LineMachine.TheVariants as line
-use Rattle.pb_proof.specs.declared.line.rup.phase.RupPhase.TheVariants.{Gap, Inside, Tail}
+use Rattle.pb_proof.specs.declared.line.rup.phase.RupPhase.TheVariants.{Gap, Inside}
 use Rattle.pb_proof.specs.declared.machine.phase.Keyword.TheVariants as keyword
 use Rattle.pb_proof.specs.declared.machine.phase.LineKind.TheVariants as kind
 use Rattle.pb_proof.specs.declared.machine.phase.Phase.TheVariants as phase
