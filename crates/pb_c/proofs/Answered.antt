@@ -1,13 +1,9 @@
 -- What the tool guarantees for sources over texts and for a page, in terms of the texts alone.
-use Rattle.std.proofs.Common.{◌≡◌, ◌∙◌, ℕ, List, Bool, Bor, Option, Some, None, Result, ap, subst}
+use Rattle.pb_c.proofs.Common.{ℕ, ◌∙◌, ◌≡◌, ap, Bool, Bor, List, None, Option, Result, Some, subst, Limits, ToolFault, empty, faults, written, Page}
 use Rattle.pb_text.specs.contract.OverState.{inner_of, shown_of}
 use Rattle.pb_text.specs.contract.Over.{reported}
-use Rattle.pb_text.specs.declared.Limits.{Limits}
 use Rattle.pb_text.specs.declared.over.Over.{Over}
 use Rattle.pb_tool.specs.meaning.Files.{ShowsFile, TidiesFile}
-use Rattle.pb_tool.specs.declared.fault.ToolFault.{ToolFault}
-use Rattle.pb_c.specs.Answers.{empty, faults, written}
-use Rattle.pb_c.specs.declared.page.Page.{Page}
 
 -- a source over a slice has the bytes of the slice left
 pub whole : (o : Over (Bor (List ℕ))) (s : Bor (List ℕ)) → inner_of o ≡ s → shown_of o ≡ None → reported (Some o.inner.now) None o.shown ≡ Some s.now

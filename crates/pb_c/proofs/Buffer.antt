@@ -1,11 +1,5 @@
 -- A result of the tool is a result of the call.
-use Rattle.std.proofs.Common.{◌≡◌, ◌∙◌, ◌^◌, ℕ, List, Option, sym, subst, inr}
-use Rattle.std.specs.Prelude.{unwrap_or}
-use Rattle.pb_text.specs.declared.Limits.{Limits}
-use Rattle.pb_c.specs.Answers.{Answers}
-use Rattle.pb_c.specs.Options.{IsAsked}
-use Rattle.pb_c.specs.Buffer.{Puts}
-use Rattle.pb_c.specs.declared.options.Options.{Options}
+use Rattle.pb_c.proofs.Common.{ℕ, ◌^◌, ◌∙◌, ◌≡◌, inr, List, Option, subst, sym, unwrap_or, Limits, Answers, Puts, IsAsked, Options}
 
 pub answers : (o : Options) (IsAnswer : Limits → ℕ → List ℕ → ℕ → Type 0) (old new : List ℕ) (whole : ℕ) (limits : Limits) (longest : Option ℕ) (text kept reported : List ℕ) (status ended : ℕ)
     → IsAsked o longest limits → IsAnswer limits (unwrap_or longest (2 ^ 40)) text status → kept ≡ text → reported ≡ kept → ended ≡ status → Puts reported old new whole

@@ -1,16 +1,8 @@
 -- What a call on a handle claims.
-use Rattle.std.proofs.Common.{◌≡◌, Option, Some, arith}
-use Rattle.pb_text.specs.declared.place.Why.{Why}
+use Rattle.pb_c.proofs.Common.{◌≡◌, arith, Option, Some, Instance, Fault, Verdict, Bounds, NoClaim, Sat, Unsat, MeansWritten, Why, stop_status}
+use Rattle.pb_c.proofs.Common.{refusal_status, IsUnsatisfiable}
 use Rattle.pb_text.specs.declared.place.Why.TheVariants as why
-use Rattle.pb_opb.specs.declared.Instance.{Instance}
-use Rattle.pb_replay.specs.meaning.Meaning.{MeansWritten}
-use Rattle.pb_replay.specs.declared.fault.Fault.{Fault}
 use Rattle.pb_replay.specs.declared.fault.Fault.TheVariants as step
-use Rattle.pb_replay.specs.declared.verdict.Verdict.{Verdict}
-use Rattle.pb_replay.specs.declared.verdict.Verdict.TheVariants.{NoClaim, Unsat, Sat, Bounds}
-use Rattle.pb_tool.specs.contract.Faults.{stop_status}
-use Rattle.pb_tool.specs.contract.Refusals.{refusal_status}
-use Rattle.pb_tool.specs.meaning.Headline.{IsUnsatisfiable}
 use Rattle.pb_tool.specs.declared.commands.check.checker.CheckFault.{CheckFault}
 use Rattle.pb_tool.specs.declared.commands.check.checker.CheckFault.TheVariants as check
 use Rattle.pb_c.specs.Claim.{claim_of}

@@ -1,12 +1,9 @@
 -- Arrays that are filled element by element.
-use Rattle.std.proofs.Common.{◌≡◌, ◌∙◌, ℕ, ℤ, pos, negsuc, ◌≤ℤ◌, ◌+◌, ◌<◌, Bool, true, false, List, [], ◌∷◌, ◌++◌, length, take, map, Some, None, slice_get, refl, sym, ap, ap₂, arith}
+use Rattle.pb_c.proofs.Common.{ℕ, ℤ, ◌++◌, ◌+◌, ◌<◌, ◌∙◌, ◌∷◌, ◌≡◌, ◌≤ℤ◌, [], ap, ap₂, arith, Bool, false, length, List, map, negsuc, None, pos, refl}
+use Rattle.pb_c.proofs.Common.{slice_get, Some, sym, take, true, unsigned_abs, set, ints, map-append, take_all, take_more, take_more_set}
+use Rattle.pb_c.proofs.Common.{get_or_from_slice_get, slice_get-get_or, slice_get_within}
 use mir.Val.{bool_byte}
-use Rattle.std.specs.Prelude.{unsigned_abs}
-use Rattle.std.proofs.lemmas.Int.{ints}
 use Rattle.pb_pieces.specs.Terms.{bit}
-use Rattle.std.proofs.Math.ListN.{set}
-use Rattle.std.proofs.lemmas.List.{map-append, take_all, take_more, take_more_set}
-use Rattle.std.proofs.lemmas.Option.{get_or_from_slice_get, slice_get-get_or, slice_get_within}
 
 -- the first elements with one more
 pub take_next : {X : Type 0} (from : List X) (i : ℕ) (x : X) → slice_get from i ≡ Some x → take (i + 1) from ≡ take i from ++ x ∷ []

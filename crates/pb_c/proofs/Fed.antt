@@ -1,18 +1,10 @@
 -- What a handle on a reader owns after one more piece.
-use Rattle.std.proofs.Common.{◌≡◌, ◌⊎◌, ◌^◌, ℕ, List, Option, Some, None, inl, inr}
-use Rattle.std.specs.Prelude.{unwrap_or}
-use Rattle.pb_text.specs.declared.Limits.{Limits}
-use Rattle.pb_text.specs.declared.Stop.{Stop}
+use Rattle.pb_c.proofs.Common.{ℕ, ◌^◌, ◌≡◌, ◌⊎◌, inl, inr, List, None, Option, Some, unwrap_or, fault_of, StopsAt, Reader, Limits, Stop, Under}
+use Rattle.pb_c.proofs.Common.{IsAsked, GivesNext, Options}
 use Rattle.pb_pieces.specs.Given.{Given}
-use Rattle.pb_pieces.specs.Reader.{StopsAt, fault_of}
 use Rattle.pb_pieces.specs.declared.reader.Format.{Format}
-use Rattle.pb_pieces.specs.declared.reader.Reader.{Reader}
-use Rattle.pb_c.specs.Checker.{Under}
 use Rattle.pb_c.specs.Event.{no_event}
-use Rattle.pb_c.specs.Options.{IsAsked}
-use Rattle.pb_c.specs.Reader.{GivesNext}
 use Rattle.pb_c.specs.declared.event.Statement.{Statement}
-use Rattle.pb_c.specs.declared.options.Options.{Options}
 
 -- what holds under some limits of the options, holds under the options
 pub fed_under : (f : Format) (o : Options) (fed : List ℕ) (events : List Given) (piece : List ℕ) (limits : Limits) (longest : Option ℕ) → IsAsked o longest limits

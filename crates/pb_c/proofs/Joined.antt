@@ -1,12 +1,10 @@
 -- Texts one after another, and where each begins.
-use Rattle.std.proofs.Common.{◌≡◌, ◌∙◌, ◌⊎◌, inl, inr, ℕ, ◌+◌, ◌<◌, ◌≤◌, min, List, [], ◌∷◌, ◌++◌, get_or, length, take, Some, slice_get, sym, ap, arith, append-nil, length-append}
-use Rattle.std.proofs.Math.ListN.{set}
+use Rattle.pb_c.proofs.Common.{ℕ, ◌++◌, ◌+◌, ◌<◌, ◌∙◌, ◌∷◌, ◌≡◌, ◌≤◌, ◌⊎◌, [], ap, append-nil, arith, get_or, inl, inr, length, length-append, List}
+use Rattle.pb_c.proofs.Common.{min, slice_get, Some, sym, take, set, get_or-set_other, get_or-set_same, get_or_from_slice_get, slice_get_within}
+use Rattle.pb_c.proofs.Common.{joined}
 use Rattle.std.proofs.lemmas.Bool.{cases_lt}
 use Rattle.std.proofs.lemmas.Grind.{flat_map-append}
 use Rattle.std.proofs.lemmas.List.Folds.{length-flat_map-take}
-use Rattle.std.proofs.lemmas.Option.{get_or_from_slice_get, slice_get_within}
-use Rattle.std.proofs.lemmas.List.{get_or-set_other, get_or-set_same}
-use Rattle.pb_tool.specs.contract.Pieces.{joined}
 use Rattle.pb_c.proofs.Copied.{take_next}
 
 -- one more

@@ -1,3 +1,4 @@
+mod Common
 mod Answered
 mod Buffer
 mod CheckerSteps

@@ -1,5 +1,6 @@
 -- The machine values of a handle on a reader.
-use Rattle.std.proofs.Common.{◌≡◌, ℕ, List, [], ◌∷◌, ◌++◌, refl, subst}
+use Rattle.pb_c.proofs.Common.{ℕ, ◌++◌, ◌∷◌, ◌≡◌, [], List, None, Option, refl, Some, subst, Al, handle_tells, Good, dealloc_token-Testable, ghosts}
+use Rattle.pb_c.proofs.Common.{and_tt, box_owns, both, held_owns}
 use mathlib.Core.Bool.{◌&&◌, true}
 use lib.Dec.{T, lit<}
 use seplogic.Ra.Ura.{Ura}
@@ -21,17 +22,8 @@ use denote.Param.{layout}
 use denote.Param.Laws.{Laws}
 use denote.Struct.Struct.{within}
 use denote.Struct.Owning.{shape}
-use Rattle.core.proofs.alloc.Calls.{Al, handle_tells}
-use Rattle.core.proofs.cell.Inside.{Good}
-use Rattle.std_alloc.specs.Box.Ownership.{box_owns}
-use Rattle.std_alloc.proofs.ResultValues.{and_tt}
-use Rattle.std.specs.Prelude.{Option, Some, None}
 use Rattle.std.specs.contracts.alloc.Global as heap
 use Rattle.std.proofs.alloc.Global.TheLaws as heap_laws
-use Rattle.std.specs.contracts.impls.GlobalAllocator.TheImpl.{ghosts}
-use Rattle.std.proofs.GlobalToken.{dealloc_token-Testable}
-use Rattle.pb_loose.proofs.Values.{both}
-use Rattle.pb_c.specs.Handle.{held_owns}
 use Rattle.pb_c.specs.contracts.reader_handle.ReaderHandle as held
 use Rattle.pb_pieces.specs.contracts.reader.Reader as inner
 

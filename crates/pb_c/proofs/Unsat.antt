@@ -1,28 +1,15 @@
 -- What a line says holds for the instance.
-use Rattle.std.proofs.Common.{◌≡◌, ◌∙◌, ◌^◌, ℕ, List, codes, length, Option, Some, Result, Ok, Err, sym, subst, inl, inr, arith, length-append}
-use Rattle.std.specs.Prelude.{unwrap_or}
+use Rattle.pb_c.proofs.Common.{ℕ, ◌^◌, ◌∙◌, ◌≡◌, arith, codes, Err, inl, inr, length, length-append, List, Ok, Option, Result, Some, subst, sym}
+use Rattle.pb_c.proofs.Common.{unwrap_or, Instance, Fault, Verdict, Bounds, NoClaim, Sat, Unsat, MeansWritten, Limits, Why, exit_status, stop_status}
+use Rattle.pb_c.proofs.Common.{refusal_status, ToolFault, IsUnsatisfiable, VerdictsAreTrue, AnswersCheck, empty, Ends, faults, written, Puts, Options}
+use Rattle.pb_c.proofs.Common.{Page}
 use Rattle.pb_text.specs.meaning.Writing.{Wrote}
-use Rattle.pb_text.specs.declared.Limits.{Limits}
-use Rattle.pb_text.specs.declared.place.Why.{Why}
 use Rattle.pb_text.specs.declared.place.Why.TheVariants as why
-use Rattle.pb_opb.specs.declared.Instance.{Instance}
-use Rattle.pb_replay.specs.meaning.Meaning.{MeansWritten}
-use Rattle.pb_replay.specs.declared.fault.Fault.{Fault}
 use Rattle.pb_replay.specs.declared.fault.Fault.TheVariants as step
-use Rattle.pb_replay.specs.declared.verdict.Verdict.{Verdict}
-use Rattle.pb_replay.specs.declared.verdict.Verdict.TheVariants.{NoClaim, Unsat, Sat, Bounds}
-use Rattle.pb_tool.specs.contract.Faults.{exit_status, stop_status}
-use Rattle.pb_tool.specs.contract.Refusals.{refusal_status}
-use Rattle.pb_tool.specs.meaning.Headline.{IsUnsatisfiable, VerdictsAreTrue}
 use Rattle.pb_tool.specs.meaning.Tidy.{IsInstanceFile}
 use Rattle.pb_tool.specs.meaning.Verified.{CheckCall, Returns, verdict_line}
-use Rattle.pb_tool.specs.declared.fault.ToolFault.{ToolFault}
 use Rattle.pb_tool.specs.declared.fault.ToolFault.TheVariants.{Text, Open, Overflow, Memory, Write, Step}
-use Rattle.pb_c.specs.Answers.{AnswersCheck, Ends, empty, faults, written}
-use Rattle.pb_c.specs.Buffer.{Puts}
 use Rattle.pb_c.specs.Unsat.{ShowsTruth, ShowsUnsat}
-use Rattle.pb_c.specs.declared.options.Options.{Options}
-use Rattle.pb_c.specs.declared.page.Page.{Page}
 
 -- no fault has the status 0
 no_fault : (e : ToolFault) → exit_status e ≡ 0 → ⊥

@@ -32,7 +32,8 @@ impl Answer {
 /// The line and the status of `pb check` on two texts.
 pub(crate) fn checked(alloc: Global, instance: &[u8], proof: &[u8], asked: Asked) -> Answer
     requires { IfSome asked.longest (λ n. 0 < n) }
-    ensures { AnswerOfCheck asked.limits (unwrap_or asked.longest (2 ^ 40)) instance.now proof.now result.text result.status }
+    ensures { AnswerOfCheck asked.limits (unwrap_or asked.longest (2 ^ 40)) instance.now proof.now
+        result.text result.status }
 {
     let (mut instance, mut proof) = (Over::new(instance), Over::new(proof));
     let mut page = Page::new(alloc);
@@ -56,7 +57,8 @@ pub(crate) fn checked(alloc: Global, instance: &[u8], proof: &[u8], asked: Asked
 /// What `pb tidy` writes for a text, or the line of its fault; and its status.
 pub(crate) fn tidied(alloc: Global, text: &[u8], normal: bool, asked: Asked) -> Answer
     requires { IfSome asked.longest (λ n. 0 < n) }
-    ensures { AnswerOfTidy asked.limits (unwrap_or asked.longest (2 ^ 40)) normal text.now result.text result.status }
+    ensures { AnswerOfTidy asked.limits (unwrap_or asked.longest (2 ^ 40)) normal text.now
+        result.text result.status }
 {
     let mut input = Over::new(text);
     let mut page = Page::new(alloc);
@@ -80,7 +82,8 @@ pub(crate) fn tidied(alloc: Global, text: &[u8], normal: bool, asked: Asked) -> 
 /// What `pb show` writes for a text, followed by the line of a fault if there is one; and its status.
 pub(crate) fn shown(alloc: Global, text: &[u8], asked: Asked) -> Answer
     requires { IfSome asked.longest (λ n. 0 < n) }
-    ensures { AnswerOfShow asked.limits (unwrap_or asked.longest (2 ^ 40)) text.now result.text result.status }
+    ensures { AnswerOfShow asked.limits (unwrap_or asked.longest (2 ^ 40)) text.now result.text
+        result.status }
 {
     let mut input = Over::new(text);
     let mut page = Page::new(alloc);
@@ -96,7 +99,8 @@ pub(crate) fn shown(alloc: Global, text: &[u8], asked: Asked) -> Answer
 /// The text of a page, followed by the line of a fault, and the status of the fault. If memory runs out, a prefix of
 /// the line follows, and the status says so.
 fn fault_answer(mut page: Page, fault: &ToolFault) -> Answer
-    ensures { (after : APage) × EndsIn page fault.now after result.status × (result.text ≡ after.text) }
+    ensures { (after : APage) × EndsIn page fault.now after result.status ×
+        (result.text ≡ after.text) }
 {
     let status = write_end(&mut page, fault);
     Answer {

@@ -113,8 +113,10 @@ pub extern "C" fn pb_instance_terms(
     highs: &mut [i64],
 ) -> u8
     ensures kept { instance.new.value ≡ instance.old.value }
-    ensures terms { AnswersTerms instance.old.value result numbers.new negated.new lows.new highs.new }
-    ensures unwritten { result ≢ 0 → (numbers.new ≡ numbers.old) × (negated.new ≡ negated.old) × (lows.new ≡ lows.old) × (highs.new ≡ highs.old) }
+    ensures terms { AnswersTerms instance.old.value result numbers.new negated.new lows.new
+        highs.new }
+    ensures unwritten { result ≢ 0 → (numbers.new ≡ numbers.old) × (negated.new ≡ negated.old) ×
+        (lows.new ≡ lows.old) × (highs.new ≡ highs.old) }
 {
     let flat = match instance.take(alloc) {
         Some(flat) => flat,
@@ -133,7 +135,8 @@ fn copy_terms(
     highs: &mut [i64],
 ) -> u8
     ensures copies { CopiesTerms terms.now result numbers.new negated.new lows.new highs.new }
-    ensures unwritten { result ≢ 0 → (numbers.new ≡ numbers.old) × (negated.new ≡ negated.old) × (lows.new ≡ lows.old) × (highs.new ≡ highs.old) }
+    ensures unwritten { result ≢ 0 → (numbers.new ≡ numbers.old) × (negated.new ≡ negated.old) ×
+        (lows.new ≡ lows.old) × (highs.new ≡ highs.old) }
 {
     if numbers.len() != terms.numbers.len()
         || negated.len() != terms.negated.len()
@@ -162,7 +165,8 @@ pub extern "C" fn pb_instance_rows(
 ) -> u8
     ensures kept { instance.new.value ≡ instance.old.value }
     ensures rows { AnswersRows instance.old.value result kinds.new ends.new lows.new highs.new }
-    ensures unwritten { result ≢ 0 → (kinds.new ≡ kinds.old) × (ends.new ≡ ends.old) × (lows.new ≡ lows.old) × (highs.new ≡ highs.old) }
+    ensures unwritten { result ≢ 0 → (kinds.new ≡ kinds.old) × (ends.new ≡ ends.old) ×
+        (lows.new ≡ lows.old) × (highs.new ≡ highs.old) }
 {
     let flat = match instance.take(alloc) {
         Some(flat) => flat,
@@ -181,7 +185,8 @@ fn copy_rows(
     highs: &mut [i64],
 ) -> u8
     ensures copies { CopiesRows rows.now result kinds.new ends.new lows.new highs.new }
-    ensures unwritten { result ≢ 0 → (kinds.new ≡ kinds.old) × (ends.new ≡ ends.old) × (lows.new ≡ lows.old) × (highs.new ≡ highs.old) }
+    ensures unwritten { result ≢ 0 → (kinds.new ≡ kinds.old) × (ends.new ≡ ends.old) ×
+        (lows.new ≡ lows.old) × (highs.new ≡ highs.old) }
 {
     if kinds.len() != rows.kinds.len()
         || ends.len() != rows.ends.len()
@@ -209,8 +214,10 @@ pub extern "C" fn pb_instance_places(
     pasts: &mut [u64],
 ) -> u8
     ensures kept { instance.new.value ≡ instance.old.value }
-    ensures places { AnswersPlaces instance.old.value result lines.new columns.new firsts.new pasts.new }
-    ensures unwritten { result ≢ 0 → (lines.new ≡ lines.old) × (columns.new ≡ columns.old) × (firsts.new ≡ firsts.old) × (pasts.new ≡ pasts.old) }
+    ensures places { AnswersPlaces instance.old.value result lines.new columns.new firsts.new
+        pasts.new }
+    ensures unwritten { result ≢ 0 → (lines.new ≡ lines.old) × (columns.new ≡ columns.old) ×
+        (firsts.new ≡ firsts.old) × (pasts.new ≡ pasts.old) }
 {
     let flat = match instance.take(alloc) {
         Some(flat) => flat,
@@ -229,7 +236,8 @@ fn copy_places(
     pasts: &mut [u64],
 ) -> u8
     ensures copies { CopiesPlaces places.now result lines.new columns.new firsts.new pasts.new }
-    ensures unwritten { result ≢ 0 → (lines.new ≡ lines.old) × (columns.new ≡ columns.old) × (firsts.new ≡ firsts.old) × (pasts.new ≡ pasts.old) }
+    ensures unwritten { result ≢ 0 → (lines.new ≡ lines.old) × (columns.new ≡ columns.old) ×
+        (firsts.new ≡ firsts.old) × (pasts.new ≡ pasts.old) }
 {
     if lines.len() != places.lines.len()
         || columns.len() != places.columns.len()

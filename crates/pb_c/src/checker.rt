@@ -92,7 +92,8 @@ pub extern "C" fn pb_checker_feed(
 
 /// Feeds a session, and reports its fault or its position.
 fn feed_session(session: &mut Session, piece: &[u8], used: &mut usize, report: &mut Report) -> u8
-    ensures fed { (limits : SomeLimits) (longest : ℕ) (i fed : List ℕ) → IsSession limits longest i fed session.old
+    ensures fed { (limits : SomeLimits) (longest : ℕ) (i fed : List ℕ) →
+        IsSession limits longest i fed session.old
         → IsSession limits longest i (fed ++ piece.now) session.new }
     ensures answers { AnswersFor session.new session.new.fault result report.new }
     ensures used { Uses session.old session.new piece.now result used.new }
@@ -121,14 +122,17 @@ pub extern "C" fn pb_checker_finish(
 ) -> u8
     // It stays a checker for the instance and the text. The status and the report are those of the first fault in that
     // text or at its end, if there is one.
-    ensures stands { (options : SomeOptions) (i fed : List ℕ) → IsCheckerFor options i fed checker.old
+    ensures stands { (options : SomeOptions) (i fed : List ℕ) →
+        IsCheckerFor options i fed checker.old
         → IsCheckerFor options i fed checker.new }
     ensures answers { Answers checker.new result report.new }
     // With status 0, the two texts are an instance and a proof that the rules accept with this claim, as `check` says.
-    ensures concludes { (options : SomeOptions) (i fed : List ℕ) → IsCheckerFor options i fed checker.old
+    ensures concludes { (options : SomeOptions) (i fed : List ℕ) →
+        IsCheckerFor options i fed checker.old
         → Concludes options i fed result claim.new }
     // If the claim is UNSAT, no assignment solves the instance.
-    ensures unsat { (options : SomeOptions) (i fed : List ℕ) → IsCheckerFor options i fed checker.old
+    ensures unsat { (options : SomeOptions) (i fed : List ℕ) →
+        IsCheckerFor options i fed checker.old
         → ClaimsUnsat options i result claim.new }
     // A claim changes nothing in the checker, and with no claim the old one stays.
     ensures kept { result ≡ 0 → checker.new.value ≡ checker.old.value }
@@ -148,10 +152,12 @@ pub extern "C" fn pb_checker_finish(
 
 /// Finishes a session, and reports its fault or its position.
 fn finish_session(session: &mut Session, claim: &mut Claim, report: &mut Report) -> u8
-    ensures stands { (limits : SomeLimits) (longest : ℕ) (i fed : List ℕ) → IsSession limits longest i fed session.old
+    ensures stands { (limits : SomeLimits) (longest : ℕ) (i fed : List ℕ) →
+        IsSession limits longest i fed session.old
         → IsSession limits longest i fed session.new }
     ensures answers { AnswersFor session.new session.new.fault result report.new }
-    ensures claims { (limits : SomeLimits) (longest : ℕ) (i fed : List ℕ) → IsSession limits longest i fed session.old
+    ensures claims { (limits : SomeLimits) (longest : ℕ) (i fed : List ℕ) →
+        IsSession limits longest i fed session.old
         → result ≡ 0 → IsClaimFor limits longest i fed claim.new }
     ensures kept { result ≡ 0 → session.new ≡ session.old }
     ensures unclaimed { result ≢ 0 → claim.new ≡ claim.old }

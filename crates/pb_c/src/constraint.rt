@@ -58,8 +58,10 @@ pub extern "C" fn pb_checker_constraint(
     degree: &mut Number,
 ) -> u8
     ensures kept { checker.new.value ≡ checker.old.value }
-    ensures copies { CopiesFound (form_of checker.old.value id) result numbers.new negated.new lows.new highs.new degree.new }
-    ensures unwritten { result ≢ 0 → (numbers.new ≡ numbers.old) × (negated.new ≡ negated.old) × (lows.new ≡ lows.old)
+    ensures copies { CopiesFound (form_of checker.old.value id) result numbers.new negated.new
+        lows.new highs.new degree.new }
+    ensures unwritten { result ≢ 0 → (numbers.new ≡ numbers.old) × (negated.new ≡ negated.old) ×
+        (lows.new ≡ lows.old)
         × (highs.new ≡ highs.old) × (degree.new ≡ degree.old) }
 {
     let session = match checker.take(alloc) {
@@ -83,7 +85,8 @@ fn copy_form(
     degree: &mut Number,
 ) -> u8
     ensures copies { Copies form.now result numbers.new negated.new lows.new highs.new degree.new }
-    ensures unwritten { result ≢ 0 → (numbers.new ≡ numbers.old) × (negated.new ≡ negated.old) × (lows.new ≡ lows.old)
+    ensures unwritten { result ≢ 0 → (numbers.new ≡ numbers.old) × (negated.new ≡ negated.old) ×
+        (lows.new ≡ lows.old)
         × (highs.new ≡ highs.old) × (degree.new ≡ degree.old) }
 {
     let count = form.len();

@@ -78,7 +78,8 @@ impl InstanceHandle {
 
     /// The same, and the handle owns nothing then.
     pub(crate) fn take(&mut self, alloc: Global) -> Option<Box<Flat>>
-        ensures taken { MatchOption result (self.old.value ≡ None) (λ b. self.old.value ≡ Some b.value) }
+        ensures taken { MatchOption result (self.old.value ≡ None) (λ b.
+            self.old.value ≡ Some b.value) }
         ensures left { self.new.value ≡ None }
     {
         mem::replace(self, InstanceHandle::empty(alloc)).into_flat()

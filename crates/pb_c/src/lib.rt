@@ -61,7 +61,8 @@ pub extern "C" fn pb_check(
     line: &mut [u8],
     line_len: &mut usize,
 ) -> u8
-    ensures answers { AnswersCheck options.now instance.now proof.now line.old result line.new line_len.new }
+    ensures answers { AnswersCheck options.now instance.now proof.now line.old result line.new
+        line_len.new }
     // The verdict of the line holds for the instance.
     ensures truth { ShowsTruth options.now instance.now line.old result line.new line_len.new }
     // If the line is `verified UNSAT`, the instance has no solution.
@@ -80,7 +81,8 @@ fn check_into(
     line: &mut [u8],
     line_len: &mut usize,
 ) -> u8
-    ensures { AnswersCheck options.now instance.now proof.now line.old result line.new line_len.new }
+    ensures { AnswersCheck options.now instance.now proof.now line.old result line.new
+        line_len.new }
 {
     let (text, status) = match options.asked() {
         Some(asked) => checked(alloc, instance, proof, asked).into_parts(),

@@ -131,8 +131,10 @@ fn feed_reader(
     event: &mut Statement,
     report: &mut Report,
 ) -> u8
-    ensures feeds { (f : AFormat) (limits : SomeLimits) (longest : ℕ) (fed : List ℕ) (events : List Given)
-        → FeedsWith f limits longest fed events piece.now reader.old result used.new event.new reader.new }
+    ensures feeds { (f : AFormat) (limits : SomeLimits) (longest : ℕ) (fed : List ℕ)
+        (events : List Given)
+        → FeedsWith f limits longest fed events piece.now reader.old result used.new event.new
+        reader.new }
     ensures answers { AnswersFor reader.new result report.new }
     ensures used { Uses reader.old reader.new piece.now result used.new }
     ensures unread { result ≢ 0 → event.new ≡ no_event }
@@ -189,7 +191,8 @@ pub extern "C" fn pb_reader_finish(
 
 /// Finishes a reader, and reports its fault or its position.
 fn finish_reader(reader: &mut Reader, report: &mut Report) -> u8
-    ensures ends { (f : AFormat) (limits : SomeLimits) (longest : ℕ) (fed : List ℕ) (events : List Given)
+    ensures ends { (f : AFormat) (limits : SomeLimits) (longest : ℕ) (fed : List ℕ)
+        (events : List Given)
         → EndsWith f limits longest fed events reader.old reader.new }
     ensures answers { AnswersFor reader.new result report.new }
     ensures kept { result ≡ 0 → reader.new ≡ reader.old }
@@ -218,7 +221,8 @@ pub extern "C" fn pb_reader_tokens(
     highs: &mut [i64],
 ) -> u8
     ensures kept { reader.new.value ≡ reader.old.value }
-    ensures tokens { AnswersTokens reader.old.value result codes.old names.old lows.old highs.old codes.new names.new lows.new highs.new }
+    ensures tokens { AnswersTokens reader.old.value result codes.old names.old lows.old highs.old
+        codes.new names.new lows.new highs.new }
 {
     let inner = match reader.take(alloc) {
         Some(inner) => inner,
@@ -236,7 +240,8 @@ fn copy_tokens(
     lows: &mut [u64],
     highs: &mut [i64],
 ) -> u8
-    ensures { CopiesTokens tokens.now result codes.old names.old lows.old highs.old codes.new names.new lows.new highs.new }
+    ensures { CopiesTokens tokens.now result codes.old names.old lows.old highs.old codes.new
+        names.new lows.new highs.new }
 {
     if codes.len() != tokens.codes.len()
         || names.len() != tokens.names.len()

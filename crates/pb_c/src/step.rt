@@ -47,7 +47,8 @@ pub extern "C" fn pb_checker_step(
     ensures used { UsesOf checker.old.value checker.new.value piece.now result used.new }
     ensures onward { ended.new ≡ true → 0 < used.new }
     // One more statement was accepted if one has ended, and else none.
-    ensures counts { (options : SomeOptions) (i fed : List ℕ) → IsCheckerFor options i fed checker.old
+    ensures counts { (options : SomeOptions) (i fed : List ℕ) →
+        IsCheckerFor options i fed checker.old
         → CountsOf checker.old.value checker.new.value ended.new }
 {
     let mut session = match checker.take(alloc) {
@@ -72,12 +73,14 @@ fn step_session(
     ended: &mut bool,
     report: &mut Report,
 ) -> u8
-    ensures fed { (limits : SomeLimits) (longest : ℕ) (i fed : List ℕ) → IsSession limits longest i fed session.old
+    ensures fed { (limits : SomeLimits) (longest : ℕ) (i fed : List ℕ) →
+        IsSession limits longest i fed session.old
         → IsSession limits longest i (fed ++ bytes_to ended.new used.new piece.now) session.new }
     ensures answers { AnswersFor session.new session.new.fault result report.new }
     ensures used { Uses session.old session.new piece.now result used.new }
     ensures onward { ended.new ≡ true → 0 < used.new }
-    ensures counts { (limits : SomeLimits) (longest : ℕ) (i fed : List ℕ) → IsSession limits longest i fed session.old
+    ensures counts { (limits : SomeLimits) (longest : ℕ) (i fed : List ℕ) →
+        IsSession limits longest i fed session.old
         → Counts session.old session.new ended.new }
 {
     match session.step(piece) {

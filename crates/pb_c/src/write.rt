@@ -39,7 +39,8 @@ pub extern "C" fn pb_write_statement(
     out_len: &mut usize,
 ) -> u8
     ensures writes { result ≡ 0
-        → Writes options.now kind (arrays codes.now names.now lows.now highs.now bytes.now starts.now)
+        → Writes options.now kind
+        (arrays codes.now names.now lows.now highs.now bytes.now starts.now)
         text.now out.old out.new out_len.new }
     ensures unwritten { result ≢ 0 → (out.new ≡ out.old) × (out_len.new ≡ 0) }
     ensures within { wrong.new ≤ length codes.now }

@@ -1,13 +1,8 @@
 -- One more token, compared and given.
-use Rattle.std.proofs.Common.{◌≡◌, ◌∙◌, ◌⊎◌, inl, inr, ℕ, zero, suc, ◌+◌, List, [], ◌∷◌, ◌++◌, map, take, true, length, length-append, refl, sym, ap, subst, arith}
-use Rattle.std.specs.Prelude.{Some, slice_get}
-use Rattle.std.proofs.lemmas.List.{length-map, map_push}
+use Rattle.pb_pieces.proofs.Common.{ℕ, ◌++◌, ◌+◌, ◌∙◌, ◌∷◌, ◌≡◌, ◌⊎◌, [], ap, arith, inl, inr, length, length-append, List, map, refl, Some, subst}
+use Rattle.pb_pieces.proofs.Common.{suc, sym, take, true, zero, slice_get, take-suc, length-map, map_push, Arrays, IsGivenAt, token_in, AreFirst}
+use Rattle.pb_pieces.proofs.Common.{Compared, Token, GivenToken}
 use Rattle.std.proofs.lemmas.Option.{get_or_from_slice_get, none-some, same_Some, slice_get_within}
-use Rattle.std.proofs.Math.Seq.{take-suc}
-use Rattle.pb_pieces.specs.GivenTokens.{Arrays, IsGivenAt, token_in}
-use Rattle.pb_pieces.specs.Matcher.{AreFirst, Compared}
-use Rattle.pb_pieces.specs.Tokens.{Token}
-use Rattle.pb_pieces.specs.declared.given_token.GivenToken.{GivenToken}
 use Rattle.pb_pieces.specs.declared.matcher.Matcher.{Matcher}
 
 take_next : {A : Type 0} (xs : List A) (n : ℕ) (x : A) → slice_get xs n ≡ Some x → take (n + 1) xs ≡ take n xs ++ x ∷ []

@@ -1,19 +1,13 @@
 -- A session at its end, and at its beginning.
-use Rattle.std.proofs.Common.{◌≡◌, ◌∙◌, ℕ, List, [], length, drop, true, Bor, Option, Some, None, Result, Ok, Err, refl, sym, ap, subst, inl, append-nil, arith}
-use Rattle.std.proofs.Math.Seq.{drop-append_seam, drop-nil}
+use Rattle.pb_pieces.proofs.Common.{ℕ, ◌∙◌, ◌≡◌, [], ap, append-nil, arith, Bor, drop, Err, inl, length, List, None, Ok, Option, refl, Result, Some}
+use Rattle.pb_pieces.proofs.Common.{subst, sym, true, Vec, drop-append_seam, drop-nil, Fault, Opened, Problem, first_state, State, place_after-offset}
+use Rattle.pb_pieces.proofs.Common.{Limits, Place, Spanned, Stop, ReadsBlank, largest, top_of, Reads, Checking, IsAt, EndsAfter, CountsAt, fault_of}
+use Rattle.pb_pieces.proofs.Common.{place_in, CheckFault, IsProofText, AfterProof, IsAccepted, HasFault, IsInstanceOf, IsRejected, IsRunning}
+use Rattle.pb_pieces.proofs.Common.{IsSession, Session}
 use Rattle.std.specs.declared.alloc.Global.{Global}
-use Rattle.std.proofs.Common.{Vec}
 use Rattle.pb_text.specs.contract.Over.{reported}
 use Rattle.pb_text.specs.contract.OverState.{inner_of, shown_of}
-use Rattle.pb_text.specs.meaning.Blank.{ReadsBlank}
-use Rattle.pb_text.specs.meaning.Limits.{largest, top_of}
-use Rattle.pb_text.specs.meaning.Reading.{Reads}
 use Rattle.pb_text.specs.meaning.Whole.{IsRead, events_at}
-use Rattle.pb_text.proofs.lemmas.text.Short.{place_after-offset}
-use Rattle.pb_text.specs.declared.Limits.{Limits}
-use Rattle.pb_text.specs.declared.Place.{Place}
-use Rattle.pb_text.specs.declared.Spanned.{Spanned}
-use Rattle.pb_text.specs.declared.Stop.{Stop}
 use Rattle.pb_text.specs.declared.place.Why.TheVariants as reason
 use Rattle.pb_text.specs.declared.over.Over.{Over}
 use Rattle.pb_opb.specs.meaning.Reading.{ReadsInstance}
@@ -22,29 +16,18 @@ use Rattle.pb_opb.specs.declared.Instance.{Instance}
 use Rattle.pb_proof.specs.declared.Stage.{Stage}
 use Rattle.pb_proof.specs.declared.Stage.TheVariants.{Opening, Formula, Steps, Concluding, Closing, Complete}
 use Rattle.pb_replay.specs.contract.ReplayModel.{Replaying, StandsFor, verdict_at}
-use Rattle.pb_replay.specs.meaning.Problem.{Opened, Problem}
-use Rattle.pb_replay.specs.meaning.Replay.{State, first_state}
 use Rattle.pb_replay.specs.meaning.Statements.{Accepts}
-use Rattle.pb_replay.specs.declared.fault.Fault.{Fault}
 use Rattle.pb_replay.specs.declared.verdict.Verdict.{Verdict}
-use Rattle.pb_tool.specs.contract.Checker.{Checking, IsAt}
-use Rattle.pb_tool.specs.contract.Checks.{EndsAfter}
-use Rattle.pb_tool.specs.contract.Pieces.{CountsAt, fault_of, place_in}
 use Rattle.pb_tool.specs.contract.Runs.{Replays}
 use Rattle.pb_tool.specs.meaning.Decided.{AreVerified}
-use Rattle.pb_tool.specs.meaning.Files.{IsProofText}
 use Rattle.pb_tool.specs.meaning.Headline.{VerdictsAreTrue}
 use Rattle.pb_tool.specs.meaning.Tidy.{IsInstanceFile, IsInstanceText, IsNoInstanceFile}
 use Rattle.pb_tool.specs.meaning.Tidy.IsRefused.{InText, InRest}
-use Rattle.pb_tool.specs.meaning.Verified.{AfterProof, IsAccepted}
-use Rattle.pb_tool.specs.declared.commands.check.checker.CheckFault.{CheckFault}
 use Rattle.pb_tool.specs.declared.commands.check.checker.CheckFault.TheVariants as check
 use Rattle.pb_tool.proofs.lemmas.check.TwoSources.{whole_file}
 use Rattle.pb_tool.proofs.lemmas.file.GivenBytes.{file_then_blank}
 use Rattle.pb_pieces.proofs.Faults.{refused_at_end}
 use Rattle.pb_pieces.proofs.Fed.{running, with_stands}
-use Rattle.pb_pieces.specs.Session.{HasFault, IsInstanceOf, IsRejected, IsRunning, IsSession}
-use Rattle.pb_pieces.specs.declared.session.Session.{Session}
 
 -- a source over a slice has the bytes of the slice left
 pub whole : (o : Over (Bor (List ℕ))) (s : Bor (List ℕ)) → inner_of o ≡ s → shown_of o ≡ None → reported (Some o.inner.now) None o.shown ≡ Some s.now

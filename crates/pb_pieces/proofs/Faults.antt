@@ -1,30 +1,15 @@
 -- What a checker has accepted, and the first fault that a check finds in the same text.
-use Rattle.std.proofs.Common.{◌≡◌, ◌∙◌, ℕ, List, [], ◌∷◌, ◌++◌, length, get_or, Bool, false, Option, Some, None, Result, Ok, refl, sym, ap, subst, inl, inr}
-use Rattle.std.proofs.lemmas.List.{append_cancel_left}
-use Rattle.pb_text.specs.meaning.Reading.{Answers, Reads}
-use Rattle.pb_text.specs.meaning.Spelling.{place_after}
+use Rattle.pb_pieces.proofs.Common.{ℕ, ◌++◌, ◌∙◌, ◌∷◌, ◌≡◌, [], ap, Bool, false, get_or, inl, inr, length, List, None, Ok, Option, refl, Result, Some}
+use Rattle.pb_pieces.proofs.Common.{subst, sym, append_cancel_left, Statement, Fault, Problem, first_state, State, place_after-offset, Limits, Place}
+use Rattle.pb_pieces.proofs.Common.{Stop, Answers, Reads, place_after, reported, running_at, so_many, Checking, CountsSoFar, TextsAreRead, Checks}
+use Rattle.pb_pieces.proofs.Common.{IsRefusedAt, Rejects, AllocatesAt, CountsAt, fault_of, is_whole, place_in, CheckFault, AsksInProofText}
+use Rattle.pb_pieces.proofs.Common.{IsProofText, ComesTo, InProof, IsAccepted, IsReported, HasFault}
 use Rattle.pb_text.specs.meaning.Stopping.{IsAsking}
-use Rattle.pb_text.specs.declared.Limits.{Limits}
-use Rattle.pb_text.specs.declared.Place.{Place}
-use Rattle.pb_text.specs.declared.Stop.{Stop}
 use Rattle.pb_text.specs.declared.place.Why.{Why}
 use Rattle.pb_text.specs.declared.place.Why.TheVariants as reason
 use Rattle.pb_text.proofs.lemmas.source.Wholes.{same_prefix}
-use Rattle.pb_text.proofs.lemmas.text.Short.{place_after-offset}
-use Rattle.pb_proof.specs.declared.Statement.{Statement}
-use Rattle.pb_replay.specs.meaning.Problem.{Problem}
-use Rattle.pb_replay.specs.meaning.Replay.{State, first_state}
-use Rattle.pb_replay.specs.declared.fault.Fault.{Fault}
 use Rattle.pb_replay.specs.declared.fault.Fault.TheVariants as fault
-use Rattle.pb_tool.specs.contract.Checker.{Checking, CountsSoFar, TextsAreRead}
-use Rattle.pb_tool.specs.contract.Checks.{Checks, IsRefusedAt, Rejects}
-use Rattle.pb_tool.specs.contract.Pieces.{AllocatesAt, CountsAt, fault_of, is_whole, place_in}
-use Rattle.pb_tool.specs.meaning.Files.{AsksInProofText, IsProofText}
-use Rattle.pb_tool.specs.meaning.Verified.{ComesTo, InProof, IsAccepted, IsReported}
-use Rattle.pb_tool.specs.declared.commands.check.checker.CheckFault.{CheckFault}
 use Rattle.pb_tool.specs.declared.commands.check.checker.CheckFault.TheVariants as check
-use Rattle.pb_tool.proofs.lemmas.check.CheckerSteps.{reported, running_at, so_many}
-use Rattle.pb_pieces.specs.Session.{HasFault}
 
 -- ---- memory runs out at a byte that may allocate
 asking : (limits : Limits) (used left : List ℕ) (w : Why) → (w ≡ reason.Memory → (b : ℕ) × (more : List ℕ) × (left ≡ b ∷ more) × AsksInProofText limits used b) → IsAsking (AsksInProofText limits) used left w

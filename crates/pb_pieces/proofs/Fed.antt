@@ -1,33 +1,16 @@
 -- What a session was fed, with one more piece.
-use Rattle.std.proofs.Common.{◌≡◌, ◌≢◌, ◌∙◌, ℕ, ◌+◌, ◌-◌, ◌^◌, ◌<◌, ◌≤◌, min, List, [], ◌∷◌, ◌++◌, length, drop, take, Bool, cond, true, false, Option, Some, None, Result, Ok, refl, sym, ap, subst, inl, inr, arith, add-zero, append_assoc, append-nil, length-append}
-use Rattle.std.proofs.Math.Seq.{drop-append-add, drop-length}
-use Rattle.std.proofs.lemmas.List.{drop-append-le, drop-take}
-use Rattle.pb_text.specs.meaning.Limits.{largest, top_of}
-use Rattle.pb_text.specs.meaning.Reading.{Answers, Reads}
-use Rattle.pb_text.specs.meaning.Spelling.{Item}
-use Rattle.pb_text.specs.contract.Feeding.{is_complete}
-use Rattle.pb_text.specs.declared.Limits.{Limits}
-use Rattle.pb_text.specs.declared.Place.{Place}
-use Rattle.pb_text.specs.declared.Spanned.{Spanned}
+use Rattle.pb_pieces.proofs.Common.{ℕ, ◌++◌, ◌+◌, ◌-◌, ◌<◌, ◌^◌, ◌∙◌, ◌∷◌, ◌≡◌, ◌≢◌, ◌≤◌, [], add-zero, ap, append-nil, append_assoc, arith, Bool}
+use Rattle.pb_pieces.proofs.Common.{cond, drop, false, inl, inr, length, length-append, List, min, None, Ok, Option, refl, Result, Some, subst, sym}
+use Rattle.pb_pieces.proofs.Common.{take, true, drop-append-add, drop-length, drop-append-le, drop-take, Statement, IsProof, Fault, Problem}
+use Rattle.pb_pieces.proofs.Common.{first_state, State, place_after-offset, is_complete, Limits, Place, Spanned, largest, top_of, Answers, Reads}
+use Rattle.pb_pieces.proofs.Common.{Item, reported, Checking, TextsAreRead, AllocatesAt, bytes_to, ChecksAt, CountsAt, CountsOnce, fault_of, is_whole}
+use Rattle.pb_pieces.proofs.Common.{MayGoOn, place_in, CheckFault, IsProofText, IsRejected, IsRunning, IsSession, Stands, Session}
 use Rattle.pb_text.specs.declared.place.Why.TheVariants.{Memory as no_memory}
-use Rattle.pb_text.proofs.lemmas.text.Short.{place_after-offset}
 use Rattle.pb_proof.specs.contract.Formats.{PrefixFree}
-use Rattle.pb_proof.specs.meaning.Proofs.{IsProof}
-use Rattle.pb_proof.specs.declared.Statement.{Statement}
-use Rattle.pb_replay.specs.meaning.Problem.{Problem}
-use Rattle.pb_replay.specs.meaning.Replay.{State, first_state}
-use Rattle.pb_replay.specs.declared.fault.Fault.{Fault}
-use Rattle.pb_tool.specs.contract.Checker.{Checking, TextsAreRead}
-use Rattle.pb_tool.specs.contract.Pieces.{AllocatesAt, ChecksAt, CountsAt, CountsOnce, MayGoOn, bytes_to, fault_of, is_whole, place_in}
-use Rattle.pb_tool.specs.meaning.Files.{IsProofText}
-use Rattle.pb_tool.specs.declared.commands.check.checker.CheckFault.{CheckFault}
 use Rattle.pb_tool.specs.declared.commands.check.checker.CheckFault.TheVariants as check
 use Rattle.pb_tool.specs.declared.commands.check.checker.Went.{Went}
-use Rattle.pb_tool.proofs.lemmas.check.CheckerSteps.{reported}
 use Rattle.pb_tool.proofs.lemmas.check.OneRead.{one_spelt}
 use Rattle.pb_pieces.proofs.Faults.{AcceptedBy, refused_here, so_far}
-use Rattle.pb_pieces.specs.Session.{IsRejected, IsRunning, IsSession, Stands}
-use Rattle.pb_pieces.specs.declared.session.Session.{Session}
 
 -- ---- what is read of a longer text
 module _ (free : PrefixFree) (limits : Limits) (longest : ℕ) where

@@ -1,25 +1,13 @@
 -- From what a reader of tokens stands at to what a reader gives.
-use Rattle.std.proofs.Common.{◌≡◌, ◌∙◌, ◌⊎◌, ℕ, List, [], ◌∷◌, ◌++◌, map, take, Option, Some, None, Result, Ok, Err, Bool, sym, ap, subst, inl, inr}
+use Rattle.pb_pieces.proofs.Common.{ℕ, ◌++◌, ◌∙◌, ◌∷◌, ◌≡◌, ◌⊎◌, [], ap, Bool, Err, inl, inr, List, map, None, Ok, Option, Result, Some, subst, sym}
+use Rattle.pb_pieces.proofs.Common.{take, ◌↔◌, map_push, with_names, AcceptsItems, Automaton, halt_of, is_complete, place_of, StandsAt, Feeder, Place}
+use Rattle.pb_pieces.proofs.Common.{Spanned, Stop, EndsAs, Reads, Item, Given, given, names_of, AreRead, HasEnded, HasRead, IsGiving, HoldsTokens}
+use Rattle.pb_pieces.proofs.Common.{IsReading, IsShown, names_in, Stops, Event, TokenReader}
 use Rattle.std.proofs.lemmas.List.Folds.{flat_map-map}
-use Rattle.std.proofs.lemmas.List.{map_push}
-use Rattle.pb_text.specs.contract.Automaton.{AcceptsItems, Automaton}
-use Rattle.pb_text.specs.contract.Feeding.{StandsAt, halt_of, is_complete, place_of}
-use Rattle.pb_text.specs.meaning.Reading.{EndsAs, Reads}
-use Rattle.pb_text.specs.meaning.Spelling.{Item}
 use Rattle.pb_text.proofs.lemmas.text.Formats as formats
-use Rattle.std.specs.Prelude.{◌↔◌}
-use Rattle.pb_text.specs.declared.Feeder.{Feeder}
-use Rattle.pb_text.specs.declared.place.Place.{Place}
-use Rattle.pb_text.specs.declared.place.Spanned.{Spanned}
-use Rattle.pb_text.specs.declared.place.Stop.{Stop}
 use Rattle.pb_text.specs.declared.place.Why.TheVariants.{Memory}
-use Rattle.pb_normal.specs.meaning.Names.{with_names}
-use Rattle.pb_pieces.specs.Given.{Given, given}
-use Rattle.pb_pieces.specs.NamedTokens.{names_of}
-use Rattle.pb_pieces.specs.Reader.{AreRead, HasEnded, HasRead, IsGiving, names_in as names_given}
-use Rattle.pb_pieces.specs.TokenReader.{GivesFor, HoldsTokens, IsReading, IsShown, Stops, names_in}
-use Rattle.pb_pieces.specs.declared.token_reader.Event.{Event}
-use Rattle.pb_pieces.specs.declared.token_reader.TokenReader.{TokenReader}
+use Rattle.pb_pieces.specs.Reader.{names_in as names_given}
+use Rattle.pb_pieces.specs.TokenReader.{GivesFor}
 use Rattle.pb_pieces.specs.declared.tokenized.Tokenized.{Ghosts as Statements}
 
 -- a feeder that stands at an input has read it

@@ -1,3 +1,4 @@
+mod Common
 mod Compared
 mod Ended
 mod Faults

@@ -1,12 +1,7 @@
 -- Tokens keep the numbers of their names.
-use Rattle.std.proofs.Common.{◌≡◌, ◌∙◌, ℕ, append_assoc, append-nil, List, [], ◌∷◌, ◌++◌, map, true, false, refl, sym, ap, subst}
-use Rattle.std.specs.Prelude.{Option, Some, None, cond}
-use Rattle.std.proofs.lemmas.Grind.{flat_map-append}
-use Rattle.std.proofs.lemmas.List.{map_push}
-use Rattle.pb_normal.specs.meaning.Names.{HasNames, has_name, number_in, with_name, with_names}
-use Rattle.pb_normal.proofs.lemmas.names.Numbering.{HasNames-push, number_in-append, with_names-push}
-use Rattle.pb_pieces.specs.NamedTokens.{Adds, AreTokens, name_in, names_of, number_of}
-use Rattle.pb_pieces.specs.Tokens.{HoldTokens, Token}
+use Rattle.pb_pieces.proofs.Common.{ℕ, ◌++◌, ◌∙◌, ◌∷◌, ◌≡◌, [], ap, append-nil, append_assoc, cond, false, List, map, None, Option, refl, Some, subst}
+use Rattle.pb_pieces.proofs.Common.{sym, true, flat_map-append, map_push, HasNames-push, number_in-append, with_names-push, has_name, HasNames}
+use Rattle.pb_pieces.proofs.Common.{number_in, with_name, with_names, Adds, AreTokens, name_in, names_of, number_of, HoldTokens, Token}
 use Rattle.pb_pieces.specs.declared.named_tokens.NamedTokens.{NamedTokens}
 
 keeps : (q k : List ℕ) (ks : List (List ℕ)) → has_name ks q ≡ true → number_in (with_name ks k) q ≡ number_in ks q

@@ -1,11 +1,7 @@
 -- Terms keep the numbers of their names.
-use Rattle.std.proofs.Common.{◌≡◌, ◌∙◌, ℕ, List, [], ◌∷◌, ◌++◌, map, true, false, refl, sym, ap, subst}
-use Rattle.std.specs.Prelude.{cond}
-use Rattle.std.proofs.lemmas.List.{map-append}
-use Rattle.pb_sums.specs.declared.Term.{Term}
-use Rattle.pb_normal.specs.meaning.Names.{HasNames, has_name, number_in, with_name, with_names}
-use Rattle.pb_normal.proofs.lemmas.names.Numbering.{HasNames-push, number_in-append, with_names-push}
-use Rattle.pb_pieces.specs.Flat.{HoldNamed, names_of}
+use Rattle.pb_pieces.proofs.Common.{ℕ, ◌++◌, ◌∙◌, ◌∷◌, ◌≡◌, [], ap, cond, false, List, map, refl, subst, sym, true, map-append, HasNames-push}
+use Rattle.pb_pieces.proofs.Common.{number_in-append, with_names-push, has_name, HasNames, number_in, with_name, with_names, Term, HoldNamed}
+use Rattle.pb_pieces.specs.Flat.{names_of}
 use Rattle.pb_pieces.specs.Terms.{HoldTerms}
 use Rattle.pb_pieces.specs.declared.flat.Named.{Named}
 

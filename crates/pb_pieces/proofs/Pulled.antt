@@ -1,20 +1,8 @@
 -- An instance that is pulled from a source, into flat arrays.
-use Rattle.std.proofs.Common.{ℕ, List, [], ◌++◌, Bool, true, false, Option, Some, None, Result, Ok, Err}
-use Rattle.std.specs.Prelude.{IfErr, IfOk}
-use Rattle.pb_text.specs.meaning.Blank.{ReadsBlank}
-use Rattle.pb_text.specs.meaning.PullsInARow.{TookAll}
-use Rattle.pb_text.specs.meaning.Reading.{Reads}
-use Rattle.pb_text.specs.meaning.Spelling.{Item}
-use Rattle.pb_text.specs.declared.Place.{Place}
-use Rattle.pb_text.specs.declared.Spanned.{Spanned}
-use Rattle.pb_text.specs.declared.Stop.{Stop}
+use Rattle.pb_pieces.proofs.Common.{ℕ, ◌++◌, [], Bool, Err, false, IfErr, IfOk, List, None, Ok, Option, Result, Some, true, OpbEvent, Place, Spanned}
+use Rattle.pb_pieces.proofs.Common.{Stop, ReadsBlank, TookAll, Reads, Item, rest_within, IsFlatOf, InRest, InText, Unstored, Flat}
 use Rattle.pb_text.proofs.lemmas.source.PullsInARow.{took_join}
-use Rattle.pb_opb.specs.declared.OpbEvent.{OpbEvent}
-use Rattle.pb_tool.proofs.lemmas.show.ShownStatements.{rest_within}
-use Rattle.pb_pieces.specs.Instance.{IsFlatOf}
 use Rattle.pb_pieces.specs.Reading.{IsFlatBy, IsNotFlat}
-use Rattle.pb_pieces.specs.Reading.IsNotFlat.{InText, InRest, Unstored}
-use Rattle.pb_pieces.specs.declared.instance.Flat.{Flat}
 
 pub flat_by : (format : List (Item OpbEvent) → Type 0) (longest : ℕ) (before mid after : Option (List ℕ)) (spans : List (Spanned OpbEvent)) (place : Place) (f : Flat)
     → TookAll format longest before mid spans place true None → ReadsBlank place mid (Ok tt) after → IsFlatOf spans f → IsFlatBy format longest before after f

@@ -1,27 +1,12 @@
 -- What a reader of an instance or of a proof gives.
-use Rattle.std.proofs.Common.{ℕ, List, Option, Some, None, Result, Ok, Err, IfOk, IfErr}
-use Rattle.pb_text.specs.contract.Automaton.{AcceptsItems}
-use Rattle.pb_text.specs.meaning.Limits.{largest, top_of}
-use Rattle.pb_text.specs.meaning.Reading.{EndsAs}
-use Rattle.pb_text.specs.declared.Limits.{Limits}
-use Rattle.pb_text.specs.declared.place.Place.{Place}
-use Rattle.pb_text.specs.declared.place.Spanned.{Spanned}
-use Rattle.pb_text.specs.declared.place.Stop.{Stop}
-use Rattle.pb_opb.specs.engine.State.{OpbState, opb}
-use Rattle.pb_opb.specs.meaning.Instances.{IsInstance}
-use Rattle.pb_opb.specs.declared.OpbEvent.{OpbEvent}
-use Rattle.pb_proof.specs.engine.Machine.State.{ProofState, proofs}
-use Rattle.pb_proof.specs.meaning.Proofs.{IsProof}
-use Rattle.pb_proof.specs.declared.Statement.{Statement}
-use Rattle.pb_pieces.specs.Given.{Given, given}
-use Rattle.pb_pieces.specs.Reader.{AreRead, Ends, GivesFor, GivesOne, IsReader, StopsAt, new_instance, new_proof, opb_statements, proof_statements}
-use Rattle.pb_pieces.specs.TokenReader.{Gives, IsReading, Stops}
+use Rattle.pb_pieces.proofs.Common.{ℕ, Err, IfErr, IfOk, List, None, Ok, Option, Result, Some, OpbEvent, opb, OpbState, IsInstance, Statement, proofs}
+use Rattle.pb_pieces.proofs.Common.{ProofState, IsProof, AcceptsItems, Limits, Place, Spanned, Stop, largest, top_of, EndsAs, Given, given, AreRead}
+use Rattle.pb_pieces.proofs.Common.{Ends, GivesFor, GivesOne, IsReader, new_instance, new_proof, opb_statements, proof_statements, StopsAt, Gives}
+use Rattle.pb_pieces.proofs.Common.{IsReading, Stops, Event, TokenReader}
 use Rattle.pb_pieces.specs.declared.reader.Format.{Format}
 use Rattle.pb_pieces.specs.declared.reader.Format.TheVariants as format
 use Rattle.pb_pieces.specs.declared.reader.Reader.TheVariants.{Instance, Proof}
-use Rattle.pb_pieces.specs.declared.token_reader.Event.{Event}
 use Rattle.pb_pieces.specs.declared.token_reader.Taken.{Taken}
-use Rattle.pb_pieces.specs.declared.token_reader.TokenReader.{TokenReader}
 use Rattle.pb_pieces.proofs.Giving.{Next, ended, next, stops}
 
 module _ (limits : Limits) (longest : ℕ) (fed : List ℕ) (events : List Given) (piece : List ℕ) where

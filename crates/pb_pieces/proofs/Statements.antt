@@ -1,13 +1,7 @@
 -- One more statement in flat arrays.
-use Rattle.std.proofs.Common.{◌≡◌, ◌∙◌, ℕ, ℤ, ◌+◌, List, [], ◌∷◌, ◌++◌, length, ap, sym, subst, arith, append_assoc, append-nil, length-append}
-use Rattle.std.proofs.lemmas.Grind.{flat_map-append}
-use Rattle.pb_text.specs.declared.Spanned.{Spanned}
-use Rattle.pb_sums.specs.declared.Term.{Term}
-use Rattle.pb_opb.specs.declared.OpbEvent.{OpbEvent}
-use Rattle.pb_pieces.specs.Instance.{HoldAll, IsFlatOf, places_of, row_in, rows_from, span_in, terms_in, terms_of}
-use Rattle.pb_pieces.specs.declared.places.Span.{Span}
-use Rattle.pb_pieces.specs.declared.rows.Row.{Row}
-use Rattle.pb_pieces.specs.declared.instance.Flat.{Flat}
+use Rattle.pb_pieces.proofs.Common.{ℕ, ℤ, ◌++◌, ◌+◌, ◌∙◌, ◌∷◌, ◌≡◌, [], ap, append-nil, append_assoc, arith, length, length-append, List, subst, sym}
+use Rattle.pb_pieces.proofs.Common.{flat_map-append, OpbEvent, Term, Spanned, HoldAll, IsFlatOf, places_of, row_in, rows_from, span_in, terms_in}
+use Rattle.pb_pieces.proofs.Common.{terms_of, Flat, Span, Row}
 
 terms_more : (ms : List (Spanned OpbEvent)) (m : Spanned OpbEvent) → terms_of (ms ++ m ∷ []) ≡ terms_of ms ++ terms_in m.event
 terms_more ms m = flat_map-append (λ (x : Spanned OpbEvent). terms_in x.event) ms (m ∷ []) ∙ ap (λ (x : List Term). terms_of ms ++ x) (append-nil (terms_in m.event))

@@ -30,7 +30,8 @@ impl Named {
 
     /// One more term.
     fn push(&mut self, term: &Term) -> Result<(), AllocError>
-        ensures { (terms : List ATerm) → HoldNamed terms self.old → OnOk result (HoldNamed (terms ++ term.now ∷ []) self.new) }
+        ensures { (terms : List ATerm) → HoldNamed terms self.old →
+            OnOk result (HoldNamed (terms ++ term.now ∷ []) self.new) }
     {
         let number = self.names.number(term.literal.name.as_str())?;
         self.terms.push(term, number as u64)?;
@@ -39,7 +40,8 @@ impl Named {
 
     /// More terms.
     pub(crate) fn extend(&mut self, more: &Sequence<Term>) -> Result<(), AllocError>
-        ensures { (terms : List ATerm) → HoldNamed terms self.old → OnOk result (HoldNamed (terms ++ more.now) self.new) }
+        ensures { (terms : List ATerm) → HoldNamed terms self.old →
+            OnOk result (HoldNamed (terms ++ more.now) self.new) }
     {
         let items = more.as_slice();
         for term in items {

@@ -46,8 +46,11 @@ impl Flat {
         degree: i128,
         span: Span,
     ) -> Result<(), AllocError>
-        ensures { (before : List ATerm) (rows : List ARow) (spans : List ASpan) → HoldAll before rows spans self.old
-            → OnOk result (HoldAll (before ++ terms.now) (rows ++ (record { kind = kind; end = length (before ++ terms.now); degree = degree }) ∷ []) (spans ++ span ∷ []) self.new) }
+        ensures { (before : List ATerm) (rows : List ARow) (spans : List ASpan) →
+            HoldAll before rows spans self.old
+            → OnOk result
+            (HoldAll (before ++ terms.now)
+            (rows ++ (record { kind = kind; end = length (before ++ terms.now); degree = degree }) ∷ []) (spans ++ span ∷ []) self.new) }
     {
         self.named.extend(terms)?;
         let end = self.named.len();
@@ -58,7 +61,8 @@ impl Flat {
 
     /// One more statement. A header and a comment add nothing.
     pub fn add(&mut self, read: &Spanned<OpbEvent>) -> Result<(), AllocError>
-        ensures { (spans : List (ASpanned AnEvent)) → IsFlatOf spans self.old → OnOk result (IsFlatOf (spans ++ read.now ∷ []) self.new) }
+        ensures { (spans : List (ASpanned AnEvent)) → IsFlatOf spans self.old →
+            OnOk result (IsFlatOf (spans ++ read.now ∷ []) self.new) }
     {
         let span = Span {
             first: read.first,

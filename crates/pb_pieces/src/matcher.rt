@@ -34,7 +34,8 @@ impl Matcher {
     /// The next given token, if none differs so far.
     fn next(&self) -> Option<&GivenToken>
         ensures within { IfSome result (λ g. self.now.count < length self.now.given.items) }
-        ensures token { IfSome result (λ g. slice_get self.now.given.items self.now.count ≡ Some g.now) }
+        ensures token { IfSome result (λ g.
+            slice_get self.now.given.items self.now.count ≡ Some g.now) }
         ensures same { IfSome result (λ g. self.now.same ≡ true) }
     {
         if self.same && self.count < self.given.len() {

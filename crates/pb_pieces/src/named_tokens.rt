@@ -29,7 +29,8 @@ impl NamedTokens {
 
     /// Takes the tokens of a statement away. The names stay.
     pub(crate) fn clear(&mut self)
-        ensures { (seen : List (List ℕ)) (tokens : List Token) → AreTokens seen tokens self.old → AreTokens (seen ++ names_of tokens) [] self.new }
+        ensures { (seen : List (List ℕ)) (tokens : List Token) → AreTokens seen tokens self.old →
+            AreTokens (seen ++ names_of tokens) [] self.new }
     {
         self.tokens.clear();
     }
@@ -51,7 +52,8 @@ impl NamedTokens {
         name: &str,
     ) -> Result<(), AllocError>
         ensures { (seen : List (List ℕ)) (tokens : List Token) → AreTokens seen tokens self.old
-            → OnOk result (AreTokens seen (tokens ++ token kind number (Some name.now) ∷ []) self.new) }
+            → OnOk result
+            (AreTokens seen (tokens ++ token kind number (Some name.now) ∷ []) self.new) }
     {
         let index = self.names.number(name)?;
         self.tokens.push(kind, number, index as u64)?;

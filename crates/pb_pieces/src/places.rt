@@ -42,7 +42,8 @@ impl Places {
 
     /// The positions of one more statement.
     pub(crate) fn push(&mut self, span: Span) -> Result<(), AllocError>
-        ensures { (spans : List ASpan) → HoldPlaces spans self.old → OnOk result (HoldPlaces (spans ++ span ∷ []) self.new) }
+        ensures { (spans : List ASpan) → HoldPlaces spans self.old →
+            OnOk result (HoldPlaces (spans ++ span ∷ []) self.new) }
     {
         self.lines.push(span.first.line)?;
         self.columns.push(span.first.column)?;

@@ -25,8 +25,10 @@ pub fn read_flat<S: Source>(
     limits: Limits,
 ) -> Result<Flat, Stop>
     requires { 0 < longest }
-    ensures read { IfOk result (IsFlatBy (IsInstance (largest limits) (top_of limits)) longest (S.left input.old) (S.left input.new)) }
-    ensures refused { IfErr result (IsNotFlat (IsInstance (largest limits) (top_of limits)) longest (S.left input.old) (S.left input.new)) }
+    ensures read { IfOk result (IsFlatBy (IsInstance (largest limits) (top_of limits)) longest
+        (S.left input.old) (S.left input.new)) }
+    ensures refused { IfErr result (IsNotFlat (IsInstance (largest limits) (top_of limits)) longest
+        (S.left input.old) (S.left input.new)) }
 {
     let machine = OpbMachine::new(alloc, limits);
     read_events(machine, Flat::new(alloc, keys), input, longest)
@@ -42,8 +44,10 @@ fn read_events<S: Source>(
     requires between { opb.begun machine ≡ false }
     requires some { 0 < longest }
     requires nothing { IsFlatOf [] empty }
-    ensures read { IfOk result (IsFlatBy (AcceptsItems opb machine) longest (S.left input.old) (S.left input.new)) }
-    ensures refused { IfErr result (IsNotFlat (AcceptsItems opb machine) longest (S.left input.old) (S.left input.new)) }
+    ensures read { IfOk result (IsFlatBy (AcceptsItems opb machine) longest (S.left input.old)
+        (S.left input.new)) }
+    ensures refused { IfErr result (IsNotFlat (AcceptsItems opb machine) longest (S.left input.old)
+        (S.left input.new)) }
 {
     let mut flat = empty;
     let mut feeder = Feeder::within(machine, longest);
@@ -68,7 +72,8 @@ fn read_events<S: Source>(
 
 /// Adds a statement that was read, and drops it.
 fn add_read(flat: &mut Flat, read: Spanned<OpbEvent>) -> Result<(), Stop>
-    ensures added { (spans : List (ASpanned AnEvent)) → IsFlatOf spans flat.old → OnOk result (IsFlatOf (spans ++ read ∷ []) flat.new) }
+    ensures added { (spans : List (ASpanned AnEvent)) → IsFlatOf spans flat.old →
+        OnOk result (IsFlatOf (spans ++ read ∷ []) flat.new) }
     ensures memory { IfErr result (λ s. s.why ≡ Why.Memory) }
 {
     let first = read.first;

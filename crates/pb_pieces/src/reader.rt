@@ -69,15 +69,19 @@ impl Reader {
     /// none. After a fault it returns that fault again.
     pub fn feed(&mut self, piece: &[u8]) -> Result<Taken, Stop>
         // What held for all the text before now holds for that text followed by these bytes.
-        ensures gives { (format : Format) (limits : SomeLimits) (longest : ℕ) (fed : List ℕ) (events : List Given)
+        ensures gives { (format : Format) (limits : SomeLimits) (longest : ℕ) (fed : List ℕ)
+            (events : List Given)
             → fault_of self.old ≡ None → IsReader longest limits fed events format self.old
             → IfOk result (λ t. GivesOne longest limits fed events format piece.now t self.new) }
         // The first fault is that of the text, or memory ran out.
-        ensures stops { (format : Format) (limits : SomeLimits) (longest : ℕ) (fed : List ℕ) (events : List Given)
+        ensures stops { (format : Format) (limits : SomeLimits) (longest : ℕ) (fed : List ℕ)
+            (events : List Given)
             → fault_of self.old ≡ None → IsReader longest limits fed events format self.old
             → IfErr result (λ s. StopsAt longest limits fed events format piece.now s) }
         ensures fault { fault_of self.new ≡ stop_of result }
-        ensures used { IfOk result (λ t. ((place_in self.new).offset ≡ (place_in self.old).offset + t.used) × (t.used ≤ length piece.now)) }
+        ensures used { IfOk result (λ t.
+            ((place_in self.new).offset ≡ (place_in self.old).offset + t.used) ×
+            (t.used ≤ length piece.now)) }
         ensures again { IfSome (fault_of self.old) (λ s. (result ≡ Err s) × (self.new ≡ self.old)) }
     {
         texts_are_read();
@@ -90,7 +94,8 @@ impl Reader {
     /// Call this at the end of the text: whether it may end here. After a fault it returns that fault again.
     pub fn finish(&mut self) -> Result<(), Stop>
         // The whole text was read, or it has ended too soon.
-        ensures ends { (format : Format) (limits : SomeLimits) (longest : ℕ) (fed : List ℕ) (events : List Given)
+        ensures ends { (format : Format) (limits : SomeLimits) (longest : ℕ) (fed : List ℕ)
+            (events : List Given)
             → fault_of self.old ≡ None → IsReader longest limits fed events format self.old
             → Ends longest limits fed events format result }
         ensures fault { fault_of self.new ≡ stop_of result }
@@ -137,8 +142,10 @@ impl Reader {
 
 /// A feeder that `StandsAt` its input has read it, as a text of the format.
 fn texts_are_read()
-    ensures instances { (limits : SomeLimits) → AreRead opb (new_instance limits) (IsInstance (largest limits) (top_of limits)) }
-    ensures proofs { (limits : SomeLimits) → AreRead proofs (new_proof limits) (IsProof (largest limits) (top_of limits)) }
+    ensures instances { (limits : SomeLimits) →
+        AreRead opb (new_instance limits) (IsInstance (largest limits) (top_of limits)) }
+    ensures proofs { (limits : SomeLimits) →
+        AreRead proofs (new_proof limits) (IsProof (largest limits) (top_of limits)) }
 {
     instances_are_exact();
     proofs_are_exact();

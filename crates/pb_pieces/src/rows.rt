@@ -43,7 +43,8 @@ impl Rows {
 
     /// One more row.
     pub(crate) fn push(&mut self, row: Row) -> Result<(), AllocError>
-        ensures { (rows : List ARow) → HoldRows rows self.old → OnOk result (HoldRows (rows ++ row ∷ []) self.new) }
+        ensures { (rows : List ARow) → HoldRows rows self.old →
+            OnOk result (HoldRows (rows ++ row ∷ []) self.new) }
     {
         let (low, high) = split(row.degree);
         self.kinds.push(row.kind)?;

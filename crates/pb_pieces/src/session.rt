@@ -85,10 +85,13 @@ impl Session {
     /// other bytes are stored for `finish`. After a fault it returns that fault again, and takes nothing.
     pub fn feed(&mut self, piece: &[u8]) -> Result<usize, CheckFault>
         // What held for all the text before now holds for that text followed by this piece.
-        ensures fed { (limits : SomeLimits) (longest : ℕ) (i fed : List ℕ) → IsSession limits longest i fed self.old
+        ensures fed { (limits : SomeLimits) (longest : ℕ) (i fed : List ℕ) →
+            IsSession limits longest i fed self.old
             → IsSession limits longest i (fed ++ piece.now) self.new }
         ensures fault { self.new.fault ≡ fault_in result }
-        ensures used { IfOk result (λ n. ((place_in self.new.checker).offset ≡ (place_in self.old.checker).offset + n) × (n ≤ length piece.now)) }
+        ensures used { IfOk result (λ n.
+            ((place_in self.new.checker).offset ≡ (place_in self.old.checker).offset + n) ×
+            (n ≤ length piece.now)) }
         ensures again { IfSome self.old.fault (λ e. (result ≡ Err e) × (self.new ≡ self.old)) }
     {
         if let Some(fault) = self.fault {
@@ -113,12 +116,16 @@ impl Session {
     /// there and was accepted. After a fault it returns that fault again, and takes nothing.
     pub fn step(&mut self, piece: &[u8]) -> Result<Went, CheckFault>
         // What held for all the text before now holds for that text followed by the bytes taken.
-        ensures fed { (limits : SomeLimits) (longest : ℕ) (i fed : List ℕ) → IsSession limits longest i fed self.old
+        ensures fed { (limits : SomeLimits) (longest : ℕ) (i fed : List ℕ) →
+            IsSession limits longest i fed self.old
             → IsSession limits longest i (fed ++ bytes_gone result piece.now) self.new }
         ensures fault { self.new.fault ≡ fault_in result }
-        ensures used { IfOk result (λ w. ((place_in self.new.checker).offset ≡ (place_in self.old.checker).offset + w.used) × (w.used ≤ length piece.now)) }
+        ensures used { IfOk result (λ w.
+            ((place_in self.new.checker).offset ≡ (place_in self.old.checker).offset + w.used) ×
+            (w.used ≤ length piece.now)) }
         ensures onward { IfOk result (λ w. w.accepted ≡ true → 0 < w.used) }
-        ensures counts { (limits : SomeLimits) (longest : ℕ) (i fed : List ℕ) → IsSession limits longest i fed self.old
+        ensures counts { (limits : SomeLimits) (longest : ℕ) (i fed : List ℕ) →
+            IsSession limits longest i fed self.old
             → self.new.accepted ≡ self.old.accepted + statements_in result }
         ensures again { IfSome self.old.fault (λ e. (result ≡ Err e) × (self.new ≡ self.old)) }
     {
@@ -145,10 +152,15 @@ impl Session {
         ensures checker { self.new.checker ≡ self.old.checker }
         ensures reach { (place_in self.new.checker).offset ≤ 2 ^ 40 }
         ensures kept { OnOk result (self.new.fault ≡ self.old.fault) }
-        ensures counts { self.new.accepted ≡ cond went.accepted (min (self.old.accepted + 1) (2 ^ 64 - 1)) self.old.accepted }
-        ensures stores { OnOk result (self.new.rest.items ≡ self.old.rest.items ++ cond went.accepted [] (drop went.used piece.now)) }
-        ensures unstored { IfErr result (λ e. (self.new.fault ≡ Some e) × (went.accepted ≡ false) × (went.used < length piece.now)
-            × (e ≡ CheckFault.Text (record { place = place_in self.old.checker; why = Why.Memory }))) }
+        ensures counts { self.new.accepted ≡ cond went.accepted
+            (min (self.old.accepted + 1) (2 ^ 64 - 1)) self.old.accepted }
+        ensures stores { OnOk result
+            (self.new.rest.items ≡ self.old.rest.items ++ cond went.accepted []
+            (drop went.used piece.now)) }
+        ensures unstored { IfErr result (λ e. (self.new.fault ≡ Some e) × (went.accepted ≡ false) ×
+            (went.used < length piece.now)
+            × (e ≡ CheckFault.Text
+            (record { place = place_in self.old.checker; why = Why.Memory }))) }
     {
         let place = self.checker.place();
         if went.accepted {
@@ -178,15 +190,18 @@ impl Session {
         ensures ok { OnOk result (self.new ≡ self.old) }
         ensures counts { self.new.accepted ≡ self.old.accepted }
         // What held for the text still holds. So a fault is one of the text.
-        ensures stands { (limits : SomeLimits) (longest : ℕ) (i fed : List ℕ) → IsSession limits longest i fed self.old
+        ensures stands { (limits : SomeLimits) (longest : ℕ) (i fed : List ℕ) →
+            IsSession limits longest i fed self.old
             → IsSession limits longest i fed self.new }
         ensures fault { self.new.fault ≡ fault_in result }
         ensures again { IfSome self.old.fault (λ e. (result ≡ Err e) × (self.new ≡ self.old)) }
         // The text of the instance and the joined pieces are verified with the verdict, as `check` says of two texts.
-        ensures verified { (limits : SomeLimits) (longest : ℕ) (i fed : List ℕ) → IsSession limits longest i fed self.old
+        ensures verified { (limits : SomeLimits) (longest : ℕ) (i fed : List ℕ) →
+            IsSession limits longest i fed self.old
             → IfOk result (AreVerified limits longest i fed) }
         // The verdict is true of the instance.
-        ensures truth { (limits : SomeLimits) (longest : ℕ) (i fed : List ℕ) → IsSession limits longest i fed self.old
+        ensures truth { (limits : SomeLimits) (longest : ℕ) (i fed : List ℕ) →
+            IsSession limits longest i fed self.old
             → IfOk result (IsInstanceOf limits longest i) }
     {
         if let Some(fault) = self.fault {
@@ -221,7 +236,8 @@ impl Session {
     /// How much of the current statement is stored: at most as much as its bytes so far, and nothing between statements.
     pub fn held(&self) -> usize
         ensures held { result ≡ held_in self.now }
-        ensures few { (limits : SomeLimits) (longest : ℕ) (i fed : List ℕ) → IsSession limits longest i fed self.now
+        ensures few { (limits : SomeLimits) (longest : ℕ) (i fed : List ℕ) →
+            IsSession limits longest i fed self.now
             → self.now.fault ≡ None → HoldsOpen limits fed (place_in self.now.checker) result }
     {
         self.checker.held()
@@ -231,7 +247,8 @@ impl Session {
     pub fn accepted(&self) -> u64
         ensures accepted { result ≡ self.now.accepted }
         // Before a fault these are all statements that end in the text.
-        ensures counts { (limits : SomeLimits) (longest : ℕ) (i fed : List ℕ) → IsSession limits longest i fed self.now
+        ensures counts { (limits : SomeLimits) (longest : ℕ) (i fed : List ℕ) →
+            IsSession limits longest i fed self.now
             → self.now.fault ≡ None → HasAccepted limits longest i fed result }
     {
         texts_are_read();

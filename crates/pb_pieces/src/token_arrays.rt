@@ -32,7 +32,8 @@ pub struct TokenArrays<'a> {
 
 /// The tokens that the arrays have.
 pub(crate) fn tokens_given(alloc: Global, arrays: TokenArrays) -> Result<Vec<GivenToken>, MakeFault>
-    ensures { IfOk result (λ tokens. AreGiven (arrays_of arrays.entry) (map token_in tokens.items)) }
+    ensures { IfOk result (λ tokens. AreGiven (arrays_of arrays.entry)
+        (map token_in tokens.items)) }
 {
     let count = arrays.codes.len();
     if arrays.names.len() != count || arrays.lows.len() != count || arrays.highs.len() != count {

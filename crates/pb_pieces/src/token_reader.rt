@@ -76,7 +76,9 @@ impl<E: Tokenized + Drop, M: Machine<Event = E> + Drop> TokenReader<M> {
             → self.old.fault ≡ None → IsReading E.Tokenized longest start fed spans self.old
             → IfErr result (λ s. Stops E.Tokenized longest start fed spans piece.now s self.new) }
         ensures fault { self.new.fault ≡ stop_of result }
-        ensures used { IfOk result (λ t. ((place_of self.new.feeder).offset ≡ (place_of self.old.feeder).offset + t.used) × (t.used ≤ length piece.now)) }
+        ensures used { IfOk result (λ t.
+            ((place_of self.new.feeder).offset ≡ (place_of self.old.feeder).offset + t.used) ×
+            (t.used ≤ length piece.now)) }
         ensures again { IfSome self.old.fault (λ s. (result ≡ Err s) × (self.new ≡ self.old)) }
     {
         if let Some(stop) = self.fault {
@@ -105,8 +107,10 @@ impl<E: Tokenized + Drop, M: Machine<Event = E> + Drop> TokenReader<M> {
     /// Stores a statement that was read in place of the last one, and says what it is.
     fn give(&mut self, read: Spanned<E>) -> Result<Event, Stop>
         ensures shown { IfOk result (λ e. IsShown E.Tokenized read e self.new) }
-        ensures stored { (seen : List (List ℕ)) (current : List Token) → AreTokens seen current self.old.tokens
-            → OnOk result (AreTokens (seen ++ names_of current) (E.tokens read.event) self.new.tokens) }
+        ensures stored { (seen : List (List ℕ)) (current : List Token) →
+            AreTokens seen current self.old.tokens
+            → OnOk result (AreTokens (seen ++ names_of current)
+            (E.tokens read.event) self.new.tokens) }
         ensures spent { IfErr result (λ s. (s.why ≡ Why.Memory) × (s.place ≡ read.first)) }
         ensures feeder { self.new.feeder ≡ self.old.feeder }
         ensures ok { OnOk result (self.new.fault ≡ self.old.fault) }
@@ -133,7 +137,8 @@ impl<E: Tokenized + Drop, M: Machine<Event = E> + Drop> TokenReader<M> {
     pub fn finish(&mut self) -> Result<(), Stop>
         ensures ends { (longest : ℕ) (start : M) (fed : List ℕ) (spans : List (ASpanned E))
             → self.old.fault ≡ None → IsReading E.Tokenized longest start fed spans self.old
-            → (used : List ℕ) × EndsAs (AcceptsItems M.automaton start) longest fed used spans (place_of self.new.feeder) result }
+            → (used : List ℕ) × EndsAs (AcceptsItems M.automaton start) longest fed used spans
+            (place_of self.new.feeder) result }
         ensures fault { self.new.fault ≡ stop_of result }
         ensures ok { OnOk result (self.new ≡ self.old) }
         ensures again { IfSome self.old.fault (λ s. (result ≡ Err s) × (self.new ≡ self.old)) }
@@ -152,8 +157,10 @@ impl<E: Tokenized + Drop, M: Machine<Event = E> + Drop> TokenReader<M> {
 
     /// Puts a statement in place of the last one.
     fn store(&mut self, read: &Spanned<E>) -> Result<(), AllocError>
-        ensures stored { (seen : List (List ℕ)) (current : List Token) → AreTokens seen current self.old.tokens
-            → OnOk result (AreTokens (seen ++ names_of current) (E.tokens read.now.event) self.new.tokens) }
+        ensures stored { (seen : List (List ℕ)) (current : List Token) →
+            AreTokens seen current self.old.tokens
+            → OnOk result (AreTokens (seen ++ names_of current)
+            (E.tokens read.now.event) self.new.tokens) }
         ensures text { OnOk result (self.new.text.items ≡ E.text read.now.event) }
         ensures feeder { self.new.feeder ≡ self.old.feeder }
         ensures fault { self.new.fault ≡ self.old.fault }

@@ -86,8 +86,10 @@ impl Tokens {
         number: i128,
         name: u64,
     ) -> Result<(), AllocError>
-        ensures { (tokens : List Token) (names : List ℕ) (text : Option (List ℕ)) → HoldTokens tokens names self.old
-            → OnOk result (HoldTokens (tokens ++ token kind number text ∷ []) (names ++ name ∷ []) self.new) }
+        ensures { (tokens : List Token) (names : List ℕ) (text : Option (List ℕ)) →
+            HoldTokens tokens names self.old
+            → OnOk result (HoldTokens (tokens ++ token kind number text ∷ [])
+            (names ++ name ∷ []) self.new) }
     {
         let (low, high) = split(number);
         self.codes.push(token_code(kind))?;

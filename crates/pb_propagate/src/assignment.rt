@@ -31,7 +31,8 @@ pub struct Assignment {
 fn assign(values: &mut Vec<Option<bool>>, failed: &mut Vec<bool>, literal: NumberedLiteral)
     requires inside { literal.variable < length values.old.items }
     requires marked { AreMarked values.old.items failed.old.items }
-    ensures values { values.new.items ≡ slice_set values.old.items literal.variable (Some (not literal.negated)) }
+    ensures values { values.new.items ≡ slice_set values.old.items literal.variable
+        (Some (not literal.negated)) }
     ensures marked { AreMarked values.new.items failed.new.items }
 {
     let first = 4 * literal.variable;
@@ -78,10 +79,12 @@ fn shorten(
     count: usize,
 )
     requires agrees { (l : NumberedLiteral) → has list.old.items l ≡ says values.old.items l }
-    requires room { length list.old.items + sum_by vacancy values.old.items ≡ length values.old.items }
+    requires room { length list.old.items + sum_by vacancy values.old.items ≡ length
+        values.old.items }
     requires marked { AreMarked values.old.items failed.old.items }
     ensures agrees { (l : NumberedLiteral) → has list.new.items l ≡ says values.new.items l }
-    ensures room { length list.new.items + sum_by vacancy values.new.items ≡ length values.new.items }
+    ensures room { length list.new.items + sum_by vacancy values.new.items ≡ length
+        values.new.items }
     ensures values { length values.new.items ≡ length values.old.items }
     ensures list { list.new.items ≡ take count list.old.items }
     ensures marked { AreMarked values.new.items failed.new.items }
@@ -109,7 +112,8 @@ impl Assignment {
 
     /// Adds a variable.
     pub fn widen(&mut self) -> Result<(), AllocError>
-        ensures values { OnOk result (length self.new.values.items ≡ length self.old.values.items + 1) }
+        ensures values { OnOk result
+            (length self.new.values.items ≡ length self.old.values.items + 1) }
         ensures list { self.new.list.items ≡ self.old.list.items }
         ensures reasons { OnOk result (
             KeepsReasons self.old.list.items self.old.reasons.items self.new.reasons.items) }
@@ -191,8 +195,10 @@ impl Assignment {
     /// Whether the literal of a code has no value.
     pub fn leaves_open(&self, code: u32) -> bool
         requires { code < 4 * length self.now.values.items }
-        ensures yes { result ≡ true → (true_at self.now.values.items code ≡ false) × (false_at self.now.values.items code ≡ false) }
-        ensures no { result ≡ false → (true_at self.now.values.items code ≡ true) ⊎ (false_at self.now.values.items code ≡ true) }
+        ensures yes { result ≡ true → (true_at self.now.values.items code ≡ false) ×
+            (false_at self.now.values.items code ≡ false) }
+        ensures no { result ≡ false → (true_at self.now.values.items code ≡ true) ⊎
+            (false_at self.now.values.items code ≡ true) }
     {
         if self.satisfies(code) {
             return false;
@@ -220,7 +226,8 @@ impl Assignment {
     /// Whether the literal is on the list, and the form of a slot is its reason.
     pub fn is_due(&self, literal: NumberedLiteral, slot: usize) -> bool
         requires { literal.variable < length self.now.values.items }
-        ensures yes { result ≡ true → IsDue slot self.now.list.items self.now.reasons.items literal }
+        ensures yes { result ≡ true →
+            IsDue slot self.now.list.items self.now.reasons.items literal }
         ensures no { result ≡ false →
             IsDue slot self.now.list.items self.now.reasons.items literal → ⊥ }
     {
@@ -233,7 +240,8 @@ impl Assignment {
     /// Gives the literal of a variable another reason.
     pub fn explain(&mut self, variable: usize, reason: usize)
         requires { variable < length self.old.values.items }
-        ensures reasons { self.new.reasons.items ≡ slice_set self.old.reasons.items variable reason }
+        ensures reasons { self.new.reasons.items ≡ slice_set self.old.reasons.items variable
+            reason }
         ensures values { self.new.values ≡ self.old.values }
         ensures list { self.new.list ≡ self.old.list }
     {

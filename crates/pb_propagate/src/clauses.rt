@@ -63,7 +63,8 @@ impl Clauses {
         ensures rest { OnOk result (AreReady self.new) }
         ensures literals { self.new.blocks.literals ≡ self.old.blocks.literals }
         ensures watches { self.new.blocks.watches ≡ self.old.blocks.watches }
-        ensures lists { OnOk result (length self.new.lists.items ≡ length self.old.lists.items + 2) }
+        ensures lists { OnOk result
+            (length self.new.lists.items ≡ length self.old.lists.items + 2) }
     {
         let alloc = *self.lists.allocator();
         self.lists.push(Vec::new(alloc))?;
@@ -75,9 +76,11 @@ impl Clauses {
     pub fn extend(&mut self) -> Result<(), AllocError>
         requires rest { AreReady self.old }
         ensures rest { OnOk result (AreReady self.new) }
-        ensures literals { OnOk result (self.new.blocks.literals ≡ self.old.blocks.literals ++ [] ∷ []) }
+        ensures literals { OnOk result
+            (self.new.blocks.literals ≡ self.old.blocks.literals ++ [] ∷ []) }
         ensures unchanged { OnErr result (self.new.blocks.literals ≡ self.old.blocks.literals) }
-        ensures watches { OnOk result ((e : ℕ) → watch_at self.new.blocks.watches e ≡ watch_at self.old.blocks.watches e) }
+        ensures watches { OnOk result ((e : ℕ) →
+            watch_at self.new.blocks.watches e ≡ watch_at self.old.blocks.watches e) }
         ensures lists { self.new.lists ≡ self.old.lists }
     {
         self.blocks.extend()?;
@@ -131,9 +134,11 @@ impl Clauses {
         requires pair { IsPair literals.items pair }
         requires inside { All (λ x. x < length self.old.lists.items) literals.items }
         ensures rest { OnOk result (AreReady self.new) }
-        ensures literals { OnOk result (self.new.blocks.literals ≡ slice_set self.old.blocks.literals slot literals.items) }
+        ensures literals { OnOk result
+            (self.new.blocks.literals ≡ slice_set self.old.blocks.literals slot literals.items) }
         ensures unchanged { OnErr result (self.new.blocks.literals ≡ self.old.blocks.literals) }
-        ensures watches { OnOk result ((e : ℕ) → (e / 2 ≡ slot → ⊥) → watch_at self.new.blocks.watches e ≡ watch_at self.old.blocks.watches e) }
+        ensures watches { OnOk result ((e : ℕ) → (e / 2 ≡ slot → ⊥) →
+            watch_at self.new.blocks.watches e ≡ watch_at self.old.blocks.watches e) }
         ensures lists { OnOk result (length self.new.lists.items ≡ length self.old.lists.items) }
     {
         let first = literals[pair.first];
@@ -158,7 +163,8 @@ impl Clauses {
         ensures rest { AreReady self.new }
         ensures literals { self.new.blocks.literals ≡ slice_set self.old.blocks.literals slot [] }
         ensures lists { length self.new.lists.items ≡ length self.old.lists.items }
-        ensures watches { (e : ℕ) → (e / 2 ≡ slot → ⊥) → IsSameWatch (watch_at self.old.blocks.watches e) (watch_at self.new.blocks.watches e) }
+        ensures watches { (e : ℕ) → (e / 2 ≡ slot → ⊥) →
+            IsSameWatch (watch_at self.old.blocks.watches e) (watch_at self.new.blocks.watches e) }
     {
         if !self.is_filled(slot) {
             return;
@@ -173,7 +179,8 @@ impl Clauses {
         ensures rest { AreReady self.new }
         ensures literals { self.new.blocks.literals ≡ slice_set self.old.blocks.literals slot [] }
         ensures lists { length self.new.lists.items ≡ length self.old.lists.items }
-        ensures watches { (e : ℕ) → (e / 2 ≡ slot → ⊥) → IsSameWatch (watch_at self.old.blocks.watches e) (watch_at self.new.blocks.watches e) }
+        ensures watches { (e : ℕ) → (e / 2 ≡ slot → ⊥) →
+            IsSameWatch (watch_at self.old.blocks.watches e) (watch_at self.new.blocks.watches e) }
     {
         let first = self.blocks.watched(2 * slot) as usize;
         let spot = self.blocks.spot(2 * slot);
@@ -189,8 +196,10 @@ impl Clauses {
         requires rest { AreReady self.now }
         requires filled { 0 < length (list_at self.now.blocks.literals slot) }
         requires values { length self.now.lists.items ≡ 4 * length assignment.now.values.items }
-        ensures yes { result ≡ true → IsServed assignment.now.values.items self.now.blocks.watches slot }
-        ensures no { result ≡ false → IsServed assignment.now.values.items self.now.blocks.watches slot → ⊥ }
+        ensures yes { result ≡ true →
+            IsServed assignment.now.values.items self.now.blocks.watches slot }
+        ensures no { result ≡ false →
+            IsServed assignment.now.values.items self.now.blocks.watches slot → ⊥ }
     {
         let first = self.blocks.watched(2 * slot);
         let second = self.blocks.watched(2 * slot + 1);

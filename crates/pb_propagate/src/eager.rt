@@ -12,7 +12,8 @@ pub struct Eager {
     pub list: Vec<usize>,
     // For each form on the list, its position there.
     pub seats: Vec<usize>,
-    pub ghost seated: { (i s : ℕ) → slice_get list.items i ≡ Some s → slice_get seats.items s ≡ Some i },
+    pub ghost seated: { (i s : ℕ) → slice_get list.items i ≡ Some s →
+        slice_get seats.items s ≡ Some i },
 }
 
 impl Eager {
@@ -29,7 +30,8 @@ impl Eager {
     /// Adds a form that is not on the list.
     pub fn widen(&mut self) -> Result<(), AllocError>
         ensures list { self.new.list.items ≡ self.old.list.items }
-        ensures seats { OnOk result (length self.new.seats.items ≡ length self.old.seats.items + 1) }
+        ensures seats { OnOk result
+            (length self.new.seats.items ≡ length self.old.seats.items + 1) }
     {
         self.seats.push(0)?;
         Ok(())
@@ -94,7 +96,8 @@ impl Eager {
     /// Removes a form from the list. The last one moves to its position.
     pub fn take(&mut self, form: usize)
         requires there { IsAbsent self.old.list.items 0 form → ⊥ }
-        ensures list { (seat : ℕ) × (slice_get self.old.list.items seat ≡ Some form) × (self.new.list.items ≡ swap_remove self.old.list.items seat form) }
+        ensures list { (seat : ℕ) × (slice_get self.old.list.items seat ≡ Some form) ×
+            (self.new.list.items ≡ swap_remove self.old.list.items seat form) }
         ensures seats { length self.new.seats.items ≡ length self.old.seats.items }
     {
         let seat = self.seats[form];

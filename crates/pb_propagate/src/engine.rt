@@ -71,7 +71,11 @@ impl Model for Engine {
 
     ghost view = { λ e. record { forms = numbered (forms_of e.store.stored.items) e.places.items; variables = e.store.variables; visits = e.run.visits; spent = e.spent } };
 
-    ghost invariant = { λ e. e.spent ≡ false → IsAtRest e.store e.run e.eager e.clauses (forms_of e.store.stored.items) × ArePlaced (forms_of e.store.stored.items) e.places.items × (e.root.live ≡ true → IsRootOf e.store e.clauses e.root) × (e.root.fallen ≡ true → IsFallen (all_of e.store e.clauses) e.store.variables e.root) };
+    ghost invariant = { λ e. e.spent ≡ false →
+        IsAtRest e.store e.run e.eager e.clauses (forms_of e.store.stored.items) ×
+        ArePlaced (forms_of e.store.stored.items) e.places.items ×
+        (e.root.live ≡ true → IsRootOf e.store e.clauses e.root) ×
+        (e.root.fallen ≡ true → IsFallen (all_of e.store e.clauses) e.store.variables e.root) };
 }
 
 // Undoes a propagation that began from nothing.
@@ -110,7 +114,8 @@ fn follow(
     root: &mut Root,
     slot: usize,
 ) -> Result<(), AllocError>
-    requires rest { IsAtRest store.now run.now eager.now clauses.now (forms_of store.now.stored.items) }
+    requires rest { IsAtRest store.now run.now eager.now clauses.now
+        (forms_of store.now.stored.items) }
     requires slot { slot < length store.now.stored.items }
     requires gained { root.old.live ≡ true → WasRootOf store.now clauses.now slot root.old }
     requires fallen { root.old.fallen ≡ true →
@@ -303,14 +308,21 @@ impl Engine {
         ensures forms { self.new.forms ≡ self.old.forms }
         ensures variables { OnOk result (self.new.variables ≡ self.old.variables) }
         ensures ready { OnOk result (self.new.spent ≡ false) }
-        ensures implied { IfOk result (λ found. found ≡ true → IsRup (Live self.old.forms) goal.now) }
-        ensures not_implied { IfOk result (λ found. found ≡ false → IsRup (Live self.old.forms) goal.now → ⊥) }
+        ensures implied { IfOk result (λ found. found ≡ true →
+            IsRup (Live self.old.forms) goal.now) }
+        ensures not_implied { IfOk result (λ found. found ≡ false →
+            IsRup (Live self.old.forms) goal.now → ⊥) }
 
         // Upper and lower bounds on the number of visits.
         ensures unasked { goal.now.degree ≡ 0 → self.new.visits ≡ 0 }
-        ensures most { self.new.visits ≤ 3 * (sum_by terms_in self.old.forms + length goal.now.terms) + (sum_by one_in self.old.forms + 1) }
-        ensures conflict { IfOk result (λ found. found ≡ true → (goal.now.degree ≡ 0) ⊎ ((m : MeetsConflict (With (Live self.old.forms) (negation_of goal.now)) []) × (length m.list ≤ self.new.visits))) }
-        ensures completion { IfOk result (λ found. found ≡ false → (list : List NumberedLiteral) × IsCompletion (With (Live self.old.forms) (negation_of goal.now)) [] list × (length list ≤ self.new.visits)) }
+        ensures most { self.new.visits ≤ 3 * (sum_by terms_in self.old.forms + length
+            goal.now.terms) + (sum_by one_in self.old.forms + 1) }
+        ensures conflict { IfOk result (λ found. found ≡ true → (goal.now.degree ≡ 0) ⊎
+            ((m : MeetsConflict (With (Live self.old.forms) (negation_of goal.now)) []) ×
+            (length m.list ≤ self.new.visits))) }
+        ensures completion { IfOk result (λ found. found ≡ false → (list : List NumberedLiteral) ×
+            IsCompletion (With (Live self.old.forms) (negation_of goal.now)) [] list ×
+            (length list ≤ self.new.visits)) }
     {
         self.run.visits = Visits::none();
         if goal.degree() == 0 {
@@ -368,10 +380,15 @@ impl Engine {
         ensures variables { OnOk result (self.new.variables ≡ self.old.variables) }
         ensures visits { OnOk result (self.new.visits ≡ self.old.visits) }
         ensures ready { OnOk result (self.new.spent ≡ false) }
-        ensures conflict { IfOk result (λ found. IfNone found (MeetsConflict (Live self.old.forms) given.now)) }
-        ensures no_conflict { IfOk result (λ found. IfSome found (λ values. MeetsConflict (Live self.old.forms) given.now → ⊥)) }
-        ensures count { IfOk result (λ found. IfSome found (λ values. length values.items ≡ self.old.variables)) }
-        ensures completed { IfOk result (λ found. IfSome found (λ values. (list : List NumberedLiteral) × IsCompletion (Live self.old.forms) given.now list × Gives list values.items)) }
+        ensures conflict { IfOk result (λ found.
+            IfNone found (MeetsConflict (Live self.old.forms) given.now)) }
+        ensures no_conflict { IfOk result (λ found.
+            IfSome found (λ values. MeetsConflict (Live self.old.forms) given.now → ⊥)) }
+        ensures count { IfOk result (λ found.
+            IfSome found (λ values. length values.items ≡ self.old.variables)) }
+        ensures completed { IfOk result (λ found.
+            IfSome found (λ values. (list : List NumberedLiteral) ×
+            IsCompletion (Live self.old.forms) given.now list × Gives list values.items)) }
     {
         if self.root.fallen {
             return Ok(None);

@@ -24,7 +24,8 @@ pub struct Ahead {
 pub fn next_walk(heads: Heads, list: &[NumberedLiteral]) -> Option<Ahead>
     requires fits { All (λ l. 4 * l.variable + 4 ≤ 2 ^ 64) list.now }
     ensures some { IfSome result (IsAhead heads list.now) }
-    ensures none { IfNone result ((length list.now ≤ heads.short) × (length list.now ≤ heads.long)) }
+    ensures none { IfNone result ((length list.now ≤ heads.short) ×
+        (length list.now ≤ heads.long)) }
 {
     if heads.short < list.len() {
         let code = code_of(Group::Short, list[heads.short].negation());

@@ -53,11 +53,17 @@ pub fn vacancy(
     free: &mut Free,
     count: usize,
 ) -> Result<usize, AllocError>
-    requires rest { IsAtRest store.old run.old eager.old clauses.old (forms_of store.old.stored.items) }
-    ensures rest { OnOk result (IsAtRest store.new run.new eager.new clauses.new (forms_of store.new.stored.items)) }
-    ensures slot { IfOk result (λ slot. slice_get (forms_of store.new.stored.items) slot ≡ Some None) }
-    ensures forms { (s : ℕ) → slice_index_or (forms_of store.new.stored.items) s None ≡ slice_index_or (forms_of store.old.stored.items) s None }
-    ensures widened { IfOk result (λ slot. HasWidened store.old clauses.old store.new clauses.new slot) }
+    requires rest { IsAtRest store.old run.old eager.old clauses.old
+        (forms_of store.old.stored.items) }
+    ensures rest { OnOk result (IsAtRest store.new run.new eager.new clauses.new
+        (forms_of store.new.stored.items)) }
+    ensures slot { IfOk result (λ slot.
+        slice_get (forms_of store.new.stored.items) slot ≡ Some None) }
+    ensures forms { (s : ℕ) →
+        slice_index_or (forms_of store.new.stored.items) s None ≡ slice_index_or
+        (forms_of store.old.stored.items) s None }
+    ensures widened { IfOk result (λ slot.
+        HasWidened store.old clauses.old store.new clauses.new slot) }
     ensures variables { store.new.variables ≡ store.old.variables }
     ensures visits { run.new.visits ≡ run.old.visits }
 {
@@ -77,7 +83,8 @@ fn seat(store: &Store, eager: &mut Eager, slot: usize) -> Result<(), AllocError>
     requires slot { slot < length store.now.stored.items }
     requires seats { length eager.old.seats.items ≡ length store.now.stored.items }
     requires absent { IsAbsent eager.old.list.items 0 slot }
-    ensures list { OnOk result (eager.new.list.items ≡ eager.old.list.items ++ filter (waits store.now.stored.items) (slot ∷ [])) }
+    ensures list { OnOk result (eager.new.list.items ≡ eager.old.list.items ++ filter
+        (waits store.now.stored.items) (slot ∷ [])) }
     ensures seats { length eager.new.seats.items ≡ length eager.old.seats.items }
 {
     if !store.stored[slot].eager {
@@ -105,7 +112,8 @@ fn plan(
 ) -> Result<Option<Planned>, AllocError>
     requires ready { AreReady clauses.old }
     requires slot { slot < length clauses.old.blocks.literals }
-    ensures planned { IfOk result (λ planned. IfSome planned (λ p. IsPlanned form.now p × CanHold clauses.new slot (length p.codes.items))) }
+    ensures planned { IfOk result (λ planned. IfSome planned (λ p. IsPlanned form.now p ×
+        CanHold clauses.new slot (length p.codes.items))) }
     ensures clauses { IsRefitted clauses.old clauses.new }
 {
     if !is_clause(form) {
@@ -136,14 +144,20 @@ pub fn occupy(
     slot: usize,
     form: Shared,
 ) -> Result<(), AllocError>
-    requires rest { IsAtRest store.old run.old eager.old clauses.old (forms_of store.old.stored.items) }
+    requires rest { IsAtRest store.old run.old eager.old clauses.old
+        (forms_of store.old.stored.items) }
     requires slot { slice_get (forms_of store.old.stored.items) slot ≡ Some None }
     requires inside { All (λ t. t.variable < store.old.variables) form.terms }
-    ensures rest { OnOk result (IsAtRest store.new run.new eager.new clauses.new (forms_of store.new.stored.items)) }
-    ensures forms { OnOk result (forms_of store.new.stored.items ≡ slice_set (forms_of store.old.stored.items) slot (Some form)) }
+    ensures rest { OnOk result (IsAtRest store.new run.new eager.new clauses.new
+        (forms_of store.new.stored.items)) }
+    ensures forms { OnOk result (forms_of store.new.stored.items ≡ slice_set
+        (forms_of store.old.stored.items) slot (Some form)) }
     ensures gained { OnOk result (HasGained store.old clauses.old store.new clauses.new slot) }
     // On failure the form may be in its slot, but not on the list of those that may propagate with nothing assigned.
-    ensures refused { OnErr result ((forms_of store.new.stored.items ≡ forms_of store.old.stored.items) ⊎ (forms_of store.new.stored.items ≡ slice_set (forms_of store.old.stored.items) slot (Some form))) }
+    ensures refused { OnErr result
+        ((forms_of store.new.stored.items ≡ forms_of store.old.stored.items) ⊎
+        (forms_of store.new.stored.items ≡ slice_set (forms_of store.old.stored.items) slot
+        (Some form))) }
     ensures variables { store.new.variables ≡ store.old.variables }
     ensures visits { run.new.visits ≡ run.old.visits }
 {
@@ -165,9 +179,13 @@ pub fn occupy(
 // Removes a form from the list of those that may propagate with nothing assigned, if it is one.
 fn unseat(store: &Store, eager: &mut Eager, slot: usize)
     requires slot { slot < length store.now.stored.items }
-    requires there { waits store.now.stored.items slot ≡ true → IsAbsent eager.old.list.items 0 slot → ⊥ }
-    ensures taken { waits store.now.stored.items slot ≡ true → (seat : ℕ) × (slice_get eager.old.list.items seat ≡ Some slot) × (eager.new.list.items ≡ swap_remove eager.old.list.items seat slot) }
-    ensures same { waits store.now.stored.items slot ≡ false → eager.new.list.items ≡ eager.old.list.items }
+    requires there { waits store.now.stored.items slot ≡ true →
+        IsAbsent eager.old.list.items 0 slot → ⊥ }
+    ensures taken { waits store.now.stored.items slot ≡ true → (seat : ℕ) ×
+        (slice_get eager.old.list.items seat ≡ Some slot) ×
+        (eager.new.list.items ≡ swap_remove eager.old.list.items seat slot) }
+    ensures same { waits store.now.stored.items slot ≡ false →
+        eager.new.list.items ≡ eager.old.list.items }
     ensures seats { length eager.new.seats.items ≡ length eager.old.seats.items }
 {
     if !store.stored[slot].eager {
@@ -178,10 +196,13 @@ fn unseat(store: &Store, eager: &mut Eager, slot: usize)
 
 /// Removes the form of a slot, which is then empty.
 pub fn quit(store: &mut Store, run: &mut Run, eager: &mut Eager, clauses: &mut Clauses, slot: usize)
-    requires rest { IsAtRest store.old run.old eager.old clauses.old (forms_of store.old.stored.items) }
+    requires rest { IsAtRest store.old run.old eager.old clauses.old
+        (forms_of store.old.stored.items) }
     requires slot { slot < length store.old.stored.items }
-    ensures rest { IsAtRest store.new run.new eager.new clauses.new (forms_of store.new.stored.items) }
-    ensures forms { forms_of store.new.stored.items ≡ slice_set (forms_of store.old.stored.items) slot None }
+    ensures rest { IsAtRest store.new run.new eager.new clauses.new
+        (forms_of store.new.stored.items) }
+    ensures forms { forms_of store.new.stored.items ≡ slice_set
+        (forms_of store.old.stored.items) slot None }
     ensures vacated { HasVacated store.old clauses.old store.new clauses.new slot }
     ensures variables { store.new.variables ≡ store.old.variables }
     ensures visits { run.new.visits ≡ run.old.visits }

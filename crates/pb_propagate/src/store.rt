@@ -62,7 +62,8 @@ pub fn visit(entries: &[Occurrence], i: usize, visits: &mut Visits) -> Visited
 /// not be read.
 pub fn weight_of(kept: &StoredForm, entry: &Visited) -> u128
     requires { entry.now.index < length (terms_of kept.now.terms) }
-    ensures { (d : Term) → result ≡ (slice_index_or (terms_of kept.now.terms) entry.now.index d).coefficient }
+    ensures { (d : Term) →
+        result ≡ (slice_index_or (terms_of kept.now.terms) entry.now.index d).coefficient }
 {
     if kept.even {
         return kept.bound - kept.degree;

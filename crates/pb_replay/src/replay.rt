@@ -62,7 +62,8 @@ impl Replay {
         ensures first { IfOk result (λ r. StandsFor r (first_state r.problem)) }
         ensures running { IfOk result (λ r. r.fault ≡ None) }
         ensures visits { IfOk result (λ r. r.visits ≡ 0) }
-        ensures refused { IfErr result (λ e. (e ≡ Fault.Memory) ⊎ Opened (largest limits) instance.now (Err e)) }
+        ensures refused { IfErr result (λ e. (e ≡ Fault.Memory) ⊎
+            Opened (largest limits) instance.now (Err e)) }
         // Overflow is decided before anything is allocated.
         ensures memory { result ≡ Err Fault.Memory → FitsAll (largest limits) instance.now }
     {
@@ -81,7 +82,8 @@ impl Replay {
         ensures first { IfOk result (λ r. StandsFor r (first_state r.problem)) }
         ensures running { IfOk result (λ r. r.fault ≡ None) }
         ensures visits { IfOk result (λ r. r.visits ≡ 0) }
-        ensures refused { IfErr result (λ e. (e ≡ Fault.Memory) ⊎ Opened (largest limits) instance.now (Err e)) }
+        ensures refused { IfErr result (λ e. (e ≡ Fault.Memory) ⊎
+            Opened (largest limits) instance.now (Err e)) }
         // Overflow is decided before anything is allocated.
         ensures memory { result ≡ Err Fault.Memory → FitsAll (largest limits) instance.now }
     {
@@ -94,18 +96,23 @@ impl Replay {
 
     /// Applies the next statement. After a fault each call returns that fault.
     pub fn step(&mut self, statement: &Statement) -> Result<(), Fault>
-        requires { IsStatementValue (largest self.old.limits) (top_of self.old.limits) statement.now }
+        requires { IsStatementValue (largest self.old.limits)
+            (top_of self.old.limits) statement.now }
         ensures steps { self.old.fault ≡ None → StepsAs self.old statement.now result self.new }
-        ensures again { (fault : AFault) → self.old.fault ≡ Some fault → (result ≡ Err fault) × (self.new ≡ self.old) }
+        ensures again { (fault : AFault) → self.old.fault ≡ Some fault → (result ≡ Err fault) ×
+            (self.new ≡ self.old) }
         ensures limits { self.new.limits ≡ self.old.limits }
         ensures problem { self.new.problem ≡ self.old.problem }
         ensures names { IsNamePrefix self.old.names self.new.names }
         // What can be tested without memory is reported first. It is the order, a number of constraints that is wrong
         // or too large, a constraint that is too large, and a missing objective.
         ensures memory { self.old.fault ≡ None → result ≡ Err Fault.Memory →
-            MayWantAt (largest self.old.limits) (top_of self.old.limits) self.old.problem self.old.next statement.now }
+            MayWantAt (largest self.old.limits)
+            (top_of self.old.limits) self.old.problem self.old.next statement.now }
         ensures unvalued { (n : ℕ) → result ≡ Err (Fault.NotTotal n) → n < length self.old.names }
-        ensures visits_made { self.old.fault ≡ None → StepVisits self.old.live self.old.names statement.now result self.old.visits self.new.visits }
+        ensures visits_made { self.old.fault ≡ None →
+            StepVisits self.old.live self.old.names statement.now result self.old.visits
+            self.new.visits }
     {
         if let Some(fault) = self.fault {
             return Err(fault);
@@ -122,7 +129,8 @@ impl Replay {
     /// A replay that is not spent represents a sound state of its problem. A call makes this known to the caller.
     pub fn report_sound(&self)
         ensures problem { self.now.fault ≡ None → IsProblem self.now.problem }
-        ensures sound { self.now.fault ≡ None → (s : State) × StandsFor self.now s × IsSound self.now.problem s }
+        ensures sound { self.now.fault ≡ None → (s : State) × StandsFor self.now s ×
+            IsSound self.now.problem s }
     {
         let _fault = self.fault;
     }
@@ -131,7 +139,8 @@ impl Replay {
     pub fn verdict(&self) -> Option<Verdict>
         ensures verdict { result ≡ verdict_in self.now }
         ensures means { IfSome result (λ w. Means self.now.problem w) }
-        ensures written { IfSome result (λ w. (limit : ℕ) (i : AnInstance) → Opened limit i (Ok self.now.problem) → MeansWritten i w) }
+        ensures written { IfSome result (λ w. (limit : ℕ) (i : AnInstance) →
+            Opened limit i (Ok self.now.problem) → MeansWritten i w) }
     {
         if self.fault.is_some() {
             return None;

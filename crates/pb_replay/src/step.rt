@@ -107,14 +107,17 @@ fn is_due(next: Stage, statement: &Statement) -> bool
 
 /// Does what the statement says.
 fn carry_out(running: &mut Running, statement: &Statement) -> Result<(), Fault>
-    requires value { IsStatementValue (largest running.old.limits) (top_of running.old.limits) statement.now }
+    requires value { IsStatementValue (largest running.old.limits)
+        (top_of running.old.limits) statement.now }
     requires ready { IsReady running.old }
     requires visits { running.old.visits ≡ counted_from statement.now running.old.visits }
     ensures goes { Goes running.old statement.now result running.new }
     ensures linked { OnOk result (IsLinked running.new) }
     ensures kept { Keeps running.old running.new }
-    ensures visits_made { StepVisits running.old.engine.forms running.old.names statement.now result running.old.visits running.new.visits }
-    ensures memory { result ≡ Err Fault.Memory → MayWant statement.now × Passes running.old statement.now }
+    ensures visits_made { StepVisits running.old.engine.forms running.old.names statement.now result
+        running.old.visits running.new.visits }
+    ensures memory { result ≡ Err Fault.Memory → MayWant statement.now ×
+        Passes running.old statement.now }
 {
     match statement {
         Statement::Header => begin(running),
@@ -132,14 +135,17 @@ fn carry_out(running: &mut Running, statement: &Statement) -> Result<(), Fault>
 
 /// Applies a statement.
 pub(crate) fn apply(running: &mut Running, statement: &Statement) -> Result<(), Fault>
-    requires value { IsStatementValue (largest running.old.limits) (top_of running.old.limits) statement.now }
+    requires value { IsStatementValue (largest running.old.limits)
+        (top_of running.old.limits) statement.now }
     requires ready { IsReady running.old }
     ensures comes { Comes running.old statement.now result running.new }
     ensures linked { OnOk result (IsLinked running.new) }
     ensures kept { Keeps running.old running.new }
-    ensures visits_made { StepVisits running.old.engine.forms running.old.names statement.now result running.old.visits running.new.visits }
+    ensures visits_made { StepVisits running.old.engine.forms running.old.names statement.now result
+        running.old.visits running.new.visits }
     ensures memory { result ≡ Err Fault.Memory →
-        MayWantAt (largest running.old.limits) (top_of running.old.limits) (problem_of running.old) running.old.next statement.now }
+        MayWantAt (largest running.old.limits) (top_of running.old.limits)
+        (problem_of running.old) running.old.next statement.now }
 {
     running.visits = begin_count(statement, running.visits);
     if !is_due(running.next, statement) {

@@ -19,7 +19,8 @@ impl Gather for Counted {
 
     type Event = OpbEvent;
 
-    ghost with = { λ s _. record { statements = min (s.statements + 1) (2 ^ 64 - 1); room = s.room - 1 } };
+    ghost with = { λ s _.
+        record { statements = min (s.statements + 1) (2 ^ 64 - 1); room = s.room - 1 } };
 
     fn add(&mut self, _event: OpbEvent) -> Result<(), AllocError> {
         if self.room == 0 {

@@ -128,7 +128,8 @@ fn prefix(input: Input) -> &'static [u8]
 
 /// The start of a fault line: the word for the input and a position in it, through the colon and the space.
 pub(crate) fn write_place<S: Sink>(input: Input, place: Place, out: &mut S) -> Result<(), Failed>
-    ensures { Writes S.contents S.faults out.old (prefix_of input ++ place_text place) result out.new }
+    ensures { Writes S.contents S.faults out.old
+        (prefix_of input ++ place_text place) result out.new }
 {
     let mut line = Buffer::new();
     let mut column = Buffer::new();

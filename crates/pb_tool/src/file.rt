@@ -62,10 +62,19 @@ pub(crate) fn read_file<S: Source, M: Machine + Drop, G: Gather<Event = M::Event
 ) -> Result<G, Stop>
     requires between { M.automaton.begun machine ≡ false }
     requires some { 0 < longest }
-    ensures file { IfOk result (IsGathered (AcceptsItems M.automaton machine) longest G.with empty (S.left input.old) (S.left input.new)) }
-    ensures refused { IfErr result (IsNotGathered (AcceptsItems M.automaton machine) longest G.with empty (MayAsk M.automaton machine) G.asks (S.left input.old) (S.left input.new)) }
-    ensures given { IfOk result (λ v. OfGiven (λ left rest. IsGathered (AcceptsItems M.automaton machine) longest G.with empty left rest v) (S.history input.old) (S.history input.new)) }
-    ensures refused_given { IfErr result (λ s. OfGiven (λ left rest. IsNotGathered (AcceptsItems M.automaton machine) longest G.with empty (MayAsk M.automaton machine) G.asks left rest s) (S.history input.old) (S.history input.new)) }
+    ensures file { IfOk result (IsGathered (AcceptsItems M.automaton machine) longest G.with empty
+        (S.left input.old) (S.left input.new)) }
+    ensures refused { IfErr result
+        (IsNotGathered (AcceptsItems M.automaton machine) longest G.with empty
+        (MayAsk M.automaton machine) G.asks (S.left input.old) (S.left input.new)) }
+    ensures given { IfOk result (λ v.
+        OfGiven (λ left rest.
+        IsGathered (AcceptsItems M.automaton machine) longest G.with empty left rest v)
+        (S.history input.old) (S.history input.new)) }
+    ensures refused_given { IfErr result (λ s.
+        OfGiven (λ left rest. IsNotGathered (AcceptsItems M.automaton machine) longest G.with empty
+        (MayAsk M.automaton machine) G.asks left rest s) (S.history input.old)
+        (S.history input.new)) }
     ensures ended { OnOk result (S.ended input.new ≡ true) }
     ensures shown { IfErr result (λ s. IsShown (S.shown input.new) (S.ended input.new) s.why) }
     ensures faults { S.faults input.new ≡ faults_after None result (S.faults input.old) }
@@ -83,10 +92,16 @@ pub(crate) fn read_instance_file<S: Source>(
     limits: Limits,
 ) -> Result<Instance, Stop>
     requires { 0 < longest }
-    ensures file { IfOk result (IsInstanceFile limits longest (S.left input.old) (S.left input.new)) }
-    ensures refused { IfErr result (IsNoInstanceFile limits longest (S.left input.old) (S.left input.new)) }
-    ensures given { IfOk result (λ v. OfGiven (λ left rest. IsInstanceFile limits longest left rest v) (S.history input.old) (S.history input.new)) }
-    ensures refused_given { IfErr result (λ s. OfGiven (λ left rest. IsNoInstanceFile limits longest left rest s) (S.history input.old) (S.history input.new)) }
+    ensures file { IfOk result (IsInstanceFile limits longest (S.left input.old)
+        (S.left input.new)) }
+    ensures refused { IfErr result (IsNoInstanceFile limits longest (S.left input.old)
+        (S.left input.new)) }
+    ensures given { IfOk result (λ v.
+        OfGiven (λ left rest. IsInstanceFile limits longest left rest v) (S.history input.old)
+        (S.history input.new)) }
+    ensures refused_given { IfErr result (λ s.
+        OfGiven (λ left rest. IsNoInstanceFile limits longest left rest s) (S.history input.old)
+        (S.history input.new)) }
     ensures ended { OnOk result (S.ended input.new ≡ true) }
     ensures shown { IfErr result (λ s. IsShown (S.shown input.new) (S.ended input.new) s.why) }
     ensures faults { S.faults input.new ≡ faults_after None result (S.faults input.old) }

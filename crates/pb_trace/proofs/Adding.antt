@@ -1,9 +1,7 @@
 -- The constraints that a statement adds, one after another.
-use Rattle.std.proofs.Common.{◌≡◌, ℕ, Bool, zero, suc, ◌+◌, ◌-◌, ◌<◌, ◌≤◌, List, [], ◌∷◌, ◌++◌, take, drop, length, get_or, Option, None, sym, ap, ◌∙◌, arith, append_assoc}
-use Rattle.std.proofs.lemmas.List.{append-nil, take_more, length-drop, get_or-drop}
-use Rattle.pb_normal.specs.meaning.Form.{Form}
-use Rattle.pb_replay.specs.contract.ReplayModel.{constraint_in}
-use Rattle.pb_trace.specs.Traced.{added_bytes, found_bytes}
+use Rattle.pb_trace.proofs.Common.{ℕ, ◌++◌, ◌+◌, ◌-◌, ◌<◌, ◌∙◌, ◌∷◌, ◌≡◌, ◌≤◌, [], ap, append-nil, append_assoc, arith, Bool, drop, get_or, length}
+use Rattle.pb_trace.proofs.Common.{List, None, Option, suc, sym, take, zero, get_or-drop, length-drop, take_more, Form, constraint_in, added_bytes}
+use Rattle.pb_trace.proofs.Common.{found_bytes}
 
 -- the constraint with the next id
 pub constraint_next : (live : List (Option Form)) (i : ℕ) → constraint_in live (i + 1) ≡ get_or live i None

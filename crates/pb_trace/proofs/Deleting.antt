@@ -1,9 +1,7 @@
 -- The constraints that a statement deletes, one after another.
-use Rattle.std.proofs.Common.{◌≡◌, ℕ, Bool, suc, ℤ, ◌+◌, ◌<◌, List, [], ◌∷◌, ◌++◌, take, drop, length, get_or, Option, refl, sym, ap, ◌∙◌, append_assoc, take-append-drop}
-use Rattle.std.proofs.lemmas.List.{append-nil, take_more}
-use Rattle.std.proofs.Math.Seq.{drop-cons}
-use Rattle.pb_normal.specs.meaning.Form.{Form}
-use Rattle.pb_trace.specs.Traced.{deleted_bytes, deletion_bytes, without, without_all}
+use Rattle.pb_trace.proofs.Common.{ℕ, ℤ, ◌++◌, ◌+◌, ◌<◌, ◌∙◌, ◌∷◌, ◌≡◌, [], ap, append-nil, append_assoc, Bool, drop, get_or, length, List, Option}
+use Rattle.pb_trace.proofs.Common.{refl, suc, sym, take, take-append-drop, drop-cons, take_more, Form, deleted_bytes, deletion_bytes, without}
+use Rattle.pb_trace.proofs.Common.{without_all}
 
 without_all-append : (live : List (Option Form)) (xs ys : List ℤ) → without_all live (xs ++ ys) ≡ without_all (without_all live xs) ys
 without_all-append live [] ys = refl

@@ -1,22 +1,16 @@
 -- Literals that became true follow from those before them.
-use Rattle.std.specs.Prelude.{Contains, MatchOption, OnOk, set}
-use Rattle.std.proofs.Common.{◌≡◌, ℕ, zero, suc, ◌+◌, ◌<◌, ◌≤◌, ◌||◌, Bool, true, false, not, cond, List, [], ◌∷◌, ◌++◌, Option, Some, None, Result, Ok, Err, length, get_or, refl, sym, ◌∙◌, ap, subst, arith, inl, inr, eq-eqb}
-use Rattle.std.proofs.lemmas.List.{map-append, get_or-set_same, get_or-set_other}
-use Rattle.std.proofs.lemmas.Bool.{cases_Bool, cases_eq}
-use Rattle.pb_normal.specs.declared.entry.Entry.{Entry}
+use Rattle.pb_trace.proofs.Common.{ℕ, ◌++◌, ◌+◌, ◌<◌, ◌||◌, ◌∙◌, ◌∷◌, ◌≡◌, ◌≤◌, [], ap, arith, Bool, cond, eq-eqb, Err, false, get_or, inl, inr}
+use Rattle.pb_trace.proofs.Common.{length, List, None, not, Ok, Option, refl, Result, set, Some, subst, suc, sym, true, zero, Contains, MatchOption}
+use Rattle.pb_trace.proofs.Common.{OnOk, cases_Bool, cases_eq, get_or-set_other, get_or-set_same, map-append, Entry, counted, Form, IsRising, total}
+use Rattle.pb_trace.proofs.Common.{opened, AreValues, Begin, Derived, Follows, Forces, free_by, IsBroken, IsSound, Keeps, literal_of, literals, Names}
+use Rattle.pb_trace.proofs.Common.{Then, true_by, Forced, Over, Stored}
 use Rattle.pb_normal.specs.declared.numbered.NumberedLiteral.{NumberedLiteral}
-use Rattle.pb_normal.specs.meaning.Form.{Form, IsRising, counted, total}
 use Rattle.pb_normal.specs.meaning.Rules.{on, only}
-use Rattle.pb_propagate.specs.meaning.Propagation.{opened}
 use Rattle.pb_propagate.proofs.lemmas.engine.Choices.{only-true, only-self, total-has, total-within}
 use Rattle.pb_propagate.proofs.lemmas.engine.Completing.{IsPart, opened-part}
-use Rattle.pb_trace.specs.Derived.{AreValues, Derived, Begin, Then, Follows, Forces, IsBroken, IsSound, Keeps, Names, free_by, literal_of, literals, true_by}
-use Rattle.pb_trace.specs.declared.propagation.Forced.{Forced}
-use Rattle.pb_trace.specs.declared.propagation.Over.{Over}
 use Rattle.pb_trace.specs.declared.propagation.Propagation.{Propagation}
 use Rattle.pb_trace.specs.declared.propagation.Reason.{Reason}
 use Rattle.pb_trace.specs.declared.propagation.Reason.TheVariants.{Given}
-use Rattle.pb_trace.specs.declared.stored.Stored.{Stored}
 
 or_false : (b : Bool) → (b || false) ≡ b
 or_false true = refl

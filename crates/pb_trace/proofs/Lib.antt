@@ -1,3 +1,4 @@
+mod Common
 pub mod Adding
 pub mod Deleting
 pub mod Deriving

@@ -1,17 +1,10 @@
 -- Names that are copied, and the goal of a statement.
-use Rattle.std.proofs.Common.{◌≡◌, ℕ, ◌+◌, false, List, [], ◌∷◌, ◌++◌, take, drop, slice_get, Some, inl, inr, sym, ap, ◌∙◌, arith, take-append-drop}
-use Rattle.std.proofs.lemmas.Bool.{cases_Bool}
-use Rattle.std.proofs.lemmas.List.{length-take-le, take_more}
-use Rattle.std.proofs.lemmas.Option.{get_or_from_slice_get, slice_get_within}
-use Rattle.pb_text.specs.declared.Limits.{Limits}
-use Rattle.pb_sums.specs.declared.linear.Linear.{Linear}
-use Rattle.pb_normal.specs.meaning.Names.{AreDistinct, has_name, number_in, with_name}
+use Rattle.pb_trace.proofs.Common.{ℕ, ◌++◌, ◌+◌, ◌∙◌, ◌∷◌, ◌≡◌, [], ap, arith, drop, false, inl, inr, List, slice_get, Some, sym, take}
+use Rattle.pb_trace.proofs.Common.{take-append-drop, cases_Bool, length-take-le, take_more, get_or_from_slice_get, slice_get_within, AreDistinct}
+use Rattle.pb_trace.proofs.Common.{has_name, number_in, with_name, Linear, Limits, IsShown, IsShownIn, Reasons, Stored}
 use Rattle.pb_normal.proofs.lemmas.names.Numbering.{number_in-append, number_in-below, number_in-get}
-use Rattle.pb_trace.specs.Derived.{IsShown, IsShownIn}
-use Rattle.pb_trace.specs.declared.piece.Reasons.{Reasons}
 use Rattle.pb_trace.specs.declared.reasons.Scene.{Scene}
 use Rattle.pb_trace.specs.declared.stored.Constraints.{Constraints}
-use Rattle.pb_trace.specs.declared.stored.Stored.{Stored}
 
 -- a name is not among those before it
 absent : (names : List (List ℕ)) (i : ℕ) (x : List ℕ) → AreDistinct names → slice_get names i ≡ Some x → has_name (take i names) x ≡ false

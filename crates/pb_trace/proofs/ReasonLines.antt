@@ -1,22 +1,16 @@
 -- Lines of reasons, one after another.
-use Rattle.std.proofs.Common.{◌≡◌, ℕ, List, [], ◌++◌, Option, Result, Ok, Err, inl, inr, ap, ◌∙◌, refl, sym, subst, append_assoc, append-nil}
-use Rattle.std.specs.Prelude.{IsErr, codes}
+use Rattle.pb_trace.proofs.Common.{ℕ, ◌++◌, ◌∙◌, ◌≡◌, [], ap, append-nil, append_assoc, Err, inl, inr, List, Ok, Option, refl, Result, subst, sym}
+use Rattle.pb_trace.proofs.Common.{codes, IsErr, AreDistinct, Linear, Appends-append, broke_more, writes_nothing, writes_then, Broke, one_more}
+use Rattle.pb_trace.proofs.Common.{Writes, Wrote, IsShown, live_in, derivation_bytes, Known, AreAround, AreBefore, ArePieces, AreReasons, IsText}
+use Rattle.pb_trace.proofs.Common.{IsUnshown, IsWhy, More, Nothing, piece_bytes, Rejects, Seen, Silence, words_of, WritesBefore, WritesPieces}
+use Rattle.pb_trace.proofs.Common.{WritesReasons, WritesShown, WritesSome, broken_by, end_of, Reasons}
 use Rattle.pb_text.specs.declared.Failed.{Failed}
-use Rattle.pb_text.specs.meaning.Writing.{Wrote, Broke, Writes, one_more}
-use Rattle.pb_text.proofs.lemmas.text.Writing.{Appends-append, broke_more, writes_nothing, writes_then}
-use Rattle.pb_sums.specs.declared.linear.Linear.{Linear}
-use Rattle.pb_normal.specs.meaning.Names.{AreDistinct}
-use Rattle.pb_trace.specs.Derived.{IsShown}
-use Rattle.pb_trace.specs.Live.{live_in}
-use Rattle.pb_trace.specs.Named.{Known, derivation_bytes}
-use Rattle.pb_trace.specs.Rejected.{ArePieces, AreReasons, AreAround, AreBefore, Nothing, Then, Silence, More, IsText, IsUnshown, IsWhy, Rejects, Seen, WritesBefore, WritesPieces, WritesReasons, WritesShown, WritesSome, piece_bytes, words_of}
-use Rattle.pb_trace.specs.Traced.{broken_by, end_of}
+use Rattle.pb_trace.specs.Rejected.{Then}
 use Rattle.pb_trace.specs.declared.broken.Broken.{Broken}
 use Rattle.pb_trace.specs.declared.broken.Broken.TheVariants as broken
 use Rattle.pb_trace.specs.declared.piece.Derivation.{Derivation}
 use Rattle.pb_trace.specs.declared.piece.Lines.{Lines}
 use Rattle.pb_trace.specs.declared.piece.Piece.{Piece}
-use Rattle.pb_trace.specs.declared.piece.Reasons.{Reasons}
 
 module _ (known : Known) where
   joined : (x y : List ℕ) → AreReasons known x → AreReasons known y → AreReasons known (x ++ y)

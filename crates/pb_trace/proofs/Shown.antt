@@ -1,17 +1,10 @@
 -- The text of a form, in parts.
-use Rattle.std.proofs.Common.{◌≡◌, ℕ, suc, ◌+◌, ◌<◌, List, [], ◌∷◌, ◌++◌, map, take, drop, length, get_or, slice_get, unwrap_or, Option, None, refl, sym, ap, ◌∙◌, arith, append_assoc, take-append-drop}
-use Rattle.std.specs.List.{All, flat_map}
-use Rattle.std.proofs.lemmas.List.{append-nil, take_more}
+use Rattle.pb_trace.proofs.Common.{ℕ, ◌++◌, ◌+◌, ◌<◌, ◌∙◌, ◌∷◌, ◌≡◌, [], ap, append-nil, append_assoc, arith, drop, get_or, length, List, map, None}
+use Rattle.pb_trace.proofs.Common.{Option, refl, slice_get, suc, sym, take, take-append-drop, unwrap_or, drop-cons, common_steps, take_more, All-head}
+use Rattle.pb_trace.proofs.Common.{All-tail, unwrap_or-slice_get, All, flat_map, Entry, Form, form_bytes, term_shown}
 use Rattle.std.proofs.lemmas.List.Concat.{flat_map-append, flat_map-cons}
-use Rattle.std.proofs.lemmas.List.Elements.{All-head, All-tail}
-use Rattle.std.proofs.lemmas.Option.{unwrap_or-slice_get}
-use Rattle.std.proofs.Math.Seq.{drop-cons}
-use Rattle.std.proofs.lemmas.Grind.{common_steps}
 use Rattle.pb_sums.specs.contract.Canonical.{term_bytes, further_bytes, head_bytes, linear_bytes}
-use Rattle.pb_normal.specs.declared.entry.Entry.{Entry}
-use Rattle.pb_normal.specs.meaning.Form.{Form}
 use Rattle.pb_normal.specs.meaning.Written.{term_of, linear_of}
-use Rattle.pb_trace.specs.Changes.{term_shown, form_bytes}
 
 -- the texts of list elements, up to one of them
 module _ {A : Type 0} (f : A → List ℕ) where

@@ -1,8 +1,7 @@
 -- What is stored of the constraints is what the replay has, statement by statement.
-use Rattle.std.specs.Prelude.{Ok}
-use Rattle.std.proofs.Common.{◌≡◌, ℕ, ℤ, List, [], ◌∷◌, ◌++◌, length, drop, set, Option, Some, None, refl, sym, ap, ◌∙◌, arith, append-nil, subst}
-use Rattle.std.proofs.lemmas.List.{drop_all, length-set}
-use Rattle.std.proofs.lemmas.Grind.{common_steps}
+use Rattle.pb_trace.proofs.Common.{ℕ, ℤ, ◌++◌, ◌∙◌, ◌∷◌, ◌≡◌, [], ap, append-nil, arith, drop, length, List, None, Ok, Option, refl, set, Some, subst}
+use Rattle.pb_trace.proofs.Common.{sym, common_steps, drop_all, length-set, Form, with_names, Statement, StandsFor, Problem, Deleted, place, State}
+use Rattle.pb_trace.proofs.Common.{Does, mentioned, Outcome, FirstIsEmpty, IsEmptyAt, StoresTheLive, extended, stored_after, without_all}
 use Rattle.pb_sums.specs.declared.Literal.{Literal}
 use Rattle.pb_sums.specs.declared.Term.{Term}
 use Rattle.pb_proof.specs.meaning.Order.{stage_of}
@@ -12,20 +11,11 @@ use Rattle.pb_proof.specs.declared.Conclusion.{Conclusion}
 use Rattle.pb_proof.specs.declared.Conclusion.TheVariants.{NoClaim, Unsat, Sat, Bounds}
 use Rattle.pb_proof.specs.declared.Stage.{Stage}
 use Rattle.pb_proof.specs.declared.Stage.TheVariants.{Steps}
-use Rattle.pb_proof.specs.declared.Statement.{Statement}
 use Rattle.pb_proof.specs.declared.Statement.TheVariants.{Header, F, Pol, Rup, Soli, Solx, Delete, Output, Conclude, End}
-use Rattle.pb_normal.specs.meaning.Form.{Form}
-use Rattle.pb_normal.specs.meaning.Names.{with_names}
 use Rattle.pb_replay.specs.meaning.Answer.{Answer}
 use Rattle.pb_replay.specs.meaning.Conclusions.{none_left, named, lower_bound, upper_bound, Concludes}
-use Rattle.pb_replay.specs.contract.ReplayModel.{StandsFor}
-use Rattle.pb_replay.specs.meaning.Problem.{Problem}
-use Rattle.pb_replay.specs.meaning.Replay.{State, Deleted, place}
-use Rattle.pb_replay.specs.meaning.Statements.{Does, Outcome, mentioned}
 use Rattle.pb_replay.proofs.lemmas.meaning.Accepting.{needed, followed, ok-same}
 use Rattle.pb_replay.proofs.lemmas.conclusions.Concluded.{contradicted-has}
-use Rattle.pb_trace.specs.Laws.{FirstIsEmpty, IsEmptyAt, StoresTheLive}
-use Rattle.pb_trace.specs.Traced.{extended, stored_after, without_all}
 
 -- an accepted conclusion continues
 left_next : (s : State) (id : Option ℤ) (next : Answer State) (t : State) → none_left s id next (Ok t) → next (Ok t)

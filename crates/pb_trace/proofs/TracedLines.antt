@@ -1,21 +1,12 @@
 -- The lines of accepted statements, one after another.
-use Rattle.std.proofs.Common.{◌≡◌, ℕ, Bool, List, [], ◌∷◌, ◌++◌, Option, Result, Ok, Err, refl, sym, ap, ◌∙◌, subst}
+use Rattle.pb_trace.proofs.Common.{ℕ, ◌++◌, ◌∙◌, ◌∷◌, ◌≡◌, [], ap, Bool, Err, List, Ok, Option, refl, Result, subst, sym, Form, Statement, Problem}
+use Rattle.pb_trace.proofs.Common.{first_state, State, Outcome, part_wrote, writes_nothing, Limits, Wrote, IsEmptyAt, lines_of, TracesEachLine}
+use Rattle.pb_trace.proofs.Common.{extended, line_bytes, stored_after, Traces, TracesCall, Tracing}
 use Rattle.std.specs.Result.{IsErr}
 use Rattle.pb_text.specs.meaning.Limits.{largest, top_of}
-use Rattle.pb_text.specs.meaning.Writing.{Wrote}
-use Rattle.pb_text.specs.declared.Limits.{Limits}
 use Rattle.pb_text.specs.declared.Spanned.{Spanned}
-use Rattle.pb_text.proofs.lemmas.text.Parts.{part_wrote}
-use Rattle.pb_text.proofs.lemmas.text.Writing.{writes_nothing}
-use Rattle.pb_proof.specs.declared.Statement.{Statement}
-use Rattle.pb_normal.specs.meaning.Form.{Form}
-use Rattle.pb_replay.specs.meaning.Problem.{Problem}
-use Rattle.pb_replay.specs.meaning.Replay.{State, first_state}
-use Rattle.pb_replay.specs.meaning.Statements.{Outcome}
 use Rattle.pb_tool.specs.contract.Watched.{Call, Accepted, Rejected, GotEach, ShowsEach}
 use Rattle.pb_tool.specs.declared.ToolFault.{ToolFault}
-use Rattle.pb_trace.specs.Laws.{IsEmptyAt, TracesEachLine, lines_of}
-use Rattle.pb_trace.specs.Traced.{Traces, TracesCall, Tracing, extended, line_bytes, stored_after}
 use Rattle.pb_trace.proofs.Storing.{state-stores}
 
 module _ {S : Type 0} (contents : S → Option (List ℕ)) (faults : S → ℕ) where

@@ -103,7 +103,8 @@ impl<'a> Scene<'a> {
         fault: Fault,
     ) -> Result<Reasons, AllocError>
         ensures { IfOk result
-            (λ r. (goal : Linear) → IsUnshown statement.now fault goal → IsShownIn self.entry goal r) }
+            (λ r. (goal : Linear) → IsUnshown statement.now fault goal →
+            IsShownIn self.entry goal r) }
     {
         match goal_of(statement, fault) {
             Some(goal) => self.not_implied(goal),

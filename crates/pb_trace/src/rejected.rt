@@ -50,7 +50,8 @@ pub(crate) fn write_reasons<S: Sink>(
     facts: &Facts<'_>,
     out: &mut S,
 ) -> Result<(), Failed>
-    ensures { WritesAll S.contents S.faults (known_by facts.now) reasons.now out.old result out.new }
+    ensures { WritesAll S.contents S.faults (known_by facts.now) reasons.now out.old result
+        out.new }
 {
     match reasons {
         Reasons::Nothing => Ok(()),
@@ -69,7 +70,8 @@ fn write_shown<S: Sink>(
     facts: &Facts<'_>,
     out: &mut S,
 ) -> Result<(), Failed>
-    ensures { WritesShown S.contents S.faults (known_by facts.now) before.now derivation.now out.old result out.new }
+    ensures { WritesShown S.contents S.faults (known_by facts.now) before.now derivation.now out.old
+        result out.new }
 {
     write_before(before, facts, out)?;
     write_derivation(derivation, facts, out)?;
@@ -82,7 +84,8 @@ fn write_before<S: Sink>(
     facts: &Facts<'_>,
     out: &mut S,
 ) -> Result<(), Failed>
-    ensures { WritesBefore S.contents S.faults (known_by facts.now) before.now out.old result out.new }
+    ensures { WritesBefore S.contents S.faults
+        (known_by facts.now) before.now out.old result out.new }
 {
     match before {
         Some(lines) => write_lines(lines, facts, out),

@@ -44,7 +44,8 @@ impl Constraints {
 
     /// Stores the constraints that a replay has gained by the statement in a line.
     pub(crate) fn extend(&mut self, replay: &Replay, line: u64) -> Result<(), Broken>
-        ensures ok { OnOk result (stored_in self.new ≡ extended (stored_in self.old) replay.now.live) }
+        ensures ok { OnOk result
+            (stored_in self.new ≡ extended (stored_in self.old) replay.now.live) }
         ensures memory { IfErr result (λ e. e ≡ Broken.Memory) }
     {
         for index in self.newest()..replay.newest() {
@@ -70,7 +71,8 @@ impl Constraints {
 
     fn push(&mut self, form: Normal, is_live: bool, added: u64) -> Result<(), Broken>
         ensures ok { OnOk result
-            (stored_in self.new ≡ stored_in self.old ++ (if is_live then Some form else None) ∷ []) }
+            (stored_in self.new ≡ stored_in self.old ++ (if is_live then Some
+            form else None) ∷ []) }
         ensures memory { IfErr result (λ e. e ≡ Broken.Memory) }
     {
         self.forms.push(Stored {
@@ -116,7 +118,8 @@ impl Constraints {
 
     /// The live constraint with an id as it is written. A negative id counts back from the newest.
     pub(crate) fn find_written(&self, id: i64) -> Option<(u64, &Normal)>
-        ensures { let index = place (length self.now.forms.items) id in let form = get_or (stored_in self.now) index None in
+        ensures { let index = place (length self.now.forms.items) id in let form = get_or
+            (stored_in self.now) index None in
             MatchOption result (form ≡ None) (λ r. (r.0 ≡ index + 1) × (form ≡ Some r.1.now)) }
     {
         let index = self.index_of(id);

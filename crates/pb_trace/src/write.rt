@@ -153,7 +153,8 @@ pub(crate) fn write_form<S: Sink, N: Named>(
 ) -> Result<(), Failed>
     ensures text { Writes S.contents S.faults out.old
         (form_bytes (N.names names.now) form.now) result out.new }
-    ensures same { HasAllNames (N.names names.now) form.now → IsLinearText (N.names names.now) form.now }
+    ensures same { HasAllNames (N.names names.now) form.now →
+        IsLinearText (N.names names.now) form.now }
 {
     write_entries(form.entries(), names, out)?;
     write_end(form.degree(), out)

@@ -1,4 +1,4 @@
-use Rattle.pb_c.specs.Answers.{AnswerOfCheck}
+use Rattle.pb_c.proofs.Common.{AnswerOfCheck}
 use Rattle.pb_c.proofs.Buffer.{answers}
 use Rattle.pb_c.proofs.check_into.Goals as goal
 

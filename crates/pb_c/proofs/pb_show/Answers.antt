@@ -1,4 +1,4 @@
-use Rattle.pb_c.specs.Answers.{AnswerOfShow}
+use Rattle.pb_c.proofs.Common.{AnswerOfShow}
 use Rattle.pb_c.proofs.Buffer.{answers}
 use Rattle.pb_c.proofs.pb_show.Goals as goal
 

@@ -1,4 +1,4 @@
-use Rattle.pb_c.specs.Answers.{AnswerOfTidy}
+use Rattle.pb_c.proofs.Common.{AnswerOfTidy}
 use Rattle.pb_c.proofs.Buffer.{answers}
 use Rattle.pb_c.proofs.pb_tidy.Goals as goal
 

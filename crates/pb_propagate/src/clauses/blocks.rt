@@ -37,7 +37,8 @@ impl Model for Blocks {
 
 // Makes the common block, if there is no slot.
 fn begin(words: &mut Vec<u32>, starts: &[u32]) -> Result<(), AllocError>
-    ensures first { OnOk result (length starts.now ≡ 0 → (length words.new.items ≡ 7) × IsBare words.new.items 0) }
+    ensures first { OnOk result (length starts.now ≡ 0 → (length words.new.items ≡ 7) ×
+        IsBare words.new.items 0) }
     ensures kept { 0 < length starts.now → words.new.items ≡ words.old.items }
 {
     if starts.len() > 0 {
@@ -52,7 +53,8 @@ fn begin(words: &mut Vec<u32>, starts: &[u32]) -> Result<(), AllocError>
 fn append(words: &mut Vec<u32>, room: usize) -> Result<(), AllocError>
     requires { length words.old.items + 7 + room < 2 ^ 32 }
     ensures size { OnOk result (length words.new.items ≡ length words.old.items + 7 + room) }
-    ensures kept { OnOk result ((i : ℕ) → i < length words.old.items → number_at words.new.items i ≡ number_at words.old.items i) }
+    ensures kept { OnOk result ((i : ℕ) → i < length words.old.items →
+        number_at words.new.items i ≡ number_at words.old.items i) }
     ensures bare { OnOk result (IsBare words.new.items (length words.old.items)) }
     ensures unchanged { OnErr result (words.new.items ≡ words.old.items) }
 {
@@ -67,8 +69,10 @@ fn append(words: &mut Vec<u32>, room: usize) -> Result<(), AllocError>
 fn write(words: &mut Vec<u32>, start: usize, literals: &[u32])
     requires { start + length literals.now ≤ length words.old.items }
     ensures size { length words.new.items ≡ length words.old.items }
-    ensures outside { (i : ℕ) → (i < start) ⊎ (start + length literals.now ≤ i) → number_at words.new.items i ≡ number_at words.old.items i }
-    ensures inside { (k : ℕ) → k < length literals.now → number_at words.new.items (start + k) ≡ number_at literals.now k }
+    ensures outside { (i : ℕ) → (i < start) ⊎ (start + length literals.now ≤ i) →
+        number_at words.new.items i ≡ number_at words.old.items i }
+    ensures inside { (k : ℕ) → k < length literals.now →
+        number_at words.new.items (start + k) ≡ number_at literals.now k }
 {
     'literals: for k in 0..literals.len() {
         words[start + k] = literals[k];
@@ -121,7 +125,8 @@ impl Blocks {
     pub fn extend(&mut self) -> Result<(), AllocError>
         ensures literals { OnOk result (self.new.literals ≡ self.old.literals ++ [] ∷ []) }
         ensures searches { OnOk result (self.new.searches ≡ self.old.searches ++ begun ∷ []) }
-        ensures watches { OnOk result (self.new.watches ≡ (self.old.watches ++ idle ∷ []) ++ idle ∷ []) }
+        ensures watches { OnOk result
+            (self.new.watches ≡ (self.old.watches ++ idle ∷ []) ++ idle ∷ []) }
         ensures unchanged { OnErr result (self.new ≡ self.old) }
     {
         self.starts.reserve(1)?;
@@ -184,7 +189,9 @@ impl Blocks {
     pub fn place(&mut self, watch: usize, spot: usize)
         requires live { (watch_at self.old.watches watch).live ≡ true }
         requires small { spot < 2 ^ 32 - 1 }
-        ensures { self.new ≡ rewatched self.old (slice_set self.old.watches watch record { literal = (watch_at self.old.watches watch).literal; live = true; spot = spot }) }
+        ensures { self.new ≡ rewatched self.old
+            (slice_set self.old.watches watch
+            record { literal = (watch_at self.old.watches watch).literal; live = true; spot = spot }) }
     {
         let place = place_in(self.starts[watch / 2], watch);
         self.words[place + 1] = spot as u32;
@@ -194,7 +201,9 @@ impl Blocks {
     pub fn watch(&mut self, watch: usize, literal: u32, spot: usize)
         requires block { HasBlock self.old (watch / 2) }
         requires small { spot < 2 ^ 32 - 1 }
-        ensures { self.new ≡ rewatched self.old (slice_set self.old.watches watch record { literal = literal; live = true; spot = spot }) }
+        ensures { self.new ≡ rewatched self.old
+            (slice_set self.old.watches watch
+            record { literal = literal; live = true; spot = spot }) }
     {
         let place = place_in(self.starts[watch / 2], watch);
         self.words[place] = literal;
@@ -215,7 +224,8 @@ impl Blocks {
     /// Begins the search in a clause where it is.
     pub fn begin(&mut self, slot: usize)
         requires { slot < length self.old.literals }
-        ensures { self.new ≡ searched self.old slot record { position = (search_at self.old.searches slot).position; passed = 0 } }
+        ensures { self.new ≡ searched self.old slot
+            record { position = (search_at self.old.searches slot).position; passed = 0 } }
     {
         let start = self.starts[slot] as usize;
         if start > 0 {
@@ -239,7 +249,8 @@ impl Blocks {
         ensures literals { self.new.literals ≡ self.old.literals }
         ensures searches { self.new.searches ≡ self.old.searches }
         ensures watches { self.new.watches ≡ self.old.watches }
-        ensures fits { IfOk result (λ fits. fits ≡ true → (count ≤ number_at self.new.rooms slot) × (count < 2 ^ 32) × (slot < 2 ^ 31 - 1)) }
+        ensures fits { IfOk result (λ fits. fits ≡ true → (count ≤ number_at self.new.rooms slot) ×
+            (count < 2 ^ 32) × (slot < 2 ^ 31 - 1)) }
     {
         if count >= 2147483648 {
             return Ok(false);

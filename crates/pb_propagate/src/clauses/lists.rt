@@ -34,10 +34,16 @@ struct Removed {
 fn remove_entry(lists: &mut Vec<Vec<Listed>>, literal: usize, index: usize) -> Removed
     requires literal { literal < length lists.old.items }
     requires index { index < length (list_at (watch_lists lists.old.items) literal) }
-    ensures watch { slice_get (list_at (watch_lists lists.old.items) literal) index ≡ Some result.watch }
-    ensures lists { watch_lists lists.new.items ≡ slice_set (watch_lists lists.old.items) literal (swap_remove (list_at (watch_lists lists.old.items) literal) index result.watch) }
-    ensures none { IfNone result.moved (index + 1 ≡ length (list_at (watch_lists lists.old.items) literal)) }
-    ensures some { IfSome result.moved (λ t. (index + 1 < length (list_at (watch_lists lists.old.items) literal)) × (slice_get (list_at (watch_lists lists.old.items) literal) (length (list_at (watch_lists lists.old.items) literal) - 1) ≡ Some t)) }
+    ensures watch { slice_get (list_at (watch_lists lists.old.items) literal) index ≡ Some
+        result.watch }
+    ensures lists { watch_lists lists.new.items ≡ slice_set (watch_lists lists.old.items) literal
+        (swap_remove (list_at (watch_lists lists.old.items) literal) index result.watch) }
+    ensures none { IfNone result.moved
+        (index + 1 ≡ length (list_at (watch_lists lists.old.items) literal)) }
+    ensures some { IfSome result.moved (λ t.
+        (index + 1 < length (list_at (watch_lists lists.old.items) literal)) ×
+        (slice_get (list_at (watch_lists lists.old.items) literal)
+        (length (list_at (watch_lists lists.old.items) literal) - 1) ≡ Some t)) }
     ensures fewer { AreFewer lists.old.items lists.new.items }
 {
     let list = &mut lists[literal];
@@ -60,8 +66,11 @@ fn push_entry(
     entry: Listed,
 ) -> Result<usize, AllocError>
     requires literal { literal < length lists.old.items }
-    ensures lists { OnOk result (watch_lists lists.new.items ≡ slice_set (watch_lists lists.old.items) literal (list_at (watch_lists lists.old.items) literal ++ entry.watch ∷ [])) }
-    ensures spot { IfOk result (λ spot. spot ≡ length (list_at (watch_lists lists.old.items) literal)) }
+    ensures lists { OnOk result (watch_lists lists.new.items ≡ slice_set
+        (watch_lists lists.old.items) literal
+        (list_at (watch_lists lists.old.items) literal ++ entry.watch ∷ [])) }
+    ensures spot { IfOk result (λ spot.
+        spot ≡ length (list_at (watch_lists lists.old.items) literal)) }
     ensures more { OnOk result (AreMore entry lists.old.items lists.new.items) }
 {
     let list = &mut lists[literal];
@@ -73,7 +82,8 @@ fn push_entry(
 /// Writes an entry of a list, with the same watch and another blocker.
 pub fn block(lists: &mut Vec<Vec<Listed>>, literal: usize, index: usize, entry: Listed)
     requires literal { literal < length lists.old.items }
-    requires item { slice_get (list_at (watch_lists lists.old.items) literal) index ≡ Some entry.watch }
+    requires item { slice_get (list_at (watch_lists lists.old.items) literal) index ≡ Some
+        entry.watch }
     ensures watches { watch_lists lists.new.items ≡ watch_lists lists.old.items }
     ensures more { AreMore entry lists.old.items lists.new.items }
 {
@@ -86,10 +96,16 @@ pub fn take_out(lists: &mut Vec<Vec<Listed>>, blocks: &mut Blocks, literal: usiz
     requires index { index < length (list_at (watch_lists lists.old.items) literal) }
     requires linked { AreLinked blocks.old.watches (watch_lists lists.old.items) }
     ensures linked { AreLinked blocks.new.watches (watch_lists lists.new.items) }
-    ensures taken { (e : ℕ) → slice_get (list_at (watch_lists lists.old.items) literal) index ≡ Some e → (watch_at blocks.new.watches e).live ≡ false }
-    ensures remain { (e k : ℕ) → slice_get (list_at (watch_lists lists.old.items) literal) index ≡ Some e → (k ≡ e → ⊥) → Remains index (watch_at blocks.old.watches k) (watch_at blocks.new.watches k) }
-    ensures sizes { (length blocks.new.watches ≡ length blocks.old.watches) × (length lists.new.items ≡ length lists.old.items) }
-    ensures shorter { length (list_at (watch_lists lists.new.items) literal) + 1 ≡ length (list_at (watch_lists lists.old.items) literal) }
+    ensures taken { (e : ℕ) →
+        slice_get (list_at (watch_lists lists.old.items) literal) index ≡ Some e →
+        (watch_at blocks.new.watches e).live ≡ false }
+    ensures remain { (e k : ℕ) →
+        slice_get (list_at (watch_lists lists.old.items) literal) index ≡ Some e → (k ≡ e → ⊥) →
+        Remains index (watch_at blocks.old.watches k) (watch_at blocks.new.watches k) }
+    ensures sizes { (length blocks.new.watches ≡ length blocks.old.watches) ×
+        (length lists.new.items ≡ length lists.old.items) }
+    ensures shorter { length (list_at (watch_lists lists.new.items) literal) + 1 ≡ length
+        (list_at (watch_lists lists.old.items) literal) }
     ensures kept { blocks.new ≡ rewatched blocks.old blocks.new.watches }
     ensures fewer { AreFewer lists.old.items lists.new.items }
 {
@@ -115,11 +131,15 @@ pub fn put_in(
     requires dead { (watch_at blocks.old.watches watch).live ≡ false }
     requires linked { AreLinked blocks.old.watches (watch_lists lists.old.items) }
     ensures linked { OnOk result (AreLinked blocks.new.watches (watch_lists lists.new.items)) }
-    ensures watches { OnOk result (blocks.new ≡ rewatched blocks.old (slice_set blocks.old.watches watch record { literal = literal; live = true; spot = length (list_at (watch_lists lists.old.items) literal) })) }
+    ensures watches { OnOk result (blocks.new ≡ rewatched blocks.old
+        (slice_set blocks.old.watches watch
+        record { literal = literal; live = true; spot = length (list_at (watch_lists lists.old.items) literal) })) }
     ensures kept { blocks.new ≡ rewatched blocks.old blocks.new.watches }
     ensures sizes { OnOk result (length lists.new.items ≡ length lists.old.items) }
-    ensures others { OnOk result ((l : ℕ) → (l ≡ literal → ⊥) → list_at (watch_lists lists.new.items) l ≡ list_at (watch_lists lists.old.items) l) }
-    ensures more { OnOk result (AreMore record { watch = watch; blocker = blocker } lists.old.items lists.new.items) }
+    ensures others { OnOk result ((l : ℕ) → (l ≡ literal → ⊥) →
+        list_at (watch_lists lists.new.items) l ≡ list_at (watch_lists lists.old.items) l) }
+    ensures more { OnOk result
+        (AreMore record { watch = watch; blocker = blocker } lists.old.items lists.new.items) }
 {
     let entry = Listed {
         watch: watch as u32,

@@ -30,8 +30,10 @@ fn visit_literal(literals: &[u32], position: usize, visits: &mut Visits) -> u32
 /// Whether a literal may be watched in place of a falsified one: it is not falsified, and it is not the other watched one.
 pub fn may_watch(assignment: &Assignment, literal: u32, other: u32) -> bool
     requires { literal < 4 * length assignment.now.values.items }
-    ensures yes { result ≡ true → (false_at assignment.now.values.items literal ≡ false) × (literal ≡ other → ⊥) }
-    ensures no { result ≡ false → (false_at assignment.now.values.items literal ≡ true) ⊎ (literal ≡ other) }
+    ensures yes { result ≡ true → (false_at assignment.now.values.items literal ≡ false) ×
+        (literal ≡ other → ⊥) }
+    ensures no { result ≡ false → (false_at assignment.now.values.items literal ≡ true) ⊎
+        (literal ≡ other) }
 {
     if literal == other {
         return false;
@@ -78,11 +80,20 @@ impl Search {
         ensures position { result.position < length literals.now }
         ensures after { self.passed ≤ result.passed }
         ensures within { result.passed ≤ length literals.now }
-        ensures round { (start : ℕ) → IsRound start self (length literals.now) → IsRound start result (length literals.now) }
-        ensures passed { (start k d : ℕ) → IsRound start self (length literals.now) → self.passed ≤ k → k < result.passed → (false_at assignment.now.values.items (slice_index_or (turned start literals.now) k d) ≡ true) ⊎ (slice_index_or (turned start literals.now) k d ≡ other) }
-        ensures found { result.passed < length literals.now → (d : ℕ) → (false_at assignment.now.values.items (slice_index_or literals.now result.position d) ≡ false) × (slice_index_or literals.now result.position d ≡ other → ⊥) }
+        ensures round { (start : ℕ) → IsRound start self (length literals.now) →
+            IsRound start result (length literals.now) }
+        ensures passed { (start k d : ℕ) → IsRound start self (length literals.now) →
+            self.passed ≤ k → k < result.passed →
+            (false_at assignment.now.values.items
+            (slice_index_or (turned start literals.now) k d) ≡ true) ⊎
+            (slice_index_or (turned start literals.now) k d ≡ other) }
+        ensures found { result.passed < length literals.now → (d : ℕ) →
+            (false_at assignment.now.values.items
+            (slice_index_or literals.now result.position d) ≡ false) ×
+            (slice_index_or literals.now result.position d ≡ other → ⊥) }
         ensures rising { visits.old ≤ visits.new }
-        ensures few { visits.new + self.passed ≤ visits.old + min (result.passed + 1) (length literals.now) }
+        ensures few { visits.new + self.passed ≤ visits.old + min (result.passed + 1)
+            (length literals.now) }
         ensures count { visits.new < 2 ^ 64 - 1 →
             visits.new + self.passed ≡ visits.old + min (result.passed + 1) (length literals.now) }
     {

@@ -39,7 +39,8 @@ pub enum Visit {
 fn visit_entry(clauses: &Clauses, literal: usize, index: usize, visits: &mut Visits) -> Listed
     requires literal { literal < length clauses.now.lists.items }
     requires index { index < length (list_at (watch_lists clauses.now.lists.items) literal) }
-    ensures item { slice_get (list_at (watch_lists clauses.now.lists.items) literal) index ≡ Some result.watch }
+    ensures item { slice_get (list_at (watch_lists clauses.now.lists.items) literal) index ≡ Some
+        result.watch }
     ensures listed { IsListed clauses.now.lists.items result }
     ensures rising { visits.old ≤ visits.new }
     ensures count { visits.new ≡ min (visits.old + 1) (2 ^ 64 - 1) }
@@ -61,7 +62,8 @@ fn visit_watch(blocks: &Blocks, watch: usize, visits: &mut Visits) -> u32
 
 // Adds a slot to the trail when its search begins.
 fn note(moved: &mut Vec<usize>, slot: usize, passed: usize) -> Result<(), AllocError>
-    ensures { OnOk result ((moved.new.items ≡ moved.old.items ++ slot ∷ []) ⊎ ((0 < passed) × (moved.new.items ≡ moved.old.items))) }
+    ensures { OnOk result ((moved.new.items ≡ moved.old.items ++ slot ∷ []) ⊎
+        ((0 < passed) × (moved.new.items ≡ moved.old.items))) }
 {
     if passed > 0 {
         return Ok(());
@@ -89,12 +91,16 @@ fn shift(
     ensures linked { OnOk result (AreLinked blocks.new.watches (watch_lists lists.new.items)) }
     ensures literal { OnOk result ((watch_at blocks.new.watches watch).literal ≡ found) }
     ensures live { OnOk result ((watch_at blocks.new.watches watch).live ≡ true) }
-    ensures others { OnOk result ((k : ℕ) → (k ≡ watch → ⊥) → Remains index (watch_at blocks.old.watches k) (watch_at blocks.new.watches k)) }
+    ensures others { OnOk result ((k : ℕ) → (k ≡ watch → ⊥) →
+        Remains index (watch_at blocks.old.watches k) (watch_at blocks.new.watches k)) }
     ensures watches { OnOk result (length blocks.new.watches ≡ length blocks.old.watches) }
     ensures lists { OnOk result (length lists.new.items ≡ length lists.old.items) }
-    ensures shorter { OnOk result (length (list_at (watch_lists lists.new.items) literal) + 1 ≡ length (list_at (watch_lists lists.old.items) literal)) }
+    ensures shorter { OnOk result
+        (length (list_at (watch_lists lists.new.items) literal) + 1 ≡ length
+        (list_at (watch_lists lists.old.items) literal)) }
     ensures kept { blocks.new ≡ rewatched blocks.old blocks.new.watches }
-    ensures more { OnOk result (AreMore record { watch = watch; blocker = blocker } lists.old.items lists.new.items) }
+    ensures more { OnOk result
+        (AreMore record { watch = watch; blocker = blocker } lists.old.items lists.new.items) }
 {
     take_out(lists, blocks, literal, index);
     put_in(lists, blocks, watch, found, blocker)?;
@@ -114,13 +120,15 @@ fn search_clause(
     requires running { IsRunning assignment.now.values.items clauses.old }
     requires failed { false_at assignment.now.values.items literal ≡ true }
     requires literal { literal < length clauses.old.lists.items }
-    requires item { slice_get (list_at (watch_lists clauses.old.lists.items) literal) index ≡ Some watch }
+    requires item { slice_get (list_at (watch_lists clauses.old.lists.items) literal) index ≡ Some
+        watch }
     requires other { other ≡ (watch_at clauses.old.blocks.watches (flip watch)).literal }
     requires untrue { true_at assignment.now.values.items other ≡ false }
     ensures literals { clauses.new.blocks.literals ≡ clauses.old.blocks.literals }
     ensures watch { IfOk result (
         λ r. HasVisited assignment.now.values.items clauses.old clauses.new literal index r) }
-    ensures covered { visits.new + sum (passed_of clauses.old) ≤ visits.old + sum (passed_of clauses.new) }
+    ensures covered { visits.new + sum (passed_of clauses.old) ≤ visits.old + sum
+        (passed_of clauses.new) }
     ensures bounded { AreWithin (passed_of clauses.new) clauses.old.blocks.literals }
     ensures rising { visits.old ≤ visits.new }
 {
@@ -168,7 +176,8 @@ pub fn visit_clause(
         λ r. HasVisited assignment.now.values.items clauses.old clauses.new literal index r) }
 
     // Upper and lower bounds on the number of visits.
-    ensures covered { visits.new + sum (passed_of clauses.old) ≤ visits.old + 2 + sum (passed_of clauses.new) }
+    ensures covered { visits.new + sum (passed_of clauses.old) ≤ visits.old + 2 + sum
+        (passed_of clauses.new) }
     ensures bounded { AreWithin (passed_of clauses.new) clauses.old.blocks.literals }
     ensures counted { visits.new < 2 ^ 64 - 1 → visits.old + 1 ≤ visits.new }
     ensures rising { visits.old ≤ visits.new }

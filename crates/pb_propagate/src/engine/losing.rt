@@ -26,7 +26,8 @@ impl Root {
         requires known { length clauses.now.blocks.literals ≡ length store.now.stored.items }
         requires widths { length clauses.now.lists.items ≡ 4 * store.now.variables }
         requires values { length self.now.run.assignment.values.items ≡ store.now.variables }
-        ensures { result ≡ false → IsMet (all_of store.now clauses.now) slot (list_of self.now.run) }
+        ensures { result ≡ false →
+            IsMet (all_of store.now clauses.now) slot (list_of self.now.run) }
     {
         if !clauses.is_filled(slot) {
             let kept = &store.stored[slot];

@@ -89,9 +89,16 @@ pub fn lay(store: &Store, run: &mut Run, form: usize) -> Result<(), AllocError>
     requires form { form < length store.now.stored.items }
     requires opens { length run.old.opens.items ≡ length store.now.stored.items }
     requires values { length run.old.assignment.values.items ≡ store.now.variables }
-    ensures opens { OnOk result ((d : Shape) → run.new.opens.items ≡ slice_set run.old.opens.items form (open_sum run.old.assignment.list.items (slice_index_or (shapes_of store.now.stored.items) form d).terms)) }
+    ensures opens { OnOk result ((d : Shape) →
+        run.new.opens.items ≡ slice_set run.old.opens.items form
+        (open_sum run.old.assignment.list.items
+        (slice_index_or (shapes_of store.now.stored.items) form d).terms)) }
     ensures trail { OnOk result (run.new.trail.items ≡ run.old.trail.items ++ form ∷ []) }
-    ensures work { OnOk result (Grown ((d : Shape) (c : ℕ) → IsCalm (slice_index_or (shapes_of store.now.stored.items) form d) (open_sum run.old.assignment.list.items (slice_index_or (shapes_of store.now.stored.items) form d).terms) c) form run.old.work.items run.new.work.items) }
+    ensures work { OnOk result (Grown ((d : Shape) (c : ℕ) →
+        IsCalm (slice_index_or (shapes_of store.now.stored.items) form d)
+        (open_sum run.old.assignment.list.items
+        (slice_index_or (shapes_of store.now.stored.items) form d).terms) c) form run.old.work.items
+        run.new.work.items) }
     ensures candidates { run.new.candidates ≡ run.old.candidates }
     ensures assignment { run.new.assignment ≡ run.old.assignment }
     ensures next { run.new.next ≡ run.old.next }
@@ -147,8 +154,11 @@ fn keep(run: &mut Run, rests: &mut Rests)
     requires opens { length rests.old.opens.items ≡ length run.old.opens.items }
     requires starts { length rests.old.starts.items ≡ length run.old.candidates.items }
     requires sizes { length run.old.candidates.items ≡ length run.old.opens.items }
-    requires undone { (forms : List Shape) × (length forms ≡ length run.old.opens.items) × IsUndone rests.old forms run.old.opens.items run.old.candidates.items run.old.trail.items 0 }
-    ensures rests { (rests.new.opens.items ≡ run.old.opens.items) × (rests.new.starts.items ≡ run.old.candidates.items) }
+    requires undone { (forms : List Shape) × (length forms ≡ length run.old.opens.items) ×
+        IsUndone rests.old forms run.old.opens.items run.old.candidates.items run.old.trail.items
+        0 }
+    ensures rests { (rests.new.opens.items ≡ run.old.opens.items) ×
+        (rests.new.starts.items ≡ run.old.candidates.items) }
     ensures opens { run.new.opens ≡ run.old.opens }
     ensures candidates { run.new.candidates ≡ run.old.candidates }
     ensures assignment { run.new.assignment ≡ run.old.assignment }
@@ -244,7 +254,8 @@ impl Root {
         clauses: &Clauses,
         eager: &Eager,
     ) -> Result<(), AllocError>
-        requires rest { IsAtRest store.now run.now eager.now clauses.now (forms_of store.now.stored.items) }
+        requires rest { IsAtRest store.now run.now eager.now clauses.now
+            (forms_of store.now.stored.items) }
         ensures rooted { OnOk result (IsRootOf store.now clauses.now self.new) }
         ensures fallen { OnOk result (self.new.fallen ≡ false) }
     {
@@ -268,7 +279,8 @@ impl Root {
         requires known { length clauses.now.blocks.literals ≡ length store.now.stored.items }
         requires slot { slot < length store.now.stored.items }
         requires gained { WasRootOf store.now clauses.now slot self.old }
-        ensures rooted { OnOk result (self.new.live ≡ true → IsRootOf store.now clauses.now self.new) }
+        ensures rooted { OnOk result (self.new.live ≡ true →
+            IsRootOf store.now clauses.now self.new) }
         ensures fallen { self.new.fallen ≡ self.old.fallen }
     {
         reach(&mut self.run, &mut self.rests, &mut self.waiting, slot)?;
@@ -289,7 +301,8 @@ impl Root {
         ensures running { OnOk result (IsRunning (values_of self.new.run) clauses.new) }
         ensures lists { OnOk result (
             length clauses.new.lists.items ≡ length clauses.old.lists.items) }
-        ensures costs { RunSpends store.now self.old.rests clauses.old (length (list_of self.old.run))
+        ensures costs { RunSpends store.now self.old.rests clauses.old
+            (length (list_of self.old.run))
             self.old.waiting.list.items self.old.run self.new.run }
         ensures pays { IfNotFound result (
             RunPays store.now self.old.rests clauses.old clauses.new (length (list_of self.old.run))
@@ -339,8 +352,10 @@ pub fn back(store: &Store, rests: &Rests, clauses: &mut Clauses, run: &mut Run, 
     ensures watches { clauses.new.blocks.watches ≡ clauses.old.blocks.watches }
     ensures opens { length run.new.opens.items ≡ length store.now.stored.items }
     ensures candidates { length run.new.candidates.items ≡ length store.now.stored.items }
-    ensures undone { IsUndone rests.now (shapes_of store.now.stored.items) run.new.opens.items run.new.candidates.items [] 0 }
-    ensures values { length run.new.assignment.values.items ≡ length run.old.assignment.values.items }
+    ensures undone { IsUndone rests.now (shapes_of store.now.stored.items) run.new.opens.items
+        run.new.candidates.items [] 0 }
+    ensures values { length run.new.assignment.values.items ≡ length
+        run.old.assignment.values.items }
     ensures list { run.new.assignment.list.items ≡ take count run.old.assignment.list.items }
     ensures reasons { run.new.assignment.reasons ≡ run.old.assignment.reasons }
     ensures work { run.new.work.items ≡ [] }

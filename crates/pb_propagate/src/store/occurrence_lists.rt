@@ -30,8 +30,10 @@ fn bound_of(terms: &SortedForm, degree: u128) -> u128
     requires size { sum_by (λ t. t.coefficient) (terms_of terms.now) < 2 ^ 127 }
     requires small { degree < 2 ^ 127 }
     requires falling { AreFalling (terms_of terms.now) }
-    ensures first { (d : Term) → 0 < length (terms_of terms.now) → result ≡ degree + (slice_index_or (terms_of terms.now) 0 d).coefficient }
-    ensures calm { (opened c : ℕ) → result ≤ opened → IsCalm record { terms = terms_of terms.now; degree = degree } opened c }
+    ensures first { (d : Term) → 0 < length (terms_of terms.now) →
+        result ≡ degree + (slice_index_or (terms_of terms.now) 0 d).coefficient }
+    ensures calm { (opened c : ℕ) → result ≤ opened →
+        IsCalm record { terms = terms_of terms.now; degree = degree } opened c }
     ensures some { 0 < result → 0 < degree + length (terms_of terms.now) }
 {
     if terms.len() == 0 {
@@ -44,7 +46,9 @@ fn bound_of(terms: &SortedForm, degree: u128) -> u128
 // Whether all coefficients are equal.
 fn is_even(terms: &SortedForm) -> bool
     requires { AreFalling (terms_of terms.now) }
-    ensures { result ≡ true → (i : ℕ) (d : Term) → i < length (terms_of terms.now) → (slice_index_or (terms_of terms.now) i d).coefficient ≡ (slice_index_or (terms_of terms.now) 0 d).coefficient }
+    ensures { result ≡ true → (i : ℕ) (d : Term) → i < length (terms_of terms.now) →
+        (slice_index_or (terms_of terms.now) i d).coefficient ≡ (slice_index_or
+        (terms_of terms.now) 0 d).coefficient }
 {
     if terms.len() == 0 {
         return true;
@@ -89,7 +93,11 @@ fn link(
     ensures sizes { length lists.new.items ≡ length lists.old.items }
     ensures longer { OnOk result (AreLonger lists.old.items lists.new.items) }
     ensures count { OnOk result (length spots.new.items ≡ length (terms_of terms.now)) }
-    ensures linked { OnOk result ((base : List Shape) (all : List (List ℕ)) → form < length base → terms_at base form ≡ terms_of terms.now → form < length all → IsLinked (cut base form 0) (slice_set all form []) (entries_of base lists.old.items) → IsLinked (cut base form (length (terms_of terms.now))) (slice_set all form spots.new.items) (entries_of base lists.new.items)) }
+    ensures linked { OnOk result ((base : List Shape) (all : List (List ℕ)) → form < length base →
+        terms_at base form ≡ terms_of terms.now → form < length all →
+        IsLinked (cut base form 0) (slice_set all form []) (entries_of base lists.old.items) →
+        IsLinked (cut base form (length (terms_of terms.now))) (slice_set all form spots.new.items)
+        (entries_of base lists.new.items)) }
 {
     'terms: for i in 0..terms.len() {
         let term = terms.term(i);
@@ -110,10 +118,18 @@ fn take_out(
 )
     requires place { place < length lists.old.items }
     requires spot { spot < length (slice_index_or (lists_of lists.old.items) place []) }
-    requires named { (e : Occurrence) → slice_get (slice_index_or (lists_of lists.old.items) place []) (length (slice_index_or (lists_of lists.old.items) place []) - 1) ≡ Some e → (e.form < length spots.old.items) × (e.index < length (slice_index_or (spots_of spots.old.items) e.form [])) }
+    requires named { (e : Occurrence) →
+        slice_get (slice_index_or (lists_of lists.old.items) place [])
+        (length (slice_index_or (lists_of lists.old.items) place []) - 1) ≡ Some e →
+        (e.form < length spots.old.items) ×
+        (e.index < length (slice_index_or (spots_of spots.old.items) e.form [])) }
     ensures sizes { length spots.new.items ≡ length spots.old.items }
-    ensures lists { (e : Occurrence) × (e ≡ slice_index_or (slice_index_or (lists_of lists.old.items) place []) spot e) × (lists_of lists.new.items ≡ slice_set (lists_of lists.old.items) place (swap_remove (slice_index_or (lists_of lists.old.items) place []) spot e)) }
-    ensures spots { Moved (slice_index_or (lists_of lists.old.items) place []) spot (spots_of spots.old.items) (spots_of spots.new.items) }
+    ensures lists { (e : Occurrence) ×
+        (e ≡ slice_index_or (slice_index_or (lists_of lists.old.items) place []) spot e) ×
+        (lists_of lists.new.items ≡ slice_set (lists_of lists.old.items) place
+        (swap_remove (slice_index_or (lists_of lists.old.items) place []) spot e)) }
+    ensures spots { Moved (slice_index_or (lists_of lists.old.items) place []) spot
+        (spots_of spots.old.items) (spots_of spots.new.items) }
 {
     lists[place].swap_remove(spot);
     if spot >= lists[place].len() {
@@ -130,8 +146,11 @@ fn unlink(store: &mut Store, form: usize)
     ensures kept { store.new.stored ≡ store.old.stored }
     ensures variables { store.new.variables ≡ store.old.variables }
     ensures lists { length store.new.occurrences.items ≡ length store.old.occurrences.items }
-    ensures rooms { (s : ℕ) → length (slice_index_or (spots_of store.new.spots.items) s []) ≡ length (slice_index_or (spots_of store.old.spots.items) s []) }
-    ensures linked { IsLinked (cut (shapes_of store.new.stored.items) form 0) (spots_of store.new.spots.items) (entries_of (shapes_of store.new.stored.items) store.new.occurrences.items) }
+    ensures rooms { (s : ℕ) → length (slice_index_or (spots_of store.new.spots.items) s []) ≡ length
+        (slice_index_or (spots_of store.old.spots.items) s []) }
+    ensures linked { IsLinked (cut (shapes_of store.new.stored.items) form 0)
+        (spots_of store.new.spots.items)
+        (entries_of (shapes_of store.new.stored.items) store.new.occurrences.items) }
 {
     let mut left = store.stored[form].terms.len();
     'terms: while left > 0 {
@@ -191,12 +210,17 @@ pub fn watch(
     requires inside { All (λ t. t.variable < store.old.variables) form.terms }
     requires widths { length clauses.old.lists.items ≡ 4 * store.old.variables }
     ensures ready { OnOk result (AreReady clauses.new) }
-    ensures literals { OnOk result (clauses_of clauses.new ≡ slice_set (clauses_of clauses.old) slot (codes_of_terms form.terms)) }
+    ensures literals { OnOk result (clauses_of clauses.new ≡ slice_set (clauses_of clauses.old) slot
+        (codes_of_terms form.terms)) }
     ensures lists { OnOk result (length clauses.new.lists.items ≡ length clauses.old.lists.items) }
-    ensures watches { OnOk result ((e : ℕ) → (e / 2 ≡ slot → ⊥) → watch_at clauses.new.blocks.watches e ≡ watch_at clauses.old.blocks.watches e) }
-    ensures kept { OnOk result ((k : StoredForm) × (k.terms.form ≡ Some form) × IsUnlisted k × (store.new.stored.items ≡ slice_set store.old.stored.items slot k)) }
+    ensures watches { OnOk result ((e : ℕ) → (e / 2 ≡ slot → ⊥) →
+        watch_at clauses.new.blocks.watches e ≡ watch_at clauses.old.blocks.watches e) }
+    ensures kept { OnOk result ((k : StoredForm) × (k.terms.form ≡ Some form) × IsUnlisted k ×
+        (store.new.stored.items ≡ slice_set store.old.stored.items slot k)) }
     ensures unchanged { OnErr result (store.new.stored.items ≡ store.old.stored.items) }
-    ensures rest { (store.new.spots ≡ store.old.spots) × (store.new.occurrences ≡ store.old.occurrences) × (store.new.variables ≡ store.old.variables) }
+    ensures rest { (store.new.spots ≡ store.old.spots) ×
+        (store.new.occurrences ≡ store.old.occurrences) ×
+        (store.new.variables ≡ store.old.variables) }
 {
     let alloc = *store.stored.allocator();
     clauses.fill(slot, codes, pair)?;
@@ -208,14 +232,17 @@ pub fn watch(
 pub fn widen(store: &mut Store, run: &mut Run) -> Result<(), AllocError>
     requires sound { IsSound store.old }
     ensures sound { OnOk result (IsSound store.new) }
-    ensures kept { OnOk result ((k : StoredForm) × IsEmpty k × (store.new.stored.items ≡ store.old.stored.items ++ k ∷ [])) }
+    ensures kept { OnOk result ((k : StoredForm) × IsEmpty k ×
+        (store.new.stored.items ≡ store.old.stored.items ++ k ∷ [])) }
     ensures unchanged { OnErr result (store.new.stored.items ≡ store.old.stored.items) }
     ensures opens { OnOk result (run.new.opens.items ≡ run.old.opens.items ++ 0 ∷ []) }
-    ensures candidates { OnOk result (run.new.candidates.items ≡ run.old.candidates.items ++ 0 ∷ []) }
+    ensures candidates { OnOk result
+        (run.new.candidates.items ≡ run.old.candidates.items ++ 0 ∷ []) }
     ensures occurrences { store.new.occurrences ≡ store.old.occurrences }
     ensures variables { store.new.variables ≡ store.old.variables }
     ensures trail { run.new.trail ≡ run.old.trail }
-    ensures rest { (run.new.assignment ≡ run.old.assignment) × (run.new.work ≡ run.old.work) × (run.new.next ≡ run.old.next) × (run.new.visits ≡ run.old.visits) }
+    ensures rest { (run.new.assignment ≡ run.old.assignment) × (run.new.work ≡ run.old.work) ×
+        (run.new.next ≡ run.old.next) × (run.new.visits ≡ run.old.visits) }
 {
     let alloc = *store.stored.allocator();
     run.opens.push(0)?;
@@ -234,12 +261,16 @@ pub fn fill(store: &mut Store, run: &mut Run, slot: usize, form: Shared) -> Resu
     requires opens { length run.old.opens.items ≡ length store.old.stored.items }
     ensures sound { OnOk result (IsSound store.new) }
     ensures unchanged { OnErr result (store.new.stored.items ≡ store.old.stored.items) }
-    ensures filled { OnOk result (HasFilled form slot store.old.stored.items store.new.stored.items run.old.opens.items run.new.opens.items) }
+    ensures filled { OnOk result
+        (HasFilled form slot store.old.stored.items store.new.stored.items run.old.opens.items
+        run.new.opens.items) }
     ensures longer { OnOk result (
         AreLonger store.old.occurrences.items store.new.occurrences.items) }
     ensures variables { store.new.variables ≡ store.old.variables }
     ensures trail { run.new.trail ≡ run.old.trail }
-    ensures rest { (run.new.candidates ≡ run.old.candidates) × (run.new.assignment ≡ run.old.assignment) × (run.new.work ≡ run.old.work) × (run.new.next ≡ run.old.next) × (run.new.visits ≡ run.old.visits) }
+    ensures rest { (run.new.candidates ≡ run.old.candidates) ×
+        (run.new.assignment ≡ run.old.assignment) × (run.new.work ≡ run.old.work) ×
+        (run.new.next ≡ run.old.next) × (run.new.visits ≡ run.old.visits) }
 {
     let alloc = *store.stored.allocator();
     let kept = stored_of(alloc, form)?;
@@ -257,13 +288,18 @@ pub fn enter(store: &mut Store, run: &mut Run, form: Normal) -> Result<(), Alloc
     requires inside { All (λ t. t.variable < store.old.variables) form.terms }
     requires opens { length run.old.opens.items ≡ length store.old.stored.items }
     ensures sound { OnOk result (IsSound store.new) }
-    ensures unchanged { OnErr result ((s : ℕ) → slice_index_or (forms_of store.new.stored.items) s None ≡ slice_index_or (forms_of store.old.stored.items) s None) }
-    ensures entered { OnOk result (HasEntered form store.old.stored.items store.new.stored.items run.old.opens.items run.new.opens.items run.old.candidates.items run.new.candidates.items) }
+    ensures unchanged { OnErr result ((s : ℕ) →
+        slice_index_or (forms_of store.new.stored.items) s None ≡ slice_index_or
+        (forms_of store.old.stored.items) s None) }
+    ensures entered { OnOk result
+        (HasEntered form store.old.stored.items store.new.stored.items run.old.opens.items
+        run.new.opens.items run.old.candidates.items run.new.candidates.items) }
     ensures longer { OnOk result (
         AreLonger store.old.occurrences.items store.new.occurrences.items) }
     ensures variables { store.new.variables ≡ store.old.variables }
     ensures trail { run.new.trail ≡ run.old.trail }
-    ensures rest { (run.new.assignment ≡ run.old.assignment) × (run.new.work ≡ run.old.work) × (run.new.next ≡ run.old.next) × (run.new.visits ≡ run.old.visits) }
+    ensures rest { (run.new.assignment ≡ run.old.assignment) × (run.new.work ≡ run.old.work) ×
+        (run.new.next ≡ run.old.next) × (run.new.visits ≡ run.old.visits) }
 {
     let form = Shared::new(*store.stored.allocator(), form)?;
     let slot = store.stored.len();
@@ -277,12 +313,16 @@ pub fn leave(store: &mut Store, run: &mut Run)
     requires sound { IsSound store.old }
     requires some { 0 < length store.old.stored.items }
     ensures sound { IsSound store.new }
-    ensures kept { store.new.stored.items ≡ take (length store.old.stored.items - 1) store.old.stored.items }
-    ensures opens { run.new.opens.items ≡ take (length run.old.opens.items - 1) run.old.opens.items }
-    ensures candidates { run.new.candidates.items ≡ take (length run.old.candidates.items - 1) run.old.candidates.items }
+    ensures kept { store.new.stored.items ≡ take
+        (length store.old.stored.items - 1) store.old.stored.items }
+    ensures opens { run.new.opens.items ≡ take
+        (length run.old.opens.items - 1) run.old.opens.items }
+    ensures candidates { run.new.candidates.items ≡ take
+        (length run.old.candidates.items - 1) run.old.candidates.items }
     ensures variables { store.new.variables ≡ store.old.variables }
     ensures trail { run.new.trail ≡ run.old.trail }
-    ensures rest { (run.new.assignment ≡ run.old.assignment) × (run.new.work ≡ run.old.work) × (run.new.next ≡ run.old.next) × (run.new.visits ≡ run.old.visits) }
+    ensures rest { (run.new.assignment ≡ run.old.assignment) × (run.new.work ≡ run.old.work) ×
+        (run.new.next ≡ run.old.next) × (run.new.visits ≡ run.old.visits) }
 {
     let number = store.stored.len() - 1;
     unlink(store, number);
@@ -298,11 +338,14 @@ pub fn vacate(store: &mut Store, run: &mut Run, form: usize)
     requires form { form < length store.old.stored.items }
     requires opens { length run.old.opens.items ≡ length store.old.stored.items }
     ensures sound { IsSound store.new }
-    ensures kept { (k : StoredForm) × IsEmpty k × (store.new.stored.items ≡ slice_set store.old.stored.items form k) }
+    ensures kept { (k : StoredForm) × IsEmpty k ×
+        (store.new.stored.items ≡ slice_set store.old.stored.items form k) }
     ensures opens { run.new.opens.items ≡ slice_set run.old.opens.items form 0 }
     ensures variables { store.new.variables ≡ store.old.variables }
     ensures trail { run.new.trail ≡ run.old.trail }
-    ensures rest { (run.new.candidates ≡ run.old.candidates) × (run.new.assignment ≡ run.old.assignment) × (run.new.work ≡ run.old.work) × (run.new.next ≡ run.old.next) × (run.new.visits ≡ run.old.visits) }
+    ensures rest { (run.new.candidates ≡ run.old.candidates) ×
+        (run.new.assignment ≡ run.old.assignment) × (run.new.work ≡ run.old.work) ×
+        (run.new.next ≡ run.old.next) × (run.new.visits ≡ run.old.visits) }
 {
     let alloc = *store.stored.allocator();
     unlink(store, form);

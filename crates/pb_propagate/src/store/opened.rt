@@ -24,7 +24,8 @@ fn is_falsified(values: &[Option<bool>], literal: NumberedLiteral) -> bool
 // What a term adds to an open sum.
 fn part_of(values: &[Option<bool>], term: Term) -> u128
     requires { term.literal.variable < length values.now }
-    ensures part { (list : List NumberedLiteral) → ((l : NumberedLiteral) → has list l ≡ says values.now l) → result ≡ open_part list term }
+    ensures part { (list : List NumberedLiteral) →
+        ((l : NumberedLiteral) → has list l ≡ says values.now l) → result ≡ open_part list term }
     ensures small { result ≤ term.coefficient }
 {
     if is_falsified(values, term.literal) {
@@ -37,7 +38,9 @@ fn part_of(values: &[Option<bool>], term: Term) -> u128
 pub fn open_under(terms: &SortedForm, values: &[Option<bool>]) -> u128
     requires small { sum_by (λ t. t.coefficient) (terms_of terms.now) < 2 ^ 127 }
     requires inside { AreInside (length values.now) (terms_of terms.now) }
-    ensures { (list : List NumberedLiteral) → ((l : NumberedLiteral) → has list l ≡ says values.now l) → result ≡ open_sum list (terms_of terms.now) }
+    ensures { (list : List NumberedLiteral) →
+        ((l : NumberedLiteral) → has list l ≡ says values.now l) →
+        result ≡ open_sum list (terms_of terms.now) }
 {
     let mut sum = 0;
     'terms: for i in 0..terms.len() {

@@ -33,7 +33,8 @@ pub fn term_of(entry: Entry) -> Term
 
 // The positions of the terms with their coefficients, in the order of the form.
 fn standing(alloc: Global, entries: &[Entry]) -> Result<Vec<Rank>, AllocError>
-    ensures { IfOk result (λ ranks. All (IsPlaced entries.now) ranks.items × (map entry_of (picked entries.now (map (λ r. r.place) ranks.items)) ≡ entries.now)) }
+    ensures { IfOk result (λ ranks. All (IsPlaced entries.now) ranks.items ×
+        (map entry_of (picked entries.now (map (λ r. r.place) ranks.items)) ≡ entries.now)) }
 {
     let mut ranks = Vec::with_capacity(alloc, entries.len())?;
     'entries: for place in 0..entries.len() {
@@ -50,8 +51,11 @@ fn standing(alloc: Global, entries: &[Entry]) -> Result<Vec<Rank>, AllocError>
 fn ranked(alloc: Global, entries: &[Entry]) -> Result<Vec<Rank>, AllocError>
     requires { sum_by (λ e. e.coefficient) entries.now < 2 ^ 127 }
     ensures placed { IfOk result (λ ranks. All (IsPlaced entries.now) ranks.items) }
-    ensures same { IfOk result (λ ranks. IsPermutation (map entry_of (picked entries.now (map (λ r. r.place) ranks.items))) entries.now) }
-    ensures falling { IfOk result (λ ranks. AreFalling (picked entries.now (map (λ r. r.place) ranks.items))) }
+    ensures same { IfOk result (λ ranks.
+        IsPermutation (map entry_of (picked entries.now (map (λ r. r.place) ranks.items)))
+        entries.now) }
+    ensures falling { IfOk result (λ ranks.
+        AreFalling (picked entries.now (map (λ r. r.place) ranks.items))) }
 {
     let mut ranks = standing(alloc, entries)?;
     ranks.sort_unstable_by_key(|r| u128::MAX - r.coefficient);
@@ -72,7 +76,10 @@ fn places_of(alloc: Global, ranks: &[Rank]) -> Result<Vec<usize>, AllocError>
 
 // Whether all coefficients are equal.
 fn are_equal(entries: &[Entry]) -> bool
-    ensures { result ≡ true → (i j : ℕ) (d : Entry) → i < length entries.now → j < length entries.now → (slice_index_or entries.now i d).coefficient ≡ (slice_index_or entries.now j d).coefficient }
+    ensures { result ≡ true → (i j : ℕ) (d : Entry) → i < length entries.now →
+        j < length entries.now →
+        (slice_index_or entries.now i d).coefficient ≡ (slice_index_or entries.now j
+        d).coefficient }
 {
     'entries: for i in 1..entries.len() {
         if entries[i].coefficient != entries[0].coefficient {
@@ -84,7 +91,8 @@ fn are_equal(entries: &[Entry]) -> bool
 
 // The positions in the order of the form.
 fn all_places(alloc: Global, count: usize) -> Result<Vec<usize>, AllocError>
-    ensures { (es : List Entry) → length es ≡ count → IfOk result (λ places. AreAll es places.items) }
+    ensures { (es : List Entry) → length es ≡ count →
+        IfOk result (λ places. AreAll es places.items) }
 {
     let mut places = Vec::with_capacity(alloc, count)?;
     'places: for place in 0..count {
@@ -97,7 +105,8 @@ fn all_places(alloc: Global, count: usize) -> Result<Vec<usize>, AllocError>
 fn order_of(alloc: Global, entries: &[Entry]) -> Result<Vec<usize>, AllocError>
     requires { sum_by (λ e. e.coefficient) entries.now < 2 ^ 127 }
     ensures inside { IfOk result (λ order. All (λ p. p < length entries.now) order.items) }
-    ensures same { IfOk result (λ order. IsPermutation (map entry_of (picked entries.now order.items)) entries.now) }
+    ensures same { IfOk result (λ order.
+        IsPermutation (map entry_of (picked entries.now order.items)) entries.now) }
     ensures falling { IfOk result (λ order. AreFalling (picked entries.now order.items)) }
 {
     if are_equal(entries) {

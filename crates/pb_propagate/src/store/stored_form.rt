@@ -23,10 +23,13 @@ pub struct StoredForm {
     pub ghost sum: { total ≡ sum_by (λ t. t.coefficient) (terms_of terms) },
     pub ghost small: { sum_by (λ t. t.coefficient) (terms_of terms) < 2 ^ 127 },
     pub ghost low: { degree < 2 ^ 127 },
-    pub ghost idle: { (opened c : ℕ) → bound ≤ opened → IsCalm record { terms = terms_of terms; degree = degree } opened c },
-    pub ghost aside: { eager ≡ false → IsCalm record { terms = terms_of terms; degree = degree } total 0 },
+    pub ghost idle: { (opened c : ℕ) → bound ≤ opened →
+        IsCalm record { terms = terms_of terms; degree = degree } opened c },
+    pub ghost aside: { eager ≡ false →
+        IsCalm record { terms = terms_of terms; degree = degree } total 0 },
     pub ghost busy: { eager ≡ true → 0 < degree + length (terms_of terms) },
-    pub ghost alike: { even ≡ true → (i : ℕ) (d : Term) → i < length (terms_of terms) → (slice_index_or (terms_of terms) i d).coefficient + degree ≡ bound },
+    pub ghost alike: { even ≡ true → (i : ℕ) (d : Term) → i < length (terms_of terms) →
+        (slice_index_or (terms_of terms) i d).coefficient + degree ≡ bound },
 }
 
 /// Whether an open sum is below a required value.

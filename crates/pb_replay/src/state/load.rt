@@ -48,9 +48,11 @@ fn kept_objective(
     limits: Limits,
 ) -> Result<Option<Linear>, NormalFault>
     ensures terms { IfOk result (λ kept. option_map (λ c. c.terms) kept ≡ objective.now) }
-    ensures names { OnOk result (names.new ≡ with_names names.old (names_of (objective_of objective.now))) }
+    ensures names { OnOk result (names.new ≡ with_names names.old
+        (names_of (objective_of objective.now))) }
     ensures fits { OnOk result (magnitude (objective_of objective.now) ≤ largest limits) }
-    ensures overflow { result ≡ Err NormalFault.Overflow → largest limits < magnitude (objective_of objective.now) }
+    ensures overflow { result ≡ Err NormalFault.Overflow →
+        largest limits < magnitude (objective_of objective.now) }
 {
     match objective {
         None => Ok(None),
@@ -96,7 +98,8 @@ pub(crate) fn open(
     limits: Limits,
 ) -> Result<Running, Fault>
     ensures ok { IfOk result (IsOpened limits instance.now) }
-    ensures err { IfErr result (λ e. (e ≡ Fault.Memory) ⊎ Opened (largest limits) instance.now (Err e)) }
+    ensures err { IfErr result (λ e. (e ≡ Fault.Memory) ⊎
+        Opened (largest limits) instance.now (Err e)) }
     ensures memory { result ≡ Err Fault.Memory → FitsAll (largest limits) instance.now }
 {
     if !fits_all(instance, limits) {
@@ -113,7 +116,8 @@ fn begun(
     limits: Limits,
 ) -> Result<Running, Fault>
     ensures ok { IfOk result (IsOpened limits instance.now) }
-    ensures err { IfErr result (λ e. (e ≡ Fault.Memory) ⊎ Opened (largest limits) instance.now (Err e)) }
+    ensures err { IfErr result (λ e. (e ≡ Fault.Memory) ⊎
+        Opened (largest limits) instance.now (Err e)) }
 {
     let mut names = Names::with_hasher(alloc, keys);
     let objective = match kept_objective(alloc, &mut names, &instance.objective, limits) {

@@ -16,9 +16,12 @@ pub(crate) fn objective_form(
     side: Side,
 ) -> Result<Normal, Fault>
     requires { IsProper running.old }
-    ensures ok { IfOk result (λ r. HasObjective (largest running.old.limits) running.old.names (problem_of running.old).objective side degree (Ok r)) }
+    ensures ok { IfOk result (λ r. HasObjective (largest running.old.limits) running.old.names
+        (problem_of running.old).objective side degree (Ok r)) }
     ensures inside { IfOk result (λ r. IsInside (length running.old.names) r) }
-    ensures err { IfErr result (λ e. (e ≡ Fault.Memory) ⊎ HasObjective (largest running.old.limits) running.old.names (problem_of running.old).objective side degree (Err e)) }
+    ensures err { IfErr result (λ e. (e ≡ Fault.Memory) ⊎
+        HasObjective (largest running.old.limits) running.old.names
+        (problem_of running.old).objective side degree (Err e)) }
     ensures same { OnOk result (HasNamed [] running.old running.new) }
     ensures engine { running.new.engine ≡ running.old.engine }
     ensures kept { Keeps running.old running.new }

@@ -21,7 +21,8 @@ use std::alloc::AllocError;
 /// Whether the form with this id is a contradiction, or its sum with the negation of the goal is one.
 fn is_refuted(engine: &Engine, id: Option<i64>, goal: &Normal) -> Result<bool, Fault>
     requires { 0 < goal.now.degree }
-    ensures ok { IfOk result (λ b. (f : Option Form) → IsNamed engine.now.forms id f → (IsTrue b ↔ Refutes f goal.now)) }
+    ensures ok { IfOk result (λ b. (f : Option Form) → IsNamed engine.now.forms id f →
+        (IsTrue b ↔ Refutes f goal.now)) }
     ensures err { IfErr result (λ e. e ≡ Fault.Memory) }
 {
     let Some(id) = id else {
@@ -40,7 +41,8 @@ fn is_refuted(engine: &Engine, id: Option<i64>, goal: &Normal) -> Result<bool, F
 fn is_shown(engine: &mut Engine, id: Option<i64>, goal: &Normal) -> Result<bool, Fault>
     requires ready { engine.old.spent ≡ false }
     requires inside { IsInside engine.old.variables goal.now }
-    ensures ok { IfOk result (λ b. (f : Option Form) → IsNamed engine.old.forms id f → (IsTrue b ↔ IsShownBy engine.old.forms f goal.now)) }
+    ensures ok { IfOk result (λ b. (f : Option Form) → IsNamed engine.old.forms id f →
+        (IsTrue b ↔ IsShownBy engine.old.forms f goal.now)) }
     ensures err { IfErr result (λ e. e ≡ Fault.Memory) }
     ensures engine { OnOk result (IsEngine engine.old.forms engine.old.variables engine.new) }
 {
@@ -67,7 +69,8 @@ fn is_below_best(best: Option<i128>, bound: i128) -> bool
 /// Whether the id, if there is one, is that of a live form.
 fn is_found(engine: &Engine, id: Option<i64>) -> Result<(), Fault>
     ensures ok { OnOk result ((f : Option Form) × IsNamed engine.now.forms id f) }
-    ensures err { IfErr result (λ e. (i : ℤ) × (id ≡ Some i) × (e ≡ Fault.NoSuchId i) × ((f : Form) → IsLive engine.now.forms i f → ⊥)) }
+    ensures err { IfErr result (λ e. (i : ℤ) × (id ≡ Some i) × (e ≡ Fault.NoSuchId i) ×
+        ((f : Form) → IsLive engine.now.forms i f → ⊥)) }
 {
     match id {
         None => Ok(()),
@@ -82,7 +85,8 @@ fn is_found(engine: &Engine, id: Option<i64>) -> Result<(), Fault>
 fn goal_shown(engine: &mut Engine, id: Option<i64>, goal: &Normal) -> Result<(), Fault>
     requires ready { engine.old.spent ≡ false }
     requires inside { IsInside engine.old.variables goal.now }
-    ensures shown { (f : Option Form) → IsNamed engine.old.forms id f → ShownAs engine.old.forms f goal.now result }
+    ensures shown { (f : Option Form) → IsNamed engine.old.forms id f →
+        ShownAs engine.old.forms f goal.now result }
     ensures engine { OnOk result (IsEngine engine.old.forms engine.old.variables engine.new) }
 {
     if is_shown(engine, id, goal)? {
@@ -95,7 +99,8 @@ fn goal_shown(engine: &mut Engine, id: Option<i64>, goal: &Normal) -> Result<(),
 fn objective_shown(running: &mut Running, bound: i128, id: Option<i64>) -> Result<(), Fault>
     requires proper { IsProper running.old }
     requires linked { IsLinked running.old }
-    ensures shown { (f : Option Form) → IsNamed running.old.engine.forms id f → ObjectiveShown running.old f bound result }
+    ensures shown { (f : Option Form) → IsNamed running.old.engine.forms id f →
+        ObjectiveShown running.old f bound result }
     ensures same { OnOk result (HasNamed [] running.old running.new) }
     ensures preserves { Preserves running.old result running.new }
 {
@@ -167,7 +172,8 @@ pub(crate) fn shows_upper(
     given: &Option<Vec<NumberedLiteral>>,
 ) -> Result<(), Fault>
     requires proper { IsProper running.now }
-    requires inside { IfSome given.now (λ v. All (λ l. l.variable < length running.now.names) v.items) }
+    requires inside { IfSome given.now (λ v.
+        All (λ l. l.variable < length running.now.names) v.items) }
     ensures { Upper running.now upper (option_map (λ v. v.items) given.now) result }
 {
     match upper {

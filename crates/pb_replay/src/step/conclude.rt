@@ -37,7 +37,8 @@ fn conclude_sat(running: &mut Running, given: &[NumberedLiteral]) -> Result<(), 
     requires proper { IsProper running.old }
     requires linked { IsLinked running.old }
     requires inside { All (λ l. l.variable < length running.old.names) given.now }
-    ensures goes { (written : List Written) → given.now ≡ numbered running.old.names written → GoesAt running.old (Statement.Conclude (Conclusion.Sat (Some written))) result running.new }
+    ensures goes { (written : List Written) → given.now ≡ numbered running.old.names written →
+        GoesAt running.old (Statement.Conclude (Conclusion.Sat (Some written))) result running.new }
     ensures preserves { Preserves running.old result running.new }
 {
     let _ = shown(running, given)?;
@@ -49,7 +50,8 @@ fn conclude_sat(running: &mut Running, given: &[NumberedLiteral]) -> Result<(), 
 /// `SAT` by these literals.
 fn sat_shown(running: &mut Running, given: &Sequence<Literal>) -> Result<(), Fault>
     requires { IsReady running.old }
-    ensures goes { Goes running.old (Statement.Conclude (Conclusion.Sat (Some given.now))) result running.new }
+    ensures goes { Goes running.old (Statement.Conclude (Conclusion.Sat (Some given.now))) result
+        running.new }
     ensures preserves { Preserves running.old result running.new }
 {
     let numbers = take_literals(running, given.as_slice())?;
@@ -74,9 +76,11 @@ fn sat_logged(running: &mut Running) -> Result<(), Fault>
 /// `SAT`.
 fn sat(running: &mut Running, shown: &Option<Sequence<Literal>>) -> Result<(), Fault>
     requires { IsReady running.old }
-    ensures goes { Goes running.old (Statement.Conclude (Conclusion.Sat shown.now)) result running.new }
+    ensures goes { Goes running.old (Statement.Conclude (Conclusion.Sat shown.now)) result
+        running.new }
     ensures preserves { Preserves running.old result running.new }
-    ensures memory { result ≡ Err Fault.Memory → MayWant (Statement.Conclude (Conclusion.Sat shown.now)) }
+    ensures memory { result ≡ Err Fault.Memory →
+        MayWant (Statement.Conclude (Conclusion.Sat shown.now)) }
 {
     match shown {
         None => sat_logged(running),
@@ -94,7 +98,8 @@ fn are_shown(
 ) -> Result<(), Fault>
     requires proper { IsProper running.old }
     requires linked { IsLinked running.old }
-    requires inside { IfSome given.now (λ v. All (λ l. l.variable < length running.old.names) v.items) }
+    requires inside { IfSome given.now (λ v.
+        All (λ l. l.variable < length running.old.names) v.items) }
     ensures both { Both running.old lower id upper (option_map (λ v. v.items) given.now) result }
     ensures same { OnOk result (HasNamed [] running.old running.new) }
     ensures preserves { Preserves running.old result running.new }
@@ -114,8 +119,12 @@ fn conclude_bounds(
     requires proper { IsProper running.old }
     requires linked { IsLinked running.old }
     requires objective { IsSome running.old.objective }
-    requires inside { IfSome given.now (λ v. All (λ l. l.variable < length running.old.names) v.items) }
-    ensures goes { (written : Option (List Written)) → option_map (λ v. v.items) given.now ≡ option_map (numbered running.old.names) written → GoesAt running.old (Statement.Conclude (Conclusion.Bounds lower id upper written)) result running.new }
+    requires inside { IfSome given.now (λ v.
+        All (λ l. l.variable < length running.old.names) v.items) }
+    ensures goes { (written : Option (List Written)) →
+        option_map (λ v. v.items) given.now ≡ option_map (numbered running.old.names) written →
+        GoesAt running.old (Statement.Conclude (Conclusion.Bounds lower id upper written)) result
+        running.new }
     ensures preserves { Preserves running.old result running.new }
 {
     are_shown(running, lower, id, upper, given)?;
@@ -133,9 +142,11 @@ fn bounds(
     shown: &Option<Sequence<Literal>>,
 ) -> Result<(), Fault>
     requires { IsReady running.old }
-    ensures goes { Goes running.old (Statement.Conclude (Conclusion.Bounds lower id upper shown.now)) result running.new }
+    ensures goes { Goes running.old
+        (Statement.Conclude (Conclusion.Bounds lower id upper shown.now)) result running.new }
     ensures preserves { Preserves running.old result running.new }
-    ensures memory { result ≡ Err Fault.Memory → Passes running.old (Statement.Conclude (Conclusion.Bounds lower id upper shown.now)) }
+    ensures memory { result ≡ Err Fault.Memory →
+        Passes running.old (Statement.Conclude (Conclusion.Bounds lower id upper shown.now)) }
 {
     if running.objective.is_none() {
         return Err(Fault::NoObjective);

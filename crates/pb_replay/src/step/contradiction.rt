@@ -17,7 +17,8 @@ use pb_propagate::Engine;
 /// Whether the form with this number is a live contradiction.
 fn is_contradiction_at(engine: &Engine, number: usize) -> bool
     requires { number < length engine.now.forms }
-    ensures { IsTrue result ↔ ((f : Form) × (get_or engine.now.forms number None ≡ Some f) × IsContradiction f) }
+    ensures { IsTrue result ↔ ((f : Form) × (get_or engine.now.forms number None ≡ Some f) ×
+        IsContradiction f) }
 {
     match engine.form(number) {
         Some(form) => form.is_contradiction(),
@@ -55,7 +56,8 @@ fn named_contradiction(engine: &Engine, id: i64) -> Result<(), Fault>
 
 /// Whether no solution was logged and there is a contradiction.
 pub(crate) fn none_is_left(running: &Running, id: Option<i64>) -> Result<(), Fault>
-    ensures left { (logged : List Logged) → IsBest logged running.now.best → none_left (state_of running.now logged) id (gives tt) result }
+    ensures left { (logged : List Logged) → IsBest logged running.now.best →
+        none_left (state_of running.now logged) id (gives tt) result }
     ensures memory { result ≡ Err Fault.Memory → ⊥ }
 {
     if running.best.is_some() {

@@ -43,8 +43,10 @@ fn sum_of<'a>(
     right: Sum<'a>,
     limits: Limits,
 ) -> Result<Sum<'a>, Fault>
-    ensures ok { IfOk result (λ r. some (IsSum left.entry right.entry) (limited (largest limits)) (Ok r)) }
-    ensures err { IfErr result (λ e. (e ≡ Fault.Memory) ⊎ some (IsSum left.entry right.entry) (limited (largest limits)) (Err e)) }
+    ensures ok { IfOk result (λ r. some (IsSum left.entry right.entry) (limited (largest limits))
+        (Ok r)) }
+    ensures err { IfErr result (λ e. (e ≡ Fault.Memory) ⊎
+        some (IsSum left.entry right.entry) (limited (largest limits)) (Err e)) }
 {
     match left.add(alloc, right, limits) {
         Ok(sum) => Ok(sum),
@@ -60,8 +62,10 @@ fn product_of<'a>(
     limits: Limits,
 ) -> Result<Sum<'a>, Fault>
     requires { pos 1 ≤ℤ factor }
-    ensures ok { IfOk result (λ r. limited (largest limits) (multiplied (unsigned_abs factor) form.entry) (Ok r)) }
-    ensures err { IfErr result (λ e. (e ≡ Fault.Memory) ⊎ limited (largest limits) (multiplied (unsigned_abs factor) form.entry) (Err e)) }
+    ensures ok { IfOk result (λ r.
+        limited (largest limits) (multiplied (unsigned_abs factor) form.entry) (Ok r)) }
+    ensures err { IfErr result (λ e. (e ≡ Fault.Memory) ⊎
+        limited (largest limits) (multiplied (unsigned_abs factor) form.entry) (Err e)) }
 {
     match form.multiply(alloc, factor, limits) {
         Ok(product) => Ok(product),
@@ -120,9 +124,12 @@ fn made<'a>(
     requires takes { takes word.now ≤ length stack.old.items }
     requires named { HasNames names.now (word_names (word.now ∷ [])) }
     requires value { IsWord (largest limits) (top_of limits) word.now }
-    ensures ok { IfOk result (λ r. Word (largest limits) names.now engine.now.forms word.now (reverse stack.old.items) (Ok (r ∷ reverse stack.new.items))) }
+    ensures ok { IfOk result (λ r. Word (largest limits) names.now engine.now.forms word.now
+        (reverse stack.old.items) (Ok (r ∷ reverse stack.new.items))) }
     ensures count { OnOk result (length stack.new.items + takes word.now ≡ length stack.old.items) }
-    ensures err { IfErr result (λ e. (e ≡ Fault.Memory) ⊎ Word (largest limits) names.now engine.now.forms word.now (reverse stack.old.items) (Err e)) }
+    ensures err { IfErr result (λ e. (e ≡ Fault.Memory) ⊎
+        Word (largest limits) names.now engine.now.forms word.now (reverse stack.old.items)
+        (Err e)) }
 {
     match word {
         PolWord::Id(id) => match find(engine, *id) {
@@ -194,8 +201,11 @@ fn evaluated(
     requires postfix { IsPostfix words.now }
     requires values { All (IsWord (largest limits) (top_of limits)) words.now }
     requires named { HasNames names.now (word_names words.now) }
-    ensures ok { IfOk result (λ r. some (λ tree. words.now ≡ words_of tree) (FormOfExpression (largest limits) names.now engine.now.forms) (Ok r)) }
-    ensures err { IfErr result (λ e. (e ≡ Fault.Memory) ⊎ some (λ tree. words.now ≡ words_of tree) (FormOfExpression (largest limits) names.now engine.now.forms) (Err e)) }
+    ensures ok { IfOk result (λ r. some (λ tree. words.now ≡ words_of tree)
+        (FormOfExpression (largest limits) names.now engine.now.forms) (Ok r)) }
+    ensures err { IfErr result (λ e. (e ≡ Fault.Memory) ⊎
+        some (λ tree. words.now ≡ words_of tree)
+        (FormOfExpression (largest limits) names.now engine.now.forms) (Err e)) }
 {
     let mut stack = Vec::new(alloc);
     for word in words {
@@ -208,7 +218,8 @@ fn evaluated(
 
 /// The constraint of the words, if they are one id and it is live. Its terms are not copied.
 fn repeated(engine: &Engine, words: &[PolWord]) -> Result<Option<Shared>, AllocError>
-    ensures { IfOk result (λ found. IfSome found (λ f. (id : ℤ) × (words.now ≡ Id id ∷ []) × IsLive engine.now.forms id f)) }
+    ensures { IfOk result (λ found. IfSome found (λ f. (id : ℤ) × (words.now ≡ Id id ∷ []) ×
+        IsLive engine.now.forms id f)) }
 {
     match words {
         [PolWord::Id(id)] => {
@@ -230,8 +241,11 @@ fn expressed(
     requires postfix { IsPostfix words.now }
     requires values { All (IsWord (largest limits) (top_of limits)) words.now }
     requires named { HasNames names.now (word_names words.now) }
-    ensures ok { IfOk result (λ r. some (λ tree. words.now ≡ words_of tree) (FormOfExpression (largest limits) names.now engine.now.forms) (Ok r)) }
-    ensures err { IfErr result (λ e. (e ≡ Fault.Memory) ⊎ some (λ tree. words.now ≡ words_of tree) (FormOfExpression (largest limits) names.now engine.now.forms) (Err e)) }
+    ensures ok { IfOk result (λ r. some (λ tree. words.now ≡ words_of tree)
+        (FormOfExpression (largest limits) names.now engine.now.forms) (Ok r)) }
+    ensures err { IfErr result (λ e. (e ≡ Fault.Memory) ⊎
+        some (λ tree. words.now ≡ words_of tree)
+        (FormOfExpression (largest limits) names.now engine.now.forms) (Err e)) }
 {
     if let Some(form) = repeated(engine, words)? {
         return Ok(form);
@@ -243,7 +257,8 @@ fn expressed(
 
 /// `pol`: the form of an expression is added.
 pub(crate) fn pol(running: &mut Running, words: &Sequence<PolWord>) -> Result<(), Fault>
-    requires value { IsStatementValue (largest running.old.limits) (top_of running.old.limits) (Statement.Pol words.now) }
+    requires value { IsStatementValue (largest running.old.limits) (top_of running.old.limits)
+        (Statement.Pol words.now) }
     requires ready { IsReady running.old }
     ensures goes { Goes running.old (Statement.Pol words.now) result running.new }
     ensures preserves { Preserves running.old result running.new }

@@ -26,7 +26,9 @@ fn entered(running: &mut Running, linear: &Linear) -> Result<Normal, Fault>
     ensures fits { OnOk result (Fits (largest running.old.limits) linear.now) }
     ensures form { IfOk result (λ r. IsSideOf running.new.names Side.AtLeast linear.now r) }
     ensures inside { IfOk result (λ r. IsInside (length running.new.names) r) }
-    ensures err { IfErr result (λ e. ((e ≡ Fault.Memory) × Fits (largest running.old.limits) linear.now) ⊎ ((e ≡ Fault.Overflow) × (Fits (largest running.old.limits) linear.now → ⊥))) }
+    ensures err { IfErr result (λ e. ((e ≡ Fault.Memory) ×
+        Fits (largest running.old.limits) linear.now) ⊎
+        ((e ≡ Fault.Overflow) × (Fits (largest running.old.limits) linear.now → ⊥))) }
     ensures named { OnOk result (HasNamed (names_of linear.now.terms) running.old running.new) }
     ensures preserves { Preserves running.old result running.new }
 {
@@ -46,12 +48,18 @@ fn entered(running: &mut Running, linear: &Linear) -> Result<Normal, Fault>
 fn is_implied(running: &mut Running, form: &Normal) -> Result<bool, Fault>
     requires linked { IsLinked running.old }
     requires inside { IsInside (length running.old.names) form.now }
-    ensures implied { IfOk result (λ found. found ≡ true → IsRup (Live running.old.engine.forms) form.now) }
-    ensures not_implied { IfOk result (λ found. found ≡ false → IsRup (Live running.old.engine.forms) form.now → ⊥) }
+    ensures implied { IfOk result (λ found. found ≡ true →
+        IsRup (Live running.old.engine.forms) form.now) }
+    ensures not_implied { IfOk result (λ found. found ≡ false →
+        IsRup (Live running.old.engine.forms) form.now → ⊥) }
     ensures few { IsFew running.old.engine.forms form.now running.new.visits }
     ensures unasked { form.now.degree ≡ 0 → running.new.visits ≡ 0 }
-    ensures conflict { IfOk result (λ found. found ≡ true → (form.now.degree ≡ 0) ⊎ ((m : MeetsConflict (With (Live running.old.engine.forms) (negation_of form.now)) []) × (length m.list ≤ running.new.visits))) }
-    ensures completion { IfOk result (λ found. found ≡ false → (list : List NumberedLiteral) × IsCompletion (With (Live running.old.engine.forms) (negation_of form.now)) [] list × (length list ≤ running.new.visits)) }
+    ensures conflict { IfOk result (λ found. found ≡ true → (form.now.degree ≡ 0) ⊎
+        ((m : MeetsConflict (With (Live running.old.engine.forms) (negation_of form.now)) []) ×
+        (length m.list ≤ running.new.visits))) }
+    ensures completion { IfOk result (λ found. found ≡ false → (list : List NumberedLiteral) ×
+        IsCompletion (With (Live running.old.engine.forms) (negation_of form.now)) [] list ×
+        (length list ≤ running.new.visits)) }
     ensures err { IfErr result (λ e. e ≡ Fault.Memory) }
     ensures same { OnOk result (HasNamed [] running.old running.new) }
     ensures linked { OnOk result (IsLinked running.new) }
@@ -86,7 +94,9 @@ pub(crate) fn rup(running: &mut Running, linear: &Linear) -> Result<(), Fault>
     ensures goes { Goes running.old (Statement.Rup linear.now) result running.new }
     ensures linked { OnOk result (IsLinked running.new) }
     ensures kept { Keeps running.old running.new }
-    ensures visits_made { RupVisits running.old.engine.forms (with_names running.old.names (names_of linear.now.terms)) linear.now result running.new.visits }
+    ensures visits_made { RupVisits running.old.engine.forms
+        (with_names running.old.names (names_of linear.now.terms)) linear.now result
+        running.new.visits }
     ensures memory { result ≡ Err Fault.Memory → Fits (largest running.old.limits) linear.now }
 {
     let form = entered(running, linear)?;

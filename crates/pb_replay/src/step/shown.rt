@@ -18,7 +18,8 @@ use pb_text::Sequence;
 /// An engine of the instance's own constraints, over all names.
 fn own_engine(running: &Running) -> Result<Engine, Fault>
     requires { IsProper running.now }
-    ensures engine { IfOk result (IsEngine (map (λ f. Some f) running.now.loaded.items) (length running.now.names)) }
+    ensures engine { IfOk result (IsEngine (map (λ f. Some f) running.now.loaded.items)
+        (length running.now.names)) }
     ensures err { IfErr result (λ e. e ≡ Fault.Memory) }
 {
     engine_of(
@@ -32,7 +33,8 @@ fn own_engine(running: &Running) -> Result<Engine, Fault>
 fn own_value(running: &Running, given: &[NumberedLiteral]) -> Result<i128, Fault>
     requires proper { IsProper running.now }
     requires inside { All (λ l. l.variable < length running.now.names) given.now }
-    ensures { ReturnsValue (Completed (problem_of running.now) (Contains running.now.loaded.items) running.now.own given.now) result }
+    ensures { ReturnsValue (Completed (problem_of running.now)
+        (Contains running.now.loaded.items) running.now.own given.now) result }
 {
     let mut engine = own_engine(running)?;
     let values = completion(&mut engine, given)?;
@@ -43,8 +45,11 @@ fn own_value(running: &Running, given: &[NumberedLiteral]) -> Result<i128, Fault
 pub(crate) fn shown(running: &Running, given: &[NumberedLiteral]) -> Result<i128, Fault>
     requires proper { IsProper running.now }
     requires inside { All (λ l. l.variable < length running.now.names) given.now }
-    ensures ok { IfOk result (λ z. (g : Logged) × Shown (problem_of running.now) given.now g × (g.value ≡ z)) }
-    ensures err { IfErr result (λ e. (e ≡ Fault.Memory) ⊎ ((e ≡ Fault.NoSolution) × ((g : Logged) → Shown (problem_of running.now) given.now g → ⊥))) }
+    ensures ok { IfOk result (λ z. (g : Logged) × Shown (problem_of running.now) given.now g ×
+        (g.value ≡ z)) }
+    ensures err { IfErr result (λ e. (e ≡ Fault.Memory) ⊎
+        ((e ≡ Fault.NoSolution) ×
+        ((g : Logged) → Shown (problem_of running.now) given.now g → ⊥))) }
 {
     match own_value(running, given) {
         Ok(value) => Ok(value),
@@ -64,8 +69,10 @@ pub(crate) fn take_shown(
     shown: &Option<Sequence<Literal>>,
 ) -> Result<Option<Vec<NumberedLiteral>>, Fault>
     requires { IsLinked running.old }
-    ensures literals { IfOk result (λ o. option_map (λ v. v.items) o ≡ option_map (numbered running.new.names) shown.now) }
-    ensures inside { IfOk result (λ o. IfSome o (λ v. All (λ l. l.variable < length running.new.names) v.items)) }
+    ensures literals { IfOk result (λ o. option_map (λ v. v.items) o ≡ option_map
+        (numbered running.new.names) shown.now) }
+    ensures inside { IfOk result (λ o.
+        IfSome o (λ v. All (λ l. l.variable < length running.new.names) v.items)) }
     ensures named { OnOk result (HasNamed (shown_names shown.now) running.old running.new) }
     ensures preserves { Preserves running.old result running.new }
     ensures err { IfErr result (λ e. e ≡ Fault.Memory) }

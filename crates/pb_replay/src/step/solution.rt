@@ -51,8 +51,10 @@ pub(crate) fn completion(
     requires ready { engine.old.spent ≡ false }
     requires inside { All (λ l. l.variable < engine.old.variables) given.now }
     ensures free { IfOk result (λ v. MeetsConflict (Live engine.old.forms) given.now → ⊥) }
-    ensures list { IfOk result (λ v. (list : List ANumberedLiteral) × IsCompletion (Live engine.old.forms) given.now list × Gives list v.items) }
-    ensures err { IfErr result (λ e. (e ≡ Fault.Memory) ⊎ ((e ≡ Fault.Conflict) × MeetsConflict (Live engine.old.forms) given.now)) }
+    ensures list { IfOk result (λ v. (list : List ANumberedLiteral) ×
+        IsCompletion (Live engine.old.forms) given.now list × Gives list v.items) }
+    ensures err { IfErr result (λ e. (e ≡ Fault.Memory) ⊎
+        ((e ≡ Fault.Conflict) × MeetsConflict (Live engine.old.forms) given.now)) }
     ensures engine { OnOk result (IsEngine engine.old.forms engine.old.variables engine.new) }
 {
     match engine.complete(given)? {
@@ -76,7 +78,8 @@ pub(crate) fn completed(running: &mut Running, given: &[NumberedLiteral]) -> Res
     requires proper { IsProper running.old }
     requires linked { IsLinked running.old }
     requires inside { All (λ l. l.variable < length running.old.names) given.now }
-    ensures value { ReturnsValue (Completed (problem_of running.old) (Live running.old.engine.forms) (length running.old.names) given.now) result }
+    ensures value { ReturnsValue (Completed (problem_of running.old) (Live running.old.engine.forms)
+        (length running.old.names) given.now) result }
     ensures small { IfOk result (λ z. unsigned_abs z < 2 ^ 127) }
     ensures same { OnOk result (HasNamed [] running.old running.new) }
     ensures preserves { Preserves running.old result running.new }
@@ -96,7 +99,8 @@ fn negated(alloc: Global, given: &[NumberedLiteral]) -> Result<Vec<NumberedLiter
 fn clause_of(alloc: Global, given: &[NumberedLiteral]) -> Result<Normal, Fault>
     requires { (x : ℕ) → on given.now x true ≡ true → on given.now x false ≡ true → ⊥ }
     ensures clause { IfOk result (λ r. Excludes given.now r) }
-    ensures inside { IfOk result (λ r. (n : ℕ) → All (λ l. l.variable < n) given.now → IsInside n r) }
+    ensures inside { IfOk result (λ r. (n : ℕ) → All (λ l. l.variable < n) given.now →
+        IsInside n r) }
     ensures err { IfErr result (λ e. e ≡ Fault.Memory) }
 {
     let literals = negated(alloc, given)?;
@@ -121,7 +125,8 @@ fn exclude(running: &mut Running, given: &[NumberedLiteral]) -> Result<(), Fault
     requires proper { IsProper running.old }
     requires linked { IsLinked running.old }
     requires inside { All (λ l. l.variable < length running.old.names) given.now }
-    ensures goes { (written : List Written) → given.now ≡ numbered running.old.names written → GoesAt running.old (Statement.Solx written) result running.new }
+    ensures goes { (written : List Written) → given.now ≡ numbered running.old.names written →
+        GoesAt running.old (Statement.Solx written) result running.new }
     ensures preserves { Preserves running.old result running.new }
 {
     let value = completed(running, given)?;
@@ -165,7 +170,8 @@ fn improve(running: &mut Running, given: &[NumberedLiteral]) -> Result<(), Fault
     requires linked { IsLinked running.old }
     requires inside { All (λ l. l.variable < length running.old.names) given.now }
     requires objective { IsSome running.old.objective }
-    ensures goes { (written : List Written) → given.now ≡ numbered running.old.names written → GoesAt running.old (Statement.Soli written) result running.new }
+    ensures goes { (written : List Written) → given.now ≡ numbered running.old.names written →
+        GoesAt running.old (Statement.Soli written) result running.new }
     ensures preserves { Preserves running.old result running.new }
 {
     let value = completed(running, given)?;

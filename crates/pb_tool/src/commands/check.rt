@@ -64,10 +64,15 @@ pub fn check<I: Source, P: Source, W: Sink>(
       out_after = out.new;
     } }
     // What a verdict says is true of the instance that was read. For UNSAT, no assignment solves that instance.
-    ensures unsat { result ≡ Ok Verdict.Unsat → UnsatOf limits (unwrap_or longest (2 ^ 40)) (I.left instance.old) (I.left instance.new) }
-    ensures true_verdict { IfOk result (λ w. TrueOf limits (unwrap_or longest (2 ^ 40)) w (I.left instance.old) (I.left instance.new)) }
-    ensures unsat_given { result ≡ Ok Verdict.Unsat → OfGiven (UnsatOf limits (unwrap_or longest (2 ^ 40))) (I.history instance.old) (I.history instance.new) }
-    ensures true_given { IfOk result (λ w. OfGiven (TrueOf limits (unwrap_or longest (2 ^ 40)) w) (I.history instance.old) (I.history instance.new)) }
+    ensures unsat { result ≡ Ok Verdict.Unsat →
+        UnsatOf limits (unwrap_or longest (2 ^ 40)) (I.left instance.old) (I.left instance.new) }
+    ensures true_verdict { IfOk result (λ w. TrueOf limits (unwrap_or longest (2 ^ 40)) w
+        (I.left instance.old) (I.left instance.new)) }
+    ensures unsat_given { result ≡ Ok Verdict.Unsat →
+        OfGiven (UnsatOf limits (unwrap_or longest (2 ^ 40))) (I.history instance.old)
+        (I.history instance.new) }
+    ensures true_given { IfOk result (λ w. OfGiven (TrueOf limits (unwrap_or longest (2 ^ 40)) w)
+        (I.history instance.old) (I.history instance.new)) }
     // A rejected byte is the one that its source has shown. A text ends only if its source has shown its end.
     ensures seen_instance { SawInstance (I.shown instance.new) (I.ended instance.new) result }
     ensures seen_proof { SawProof (P.shown proof.new) (P.ended proof.new) result }
@@ -128,9 +133,11 @@ pub fn check_watched<I: Source, P: Source, W: Sink, V: Watch>(
         instance.old proof.old out.old result instance.new proof.new out.new }
     // The watch got a call for each statement that was taken, in order, with its span and the replay after it. If a
     // statement was rejected, the last call says so. It got no other call.
-    ensures watched { IsWatched limits (unwrap_or longest (2 ^ 40)) V.got (I.left instance.old) (P.left proof.old) watch.old
+    ensures watched { IsWatched limits (unwrap_or longest (2 ^ 40)) V.got (I.left instance.old)
+        (P.left proof.old) watch.old
         result (I.left instance.new) (P.left proof.new) watch.new }
-    ensures watched_given { IsWatchedGiven limits (unwrap_or longest (2 ^ 40)) V.got (I.history instance.old) (P.history proof.old) watch.old
+    ensures watched_given { IsWatchedGiven limits (unwrap_or longest (2 ^ 40)) V.got
+        (I.history instance.old) (P.history proof.old) watch.old
         result (I.history instance.new) (P.history proof.new) watch.new }
 {
     verified_is_true();

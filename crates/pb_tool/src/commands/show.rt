@@ -41,9 +41,11 @@ pub fn show<S: Source, W: Sink>(
     limits: Limits,
 ) -> Result<(), ToolFault>
     requires { IfSome longest (λ n. 0 < n) }
-    ensures shows { ShowsFile limits (unwrap_or longest (2 ^ 40)) W.contents W.faults (S.left input.old) out.old result (S.left input.new) out.new }
+    ensures shows { ShowsFile limits (unwrap_or longest (2 ^ 40)) W.contents W.faults
+        (S.left input.old) out.old result (S.left input.new) out.new }
     // For any source, files included: the result is right for the bytes that its calls have given.
-    ensures given { ShowsGiven limits (unwrap_or longest (2 ^ 40)) W.contents W.faults (S.history input.old) out.old result (S.history input.new) out.new }
+    ensures given { ShowsGiven limits (unwrap_or longest (2 ^ 40)) W.contents W.faults
+        (S.history input.old) out.old result (S.history input.new) out.new }
     // A rejected byte is the one that the source has shown. The text ends only if the source has shown its end.
     ensures seen { SawStatements (S.shown input.new) (S.ended input.new) result }
     // `Read` comes only if the source failed.
@@ -66,8 +68,12 @@ fn show_proof<S: Source, W: Sink>(
     limits: Limits,
 ) -> Result<(), ToolFault>
     requires { 0 < longest }
-    ensures shows { ShowsLines (IsProofText limits) longest (AsksInProofText limits) statement_bytes W.contents W.faults (S.left input.old) out.old result (S.left input.new) out.new }
-    ensures given { OfGiven (λ left rest. ShowsLines (IsProofText limits) longest (AsksInProofText limits) statement_bytes W.contents W.faults left out.old result rest out.new) (S.history input.old) (S.history input.new) }
+    ensures shows { ShowsLines (IsProofText limits) longest
+        (AsksInProofText limits) statement_bytes W.contents W.faults
+        (S.left input.old) out.old result (S.left input.new) out.new }
+    ensures given { OfGiven (λ left rest. ShowsLines (IsProofText limits) longest
+        (AsksInProofText limits) statement_bytes W.contents W.faults left out.old result rest
+        out.new) (S.history input.old) (S.history input.new) }
     ensures seen { SawStatements (S.shown input.new) (S.ended input.new) result }
     ensures faults { S.faults input.new ≡ faults_reported result (S.faults input.old) }
 {
@@ -83,8 +89,12 @@ fn show_instance<S: Source, W: Sink>(
     limits: Limits,
 ) -> Result<(), ToolFault>
     requires { 0 < longest }
-    ensures shows { ShowsLines (IsInstanceText limits) longest (AsksInInstanceText limits) event_bytes W.contents W.faults (S.left input.old) out.old result (S.left input.new) out.new }
-    ensures given { OfGiven (λ left rest. ShowsLines (IsInstanceText limits) longest (AsksInInstanceText limits) event_bytes W.contents W.faults left out.old result rest out.new) (S.history input.old) (S.history input.new) }
+    ensures shows { ShowsLines (IsInstanceText limits) longest
+        (AsksInInstanceText limits) event_bytes W.contents W.faults
+        (S.left input.old) out.old result (S.left input.new) out.new }
+    ensures given { OfGiven (λ left rest. ShowsLines (IsInstanceText limits) longest
+        (AsksInInstanceText limits) event_bytes W.contents W.faults left out.old result rest
+        out.new) (S.history input.old) (S.history input.new) }
     ensures seen { SawStatements (S.shown input.new) (S.ended input.new) result }
     ensures faults { S.faults input.new ≡ faults_reported result (S.faults input.old) }
 {
@@ -100,8 +110,12 @@ fn show_each<S: Source, W: Sink, E: Canonical + Drop, M: Machine<Event = E> + Dr
 ) -> Result<(), ToolFault>
     requires between { M.automaton.begun machine ≡ false }
     requires some { 0 < longest }
-    ensures shows { ShowsLines (AcceptsItems M.automaton machine) longest (MayAsk M.automaton machine) E.text W.contents W.faults (S.left input.old) out.old result (S.left input.new) out.new }
-    ensures given { OfGiven (λ left rest. ShowsLines (AcceptsItems M.automaton machine) longest (MayAsk M.automaton machine) E.text W.contents W.faults left out.old result rest out.new) (S.history input.old) (S.history input.new) }
+    ensures shows { ShowsLines (AcceptsItems M.automaton machine) longest
+        (MayAsk M.automaton machine) E.text W.contents W.faults (S.left input.old) out.old result
+        (S.left input.new) out.new }
+    ensures given { OfGiven (λ left rest. ShowsLines (AcceptsItems M.automaton machine) longest
+        (MayAsk M.automaton machine) E.text W.contents W.faults left out.old result rest out.new)
+        (S.history input.old) (S.history input.new) }
     ensures seen { SawStatements (S.shown input.new) (S.ended input.new) result }
     ensures faults { S.faults input.new ≡ faults_reported result (S.faults input.old) }
 {
@@ -123,7 +137,8 @@ fn show_each<S: Source, W: Sink, E: Canonical + Drop, M: Machine<Event = E> + Dr
 fn read_blank_rest<S: Source>(input: &mut S, place: Place) -> Result<(), ToolFault>
     requires { IsInReach place }
     ensures ends { EndsAt place (S.left input.old) result (S.left input.new) }
-    ensures given { OfGiven (λ left rest. EndsAt place left result rest) (S.history input.old) (S.history input.new) }
+    ensures given { OfGiven (λ left rest. EndsAt place left result rest) (S.history input.old)
+        (S.history input.new) }
     ensures seen { SawStatements (S.shown input.new) (S.ended input.new) result }
     ensures faults { S.faults input.new ≡ faults_reported result (S.faults input.old) }
 {

@@ -49,9 +49,11 @@ pub fn tidy<S: Source, W: Sink>(
     limits: Limits,
 ) -> Result<(), ToolFault>
     requires { IfSome longest (λ n. 0 < n) }
-    ensures tidies { TidiesFile limits (unwrap_or longest (2 ^ 40)) W.contents W.faults normal (S.left input.old) out.old result (S.left input.new) out.new }
+    ensures tidies { TidiesFile limits (unwrap_or longest (2 ^ 40)) W.contents W.faults normal
+        (S.left input.old) out.old result (S.left input.new) out.new }
     // For any source, files included: the result is right for the bytes that its calls have given.
-    ensures given { TidiesGiven limits (unwrap_or longest (2 ^ 40)) W.contents W.faults normal (S.history input.old) out.old result (S.history input.new) out.new }
+    ensures given { TidiesGiven limits (unwrap_or longest (2 ^ 40)) W.contents W.faults normal
+        (S.history input.old) out.old result (S.history input.new) out.new }
     // A rejected byte is the one that the source has shown. The text ends only if the source has shown its end.
     ensures seen { SawFile (S.shown input.new) (S.ended input.new) result }
     // `Read` comes only if the source failed.
@@ -71,9 +73,11 @@ pub fn tidy_with_hasher<S: Source, W: Sink>(
     limits: Limits,
 ) -> Result<(), ToolFault>
     requires { IfSome longest (λ n. 0 < n) }
-    ensures tidies { TidiesFile limits (unwrap_or longest (2 ^ 40)) W.contents W.faults normal (S.left input.old) out.old result (S.left input.new) out.new }
+    ensures tidies { TidiesFile limits (unwrap_or longest (2 ^ 40)) W.contents W.faults normal
+        (S.left input.old) out.old result (S.left input.new) out.new }
     // For any source, files included: the result is right for the bytes that its calls have given.
-    ensures given { TidiesGiven limits (unwrap_or longest (2 ^ 40)) W.contents W.faults normal (S.history input.old) out.old result (S.history input.new) out.new }
+    ensures given { TidiesGiven limits (unwrap_or longest (2 ^ 40)) W.contents W.faults normal
+        (S.history input.old) out.old result (S.history input.new) out.new }
     // A rejected byte is the one that the source has shown. The text ends only if the source has shown its end.
     ensures seen { SawFile (S.shown input.new) (S.ended input.new) result }
     // `Read` comes only if the source failed.
@@ -99,8 +103,11 @@ fn tidy_proof<S: Source, W: Sink>(
     limits: Limits,
 ) -> Result<(), ToolFault>
     requires { 0 < longest }
-    ensures tidies { TidiesProof limits longest W.contents W.faults (S.left input.old) out.old result (S.left input.new) out.new }
-    ensures given { OfGiven (λ left rest. TidiesProof limits longest W.contents W.faults left out.old result rest out.new) (S.history input.old) (S.history input.new) }
+    ensures tidies { TidiesProof limits longest W.contents W.faults
+        (S.left input.old) out.old result (S.left input.new) out.new }
+    ensures given { OfGiven (λ left rest.
+        TidiesProof limits longest W.contents W.faults left out.old result rest out.new)
+        (S.history input.old) (S.history input.new) }
     ensures seen { SawFile (S.shown input.new) (S.ended input.new) result }
     ensures faults { S.faults input.new ≡ faults_reported result (S.faults input.old) }
 {
@@ -122,8 +129,11 @@ fn tidy_instance<S: Source, W: Sink>(
     limits: Limits,
 ) -> Result<(), ToolFault>
     requires { 0 < longest }
-    ensures tidies { Tidies limits longest false W.contents W.faults (S.left input.old) out.old result (S.left input.new) out.new }
-    ensures given { OfGiven (λ left rest. Tidies limits longest false W.contents W.faults left out.old result rest out.new) (S.history input.old) (S.history input.new) }
+    ensures tidies { Tidies limits longest false W.contents W.faults
+        (S.left input.old) out.old result (S.left input.new) out.new }
+    ensures given { OfGiven (λ left rest.
+        Tidies limits longest false W.contents W.faults left out.old result rest out.new)
+        (S.history input.old) (S.history input.new) }
     ensures seen { SawFile (S.shown input.new) (S.ended input.new) result }
     ensures faults { S.faults input.new ≡ faults_reported result (S.faults input.old) }
 {
@@ -147,8 +157,13 @@ fn tidy_each<S: Source, W: Sink, M: Machine + Drop, G: Gather<Event = M::Event> 
 ) -> Result<(), ToolFault>
     requires between { M.automaton.begun machine ≡ false }
     requires some { 0 < longest }
-    ensures tidies { TidiesEach (AcceptsItems M.automaton machine) longest G.with empty (MayAsk M.automaton machine) G.asks G.text W.contents W.faults (S.left input.old) out.old result (S.left input.new) out.new }
-    ensures given { OfGiven (λ left rest. TidiesEach (AcceptsItems M.automaton machine) longest G.with empty (MayAsk M.automaton machine) G.asks G.text W.contents W.faults left out.old result rest out.new) (S.history input.old) (S.history input.new) }
+    ensures tidies { TidiesEach (AcceptsItems M.automaton machine) longest G.with empty
+        (MayAsk M.automaton machine) G.asks G.text W.contents W.faults
+        (S.left input.old) out.old result (S.left input.new) out.new }
+    ensures given { OfGiven (λ left rest.
+        TidiesEach (AcceptsItems M.automaton machine) longest G.with empty
+        (MayAsk M.automaton machine) G.asks G.text W.contents W.faults left out.old result rest
+        out.new) (S.history input.old) (S.history input.new) }
     ensures seen { SawFile (S.shown input.new) (S.ended input.new) result }
     ensures faults { S.faults input.new ≡ faults_reported result (S.faults input.old) }
 {
@@ -173,8 +188,11 @@ fn tidy_normal<S: Source, W: Sink>(
     limits: Limits,
 ) -> Result<(), ToolFault>
     requires { 0 < longest }
-    ensures tidies { Tidies limits longest true W.contents W.faults (S.left input.old) out.old result (S.left input.new) out.new }
-    ensures given { OfGiven (λ left rest. Tidies limits longest true W.contents W.faults left out.old result rest out.new) (S.history input.old) (S.history input.new) }
+    ensures tidies { Tidies limits longest true W.contents W.faults
+        (S.left input.old) out.old result (S.left input.new) out.new }
+    ensures given { OfGiven (λ left rest.
+        Tidies limits longest true W.contents W.faults left out.old result rest out.new)
+        (S.history input.old) (S.history input.new) }
     ensures seen { SawFile (S.shown input.new) (S.ended input.new) result }
     ensures faults { S.faults input.new ≡ faults_reported result (S.faults input.old) }
 {

@@ -19,7 +19,8 @@ pub(crate) fn write_step<S: Sink>(
     out: &mut S,
 ) -> Result<(), Failed>
     ensures { Writes S.contents S.faults out.old
-        (codes "proof: " ++ place_text place ++ refusal_text fault name.now ++ 10 ∷ []) result out.new }
+        (codes "proof: " ++ place_text place ++ refusal_text fault name.now ++ 10 ∷ []) result
+        out.new }
 {
     write_place(Input::Proof, place, out)?;
     write_refusal(fault, name, out)?;
@@ -67,7 +68,8 @@ fn write_formula_count<S: Sink>(count: u64, out: &mut S) -> Result<(), Failed>
 
 /// The id that is not live.
 fn write_no_such_id<S: Sink>(id: i64, out: &mut S) -> Result<(), Failed>
-    ensures { Writes S.contents S.faults out.old (codes "no such id " ++ signed_decimal id) result out.new }
+    ensures { Writes S.contents S.faults out.old (codes "no such id " ++ signed_decimal id) result
+        out.new }
 {
     let mut buffer = Buffer::new();
     write_parts(&[b"no such id ", buffer.format(id).as_bytes()], out)
@@ -75,14 +77,16 @@ fn write_no_such_id<S: Sink>(id: i64, out: &mut S) -> Result<(), Failed>
 
 /// The name that has no value.
 fn write_no_value<S: Sink>(name: &str, out: &mut S) -> Result<(), Failed>
-    ensures { Writes S.contents S.faults out.old (codes "no value for " ++ name.now) result out.new }
+    ensures { Writes S.contents S.faults out.old
+        (codes "no value for " ++ name.now) result out.new }
 {
     write_parts(&[b"no value for ", name.as_bytes()], out)
 }
 
 /// The id of the violated constraint.
 fn write_violates<S: Sink>(id: u64, out: &mut S) -> Result<(), Failed>
-    ensures { Writes S.contents S.faults out.old (codes "violates constraint " ++ decimal id) result out.new }
+    ensures { Writes S.contents S.faults out.old (codes "violates constraint " ++ decimal id) result
+        out.new }
 {
     let mut buffer = Buffer::new();
     write_parts(

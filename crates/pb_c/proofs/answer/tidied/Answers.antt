@@ -1,4 +1,4 @@
-use Rattle.std.proofs.Common.{Ok, Err, refl}
+use Rattle.pb_c.proofs.Common.{Err, Ok, refl}
 use Rattle.pb_c.proofs.Answered.{of_tidy, whole}
 use Rattle.pb_c.proofs.answer.tidied.Goals as goal
 

@@ -1,4 +1,4 @@
-use Rattle.std.proofs.Common.{rules}
+use Rattle.pb_c.proofs.Common.{rules}
 use Rattle.pb_c.proofs.answer.write_end.Goals as goal
 
 pub returns-in-Ok : goal.returns-in-Ok

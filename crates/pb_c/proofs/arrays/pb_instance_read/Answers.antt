@@ -1,8 +1,6 @@
-use Rattle.std.proofs.Common.{rules, ◌≡◌, ◌^◌, ℕ, List, Option, Some, inl, inr, refl, subst}
-use Rattle.std.specs.Prelude.{unwrap_or}
+use Rattle.pb_c.proofs.Common.{ℕ, ◌^◌, ◌≡◌, inl, inr, List, Option, refl, rules, Some, subst, unwrap_or, Stop}
 use Rattle.pb_text.specs.meaning.Limits.{largest, top_of}
 use Rattle.pb_text.specs.meaning.Spelling.{Item}
-use Rattle.pb_text.specs.declared.Stop.{Stop}
 use Rattle.pb_opb.specs.meaning.Instances.{IsInstance}
 use Rattle.pb_opb.specs.declared.OpbEvent.{OpbEvent}
 use Rattle.pb_pieces.specs.Reading.{IsFlatBy, IsNotFlat}

@@ -1,4 +1,4 @@
-use Rattle.std.proofs.Common.{◌∙◌, refl, sym}
+use Rattle.pb_c.proofs.Common.{◌∙◌, refl, sym}
 use Rattle.pb_c.proofs.Claims.{no_fault}
 use Rattle.pb_c.proofs.checker.feed_session.Goals as goal
 

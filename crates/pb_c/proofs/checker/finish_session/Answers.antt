@@ -1,4 +1,4 @@
-use Rattle.std.proofs.Common.{◌∙◌, sym}
+use Rattle.pb_c.proofs.Common.{◌∙◌, sym}
 use Rattle.pb_c.proofs.Claims.{no_fault}
 use Rattle.pb_c.proofs.checker.finish_session.Goals as goal
 

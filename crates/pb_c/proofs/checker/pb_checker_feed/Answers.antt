@@ -1,8 +1,4 @@
-use Rattle.std.proofs.Common.{rules, ◌≡◌, ◌^◌, Option, Some, subst, sym}
-use Rattle.std.specs.Prelude.{unwrap_or}
-use Rattle.pb_pieces.specs.Session.{IsSession}
-use Rattle.pb_pieces.specs.declared.session.Session.{Session}
-use Rattle.pb_c.specs.Checker.{AnswersOf, UsesOf}
+use Rattle.pb_c.proofs.Common.{◌^◌, ◌≡◌, Option, rules, Some, subst, sym, unwrap_or, IsSession, Session, AnswersOf, UsesOf}
 use Rattle.pb_c.proofs.Claims.{same_value}
 use Rattle.pb_c.proofs.checker.pb_checker_feed.Goals as goal
 

@@ -1,8 +1,4 @@
-use Rattle.std.proofs.Common.{rules, ◌≡◌, ◌∙◌, ◌^◌, Option, Some, ap, subst, sym}
-use Rattle.std.specs.Prelude.{unwrap_or}
-use Rattle.pb_pieces.specs.Session.{IsSession}
-use Rattle.pb_pieces.specs.declared.session.Session.{Session}
-use Rattle.pb_c.specs.Checker.{AnswersOf}
+use Rattle.pb_c.proofs.Common.{◌^◌, ◌∙◌, ◌≡◌, ap, Option, rules, Some, subst, sym, unwrap_or, IsSession, Session, AnswersOf}
 use Rattle.pb_c.specs.declared.claim.Claim.{Claim}
 use Rattle.pb_c.proofs.Claims.{same_value, unsat_of}
 use Rattle.pb_c.proofs.checker.pb_checker_finish.Goals as goal

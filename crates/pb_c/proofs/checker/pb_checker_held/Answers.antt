@@ -1,6 +1,4 @@
-use Rattle.std.proofs.Common.{rules, ◌≡◌, Option, Some, refl, subst, sym}
-use Rattle.pb_pieces.specs.declared.session.Session.{Session}
-use Rattle.pb_c.specs.Checker.{AnswersHeld}
+use Rattle.pb_c.proofs.Common.{◌≡◌, Option, refl, rules, Some, subst, sym, Session, AnswersHeld}
 use Rattle.pb_c.proofs.checker.pb_checker_held.Goals as goal
 
 pub returns-clause-held : goal.returns-clause-held

@@ -1,4 +1,4 @@
-use Rattle.std.proofs.Common.{rules, ◌≡◌, Some, inl, inr, refl}
+use Rattle.pb_c.proofs.Common.{◌≡◌, inl, inr, refl, rules, Some}
 use Rattle.pb_c.proofs.checker.pb_checker_open.Goals as goal
 
 pub returns-in-Ok-new : goal.returns-in-Ok-new

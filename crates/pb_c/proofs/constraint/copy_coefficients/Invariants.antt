@@ -1,5 +1,4 @@
-use Rattle.std.proofs.Common.{◌≡◌, map, take}
-use Rattle.pb_c.specs.Constraint.{coefficient_high, coefficient_low}
+use Rattle.pb_c.proofs.Common.{◌≡◌, map, take, coefficient_high, coefficient_low}
 use Rattle.pb_c.proofs.constraint.copy_coefficients.Given as goal
 
 abbrev pub invariant-terms : goal.invariant-terms

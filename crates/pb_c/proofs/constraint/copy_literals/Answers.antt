@@ -1,5 +1,4 @@
-use Rattle.std.proofs.Common.{◌<◌, length, refl, arith}
-use Rattle.pb_c.specs.Constraint.{sign}
+use Rattle.pb_c.proofs.Common.{◌<◌, arith, length, refl, sign}
 use Rattle.pb_c.proofs.Copied.{byte_is, copied_more}
 use Rattle.pb_c.proofs.constraint.copy_literals.Goals as goal
 

@@ -1,5 +1,4 @@
-use Rattle.std.proofs.Common.{◌≡◌, map, take}
-use Rattle.pb_c.specs.Constraint.{sign}
+use Rattle.pb_c.proofs.Common.{◌≡◌, map, take, sign}
 use Rattle.pb_c.proofs.constraint.copy_literals.Given as goal
 
 abbrev pub invariant-terms : goal.invariant-terms

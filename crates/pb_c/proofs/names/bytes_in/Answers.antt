@@ -1,5 +1,4 @@
-use Rattle.std.proofs.Common.{rules, ◌≡◌, ◌∙◌, ℕ, ◌+◌, ◌-◌, ◌^◌, Some, length, min, slice_get, sym, ap, take}
-use Rattle.pb_tool.specs.contract.Pieces.{joined}
+use Rattle.pb_c.proofs.Common.{ℕ, ◌+◌, ◌-◌, ◌^◌, ◌∙◌, ◌≡◌, ap, length, min, rules, slice_get, Some, sym, take, joined}
 use Rattle.pb_c.proofs.Joined.{counted_next, length_next}
 use Rattle.pb_c.proofs.names.bytes_in.Goals as goal
 

@@ -1,5 +1,4 @@
-use Rattle.std.proofs.Common.{◌≡◌, ◌-◌, ◌^◌, length, min, take}
-use Rattle.pb_tool.specs.contract.Pieces.{joined}
+use Rattle.pb_c.proofs.Common.{◌-◌, ◌^◌, ◌≡◌, length, min, take, joined}
 use Rattle.pb_c.proofs.names.bytes_in.Given as goal
 
 abbrev pub invariant-names : goal.invariant-names

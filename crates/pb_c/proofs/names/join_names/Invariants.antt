@@ -1,5 +1,4 @@
-use Rattle.std.proofs.Common.{◌≡◌, ℕ, ◌<◌, get_or, length, take}
-use Rattle.pb_tool.specs.contract.Pieces.{joined}
+use Rattle.pb_c.proofs.Common.{ℕ, ◌<◌, ◌≡◌, get_or, length, take, joined}
 use Rattle.pb_c.proofs.names.join_names.Given as goal
 
 abbrev pub invariant-names : goal.invariant-names

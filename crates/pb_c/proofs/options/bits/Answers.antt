@@ -1,4 +1,4 @@
-use Rattle.std.proofs.Common.{rules}
+use Rattle.pb_c.proofs.Common.{rules}
 use Rattle.pb_c.proofs.options.bits.Goals as goal
 
 pub returns-then-bits-eq0 : goal.returns-then-bits-eq0

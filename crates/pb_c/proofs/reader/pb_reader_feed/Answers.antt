@@ -1,7 +1,4 @@
-use Rattle.std.proofs.Common.{rules, ◌≡◌, ◌^◌, Some, None, subst}
-use Rattle.std.specs.Prelude.{unwrap_or}
-use Rattle.pb_pieces.specs.Reader.{IsReader, fault_of}
-use Rattle.pb_pieces.specs.declared.reader.Reader.{Reader}
+use Rattle.pb_c.proofs.Common.{◌^◌, ◌≡◌, None, rules, Some, subst, unwrap_or, fault_of, IsReader, Reader}
 use Rattle.pb_c.proofs.Claims.{same_value}
 use Rattle.pb_c.proofs.Fed.{fed_under}
 use Rattle.pb_c.proofs.reader.pb_reader_feed.Goals as goal

@@ -1,9 +1,5 @@
-use Rattle.std.proofs.Common.{rules, ◌≡◌, ◌∙◌, Option, Some, inl, refl, sym, subst}
-use Rattle.std.specs.Prelude.{None}
-use Rattle.pb_text.specs.declared.Stop.{Stop}
-use Rattle.pb_pieces.specs.Reader.{fault_of}
-use Rattle.pb_pieces.specs.declared.reader.Reader.{Reader}
-use Rattle.pb_c.specs.Reader.{AnswersBy, AnswersOf, report_of_reader}
+use Rattle.pb_c.proofs.Common.{◌∙◌, ◌≡◌, inl, None, Option, refl, rules, Some, subst, sym, fault_of, Reader, Stop, AnswersBy, report_of_reader}
+use Rattle.pb_c.specs.Reader.{AnswersOf}
 use Rattle.pb_c.specs.declared.report.Report.{Report}
 use Rattle.pb_c.proofs.reader.pb_reader_open.Goals as goal
 

@@ -1,7 +1,4 @@
-use Rattle.std.proofs.Common.{rules, ◌≡◌, ℕ, length, Option, Some, refl, subst, sym}
-use Rattle.pb_pieces.specs.Session.{HasAccepted}
-use Rattle.pb_pieces.specs.declared.session.Session.{Session}
-use Rattle.pb_c.specs.Step.{AnswersState}
+use Rattle.pb_c.proofs.Common.{ℕ, ◌≡◌, length, Option, refl, rules, Some, subst, sym, HasAccepted, Session, AnswersState}
 use Rattle.pb_c.specs.declared.step.State.{State}
 use Rattle.pb_c.proofs.step.pb_checker_state.Goals as goal
 

@@ -1,4 +1,4 @@
-use Rattle.std.proofs.Common.{◌∙◌, refl, sym}
+use Rattle.pb_c.proofs.Common.{◌∙◌, refl, sym}
 use Rattle.pb_c.proofs.Claims.{no_fault}
 use Rattle.pb_c.proofs.step.step_session.Goals as goal
 

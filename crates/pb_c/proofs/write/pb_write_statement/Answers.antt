@@ -1,5 +1,4 @@
-use Rattle.std.proofs.Common.{List, ℕ, subst}
-use Rattle.pb_c.specs.Buffer.{Puts}
+use Rattle.pb_c.proofs.Common.{ℕ, List, subst, Puts}
 use Rattle.pb_c.proofs.write.pb_write_statement.Goals as goal
 
 pub returns-in-Ok-clause-writes : goal.returns-in-Ok-clause-writes

@@ -1,5 +1,4 @@
-use Rattle.pb_text.specs.meaning.Blank.{IsInLine}
-use Rattle.std.proofs.Common.{take}
+use Rattle.pb_pieces.proofs.Common.{take, IsInLine}
 use Rattle.pb_pieces.proofs.any_statement.is_in_line.Given as goal
 
 abbrev pub invariant-loop-byte : goal.invariant-loop-byte

@@ -1,7 +1,4 @@
-use Rattle.std.proofs.Common.{◌∙◌, List, [], map, ap, sym, subst}
-use Rattle.pb_pieces.specs.GivenTokens.{token_in}
-use Rattle.pb_pieces.specs.Matcher.{Compared}
-use Rattle.pb_pieces.specs.declared.given_token.GivenToken.{GivenToken}
+use Rattle.pb_pieces.proofs.Common.{◌∙◌, [], ap, List, map, subst, sym, token_in, Compared, GivenToken}
 use Rattle.pb_pieces.proofs.make.have_same_tokens.Goals as goal
 
 pub returns : goal.returns

@@ -1,6 +1,4 @@
-use Rattle.std.proofs.Common.{List, ◌++◌, map, take}
-use Rattle.pb_pieces.specs.ProofTokens.{token_of_id}
-use Rattle.pb_pieces.specs.Tokens.{Token}
+use Rattle.pb_pieces.proofs.Common.{◌++◌, List, map, take, token_of_id, Token}
 use Rattle.pb_pieces.proofs.proof_tokens.put_ids.Given as goal
 
 -- The first ids were put.

@@ -1,6 +1,4 @@
-use Rattle.std.proofs.Common.{List, ◌++◌, map, take}
-use Rattle.pb_pieces.specs.ProofTokens.{token_of_word}
-use Rattle.pb_pieces.specs.Tokens.{Token}
+use Rattle.pb_pieces.proofs.Common.{◌++◌, List, map, take, token_of_word, Token}
 use Rattle.pb_pieces.proofs.proof_tokens.put_words.Given as goal
 
 -- The first words were put.

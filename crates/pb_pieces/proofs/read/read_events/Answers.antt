@@ -1,10 +1,4 @@
-use Rattle.std.proofs.Common.{[], ◌∷◌, ◌++◌, Ok, Err, ap, subst}
-use Rattle.pb_text.specs.contract.Automaton.{AcceptsItems}
-use Rattle.pb_text.specs.meaning.Blank.{ReadsBlank}
-use Rattle.pb_text.specs.declared.Place.{Place}
-use Rattle.pb_opb.specs.engine.State.{opb}
-use Rattle.pb_pieces.specs.Reading.IsNotFlat.{InText, InRest, Unstored}
-use Rattle.pb_tool.proofs.lemmas.show.ShownStatements.{first_pull}
+use Rattle.pb_pieces.proofs.Common.{◌++◌, ◌∷◌, [], ap, Err, Ok, subst, opb, AcceptsItems, Place, ReadsBlank, first_pull, InRest, InText, Unstored}
 use Rattle.pb_pieces.proofs.Pulled.{flat_by}
 use Rattle.pb_pieces.proofs.read.read_events.Goals as goal
 

@@ -1,10 +1,4 @@
-use Rattle.std.proofs.Common.{◌+◌, ◌-◌, ◌^◌, List}
-use Rattle.pb_text.specs.contract.Feeding.{place_of}
-use Rattle.pb_text.specs.meaning.PullsInARow.{HasPulled}
-use Rattle.pb_text.specs.declared.Spanned.{Spanned}
-use Rattle.pb_opb.specs.declared.OpbEvent.{OpbEvent}
-use Rattle.pb_opb.specs.engine.State.{opb}
-use Rattle.pb_pieces.specs.Instance.{IsFlatOf}
+use Rattle.pb_pieces.proofs.Common.{◌+◌, ◌-◌, ◌^◌, List, OpbEvent, opb, place_of, Spanned, HasPulled, IsFlatOf}
 use Rattle.pb_pieces.proofs.read.read_events.Given as goal
 
 -- The statements so far are in the arrays.

@@ -1,7 +1,4 @@
-use Rattle.pb_text.specs.contract.Automaton.{AcceptsItems}
-use Rattle.pb_text.specs.meaning.Limits.{largest, top_of}
-use Rattle.pb_opb.specs.meaning.Instances.{IsInstance}
-use Rattle.pb_opb.specs.engine.State.{opb}
+use Rattle.pb_pieces.proofs.Common.{opb, IsInstance, AcceptsItems, largest, top_of}
 use Rattle.pb_pieces.proofs.Pulled.{read_as, refused_as}
 use Rattle.pb_pieces.proofs.read.read_flat.Goals as goal
 

@@ -1,9 +1,4 @@
-use Rattle.pb_text.specs.meaning.Limits.{largest, top_of}
-use Rattle.pb_opb.specs.engine.State.{opb}
-use Rattle.pb_opb.specs.meaning.Instances.{IsInstance}
-use Rattle.pb_proof.specs.engine.Machine.State.{proofs}
-use Rattle.pb_proof.specs.meaning.Proofs.{IsProof}
-use Rattle.pb_pieces.specs.Reader.{new_instance, new_proof}
+use Rattle.pb_pieces.proofs.Common.{opb, IsInstance, proofs, IsProof, largest, top_of, new_instance, new_proof}
 use Rattle.pb_pieces.proofs.Giving.{are_read}
 use Rattle.pb_pieces.proofs.reader.texts_are_read.Goals as goal
 

@@ -1,4 +1,4 @@
-use Rattle.pb_tool.proofs.lemmas.check.CheckerSteps.{texts_read}
+use Rattle.pb_pieces.proofs.Common.{texts_read}
 use Rattle.pb_pieces.proofs.session.texts_are_read.Goals as goal
 
 pub returns-clause-read : goal.returns-clause-read

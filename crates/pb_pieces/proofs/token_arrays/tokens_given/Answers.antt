@@ -1,5 +1,4 @@
-use Rattle.std.proofs.Common.{rules, ◌≡◌, ◌∷◌, ◌++◌, []}
-use Rattle.pb_pieces.specs.GivenTokens.{arrays_of}
+use Rattle.pb_pieces.proofs.Common.{◌++◌, ◌∷◌, ◌≡◌, [], rules, arrays_of}
 use Rattle.pb_pieces.proofs.Compared.{given_next}
 use Rattle.pb_pieces.proofs.token_arrays.tokens_given.Goals as goal
 

@@ -1,7 +1,4 @@
-use Rattle.std.proofs.Common.{◌≡◌, ℕ, length, map}
-use Rattle.std.specs.Prelude.{Some, slice_get}
-use Rattle.pb_pieces.specs.GivenTokens.{IsGivenAt, arrays_of, token_in}
-use Rattle.pb_pieces.specs.Tokens.{Token}
+use Rattle.pb_pieces.proofs.Common.{ℕ, ◌≡◌, length, map, Some, slice_get, arrays_of, IsGivenAt, token_in, Token}
 use Rattle.pb_pieces.proofs.token_arrays.tokens_given.Given as goal
 
 -- The first tokens were taken.

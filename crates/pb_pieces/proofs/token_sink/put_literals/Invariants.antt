@@ -1,6 +1,4 @@
-use Rattle.std.proofs.Common.{List, ◌++◌, map, take}
-use Rattle.pb_pieces.specs.NamedTokens.{token_of_literal}
-use Rattle.pb_pieces.specs.Tokens.{Token}
+use Rattle.pb_pieces.proofs.Common.{◌++◌, List, map, take, token_of_literal, Token}
 use Rattle.pb_pieces.proofs.token_sink.put_literals.Given as goal
 
 -- The first literals were put.

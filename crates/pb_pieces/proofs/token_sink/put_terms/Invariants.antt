@@ -1,6 +1,4 @@
-use Rattle.std.proofs.Common.{List, ◌++◌, map, take}
-use Rattle.pb_pieces.specs.NamedTokens.{token_of_term}
-use Rattle.pb_pieces.specs.Tokens.{Token}
+use Rattle.pb_pieces.proofs.Common.{◌++◌, List, map, take, token_of_term, Token}
 use Rattle.pb_pieces.proofs.token_sink.put_terms.Given as goal
 
 -- The first terms were put.

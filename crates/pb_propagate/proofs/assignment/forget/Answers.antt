@@ -1,5 +1,4 @@
-use Rattle.std.specs.Prelude.{None, false}
-use Rattle.std.proofs.Common.{refl, sym, ap, subst, drop, length, ◌+◌, ◌∙◌, arith, length-set}
+use Rattle.pb_propagate.proofs.Common.{◌+◌, ◌∙◌, ap, arith, drop, false, length, length-set, None, refl, subst, sym}
 use Rattle.pb_propagate.proofs.lemmas.engine.Values.{Forgotten, forget-next, forget-none, forget-inside}
 use Rattle.pb_propagate.proofs.assignment.forget.Goals as goal
 

@@ -1,5 +1,4 @@
-use Rattle.std.proofs.Common.{◌≡◌, length, drop}
-use Rattle.pb_propagate.specs.engine.Clauses.Truths.{AreMarked}
+use Rattle.pb_propagate.proofs.Common.{◌≡◌, drop, length, AreMarked}
 use Rattle.pb_propagate.proofs.lemmas.engine.Values.{Forgotten}
 use Rattle.pb_propagate.proofs.assignment.forget.Given as goal
 

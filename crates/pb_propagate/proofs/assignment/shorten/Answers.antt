@@ -1,5 +1,4 @@
-use Rattle.std.specs.Prelude.{None}
-use Rattle.std.proofs.Common.{◌≡◌, ℕ, ◌-◌, ◌+◌, ◌<◌, length, take, set, arith, sym, ap, ◌∙◌, subst}
+use Rattle.pb_propagate.proofs.Common.{ℕ, ◌+◌, ◌-◌, ◌<◌, ◌∙◌, ◌≡◌, ap, arith, length, None, set, subst, sym, take}
 use Rattle.pb_propagate.proofs.lemmas.root.Cuts.{IsCut, cut-inside, cut-next}
 use Rattle.pb_propagate.proofs.assignment.shorten.Goals as goal
 

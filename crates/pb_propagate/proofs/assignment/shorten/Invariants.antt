@@ -1,5 +1,4 @@
-use Rattle.std.proofs.Common.{length}
-use Rattle.pb_propagate.specs.engine.Clauses.Truths.{AreMarked}
+use Rattle.pb_propagate.proofs.Common.{length, AreMarked}
 use Rattle.pb_propagate.proofs.lemmas.root.Cuts.{IsCut}
 use Rattle.pb_propagate.proofs.assignment.shorten.Given as goal
 

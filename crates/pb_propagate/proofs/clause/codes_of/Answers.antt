@@ -1,9 +1,5 @@
-use Rattle.std.specs.Prelude.{false}
-use Rattle.std.proofs.Common.{◌≡◌, subst, ℕ, ◌++◌, ◌∷◌, [], List, ◌∙◌, sym, ap, arith, map, take, length}
-use Rattle.std.proofs.lemmas.List.{map_more, take_all}
-use Rattle.pb_normal.specs.declared.entry.Entry.{Entry}
-use Rattle.pb_propagate.specs.declared.term.Term.{Term}
-use Rattle.pb_propagate.specs.engine.Clauses.Shapes.{code, code_in, group_by}
+use Rattle.pb_propagate.proofs.Common.{ℕ, ◌++◌, ◌∙◌, ◌∷◌, ◌≡◌, [], ap, arith, false, length, List, map, subst, sym, take, map_more, take_all, Entry}
+use Rattle.pb_propagate.proofs.Common.{Term, code, code_in, group_by}
 use Rattle.pb_propagate.proofs.clause.codes_of.Goals as goal
 
 pub entries-preserved : goal.entries-preserved

@@ -1,5 +1,4 @@
-use Rattle.std.proofs.Common.{◌≡◌, map, take, length}
-use Rattle.pb_propagate.specs.engine.Clauses.Shapes.{code, group_by}
+use Rattle.pb_propagate.proofs.Common.{◌≡◌, length, map, take, code, group_by}
 use Rattle.pb_propagate.proofs.clause.codes_of.Given as goal
 
 abbrev pub invariant-entries : goal.invariant-entries

@@ -1,6 +1,4 @@
-use Rattle.std.proofs.Common.{ℕ, ◌<◌, get_or}
-use Rattle.pb_normal.specs.declared.entry.Entry.{Entry}
-use Rattle.pb_propagate.specs.engine.Clauses.Shapes.{IsLight}
+use Rattle.pb_propagate.proofs.Common.{ℕ, ◌<◌, get_or, Entry, IsLight}
 use Rattle.pb_propagate.proofs.clause.is_clause.Given as goal
 
 abbrev pub invariant-entries : goal.invariant-entries

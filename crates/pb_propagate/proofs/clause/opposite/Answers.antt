@@ -1,5 +1,4 @@
-use Rattle.std.proofs.Common.{arith}
-use Rattle.std.proofs.lemmas.Bool.Decides.{nat_tests}
+use Rattle.pb_propagate.proofs.Common.{arith, nat_tests}
 use Rattle.pb_propagate.specs.engine.Clauses.Truths.{flip}
 use Rattle.pb_propagate.proofs.clause.opposite.Goals as goal
 

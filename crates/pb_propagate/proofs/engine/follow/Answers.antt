@@ -1,4 +1,4 @@
-use Rattle.std.proofs.Common.{◌∙◌, sym}
+use Rattle.pb_propagate.proofs.Common.{◌∙◌, sym}
 use Rattle.pb_propagate.proofs.engine.follow.Goals as goal
 
 pub admit-requires-clause-gained : goal.admit-requires-clause-gained

@@ -1,4 +1,4 @@
-use Rattle.std.proofs.Common.{length, arith}
+use Rattle.pb_propagate.proofs.Common.{arith, length}
 use Rattle.pb_propagate.proofs.lemmas.engine.Rests.{undone-rest}
 use Rattle.pb_propagate.proofs.engine.rest.Goals as goal
 

@@ -1,4 +1,4 @@
-use Rattle.std.proofs.Common.{arith}
+use Rattle.pb_propagate.proofs.Common.{arith}
 use Rattle.pb_propagate.proofs.heads.next_walk.Goals as goal
 
 pub returns-clause-none : goal.returns-clause-none

@@ -1,14 +1,12 @@
 -- Blocks of words, one of which is written.
-use Rattle.std.specs.Prelude.{◌==◌, Bool, true, false, map, drop, slice_index_or, ◌/◌, ◌%◌, ◌^◌, ◌-◌}
-use Rattle.std.specs.List.{range_with_len}
-use Rattle.std.proofs.Common.{◌≡◌, ℕ, ◌+◌, ◌*◌, ◌<◌, ◌≤◌, ◌⊎◌, ◌++◌, ◌∷◌, [], List, refl, sym, ◌∙◌, ap, subst, arith, inl, inr, length, get_or, take, set, length-set, get_or-set_same, get_or-set_other, length-append}
-use Rattle.std.proofs.lemmas.Bool.{cases_eq, cases_lt, cases_Bool, both_ways, eqb-true}
-use Rattle.std.proofs.lemmas.List.{get_or_past, get_or-map, length-drop, length-take-le, get_or-drop, get_or-take, get_or_append_left, ext_get_or}
+use Rattle.pb_propagate.proofs.Common.{ℕ, ◌*◌, ◌++◌, ◌+◌, ◌-◌, ◌/◌, ◌<◌, ◌^◌, ◌∙◌, ◌∷◌, ◌≡◌, ◌≤◌, ◌⊎◌, [], ap, arith, Bool, drop, false, get_or}
+use Rattle.pb_propagate.proofs.Common.{get_or-set_other, get_or-set_same, inl, inr, length, length-append, length-set, List, map, refl, set, subst}
+use Rattle.pb_propagate.proofs.Common.{sym, take, true, ◌%◌, ◌==◌, slice_index_or, both_ways, cases_Bool, cases_eq, cases_lt, eqb-true, ext_get_or}
+use Rattle.pb_propagate.proofs.Common.{get_or-drop, get_or-map, get_or-take, get_or_append_left, get_or_past, length-drop, length-take-le}
+use Rattle.pb_propagate.proofs.Common.{range_with_len, Watch, Search, AreBlocks, AreKept, begun, Contents, contents, IsBare, IsBefore, nowhere}
+use Rattle.pb_propagate.proofs.Common.{number_at, rewatched, rewritten, searched, stored_clause, stored_search, stored_watch, table, watch_of}
+use Rattle.pb_propagate.proofs.Common.{watch_place, idle, list_at, watch_at}
 use Rattle.std.proofs.lemmas.List.FromFn.{length-map-range_with_len, length-range_with_len, get_or-range_with_len}
-use Rattle.pb_propagate.specs.declared.clauses.lists.Watch.{Watch}
-use Rattle.pb_propagate.specs.declared.clauses.search.Search.{Search}
-use Rattle.pb_propagate.specs.engine.Clauses.Links.{idle, list_at, watch_at}
-use Rattle.pb_propagate.specs.engine.Clauses.Blocks.{Contents, contents, begun, number_at, table, nowhere, watch_of, watch_place, stored_watch, stored_search, stored_clause, rewatched, searched, rewritten, IsBare, IsBefore, AreBlocks, AreKept}
 use Rattle.pb_propagate.proofs.lemmas.clauses.Gets.{last-is, push-default}
 
 -- tables

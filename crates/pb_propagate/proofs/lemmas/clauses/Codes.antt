@@ -1,6 +1,5 @@
 -- Lists of coded literals.
-use Rattle.std.specs.Prelude.{◌<◌, length, slice_index_or}
-use Rattle.std.proofs.Common.{◌≡◌, ℕ, List}
+use Rattle.pb_propagate.proofs.Common.{ℕ, ◌<◌, ◌≡◌, length, List, slice_index_or}
 pub use Rattle.pb_propagate.specs.engine.Clauses.Walked.{has}
 
 -- no literal is on the list twice

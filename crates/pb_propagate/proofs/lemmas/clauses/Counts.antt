@@ -1,14 +1,9 @@
 -- How many visits there are.
-use Rattle.std.specs.Prelude.{◌||◌, ◌==◌, Bool, true, false, Some, map, slice_get, Contains, sum, sum_by, count_by, ◌/◌}
-use Rattle.std.proofs.Common.{◌≡◌, ℕ, suc, ◌+◌, ◌<◌, ◌≤◌, ◌⊎◌, ◌++◌, ◌∷◌, [], List, cond, refl, sym, ◌∙◌, ap, subst, arith, inl, inr, length, get_or, set, eq-eqb, get_or-set_other}
-use Rattle.std.proofs.lemmas.Bool.{cases_lt, both_ways, eqb-true}
-use Rattle.std.proofs.lemmas.List.{get_or_past, get_or-map, length-map}
-use Rattle.std.proofs.lemmas.List.Sums.{sum_by-cons, sum_by-set, sum-map, get_or-le-sum_by, count_by-le-length}
-use Rattle.std.proofs.lemmas.Option.{slice_get-get_or}
-use Rattle.pb_propagate.specs.declared.clauses.lists.Watch.{Watch}
-use Rattle.pb_propagate.specs.engine.Clauses.Truths.{flip}
-use Rattle.pb_propagate.specs.engine.Clauses.Links.{watch_at, list_at}
-use Rattle.pb_propagate.specs.engine.Clauses.Runs.{AreStored}
+use Rattle.pb_propagate.proofs.Common.{ℕ, ◌++◌, ◌+◌, ◌/◌, ◌<◌, ◌||◌, ◌∙◌, ◌∷◌, ◌≡◌, ◌≤◌, ◌⊎◌, [], ap, arith, Bool, cond, eq-eqb, false, get_or}
+use Rattle.pb_propagate.proofs.Common.{get_or-set_other, inl, inr, length, List, map, refl, set, subst, suc, sym, true, ◌==◌, Contains, count_by}
+use Rattle.pb_propagate.proofs.Common.{slice_get, Some, sum, sum_by, both_ways, cases_lt, eqb-true, get_or-map, get_or_past, length-map}
+use Rattle.pb_propagate.proofs.Common.{count_by-le-length, get_or-le-sum_by, sum-map, sum_by-cons, sum_by-set, slice_get-get_or, Watch, list_at}
+use Rattle.pb_propagate.proofs.Common.{watch_at, AreStored, flip}
 pub use Rattle.pb_propagate.specs.engine.Clauses.Walked.{killed}
 use Rattle.pb_propagate.proofs.lemmas.clauses.Codes.{has, AreSingle}
 use Rattle.pb_propagate.proofs.lemmas.clauses.Linked.{one-place}

@@ -1,9 +1,7 @@
 -- The elements at positions of a list.
-use Rattle.std.specs.Prelude.{Some, None, slice_get, swap_remove}
-use Rattle.std.proofs.Common.{◌≡◌, ℕ, zero, suc, ◌+◌, ◌-◌, ◌<◌, ◌≤◌, ◌++◌, ◌∷◌, [], List, refl, sym, ◌∙◌, ap, arith, inl, inr, length, get_or, take, set, length-set}
-use Rattle.std.proofs.lemmas.Bool.{cases_lt}
-use Rattle.std.proofs.lemmas.List.{length-take-le}
-use Rattle.std.proofs.lemmas.Option.{get_or_from_slice_get, slice_get_past}
+use Rattle.pb_propagate.proofs.Common.{ℕ, ◌++◌, ◌+◌, ◌-◌, ◌<◌, ◌∙◌, ◌∷◌, ◌≡◌, ◌≤◌, [], ap, arith, get_or, inl, inr, length, length-set, List, None}
+use Rattle.pb_propagate.proofs.Common.{refl, set, suc, sym, take, zero, slice_get, Some, swap_remove, cases_lt, length-take-le, get_or_from_slice_get}
+use Rattle.pb_propagate.proofs.Common.{slice_get_past}
 
 -- at least a number, and not that number
 pub lt_of_apart : (a b : ℕ) → a ≤ b → (b ≡ a → ⊥) → a < b

@@ -1,17 +1,9 @@
 -- The occurrences of the literals on a list, and of their negations.
-use Rattle.std.specs.Prelude.{◌==◌, ◌||◌, Bool, true, false, Contains, map, sum_by, count_by}
-use Rattle.std.proofs.Common.{◌≡◌, ℕ, ◌+◌, ◌<◌, ◌≤◌, ◌⊎◌, cond, ◌++◌, ◌∷◌, [], List, refl, sym, ◌∙◌, ap, subst, arith, inl, inr, length}
-use Rattle.std.proofs.lemmas.Bool.{cases_Bool, both_ways, eqb-true, or_cases, or_left, or_right}
-use Rattle.std.proofs.lemmas.List.{map-append}
-use Rattle.std.proofs.lemmas.List.Sums.{sum_by-cons, get_or-le-sum_by}
-use Rattle.pb_normal.specs.declared.numbered.NumberedLiteral.{NumberedLiteral}
-use Rattle.pb_normal.specs.meaning.Rules.{negation}
-use Rattle.pb_propagate.specs.engine.Engine.Lists.{same, has}
-use Rattle.pb_propagate.specs.declared.clause.Group.{Group}
-use Rattle.pb_propagate.specs.declared.clause.Group.TheVariants.{Short, Long}
-use Rattle.pb_propagate.specs.engine.Clauses.Shapes.{code_in}
-use Rattle.pb_propagate.specs.engine.Clauses.Walked.{fallen, falsified_code}
-use Rattle.pb_propagate.specs.engine.Clauses.Links.{list_at}
+use Rattle.pb_propagate.proofs.Common.{ℕ, ◌++◌, ◌+◌, ◌<◌, ◌||◌, ◌∙◌, ◌∷◌, ◌≡◌, ◌≤◌, ◌⊎◌, [], ap, arith, Bool, cond, false, inl, inr, length, List}
+use Rattle.pb_propagate.proofs.Common.{map, refl, subst, sym, true, ◌==◌, Contains, count_by, sum_by, both_ways, cases_Bool, eqb-true, or_cases}
+use Rattle.pb_propagate.proofs.Common.{or_left, or_right, map-append, get_or-le-sum_by, sum_by-cons, NumberedLiteral, negation, Group, Long, Short}
+use Rattle.pb_propagate.proofs.Common.{list_at, code_in, fallen, falsified_code, same}
+use Rattle.pb_propagate.specs.engine.Engine.Lists.{has}
 use Rattle.pb_propagate.proofs.lemmas.engine.Literals.{same-refl}
 use Rattle.pb_propagate.proofs.lemmas.clauses.Literals.{code-injective, groups-apart}
 use Rattle.pb_propagate.proofs.lemmas.clauses.Codes.{has as stands}

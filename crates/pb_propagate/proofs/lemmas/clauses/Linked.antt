@@ -1,11 +1,8 @@
 -- A watch is removed from a list or added to one.
-use Rattle.std.specs.Prelude.{true, false, Some, slice_get, swap_remove, ◌^◌}
-use Rattle.std.proofs.Common.{◌≡◌, ℕ, ◌+◌, ◌-◌, ◌<◌, ◌≤◌, ◌⊎◌, ◌++◌, ◌∷◌, [], List, refl, sym, ◌∙◌, ap, subst, arith, inl, inr, length, get_or, set, length-set, get_or-set_same, get_or-set_other}
-use Rattle.std.proofs.lemmas.Bool.{cases_eq, cases_lt, both_ways}
-use Rattle.std.proofs.lemmas.List.{get_or_past}
-use Rattle.std.proofs.lemmas.Option.{same_Some, slice_get_within, none-some}
-use Rattle.pb_propagate.specs.declared.clauses.lists.Watch.{Watch}
-use Rattle.pb_propagate.specs.engine.Clauses.Links.{idle, watch_at, list_at, Sits, AreLinked, Remains}
+use Rattle.pb_propagate.proofs.Common.{ℕ, ◌++◌, ◌+◌, ◌-◌, ◌<◌, ◌^◌, ◌∙◌, ◌∷◌, ◌≡◌, ◌≤◌, ◌⊎◌, [], ap, arith, false, get_or, get_or-set_other}
+use Rattle.pb_propagate.proofs.Common.{get_or-set_same, inl, inr, length, length-set, List, refl, set, subst, sym, true, slice_get, Some, swap_remove}
+use Rattle.pb_propagate.proofs.Common.{both_ways, cases_eq, cases_lt, get_or_past, none-some, same_Some, slice_get_within, Watch, AreLinked, idle}
+use Rattle.pb_propagate.proofs.Common.{list_at, Remains, Sits, watch_at}
 use Rattle.pb_propagate.proofs.lemmas.clauses.Few.{numbers-few}
 use Rattle.pb_propagate.proofs.lemmas.clauses.Gets.{get-push_less, get-push_same, get-push_past, swap-other, swap-here, swap-past, lt_of_apart}
 

@@ -1,13 +1,10 @@
 -- Entries of lists are written, added and removed.
-use Rattle.std.specs.Prelude.{Some, None, option_map, slice_get, swap_remove, map, Contains, Vec, ◌/◌, ◌-◌, slice_index_or}
-use Rattle.std.specs.Global.{Global}
-use Rattle.std.proofs.Common.{◌≡◌, ℕ, zero, suc, true, ◌+◌, ◌*◌, ◌<◌, ◌≤◌, ◌⊎◌, ◌++◌, ◌∷◌, [], List, refl, sym, ◌∙◌, ap, subst, arith, inl, inr, length, get_or, set, take, get_or-set_same, get_or-set_other, length-set}
-use Rattle.std.proofs.lemmas.Bool.{cases_eq, cases_lt}
-use Rattle.std.proofs.lemmas.List.{get_or_past, get_or-map, map-set, length-map, take-map, set-get_or}
-use Rattle.std.proofs.lemmas.Option.{slice_get-map, slice_get_within, same_Some, none-some, get_or_from_slice_get}
-use Rattle.pb_propagate.specs.declared.clauses.lists.Listed.{Listed}
-use Rattle.pb_propagate.specs.declared.clauses.lists.Watch.{Watch}
-use Rattle.pb_propagate.specs.engine.Clauses.Links.{list_at, watch_at, watch_lists, entries_at, IsListed, AreFewer, AreMore, AreBlocked, AreLinked}
+use Rattle.pb_propagate.proofs.Common.{ℕ, ◌*◌, ◌++◌, ◌+◌, ◌-◌, ◌/◌, ◌<◌, ◌∙◌, ◌∷◌, ◌≡◌, ◌≤◌, ◌⊎◌, [], ap, arith, get_or, get_or-set_other}
+use Rattle.pb_propagate.proofs.Common.{get_or-set_same, Global, inl, inr, length, length-set, List, map, None, refl, set, subst, suc, sym, take, true}
+use Rattle.pb_propagate.proofs.Common.{Vec, zero, Contains, option_map, slice_get, slice_index_or, Some, swap_remove, cases_eq, cases_lt, get_or-map}
+use Rattle.pb_propagate.proofs.Common.{get_or_past, length-map, map-set, set-get_or, take-map, get_or_from_slice_get, none-some, same_Some}
+use Rattle.pb_propagate.proofs.Common.{slice_get-map, slice_get_within, Listed, Watch, AreBlocked, AreFewer, AreLinked, AreMore, entries_at, IsListed}
+use Rattle.pb_propagate.proofs.Common.{list_at, watch_at, watch_lists}
 use Rattle.pb_propagate.proofs.lemmas.clauses.Gets.{get-take_less, get-set_same, get-set_other, get-push_same, get-push_other, swap-past}
 
 pub lists-length : (occ : List (Vec Listed Global)) → length (watch_lists occ) ≡ length occ

@@ -1,16 +1,9 @@
 -- Codes and their literals.
-use Rattle.std.specs.Prelude.{◌==◌, Bool, true, false, not, Option, Some, None, ◌/◌, ◌%◌}
-use Rattle.std.proofs.Common.{◌≡◌, ℕ, ◌+◌, ◌*◌, ◌⊎◌, cond, List, refl, sym, ◌∙◌, ap, inl, inr, arith, get_or}
-use Rattle.std.proofs.lemmas.Bool.{cases_eq}
-use Rattle.std.proofs.lemmas.Bool.Decides.{nat_tests}
-use Rattle.pb_normal.specs.declared.numbered.NumberedLiteral.{NumberedLiteral}
-use Rattle.pb_normal.specs.meaning.Rules.{negation}
-use Rattle.pb_propagate.specs.engine.Engine.Lists.{has, holds, says}
-use Rattle.pb_propagate.specs.declared.clause.Group.{Group}
-use Rattle.pb_propagate.specs.declared.clause.Group.TheVariants.{Short, Long}
-use Rattle.pb_propagate.specs.engine.Clauses.Truths.{is_met, is_failed, true_at, false_at}
-use Rattle.pb_propagate.specs.engine.Clauses.Shapes.{literal_at, offset, code_in}
-use Rattle.pb_propagate.specs.engine.Clauses.Walked.{falsified_code}
+use Rattle.pb_propagate.proofs.Common.{ℕ, ◌*◌, ◌+◌, ◌/◌, ◌∙◌, ◌≡◌, ◌⊎◌, ap, arith, Bool, cond, false, get_or, inl, inr, List, None, not, refl, sym}
+use Rattle.pb_propagate.proofs.Common.{true, ◌%◌, ◌==◌, Option, Some, cases_eq, nat_tests, NumberedLiteral, negation, Group, Long, Short, code_in}
+use Rattle.pb_propagate.proofs.Common.{literal_at, offset, is_failed, is_met, falsified_code, has, holds}
+use Rattle.pb_propagate.specs.engine.Engine.Lists.{says}
+use Rattle.pb_propagate.specs.engine.Clauses.Truths.{true_at, false_at}
 use Rattle.pb_propagate.proofs.lemmas.engine.Literals.{negation-negation}
 
 met-holds : (o : Option Bool) (p : Bool) → is_met o p ≡ holds o (not p)

@@ -1,11 +1,9 @@
 -- The marks of falsified literals follow the values.
-use Rattle.std.specs.Prelude.{◌==◌, Bool, true, false, not, Option, Some, None, ◌/◌, ◌%◌}
-use Rattle.std.proofs.Common.{◌≡◌, ℕ, ◌+◌, ◌*◌, ◌<◌, ◌++◌, ◌∷◌, [], List, length, get_or, set, ◌⊎◌, refl, sym, ◌∙◌, ap, inl, inr, arith, length-set, get_or-set_other}
-use Rattle.std.proofs.lemmas.Bool.{cases_eq, eq-eqb, ne_eqb}
-use Rattle.std.proofs.lemmas.Bool.Decides.{nat_tests}
+use Rattle.pb_propagate.proofs.Common.{ℕ, ◌*◌, ◌++◌, ◌+◌, ◌/◌, ◌<◌, ◌∙◌, ◌∷◌, ◌≡◌, ◌⊎◌, [], ap, arith, Bool, eq-eqb, false, get_or, get_or-set_other}
+use Rattle.pb_propagate.proofs.Common.{inl, inr, length, length-append, length-set, List, None, not, refl, set, sym, true, ◌%◌, ◌==◌, Option, Some}
+use Rattle.pb_propagate.proofs.Common.{cases_eq, ne_eqb, nat_tests, get_or_past, AreMarked, is_failed, is_met}
 use Rattle.std.proofs.lemmas.Grind.{get_or-set_at}
-use Rattle.std.proofs.lemmas.List.{length-append, get_or_past}
-use Rattle.pb_propagate.specs.engine.Clauses.Truths.{flip, is_met, is_failed, true_at, false_at, AreMarked}
+use Rattle.pb_propagate.specs.engine.Clauses.Truths.{flip, true_at, false_at}
 use Rattle.pb_propagate.proofs.lemmas.clauses.Gets.{push-default}
 use Rattle.pb_propagate.proofs.lemmas.clauses.Truths.{flip-variable}
 

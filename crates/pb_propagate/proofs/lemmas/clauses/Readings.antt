@@ -1,17 +1,9 @@
 -- A visit to a watch, in terms of what the program reads.
-use Rattle.std.specs.Prelude.{Bool, true, false, Option, Some, slice_get, All, Contains, Vec, ◌/◌, map, sum, min}
-use Rattle.std.specs.Global.{Global}
-use Rattle.std.proofs.Common.{◌≡◌, ℕ, ◌+◌, ◌*◌, ◌<◌, ◌≤◌, ◌⊎◌, ◌++◌, ◌∷◌, [], List, refl, sym, ◌∙◌, ap, subst, arith, inl, inr, length, get_or, set, get_or-set_same, get_or-set_other}
-use Rattle.std.proofs.lemmas.Bool.{cases_eq}
-use Rattle.std.proofs.lemmas.List.Sums.{sum_by-set}
-use Rattle.pb_propagate.specs.declared.clauses.lists.Watch.{Watch}
-use Rattle.pb_propagate.specs.declared.clauses.lists.Listed.{Listed}
-use Rattle.pb_propagate.specs.declared.clauses.search.Search.{Search}
-use Rattle.pb_propagate.specs.declared.clauses.Clauses.{Clauses}
-use Rattle.pb_propagate.specs.engine.Clauses.Truths.{flip, false_at}
-use Rattle.pb_propagate.specs.engine.Clauses.Links.{watch_at, list_at, watch_lists, AreMore}
-use Rattle.pb_propagate.specs.engine.Clauses.Blocks.{Contents, rewatched, searched}
-use Rattle.pb_propagate.specs.engine.Clauses.Runs.{ArePassed, AreNoted, IsRunning, turned, all_turned, passed_of, search_at, IsRound}
+use Rattle.pb_propagate.proofs.Common.{ℕ, ◌*◌, ◌++◌, ◌+◌, ◌/◌, ◌<◌, ◌∙◌, ◌∷◌, ◌≡◌, ◌≤◌, ◌⊎◌, [], ap, arith, Bool, false, get_or, get_or-set_other}
+use Rattle.pb_propagate.proofs.Common.{get_or-set_same, Global, inl, inr, length, List, map, min, refl, set, subst, sym, true, Vec, All, Contains}
+use Rattle.pb_propagate.proofs.Common.{Option, slice_get, Some, sum, cases_eq, sum_by-set, Clauses, Listed, Watch, Search, Contents, rewatched}
+use Rattle.pb_propagate.proofs.Common.{searched, AreMore, list_at, watch_at, watch_lists, all_turned, AreNoted, ArePassed, IsRound, IsRunning}
+use Rattle.pb_propagate.proofs.Common.{passed_of, search_at, turned, false_at, flip}
 use Rattle.pb_propagate.proofs.lemmas.clauses.Searches.{turned-round, passed-at, passed-length, passed-set, round-set}
 use Rattle.pb_propagate.proofs.lemmas.clauses.Turned.{turned-at, turned-count, turned-length, turned-size, stored-turned, stored-back}
 use Rattle.pb_propagate.proofs.lemmas.clauses.Listed.{lists-length, blocked-more}

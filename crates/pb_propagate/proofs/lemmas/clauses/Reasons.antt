@@ -1,15 +1,8 @@
 -- The reasons of literals among all constraints.
-use Rattle.std.specs.Prelude.{Bool, false, Option, Some, slice_get}
-use Rattle.std.proofs.Common.{◌≡◌, ℕ, ◌<◌, ◌++◌, ◌∷◌, [], List, refl, sym, ◌∙◌, ap, subst, arith, length, get_or}
-use Rattle.std.proofs.lemmas.Option.{get_or_from_slice_get, slice_get-get_or, slice_get_within}
-use Rattle.pb_normal.specs.declared.numbered.NumberedLiteral.{NumberedLiteral}
-use Rattle.pb_normal.specs.meaning.Rules.{negation}
-use Rattle.pb_propagate.specs.declared.run.Run.{Run}
-use Rattle.pb_propagate.specs.engine.Engine.Lists.{Shape, has, Puts, HaveReasons, by_reason, KeepsReasons}
-use Rattle.pb_propagate.specs.engine.Engine.Progress.{RunReasons, RunKeepsReasons, list_of, reasons_of}
-use Rattle.pb_propagate.specs.engine.Clauses.Links.{list_at}
-use Rattle.pb_propagate.specs.engine.Clauses.Runs.{IsUnit}
-use Rattle.pb_propagate.specs.engine.Clauses.Shapes.{literal_at, clause_shape, slot_shape, joined, AreJoined}
+use Rattle.pb_propagate.proofs.Common.{ℕ, ◌++◌, ◌<◌, ◌∙◌, ◌∷◌, ◌≡◌, [], ap, arith, Bool, false, get_or, length, List, refl, subst, sym, Option}
+use Rattle.pb_propagate.proofs.Common.{slice_get, Some, get_or_from_slice_get, slice_get-get_or, slice_get_within, NumberedLiteral, negation, Run}
+use Rattle.pb_propagate.proofs.Common.{list_at, IsUnit, AreJoined, clause_shape, joined, literal_at, slot_shape, by_reason, has, HaveReasons}
+use Rattle.pb_propagate.proofs.Common.{KeepsReasons, Puts, Shape, list_of, reasons_of, RunKeepsReasons, RunReasons}
 use Rattle.pb_propagate.proofs.lemmas.clauses.Literals.{Agree}
 use Rattle.pb_propagate.proofs.lemmas.clauses.Shapes.{clause-stored, joined-at, joined-length, unit-puts, unit-some}
 use Rattle.pb_propagate.proofs.lemmas.engine.Reasoned.{moved-same, reasons-keep, reasons-moved}

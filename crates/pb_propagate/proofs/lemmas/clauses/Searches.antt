@@ -1,14 +1,8 @@
 -- Searches go round their clauses.
-use Rattle.std.specs.Prelude.{map, Bool, Option}
-use Rattle.std.proofs.Common.{◌≡◌, ℕ, ◌+◌, ◌-◌, ◌<◌, ◌≤◌, ◌⊎◌, true, List, length, get_or, set, sym, ◌∙◌, ap, subst, arith, inl, inr, get_or-set_same, get_or-set_other}
-use Rattle.std.proofs.lemmas.Bool.{cases_eq, cases_lt}
-use Rattle.std.proofs.lemmas.Bool.Decides.{nat_tests}
-use Rattle.std.proofs.lemmas.List.{get_or-map, get_or_past, length-map, map-set}
-use Rattle.pb_propagate.specs.declared.clauses.Clauses.{Clauses}
-use Rattle.pb_propagate.specs.declared.clauses.search.Search.{Search}
-use Rattle.pb_propagate.specs.engine.Clauses.Links.{list_at}
-use Rattle.pb_propagate.specs.engine.Clauses.Truths.{false_at}
-use Rattle.pb_propagate.specs.engine.Clauses.Runs.{turned, around, search_at, passed_of, IsRound, AreRound}
+use Rattle.pb_propagate.proofs.Common.{ℕ, ◌+◌, ◌-◌, ◌<◌, ◌∙◌, ◌≡◌, ◌≤◌, ◌⊎◌, ap, arith, Bool, get_or, get_or-set_other, get_or-set_same, inl, inr}
+use Rattle.pb_propagate.proofs.Common.{length, List, map, set, subst, sym, true, Option, cases_eq, cases_lt, nat_tests, get_or-map, get_or_past}
+use Rattle.pb_propagate.proofs.Common.{length-map, map-set, Clauses, Search, list_at, AreRound, around, IsRound, passed_of, search_at, turned}
+use Rattle.pb_propagate.proofs.Common.{false_at}
 use Rattle.pb_propagate.proofs.lemmas.clauses.Turned.{turned-early, turned-late}
 
 around-less : (n count : ℕ) → n < count → around n count ≡ n

@@ -1,19 +1,10 @@
 -- Clauses as constraints.
-use Rattle.std.specs.Prelude.{◌==◌, Bool, true, false, Option, Some, map, Contains, count_by, slice_get}
-use Rattle.std.proofs.Common.{◌≡◌, ℕ, zero, suc, ◌+◌, ◌<◌, ◌≤◌, cond, ◌⊎◌, ◌∷◌, [], List, refl, sym, ◌∙◌, ap, arith, inl, inr, length, get_or, eq-eqb}
-use Rattle.std.proofs.lemmas.Bool.{cases_Bool, both_ways}
-use Rattle.std.proofs.lemmas.List.{get_or-map, length-map}
-use Rattle.std.proofs.lemmas.List.Sums.{sum_by-cons}
-use Rattle.std.proofs.lemmas.Option.{slice_get-get_or}
-use Rattle.pb_normal.specs.declared.numbered.NumberedLiteral.{NumberedLiteral}
-use Rattle.pb_normal.specs.meaning.Rules.{negation}
-use Rattle.pb_propagate.specs.declared.term.Term.{Term}
-use Rattle.pb_propagate.specs.engine.Engine.Lists.{Shape, has, open_part, open_sum, Puts, Derives, begin, put, Conflicts, opposed, broken, IsSettled}
-use Rattle.pb_propagate.specs.engine.Engine.Rest.{IsRefuted, opposite, derived}
-use Rattle.pb_propagate.specs.engine.Clauses.Truths.{true_at, false_at}
-use Rattle.pb_propagate.specs.engine.Clauses.Links.{list_at}
-use Rattle.pb_propagate.specs.engine.Clauses.Runs.{IsUnit, IsBroken}
-use Rattle.pb_propagate.specs.engine.Clauses.Shapes.{literal_at, one_term, clause_shape, slot_shape, joined, AreJoined}
+use Rattle.pb_propagate.proofs.Common.{ℕ, ◌+◌, ◌<◌, ◌∙◌, ◌∷◌, ◌≡◌, ◌≤◌, ◌⊎◌, [], ap, arith, Bool, cond, eq-eqb, false, get_or, inl, inr, length, List}
+use Rattle.pb_propagate.proofs.Common.{map, refl, suc, sym, true, zero, ◌==◌, Contains, count_by, Option, slice_get, Some, both_ways, cases_Bool}
+use Rattle.pb_propagate.proofs.Common.{get_or-map, length-map, sum_by-cons, slice_get-get_or, NumberedLiteral, negation, Term, list_at, IsBroken}
+use Rattle.pb_propagate.proofs.Common.{IsUnit, AreJoined, clause_shape, joined, literal_at, one_term, slot_shape, false_at, true_at, begin, broken}
+use Rattle.pb_propagate.proofs.Common.{Conflicts, Derives, has, IsSettled, open_part, open_sum, opposed, put, Puts, Shape, derived, IsRefuted}
+use Rattle.pb_propagate.specs.engine.Engine.Rest.{opposite}
 use Rattle.pb_propagate.proofs.lemmas.engine.Literals.{open_part-falsified, open_part-open}
 use Rattle.pb_propagate.proofs.lemmas.engine.Derivations.{one_itself, settled-of_terms}
 use Rattle.pb_propagate.proofs.lemmas.clauses.Literals.{Agree, true-listed, false-listed}

@@ -1,20 +1,11 @@
 -- The constraints of all slots when a constraint is added or removed.
-use Rattle.std.specs.Prelude.{◌==◌, ◌/◌, ◌%◌, not, Bool, true, false, All, map, count_by, Option, Some, None, slice_get, IsPermutation}
-use Rattle.std.proofs.Common.{◌≡◌, ℕ, zero, suc, ◌+◌, ◌*◌, ◌<◌, ◌≤◌, cond, ◌⊎◌, ◌++◌, ◌∷◌, [], List, refl, sym, ◌∙◌, ap, subst, arith, inl, inr, length, get_or, set, length-set, length-append, get_or-set_same, get_or-set_other, eq-eqb}
-use Rattle.std.proofs.lemmas.Bool.{cases_eq, cases_Bool, eqb-true}
-use Rattle.std.proofs.lemmas.List.{get_or_append_left}
-use Rattle.std.proofs.lemmas.List.Sorted.{IsPermutation-refl}
-use Rattle.std.proofs.lemmas.List.Sums.{sum_by-cons}
-use Rattle.std.proofs.lemmas.Option.{slice_get_within}
-use Rattle.pb_normal.specs.declared.entry.Entry.{Entry}
-use Rattle.pb_normal.specs.meaning.Form.{Form, IsNormal, IsRising}
-use Rattle.pb_propagate.specs.engine.Engine.Lists.{Shape}
-use Rattle.pb_propagate.specs.engine.Engine.Forms.{entry_of, IsStoredAs}
-use Rattle.pb_propagate.specs.engine.Engine.Rest.{IsSlot, AreSlots}
-use Rattle.pb_propagate.specs.engine.Clauses.Links.{list_at}
-use Rattle.pb_propagate.specs.declared.clause.Group.{Group}
-use Rattle.pb_propagate.specs.declared.clause.Group.TheVariants.{Short, Long}
-use Rattle.pb_propagate.specs.engine.Clauses.Shapes.{code, offset, group_by, codes_of_terms, one_term, clause_shape, slot_shape, joined, AreDifferent, AreJoined, IsLight, IsClause}
+use Rattle.pb_propagate.proofs.Common.{ℕ, ◌*◌, ◌++◌, ◌+◌, ◌/◌, ◌<◌, ◌∙◌, ◌∷◌, ◌≡◌, ◌≤◌, ◌⊎◌, [], ap, arith, Bool, cond, eq-eqb, false, get_or}
+use Rattle.pb_propagate.proofs.Common.{get_or-set_other, get_or-set_same, inl, inr, length, length-append, length-set, List, map, None, not, refl}
+use Rattle.pb_propagate.proofs.Common.{set, subst, suc, sym, true, zero, ◌%◌, ◌==◌, All, count_by, IsPermutation, Option, slice_get, Some, cases_Bool}
+use Rattle.pb_propagate.proofs.Common.{cases_eq, eqb-true, get_or_append_left, IsPermutation-refl, sum_by-cons, slice_get_within, Entry, Form}
+use Rattle.pb_propagate.proofs.Common.{IsNormal, IsRising, Group, Long, Short, list_at, AreDifferent, AreJoined, clause_shape, code, codes_of_terms}
+use Rattle.pb_propagate.proofs.Common.{group_by, IsClause, IsLight, joined, offset, one_term, slot_shape, entry_of, IsStoredAs, Shape, AreSlots}
+use Rattle.pb_propagate.proofs.Common.{IsSlot}
 use Rattle.pb_propagate.proofs.lemmas.clauses.Gets.{push-default}
 use Rattle.pb_propagate.proofs.lemmas.clauses.Literals.{half-of, parity-of}
 use Rattle.pb_propagate.proofs.lemmas.clauses.Shapes.{joined-at, joined-length, shape-some}

@@ -1,16 +1,12 @@
 -- What a visit to a watch leaves of what a run knows.
-use Rattle.std.specs.Prelude.{Bool, true, false, Option, Some, slice_get, All, Contains, ◌/◌}
-use Rattle.std.proofs.Common.{◌≡◌, ℕ, ◌+◌, ◌*◌, ◌<◌, ◌≤◌, ◌⊎◌, ◌++◌, ◌∷◌, [], List, refl, sym, ◌∙◌, ap, subst, arith, inl, inr, length, get_or, set, length-set, get_or-set_same, get_or-set_other}
-use Rattle.std.proofs.lemmas.Bool.{cases_eq, cases_lt, both_ways}
-use Rattle.std.proofs.lemmas.List.{get_or_default}
-use Rattle.std.proofs.lemmas.List.Elements.{All-contains, Contains-get_or, Contains-push, Contains-append_left, Contains-push_cases}
-use Rattle.pb_propagate.specs.declared.clauses.lists.Watch.{Watch}
-use Rattle.pb_propagate.specs.engine.Clauses.Truths.{flip, true_at, false_at}
-use Rattle.pb_propagate.specs.engine.Clauses.Links.{watch_at, list_at, AreLinked, Remains}
-use Rattle.pb_propagate.specs.engine.Clauses.Runs.{AreWalked, HasTrue, Grows, AreStored, IsWatched, ArePassed, AreNoted, AreServed, IsUnit, IsBroken}
+use Rattle.pb_propagate.proofs.Common.{ℕ, ◌*◌, ◌++◌, ◌+◌, ◌/◌, ◌<◌, ◌∙◌, ◌∷◌, ◌≡◌, ◌≤◌, ◌⊎◌, [], ap, arith, Bool, false, get_or, get_or-set_other}
+use Rattle.pb_propagate.proofs.Common.{get_or-set_same, inl, inr, length, length-set, List, refl, set, subst, sym, true, All, Contains, Option}
+use Rattle.pb_propagate.proofs.Common.{slice_get, Some, both_ways, cases_eq, cases_lt, get_or_default, All-contains, Contains-append_left}
+use Rattle.pb_propagate.proofs.Common.{Contains-get_or, Contains-push, Contains-push_cases, same_Some, Watch, AreLinked, list_at, Remains, watch_at}
+use Rattle.pb_propagate.proofs.Common.{AreNoted, ArePassed, AreServed, AreStored, AreWalked, Grows, HasTrue, IsBroken, IsUnit, IsWatched, false_at}
+use Rattle.pb_propagate.proofs.Common.{flip, true_at}
 use Rattle.pb_propagate.proofs.lemmas.clauses.Linked.{sits-within}
 use Rattle.pb_propagate.proofs.lemmas.clauses.Truths.{flip-half, flip-flip, flip-apart, same-slot}
-use Rattle.std.proofs.lemmas.Option.{same_Some}
 
 -- a live watch is one of the stored ones
 pub live-within : (ws : List Watch) (e : ℕ) → (watch_at ws e).live ≡ true → e < length ws

@@ -1,20 +1,11 @@
 -- Clauses are added and removed.
-use Rattle.std.specs.Prelude.{Bool, Option, true, false, Some, slice_get, All, Contains, Vec, map, ◌/◌}
-use Rattle.std.specs.Global.{Global}
-use Rattle.std.proofs.Common.{◌≡◌, ℕ, zero, suc, ◌+◌, ◌*◌, ◌<◌, ◌≤◌, ◌⊎◌, ◌++◌, ◌∷◌, [], List, refl, sym, ◌∙◌, ap, subst, arith, inl, inr, length, get_or, set, length-set, length-append, get_or-set_same, get_or-set_other}
-use Rattle.std.proofs.lemmas.Bool.{cases_eq, cases_lt, both_ways}
-use Rattle.std.proofs.lemmas.List.{get_or_past, get_or_read, get_or_append_left, map-append, map-set}
-use Rattle.std.proofs.lemmas.List.Elements.{Contains-get_or}
-use Rattle.std.proofs.lemmas.Option.{slice_get_within}
-use Rattle.pb_propagate.specs.declared.clauses.lists.Watch.{Watch}
-use Rattle.pb_propagate.specs.declared.clauses.lists.Listed.{Listed}
-use Rattle.pb_propagate.specs.declared.clauses.search.Search.{Search}
-use Rattle.pb_propagate.specs.declared.clauses.Clauses.{Clauses}
+use Rattle.pb_propagate.proofs.Common.{ℕ, ◌*◌, ◌++◌, ◌+◌, ◌/◌, ◌<◌, ◌∙◌, ◌∷◌, ◌≡◌, ◌≤◌, ◌⊎◌, [], ap, arith, Bool, false, get_or, get_or-set_other}
+use Rattle.pb_propagate.proofs.Common.{get_or-set_same, Global, inl, inr, length, length-append, length-set, List, map, refl, set, subst, suc, sym}
+use Rattle.pb_propagate.proofs.Common.{true, Vec, zero, All, Contains, Option, slice_get, Some, both_ways, cases_eq, cases_lt, get_or_append_left}
+use Rattle.pb_propagate.proofs.Common.{get_or_past, get_or_read, map-append, map-set, Contains-get_or, slice_get_within, Clauses, Listed, Watch}
+use Rattle.pb_propagate.proofs.Common.{Search, begun, Contents, AreBlocked, AreFewer, AreLinked, AreMore, entries_at, idle, IsListed, list_at, Sits}
+use Rattle.pb_propagate.proofs.Common.{watch_at, watch_lists, AreNoted, AreReady, AreStored, IsPair, IsRunning, passed_of, search_at, flip}
 use Rattle.pb_propagate.specs.declared.clauses.watched.Pair.{Pair}
-use Rattle.pb_propagate.specs.engine.Clauses.Truths.{flip}
-use Rattle.pb_propagate.specs.engine.Clauses.Links.{idle, watch_at, list_at, watch_lists, entries_at, Sits, AreLinked, AreBlocked, IsListed, AreFewer, AreMore}
-use Rattle.pb_propagate.specs.engine.Clauses.Blocks.{Contents, begun}
-use Rattle.pb_propagate.specs.engine.Clauses.Runs.{AreStored, AreNoted, AreReady, IsPair, IsRunning, passed_of, search_at}
 use Rattle.pb_propagate.proofs.lemmas.clauses.Linked.{list-within}
 use Rattle.pb_propagate.proofs.lemmas.clauses.Listed.{lists-length, watch-entries, listed-live, blocked-set}
 use Rattle.pb_propagate.proofs.lemmas.clauses.Truths.{flip-half, flip-flip, flip-even}

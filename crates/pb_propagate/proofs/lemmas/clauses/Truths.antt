@@ -1,8 +1,7 @@
 -- Literals, coded, and their truth.
-use Rattle.std.specs.Prelude.{◌==◌, Bool, true, false, Option, Some, None, ◌/◌, ◌%◌}
-use Rattle.std.proofs.Common.{◌≡◌, ℕ, ◌+◌, ◌*◌, List, get_or, arith}
-use Rattle.std.proofs.lemmas.Bool.Decides.{nat_tests}
-use Rattle.pb_propagate.specs.engine.Clauses.Truths.{flip, is_met, is_failed, true_at, false_at}
+use Rattle.pb_propagate.proofs.Common.{ℕ, ◌*◌, ◌+◌, ◌/◌, ◌≡◌, arith, Bool, false, get_or, List, None, true, ◌%◌, ◌==◌, Option, Some, nat_tests}
+use Rattle.pb_propagate.proofs.Common.{is_failed, is_met}
+use Rattle.pb_propagate.specs.engine.Clauses.Truths.{flip, true_at, false_at}
 
 pub flip-half : (c : ℕ) → flip c / 2 ≡ c / 2
 unfolding flip

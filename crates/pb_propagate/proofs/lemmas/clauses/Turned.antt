@@ -1,12 +1,9 @@
 -- Clauses in the order in which they are searched.
-use Rattle.std.proofs.Common.{◌≡◌, ℕ, zero, suc, ◌+◌, ◌*◌, ◌-◌, ◌<◌, ◌≤◌, ◌⊎◌, true, List, [], ◌∷◌, length, get_or, take, refl, sym, ◌∙◌, ap, subst, arith, inl, inr, length-append}
-use Rattle.std.specs.Prelude.{◌/◌, Contains, Bool, Option, drop}
-use Rattle.std.proofs.lemmas.List.{take-append-drop, length-drop, get_or-drop, get_or-take, get_or_append_left, get_or-append_right}
-use Rattle.std.proofs.lemmas.List.Elements.{All-contains, Contains-append_left, Contains-append_right, Contains-append_cases, Contains-get_or}
-use Rattle.pb_propagate.specs.declared.clauses.lists.Watch.{Watch}
-use Rattle.pb_propagate.specs.engine.Clauses.Links.{list_at, watch_at}
-use Rattle.pb_propagate.specs.engine.Clauses.Truths.{false_at}
-use Rattle.pb_propagate.specs.engine.Clauses.Runs.{turned, all_turned, AreStored, IsUnit, IsBroken}
+use Rattle.pb_propagate.proofs.Common.{ℕ, ◌*◌, ◌+◌, ◌-◌, ◌/◌, ◌<◌, ◌∙◌, ◌∷◌, ◌≡◌, ◌≤◌, ◌⊎◌, [], ap, arith, Bool, drop, get_or, inl, inr, length}
+use Rattle.pb_propagate.proofs.Common.{length-append, List, refl, subst, suc, sym, take, true, zero, Contains, Option, get_or-append_right}
+use Rattle.pb_propagate.proofs.Common.{get_or-drop, get_or-take, get_or_append_left, length-drop, take-append-drop, All-contains}
+use Rattle.pb_propagate.proofs.Common.{Contains-append_cases, Contains-append_left, Contains-append_right, Contains-get_or, Watch, list_at, watch_at}
+use Rattle.pb_propagate.proofs.Common.{all_turned, AreStored, IsBroken, IsUnit, turned, false_at}
 
 pub turned-length : (start : ℕ) (xs : List ℕ) → length (turned start xs) ≡ length xs
 turned-length start xs = omega (arith, length-append (drop start xs) (take start xs), length-append (take start xs) (drop start xs), ap length (take-append-drop start xs))

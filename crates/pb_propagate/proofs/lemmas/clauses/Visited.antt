@@ -1,17 +1,9 @@
 -- What a search in a clause has found, and what it leaves.
-use Rattle.std.specs.Prelude.{Bool, true, false, Option, Some, slice_get, Contains, Vec, ◌/◌, map, sum, min}
-use Rattle.std.specs.Global.{Global}
-use Rattle.std.proofs.Common.{◌≡◌, ℕ, ◌+◌, ◌*◌, ◌<◌, ◌≤◌, ◌⊎◌, ◌++◌, ◌∷◌, [], List, refl, sym, ◌∙◌, ap, subst, arith, length, get_or, set}
-use Rattle.std.proofs.lemmas.List.Elements.{All-contains}
-use Rattle.pb_propagate.specs.declared.clauses.lists.Watch.{Watch}
-use Rattle.pb_propagate.specs.declared.clauses.lists.Listed.{Listed}
-use Rattle.pb_propagate.specs.declared.clauses.search.Search.{Search}
-use Rattle.pb_propagate.specs.declared.clauses.Clauses.{Clauses}
-use Rattle.pb_propagate.specs.declared.clauses.visiting.Visit.TheVariants.{Stays, Leaves, Forces, Falsified}
-use Rattle.pb_propagate.specs.engine.Clauses.Truths.{flip, true_at, false_at}
-use Rattle.pb_propagate.specs.engine.Clauses.Links.{watch_at, list_at, watch_lists, AreLinked, Remains, IsListed, AreMore}
-use Rattle.pb_propagate.specs.engine.Clauses.Blocks.{Contents, rewatched, searched}
-use Rattle.pb_propagate.specs.engine.Clauses.Runs.{AreStored, IsRunning, IsRound, IsUnit, IsBroken, HasVisited, turned, around, all_turned, passed_of, search_at}
+use Rattle.pb_propagate.proofs.Common.{ℕ, ◌*◌, ◌++◌, ◌+◌, ◌/◌, ◌<◌, ◌∙◌, ◌∷◌, ◌≡◌, ◌≤◌, ◌⊎◌, [], ap, arith, Bool, false, get_or, Global, length, List}
+use Rattle.pb_propagate.proofs.Common.{map, min, refl, set, subst, sym, true, Vec, Contains, Option, slice_get, Some, sum, All-contains, Clauses}
+use Rattle.pb_propagate.proofs.Common.{Listed, Watch, Search, Falsified, Forces, Leaves, Stays, Contents, rewatched, searched, AreLinked, AreMore}
+use Rattle.pb_propagate.proofs.Common.{IsListed, list_at, Remains, watch_at, watch_lists, all_turned, AreStored, around, HasVisited, IsBroken}
+use Rattle.pb_propagate.proofs.Common.{IsRound, IsRunning, IsUnit, passed_of, search_at, turned, false_at, flip, true_at}
 use Rattle.pb_propagate.proofs.lemmas.clauses.Readings.{Reading, Resuming, reading-live, reading-slot, resuming-within, resuming-round, resuming-inside, resuming-turned, searched-by, visiting-by, running-end, running-move, covered-by}
 use Rattle.pb_propagate.proofs.lemmas.clauses.Searches.{turned-round, round-inside, round-next}
 use Rattle.pb_propagate.proofs.lemmas.clauses.Steps.{broken-of, unit-of, served-true, served-move, walked-move, HasSearched, Shifted, Visiting}

@@ -1,20 +1,11 @@
 -- The walk over the watches of a falsified literal.
-use Rattle.std.specs.Prelude.{◌/◌, Bool, true, Option}
-use Rattle.std.proofs.Common.{◌≡◌, ℕ, ◌+◌, ◌-◌, ◌*◌, ◌^◌, ◌<◌, ◌≤◌, ◌⊎◌, ◌++◌, ◌∷◌, [], List, refl, sym, ◌∙◌, ap, subst, arith, inl, inr, length, get_or, length-append}
-use Rattle.std.proofs.lemmas.List.Elements.{Contains-push_cases}
-use Rattle.std.proofs.lemmas.Option.{slice_get_within}
-use Rattle.pb_normal.specs.declared.numbered.NumberedLiteral.{NumberedLiteral}
-use Rattle.pb_propagate.specs.declared.clauses.lists.Watch.{Watch}
-use Rattle.pb_propagate.specs.declared.clauses.Clauses.{Clauses}
+use Rattle.pb_propagate.proofs.Common.{ℕ, ◌*◌, ◌++◌, ◌+◌, ◌-◌, ◌/◌, ◌<◌, ◌^◌, ◌∙◌, ◌∷◌, ◌≡◌, ◌≤◌, ◌⊎◌, [], ap, arith, Bool, get_or, inl, inr, length}
+use Rattle.pb_propagate.proofs.Common.{length-append, List, refl, subst, sym, true, Option, Contains-push_cases, slice_get_within, NumberedLiteral}
+use Rattle.pb_propagate.proofs.Common.{Clauses, Watch, Forces, AreLinked, list_at, watch_at, watch_lists, all_turned, AreServed, AreWalked, Grows}
+use Rattle.pb_propagate.proofs.Common.{HasTrue, HasVisited, index_after, IsRunning, KeepsWalked, literal_at, false_at, true_at, has, IsWithin}
+use Rattle.pb_propagate.proofs.Common.{Progress, visited_to, VisitsEach}
 use Rattle.pb_propagate.specs.declared.clauses.visiting.Forced.{Forced}
 use Rattle.pb_propagate.specs.declared.clauses.visiting.Visit.{Visit}
-use Rattle.pb_propagate.specs.declared.clauses.visiting.Visit.TheVariants.{Forces}
-use Rattle.pb_propagate.specs.engine.Engine.Lists.{has, IsWithin}
-use Rattle.pb_propagate.specs.engine.Engine.Progress.{visited_to, Progress, VisitsEach}
-use Rattle.pb_propagate.specs.engine.Clauses.Truths.{true_at, false_at}
-use Rattle.pb_propagate.specs.engine.Clauses.Links.{watch_at, list_at, watch_lists, AreLinked}
-use Rattle.pb_propagate.specs.engine.Clauses.Runs.{AreServed, AreWalked, HasTrue, IsRunning, Grows, HasVisited, KeepsWalked, all_turned, index_after}
-use Rattle.pb_propagate.specs.engine.Clauses.Shapes.{literal_at}
 use Rattle.pb_propagate.proofs.lemmas.engine.Literals.{has-push_old, has-push_new}
 use Rattle.pb_propagate.proofs.lemmas.clauses.Literals.{Agree, true-listed, false-listed}
 use Rattle.pb_propagate.proofs.lemmas.clauses.Steps.{served-true}

@@ -1,23 +1,13 @@
 -- The first literals of the list are walked.
-use Rattle.std.specs.Prelude.{Bool, true, false, Option, Contains, map, sum, sum_by, ◌/◌, ◌==◌, if◌then◌else◌}
-use Rattle.std.proofs.Common.{◌≡◌, ℕ, suc, ◌+◌, ◌*◌, ◌<◌, ◌≤◌, ◌++◌, ◌∷◌, [], List, refl, sym, ◌∙◌, ap, subst, arith, inl, inr, length, get_or, take, length-append}
-use Rattle.std.proofs.lemmas.Bool.{cases_eq, cases_lt, both_ways, eqb-true, or_cases, or_left, or_right}
-use Rattle.std.proofs.lemmas.List.Elements.{Contains-append_left, Contains-append_right, Contains-append_cases, Contains-push, Contains-push_cases}
-use Rattle.std.proofs.lemmas.List.{get_or-map, length-map, map-append, take-append-le, take_more, take_all, get_or_append_left}
-use Rattle.pb_normal.specs.declared.numbered.NumberedLiteral.{NumberedLiteral}
-use Rattle.pb_normal.specs.meaning.Rules.{negation}
-use Rattle.pb_propagate.specs.declared.clauses.lists.Watch.{Watch}
-use Rattle.pb_propagate.specs.declared.clauses.search.Search.{Search}
-use Rattle.pb_propagate.specs.declared.clauses.Clauses.{Clauses}
-use Rattle.pb_propagate.specs.declared.clause.Group.{Group}
-use Rattle.pb_propagate.specs.declared.clause.Group.TheVariants.{Short, Long}
-use Rattle.pb_propagate.specs.declared.heads.Heads.{Heads}
-use Rattle.pb_propagate.specs.engine.Engine.Lists.{Shape, same, has, Derives, begin, put, IsSettled}
-use Rattle.pb_propagate.specs.engine.Engine.Counts.{AreSingle, none, more}
-use Rattle.pb_propagate.specs.engine.Clauses.Truths.{flip, true_at, false_at}
-use Rattle.pb_propagate.specs.engine.Clauses.Links.{watch_at, list_at, watch_lists}
-use Rattle.pb_propagate.specs.engine.Clauses.Runs.{AreStored, AreServed, AreWalked, HasTrue, IsRunning, AreReady, Grows, passed_of}
-use Rattle.pb_propagate.specs.engine.Clauses.Shapes.{clauses_of, clause_shape, literal_at, offset, code_in}
+use Rattle.pb_propagate.proofs.Common.{ℕ, ◌*◌, ◌++◌, ◌+◌, ◌/◌, ◌<◌, ◌∙◌, ◌∷◌, ◌≡◌, ◌≤◌, [], ap, arith, Bool, false, get_or, if◌then◌else◌, inl, inr}
+use Rattle.pb_propagate.proofs.Common.{length, length-append, List, map, refl, subst, suc, sym, take, true, ◌==◌, Contains, Option, sum, sum_by}
+use Rattle.pb_propagate.proofs.Common.{both_ways, cases_eq, cases_lt, eqb-true, or_cases, or_left, or_right, get_or-map, get_or_append_left}
+use Rattle.pb_propagate.proofs.Common.{length-map, map-append, take-append-le, take_all, take_more, Contains-append_cases, Contains-append_left}
+use Rattle.pb_propagate.proofs.Common.{Contains-append_right, Contains-push, Contains-push_cases, NumberedLiteral, negation, Group, Long, Short}
+use Rattle.pb_propagate.proofs.Common.{Clauses, Watch, Search, Heads, list_at, watch_at, watch_lists, AreReady, AreServed, AreStored, AreWalked}
+use Rattle.pb_propagate.proofs.Common.{Grows, HasTrue, IsRunning, passed_of, clause_shape, clauses_of, code_in, literal_at, offset, false_at, flip}
+use Rattle.pb_propagate.proofs.Common.{true_at, AreSingle, more, none, begin, Derives, IsSettled, put, same, Shape}
+use Rattle.pb_propagate.specs.engine.Engine.Lists.{has}
 pub use Rattle.pb_propagate.specs.engine.Clauses.Walked.{falsified_code, walked_codes, reached_codes, head, advanced}
 use Rattle.pb_propagate.proofs.lemmas.engine.Literals.{same-true, same-refl, negation-negation, has-get}
 use Rattle.pb_propagate.proofs.lemmas.engine.Values.{says-inside}

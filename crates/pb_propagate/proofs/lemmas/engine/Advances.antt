@@ -1,8 +1,6 @@
 -- What a part of a run does: nothing, one part after another, and more that pays.
-use Rattle.std.specs.Prelude.{sum, Result, Ok, Err, OnErr}
-use Rattle.std.proofs.Common.{◌≡◌, ℕ, ◌+◌, ◌≤◌, List, refl, ap, ◌∙◌, arith, length}
-use Rattle.pb_propagate.specs.engine.Engine.Counts.{spent}
-use Rattle.pb_propagate.specs.engine.Engine.Progress.{Progress, Database, visited_to, passed_to, Costs, Advances}
+use Rattle.pb_propagate.proofs.Common.{ℕ, ◌+◌, ◌∙◌, ◌≡◌, ◌≤◌, ap, arith, length, List, refl, Err, Ok, OnErr, Result, sum, spent, Advances, Costs}
+use Rattle.pb_propagate.proofs.Common.{Database, passed_to, Progress, visited_to}
 use Rattle.pb_propagate.proofs.lemmas.root.Extends.{extends-none, extends-then}
 
 pub on-err : {A E P : Type 0} (r : Result A E) → P → OnErr r P

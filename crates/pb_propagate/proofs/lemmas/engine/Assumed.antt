@@ -1,18 +1,12 @@
 -- The given literals, and what a completion from them is.
-use Rattle.std.specs.Prelude.{Option, Some, None}
-use Rattle.std.proofs.Common.{◌≡◌, ℕ, ◌+◌, ◌<◌, ◌||◌, ◌++◌, ◌∷◌, [], List, Bool, true, false, refl, sym, ◌∙◌, ap, inl, inr, length, get_or, take}
+use Rattle.pb_propagate.proofs.Common.{ℕ, ◌++◌, ◌+◌, ◌<◌, ◌||◌, ◌∙◌, ◌∷◌, ◌≡◌, [], ap, Bool, false, get_or, inl, inr, length, List, None, refl, sym}
+use Rattle.pb_propagate.proofs.Common.{take, true, Option, Some, both_ways, or_cases, take_more, NumberedLiteral, Form, negation, on, added, Adopted}
+use Rattle.pb_propagate.proofs.Common.{kept, holds, IsWithin, same, Shape, Gives, value_says, HasClash, IsFrom, IsEnded, IsRefuted, IsCompletion}
+use Rattle.pb_propagate.proofs.Common.{MeetsConflict}
 use Rattle.std.specs.Cmp.{both_ways as same_answers}
-use Rattle.std.proofs.lemmas.Bool.{both_ways, or_cases}
-use Rattle.std.proofs.lemmas.List.{take_more}
-use Rattle.pb_normal.specs.meaning.Form.{Form}
-use Rattle.pb_normal.specs.declared.numbered.NumberedLiteral.{NumberedLiteral}
-use Rattle.pb_normal.specs.meaning.Rules.{on, negation}
-use Rattle.pb_propagate.specs.engine.Engine.Lists.{Shape, same, has, says, holds, IsWithin, opposed as both, begin as start_there}
-use Rattle.pb_propagate.specs.engine.Engine.Counts.{Adopted, kept, added}
-use Rattle.pb_propagate.specs.meaning.Propagation.{begin, MeetsConflict, IsCompletion}
-use Rattle.pb_propagate.specs.engine.Engine.Live.{value_says, Gives}
-use Rattle.pb_propagate.specs.engine.Engine.Reached.{IsFrom, HasClash}
-use Rattle.pb_propagate.specs.engine.Engine.Rest.{IsRefuted, opposite as opposites, derived as from, IsEnded}
+use Rattle.pb_propagate.specs.engine.Engine.Lists.{has, says, opposed as both, begin as start_there}
+use Rattle.pb_propagate.specs.meaning.Propagation.{begin}
+use Rattle.pb_propagate.specs.engine.Engine.Rest.{opposite as opposites, derived as from}
 use Rattle.pb_propagate.proofs.lemmas.engine.Literals.{literal, has-none, has-get, has-push_old, has-push_new, has-push_cases, push-within}
 use Rattle.pb_propagate.proofs.lemmas.engine.Bridge.{AreKept, Matches, only-same, Derived, derives, conflicts, is-closed, has-none as conflict-free}
 use Rattle.pb_propagate.proofs.lemmas.engine.Completing.{closed-none}

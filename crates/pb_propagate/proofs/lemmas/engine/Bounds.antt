@@ -1,22 +1,9 @@
 -- The number of visits of a propagation, in terms of the live forms.
-use Rattle.std.specs.Prelude.{sum_by, map, Option, Some, None, filter, slice_get}
-use Rattle.std.proofs.Common.{zero, suc, get_or, set, get_or-set_other, sym, ◌∙◌, subst, ◌≡◌, ℕ, ◌+◌, ◌-◌, ◌*◌, ◌^◌, ◌<◌, ◌≤◌, ◌∷◌, [], List, Bool, true, false, refl, ap, arith, inl, inr, length}
-use Rattle.std.proofs.lemmas.Bool.{cases_lt, cases_Bool}
-use Rattle.std.proofs.lemmas.List.{length-map}
-use Rattle.std.proofs.lemmas.List.Sums.{sum_by-cons, sum_by-set}
-use Rattle.std.proofs.lemmas.List.Sorted.{length_permutation}
-use Rattle.pb_normal.specs.meaning.Form.{Form}
-use Rattle.pb_propagate.specs.declared.store.stored_form.StoredForm.{StoredForm}
-use Rattle.pb_propagate.specs.engine.Engine.Lists.{Shape}
-use Rattle.pb_propagate.specs.engine.Engine.Forms.{entry_of}
-use Rattle.pb_propagate.specs.engine.Engine.Counts.{AreFound}
-use Rattle.pb_propagate.specs.engine.Engine.Fields.{shapes_of, stored_shape}
-use Rattle.pb_propagate.specs.engine.Engine.Terms.{terms_of}
-use Rattle.pb_propagate.specs.engine.Engine.Live.{terms_in, one_in}
-use Rattle.pb_propagate.specs.engine.Engine.Rest.{IsSlot, AreSlots, eager_one, waits}
-use Rattle.pb_propagate.specs.engine.Engine.Slots.{form_at}
-use Rattle.pb_propagate.specs.engine.Clauses.Links.{list_at}
-use Rattle.pb_propagate.specs.engine.Clauses.Shapes.{one_term, slot_shape, joined, AreJoined}
+use Rattle.pb_propagate.proofs.Common.{ℕ, ◌*◌, ◌+◌, ◌-◌, ◌<◌, ◌^◌, ◌∙◌, ◌∷◌, ◌≡◌, ◌≤◌, [], ap, arith, Bool, false, get_or, get_or-set_other, inl, inr}
+use Rattle.pb_propagate.proofs.Common.{length, List, map, None, refl, set, subst, suc, sym, true, zero, filter, Option, slice_get, Some, sum_by}
+use Rattle.pb_propagate.proofs.Common.{cases_Bool, cases_lt, length-map, length_permutation, sum_by-cons, sum_by-set, Form, StoredForm, list_at}
+use Rattle.pb_propagate.proofs.Common.{AreJoined, joined, one_term, slot_shape, AreFound, shapes_of, stored_shape, entry_of, Shape, one_in, terms_in}
+use Rattle.pb_propagate.proofs.Common.{AreSlots, eager_one, IsSlot, waits, form_at, terms_of}
 use Rattle.pb_propagate.proofs.lemmas.clauses.Slots.{joined-none}
 
 -- the terms of the stored forms are those of the live ones

@@ -1,20 +1,12 @@
 -- The engine's lists and forms are those of the definitions.
-use Rattle.std.specs.Prelude.{sum_by, map, Contains}
-use Rattle.std.proofs.Common.{◌≡◌, ℕ, suc, ◌+◌, ◌<◌, ◌⊎◌, ◌++◌, ◌∷◌, [], List, Bool, true, false, not, ◌||◌, refl, sym, ◌∙◌, ap, subst, arith, inl, inr, length, length-append}
+use Rattle.pb_propagate.proofs.Common.{ℕ, ◌++◌, ◌+◌, ◌<◌, ◌||◌, ◌∙◌, ◌∷◌, ◌≡◌, ◌⊎◌, [], ap, arith, Bool, false, inl, inr, length, length-append, List}
+use Rattle.pb_propagate.proofs.Common.{map, not, refl, subst, suc, sym, true, Contains, sum_by, or_comm, both_ways, cases_Bool, get_or-map}
+use Rattle.pb_propagate.proofs.Common.{length-map, Contains-permutation, IsPermutation-sym, sum_by-IsPermutation, sum_by-cons, Entry, NumberedLiteral}
+use Rattle.pb_propagate.proofs.Common.{counted, Form, IsRising, total, negation, on, only, Term, entry_of, IsStoredAs, Conflicts, Derives, has}
+use Rattle.pb_propagate.proofs.Common.{IsSettled, open_part, open_sum, Puts, same, Shape, Derivation, HasConflict, MayPropagate, opened}
 use Rattle.std.specs.Cmp.{both_ways as same_answers}
-use Rattle.std.proofs.Math.Bool.{or_comm}
-use Rattle.std.proofs.lemmas.Bool.{cases_Bool, both_ways}
-use Rattle.std.proofs.lemmas.List.{get_or-map, length-map}
-use Rattle.std.proofs.lemmas.List.Sums.{sum_by-cons}
-use Rattle.std.proofs.lemmas.List.Sorted.{IsPermutation-sym, sum_by-IsPermutation, Contains-permutation}
-use Rattle.pb_normal.specs.declared.entry.Entry.{Entry}
-use Rattle.pb_normal.specs.meaning.Form.{Form, IsRising, total, counted}
-use Rattle.pb_normal.specs.meaning.Rules.{only, on, negation}
-use Rattle.pb_normal.specs.declared.numbered.NumberedLiteral.{NumberedLiteral}
-use Rattle.pb_propagate.specs.declared.term.Term.{Term}
-use Rattle.pb_propagate.specs.engine.Engine.Forms.{entry_of, IsStoredAs}
-use Rattle.pb_propagate.specs.engine.Engine.Lists.{Shape, same, has, open_part, open_sum, IsSettled, Puts, Derives, begin as start, put as more, Conflicts, opposed as both, broken as low}
-use Rattle.pb_propagate.specs.meaning.Propagation.{opened, MayPropagate, Derivation, begin, put, HasConflict, opposed, broken}
+use Rattle.pb_propagate.specs.engine.Engine.Lists.{begin as start, put as more, opposed as both, broken as low}
+use Rattle.pb_propagate.specs.meaning.Propagation.{begin, put, opposed, broken}
 use Rattle.pb_propagate.proofs.lemmas.engine.Choices.{total-has, rising-positive, only-true, only-self}
 use Rattle.pb_propagate.proofs.lemmas.engine.Literals.{literal, same-true, same-refl, has-push, open_part-falsified, open_part-open, literal_ext}
 use Rattle.pb_propagate.proofs.lemmas.engine.Derivations.{one_itself}

@@ -1,10 +1,6 @@
 -- Sums over choices of literals. Offered to other crates.
-use Rattle.std.specs.Prelude.{Contains}
-use Rattle.std.proofs.Common.{zero, suc, ◌<◌, ◌∙◌, ap, ◌≡◌, ℕ, ◌+◌, ◌≤◌, Bool, true, false, not, cond, eqb, List, [], ◌∷◌, refl, sym, arith, eq-eqb}
-use Rattle.std.proofs.lemmas.Bool.{eqb-true, and_parts}
-use Rattle.pb_normal.specs.declared.entry.Entry.{Entry}
-use Rattle.pb_normal.specs.meaning.Form.{IsRising, total, counted}
-use Rattle.pb_normal.specs.meaning.Rules.{only}
+use Rattle.pb_propagate.proofs.Common.{ℕ, ◌+◌, ◌<◌, ◌∙◌, ◌∷◌, ◌≡◌, ◌≤◌, [], ap, arith, Bool, cond, eq-eqb, eqb, false, List, not, refl, suc, sym}
+use Rattle.pb_propagate.proofs.Common.{true, zero, Contains, and_parts, eqb-true, Entry, counted, IsRising, total, only}
 
 -- two disjoint choices, both within a third
 one_fits : (p r q : Bool) (c : ℕ) → (p ≡ true → q ≡ true) → (r ≡ true → q ≡ true) → (p ≡ true → r ≡ true → ⊥) → cond p c 0 + cond r c 0 ≤ cond q c 0

@@ -1,11 +1,9 @@
 -- The completion is one set. Offered to other crates.
-use Rattle.std.proofs.Common.{◌≡◌, ℕ, Bool, true, false, not, List, ◌∷◌, arith, inl, inr}
+use Rattle.pb_propagate.proofs.Common.{ℕ, ◌∷◌, ◌≡◌, arith, Bool, false, inl, inr, List, not, true, both_ways, cases_Bool, false_from_ne_true}
+use Rattle.pb_propagate.proofs.Common.{not-true, not_from_false, or_cases, or_right, NumberedLiteral, Form, on, only, Derivation, HasConflict}
+use Rattle.pb_propagate.proofs.Common.{IsCompletion, MayPropagate, MeetsConflict, opened}
 use Rattle.std.specs.Cmp.{both_ways as same_answers}
-use Rattle.std.proofs.lemmas.Bool.{cases_Bool, or_cases, or_right, both_ways, not-true, false_from_ne_true, not_from_false}
-use Rattle.pb_normal.specs.declared.numbered.NumberedLiteral.{NumberedLiteral}
-use Rattle.pb_normal.specs.meaning.Form.{Form}
-use Rattle.pb_normal.specs.meaning.Rules.{only, on}
-use Rattle.pb_propagate.specs.meaning.Propagation.{opened, MayPropagate, Derivation, begin, put, HasConflict, opposed, broken, MeetsConflict, IsCompletion}
+use Rattle.pb_propagate.specs.meaning.Propagation.{begin, put, opposed, broken}
 use Rattle.pb_propagate.proofs.lemmas.engine.Choices.{only-true, total-fits, total-within}
 
 -- each literal of the first list is on the second

@@ -1,9 +1,5 @@
-use Rattle.std.specs.Prelude.{Contains}
-use Rattle.std.proofs.Common.{◌≡◌, ℕ, zero, suc, ◌+◌, ◌<◌, ◌≤◌, ◌∷◌, [], List, false, refl, arith, length, get_or}
-use Rattle.pb_normal.specs.declared.numbered.NumberedLiteral.{NumberedLiteral}
-use Rattle.pb_normal.specs.meaning.Rules.{negation}
-use Rattle.pb_propagate.specs.declared.term.Term.{Term}
-use Rattle.pb_propagate.specs.engine.Engine.Lists.{has, Shape, open_sum, Puts, Derives, begin, put, IsWithin, IsSettled}
+use Rattle.pb_propagate.proofs.Common.{ℕ, ◌+◌, ◌<◌, ◌∷◌, ◌≡◌, ◌≤◌, [], arith, false, get_or, length, List, refl, suc, zero, Contains, NumberedLiteral}
+use Rattle.pb_propagate.proofs.Common.{negation, Term, begin, Derives, has, IsSettled, IsWithin, open_sum, put, Puts, Shape}
 use Rattle.pb_propagate.proofs.lemmas.engine.Literals.{has-push_old}
 
 pub derivation-keeps : (forms : List Shape) (a b : List NumberedLiteral) → Derives forms a b → IsWithin a b

@@ -1,12 +1,8 @@
 -- Over a list of forms some derivation cannot be extended: each propagated literal leaves fewer terms open.
-use Rattle.std.specs.Prelude.{Contains}
-use Rattle.std.proofs.Common.{◌≡◌, ℕ, zero, suc, ◌+◌, ◌<◌, ◌≤◌, ◌⊎◌, ◌||◌, Bool, true, false, not, cond, List, [], ◌∷◌, refl, sym, ◌∙◌, ap, arith, inl, inr}
-use Rattle.std.proofs.lemmas.Bool.{cases_Bool, cases_lt}
-use Rattle.pb_normal.specs.declared.entry.Entry.{Entry}
-use Rattle.pb_normal.specs.meaning.Form.{Form, total}
-use Rattle.pb_normal.specs.meaning.Rules.{only, on}
-use Rattle.pb_normal.specs.declared.numbered.NumberedLiteral.{NumberedLiteral}
-use Rattle.pb_propagate.specs.meaning.Propagation.{opened, MayPropagate, Derivation, begin, put, IsCompletion}
+use Rattle.pb_propagate.proofs.Common.{ℕ, ◌+◌, ◌<◌, ◌||◌, ◌∙◌, ◌∷◌, ◌≡◌, ◌≤◌, ◌⊎◌, [], ap, arith, Bool, cond, false, inl, inr, List, not, refl, suc}
+use Rattle.pb_propagate.proofs.Common.{sym, true, zero, Contains, cases_Bool, cases_lt, Entry, NumberedLiteral, Form, total, on, only, Derivation}
+use Rattle.pb_propagate.proofs.Common.{IsCompletion, MayPropagate, opened}
+use Rattle.pb_propagate.specs.meaning.Propagation.{begin, put}
 use Rattle.pb_propagate.proofs.lemmas.engine.Choices.{only-true, only-self}
 
 -- a literal that a form forces

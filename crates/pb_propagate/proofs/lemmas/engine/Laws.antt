@@ -1,8 +1,5 @@
-use Rattle.std.proofs.Common.{◌≡◌, List, true, inl, inr, arith}
-use Rattle.std.proofs.lemmas.Bool.{cases_Bool}
-use Rattle.pb_normal.specs.declared.numbered.NumberedLiteral.{NumberedLiteral}
-use Rattle.pb_normal.specs.meaning.Rules.{negation}
-use Rattle.pb_propagate.specs.engine.Engine.Lists.{has, Shape, Puts, Conflicts, broken, IsWithin}
+use Rattle.pb_propagate.proofs.Common.{◌≡◌, arith, inl, inr, List, true, cases_Bool, NumberedLiteral, negation, broken, Conflicts, has, IsWithin}
+use Rattle.pb_propagate.proofs.Common.{Puts, Shape}
 use Rattle.pb_propagate.proofs.lemmas.engine.Literals.{open_sum-within, open_sum-lower}
 
 -- a literal that may be propagated from a list: on each longer list it is there, may be propagated, or there is a conflict

@@ -1,16 +1,9 @@
 -- Literals on a list, tested and counted. Offered to other crates.
-use Rattle.std.specs.Prelude.{◌==◌, ◌||◌, Bool, true, false, not, Contains, sum_by}
-use Rattle.std.specs.Bool.{beq}
-use Rattle.std.specs.List.{list_any}
-use Rattle.std.proofs.Common.{◌≡◌, ℕ, zero, suc, ◌+◌, ◌<◌, ◌≤◌, ◌⊎◌, ◌++◌, ◌∷◌, [], List, length, get_or, refl, sym, ◌∙◌, ap, inl, inr, arith, eq-eqb}
-use Rattle.std.proofs.Math.Bool.{or-false, not-not}
-use Rattle.std.proofs.lemmas.Bool.{cases_Bool, eqb-true, and_parts, or_cases, or_left, or_right, both_ways}
-use Rattle.std.proofs.lemmas.List.Folds.{list_any-append}
-use Rattle.std.proofs.lemmas.List.Sums.{sum_by-le-sum_by, sum_by-cons}
-use Rattle.pb_normal.specs.declared.numbered.NumberedLiteral.{NumberedLiteral}
-use Rattle.pb_normal.specs.meaning.Rules.{negation}
-use Rattle.pb_propagate.specs.declared.term.Term.{Term}
-use Rattle.pb_propagate.specs.engine.Engine.Lists.{same, has, open_part, open_sum, IsWithin}
+use Rattle.pb_propagate.proofs.Common.{ℕ, ◌++◌, ◌+◌, ◌<◌, ◌||◌, ◌∙◌, ◌∷◌, ◌≡◌, ◌≤◌, ◌⊎◌, [], ap, arith, Bool, eq-eqb, false, get_or, inl, inr, length}
+use Rattle.pb_propagate.proofs.Common.{List, not, refl, suc, sym, true, zero, ◌==◌, Contains, sum_by, not-not, or-false, and_parts, both_ways}
+use Rattle.pb_propagate.proofs.Common.{cases_Bool, eqb-true, or_cases, or_left, or_right, list_any-append, sum_by-cons, sum_by-le-sum_by, beq}
+use Rattle.pb_propagate.proofs.Common.{list_any, NumberedLiteral, negation, Term, IsWithin, open_sum}
+use Rattle.pb_propagate.specs.engine.Engine.Lists.{same, has, open_part}
 
 pub beq-true : (a b : Bool) → beq a b ≡ true → a ≡ b
 beq-true true true h = refl

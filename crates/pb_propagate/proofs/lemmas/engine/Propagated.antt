@@ -1,15 +1,8 @@
-use Rattle.std.specs.Prelude.{Contains, sum, sum_by}
-use Rattle.std.proofs.Common.{◌≡◌, ℕ, ◌+◌, ◌-◌, ◌*◌, ◌<◌, ◌≤◌, ◌++◌, ◌∷◌, [], List, refl, sym, ◌∙◌, ap, arith, take, drop, length, length-append, get_or}
-use Rattle.std.proofs.lemmas.List.{drop_more, drop_all, length-take}
-use Rattle.std.proofs.lemmas.List.Elements.{All-push}
-use Rattle.std.proofs.lemmas.List.{get_or_read}
-use Rattle.pb_normal.specs.declared.numbered.NumberedLiteral.{NumberedLiteral}
-use Rattle.pb_propagate.specs.declared.store.Store.{Store}
-use Rattle.pb_propagate.specs.declared.rests.Rests.{Rests}
-use Rattle.pb_propagate.specs.engine.Engine.Lists.{Shape, Extends, IsSettled}
-use Rattle.pb_propagate.specs.engine.Engine.Fields.{shapes_of, stored_shape}
-use Rattle.pb_propagate.specs.engine.Engine.Counts.{beside, IsTidy, IsAbsent, AreSingle, AreFalling, spent}
-use Rattle.pb_propagate.specs.engine.Engine.Progress.{Progress, Database, database, queued_to, taken_to, IsOpen, IsTidyAt, VisitsEach, Costs, Spends, Advances, queued}
+use Rattle.pb_propagate.proofs.Common.{ℕ, ◌*◌, ◌++◌, ◌+◌, ◌-◌, ◌<◌, ◌∙◌, ◌∷◌, ◌≡◌, ◌≤◌, [], ap, arith, drop, get_or, length, length-append, List}
+use Rattle.pb_propagate.proofs.Common.{refl, sym, take, Contains, sum, sum_by, drop_all, drop_more, get_or_read, length-take, All-push}
+use Rattle.pb_propagate.proofs.Common.{NumberedLiteral, Heads, Rests, Store, fallen, AreFalling, AreSingle, beside, IsAbsent, IsTidy, spent}
+use Rattle.pb_propagate.proofs.Common.{shapes_of, stored_shape, Extends, IsSettled, Shape, Advances, Costs, Database, database, IsOpen, IsTidyAt}
+use Rattle.pb_propagate.proofs.Common.{Progress, queued, queued_to, Spends, taken_to, VisitsEach}
 use Rattle.pb_propagate.proofs.lemmas.engine.Runs.{Tidy-next, calm-settled, absent-push, absent-new, absent-more, absent-cons}
 use Rattle.pb_propagate.proofs.lemmas.engine.Sources.{source}
 use Rattle.pb_propagate.proofs.lemmas.engine.VisitSteps.{open-now}
@@ -17,8 +10,6 @@ use Rattle.pb_propagate.proofs.lemmas.engine.Spent.{spent-le}
 use Rattle.pb_propagate.proofs.lemmas.engine.Advances.{costs-refl, costs-then, costs-as}
 use Rattle.pb_propagate.proofs.lemmas.root.Extends.{extends-then, spent-extends, reached-extends}
 use Rattle.pb_propagate.proofs.lemmas.clauses.Watching.{reached}
-use Rattle.pb_propagate.specs.engine.Clauses.Walked.{fallen}
-use Rattle.pb_propagate.specs.declared.heads.Heads.{Heads}
 
 -- a propagation between two visits: `extra` is what the visits to clauses may have cost, `before` what those had cost that
 -- were made at its start

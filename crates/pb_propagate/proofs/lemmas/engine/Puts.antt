@@ -1,20 +1,12 @@
-use Rattle.std.specs.Prelude.{All, map, sum, Option, Bool, true, false, if◌then◌else◌}
-use Rattle.std.proofs.Common.{◌≡◌, ℕ, ◌+◌, ◌-◌, ◌*◌, ◌^◌, ◌<◌, ◌≤◌, ◌++◌, ◌∷◌, [], List, refl, sym, ◌∙◌, ap, subst, arith, length, get_or, drop, min, length-set, Vec, Global}
-use Rattle.std.proofs.lemmas.List.{drop_more, get_or-map, length-map}
-use Rattle.std.proofs.lemmas.List.Elements.{Contains-get_or}
-use Rattle.std.proofs.lemmas.List.Sums.{sum_by_push}
+use Rattle.pb_propagate.proofs.Common.{ℕ, ◌*◌, ◌++◌, ◌+◌, ◌-◌, ◌<◌, ◌^◌, ◌∙◌, ◌∷◌, ◌≡◌, ◌≤◌, [], ap, arith, Bool, drop, false, get_or, Global}
+use Rattle.pb_propagate.proofs.Common.{if◌then◌else◌, length, length-set, List, map, min, refl, subst, sym, true, Vec, All, Option, sum, drop_more}
+use Rattle.pb_propagate.proofs.Common.{get_or-map, length-map, Contains-get_or, sum_by_push, NumberedLiteral, negation, Rests, Occurrence, Store}
+use Rattle.pb_propagate.proofs.Common.{beside, IsAbsent, IsCounted, more, place, spent, entries_of, IsSound, lists_of, shapes_of, spots_of}
+use Rattle.pb_propagate.proofs.Common.{coefficient_at, terms_at, weighted, broken, Conflicts, has, Shape, Weighted, Advances, assigned_to, Costs}
+use Rattle.pb_propagate.proofs.Common.{Database, database, entries_against, Lowers, Progress, StaysTidy, visited_to}
 use Rattle.std.proofs.Math.ListN.{get_or-map as get_or-map-default}
-use Rattle.pb_normal.specs.declared.numbered.NumberedLiteral.{NumberedLiteral}
-use Rattle.pb_normal.specs.meaning.Rules.{negation}
-use Rattle.pb_propagate.specs.declared.store.Store.{Store}
 use Rattle.pb_propagate.specs.declared.store.Visited.{Visited}
-use Rattle.pb_propagate.specs.declared.store.Occurrence.{Occurrence}
-use Rattle.pb_propagate.specs.declared.rests.Rests.{Rests}
-use Rattle.pb_propagate.specs.engine.Engine.Lists.{Shape, Weighted, has, Conflicts, broken}
-use Rattle.pb_propagate.specs.engine.Engine.Counts.{place, beside, spent, more, IsCounted, IsAbsent}
-use Rattle.pb_propagate.specs.engine.Engine.Fields.{shapes_of, entries_of, lists_of, spots_of, entry_at, IsSound}
-use Rattle.pb_propagate.specs.engine.Engine.Links.{weighted, coefficient_at, terms_at}
-use Rattle.pb_propagate.specs.engine.Engine.Progress.{assigned_to, visited_to, Progress, Database, database, entries_against, StaysTidy, Lowers, Costs, Advances}
+use Rattle.pb_propagate.specs.engine.Engine.Fields.{entry_at}
 use Rattle.pb_propagate.proofs.lemmas.root.Extends.{extends-one}
 use Rattle.pb_propagate.proofs.lemmas.store.Weights.{index-within}
 use Rattle.pb_propagate.proofs.lemmas.engine.Runs.{Counted-fits, Counted-lower, Tidy-lower, Tidy-put, grown-before, grown-length}

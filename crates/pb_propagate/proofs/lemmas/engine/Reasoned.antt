@@ -1,13 +1,8 @@
 -- Lists of literals with their reasons.
-use Rattle.std.specs.Prelude.{Contains, Some, true, false, slice_get}
-use Rattle.std.proofs.Common.{◌≡◌, ℕ, zero, suc, ◌<◌, ◌∷◌, [], List, inl, inr, sym, ◌∙◌, ap, subst, arith, length, set}
-use Rattle.std.proofs.lemmas.Bool.{both_ways}
-use Rattle.std.proofs.lemmas.Option.{get_or_from_slice_get, slice_get_within}
-use Rattle.pb_normal.specs.declared.numbered.NumberedLiteral.{NumberedLiteral}
-use Rattle.pb_normal.specs.meaning.Rules.{negation}
-use Rattle.pb_propagate.specs.declared.run.Run.{Run}
-use Rattle.pb_propagate.specs.engine.Engine.Lists.{Shape, has, Puts, Derives, begin, put, HaveReasons, from_given, by_reason, KeepsReasons, IsDue, IsWithin}
-use Rattle.pb_propagate.specs.engine.Engine.Progress.{RunReasons, RunRecords, list_of, reasons_of}
+use Rattle.pb_propagate.proofs.Common.{ℕ, ◌<◌, ◌∙◌, ◌∷◌, ◌≡◌, [], ap, arith, false, inl, inr, length, List, set, subst, suc, sym, true, zero}
+use Rattle.pb_propagate.proofs.Common.{Contains, slice_get, Some, both_ways, get_or_from_slice_get, slice_get_within, NumberedLiteral, negation, Run}
+use Rattle.pb_propagate.proofs.Common.{begin, by_reason, Derives, from_given, has, HaveReasons, IsDue, IsWithin, KeepsReasons, put, Puts, Shape}
+use Rattle.pb_propagate.proofs.Common.{list_of, reasons_of, RunReasons, RunRecords}
 use Rattle.pb_propagate.proofs.lemmas.engine.Literals.{has-none, has-push_old, has-push_new, has-push_cases}
 use Rattle.pb_propagate.proofs.lemmas.engine.Values.{has-neither}
 use Rattle.pb_propagate.proofs.lemmas.store.Gets.{get-set_same, get-set_other}

@@ -1,13 +1,6 @@
-use Rattle.std.specs.Prelude.{All}
-use Rattle.std.proofs.Common.{◌≡◌, ℕ, ◌<◌, ◌-◌, ◌++◌, ◌∷◌, [], List, refl, sym, ◌∙◌, ap, arith, inl, inr, length, length-append, get_or}
-use Rattle.std.proofs.lemmas.Bool.{cases_lt}
-use Rattle.std.proofs.lemmas.List.{get_or_append_left, get_or-append_right}
-use Rattle.std.proofs.lemmas.List.Sums.{sum_by-cons}
-use Rattle.pb_normal.specs.meaning.Rules.{negation}
-use Rattle.pb_propagate.specs.declared.term.Term.{Term}
-use Rattle.pb_propagate.specs.declared.rests.Rests.{Rests}
-use Rattle.pb_propagate.specs.engine.Engine.Lists.{Shape, open_part, open_sum, size}
-use Rattle.pb_propagate.specs.engine.Engine.Counts.{weight_in, beside, rest_open, IsAbsent, IsCalm, IsCounted, IsTidy, IsUndone}
+use Rattle.pb_propagate.proofs.Common.{ℕ, ◌++◌, ◌-◌, ◌<◌, ◌∙◌, ◌∷◌, ◌≡◌, [], ap, arith, get_or, inl, inr, length, length-append, List, refl, sym, All}
+use Rattle.pb_propagate.proofs.Common.{cases_lt, get_or-append_right, get_or_append_left, sum_by-cons, negation, Rests, Term, beside, IsAbsent}
+use Rattle.pb_propagate.proofs.Common.{IsCalm, IsCounted, IsTidy, IsUndone, rest_open, weight_in, open_part, open_sum, Shape, size}
 use Rattle.pb_propagate.proofs.lemmas.engine.Literals.{has-none, open_part-open}
 
 pub open_sum-empty : (terms : List Term) → open_sum [] terms ≡ size terms

@@ -1,27 +1,14 @@
 -- The engine between two calls: what a call finds, and what it leaves.
-use Rattle.std.specs.Prelude.{All, map, filter, Option, Some, None, slice_get, Contains}
-use Rattle.std.proofs.Common.{◌≡◌, ℕ, zero, suc, ◌+◌, ◌-◌, ◌<◌, ◌≤◌, ◌⊎◌, ◌++◌, ◌∷◌, [], List, Bool, true, false, refl, sym, ◌∙◌, ap, subst, arith, inl, inr, length, get_or, take, set, length-append}
-use Rattle.std.proofs.lemmas.Bool.{cases_lt}
-use Rattle.std.proofs.Math.Seq.{take-append_seam}
-use Rattle.std.proofs.lemmas.Option.{same_Some}
-use Rattle.std.proofs.lemmas.List.{ext_get_or, get_or-map, length-map, map-append, get_or_append_left, append-nil}
-use Rattle.std.proofs.lemmas.List.Elements.{Contains-push_cases, Contains-append_left, All-nil, All-cons}
-use Rattle.pb_normal.specs.meaning.Form.{Form}
-use Rattle.pb_normal.specs.meaning.Rules.{opposite}
-use Rattle.pb_normal.specs.declared.entry.Entry.{Entry}
-use Rattle.pb_propagate.specs.declared.store.stored_form.StoredForm.{StoredForm}
-use Rattle.pb_propagate.specs.declared.rests.Rests.{Rests}
-use Rattle.pb_propagate.specs.engine.Engine.Lists.{Shape, size}
-use Rattle.pb_propagate.specs.engine.Engine.Forms.{IsStoredAs}
-use Rattle.pb_propagate.specs.engine.Engine.Counts.{beside, rest_open, IsAbsent, IsCalm, IsUndone, IsTidy}
-use Rattle.pb_propagate.specs.engine.Engine.Fields.{shapes_of, stored_shape, HasEntered}
-use Rattle.pb_propagate.specs.engine.Engine.Rest.{IsSlot, AreSlots, waits, kept_waits, IsEager, AreAtRest}
-use Rattle.pb_propagate.specs.engine.Engine.Live.{Live}
-use Rattle.pb_propagate.specs.meaning.Propagation.{With}
+use Rattle.pb_propagate.proofs.Common.{ℕ, ◌++◌, ◌+◌, ◌-◌, ◌<◌, ◌∙◌, ◌∷◌, ◌≡◌, ◌≤◌, ◌⊎◌, [], ap, arith, Bool, false, get_or, inl, inr, length}
+use Rattle.pb_propagate.proofs.Common.{length-append, List, map, None, refl, set, subst, suc, sym, take, true, zero, All, Contains, filter, Option}
+use Rattle.pb_propagate.proofs.Common.{slice_get, Some, take-append_seam, cases_lt, append-nil, ext_get_or, get_or-map, get_or_append_left}
+use Rattle.pb_propagate.proofs.Common.{length-map, map-append, All-cons, All-nil, Contains-append_left, Contains-push_cases, same_Some, Entry, Form}
+use Rattle.pb_propagate.proofs.Common.{opposite, Rests, StoredForm, AreJoined, joined, beside, IsAbsent, IsCalm, IsTidy, IsUndone, rest_open}
+use Rattle.pb_propagate.proofs.Common.{HasEntered, shapes_of, stored_shape, IsStoredAs, Shape, size, Live, AreAtRest, AreSlots, IsEager, IsSlot}
+use Rattle.pb_propagate.proofs.Common.{kept_waits, waits, With}
 use Rattle.pb_propagate.proofs.lemmas.engine.Rested.{IsEager as IsCalmBut, rest-tidy}
 use Rattle.pb_propagate.proofs.lemmas.engine.Bridge.{AreKept}
 use Rattle.pb_propagate.proofs.lemmas.store.Gets.{last-is}
-use Rattle.pb_propagate.specs.engine.Clauses.Shapes.{joined, AreJoined}
 use Rattle.pb_propagate.proofs.lemmas.clauses.Slots.{joined-push, AreJoined-push}
 
 pub record Element {X : Type 0} (xs : List X) (s : ℕ) : Type 0 where

@@ -1,14 +1,10 @@
-use Rattle.std.specs.Prelude.{◌==◌, sum_by, All}
-use Rattle.std.proofs.Common.{◌≡◌, ℕ, zero, suc, ◌+◌, ◌-◌, ◌<◌, ◌≤◌, ◌⊎◌, ◌++◌, ◌∷◌, [], List, true, false, refl, sym, ◌∙◌, ap, inl, inr, arith, length, get_or, set, length-append, get_or-set_same, get_or-set_other}
-use Rattle.std.proofs.lemmas.Bool.{cases_lt, cases_Bool, cases_eq, both_ways, eq-eqb, ne_eqb, or_left, or_right, or_cases}
-use Rattle.std.proofs.lemmas.List.{get_or_append_left, get_or_push, get_or_default}
-use Rattle.std.proofs.lemmas.List.Elements.{All-push}
-use Rattle.std.proofs.lemmas.List.Sums.{sum_by-cons}
-use Rattle.pb_normal.specs.declared.numbered.NumberedLiteral.{NumberedLiteral}
-use Rattle.pb_normal.specs.meaning.Rules.{negation}
-use Rattle.pb_propagate.specs.declared.term.Term.{Term}
-use Rattle.pb_propagate.specs.engine.Engine.Lists.{Shape, same, has, open_part, open_sum, IsSettled, Weighted}
-use Rattle.pb_propagate.specs.engine.Engine.Counts.{entry_weight, weight_in, term_weight, weight_on, AreFalling, IsCalm, IsDone, ArePassed, IsAbsent, IsCounted, IsTidy, Aside, rest_open, Grown, pushed, spared}
+use Rattle.pb_propagate.proofs.Common.{ℕ, ◌++◌, ◌+◌, ◌-◌, ◌<◌, ◌∙◌, ◌∷◌, ◌≡◌, ◌≤◌, ◌⊎◌, [], ap, arith, eq-eqb, false, get_or, get_or-set_other}
+use Rattle.pb_propagate.proofs.Common.{get_or-set_same, inl, inr, length, length-append, List, refl, set, suc, sym, true, zero, ◌==◌, All, sum_by}
+use Rattle.pb_propagate.proofs.Common.{both_ways, cases_Bool, cases_eq, cases_lt, ne_eqb, or_cases, or_left, or_right, get_or_append_left}
+use Rattle.pb_propagate.proofs.Common.{get_or_default, get_or_push, All-push, sum_by-cons, NumberedLiteral, negation, Term, AreFalling, Aside, Grown}
+use Rattle.pb_propagate.proofs.Common.{IsAbsent, IsCalm, IsCounted, IsDone, IsTidy, pushed, rest_open, spared, weight_in, weight_on, has, IsSettled}
+use Rattle.pb_propagate.proofs.Common.{open_part, open_sum, same, Shape, Weighted}
+use Rattle.pb_propagate.specs.engine.Engine.Counts.{entry_weight, term_weight, ArePassed}
 use Rattle.pb_propagate.proofs.lemmas.engine.Derivations.{settled-of_terms}
 use Rattle.pb_propagate.proofs.lemmas.engine.Literals.{negation-negation, has-push, has-push_old, has-push_new, same-true, same-refl, open_part-falsified, open_part-open}
 use Rattle.pb_propagate.proofs.lemmas.store.Gets.{lt_of_apart}

@@ -1,5 +1,4 @@
-use Rattle.std.specs.Prelude.{map}
-use Rattle.std.proofs.Common.{◌≡◌, ℕ, ◌<◌, ◌∷◌, [], List, arith, zero, suc, refl, length, get_or}
+use Rattle.pb_propagate.proofs.Common.{ℕ, ◌<◌, ◌∷◌, ◌≡◌, [], arith, get_or, length, List, map, refl, suc, zero}
 
 -- where an element of a mapped list came from
 pub record Source {X Y : Type 0} (g : X → Y) (xs : List X) (k : ℕ) (y : Y) : Type 0 where

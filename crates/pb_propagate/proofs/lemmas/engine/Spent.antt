@@ -1,12 +1,8 @@
-use Rattle.std.specs.Prelude.{sum, sum_by, map, if◌then◌else◌}
-use Rattle.std.proofs.Common.{◌≡◌, ℕ, zero, suc, ◌+◌, ◌*◌, ◌<◌, ◌≤◌, ◌∷◌, [], List, Bool, true, false, refl, sym, ◌∙◌, ap, arith, inl, inr, length, get_or, set, get_or-set_other}
-use Rattle.std.proofs.lemmas.Bool.{cases_lt, both_ways, or_left, or_right}
-use Rattle.std.proofs.lemmas.List.{get_or_past, set_past}
-use Rattle.std.proofs.lemmas.List.Sums.{sum_by-set, sum_by_push, sum_by-cons, sum-map}
-use Rattle.pb_normal.specs.declared.numbered.NumberedLiteral.{NumberedLiteral}
-use Rattle.pb_normal.specs.meaning.Rules.{negation}
-use Rattle.pb_propagate.specs.engine.Engine.Lists.{Shape, same, has, Derives, begin, put, Weighted}
-use Rattle.pb_propagate.specs.engine.Engine.Counts.{place, spent, AreSingle, none, more}
+use Rattle.pb_propagate.proofs.Common.{ℕ, ◌*◌, ◌+◌, ◌<◌, ◌∙◌, ◌∷◌, ◌≡◌, ◌≤◌, [], ap, arith, Bool, false, get_or, get_or-set_other, if◌then◌else◌, inl}
+use Rattle.pb_propagate.proofs.Common.{inr, length, List, map, refl, set, suc, sym, true, zero, sum, sum_by, both_ways, cases_lt, or_left, or_right}
+use Rattle.pb_propagate.proofs.Common.{get_or_past, set_past, sum-map, sum_by-cons, sum_by-set, sum_by_push, NumberedLiteral, negation, AreSingle}
+use Rattle.pb_propagate.proofs.Common.{more, none, place, spent, begin, Derives, put, same, Shape, Weighted}
+use Rattle.pb_propagate.specs.engine.Engine.Lists.{has}
 use Rattle.pb_propagate.proofs.lemmas.engine.Literals.{literal_ext, negation-negation, same-refl}
 
 has-head : (x : NumberedLiteral) (xs : List NumberedLiteral) → has (x ∷ xs) x ≡ true

@@ -1,11 +1,6 @@
-use Rattle.std.proofs.Common.{◌≡◌, ℕ, ◌+◌, ◌<◌, ◌⊎◌, List, sym, ◌∙◌, ap, inl, inr, arith, length, get_or, set, get_or-set_same, get_or-set_other}
-use Rattle.std.proofs.lemmas.Bool.{cases_eq}
-use Rattle.std.proofs.lemmas.List.{get_or_read, length-map}
-use Rattle.pb_propagate.specs.declared.store.stored_form.StoredForm.{StoredForm}
-use Rattle.pb_propagate.specs.declared.rests.Rests.{Rests}
-use Rattle.pb_propagate.specs.engine.Engine.Lists.{Shape, size}
-use Rattle.pb_propagate.specs.engine.Engine.Counts.{IsAbsent, IsUndone, rest_open, rest_start}
-use Rattle.pb_propagate.specs.engine.Engine.Fields.{shapes_of, stored_shape}
+use Rattle.pb_propagate.proofs.Common.{ℕ, ◌+◌, ◌<◌, ◌∙◌, ◌≡◌, ◌⊎◌, ap, arith, get_or, get_or-set_other, get_or-set_same, inl, inr, length, List, set}
+use Rattle.pb_propagate.proofs.Common.{sym, cases_eq, get_or_read, length-map, Rests, StoredForm, IsAbsent, IsUndone, rest_open, rest_start}
+use Rattle.pb_propagate.proofs.Common.{shapes_of, stored_shape, Shape, size}
 use Rattle.pb_propagate.proofs.lemmas.engine.VisitSteps.{shape-at}
 use Rattle.pb_propagate.proofs.lemmas.store.Gets.{lt_of_apart}
 

@@ -1,14 +1,9 @@
-use Rattle.std.specs.Prelude.{◌==◌, ◌||◌, Bool, true, false, not, sum_by, Option, Some, None}
-use Rattle.std.specs.Bool.{beq}
-use Rattle.std.proofs.Common.{◌≡◌, ℕ, zero, suc, ◌+◌, ◌-◌, ◌<◌, ◌≤◌, cond, drop, ◌⊎◌, ◌++◌, ◌∷◌, [], List, length, get_or, set, refl, sym, ◌∙◌, ap, inl, inr, arith, get_or-set_same, get_or-set_other}
-use Rattle.std.proofs.Math.Bool.{or-false, not-not}
-use Rattle.std.proofs.lemmas.Bool.{cases_lt, cases_eq, ne_eqb, eq-eqb, both_ways}
-use Rattle.std.proofs.lemmas.List.Sums.{sum_by-set, sum_by_push, sum_by-cons}
-use Rattle.std.specs.List.{list_any}
-use Rattle.std.proofs.lemmas.List.{length-append, get_or_append_left, get_or-append_right, get_or_past, set_past, drop_more, drop_all}
-use Rattle.pb_normal.specs.declared.numbered.NumberedLiteral.{NumberedLiteral}
-use Rattle.pb_normal.specs.meaning.Rules.{negation}
-use Rattle.pb_propagate.specs.engine.Engine.Lists.{same, has, says, holds, vacancy}
+use Rattle.pb_propagate.proofs.Common.{ℕ, ◌++◌, ◌+◌, ◌-◌, ◌<◌, ◌||◌, ◌∙◌, ◌∷◌, ◌≡◌, ◌≤◌, ◌⊎◌, [], ap, arith, Bool, cond, drop, eq-eqb, false, get_or}
+use Rattle.pb_propagate.proofs.Common.{get_or-set_other, get_or-set_same, inl, inr, length, length-append, List, None, not, refl, set, suc, sym, true}
+use Rattle.pb_propagate.proofs.Common.{zero, ◌==◌, Option, Some, sum_by, not-not, or-false, both_ways, cases_eq, cases_lt, ne_eqb, drop_all}
+use Rattle.pb_propagate.proofs.Common.{drop_more, get_or-append_right, get_or_append_left, get_or_past, set_past, sum_by-cons, sum_by-set}
+use Rattle.pb_propagate.proofs.Common.{sum_by_push, beq, list_any, NumberedLiteral, negation, holds, vacancy}
+use Rattle.pb_propagate.specs.engine.Engine.Lists.{same, has, says}
 use Rattle.pb_propagate.proofs.lemmas.engine.Literals.{has-none, has-push, has-get, beq-refl, literal_ext}
 
 -- the values are those that the list gives

@@ -1,21 +1,10 @@
-use Rattle.std.specs.Prelude.{sum, All, Contains, Some, slice_get}
-use Rattle.std.proofs.Common.{◌≡◌, ℕ, ◌+◌, ◌-◌, ◌^◌, ◌<◌, ◌≤◌, ◌∷◌, [], List, false, refl, sym, subst, ◌∙◌, ap, arith, length, get_or, set, min, length-append, length-set}
-use Rattle.std.proofs.lemmas.List.{get_or_default, get_or-map, get_or_read, length-map}
-use Rattle.std.proofs.lemmas.List.Sums.{sum_by-set}
-use Rattle.std.proofs.lemmas.List.Elements.{Contains-get_or}
-use Rattle.std.proofs.lemmas.Option.{slice_get-get_or}
-use Rattle.pb_normal.specs.declared.numbered.NumberedLiteral.{NumberedLiteral}
-use Rattle.pb_normal.specs.meaning.Rules.{negation}
-use Rattle.pb_propagate.specs.declared.term.Term.{Term}
-use Rattle.pb_propagate.specs.engine.Engine.Lists.{Shape, AreInside, has, open_sum, size, HaveReasons, by_reason, KeepsReasons, Conflicts, broken}
-use Rattle.pb_propagate.specs.engine.Engine.Counts.{beside, rest_open, IsCounted, IsAbsent, Adopted, kept, added, IsCalm, IsDone, Grown, pushed, spared, weight_in}
-use Rattle.pb_propagate.specs.declared.store.Store.{Store}
-use Rattle.pb_propagate.specs.engine.Engine.Progress.{visited_to, passed_to, Progress, Database, database, IsOpen, IsTidyAt, StaysTidy, VisitsEach, Advances}
-use Rattle.pb_propagate.specs.declared.store.stored_form.StoredForm.{StoredForm}
-use Rattle.pb_propagate.specs.declared.rests.Rests.{Rests}
-use Rattle.pb_propagate.specs.engine.Engine.Fields.{shapes_of, stored_shape}
-use Rattle.pb_propagate.specs.engine.Engine.Terms.{terms_of}
-use Rattle.pb_propagate.specs.engine.Engine.Links.{coefficient_at}
+use Rattle.pb_propagate.proofs.Common.{ℕ, ◌+◌, ◌-◌, ◌<◌, ◌^◌, ◌∙◌, ◌∷◌, ◌≡◌, ◌≤◌, [], ap, arith, false, get_or, length, length-append, length-set}
+use Rattle.pb_propagate.proofs.Common.{List, min, refl, set, subst, sym, All, Contains, slice_get, Some, sum, get_or-map, get_or_default, get_or_read}
+use Rattle.pb_propagate.proofs.Common.{length-map, Contains-get_or, sum_by-set, slice_get-get_or, NumberedLiteral, negation, Rests, Store, StoredForm}
+use Rattle.pb_propagate.proofs.Common.{Term, added, Adopted, beside, Grown, IsAbsent, IsCalm, IsCounted, IsDone, kept, pushed, rest_open, spared}
+use Rattle.pb_propagate.proofs.Common.{weight_in, shapes_of, stored_shape, coefficient_at, AreInside, broken, by_reason, Conflicts, has, HaveReasons}
+use Rattle.pb_propagate.proofs.Common.{KeepsReasons, open_sum, Shape, size, Advances, Database, database, IsOpen, IsTidyAt, passed_to, Progress}
+use Rattle.pb_propagate.proofs.Common.{StaysTidy, visited_to, VisitsEach, terms_of}
 use Rattle.pb_propagate.proofs.lemmas.engine.Advances.{advances-refl, advances-then, advances-as, advances-visit, advances-pass}
 use Rattle.pb_propagate.proofs.lemmas.engine.Derivations.{one_itself}
 use Rattle.pb_propagate.proofs.lemmas.engine.Reasoned.{reasons-keep}

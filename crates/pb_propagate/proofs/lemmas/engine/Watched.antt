@@ -1,11 +1,6 @@
 -- What a walk over the watches of a literal costs.
-use Rattle.std.specs.Prelude.{sum}
-use Rattle.std.proofs.Common.{◌≡◌, ℕ, ◌+◌, ◌-◌, ◌*◌, ◌<◌, ◌≤◌, length, ap, arith}
-use Rattle.pb_propagate.specs.declared.clauses.Clauses.{Clauses}
-use Rattle.pb_propagate.specs.engine.Clauses.Links.{watch_lists, list_at}
-use Rattle.pb_propagate.specs.engine.Clauses.Runs.{passed_of}
-use Rattle.pb_propagate.specs.engine.Engine.Counts.{spent}
-use Rattle.pb_propagate.specs.engine.Engine.Progress.{Progress, Database, visited_to, Costs, Advances}
+use Rattle.pb_propagate.proofs.Common.{ℕ, ◌*◌, ◌+◌, ◌-◌, ◌<◌, ◌≡◌, ◌≤◌, ap, arith, length, sum, Clauses, list_at, watch_lists, passed_of, spent}
+use Rattle.pb_propagate.proofs.Common.{Advances, Costs, Database, Progress, visited_to}
 use Rattle.pb_propagate.proofs.lemmas.engine.Advances.{costs-as, costs-then, advances-refl, advances-as, advances-then, advances-visit}
 
 -- the length of a literal's list of watches

@@ -1,13 +1,7 @@
 -- One more variable.
-use Rattle.std.specs.Prelude.{All, slice_get, map}
-use Rattle.std.proofs.Common.{◌≡◌, ℕ, zero, suc, ◌+◌, ◌*◌, ◌/◌, ◌<◌, ◌++◌, ◌∷◌, [], List, Vec, Global, refl, sym, ◌∙◌, ap, subst, arith, length, get_or, length-append}
-use Rattle.std.proofs.lemmas.List.{map-append}
-use Rattle.std.proofs.lemmas.List.Sums.{sum_by_push}
-use Rattle.pb_propagate.specs.declared.store.Occurrence.{Occurrence}
-use Rattle.pb_propagate.specs.engine.Engine.Lists.{Shape, Weighted}
-use Rattle.pb_propagate.specs.engine.Engine.Counts.{place, weight_in}
-use Rattle.pb_propagate.specs.engine.Engine.Fields.{entries_of}
-use Rattle.pb_propagate.specs.engine.Engine.Links.{weighted, entry_cross, entry_at, term_at, AreCrossed, IsLinked, IsStored}
+use Rattle.pb_propagate.proofs.Common.{ℕ, ◌*◌, ◌++◌, ◌+◌, ◌/◌, ◌<◌, ◌∙◌, ◌∷◌, ◌≡◌, [], ap, arith, get_or, Global, length, length-append, List, map}
+use Rattle.pb_propagate.proofs.Common.{refl, subst, suc, sym, Vec, zero, All, slice_get, map-append, sum_by_push, Occurrence, place, weight_in}
+use Rattle.pb_propagate.proofs.Common.{entries_of, AreCrossed, entry_at, entry_cross, IsLinked, IsStored, term_at, weighted, Shape, Weighted}
 use Rattle.pb_propagate.proofs.lemmas.store.Crosses.{Grid}
 
 push-nothing : (lists : List (List Weighted)) (p : ℕ) → get_or (lists ++ ([] ∷ [])) p [] ≡ get_or lists p []

@@ -1,29 +1,13 @@
 -- A form that was added comes to the root.
-use Rattle.std.specs.Prelude.{All, Contains, Option, Bool, Some, None, slice_get, ◌/◌}
-use Rattle.std.proofs.Common.{Vec, Global, ◌≡◌, ℕ, zero, suc, ◌+◌, ◌*◌, ◌<◌, ◌≤◌, ◌⊎◌, ◌++◌, ◌∷◌, [], List, true, refl, sym, ◌∙◌, ap, subst, inl, inr, arith, length, length-append, get_or, set, get_or-set_same, get_or-set_other}
-use Rattle.std.proofs.lemmas.Bool.{cases_eq, cases_lt, both_ways}
-use Rattle.std.proofs.lemmas.List.{length-map, get_or-map, get_or_append_left, get_or_push, get_or_default}
-use Rattle.std.proofs.lemmas.Option.{get_or_from_slice_get, slice_get-get_or, slice_get_within}
-use Rattle.pb_normal.specs.declared.numbered.NumberedLiteral.{NumberedLiteral}
-use Rattle.pb_propagate.specs.declared.rests.Rests.{Rests}
-use Rattle.pb_propagate.specs.declared.run.Run.{Run}
-use Rattle.pb_propagate.specs.declared.assignment.Assignment.{Assignment}
-use Rattle.pb_propagate.specs.declared.store.Store.{Store}
-use Rattle.pb_propagate.specs.declared.store.stored_form.StoredForm.{StoredForm}
-use Rattle.pb_propagate.specs.declared.clauses.Clauses.{Clauses}
-use Rattle.pb_propagate.specs.declared.clauses.lists.Watch.{Watch}
-use Rattle.pb_propagate.specs.engine.Engine.Lists.{Shape, HaveReasons, open_sum, size}
-use Rattle.pb_propagate.specs.engine.Engine.Counts.{Grown, pushed, spared, IsAbsent, IsCalm, IsCounted, IsTidy, beside, weight_in}
-use Rattle.pb_propagate.specs.engine.Engine.Fields.{shapes_of, forms_of, stored_shape}
-use Rattle.pb_propagate.specs.engine.Engine.Root.{IsRooted, IsServed, HasForm, HasGained, HasReached}
-use Rattle.pb_propagate.specs.engine.Engine.Slots.{form_at}
-use Rattle.pb_propagate.specs.declared.eager.Eager.{Eager}
-use Rattle.pb_normal.specs.meaning.Form.{Form}
-use Rattle.pb_propagate.specs.engine.Clauses.Truths.{flip, true_at, false_at}
-use Rattle.pb_propagate.specs.engine.Clauses.Links.{watch_lists, list_at, watch_at}
-use Rattle.pb_propagate.specs.engine.Clauses.Runs.{AreStored, AreReady, AreWalked, HasTrue}
-use Rattle.pb_propagate.specs.engine.Clauses.Shapes.{one_term, slot_shape, joined, clauses_of, all_of}
-use Rattle.pb_propagate.specs.engine.Clauses.Walked.{walked_codes}
+use Rattle.pb_propagate.proofs.Common.{ℕ, ◌*◌, ◌++◌, ◌+◌, ◌/◌, ◌<◌, ◌∙◌, ◌∷◌, ◌≡◌, ◌≤◌, ◌⊎◌, [], ap, arith, Bool, get_or, get_or-set_other}
+use Rattle.pb_propagate.proofs.Common.{get_or-set_same, Global, inl, inr, length, length-append, List, None, refl, set, subst, suc, sym, true, Vec}
+use Rattle.pb_propagate.proofs.Common.{zero, All, Contains, Option, slice_get, Some, both_ways, cases_eq, cases_lt, get_or-map, get_or_append_left}
+use Rattle.pb_propagate.proofs.Common.{get_or_default, get_or_push, length-map, get_or_from_slice_get, slice_get-get_or, slice_get_within}
+use Rattle.pb_propagate.proofs.Common.{NumberedLiteral, Form, Assignment, Clauses, Watch, Eager, Rests, Run, Store, StoredForm, list_at, watch_at}
+use Rattle.pb_propagate.proofs.Common.{watch_lists, AreReady, AreStored, AreWalked, HasTrue, all_of, clauses_of, joined, one_term, slot_shape}
+use Rattle.pb_propagate.proofs.Common.{false_at, flip, true_at, walked_codes, beside, Grown, IsAbsent, IsCalm, IsCounted, IsTidy, pushed, spared}
+use Rattle.pb_propagate.proofs.Common.{weight_in, forms_of, shapes_of, stored_shape, HaveReasons, open_sum, Shape, size, HasForm, HasGained}
+use Rattle.pb_propagate.proofs.Common.{HasReached, IsRooted, IsServed, form_at}
 use Rattle.pb_propagate.proofs.lemmas.clauses.Shapes.{joined-at, joined-length}
 use Rattle.pb_propagate.proofs.lemmas.clauses.Truths.{flip-half, flip-even, flip-flip, same-slot, not_both}
 use Rattle.pb_propagate.proofs.lemmas.engine.Rests.{element}

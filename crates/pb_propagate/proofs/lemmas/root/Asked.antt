@@ -1,15 +1,8 @@
 -- What a question has found, over the live forms.
-use Rattle.std.specs.Prelude.{Option, Some, Bool, true, false}
-use Rattle.std.proofs.Common.{◌≡◌, ℕ, ◌≤◌, ◌++◌, ◌∷◌, [], List, refl, sym, inl, arith, length}
-use Rattle.std.proofs.lemmas.Bool.{both_ways}
-use Rattle.pb_normal.specs.meaning.Form.{Form}
-use Rattle.pb_normal.specs.declared.numbered.NumberedLiteral.{NumberedLiteral}
-use Rattle.pb_propagate.specs.meaning.Propagation.{With, Derivation, begin, put, HasConflict, opposed, broken, MeetsConflict, IsCompletion}
-use Rattle.pb_propagate.specs.engine.Engine.Lists.{Shape}
-use Rattle.pb_propagate.specs.engine.Engine.Live.{Live}
-use Rattle.pb_propagate.specs.engine.Engine.Rest.{AreSlots}
-use Rattle.pb_propagate.specs.engine.Engine.Root.{IsAsked, alone, posed}
-use Rattle.pb_propagate.specs.engine.Engine.Slots.{numbered, ArePlaced}
+use Rattle.pb_propagate.proofs.Common.{ℕ, ◌++◌, ◌∷◌, ◌≡◌, ◌≤◌, [], arith, Bool, false, inl, length, List, refl, sym, true, Option, Some, both_ways}
+use Rattle.pb_propagate.proofs.Common.{NumberedLiteral, Form, Shape, Live, AreSlots, alone, IsAsked, posed, ArePlaced, numbered, Derivation}
+use Rattle.pb_propagate.proofs.Common.{HasConflict, IsCompletion, MeetsConflict, With}
+use Rattle.pb_propagate.specs.meaning.Propagation.{begin, put, opposed, broken}
 use Rattle.pb_propagate.proofs.lemmas.engine.Bridge.{derives, conflicts, is-closed, has-none}
 use Rattle.pb_propagate.proofs.lemmas.engine.Completing.{closed-none}
 use Rattle.pb_propagate.proofs.lemmas.engine.Literals.{has-none as on-none}

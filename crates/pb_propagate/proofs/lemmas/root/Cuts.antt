@@ -1,12 +1,9 @@
 -- The last literal of a list is removed.
-use Rattle.std.specs.Prelude.{Bool, true, false, not, sum_by, Option, Some, None}
-use Rattle.std.proofs.Common.{◌≡◌, ℕ, zero, suc, ◌+◌, ◌<◌, ◌≤◌, ◌⊎◌, ◌++◌, ◌∷◌, [], List, length, get_or, set, take, drop, min, refl, sym, ◌∙◌, ap, subst, inl, inr, arith, length-append, length-set, get_or-set_same, get_or-set_other}
-use Rattle.std.proofs.lemmas.Bool.{cases_Bool, cases_lt, cases_eq, both_ways}
-use Rattle.std.proofs.lemmas.List.{set_past, take_more, take_all, take_min, length-take-le}
-use Rattle.std.proofs.lemmas.List.Sums.{sum_by-set}
-use Rattle.pb_normal.specs.declared.numbered.NumberedLiteral.{NumberedLiteral}
-use Rattle.pb_normal.specs.meaning.Rules.{negation}
-use Rattle.pb_propagate.specs.engine.Engine.Lists.{has, says, holds, vacancy}
+use Rattle.pb_propagate.proofs.Common.{ℕ, ◌++◌, ◌+◌, ◌<◌, ◌∙◌, ◌∷◌, ◌≡◌, ◌≤◌, ◌⊎◌, [], ap, arith, Bool, drop, false, get_or, get_or-set_other}
+use Rattle.pb_propagate.proofs.Common.{get_or-set_same, inl, inr, length, length-append, length-set, List, min, None, not, refl, set, subst, suc, sym}
+use Rattle.pb_propagate.proofs.Common.{take, true, zero, Option, Some, sum_by, both_ways, cases_Bool, cases_eq, cases_lt, length-take-le, set_past}
+use Rattle.pb_propagate.proofs.Common.{take_all, take_min, take_more, sum_by-set, NumberedLiteral, negation, has, holds, vacancy}
+use Rattle.pb_propagate.specs.engine.Engine.Lists.{says}
 use Rattle.pb_propagate.proofs.lemmas.engine.Literals.{literal_ext, has-push_old, has-push_new, has-push_cases}
 use Rattle.pb_propagate.proofs.lemmas.engine.Values.{Agree, Forgotten, says-none, says-inside, opposite, forget-next, forget-none, vacancy-none}
 

@@ -1,23 +1,12 @@
 -- A clause that is asked about, by its literals.
-use Rattle.std.specs.Prelude.{All, Contains, map, true, false}
-use Rattle.std.proofs.Common.{◌≡◌, ℕ, zero, suc, ◌+◌, ◌-◌, ◌^◌, ◌<◌, ◌≤◌, min, length-append, ◌++◌, ◌∷◌, [], List, refl, sym, ◌∙◌, ap, subst, arith, inl, inr, length, get_or}
-use Rattle.std.proofs.lemmas.Bool.{cases_eq, cases_Bool, or_cases, both_ways}
-use Rattle.std.proofs.lemmas.List.{length-map, get_or-map}
-use Rattle.std.proofs.lemmas.List.Elements.{Contains-append_left, Contains-push, Contains-push_cases}
-use Rattle.std.proofs.lemmas.List.Sums.{sum_by-cons}
-use Rattle.std.proofs.lemmas.List.Sorted.{IsPermutation-refl}
-use Rattle.pb_normal.specs.declared.entry.Entry.{Entry}
-use Rattle.pb_normal.specs.declared.numbered.NumberedLiteral.{NumberedLiteral}
-use Rattle.pb_normal.specs.meaning.Form.{Form, IsNormal, total, each}
-use Rattle.pb_normal.specs.meaning.Rules.{negation, opposite, negation_of}
+use Rattle.pb_propagate.proofs.Common.{ℕ, ◌++◌, ◌+◌, ◌-◌, ◌<◌, ◌^◌, ◌∙◌, ◌∷◌, ◌≡◌, ◌≤◌, [], ap, arith, false, get_or, inl, inr, length, length-append}
+use Rattle.pb_propagate.proofs.Common.{List, map, min, refl, subst, suc, sym, true, zero, All, Contains, both_ways, cases_Bool, cases_eq, or_cases}
+use Rattle.pb_propagate.proofs.Common.{get_or-map, length-map, Contains-append_left, Contains-push, Contains-push_cases, IsPermutation-refl}
+use Rattle.pb_propagate.proofs.Common.{sum_by-cons, Entry, NumberedLiteral, each, Form, IsNormal, total, negation, negation_of, opposite, Term}
+use Rattle.pb_propagate.proofs.Common.{AreJoined, joined, added, Adopted, AreFound, kept, AreDenied, denial_of, IsDisjunction, IsHit, IsOne, as_term}
+use Rattle.pb_propagate.proofs.Common.{entry_of, IsStoredAs, broken, Conflicts, Derives, has, IsSettled, IsWithin, open_part, open_sum, opposed, put}
+use Rattle.pb_propagate.proofs.Common.{Shape, AreSettled}
 use Rattle.pb_normal.proofs.lemmas.terms.Maps.{IsNormal-negation}
-use Rattle.pb_propagate.specs.declared.term.Term.{Term}
-use Rattle.pb_propagate.specs.engine.Engine.Lists.{Shape, has, open_part, open_sum, Derives, put, Conflicts, opposed, broken, IsWithin, IsSettled}
-use Rattle.pb_propagate.specs.engine.Engine.Counts.{Adopted, kept, added, AreFound}
-use Rattle.pb_propagate.specs.engine.Engine.Denial.{IsOne, IsDisjunction, IsHit, AreDenied, denial_of}
-use Rattle.pb_propagate.specs.engine.Engine.Forms.{as_term, entry_of, IsStoredAs}
-use Rattle.pb_propagate.specs.engine.Engine.Progress.{AreSettled}
-use Rattle.pb_propagate.specs.engine.Clauses.Shapes.{joined, AreJoined}
 use Rattle.pb_propagate.proofs.lemmas.clauses.Shapes.{conflicts-joined}
 use Rattle.pb_propagate.proofs.lemmas.engine.Derivations.{one_itself, settled-of_terms, derivation-then}
 use Rattle.pb_propagate.proofs.lemmas.engine.Literals.{negation-negation, open_part-falsified, open_part-open, open_sum-lower, has-none, has-push_old, has-push_new}

@@ -1,16 +1,9 @@
 -- Lists to which literals were added.
-use Rattle.std.specs.Prelude.{map, count_by, true, false, Bool, ◌||◌, ◌==◌}
-use Rattle.std.proofs.Common.{◌≡◌, ℕ, ◌≤◌, ◌++◌, ◌∷◌, [], List, cond, refl, sym, ◌∙◌, ap, subst, arith, length, get_or, take, drop}
-use Rattle.std.proofs.lemmas.Bool.{both_ways}
-use Rattle.std.proofs.lemmas.List.{append-nil, append_assoc, map-append, take-append-drop}
-use Rattle.std.proofs.lemmas.List.Sums.{sum_by-cons, sum_by-append}
-use Rattle.pb_normal.specs.declared.numbered.NumberedLiteral.{NumberedLiteral}
-use Rattle.pb_normal.specs.meaning.Rules.{negation}
-use Rattle.pb_propagate.specs.engine.Engine.Lists.{Shape, Weighted, Derives, begin, put, Extends}
-use Rattle.pb_propagate.specs.engine.Engine.Counts.{place, spent}
-use Rattle.pb_propagate.specs.engine.Clauses.Walked.{has, killed, fallen, falsified_code}
-use Rattle.pb_propagate.specs.declared.clause.Group.TheVariants.{Short, Long}
-use Rattle.pb_propagate.specs.declared.heads.Heads.{Heads}
+use Rattle.pb_propagate.proofs.Common.{ℕ, ◌++◌, ◌||◌, ◌∙◌, ◌∷◌, ◌≡◌, ◌≤◌, [], ap, arith, Bool, cond, drop, false, get_or, length, List, map, refl}
+use Rattle.pb_propagate.proofs.Common.{subst, sym, take, true, ◌==◌, count_by, both_ways, append-nil, append_assoc, map-append, take-append-drop}
+use Rattle.pb_propagate.proofs.Common.{sum_by-append, sum_by-cons, NumberedLiteral, negation, Long, Short, Heads, fallen, falsified_code, killed}
+use Rattle.pb_propagate.proofs.Common.{place, spent, begin, Derives, Extends, put, Shape, Weighted}
+use Rattle.pb_propagate.specs.engine.Clauses.Walked.{has}
 use Rattle.pb_propagate.proofs.lemmas.clauses.Watching.{reached}
 
 pub extends-none : (a : List NumberedLiteral) → Extends a a

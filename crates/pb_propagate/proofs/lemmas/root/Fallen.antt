@@ -1,22 +1,11 @@
 -- A conflict of the root is kept.
-use Rattle.std.specs.Prelude.{Bool, Contains, Option, Some, None, true, false, map, slice_get, sum_by}
-use Rattle.std.proofs.Common.{◌≡◌, ℕ, zero, suc, ◌<◌, ◌≤◌, ◌∷◌, [], List, refl, sym, ◌∙◌, ap, subst, arith, length}
-use Rattle.std.proofs.lemmas.Bool.{both_ways}
-use Rattle.std.proofs.lemmas.List.Sums.{sum_by-cons}
-use Rattle.std.proofs.lemmas.Option.{get_or_from_slice_get, slice_get-get_or, slice_get_within}
-use Rattle.pb_normal.specs.declared.numbered.NumberedLiteral.{NumberedLiteral}
-use Rattle.pb_normal.specs.meaning.Form.{Form}
-use Rattle.pb_normal.specs.meaning.Rules.{negation}
+use Rattle.pb_propagate.proofs.Common.{ℕ, ◌<◌, ◌∙◌, ◌∷◌, ◌≡◌, ◌≤◌, [], ap, arith, Bool, false, length, List, map, None, refl, subst, suc, sym, true}
+use Rattle.pb_propagate.proofs.Common.{zero, Contains, Option, slice_get, Some, sum_by, both_ways, sum_by-cons, get_or_from_slice_get}
+use Rattle.pb_propagate.proofs.Common.{slice_get-get_or, slice_get_within, NumberedLiteral, Form, negation, Clauses, Store, all_of, AreJoined}
+use Rattle.pb_propagate.proofs.Common.{clause_shape, clauses_of, literal_at, one_term, none, forms_of, IsSound, shapes_of, stored_shape, broken}
+use Rattle.pb_propagate.proofs.Common.{Conflicts, has, HaveReasons, KeepsReasons, open_part, open_sum, opposed, Shape, AreSlots, HasGained}
+use Rattle.pb_propagate.proofs.Common.{HasVacated, IsAnswered, IsFallen, IsFree, IsMet, IsNeedless, form_at}
 use Rattle.pb_propagate.specs.declared.engine.root.Root.{Root}
-use Rattle.pb_propagate.specs.declared.store.Store.{Store}
-use Rattle.pb_propagate.specs.declared.clauses.Clauses.{Clauses}
-use Rattle.pb_propagate.specs.engine.Engine.Counts.{none}
-use Rattle.pb_propagate.specs.engine.Engine.Fields.{shapes_of, forms_of, IsSound, stored_shape}
-use Rattle.pb_propagate.specs.engine.Engine.Lists.{Shape, HaveReasons, KeepsReasons, Conflicts, opposed, broken, has, open_part, open_sum}
-use Rattle.pb_propagate.specs.engine.Engine.Rest.{AreSlots}
-use Rattle.pb_propagate.specs.engine.Engine.Root.{IsFallen, IsFree, IsMet, IsNeedless, IsAnswered, HasGained, HasVacated}
-use Rattle.pb_propagate.specs.engine.Engine.Slots.{form_at}
-use Rattle.pb_propagate.specs.engine.Clauses.Shapes.{AreJoined, all_of, clauses_of, clause_shape, literal_at, one_term}
 use Rattle.pb_propagate.proofs.lemmas.clauses.Literals.{Agree, false-listed}
 use Rattle.pb_propagate.proofs.lemmas.engine.Literals.{open_part-open}
 use Rattle.pb_propagate.proofs.lemmas.engine.Spent.{derivation-single}

@@ -1,21 +1,10 @@
 -- A form came into a slot.
-use Rattle.std.specs.Prelude.{Some, None, slice_get, ◌/◌}
-use Rattle.std.proofs.Common.{◌≡◌, ℕ, ◌+◌, ◌*◌, ◌<◌, ◌≤◌, ◌++◌, ◌∷◌, [], List, sym, ◌∙◌, ap, inl, inr, arith, length, length-append, get_or, set, length-set, get_or-set_same, get_or-set_other}
-use Rattle.std.proofs.lemmas.Bool.{cases_lt, cases_eq}
-use Rattle.std.proofs.lemmas.List.{length-map, get_or_append_left, get_or_past, get_or_push}
-use Rattle.std.proofs.lemmas.Option.{slice_get_within, get_or_from_slice_get}
-use Rattle.pb_propagate.specs.declared.store.stored_form.StoredForm.{StoredForm}
-use Rattle.pb_propagate.specs.declared.store.Store.{Store}
-use Rattle.pb_propagate.specs.declared.clauses.Clauses.{Clauses}
-use Rattle.pb_propagate.specs.declared.clauses.lists.Watch.{Watch}
-use Rattle.pb_propagate.specs.engine.Engine.Lists.{Shape}
-use Rattle.pb_propagate.specs.engine.Engine.Fields.{shapes_of, forms_of, stored_shape}
-use Rattle.pb_propagate.specs.engine.Engine.Slots.{form_at}
-use Rattle.pb_normal.specs.meaning.Form.{Form}
+use Rattle.pb_propagate.proofs.Common.{ℕ, ◌*◌, ◌++◌, ◌+◌, ◌/◌, ◌<◌, ◌∙◌, ◌∷◌, ◌≡◌, ◌≤◌, [], ap, arith, get_or, get_or-set_other, get_or-set_same, inl}
+use Rattle.pb_propagate.proofs.Common.{inr, length, length-append, length-set, List, None, set, sym, slice_get, Some, cases_eq, cases_lt}
+use Rattle.pb_propagate.proofs.Common.{get_or_append_left, get_or_past, get_or_push, length-map, get_or_from_slice_get, slice_get_within, Form}
+use Rattle.pb_propagate.proofs.Common.{Clauses, Watch, Store, StoredForm, idle, list_at, watch_at, all_of, clauses_of, joined, slot_shape, forms_of}
+use Rattle.pb_propagate.proofs.Common.{shapes_of, stored_shape, Shape, HasGained, HasWidened, form_at}
 use Rattle.pb_propagate.proofs.lemmas.store.Changes.{forms-filled, forms-length}
-use Rattle.pb_propagate.specs.engine.Engine.Root.{HasWidened, HasGained}
-use Rattle.pb_propagate.specs.engine.Clauses.Links.{list_at, watch_at, idle}
-use Rattle.pb_propagate.specs.engine.Clauses.Shapes.{slot_shape, joined, clauses_of, all_of}
 use Rattle.pb_propagate.proofs.lemmas.clauses.Shapes.{joined-at, joined-length}
 use Rattle.pb_propagate.proofs.lemmas.clauses.Slots.{IsVacant}
 use Rattle.pb_propagate.proofs.lemmas.store.Gets.{get-set_other, get-push_other}

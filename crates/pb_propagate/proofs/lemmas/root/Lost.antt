@@ -1,36 +1,19 @@
 -- The form of a slot goes, and the root stays.
-use Rattle.std.specs.Prelude.{Contains, Option, Bool, Some, map, slice_get, ◌/◌}
-use Rattle.std.proofs.Common.{Vec, Global, ◌≡◌, ℕ, ◌<◌, [], List, refl, sym, ◌∙◌, ap, subst, inl, inr, arith, length, get_or, set, length-set, get_or-set_same, get_or-set_other}
-use Rattle.std.proofs.lemmas.Bool.{cases_eq}
-use Rattle.std.proofs.lemmas.List.{length-map, get_or-map, get_or_default, map-set}
-use Rattle.std.proofs.lemmas.Option.{slice_get-get_or, get_or_from_slice_get}
-use Rattle.pb_normal.specs.declared.numbered.NumberedLiteral.{NumberedLiteral}
-use Rattle.pb_propagate.specs.declared.term.Term.{Term}
-use Rattle.pb_propagate.specs.declared.rests.Rests.{Rests}
-use Rattle.pb_propagate.specs.declared.run.Run.{Run}
-use Rattle.pb_propagate.specs.declared.assignment.Assignment.{Assignment}
-use Rattle.pb_propagate.specs.declared.store.Store.{Store}
-use Rattle.pb_propagate.specs.declared.store.stored_form.StoredForm.{StoredForm}
-use Rattle.pb_propagate.specs.declared.clauses.Clauses.{Clauses}
-use Rattle.pb_propagate.specs.engine.Engine.Lists.{Shape, HaveReasons, open_part, open_sum, size}
-use Rattle.pb_propagate.specs.engine.Engine.Fields.{shapes_of, stored_shape}
-use Rattle.pb_propagate.specs.engine.Engine.Root.{IsRooted, IsNeedless, IsOtherUnit, HasVacated, HasLost, IsSameWatch}
-use Rattle.pb_propagate.specs.engine.Clauses.Truths.{flip, true_at}
-use Rattle.pb_propagate.specs.engine.Clauses.Links.{watch_lists, list_at, watch_at}
-use Rattle.pb_propagate.specs.engine.Clauses.Runs.{AreReady, AreWalked}
-use Rattle.pb_propagate.specs.engine.Clauses.Shapes.{AreJoined, one_term, literal_at, slot_shape, joined, clauses_of, all_of}
-use Rattle.pb_propagate.specs.engine.Clauses.Walked.{walked_codes}
+use Rattle.pb_propagate.proofs.Common.{ℕ, ◌/◌, ◌<◌, ◌∙◌, ◌≡◌, [], ap, arith, Bool, get_or, get_or-set_other, get_or-set_same, Global, inl, inr}
+use Rattle.pb_propagate.proofs.Common.{length, length-set, List, map, refl, set, subst, sym, Vec, Contains, Option, slice_get, Some, cases_eq}
+use Rattle.pb_propagate.proofs.Common.{get_or-map, get_or_default, length-map, map-set, sum_by-cons, get_or_from_slice_get, slice_get-get_or}
+use Rattle.pb_propagate.proofs.Common.{NumberedLiteral, Assignment, Clauses, Eager, Rests, Run, Store, StoredForm, Term, list_at, watch_at}
+use Rattle.pb_propagate.proofs.Common.{watch_lists, AreReady, AreWalked, all_of, AreJoined, clauses_of, joined, literal_at, one_term, slot_shape}
+use Rattle.pb_propagate.proofs.Common.{flip, true_at, walked_codes, shapes_of, stored_shape, HaveReasons, open_part, open_sum, Shape, size, HasLost}
+use Rattle.pb_propagate.proofs.Common.{HasVacated, IsNeedless, IsOtherUnit, IsRooted, IsSameWatch, IsWithout}
 use Rattle.pb_propagate.proofs.lemmas.clauses.Shapes.{joined-at}
 use Rattle.pb_propagate.proofs.lemmas.clauses.Slots.{joined-cleared}
 use Rattle.pb_propagate.proofs.lemmas.clauses.Truths.{flip-half}
 use Rattle.pb_propagate.proofs.lemmas.root.Admitted.{no-watch, form-kept}
-use Rattle.pb_propagate.specs.engine.Engine.Waiting.{IsWithout}
-use Rattle.pb_propagate.specs.declared.eager.Eager.{Eager}
 use Rattle.pb_propagate.proofs.lemmas.store.Gets.{get-set_other}
 use Rattle.pb_propagate.proofs.lemmas.engine.Reasoned.{IsMoved, moved-same, reasons-moved}
 use Rattle.pb_propagate.proofs.lemmas.clauses.Reasons.{stored-joined}
 use Rattle.pb_propagate.proofs.lemmas.engine.Literals.{open_part-open}
-use Rattle.std.proofs.lemmas.List.Sums.{sum_by-cons}
 
 -- a term of a clause is one of its literals, with coefficient 1
 pub clause-term : (codes : List ℕ) (l : NumberedLiteral) (c : ℕ) → Contains (map one_term codes) (record { literal = l; coefficient = c }) → (x : ℕ) × Contains codes x × (literal_at x ≡ l) × (c ≡ 1)

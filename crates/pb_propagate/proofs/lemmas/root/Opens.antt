@@ -1,13 +1,7 @@
 -- Open sums under the values of some literals.
-use Rattle.std.specs.Prelude.{Bool, true, false, not, Option, Some, None}
-use Rattle.std.specs.Bool.{beq}
-use Rattle.std.proofs.Common.{◌≡◌, ℕ, ◌+◌, ◌<◌, ◌≤◌, ◌∷◌, [], List, length, get_or, take, refl, sym, ◌∙◌, ap, arith}
-use Rattle.std.proofs.lemmas.List.{take_all}
-use Rattle.std.proofs.lemmas.List.Sums.{sum_by_more, sum_by_more_le}
-use Rattle.pb_normal.specs.declared.numbered.NumberedLiteral.{NumberedLiteral}
-use Rattle.pb_normal.specs.meaning.Rules.{negation}
-use Rattle.pb_propagate.specs.declared.term.Term.{Term}
-use Rattle.pb_propagate.specs.engine.Engine.Lists.{says, open_part, open_sum, size}
+use Rattle.pb_propagate.proofs.Common.{ℕ, ◌+◌, ◌<◌, ◌∙◌, ◌∷◌, ◌≡◌, ◌≤◌, [], ap, arith, Bool, false, get_or, length, List, None, not, refl, sym, take}
+use Rattle.pb_propagate.proofs.Common.{true, Option, Some, take_all, sum_by_more, sum_by_more_le, beq, NumberedLiteral, negation, Term, open_part}
+use Rattle.pb_propagate.proofs.Common.{open_sum, says, size}
 use Rattle.pb_propagate.proofs.lemmas.engine.Literals.{open_part-falsified, open_part-open}
 use Rattle.pb_propagate.proofs.lemmas.engine.Values.{Agree, says-some}
 

@@ -1,30 +1,13 @@
 -- A question that continues from the root.
-use Rattle.std.specs.Prelude.{map, sum, sum_by}
-use Rattle.std.proofs.Common.{◌≡◌, ℕ, Vec, Global, zero, suc, refl, ◌+◌, ◌-◌, ◌*◌, ◌^◌, ◌<◌, ◌≤◌, ◌⊎◌, ◌++◌, ◌∷◌, [], List, sym, ◌∙◌, ap, inl, inr, arith, length, length-append, get_or, set, take, drop}
-use Rattle.std.proofs.lemmas.Bool.{cases_eq, cases_lt}
-use Rattle.std.proofs.lemmas.List.{length-map, map-append, get_or_append_left, get_or_push, get_or_past, take-append-drop, length-take, get_or_default, ext_get_or, take_all}
-use Rattle.std.proofs.lemmas.List.Elements.{Contains-append_left}
-use Rattle.std.proofs.lemmas.List.Sums.{sum_by-append, sum_by-cons}
-use Rattle.std.proofs.lemmas.List.Sorted.{length_permutation}
-use Rattle.pb_normal.specs.meaning.Form.{Form}
-use Rattle.pb_normal.specs.declared.numbered.NumberedLiteral.{NumberedLiteral}
-use Rattle.pb_propagate.specs.declared.rests.Rests.{Rests}
-use Rattle.pb_propagate.specs.declared.store.stored_form.StoredForm.{StoredForm}
-use Rattle.pb_propagate.specs.declared.store.Store.{Store}
-use Rattle.pb_propagate.specs.declared.run.Run.{Run}
-use Rattle.pb_propagate.specs.declared.clauses.Clauses.{Clauses}
-use Rattle.pb_propagate.specs.engine.Engine.Progress.{RunSpends, RunPays}
+use Rattle.pb_propagate.proofs.Common.{ℕ, ◌*◌, ◌++◌, ◌+◌, ◌-◌, ◌<◌, ◌^◌, ◌∙◌, ◌∷◌, ◌≡◌, ◌≤◌, ◌⊎◌, [], ap, arith, drop, get_or, Global, inl, inr}
+use Rattle.pb_propagate.proofs.Common.{length, length-append, List, map, refl, set, suc, sym, take, Vec, zero, sum, sum_by, cases_eq, cases_lt}
+use Rattle.pb_propagate.proofs.Common.{ext_get_or, get_or_append_left, get_or_default, get_or_past, get_or_push, length-map, length-take, map-append}
+use Rattle.pb_propagate.proofs.Common.{take-append-drop, take_all, Contains-append_left, length_permutation, sum_by-append, sum_by-cons}
+use Rattle.pb_propagate.proofs.Common.{NumberedLiteral, Form, negation, Long, Short, Clauses, Rests, Run, Occurrence, Store, StoredForm, all_of}
+use Rattle.pb_propagate.proofs.Common.{AreJoined, clauses_of, code_in, joined, fallen, AreFound, AreSingle, beside, Grown, IsCalm, IsCounted, IsTidy}
+use Rattle.pb_propagate.proofs.Common.{IsUndone, place, rest_open, spent, AreLonger, entries_of, HasEntered, IsSound, lists_of, shapes_of, spots_of}
+use Rattle.pb_propagate.proofs.Common.{stored_shape, entry_of, IsStoredAs, weighted, Derives, Extends, open_sum, Shape, size, RunPays, RunSpends}
 use Rattle.pb_propagate.proofs.lemmas.engine.Values.{opposite}
-use Rattle.pb_propagate.specs.engine.Engine.Lists.{Shape, Derives, Extends, open_sum, size}
-use Rattle.pb_propagate.specs.engine.Engine.Counts.{AreFound, AreSingle, Grown, IsCalm, IsCounted, IsTidy, IsUndone, beside, rest_open, place, spent}
-use Rattle.pb_propagate.specs.engine.Engine.Fields.{shapes_of, lists_of, spots_of, entries_of, stored_shape, IsSound, HasEntered, AreLonger}
-use Rattle.pb_propagate.specs.engine.Engine.Links.{weighted}
-use Rattle.pb_propagate.specs.declared.store.Occurrence.{Occurrence}
-use Rattle.pb_normal.specs.meaning.Rules.{negation}
-use Rattle.pb_propagate.specs.engine.Engine.Forms.{IsStoredAs, entry_of}
-use Rattle.pb_propagate.specs.engine.Clauses.Shapes.{AreJoined, joined, code_in, clauses_of, all_of}
-use Rattle.pb_propagate.specs.declared.clause.Group.TheVariants.{Short, Long}
-use Rattle.pb_propagate.specs.engine.Clauses.Walked.{fallen}
 use Rattle.pb_propagate.proofs.lemmas.clauses.Killed.{IsOneSided, risen, killed-both}
 use Rattle.pb_propagate.proofs.lemmas.engine.Bounds.{joined-terms}
 use Rattle.pb_propagate.proofs.lemmas.root.Admitted.{slot-counted, slot-tidy}

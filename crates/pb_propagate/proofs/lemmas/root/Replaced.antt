@@ -1,19 +1,8 @@
 -- Reasons that are replaced by others.
-use Rattle.std.specs.Prelude.{Contains, Some, true, map, slice_get}
-use Rattle.std.proofs.Common.{Vec, Global, ◌≡◌, ℕ, ◌<◌, [], List, refl, sym, ◌∙◌, ap, subst, inl, inr, arith, length, get_or, set}
-use Rattle.std.proofs.lemmas.Bool.{cases_eq}
-use Rattle.std.proofs.lemmas.List.{length-map, get_or_default}
-use Rattle.pb_normal.specs.declared.numbered.NumberedLiteral.{NumberedLiteral}
-use Rattle.pb_propagate.specs.declared.assignment.Assignment.{Assignment}
-use Rattle.pb_propagate.specs.declared.store.Store.{Store}
-use Rattle.pb_propagate.specs.declared.clauses.Clauses.{Clauses}
-use Rattle.pb_propagate.specs.declared.term.Term.{Term}
-use Rattle.pb_propagate.specs.engine.Engine.Lists.{Shape, has, HaveReasons, IsDue}
-use Rattle.pb_propagate.specs.engine.Engine.Fields.{shapes_of, stored_shape}
-use Rattle.pb_propagate.specs.engine.Engine.Links.{terms_at}
-use Rattle.pb_propagate.specs.engine.Engine.Root.{HasOtherReasons, IsNeedless, IsOtherUnit}
-use Rattle.pb_propagate.specs.engine.Clauses.Links.{list_at}
-use Rattle.pb_propagate.specs.engine.Clauses.Shapes.{AreJoined, joined, clauses_of, all_of, literal_at, clause_shape, slot_shape, one_term}
+use Rattle.pb_propagate.proofs.Common.{ℕ, ◌<◌, ◌∙◌, ◌≡◌, [], ap, arith, get_or, Global, inl, inr, length, List, map, refl, set, subst, sym, true, Vec}
+use Rattle.pb_propagate.proofs.Common.{Contains, slice_get, Some, cases_eq, get_or_default, length-map, NumberedLiteral, Assignment, Clauses, Store}
+use Rattle.pb_propagate.proofs.Common.{Term, list_at, all_of, AreJoined, clause_shape, clauses_of, joined, literal_at, one_term, slot_shape}
+use Rattle.pb_propagate.proofs.Common.{shapes_of, stored_shape, terms_at, has, HaveReasons, IsDue, Shape, HasOtherReasons, IsNeedless, IsOtherUnit}
 use Rattle.pb_propagate.proofs.lemmas.clauses.Shapes.{shape-some}
 use Rattle.pb_propagate.proofs.lemmas.engine.Reasoned.{IsMoved, moved-same, reasons-moved, due-term}
 use Rattle.pb_propagate.proofs.lemmas.engine.Values.{one-literal}

@@ -1,28 +1,11 @@
 -- What a question on the root costs, and how it comes back to the root.
-use Rattle.std.specs.Prelude.{true, sum, sum_by, map}
-use Rattle.std.specs.List.{list_any}
-use Rattle.std.proofs.Common.{◌≡◌, ℕ, ◌+◌, ◌*◌, ◌<◌, ◌≤◌, ◌++◌, [], List, refl, sym, ◌∙◌, ap, subst, arith, length, take}
-use Rattle.std.proofs.lemmas.List.{length-map, take_all}
-use Rattle.std.proofs.Math.Seq.{take-append_seam}
-use Rattle.std.proofs.lemmas.Bool.{or_left}
-use Rattle.std.proofs.lemmas.List.Folds.{list_any-append}
-use Rattle.pb_normal.specs.declared.numbered.NumberedLiteral.{NumberedLiteral}
-use Rattle.pb_propagate.specs.declared.assignment.Assignment.{Assignment}
-use Rattle.pb_propagate.specs.declared.eager.Eager.{Eager}
-use Rattle.pb_propagate.specs.declared.rests.Rests.{Rests}
-use Rattle.pb_propagate.specs.declared.run.Run.{Run}
-use Rattle.pb_propagate.specs.declared.store.Store.{Store}
-use Rattle.pb_propagate.specs.declared.clauses.Clauses.{Clauses}
-use Rattle.pb_propagate.specs.declared.clause.Group.TheVariants.{Short, Long}
-use Rattle.pb_propagate.specs.engine.Engine.Counts.{AreSingle, IsCounted, IsUndone, spent, weight_in}
-use Rattle.pb_propagate.specs.engine.Engine.Denial.{RunRefutes}
-use Rattle.pb_propagate.specs.engine.Engine.Fields.{shapes_of, entries_of, stored_shape}
-use Rattle.pb_propagate.specs.engine.Engine.Lists.{same, has, IsWithin, Extends, KeepsReasons}
-use Rattle.pb_propagate.specs.engine.Engine.Progress.{Costs, Advances, RunSpends, RunPays, progress, database}
-use Rattle.pb_propagate.specs.engine.Engine.Root.{IsRooted}
-use Rattle.pb_propagate.specs.engine.Clauses.Runs.{Grows, AreWalked, AreWithin, passed_of}
-use Rattle.pb_propagate.specs.engine.Clauses.Shapes.{clauses_of}
-use Rattle.pb_propagate.specs.engine.Clauses.Walked.{fallen, falsified_code, walked_codes}
+use Rattle.pb_propagate.proofs.Common.{ℕ, ◌*◌, ◌++◌, ◌+◌, ◌<◌, ◌∙◌, ◌≡◌, ◌≤◌, [], ap, arith, length, List, map, refl, subst, sym, take, true, sum}
+use Rattle.pb_propagate.proofs.Common.{sum_by, take-append_seam, or_left, length-map, take_all, list_any-append, list_any, NumberedLiteral}
+use Rattle.pb_propagate.proofs.Common.{Assignment, Long, Short, Clauses, Eager, Rests, Run, Store, AreWalked, AreWithin, Grows, passed_of, clauses_of}
+use Rattle.pb_propagate.proofs.Common.{fallen, falsified_code, walked_codes, AreSingle, IsCounted, IsUndone, spent, weight_in, RunRefutes, entries_of}
+use Rattle.pb_propagate.proofs.Common.{shapes_of, stored_shape, Extends, IsWithin, KeepsReasons, same, Advances, Costs, database, progress, RunPays}
+use Rattle.pb_propagate.proofs.Common.{RunSpends, IsRooted}
+use Rattle.pb_propagate.specs.engine.Engine.Lists.{has}
 use Rattle.pb_propagate.proofs.lemmas.clauses.Counts.{passed-most}
 use Rattle.pb_propagate.proofs.lemmas.clauses.Literals.{Agree}
 use Rattle.pb_propagate.proofs.lemmas.clauses.Walks.{grows-listed}

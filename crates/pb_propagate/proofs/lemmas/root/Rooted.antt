@@ -1,19 +1,11 @@
 -- Literals that forms force with nothing assumed.
-use Rattle.std.specs.Prelude.{Bool, true, false, Contains, map, sum_by, Some, slice_get, slice_index_or}
-use Rattle.std.proofs.Common.{◌≡◌, ℕ, ◌+◌, ◌<◌, ◌≤◌, ◌++◌, ◌∷◌, [], List, refl, sym, ◌∙◌, ap, subst, arith, inl, inr, length, get_or, set, length-append, get_or-set_other}
-use Rattle.std.proofs.lemmas.Bool.{cases_lt, both_ways, or_left, or_right}
-use Rattle.std.proofs.lemmas.List.{get_or_past, set_past, get_or-map, length-map, get_or_default}
-use Rattle.std.proofs.lemmas.List.Sums.{sum_by-set, sum_by_push, sum_by-cons}
-use Rattle.std.proofs.lemmas.Option.{slice_get-get_or, slice_get_past}
-use Rattle.pb_normal.specs.declared.numbered.NumberedLiteral.{NumberedLiteral}
-use Rattle.pb_normal.specs.meaning.Rules.{negation}
-use Rattle.pb_propagate.specs.declared.term.Term.{Term}
-use Rattle.pb_propagate.specs.engine.Engine.Lists.{Shape, Weighted, same, has, Puts, Derives, begin, put}
-use Rattle.pb_propagate.specs.engine.Engine.Counts.{place, spent, AreSingle, none, more}
-use Rattle.pb_propagate.specs.engine.Engine.Links.{terms_at, entry_cross, term_cross, entry_at, term_at, IsStored}
-use Rattle.pb_propagate.specs.engine.Clauses.Links.{list_at}
-use Rattle.pb_propagate.specs.engine.Clauses.Shapes.{one_term, literal_at, code_in, joined}
-use Rattle.pb_propagate.specs.declared.clause.Group.TheVariants.{Short, Long}
+use Rattle.pb_propagate.proofs.Common.{ℕ, ◌++◌, ◌+◌, ◌<◌, ◌∙◌, ◌∷◌, ◌≡◌, ◌≤◌, [], ap, arith, Bool, false, get_or, get_or-set_other, inl, inr, length}
+use Rattle.pb_propagate.proofs.Common.{length-append, List, map, refl, set, subst, sym, true, Contains, slice_get, slice_index_or, Some, sum_by}
+use Rattle.pb_propagate.proofs.Common.{both_ways, cases_lt, or_left, or_right, get_or-map, get_or_default, get_or_past, length-map, set_past}
+use Rattle.pb_propagate.proofs.Common.{sum_by-cons, sum_by-set, sum_by_push, slice_get-get_or, slice_get_past, NumberedLiteral, negation, Long, Short}
+use Rattle.pb_propagate.proofs.Common.{Term, list_at, code_in, joined, literal_at, one_term, AreSingle, more, none, place, spent, entry_at}
+use Rattle.pb_propagate.proofs.Common.{entry_cross, IsStored, term_at, term_cross, terms_at, begin, Derives, put, Puts, same, Shape, Weighted}
+use Rattle.pb_propagate.specs.engine.Engine.Lists.{has}
 use Rattle.pb_propagate.proofs.lemmas.engine.Literals.{same-refl, negation-negation, has-push_old, has-push_new}
 use Rattle.pb_propagate.proofs.lemmas.store.Crosses.{to, to-none}
 use Rattle.pb_propagate.proofs.lemmas.root.Cuts.{absent-before}

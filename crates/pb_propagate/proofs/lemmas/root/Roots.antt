@@ -1,28 +1,11 @@
 -- The state to which questions return becomes that of the run.
-use Rattle.std.specs.Prelude.{Option, Bool, Some, slice_get}
-use Rattle.std.proofs.Common.{◌≡◌, ℕ, ◌+◌, ◌<◌, ◌≤◌, ◌⊎◌, [], List, refl, subst, sym, ◌∙◌, ap, inl, inr, arith, length, get_or, set, get_or-set_same, get_or-set_other}
-use Rattle.std.proofs.lemmas.Bool.{cases_eq}
-use Rattle.std.proofs.lemmas.List.{get_or_default, get_or_read, ext_get_or, length-map}
-use Rattle.pb_normal.specs.declared.numbered.NumberedLiteral.{NumberedLiteral}
-use Rattle.pb_propagate.specs.declared.rests.Rests.{Rests}
-use Rattle.pb_propagate.specs.declared.assignment.Assignment.{Assignment}
-use Rattle.pb_propagate.specs.engine.Clauses.Truths.{flip}
-use Rattle.pb_propagate.specs.engine.Clauses.Links.{watch_at}
+use Rattle.pb_propagate.proofs.Common.{ℕ, ◌+◌, ◌<◌, ◌∙◌, ◌≡◌, ◌≤◌, ◌⊎◌, [], ap, arith, Bool, get_or, get_or-set_other, get_or-set_same, inl, inr}
+use Rattle.pb_propagate.proofs.Common.{length, List, refl, set, subst, sym, Option, slice_get, Some, cases_eq, ext_get_or, get_or_default}
+use Rattle.pb_propagate.proofs.Common.{get_or_read, length-map, NumberedLiteral, Assignment, Clauses, Watch, Eager, Rests, Run, Store, StoredForm}
+use Rattle.pb_propagate.proofs.Common.{watch_at, AreWalked, all_of, flip, walked_codes, beside, IsAbsent, IsCounted, IsTidy, IsUndone, rest_open}
+use Rattle.pb_propagate.proofs.Common.{rest_start, weight_in, shapes_of, stored_shape, HaveReasons, KeepsReasons, Shape, size, AreAtRest, IsEager}
+use Rattle.pb_propagate.proofs.Common.{HasForm, IsRooted}
 use Rattle.pb_propagate.proofs.lemmas.clauses.Literals.{Agree, true-listed, false-listed}
-use Rattle.pb_propagate.specs.declared.run.Run.{Run}
-use Rattle.pb_propagate.specs.declared.eager.Eager.{Eager}
-use Rattle.pb_propagate.specs.declared.store.Store.{Store}
-use Rattle.pb_propagate.specs.declared.store.stored_form.StoredForm.{StoredForm}
-use Rattle.pb_propagate.specs.declared.clauses.Clauses.{Clauses}
-use Rattle.pb_propagate.specs.declared.clauses.lists.Watch.{Watch}
-use Rattle.pb_propagate.specs.engine.Engine.Lists.{Shape, HaveReasons, KeepsReasons, size}
-use Rattle.pb_propagate.specs.engine.Engine.Counts.{IsAbsent, IsCounted, IsTidy, IsUndone, beside, rest_open, rest_start, weight_in}
-use Rattle.pb_propagate.specs.engine.Engine.Fields.{shapes_of, stored_shape}
-use Rattle.pb_propagate.specs.engine.Engine.Rest.{AreAtRest, IsEager}
-use Rattle.pb_propagate.specs.engine.Engine.Root.{IsRooted, HasForm}
-use Rattle.pb_propagate.specs.engine.Clauses.Runs.{AreWalked}
-use Rattle.pb_propagate.specs.engine.Clauses.Shapes.{all_of}
-use Rattle.pb_propagate.specs.engine.Clauses.Walked.{walked_codes}
 use Rattle.pb_propagate.proofs.lemmas.store.Gets.{lt_of_apart}
 use Rattle.pb_propagate.proofs.lemmas.engine.Reasoned.{reasons-keep}
 use Rattle.pb_propagate.proofs.lemmas.engine.VisitSteps.{open-now}

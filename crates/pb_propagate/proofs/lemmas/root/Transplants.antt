@@ -1,14 +1,9 @@
 -- What the root forces is derived again from given literals, which may be opposite to some of it.
-use Rattle.std.specs.Prelude.{Bool, Option, Some, None, IfNone, IfSome, true, false}
-use Rattle.std.proofs.Common.{◌≡◌, ℕ, ◌⊎◌, ◌++◌, ◌∷◌, [], List, sym, ◌∙◌, ap, arith, inl, inr}
+use Rattle.pb_propagate.proofs.Common.{ℕ, ◌++◌, ◌∙◌, ◌∷◌, ◌≡◌, ◌⊎◌, [], ap, arith, Bool, false, inl, inr, List, None, sym, true, IfNone, IfSome}
+use Rattle.pb_propagate.proofs.Common.{Option, Some, both_ways, cases_Bool, NumberedLiteral, negation, AreJoined, joined, begin, broken, Conflicts}
+use Rattle.pb_propagate.proofs.Common.{Derives, has, IsSettled, IsWithin, opposed, put, Shape, HasClash, HasEnded, IsCovered, IsFrom, IsMade, derived}
+use Rattle.pb_propagate.proofs.Common.{IsRefuted}
 use Rattle.std.specs.Cmp.{both_ways as same_answers}
-use Rattle.std.proofs.lemmas.Bool.{cases_Bool, both_ways}
-use Rattle.pb_normal.specs.declared.numbered.NumberedLiteral.{NumberedLiteral}
-use Rattle.pb_normal.specs.meaning.Rules.{negation}
-use Rattle.pb_propagate.specs.engine.Engine.Lists.{Shape, has, Derives, begin, put, Conflicts, opposed, broken, IsWithin, IsSettled}
-use Rattle.pb_propagate.specs.engine.Engine.Reached.{IsFrom, HasClash, IsCovered, HasEnded, IsMade}
-use Rattle.pb_propagate.specs.engine.Engine.Rest.{IsRefuted, derived}
-use Rattle.pb_propagate.specs.engine.Clauses.Shapes.{joined, AreJoined}
 use Rattle.pb_propagate.proofs.lemmas.clauses.Shapes.{derives-joined, conflicts-joined}
 use Rattle.pb_propagate.proofs.lemmas.engine.Derivations.{derivation-then, derivation-keeps}
 use Rattle.pb_propagate.proofs.lemmas.engine.Values.{opposite}

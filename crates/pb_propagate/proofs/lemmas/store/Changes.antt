@@ -1,18 +1,10 @@
 -- The store after a form was added, removed or emptied.
-use Rattle.std.specs.Prelude.{Option, None}
-use Rattle.std.proofs.Common.{◌≡◌, ℕ, ◌+◌, ◌<◌, ◌++◌, ◌∷◌, [], List, Vec, Global, refl, sym, ◌∙◌, ap, subst, arith, inl, inr, length, get_or, take, set, length-set, length-append, get_or-set_same, get_or-set_other, zero, suc}
-use Rattle.std.proofs.Math.Seq.{set-append_seam}
-use Rattle.std.proofs.lemmas.Bool.{cases_eq, cases_lt}
-use Rattle.pb_normal.specs.meaning.Form.{Form}
-use Rattle.std.proofs.lemmas.List.{get_or-take, set-set, take-map, map-append, length-map, get_or_past, take_more, take_all, length-take-le, get_or_append_left, map-set}
-use Rattle.std.proofs.lemmas.List.Elements.{All-push, All-set, All-take}
-use Rattle.pb_propagate.specs.declared.term.Term.{Term}
-use Rattle.pb_propagate.specs.declared.store.Occurrence.{Occurrence}
-use Rattle.pb_propagate.specs.declared.store.stored_form.StoredForm.{StoredForm}
-use Rattle.pb_propagate.specs.engine.Engine.Lists.{Shape, AreInside}
-use Rattle.pb_propagate.specs.engine.Engine.Fields.{shapes_of, stored_shape, forms_of, spots_of, entries_of}
-use Rattle.pb_propagate.specs.engine.Engine.Terms.{terms_of}
-use Rattle.pb_propagate.specs.engine.Engine.Links.{terms_at, degree_at, IsLinked, IsStored, cut}
+use Rattle.pb_propagate.proofs.Common.{ℕ, ◌++◌, ◌+◌, ◌<◌, ◌∙◌, ◌∷◌, ◌≡◌, [], ap, arith, get_or, get_or-set_other, get_or-set_same, Global, inl, inr}
+use Rattle.pb_propagate.proofs.Common.{length, length-append, length-set, List, None, refl, set, subst, suc, sym, take, Vec, zero, Option}
+use Rattle.pb_propagate.proofs.Common.{set-append_seam, cases_eq, cases_lt, get_or-take, get_or_append_left, get_or_past, length-map, length-take-le}
+use Rattle.pb_propagate.proofs.Common.{map-append, map-set, set-set, take-map, take_all, take_more, All-push, All-set, All-take, Form, Occurrence}
+use Rattle.pb_propagate.proofs.Common.{StoredForm, Term, entries_of, forms_of, shapes_of, spots_of, stored_shape, cut, degree_at, IsLinked, IsStored}
+use Rattle.pb_propagate.proofs.Common.{terms_at, AreInside, Shape, terms_of}
 use Rattle.pb_propagate.proofs.lemmas.store.Gets.{lt_of_apart, last-is}
 use Rattle.pb_propagate.proofs.lemmas.store.Places.{entries-length}
 use Rattle.pb_propagate.proofs.lemmas.store.Links.{cut-length}

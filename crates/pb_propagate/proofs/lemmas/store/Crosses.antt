@@ -1,8 +1,5 @@
 -- What names what, as terms and entries are added and removed.
-use Rattle.std.specs.Prelude.{Option, Some, None}
-use Rattle.std.proofs.Common.{◌≡◌, ℕ, ◌⊎◌, sym, ◌∙◌, ap, inl, inr, refl, arith}
-use Rattle.std.proofs.lemmas.Bool.{cases_eq}
-use Rattle.pb_propagate.specs.engine.Engine.Links.{Cross, AreCrossed}
+use Rattle.pb_propagate.proofs.Common.{ℕ, ◌∙◌, ◌≡◌, ◌⊎◌, ap, arith, inl, inr, None, refl, sym, Option, Some, cases_eq, AreCrossed, Cross}
 
 abbrev pub Grid : Type 0
 Grid = ℕ → ℕ → Option Cross

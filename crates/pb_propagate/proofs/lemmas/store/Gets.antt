@@ -1,7 +1,6 @@
 -- The elements at positions of a list. Offered to other crates.
-use Rattle.std.specs.Prelude.{Contains, Option, Some, None, slice_get, map}
-use Rattle.std.proofs.Common.{◌≡◌, ℕ, zero, suc, ◌+◌, ◌<◌, ◌≤◌, ◌++◌, ◌∷◌, [], List, refl, sym, ◌∙◌, ap, arith, inl, inr, length, get_or, take, set}
-use Rattle.std.proofs.lemmas.Bool.{cases_lt}
+use Rattle.pb_propagate.proofs.Common.{ℕ, ◌++◌, ◌+◌, ◌<◌, ◌∙◌, ◌∷◌, ◌≡◌, ◌≤◌, [], ap, arith, get_or, inl, inr, length, List, map, None, refl, set}
+use Rattle.pb_propagate.proofs.Common.{suc, sym, take, zero, Contains, Option, slice_get, Some, cases_lt}
 
 -- at least a number, and not that number
 pub lt_of_apart : (a b : ℕ) → a ≤ b → (b ≡ a → ⊥) → a < b

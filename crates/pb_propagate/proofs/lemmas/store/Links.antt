@@ -1,15 +1,10 @@
 -- One term is added to the lists or removed.
-use Rattle.std.specs.Prelude.{sum_by, Some, None, slice_get}
-use Rattle.std.proofs.Common.{◌≡◌, ℕ, ◌+◌, ◌<◌, ◌≤◌, ◌++◌, ◌∷◌, [], List, refl, sym, ◌∙◌, ap, arith, inl, inr, length, get_or, take, set, length-set, length-append, get_or-set_same, get_or-set_other}
-use Rattle.std.proofs.lemmas.Bool.{cases_eq, cases_Bool}
-use Rattle.std.proofs.lemmas.List.{length-take-le}
-use Rattle.std.proofs.lemmas.List.Sums.{sum_by_push, sum_by-set, sum_by_more}
-use Rattle.std.proofs.lemmas.Option.{slice_get-get_or, slice_get_past}
-use Rattle.pb_normal.specs.declared.numbered.NumberedLiteral.{NumberedLiteral}
-use Rattle.pb_propagate.specs.declared.term.Term.{Term}
-use Rattle.pb_propagate.specs.engine.Engine.Lists.{Shape, same, Weighted}
-use Rattle.pb_propagate.specs.engine.Engine.Counts.{place, entry_weight, weight_in, term_weight, weight_on, AreLinked}
-use Rattle.pb_propagate.specs.engine.Engine.Links.{terms_at, degree_at, entry_cross, term_cross, entry_at, term_at, IsLinked, cut}
+use Rattle.pb_propagate.proofs.Common.{ℕ, ◌++◌, ◌+◌, ◌<◌, ◌∙◌, ◌∷◌, ◌≡◌, ◌≤◌, [], ap, arith, get_or, get_or-set_other, get_or-set_same, inl, inr}
+use Rattle.pb_propagate.proofs.Common.{length, length-append, length-set, List, None, refl, set, sym, take, slice_get, Some, sum_by, cases_Bool}
+use Rattle.pb_propagate.proofs.Common.{cases_eq, length-take-le, sum_by-set, sum_by_more, sum_by_push, slice_get-get_or, slice_get_past}
+use Rattle.pb_propagate.proofs.Common.{NumberedLiteral, Term, entry_weight, place, term_weight, weight_in, weight_on, cut, degree_at, entry_at}
+use Rattle.pb_propagate.proofs.Common.{entry_cross, IsLinked, term_at, term_cross, terms_at, same, Shape, Weighted}
+use Rattle.pb_propagate.specs.engine.Engine.Counts.{AreLinked}
 use Rattle.pb_propagate.proofs.lemmas.engine.Runs.{entry_weight-same, entry_weight-other, term_weight-same, term_weight-other}
 use Rattle.pb_propagate.proofs.lemmas.engine.Literals.{same-true, same-refl}
 use Rattle.pb_propagate.proofs.lemmas.engine.Spent.{place-injective}

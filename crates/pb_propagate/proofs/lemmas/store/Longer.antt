@@ -1,9 +1,7 @@
 -- Lists of entries that got longer.
-use Rattle.std.proofs.Common.{Vec, Global, ◌≡◌, ℕ, ◌<◌, ◌++◌, ◌∷◌, [], List, sym, ◌∙◌, ap, inl, inr, arith, length, length-append, get_or, set, get_or-set_same, get_or-set_other}
-use Rattle.std.proofs.lemmas.Bool.{cases_eq}
-use Rattle.std.proofs.lemmas.List.{length-map, get_or-map, map-set}
-use Rattle.pb_propagate.specs.declared.store.Occurrence.{Occurrence}
-use Rattle.pb_propagate.specs.engine.Engine.Fields.{lists_of, AreLonger}
+use Rattle.pb_propagate.proofs.Common.{ℕ, ◌++◌, ◌<◌, ◌∙◌, ◌∷◌, ◌≡◌, [], ap, arith, get_or, get_or-set_other, get_or-set_same, Global, inl, inr}
+use Rattle.pb_propagate.proofs.Common.{length, length-append, List, set, sym, Vec, cases_eq, get_or-map, length-map, map-set, Occurrence, AreLonger}
+use Rattle.pb_propagate.proofs.Common.{lists_of}
 
 -- an entry is added to one of the lists
 pub longer-push : (lists lists' : List (Vec Occurrence Global)) (place : ℕ) (v w : Vec Occurrence Global) (o : Occurrence) → place < length lists → v ≡ get_or lists place v → lists' ≡ set lists place w → w.items ≡ v.items ++ (o ∷ []) → AreLonger lists lists'

@@ -1,7 +1,6 @@
 -- Options that are distinct. Offered to other crates.
-use Rattle.std.specs.Prelude.{Option, Some, None, is_some}
-use Rattle.std.proofs.Common.{◌≡◌, false, refl, sym, ◌∙◌}
-use Rattle.std.proofs.lemmas.Option.{same_Some, none-some as none-is_some}
+use Rattle.pb_propagate.proofs.Common.{◌∙◌, ◌≡◌, false, None, refl, sym, is_some, Option, Some, same_Some}
+use Rattle.std.proofs.lemmas.Option.{none-some as none-is_some}
 
 pub some-one : {X : Type 0} (o : Option X) (a b : X) → o ≡ Some a → o ≡ Some b → a ≡ b
 some-one o a b h k = same_Some a b (sym h ∙ k)

@@ -1,17 +1,9 @@
 -- The forms by number, which are stored by slot.
-use Rattle.std.specs.Prelude.{sum_by, Option, Some, None, slice_get}
-use Rattle.std.proofs.Common.{◌≡◌, ℕ, zero, suc, ◌-◌, ◌^◌, ◌<◌, ◌≤◌, ◌⊎◌, ◌++◌, ◌∷◌, [], List, refl, sym, ◌∙◌, ap, arith, inl, inr, length, get_or, set, get_or-set_same, get_or-set_other, length-set, length-append}
-use Rattle.std.proofs.lemmas.Bool.{cases_eq, cases_lt}
-use Rattle.std.proofs.lemmas.List.{length-map, map-append, get_or-map, get_or_past, get_or_append_left, set-get_or}
-use Rattle.std.proofs.lemmas.List.Sums.{sum_by-set, sum_by_push, sum_by-cons}
-use Rattle.std.proofs.lemmas.Option.{slice_get_within, slice_get-get_or, get_or_from_slice_get}
-use Rattle.pb_normal.specs.meaning.Form.{Form}
-use Rattle.pb_propagate.specs.declared.store.stored_form.StoredForm.{StoredForm}
-use Rattle.pb_propagate.specs.engine.Engine.Fields.{forms_of}
-use Rattle.pb_propagate.specs.engine.Engine.Lists.{Shape}
-use Rattle.pb_propagate.specs.engine.Engine.Live.{Live}
-use Rattle.pb_propagate.specs.engine.Engine.Slots.{form_at, numbered, ArePlaced}
-use Rattle.pb_propagate.specs.meaning.Propagation.{With}
+use Rattle.pb_propagate.proofs.Common.{ℕ, ◌++◌, ◌-◌, ◌<◌, ◌^◌, ◌∙◌, ◌∷◌, ◌≡◌, ◌≤◌, ◌⊎◌, [], ap, arith, get_or, get_or-set_other, get_or-set_same, inl}
+use Rattle.pb_propagate.proofs.Common.{inr, length, length-append, length-set, List, None, refl, set, suc, sym, zero, Option, slice_get, Some, sum_by}
+use Rattle.pb_propagate.proofs.Common.{cases_eq, cases_lt, get_or-map, get_or_append_left, get_or_past, length-map, map-append, set-get_or}
+use Rattle.pb_propagate.proofs.Common.{sum_by-cons, sum_by-set, sum_by_push, get_or_from_slice_get, slice_get-get_or, slice_get_within, Form}
+use Rattle.pb_propagate.proofs.Common.{StoredForm, forms_of, Shape, Live, ArePlaced, form_at, numbered, With}
 use Rattle.pb_propagate.proofs.lemmas.engine.Bridge.{AreKept}
 use Rattle.pb_propagate.proofs.lemmas.store.Gets.{get-set_same, get-set_other, get-push_less, get-push_same}
 use Rattle.pb_propagate.proofs.lemmas.store.Options.{some-one, none-some}

@@ -1,22 +1,15 @@
 -- Adding and removing terms, in terms of what the program reads.
-use Rattle.std.specs.Prelude.{map, Some, slice_get, swap_remove, All}
-use Rattle.std.proofs.Common.{◌≡◌, ℕ, ◌+◌, ◌-◌, ◌*◌, ◌<◌, ◌≤◌, ◌⊎◌, ◌++◌, ◌∷◌, [], List, Vec, false, Global, refl, sym, ◌∙◌, ap, subst, arith, inl, inr, length, get_or, set, length-set, get_or-set_same, get_or-set_other}
-use Rattle.std.proofs.lemmas.Bool.{cases_eq, cases_lt}
-use Rattle.std.proofs.lemmas.List.{get_or_default, map-append, map-set, length-map, get_or-map, set_past}
-use Rattle.std.proofs.lemmas.Option.{slice_get-get_or, slice_get_within, get_or_from_slice_get}
-use Rattle.pb_propagate.specs.declared.term.Term.{Term}
-use Rattle.pb_propagate.specs.declared.store.Occurrence.{Occurrence}
-use Rattle.pb_propagate.specs.engine.Engine.Lists.{Shape, Weighted, AreInside}
-use Rattle.pb_propagate.specs.engine.Engine.Counts.{place}
-use Rattle.pb_propagate.specs.engine.Engine.Fields.{entries_of, lists_of, spots_of}
-use Rattle.pb_propagate.specs.engine.Engine.Terms.{terms_of}
-use Rattle.pb_propagate.specs.engine.Engine.Links.{terms_at, weighted, Moved, none, last, IsLinked, cut}
+use Rattle.pb_propagate.proofs.Common.{ℕ, ◌*◌, ◌++◌, ◌+◌, ◌-◌, ◌<◌, ◌∙◌, ◌∷◌, ◌≡◌, ◌≤◌, ◌⊎◌, [], ap, arith, false, get_or, get_or-set_other}
+use Rattle.pb_propagate.proofs.Common.{get_or-set_same, Global, inl, inr, length, length-set, List, map, refl, set, subst, sym, Vec, All, slice_get}
+use Rattle.pb_propagate.proofs.Common.{Some, swap_remove, cases_eq, cases_lt, get_or-map, get_or_default, length-map, map-append, map-set, set_past}
+use Rattle.pb_propagate.proofs.Common.{get_or_from_slice_get, slice_get-get_or, slice_get_within, Occurrence, StoredForm, Term, place, entries_of}
+use Rattle.pb_propagate.proofs.Common.{lists_of, shapes_of, spots_of, stored_shape, cut, IsLinked, last, Moved, terms_at, weighted, AreInside, Shape}
+use Rattle.pb_propagate.proofs.Common.{Weighted, terms_of}
+use Rattle.pb_propagate.specs.engine.Engine.Links.{none}
 use Rattle.pb_propagate.proofs.lemmas.store.Gets.{get-push_same, get-push_other}
 use Rattle.pb_propagate.proofs.lemmas.store.Crosses.{Same}
 use Rattle.pb_propagate.proofs.lemmas.store.Links.{link-next}
 use Rattle.pb_propagate.proofs.lemmas.store.Unlinks.{swap-here, swap-length, unlink-next, named-spot, named-entry}
-use Rattle.pb_propagate.specs.declared.store.stored_form.StoredForm.{StoredForm}
-use Rattle.pb_propagate.specs.engine.Engine.Fields.{shapes_of, stored_shape}
 use Rattle.pb_propagate.proofs.lemmas.store.Links.{cut-length}
 use Rattle.pb_propagate.proofs.lemmas.engine.VisitSteps.{shape-at, term-inside}
 use Rattle.pb_propagate.proofs.lemmas.engine.Puts.{lists-at, entries-at, place-inside}

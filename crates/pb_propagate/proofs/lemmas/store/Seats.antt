@@ -1,10 +1,7 @@
 -- A list of numbers, each once, and the position of each in it.
-use Rattle.std.specs.Prelude.{Some, slice_get, swap_remove}
-use Rattle.std.proofs.Common.{◌≡◌, ℕ, zero, suc, ◌+◌, ◌-◌, ◌<◌, ◌⊎◌, ◌++◌, ◌∷◌, [], List, Bool, true, false, if◌then◌else◌, sym, ◌∙◌, ap, arith, inl, inr, length, get_or, set}
-use Rattle.std.proofs.lemmas.Bool.{cases_eq, cases_lt}
-use Rattle.std.proofs.lemmas.Option.{slice_get_within, slice_get-get_or, get_or_from_slice_get}
-use Rattle.pb_propagate.specs.engine.Engine.Counts.{IsAbsent}
-use Rattle.pb_propagate.specs.engine.Engine.Waiting.{IsWithout}
+use Rattle.pb_propagate.proofs.Common.{ℕ, ◌++◌, ◌+◌, ◌-◌, ◌<◌, ◌∙◌, ◌∷◌, ◌≡◌, ◌⊎◌, [], ap, arith, Bool, false, get_or, if◌then◌else◌, inl, inr}
+use Rattle.pb_propagate.proofs.Common.{length, List, set, suc, sym, true, zero, slice_get, Some, swap_remove, cases_eq, cases_lt}
+use Rattle.pb_propagate.proofs.Common.{get_or_from_slice_get, slice_get-get_or, slice_get_within, IsAbsent, IsWithout}
 use Rattle.pb_propagate.proofs.lemmas.store.Options.{some-one, none-some}
 use Rattle.pb_propagate.proofs.lemmas.store.Gets.{lt_of_apart, get-set_same, get-set_other, get-push_less, get-push_same, get-push_past}
 use Rattle.pb_propagate.proofs.lemmas.store.Unlinks.{swap-other, swap-last, swap-here, swap-length}

@@ -1,35 +1,18 @@
 -- Forms take slots and leave them.
-use Rattle.pb_propagate.specs.declared.clauses.lists.Listed.{Listed}
-use Rattle.std.specs.Prelude.{map, filter, sum_by, Option, Some, None, slice_get, swap_remove}
-use Rattle.std.proofs.Common.{◌≡◌, ℕ, zero, suc, ◌+◌, ◌<◌, ◌≤◌, ◌*◌, ◌++◌, ◌∷◌, [], List, Bool, true, false, if◌then◌else◌, Vec, Global, refl, sym, ◌∙◌, ap, arith, inl, inr, length, get_or, set, length-set, length-append}
-use Rattle.std.proofs.lemmas.Bool.{cases_eq, cases_lt, cases_Bool, both_ways}
-use Rattle.std.proofs.lemmas.List.{length-map, map-append, map-set, append-nil, get_or_append_left, get_or-map}
-use Rattle.std.proofs.Math.Seq.{map-set_same}
-use Rattle.std.proofs.lemmas.List.Sums.{sum_by-set, sum_by_push}
-use Rattle.std.proofs.lemmas.Option.{slice_get_within, slice_get-get_or, get_or_from_slice_get}
-use Rattle.pb_normal.specs.meaning.Form.{Form}
-use Rattle.pb_propagate.specs.declared.store.stored_form.StoredForm.{StoredForm}
-use Rattle.pb_propagate.specs.declared.store.Store.{Store}
-use Rattle.pb_propagate.specs.declared.run.Run.{Run}
-use Rattle.pb_propagate.specs.declared.eager.Eager.{Eager}
-use Rattle.pb_propagate.specs.declared.assignment.Assignment.{Assignment}
-use Rattle.pb_propagate.specs.engine.Engine.Counts.{IsAbsent}
-use Rattle.pb_propagate.specs.engine.Engine.Fields.{shapes_of, stored_shape, IsSound, HasFilled, IsEmpty}
-use Rattle.pb_propagate.specs.engine.Engine.Links.{terms_at}
-use Rattle.pb_propagate.specs.engine.Engine.Rest.{AreSlots, waits, kept_waits, eager_one, AllWait, IsEager, IsAtRest}
+use Rattle.pb_propagate.proofs.Common.{ℕ, ◌*◌, ◌++◌, ◌+◌, ◌<◌, ◌∙◌, ◌∷◌, ◌≡◌, ◌≤◌, [], ap, arith, Bool, false, get_or, Global, if◌then◌else◌, inl}
+use Rattle.pb_propagate.proofs.Common.{inr, length, length-append, length-set, List, map, None, refl, set, suc, sym, true, Vec, zero, filter, Option}
+use Rattle.pb_propagate.proofs.Common.{slice_get, Some, sum_by, swap_remove, map-set_same, both_ways, cases_Bool, cases_eq, cases_lt, append-nil}
+use Rattle.pb_propagate.proofs.Common.{get_or-map, get_or_append_left, length-map, map-append, map-set, sum_by-set, sum_by_push}
+use Rattle.pb_propagate.proofs.Common.{get_or_from_slice_get, slice_get-get_or, slice_get_within, Form, IsNormal, Assignment, Clauses, Listed, Eager}
+use Rattle.pb_propagate.proofs.Common.{Run, Store, StoredForm, AreReady, IsRefitted, clause_shape, clauses_of, code, codes_of_terms, group_by}
+use Rattle.pb_propagate.proofs.Common.{IsClause, joined, IsAbsent, HasFilled, IsEmpty, IsSound, IsUnlisted, shapes_of, stored_shape, terms_at, Shape}
+use Rattle.pb_propagate.proofs.Common.{AllWait, AreSlots, eager_one, IsAtRest, IsEager, kept_waits, waits, terms_of}
 use Rattle.pb_propagate.proofs.lemmas.store.Gets.{lt_of_apart, get-set_same, get-set_other, get-push_less, get-push_same, last-is}
 use Rattle.pb_propagate.proofs.lemmas.engine.Runs.{absent-push, absent-new}
 use Rattle.pb_propagate.proofs.lemmas.engine.Rests.{element, map-zero, slots-set, slots-more, slots-length, waits-before}
 use Rattle.pb_propagate.proofs.lemmas.store.Seats.{AreSeated, absent-get, get-absent, swap-from, swap-to}
 use Rattle.pb_propagate.proofs.lemmas.store.Unlinks.{swap-length}
 use Rattle.pb_propagate.proofs.lemmas.store.Options.{some-one}
-use Rattle.pb_propagate.specs.declared.clauses.Clauses.{Clauses}
-use Rattle.pb_propagate.specs.engine.Engine.Lists.{Shape}
-use Rattle.pb_propagate.specs.engine.Engine.Fields.{IsUnlisted}
-use Rattle.pb_propagate.specs.engine.Engine.Terms.{terms_of}
-use Rattle.pb_propagate.specs.engine.Clauses.Runs.{AreReady, IsRefitted}
-use Rattle.pb_propagate.specs.engine.Clauses.Shapes.{code, group_by, codes_of_terms, joined, clauses_of, clause_shape, IsClause}
-use Rattle.pb_normal.specs.meaning.Form.{IsNormal}
 use Rattle.pb_propagate.proofs.lemmas.clauses.Slots.{IsVacant, slots-vacant, joined-widen, AreJoined-widen, joined-set, AreJoined-set, joined-clause, AreJoined-clause, joined-cleared, AreJoined-cleared, clause-kept, rising-different}
 use Rattle.pb_propagate.proofs.lemmas.clauses.Shapes.{joined-length}
 

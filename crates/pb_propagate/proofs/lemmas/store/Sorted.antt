@@ -1,19 +1,11 @@
 -- A form's terms, as they are read and sorted.
-use Rattle.std.specs.Prelude.{ℤ, unsigned_abs, All, map, sum_by, IsPermutation}
-use Rattle.std.proofs.Common.{FitsSigned, pos, to_z, of_z, ◌≡◌, ℕ, ◌+◌, ◌-◌, ◌^◌, ◌<◌, ◌≤◌, ◌++◌, ◌∷◌, [], List, false, refl, sym, ◌∙◌, ap, subst, arith, length, get_or, take}
-use Rattle.std.proofs.lemmas.List.{take_more, take_all, map-append, length-map, get_or-map, get_or_default}
-use Rattle.std.proofs.lemmas.List.Elements.{All-push}
-use Rattle.std.proofs.lemmas.List.Sums.{sum_by-cons, get_or-le-sum_by}
-use Rattle.std.proofs.lemmas.List.Sorted.{IsPermutation-sym, IsPermutation-map, sum_by-IsPermutation}
-use Rattle.std.specs.Int.{w128}
+use Rattle.pb_propagate.proofs.Common.{ℕ, ◌++◌, ◌+◌, ◌-◌, ◌<◌, ◌^◌, ◌∙◌, ◌∷◌, ◌≡◌, ◌≤◌, [], ap, arith, false, FitsSigned, get_or, length, List, map}
+use Rattle.pb_propagate.proofs.Common.{of_z, pos, refl, subst, sym, take, to_z, ℤ, All, IsPermutation, sum_by, unsigned_abs, get_or-map}
+use Rattle.pb_propagate.proofs.Common.{get_or_default, length-map, map-append, take_all, take_more, All-push, IsPermutation-map, IsPermutation-sym}
+use Rattle.pb_propagate.proofs.Common.{sum_by-IsPermutation, get_or-le-sum_by, sum_by-cons, w128, Entry, each, total, Rank, Term, AreFalling, IsCalm}
+use Rattle.pb_propagate.proofs.Common.{AreAll, as_term, entry_at_place, entry_of, IsPlaced, picked}
 use Rattle.std.proofs.lemmas.Int.{fits_signed_from_abs, to_z-of_z}
 use Rattle.std.specs.List.Sorted.{IsNonDecreasingBy}
-use Rattle.pb_normal.specs.declared.entry.Entry.{Entry}
-use Rattle.pb_normal.specs.meaning.Form.{total, each}
-use Rattle.pb_propagate.specs.declared.term.Term.{Term}
-use Rattle.pb_propagate.specs.declared.term.Rank.{Rank}
-use Rattle.pb_propagate.specs.engine.Engine.Forms.{entry_of, as_term, entry_at_place, picked, IsPlaced, AreAll}
-use Rattle.pb_propagate.specs.engine.Engine.Counts.{AreFalling, IsCalm}
 
 -- the ranks of the first terms
 pub record IsStanding (es : List Entry) (ranks : List Rank) (i : ℕ) : Type 0 where

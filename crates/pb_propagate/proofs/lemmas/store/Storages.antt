@@ -1,17 +1,11 @@
 -- The store when a form was added or removed.
-use Rattle.std.specs.Prelude.{sum_by, All, slice_get, map, IsPermutation}
-use Rattle.std.proofs.Common.{◌≡◌, ℕ, suc, ◌+◌, ◌<◌, ◌≤◌, ◌++◌, ◌∷◌, [], List, refl, sym, ◌∙◌, ap, arith, inl, inr, length, get_or, set, length-set, length-append, get_or-set_same, get_or-set_other}
-use Rattle.std.proofs.lemmas.Bool.{cases_eq, cases_lt}
-use Rattle.std.proofs.lemmas.List.{get_or_append_left, get_or_past, get_or-map, take_all, set-get_or, length-map}
-use Rattle.std.proofs.lemmas.List.Sums.{sum_by_push, sum_by-set, sum_by-cons}
-use Rattle.std.proofs.lemmas.List.Sorted.{All-permutation, IsPermutation-sym}
-use Rattle.std.proofs.lemmas.Option.{slice_get-get_or, slice_get_within}
+use Rattle.pb_propagate.proofs.Common.{ℕ, ◌++◌, ◌+◌, ◌<◌, ◌∙◌, ◌∷◌, ◌≡◌, ◌≤◌, [], ap, arith, get_or, get_or-set_other, get_or-set_same, inl, inr}
+use Rattle.pb_propagate.proofs.Common.{length, length-append, length-set, List, map, refl, set, suc, sym, All, IsPermutation, slice_get, sum_by}
+use Rattle.pb_propagate.proofs.Common.{cases_eq, cases_lt, get_or-map, get_or_append_left, get_or_past, length-map, set-get_or, take_all}
+use Rattle.pb_propagate.proofs.Common.{All-permutation, IsPermutation-sym, sum_by-cons, sum_by-set, sum_by_push, slice_get-get_or, slice_get_within}
+use Rattle.pb_propagate.proofs.Common.{Term, entry_weight, NameForms, place, weight_in, weight_on, entry_of, AreCrossed, cut, degree_at, entry_at}
+use Rattle.pb_propagate.proofs.Common.{IsLinked, term_at, term_cross, terms_at, AreInside, Shape, Weighted}
 use Rattle.pb_normal.specs.declared.entry.Entry.{Entry as Given}
-use Rattle.pb_propagate.specs.declared.term.Term.{Term}
-use Rattle.pb_propagate.specs.engine.Engine.Forms.{entry_of}
-use Rattle.pb_propagate.specs.engine.Engine.Lists.{Shape, AreInside, Weighted}
-use Rattle.pb_propagate.specs.engine.Engine.Counts.{place, entry_weight, weight_in, weight_on, NameForms}
-use Rattle.pb_propagate.specs.engine.Engine.Links.{terms_at, degree_at, term_cross, entry_at, term_at, AreCrossed, IsLinked, cut}
 use Rattle.pb_propagate.proofs.lemmas.store.Gets.{lt_of_apart, last-is}
 use Rattle.pb_propagate.proofs.lemmas.engine.Runs.{entry_weight-other}
 use Rattle.pb_propagate.proofs.lemmas.store.Links.{cut-here, cut-other, cut-length, cut-total}

@@ -1,14 +1,9 @@
 -- A term's entry is removed.
-use Rattle.std.specs.Prelude.{sum_by, Option, Some, None, slice_get, swap_remove}
-use Rattle.std.proofs.Common.{◌≡◌, ℕ, ◌+◌, ◌-◌, ◌<◌, [], List, refl, sym, ◌∙◌, ap, arith, inl, inr, length, get_or, set, length-set, get_or-set_same, get_or-set_other}
-use Rattle.std.proofs.lemmas.Bool.{cases_eq, cases_lt}
-use Rattle.std.proofs.lemmas.List.{length-take-le, get_or_past}
-use Rattle.std.proofs.lemmas.List.Sums.{sum_by-set, sum_by-swap_remove}
-use Rattle.std.proofs.lemmas.Option.{same_Some, slice_get_within, get_or_from_slice_get, slice_get_past}
-use Rattle.pb_propagate.specs.declared.term.Term.{Term}
-use Rattle.pb_propagate.specs.engine.Engine.Lists.{Shape, Weighted}
-use Rattle.pb_propagate.specs.engine.Engine.Counts.{place, entry_weight, weight_in}
-use Rattle.pb_propagate.specs.engine.Engine.Links.{terms_at, entry_cross, term_cross, entry_at, term_at, AreCrossed, IsLinked, cut}
+use Rattle.pb_propagate.proofs.Common.{ℕ, ◌+◌, ◌-◌, ◌<◌, ◌∙◌, ◌≡◌, [], ap, arith, get_or, get_or-set_other, get_or-set_same, inl, inr, length}
+use Rattle.pb_propagate.proofs.Common.{length-set, List, None, refl, set, sym, Option, slice_get, Some, sum_by, swap_remove, cases_eq, cases_lt}
+use Rattle.pb_propagate.proofs.Common.{get_or_past, length-take-le, sum_by-set, sum_by-swap_remove, get_or_from_slice_get, same_Some, slice_get_past}
+use Rattle.pb_propagate.proofs.Common.{slice_get_within, Term, entry_weight, place, weight_in, AreCrossed, cut, entry_at, entry_cross, IsLinked}
+use Rattle.pb_propagate.proofs.Common.{term_at, term_cross, terms_at, Shape, Weighted}
 use Rattle.pb_propagate.proofs.lemmas.store.Gets.{lt_of_apart, get-take_less, get-take_past, get-set_same, get-set_other}
 use Rattle.pb_propagate.proofs.lemmas.store.Links.{Gains, linked-less, totals-back, term-here, term-none, term-other, terms-step, entry-is, cut-length}
 use Rattle.pb_propagate.proofs.lemmas.store.Crosses.{to, to-parts, to-none, Same, crossed-drop, crossed-move}

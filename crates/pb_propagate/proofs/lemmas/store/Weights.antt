@@ -1,15 +1,10 @@
 -- Entries and the coefficients of their terms.
-use Rattle.std.specs.Prelude.{All, Some, slice_get, swap_remove, option_map, map}
-use Rattle.std.proofs.Common.{◌≡◌, ℕ, zero, suc, ◌-◌, ◌<◌, ◌++◌, ◌∷◌, [], List, Vec, Global, false, refl, sym, ◌∙◌, ap, arith, length, get_or, set, take, get_or-set_other}
+use Rattle.pb_propagate.proofs.Common.{ℕ, ◌++◌, ◌-◌, ◌<◌, ◌∙◌, ◌∷◌, ◌≡◌, [], ap, arith, false, get_or, get_or-set_other, Global, length, List, map}
+use Rattle.pb_propagate.proofs.Common.{refl, set, suc, sym, take, Vec, zero, All, option_map, slice_get, Some, swap_remove, get_or_default}
+use Rattle.pb_propagate.proofs.Common.{length-map, map-set, take-map, slice_get-get_or, slice_get-map, slice_get_within, Occurrence, Term, NameForms}
+use Rattle.pb_propagate.proofs.Common.{entries_of, lists_of, cut, IsLinked, last, Moved, terms_at, weighted, Shape, Weighted}
 use Rattle.std.proofs.Math.ListN.{get_or-map}
-use Rattle.std.proofs.lemmas.List.{get_or_default, take-map, map-set, length-map}
-use Rattle.std.proofs.lemmas.Option.{slice_get-map, slice_get-get_or, slice_get_within}
-use Rattle.pb_propagate.specs.declared.term.Term.{Term}
-use Rattle.pb_propagate.specs.declared.store.Occurrence.{Occurrence}
-use Rattle.pb_propagate.specs.engine.Engine.Lists.{Shape, Weighted}
-use Rattle.pb_propagate.specs.engine.Engine.Counts.{NameForms}
-use Rattle.pb_propagate.specs.engine.Engine.Fields.{entries_of, lists_of}
-use Rattle.pb_propagate.specs.engine.Engine.Links.{terms_at, weighted, IsLinked, Moved, none, last, cut}
+use Rattle.pb_propagate.specs.engine.Engine.Links.{none}
 use Rattle.pb_propagate.proofs.lemmas.store.Links.{cut-here}
 use Rattle.pb_propagate.proofs.lemmas.store.Unlinks.{Shifted, stays, goes, named-term}
 

@@ -1,8 +1,5 @@
-use Rattle.std.proofs.Common.{ℕ, [], ◌-◌, ◌∙◌, refl, sym, set, get_or, length, ap, subst, arith}
-use Rattle.std.proofs.lemmas.List.{get_or_read, get_or-set_same}
-use Rattle.pb_propagate.specs.engine.Engine.Lists.{Shape}
-use Rattle.pb_propagate.specs.engine.Engine.Counts.{IsCalm}
-use Rattle.pb_propagate.specs.engine.Engine.Fields.{shapes_of}
+use Rattle.pb_propagate.proofs.Common.{ℕ, ◌-◌, ◌∙◌, [], ap, arith, get_or, get_or-set_same, length, refl, set, subst, sym, get_or_read, IsCalm}
+use Rattle.pb_propagate.proofs.Common.{shapes_of, Shape}
 use Rattle.pb_propagate.proofs.lemmas.engine.VisitSteps.{grown-by, idle-at, changed-at, shape-at, weight-read}
 use Rattle.pb_propagate.proofs.run.lower.Goals as goal
 

@@ -1,5 +1,4 @@
-use Rattle.std.proofs.Common.{arith}
-use Rattle.pb_propagate.specs.engine.Engine.Counts.{pushed, spared}
+use Rattle.pb_propagate.proofs.Common.{arith, pushed, spared}
 use Rattle.pb_propagate.proofs.run.note.Goals as goal
 
 pub returns-then-opened-rest : goal.returns-then-opened-rest

@@ -1,22 +1,13 @@
-use Rattle.std.specs.Prelude.{sum, sum_by}
-use Rattle.std.proofs.Common.{◌+◌, ◌<◌, ◌≤◌, ◌++◌, ◌∷◌, [], ℕ, List, Vec, Global, length, drop, get_or, sym, ap, subst, inl, inr, ◌∙◌, arith}
-use Rattle.std.proofs.lemmas.List.{length-map, get_or_default, take_rest, drop_all}
-use Rattle.pb_propagate.specs.engine.Engine.Lists.{Conflicts, IsSettled}
-use Rattle.pb_propagate.specs.engine.Engine.Counts.{spent}
-use Rattle.pb_propagate.specs.engine.Engine.Fields.{shapes_of, entries_of, stored_shape}
-use Rattle.pb_propagate.specs.engine.Clauses.Truths.{false_at}
-use Rattle.pb_propagate.specs.engine.Clauses.Runs.{AreServed, AreWalked, passed_of}
-use Rattle.pb_propagate.specs.engine.Clauses.Shapes.{all_of, clauses_of, joined}
+use Rattle.pb_propagate.proofs.Common.{ℕ, ◌++◌, ◌+◌, ◌<◌, ◌∙◌, ◌∷◌, ◌≤◌, [], ap, arith, drop, get_or, Global, inl, inr, length, List, subst, sym, Vec}
+use Rattle.pb_propagate.proofs.Common.{sum, sum_by, drop_all, get_or_default, length-map, take_rest, NumberedLiteral, Heads, AreServed, AreWalked}
+use Rattle.pb_propagate.proofs.Common.{passed_of, all_of, clauses_of, joined, false_at, advanced, falsified_code, head, IsAhead, spent, entries_of}
+use Rattle.pb_propagate.proofs.Common.{shapes_of, stored_shape, Conflicts, IsSettled, database, progress, queued_to, RunReasons}
 use Rattle.pb_propagate.proofs.lemmas.engine.Derivations.{derivation-keeps}
 use Rattle.pb_propagate.proofs.lemmas.engine.Reasoned.{reasons-derive, run-reasons-none, run-reasons-then}
 use Rattle.pb_propagate.proofs.lemmas.clauses.Reasons.{run-reasons-joined}
 use Rattle.pb_propagate.proofs.lemmas.engine.Propagated.{propagating-start, propagating-visit, propagating-next, propagating-walk, propagating-bound, propagating-take, propagating-settled, propagating-spends}
 use Rattle.pb_propagate.proofs.lemmas.engine.Watched.{walk-covered}
-use Rattle.pb_propagate.specs.engine.Engine.Progress.{progress, database, queued_to, RunReasons}
 use Rattle.pb_propagate.proofs.lemmas.root.Extends.{extends-none}
-use Rattle.pb_propagate.specs.engine.Clauses.Walked.{IsAhead, head, advanced, falsified_code}
-use Rattle.pb_propagate.specs.declared.heads.Heads.{Heads}
-use Rattle.pb_normal.specs.declared.numbered.NumberedLiteral.{NumberedLiteral}
 use Rattle.pb_propagate.proofs.lemmas.engine.Spent.{sum-bounded}
 use Rattle.pb_propagate.proofs.lemmas.engine.Values.{opposite}
 use Rattle.pb_propagate.proofs.lemmas.clauses.Shapes.{derives-joined, conflicts-joined, joined-source}

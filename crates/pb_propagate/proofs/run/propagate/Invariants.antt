@@ -1,9 +1,5 @@
-use Rattle.std.specs.Prelude.{sum, sum_by, take}
-use Rattle.pb_propagate.specs.engine.Clauses.Runs.{KeepsWalked, Grows, passed_of}
-use Rattle.pb_propagate.specs.engine.Engine.Progress.{progress, database, seen, RunReasons}
-use Rattle.std.proofs.Common.{◌+◌, ◌*◌, ◌-◌, ◌≤◌, length}
-use Rattle.pb_propagate.specs.engine.Engine.Fields.{shapes_of, entries_of}
-use Rattle.pb_propagate.specs.engine.Clauses.Shapes.{all_of}
+use Rattle.pb_propagate.proofs.Common.{◌*◌, ◌+◌, ◌-◌, ◌≤◌, length, take, sum, sum_by, Grows, KeepsWalked, passed_of, all_of, entries_of, shapes_of}
+use Rattle.pb_propagate.proofs.Common.{database, progress, RunReasons, seen}
 use Rattle.pb_propagate.proofs.lemmas.engine.Propagated.{IsPropagating}
 use Rattle.pb_propagate.proofs.lemmas.clauses.Watching.{IsWatching, cost}
 use Rattle.pb_propagate.proofs.run.propagate.Given as goal

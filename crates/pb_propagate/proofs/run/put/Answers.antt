@@ -1,10 +1,5 @@
-use Rattle.std.proofs.Common.{Vec, Global, ℕ, ◌+◌, refl, ap, sym, ◌∙◌, arith}
-use Rattle.std.proofs.lemmas.List.{length-map}
-use Rattle.pb_normal.specs.meaning.Rules.{negation}
-use Rattle.pb_propagate.specs.declared.assignment.Assignment.{Assignment}
-use Rattle.pb_propagate.specs.engine.Engine.Counts.{place}
-use Rattle.pb_propagate.specs.engine.Engine.Fields.{shapes_of, stored_shape}
-use Rattle.pb_propagate.specs.engine.Engine.Progress.{assigned_to, progress, database, entries_against}
+use Rattle.pb_propagate.proofs.Common.{ℕ, ◌+◌, ◌∙◌, ap, arith, Global, refl, sym, Vec, length-map, negation, Assignment, place, shapes_of}
+use Rattle.pb_propagate.proofs.Common.{stored_shape, assigned_to, database, entries_against, progress}
 use Rattle.pb_propagate.proofs.lemmas.store.Places.{entries-length}
 use Rattle.pb_propagate.proofs.lemmas.engine.Runs.{Counted-put}
 use Rattle.pb_propagate.proofs.lemmas.engine.Advances.{costs-none, on-err}

@@ -1,5 +1,4 @@
-use Rattle.std.proofs.Common.{◌≡◌}
-use Rattle.pb_propagate.specs.engine.Engine.Progress.{progress, database, entries_against}
+use Rattle.pb_propagate.proofs.Common.{◌≡◌, database, entries_against, progress}
 use Rattle.pb_propagate.proofs.lemmas.engine.Puts.{IsPutting}
 use Rattle.pb_propagate.proofs.run.put.Given as goal
 

@@ -1,9 +1,4 @@
-use Rattle.std.proofs.Common.{◌≡◌, true, false}
-use Rattle.std.proofs.lemmas.Bool.{or_left, or_right, both_ways}
-use Rattle.pb_normal.specs.meaning.Rules.{negation}
-use Rattle.pb_propagate.specs.engine.Engine.Lists.{has}
-use Rattle.pb_propagate.specs.engine.Engine.Counts.{kept, added}
-use Rattle.pb_propagate.specs.engine.Engine.Progress.{progress, database}
+use Rattle.pb_propagate.proofs.Common.{◌≡◌, false, true, both_ways, or_left, or_right, negation, added, kept, has, database, progress}
 use Rattle.pb_propagate.proofs.lemmas.engine.Advances.{advances-refl}
 use Rattle.pb_propagate.proofs.run.try_put.Goals as goal
 

@@ -1,4 +1,4 @@
-use Rattle.std.proofs.Common.{◌≡◌, ℕ, ◌<◌, Vec, Global, get_or, set, length, length-set, refl, ap, ◌∙◌, arith}
+use Rattle.pb_propagate.proofs.Common.{ℕ, ◌<◌, ◌∙◌, ◌≡◌, ap, arith, get_or, Global, length, length-set, refl, set, Vec}
 use Rattle.pb_propagate.proofs.lemmas.engine.Undone.{undo-form, undo-next}
 use Rattle.pb_propagate.proofs.run.undo_forms.Goals as goal
 

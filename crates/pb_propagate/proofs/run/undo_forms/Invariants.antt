@@ -1,6 +1,4 @@
-use Rattle.std.proofs.Common.{◌≡◌, length}
-use Rattle.pb_propagate.specs.engine.Engine.Counts.{IsUndone}
-use Rattle.pb_propagate.specs.engine.Engine.Fields.{shapes_of}
+use Rattle.pb_propagate.proofs.Common.{◌≡◌, length, IsUndone, shapes_of}
 use Rattle.pb_propagate.proofs.run.undo_forms.Given as goal
 
 abbrev pub invariant-forms : goal.invariant-forms

@@ -1,11 +1,6 @@
-use Rattle.std.proofs.Common.{ℕ, ◌<◌, ◌+◌, Vec, Global, set, length, get_or, refl, ap, sym, ◌∙◌, arith}
-use Rattle.std.specs.Prelude.{sum}
-use Rattle.std.proofs.lemmas.List.{length-map, get_or_read}
-use Rattle.std.proofs.lemmas.List.Sums.{get_or-le-sum_by}
-use Rattle.pb_propagate.specs.declared.term.Term.{Term}
-use Rattle.pb_propagate.specs.engine.Engine.Fields.{shapes_of, stored_shape}
-use Rattle.pb_propagate.specs.engine.Engine.Progress.{passed_to, progress, database, list_of, reasons_of, RunReasons}
-use Rattle.pb_propagate.specs.engine.Engine.Terms.{terms_of}
+use Rattle.pb_propagate.proofs.Common.{ℕ, ◌+◌, ◌<◌, ◌∙◌, ap, arith, get_or, Global, length, refl, set, sym, Vec, sum, get_or_read, length-map}
+use Rattle.pb_propagate.proofs.Common.{get_or-le-sum_by, Term, shapes_of, stored_shape, database, list_of, passed_to, progress, reasons_of}
+use Rattle.pb_propagate.proofs.Common.{RunReasons, terms_of}
 use Rattle.pb_propagate.proofs.lemmas.engine.Advances.{advances-visit, advances-then, advances-as, costs-then, on-err}
 use Rattle.pb_propagate.proofs.lemmas.engine.VisitSteps.{IsVisiting, visiting-start, visiting-next, visiting-reasons, forced-read, calm-by, waiting-by, visiting-settled, Visiting-conflict, shape-at, term-inside}
 use Rattle.pb_propagate.proofs.lemmas.engine.Spent.{sum-bounded}

@@ -1,7 +1,4 @@
-use Rattle.std.proofs.Common.{◌-◌, length, get_or}
-use Rattle.pb_propagate.specs.engine.Engine.Progress.{progress, database, IsOpen, RunReasons}
-use Rattle.pb_propagate.specs.engine.Engine.Fields.{shapes_of}
-use Rattle.pb_propagate.specs.engine.Engine.Terms.{terms_of}
+use Rattle.pb_propagate.proofs.Common.{◌-◌, get_or, length, shapes_of, database, IsOpen, progress, RunReasons, terms_of}
 use Rattle.pb_propagate.proofs.lemmas.engine.VisitSteps.{IsVisiting}
 use Rattle.pb_propagate.proofs.run.visit_form.Given as goal
 

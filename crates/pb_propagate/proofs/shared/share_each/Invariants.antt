@@ -1,4 +1,4 @@
-use Rattle.std.proofs.Common.{◌≡◌}
+use Rattle.pb_propagate.proofs.Common.{◌≡◌}
 use Rattle.pb_propagate.proofs.shared.share_each.Given as goal
 
 -- the forms so far

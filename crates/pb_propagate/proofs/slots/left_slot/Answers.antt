@@ -1,7 +1,4 @@
-use Rattle.std.specs.Prelude.{Option, Some}
-use Rattle.std.proofs.Common.{ap, sym, ◌∙◌}
-use Rattle.pb_normal.specs.meaning.Form.{Form}
-use Rattle.pb_propagate.specs.declared.store.stored_form.StoredForm.{StoredForm}
+use Rattle.pb_propagate.proofs.Common.{◌∙◌, ap, sym, Option, Some, Form, StoredForm}
 use Rattle.pb_propagate.proofs.lemmas.store.Gets.{get-map}
 use Rattle.pb_propagate.proofs.lemmas.store.Options.{none_of}
 use Rattle.pb_propagate.proofs.slots.left_slot.Goals as goal

@@ -1,13 +1,8 @@
-use Rattle.std.specs.Prelude.{Some}
-use Rattle.std.proofs.Common.{rules, refl, ◌∙◌, [], ◌≡◌, ◌⊎◌, set, inl, inr, ap, length, length-set, arith}
-use Rattle.pb_propagate.specs.engine.Engine.Fields.{forms_of, shapes_of}
+use Rattle.pb_propagate.proofs.Common.{ℕ, ◌∙◌, ◌≡◌, ◌⊎◌, [], ap, arith, get_or-set_other, inl, inr, length, length-set, List, refl, rules, set, Some}
+use Rattle.pb_propagate.proofs.Common.{list_at, watch_at, clauses_of, codes_of_terms, forms_of, shapes_of}
 use Rattle.pb_propagate.proofs.lemmas.store.Changes.{forms-filled}
-use Rattle.pb_propagate.specs.engine.Clauses.Shapes.{clauses_of}
 use Rattle.pb_propagate.proofs.lemmas.store.Slots.{slots-bare, exact-absent, rest-filled, rest-watched, rest-refitted}
 use Rattle.pb_propagate.proofs.lemmas.clauses.Slots.{slots-vacant}
-use Rattle.std.proofs.Common.{ℕ, List, get_or-set_other}
-use Rattle.pb_propagate.specs.engine.Clauses.Shapes.{codes_of_terms}
-use Rattle.pb_propagate.specs.engine.Clauses.Links.{list_at, watch_at}
 use Rattle.pb_propagate.proofs.lemmas.root.Gained.{gained-filled}
 use Rattle.pb_propagate.proofs.slots.occupy.Goals as goal
 

@@ -1,8 +1,4 @@
-use Rattle.std.specs.Prelude.{None}
-use Rattle.std.proofs.Common.{arith}
-use Rattle.std.proofs.lemmas.List.{length-map}
-use Rattle.pb_propagate.specs.declared.store.stored_form.StoredForm.{StoredForm}
-use Rattle.pb_propagate.specs.engine.Engine.Fields.{forms_of}
+use Rattle.pb_propagate.proofs.Common.{arith, None, length-map, StoredForm, forms_of}
 use Rattle.pb_propagate.proofs.lemmas.store.Changes.{forms-filled}
 use Rattle.pb_propagate.proofs.lemmas.store.Slots.{eager-there, rest-quit}
 use Rattle.pb_propagate.proofs.slots.quit.Goals as goal

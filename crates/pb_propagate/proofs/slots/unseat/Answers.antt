@@ -1,6 +1,5 @@
-use Rattle.std.proofs.Common.{◌≡◌, ℕ, zero, suc, ◌<◌, ◌∷◌, [], List, true, false, refl, sym, ◌∙◌, ap, arith, length, get_or}
-use Rattle.pb_propagate.specs.declared.store.stored_form.StoredForm.{StoredForm}
-use Rattle.pb_propagate.specs.engine.Engine.Rest.{waits}
+use Rattle.pb_propagate.proofs.Common.{ℕ, ◌<◌, ◌∙◌, ◌∷◌, ◌≡◌, [], ap, arith, false, get_or, length, List, refl, suc, sym, true, zero, StoredForm}
+use Rattle.pb_propagate.proofs.Common.{waits}
 use Rattle.pb_propagate.proofs.slots.unseat.Goals as goal
 
 waits-of : (keep : List StoredForm) (s : ℕ) (k : StoredForm) → s < length keep → k ≡ get_or keep s k → waits keep s ≡ k.eager

@@ -1,8 +1,4 @@
-use Rattle.std.specs.Prelude.{None}
-use Rattle.std.proofs.Common.{inr, arith}
-use Rattle.std.proofs.lemmas.List.{length-map}
-use Rattle.pb_propagate.specs.declared.store.stored_form.StoredForm.{StoredForm}
-use Rattle.pb_propagate.specs.engine.Engine.Fields.{forms_of}
+use Rattle.pb_propagate.proofs.Common.{arith, inr, None, length-map, StoredForm, forms_of}
 use Rattle.pb_propagate.proofs.lemmas.store.Gets.{get-push_same}
 use Rattle.pb_propagate.proofs.lemmas.store.Changes.{forms-more, forms-widened}
 use Rattle.pb_propagate.proofs.lemmas.store.Slots.{rest-widened}

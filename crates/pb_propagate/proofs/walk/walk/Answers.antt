@@ -1,13 +1,6 @@
-use Rattle.std.proofs.Common.{Vec, Global, ◌<◌, ◌+◌, ◌++◌, ◌∷◌, [], ℕ, refl, sym, ◌∙◌, ap, subst, length, arith}
-use Rattle.pb_normal.specs.declared.numbered.NumberedLiteral.{NumberedLiteral}
-use Rattle.pb_normal.specs.meaning.Rules.{negation}
-use Rattle.pb_propagate.specs.declared.clauses.visiting.Visit.TheVariants.{Stays, Leaves, Forces, Falsified}
-use Rattle.pb_propagate.specs.engine.Engine.Lists.{has}
-use Rattle.pb_propagate.specs.engine.Engine.Fields.{shapes_of}
-use Rattle.pb_propagate.specs.engine.Engine.Progress.{progress, database, list_of, reasons_of}
-use Rattle.pb_propagate.specs.engine.Clauses.Links.{watch_lists, list_at}
-use Rattle.pb_propagate.specs.engine.Clauses.Runs.{HasVisited, IsBroken, IsUnit}
-use Rattle.pb_propagate.specs.engine.Clauses.Shapes.{clauses_of, all_of}
+use Rattle.pb_propagate.proofs.Common.{ℕ, ◌++◌, ◌+◌, ◌<◌, ◌∙◌, ◌∷◌, [], ap, arith, Global, length, refl, subst, sym, Vec, NumberedLiteral, negation}
+use Rattle.pb_propagate.proofs.Common.{Falsified, Forces, Leaves, Stays, list_at, watch_lists, HasVisited, IsBroken, IsUnit, all_of, clauses_of}
+use Rattle.pb_propagate.proofs.Common.{shapes_of, has, database, list_of, progress, reasons_of}
 use Rattle.pb_propagate.proofs.lemmas.clauses.Literals.{true-listed, false-listed}
 use Rattle.pb_propagate.proofs.lemmas.clauses.Shapes.{broken-conflicts, conflicts-joined}
 use Rattle.pb_propagate.proofs.lemmas.clauses.Walks.{grows-trans, IsWalking, walking-start, walking-next, walking-forces, walked-end}

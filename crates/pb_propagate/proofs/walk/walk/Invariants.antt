@@ -1,7 +1,4 @@
-use Rattle.std.proofs.Common.{◌≡◌, ◌-◌, length}
-use Rattle.pb_propagate.specs.engine.Engine.Progress.{progress, database, IsOpen, StaysTidy, RunReasons}
-use Rattle.pb_propagate.specs.engine.Clauses.Links.{watch_lists, list_at}
-use Rattle.pb_propagate.specs.engine.Clauses.Shapes.{all_of}
+use Rattle.pb_propagate.proofs.Common.{◌-◌, ◌≡◌, length, list_at, watch_lists, all_of, database, IsOpen, progress, RunReasons, StaysTidy}
 use Rattle.pb_propagate.proofs.lemmas.clauses.Walks.{IsWalking}
 use Rattle.pb_propagate.proofs.lemmas.engine.Watched.{WalkIsAt}
 use Rattle.pb_propagate.proofs.walk.walk.Given as goal

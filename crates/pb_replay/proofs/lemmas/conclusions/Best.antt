@@ -1,12 +1,6 @@
 -- The best of the logged values.
-use Rattle.std.specs.Prelude.{Option, Some, None, Contains, ℤ, ◌↔◌}
-use Rattle.std.proofs.Common.{◌≡◌, ◌⊎◌, List, [], ◌∷◌, ◌++◌, ◌≤ℤ◌, sym, ◌∙◌, ap, arith, inl, inr}
-use Rattle.std.proofs.lemmas.Int.{ints}
-use Rattle.std.proofs.lemmas.List.Elements.{Contains-push, Contains-append_left, Contains-push_cases}
-use Rattle.pb_replay.specs.meaning.Replay.{Logged}
-use Rattle.pb_replay.specs.contract.ReplayModel.{IsBest, IsBetter}
-use Rattle.std.proofs.lemmas.Option.{none-some}
-use Rattle.pb_propagate.proofs.lemmas.store.Gets.{contains-none}
+use Rattle.pb_replay.proofs.Common.{ℤ, ◌++◌, ◌∙◌, ◌∷◌, ◌≡◌, ◌≤ℤ◌, ◌⊎◌, [], ap, arith, inl, inr, List, None, Some, sym, ◌↔◌, Contains, Option, ints}
+use Rattle.pb_replay.proofs.Common.{Contains-append_left, Contains-push, Contains-push_cases, none-some, contains-none, IsBest, IsBetter, Logged}
 
 pub nothing : (logged : List Logged) (best : Option ℤ) → IsBest logged best → best ≡ None → logged ≡ []
 nothing logged None h e = h

@@ -1,32 +1,14 @@
 -- A conclusion continues after its tests
-use Rattle.std.specs.Prelude.{Result, Ok, Err, Option, Some, None, Contains, ℤ, option_map}
-use Rattle.std.proofs.Common.{◌≡◌, ℕ, ◌≤ℤ◌, List, [], refl, sym, ◌∙◌, ap, arith, inl, inr, subst}
-use Rattle.std.proofs.lemmas.Int.{ints}
-use Rattle.pb_text.specs.meaning.Limits.{largest}
-use Rattle.pb_sums.specs.declared.Linear.{Linear}
-use Rattle.pb_sums.specs.declared.Literal.{Literal}
-use Rattle.pb_sums.specs.declared.Term.{Term}
-use Rattle.pb_proof.specs.declared.Bound.{Bound}
-use Rattle.pb_proof.specs.declared.Bound.TheVariants.{Finite, Infinite}
-use Rattle.pb_proof.specs.declared.Conclusion.TheVariants.{Bounds}
-use Rattle.pb_proof.specs.declared.Statement.TheVariants.{Conclude}
-use Rattle.pb_proof.specs.declared.Stage.TheVariants.{Closing}
-use Rattle.pb_normal.specs.declared.numbered.NumberedLiteral.{NumberedLiteral}
+use Rattle.pb_replay.proofs.Common.{ℕ, ℤ, ◌∙◌, ◌≡◌, ◌≤ℤ◌, [], ap, arith, Err, inl, inr, List, None, refl, Some, subst, sym, Contains, Ok, Option}
+use Rattle.pb_replay.proofs.Common.{option_map, Result, ints, NumberedLiteral, Form, Bound, Finite, Infinite, Bounds, Closing, Conclude}
+use Rattle.pb_replay.proofs.Common.{contains-none, Linear, Literal, Term, ok_or_err, largest, GoesAt, HasNamed, IsBest, IsProper, Keeps, problem_of}
+use Rattle.pb_replay.proofs.Common.{state_of, Fault, NoSuchId, NotBound, Running, Both, HasObjective, IsBelow, IsNamed, IsReached, Lower}
+use Rattle.pb_replay.proofs.Common.{objective_at_least, ObjectiveShown, Reached, Refutes, ShownAs, ShownReaches, Upper, upper_of, Answer, gives, need}
+use Rattle.pb_replay.proofs.Common.{contradicted, contradiction, IsShownBy, lower_bound, named, none_left, objective_with, sum, upper_bound, Problem}
+use Rattle.pb_replay.proofs.Common.{IsLive, Logged, normal_form, numbered, State}
 use Rattle.pb_normal.specs.declared.Side.TheVariants.{AtLeast as least}
-use Rattle.pb_normal.specs.meaning.Form.{Form}
-use Rattle.pb_replay.specs.declared.fault.Fault.{Fault}
-use Rattle.pb_replay.specs.declared.fault.Fault.TheVariants.{NoSuchId, NotBound}
-use Rattle.pb_replay.specs.declared.state.Running.{Running}
 use Rattle.pb_replay.specs.declared.verdict.Verdict.TheVariants as verdict
-use Rattle.pb_replay.specs.meaning.Answer.{Answer, gives, need}
-use Rattle.pb_replay.specs.engine.Bounds.{Both, HasObjective, IsBelow, IsNamed, IsReached, Lower, ObjectiveShown, Reached, Refutes, ShownAs, ShownReaches, Upper, objective_at_least, upper_of}
-use Rattle.pb_replay.specs.meaning.Conclusions.{IsShownBy, contradicted, contradiction, lower_bound, named, none_left, objective_with, sum, upper_bound}
-use Rattle.pb_replay.specs.meaning.Problem.{Problem}
-use Rattle.pb_replay.specs.meaning.Replay.{IsLive, Logged, State, normal_form, numbered}
-use Rattle.pb_replay.specs.contract.ReplayModel.{GoesAt, HasNamed, IsBest, IsProper, Keeps, problem_of, state_of}
-use Rattle.pb_text.proofs.lemmas.text.Results.{ok_or_err}
 use Rattle.pb_replay.proofs.lemmas.conclusions.Best.{below}
-use Rattle.pb_propagate.proofs.lemmas.store.Gets.{contains-none}
 use Rattle.pb_replay.proofs.lemmas.names.Going.{form-of}
 use Rattle.pb_replay.proofs.lemmas.rules.Ready.{same_problem}
 use Rattle.pb_replay.proofs.lemmas.rules.States.{same-state}

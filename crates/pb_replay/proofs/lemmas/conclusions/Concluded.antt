@@ -1,36 +1,17 @@
 -- What an accepted conclusion means. Offered to other crates.
-use Rattle.std.specs.Prelude.{Contains, Option, Some, None, Ok, ℤ}
-use Rattle.std.proofs.Common.{◌≡◌, ℕ, Bool, List, [], length, sym, ◌∙◌, arith, inl, inr, ◌≤ℤ◌}
-use Rattle.std.proofs.lemmas.Bool.{cases_lt}
-use Rattle.std.proofs.lemmas.Int.{ints}
-use Rattle.std.proofs.lemmas.Option.{none-some, same_Some}
-use Rattle.pb_sums.specs.declared.Literal.{Literal}
-use Rattle.pb_sums.specs.declared.Term.{Term}
-use Rattle.pb_proof.specs.declared.Bound.{Bound}
-use Rattle.pb_proof.specs.declared.Bound.TheVariants.{Finite, Infinite}
-use Rattle.pb_proof.specs.declared.Conclusion.{Conclusion}
-use Rattle.pb_proof.specs.declared.Conclusion.TheVariants.{NoClaim, Unsat, Sat, Bounds}
+use Rattle.pb_replay.proofs.Common.{ℕ, ℤ, ◌∙◌, ◌≡◌, ◌≤ℤ◌, [], arith, Bool, inl, inr, length, List, None, Some, sym, Contains, Ok, Option, cases_lt}
+use Rattle.pb_replay.proofs.Common.{ints, none-some, same_Some, HasNames-append, Holds-sum, Holds-negation_back, total-le-each, Form, Holds, total}
+use Rattle.pb_replay.proofs.Common.{true_at, HasNames, assignment, IsContradiction, negation_of, IsSideOf, names_of, Bound, Finite, Infinite}
+use Rattle.pb_replay.proofs.Common.{Conclusion, Bounds, NoClaim, Sat, Unsat, contains-none, HoldAll, Live, Literal, Term, Answer, Concludes}
+use Rattle.pb_replay.proofs.Common.{contradicted, contradiction, IsShownBy, lower_bound, named, none_left, objective_with, propagated, sum, trivial}
+use Rattle.pb_replay.proofs.Common.{upper_bound, verdict_of, Accounted, allowed, beaten, HasNone, IsAtLeast, IsAtMost, IsProblem, IsSolution, IsSound}
+use Rattle.pb_replay.proofs.Common.{known, Means, Problem, Logged, numbered, State, value}
 use Rattle.pb_normal.specs.declared.Side.TheVariants.{AtLeast as least}
-use Rattle.pb_normal.specs.meaning.Form.{Form, Holds, total, true_at}
-use Rattle.pb_normal.specs.meaning.Rules.{assignment, negation_of, IsContradiction}
-use Rattle.pb_normal.specs.meaning.Names.{HasNames}
-use Rattle.pb_normal.specs.meaning.Written.{IsSideOf, names_of}
-use Rattle.pb_normal.proofs.lemmas.terms.Maps.{total-le-each, Holds-negation_back}
-use Rattle.pb_normal.proofs.lemmas.rules.Sums.{Holds-sum}
-use Rattle.pb_replay.specs.meaning.Replay.{Logged}
-use Rattle.pb_replay.specs.meaning.Answer.{Answer}
-use Rattle.pb_replay.specs.meaning.Problem.{Problem}
-use Rattle.pb_propagate.specs.meaning.Propagation.{HoldAll, Live}
-use Rattle.pb_replay.specs.meaning.Replay.{State, value, numbered}
-use Rattle.pb_replay.specs.meaning.Conclusions.{contradicted, none_left, named, objective_with, IsShownBy, trivial, contradiction, sum, propagated, lower_bound, upper_bound, Concludes, verdict_of}
-use Rattle.pb_replay.specs.meaning.Meaning.{IsSolution, HasNone, IsAtLeast, IsAtMost, Means, Accounted, known, beaten, allowed, IsSound, IsProblem}
 use Rattle.pb_replay.proofs.lemmas.meaning.Accepting.{needed}
 use Rattle.pb_replay.proofs.lemmas.rules.Living.{IsLive-live}
-use Rattle.pb_normal.proofs.lemmas.names.WrittenForms.{HasNames-append}
 use Rattle.pb_replay.proofs.lemmas.names.Naming.{value-over, value-agree, side-holds, objective-named}
 use Rattle.pb_replay.proofs.lemmas.meaning.Propagating.{IsRup-holds}
 use Rattle.pb_replay.proofs.lemmas.solutions.Solutions.{Completed-taken}
-use Rattle.pb_propagate.proofs.lemmas.store.Gets.{contains-none}
 
 contradiction-fails : (a : ℕ → Bool) (f : Form) → IsContradiction f → Holds a f → ⊥
 contradiction-fails a f c h = omega (arith, total-le-each (true_at a) f.terms)

@@ -1,28 +1,10 @@
 -- After a conclusion there is a verdict.
-use Rattle.std.specs.Prelude.{Option, Some, None, Ok, ℤ, IsSome}
-use Rattle.std.proofs.Common.{subst, sym, ◌≡◌, ℕ, List, [], ◌∷◌, ◌++◌, refl}
-use Rattle.pb_sums.specs.declared.Literal.{Literal}
-use Rattle.pb_sums.specs.declared.Term.{Term}
-use Rattle.pb_proof.specs.meaning.Order.{stage_of}
+use Rattle.pb_replay.proofs.Common.{ℕ, ℤ, ◌++◌, ◌∷◌, ◌≡◌, [], List, None, refl, Some, subst, sym, IsSome, Ok, Option, Form, with_names, Bound, Finite}
+use Rattle.pb_replay.proofs.Common.{Infinite, Conclusion, Bounds, NoClaim, Sat, Unsat, Stage, Closing, Complete, Statement, Conclude, Delete, End, F}
+use Rattle.pb_replay.proofs.Common.{Header, Output, Pol, Rup, Soli, Solx, stage_of, Literal, Term, HasConclusion, VerdictsAreThere}
+use Rattle.pb_replay.proofs.Common.{WholeProofsConclude, verdict_at, Verdict, Answer, Concludes, lower_bound, named, none_left, upper_bound, Problem}
+use Rattle.pb_replay.proofs.Common.{State, Accepts, Does, mentioned}
 use Rattle.pb_proof.specs.meaning.Proofs.{statements_of}
-use Rattle.pb_proof.specs.declared.Bound.{Bound}
-use Rattle.pb_proof.specs.declared.Bound.TheVariants.{Finite, Infinite}
-use Rattle.pb_proof.specs.declared.Conclusion.{Conclusion}
-use Rattle.pb_proof.specs.declared.Conclusion.TheVariants.{NoClaim, Unsat, Sat, Bounds}
-use Rattle.pb_proof.specs.declared.Statement.{Statement}
-use Rattle.pb_proof.specs.declared.Statement.TheVariants.{Header, F, Pol, Rup, Soli, Solx, Delete, Output, Conclude, End}
-use Rattle.pb_proof.specs.declared.Stage.{Stage}
-use Rattle.pb_proof.specs.declared.Stage.TheVariants.{Closing, Complete}
-use Rattle.pb_normal.specs.meaning.Form.{Form}
-use Rattle.pb_normal.specs.meaning.Names.{with_names}
-use Rattle.pb_replay.specs.declared.verdict.Verdict.{Verdict}
-use Rattle.pb_replay.specs.meaning.Answer.{Answer}
-use Rattle.pb_replay.specs.contract.Laws.{HasConclusion, VerdictsAreThere, WholeProofsConclude}
-use Rattle.pb_replay.specs.meaning.Problem.{Problem}
-use Rattle.pb_replay.specs.meaning.Replay.{State}
-use Rattle.pb_replay.specs.meaning.Conclusions.{none_left, named, lower_bound, upper_bound, Concludes}
-use Rattle.pb_replay.specs.contract.ReplayModel.{verdict_at}
-use Rattle.pb_replay.specs.meaning.Statements.{Does, Accepts, mentioned}
 use Rattle.pb_replay.proofs.lemmas.meaning.Accepting.{needed, followed, ok-same}
 use Rattle.pb_replay.proofs.lemmas.conclusions.Concluded.{contradicted-has}
 

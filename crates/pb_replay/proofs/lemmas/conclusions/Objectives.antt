@@ -1,16 +1,7 @@
 -- The form of one side of the objective
-use Rattle.std.specs.Prelude.{Ok, Some, option_map, ℤ, unsigned_abs}
-use Rattle.std.proofs.Common.{◌≡◌, ℕ, ◌+◌, ◌≤◌, List, length, refl, ◌∙◌, ap, inl, subst}
-use Rattle.pb_text.specs.meaning.Limits.{largest}
-use Rattle.pb_sums.specs.declared.Linear.{Linear}
-use Rattle.pb_normal.specs.declared.Side.{Side}
-use Rattle.pb_normal.specs.meaning.Form.{Form}
-use Rattle.pb_normal.specs.meaning.Names.{with_names}
-use Rattle.pb_normal.specs.meaning.Written.{magnitude, names_of, side_number, side_terms, IsFormOf}
-use Rattle.pb_normal.proofs.lemmas.names.Appearing.{present}
-use Rattle.pb_replay.specs.declared.state.Running.{Running}
-use Rattle.pb_replay.specs.engine.Bounds.{HasObjective}
-use Rattle.pb_replay.specs.contract.ReplayModel.{IsInside, IsProper, problem_of}
+use Rattle.pb_replay.proofs.Common.{ℕ, ℤ, ◌+◌, ◌∙◌, ◌≡◌, ◌≤◌, ap, inl, length, List, refl, Some, subst, unsigned_abs, Ok, option_map, present, Side}
+use Rattle.pb_replay.proofs.Common.{Form, with_names, IsFormOf, magnitude, names_of, side_number, side_terms, Linear, largest, IsInside, IsProper}
+use Rattle.pb_replay.proofs.Common.{problem_of, Running, HasObjective}
 use Rattle.pb_replay.proofs.lemmas.solutions.Values.{objective-has}
 
 module _ (r : Running) (linear : Linear) where

@@ -1,21 +1,9 @@
 -- Shown solutions, and the conclusions by them
-use Rattle.std.specs.Prelude.{Result, Ok, Err, Option, Some, None, Contains, ℤ, is_some}
-use Rattle.std.proofs.Common.{◌≡◌, ◌⊎◌, ℕ, true, List, map, sym, ◌∙◌, ap, arith, inl, inr, subst}
-use Rattle.std.proofs.lemmas.List.{get_or-map, length-map}
-use Rattle.pb_sums.specs.declared.Literal.{Literal}
-use Rattle.pb_proof.specs.declared.Conclusion.TheVariants.{Sat}
-use Rattle.pb_proof.specs.declared.Statement.TheVariants.{Conclude}
-use Rattle.pb_proof.specs.declared.Stage.TheVariants.{Closing}
-use Rattle.pb_normal.specs.declared.numbered.NumberedLiteral.{NumberedLiteral}
-use Rattle.pb_normal.specs.meaning.Form.{Form}
-use Rattle.pb_replay.specs.declared.fault.Fault.{Fault}
-use Rattle.pb_replay.specs.declared.fault.Fault.TheVariants.{Conflict, Memory, NoSolution}
-use Rattle.pb_replay.specs.declared.state.Running.{Running}
+use Rattle.pb_replay.proofs.Common.{ℕ, ℤ, ◌∙◌, ◌≡◌, ◌⊎◌, ap, arith, Err, inl, inr, is_some, List, map, None, Some, subst, sym, true, Contains, Ok}
+use Rattle.pb_replay.proofs.Common.{Option, Result, get_or-map, length-map, NumberedLiteral, Form, Sat, Closing, Conclude, Live, MeetsConflict}
+use Rattle.pb_replay.proofs.Common.{Literal, GoesAt, IsBest, problem_of, ReturnsValue, state_of, Fault, Conflict, Memory, NoSolution, Running}
+use Rattle.pb_replay.proofs.Common.{Problem, Completed, Logged, numbered, Shown, State}
 use Rattle.pb_replay.specs.declared.verdict.Verdict.TheVariants as verdict
-use Rattle.pb_replay.specs.meaning.Problem.{Problem}
-use Rattle.pb_propagate.specs.meaning.Propagation.{MeetsConflict, Live}
-use Rattle.pb_replay.specs.meaning.Replay.{Completed, Logged, Shown, State, numbered}
-use Rattle.pb_replay.specs.contract.ReplayModel.{GoesAt, IsBest, ReturnsValue, problem_of, state_of}
 use Rattle.pb_replay.proofs.lemmas.rules.Living.{Live-loaded}
 use Rattle.pb_replay.proofs.lemmas.solutions.Solved.{completed-to, conflicting-value, value-by}
 

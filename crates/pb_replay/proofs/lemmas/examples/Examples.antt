@@ -1,18 +1,10 @@
 -- Short proofs that are accepted
-use Rattle.std.specs.Prelude.{Option, Some, None, Ok, Contains, slice_get, All}
-use Rattle.std.proofs.Common.{◌≡◌, ℕ, zero, suc, ◌<◌, Bool, true, false, List, [], ◌∷◌, refl, arith, inl, inr, pos, ◌+ℤ◌, ◌-ℤ◌, ◌+◌, ◌&&◌, cond, eqb}
-use Rattle.pb_sums.specs.declared.Linear.{Linear}
-use Rattle.pb_proof.specs.meaning.Postfix.{Tree, Constraint, Sum}
-use Rattle.pb_normal.specs.declared.entry.Entry.{Entry}
-use Rattle.pb_normal.specs.meaning.Constraints.{Fits}
-use Rattle.pb_normal.specs.meaning.Form.{Form, coefficient}
-use Rattle.pb_normal.specs.meaning.Rules.{IsSum, negation_of}
-use Rattle.pb_normal.specs.meaning.Written.{IsFormOf, written_on}
-use Rattle.pb_normal.specs.declared.numbered.NumberedLiteral.{NumberedLiteral}
+use Rattle.pb_replay.proofs.Common.{ℕ, ◌&&◌, ◌+ℤ◌, ◌+◌, ◌-ℤ◌, ◌<◌, ◌∷◌, ◌≡◌, [], All, arith, Bool, cond, eqb, false, inl, inr, List, None, pos, refl}
+use Rattle.pb_replay.proofs.Common.{Some, suc, true, zero, Contains, Ok, Option, slice_get, Entry, NumberedLiteral, Fits, coefficient, Form, IsSum}
+use Rattle.pb_replay.proofs.Common.{negation_of, IsFormOf, written_on, Constraint, Sum, Tree, begin, broken, IsRup, Live, MayPropagate, put, With}
+use Rattle.pb_replay.proofs.Common.{Linear, name_x, other_proof, short_proof, unit_on, Verifies, Opened, Problem}
 use Rattle.pb_replay.specs.declared.verdict.Verdict.TheVariants as verdict
-use Rattle.pb_replay.specs.meaning.Problem.{Problem, Opened}
-use Rattle.pb_propagate.specs.meaning.Propagation.{MayPropagate, begin, put, broken, With, IsRup, Live}
-use Rattle.pb_replay.specs.contract.Example.{name_x, unit_on, opposed, short_proof, other_proof, Verifies}
+use Rattle.pb_replay.specs.contract.Example.{opposed}
 
 abbrev plain_x : Form
 plain_x = record { terms = record { variable = 0; negated = false; coefficient = 1 } ∷ []; degree = 1 }

@@ -1,16 +1,8 @@
 -- Forms on two variables, and what two literals complete to over them
-use Rattle.std.specs.Prelude.{Option, Some, None, Ok, Contains}
-use Rattle.std.proofs.lemmas.Bool.{ne_eqb}
-use Rattle.std.proofs.Common.{◌≡◌, ℕ, zero, suc, ◌<◌, Bool, true, false, not, cond, List, [], ◌∷◌, get_or, eqb, refl, sym, ◌∙◌, ap, subst, arith, inl, inr}
-use Rattle.pb_sums.specs.declared.Term.{Term}
-use Rattle.pb_normal.specs.declared.entry.Entry.{Entry}
-use Rattle.pb_normal.specs.meaning.Form.{Form, Holds, total}
-use Rattle.pb_normal.specs.meaning.Rules.{assignment, only, on}
-use Rattle.pb_normal.specs.declared.numbered.NumberedLiteral.{NumberedLiteral}
-use Rattle.pb_replay.specs.meaning.Problem.{Problem}
-use Rattle.pb_propagate.specs.meaning.Propagation.{begin, MayPropagate, Live}
-use Rattle.pb_replay.specs.meaning.Replay.{HasValue, AreValues, Excludes, Completed, logged_of, negations}
-use Rattle.pb_replay.specs.contract.Example.{name_x, name_y}
+use Rattle.pb_replay.proofs.Common.{ℕ, ◌<◌, ◌∙◌, ◌∷◌, ◌≡◌, [], ap, arith, Bool, cond, eqb, false, get_or, inl, inr, List, None, not, refl, Some}
+use Rattle.pb_replay.proofs.Common.{subst, suc, sym, true, zero, Contains, Ok, Option, ne_eqb, Entry, NumberedLiteral, Form, Holds, total, assignment}
+use Rattle.pb_replay.proofs.Common.{on, only, begin, Live, MayPropagate, Term, name_x, name_y, Problem, AreValues, Completed, Excludes, HasValue}
+use Rattle.pb_replay.proofs.Common.{logged_of, negations}
 use Rattle.pb_replay.proofs.lemmas.meaning.Propagating.{AreTrue, AreTrue-put, on-negations, conflict-none}
 
 abbrev pub entry : ℕ → Bool → Entry

@@ -1,27 +1,14 @@
 -- Proofs over two names that are accepted, and conclusions that are rejected
-use Rattle.std.specs.Prelude.{Option, Some, None, Ok, Contains, slice_get, All, ◌++◌, ◌≤ℤ◌, neg_ℤ}
-use Rattle.std.proofs.Common.{◌≡◌, ℕ, zero, suc, ◌<◌, Bool, true, false, List, [], ◌∷◌, cond, eqb, ◌&&◌, ◌+◌, refl, sym, subst, arith, inl, inr, pos, ◌+ℤ◌, ◌-ℤ◌}
-use Rattle.pb_sums.specs.declared.Term.{Term}
-use Rattle.pb_sums.specs.declared.Linear.{Linear}
-use Rattle.pb_proof.specs.declared.Statement.{Statement}
-use Rattle.pb_proof.specs.declared.Statement.TheVariants.{End, Conclude}
+use Rattle.pb_replay.proofs.Common.{ℕ, ◌&&◌, ◌++◌, ◌+ℤ◌, ◌+◌, ◌-ℤ◌, ◌<◌, ◌∷◌, ◌≡◌, ◌≤ℤ◌, [], All, arith, Bool, cond, eqb, false, inl, inr, List, None}
+use Rattle.pb_replay.proofs.Common.{pos, refl, Some, subst, suc, sym, true, zero, Contains, neg_ℤ, Ok, Option, slice_get, Fits, coefficient, Form}
+use Rattle.pb_replay.proofs.Common.{IsSum, negation_of, IsFormOf, IsSideOf, written_on, Finite, Concluding, Statement, Conclude, End, Constraint, Sum}
+use Rattle.pb_replay.proofs.Common.{Tree, begin, broken, IsRup, Live, MayPropagate, put, With, Linear, Term, all_logged, at_least_one, best_logged}
+use Rattle.pb_replay.proofs.Common.{best_proof, both_terms, bounds_of, either, logged_proof, name_x, name_y, Refuses, shown_proof, unit_on, Verifies}
+use Rattle.pb_replay.proofs.Common.{NotBound, SolutionLogged, objective_with, propagated, Opened, Problem, first_state, Logged, logged_of, State}
+use Rattle.pb_replay.proofs.Common.{Accepts}
 use Rattle.pb_proof.specs.declared.Conclusion.TheVariants as conclusion
-use Rattle.pb_proof.specs.meaning.Postfix.{Tree, Constraint, Sum}
-use Rattle.pb_normal.specs.meaning.Constraints.{Fits}
-use Rattle.pb_normal.specs.meaning.Form.{Form, coefficient}
-use Rattle.pb_normal.specs.meaning.Rules.{IsSum, negation_of}
-use Rattle.pb_normal.specs.meaning.Written.{IsFormOf, IsSideOf, written_on}
 use Rattle.pb_normal.specs.declared.Side.TheVariants.{AtLeast as least, AtMost as most}
-use Rattle.pb_replay.specs.declared.fault.Fault.TheVariants.{SolutionLogged, NotBound}
 use Rattle.pb_replay.specs.declared.verdict.Verdict.TheVariants as verdict
-use Rattle.pb_proof.specs.declared.Bound.TheVariants.{Finite}
-use Rattle.pb_proof.specs.declared.Stage.TheVariants.{Concluding}
-use Rattle.pb_replay.specs.meaning.Problem.{Problem, Opened}
-use Rattle.pb_propagate.specs.meaning.Propagation.{MayPropagate, begin, put, broken, With, IsRup, Live}
-use Rattle.pb_replay.specs.meaning.Replay.{State, Logged, first_state, logged_of}
-use Rattle.pb_replay.specs.meaning.Statements.{Accepts}
-use Rattle.pb_replay.specs.meaning.Conclusions.{objective_with, propagated}
-use Rattle.pb_replay.specs.contract.Example.{name_x, name_y, unit_on, at_least_one, both_terms, either, all_logged, logged_proof, shown_proof, best_logged, best_proof, bounds_of, Verifies, Refuses}
 use Rattle.pb_replay.proofs.lemmas.examples.Pairs.{entry, pair, values, problem, met, completed, live-met, own-met, clause-of}
 use Rattle.pb_propagate.proofs.lemmas.engine.Literals.{literal}
 

@@ -1,9 +1,5 @@
 -- What an answer says of its value or fault, and what an accepted answer says of its tests. Offered to other crates.
-use Rattle.std.specs.Prelude.{Ok, Err}
-use Rattle.pb_text.proofs.lemmas.text.Results.{ok_or_err}
-use Rattle.std.proofs.Common.{◌≡◌, ◌⊎◌, ℕ, ◌<◌, inl, inr}
-use Rattle.pb_replay.specs.declared.fault.Fault.{Fault}
-use Rattle.pb_replay.specs.meaning.Answer.{gives}
+use Rattle.pb_replay.proofs.Common.{ℕ, ◌<◌, ◌≡◌, ◌⊎◌, Err, inl, inr, Ok, ok_or_err, Fault, gives}
 
 pub ok-same : {B : Type 0} {x y : B} → gives y (Ok x) → x ≡ y
 ok-same h = cc

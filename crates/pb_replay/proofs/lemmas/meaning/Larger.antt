@@ -1,29 +1,11 @@
 -- Larger limits accept what smaller ones accept
-use Rattle.std.specs.Prelude.{Result, Ok, Err, Option, Some, None, ℤ}
-use Rattle.std.proofs.Common.{◌≡◌, ℕ, ◌≤◌, List, length, refl, arith, inl, inr, pos, ◌-ℤ◌}
-use Rattle.pb_sums.specs.declared.Term.{Term}
-use Rattle.pb_sums.specs.declared.Linear.{Linear}
-use Rattle.pb_proof.specs.declared.Bound.{Bound}
-use Rattle.pb_proof.specs.declared.Bound.TheVariants.{Finite, Infinite}
-use Rattle.pb_proof.specs.declared.Conclusion.{Conclusion}
-use Rattle.pb_proof.specs.declared.Conclusion.TheVariants.{NoClaim, Unsat, Sat, Bounds}
-use Rattle.pb_proof.specs.declared.Statement.{Statement}
-use Rattle.pb_proof.specs.declared.Statement.TheVariants.{Header, F, Pol, Rup, Soli, Solx, Delete, Output, Conclude, End}
-use Rattle.pb_proof.specs.meaning.Postfix.{Tree, Constraint, LiteralAxiom, Sum, Product, Quotient, Saturation, Weakening, words}
-use Rattle.pb_normal.specs.declared.Side.{Side}
+use Rattle.pb_replay.proofs.Common.{ℕ, ℤ, ◌-ℤ◌, ◌≡◌, ◌≤◌, arith, Err, inl, inr, length, List, None, pos, refl, Some, Ok, Option, Result, Side, Form}
+use Rattle.pb_replay.proofs.Common.{with_names, IsSum, Bound, Finite, Infinite, Conclusion, Bounds, NoClaim, Sat, Unsat, Statement, Conclude, Delete}
+use Rattle.pb_replay.proofs.Common.{End, F, Header, Output, Pol, Rup, Soli, Solx, Constraint, LiteralAxiom, Product, Quotient, Saturation, Sum, Tree}
+use Rattle.pb_replay.proofs.Common.{Weakening, words, Live, Linear, Term, AcceptsMore, OpensMore, Fault, after, Answer, found, need, some, Concludes}
+use Rattle.pb_replay.proofs.Common.{lower_bound, named, objective_with, Problem, added, Completed, FormOfExpression, limited, Logged, normal_form}
+use Rattle.pb_replay.proofs.Common.{numbered, State, Does, mentioned}
 use Rattle.pb_normal.specs.declared.Side.TheVariants.{AtLeast as least, AtMost as most}
-use Rattle.pb_normal.specs.meaning.Form.{Form}
-use Rattle.pb_normal.specs.meaning.Names.{with_names}
-use Rattle.pb_replay.specs.declared.fault.Fault.{Fault}
-use Rattle.pb_replay.specs.meaning.Replay.{Logged}
-use Rattle.pb_replay.specs.meaning.Answer.{Answer, need, found, some, after}
-use Rattle.pb_normal.specs.meaning.Rules.{IsSum}
-use Rattle.pb_replay.specs.meaning.Problem.{Problem}
-use Rattle.pb_replay.specs.meaning.Replay.{State, Completed, FormOfExpression, limited, normal_form, added, numbered}
-use Rattle.pb_propagate.specs.meaning.Propagation.{Live}
-use Rattle.pb_replay.specs.meaning.Conclusions.{named, objective_with, lower_bound, Concludes}
-use Rattle.pb_replay.specs.meaning.Statements.{Does, mentioned}
-use Rattle.pb_replay.specs.contract.Laws.{OpensMore, AcceptsMore}
 
 -- for any result that is `Ok`: a bare variable lets the prover find the arguments of the lemmas
 abbrev GrowsAt : {A : Type 0} → Answer A → Answer A → Type 0

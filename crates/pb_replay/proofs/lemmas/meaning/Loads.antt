@@ -1,35 +1,21 @@
 -- The forms of an instance hold if and only if it is solved. What a verdict means for them, it means for the instance.
-use Rattle.std.specs.Prelude.{Contains, Option, Some, ◌↔◌, All, Ok}
-use Rattle.std.proofs.Common.{◌≡◌, ℕ, zero, suc, ◌<◌, Bool, true, List, [], ◌∷◌, ◌++◌, length, length-append, get_or, refl, sym, ◌∙◌, ap, arith}
-use Rattle.std.proofs.lemmas.List.{get_or_append_left, get_or_default}
-use Rattle.std.proofs.lemmas.Option.{get_or_from_slice_get, slice_get-get_or}
-use Rattle.pb_sums.specs.declared.Linear.{Linear}
+use Rattle.pb_replay.proofs.Common.{ℕ, ◌++◌, ◌<◌, ◌∙◌, ◌∷◌, ◌≡◌, [], All, ap, arith, Bool, get_or, length, length-append, List, refl, Some, suc, sym}
+use Rattle.pb_replay.proofs.Common.{true, zero, ◌↔◌, Contains, Ok, Option, get_or_append_left, get_or_default, get_or_from_slice_get}
+use Rattle.pb_replay.proofs.Common.{slice_get-get_or, distinct, names_split, number_in-get, slice_get-number, SameAsForm-from, SameAsForms-from}
+use Rattle.pb_replay.proofs.Common.{SameSolutions-side, Side, AreFormsOf, constraint_names, sides_in, with_sides, Form, Holds, AreDistinct, has_name}
+use Rattle.pb_replay.proofs.Common.{HasNames, number_in, assignment, by_number, HoldsWritten, names_of, true_sum, Instance, Bound, Finite, Infinite}
+use Rattle.pb_replay.proofs.Common.{contains-none, HoldAll, Linear, MeaningsAgree, ProblemsAreProper, SolutionsAreAccounted, VerdictsMean, Verdict}
+use Rattle.pb_replay.proofs.Common.{Accounted, AccountedWritten, allowed, allowed_still, beaten, beaten_value, IsAtLeast, IsAtMost, IsProblem}
+use Rattle.pb_replay.proofs.Common.{IsSolution, IsSound, known, known_names, Means, MeansWritten, names_in, objective_of, Opened, Problem, Solves}
+use Rattle.pb_replay.proofs.Common.{written_value, by_name, first_state, State, value}
 use Rattle.pb_sums.specs.declared.Relation.{Relation}
 use Rattle.pb_sums.specs.declared.Relation.TheVariants.{AtLeast, Equal}
-use Rattle.pb_opb.specs.declared.Instance.{Instance}
-use Rattle.pb_proof.specs.declared.Bound.{Bound}
-use Rattle.pb_proof.specs.declared.Bound.TheVariants.{Finite, Infinite}
-use Rattle.pb_normal.specs.declared.Side.{Side}
 use Rattle.pb_normal.specs.declared.Side.TheVariants.{AtLeast as least, AtMost as most}
-use Rattle.pb_normal.specs.meaning.Constraints.{AreFormsOf, constraint_names, sides_in, with_sides}
-use Rattle.pb_normal.specs.meaning.Form.{Form, Holds}
-use Rattle.pb_normal.specs.meaning.Names.{has_name, AreDistinct, HasNames, number_in}
-use Rattle.pb_normal.specs.meaning.Rules.{assignment}
-use Rattle.pb_normal.specs.meaning.Written.{names_of, by_number, true_sum, HoldsWritten}
-use Rattle.pb_normal.proofs.lemmas.names.Appearing.{named, names_split, distinct}
-use Rattle.pb_normal.proofs.lemmas.names.Numbering.{slice_get-number, number_in-get}
-use Rattle.pb_normal.proofs.lemmas.names.WrittenForms.{SameAsForm-from, SameAsForms-from, SameSolutions-side}
-use Rattle.pb_replay.specs.declared.verdict.Verdict.{Verdict}
+use Rattle.pb_normal.proofs.lemmas.names.Appearing.{named}
 use Rattle.pb_replay.specs.declared.verdict.Verdict.TheVariants.{NoClaim, Unsat, Sat, Bounds}
-use Rattle.pb_replay.specs.meaning.Problem.{Problem, Opened, Solves, written_value, names_in, objective_of}
-use Rattle.pb_propagate.specs.meaning.Propagation.{HoldAll}
-use Rattle.pb_replay.specs.meaning.Replay.{State, by_name, value, first_state}
-use Rattle.pb_replay.specs.meaning.Meaning.{IsSolution, Means, MeansWritten, IsAtLeast, IsAtMost, IsProblem, IsSound, Accounted, known, beaten, allowed, AccountedWritten, known_names, beaten_value, allowed_still}
-use Rattle.pb_replay.specs.contract.Laws.{ProblemsAreProper, MeaningsAgree, VerdictsMean, SolutionsAreAccounted}
 use Rattle.pb_replay.proofs.lemmas.meaning.Accepting.{needed, ok-same}
 use Rattle.pb_replay.proofs.lemmas.names.Naming.{Holds-agree, back, true_sum-agree, value-agree}
 use Rattle.pb_replay.proofs.lemmas.meaning.Sound.{first-sound, run-sound}
-use Rattle.pb_propagate.proofs.lemmas.store.Gets.{contains-none}
 
 -- for each member of a longer list
 module _ {X : Type 0} (P : X → Type 0) where

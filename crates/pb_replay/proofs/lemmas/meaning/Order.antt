@@ -1,13 +1,7 @@
 -- The order in which literals are propagated does not matter.
-use Rattle.std.proofs.Common.{◌≡◌, ◌⊎◌, true, List, ◌∷◌, inl, inr}
-use Rattle.std.proofs.lemmas.Bool.{or_left, or_right}
-use Rattle.pb_normal.specs.meaning.Form.{Form}
-use Rattle.pb_normal.specs.meaning.Rules.{only, on}
-use Rattle.pb_normal.specs.declared.numbered.NumberedLiteral.{NumberedLiteral}
-use Rattle.pb_replay.specs.contract.Laws.{InList, OrderIsFree, CompletionIsOne}
-use Rattle.pb_propagate.specs.meaning.Propagation.{Derivation, begin, put, HasConflict, MeetsConflict}
-use Rattle.pb_propagate.proofs.lemmas.engine.Completing.{IsPart, on_it, still, conflicting, lasting, put-part, derivation-keeps, conflict-part, completion-one}
-use Rattle.pb_propagate.proofs.lemmas.engine.Choices.{only-self}
+use Rattle.pb_replay.proofs.Common.{◌∷◌, ◌≡◌, ◌⊎◌, inl, inr, List, true, or_left, or_right, NumberedLiteral, Form, on, only, only-self}
+use Rattle.pb_replay.proofs.Common.{completion-one, conflict-part, conflicting, derivation-keeps, IsPart, lasting, on_it, put-part, still, begin}
+use Rattle.pb_replay.proofs.Common.{Derivation, HasConflict, MeetsConflict, put, CompletionIsOne, InList, OrderIsFree}
 
 -- a list is extended until it has a conflict, or the literals of another one
 pub record Reached (forms : Form → Type 0) (from other : List NumberedLiteral) : Type 0 where

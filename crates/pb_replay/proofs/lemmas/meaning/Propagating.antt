@@ -1,14 +1,9 @@
 -- What propagation adds to a list is true wherever the forms hold and the given literals are true
-use Rattle.std.proofs.Common.{◌≡◌, ℕ, Bool, true, false, not, cond, List, [], ◌∷◌, refl, sym, ◌∙◌, arith, inl, inr}
+use Rattle.pb_replay.proofs.Common.{ℕ, ◌∙◌, ◌∷◌, ◌≡◌, [], arith, Bool, cond, false, inl, inr, List, not, refl, sym, true, both_ways, cases_Bool}
+use Rattle.pb_replay.proofs.Common.{cases_lt, false_from_ne_true, not-true, not_from_false, or_cases, Holds-negation_back, NumberedLiteral, Form}
+use Rattle.pb_replay.proofs.Common.{Holds, total, true_at, negation_of, on, only, only-true, total-fits, total-within, begin, broken, Derivation}
+use Rattle.pb_replay.proofs.Common.{HasConflict, HoldAll, IsRup, MayPropagate, MeetsConflict, opened, opposed, put, With, negations}
 use Rattle.std.proofs.Math.Bool.{not-not}
-use Rattle.std.proofs.lemmas.Bool.{cases_Bool, cases_lt, or_cases, both_ways, not-true, false_from_ne_true, not_from_false}
-use Rattle.pb_normal.specs.declared.numbered.NumberedLiteral.{NumberedLiteral}
-use Rattle.pb_normal.specs.meaning.Form.{Form, Holds, total, true_at}
-use Rattle.pb_normal.specs.meaning.Rules.{negation_of, only, on}
-use Rattle.pb_replay.specs.meaning.Replay.{negations}
-use Rattle.pb_propagate.specs.meaning.Propagation.{opened, MayPropagate, Derivation, begin, put, HasConflict, opposed, broken, MeetsConflict, With, IsRup, HoldAll}
-use Rattle.pb_normal.proofs.lemmas.terms.Maps.{Holds-negation_back}
-use Rattle.pb_propagate.proofs.lemmas.engine.Choices.{total-fits, total-within, only-true}
 
 -- a literal and its negation
 pub true_at-not : (a : ℕ → Bool) (v : ℕ) (n : Bool) → true_at a v (not n) ≡ not (true_at a v n)

@@ -1,24 +1,9 @@
 -- The rules accept what the outcomes accept.
-use Rattle.std.specs.Prelude.{Option, Some, None, Ok, ℤ, set}
-use Rattle.std.proofs.Common.{ℕ, List, [], ◌∷◌, length, refl, sym, subst, inl}
-use Rattle.pb_sums.specs.declared.Literal.{Literal}
-use Rattle.pb_sums.specs.declared.Term.{Term}
-use Rattle.pb_proof.specs.declared.Bound.{Bound}
-use Rattle.pb_proof.specs.declared.Bound.TheVariants.{Finite, Infinite}
-use Rattle.pb_proof.specs.declared.Conclusion.{Conclusion}
-use Rattle.pb_proof.specs.declared.Conclusion.TheVariants.{NoClaim, Unsat, Sat, Bounds}
-use Rattle.pb_proof.specs.declared.Statement.{Statement}
-use Rattle.pb_proof.specs.declared.Statement.TheVariants.{Header, F, Pol, Rup, Soli, Solx, Delete, Output, Conclude, End}
-use Rattle.pb_proof.specs.meaning.Postfix.{Tree, Constraint, LiteralAxiom, Sum, Product, Quotient, Saturation, Weakening, words}
-use Rattle.pb_normal.specs.meaning.Form.{Form}
-use Rattle.pb_normal.specs.meaning.Names.{with_names}
-use Rattle.pb_normal.specs.declared.numbered.NumberedLiteral.{NumberedLiteral}
-use Rattle.pb_replay.specs.meaning.Answer.{Answer}
-use Rattle.pb_replay.specs.meaning.Conclusions.{Concludes, lower_bound, upper_bound, contradicted}
-use Rattle.pb_replay.specs.meaning.Problem.{Problem}
-use Rattle.pb_replay.specs.meaning.Replay.{State, Logged, FormOfExpression, Completed, Deleted, numbered, place}
-use Rattle.pb_propagate.specs.meaning.Propagation.{Live}
-use Rattle.pb_replay.specs.meaning.Statements.{Does, Outcome, mentioned}
+use Rattle.pb_replay.proofs.Common.{ℕ, ℤ, ◌∷◌, [], inl, length, List, None, refl, set, Some, subst, sym, Ok, Option, NumberedLiteral, Form}
+use Rattle.pb_replay.proofs.Common.{with_names, Bound, Finite, Infinite, Conclusion, Bounds, NoClaim, Sat, Unsat, Statement, Conclude, Delete, End, F}
+use Rattle.pb_replay.proofs.Common.{Header, Output, Pol, Rup, Soli, Solx, Constraint, LiteralAxiom, Product, Quotient, Saturation, Sum, Tree}
+use Rattle.pb_replay.proofs.Common.{Weakening, words, Live, Literal, Term, Answer, Concludes, contradicted, lower_bound, upper_bound, Problem}
+use Rattle.pb_replay.proofs.Common.{Completed, Deleted, FormOfExpression, Logged, numbered, place, State, Does, mentioned, Outcome}
 use Rattle.pb_replay.specs.contract.Rules.{HasForm, constraint, literal, sum, product, quotient, saturation, weakening, IsSolvedBy, Deletes, none, one, HasContradiction, some, named, unnamed, named_one, IsLower, infinite, finite, IsUpper, unbounded, by_shown, by_logged, IsJustified, no_claim, unsat, sat_shown, sat_logged, bounds, with_form, Rule, header, formula, pol, rup, soli, solx, delete, output, conclude, end, Step, RulesAreOutcomes}
 use Rattle.pb_replay.proofs.lemmas.meaning.Accepting.{ok-same, needed, followed, eached}
 

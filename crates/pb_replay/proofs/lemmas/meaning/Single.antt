@@ -1,40 +1,16 @@
 -- Answers have at most one value or fault
-use Rattle.std.specs.Prelude.{Result, Ok, Err, Contains, Option, Some, None, ℤ, set, unsigned_abs}
-use Rattle.std.proofs.Common.{◌≡◌, ℕ, ◌<◌, Bool, true, false, List, [], ◌∷◌, ◌++◌, length, sym, ◌∙◌, ap, arith, inl, inr, pos, ◌-ℤ◌}
-use Rattle.std.proofs.lemmas.Bool.{cases_order}
-use Rattle.std.proofs.lemmas.List.{ext_get_or}
-use Rattle.std.proofs.lemmas.Option.{same_Some}
-use Rattle.pb_sums.specs.declared.Literal.{Literal}
-use Rattle.pb_sums.specs.declared.Term.{Term}
-use Rattle.pb_sums.specs.declared.Linear.{Linear}
-use Rattle.pb_proof.specs.declared.Bound.{Bound}
-use Rattle.pb_proof.specs.declared.Bound.TheVariants.{Finite, Infinite}
-use Rattle.pb_proof.specs.declared.Conclusion.{Conclusion}
-use Rattle.pb_proof.specs.declared.Conclusion.TheVariants.{NoClaim, Unsat, Sat, Bounds}
-use Rattle.pb_proof.specs.declared.Statement.{Statement}
-use Rattle.pb_proof.specs.declared.Statement.TheVariants.{Header, F, Pol, Rup, Soli, Solx, Delete, Output, Conclude, End}
-use Rattle.pb_proof.specs.meaning.Postfix.{Tree, Constraint, LiteralAxiom, Sum, Product, Quotient, Saturation, Weakening, words}
-use Rattle.pb_normal.specs.declared.numbered.NumberedLiteral.{NumberedLiteral}
-use Rattle.pb_normal.specs.declared.Side.{Side}
+use Rattle.pb_replay.proofs.Common.{ℕ, ℤ, ◌++◌, ◌-ℤ◌, ◌<◌, ◌∙◌, ◌∷◌, ◌≡◌, [], ap, arith, Bool, Err, false, inl, inr, length, List, None, pos, set}
+use Rattle.pb_replay.proofs.Common.{Some, sym, true, unsigned_abs, Contains, Ok, Option, Result, cases_order, ext_get_or, same_Some, IsFormOf-unique}
+use Rattle.pb_replay.proofs.Common.{same_forms, Side, NumberedLiteral, AreFormsOf, sides_in, Form, with_names, IsSum, multiplied, on, Bound, Finite}
+use Rattle.pb_replay.proofs.Common.{Infinite, Conclusion, Bounds, NoClaim, Sat, Unsat, Statement, Conclude, Delete, End, F, Header, Output, Pol, Rup}
+use Rattle.pb_replay.proofs.Common.{Soli, Solx, Constraint, LiteralAxiom, Product, Quotient, Saturation, Sum, Tree, Weakening, words, completion-one}
+use Rattle.pb_replay.proofs.Common.{Live, Linear, Literal, Term, ok_or_err, same_err, IsSingle, OpeningsAreSingle, OutcomesAreSingle, Fault, after}
+use Rattle.pb_replay.proofs.Common.{Answer, each_below, found, gives, need, some, Concludes, lower_bound, named, none_left, objective_with}
+use Rattle.pb_replay.proofs.Common.{upper_bound, FitsAll, names_in, Problem, added, AreValues, Completed, Deleted, Excludes, FormOfExpression}
+use Rattle.pb_replay.proofs.Common.{HasValue, IsLive, Logged, logged_of, normal_form, numbered, place, Shown, Solution, State, Does, mentioned}
 use Rattle.pb_normal.specs.declared.Side.TheVariants.{AtLeast as least, AtMost as most}
-use Rattle.pb_normal.specs.meaning.Constraints.{AreFormsOf, sides_in}
-use Rattle.pb_normal.specs.meaning.Form.{Form}
-use Rattle.pb_normal.specs.meaning.Names.{with_names}
-use Rattle.pb_replay.specs.declared.fault.Fault.{Fault}
-use Rattle.pb_replay.specs.meaning.Replay.{Logged}
-use Rattle.pb_replay.specs.meaning.Answer.{Answer, gives, need, each_below, found, some, after}
-use Rattle.pb_normal.specs.meaning.Rules.{IsSum, multiplied, on}
 use Rattle.pb_normal.proofs.lemmas.rules.Unique.{IsSum-unique, IsRising-same, same_form}
-use Rattle.pb_normal.proofs.lemmas.names.WrittenForms.{IsFormOf-unique, same_forms}
-use Rattle.pb_replay.specs.meaning.Problem.{Problem, FitsAll, names_in}
-use Rattle.pb_replay.specs.meaning.Replay.{State, IsLive, place, FormOfExpression, normal_form, HasValue, AreValues, Solution, Completed, Shown, logged_of, Excludes, Deleted, added, numbered}
-use Rattle.pb_propagate.specs.meaning.Propagation.{Live}
-use Rattle.pb_replay.specs.meaning.Conclusions.{none_left, named, objective_with, lower_bound, upper_bound, Concludes}
-use Rattle.pb_replay.specs.meaning.Statements.{Does, mentioned}
-use Rattle.pb_replay.specs.contract.Laws.{IsSingle, OpeningsAreSingle, OutcomesAreSingle}
 use Rattle.pb_replay.proofs.lemmas.meaning.Accepting.{ok-same}
-use Rattle.pb_text.proofs.lemmas.text.Results.{ok_or_err, same_err}
-use Rattle.pb_propagate.proofs.lemmas.engine.Completing.{completion-one}
 use Rattle.pb_proof.proofs.lemmas.Pol.Postfix.{words_report}
 
 Excludes-unique : (given : List NumberedLiteral) (r s : Form) → Excludes given r → Excludes given s → r ≡ s

@@ -1,39 +1,20 @@
 -- Every accepted statement preserves what is true of a state
-use Rattle.std.specs.Prelude.{Option, Some, None, Ok, ℤ, set, All}
-use Rattle.std.proofs.Common.{◌≡◌, ◌⊎◌, ℕ, ◌<◌, Bool, List, [], ◌∷◌, ◌++◌, length, refl, arith, inl, inr, pos, negsuc, ◌+ℤ◌, ◌-ℤ◌, ◌≤ℤ◌, append-nil, sym}
-use Rattle.std.proofs.lemmas.Bool.{cases_lt}
-use Rattle.std.proofs.lemmas.Int.{ints}
-use Rattle.std.proofs.lemmas.List.Elements.{Contains-push, Contains-append_left, Contains-push_cases, All-head, All-tail, All-nil, All-cons}
-use Rattle.std.proofs.lemmas.Option.{none-some, same_Some}
-use Rattle.pb_sums.specs.declared.Term.{Term}
-use Rattle.pb_proof.specs.declared.PolWord.TheVariants.{Divide}
-use Rattle.pb_proof.specs.declared.Statement.{Statement}
-use Rattle.pb_proof.specs.declared.Statement.TheVariants.{Header, F, Pol, Rup, Soli, Solx, Delete, Output, Conclude, End}
-use Rattle.pb_proof.specs.meaning.Postfix.{Tree, Constraint, LiteralAxiom, Sum, Product, Quotient, Saturation, Weakening, words}
-use Rattle.pb_proof.specs.contract.Values.{IsWord, IsStatementValue}
-use Rattle.pb_proof.specs.declared.Stage.{Stage}
-use Rattle.pb_proof.specs.declared.Stage.TheVariants.{Formula, Steps, Concluding, Closing, Complete}
+use Rattle.pb_replay.proofs.Common.{ℕ, ℤ, ◌++◌, ◌+ℤ◌, ◌-ℤ◌, ◌<◌, ◌∷◌, ◌≡◌, ◌≤ℤ◌, ◌⊎◌, [], All, append-nil, arith, Bool, inl, inr, length, List}
+use Rattle.pb_replay.proofs.Common.{negsuc, None, pos, refl, set, Some, sym, Ok, Option, cases_lt, ints, All-cons, All-head, All-nil, All-tail}
+use Rattle.pb_replay.proofs.Common.{Contains-append_left, Contains-push, Contains-push_cases, none-some, same_Some, distinct, Form, total, true_at}
+use Rattle.pb_replay.proofs.Common.{AreDistinct, with_names, assignment, IsSideOf, true_sum, IsStatementValue, IsWord, Divide, Stage, Closing}
+use Rattle.pb_replay.proofs.Common.{Complete, Concluding, Formula, Steps, Statement, Conclude, Delete, End, F, Header, Output, Pol, Rup, Soli, Solx}
+use Rattle.pb_replay.proofs.Common.{Constraint, LiteralAxiom, Product, Quotient, Saturation, Sum, Tree, Weakening, words, contains-none, HoldAll}
+use Rattle.pb_replay.proofs.Common.{Live, Term, FirstIsSound, StatementsAreSound, objective_with, verdict_of, Accounted, allowed, beaten}
+use Rattle.pb_replay.proofs.Common.{IsNamePrefix, IsProblem, IsSolution, IsSound, known, Problem, by_name, Deleted, Logged, numbered, place, State}
+use Rattle.pb_replay.proofs.Common.{value, Accepts, Does, mentioned}
 use Rattle.pb_normal.specs.declared.Side.TheVariants.{AtMost as most}
-use Rattle.pb_normal.specs.meaning.Form.{Form, total, true_at}
-use Rattle.pb_normal.specs.meaning.Names.{AreDistinct, with_names}
-use Rattle.pb_normal.specs.meaning.Rules.{assignment}
-use Rattle.pb_normal.specs.meaning.Written.{true_sum, IsSideOf}
-use Rattle.pb_normal.proofs.lemmas.names.Appearing.{distinct}
-use Rattle.pb_replay.specs.meaning.Replay.{Logged}
-use Rattle.pb_replay.specs.meaning.Problem.{Problem}
-use Rattle.pb_propagate.specs.meaning.Propagation.{HoldAll, Live}
-use Rattle.pb_replay.specs.meaning.Replay.{State, value, by_name, Deleted, place, numbered}
-use Rattle.pb_replay.specs.meaning.Conclusions.{objective_with, verdict_of}
-use Rattle.pb_replay.specs.meaning.Statements.{Does, Accepts, mentioned}
-use Rattle.pb_replay.specs.meaning.Meaning.{IsSolution, Accounted, known, beaten, allowed, IsNamePrefix, IsSound, IsProblem}
-use Rattle.pb_replay.specs.contract.Laws.{FirstIsSound, StatementsAreSound}
 use Rattle.pb_replay.proofs.lemmas.meaning.Accepting.{needed, followed, ok-same}
 use Rattle.pb_replay.proofs.lemmas.rules.Living.{Live-deleted, Live-loaded, HoldAll-added}
 use Rattle.pb_replay.proofs.lemmas.names.Naming.{IsNamePrefix-more, length-prefix, side-holds, value-over}
 use Rattle.pb_replay.proofs.lemmas.meaning.Propagating.{IsRup-holds}
 use Rattle.pb_replay.proofs.lemmas.meaning.Trees.{HasDivisors, FormOfExpression-holds}
 use Rattle.pb_replay.proofs.lemmas.solutions.Solutions.{Completed-taken, taken-known, clause-fails}
-use Rattle.pb_propagate.proofs.lemmas.store.Gets.{contains-none}
 use Rattle.pb_replay.proofs.lemmas.conclusions.Concluded.{Concludes-means, objective-numbers}
 
 pub first-sound : FirstIsSound

@@ -1,14 +1,8 @@
 -- The form of an expression holds wherever the live forms do
-use Rattle.std.specs.Prelude.{Option, Ok, ℤ, pos, ◌≤ℤ◌, unsigned_abs}
-use Rattle.std.proofs.Common.{ℕ, ◌<◌, Bool, List, arith}
-use Rattle.std.proofs.lemmas.Int.{ints}
-use Rattle.pb_proof.specs.meaning.Postfix.{Tree, Constraint, LiteralAxiom, Sum, Product, Quotient, Saturation, Weakening}
-use Rattle.pb_normal.specs.meaning.Form.{Form, Holds}
-use Rattle.pb_normal.proofs.lemmas.terms.Maps.{Holds-divided, Holds-weakened}
+use Rattle.pb_replay.proofs.Common.{ℕ, ℤ, ◌<◌, ◌≤ℤ◌, arith, Bool, List, pos, unsigned_abs, Ok, Option, ints, Holds-sum, Holds-divided, Holds-weakened}
+use Rattle.pb_replay.proofs.Common.{Form, Holds, Constraint, LiteralAxiom, Product, Quotient, Saturation, Sum, Tree, Weakening, HoldAll, Live}
+use Rattle.pb_replay.proofs.Common.{FormOfExpression}
 use Rattle.pb_normal.proofs.lemmas.rules.Scales.{Holds-multiplied, Holds-saturated}
-use Rattle.pb_normal.proofs.lemmas.rules.Sums.{Holds-sum}
-use Rattle.pb_propagate.specs.meaning.Propagation.{HoldAll, Live}
-use Rattle.pb_replay.specs.meaning.Replay.{FormOfExpression}
 use Rattle.pb_replay.proofs.lemmas.meaning.Accepting.{needed, followed, ok-same}
 use Rattle.pb_replay.proofs.lemmas.rules.Living.{IsLive-live}
 

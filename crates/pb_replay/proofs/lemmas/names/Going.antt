@@ -1,26 +1,10 @@
 -- From the state after a statement's names have appeared to the state before
-use Rattle.std.specs.Prelude.{Result, Ok, Err, Option, Some, ℤ}
-use Rattle.std.proofs.Common.{◌≡◌, ℕ, List, [], ◌∷◌, ◌++◌, sym, ◌∙◌, inl, inr, subst, pos, ◌-ℤ◌}
-use Rattle.std.proofs.lemmas.Option.{same_Some}
-use Rattle.pb_text.specs.meaning.Limits.{largest, top_of}
-use Rattle.pb_text.specs.declared.Limits.{Limits}
-use Rattle.pb_proof.specs.declared.Statement.{Statement}
-use Rattle.pb_normal.specs.meaning.Constraints.{Fits}
-use Rattle.pb_normal.specs.meaning.Form.{Form}
-use Rattle.pb_replay.specs.declared.fault.Fault.{Fault}
-use Rattle.pb_replay.specs.declared.fault.Fault.TheVariants.{NoObjective, Overflow}
-use Rattle.pb_replay.specs.declared.state.Running.{Running}
-use Rattle.pb_sums.specs.declared.Term.{Term}
+use Rattle.pb_replay.proofs.Common.{ℕ, ℤ, ◌++◌, ◌-ℤ◌, ◌∙◌, ◌∷◌, ◌≡◌, [], Err, inl, inr, List, pos, Some, subst, sym, Ok, Option, Result, same_Some}
+use Rattle.pb_replay.proofs.Common.{Side, Fits, Form, IsSideOf, Statement, Term, Limits, largest, top_of, Adding, does_in, Goes, GoesAt, HasNamed}
+use Rattle.pb_replay.proofs.Common.{IsBest, IsBetter, IsProper, Keeps, Logs, problem_of, state_of, with_mentioned, Fault, NoObjective, Overflow}
+use Rattle.pb_replay.proofs.Common.{Running, Demands, HasObjective, objective_with, Problem, added, Logged, normal_form, State, Does, mentioned}
 use Rattle.pb_normal.specs.declared.Side.TheVariants.{AtMost as most}
-use Rattle.pb_normal.specs.declared.Side.{Side}
-use Rattle.pb_normal.specs.meaning.Written.{IsSideOf}
 use Rattle.pb_replay.proofs.lemmas.meaning.Accepting.{ok-same}
-use Rattle.pb_replay.specs.engine.Bounds.{Demands, HasObjective}
-use Rattle.pb_replay.specs.meaning.Conclusions.{objective_with}
-use Rattle.pb_replay.specs.meaning.Problem.{Problem}
-use Rattle.pb_replay.specs.meaning.Replay.{Logged, State, added, normal_form}
-use Rattle.pb_replay.specs.contract.ReplayModel.{Adding, Goes, GoesAt, HasNamed, IsBest, IsBetter, IsProper, Keeps, Logs, problem_of, does_in, state_of, with_mentioned}
-use Rattle.pb_replay.specs.meaning.Statements.{Does, mentioned}
 use Rattle.pb_replay.proofs.lemmas.conclusions.Best.{best-push}
 use Rattle.pb_replay.proofs.lemmas.rules.Carrying.{carries-from}
 use Rattle.pb_replay.proofs.lemmas.rules.Ready.{same_problem}

@@ -1,16 +1,8 @@
 -- Names that have numbers once they have appeared
-use Rattle.std.specs.Prelude.{All, true}
-use Rattle.std.proofs.Common.{◌≡◌, ℕ, zero, suc, ◌+◌, ◌<◌, List, [], ◌∷◌, ◌++◌, length, get_or, take, refl, sym, ◌∙◌, ap, arith, subst}
-use Rattle.std.proofs.lemmas.List.Elements.{All-push}
-use Rattle.pb_sums.specs.declared.Literal.{Literal}
-use Rattle.pb_proof.specs.declared.PolWord.{PolWord}
-use Rattle.pb_normal.specs.meaning.Names.{has_name, HasNames, number_in, with_name, with_names}
-use Rattle.pb_normal.proofs.lemmas.names.Appearing.{named, in_turn}
-use Rattle.pb_normal.proofs.lemmas.names.Numbering.{number_in-below}
-use Rattle.pb_text.proofs.lemmas.text.Lists.{take_read}
-use Rattle.pb_normal.specs.declared.numbered.NumberedLiteral.{NumberedLiteral}
-use Rattle.pb_replay.specs.meaning.Replay.{numbered, numbered_one}
-use Rattle.pb_replay.specs.meaning.Statements.{literal_names, word_names}
+use Rattle.pb_replay.proofs.Common.{ℕ, ◌++◌, ◌+◌, ◌<◌, ◌∙◌, ◌∷◌, ◌≡◌, [], All, ap, arith, get_or, length, List, refl, subst, suc, sym, take, true}
+use Rattle.pb_replay.proofs.Common.{zero, All-push, in_turn, number_in-below, NumberedLiteral, has_name, HasNames, number_in, with_name, with_names}
+use Rattle.pb_replay.proofs.Common.{PolWord, Literal, take_read, numbered, numbered_one, literal_names, word_names}
+use Rattle.pb_normal.proofs.lemmas.names.Appearing.{named}
 
 pub words_named : (old new : List (List ℕ)) (ws vs us : List PolWord) → new ≡ with_names old (word_names ws) → ws ≡ us → vs ≡ us → HasNames new (word_names vs)
 words_named old new ws vs us e f g = rw (e, g, ← f) (named old (word_names ws))

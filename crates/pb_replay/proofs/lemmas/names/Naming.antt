@@ -1,21 +1,9 @@
 -- Assignments of names, and of their numbers
-use Rattle.std.specs.Prelude.{Option, Some, ℤ, ◌↔◌, All}
-use Rattle.std.proofs.Common.{◌≡◌, ℕ, ◌<◌, ◌≤◌, Bool, true, false, not, cond, List, [], ◌∷◌, ◌++◌, length, get_or, refl, sym, ◌∙◌, ap, arith, append_assoc, length-append, pos}
-use Rattle.std.proofs.lemmas.List.Elements.{All-head, All-tail}
-use Rattle.std.proofs.lemmas.Option.{slice_get-get_or}
-use Rattle.pb_sums.specs.declared.Term.{Term}
-use Rattle.pb_sums.specs.declared.Linear.{Linear}
-use Rattle.pb_normal.specs.declared.entry.Entry.{Entry}
-use Rattle.pb_normal.specs.declared.Side.{Side}
-use Rattle.pb_normal.specs.meaning.Form.{Form, Holds, total, true_at}
-use Rattle.pb_normal.specs.meaning.Names.{has_name, AreDistinct, HasNames, number_in, with_names}
-use Rattle.pb_normal.specs.meaning.Written.{names_of, true_sum, IsSideOf, MeetsSide, by_number}
-use Rattle.pb_normal.proofs.lemmas.names.Appearing.{prefix}
-use Rattle.pb_normal.proofs.lemmas.names.Numbering.{number_in-append, number_in-below, number_in-get}
-use Rattle.pb_normal.proofs.lemmas.names.WrittenForms.{SameSolutions-side}
-use Rattle.pb_replay.specs.meaning.Problem.{Problem, objective_of}
-use Rattle.pb_replay.specs.meaning.Replay.{by_name, value}
-use Rattle.pb_replay.specs.meaning.Meaning.{IsNamePrefix, IsProblem}
+use Rattle.pb_replay.proofs.Common.{ℕ, ℤ, ◌++◌, ◌<◌, ◌∙◌, ◌∷◌, ◌≡◌, ◌≤◌, [], All, ap, append_assoc, arith, Bool, cond, false, get_or, length}
+use Rattle.pb_replay.proofs.Common.{length-append, List, not, pos, refl, Some, sym, true, ◌↔◌, Option, All-head, All-tail, slice_get-get_or, prefix}
+use Rattle.pb_replay.proofs.Common.{number_in-append, number_in-below, number_in-get, SameSolutions-side, Side, Entry, Form, Holds, total, true_at}
+use Rattle.pb_replay.proofs.Common.{AreDistinct, has_name, HasNames, number_in, with_names, by_number, IsSideOf, MeetsSide, names_of, true_sum}
+use Rattle.pb_replay.proofs.Common.{Linear, Term, IsNamePrefix, IsProblem, objective_of, Problem, by_name, value}
 
 -- a prefix of the names stays one when more appear
 pub IsNamePrefix-more : (names all others : List (List ℕ)) → IsNamePrefix names all

@@ -1,7 +1,5 @@
 -- A name that has a number is found.
-use Rattle.std.specs.Prelude.{Option, Some, None}
-use Rattle.std.proofs.Common.{◌≡◌, ℕ, Bool, true, cond, List, sym, ◌∙◌, ap}
-use Rattle.pb_normal.specs.meaning.Names.{has_name, number_in}
+use Rattle.pb_replay.proofs.Common.{ℕ, ◌∙◌, ◌≡◌, ap, Bool, cond, List, None, Some, sym, true, Option, has_name, number_in}
 
 pub position-none : (names : List (List ℕ)) (name : List ℕ) (o : Option ℕ) → has_name names name ≡ true → o ≡ cond (has_name names name) (Some (number_in names name)) None → o ≡ None → ⊥
 position-none names name o has e none =

@@ -1,40 +1,16 @@
 -- A name that gets no value existed before the statement.
-use Rattle.std.specs.Prelude.{Result, Err, Option, Some, None, ℤ, set}
-use Rattle.std.proofs.Common.{◌≡◌, ℕ, ◌+◌, ◌<◌, ◌≤◌, Bool, true, false, cond, List, [], ◌∷◌, ◌++◌, length, get_or, refl, sym, ◌∙◌, ap, arith, inl, inr, length-append, pos, ◌-ℤ◌}
-use Rattle.std.proofs.lemmas.Bool.{cases_lt, or_left, or_right}
-use Rattle.std.proofs.Math.Seq.{get_or-append_seam}
-use Rattle.std.proofs.lemmas.List.{get_or_append_left}
-use Rattle.std.proofs.lemmas.Option.{slice_get-get_or}
-use Rattle.pb_sums.specs.declared.Literal.{Literal}
-use Rattle.pb_normal.specs.declared.numbered.NumberedLiteral.{NumberedLiteral}
-use Rattle.pb_normal.specs.meaning.Form.{Form}
-use Rattle.pb_normal.specs.meaning.Names.{has_name, AreDistinct, number_in, with_name, with_names}
-use Rattle.pb_normal.proofs.lemmas.names.Appearing.{prefix, distinct}
-use Rattle.pb_normal.proofs.lemmas.names.Numbering.{number_in-get}
-use Rattle.pb_replay.specs.declared.fault.Fault.{Fault}
+use Rattle.pb_replay.proofs.Common.{ℕ, ℤ, ◌++◌, ◌+◌, ◌-ℤ◌, ◌<◌, ◌∙◌, ◌∷◌, ◌≡◌, ◌≤◌, [], ap, arith, Bool, cond, Err, false, get_or, inl, inr, length}
+use Rattle.pb_replay.proofs.Common.{length-append, List, None, pos, refl, set, Some, sym, true, Option, Result, get_or-append_seam, cases_lt, or_left}
+use Rattle.pb_replay.proofs.Common.{or_right, get_or_append_left, slice_get-get_or, distinct, prefix, number_in-get, Side, NumberedLiteral, Form}
+use Rattle.pb_replay.proofs.Common.{AreDistinct, has_name, number_in, with_name, with_names, IsSum, on, only, Bound, Finite, Infinite, Conclusion}
+use Rattle.pb_replay.proofs.Common.{Bounds, NoClaim, Sat, Unsat, Statement, Conclude, Delete, End, F, Header, Output, Pol, Rup, Soli, Solx}
+use Rattle.pb_replay.proofs.Common.{Constraint, LiteralAxiom, Product, Quotient, Saturation, Sum, Tree, Weakening, words, only-self, derivation-keeps}
+use Rattle.pb_replay.proofs.Common.{Live, Linear, Literal, Term, UnvaluedAreOld, UnvaluedMayWant, Fault, after, Answer, found, gives, need, some}
+use Rattle.pb_replay.proofs.Common.{Concludes, lower_bound, named, none_left, objective_with, upper_bound, Problem, added, Completed, Deleted}
+use Rattle.pb_replay.proofs.Common.{Excludes, FormOfExpression, HasValue, IsLive, limited, Logged, normal_form, numbered, place, Shown, State, Does}
+use Rattle.pb_replay.proofs.Common.{literal_names, MayWant, mentioned, PassesFirst}
 use Rattle.pb_replay.specs.declared.fault.Fault.TheVariants as fault
-use Rattle.pb_replay.specs.meaning.Replay.{State, IsLive, place, FormOfExpression, limited, normal_form, HasValue, Completed, Shown, Excludes, Deleted, added, numbered}
-use Rattle.pb_propagate.specs.meaning.Propagation.{Live}
-use Rattle.pb_replay.specs.meaning.Statements.{Does, MayWant, PassesFirst, literal_names, mentioned}
-use Rattle.pb_sums.specs.declared.Term.{Term}
-use Rattle.pb_sums.specs.declared.Linear.{Linear}
-use Rattle.pb_proof.specs.declared.Bound.{Bound}
-use Rattle.pb_proof.specs.declared.Bound.TheVariants.{Finite, Infinite}
-use Rattle.pb_proof.specs.declared.Conclusion.{Conclusion}
-use Rattle.pb_proof.specs.declared.Conclusion.TheVariants.{NoClaim, Unsat, Sat, Bounds}
-use Rattle.pb_proof.specs.declared.Statement.{Statement}
-use Rattle.pb_proof.specs.declared.Statement.TheVariants.{Header, F, Pol, Rup, Soli, Solx, Delete, Output, Conclude, End}
-use Rattle.pb_proof.specs.meaning.Postfix.{Tree, Constraint, LiteralAxiom, Sum, Product, Quotient, Saturation, Weakening, words}
-use Rattle.pb_normal.specs.declared.Side.{Side}
 use Rattle.pb_normal.specs.declared.Side.TheVariants.{AtLeast as least, AtMost as most}
-use Rattle.pb_normal.specs.meaning.Rules.{IsSum, only, on}
-use Rattle.pb_replay.specs.meaning.Replay.{Logged}
-use Rattle.pb_replay.specs.meaning.Answer.{Answer, gives, need, found, some, after}
-use Rattle.pb_replay.specs.meaning.Problem.{Problem}
-use Rattle.pb_replay.specs.meaning.Conclusions.{none_left, named, objective_with, lower_bound, upper_bound, Concludes}
-use Rattle.pb_replay.specs.contract.Laws.{UnvaluedAreOld, UnvaluedMayWant}
-use Rattle.pb_propagate.proofs.lemmas.engine.Completing.{derivation-keeps}
-use Rattle.pb_propagate.proofs.lemmas.engine.Choices.{only-self}
 
 -- at each new index is one of the names that appeared
 data Among (q : List ℕ) : List (List ℕ) → Type 0 where

@@ -1,15 +1,7 @@
 -- What holds whatever was logged
-use Rattle.std.specs.Prelude.{Result, Ok, Err, Option, ℤ}
-use Rattle.std.proofs.Common.{◌≡◌, ℕ, List, refl, sym, inl, inr, subst}
-use Rattle.pb_text.specs.meaning.Limits.{top_of}
-use Rattle.pb_proof.specs.meaning.Order.{stage_of}
-use Rattle.pb_proof.specs.declared.Statement.{Statement}
-use Rattle.pb_normal.specs.meaning.Form.{Form}
-use Rattle.pb_replay.specs.declared.fault.Fault.{Fault}
-use Rattle.pb_replay.specs.declared.state.Running.{Running}
-use Rattle.pb_replay.specs.meaning.Answer.{Answer}
-use Rattle.pb_replay.specs.meaning.Replay.{Logged, State, added}
-use Rattle.pb_replay.specs.contract.ReplayModel.{Adding, Carries, Comes, Goes, IsBest, does_in, outcome_in, state_of, with_mentioned}
+use Rattle.pb_replay.proofs.Common.{ℕ, ℤ, ◌≡◌, Err, inl, inr, List, refl, subst, sym, Ok, Option, Result, Form, Statement, stage_of, top_of, Adding}
+use Rattle.pb_replay.proofs.Common.{Carries, Comes, does_in, Goes, IsBest, outcome_in, state_of, with_mentioned, Fault, Running, Answer, added}
+use Rattle.pb_replay.proofs.Common.{Logged, State}
 
 -- by another answer
 pub carries-from : (old m : Running) (P Q : State → Answer State) → m.best ≡ old.best → ((logged : List Logged) (r : Result State Fault) → P (state_of m logged) r → Q (state_of old logged) r)

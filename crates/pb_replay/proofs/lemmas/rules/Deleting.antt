@@ -1,11 +1,6 @@
 -- `del id`
-use Rattle.std.specs.Prelude.{Result, Ok, Err, OnOk, IfErr, ℤ, false}
-use Rattle.std.proofs.Common.{◌≡◌, ℕ, List, length, refl, sym, ◌∙◌, ap, subst, inl, inr}
-use Rattle.pb_proof.specs.declared.Statement.TheVariants.{Delete}
-use Rattle.pb_replay.specs.declared.fault.Fault.{Fault}
-use Rattle.pb_replay.specs.declared.state.Running.{Running}
-use Rattle.pb_replay.specs.meaning.Replay.{Deleted, State}
-use Rattle.pb_replay.specs.contract.ReplayModel.{Goes, IsInside, IsLinked}
+use Rattle.pb_replay.proofs.Common.{ℕ, ℤ, ◌∙◌, ◌≡◌, ap, Err, false, inl, inr, length, List, refl, subst, sym, IfErr, Ok, OnOk, Result, Delete, Goes}
+use Rattle.pb_replay.proofs.Common.{IsInside, IsLinked, Fault, Running, Deleted, State}
 use Rattle.pb_replay.proofs.lemmas.rules.Carrying.{goes-ok, goes-err}
 use Rattle.pb_replay.proofs.lemmas.rules.States.{same-state}
 use Rattle.pb_replay.proofs.lemmas.meaning.Sound.{Deleted-live}

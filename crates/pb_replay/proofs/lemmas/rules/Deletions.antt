@@ -1,13 +1,6 @@
 -- Deleting ids in order
-use Rattle.std.specs.Prelude.{Result, Err, Option, None, ℤ, pos, set}
-use Rattle.std.proofs.Common.{◌≡◌, ℕ, ◌+◌, ◌<◌, List, ◌∷◌, length, get_or, drop, refl, sym, ◌∙◌, inl, inr, drop-cons}
-use Rattle.std.proofs.lemmas.Bool.{cases_lt}
-use Rattle.std.proofs.lemmas.List.{get_or_past, drop_more}
-use Rattle.std.proofs.lemmas.Option.{none-some}
-use Rattle.pb_normal.specs.meaning.Form.{Form}
-use Rattle.pb_replay.specs.declared.fault.Fault.{Fault}
-use Rattle.pb_replay.specs.declared.fault.Fault.TheVariants.{NoSuchId}
-use Rattle.pb_replay.specs.meaning.Replay.{Deleted, IsLive, place}
+use Rattle.pb_replay.proofs.Common.{ℕ, ℤ, ◌+◌, ◌<◌, ◌∙◌, ◌∷◌, ◌≡◌, drop, drop-cons, Err, get_or, inl, inr, length, List, None, pos, refl, set, sym}
+use Rattle.pb_replay.proofs.Common.{Option, Result, cases_lt, drop_more, get_or_past, none-some, Form, Fault, NoSuchId, Deleted, IsLive, place}
 
 -- a live id is in range
 pub inside : (live : List (Option Form)) (id : ℤ) (f : Form) → IsLive live id f → place (length live) id < length live

@@ -1,21 +1,8 @@
 -- The words so far, and those that are left
-use Rattle.std.specs.Prelude.{Result, Ok, Err, Option, reverse}
-use Rattle.std.proofs.Common.{◌≡◌, ℕ, ◌+◌, ◌-◌, ◌<◌, ◌≤◌, List, [], ◌∷◌, ◌++◌, length, take, drop, get_or, refl, sym, ◌∙◌, ap, arith, inl, inr, length-append}
-use Rattle.std.proofs.lemmas.List.{drop_more, drop_all}
-use Rattle.pb_proof.specs.declared.PolWord.{PolWord}
-use Rattle.pb_proof.specs.declared.PolWord.TheVariants.{Id, Axiom, Add, Multiply, Divide, Saturate, Weaken}
-use Rattle.pb_proof.specs.meaning.Postfix.{IsPostfix, words}
-use Rattle.pb_normal.specs.meaning.Form.{Form}
-use Rattle.pb_normal.specs.meaning.Names.{HasNames, with_names}
-use Rattle.pb_normal.proofs.lemmas.names.Appearing.{prefix, in_turn}
-use Rattle.pb_text.proofs.lemmas.text.Lists.{take_read}
-use Rattle.pb_replay.specs.declared.fault.Fault.{Fault}
-use Rattle.pb_replay.specs.meaning.Answer.{some}
-use Rattle.pb_replay.specs.meaning.Meaning.{IsNamePrefix}
-use Rattle.pb_replay.specs.meaning.Replay.{FormOfExpression}
-use Rattle.pb_replay.specs.engine.Stack.{Word, Words}
-use Rattle.pb_proof.specs.contract.Leaving.{takes, Leaves}
-use Rattle.pb_replay.specs.meaning.Statements.{word_names}
+use Rattle.pb_replay.proofs.Common.{ℕ, ◌++◌, ◌+◌, ◌-◌, ◌<◌, ◌∙◌, ◌∷◌, ◌≡◌, ◌≤◌, [], ap, arith, drop, Err, get_or, inl, inr, length, length-append}
+use Rattle.pb_replay.proofs.Common.{List, refl, sym, take, Ok, Option, Result, reverse, drop_all, drop_more, in_turn, prefix, Form, HasNames}
+use Rattle.pb_replay.proofs.Common.{with_names, Leaves, takes, PolWord, Add, Axiom, Divide, Id, Multiply, Saturate, Weaken, IsPostfix, words}
+use Rattle.pb_replay.proofs.Common.{take_read, Fault, Word, Words, some, IsNamePrefix, FormOfExpression, word_names}
 use Rattle.pb_replay.proofs.lemmas.rules.Made.{last_first}
 use Rattle.pb_replay.proofs.lemmas.rules.Stacks.{leaves-one, tree-leaves, tree-fails}
 

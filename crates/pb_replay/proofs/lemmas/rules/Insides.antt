@@ -1,22 +1,9 @@
 -- The form of an expression lies within the names
-use Rattle.std.specs.Prelude.{Ok, Option, unsigned_abs}
-use Rattle.std.specs.Int.{div_ceil}
-use Rattle.std.proofs.Common.{ℕ, ◌*◌, ◌<◌, ◌==◌, not, nat_lt, min, List, [], ◌∷◌, ◌++◌, length, map, sym, subst}
-use Rattle.std.proofs.lemmas.List.Elements.{All-cons, All-nil}
-use Rattle.pb_proof.specs.declared.PolWord.{PolWord}
-use Rattle.pb_proof.specs.declared.PolWord.TheVariants.{Add, Divide, Multiply, Saturate, Weaken}
-use Rattle.pb_proof.specs.meaning.Postfix.{Tree, Constraint, LiteralAxiom, Sum, Product, Quotient, Saturation, Weakening, words}
-use Rattle.pb_normal.specs.declared.entry.Entry.{Entry}
-use Rattle.pb_normal.specs.meaning.Form.{Form}
-use Rattle.pb_normal.specs.meaning.Names.{HasNames, number_in}
-use Rattle.pb_normal.specs.meaning.Rules.{multiplied, divided, saturated, weakened, with_coefficient}
-use Rattle.pb_normal.proofs.lemmas.names.Appearing.{names_split}
+use Rattle.pb_replay.proofs.Common.{ℕ, ◌*◌, ◌++◌, ◌<◌, ◌==◌, ◌∷◌, [], length, List, map, min, nat_lt, not, subst, sym, unsigned_abs, Ok, Option}
+use Rattle.pb_replay.proofs.Common.{All-cons, All-nil, div_ceil, names_split, number_in-below, Entry, Form, HasNames, number_in, divided, multiplied}
+use Rattle.pb_replay.proofs.Common.{saturated, weakened, with_coefficient, PolWord, Add, Divide, Multiply, Saturate, Weaken, Constraint, LiteralAxiom}
+use Rattle.pb_replay.proofs.Common.{Product, Quotient, Saturation, Sum, Tree, Weakening, words, Live, IsInside, FormOfExpression, word_names}
 use Rattle.pb_normal.proofs.lemmas.rules.Keeps.{IsOver-sum, IsOver-mapped, IsOver-filtered, IsOver-below}
-use Rattle.pb_normal.proofs.lemmas.names.Numbering.{number_in-below}
-use Rattle.pb_replay.specs.meaning.Replay.{FormOfExpression}
-use Rattle.pb_propagate.specs.meaning.Propagation.{Live}
-use Rattle.pb_replay.specs.contract.ReplayModel.{IsInside}
-use Rattle.pb_replay.specs.meaning.Statements.{word_names}
 use Rattle.pb_replay.proofs.lemmas.meaning.Accepting.{needed, followed, ok-same}
 use Rattle.pb_replay.proofs.lemmas.rules.Evaluation.{word_names-append}
 use Rattle.pb_replay.proofs.lemmas.rules.Living.{IsLive-live}

@@ -1,14 +1,6 @@
 -- The variables that every live form lies within
-use Rattle.std.specs.Prelude.{Option, Some, Contains, false}
-use Rattle.std.proofs.Common.{◌≡◌, ℕ, ◌≤◌, List, [], ◌∷◌, ◌++◌, length, map, ◌∙◌, ap, arith, inl, inr, subst, length-append}
-use Rattle.std.proofs.lemmas.List.Elements.{Contains-push_cases}
-use Rattle.std.proofs.lemmas.Option.{same_Some}
-use Rattle.pb_normal.specs.meaning.Form.{Form}
-use Rattle.pb_normal.specs.meaning.Names.{with_names}
-use Rattle.pb_normal.proofs.lemmas.names.Appearing.{prefix}
-use Rattle.pb_replay.specs.declared.state.Running.{Running}
-use Rattle.pb_propagate.specs.meaning.Propagation.{Live}
-use Rattle.pb_replay.specs.contract.ReplayModel.{IsInside, IsLinked}
+use Rattle.pb_replay.proofs.Common.{ℕ, ◌++◌, ◌∙◌, ◌∷◌, ◌≡◌, ◌≤◌, [], ap, arith, false, inl, inr, length, length-append, List, map, Some, subst}
+use Rattle.pb_replay.proofs.Common.{Contains, Option, Contains-push_cases, same_Some, prefix, Form, with_names, Live, IsInside, IsLinked, Running}
 use Rattle.pb_replay.proofs.lemmas.rules.Living.{Live-loaded}
 
 pub inside-more : (n m : ℕ) (f : Form) → n ≤ m → IsInside n f → IsInside m f

@@ -1,14 +1,8 @@
 -- The live forms after each change of their list
-use Rattle.std.specs.Prelude.{Contains, Option, Some, None, ℤ}
-use Rattle.std.proofs.Common.{◌≡◌, ℕ, ◌<◌, Bool, List, [], ◌∷◌, ◌++◌, length, get_or, set, map, sym, ◌∙◌, arith, inl, inr}
-use Rattle.std.proofs.lemmas.Bool.{cases_lt, cases_eq}
-use Rattle.std.proofs.lemmas.List.{get_or-set_same, get_or-set_other, length-set, get_or-map, length-map}
+use Rattle.pb_replay.proofs.Common.{ℕ, ℤ, ◌++◌, ◌<◌, ◌∙◌, ◌∷◌, ◌≡◌, [], arith, Bool, get_or, inl, inr, length, List, map, None, set, Some, sym}
+use Rattle.pb_replay.proofs.Common.{Contains, Option, cases_eq, cases_lt, get_or-map, get_or-set_other, get_or-set_same, length-map, length-set}
+use Rattle.pb_replay.proofs.Common.{Contains-get_or, Contains-push_cases, none-some, same_Some, Form, Holds, HoldAll, Live, IsLive, place}
 use Rattle.std.proofs.Math.ListN.{get_or-eq_default}
-use Rattle.std.proofs.lemmas.List.Elements.{Contains-get_or, Contains-push_cases}
-use Rattle.std.proofs.lemmas.Option.{none-some, same_Some}
-use Rattle.pb_normal.specs.meaning.Form.{Form, Holds}
-use Rattle.pb_propagate.specs.meaning.Propagation.{HoldAll, Live}
-use Rattle.pb_replay.specs.meaning.Replay.{IsLive, place}
 
 pub read-live : (live : List (Option Form)) (k : ℕ) (f : Form) → get_or live k None ≡ Some f → Live live f
 read-live live k f e =

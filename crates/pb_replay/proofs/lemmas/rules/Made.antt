@@ -1,18 +1,7 @@
 -- What one word does to a stack
-use Rattle.std.specs.Prelude.{Result, Ok, Err, IfOk, IfErr, Option, reverse}
-use Rattle.std.proofs.Common.{◌≡◌, ◌⊎◌, ℕ, List, [], ◌∷◌, ◌++◌, refl, ◌∙◌, ap, inl, inr}
-use Rattle.std.proofs.lemmas.List.{reverse-append}
-use Rattle.pb_sums.specs.declared.Literal.{Literal}
-use Rattle.pb_proof.specs.declared.PolWord.{PolWord}
-use Rattle.pb_proof.specs.declared.PolWord.TheVariants.{Axiom, Add, Saturate, Weaken}
-use Rattle.pb_normal.specs.meaning.Form.{Form}
-use Rattle.pb_normal.specs.meaning.Names.{number_in}
-use Rattle.pb_normal.specs.meaning.Rules.{IsSum, saturated, weakened, axiom_on}
-use Rattle.pb_replay.specs.declared.fault.Fault.{Fault}
-use Rattle.pb_replay.specs.declared.fault.Fault.TheVariants.{Memory}
-use Rattle.pb_replay.specs.meaning.Answer.{some}
-use Rattle.pb_replay.specs.meaning.Replay.{limited}
-use Rattle.pb_replay.specs.engine.Stack.{Word}
+use Rattle.pb_replay.proofs.Common.{ℕ, ◌++◌, ◌∙◌, ◌∷◌, ◌≡◌, ◌⊎◌, [], ap, Err, inl, inr, List, refl, IfErr, IfOk, Ok, Option, Result, reverse}
+use Rattle.pb_replay.proofs.Common.{reverse-append, Form, number_in, axiom_on, IsSum, saturated, weakened, PolWord, Add, Axiom, Saturate, Weaken}
+use Rattle.pb_replay.proofs.Common.{Literal, Fault, Memory, Word, some, limited}
 
 pub last_first : (fs : List Form) (f : Form) → reverse (fs ++ f ∷ []) ≡ f ∷ reverse fs
 last_first fs f = reverse-append fs (f ∷ [])

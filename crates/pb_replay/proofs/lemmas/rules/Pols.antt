@@ -1,21 +1,7 @@
 -- `pol`
-use Rattle.std.specs.Prelude.{Result, Ok, Option}
-use Rattle.std.proofs.Common.{◌≡◌, ℕ, ℤ, List, [], ◌∷◌, length, refl, ◌∙◌, inl, subst}
-use Rattle.pb_text.specs.meaning.Limits.{largest}
-use Rattle.pb_proof.specs.declared.PolWord.{PolWord}
-use Rattle.pb_proof.specs.declared.Statement.TheVariants.{Pol}
-use Rattle.pb_proof.specs.declared.PolWord.TheVariants.{Id}
-use Rattle.pb_proof.specs.meaning.Postfix.{Tree, Constraint, words}
-use Rattle.pb_normal.specs.meaning.Form.{Form}
-use Rattle.pb_normal.specs.meaning.Names.{HasNames, with_names}
-use Rattle.pb_replay.specs.declared.fault.Fault.{Fault}
-use Rattle.pb_replay.specs.declared.state.Running.{Running}
-use Rattle.pb_replay.specs.meaning.Answer.{some}
-use Rattle.pb_replay.specs.meaning.Meaning.{IsNamePrefix}
-use Rattle.pb_replay.specs.meaning.Replay.{IsLive, FormOfExpression}
-use Rattle.pb_propagate.specs.meaning.Propagation.{Live}
-use Rattle.pb_replay.specs.contract.ReplayModel.{Adding, Goes, HasNamed, IsInside, IsLinked, does_in, state_of, with_mentioned}
-use Rattle.pb_replay.specs.meaning.Statements.{word_names}
+use Rattle.pb_replay.proofs.Common.{ℕ, ℤ, ◌∙◌, ◌∷◌, ◌≡◌, [], inl, length, List, refl, subst, Ok, Option, Result, Form, HasNames, with_names, PolWord}
+use Rattle.pb_replay.proofs.Common.{Id, Pol, Constraint, Tree, words, Live, largest, Adding, does_in, Goes, HasNamed, IsInside, IsLinked, state_of}
+use Rattle.pb_replay.proofs.Common.{with_mentioned, Fault, Running, some, IsNamePrefix, FormOfExpression, IsLive, word_names}
 use Rattle.pb_replay.proofs.lemmas.rules.Insides.{tree-inside}
 use Rattle.pb_replay.proofs.lemmas.rules.Linked.{inside-more}
 use Rattle.pb_replay.proofs.lemmas.names.Naming.{length-prefix}

@@ -1,41 +1,18 @@
 -- What is true before each statement
-use Rattle.std.specs.Prelude.{Result, Ok, Err, Contains, Option, Some, None, IfSome, option_map}
+use Rattle.pb_replay.proofs.Common.{ℕ, ◌++◌, ◌<◌, ◌∙◌, ◌≡◌, ◌≤◌, ◌⊎◌, [], ap, arith, Err, inl, inr, length, length-append, List, None, refl, Some}
+use Rattle.pb_replay.proofs.Common.{subst, sym, take, Contains, IfSome, Ok, Option, option_map, Result, take-length, length-take-le, take-append-le}
+use Rattle.pb_replay.proofs.Common.{All-contains, none-some, same_Some, in_turn, NormalFault, AreFormsOf, constraint_names, Fits, sides_in, Form}
+use Rattle.pb_replay.proofs.Common.{with_names, magnitude, names_of, Instance, IsStatementValue, Statement, contains-none, Linear, Term, same_err}
+use Rattle.pb_replay.proofs.Common.{Limits, largest, top_of, Comes, IsBest, IsInside, IsKept, IsLinked, IsOpened, IsProper, IsReady, Keeps}
+use Rattle.pb_replay.proofs.Common.{outcome_in, problem_of, state_of, Fault, Memory, NotTotal, Running, Verdict, IsNamePrefix, IsSound, Means}
+use Rattle.pb_replay.proofs.Common.{MeansWritten, names_in, objective_of, Opened, Problem, Logged, State}
 use Rattle.std.specs.List.{All as AllOf}
-use Rattle.std.proofs.Common.{◌≡◌, ℕ, ◌<◌, ◌≤◌, List, [], ◌++◌, length, take, refl, sym, ◌∙◌, ap, subst, arith, inl, inr, ◌⊎◌, length-append}
-use Rattle.std.proofs.lemmas.List.{take-append-le}
-use Rattle.std.proofs.Math.Seq.{take-length}
-use Rattle.std.proofs.lemmas.List.Elements.{All-contains}
-use Rattle.pb_text.specs.meaning.Limits.{largest, top_of}
-use Rattle.pb_sums.specs.declared.Term.{Term}
-use Rattle.pb_sums.specs.declared.Linear.{Linear}
-use Rattle.pb_opb.specs.declared.Instance.{Instance}
-use Rattle.pb_proof.specs.declared.Statement.{Statement}
-use Rattle.pb_proof.specs.contract.Values.{IsStatementValue}
-use Rattle.pb_normal.specs.declared.NormalFault.{NormalFault}
 use Rattle.pb_normal.specs.declared.NormalFault.TheVariants as normal
-use Rattle.pb_normal.specs.meaning.Constraints.{AreFormsOf, Fits, sides_in, constraint_names}
-use Rattle.pb_normal.specs.meaning.Form.{Form}
-use Rattle.pb_normal.specs.meaning.Names.{with_names}
-use Rattle.pb_normal.specs.meaning.Written.{names_of, magnitude}
-use Rattle.pb_normal.proofs.lemmas.names.Appearing.{in_turn}
-use Rattle.pb_replay.specs.declared.fault.Fault.{Fault}
-use Rattle.pb_replay.specs.declared.state.Running.{Running}
-use Rattle.pb_replay.specs.declared.verdict.Verdict.{Verdict}
 use Rattle.pb_replay.specs.contract.Faults.{fault_of}
-use Rattle.pb_replay.specs.meaning.Problem.{Problem, Opened, names_in, objective_of}
-use Rattle.pb_replay.specs.meaning.Replay.{Logged, State}
-use Rattle.pb_replay.specs.declared.fault.Fault.TheVariants.{Memory, NotTotal}
 use Rattle.pb_replay.proofs.lemmas.names.Unvalued.{unvalued-old}
 use Rattle.pb_replay.proofs.lemmas.rules.States.{same-state}
-use Rattle.pb_replay.specs.meaning.Meaning.{IsNamePrefix, IsSound, Means, MeansWritten}
-use Rattle.pb_replay.specs.contract.ReplayModel.{Comes, Keeps, IsBest, IsInside, IsKept, IsLinked, IsOpened, IsProper, IsReady, outcome_in, problem_of, state_of}
-use Rattle.pb_text.specs.declared.Limits.{Limits}
-use Rattle.pb_propagate.proofs.lemmas.store.Gets.{contains-none}
 use Rattle.pb_replay.proofs.lemmas.meaning.Loads.{problems-proper, loaded-inside, meanings-agree}
 use Rattle.pb_replay.proofs.lemmas.meaning.Sound.{first-sound, statements-sound}
-use Rattle.std.proofs.lemmas.List.{length-take-le}
-use Rattle.std.proofs.lemmas.Option.{none-some, same_Some}
-use Rattle.pb_text.proofs.lemmas.text.Results.{same_err}
 use Rattle.pb_replay.proofs.lemmas.names.Naming.{length-prefix}
 
 pub meant : (v : Problem) (s : State) (o : Option Verdict) → IsSound v s → o ≡ s.concluded → IfSome o (Means v)

@@ -1,32 +1,13 @@
 -- `rup`, and what stays
-use Rattle.std.specs.Prelude.{Result, Ok, Err, ◌↔◌}
-use Rattle.std.proofs.Common.{◌≡◌, ◌⊎◌, ℕ, ◌<◌, ◌≤◌, List, [], refl, sym, ◌∙◌, ap, inl, inr, ◌++◌, append_assoc, Bool, true, false, rules, IsTrue}
-use Rattle.std.proofs.lemmas.Bool.{cases_lt}
-use Rattle.pb_text.specs.meaning.Limits.{largest, top_of}
-use Rattle.pb_sums.specs.declared.Linear.{Linear}
-use Rattle.pb_proof.specs.declared.Stage.TheVariants.{Steps}
-use Rattle.pb_proof.specs.declared.Statement.TheVariants.{F, Rup}
-use Rattle.pb_normal.specs.declared.NormalFault.{NormalFault}
+use Rattle.pb_replay.proofs.Common.{ℕ, ◌++◌, ◌<◌, ◌∙◌, ◌≡◌, ◌≤◌, ◌⊎◌, [], ap, append_assoc, Bool, Err, false, inl, inr, IsTrue, length, List, map}
+use Rattle.pb_replay.proofs.Common.{refl, rules, Some, subst, sym, true, ◌↔◌, Ok, Option, Result, cases_lt, prefix, NormalFault, Fits, Form}
+use Rattle.pb_replay.proofs.Common.{with_names, IsSideOf, names_of, Steps, F, Rup, IsRup, Live, Linear, same_err, largest, top_of, Adding, does_in}
+use Rattle.pb_replay.proofs.Common.{Goes, HasNamed, Keeps, state_of, with_mentioned, Fault, Memory, NotImplied, Overflow, Running, IsNamePrefix}
+use Rattle.pb_replay.proofs.Common.{State, IsCount}
 use Rattle.pb_normal.specs.declared.NormalFault.TheVariants as normal
 use Rattle.pb_normal.specs.declared.Side.TheVariants.{AtLeast as least}
-use Rattle.pb_normal.specs.meaning.Constraints.{Fits}
-use Rattle.pb_normal.specs.meaning.Form.{Form}
-use Rattle.pb_normal.specs.meaning.Names.{with_names}
-use Rattle.pb_normal.specs.meaning.Written.{names_of, IsSideOf}
-use Rattle.pb_normal.proofs.lemmas.names.Appearing.{prefix}
-use Rattle.pb_replay.specs.declared.fault.Fault.{Fault}
-use Rattle.pb_replay.specs.declared.fault.Fault.TheVariants.{Memory, NotImplied, Overflow}
-use Rattle.std.specs.Prelude.{Option, Some}
-use Rattle.std.proofs.Common.{subst, map, length}
-use Rattle.pb_text.proofs.lemmas.text.Results.{same_err}
 use Rattle.pb_replay.proofs.lemmas.rules.States.{same-state, added-over}
-use Rattle.pb_replay.specs.declared.state.Running.{Running}
-use Rattle.pb_propagate.specs.meaning.Propagation.{IsRup, Live}
-use Rattle.pb_replay.specs.meaning.Replay.{State}
-use Rattle.pb_replay.specs.contract.ReplayModel.{Adding, Goes, HasNamed, Keeps, does_in, state_of, with_mentioned}
 use Rattle.pb_replay.proofs.lemmas.rules.Carrying.{carries-added, goes-ok, goes-err}
-use Rattle.pb_replay.specs.meaning.Statements.{IsCount}
-use Rattle.pb_replay.specs.meaning.Meaning.{IsNamePrefix}
 
 -- a form was made, so its numbers fit
 pub fits_of : {A : Type 0} (r : Result A NormalFault) (x : A) (limit n : ℕ) → r ≡ Ok x → (r ≡ Err normal.Overflow) ↔ (limit < n) → n ≤ limit

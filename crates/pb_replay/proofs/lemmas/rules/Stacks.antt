@@ -1,18 +1,8 @@
 -- The words on a stack have the result of their expression.
-use Rattle.std.specs.Prelude.{Result, Ok, Err, Option, unsigned_abs}
-use Rattle.std.proofs.Common.{◌≡◌, ℕ, ◌+◌, List, [], ◌∷◌, ◌++◌, refl, ap, arith, inl, inr, append_assoc, append-nil}
-use Rattle.pb_proof.specs.declared.PolWord.{PolWord}
-use Rattle.pb_proof.specs.declared.PolWord.TheVariants.{Add, Multiply, Divide, Saturate, Weaken}
-use Rattle.pb_proof.specs.meaning.Postfix.{Tree, Constraint, LiteralAxiom, Sum, Product, Quotient, Saturation, Weakening, words}
-use Rattle.pb_normal.specs.meaning.Form.{Form}
-use Rattle.pb_normal.specs.meaning.Names.{number_in}
-use Rattle.pb_normal.specs.meaning.Rules.{IsSum, multiplied, divided, saturated, weakened, axiom_on}
-use Rattle.pb_replay.specs.declared.fault.Fault.{Fault}
-use Rattle.pb_replay.specs.declared.fault.Fault.TheVariants.{NoSuchId}
-use Rattle.pb_replay.specs.meaning.Answer.{Answer, gives, some, after}
-use Rattle.pb_replay.specs.meaning.Replay.{FormOfExpression, limited}
-use Rattle.pb_replay.specs.engine.Stack.{Words}
-use Rattle.pb_proof.specs.contract.Leaving.{Leaves}
+use Rattle.pb_replay.proofs.Common.{ℕ, ◌++◌, ◌+◌, ◌∷◌, ◌≡◌, [], ap, append-nil, append_assoc, arith, Err, inl, inr, List, refl, unsigned_abs, Ok}
+use Rattle.pb_replay.proofs.Common.{Option, Result, Form, number_in, axiom_on, divided, IsSum, multiplied, saturated, weakened, Leaves, PolWord, Add}
+use Rattle.pb_replay.proofs.Common.{Divide, Multiply, Saturate, Weaken, Constraint, LiteralAxiom, Product, Quotient, Saturation, Sum, Tree, Weakening}
+use Rattle.pb_replay.proofs.Common.{words, Fault, NoSuchId, Words, after, Answer, gives, some, FormOfExpression, limited}
 
 at_same : (m n : ℕ) (ws : List PolWord) → m ≡ n → Leaves n ws → Leaves m ws
 at_same m n ws e h = rw e h

@@ -1,13 +1,5 @@
 -- States by their fields
-use Rattle.std.specs.Prelude.{Option, Result}
-use Rattle.std.proofs.Common.{◌≡◌, ℕ, List, subst}
-use Rattle.pb_text.specs.meaning.Limits.{top_of}
-use Rattle.pb_text.specs.declared.Limits.{Limits}
-use Rattle.pb_proof.specs.declared.Stage.{Stage}
-use Rattle.pb_normal.specs.meaning.Form.{Form}
-use Rattle.pb_replay.specs.declared.verdict.Verdict.{Verdict}
-use Rattle.pb_replay.specs.declared.fault.Fault.{Fault}
-use Rattle.pb_replay.specs.meaning.Replay.{Logged, State, added}
+use Rattle.pb_replay.proofs.Common.{ℕ, ◌≡◌, List, subst, Option, Result, Form, Stage, Limits, top_of, Fault, Verdict, added, Logged, State}
 
 -- states are equal if their fields are
 pub same-state : {l m : List (Option Form)} {ns ms : List (List ℕ)} {logged : List Logged} {x y : Stage} {c d : Option Verdict} → l ≡ m → ns ≡ ms → x ≡ y → c ≡ d

@@ -1,24 +1,10 @@
 -- The visits of a `rup`
-use Rattle.std.specs.Prelude.{Result, Ok, Err, Option, sum_by}
-use Rattle.std.proofs.Common.{◌≡◌, ◌⊎◌, ℕ, Bool, true, false, ◌+◌, ◌*◌, ◌≤◌, List, [], length, refl, sym, ◌∙◌, ap, arith, inl, inr, subst}
-use Rattle.pb_text.specs.meaning.Limits.{top_of}
-use Rattle.pb_sums.specs.declared.Linear.{Linear}
-use Rattle.pb_normal.specs.declared.numbered.NumberedLiteral.{NumberedLiteral}
+use Rattle.pb_replay.proofs.Common.{ℕ, ◌*◌, ◌+◌, ◌∙◌, ◌≡◌, ◌≤◌, ◌⊎◌, [], ap, arith, Bool, Err, false, inl, inr, length, List, refl, subst, sym, true}
+use Rattle.pb_replay.proofs.Common.{Ok, Option, Result, sum_by, IsFormOf-unique, NumberedLiteral, Form, with_names, negation_of, IsSideOf, names_of}
+use Rattle.pb_replay.proofs.Common.{one_in, terms_in, IsCompletion, Live, MeetsConflict, With, Linear, ok_or_err, same_err, top_of, Adding, state_of}
+use Rattle.pb_replay.proofs.Common.{Fault, IdsSpent, Memory, NotImplied, Order, Overflow, Running, added}
 use Rattle.pb_normal.specs.declared.Side.TheVariants.{AtLeast as least}
-use Rattle.pb_normal.specs.meaning.Form.{Form}
-use Rattle.pb_normal.specs.meaning.Names.{with_names}
-use Rattle.pb_normal.specs.meaning.Rules.{negation_of}
-use Rattle.pb_normal.specs.meaning.Written.{names_of, IsSideOf}
-use Rattle.pb_normal.proofs.lemmas.names.WrittenForms.{IsFormOf-unique}
-use Rattle.pb_replay.specs.declared.fault.Fault.{Fault}
-use Rattle.pb_replay.specs.declared.fault.Fault.TheVariants.{IdsSpent, Memory, NotImplied, Order, Overflow}
-use Rattle.pb_replay.specs.declared.state.Running.{Running}
-use Rattle.pb_propagate.specs.engine.Engine.Live.{terms_in, one_in}
-use Rattle.pb_propagate.specs.meaning.Propagation.{MeetsConflict, IsCompletion, With, Live}
-use Rattle.pb_replay.specs.meaning.Replay.{added}
-use Rattle.pb_replay.specs.contract.ReplayModel.{Adding, state_of}
 use Rattle.pb_replay.specs.contract.Visits.{RupVisits, IsFew, CoversConflict, CoversCompletion}
-use Rattle.pb_text.proofs.lemmas.text.Results.{ok_or_err, same_err}
 
 adding-fault : (old new : Running) (form : Form) (result : Result Unit Fault) (e : Fault) → Adding old form result new → result ≡ Err e → (e ≡ Memory) ⊎ (e ≡ IdsSpent)
 adding-fault old new form (Ok u) e h is = ok_or_err is

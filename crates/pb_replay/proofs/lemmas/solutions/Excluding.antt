@@ -1,25 +1,11 @@
 -- What `solx` and `soli` do once their parts are done
-use Rattle.std.specs.Prelude.{Result, Ok, Err, Option, Some, None, ℤ, All, IsSome, option_map}
-use Rattle.std.proofs.Common.{rules, ◌≡◌, ℕ, ◌<◌, get_or, Bool, true, false, not, List, [], ◌∷◌, ◌++◌, length, refl, sym, ◌∙◌, arith, inl, inr, subst, cond}
-use Rattle.pb_sums.specs.declared.Literal.{Literal}
-use Rattle.pb_sums.specs.declared.Term.{Term}
-use Rattle.pb_sums.specs.declared.Linear.{Linear}
-use Rattle.pb_proof.specs.declared.Statement.TheVariants.{Soli, Solx}
-use Rattle.pb_normal.specs.declared.numbered.NumberedLiteral.{NumberedLiteral}
-use Rattle.pb_normal.specs.meaning.Form.{Form, total}
-use Rattle.pb_normal.specs.meaning.Rules.{only, on}
-use Rattle.pb_replay.specs.declared.fault.Fault.{Fault}
-use Rattle.pb_replay.specs.declared.state.Running.{Running}
-use Rattle.pb_replay.specs.engine.Bounds.{Demands}
-use Rattle.pb_replay.specs.meaning.Problem.{Problem}
-use Rattle.pb_propagate.specs.meaning.Propagation.{begin, opposed, Live}
-use Rattle.pb_replay.specs.meaning.Replay.{Completed, Excludes, Logged, negations, numbered}
-use Rattle.pb_replay.specs.contract.ReplayModel.{GoesAt, IsInside, Logs, problem_of}
-use Rattle.std.proofs.lemmas.Bool.{or_cases}
-use Rattle.std.proofs.lemmas.List.Elements.{All-head, All-tail, Contains-get_or}
+use Rattle.pb_replay.proofs.Common.{ℕ, ℤ, ◌++◌, ◌<◌, ◌∙◌, ◌∷◌, ◌≡◌, [], All, arith, Bool, cond, Err, false, get_or, inl, inr, length, List, None, not}
+use Rattle.pb_replay.proofs.Common.{refl, rules, Some, subst, sym, true, IsSome, Ok, Option, option_map, Result, or_cases, All-head, All-tail}
+use Rattle.pb_replay.proofs.Common.{Contains-get_or, NumberedLiteral, Form, total, on, only, Soli, Solx, only-self, only-true, rising-positive}
+use Rattle.pb_replay.proofs.Common.{total-has, begin, Live, opposed, Linear, Literal, Term, GoesAt, IsInside, Logs, problem_of, Fault, Running}
+use Rattle.pb_replay.proofs.Common.{Demands, Problem, Completed, Excludes, Logged, negations, numbered}
 use Rattle.pb_replay.proofs.lemmas.meaning.Accepting.{needed}
 use Rattle.pb_replay.proofs.lemmas.meaning.Propagating.{on-negations}
-use Rattle.pb_propagate.proofs.lemmas.engine.Choices.{only-true, only-self, total-has, rising-positive}
 
 -- literals that complete to something are not opposed
 pub apart : (v : Problem) (F : Form → Type 0) (n : ℕ) (given : List NumberedLiteral) (g : Logged) → Completed v F n given (Ok g) → (x : ℕ) → on given x true ≡ true → on given x false ≡ true → ⊥

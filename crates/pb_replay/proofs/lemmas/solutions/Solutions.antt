@@ -1,18 +1,9 @@
 -- Logged and shown solutions
-use Rattle.std.specs.Prelude.{Ok}
-use Rattle.std.proofs.Common.{◌≡◌, ℕ, ◌<◌, Bool, true, false, not, List, length, get_or, refl, sym, ◌∙◌, arith, inl, inr}
-use Rattle.std.proofs.lemmas.Bool.{cases_Bool, both_ways, not-true, not_from_false, cond-true}
-use Rattle.std.proofs.lemmas.List.{get_or_default}
-use Rattle.pb_normal.specs.declared.numbered.NumberedLiteral.{NumberedLiteral}
-use Rattle.pb_normal.specs.meaning.Form.{Form, Holds, total, true_at}
-use Rattle.pb_normal.specs.meaning.Rules.{assignment, only, on}
-use Rattle.pb_replay.specs.meaning.Replay.{Logged}
-use Rattle.pb_replay.specs.meaning.Problem.{Problem}
-use Rattle.pb_propagate.specs.meaning.Propagation.{HoldAll, MeetsConflict, IsCompletion}
-use Rattle.pb_replay.specs.meaning.Replay.{Completed, HasValue, AreValues, Excludes, negations, value, no_form, logged_of}
-use Rattle.pb_replay.specs.meaning.Meaning.{IsSolution}
+use Rattle.pb_replay.proofs.Common.{ℕ, ◌<◌, ◌∙◌, ◌≡◌, arith, Bool, false, get_or, inl, inr, length, List, not, refl, sym, true, Ok, both_ways}
+use Rattle.pb_replay.proofs.Common.{cases_Bool, cond-true, not-true, not_from_false, get_or_default, NumberedLiteral, Form, Holds, total, true_at}
+use Rattle.pb_replay.proofs.Common.{assignment, on, only, only-true, total-within, HoldAll, IsCompletion, MeetsConflict, IsSolution, Problem}
+use Rattle.pb_replay.proofs.Common.{AreValues, Completed, Excludes, HasValue, Logged, logged_of, negations, no_form, value}
 use Rattle.pb_replay.proofs.lemmas.meaning.Accepting.{needed, eached, ok-same}
-use Rattle.pb_propagate.proofs.lemmas.engine.Choices.{only-true, total-within}
 use Rattle.pb_replay.proofs.lemmas.meaning.Propagating.{AreTrue, on-negations, derivation-true, true_at-not}
 
 -- what an accepted completion has

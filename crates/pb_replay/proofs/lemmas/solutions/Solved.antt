@@ -1,22 +1,11 @@
 -- From the values that an engine gives to the solution of a definition
-use Rattle.std.specs.Prelude.{Result, Ok, Err, Option, Some, None, Contains, IsSome, ℤ}
-use Rattle.std.proofs.Common.{rules, ◌≡◌, ◌⊎◌, ℕ, ◌+◌, ◌<◌, Bool, true, false, not, List, length, get_or, refl, sym, ◌∙◌, ap, inl, inr}
-use Rattle.std.proofs.lemmas.Option.{none-some}
-use Rattle.pb_normal.specs.declared.numbered.NumberedLiteral.{NumberedLiteral}
-use Rattle.pb_normal.specs.meaning.Form.{Form, Holds}
-use Rattle.pb_normal.specs.meaning.Rules.{assignment, on}
-use Rattle.pb_replay.specs.declared.fault.Fault.{Fault}
-use Rattle.pb_replay.specs.declared.fault.Fault.TheVariants.{Conflict, Memory, NotTotal, Violates}
-use Rattle.pb_propagate.specs.engine.Engine.Live.{Gives, value_says}
-use Rattle.pb_replay.specs.contract.ReplayModel.{ReturnsValue}
-use Rattle.pb_replay.specs.meaning.Answer.{Answer}
-use Rattle.pb_replay.specs.meaning.Problem.{Problem}
-use Rattle.pb_propagate.specs.meaning.Propagation.{MayPropagate, Derivation, begin, put, HasConflict, opposed, broken, MeetsConflict, IsCompletion}
-use Rattle.pb_replay.specs.meaning.Replay.{Logged, HasValue, AreValues, Solution, Completed, Shown, no_form, logged_of, value}
+use Rattle.pb_replay.proofs.Common.{ℕ, ℤ, ◌+◌, ◌<◌, ◌∙◌, ◌≡◌, ◌⊎◌, ap, Bool, Err, false, get_or, inl, inr, length, List, None, not, refl, rules, Some}
+use Rattle.pb_replay.proofs.Common.{sym, true, Contains, IsSome, Ok, Option, Result, none-some, NumberedLiteral, Form, Holds, assignment, on, Gives}
+use Rattle.pb_replay.proofs.Common.{value_says, begin, broken, Derivation, HasConflict, IsCompletion, MayPropagate, MeetsConflict, opposed, put}
+use Rattle.pb_replay.proofs.Common.{ok_or_err, same_err, ReturnsValue, Fault, Conflict, Memory, NotTotal, Violates, AllHold, AreTotal, Given, Judged}
+use Rattle.pb_replay.proofs.Common.{Answer, Problem, AreValues, Completed, HasValue, Logged, logged_of, no_form, Shown, Solution, value}
 use Rattle.pb_replay.proofs.lemmas.meaning.Accepting.{ok-same}
-use Rattle.pb_text.proofs.lemmas.text.Results.{ok_or_err, same_err}
 use Rattle.pb_replay.proofs.lemmas.meaning.Single.{single-completed}
-use Rattle.pb_replay.specs.engine.Solutions.{AllHold, AreTotal, Given, Judged}
 
 -- what a value says of the plain literal and of its negation
 says-some : (o : Option Bool) (m : Bool) → o ≡ Some m → (value_says o false ≡ m) × (value_says o true ≡ not m)

@@ -1,23 +1,10 @@
 -- Sums of the terms that are true, and their magnitudes
-use Rattle.std.specs.Prelude.{ℤ, All, Option, Some, option_map, unsigned_abs, true}
-use Rattle.std.proofs.Common.{◌≡◌, ℕ, zero, suc, ◌+◌, ◌<◌, ◌≤◌, Bool, List, [], ◌∷◌, ◌++◌, length, get_or, take, drop, sym, ◌∙◌, ap, arith, subst, ◌+ℤ◌, ◌^◌}
-use Rattle.std.specs.Int.{w128}
-use Rattle.std.specs.Prelude.{FitsSigned}
-use Rattle.std.proofs.lemmas.Int.{ints, fits_signed_from_abs}
-use Rattle.std.proofs.lemmas.List.{take-append-drop}
-use Rattle.pb_text.specs.meaning.Limits.{largest}
-use Rattle.pb_sums.specs.declared.Term.{Term}
-use Rattle.pb_sums.specs.declared.Linear.{Linear}
-use Rattle.pb_normal.specs.meaning.Names.{has_name, HasNames, number_in}
-use Rattle.pb_normal.specs.meaning.Written.{magnitude, names_of, true_sum}
-use Rattle.pb_normal.proofs.lemmas.names.Numbering.{number_in-append, number_in-below}
-use Rattle.pb_text.proofs.lemmas.text.Lists.{take_read}
+use Rattle.pb_replay.proofs.Common.{ℕ, ℤ, ◌++◌, ◌+ℤ◌, ◌+◌, ◌<◌, ◌^◌, ◌∙◌, ◌∷◌, ◌≡◌, ◌≤◌, [], All, ap, arith, Bool, drop, FitsSigned, get_or, length}
+use Rattle.pb_replay.proofs.Common.{List, Some, subst, suc, sym, take, true, unsigned_abs, zero, Option, option_map, fits_signed_from_abs, ints}
+use Rattle.pb_replay.proofs.Common.{take-append-drop, w128, number_in-append, number_in-below, HasNames-append, magnitude-append, has_name, HasNames}
+use Rattle.pb_replay.proofs.Common.{number_in, magnitude, names_of, true_sum, Linear, Term, take_read, largest, IsProper, problem_of, Running}
+use Rattle.pb_replay.proofs.Common.{objective_of, by_name, value}
 use Rattle.pb_text.proofs.lemmas.numbers.Numbers.{largest_small}
-use Rattle.pb_replay.specs.declared.state.Running.{Running}
-use Rattle.pb_replay.specs.meaning.Problem.{objective_of}
-use Rattle.pb_replay.specs.meaning.Replay.{by_name, value}
-use Rattle.pb_replay.specs.contract.ReplayModel.{IsProper, problem_of}
-use Rattle.pb_normal.proofs.lemmas.names.WrittenForms.{HasNames-append, magnitude-append}
 use Rattle.pb_replay.proofs.lemmas.names.Naming.{objective-named, value-over}
 
 pub true_sum-append : (a : List ℕ → Bool) (xs ys : List Term) → true_sum a (xs ++ ys) ≡ (true_sum a xs +ℤ true_sum a ys)

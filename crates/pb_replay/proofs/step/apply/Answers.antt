@@ -1,5 +1,4 @@
-use Rattle.std.proofs.Common.{rules, ◌≡◌}
-use Rattle.pb_proof.specs.meaning.Order.{stage_of}
+use Rattle.pb_replay.proofs.Common.{◌≡◌, rules, stage_of}
 use Rattle.pb_replay.proofs.lemmas.rules.Carrying.{came}
 use Rattle.pb_replay.proofs.step.apply.Goals as goal
 

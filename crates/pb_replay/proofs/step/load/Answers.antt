@@ -1,6 +1,4 @@
-use Rattle.std.proofs.Common.{rules, arith, ◌∙◌, refl, length}
-use Rattle.pb_proof.specs.declared.Stage.TheVariants.{Steps}
-use Rattle.pb_replay.specs.meaning.Statements.{IsCount}
+use Rattle.pb_replay.proofs.Common.{◌∙◌, arith, length, refl, rules, Steps, IsCount}
 use Rattle.pb_replay.proofs.lemmas.rules.Linked.{linked-loaded}
 use Rattle.pb_replay.proofs.lemmas.rules.Rups.{loaded-goes}
 use Rattle.pb_replay.proofs.step.load.Goals as goal

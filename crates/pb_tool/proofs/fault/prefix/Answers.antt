@@ -1,4 +1,4 @@
-use Rattle.std.proofs.Common.{rules}
+use Rattle.pb_tool.proofs.Common.{rules}
 use Rattle.pb_tool.proofs.fault.prefix.Goals as goal
 
 pub returns-in-File : goal.returns-in-File

@@ -1,4 +1,4 @@
-use Rattle.std.proofs.Common.{rules}
+use Rattle.pb_tool.proofs.Common.{rules}
 use Rattle.pb_tool.proofs.fault.status.Goals as goal
 
 pub returns-in_default : goal.returns-in_default

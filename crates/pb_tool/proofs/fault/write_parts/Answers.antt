@@ -1,4 +1,4 @@
-use Rattle.std.proofs.Common.{rules, []}
+use Rattle.pb_tool.proofs.Common.{[], rules}
 use Rattle.pb_tool.proofs.lemmas.tidy.WrittenInTurn.{broke_at}
 use Rattle.pb_tool.proofs.fault.write_parts.Goals as goal
 

@@ -1,6 +1,4 @@
-use Rattle.std.proofs.Common.{take}
-use Rattle.std.specs.List.{flat_map}
-use Rattle.pb_text.specs.meaning.Writing.{Wrote}
+use Rattle.pb_tool.proofs.Common.{take, flat_map, Wrote}
 use Rattle.pb_tool.proofs.fault.write_parts.Given as goal
 
 -- the texts so far were written

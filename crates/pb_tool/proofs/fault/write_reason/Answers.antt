@@ -1,4 +1,4 @@
-use Rattle.std.proofs.Common.{rules}
+use Rattle.pb_tool.proofs.Common.{rules}
 use Rattle.pb_tool.proofs.fault.write_reason.Goals as goal
 
 pub returns-in-Ended : goal.returns-in-Ended

@@ -1,4 +1,4 @@
-use Rattle.std.proofs.Common.{rules}
+use Rattle.pb_tool.proofs.Common.{rules}
 use Rattle.pb_tool.proofs.file.format_of.Goals as goal
 
 pub returns-in-Ok-clause-format : goal.returns-in-Ok-clause-format

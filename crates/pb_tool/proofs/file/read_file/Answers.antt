@@ -1,6 +1,4 @@
-use Rattle.pb_text.specs.contract.Automaton.{AcceptsItems, MayAsk}
-use Rattle.pb_text.specs.meaning.Whole.{IsWhole, ReadsWhole}
-use Rattle.pb_tool.specs.meaning.Tidy.IsRefused.{InText, InRest}
+use Rattle.pb_tool.proofs.Common.{AcceptsItems, MayAsk, IsWhole, ReadsWhole, InRest, InText}
 use Rattle.pb_tool.proofs.lemmas.file.GivenBytes.{file_then_blank, given_file, given_stray, used_of}
 use Rattle.pb_tool.proofs.lemmas.file.PassedOn.{passed_on}
 use Rattle.pb_tool.proofs.file.read_file.Goals as goal

@@ -1,9 +1,4 @@
-use Rattle.pb_text.specs.meaning.Limits.{largest, top_of}
-use Rattle.pb_text.specs.meaning.Whole.{IsRead}
-use Rattle.pb_opb.specs.meaning.Reading.{ReadsInstance}
-use Rattle.pb_opb.specs.meaning.Values.{IsValueOf}
-use Rattle.pb_tool.specs.meaning.Tidy.{IsInstanceText}
-use Rattle.pb_tool.specs.meaning.Tidy.IsRefused.{InText, InRest}
+use Rattle.pb_tool.proofs.Common.{ReadsInstance, IsValueOf, largest, top_of, IsRead, IsInstanceText, InRest, InText}
 use Rattle.pb_tool.proofs.lemmas.file.GivenBytes.{file_then_blank, given_file, given_stray, used_of}
 use Rattle.pb_tool.proofs.lemmas.file.PassedOn.{passed_on}
 use Rattle.pb_tool.proofs.file.read_instance_file.Goals as goal

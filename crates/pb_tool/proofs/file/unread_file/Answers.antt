@@ -1,7 +1,4 @@
-use Rattle.std.proofs.Common.{[], false, Some}
-use Rattle.std.proofs.lemmas.Bool.{false_from_ne_true}
-use Rattle.pb_text.specs.meaning.Limits.{largest, top_of}
-use Rattle.pb_text.specs.contract.NothingRead.{first_place, first_fault}
+use Rattle.pb_tool.proofs.Common.{[], false, Some, false_from_ne_true, first_fault, first_place, largest, top_of}
 use Rattle.pb_tool.proofs.lemmas.file.ChosenFormat.{no_proof}
 use Rattle.pb_tool.proofs.file.unread_file.Goals as goal
 

@@ -1,9 +1,4 @@
-use Rattle.std.proofs.Common.{[], ◌∷◌, ◌∙◌, inr, refl, sym}
-use Rattle.pb_text.specs.meaning.Limits.{largest, top_of}
-use Rattle.pb_proof.specs.meaning.Canonical.{proof_bytes}
-use Rattle.pb_proof.specs.meaning.Proofs.{IsProofOf}
-use Rattle.pb_tool.specs.meaning.Files.{tidied_proof, IsProofText}
-use Rattle.pb_text.proofs.lemmas.numbers.Numbers.{largest_small}
+use Rattle.pb_tool.proofs.Common.{◌∙◌, ◌∷◌, [], inr, refl, sym, proof_bytes, IsProofOf, largest_small, largest, top_of, IsProofText, tidied_proof}
 use Rattle.pb_tool.proofs.lemmas.tidy.ReadBack.{faultless, read_alone}
 use Rattle.pb_tool.proofs.laws.tidied_proof_stays.Goals as goal
 

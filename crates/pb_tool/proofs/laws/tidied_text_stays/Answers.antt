@@ -1,10 +1,5 @@
-use Rattle.std.proofs.Common.{ℕ, List, ◌∷◌, ◌≡◌, ◌∙◌, ◌++◌, ap, refl, sym}
-use Rattle.pb_text.specs.meaning.Limits.{largest, top_of}
-use Rattle.pb_opb.specs.contract.Canonical.{instance_bytes}
-use Rattle.pb_opb.specs.meaning.Values.{IsValueOf}
-use Rattle.pb_opb.specs.declared.Instance.{Instance}
-use Rattle.pb_tool.specs.meaning.Tidy.{tidied, IsInstanceText}
-use Rattle.pb_text.proofs.lemmas.numbers.Numbers.{largest_small}
+use Rattle.pb_tool.proofs.Common.{ℕ, ◌++◌, ◌∙◌, ◌∷◌, ◌≡◌, ap, List, refl, sym, instance_bytes, Instance, IsValueOf, largest_small, largest, top_of}
+use Rattle.pb_tool.proofs.Common.{IsInstanceText, tidied}
 use Rattle.pb_tool.proofs.lemmas.tidy.ReadBack.{faultless, read_alone, written}
 use Rattle.pb_tool.proofs.laws.tidied_text_stays.Goals as goal
 

@@ -1,36 +1,12 @@
 -- A checker that pulls a statement from a source, and steps through it.
-use Rattle.std.proofs.Common.{◌≡◌, ℕ, ◌≤◌, ◌^◌, List, [], ◌∷◌, ◌++◌, length, Bool, true, Option, Some, None, Result, Ok, Err, refl, sym, ap, ◌∙◌, subst, append-nil, arith}
-use Rattle.pb_text.specs.contract.Feeding.{StandsAt, place_of, halt_of, stop_of, is_complete}
+use Rattle.pb_tool.proofs.Common.{ℕ, ◌++◌, ◌^◌, ◌∙◌, ◌∷◌, ◌≡◌, ◌≤◌, [], ap, append-nil, arith, Bool, Err, length, List, None, Ok, Option, refl}
+use Rattle.pb_tool.proofs.Common.{Result, Some, subst, sym, true, ReadsProofs, ReadStatements, IsStatementValue, Statement, begin, ProofState}
+use Rattle.pb_tool.proofs.Common.{WholeProofsConclude, Replaying, StandsFor, verdict_in, Fault, Verdict, IsNamePrefix, Problem, State, length-bytes}
+use Rattle.pb_tool.proofs.Common.{end_limit, place_after-offset, halt_of, is_complete, place_of, StandsAt, stop_of, Limits, Place, Spanned, Stop}
+use Rattle.pb_tool.proofs.Common.{end_of, largest, top_of, OfGiven, Pulls, PullsOn, bytes, AsksAsText, Checking, ChecksSoFar, IsAt, IsSomewhere}
+use Rattle.pb_tool.proofs.Common.{ProofFeeder, StepsFrom, TextsAreRead, faults_of_text, SawText, Accepted, Call, Rejected, CheckFault, Begins, HasRun}
+use Rattle.pb_tool.proofs.Common.{HasShown, RunsTo}
 use Rattle.pb_text.specs.contract.Standing.{IsOpen as IsOpenText}
-use Rattle.pb_text.specs.engine.SpentBytes.{end_of}
-use Rattle.pb_text.specs.meaning.Limits.{largest, top_of}
-use Rattle.pb_text.specs.meaning.Pulling.{OfGiven, Pulls}
-use Rattle.pb_text.specs.meaning.PullsInARow.{PullsOn}
-use Rattle.pb_text.specs.meaning.Spelling.{bytes}
-use Rattle.pb_text.specs.declared.Limits.{Limits}
-use Rattle.pb_text.specs.declared.Place.{Place}
-use Rattle.pb_text.specs.declared.Spanned.{Spanned}
-use Rattle.pb_text.specs.declared.Stop.{Stop}
-use Rattle.pb_text.proofs.lemmas.text.Lists.{length-bytes}
-use Rattle.pb_text.proofs.lemmas.text.Short.{end_limit, place_after-offset}
-use Rattle.pb_proof.specs.contract.Formats.{ReadsProofs}
-use Rattle.pb_proof.specs.contract.ValueLaws.{ReadStatements}
-use Rattle.pb_proof.specs.contract.Values.{IsStatementValue}
-use Rattle.pb_proof.specs.engine.Machine.State.{ProofState, begin}
-use Rattle.pb_proof.specs.declared.Statement.{Statement}
-use Rattle.pb_replay.specs.contract.Laws.{WholeProofsConclude}
-use Rattle.pb_replay.specs.contract.ReplayModel.{Replaying, StandsFor, verdict_in}
-use Rattle.pb_replay.specs.meaning.Meaning.{IsNamePrefix}
-use Rattle.pb_replay.specs.meaning.Problem.{Problem}
-use Rattle.pb_replay.specs.meaning.Replay.{State}
-use Rattle.pb_replay.specs.declared.fault.Fault.{Fault}
-use Rattle.pb_replay.specs.declared.verdict.Verdict.{Verdict}
-use Rattle.pb_tool.specs.contract.Checker.{Checking, ProofFeeder, AsksAsText, IsAt, IsSomewhere, ChecksSoFar, StepsFrom, TextsAreRead}
-use Rattle.pb_tool.specs.contract.Runs.{faults_of_text}
-use Rattle.pb_tool.specs.contract.Seen.{SawText}
-use Rattle.pb_tool.specs.contract.Watched.{Call, Accepted, Rejected}
-use Rattle.pb_tool.specs.engine.Running.{Begins, HasRun, HasShown, RunsTo}
-use Rattle.pb_tool.specs.declared.commands.check.checker.CheckFault.{CheckFault}
 use Rattle.pb_tool.specs.declared.commands.check.checker.CheckFault.TheVariants as check
 use Rattle.pb_tool.proofs.lemmas.check.CheckerSteps as checked
 use Rattle.pb_tool.proofs.lemmas.check.CheckerSteps.{ReportsOld, running_at}

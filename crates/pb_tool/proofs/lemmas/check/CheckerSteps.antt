@@ -1,48 +1,22 @@
 -- The state of a checker after a feed and a step. Offered to other crates.
-use Rattle.std.proofs.Common.{◌≡◌, ℕ, ◌+◌, ◌-◌, List, [], ◌∷◌, ◌++◌, length, take, drop, ◌<◌, if◌then◌else◌, Bool, true, false, Option, Some, None, Result, Ok, Err, refl, sym, ap, ◌∙◌, subst, add-zero, append-nil, append_assoc, length-append, take-append-drop, All, ◌⊎◌, inl, inr}
-use Rattle.std.proofs.lemmas.List.Elements.{All-head, All-tail}
-use Rattle.pb_text.specs.meaning.Limits.{largest, top_of}
+use Rattle.pb_tool.proofs.Common.{ℕ, ◌++◌, ◌+◌, ◌-◌, ◌<◌, ◌∙◌, ◌∷◌, ◌≡◌, ◌⊎◌, [], add-zero, All, ap, append-nil, append_assoc, Bool, drop, Err, false}
+use Rattle.pb_tool.proofs.Common.{if◌then◌else◌, inl, inr, length, length-append, List, None, Ok, Option, refl, Result, Some, subst, sym, take}
+use Rattle.pb_tool.proofs.Common.{take-append-drop, true, is_some, IsSome, not, All-head, All-tail, ReadsProofs, ReadStatements, IsStatementValue}
+use Rattle.pb_tool.proofs.Common.{Proof, Stage, Statement, Conclude, End, F, Output, begin, proofs, ProofState, IsProof, WholeProofsConclude}
+use Rattle.pb_tool.proofs.Common.{Replaying, StandsFor, StepsAs, verdict_at, verdict_in, Fault, NotTotal, Verdict, IsNamePrefix, IsSound, Problem}
+use Rattle.pb_tool.proofs.Common.{State, Accepts, MayWantAt, Outcome, spans_events, all_rest, prefix_parts, FeedsOnce, halt_of, is_complete, place_of}
+use Rattle.pb_tool.proofs.Common.{StandsAt, Limits, Place, Spanned, Stop, Why, end_of, largest, top_of, Explains, IsSpelled, Reads, bytes, Item}
+use Rattle.pb_tool.proofs.Common.{events_at, events_of, accepted_by, AsksAsText, Checking, ChecksSoFar, CountsSoFar, IsAccepting, IsAt, IsSomewhere}
+use Rattle.pb_tool.proofs.Common.{ProofFeeder, StepsFrom, TextsAreRead, Checks, EndsAfter, IsReplayed, KeepsNames, KeepsNamesOf, LeadsTo, Rejects}
+use Rattle.pb_tool.proofs.Common.{StepsTo, AllocatesAt, AnyCutting, bytes_to, ChecksAt, ChecksOnce, CountsAt, CountsOnce, fault_of, FeedsInTurn}
+use Rattle.pb_tool.proofs.Common.{is_whole, IsNoReadFault, joined, MayGoOn, place_in, CheckFault, Begins}
 use Rattle.pb_text.specs.contract.Automaton.{AcceptsItems as AcceptsBytes}
-use Rattle.pb_text.specs.contract.Feeding.{StandsAt, FeedsOnce, place_of, halt_of, is_complete}
-use Rattle.pb_text.specs.engine.SpentBytes.{end_of}
-use Rattle.pb_text.specs.meaning.Reading.{Reads, Explains, IsSpelled}
-use Rattle.pb_text.specs.meaning.Spelling.{Item, bytes}
 use Rattle.pb_text.specs.contract.Standing.{Counts, Halts, Waits, IsOpen as IsOpenText}
-use Rattle.pb_text.specs.meaning.Whole.{events_at, events_of}
 use Rattle.pb_text.specs.declared.Fed.{Fed}
-use Rattle.pb_text.specs.declared.Limits.{Limits}
-use Rattle.pb_text.specs.declared.Place.{Place}
-use Rattle.pb_text.specs.declared.Spanned.{Spanned}
-use Rattle.pb_text.specs.declared.Stop.{Stop}
-use Rattle.pb_text.specs.declared.place.Why.{Why}
 use Rattle.pb_text.specs.declared.place.Why.TheVariants as reason
 use Rattle.pb_text.proofs.lemmas.text.Formats as formats
-use Rattle.pb_text.proofs.lemmas.text.Spans.{all_rest, prefix_parts}
-use Rattle.pb_proof.specs.contract.Formats.{ReadsProofs}
-use Rattle.pb_proof.specs.meaning.Proofs.{IsProof}
-use Rattle.pb_proof.specs.engine.Machine.State.{ProofState, begin, proofs}
-use Rattle.pb_proof.specs.contract.ValueLaws.{ReadStatements}
-use Rattle.pb_proof.specs.contract.Values.{IsStatementValue}
-use Rattle.pb_proof.specs.declared.Proof.{Proof}
-use Rattle.pb_proof.specs.declared.Statement.{Statement}
-use Rattle.pb_proof.specs.declared.Statement.TheVariants.{Header, F, Output, Conclude, End}
-use Rattle.pb_proof.specs.declared.Stage.{Stage}
-use Rattle.pb_replay.specs.contract.Laws.{WholeProofsConclude}
-use Rattle.pb_replay.specs.meaning.Problem.{Problem}
-use Rattle.pb_replay.specs.meaning.Meaning.{IsNamePrefix, IsSound}
-use Rattle.pb_replay.specs.meaning.Replay.{State}
-use Rattle.pb_replay.specs.contract.ReplayModel.{Replaying, StandsFor, StepsAs, verdict_at, verdict_in}
-use Rattle.pb_replay.specs.meaning.Statements.{Outcome, Accepts, MayWantAt}
-use Rattle.pb_replay.specs.declared.fault.Fault.{Fault}
-use Rattle.pb_replay.specs.declared.fault.Fault.TheVariants.{Memory, NotTotal}
-use Rattle.pb_replay.specs.declared.verdict.Verdict.{Verdict}
-use Rattle.std.specs.Prelude.{IsSome, not, is_some}
-use Rattle.pb_text.proofs.lemmas.source.Wholes.{spans_events}
-use Rattle.pb_tool.specs.contract.Checker.{Checking, ProofFeeder, AsksAsText, IsAt, IsAccepting, IsSomewhere, ChecksSoFar, CountsSoFar, StepsFrom, TextsAreRead, accepted_by}
-use Rattle.pb_tool.specs.contract.Checks.{Checks, EndsAfter, IsReplayed, KeepsNames, KeepsNamesOf, LeadsTo, StepsTo, Rejects}
-use Rattle.pb_tool.specs.engine.Running.{Begins}
-use Rattle.pb_tool.specs.contract.Pieces.{AnyCutting, bytes_to, ChecksAt, ChecksOnce, CountsAt, CountsOnce, MayGoOn, IsNoReadFault, FeedsInTurn, AllocatesAt, joined, fault_of, is_whole, place_in}
-use Rattle.pb_tool.specs.declared.commands.check.checker.CheckFault.{CheckFault}
+use Rattle.pb_proof.specs.declared.Statement.TheVariants.{Header}
+use Rattle.pb_replay.specs.declared.fault.Fault.TheVariants.{Memory}
 use Rattle.pb_tool.specs.declared.commands.check.checker.CheckFault.TheVariants.{Text, Step}
 use Rattle.pb_tool.proofs.lemmas.check.Prefixes.{no_prefix}
 

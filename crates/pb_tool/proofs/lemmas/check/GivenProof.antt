@@ -1,36 +1,12 @@
 -- What a check ensures for the bytes that the calls of a source have given.
-use Rattle.std.proofs.Common.{◌≡◌, ℕ, List, [], ◌∷◌, ◌++◌, true, false, Option, Some, None, Result, Ok, Err, sym, subst, append_assoc}
-use Rattle.pb_text.specs.meaning.Blank.{ReadsBlank}
-use Rattle.pb_text.specs.meaning.Limits.{largest, top_of}
-use Rattle.pb_text.specs.meaning.Pulling.{OfGiven}
-use Rattle.pb_text.specs.meaning.PullsInARow.{TookAll, TookSoFar}
-use Rattle.pb_text.specs.meaning.Stopping.{IsAsking}
-use Rattle.pb_text.specs.declared.Limits.{Limits}
-use Rattle.pb_text.specs.declared.Place.{Place}
-use Rattle.pb_text.specs.declared.Spanned.{Spanned}
-use Rattle.pb_text.specs.declared.Stop.{Stop}
-use Rattle.pb_proof.specs.contract.Formats.{ReadsProofs}
-use Rattle.pb_proof.specs.declared.Statement.{Statement}
-use Rattle.pb_replay.specs.meaning.Problem.{Problem}
-use Rattle.pb_replay.specs.meaning.Meaning.{IsNamePrefix}
-use Rattle.pb_replay.specs.meaning.Replay.{State}
-use Rattle.pb_replay.specs.contract.ReplayModel.{Replaying, StandsFor, verdict_in}
-use Rattle.pb_replay.specs.contract.Laws.{UnvaluedMayWant}
-use Rattle.pb_replay.specs.meaning.Statements.{Accepts}
-use Rattle.pb_replay.specs.declared.fault.Fault.{Fault}
-use Rattle.pb_replay.specs.declared.verdict.Verdict.{Verdict}
-use Rattle.pb_tool.specs.contract.Checker.{IsAt, StepsFrom}
-use Rattle.pb_text.specs.meaning.Whole.{events_at}
-use Rattle.pb_tool.specs.meaning.Files.{AsksInProofText, IsProofText}
-use Rattle.pb_tool.specs.contract.Runs.{IsReportedAs, Replays, RunsProof}
-use Rattle.pb_tool.specs.meaning.Verified.{AfterProof, InProof, IsAccepted, IsRefusedText}
-use Rattle.pb_tool.specs.declared.commands.check.checker.CheckFault.{CheckFault}
+use Rattle.pb_tool.proofs.Common.{ℕ, ◌++◌, ◌∷◌, ◌≡◌, [], append_assoc, Err, false, List, None, Ok, Option, Result, Some, subst, sym, true}
+use Rattle.pb_tool.proofs.Common.{ReadsProofs, Statement, UnvaluedMayWant, Replaying, StandsFor, verdict_in, Fault, Verdict, IsNamePrefix, Problem}
+use Rattle.pb_tool.proofs.Common.{State, Accepts, given_both, Limits, Place, Spanned, Stop, ReadsBlank, largest, top_of, OfGiven, TookAll, TookSoFar}
+use Rattle.pb_tool.proofs.Common.{IsAsking, events_at, IsAt, StepsFrom, IsReportedAs, Replays, RunsProof, CheckFault, ToolFault, Text}
+use Rattle.pb_tool.proofs.Common.{AsksInProofText, IsProofText, AfterProof, InProof, IsAccepted, IsRefusedText}
 use Rattle.pb_tool.specs.declared.commands.check.checker.CheckFault.TheVariants as check
-use Rattle.pb_tool.specs.declared.fault.ToolFault.{ToolFault}
-use Rattle.pb_tool.specs.declared.fault.ToolFault.TheVariants.{Text}
 use Rattle.pb_tool.specs.declared.fault.Input.TheVariants.{Proof as of_proof}
 use Rattle.pb_tool.proofs.lemmas.check.TwoSources.{step_report, whole_file}
-use Rattle.pb_text.proofs.lemmas.source.Wholes.{given_both}
 use Rattle.pb_tool.proofs.lemmas.show.GivenStatements.{all_of}
 use Rattle.pb_tool.proofs.lemmas.check.CheckerSteps.{ReportsOld}
 use Rattle.pb_tool.proofs.lemmas.check.ReplayRuns as replayed

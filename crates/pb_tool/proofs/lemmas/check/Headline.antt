@@ -1,29 +1,13 @@
 -- What is verified is true of the instance as it is written.
-use Rattle.std.proofs.Common.{◌≡◌, ℕ, List, [], ◌∷◌, ◌++◌, Option, Some, Ok, Err, Result, ap, ◌∙◌, subst, All}
-use Rattle.std.proofs.lemmas.List.Elements.{All-nil, All-cons, All-head, All-tail}
-use Rattle.pb_text.specs.meaning.Limits.{largest, top_of}
-use Rattle.pb_text.specs.meaning.Spelling.{Item}
-use Rattle.pb_text.specs.meaning.Pulling.{OfGiven}
-use Rattle.pb_text.specs.meaning.Whole.{events_of}
+use Rattle.pb_tool.proofs.Common.{ℕ, ◌++◌, ◌∙◌, ◌∷◌, ◌≡◌, [], All, ap, Err, List, Ok, Option, Result, Some, subst, All-cons, All-head, All-nil}
+use Rattle.pb_tool.proofs.Common.{All-tail, StatementValues, IsStatementValue, Proof, Statement, IsGap, statements_of, VerdictsMean, Verdict, Unsat}
+use Rattle.pb_tool.proofs.Common.{Limits, largest, top_of, OfGiven, Item, events_of, ChecksGiven, faults_of_instance, faults_of_proof, SawInstance}
+use Rattle.pb_tool.proofs.Common.{SawProof, ToolFault, CheckCall, ChecksFiles, Returns}
 use Rattle.pb_proof.specs.meaning.Lines.{SpellsStatement}
-use Rattle.pb_proof.specs.meaning.Proofs.{IsGap, statements_of}
-use Rattle.pb_proof.specs.contract.ValueLaws.{StatementValues}
-use Rattle.pb_proof.specs.contract.Values.{IsStatementValue}
-use Rattle.pb_proof.specs.declared.Proof.{Proof}
-use Rattle.pb_proof.specs.declared.Statement.{Statement}
-use Rattle.pb_text.specs.declared.Limits.{Limits}
-use Rattle.pb_replay.specs.contract.Laws.{VerdictsMean}
-use Rattle.pb_replay.specs.declared.verdict.Verdict.{Verdict}
-use Rattle.pb_replay.specs.declared.verdict.Verdict.TheVariants.{Unsat}
 use Rattle.pb_text.specs.declared.sink.Sink.{Ghosts as Sink}
 use Rattle.pb_text.specs.declared.source.Source.{Ghosts as Source}
 use Rattle.pb_tool.specs.contract.Checked.{Checked, of_given, of_left}
-use Rattle.pb_tool.specs.contract.Given.{ChecksGiven}
-use Rattle.pb_tool.specs.contract.Runs.{faults_of_instance, faults_of_proof}
-use Rattle.pb_tool.specs.contract.Seen.{SawInstance, SawProof}
-use Rattle.pb_tool.specs.declared.fault.ToolFault.{ToolFault}
 use Rattle.pb_tool.specs.meaning.Headline.{TrueOf, UnsatIsTrue, UnsatOf, VerdictsAreTrue}
-use Rattle.pb_tool.specs.meaning.Verified.{CheckCall, ChecksFiles, Returns}
 
 module _ (values : StatementValues) (limit top : ℕ) where
   abbrev IsSpelled : Item Statement → Type 0

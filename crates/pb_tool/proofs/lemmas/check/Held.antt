@@ -1,29 +1,10 @@
 -- What a checker holds of the unfinished statement.
-use Rattle.std.proofs.Common.{◌≡◌, ℕ, ◌+◌, ◌-◌, ◌≤◌, List, [], ◌∷◌, ◌++◌, length, nat_le, Bool, true, false, Option, None, Result, refl, sym, ap, ◌∙◌, append_assoc, append-nil, length-append, arith}
-use Rattle.std.proofs.lemmas.Bool.{cond-true, cond_both, le-leb}
-use Rattle.std.proofs.lemmas.List.{length-map}
-use Rattle.pb_text.specs.meaning.Limits.{largest, top_of}
-use Rattle.pb_text.specs.contract.Feeding.{StandsAt, HoldsFew, place_of, is_complete}
-use Rattle.pb_text.specs.meaning.Reading.{Answers, open_bytes}
-use Rattle.pb_text.specs.meaning.Spelling.{Letter, Item, bytes, bytes_of, letters_of, spans_since, place_after, plain}
-use Rattle.pb_text.specs.declared.Limits.{Limits}
-use Rattle.pb_text.specs.declared.Place.{Place}
-use Rattle.pb_text.specs.declared.Spanned.{Spanned}
-use Rattle.pb_text.proofs.lemmas.text.Languages.{bytes-append}
-use Rattle.pb_text.proofs.lemmas.text.Lists.{length-bytes}
-use Rattle.pb_text.proofs.lemmas.text.Short.{place_after-offset}
-use Rattle.pb_text.proofs.lemmas.source.Wholes.{same_prefix}
-use Rattle.pb_proof.specs.contract.Formats.{PrefixFree, ReadsProofs}
-use Rattle.pb_proof.specs.meaning.Proofs.{IsProof}
-use Rattle.pb_proof.specs.engine.Machine.State.{ProofState, begin}
-use Rattle.pb_proof.specs.declared.Statement.{Statement}
-use Rattle.pb_replay.specs.meaning.Problem.{Problem}
-use Rattle.pb_replay.specs.meaning.Replay.{State}
-use Rattle.pb_replay.specs.contract.ReplayModel.{Replaying}
-use Rattle.pb_replay.specs.declared.fault.Fault.{Fault}
-use Rattle.pb_tool.specs.contract.Checker.{ProofFeeder, ChecksSoFar, TextsAreRead}
-use Rattle.pb_tool.specs.contract.Pieces.{EndsStatement, HoldsOpen}
-use Rattle.pb_tool.specs.declared.commands.check.checker.CheckFault.{CheckFault}
+use Rattle.pb_tool.proofs.Common.{ℕ, ◌++◌, ◌+◌, ◌-◌, ◌∙◌, ◌∷◌, ◌≡◌, ◌≤◌, [], ap, append-nil, append_assoc, arith, Bool, false, le-leb, length}
+use Rattle.pb_tool.proofs.Common.{length-append, List, nat_le, None, Option, refl, Result, sym, true, cond-true, cond_both, length-map, PrefixFree}
+use Rattle.pb_tool.proofs.Common.{ReadsProofs, Statement, begin, ProofState, IsProof, Replaying, Fault, Problem, State, same_prefix, bytes-append}
+use Rattle.pb_tool.proofs.Common.{length-bytes, place_after-offset, HoldsFew, is_complete, place_of, StandsAt, Limits, Place, Spanned, largest}
+use Rattle.pb_tool.proofs.Common.{top_of, Answers, open_bytes, bytes, bytes_of, Item, Letter, letters_of, place_after, plain, spans_since}
+use Rattle.pb_tool.proofs.Common.{ChecksSoFar, ProofFeeder, TextsAreRead, EndsStatement, HoldsOpen, CheckFault}
 use Rattle.pb_tool.proofs.lemmas.check.CheckerSteps.{running_at, reported as so_far}
 use Rattle.pb_tool.proofs.lemmas.check.Prefixes.{no_prefix}
 

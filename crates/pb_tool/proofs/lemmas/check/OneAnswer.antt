@@ -1,41 +1,17 @@
 -- The result of a check that the bytes decide.
-use Rattle.std.proofs.Common.{◌≡◌, ◌≢◌, ◌↔◌, ℕ, List, [], ◌++◌, Option, Some, Result, Ok, Err, refl, sym, ap, ◌∙◌, subst}
-use Rattle.std.proofs.lemmas.Option.{same_Some}
-use Rattle.std.specs.Prelude.{String, string_bytes}
+use Rattle.pb_tool.proofs.Common.{ℕ, ◌++◌, ◌↔◌, ◌∙◌, ◌≡◌, ◌≢◌, [], ap, Err, List, Ok, Option, refl, Result, Some, string_bytes, subst, sym, String}
+use Rattle.pb_tool.proofs.Common.{same_Some, Instance, IsValueOf, Proof, Statement, IsProofOf, statements_of, Fault, Verdict, Opened, Problem}
+use Rattle.pb_tool.proofs.Common.{first_state, State, Accepts, ok_or_err, same_ok, Limits, Place, Spanned, Stop, largest, top_of, HasFixedSpans}
+use Rattle.pb_tool.proofs.Common.{IsSpelled, Item, events_at, events_of, IsRead, Keeping, Reading, IsSpelling, File, ToolFault, Memory, Open}
+use Rattle.pb_tool.proofs.Common.{Overflow, Step, Text, Write, AnswersExactly, AreVerified, IsDecided, IsOfText, IsOfTexts, IsSame, OneAnswer}
+use Rattle.pb_tool.proofs.Common.{IsProofFile, IsProofText, IsFile, IsInstanceFile, IsInstanceText, IsNoInstanceFile, InRest, InText, AfterProof}
+use Rattle.pb_tool.proofs.Common.{CheckCall, ChecksFiles, InProof, IsRefusedStep, IsRefusedText, IsVerified}
 use Rattle.std.specs.declared.alloc.Global.{Global}
-use Rattle.pb_text.specs.meaning.Limits.{largest, top_of}
-use Rattle.pb_text.specs.meaning.Reading.{HasFixedSpans, IsSpelled}
-use Rattle.pb_text.specs.meaning.Spelling.{Item}
-use Rattle.pb_text.specs.meaning.Whole.{events_at, events_of}
-use Rattle.pb_text.specs.declared.Limits.{Limits}
-use Rattle.pb_text.specs.declared.Place.{Place}
-use Rattle.pb_text.specs.declared.Spanned.{Spanned}
-use Rattle.pb_text.specs.declared.Stop.{Stop}
-use Rattle.pb_text.specs.meaning.Whole.{IsRead, Reading, Keeping}
-use Rattle.pb_opb.specs.meaning.Values.{IsValueOf}
-use Rattle.pb_opb.specs.declared.Instance.{Instance}
-use Rattle.pb_proof.specs.meaning.Proofs.{IsProofOf, statements_of}
-use Rattle.pb_proof.specs.declared.Proof.{Proof}
-use Rattle.pb_proof.specs.declared.Statement.{Statement}
-use Rattle.pb_replay.specs.meaning.Problem.{Problem, Opened}
-use Rattle.pb_replay.specs.meaning.Replay.{State, first_state}
-use Rattle.pb_replay.specs.meaning.Statements.{Accepts}
-use Rattle.pb_replay.specs.declared.fault.Fault.{Fault}
 use Rattle.pb_replay.specs.declared.fault.Fault.TheVariants.{Memory as no_memory, Overflow as over}
-use Rattle.pb_replay.specs.declared.verdict.Verdict.{Verdict}
 use Rattle.pb_opb.proofs.lemmas.instances.OneValue.{same_value}
-use Rattle.pb_tool.specs.meaning.Decided.{AnswersExactly, AreVerified, IsDecided, IsOfText, IsOfTexts, IsSame, OneAnswer}
-use Rattle.pb_tool.specs.meaning.Files.{IsProofFile, IsProofText}
-use Rattle.pb_tool.specs.contract.Show.{IsSpelling}
 use Rattle.pb_tool.specs.engine.Single.{AllSingle}
-use Rattle.pb_tool.specs.meaning.Tidy.{IsFile, IsInstanceText, IsInstanceFile, IsNoInstanceFile}
-use Rattle.pb_tool.specs.meaning.Tidy.IsRefused.{InText, InRest}
-use Rattle.pb_tool.specs.meaning.Verified.{CheckCall, ChecksFiles, IsRefusedStep, IsRefusedText, IsVerified, InProof, AfterProof}
-use Rattle.pb_tool.specs.declared.fault.ToolFault.{ToolFault}
-use Rattle.pb_tool.specs.declared.fault.ToolFault.TheVariants.{Text, Open, Overflow, Memory, Write, Step}
-use Rattle.pb_tool.specs.declared.fault.Input.TheVariants.{File, Instance as of_instance, Proof as of_proof}
+use Rattle.pb_tool.specs.declared.fault.Input.TheVariants.{Instance as of_instance, Proof as of_proof}
 use Rattle.pb_tool.proofs.lemmas.check.OneOutcome.{Passed, no_step, one_state, one_step}
-use Rattle.pb_text.proofs.lemmas.text.Results.{ok_or_err, same_ok}
 use Rattle.pb_tool.proofs.lemmas.check.CheckerSteps.{spelled_events}
 use Rattle.pb_tool.proofs.lemmas.check.OneRead.{OneSpelling, NoneGoesOn, spans_begin, one_spelled, reached_before, so_far_before, so_far_reached, spelling_reached, way_reached}
 use Rattle.pb_tool.proofs.lemmas.check.OneRejection.{Refusal, AtStop, all_taken, at_rest, no_refusal, one_refusal}

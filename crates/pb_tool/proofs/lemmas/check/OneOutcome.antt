@@ -1,21 +1,10 @@
 -- Statements are accepted and rejected in one way.
-use Rattle.std.proofs.Common.{◌≡◌, ◌≢◌, ◌⊎◌, inl, inr, ℕ, List, [], ◌∷◌, ◌++◌, Bool, Option, Some, None, Result, Ok, Err, refl, sym, ap, ◌∙◌, subst}
-use Rattle.pb_text.specs.meaning.Limits.{largest, top_of}
-use Rattle.pb_text.specs.meaning.Reading.{HasFixedSpans, Reads}
-use Rattle.pb_text.specs.declared.Limits.{Limits}
-use Rattle.pb_text.specs.declared.Place.{Place}
-use Rattle.pb_text.specs.declared.Spanned.{Spanned}
-use Rattle.pb_text.proofs.lemmas.text.Results.{ok_or_err, same_err, same_ok}
-use Rattle.pb_proof.specs.declared.Statement.{Statement}
-use Rattle.pb_replay.specs.contract.Laws.{OutcomesAreSingle}
-use Rattle.pb_replay.specs.meaning.Problem.{Problem}
-use Rattle.pb_replay.specs.meaning.Replay.{State}
-use Rattle.pb_replay.specs.meaning.Statements.{Outcome, Accepts}
-use Rattle.pb_replay.specs.declared.fault.Fault.{Fault}
-use Rattle.pb_replay.specs.declared.fault.Fault.TheVariants.{Memory, Overflow, FormulaCount, NoSuchId, NotImplied, Conflict, NotTotal, Violates, NoObjective, NotContradiction, SolutionLogged, NoSolution, NotBound, IdsSpent, Order}
-use Rattle.pb_text.specs.meaning.Whole.{events_at}
-use Rattle.pb_tool.specs.meaning.Files.{IsProofText}
-use Rattle.pb_tool.specs.meaning.Verified.{ComesTo, IsRefusedStep, IsReported}
+use Rattle.pb_tool.proofs.Common.{ℕ, ◌++◌, ◌∙◌, ◌∷◌, ◌≡◌, ◌≢◌, ◌⊎◌, [], ap, Bool, Err, inl, inr, List, None, Ok, Option, refl, Result, Some, subst}
+use Rattle.pb_tool.proofs.Common.{sym, Statement, OutcomesAreSingle, Fault, Conflict, FormulaCount, IdsSpent, NoObjective, NoSolution, NoSuchId}
+use Rattle.pb_tool.proofs.Common.{NotBound, NotContradiction, NotImplied, NotTotal, Order, SolutionLogged, Violates, Problem, State, Accepts, Outcome}
+use Rattle.pb_tool.proofs.Common.{ok_or_err, same_err, same_ok, Limits, Place, Spanned, largest, top_of, HasFixedSpans, Reads, events_at, IsProofText}
+use Rattle.pb_tool.proofs.Common.{ComesTo, IsRefusedStep, IsReported}
+use Rattle.pb_replay.specs.declared.fault.Fault.TheVariants.{Memory, Overflow}
 use Rattle.pb_tool.proofs.lemmas.check.Prefixes.{Compared, two_prefixes}
 use Rattle.pb_tool.proofs.lemmas.check.OneRead.{Begins, spans_begin, so_far_reached}
 

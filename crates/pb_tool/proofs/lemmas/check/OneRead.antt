@@ -1,17 +1,11 @@
 -- The same bytes are read in one way. Offered to other crates.
-use Rattle.std.proofs.Common.{◌≡◌, ◌⊎◌, inl, inr, ℕ, ◌<◌, ◌≤◌, List, [], ◌∷◌, ◌++◌, length, nat_le, Bool, true, false, IsTrue, Option, None, refl, sym, ap, ◌∙◌, subst, append-nil, append_assoc, arith, length-append, le-leb}
-use Rattle.std.proofs.lemmas.Bool.{cond-false, cond-true, lt-leb}
-use Rattle.std.proofs.lemmas.Bool.Decides.{leb_tells}
+use Rattle.pb_tool.proofs.Common.{ℕ, ◌++◌, ◌<◌, ◌∙◌, ◌∷◌, ◌≡◌, ◌≤◌, ◌⊎◌, [], ap, append-nil, append_assoc, arith, Bool, false, inl, inr, IsTrue}
+use Rattle.pb_tool.proofs.Common.{le-leb, length, length-append, List, nat_le, None, Option, refl, subst, sym, true, cond-false, cond-true, lt-leb}
+use Rattle.pb_tool.proofs.Common.{leb_tells, bytes-append, bytes-plain, place_after-offset, Place, Spanned, Why, Byte, Ended, Read, TooLarge, TooLong}
+use Rattle.pb_tool.proofs.Common.{AreShort, byte_limit, ended_within, EndsInNumber, Explains, HasFixedSpans, IsBad, IsFull, IsPrefix, IsSpelled}
+use Rattle.pb_tool.proofs.Common.{IsUnderWay, Overruns, Reads, bytes, bytes_of, Item, letters_of, plain, spans_of, spans_since, IsOfText}
 use Rattle.pb_text.specs.meaning.Classes.{is_digit}
-use Rattle.pb_text.specs.meaning.Reading.{AreShort, EndsInNumber, Explains, HasFixedSpans, IsBad, IsFull, IsPrefix, IsSpelled, IsUnderWay, Overruns, Reads, byte_limit, ended_within}
-use Rattle.pb_text.specs.meaning.Spelling.{Item, bytes, bytes_of, letters_of, spans_of, spans_since, plain}
-use Rattle.pb_text.specs.declared.Place.{Place}
-use Rattle.pb_text.specs.declared.Spanned.{Spanned}
-use Rattle.pb_text.specs.declared.Why.{Why}
-use Rattle.pb_text.specs.declared.Why.TheVariants.{Byte, TooLarge, Ended, TooLong, Read, Memory}
-use Rattle.pb_text.proofs.lemmas.text.Languages.{bytes-append, bytes-plain}
-use Rattle.pb_text.proofs.lemmas.text.Short.{place_after-offset}
-use Rattle.pb_tool.specs.meaning.Decided.{IsOfText}
+use Rattle.pb_text.specs.declared.Why.TheVariants.{Memory}
 use Rattle.pb_tool.proofs.lemmas.check.Prefixes.{begins_with, after_prefix, one_prefix, same_rest}
 
 -- ---- spans within prefixes

@@ -1,16 +1,7 @@
 -- A text, with the rest after it, is rejected in one way or not at all.
-use Rattle.std.proofs.Common.{◌≡◌, ℕ, List, [], ◌++◌, length, Option, Some, Err, sym, ap, ◌∙◌, subst, arith, append-nil, length-append}
-use Rattle.pb_text.specs.meaning.Blank.{IsBlank, IsStray, ReadsBlank}
-use Rattle.pb_text.specs.meaning.Pulling.{Took}
-use Rattle.pb_text.specs.meaning.Reading.{Explains, IsSpelled, IsUnderWay}
-use Rattle.pb_text.specs.meaning.Spelling.{Item, place_after, place_past}
-use Rattle.pb_text.specs.declared.Place.{Place}
-use Rattle.pb_text.specs.declared.Spanned.{Spanned}
-use Rattle.pb_text.specs.declared.Stop.{Stop}
-use Rattle.pb_text.specs.declared.Why.{Why}
-use Rattle.pb_text.proofs.lemmas.text.Short.{place_after-offset}
-use Rattle.pb_tool.specs.meaning.Decided.{IsOfText}
-use Rattle.pb_tool.specs.contract.Show.{IsSpelling}
+use Rattle.pb_tool.proofs.Common.{ℕ, ◌++◌, ◌∙◌, ◌≡◌, [], ap, append-nil, arith, Err, length, length-append, List, Option, Some, subst, sym}
+use Rattle.pb_tool.proofs.Common.{place_after-offset, Place, Spanned, Stop, Why, IsBlank, IsStray, ReadsBlank, Took, Explains, IsSpelled, IsUnderWay}
+use Rattle.pb_tool.proofs.Common.{Item, place_after, place_past, IsSpelling, IsOfText}
 use Rattle.pb_tool.proofs.lemmas.check.Prefixes.{same_rest}
 use Rattle.pb_tool.proofs.lemmas.check.OneRead.{NoneGoesOn, OneSpelling, not_both, one_spelled, one_stop}
 use Rattle.pb_tool.proofs.lemmas.check.OneRest.{not_stray, one_stray}

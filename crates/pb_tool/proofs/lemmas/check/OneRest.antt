@@ -1,13 +1,8 @@
 -- The rest after a text is blank or not.
-use Rattle.std.proofs.Common.{◌≡◌, ℕ, ◌+◌, ◌≤◌, List, ◌∷◌, ◌++◌, length, IsTrue, refl, sym, ap, ◌∙◌, subst, arith, length-append}
-use Rattle.std.proofs.lemmas.Bool.{both_ways}
-use Rattle.pb_text.specs.meaning.Blank.{IsBlank, IsStray, passes}
-use Rattle.pb_text.specs.meaning.Reading.{byte_limit}
-use Rattle.pb_text.specs.declared.Place.{Place}
-use Rattle.pb_text.specs.declared.Why.{Why}
-use Rattle.pb_text.specs.declared.Why.TheVariants.{Byte, TooLarge, Ended, TooLong, Read, Memory}
+use Rattle.pb_tool.proofs.Common.{ℕ, ◌++◌, ◌+◌, ◌∙◌, ◌∷◌, ◌≡◌, ◌≤◌, ap, arith, IsTrue, length, length-append, List, refl, subst, sym, both_ways}
+use Rattle.pb_tool.proofs.Common.{Place, Why, Byte, Ended, Read, TooLarge, TooLong, IsBlank, IsStray, passes, byte_limit, IsOfText}
+use Rattle.pb_text.specs.declared.Why.TheVariants.{Memory}
 use Rattle.pb_text.proofs.lemmas.text.Blanks.{blank_passes, passes_at}
-use Rattle.pb_tool.specs.meaning.Decided.{IsOfText}
 use Rattle.pb_tool.proofs.lemmas.check.Prefixes.{after_prefix, one_prefix, same_rest, some_left}
 
 -- a byte within a blank text passes

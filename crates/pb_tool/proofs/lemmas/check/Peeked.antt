@@ -1,15 +1,7 @@
 -- What the last peeks of a check have shown.
-use Rattle.std.proofs.Common.{◌≡◌, ℕ, List, Bool, true, Option, Err}
-use Rattle.pb_text.specs.declared.Limits.{Limits}
-use Rattle.pb_text.specs.declared.Place.{Place}
-use Rattle.pb_replay.specs.meaning.Problem.{Problem}
-use Rattle.pb_replay.specs.meaning.Replay.{State}
-use Rattle.pb_replay.specs.declared.fault.Fault.{Fault}
-use Rattle.pb_tool.specs.contract.Runs.{IsNoReplay, IsReportedAs, Replays, faults_of_proof}
-use Rattle.pb_tool.specs.contract.Seen.{SawNoInstance, SawNoProof}
-use Rattle.pb_tool.specs.declared.fault.ToolFault.{ToolFault}
-use Rattle.pb_tool.specs.declared.fault.ToolFault.TheVariants.{Text, Open, Overflow, Memory, Write, Step}
-use Rattle.pb_tool.specs.declared.fault.Input.TheVariants.{File, Instance as of_instance, Proof as of_proof}
+use Rattle.pb_tool.proofs.Common.{ℕ, ◌≡◌, Bool, Err, List, Option, true, Fault, Problem, State, Limits, Place, faults_of_proof, IsNoReplay}
+use Rattle.pb_tool.proofs.Common.{IsReportedAs, Replays, SawNoInstance, SawNoProof, File, ToolFault, Memory, Open, Overflow, Step, Text, Write}
+use Rattle.pb_tool.specs.declared.fault.Input.TheVariants.{Instance as of_instance, Proof as of_proof}
 
 module _ (shown : Option ℕ) (ended : Bool) where
   module _ (limits : Limits) (longest : ℕ) (before after : Option (List ℕ)) where

@@ -1,6 +1,6 @@
 -- Prefixes of a text. Of two prefixes of the same text, the second begins with the first or is shorter.
-use Rattle.std.proofs.Common.{◌≡◌, ◌≢◌, ◌⊎◌, inl, inr, ℕ, ◌<◌, List, [], ◌∷◌, ◌++◌, length, refl, sym, ap, ◌∙◌, append-nil, append_assoc, arith}
-use Rattle.std.proofs.lemmas.List.{append_cancel_left}
+use Rattle.pb_tool.proofs.Common.{ℕ, ◌++◌, ◌<◌, ◌∙◌, ◌∷◌, ◌≡◌, ◌≢◌, ◌⊎◌, [], ap, append-nil, append_assoc, arith, inl, inr, length, List, refl, sym}
+use Rattle.pb_tool.proofs.Common.{append_cancel_left}
 
 pub some_left : (left : List ℕ) → left ≢ [] → 0 < length left
 some_left [] h = absurd (h refl)

@@ -1,39 +1,13 @@
 -- What a run of a replay through the statements of a source ensures.
-use Rattle.std.proofs.Common.{◌≡◌, ◌⊎◌, ℕ, List, [], ◌∷◌, ◌++◌, Bool, true, false, Option, Some, None, Result, Ok, Err, refl, sym, ap, ◌∙◌, subst, inl, inr}
-use Rattle.pb_text.specs.meaning.Limits.{largest, top_of}
-use Rattle.pb_text.specs.contract.Automaton.{AcceptsItems as AcceptsBytes, MayAsk}
-use Rattle.pb_text.specs.meaning.Reading.{Reads}
-use Rattle.pb_text.specs.meaning.PullsInARow.{TookAll, TookSoFar}
-use Rattle.pb_text.specs.meaning.Spelling.{Item}
-use Rattle.pb_text.specs.meaning.Stopping.{IsAsking}
-use Rattle.pb_text.specs.declared.Limits.{Limits}
-use Rattle.pb_text.specs.declared.Place.{Place}
-use Rattle.pb_text.specs.declared.Spanned.{Spanned}
-use Rattle.pb_text.specs.declared.Stop.{Stop}
-use Rattle.pb_proof.specs.contract.Formats.{ReadsProofs}
-use Rattle.pb_proof.specs.engine.Machine.State.{begin, proofs}
-use Rattle.pb_proof.specs.declared.Statement.{Statement}
-use Rattle.pb_proof.specs.declared.Stage.{Stage}
+use Rattle.pb_tool.proofs.Common.{ℕ, ◌++◌, ◌∙◌, ◌∷◌, ◌≡◌, ◌⊎◌, [], ap, Bool, Err, false, inl, inr, List, None, Ok, Option, refl, Result, Some, subst}
+use Rattle.pb_tool.proofs.Common.{sym, true, ReadsProofs, Stage, Statement, begin, proofs, WholeProofsConclude, Replaying, StandsFor, verdict_at}
+use Rattle.pb_tool.proofs.Common.{verdict_in, Fault, Verdict, IsNamePrefix, Problem, State, Accepts, MayWantAt, Outcome, asking_to, MayAsk, Limits}
+use Rattle.pb_tool.proofs.Common.{Place, Spanned, Stop, largest, top_of, TookAll, TookSoFar, Reads, Item, IsAsking, events_at, IsAt, StepsFrom}
+use Rattle.pb_tool.proofs.Common.{KeepsNames, Rejects, StepsTo, RunsProof, CheckFault, AsksInProofText, IsProofText, IsAccepted}
+use Rattle.pb_text.specs.contract.Automaton.{AcceptsItems as AcceptsBytes}
 use Rattle.pb_proof.specs.declared.Stage.TheVariants.{Opening, Formula, Steps, Concluding, Closing, Complete}
-use Rattle.pb_replay.specs.contract.Laws.{WholeProofsConclude}
-use Rattle.pb_replay.specs.meaning.Problem.{Problem}
-use Rattle.pb_replay.specs.meaning.Meaning.{IsNamePrefix}
-use Rattle.pb_replay.specs.meaning.Replay.{State}
-use Rattle.pb_replay.specs.contract.ReplayModel.{Replaying, verdict_at, verdict_in}
-use Rattle.pb_replay.specs.meaning.Statements.{Outcome, Accepts, MayWantAt}
-use Rattle.pb_replay.specs.declared.fault.Fault.{Fault}
 use Rattle.pb_replay.specs.declared.fault.Fault.TheVariants as fault
-use Rattle.pb_replay.specs.declared.verdict.Verdict.{Verdict}
-use Rattle.pb_tool.specs.contract.Checker.{IsAt, StepsFrom}
-use Rattle.pb_text.specs.meaning.Whole.{events_at}
-use Rattle.pb_tool.specs.contract.Checks.{KeepsNames, Rejects, StepsTo}
-use Rattle.pb_replay.specs.contract.ReplayModel.{StandsFor}
-use Rattle.pb_tool.specs.meaning.Files.{AsksInProofText, IsProofText}
-use Rattle.pb_tool.specs.contract.Runs.{RunsProof}
-use Rattle.pb_tool.specs.meaning.Verified.{IsAccepted}
-use Rattle.pb_tool.specs.declared.commands.check.checker.CheckFault.{CheckFault}
 use Rattle.pb_tool.specs.declared.commands.check.checker.CheckFault.TheVariants as check
-use Rattle.pb_text.proofs.lemmas.source.Unkept.{asking_to}
 use Rattle.pb_tool.proofs.lemmas.check.CheckerSteps.{ReportsOld, accepts_more, failed, proofs_read, shown_at, there}
 use Rattle.pb_tool.proofs.lemmas.show.ShownStatements.{all_to, so_far_to}
 

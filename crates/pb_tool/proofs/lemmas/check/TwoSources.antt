@@ -1,35 +1,14 @@
 -- What a check of two sources ensures, from what its parts ensure. Offered to other crates.
-use Rattle.std.proofs.Common.{◌≡◌, ◌⊎◌, ℕ, ◌<◌, List, [], ◌++◌, length, get_or, true, Option, Some, None, Result, Ok, Err, refl, sym, ap, ◌∙◌, subst, inl, inr}
-use Rattle.std.specs.Prelude.{string_bytes}
-use Rattle.std.proofs.lemmas.List.{get_or_append_left}
-use Rattle.pb_text.specs.meaning.Blank.{ReadsBlank}
-use Rattle.pb_text.specs.meaning.Limits.{largest, top_of}
-use Rattle.pb_text.specs.meaning.Spelling.{place_after}
-use Rattle.pb_text.specs.meaning.Writing.{Wrote, Broke}
-use Rattle.pb_text.specs.declared.Limits.{Limits}
-use Rattle.pb_text.specs.declared.Place.{Place}
-use Rattle.pb_text.specs.declared.Spanned.{Spanned}
-use Rattle.pb_text.specs.meaning.Whole.{IsRead}
-use Rattle.pb_proof.specs.declared.Proof.{Proof}
-use Rattle.pb_proof.specs.declared.Statement.{Statement}
-use Rattle.pb_proof.specs.meaning.Proofs.{IsProofOf, statements_of}
-use Rattle.pb_replay.specs.meaning.Problem.{Problem}
-use Rattle.pb_replay.specs.meaning.Replay.{State, first_state}
-use Rattle.pb_replay.specs.contract.ReplayModel.{Replaying}
-use Rattle.pb_replay.specs.contract.Laws.{UnvaluedMayWant}
-use Rattle.pb_replay.specs.meaning.Statements.{Outcome, Accepts, MayWantAt}
-use Rattle.pb_replay.specs.declared.fault.Fault.{Fault}
-use Rattle.pb_replay.specs.declared.fault.Fault.TheVariants.{Memory as no_memory, NotTotal}
+use Rattle.pb_tool.proofs.Common.{ℕ, ◌++◌, ◌<◌, ◌∙◌, ◌≡◌, ◌⊎◌, [], ap, Err, get_or, inl, inr, length, List, None, Ok, Option, refl, Result, Some}
+use Rattle.pb_tool.proofs.Common.{string_bytes, subst, sym, true, get_or_append_left, Proof, Statement, IsProofOf, statements_of, UnvaluedMayWant}
+use Rattle.pb_tool.proofs.Common.{Replaying, Fault, NotTotal, Verdict, Problem, first_state, State, Accepts, MayWantAt, Outcome, Limits, Place}
+use Rattle.pb_tool.proofs.Common.{Spanned, ReadsBlank, largest, top_of, place_after, IsRead, Broke, Wrote, KeepsNames, faults_of_instance, IsNoReplay}
+use Rattle.pb_tool.proofs.Common.{IsReplayOf, IsReportedAs, Replays, RunsProof, File, ToolFault, Memory, Open, Overflow, Step, Text, Write}
+use Rattle.pb_tool.proofs.Common.{IsProofText, CheckCall, ChecksFiles, IsAccepted, IsReported, IsVerified, verdict_line}
+use Rattle.pb_replay.specs.declared.fault.Fault.TheVariants.{Memory as no_memory}
 use Rattle.pb_replay.specs.declared.fault.Fault.TheVariants as why
-use Rattle.pb_replay.specs.declared.verdict.Verdict.{Verdict}
-use Rattle.pb_tool.specs.meaning.Files.{IsProofText}
-use Rattle.pb_tool.specs.contract.Checks.{KeepsNames}
-use Rattle.pb_tool.specs.contract.Runs.{IsNoReplay, IsReplayOf, IsReportedAs, Replays, RunsProof, faults_of_instance}
-use Rattle.pb_tool.specs.meaning.Verified.{CheckCall, ChecksFiles, IsAccepted, IsReported, IsVerified, verdict_line}
 use Rattle.pb_tool.specs.declared.commands.check.checker.CheckFault.TheVariants as check
-use Rattle.pb_tool.specs.declared.fault.ToolFault.{ToolFault}
-use Rattle.pb_tool.specs.declared.fault.ToolFault.TheVariants.{Text, Open, Overflow, Memory, Write, Step}
-use Rattle.pb_tool.specs.declared.fault.Input.TheVariants.{File, Instance as of_instance, Proof as of_proof}
+use Rattle.pb_tool.specs.declared.fault.Input.TheVariants.{Instance as of_instance, Proof as of_proof}
 use Rattle.pb_tool.proofs.lemmas.check.CheckerSteps.{spelled_events}
 use Rattle.pb_tool.proofs.lemmas.file.GivenBytes.{file_then_blank}
 

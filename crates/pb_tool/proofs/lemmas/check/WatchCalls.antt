@@ -1,36 +1,13 @@
 -- The calls that a watch gets for the statements of a proof.
-use Rattle.std.proofs.Common.{◌≡◌, ◌⊎◌, ℕ, List, [], ◌∷◌, ◌++◌, Bool, true, false, Option, Some, None, Result, Ok, Err, refl, sym, ap, ◌∙◌, subst, inl, inr, string_bytes, append_assoc}
-use Rattle.pb_text.specs.meaning.Limits.{largest, top_of}
-use Rattle.pb_text.specs.meaning.Pulling.{OfGiven}
-use Rattle.pb_text.specs.meaning.PullsInARow.{TookAll, TookSoFar}
-use Rattle.pb_text.specs.meaning.Stopping.{IsAsking}
-use Rattle.pb_text.specs.declared.Limits.{Limits}
-use Rattle.pb_text.specs.declared.Place.{Place}
-use Rattle.pb_text.specs.declared.Spanned.{Spanned}
-use Rattle.pb_text.specs.declared.Stop.{Stop}
-use Rattle.pb_text.proofs.lemmas.source.Wholes.{given_both}
-use Rattle.pb_proof.specs.contract.Formats.{ReadsProofs}
-use Rattle.pb_proof.specs.declared.Statement.{Statement}
-use Rattle.pb_replay.specs.contract.ReplayModel.{Replaying, StandsFor}
-use Rattle.pb_replay.specs.meaning.Meaning.{IsNamePrefix}
-use Rattle.pb_replay.specs.meaning.Problem.{Problem}
-use Rattle.pb_replay.specs.meaning.Replay.{State, first_state}
-use Rattle.pb_replay.specs.meaning.Statements.{Outcome}
-use Rattle.pb_replay.specs.declared.fault.Fault.{Fault}
-use Rattle.pb_replay.specs.declared.fault.Fault.TheVariants.{Memory as no_memory, NotTotal}
-use Rattle.pb_replay.specs.declared.verdict.Verdict.{Verdict}
-use Rattle.pb_tool.specs.contract.Checker.{IsAt, StepsFrom}
-use Rattle.pb_tool.specs.contract.Checks.{KeepsNames, StepsTo}
-use Rattle.pb_tool.specs.meaning.Files.{IsProofText}
-use Rattle.pb_tool.specs.contract.Runs.{IsNoReplay, IsReplayOf, IsReportedAs}
-use Rattle.pb_tool.specs.meaning.Verified.{IsReported}
-use Rattle.pb_tool.specs.engine.Running.{HasShown}
-use Rattle.pb_tool.specs.contract.Watched.{Call, Accepted, Rejected, GotEach, HasSeen, HasSeenUpTo, HasSeenWhole, IsWatched, ShowsEach, ShowsProof, ShowsRun}
-use Rattle.pb_tool.specs.declared.commands.check.checker.CheckFault.{CheckFault}
+use Rattle.pb_tool.proofs.Common.{ℕ, ◌++◌, ◌∙◌, ◌∷◌, ◌≡◌, ◌⊎◌, [], ap, append_assoc, Bool, Err, false, inl, inr, List, None, Ok, Option, refl, Result}
+use Rattle.pb_tool.proofs.Common.{Some, string_bytes, subst, sym, true, ReadsProofs, Statement, Replaying, StandsFor, Fault, NotTotal, Verdict}
+use Rattle.pb_tool.proofs.Common.{IsNamePrefix, Problem, first_state, State, Outcome, given_both, Limits, Place, Spanned, Stop, largest, top_of}
+use Rattle.pb_tool.proofs.Common.{OfGiven, TookAll, TookSoFar, IsAsking, IsAt, StepsFrom, KeepsNames, StepsTo, IsNoReplay, IsReplayOf, IsReportedAs}
+use Rattle.pb_tool.proofs.Common.{Accepted, Call, GotEach, HasSeen, HasSeenUpTo, HasSeenWhole, IsWatched, Rejected, ShowsEach, ShowsProof, ShowsRun}
+use Rattle.pb_tool.proofs.Common.{CheckFault, File, ToolFault, Memory, Open, Overflow, Step, Text, Write, HasShown, IsProofText, IsReported}
+use Rattle.pb_replay.specs.declared.fault.Fault.TheVariants.{Memory as no_memory}
 use Rattle.pb_tool.specs.declared.commands.check.checker.CheckFault.TheVariants as check
-use Rattle.pb_tool.specs.declared.fault.ToolFault.{ToolFault}
-use Rattle.pb_tool.specs.declared.fault.ToolFault.TheVariants.{Text, Open, Overflow, Memory, Write, Step}
-use Rattle.pb_tool.specs.declared.fault.Input.TheVariants.{File, Instance as of_instance, Proof as of_proof}
+use Rattle.pb_tool.specs.declared.fault.Input.TheVariants.{Instance as of_instance, Proof as of_proof}
 use Rattle.pb_tool.proofs.lemmas.check.CheckerSteps.{ReportsOld, failed}
 use Rattle.pb_tool.proofs.lemmas.show.GivenStatements.{all_of}
 use Rattle.pb_tool.proofs.lemmas.check.ReplayRuns.{MayTake, Taken, to_proof}

@@ -1,32 +1,15 @@
 -- What is ensured for a file, from what is ensured for a proof or an instance after a peek at its first byte.
-use Rattle.std.proofs.Common.{◌≡◌, ◌⊎◌, ℕ, ◌<◌, List, [], ◌∷◌, ◌++◌, Bool, true, false, Option, Some, None, Result, Ok, Err, refl, sym, ap, ◌∙◌, inl, inr, subst, ◌≢◌, arith}
-use Rattle.std.specs.Prelude.{IfSome, unwrap_or, ◌^◌}
+use Rattle.pb_tool.proofs.Common.{ℕ, ◌++◌, ◌<◌, ◌^◌, ◌∙◌, ◌∷◌, ◌≡◌, ◌≢◌, ◌⊎◌, [], ap, arith, Bool, Err, false, inl, inr, List, None, Ok, Option, refl}
+use Rattle.pb_tool.proofs.Common.{Result, Some, subst, sym, true, unwrap_or, IfSome, eqb_tells, Keeps, event_bytes, IsValueOf, statement_bytes}
+use Rattle.pb_tool.proofs.Common.{IsProof, IsProofOf, writes_nothing, first_fault, ReadsNothing, Limits, Place, Spanned, Stop, Took, TookAll}
+use Rattle.pb_tool.proofs.Common.{TookSoFar, Item, IsRead, Reading, ReadsValue, IsRefusedAfter, IsSpelling, ShowsLines, File, ToolFault, Memory, Open}
+use Rattle.pb_tool.proofs.Common.{Overflow, Step, Text, Write, AsksInProofText, IsProofText, MayBeInstance, MayBeProof, ShowsFile, tidied_proof}
+use Rattle.pb_tool.proofs.Common.{TidiesFile, TidiesProof, AsksInInstanceText, IsFile, IsInstanceText, IsRefused, tidied, Tidies, TidiesAs}
 use Rattle.std.proofs.Math.Dec.{eqb}
-use Rattle.std.proofs.lemmas.Bool.Decides.{eqb_tells}
-use Rattle.std.specs.Io.KnownBytes.{Keeps}
-use Rattle.pb_text.specs.contract.NothingRead.{ReadsNothing, first_fault}
-use Rattle.pb_text.specs.meaning.Pulling.{Took}
-use Rattle.pb_text.specs.meaning.PullsInARow.{TookAll, TookSoFar}
-use Rattle.pb_text.specs.meaning.Spelling.{Item}
-use Rattle.pb_text.specs.declared.Limits.{Limits}
-use Rattle.pb_text.specs.declared.Place.{Place}
-use Rattle.pb_text.specs.declared.Spanned.{Spanned}
-use Rattle.pb_text.specs.declared.Stop.{Stop}
-use Rattle.pb_text.specs.meaning.Whole.{IsRead, ReadsValue, Reading}
-use Rattle.pb_text.proofs.lemmas.text.Writing.{writes_nothing}
-use Rattle.pb_opb.specs.contract.Canonical.{event_bytes}
 use Rattle.pb_opb.specs.meaning.Gather as opb_keeping
-use Rattle.pb_opb.specs.meaning.Values.{IsValueOf}
-use Rattle.pb_proof.specs.meaning.Canonical.{statement_bytes}
 use Rattle.pb_proof.specs.contract.Gather as veri_keeping
-use Rattle.pb_proof.specs.meaning.Proofs.{IsProof, IsProofOf}
-use Rattle.pb_tool.specs.meaning.Files.{tidied_proof, MayBeProof, MayBeInstance, AsksInProofText, IsProofText, ShowsFile, TidiesFile, TidiesProof}
-use Rattle.pb_tool.specs.contract.Show.{IsSpelling, IsRefusedAfter, InText, InRest, ShowsLines}
-use Rattle.pb_tool.specs.meaning.Tidy.{tidied, AsksInInstanceText, IsFile, IsInstanceText, IsRefused, Tidies, TidiesAs}
+use Rattle.pb_tool.specs.contract.Show.{InText, InRest}
 use Rattle.pb_tool.specs.meaning.Tidy.IsRefused.{InText as in_text, InRest as in_rest}
-use Rattle.pb_tool.specs.declared.fault.ToolFault.{ToolFault}
-use Rattle.pb_tool.specs.declared.fault.ToolFault.TheVariants.{Text, Open, Overflow, Memory, Write, Step}
-use Rattle.pb_tool.specs.declared.fault.Input.TheVariants.{File}
 use Rattle.pb_tool.specs.declared.fault.Input.TheVariants as input
 use Rattle.pb_tool.proofs.lemmas.file.OtherReading.{written_so}
 use Rattle.pb_tool.proofs.lemmas.show.ShownStatements.{took_none}

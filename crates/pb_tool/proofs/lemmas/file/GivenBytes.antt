@@ -1,28 +1,10 @@
 -- What is ensured for the bytes that the calls of a source have given. Offered to other crates.
-use Rattle.std.proofs.Common.{◌≡◌, ℕ, ◌<◌, ◌≤◌, ◌+◌, ◌++◌, length, false, List, [], Option, Some, Result, Ok, Err, inl, inr, refl, sym, ap, subst, ◌∙◌, append_assoc, append-nil}
-use Rattle.std.proofs.lemmas.List.{append_cancel_right}
-use Rattle.pb_text.specs.meaning.Blank.{IsBlank, ReadsBlank}
-use Rattle.pb_text.specs.meaning.Reading.{byte_limit}
-use Rattle.pb_text.specs.contract.NothingRead.{ReadsNothing, first_fault}
-use Rattle.pb_text.specs.meaning.Pulling.{OfGiven, Took}
-use Rattle.pb_text.specs.meaning.Spelling.{place_after}
-use Rattle.pb_text.specs.declared.Limits.{Limits}
-use Rattle.pb_text.specs.declared.Spanned.{Spanned}
-use Rattle.pb_text.specs.declared.Stop.{Stop}
-use Rattle.pb_text.proofs.lemmas.source.PullsInARow.{took_join}
-use Rattle.pb_text.proofs.lemmas.source.Wholes.{given_both}
-use Rattle.pb_tool.specs.meaning.Files.{tidied_proof, AsksInProofText, IsProofText, TidiesProof}
-use Rattle.pb_tool.specs.contract.Given.{ShowsGiven, TidiesGiven}
-use Rattle.pb_opb.specs.contract.Canonical.{event_bytes}
-use Rattle.pb_proof.specs.meaning.Canonical.{statement_bytes}
+use Rattle.pb_tool.proofs.Common.{ℕ, ◌++◌, ◌+◌, ◌<◌, ◌∙◌, ◌≡◌, ◌≤◌, [], ap, append-nil, append_assoc, Err, false, inl, inr, length, List, Ok, Option}
+use Rattle.pb_tool.proofs.Common.{refl, Result, Some, subst, sym, append_cancel_right, event_bytes, statement_bytes, IsProofOf, took_join, given_both}
+use Rattle.pb_tool.proofs.Common.{first_fault, ReadsNothing, Limits, Spanned, Stop, IsBlank, ReadsBlank, OfGiven, Took, byte_limit, place_after}
+use Rattle.pb_tool.proofs.Common.{ShowsGiven, TidiesGiven, ShowsLines, File, ToolFault, Text, AsksInProofText, IsProofText, tidied_proof, TidiesProof}
+use Rattle.pb_tool.proofs.Common.{AsksInInstanceText, IsFile, IsInstanceText, IsRefused, Tidies, InRest}
 use Rattle.pb_proof.specs.contract.Gather.{MayKeep}
-use Rattle.pb_proof.specs.meaning.Proofs.{IsProofOf}
-use Rattle.pb_tool.specs.contract.Show.{ShowsLines}
-use Rattle.pb_tool.specs.meaning.Tidy.{AsksInInstanceText, IsFile, IsInstanceText, IsRefused, Tidies}
-use Rattle.pb_tool.specs.meaning.Tidy.IsRefused.{InRest}
-use Rattle.pb_tool.specs.declared.fault.ToolFault.{ToolFault}
-use Rattle.pb_tool.specs.declared.fault.ToolFault.TheVariants.{Text}
-use Rattle.pb_tool.specs.declared.fault.Input.TheVariants.{File}
 use Rattle.pb_tool.proofs.lemmas.file.ChosenFormat.{shows_nothing, tidies_nothing}
 use Rattle.pb_tool.proofs.lemmas.show.ShownStatements.{rest_within}
 

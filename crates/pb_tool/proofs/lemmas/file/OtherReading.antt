@@ -1,11 +1,7 @@
 -- What was written and why, if each reading is also a reading of another kind.
-use Rattle.std.proofs.Common.{◌≡◌, ℕ, List, Option, Result, Ok, Err, subst}
-use Rattle.pb_text.specs.meaning.Writing.{Wrote, Broke}
-use Rattle.pb_text.specs.declared.Stop.{Stop}
-use Rattle.pb_tool.specs.meaning.Tidy.{IsStopped, WritesText}
-use Rattle.pb_tool.specs.declared.fault.ToolFault.{ToolFault}
-use Rattle.pb_tool.specs.declared.fault.ToolFault.TheVariants.{Text, Open, Overflow, Memory, Write, Step}
-use Rattle.pb_tool.specs.declared.fault.Input.TheVariants.{File, Instance, Proof}
+use Rattle.pb_tool.proofs.Common.{ℕ, ◌≡◌, Err, List, Ok, Option, Result, subst, Stop, Broke, Wrote, File, ToolFault, Memory, Open, Overflow, Step}
+use Rattle.pb_tool.proofs.Common.{Text, Write, IsStopped, WritesText}
+use Rattle.pb_tool.specs.declared.fault.Input.TheVariants.{Instance, Proof}
 
 module _ {V : Type 0} (Has : V → Type 0) (text : V → List ℕ) (No : Stop → Type 0) {W : Type 0} (contents : W → Option (List ℕ)) (faults : W → ℕ) where
   pub written_so : {U : Type 0} (Shows : U → Type 0) (spelling : U → List ℕ) (Not : Stop → Type 0) → ((v : V) → Has v → (u : U) × Shows u × (text v ≡ spelling u)) → ((s : Stop) → No s → Not s)

@@ -1,6 +1,5 @@
 -- A fault that `?` passes on.
-use Rattle.std.proofs.Common.{Result, Ok, Err, IfErr, ◌≡◌, subst, sym}
-use Rattle.std.specs.Prelude.{IsErrAnd}
+use Rattle.pb_tool.proofs.Common.{◌≡◌, Err, IfErr, Ok, Result, subst, sym, IsErrAnd}
 
 -- What is right of a fault is right of the result that has it.
 pub passed_on : {A E : Type 0} (P : E → Type 0) (r : Result A E) (e : E) → IsErrAnd r (λ f. f ≡ e) → P e → IfErr r P

@@ -1,25 +1,9 @@
 -- Statements that are shown one after another, for the bytes that the calls of a source have given.
-use Rattle.std.proofs.Common.{◌≡◌, ℕ, List, [], ◌∷◌, ◌++◌, true, false, Option, Some, None, Result, Ok, Err, refl, sym, ap, ◌∙◌, subst, append_assoc, length-append, arith}
-use Rattle.std.proofs.lemmas.List.{append_cancel_right}
-use Rattle.pb_text.specs.contract.Automaton.{AcceptsItems}
-use Rattle.pb_text.specs.contract.Feeding.{place_of, halt_of, stop_of, is_complete}
-use Rattle.pb_text.specs.meaning.Pulling.{OfGiven, Pulls}
-use Rattle.pb_text.specs.meaning.Stopping.{IsAsking}
-use Rattle.pb_text.specs.meaning.PullsInARow.{PullsOn, TookAll, TookSoFar}
-use Rattle.pb_text.specs.meaning.Spelling.{Item}
-use Rattle.pb_text.specs.meaning.Writing.{Wrote, Broke}
-use Rattle.pb_text.specs.declared.Feeder.{Feeder}
-use Rattle.pb_text.specs.declared.Machine.{Ghosts}
-use Rattle.pb_text.specs.declared.Place.{Place}
-use Rattle.pb_text.specs.declared.Spanned.{Spanned}
-use Rattle.pb_text.specs.declared.Stop.{Stop}
-use Rattle.pb_text.proofs.lemmas.source.PullsInARow.{row}
-use Rattle.pb_tool.specs.contract.Show.{shown, shown_line, EndsAt, InText, ShowsLines}
-use Rattle.pb_tool.specs.engine.Running.{HasGiven}
-use Rattle.pb_tool.specs.declared.fault.ToolFault.{ToolFault}
-use Rattle.pb_tool.specs.declared.fault.ToolFault.TheVariants.{Text, Write}
-use Rattle.pb_tool.specs.declared.fault.Input.TheVariants.{File}
-use Rattle.pb_text.proofs.lemmas.source.Wholes.{given_both}
+use Rattle.pb_tool.proofs.Common.{ℕ, ◌++◌, ◌∙◌, ◌∷◌, ◌≡◌, [], ap, append_assoc, arith, Err, false, length-append, List, None, Ok, Option, refl}
+use Rattle.pb_tool.proofs.Common.{Result, Some, subst, sym, true, append_cancel_right, row, given_both, AcceptsItems, halt_of, is_complete, place_of}
+use Rattle.pb_tool.proofs.Common.{stop_of, Feeder, Ghosts, Place, Spanned, Stop, OfGiven, Pulls, PullsOn, TookAll, TookSoFar, Item, IsAsking, Broke}
+use Rattle.pb_tool.proofs.Common.{Wrote, EndsAt, shown, shown_line, ShowsLines, File, ToolFault, Text, Write, HasGiven}
+use Rattle.pb_tool.specs.contract.Show.{InText}
 use Rattle.pb_tool.proofs.lemmas.show.ShownStatements.{shows_end}
 
 module _ {M E : Type 0} {g : Ghosts M E} (longest : ℕ) (start : M) (before mid after : List ℕ) (spans : List (Spanned E)) (old new : Feeder M E g) (h : HasGiven longest start before spans old mid) (left rest : Option (List ℕ)) where

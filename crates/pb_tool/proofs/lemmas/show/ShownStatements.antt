@@ -1,25 +1,11 @@
 -- Statements that are shown one after another. Offered to other crates.
-use Rattle.std.proofs.Common.{◌≡◌, ℕ, ◌+◌, ◌-◌, ◌^◌, ◌<◌, ◌≤◌, List, [], ◌∷◌, ◌++◌, length, Bool, true, false, Option, Some, None, Result, Ok, Err, refl, sym, ap, ◌∙◌, subst, append-nil, arith, length-append}
-use Rattle.std.proofs.lemmas.Grind.{flat_map-append}
-use Rattle.pb_text.specs.meaning.Blank.{ReadsBlank}
-use Rattle.pb_text.specs.contract.Feeding.{StandsAt, place_of, halt_of}
-use Rattle.pb_text.specs.meaning.Pulling.{Took}
-use Rattle.pb_text.specs.meaning.Reading.{IsSpelled, Reads, byte_limit}
-use Rattle.pb_text.specs.meaning.PullsInARow.{HasPulled, TookAll, TookSoFar}
-use Rattle.pb_text.specs.meaning.Spelling.{Item, place_after}
-use Rattle.pb_text.specs.declared.Place.{Place}
-use Rattle.pb_text.specs.declared.Spanned.{Spanned}
-use Rattle.pb_text.specs.declared.Stop.{Stop}
-use Rattle.pb_text.specs.declared.Feeder.{Feeder}
-use Rattle.pb_text.specs.declared.Machine.{Ghosts}
-use Rattle.pb_text.specs.meaning.Writing.{Wrote}
-use Rattle.pb_text.proofs.lemmas.source.PullsInARow.{took_join}
-use Rattle.pb_text.proofs.lemmas.text.Short.{place_after-offset}
-use Rattle.pb_text.proofs.lemmas.source.Unkept.{asking_to}
-use Rattle.pb_tool.specs.contract.Show.{shown_line, shown, EndsAt, IsSpelling, IsRefusedAfter, InText, InRest, ShowsLines}
-use Rattle.pb_tool.specs.declared.fault.ToolFault.{ToolFault}
-use Rattle.pb_tool.specs.declared.fault.ToolFault.TheVariants.{Text, Open, Overflow, Memory, Write, Step}
-use Rattle.pb_tool.specs.declared.fault.Input.TheVariants.{File, Instance, Proof}
+use Rattle.pb_tool.proofs.Common.{ℕ, ◌++◌, ◌+◌, ◌-◌, ◌<◌, ◌^◌, ◌∙◌, ◌∷◌, ◌≡◌, ◌≤◌, [], ap, append-nil, arith, Bool, Err, false, length, length-append}
+use Rattle.pb_tool.proofs.Common.{List, None, Ok, Option, refl, Result, Some, subst, sym, true, flat_map-append, took_join, asking_to}
+use Rattle.pb_tool.proofs.Common.{place_after-offset, halt_of, place_of, StandsAt, Feeder, Ghosts, Place, Spanned, Stop, ReadsBlank, Took, HasPulled}
+use Rattle.pb_tool.proofs.Common.{TookAll, TookSoFar, byte_limit, IsSpelled, Reads, Item, place_after, Wrote, EndsAt, IsRefusedAfter, IsSpelling}
+use Rattle.pb_tool.proofs.Common.{shown, shown_line, ShowsLines, File, ToolFault, Memory, Open, Overflow, Step, Text, Write}
+use Rattle.pb_tool.specs.contract.Show.{InText, InRest}
+use Rattle.pb_tool.specs.declared.fault.Input.TheVariants.{Instance, Proof}
 use Rattle.pb_tool.proofs.lemmas.check.OneRead.{so_far_reached}
 
 -- a text and the blank rest after it are no longer than an input may be

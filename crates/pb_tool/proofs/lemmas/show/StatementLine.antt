@@ -1,8 +1,5 @@
 -- The line that shows a statement.
-use Rattle.std.proofs.Common.{◌≡◌, ℕ, List, [], ◌∷◌, ◌++◌, decimal, sym, ap, ◌∙◌, append_assoc}
-use Rattle.pb_text.specs.declared.Spanned.{Spanned}
-use Rattle.pb_sums.specs.contract.Canonical.{place_bytes}
-use Rattle.pb_tool.specs.contract.Show.{line_of, shown_line}
+use Rattle.pb_tool.proofs.Common.{ℕ, ◌++◌, ◌∙◌, ◌∷◌, ◌≡◌, [], ap, append_assoc, decimal, List, sym, place_bytes, Spanned, line_of, shown_line}
 
 -- a line is a position and what follows it
 pub line_parts : {E : Type 0} (text : E → List ℕ) (m : Spanned E) → shown_line text m ≡ place_bytes m.first ++ line_of text m.event

@@ -1,23 +1,10 @@
 -- The names of terms, numbered in turn, and the forms of constraints as lines, after more names or one more constraint.
-use Rattle.std.proofs.Common.{◌≡◌, ◌⊎◌, inl, inr, ℕ, zero, suc, ◌<◌, ◌+◌, List, [], ◌∷◌, ◌++◌, length, length-append, sym, ◌∙◌, ap, ap₂, refl, subst, append-nil, arith, Contains, take, get_or}
-use Rattle.std.proofs.lemmas.Grind.{flat_map-append}
-use Rattle.std.proofs.lemmas.List.{map-append}
-use Rattle.std.proofs.lemmas.List.Elements.{Contains-append_right, Contains-append_cases}
-use Rattle.pb_sums.specs.declared.Term.{Term}
-use Rattle.pb_sums.specs.declared.Linear.{Linear}
-use Rattle.pb_opb.specs.declared.OpbEvent.TheVariants.{Constraint}
-use Rattle.pb_normal.specs.declared.Side.{Side}
-use Rattle.pb_normal.specs.meaning.Constraints.{AreFormsOf, Fits, constraint_names, sides_in, with_sides}
-use Rattle.pb_normal.specs.meaning.Form.{Form}
-use Rattle.pb_normal.specs.meaning.Names.{AreDistinct, HasNames, with_name, with_names}
-use Rattle.pb_normal.specs.meaning.Written.{linear_of, names_of}
-use Rattle.pb_normal.proofs.lemmas.names.Appearing.{prefix, named, distinct, in_turn, written_alike}
+use Rattle.pb_tool.proofs.Common.{ℕ, ◌++◌, ◌+◌, ◌<◌, ◌∙◌, ◌∷◌, ◌≡◌, ◌⊎◌, [], ap, append-nil, ap₂, arith, Contains, get_or, inl, inr, length}
+use Rattle.pb_tool.proofs.Common.{length-append, List, refl, subst, suc, sym, take, zero, flat_map-append, map-append, Contains-append_cases}
+use Rattle.pb_tool.proofs.Common.{Contains-append_right, distinct, in_turn, named, prefix, written_alike, HasNames-append, Side, AreFormsOf}
+use Rattle.pb_tool.proofs.Common.{constraint_names, Fits, sides_in, with_sides, Form, AreDistinct, HasNames, with_name, with_names, linear_of}
+use Rattle.pb_tool.proofs.Common.{names_of, Constraint, Linear, Term, take_read, SomePasses, line, AreLines, form_lines}
 use Rattle.pb_normal.proofs.lemmas.names.Loaded.{are_named, forms_more, forms_then}
-use Rattle.pb_text.proofs.lemmas.text.Lists.{take_read}
-use Rattle.pb_normal.proofs.lemmas.names.WrittenForms.{HasNames-append}
-use Rattle.pb_tool.specs.engine.InstanceText.{line}
-use Rattle.pb_tool.specs.contract.Normalised.{SomePasses}
-use Rattle.pb_tool.specs.engine.NormalText.{AreLines, form_lines}
 use Rattle.pb_tool.specs.declared.commands.tidy.form_lines.FormLines.{FormLines}
 
 -- the names of some terms, and of one more

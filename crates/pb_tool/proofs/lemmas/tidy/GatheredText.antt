@@ -1,14 +1,7 @@
 -- A file whose statements are gathered is one with a value, if what they are gathered to has the value.
-use Rattle.std.proofs.Common.{◌≡◌, ◌↔◌, ℕ, List, Bool, IsTrue, Option, Result, refl, sym, subst}
-use Rattle.pb_text.specs.meaning.Spelling.{Item}
-use Rattle.pb_text.specs.meaning.Whole.{gathered, events_of, IsRead, IsWhole, MayHold, ReadsValue, ReadsWhole}
-use Rattle.pb_text.specs.declared.Spanned.{Spanned}
-use Rattle.pb_text.specs.declared.Stop.{Stop}
+use Rattle.pb_tool.proofs.Common.{ℕ, ◌↔◌, ◌≡◌, Bool, IsTrue, List, Option, refl, Result, subst, sym, stops_in, Spanned, Stop, Item, events_of}
+use Rattle.pb_tool.proofs.Common.{gathered, IsRead, IsWhole, MayHold, ReadsValue, ReadsWhole, ToolFault, IsFile, IsRefused, TidiesAs, InRest, InText}
 use Rattle.pb_text.proofs.lemmas.text.Formats as formats
-use Rattle.pb_text.proofs.lemmas.source.Unkept.{stops_in}
-use Rattle.pb_tool.specs.meaning.Tidy.{IsFile, IsRefused, TidiesAs}
-use Rattle.pb_tool.specs.meaning.Tidy.IsRefused.{InText, InRest}
-use Rattle.pb_tool.specs.declared.fault.ToolFault.{ToolFault}
 use Rattle.pb_tool.proofs.lemmas.file.OtherReading.{written_so}
 
 module _ {E T V : Type 0} (accepted format : List (Item E) → Type 0) (same : (items : List (Item E)) → accepted items ↔ format items) (longest : ℕ) (with : T → E → T) (empty : T)

@@ -1,19 +1,9 @@
 -- The text of an instance whose statements are gathered one by one is its canonical text.
-use Rattle.std.proofs.Common.{◌≡◌, ◌↔◌, ℕ, suc, zero, List, [], ◌∷◌, ◌++◌, Bool, true, false, IsTrue, Option, None, Result, refl, sym, ap, ap₂, ◌∙◌, append_assoc, append-nil}
-use Rattle.pb_text.specs.meaning.Limits.{largest, top_of}
-use Rattle.pb_text.specs.meaning.Spelling.{Item, Letter}
-use Rattle.pb_text.specs.meaning.Whole.{gathered, events_of}
-use Rattle.pb_text.specs.declared.Limits.{Limits}
-use Rattle.pb_opb.specs.meaning.Gather.{MayKeep}
-use Rattle.pb_opb.specs.meaning.Instances.{IsBegun, IsInstance}
-use Rattle.pb_opb.specs.meaning.Values.{IsValueOf}
-use Rattle.pb_opb.specs.declared.OpbEvent.{OpbEvent}
-use Rattle.pb_opb.specs.declared.OpbEvent.TheVariants.{Header, Comment, Objective, Constraint}
-use Rattle.pb_opb.proofs.lemmas.instances.Counted.{IsEntry, IsCounted, counted}
-use Rattle.pb_tool.specs.engine.Gathered.{TidiesEach}
-use Rattle.pb_tool.specs.engine.InstanceText.{line, line_if, with, asks, text_of, IsInstanceTextOf}
-use Rattle.pb_tool.specs.meaning.Tidy.{tidied, AsksInInstanceText, IsInstanceText, Tidies}
-use Rattle.pb_tool.specs.declared.fault.ToolFault.{ToolFault}
+use Rattle.pb_tool.proofs.Common.{ℕ, ◌++◌, ◌↔◌, ◌∙◌, ◌∷◌, ◌≡◌, [], ap, append-nil, append_assoc, ap₂, Bool, false, IsTrue, List, None, Option, refl}
+use Rattle.pb_tool.proofs.Common.{Result, suc, sym, true, zero, counted, IsCounted, IsEntry, OpbEvent, Comment, Constraint, Header, Objective}
+use Rattle.pb_tool.proofs.Common.{MayKeep, IsBegun, IsInstance, IsValueOf, Limits, largest, top_of, Item, Letter, events_of, gathered, ToolFault}
+use Rattle.pb_tool.proofs.Common.{TidiesEach, IsInstanceTextOf, line, line_if, text_of, with, AsksInInstanceText, IsInstanceText, tidied, Tidies}
+use Rattle.pb_tool.specs.engine.InstanceText.{asks}
 use Rattle.pb_tool.specs.declared.commands.tidy.instance_text.InstanceText.{InstanceText}
 use Rattle.pb_tool.proofs.lemmas.tidy.StatementOrder.{line_more, value_of, is_value, text_added}
 use Rattle.pb_tool.proofs.lemmas.tidy.GatheredText.{tidies_value}

@@ -1,16 +1,9 @@
 -- What a canonical text ends with.
-use Rattle.std.proofs.Common.{◌≡◌, ℕ, ◌+◌, true, false, ◌==◌, List, [], ◌∷◌, ◌++◌, length, take, drop, Option, Some, None, refl, sym, ap, ◌∙◌, append_assoc, subst}
-use Rattle.std.specs.List.{AllByRecursion}
-use Rattle.std.proofs.lemmas.Bool.{cond-false, cond-true}
-use Rattle.pb_sums.specs.declared.Term.{Term}
-use Rattle.pb_sums.specs.declared.Linear.{Linear}
-use Rattle.pb_sums.specs.contract.Canonical.{head_bytes}
-use Rattle.pb_opb.specs.contract.Canonical.{header_bytes, event_bytes, lines, objective_events, constraint_events, comment_events, due, in_order, body_events, instance_bytes}
-use Rattle.pb_opb.specs.declared.OpbEvent.{OpbEvent}
-use Rattle.pb_opb.specs.declared.OpbEvent.TheVariants.{Objective, Constraint}
-use Rattle.pb_opb.specs.declared.Instance.{Instance}
+use Rattle.pb_tool.proofs.Common.{ℕ, ◌++◌, ◌+◌, ◌==◌, ◌∙◌, ◌∷◌, ◌≡◌, [], ap, append_assoc, drop, false, length, List, None, Option, refl, Some, subst}
+use Rattle.pb_tool.proofs.Common.{sym, take, true, cond-false, cond-true, AllByRecursion, body_events, comment_events, constraint_events, due}
+use Rattle.pb_tool.proofs.Common.{event_bytes, header_bytes, in_order, instance_bytes, lines, objective_events, Instance, OpbEvent, Constraint}
+use Rattle.pb_tool.proofs.Common.{Objective, head_bytes, Linear, Term, ends_in_feed, is_bare, tidied}
 use Rattle.pb_opb.specs.declared.Comment as comment
-use Rattle.pb_tool.specs.meaning.Tidy.{ends_in_feed, is_bare, tidied}
 
 -- the text ends with this byte
 abbrev EndsWith : ℕ → List ℕ → Type 0

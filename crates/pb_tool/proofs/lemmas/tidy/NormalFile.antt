@@ -1,38 +1,15 @@
 -- The normal form of a file whose statements come one by one.
-use Rattle.std.proofs.Common.{◌≡◌, ◌↔◌, ℕ, List, [], ◌∷◌, ◌++◌, map, length, Bool, false, true, IsTrue, Option, Some, None, Result, Ok, Err, refl, sym, ap, ap₂, ◌∙◌, subst, append_assoc, append-nil, ◌+◌}
-use Rattle.std.specs.List.{flat_map}
-use Rattle.std.proofs.lemmas.List.{length-map}
+use Rattle.pb_tool.proofs.Common.{ℕ, ◌++◌, ◌+◌, ◌↔◌, ◌∙◌, ◌∷◌, ◌≡◌, [], ap, append-nil, append_assoc, ap₂, Bool, Err, false, IsTrue, length, List}
+use Rattle.pb_tool.proofs.Common.{map, None, Ok, Option, refl, Result, Some, subst, sym, true, length-map, flat_map, AreFormsOf, constraint_names}
+use Rattle.pb_tool.proofs.Common.{sides_in, with_names, linear_of, names_of, counted, body_events, constraint_events, header_bytes, in_order}
+use Rattle.pb_tool.proofs.Common.{instance_bytes, lines, objective_events, Instance, OpbEvent, Comment, Constraint, Header, Objective, MayKeep}
+use Rattle.pb_tool.proofs.Common.{IsBegun, constraints_in, IsValueOf, last_or, objectives_in, names_in, objective_of, Linear, Term, Limits, Stop}
+use Rattle.pb_tool.proofs.Common.{largest, top_of, Item, events_of, gathered, faults_reported, IsNormalised, SomePasses, SawFile, Forms, File}
+use Rattle.pb_tool.proofs.Common.{ToolFault, Memory, Open, Overflow, Step, Text, Write, IsGathered, IsNotGathered, line, line_if, AreLines}
+use Rattle.pb_tool.proofs.Common.{as_statement, IsNoted, names_at, names_on, NamesInOrder, noted, AsksInInstanceText, HasNormalForm, is_bare}
+use Rattle.pb_tool.proofs.Common.{IsInstanceFile, IsInstanceText, IsNoInstanceFile, IsNoNormalFile, IsNormalFile, LacksNormalForm, tidied, WritesText}
 use Rattle.std.proofs.lemmas.List.Folds.{flat_map-map}
-use Rattle.pb_text.specs.meaning.Limits.{largest, top_of}
-use Rattle.pb_text.specs.meaning.Spelling.{Item}
-use Rattle.pb_text.specs.meaning.Whole.{gathered, events_of}
-use Rattle.pb_text.specs.declared.Limits.{Limits}
-use Rattle.pb_text.specs.declared.Stop.{Stop}
-use Rattle.pb_sums.specs.declared.Term.{Term}
-use Rattle.pb_sums.specs.declared.Linear.{Linear}
-use Rattle.pb_opb.specs.contract.Canonical.{header_bytes, lines, objective_events, constraint_events, in_order, body_events, instance_bytes}
-use Rattle.pb_opb.specs.meaning.Gather.{MayKeep}
-use Rattle.pb_opb.specs.meaning.Instances.{IsBegun}
-use Rattle.pb_opb.proofs.lemmas.instances.Counted.{counted}
-use Rattle.pb_opb.specs.meaning.Values.{IsValueOf, last_or, objectives_in, constraints_in}
-use Rattle.pb_opb.specs.declared.Instance.{Instance}
-use Rattle.pb_opb.specs.declared.OpbEvent.{OpbEvent}
-use Rattle.pb_opb.specs.declared.OpbEvent.TheVariants.{Header, Comment, Objective, Constraint}
-use Rattle.pb_normal.specs.meaning.Constraints.{AreFormsOf, constraint_names, sides_in}
-use Rattle.pb_normal.specs.meaning.Names.{with_names}
-use Rattle.pb_normal.specs.meaning.Written.{linear_of, names_of}
-use Rattle.pb_replay.specs.meaning.Problem.{names_in, objective_of}
-use Rattle.pb_tool.specs.contract.Faults.{faults_reported}
-use Rattle.pb_tool.specs.engine.Gathered.{IsGathered, IsNotGathered}
-use Rattle.pb_tool.specs.engine.InstanceText.{line, line_if}
-use Rattle.pb_tool.specs.contract.Normalised.{IsNormalised, SomePasses}
-use Rattle.pb_tool.specs.engine.NormalText.{AreLines, NamesInOrder, IsNoted, as_statement, names_at, names_on, noted}
-use Rattle.pb_tool.specs.meaning.Tidy.{AsksInInstanceText, HasNormalForm, LacksNormalForm, IsNoNormalFile, IsNormalFile, IsInstanceText, IsInstanceFile, IsNoInstanceFile, WritesText, is_bare, tidied}
-use Rattle.pb_tool.specs.contract.Seen.{SawFile}
-use Rattle.pb_tool.specs.declared.fault.ToolFault.{ToolFault}
-use Rattle.pb_tool.specs.declared.fault.ToolFault.TheVariants.{Text, Open, Overflow, Memory, Write, Step}
-use Rattle.pb_tool.specs.declared.fault.Input.TheVariants.{File, Instance as of_instance, Proof as of_proof}
-use Rattle.pb_tool.specs.declared.commands.tidy.normal_text.Forms.{Forms}
+use Rattle.pb_tool.specs.declared.fault.Input.TheVariants.{Instance as of_instance, Proof as of_proof}
 use Rattle.pb_tool.specs.declared.commands.tidy.normal_text.Standing.TheVariants.{Stored}
 use Rattle.pb_tool.proofs.lemmas.tidy.LastByte.{tidied_bare}
 use Rattle.pb_tool.proofs.lemmas.tidy.StatementOrder.{Follows, follows, headed, is_value, mains_in, value_of}

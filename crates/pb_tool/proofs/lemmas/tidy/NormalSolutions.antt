@@ -1,22 +1,13 @@
 -- The solutions of a normal form. An instance has one normal form.
-use Rattle.std.proofs.Common.{◌≡◌, ◌↔◌, ℕ, ℤ, Bool, List, [], ◌∷◌, ◌++◌, map, refl, sym, ◌∙◌, ap}
-use Rattle.std.specs.List.{AllByRecursion, Contains}
-use Rattle.std.proofs.lemmas.List.Elements.{All-contains, All-contains_itself, All-from_recursion, All-weaker, recursion_from_All}
-use Rattle.pb_sums.specs.declared.Term.{Term}
-use Rattle.pb_sums.specs.declared.Linear.{Linear}
+use Rattle.pb_tool.proofs.Common.{ℕ, ℤ, ◌++◌, ◌↔◌, ◌∙◌, ◌∷◌, ◌≡◌, [], ap, Bool, List, map, refl, sym, All-contains, All-contains_itself}
+use Rattle.pb_tool.proofs.Common.{All-from_recursion, All-weaker, recursion_from_All, AllByRecursion, names_split, same_forms, Side, AreFormsOf}
+use Rattle.pb_tool.proofs.Common.{constraint_names, sides_in, with_sides, Form, AreDistinct, HasNames, with_names, HoldsWritten, IsFormOf, IsSideOf}
+use Rattle.pb_tool.proofs.Common.{linear_of, names_of, SameAsForm, SameAsForms, Instance, names_in, objective_of, Solves, Linear, Term, AreLoaded}
+use Rattle.pb_tool.proofs.Common.{IsNormalised}
+use Rattle.std.specs.List.{Contains}
 use Rattle.pb_sums.specs.declared.Relation.{Relation}
 use Rattle.pb_sums.specs.declared.Relation.TheVariants.{AtLeast, Equal}
-use Rattle.pb_opb.specs.declared.Instance.{Instance}
-use Rattle.pb_normal.proofs.lemmas.names.WrittenForms.{same_forms}
-use Rattle.pb_normal.specs.declared.Side.{Side}
 use Rattle.pb_normal.specs.declared.Side.TheVariants.{AtLeast as least, AtMost as most}
-use Rattle.pb_normal.specs.meaning.Constraints.{AreFormsOf, constraint_names, sides_in, with_sides}
-use Rattle.pb_normal.specs.meaning.Form.{Form}
-use Rattle.pb_normal.specs.meaning.Names.{AreDistinct, HasNames, with_names}
-use Rattle.pb_normal.specs.meaning.Written.{names_of, linear_of, HoldsWritten, IsFormOf, IsSideOf, SameAsForm, SameAsForms}
-use Rattle.pb_normal.proofs.lemmas.names.Appearing.{names_split}
-use Rattle.pb_replay.specs.meaning.Problem.{Solves, names_in, objective_of}
-use Rattle.pb_tool.specs.contract.Normalised.{AreLoaded, IsNormalised}
 
 -- each constraint holds
 abbrev AllHold : (List ℕ → Bool) → List Linear → Type 0

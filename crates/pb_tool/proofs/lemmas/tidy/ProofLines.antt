@@ -1,21 +1,12 @@
 -- The text of a proof whose statements are gathered one by one is its canonical text.
-use Rattle.std.proofs.Common.{◌≡◌, ◌↔◌, ℕ, List, [], ◌∷◌, ◌++◌, Option, Result, refl, sym, ap, ◌∙◌, append_assoc, append-nil, All}
-use Rattle.pb_text.specs.meaning.Spelling.{Item}
-use Rattle.pb_text.specs.meaning.Whole.{gathered, events_of}
-use Rattle.pb_text.specs.declared.Limits.{Limits}
-use Rattle.std.specs.List.{flat_map}
-use Rattle.std.proofs.lemmas.Grind.{flat_map-append}
-use Rattle.std.proofs.lemmas.List.Elements.{All-head, All-tail}
+use Rattle.pb_tool.proofs.Common.{ℕ, ◌++◌, ◌↔◌, ◌∙◌, ◌∷◌, ◌≡◌, [], All, ap, append-nil, append_assoc, List, Option, refl, Result, sym}
+use Rattle.pb_tool.proofs.Common.{flat_map-append, All-head, All-tail, flat_map, Proof, Statement, Conclude, Delete, End, F, Output, Pol, Rup, Soli}
+use Rattle.pb_tool.proofs.Common.{Solx, statement_bytes, IsProofOf, IsStep, statements_of, Limits, Item, events_of, gathered, ToolFault, TidiesEach}
+use Rattle.pb_tool.proofs.Common.{AsksInProofText, IsProofText, tidied_proof, TidiesProof}
 use Rattle.pb_proof.specs.contract.Gather.{asks, MayKeep}
-use Rattle.pb_proof.specs.meaning.Canonical.{statement_bytes, lines}
-use Rattle.pb_proof.specs.meaning.Proofs.{IsStep, statements_of, IsProofOf}
-use Rattle.pb_proof.specs.declared.Proof.{Proof}
-use Rattle.pb_proof.specs.declared.Statement.{Statement}
-use Rattle.pb_proof.specs.declared.Statement.TheVariants.{Header, F, Pol, Rup, Soli, Solx, Delete, Output, Conclude, End}
-use Rattle.pb_tool.specs.meaning.Files.{tidied_proof, AsksInProofText, IsProofText, TidiesProof}
-use Rattle.pb_tool.specs.engine.Gathered.{TidiesEach}
+use Rattle.pb_proof.specs.meaning.Canonical.{lines}
+use Rattle.pb_proof.specs.declared.Statement.TheVariants.{Header}
 use Rattle.pb_tool.specs.engine.ProofText.{line, with, text_of, IsProofTextOf}
-use Rattle.pb_tool.specs.declared.fault.ToolFault.{ToolFault}
 use Rattle.pb_tool.specs.declared.commands.tidy.proof_text.ProofText.{ProofText}
 use Rattle.pb_tool.proofs.lemmas.tidy.GatheredText.{tidies_value}
 

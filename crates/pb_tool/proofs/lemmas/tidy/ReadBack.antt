@@ -1,21 +1,10 @@
 -- What is read of a canonical text, with or without a line feed after it.
-use Rattle.std.proofs.Common.{◌≡◌, ◌≢◌, ◌⊎◌, inl, inr, ℕ, ◌<◌, ◌≤◌, ◌^◌, List, [], ◌∷◌, ◌++◌, length, Bool, true, false, cond, Option, Some, Err, refl, sym, ap, ◌∙◌, subst, append-nil, append_assoc, arith, length-append}
-use Rattle.pb_text.specs.meaning.Blank.{ReadsBlank, IsStray, passes}
-use Rattle.pb_text.specs.meaning.Pulling.{Took}
-use Rattle.pb_text.specs.meaning.Reading.{Explains, IsBad, IsFull, IsUnderWay, Overruns, Reads, byte_limit}
-use Rattle.pb_text.specs.meaning.Spelling.{Item, bytes_of, spans_of, place_after}
-use Rattle.pb_text.specs.meaning.Whole.{IsRead, ReadsValue, Reading, Keeping}
-use Rattle.pb_text.specs.declared.Place.{Place}
-use Rattle.pb_text.specs.declared.Spanned.{Spanned}
-use Rattle.pb_text.specs.declared.Stop.{Stop}
-use Rattle.pb_text.specs.declared.Why.{Why}
-use Rattle.pb_text.specs.declared.Why.TheVariants.{Byte, TooLarge, Ended, TooLong, Read, Memory}
-use Rattle.pb_text.proofs.lemmas.text.Short.{place_after-offset}
-use Rattle.pb_opb.specs.contract.Canonical.{instance_bytes}
-use Rattle.pb_opb.specs.declared.Instance.{Instance}
-use Rattle.pb_tool.specs.contract.Stays.{IsOutside}
-use Rattle.pb_tool.specs.meaning.Tidy.{ends_in_feed, tidied, IsFile, IsRefused}
-use Rattle.pb_tool.specs.meaning.Tidy.IsRefused.{InText, InRest}
+use Rattle.pb_tool.proofs.Common.{ℕ, ◌++◌, ◌<◌, ◌^◌, ◌∙◌, ◌∷◌, ◌≡◌, ◌≢◌, ◌≤◌, ◌⊎◌, [], ap, append-nil, append_assoc, arith, Bool, cond, Err, false}
+use Rattle.pb_tool.proofs.Common.{inl, inr, length, length-append, List, Option, refl, Some, subst, sym, true, instance_bytes, Instance}
+use Rattle.pb_tool.proofs.Common.{place_after-offset, Place, Spanned, Stop, Why, Byte, Ended, Read, TooLarge, TooLong, IsStray, passes, ReadsBlank}
+use Rattle.pb_tool.proofs.Common.{Took, byte_limit, Explains, IsBad, IsFull, IsUnderWay, Overruns, Reads, bytes_of, Item, place_after, spans_of}
+use Rattle.pb_tool.proofs.Common.{IsRead, Keeping, Reading, ReadsValue, IsOutside, ends_in_feed, IsFile, IsRefused, tidied, InRest, InText}
+use Rattle.pb_text.specs.declared.Why.TheVariants.{Memory}
 use Rattle.pb_tool.proofs.lemmas.check.Prefixes.{Compared, after_prefix, same_rest, some_left, two_prefixes}
 use Rattle.pb_tool.proofs.lemmas.check.OneRead.{NoneGoesOn, one_spelt}
 

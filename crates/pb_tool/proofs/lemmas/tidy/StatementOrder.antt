@@ -1,21 +1,12 @@
 -- The statements of an instance come in the order that its canonical text has.
-use Rattle.std.proofs.Common.{◌≡◌, ℕ, suc, zero, ◌+◌, ◌≤◌, List, [], ◌∷◌, ◌++◌, take, drop, Bool, true, false, cond, nat_le, Option, Some, None, refl, sym, ap, ap₂, subst, ◌∙◌, append_assoc, append-nil, ◌<◌, arith}
-use Rattle.std.specs.List.{flat_map}
-use Rattle.std.proofs.lemmas.Bool.{both_ways, leb-false, leb-true}
-use Rattle.pb_text.specs.meaning.Spelling.{Item, Letter}
-use Rattle.pb_text.specs.meaning.Whole.{gathered, events_of}
-use Rattle.pb_sums.specs.declared.Term.{Term}
-use Rattle.pb_sums.specs.declared.Linear.{Linear}
+use Rattle.pb_tool.proofs.Common.{ℕ, ◌++◌, ◌+◌, ◌<◌, ◌∙◌, ◌∷◌, ◌≡◌, ◌≤◌, [], ap, append-nil, append_assoc, ap₂, arith, Bool, cond, drop, false, List}
+use Rattle.pb_tool.proofs.Common.{nat_le, None, Option, refl, Some, subst, suc, sym, take, true, zero, both_ways, leb-false, leb-true, flat_map}
+use Rattle.pb_tool.proofs.Common.{IsCounted, IsEntry, body_events, comment_events, constraint_events, due, event_bytes, header_bytes, in_order}
+use Rattle.pb_tool.proofs.Common.{instance_bytes, lines, objective_events, Instance, OpbEvent, Comment, Constraint, Header, Objective, comment_at}
+use Rattle.pb_tool.proofs.Common.{comments_in, constraints_in, IsValueOf, last_or, objectives_in, Linear, Term, Item, Letter, events_of, gathered}
+use Rattle.pb_tool.proofs.Common.{line, is_bare, tidied}
 use Rattle.pb_opb.proofs.lemmas.instances.Kept.{reported}
-use Rattle.pb_opb.specs.contract.Canonical.{header_bytes, event_bytes, lines, objective_events, constraint_events, comment_events, due, in_order, body_events, instance_bytes}
-use Rattle.pb_opb.specs.meaning.Values.{IsValueOf, last_or, objectives_in, constraints_in, comments_in, comment_at}
-use Rattle.pb_opb.specs.declared.Instance.{Instance}
 use Rattle.pb_opb.specs.declared.Comment as comment
-use Rattle.pb_opb.specs.declared.OpbEvent.{OpbEvent}
-use Rattle.pb_opb.specs.declared.OpbEvent.TheVariants.{Header, Comment, Objective, Constraint}
-use Rattle.pb_opb.proofs.lemmas.instances.Counted.{IsEntry, IsCounted}
-use Rattle.pb_tool.specs.engine.InstanceText.{line}
-use Rattle.pb_tool.specs.meaning.Tidy.{is_bare, tidied}
 use Rattle.pb_tool.proofs.lemmas.tidy.LastByte.{tidied_bare, tidied_more}
 
 -- the objectives and the constraints

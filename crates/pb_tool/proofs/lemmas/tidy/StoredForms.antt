@@ -1,14 +1,7 @@
 -- What is stored of statements for their normal form, and one more statement.
-use Rattle.std.proofs.Common.{◌≡◌, ℕ, List, [], ◌∷◌, ◌++◌, Option, Some, None, refl, sym, ◌∙◌, ap, append-nil}
-use Rattle.std.proofs.lemmas.Grind.{flat_map-append}
-use Rattle.pb_sums.specs.declared.Term.{Term}
-use Rattle.pb_sums.specs.declared.Linear.{Linear}
-use Rattle.pb_opb.specs.meaning.Values.{last_or, variables_in, objectives_in, constraints_in}
-use Rattle.pb_opb.specs.declared.OpbEvent.{OpbEvent}
-use Rattle.pb_opb.specs.declared.OpbEvent.TheVariants.{Header, Comment, Objective, Constraint}
-use Rattle.pb_normal.specs.meaning.Written.{names_of}
-use Rattle.pb_tool.specs.engine.NormalText.{AreMade, IsNoted, as_statement, names_at, names_on}
-use Rattle.pb_tool.specs.declared.commands.tidy.normal_text.Forms.{Forms}
+use Rattle.pb_tool.proofs.Common.{ℕ, ◌++◌, ◌∙◌, ◌∷◌, ◌≡◌, [], ap, append-nil, List, None, Option, refl, Some, sym, flat_map-append, names_of}
+use Rattle.pb_tool.proofs.Common.{OpbEvent, Comment, Constraint, Header, Objective, constraints_in, last_or, objectives_in, variables_in, Linear}
+use Rattle.pb_tool.proofs.Common.{Term, Forms, AreMade, as_statement, IsNoted, names_at, names_on}
 
 last_more : {A : Type 0} (x y : A) (xs : List A) → last_or x (xs ++ y ∷ []) ≡ y
 last_more x y [] = refl

@@ -1,27 +1,13 @@
 -- What `tidy` does of a text that it wrote.
-use Rattle.std.proofs.Common.{◌≡◌, ◌^◌, ℕ, false, List, [], ◌++◌, length, Option, Some, None, Result, Ok, Err, inl, inr, sym, ap, ◌∙◌, subst}
-use Rattle.std.specs.Io.KnownBytes.{Appends}
-use Rattle.pb_text.specs.meaning.Limits.{largest, top_of}
-use Rattle.pb_text.specs.meaning.Writing.{Wrote, Broke}
-use Rattle.pb_text.specs.declared.Limits.{Limits}
-use Rattle.pb_text.specs.declared.Spanned.{Spanned}
-use Rattle.pb_text.specs.declared.Stop.{Stop}
-use Rattle.pb_text.specs.declared.Why.{Why}
-use Rattle.pb_text.specs.meaning.Whole.{IsRead}
-use Rattle.pb_opb.specs.meaning.Reading.{ReadsInstance}
+use Rattle.pb_tool.proofs.Common.{ℕ, ◌++◌, ◌^◌, ◌∙◌, ◌≡◌, [], ap, Err, false, inl, inr, length, List, None, Ok, Option, Result, Some, subst, sym}
+use Rattle.pb_tool.proofs.Common.{Appends, Instance, ReadsInstance, IsValueOf, ProofValues, Proof, IsProofOf, Limits, Spanned, Stop, Why, largest}
+use Rattle.pb_tool.proofs.Common.{top_of, IsRead, Broke, Wrote, HasNoFault, IsInstanceWithin, IsOutside, IsProofWithin, IsReadAsInstance}
+use Rattle.pb_tool.proofs.Common.{IsReadAsProof, ProofHasNoFault, ProofStaysAsIs, StaysAsIs, WroteAgain, File, ToolFault, Memory, Open, Overflow}
+use Rattle.pb_tool.proofs.Common.{Step, Text, Write, IsProofFile, IsProofText, tidied_proof, TidiesFile, IsFile, IsInstanceFile, IsInstanceText}
+use Rattle.pb_tool.proofs.Common.{IsRefused, tidied, TidiesAs}
 use Rattle.pb_opb.specs.contract.Laws.{InstanceValues}
-use Rattle.pb_opb.specs.meaning.Values.{IsValueOf}
-use Rattle.pb_opb.specs.declared.Instance.{Instance}
-use Rattle.pb_proof.specs.meaning.Proofs.{IsProofOf}
 use Rattle.pb_proof.specs.meaning.Reading.{ReadsProof}
-use Rattle.pb_proof.specs.contract.ValueLaws.{ProofValues}
-use Rattle.pb_proof.specs.declared.Proof.{Proof}
-use Rattle.pb_tool.specs.meaning.Files.{tidied_proof, IsProofFile, IsProofText, TidiesFile}
-use Rattle.pb_tool.specs.contract.Stays.{HasNoFault, IsOutside, IsProofWithin, IsReadAsInstance, IsReadAsProof, IsInstanceWithin, ProofHasNoFault, ProofStaysAsIs, StaysAsIs, WroteAgain}
-use Rattle.pb_tool.specs.meaning.Tidy.{tidied, IsFile, IsInstanceText, IsInstanceFile, IsRefused, TidiesAs}
-use Rattle.pb_tool.specs.declared.fault.ToolFault.{ToolFault}
-use Rattle.pb_tool.specs.declared.fault.ToolFault.TheVariants.{Text, Open, Overflow, Memory, Write, Step}
-use Rattle.pb_tool.specs.declared.fault.Input.TheVariants.{File, Instance as of_instance, Proof as of_proof}
+use Rattle.pb_tool.specs.declared.fault.Input.TheVariants.{Instance as of_instance, Proof as of_proof}
 
 -- what was written into an empty sink is its contents
 written_text : (old new : Option (List ℕ)) (text wrote : List ℕ) → old ≡ Some [] → new ≡ Some text → Appends old new wrote → text ≡ wrote

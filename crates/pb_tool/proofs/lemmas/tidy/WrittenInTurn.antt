@@ -1,11 +1,8 @@
 -- Texts that are written one after another.
-use Rattle.std.proofs.Common.{◌≡◌, ℕ, suc, ◌<◌, List, ◌++◌, Option, Result, IsErr, get_or, take, drop, length, refl, sym, ap, ◌∙◌, take-append-drop, drop-cons}
+use Rattle.pb_tool.proofs.Common.{ℕ, ◌++◌, ◌<◌, ◌∙◌, ◌≡◌, ap, drop, drop-cons, get_or, IsErr, length, List, Option, refl, Result, suc, sym, take}
+use Rattle.pb_tool.proofs.Common.{take-append-drop, flat_map-append, flat_map, part_broke, part_then, Broke, Writes, Wrote}
 use Rattle.std.specs.Borrow.{Bor}
-use Rattle.std.specs.List.{flat_map}
-use Rattle.std.proofs.lemmas.Grind.{flat_map-append}
 use Rattle.pb_text.specs.declared.source.Failed.{Failed}
-use Rattle.pb_text.specs.meaning.Writing.{Wrote, Broke, Writes}
-use Rattle.pb_text.proofs.lemmas.text.Parts.{part_then, part_broke}
 
 module _ {S : Type 0} (contents : S → Option (List ℕ)) (faults : S → ℕ) where
   -- all texts of a list, if those before one were written and that one was written in part

@@ -138,12 +138,14 @@ impl Checker {
     /// How much of the current statement is stored.
     pub fn held(&self) -> usize
         ensures kept { result ≡ held_in self.now }
-        ensures few { (limits : Limits) (longest : ℕ) (v : Problem) (first : Result State AFault) (input : List ℕ)
+        ensures few { (limits : Limits) (longest : ℕ) (v : Problem) (first : Result State AFault)
+            (input : List ℕ)
             → fault_of self.now ≡ None
             → ChecksAt limits longest v first input self.now
             → HoldsOpen limits input (place_in self.now) result }
         // After the last byte of a statement nothing is stored.
-        ensures none { (limits : Limits) (longest : ℕ) (v : Problem) (first : Result State AFault) (input : List ℕ)
+        ensures none { (limits : Limits) (longest : ℕ) (v : Problem) (first : Result State AFault)
+            (input : List ℕ)
             → fault_of self.now ≡ None
             → ChecksAt limits longest v first input self.now
             → EndsStatement limits input
@@ -162,15 +164,21 @@ impl Checker {
         // What held of the checker for all the text before now holds for that text followed by this piece.
         ensures checks { ChecksOnce self.old piece.now self.new }
         ensures fault { fault_of self.new ≡ fault_in result }
-        ensures used { IfOk result (λ n. ((place_in self.new).offset ≡ (place_in self.old).offset + n) × (n ≤ length piece.now)) }
-        ensures again { (e : ACheckFault) → fault_of self.old ≡ Some e → (result ≡ Err e) × (self.new ≡ self.old) }
+        ensures used { IfOk result (λ n.
+            ((place_in self.new).offset ≡ (place_in self.old).offset + n) ×
+            (n ≤ length piece.now)) }
+        ensures again { (e : ACheckFault) → fault_of self.old ≡ Some e → (result ≡ Err e) ×
+            (self.new ≡ self.old) }
         // No name is forgotten, whatever the result is. A name that a rejection gives by its number is there.
         ensures names { IsNamePrefix self.old.replay.names self.new.replay.names }
-        ensures reported { (at : Place) (n : ℕ) → fault_of self.old ≡ None → result ≡ Err (ACheckFault.Step at (AFault.NotTotal n)) → n < length self.new.replay.names }
+        ensures reported { (at : Place) (n : ℕ) → fault_of self.old ≡ None →
+            result ≡ Err (ACheckFault.Step at (AFault.NotTotal n)) →
+            n < length self.new.replay.names }
         // There is no reader that could fail.
         ensures unread { fault_of self.old ≡ None → IfErr result IsNoReadFault }
         // Memory for the text runs out only at a byte that may allocate.
-        ensures memory { (limits : Limits) (longest : ℕ) (v : Problem) (first : Result State AFault) (input : List ℕ)
+        ensures memory { (limits : Limits) (longest : ℕ) (v : Problem) (first : Result State AFault)
+            (input : List ℕ)
             → fault_of self.old ≡ None
             → ChecksAt limits longest v first input self.old
             → IfErr result (AllocatesAt limits (input ++ piece.now)) }
@@ -197,15 +205,22 @@ impl Checker {
     pub fn step(&mut self, piece: &[u8]) -> Result<Went, CheckFault>
         // What held of the checker for all the text before now holds for that text followed by the bytes taken. One
         // more statement was accepted if the result says so, and else none.
-        ensures counts { CountsOnce self.old (bytes_gone result piece.now) (statements_in result) self.new }
+        ensures counts { CountsOnce self.old (bytes_gone result piece.now)
+            (statements_in result) self.new }
         ensures fault { fault_of self.new ≡ fault_in result }
-        ensures used { IfOk result (λ w. ((place_in self.new).offset ≡ (place_in self.old).offset + w.used) × (w.used ≤ length piece.now)) }
+        ensures used { IfOk result (λ w.
+            ((place_in self.new).offset ≡ (place_in self.old).offset + w.used) ×
+            (w.used ≤ length piece.now)) }
         ensures onward { IfOk result (λ w. w.accepted ≡ true → 0 < w.used) }
-        ensures again { (e : ACheckFault) → fault_of self.old ≡ Some e → (result ≡ Err e) × (self.new ≡ self.old) }
+        ensures again { (e : ACheckFault) → fault_of self.old ≡ Some e → (result ≡ Err e) ×
+            (self.new ≡ self.old) }
         ensures names { IsNamePrefix self.old.replay.names self.new.replay.names }
-        ensures reported { (at : Place) (n : ℕ) → fault_of self.old ≡ None → result ≡ Err (ACheckFault.Step at (AFault.NotTotal n)) → n < length self.new.replay.names }
+        ensures reported { (at : Place) (n : ℕ) → fault_of self.old ≡ None →
+            result ≡ Err (ACheckFault.Step at (AFault.NotTotal n)) →
+            n < length self.new.replay.names }
         ensures unread { fault_of self.old ≡ None → IfErr result IsNoReadFault }
-        ensures memory { (limits : Limits) (longest : ℕ) (v : Problem) (first : Result State AFault) (input : List ℕ)
+        ensures memory { (limits : Limits) (longest : ℕ) (v : Problem) (first : Result State AFault)
+            (input : List ℕ)
             → fault_of self.old ≡ None
             → ChecksAt limits longest v first input self.old
             → IfErr result (AllocatesAt limits (input ++ piece.now)) }
@@ -226,17 +241,24 @@ impl Checker {
     /// The same as `step`, with no fault before.
     fn advance(&mut self, piece: &[u8]) -> Result<Went, CheckFault>
         requires { fault_of self.old ≡ None }
-        ensures counts { (limits : Limits) (longest : ℕ) (v : Problem) (first : Result State AFault) (input : List ℕ) (n : ℕ)
+        ensures counts { (limits : Limits) (longest : ℕ) (v : Problem) (first : Result State AFault)
+            (input : List ℕ) (n : ℕ)
             → CountsAt limits longest v first input n self.old
-            → CountsAt limits longest v first (input ++ bytes_gone result piece.now) (n + statements_in result) self.new }
+            → CountsAt limits longest v first (input ++ bytes_gone result piece.now)
+            (n + statements_in result) self.new }
         ensures open { MayGoOn (fault_of self.new) }
         ensures names { IsNamePrefix self.old.replay.names self.new.replay.names }
-        ensures reported { (at : Place) (n : ℕ) → result ≡ Err (ACheckFault.Step at (AFault.NotTotal n)) → n < length self.new.replay.names }
+        ensures reported { (at : Place) (n : ℕ) →
+            result ≡ Err (ACheckFault.Step at (AFault.NotTotal n)) →
+            n < length self.new.replay.names }
         ensures fault { fault_of self.new ≡ fault_in result }
-        ensures used { IfOk result (λ w. ((place_in self.new).offset ≡ (place_in self.old).offset + w.used) × (w.used ≤ length piece.now)) }
+        ensures used { IfOk result (λ w.
+            ((place_in self.new).offset ≡ (place_in self.old).offset + w.used) ×
+            (w.used ≤ length piece.now)) }
         ensures onward { IfOk result (λ w. w.accepted ≡ true → 0 < w.used) }
         ensures unread { IfErr result IsNoReadFault }
-        ensures memory { (limits : Limits) (longest : ℕ) (v : Problem) (first : Result State AFault) (input : List ℕ)
+        ensures memory { (limits : Limits) (longest : ℕ) (v : Problem) (first : Result State AFault)
+            (input : List ℕ)
             → ChecksAt limits longest v first input self.old
             → IfErr result (AllocatesAt limits (input ++ piece.now)) }
     {
@@ -277,11 +299,15 @@ impl Checker {
         watch: &mut V,
     ) -> Result<Option<Verdict>, CheckFault>
         requires { fault_of self.old ≡ None }
-        ensures runs { (longest : ℕ) (began : Replaying) (before : Option (List ℕ)) (since : List ℕ) (unshown : V)
-            → HasRun longest began V.got before since unshown self.old (S.left input.old) (S.history input.old) watch.old
-            → RunsOn longest began V.got before since unshown result self.new (S.left input.new) (S.history input.new) watch.new }
+        ensures runs { (longest : ℕ) (began : Replaying) (before : Option (List ℕ)) (since : List ℕ)
+            (unshown : V)
+            → HasRun longest began V.got before since unshown self.old (S.left input.old)
+            (S.history input.old) watch.old
+            → RunsOn longest began V.got before since unshown result self.new (S.left input.new)
+            (S.history input.new) watch.new }
         ensures fault { fault_of self.new ≡ fault_in result }
-        ensures onward { result ≡ Ok None → (place_in self.old).offset < (place_in self.new).offset }
+        ensures onward { result ≡ Ok None →
+            (place_in self.old).offset < (place_in self.new).offset }
         ensures within { result ≡ Ok None → (place_in self.new).offset ≤ 2 ^ 40 }
         ensures seen { IfErr result (SawText (S.shown input.new) (S.ended input.new)) }
         ensures faults { S.faults input.new ≡ faults_of_text result (S.faults input.old) }
@@ -312,11 +338,13 @@ impl Checker {
 
     /// Call this at the end of the text: it returns what the proof has shown, or why it is rejected.
     pub fn finish(&mut self) -> Result<Verdict, CheckFault>
-        ensures ends { (limits : Limits) (longest : ℕ) (v : Problem) (first : Result State AFault) (input : List ℕ)
+        ensures ends { (limits : Limits) (longest : ℕ) (v : Problem) (first : Result State AFault)
+            (input : List ℕ)
             → fault_of self.old ≡ None
             → ChecksAt limits longest v first input self.old
             → Ends limits longest v first input (place_in self.new) result }
-        ensures counts { (limits : Limits) (longest : ℕ) (v : Problem) (first : Result State AFault) (input : List ℕ) (n : ℕ)
+        ensures counts { (limits : Limits) (longest : ℕ) (v : Problem) (first : Result State AFault)
+            (input : List ℕ) (n : ℕ)
             → fault_of self.old ≡ None
             → CountsAt limits longest v first input n self.old
             → EndsAfter limits longest v first input n (place_in self.new) result }
@@ -327,8 +355,10 @@ impl Checker {
         ensures replay { self.new.replay ≡ self.old.replay }
         // It does not allocate. The only fault that first comes here is that the text was cut.
         ensures first { fault_of self.old ≡ None
-            → IfErr result (λ e. e ≡ CheckFault.Text (record { place = place_in self.old; why = Why.Ended })) }
-        ensures again { (e : ACheckFault) → fault_of self.old ≡ Some e → (result ≡ Err e) × (self.new ≡ self.old) }
+            → IfErr result (λ e.
+            e ≡ CheckFault.Text (record { place = place_in self.old; why = Why.Ended })) }
+        ensures again { (e : ACheckFault) → fault_of self.old ≡ Some e → (result ≡ Err e) ×
+            (self.new ≡ self.old) }
     {
         if let Some(fault) = self.fault {
             return Err(fault);

@@ -22,7 +22,8 @@ pub(crate) fn replay_of_instance<S: Source>(
 ) -> Result<Replay, ToolFault>
     requires { 0 < longest }
     ensures opened { OpensAs limits longest (S.left input.old) (S.left input.new) result }
-    ensures given { OfGiven (λ left rest. OpensAs limits longest left rest result) (S.history input.old) (S.history input.new) }
+    ensures given { OfGiven (λ left rest. OpensAs limits longest left rest result)
+        (S.history input.old) (S.history input.new) }
     ensures seen { SawInstance (S.shown input.new) (S.ended input.new) result }
     ensures faults { S.faults input.new ≡ faults_of_instance result (S.faults input.old) }
 {

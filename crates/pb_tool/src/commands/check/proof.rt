@@ -80,7 +80,8 @@ fn rejection(alloc: Global, checker: &Checker, place: Place, fault: Fault) -> To
 
 /// The name that a fault gives by its number, and an empty one for other faults.
 fn reported_name(alloc: Global, checker: &Checker, fault: Fault) -> Result<String, AllocError>
-    ensures reported { IfOk result (λ name. IsReported checker.now.replay.names fault (string_bytes name)) }
+    ensures reported { IfOk result (λ name. IsReported checker.now.replay.names fault
+        (string_bytes name)) }
     ensures err { OnErr result ((n : ℕ) × (fault ≡ Fault.NotTotal n)) }
 {
     match fault {
@@ -109,7 +110,9 @@ fn check_statements<S: Source, V: Watch>(
     requires running { fault_of checker.old ≡ None }
     requires unspent { checker.old.replay.fault ≡ None }
     ensures runs { (longest : ℕ) (began : Replaying) → Begins longest began checker.old
-        → RunsTo longest began V.got (S.left input.old) (S.history input.old) watch.old result checker.new.replay (S.left input.new) (S.history input.new) watch.new }
+        → RunsTo longest began V.got (S.left input.old)
+        (S.history input.old) watch.old result checker.new.replay (S.left input.new)
+        (S.history input.new) watch.new }
     ensures reach { IfOk result (λ r. IsInReach r.1) }
     ensures seen { IfErr result (SawText (S.shown input.new) (S.ended input.new)) }
     ensures faults { S.faults input.new ≡ faults_of_text result (S.faults input.old) }

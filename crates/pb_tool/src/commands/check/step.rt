@@ -25,7 +25,8 @@ pub(crate) fn step_watched<V: Watch>(
     ensures steps { (now : Result State AFault) → IsAt replay.old now
         → StepsFrom replay.old.limits replay.old.problem now read result replay.new }
     ensures names { IsNamePrefix replay.old.names replay.new.names }
-    ensures unvalued { (at : Place) (n : ℕ) → result ≡ Err (CheckFault.Step at (Fault.NotTotal n)) → n < length replay.old.names }
+    ensures unvalued { (at : Place) (n : ℕ) → result ≡ Err (CheckFault.Step at (Fault.NotTotal n)) →
+        n < length replay.old.names }
     ensures limits { replay.new.limits ≡ replay.old.limits }
     ensures problem { replay.new.problem ≡ replay.old.problem }
     ensures shown { V.got watch.old (call_for read replay.new result) watch.new }
@@ -40,11 +41,13 @@ pub(crate) fn step_watched<V: Watch>(
 
 /// Steps through a statement that was read.
 fn step_through(replay: &mut Replay, read: &Spanned<Statement>) -> Result<(), CheckFault>
-    requires { IsStatementValue (largest replay.old.limits) (top_of replay.old.limits) read.now.event }
+    requires { IsStatementValue (largest replay.old.limits)
+        (top_of replay.old.limits) read.now.event }
     ensures steps { (now : Result State AFault) → IsAt replay.old now
         → StepsFrom replay.old.limits replay.old.problem now read.now result replay.new }
     ensures names { IsNamePrefix replay.old.names replay.new.names }
-    ensures unvalued { (at : Place) (n : ℕ) → result ≡ Err (CheckFault.Step at (Fault.NotTotal n)) → n < length replay.old.names }
+    ensures unvalued { (at : Place) (n : ℕ) → result ≡ Err (CheckFault.Step at (Fault.NotTotal n)) →
+        n < length replay.old.names }
     ensures limits { replay.new.limits ≡ replay.old.limits }
     ensures problem { replay.new.problem ≡ replay.old.problem }
 {

@@ -25,7 +25,8 @@ pub(crate) fn write_verdict<S: Sink>(verdict: Verdict, out: &mut S) -> Result<()
 
 /// The line of two bounds.
 fn write_bounds<S: Sink>(lower: Bound, upper: Bound, out: &mut S) -> Result<(), Failed>
-    ensures { Writes S.contents S.faults out.old (verdict_line (Verdict.Bounds lower upper)) result out.new }
+    ensures { Writes S.contents S.faults out.old (verdict_line (Verdict.Bounds lower upper)) result
+        out.new }
 {
     let mut low = Buffer::new();
     let mut high = Buffer::new();

@@ -60,7 +60,8 @@ impl FormLines {
 
     /// Numbers the names of the terms in turn.
     pub(crate) fn number(&mut self, terms: &[Term]) -> Result<(), AllocError>
-        ensures names { OnOk result (self.new.names ≡ with_names self.old.names (names_of terms.now)) }
+        ensures names { OnOk result (self.new.names ≡ with_names self.old.names
+            (names_of terms.now)) }
         ensures text { self.new.page.text ≡ self.old.page.text }
         ensures count { self.new.count ≡ self.old.count }
     {
@@ -71,9 +72,12 @@ impl FormLines {
     /// side.
     pub(crate) fn add(&mut self, constraint: &Linear, limits: Limits) -> Result<(), AllocError>
         requires { Fits (largest limits) constraint.now }
-        ensures names { OnOk result (self.new.names ≡ with_names self.old.names (constraint_names (constraint.now ∷ []))) }
-        ensures forms { OnOk result ((forms : List Form) × AreFormsOf self.new.names (sides_in (constraint.now ∷ [])) forms ×
-            (self.new.page.text ≡ self.old.page.text ++ form_lines self.new.names forms) × (self.new.count ≡ self.old.count + length forms)) }
+        ensures names { OnOk result (self.new.names ≡ with_names self.old.names
+            (constraint_names (constraint.now ∷ []))) }
+        ensures forms { OnOk result ((forms : List Form) ×
+            AreFormsOf self.new.names (sides_in (constraint.now ∷ [])) forms ×
+            (self.new.page.text ≡ self.old.page.text ++ form_lines self.new.names forms) ×
+            (self.new.count ≡ self.old.count + length forms)) }
     {
         let constraints = slice::from_ref(constraint);
         let forms = loaded(self.alloc, &mut self.names, constraints, limits)?;
@@ -84,7 +88,8 @@ impl FormLines {
     fn write_forms(&mut self, forms: Vec<Normal>) -> Result<(), AllocError>
         requires { All (λ f. All (λ t. t.variable < length self.old.names) f.terms) forms.items }
         ensures names { self.new.names ≡ self.old.names }
-        ensures text { OnOk result (self.new.page.text ≡ self.old.page.text ++ form_lines self.old.names forms.items) }
+        ensures text { OnOk result
+            (self.new.page.text ≡ self.old.page.text ++ form_lines self.old.names forms.items) }
         ensures count { OnOk result (self.new.count ≡ self.old.count + length forms.items) }
     {
         for form in forms {
@@ -97,7 +102,8 @@ impl FormLines {
     fn write_form(&mut self, form: &Normal) -> Result<(), AllocError>
         requires { All (λ t. t.variable < length self.old.names) form.now.terms }
         ensures names { self.new.names ≡ self.old.names }
-        ensures text { OnOk result (self.new.page.text ≡ self.old.page.text ++ line (Constraint (linear_of self.old.names form.now))) }
+        ensures text { OnOk result (self.new.page.text ≡ self.old.page.text ++ line
+            (Constraint (linear_of self.old.names form.now))) }
         ensures count { OnOk result (self.new.count ≡ self.old.count + 1) }
     {
         let Ok(linear) = form.to_linear(&self.names) else {
@@ -135,7 +141,8 @@ fn loaded(
 ) -> Result<Vec<Normal>, AllocError>
     requires { All (Fits (largest limits)) constraints.now }
     ensures forms { IfOk result (λ v. AreFormsOf names.new (sides_in constraints.now) v.items) }
-    ensures names { OnOk result (names.new ≡ with_names names.old (constraint_names constraints.now)) }
+    ensures names { OnOk result (names.new ≡ with_names names.old
+        (constraint_names constraints.now)) }
 {
     match load(alloc, names, constraints, limits) {
         Ok(forms) => Ok(forms),

@@ -38,7 +38,9 @@ impl InstanceText {
 
     /// Adds a statement to the text, after the stored objective, if any. If memory ran out, the text is unchanged.
     fn push(&mut self, event: &OpbEvent) -> Result<(), AllocError>
-        ensures ok { OnOk result (self.new ≡ record self.old { page = record self.old.page { text = self.old.page.text ++ (line_if self.old.objective ++ line event.now) }; objective = None }) }
+        ensures ok { OnOk result
+            (self.new ≡ record
+            self.old { page = record self.old.page { text = self.old.page.text ++ (line_if self.old.objective ++ line event.now) }; objective = None }) }
         ensures unchanged { OnErr result (self.new ≡ self.old) }
     {
         let mark = self.page.mark();
@@ -71,7 +73,8 @@ fn write_after<W: Sink>(
     event: &OpbEvent,
     out: &mut W,
 ) -> Result<(), Failed>
-    ensures { Writes W.contents W.faults out.old (line_if before.now ++ line event.now) result out.new }
+    ensures { Writes W.contents W.faults out.old
+        (line_if before.now ++ line event.now) result out.new }
 {
     write_line_if(before, out)?;
     write_line(event, out)

@@ -46,7 +46,8 @@ impl Forms {
     /// Numbers the names of an objective.
     fn number(&mut self, terms: &[Term])
         ensures limits { self.new.limits ≡ self.old.limits }
-        ensures made { (named : List (List ℕ)) (cs : List Written) → AreMade named cs self.old → AreMade (named ++ names_of terms.now) cs self.new }
+        ensures made { (named : List (List ℕ)) (cs : List Written) → AreMade named cs self.old →
+            AreMade (named ++ names_of terms.now) cs self.new }
     {
         if let Standing::Stored = self.standing {
             match self.lines.number(terms) {
@@ -121,7 +122,9 @@ impl NormalText {
     /// Writes the normal form of the instance, or nothing if there is none.
     pub(crate) fn write<W: Sink>(&self, alloc: Global, out: &mut W) -> Result<(), ToolFault>
         ensures { (v : Instance) → NamesInOrder self.now.1 v →
-            WritesText (HasNormalForm (largest self.now.0) v) (LacksNormalForm (largest self.now.0) v) tidied W.contents W.faults out.old result out.new }
+            WritesText (HasNormalForm (largest self.now.0) v)
+            (LacksNormalForm (largest self.now.0) v) tidied W.contents W.faults out.old result
+            out.new }
     {
         match self.forms.standing {
             Standing::Stored => {}
@@ -147,7 +150,8 @@ fn write_normal<W: Sink>(
     lines: &[u8],
     out: &mut W,
 ) -> Result<(), Failed>
-    ensures { Writes W.contents W.faults out.old (line header.now ++ (line_if objective.now ++ lines.now)) result out.new }
+    ensures { Writes W.contents W.faults out.old
+        (line header.now ++ (line_if objective.now ++ lines.now)) result out.new }
 {
     write_line(header, out)?;
     write_line_if(objective, out)?;

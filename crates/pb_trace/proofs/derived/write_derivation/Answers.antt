@@ -1,5 +1,4 @@
-use Rattle.std.proofs.Common.{refl}
-use Rattle.pb_text.proofs.lemmas.text.Parts.{part_then, part_broke}
+use Rattle.pb_trace.proofs.Common.{refl, part_broke, part_then}
 use Rattle.pb_trace.proofs.derived.write_derivation.Goals as goal
 
 pub returns-in_err-write_negation : goal.returns-in_err-write_negation

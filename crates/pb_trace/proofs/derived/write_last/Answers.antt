@@ -1,7 +1,4 @@
-use Rattle.std.proofs.Common.{refl}
-use Rattle.pb_text.proofs.lemmas.text.Parts.{part_then, part_broke}
-use Rattle.std.specs.Int.{w128}
-use Rattle.std.proofs.lemmas.Int.{to_z-of_z}
+use Rattle.pb_trace.proofs.Common.{refl, to_z-of_z, w128, part_broke, part_then}
 use Rattle.pb_trace.proofs.derived.write_last.Goals as goal
 
 pub returns-in_err-write_bytes : goal.returns-in_err-write_bytes

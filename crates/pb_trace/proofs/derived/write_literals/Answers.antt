@@ -1,8 +1,4 @@
-use Rattle.std.proofs.Common.{◌≡◌, take, refl, arith}
-use Rattle.std.proofs.lemmas.Grind.{common_steps}
-use Rattle.pb_text.proofs.lemmas.text.Writing.{writes_nothing}
-use Rattle.pb_text.proofs.lemmas.text.Parts.{part_then, part_broke, part_wrote}
-use Rattle.pb_trace.specs.Named.{forced_line, known_by}
+use Rattle.pb_trace.proofs.Common.{◌≡◌, arith, refl, take, common_steps, part_broke, part_then, part_wrote, writes_nothing, forced_line, known_by}
 use Rattle.pb_trace.proofs.Shown.{texts_more, texts_at}
 use Rattle.pb_trace.proofs.Deriving.{no_literal}
 use Rattle.pb_trace.proofs.derived.write_literals.Goals as goal

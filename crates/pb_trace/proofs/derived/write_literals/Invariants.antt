@@ -1,7 +1,4 @@
-use Rattle.std.proofs.Common.{take}
-use Rattle.std.specs.List.{flat_map}
-use Rattle.pb_text.specs.meaning.Writing.{Wrote}
-use Rattle.pb_trace.specs.Named.{forced_line, known_by}
+use Rattle.pb_trace.proofs.Common.{take, flat_map, Wrote, forced_line, known_by}
 use Rattle.pb_trace.proofs.derived.write_literals.Given as goal
 
 -- the lines of the literals so far are written

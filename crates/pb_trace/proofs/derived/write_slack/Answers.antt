@@ -1,5 +1,4 @@
-use Rattle.std.proofs.Common.{arith}
-use Rattle.std.proofs.lemmas.Fmt.{decimal_digit}
+use Rattle.pb_trace.proofs.Common.{arith, decimal_digit}
 use Rattle.pb_trace.proofs.derived.write_slack.Goals as goal
 
 pub returns-then-slack-eq0 : goal.returns-then-slack-eq0

@@ -1,5 +1,4 @@
-use Rattle.std.proofs.Common.{refl, arith}
-use Rattle.pb_text.proofs.lemmas.text.Parts.{part_then, part_broke, part_wrote}
+use Rattle.pb_trace.proofs.Common.{arith, refl, part_broke, part_then, part_wrote}
 use Rattle.pb_trace.proofs.Adding.{added_at, added_more}
 use Rattle.pb_trace.proofs.line.write_added.Goals as goal
 

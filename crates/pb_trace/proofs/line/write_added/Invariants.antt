@@ -1,6 +1,4 @@
-use Rattle.std.proofs.Common.{◌≤◌, ◌-◌, length}
-use Rattle.pb_text.specs.meaning.Writing.{Wrote}
-use Rattle.pb_trace.specs.Traced.{added_bytes}
+use Rattle.pb_trace.proofs.Common.{◌-◌, ◌≤◌, length, Wrote, added_bytes}
 use Rattle.pb_trace.proofs.line.write_added.Given as goal
 
 -- the constraints so far are written

@@ -1,9 +1,5 @@
-use Rattle.std.proofs.Common.{ap, rules}
+use Rattle.pb_trace.proofs.Common.{ap, rules, to_z-of_z, w128, part_broke, part_then, best_bytes}
 use mir.Val.{SFits}
-use Rattle.std.specs.Int.{w128}
-use Rattle.std.proofs.lemmas.Int.{to_z-of_z}
-use Rattle.pb_text.proofs.lemmas.text.Parts.{part_then, part_broke}
-use Rattle.pb_trace.specs.Traced.{best_bytes}
 use Rattle.pb_trace.proofs.line.write_best.Goals as goal
 
 pub returns-in_err-write_bytes-in-Some : goal.returns-in_err-write_bytes-in-Some

@@ -1,9 +1,5 @@
-use Rattle.std.proofs.Common.{ℤ, pos, refl, sym, ◌∙◌, arith, rules, get_or}
+use Rattle.pb_trace.proofs.Common.{ℤ, ◌∙◌, arith, get_or, pos, refl, rules, sym, to_z-of_z, w64, part_broke, part_then, part_wrote, live_in}
 use mir.Val.{SFits}
-use Rattle.std.specs.Int.{w64}
-use Rattle.std.proofs.lemmas.Int.{to_z-of_z}
-use Rattle.pb_text.proofs.lemmas.text.Parts.{part_then, part_broke, part_wrote}
-use Rattle.pb_trace.specs.Live.{live_in}
 use Rattle.pb_trace.proofs.Deleting.{deleted_at, deleted_more, without_more}
 use Rattle.pb_trace.proofs.line.write_deleted.Goals as goal
 

@@ -1,7 +1,4 @@
-use Rattle.std.proofs.Common.{◌≡◌, take}
-use Rattle.pb_text.specs.meaning.Writing.{Wrote}
-use Rattle.pb_trace.specs.Traced.{deleted_bytes, without_all}
-use Rattle.pb_trace.specs.Live.{live_in}
+use Rattle.pb_trace.proofs.Common.{◌≡◌, take, Wrote, live_in, deleted_bytes, without_all}
 use Rattle.pb_trace.proofs.line.write_deleted.Given as goal
 
 -- the constraints so far are written and deleted

@@ -1,5 +1,4 @@
-use Rattle.std.proofs.Common.{◌∙◌, List, ℕ, ap, sym}
-use Rattle.pb_normal.specs.meaning.Names.{with_name}
+use Rattle.pb_trace.proofs.Common.{ℕ, ◌∙◌, ap, List, sym, with_name}
 use Rattle.pb_trace.proofs.Naming.{copied}
 use Rattle.pb_trace.proofs.reasons.names_of.Goals as goal
 

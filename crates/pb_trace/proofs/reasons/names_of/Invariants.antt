@@ -1,5 +1,4 @@
-use Rattle.std.proofs.Common.{◌≡◌, take}
-use Rattle.pb_normal.specs.meaning.Names.{AreDistinct}
+use Rattle.pb_trace.proofs.Common.{◌≡◌, take, AreDistinct}
 use Rattle.pb_trace.proofs.reasons.names_of.Given as goal
 
 -- the names so far are copied

@@ -1,6 +1,4 @@
-use Rattle.std.proofs.Common.{Ok}
-use Rattle.pb_trace.specs.Named.{known_by}
-use Rattle.pb_trace.specs.Rejected.{AreReasons}
+use Rattle.pb_trace.proofs.Common.{Ok, known_by, AreReasons}
 use Rattle.pb_trace.proofs.ReasonLines.{no_reason, reasons_then, some_broke}
 use Rattle.pb_trace.proofs.rejected.write_lines.Goals as goal
 

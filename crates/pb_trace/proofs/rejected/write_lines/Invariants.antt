@@ -1,6 +1,4 @@
-use Rattle.std.proofs.Common.{Ok}
-use Rattle.pb_trace.specs.Named.{known_by}
-use Rattle.pb_trace.specs.Rejected.{WritesReasons}
+use Rattle.pb_trace.proofs.Common.{Ok, known_by, WritesReasons}
 use Rattle.pb_trace.proofs.rejected.write_lines.Given as goal
 
 -- the lines so far are written

@@ -1,4 +1,4 @@
-use Rattle.pb_trace.specs.Named.{known_by}
+use Rattle.pb_trace.proofs.Common.{known_by}
 use Rattle.pb_trace.proofs.ReasonLines.{one_piece}
 use Rattle.pb_trace.proofs.rejected.write_piece.Goals as goal
 

@@ -1,6 +1,4 @@
-use Rattle.std.proofs.Common.{Ok}
-use Rattle.pb_trace.specs.Named.{known_by}
-use Rattle.pb_trace.specs.Rejected.{ArePieces}
+use Rattle.pb_trace.proofs.Common.{Ok, known_by, ArePieces}
 use Rattle.pb_trace.proofs.ReasonLines.{no_piece, pieces_then, some_broke}
 use Rattle.pb_trace.proofs.rejected.write_pieces.Goals as goal
 

@@ -1,6 +1,4 @@
-use Rattle.std.proofs.Common.{Ok}
-use Rattle.pb_trace.specs.Named.{known_by}
-use Rattle.pb_trace.specs.Rejected.{WritesPieces}
+use Rattle.pb_trace.proofs.Common.{Ok, known_by, WritesPieces}
 use Rattle.pb_trace.proofs.rejected.write_pieces.Given as goal
 
 -- the parts so far are written

@@ -1,4 +1,4 @@
-use Rattle.pb_trace.specs.Named.{known_by}
+use Rattle.pb_trace.proofs.Common.{known_by}
 use Rattle.pb_trace.proofs.ReasonLines.{line_cut, line_end, pieces_cut}
 use Rattle.pb_trace.proofs.rejected.write_reason.Goals as goal
 

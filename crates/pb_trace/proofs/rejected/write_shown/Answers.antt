@@ -1,4 +1,4 @@
-use Rattle.pb_trace.specs.Named.{known_by}
+use Rattle.pb_trace.proofs.Common.{known_by}
 use Rattle.pb_trace.proofs.ReasonLines.{before_cut, derivation_cut, shown_end}
 use Rattle.pb_trace.proofs.rejected.write_shown.Goals as goal
 

@@ -1,5 +1,4 @@
-use Rattle.std.proofs.Common.{arith, rules}
-use Rattle.std.proofs.lemmas.Fmt.{decimal_digit}
+use Rattle.pb_trace.proofs.Common.{arith, rules, decimal_digit}
 use Rattle.pb_trace.proofs.write.write_coefficient.Goals as goal
 
 pub returns-then-coefficient-eq1 : goal.returns-then-coefficient-eq1

@@ -1,7 +1,4 @@
-use Rattle.std.proofs.Common.{◌≡◌, ◌∙◌, pos, ap, arith, sym, to_z}
-use Rattle.std.specs.Int.{w128}
-use Rattle.std.proofs.lemmas.Fmt.{decimal_digit}
-use Rattle.std.proofs.lemmas.Int.{to_z-of_z}
+use Rattle.pb_trace.proofs.Common.{◌∙◌, ◌≡◌, ap, arith, pos, sym, to_z, decimal_digit, to_z-of_z, w128}
 use Rattle.pb_trace.proofs.write.write_end.Goals as goal
 
 pub returns-then-degree-eq1 : goal.returns-then-degree-eq1

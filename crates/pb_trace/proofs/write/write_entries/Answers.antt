@@ -1,8 +1,4 @@
-use Rattle.std.proofs.Common.{◌≡◌, take, refl, arith, ◌∙◌}
-use Rattle.std.proofs.lemmas.Grind.{common_steps}
-use Rattle.pb_normal.proofs.lemmas.terms.Merging.{total-read, no_entry}
-use Rattle.pb_text.proofs.lemmas.text.Writing.{writes_nothing}
-use Rattle.pb_text.proofs.lemmas.text.Parts.{part_then, part_broke, part_wrote}
+use Rattle.pb_trace.proofs.Common.{◌∙◌, ◌≡◌, arith, refl, take, common_steps, no_entry, total-read, part_broke, part_then, part_wrote, writes_nothing}
 use Rattle.pb_trace.proofs.Shown.{entry_bytes, texts_more, texts_at, head_entries}
 use Rattle.pb_trace.proofs.write.write_entries.Goals as goal
 

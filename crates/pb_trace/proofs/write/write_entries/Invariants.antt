@@ -1,6 +1,4 @@
-use Rattle.std.proofs.Common.{take}
-use Rattle.std.specs.List.{flat_map}
-use Rattle.pb_text.specs.meaning.Writing.{Wrote}
+use Rattle.pb_trace.proofs.Common.{take, flat_map, Wrote}
 use Rattle.pb_trace.proofs.Shown.{entry_bytes}
 use Rattle.pb_trace.proofs.write.write_entries.Given as goal
 

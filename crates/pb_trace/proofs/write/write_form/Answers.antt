@@ -1,8 +1,5 @@
-use Rattle.std.proofs.Common.{refl, rules}
+use Rattle.pb_trace.proofs.Common.{refl, rules, to_z-of_z, w128, part_broke, part_then}
 use mir.Val.{SFits}
-use Rattle.std.specs.Int.{w128}
-use Rattle.std.proofs.lemmas.Int.{to_z-of_z}
-use Rattle.pb_text.proofs.lemmas.text.Parts.{part_then, part_broke}
 use Rattle.pb_trace.proofs.Shown.{named_form}
 use Rattle.pb_trace.proofs.write.write_form.Goals as goal
 

@@ -1,5 +1,4 @@
-use Rattle.std.proofs.Common.{refl}
-use Rattle.pb_text.proofs.lemmas.text.Parts.{part_then, part_broke}
+use Rattle.pb_trace.proofs.Common.{refl, part_broke, part_then}
 use Rattle.pb_trace.proofs.write.write_instance_line.Goals as goal
 
 pub returns-in_err-write_bytes : goal.returns-in_err-write_bytes

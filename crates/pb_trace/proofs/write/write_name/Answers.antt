@@ -1,4 +1,4 @@
-use Rattle.std.proofs.Common.{sym, [], ◌∷◌}
+use Rattle.pb_trace.proofs.Common.{◌∷◌, [], sym}
 use Rattle.pb_trace.proofs.Shown.{name_missing}
 use Rattle.pb_trace.proofs.write.write_name.Goals as goal
 

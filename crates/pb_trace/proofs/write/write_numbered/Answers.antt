@@ -1,7 +1,5 @@
-use Rattle.std.proofs.Common.{Bool, ap}
-use Rattle.pb_text.proofs.lemmas.text.Parts.{part_then, part_broke}
+use Rattle.pb_trace.proofs.Common.{ap, Bool, part_broke, part_then, name_shown}
 use Rattle.pb_sums.specs.meaning.Sums.{literal_bytes}
-use Rattle.pb_trace.specs.Changes.{name_shown}
 use Rattle.pb_trace.proofs.write.write_numbered.Goals as goal
 
 pub returns-in_err-write_bytes : goal.returns-in_err-write_bytes

@@ -1,6 +1,5 @@
 -- `empty` is null, and owns nothing.
-use Rattle.std.proofs.Common.{◌≡◌, List, [], ◌∷◌, ◌++◌, refl, sym, subst}
-use Rattle.std.specs.Prelude.{Option, None}
+use Rattle.pb_c.proofs.Common.{◌++◌, ◌∷◌, ◌≡◌, [], List, None, Option, refl, subst, sym, one, leaves, proved_at, both}
 use mir.Val.{Val}
 use base.Logic.{SProp, ent, emp, id⊢}
 use base.Fml.{ftrue}
@@ -18,9 +17,6 @@ use denote.RawPtr.{null_ptr}
 use denote.Steps.{nothing}
 use denote.Param.{layout}
 use denote.Triple.Walked.{Stays, stay_dropped, walk_of, Goes-dropped}
-use Rattle.core.proofs.cell.Inside.{one}
-use Rattle.std.proofs.raw_atomic.Walks.{proved_at, leaves}
-use Rattle.pb_loose.proofs.Values.{both}
 use Rattle.pb_c.proofs.ReaderSteps.{R, Z, LZ, held_good, held_in}
 use Rattle.pb_c.specs.contracts.reader_handle.ReaderHandle.empty.{ended, clauses}
 use Rattle.pb_c.specs.contracts.reader_handle.ReaderHandle.empty.Key.{name as #self}

@@ -1,5 +1,6 @@
 -- `into_loose` tests the pointer, and hands on what it owns.
-use Rattle.std.proofs.Common.{◌≡◌, ℕ, List, [], ◌∷◌, ◌++◌, refl, sym, ap, ◌∙◌, subst, lit<}
+use Rattle.pb_c.proofs.Common.{ℕ, ◌++◌, ◌∙◌, ◌∷◌, ◌≡◌, [], ap, List, lit<, None, refl, Some, subst, sym, after, Good, none_of, Some-of, leaves}
+use Rattle.pb_c.proofs.Common.{proved_at, ghosts, and_tt, box_owns, both, Loose, loose_good, loose_in}
 use mir.Val.{Val, vptr, vcons, vnil}
 use base.Logic.{SProp, ent, emp, id⊢}
 use base.Fml.{ftrue}
@@ -18,15 +19,6 @@ use denote.RawPtr.{Ptr, block_ptr, null_ptr, ptr_val, tests_null, Testable}
 use denote.Steps.{nothing}
 use denote.Param.{layout}
 use denote.Triple.Walked.{Stays, stay_dropped, walk_of, Goes-dropped}
-use Rattle.std.specs.Prelude.{Some, None}
-use Rattle.core.proofs.alloc.Shapes.{after}
-use Rattle.core.proofs.cell.Inside.{Good}
-use Rattle.core.proofs.option.Made.{Some-of, none_of}
-use Rattle.std.specs.contracts.impls.GlobalAllocator.TheImpl.{ghosts}
-use Rattle.std_alloc.specs.Box.Ownership.{box_owns}
-use Rattle.std_alloc.proofs.ResultValues.{and_tt}
-use Rattle.std.proofs.raw_atomic.Walks.{proved_at, leaves}
-use Rattle.pb_loose.proofs.Values.{both, Loose, loose_good, loose_in}
 use Rattle.pb_c.proofs.ReaderSteps.{R, Z, LZ, Handle, held_good, held_out, either_held, testable}
 use Rattle.pb_c.specs.contracts.reader_handle.ReaderHandle.into_loose.{ended, clauses}
 use Rattle.pb_c.specs.contracts.reader_handle.ReaderHandle.into_loose.Key.{name as #self}

@@ -1,6 +1,5 @@
 -- `of_loose` keeps the pointer and what it owns.
-use Rattle.std.proofs.Common.{◌≡◌, List, [], ◌∷◌, ◌++◌, refl, sym, subst}
-use Rattle.std.specs.Prelude.{Some}
+use Rattle.pb_c.proofs.Common.{◌++◌, ◌∷◌, ◌≡◌, [], List, refl, Some, subst, sym, leaves, proved_at, ghosts, both, Loose, loose_good, loose_out}
 use mir.Val.{Val, vptr}
 use base.Logic.{SProp, ent, emp, id⊢}
 use base.Fml.{ftrue}
@@ -17,9 +16,6 @@ use denote.Signature.{types_at, plain}
 use denote.RawPtr.{block_ptr}
 use denote.Steps.{nothing}
 use denote.Triple.Walked.{Stays, stay_dropped, walk_of, Goes-dropped}
-use Rattle.std.proofs.raw_atomic.Walks.{proved_at, leaves}
-use Rattle.std.specs.contracts.impls.GlobalAllocator.TheImpl.{ghosts}
-use Rattle.pb_loose.proofs.Values.{both, Loose, loose_good, loose_out}
 use Rattle.pb_c.proofs.ReaderSteps.{R, Z, LZ, held_good, held_in}
 use Rattle.pb_c.specs.contracts.reader_handle.ReaderHandle.of_loose.{ended, clauses}
 use Rattle.pb_c.specs.contracts.reader_handle.ReaderHandle.of_loose.Key.{name as #self}

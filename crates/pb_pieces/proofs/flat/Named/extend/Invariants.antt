@@ -1,6 +1,4 @@
-use Rattle.std.proofs.Common.{List, ◌++◌, take}
-use Rattle.pb_sums.specs.declared.Term.{Term}
-use Rattle.pb_pieces.specs.Flat.{HoldNamed}
+use Rattle.pb_pieces.proofs.Common.{◌++◌, List, take, Term, HoldNamed}
 use Rattle.pb_pieces.proofs.flat.Named.extend.Given as goal
 
 -- The first terms of the list were added.

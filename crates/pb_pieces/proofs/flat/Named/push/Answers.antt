@@ -1,5 +1,4 @@
-use Rattle.std.proofs.Common.{◌∙◌, ℕ, List, map, ap}
-use Rattle.pb_normal.specs.meaning.Names.{number_in, with_name}
+use Rattle.pb_pieces.proofs.Common.{ℕ, ◌∙◌, ap, List, map, number_in, with_name}
 use Rattle.pb_pieces.proofs.Numbers.{one_more}
 use Rattle.pb_pieces.proofs.flat.Named.push.Goals as goal
 

@@ -1,9 +1,6 @@
-use Rattle.std.proofs.Common.{rules, ◌≡◌, ◌∙◌, ℕ, ℤ, ◌+◌, [], ◌∷◌, ◌++◌, length, pos, ap, sym, subst, to_z, of_z}
+use Rattle.pb_pieces.proofs.Common.{ℕ, ℤ, ◌++◌, ◌+◌, ◌∙◌, ◌∷◌, ◌≡◌, [], ap, length, of_z, pos, rules, subst, sym, to_z, OpbEvent, HoldAll, places_of}
+use Rattle.pb_pieces.proofs.Common.{row_in, rows_from, span_in, terms_in, terms_of, Span, Row}
 use mir.Syntax.{w128}
-use Rattle.pb_opb.specs.declared.OpbEvent.{OpbEvent}
-use Rattle.pb_pieces.specs.Instance.{HoldAll, places_of, row_in, rows_from, span_in, terms_in, terms_of}
-use Rattle.pb_pieces.specs.declared.places.Span.{Span}
-use Rattle.pb_pieces.specs.declared.rows.Row.{Row}
 use Rattle.pb_pieces.proofs.Statements.{holds_row, holds_same}
 use Rattle.pb_pieces.proofs.instance.Flat.add.Goals as goal
 

@@ -1,6 +1,4 @@
-use Rattle.std.proofs.Common.{rules, ◌+◌, refl}
-use Rattle.std.specs.Prelude.{None}
-use Rattle.pb_pieces.specs.Tokens.{token}
+use Rattle.pb_pieces.proofs.Common.{◌+◌, None, refl, rules, token}
 use Rattle.pb_pieces.proofs.Compared.{one_compared}
 use Rattle.pb_pieces.proofs.matcher.MatcherTokenSink.put.Goals as goal
 

@@ -1,7 +1,5 @@
-use Rattle.std.proofs.Common.{rules, ◌≡◌, ℤ, [], ◌∷◌, ◌++◌, refl, subst, to_z, of_z}
+use Rattle.pb_pieces.proofs.Common.{ℤ, ◌++◌, ◌∷◌, ◌≡◌, [], None, of_z, refl, rules, subst, to_z, HoldTokens, token}
 use mir.Syntax.{w128}
-use Rattle.std.specs.Prelude.{None}
-use Rattle.pb_pieces.specs.Tokens.{HoldTokens, token}
 use Rattle.pb_pieces.proofs.Numbered.{numbers, one_bare}
 use Rattle.pb_pieces.proofs.named_tokens.NamedTokens.push.Goals as goal
 

@@ -1,7 +1,5 @@
-use Rattle.std.proofs.Common.{rules, ◌≡◌, ℤ, [], ◌∷◌, ◌++◌, refl, subst, to_z, of_z}
+use Rattle.pb_pieces.proofs.Common.{ℤ, ◌++◌, ◌∷◌, ◌≡◌, [], of_z, refl, rules, Some, subst, to_z, HoldTokens, token}
 use mir.Syntax.{w128}
-use Rattle.std.specs.Prelude.{Some}
-use Rattle.pb_pieces.specs.Tokens.{HoldTokens, token}
 use Rattle.pb_pieces.proofs.Numbered.{numbers, one_named}
 use Rattle.pb_pieces.proofs.named_tokens.NamedTokens.push_named.Goals as goal
 

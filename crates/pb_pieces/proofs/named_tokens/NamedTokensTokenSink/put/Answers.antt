@@ -1,8 +1,5 @@
-use Rattle.std.proofs.Common.{rules, ◌≡◌, ℤ, List, [], ◌∷◌, ◌++◌, append_assoc, subst, to_z, of_z}
+use Rattle.pb_pieces.proofs.Common.{ℤ, ◌++◌, ◌∷◌, ◌≡◌, [], append_assoc, List, None, of_z, rules, subst, to_z, AreTokens, Token, token}
 use mir.Syntax.{w128}
-use Rattle.std.specs.Prelude.{None}
-use Rattle.pb_pieces.specs.NamedTokens.{AreTokens}
-use Rattle.pb_pieces.specs.Tokens.{Token, token}
 use Rattle.pb_pieces.proofs.named_tokens.NamedTokensTokenSink.put.Goals as goal
 
 pub returns : goal.returns

@@ -1,8 +1,5 @@
-use Rattle.std.proofs.Common.{rules, ◌≡◌, ℤ, List, [], ◌∷◌, ◌++◌, append_assoc, subst, to_z, of_z}
+use Rattle.pb_pieces.proofs.Common.{ℤ, ◌++◌, ◌∷◌, ◌≡◌, [], append_assoc, List, of_z, rules, Some, subst, to_z, AreTokens, Token, token}
 use mir.Syntax.{w128}
-use Rattle.std.specs.Prelude.{Some}
-use Rattle.pb_pieces.specs.NamedTokens.{AreTokens}
-use Rattle.pb_pieces.specs.Tokens.{Token, token}
 use Rattle.pb_pieces.proofs.named_tokens.NamedTokensTokenSink.put_named.Goals as goal
 
 pub returns : goal.returns

@@ -1,4 +1,4 @@
-use Rattle.std.proofs.Common.{[]}
+use Rattle.pb_pieces.proofs.Common.{[]}
 use Rattle.pb_pieces.proofs.Readers.{instance_ends, proof_ends}
 use Rattle.pb_pieces.proofs.reader.Reader.finish.Goals as goal
 

@@ -1,11 +1,6 @@
-use Rattle.std.proofs.Common.{[], ◌^◌, refl}
+use Rattle.pb_pieces.proofs.Common.{◌^◌, [], refl, opb, IsInstance, proofs, IsProof, largest, top_of, new_instance, new_proof, opb_statements}
+use Rattle.pb_pieces.proofs.Common.{proof_statements}
 use Rattle.std.specs.Option.{unwrap_or}
-use Rattle.pb_text.specs.meaning.Limits.{largest, top_of}
-use Rattle.pb_opb.specs.engine.State.{opb}
-use Rattle.pb_opb.specs.meaning.Instances.{IsInstance}
-use Rattle.pb_proof.specs.engine.Machine.State.{proofs}
-use Rattle.pb_proof.specs.meaning.Proofs.{IsProof}
-use Rattle.pb_pieces.specs.Reader.{new_instance, new_proof, opb_statements, proof_statements}
 use Rattle.pb_pieces.proofs.Giving.{giving}
 use Rattle.pb_pieces.proofs.reader.Reader.open.Goals as goal
 

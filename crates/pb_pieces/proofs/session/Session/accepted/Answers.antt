@@ -1,4 +1,4 @@
-use Rattle.std.specs.Prelude.{Some}
+use Rattle.pb_pieces.proofs.Common.{Some}
 use Rattle.pb_pieces.proofs.Faults.{so_far}
 use Rattle.pb_pieces.proofs.Fed.{running}
 use Rattle.pb_pieces.proofs.session.Session.accepted.Goals as goal

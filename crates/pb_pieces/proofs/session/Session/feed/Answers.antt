@@ -1,9 +1,7 @@
-use Rattle.std.proofs.Common.{◌++◌, ◌-◌, ℕ, List, length, take, drop, subst, ap, ◌∙◌, arith}
-use Rattle.std.proofs.lemmas.List.{length-drop}
+use Rattle.pb_pieces.proofs.Common.{ℕ, ◌++◌, ◌-◌, ◌∙◌, ap, arith, drop, length, List, subst, take, length-drop, onward_by, to_all, to_end, to_more}
+use Rattle.pb_pieces.proofs.Common.{IsSession}
 use Rattle.pb_text.proofs.lemmas.text.Spans.{all_rest}
-use Rattle.pb_tool.proofs.lemmas.check.CheckerSteps.{onward_by, to_all, to_end, to_more}
 use Rattle.pb_pieces.proofs.Fed.{fed_again}
-use Rattle.pb_pieces.specs.Session.{IsSession}
 use Rattle.pb_pieces.proofs.session.Session.feed.Goals as goal
 
 pub returns-in-Some-clause-fed : goal.returns-in-Some-clause-fed

@@ -1,7 +1,4 @@
-use Rattle.std.proofs.Common.{◌≡◌, None, ◌+◌, ◌-◌, ◌≤◌, ◌++◌, ℕ, List, length, take}
-use Rattle.pb_text.specs.declared.Limits.{Limits}
-use Rattle.pb_tool.specs.contract.Pieces.{place_in}
-use Rattle.pb_pieces.specs.Session.{IsSession}
+use Rattle.pb_pieces.proofs.Common.{ℕ, ◌++◌, ◌+◌, ◌-◌, ◌≡◌, ◌≤◌, length, List, None, take, Limits, place_in, IsSession}
 use Rattle.pb_pieces.proofs.session.Session.feed.Given as goal
 
 -- the session was fed all that was taken of the piece

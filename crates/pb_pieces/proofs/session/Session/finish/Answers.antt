@@ -1,4 +1,4 @@
-use Rattle.std.proofs.Common.{Some, List, ℕ, ◌∙◌, ap}
+use Rattle.pb_pieces.proofs.Common.{ℕ, ◌∙◌, ap, List, Some}
 use Rattle.pb_pieces.proofs.Ended.{ended, still, strays, true_of, verified, whole}
 use Rattle.pb_pieces.proofs.session.Session.finish.Goals as goal
 

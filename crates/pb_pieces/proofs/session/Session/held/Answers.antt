@@ -1,5 +1,4 @@
-use Rattle.std.specs.Prelude.{Ok}
-use Rattle.pb_replay.specs.meaning.Replay.{first_state}
+use Rattle.pb_pieces.proofs.Common.{Ok, first_state}
 use Rattle.pb_pieces.proofs.Fed.{running}
 use Rattle.pb_pieces.proofs.session.Session.held.Goals as goal
 

@@ -1,4 +1,4 @@
-use Rattle.std.proofs.Common.{rules, Err, ◌∙◌, ap}
+use Rattle.pb_pieces.proofs.Common.{◌∙◌, ap, Err, rules}
 use Rattle.pb_pieces.proofs.Ended.{file, no_rest, no_text, opened, whole}
 use Rattle.pb_pieces.proofs.session.Session.open.Goals as goal
 

@@ -1,4 +1,4 @@
-use Rattle.std.proofs.Common.{◌+◌, Bool, add-zero, ap, cond, refl, sym, ◌∙◌}
+use Rattle.pb_pieces.proofs.Common.{◌+◌, ◌∙◌, add-zero, ap, Bool, cond, refl, sym}
 use Rattle.pb_pieces.proofs.Fed.{exactly, fed_again, fed_rejected, unstored, went_on}
 use Rattle.pb_pieces.proofs.session.Session.step.Goals as goal
 

@@ -1,5 +1,4 @@
-use Rattle.std.proofs.Common.{◌++◌, Some, inl, inr}
-use Rattle.pb_pieces.specs.NamedTokens.{names_of}
+use Rattle.pb_pieces.proofs.Common.{◌++◌, inl, inr, Some, names_of}
 use Rattle.pb_pieces.proofs.FedTokens.{given, names_more, none, stopped}
 use Rattle.pb_pieces.proofs.token_reader.TokenReader.feed.Goals as goal
 

@@ -1,5 +1,4 @@
-use Rattle.std.proofs.Common.{[], ◌++◌}
-use Rattle.pb_pieces.specs.NamedTokens.{names_of}
+use Rattle.pb_pieces.proofs.Common.{◌++◌, [], names_of}
 use Rattle.pb_pieces.proofs.Numbered.{nothing_added}
 use Rattle.pb_pieces.proofs.token_reader.TokenReader.store.Goals as goal
 

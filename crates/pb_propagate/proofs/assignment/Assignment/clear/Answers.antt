@@ -1,4 +1,4 @@
-use Rattle.std.proofs.Common.{sym, ◌∙◌}
+use Rattle.pb_propagate.proofs.Common.{◌∙◌, sym}
 use Rattle.pb_propagate.proofs.lemmas.engine.Values.{Agree-cleared, vacancy-cleared}
 use Rattle.pb_propagate.proofs.assignment.Assignment.clear.Goals as goal
 

@@ -1,6 +1,4 @@
-use Rattle.std.specs.Prelude.{None}
-use Rattle.std.proofs.Common.{sym, ◌∙◌}
-use Rattle.std.proofs.lemmas.List.{get_or_read}
+use Rattle.pb_propagate.proofs.Common.{◌∙◌, None, sym, get_or_read}
 use Rattle.pb_propagate.proofs.lemmas.engine.Literals.{beq-not}
 use Rattle.pb_propagate.proofs.lemmas.engine.Values.{says-some, says-none}
 use Rattle.pb_propagate.proofs.assignment.Assignment.contains.Goals as goal

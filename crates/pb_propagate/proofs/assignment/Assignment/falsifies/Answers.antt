@@ -1,6 +1,4 @@
-use Rattle.std.specs.Prelude.{false}
-use Rattle.std.proofs.Common.{◌∙◌, arith}
-use Rattle.std.proofs.lemmas.List.{get_or_read}
+use Rattle.pb_propagate.proofs.Common.{◌∙◌, arith, false, get_or_read}
 use Rattle.pb_propagate.proofs.assignment.Assignment.falsifies.Goals as goal
 
 pub index-requires : goal.index-requires

@@ -1,5 +1,4 @@
-use Rattle.std.proofs.Common.{sym, ◌∙◌, ap}
-use Rattle.pb_propagate.specs.engine.Clauses.Truths.{false_at}
+use Rattle.pb_propagate.proofs.Common.{◌∙◌, ap, sym, false_at}
 use Rattle.pb_propagate.proofs.lemmas.clauses.Marks.{true-flipped}
 use Rattle.pb_propagate.proofs.assignment.Assignment.has_satisfied.Goals as goal
 

@@ -1,8 +1,4 @@
-use Rattle.std.specs.Prelude.{Some}
-use Rattle.std.proofs.Common.{◌<◌, sym, ap, ◌∙◌, arith, length}
-use Rattle.std.proofs.lemmas.Bool.{both_ways}
-use Rattle.std.proofs.lemmas.List.{get_or_read}
-use Rattle.std.proofs.lemmas.Option.{slice_get-get_or}
+use Rattle.pb_propagate.proofs.Common.{◌<◌, ◌∙◌, ap, arith, length, sym, Some, both_ways, get_or_read, slice_get-get_or}
 use Rattle.pb_propagate.proofs.assignment.Assignment.is_due.Goals as goal
 
 pub returns-clause-yes : goal.returns-clause-yes

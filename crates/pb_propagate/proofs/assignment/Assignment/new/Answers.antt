@@ -1,4 +1,4 @@
-use Rattle.std.proofs.Common.{ap, sym, ◌∙◌, length}
+use Rattle.pb_propagate.proofs.Common.{◌∙◌, ap, length, sym}
 use Rattle.pb_propagate.proofs.lemmas.engine.Values.{Agree-start, vacancy-start}
 use Rattle.pb_propagate.proofs.lemmas.clauses.Marks.{marked-start}
 use Rattle.pb_propagate.proofs.assignment.Assignment.new.Goals as goal

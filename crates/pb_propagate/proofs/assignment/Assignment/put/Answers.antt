@@ -1,6 +1,4 @@
-use Rattle.std.specs.Prelude.{Option, Bool}
-use Rattle.std.proofs.Common.{arith, ap, length, length-append, length-set}
-use Rattle.pb_normal.specs.declared.numbered.NumberedLiteral.{NumberedLiteral}
+use Rattle.pb_propagate.proofs.Common.{ap, arith, Bool, length, length-append, length-set, Option, NumberedLiteral}
 use Rattle.pb_propagate.proofs.lemmas.engine.Values.{Agree-push, vacancy-push}
 use Rattle.pb_propagate.proofs.assignment.Assignment.put.Goals as goal
 

@@ -1,7 +1,4 @@
-use Rattle.std.specs.Prelude.{false}
-use Rattle.std.proofs.Common.{sym, ◌∙◌, ap, arith}
-use Rattle.std.proofs.lemmas.List.{get_or_read}
-use Rattle.pb_propagate.specs.engine.Clauses.Truths.{false_at}
+use Rattle.pb_propagate.proofs.Common.{◌∙◌, ap, arith, false, sym, get_or_read, false_at}
 use Rattle.pb_propagate.proofs.lemmas.clauses.Marks.{true-flipped, flip-inside}
 use Rattle.pb_propagate.proofs.assignment.Assignment.satisfies.Goals as goal
 

@@ -1,6 +1,5 @@
-use Rattle.std.specs.Prelude.{Bool, Option, true, false, slice_get}
-use Rattle.std.proofs.Common.{ℕ, ◌^◌, ◌-◌, List, ◌++◌, ◌∷◌, [], ap, ◌∙◌, arith, length, length-append}
-use Rattle.std.proofs.lemmas.Option.{slice_get_within}
+use Rattle.pb_propagate.proofs.Common.{ℕ, ◌++◌, ◌-◌, ◌^◌, ◌∙◌, ◌∷◌, [], ap, arith, Bool, false, length, length-append, List, true, Option, slice_get}
+use Rattle.pb_propagate.proofs.Common.{slice_get_within}
 use Rattle.pb_propagate.proofs.lemmas.engine.Values.{Agree-widen_if, vacancy-widen_if}
 use Rattle.pb_propagate.proofs.lemmas.clauses.Marks.{marked-wider}
 use Rattle.pb_propagate.proofs.lemmas.store.Gets.{get-push_less}

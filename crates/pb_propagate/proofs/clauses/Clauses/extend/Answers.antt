@@ -1,6 +1,4 @@
-use Rattle.std.proofs.Common.{List, ap, ◌++◌, ◌∷◌, [], ◌∙◌}
-use Rattle.pb_propagate.specs.declared.clauses.lists.Watch.{Watch}
-use Rattle.pb_propagate.specs.engine.Clauses.Links.{watch_at, idle}
+use Rattle.pb_propagate.proofs.Common.{◌++◌, ◌∙◌, ◌∷◌, [], ap, List, Watch, idle, watch_at}
 use Rattle.pb_propagate.proofs.lemmas.root.Gained.{idle-push}
 use Rattle.pb_propagate.proofs.lemmas.clauses.Stores.{rest-extend}
 use Rattle.pb_propagate.proofs.clauses.Clauses.extend.Goals as goal

@@ -1,10 +1,6 @@
-use Rattle.std.specs.Prelude.{◌/◌, false}
-use Rattle.std.proofs.Common.{subst, get_or-set_other, ◌≡◌, ℕ, ◌+◌, ◌*◌, ◌<◌, List, refl, sym, ◌∙◌, ap, arith, length, inr, set, length-set, true}
-use Rattle.std.proofs.lemmas.List.{get_or_read}
-use Rattle.pb_propagate.specs.declared.clauses.lists.Watch.{Watch}
-use Rattle.pb_propagate.specs.declared.clauses.search.Search.{Search}
-use Rattle.pb_propagate.specs.engine.Clauses.Links.{watch_at, watch_lists, list_at, idle, AreLinked}
-use Rattle.pb_propagate.specs.engine.Clauses.Blocks.{Contents, HasBlock, number_at, begun, rewatched, searched, rewritten}
+use Rattle.pb_propagate.proofs.Common.{ℕ, ◌*◌, ◌+◌, ◌/◌, ◌<◌, ◌∙◌, ◌≡◌, ap, arith, false, get_or-set_other, inr, length, length-set, List, refl, set}
+use Rattle.pb_propagate.proofs.Common.{subst, sym, true, get_or_read, Watch, Search, begun, Contents, HasBlock, number_at, rewatched, rewritten}
+use Rattle.pb_propagate.proofs.Common.{searched, AreLinked, idle, list_at, watch_at, watch_lists}
 use Rattle.pb_propagate.proofs.lemmas.clauses.Stores.{rest-fill, empty-dead}
 use Rattle.pb_propagate.proofs.lemmas.root.Gained.{watches-apart}
 use Rattle.pb_propagate.proofs.clauses.Clauses.fill.Goals as goal

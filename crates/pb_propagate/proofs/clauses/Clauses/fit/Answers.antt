@@ -1,4 +1,4 @@
-use Rattle.std.proofs.Common.{refl}
+use Rattle.pb_propagate.proofs.Common.{refl}
 use Rattle.pb_propagate.proofs.lemmas.clauses.Stores.{rest-fit}
 use Rattle.pb_propagate.proofs.clauses.Clauses.fit.Goals as goal
 

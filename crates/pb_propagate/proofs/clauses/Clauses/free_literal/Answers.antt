@@ -1,4 +1,4 @@
-use Rattle.std.proofs.Common.{ap, arith, length, get_or}
+use Rattle.pb_propagate.proofs.Common.{ap, arith, get_or, length}
 use Rattle.pb_propagate.proofs.lemmas.clauses.Listed.{lists-length}
 use Rattle.pb_propagate.proofs.clauses.Clauses.free_literal.Goals as goal
 

@@ -1,5 +1,4 @@
-use Rattle.std.proofs.Common.{◌≡◌, true, ◌+◌, ◌*◌, sym, ◌∙◌, ap, arith}
-use Rattle.pb_propagate.specs.engine.Clauses.Links.{watch_lists, watch_at}
+use Rattle.pb_propagate.proofs.Common.{◌*◌, ◌+◌, ◌∙◌, ◌≡◌, ap, arith, sym, true, watch_at, watch_lists}
 use Rattle.pb_propagate.proofs.lemmas.clauses.Steps.{literal-within}
 use Rattle.pb_propagate.proofs.lemmas.clauses.Listed.{lists-length}
 use Rattle.pb_propagate.proofs.lemmas.clauses.Truths.{flip-even}

@@ -1,7 +1,5 @@
-use Rattle.std.proofs.Common.{◌+◌, ◌<◌, length, set, length-set, get_or, ap, subst, refl, sym, ◌∙◌, arith, List}
-use Rattle.pb_propagate.specs.declared.clauses.search.Search.{Search}
-use Rattle.pb_propagate.specs.engine.Clauses.Blocks.{Contents}
-use Rattle.pb_propagate.specs.engine.Clauses.Runs.{passed_of, search_at}
+use Rattle.pb_propagate.proofs.Common.{◌+◌, ◌<◌, ◌∙◌, ap, arith, get_or, length, length-set, List, refl, set, subst, sym, Search, Contents, passed_of}
+use Rattle.pb_propagate.proofs.Common.{search_at}
 use Rattle.pb_propagate.proofs.lemmas.clauses.Readings.{searches-length}
 use Rattle.pb_propagate.proofs.lemmas.clauses.Searches.{passed-length, passed-set, position-kept}
 use Rattle.pb_propagate.proofs.lemmas.clauses.Stores.{AreLeft, left-next, noted-slot, rest-ready}

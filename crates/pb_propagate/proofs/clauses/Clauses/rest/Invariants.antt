@@ -1,5 +1,4 @@
-use Rattle.std.proofs.Common.{◌≡◌, ℕ, length}
-use Rattle.pb_propagate.specs.engine.Clauses.Runs.{passed_of, search_at}
+use Rattle.pb_propagate.proofs.Common.{ℕ, ◌≡◌, length, passed_of, search_at}
 use Rattle.pb_propagate.proofs.lemmas.clauses.Stores.{AreLeft}
 use Rattle.pb_propagate.proofs.clauses.Clauses.rest.Given as goal
 

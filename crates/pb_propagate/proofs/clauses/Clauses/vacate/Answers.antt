@@ -1,8 +1,5 @@
-use Rattle.std.specs.Prelude.{true, false, ◌/◌}
-use Rattle.std.proofs.Common.{◌≡◌, [], ℕ, ◌+◌, ◌*◌, ◌<◌, refl, sym, ◌∙◌, ap, subst, arith, length, inl, inr, set}
-use Rattle.pb_propagate.specs.declared.clauses.lists.Watch.{Watch}
-use Rattle.pb_propagate.specs.engine.Clauses.Links.{watch_lists, list_at, watch_at, AreLinked}
-use Rattle.pb_propagate.specs.engine.Clauses.Blocks.{Contents}
+use Rattle.pb_propagate.proofs.Common.{ℕ, ◌*◌, ◌+◌, ◌/◌, ◌<◌, ◌∙◌, ◌≡◌, [], ap, arith, false, inl, inr, length, refl, set, subst, sym, true, Watch}
+use Rattle.pb_propagate.proofs.Common.{Contents, AreLinked, list_at, watch_at, watch_lists}
 use Rattle.pb_propagate.proofs.lemmas.clauses.Listed.{lists-length}
 use Rattle.pb_propagate.proofs.lemmas.clauses.Stores.{slot-sits, stands-by, rest-vacate}
 use Rattle.pb_propagate.proofs.clauses.Clauses.vacate.Goals as goal

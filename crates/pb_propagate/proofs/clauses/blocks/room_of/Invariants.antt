@@ -1,4 +1,4 @@
-use Rattle.std.proofs.Common.{◌-◌, ◌<◌, ◌^◌}
+use Rattle.pb_propagate.proofs.Common.{◌-◌, ◌<◌, ◌^◌}
 use Rattle.pb_propagate.proofs.clauses.blocks.room_of.Given as goal
 
 abbrev pub invariant-rooms : goal.invariant-rooms

@@ -1,5 +1,4 @@
-use Rattle.std.proofs.Common.{◌≡◌, ℕ, ◌+◌, ◌<◌, ◌≤◌, ◌⊎◌, length}
-use Rattle.pb_propagate.specs.engine.Clauses.Blocks.{number_at}
+use Rattle.pb_propagate.proofs.Common.{ℕ, ◌+◌, ◌<◌, ◌≡◌, ◌≤◌, ◌⊎◌, length, number_at}
 use Rattle.pb_propagate.proofs.clauses.blocks.write.Given as goal
 
 abbrev pub invariant-literals : goal.invariant-literals

@@ -1,7 +1,5 @@
-use Rattle.std.proofs.Common.{refl}
-use Rattle.pb_propagate.specs.declared.clauses.lists.Listed.{Listed}
+use Rattle.pb_propagate.proofs.Common.{◌≡◌, refl, Listed}
 use Rattle.pb_propagate.proofs.lemmas.clauses.Listed.{watch-kept, list-older, set-older}
-use Rattle.std.proofs.Common.{◌≡◌}
 use Rattle.pb_propagate.proofs.clauses.lists.block.Goals as goal
 
 pub returns-clause-watches : goal.returns-clause-watches

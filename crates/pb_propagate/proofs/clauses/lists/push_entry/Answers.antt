@@ -1,8 +1,5 @@
-use Rattle.std.proofs.Common.{◌≡◌, ◌∙◌, ap, sym, ◌++◌, ◌∷◌, [], List, subst}
-use Rattle.std.proofs.lemmas.List.{map-append}
-use Rattle.pb_propagate.specs.declared.clauses.lists.Listed.{Listed}
+use Rattle.pb_propagate.proofs.Common.{◌++◌, ◌∙◌, ◌∷◌, ◌≡◌, [], ap, List, map, subst, sym, slice_get, Some, map-append, Listed}
 use Rattle.pb_propagate.proofs.lemmas.clauses.Listed.{watch-here, watch-set, list-older, push-older}
-use Rattle.std.specs.Prelude.{map, slice_get, Some}
 use Rattle.pb_propagate.proofs.clauses.lists.push_entry.Goals as goal
 
 pub returns-clause-lists : goal.returns-clause-lists

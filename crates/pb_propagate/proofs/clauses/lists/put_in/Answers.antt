@@ -1,6 +1,5 @@
-use Rattle.std.proofs.Common.{refl, ◌∙◌, ap, arith, get_or-set_same, get_or-set_other, ◌++◌, ◌∷◌, [], List, ℕ, subst, sym}
-use Rattle.pb_propagate.specs.engine.Clauses.Links.{list_at, watch_lists, AreLinked}
-use Rattle.pb_propagate.specs.engine.Clauses.Blocks.{Contents}
+use Rattle.pb_propagate.proofs.Common.{ℕ, ◌++◌, ◌∙◌, ◌∷◌, [], ap, arith, get_or-set_other, get_or-set_same, List, refl, subst, sym, Contents}
+use Rattle.pb_propagate.proofs.Common.{AreLinked, list_at, watch_lists}
 use Rattle.pb_propagate.proofs.lemmas.clauses.Linked.{put-linked, list-small}
 use Rattle.pb_propagate.proofs.lemmas.clauses.Listed.{lists-length}
 use Rattle.pb_propagate.proofs.clauses.lists.put_in.Goals as goal

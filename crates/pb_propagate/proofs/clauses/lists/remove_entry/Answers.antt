@@ -1,7 +1,4 @@
-use Rattle.std.specs.Prelude.{swap_remove, map, slice_get, Some}
-use Rattle.std.proofs.Common.{◌≡◌, List, ℕ, sym, ap, ◌∙◌, subst, arith, length}
-use Rattle.std.proofs.lemmas.List.{length-map}
-use Rattle.pb_propagate.specs.declared.clauses.lists.Listed.{Listed}
+use Rattle.pb_propagate.proofs.Common.{ℕ, ◌∙◌, ◌≡◌, ap, arith, length, List, map, subst, sym, slice_get, Some, swap_remove, length-map, Listed}
 use Rattle.pb_propagate.proofs.lemmas.clauses.Listed.{watch-here, watch-set, watch-read, map-swap, list-fewer, swap-older}
 use Rattle.pb_propagate.proofs.clauses.lists.remove_entry.Goals as goal
 

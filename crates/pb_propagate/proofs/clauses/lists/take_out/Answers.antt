@@ -1,11 +1,6 @@
-use Rattle.std.specs.Prelude.{Some, slice_get, IfSome, IfNone, Vec}
-use Rattle.std.specs.Global.{Global}
-use Rattle.std.proofs.Common.{◌≡◌, ℕ, ◌+◌, ◌-◌, ◌<◌, List, length, refl, sym, ◌∙◌, ap, arith, subst, set, true, length-set, get_or-set_same, get_or-set_other}
-use Rattle.std.proofs.lemmas.Option.{same_Some}
-use Rattle.pb_propagate.specs.declared.clauses.lists.Watch.{Watch}
-use Rattle.pb_propagate.specs.declared.clauses.lists.Listed.{Listed}
-use Rattle.pb_propagate.specs.engine.Clauses.Links.{watch_lists, list_at, watch_at, idle, AreLinked, Remains}
-use Rattle.pb_propagate.specs.engine.Clauses.Blocks.{Contents}
+use Rattle.pb_propagate.proofs.Common.{ℕ, ◌+◌, ◌-◌, ◌<◌, ◌∙◌, ◌≡◌, ap, arith, get_or-set_other, get_or-set_same, Global, length, length-set, List}
+use Rattle.pb_propagate.proofs.Common.{refl, set, subst, sym, true, Vec, IfNone, IfSome, slice_get, Some, same_Some, Listed, Watch, Contents}
+use Rattle.pb_propagate.proofs.Common.{AreLinked, idle, list_at, Remains, watch_at, watch_lists}
 use Rattle.pb_propagate.proofs.lemmas.clauses.Linked.{take-last, take-moved, sits-within, moved-apart, list-small, placed, placed-remains, Removing}
 use Rattle.pb_propagate.proofs.lemmas.clauses.Listed.{lists-length}
 use Rattle.pb_propagate.proofs.clauses.lists.take_out.Goals as goal

@@ -1,9 +1,5 @@
-use Rattle.std.specs.Prelude.{◌/◌, min}
-use Rattle.std.proofs.Common.{◌≡◌, ℕ, ◌+◌, ◌^◌, ◌<◌, ◌≤◌, refl, sym, ◌∙◌, ap, subst, arith, length, set, get_or, inl}
-use Rattle.pb_propagate.specs.declared.clauses.search.Search.{Search}
-use Rattle.pb_propagate.specs.engine.Clauses.Blocks.{Contents, rewatched}
-use Rattle.pb_propagate.specs.engine.Clauses.Links.{watch_lists, list_at, AreLinked}
-use Rattle.pb_propagate.specs.engine.Clauses.Runs.{IsRound}
+use Rattle.pb_propagate.proofs.Common.{ℕ, ◌+◌, ◌/◌, ◌<◌, ◌^◌, ◌∙◌, ◌≡◌, ◌≤◌, ap, arith, get_or, inl, length, min, refl, set, subst, sym, Search}
+use Rattle.pb_propagate.proofs.Common.{Contents, rewatched, AreLinked, list_at, watch_lists, IsRound}
 use Rattle.pb_propagate.proofs.lemmas.clauses.Readings.{Reading, Resuming, reading-slot, reading-small, resuming-within, resuming-round, resuming-inside, running-bounded, bounded-raised, covered-by}
 use Rattle.pb_propagate.proofs.lemmas.clauses.Searches.{round-inside}
 use Rattle.pb_propagate.proofs.lemmas.clauses.Visited.{IsSought, visited-falsified, visited-forces, visited-leaves, sought-round}

@@ -1,7 +1,4 @@
-use Rattle.std.proofs.Common.{◌<◌, ap, ◌∙◌, arith, length, get_or-set_same, inl, inr}
-use Rattle.pb_propagate.specs.declared.clauses.lists.Watch.{Watch}
-use Rattle.pb_propagate.specs.engine.Clauses.Links.{idle, watch_at}
-use Rattle.pb_propagate.specs.engine.Clauses.Blocks.{Contents}
+use Rattle.pb_propagate.proofs.Common.{◌<◌, ◌∙◌, ap, arith, get_or-set_same, inl, inr, length, Watch, Contents, idle, watch_at}
 use Rattle.pb_propagate.proofs.lemmas.clauses.Linked.{sits-within}
 use Rattle.pb_propagate.proofs.clauses.visiting.shift.Goals as goal
 

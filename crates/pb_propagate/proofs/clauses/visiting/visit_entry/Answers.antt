@@ -1,7 +1,4 @@
-use Rattle.std.proofs.Common.{◌<◌, ap, arith, length, ◌∙◌}
-use Rattle.std.specs.Prelude.{slice_get}
-use Rattle.std.proofs.lemmas.List.{length-map}
-use Rattle.pb_propagate.specs.declared.clauses.lists.Listed.{Listed}
+use Rattle.pb_propagate.proofs.Common.{◌<◌, ◌∙◌, ap, arith, length, slice_get, length-map, Listed}
 use Rattle.pb_propagate.proofs.lemmas.clauses.Listed.{entries-here, watch-here, entry-read}
 use Rattle.pb_propagate.proofs.clauses.visiting.visit_entry.Goals as goal
 

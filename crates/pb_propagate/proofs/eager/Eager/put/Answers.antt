@@ -1,4 +1,4 @@
-use Rattle.std.proofs.Common.{◌≡◌, length, arith}
+use Rattle.pb_propagate.proofs.Common.{◌≡◌, arith, length}
 use Rattle.pb_propagate.proofs.lemmas.store.Seats.{seated-put}
 use Rattle.pb_propagate.proofs.eager.Eager.put.Goals as goal
 

@@ -1,4 +1,4 @@
-use Rattle.std.proofs.Common.{refl}
+use Rattle.pb_propagate.proofs.Common.{refl}
 use Rattle.pb_propagate.proofs.lemmas.store.Seats.{swap-without, same-without}
 use Rattle.pb_propagate.proofs.eager.Eager.remove.Goals as goal
 

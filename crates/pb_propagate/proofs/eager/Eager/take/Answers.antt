@@ -1,6 +1,4 @@
-use Rattle.std.proofs.Common.{◌-◌, ◌∙◌, ap, length, arith}
-use Rattle.std.specs.Prelude.{swap_remove}
-use Rattle.std.proofs.lemmas.Option.{slice_get_within}
+use Rattle.pb_propagate.proofs.Common.{◌-◌, ◌∙◌, ap, arith, length, swap_remove, slice_get_within}
 use Rattle.pb_propagate.proofs.lemmas.store.Unlinks.{swap-length}
 use Rattle.pb_propagate.proofs.lemmas.store.Seats.{seat-inside, seat-got, taken-is, moved-last, seated-moved, seated-last}
 use Rattle.pb_propagate.proofs.eager.Eager.take.Goals as goal

@@ -1,4 +1,4 @@
-use Rattle.std.specs.Prelude.{is_ok}
+use Rattle.pb_propagate.proofs.Common.{is_ok}
 use Rattle.pb_propagate.proofs.lemmas.store.Seats.{seated-widened}
 use Rattle.pb_propagate.proofs.eager.Eager.widen.Goals as goal
 

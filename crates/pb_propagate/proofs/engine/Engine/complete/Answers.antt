@@ -1,11 +1,5 @@
-use Rattle.pb_propagate.specs.declared.clauses.lists.Listed.{Listed}
-use Rattle.std.proofs.Common.{true, false, Vec, Global, ℕ, ◌≡◌, ◌*◌, length, ◌∙◌, [], refl, ap, sym}
-use Rattle.pb_propagate.specs.engine.Clauses.Shapes.{all_of, clauses_of}
-use Rattle.pb_propagate.specs.engine.Engine.Counts.{none}
-use Rattle.pb_propagate.specs.engine.Engine.Lists.{begin}
-use Rattle.pb_propagate.specs.engine.Engine.Live.{Standing, Live}
-use Rattle.pb_propagate.specs.engine.Engine.Fields.{forms_of, shapes_of}
-use Rattle.pb_propagate.specs.engine.Engine.Slots.{numbered}
+use Rattle.pb_propagate.proofs.Common.{ℕ, ◌*◌, ◌∙◌, ◌≡◌, [], ap, false, Global, length, refl, sym, true, Vec, Listed, all_of, clauses_of, none}
+use Rattle.pb_propagate.proofs.Common.{forms_of, shapes_of, begin, Live, Standing, numbered}
 use Rattle.pb_propagate.proofs.lemmas.clauses.Watching.{ready-running}
 use Rattle.pb_propagate.proofs.lemmas.engine.Rested.{rest-counted}
 use Rattle.pb_propagate.proofs.lemmas.engine.Rests.{rest-undone, rest-tidy-all, slots-kept}

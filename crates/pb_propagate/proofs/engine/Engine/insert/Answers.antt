@@ -1,9 +1,5 @@
-use Rattle.std.specs.Prelude.{Some, None}
-use Rattle.std.proofs.Common.{rules, inl, inr, ◌≡◌, set, ◌-◌, ◌^◌, ◌<◌, ◌++◌, ◌∷◌, [], ◌∙◌, ap, arith}
-use Rattle.std.proofs.lemmas.Option.{slice_get_within}
-use Rattle.pb_propagate.specs.engine.Engine.Live.{Standing}
-use Rattle.pb_propagate.specs.engine.Engine.Fields.{forms_of}
-use Rattle.pb_propagate.specs.engine.Engine.Slots.{numbered}
+use Rattle.pb_propagate.proofs.Common.{◌++◌, ◌-◌, ◌<◌, ◌^◌, ◌∙◌, ◌∷◌, ◌≡◌, [], ap, arith, inl, inr, None, rules, set, Some, slice_get_within}
+use Rattle.pb_propagate.proofs.Common.{forms_of, Standing, numbered}
 use Rattle.pb_propagate.proofs.lemmas.store.Changes.{forms-length}
 use Rattle.pb_propagate.proofs.lemmas.store.Placed.{numbered-same, numbered-filled, numbered-grown, placed-agree, placed-filled}
 use Rattle.pb_propagate.proofs.lemmas.root.Fallen.{gained-fallen}

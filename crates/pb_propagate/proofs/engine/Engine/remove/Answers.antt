@@ -1,7 +1,4 @@
-use Rattle.std.specs.Prelude.{None}
-use Rattle.std.proofs.Common.{◌<◌, sym, ◌∙◌, ap, length, set, arith}
-use Rattle.pb_propagate.specs.engine.Engine.Live.{Standing}
-use Rattle.pb_propagate.specs.engine.Engine.Fields.{forms_of}
+use Rattle.pb_propagate.proofs.Common.{◌<◌, ◌∙◌, ap, arith, length, None, set, sym, forms_of, Standing}
 use Rattle.pb_propagate.proofs.lemmas.store.Changes.{forms-length}
 use Rattle.pb_propagate.proofs.lemmas.store.Placed.{numbered-length, numbered-none, numbered-left, placed-left, taken-by}
 use Rattle.pb_propagate.proofs.lemmas.root.Fallen.{lost-fallen}

@@ -1,33 +1,17 @@
-use Rattle.pb_propagate.specs.declared.clauses.lists.Listed.{Listed}
-use Rattle.std.specs.Prelude.{filter, pos, All, Some, sum, sum_by}
-use Rattle.std.proofs.Common.{true, false, of_z, inl, inr, Vec, Global, ℕ, subst, ◌≡◌, ◌≤◌, ◌<◌, ◌+◌, ◌*◌, ◌++◌, ◌∷◌, [], List, refl, sym, ◌∙◌, ap, length, length-append, arith}
-use Rattle.std.specs.Int.{w128}
-use Rattle.std.proofs.lemmas.List.{length-map}
-use Rattle.pb_normal.specs.declared.numbered.NumberedLiteral.{NumberedLiteral}
-use Rattle.pb_normal.specs.meaning.Form.{Form}
-use Rattle.pb_normal.specs.meaning.Rules.{negation_of}
-use Rattle.pb_propagate.specs.declared.assignment.Assignment.{Assignment}
-use Rattle.pb_propagate.specs.engine.Engine.Counts.{none}
-use Rattle.pb_propagate.specs.engine.Engine.Live.{Standing, Live, terms_in, one_in}
-use Rattle.pb_propagate.specs.meaning.Propagation.{With, MeetsConflict, IsCompletion}
-use Rattle.pb_propagate.specs.engine.Engine.Fields.{shapes_of, forms_of, entries_of}
-use Rattle.pb_normal.specs.declared.entry.Entry.{Entry}
-use Rattle.pb_propagate.specs.engine.Engine.Rest.{waits}
+use Rattle.pb_propagate.proofs.Common.{ℕ, ◌*◌, ◌++◌, ◌+◌, ◌<◌, ◌∙◌, ◌∷◌, ◌≡◌, ◌≤◌, [], ap, arith, false, Global, inl, inr, length, length-append}
+use Rattle.pb_propagate.proofs.Common.{List, of_z, pos, refl, subst, sym, true, Vec, All, filter, Some, sum, sum_by, length-map, sum_by_push, w128}
+use Rattle.pb_propagate.proofs.Common.{Entry, NumberedLiteral, Form, negation_of, Assignment, Listed, all_of, clauses_of, none, entries_of, forms_of}
+use Rattle.pb_propagate.proofs.Common.{shapes_of, Shape, Live, one_in, Standing, terms_in, waits, alone, numbered, IsCompletion, MeetsConflict, With}
 use Rattle.pb_propagate.proofs.lemmas.engine.Rested.{rest-counted}
 use Rattle.pb_propagate.proofs.lemmas.engine.Literals.{has-none as on-none}
 use Rattle.pb_propagate.proofs.lemmas.engine.Values.{opposite}
 use Rattle.pb_propagate.proofs.lemmas.engine.Bridge.{derives, conflicts, is-closed, has-none}
-use Rattle.std.proofs.lemmas.List.Sums.{sum_by_push}
 use Rattle.pb_normal.specs.meaning.Rules.{opposite as opposite_entry}
-use Rattle.pb_propagate.specs.engine.Engine.Lists.{Shape}
-use Rattle.pb_propagate.specs.engine.Engine.Slots.{numbered}
 use Rattle.pb_propagate.proofs.lemmas.store.Placed.{placed-with, numbered-same, numbered-entered}
-use Rattle.pb_propagate.specs.engine.Clauses.Shapes.{all_of, clauses_of}
 use Rattle.pb_propagate.proofs.lemmas.engine.Bounds.{joined-terms, slots-terms, slots-eager, filter-few, found-least, most-visits}
 use Rattle.pb_propagate.proofs.lemmas.engine.Spent.{spent-le}
 use Rattle.pb_propagate.proofs.lemmas.clauses.Killed.{fallen-most}
 use Rattle.pb_propagate.proofs.lemmas.engine.Completing.{closed-none}
-use Rattle.pb_propagate.specs.engine.Engine.Root.{alone}
 use Rattle.pb_propagate.proofs.lemmas.root.Asked.{asked-meets, asked-free}
 use Rattle.pb_propagate.proofs.lemmas.root.Fallen.{fallen-answered, fallen-few, fallen-same}
 use Rattle.pb_propagate.proofs.lemmas.clauses.Watching.{ready-running}

@@ -1,7 +1,5 @@
-use Rattle.std.proofs.Common.{Vec, Global, refl, ℕ, ◌≡◌, ◌∷◌, [], ◌∙◌, ap, length, length-append, arith}
-use Rattle.pb_propagate.specs.engine.Engine.Live.{Standing}
-use Rattle.pb_propagate.specs.engine.Engine.Fields.{shapes_of, spots_of}
-use Rattle.pb_propagate.specs.engine.Clauses.Shapes.{all_of, clauses_of}
+use Rattle.pb_propagate.proofs.Common.{ℕ, ◌∙◌, ◌∷◌, ◌≡◌, [], ap, arith, Global, length, length-append, refl, Vec, all_of, clauses_of, shapes_of}
+use Rattle.pb_propagate.proofs.Common.{spots_of, Standing}
 use Rattle.pb_propagate.proofs.lemmas.store.Places.{entries-length}
 use Rattle.pb_propagate.proofs.lemmas.engine.Wider.{widened-stored, half}
 use Rattle.pb_propagate.proofs.lemmas.root.Fallen.{fallen-same}

@@ -1,10 +1,6 @@
-use Rattle.std.proofs.Common.{◌≡◌, ◌+◌, get_or, true, false, ◌∙◌, arith, inl}
-use Rattle.pb_normal.specs.declared.numbered.NumberedLiteral.{NumberedLiteral}
-use Rattle.pb_normal.specs.meaning.Rules.{negation}
-use Rattle.pb_propagate.specs.engine.Engine.Lists.{has, begin}
-use Rattle.pb_propagate.specs.engine.Engine.Fields.{shapes_of}
+use Rattle.pb_propagate.proofs.Common.{◌+◌, ◌∙◌, ◌≡◌, arith, false, get_or, inl, true, NumberedLiteral, negation, shapes_of, begin, has, database}
+use Rattle.pb_propagate.proofs.Common.{list_of, progress, reasons_of}
 use Rattle.pb_propagate.proofs.lemmas.engine.Assumed.{Assumed, assumed-next, none-assumed, opposed-clash}
-use Rattle.pb_propagate.specs.engine.Engine.Progress.{progress, database, list_of, reasons_of}
 use Rattle.pb_propagate.proofs.lemmas.engine.Advances.{advances-refl, advances-then}
 use Rattle.pb_propagate.proofs.lemmas.engine.Reasoned.{keeps-then}
 use Rattle.pb_propagate.proofs.lemmas.root.Returns.{extends-within}

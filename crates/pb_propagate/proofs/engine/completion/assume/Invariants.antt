@@ -1,7 +1,4 @@
-use Rattle.std.proofs.Common.{take}
-use Rattle.pb_propagate.specs.engine.Engine.Lists.{IsWithin}
-use Rattle.pb_propagate.specs.engine.Engine.Progress.{progress, database, IsOpen, StaysTidy, Advances, RunKeepsReasons}
-use Rattle.pb_propagate.specs.engine.Engine.Reached.{IsFrom}
+use Rattle.pb_propagate.proofs.Common.{take, IsWithin, Advances, database, IsOpen, progress, RunKeepsReasons, StaysTidy, IsFrom}
 use Rattle.pb_propagate.proofs.engine.completion.assume.Given as goal
 
 abbrev pub invariant-given : goal.invariant-given

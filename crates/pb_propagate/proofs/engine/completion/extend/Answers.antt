@@ -1,13 +1,5 @@
-use Rattle.pb_propagate.specs.declared.clauses.lists.Listed.{Listed}
-use Rattle.std.specs.Prelude.{IfNone, IfSome}
-use Rattle.std.proofs.Common.{refl, ◌≡◌, ℕ, [], Vec, Global, ap, subst, sym, ◌∙◌, arith, length, take}
-use Rattle.pb_propagate.specs.declared.clauses.lists.Watch.{Watch}
-use Rattle.pb_propagate.specs.engine.Engine.Counts.{none}
-use Rattle.pb_propagate.specs.engine.Engine.Reached.{HasClash, HasEnded}
-use Rattle.pb_propagate.specs.engine.Engine.Fields.{shapes_of}
-use Rattle.pb_propagate.specs.engine.Clauses.Runs.{AreWalked}
-use Rattle.pb_propagate.specs.engine.Clauses.Shapes.{all_of, clauses_of, joined}
-use Rattle.pb_propagate.specs.engine.Clauses.Walked.{walked_codes}
+use Rattle.pb_propagate.proofs.Common.{ℕ, ◌∙◌, ◌≡◌, [], ap, arith, Global, length, refl, subst, sym, take, Vec, IfNone, IfSome, Listed, Watch}
+use Rattle.pb_propagate.proofs.Common.{AreWalked, all_of, clauses_of, joined, walked_codes, none, shapes_of, HasClash, HasEnded}
 use Rattle.pb_propagate.proofs.lemmas.clauses.Walks.{grows-refl}
 use Rattle.pb_propagate.proofs.lemmas.engine.Spent.{derivation-single}
 use Rattle.pb_propagate.proofs.lemmas.root.Returns.{back-rooted, root-counted}

@@ -1,9 +1,5 @@
-use Rattle.std.proofs.Common.{◌≡◌, ◌++◌, length, sym, ap, subst, ◌∙◌, arith, length-append}
-use Rattle.pb_propagate.specs.engine.Engine.Fields.{shapes_of}
-use Rattle.pb_propagate.specs.engine.Engine.Progress.{list_of, reasons_of}
-use Rattle.pb_propagate.specs.engine.Clauses.Runs.{AreWalked}
-use Rattle.pb_propagate.specs.engine.Clauses.Shapes.{all_of, clauses_of}
-use Rattle.pb_propagate.specs.engine.Clauses.Walked.{walked_codes}
+use Rattle.pb_propagate.proofs.Common.{◌++◌, ◌∙◌, ◌≡◌, ap, arith, length, length-append, subst, sym, AreWalked, all_of, clauses_of, walked_codes}
+use Rattle.pb_propagate.proofs.Common.{shapes_of, list_of, reasons_of}
 use Rattle.pb_propagate.proofs.lemmas.clauses.Walks.{grows-trans, running-grow, walked-grow}
 use Rattle.pb_propagate.proofs.lemmas.engine.Derivations.{derivation-keeps}
 use Rattle.pb_propagate.proofs.lemmas.root.Extends.{extends-then, derives-extends}

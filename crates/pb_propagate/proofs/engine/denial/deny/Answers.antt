@@ -1,9 +1,4 @@
-use Rattle.std.proofs.Common.{◌≡◌, true, false, ◌∙◌, ap, inl, inr, arith}
-use Rattle.std.proofs.lemmas.Bool.{or_right}
-use Rattle.pb_normal.specs.meaning.Rules.{negation}
-use Rattle.pb_propagate.specs.engine.Engine.Lists.{has}
-use Rattle.pb_propagate.specs.engine.Engine.Counts.{kept}
-use Rattle.pb_propagate.specs.engine.Engine.Progress.{progress, database}
+use Rattle.pb_propagate.proofs.Common.{◌∙◌, ◌≡◌, ap, arith, false, inl, inr, true, or_right, negation, kept, has, database, progress}
 use Rattle.pb_propagate.proofs.lemmas.engine.Advances.{advances-visit, advances-then, costs-then, on-err}
 use Rattle.pb_propagate.proofs.lemmas.engine.Literals.{negation-negation}
 use Rattle.pb_propagate.proofs.lemmas.root.Denials.{adopted-denied, adopted-found}

@@ -1,13 +1,5 @@
-use Rattle.std.proofs.Common.{false, refl, ◌∙◌, ap, subst, arith}
-use Rattle.pb_normal.specs.declared.entry.Entry.{Entry}
-use Rattle.pb_normal.specs.declared.numbered.NumberedLiteral.{NumberedLiteral}
-use Rattle.pb_normal.specs.meaning.Rules.{negation}
-use Rattle.pb_propagate.specs.declared.term.Term.{Term}
-use Rattle.pb_propagate.specs.engine.Engine.Denial.{IsHit}
-use Rattle.pb_propagate.specs.engine.Engine.Lists.{begin}
-use Rattle.pb_propagate.specs.engine.Engine.Counts.{Adopted}
-use Rattle.pb_propagate.specs.engine.Engine.Fields.{shapes_of}
-use Rattle.pb_propagate.specs.engine.Engine.Progress.{progress, database, list_of, reasons_of}
+use Rattle.pb_propagate.proofs.Common.{◌∙◌, ap, arith, false, refl, subst, Entry, NumberedLiteral, negation, Term, Adopted, IsHit, shapes_of, begin}
+use Rattle.pb_propagate.proofs.Common.{database, list_of, progress, reasons_of}
 use Rattle.pb_propagate.proofs.lemmas.engine.Advances.{advances-refl, advances-then, advances-as, costs-then, costs-as, on-err}
 use Rattle.pb_propagate.proofs.lemmas.root.Denials.{denied-next, denied-more, hit-conflicts}
 use Rattle.pb_propagate.proofs.lemmas.engine.Reasoned.{keeps-then}

@@ -1,10 +1,5 @@
-use Rattle.std.proofs.Common.{◌≡◌, ◌<◌, ◌≤◌, ◌∷◌, [], ℕ, true, length, get_or}
-use Rattle.pb_normal.specs.declared.entry.Entry.{Entry}
-use Rattle.pb_normal.specs.meaning.Rules.{negation}
-use Rattle.pb_propagate.specs.engine.Engine.Denial.{denial_of}
-use Rattle.pb_propagate.specs.engine.Engine.Forms.{as_term}
-use Rattle.pb_propagate.specs.engine.Engine.Lists.{has, Derives}
-use Rattle.pb_propagate.specs.engine.Engine.Progress.{progress, database, IsOpen, StaysTidy, Advances, VisitsEach, RunKeepsReasons}
+use Rattle.pb_propagate.proofs.Common.{ℕ, ◌<◌, ◌∷◌, ◌≡◌, ◌≤◌, [], get_or, length, true, Entry, negation, denial_of, as_term, Derives, has, Advances}
+use Rattle.pb_propagate.proofs.Common.{database, IsOpen, progress, RunKeepsReasons, StaysTidy, VisitsEach}
 use Rattle.pb_propagate.proofs.engine.denial.deny_all.Given as goal
 
 abbrev pub invariant-literals : goal.invariant-literals

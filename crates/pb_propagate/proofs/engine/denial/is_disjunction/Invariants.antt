@@ -1,6 +1,4 @@
-use Rattle.std.proofs.Common.{ℕ, ◌<◌, get_or}
-use Rattle.pb_normal.specs.declared.entry.Entry.{Entry}
-use Rattle.pb_propagate.specs.engine.Engine.Denial.{IsOne}
+use Rattle.pb_propagate.proofs.Common.{ℕ, ◌<◌, get_or, Entry, IsOne}
 use Rattle.pb_propagate.proofs.engine.denial.is_disjunction.Given as goal
 
 abbrev pub invariant-entries : goal.invariant-entries

@@ -1,13 +1,5 @@
-use Rattle.std.specs.Prelude.{sum}
-use Rattle.std.proofs.Common.{◌≡◌, [], ℕ, Vec, Global, length, sym, ap, subst, ◌∙◌, arith, length-append}
-use Rattle.std.proofs.lemmas.List.{length-map}
-use Rattle.pb_propagate.specs.engine.Engine.Denial.{denial_of}
-use Rattle.pb_propagate.specs.engine.Engine.Lists.{begin}
-use Rattle.pb_propagate.specs.engine.Engine.Fields.{shapes_of, stored_shape}
-use Rattle.pb_propagate.specs.engine.Engine.Progress.{list_of, reasons_of}
-use Rattle.pb_propagate.specs.engine.Clauses.Runs.{AreWalked}
-use Rattle.pb_propagate.specs.engine.Clauses.Shapes.{all_of, clauses_of}
-use Rattle.pb_propagate.specs.engine.Clauses.Walked.{walked_codes}
+use Rattle.pb_propagate.proofs.Common.{ℕ, ◌∙◌, ◌≡◌, [], ap, arith, Global, length, length-append, subst, sym, Vec, sum, length-map, AreWalked, all_of}
+use Rattle.pb_propagate.proofs.Common.{clauses_of, walked_codes, denial_of, shapes_of, stored_shape, begin, list_of, reasons_of}
 use Rattle.pb_propagate.proofs.lemmas.clauses.Readings.{running-bounded}
 use Rattle.pb_propagate.proofs.lemmas.clauses.Walks.{grows-trans, running-grow, walked-grow}
 use Rattle.pb_propagate.proofs.lemmas.engine.Derivations.{derivation-keeps}

@@ -1,9 +1,7 @@
-use Rattle.std.proofs.Common.{arith}
-use Rattle.pb_propagate.specs.engine.Engine.Fields.{forms_of}
+use Rattle.pb_propagate.proofs.Common.{arith, slice_get, forms_of}
 use Rattle.pb_propagate.proofs.lemmas.engine.Bounds.{listed-few}
 use Rattle.pb_propagate.proofs.lemmas.root.Roots.{rooted-counted}
 use Rattle.pb_propagate.proofs.lemmas.store.Options.{some-one}
-use Rattle.std.specs.Prelude.{slice_get}
 use Rattle.pb_propagate.proofs.engine.question.ask.Goals as goal
 
 pub question-answer-requires-clause-standing : goal.question-answer-requires-clause-standing

@@ -1,21 +1,8 @@
-use Rattle.pb_propagate.specs.declared.clauses.lists.Listed.{Listed}
-use Rattle.std.specs.Prelude.{sum, sum_by, Contains}
-use Rattle.std.proofs.Common.{rules, ◌≡◌, ℕ, ◌+◌, ◌++◌, ◌∷◌, [], List, Vec, Global, refl, ap, subst, sym, ◌∙◌, arith, length, length-append, length-set, get_or, set, take}
-use Rattle.std.proofs.Math.Seq.{take-append_seam}
-use Rattle.std.proofs.lemmas.List.{length-map}
-use Rattle.std.proofs.lemmas.List.Sums.{sum_by_push}
-use Rattle.pb_normal.specs.declared.numbered.NumberedLiteral.{NumberedLiteral}
-use Rattle.pb_propagate.specs.declared.assignment.Assignment.{Assignment}
-use Rattle.pb_propagate.specs.declared.clauses.lists.Watch.{Watch}
-use Rattle.pb_propagate.specs.engine.Engine.Lists.{Shape, Derives, KeepsReasons, Conflicts, open_sum}
-use Rattle.pb_propagate.specs.engine.Engine.Progress.{list_of, reasons_of}
-use Rattle.pb_propagate.specs.engine.Engine.Counts.{none, IsTidy, beside}
-use Rattle.pb_propagate.specs.engine.Engine.Fields.{shapes_of, forms_of, stored_shape}
-use Rattle.pb_propagate.specs.engine.Engine.Root.{alone, posed}
-use Rattle.pb_propagate.specs.engine.Engine.Slots.{numbered, ArePlaced}
-use Rattle.pb_propagate.specs.engine.Clauses.Runs.{Grows}
-use Rattle.pb_propagate.specs.engine.Clauses.Shapes.{all_of, clauses_of, joined}
-use Rattle.pb_propagate.specs.engine.Clauses.Walked.{walked_codes}
+use Rattle.pb_propagate.proofs.Common.{ℕ, ◌++◌, ◌+◌, ◌∙◌, ◌∷◌, ◌≡◌, [], ap, arith, get_or, Global, length, length-append, length-set, List, refl}
+use Rattle.pb_propagate.proofs.Common.{rules, set, subst, sym, take, Vec, Contains, sum, sum_by, take-append_seam, length-map, sum_by_push}
+use Rattle.pb_propagate.proofs.Common.{NumberedLiteral, Assignment, Listed, Watch, Grows, all_of, clauses_of, joined, walked_codes, beside, IsTidy}
+use Rattle.pb_propagate.proofs.Common.{none, forms_of, shapes_of, stored_shape, Conflicts, Derives, KeepsReasons, open_sum, Shape, list_of}
+use Rattle.pb_propagate.proofs.Common.{reasons_of, alone, posed, ArePlaced, numbered}
 use Rattle.pb_propagate.proofs.lemmas.clauses.Literals.{Agree}
 use Rattle.pb_propagate.proofs.lemmas.clauses.Slots.{joined-push}
 use Rattle.pb_propagate.proofs.lemmas.clauses.Walks.{grows-refl}

@@ -1,9 +1,5 @@
-use Rattle.std.proofs.Common.{[], length, ap, arith}
-use Rattle.std.proofs.lemmas.List.{length-map}
-use Rattle.pb_normal.specs.meaning.Form.{Form}
+use Rattle.pb_propagate.proofs.Common.{[], ap, arith, length, length-map, Form, all_of, clauses_of, none}
 use Rattle.pb_normal.specs.meaning.Rules.{opposite as opposite_entry}
-use Rattle.pb_propagate.specs.engine.Engine.Counts.{none}
-use Rattle.pb_propagate.specs.engine.Clauses.Shapes.{all_of, clauses_of}
 use Rattle.pb_propagate.proofs.lemmas.engine.Rests.{opposite-inside}
 use Rattle.pb_propagate.proofs.lemmas.engine.Spent.{derivation-single}
 use Rattle.pb_propagate.proofs.lemmas.engine.Values.{opposite}

@@ -1,4 +1,4 @@
-use Rattle.std.proofs.Common.{arith}
+use Rattle.pb_propagate.proofs.Common.{arith}
 use Rattle.pb_propagate.proofs.engine.root.back.Goals as goal
 
 pub returns-clause-undone : goal.returns-clause-undone

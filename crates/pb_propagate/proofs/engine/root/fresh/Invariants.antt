@@ -1,4 +1,4 @@
-use Rattle.std.proofs.Common.{◌≡◌, [], length}
+use Rattle.pb_propagate.proofs.Common.{◌≡◌, [], length}
 use Rattle.pb_propagate.proofs.engine.root.fresh.Given as goal
 
 abbrev pub invariant-variables : goal.invariant-variables

@@ -1,4 +1,4 @@
-use Rattle.std.proofs.Common.{◌<◌, refl, ◌∙◌, arith, length, length-set}
+use Rattle.pb_propagate.proofs.Common.{◌<◌, ◌∙◌, arith, length, length-set, refl}
 use Rattle.pb_propagate.proofs.lemmas.root.Roots.{keep-next, keep-all}
 use Rattle.pb_propagate.proofs.engine.root.keep.Goals as goal
 

@@ -1,6 +1,4 @@
-use Rattle.std.proofs.Common.{◌≡◌, List, length}
-use Rattle.pb_propagate.specs.engine.Engine.Lists.{Shape}
-use Rattle.pb_propagate.specs.engine.Engine.Counts.{IsUndone}
+use Rattle.pb_propagate.proofs.Common.{◌≡◌, length, List, IsUndone, Shape}
 use Rattle.pb_propagate.proofs.engine.root.keep.Given as goal
 
 abbrev pub invariant-forms : goal.invariant-forms

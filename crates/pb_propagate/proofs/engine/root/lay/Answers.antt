@@ -1,9 +1,5 @@
-use Rattle.std.proofs.Common.{ℕ, ◌<◌, subst, sym, ap, ◌∙◌, length, get_or, set, arith}
-use Rattle.std.proofs.lemmas.List.{length-map}
-use Rattle.pb_propagate.specs.engine.Engine.Lists.{Shape, AreInside, says, open_sum}
-use Rattle.pb_propagate.specs.engine.Engine.Counts.{IsCalm}
-use Rattle.pb_propagate.specs.engine.Engine.Fields.{shapes_of, stored_shape}
-use Rattle.pb_propagate.specs.engine.Engine.Terms.{terms_of}
+use Rattle.pb_propagate.proofs.Common.{ℕ, ◌<◌, ◌∙◌, ap, arith, get_or, length, set, subst, sym, length-map, IsCalm, shapes_of, stored_shape}
+use Rattle.pb_propagate.proofs.Common.{AreInside, open_sum, says, Shape, terms_of}
 use Rattle.pb_propagate.proofs.lemmas.engine.VisitSteps.{shape-at, grown-by}
 use Rattle.pb_propagate.proofs.engine.root.lay.Goals as goal
 

@@ -1,7 +1,4 @@
-use Rattle.std.proofs.Common.{◌+◌, ap, arith}
-use Rattle.std.proofs.lemmas.List.Sums.{get_or-le-sum_by}
-use Rattle.pb_propagate.specs.declared.term.Term.{Term}
-use Rattle.pb_propagate.specs.engine.Engine.Terms.{terms_of}
+use Rattle.pb_propagate.proofs.Common.{◌+◌, ap, arith, get_or-le-sum_by, Term, terms_of}
 use Rattle.pb_propagate.proofs.lemmas.store.Sorted.{bound-calm, bound-none}
 use Rattle.pb_propagate.proofs.store.occurrence_lists.bound_of.Goals as goal
 

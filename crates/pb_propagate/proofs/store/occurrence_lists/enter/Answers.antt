@@ -1,5 +1,4 @@
-use Rattle.std.proofs.Common.{rules, None, get_or, Vec, Global, ℕ, ◌≡◌, ◌∷◌, [], sym, ◌∙◌, ap, arith, length, length-append}
-use Rattle.pb_propagate.specs.engine.Engine.Fields.{forms_of}
+use Rattle.pb_propagate.proofs.Common.{ℕ, ◌∙◌, ◌∷◌, ◌≡◌, [], ap, arith, get_or, Global, length, length-append, None, rules, sym, Vec, forms_of}
 use Rattle.pb_propagate.proofs.lemmas.store.Changes.{set-end, empty-end, forms-more}
 use Rattle.pb_propagate.proofs.store.occurrence_lists.enter.Goals as goal
 

@@ -1,6 +1,4 @@
-use Rattle.std.proofs.Common.{get_or, refl, arith}
-use Rattle.pb_propagate.specs.engine.Engine.Fields.{shapes_of}
-use Rattle.pb_propagate.specs.engine.Engine.Terms.{terms_of}
+use Rattle.pb_propagate.proofs.Common.{arith, get_or, refl, shapes_of, terms_of}
 use Rattle.pb_propagate.proofs.lemmas.store.Places.{entries-length}
 use Rattle.pb_propagate.proofs.lemmas.engine.Puts.{place-inside}
 use Rattle.pb_propagate.proofs.lemmas.store.Storages.{kept-inside}

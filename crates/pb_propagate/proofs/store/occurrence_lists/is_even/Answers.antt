@@ -1,7 +1,4 @@
-use Rattle.std.proofs.Common.{ℕ, ◌-◌, get_or, false, ap, arith}
-use Rattle.std.proofs.lemmas.Bool.{eqb-true}
-use Rattle.pb_propagate.specs.declared.term.Term.{Term}
-use Rattle.pb_propagate.specs.engine.Engine.Terms.{terms_of}
+use Rattle.pb_propagate.proofs.Common.{ℕ, ◌-◌, ap, arith, false, get_or, eqb-true, Term, terms_of}
 use Rattle.pb_propagate.proofs.lemmas.store.Sorted.{even-falling}
 use Rattle.pb_propagate.proofs.store.occurrence_lists.is_even.Goals as goal
 

@@ -1,7 +1,5 @@
-use Rattle.std.proofs.Common.{◌≡◌, ℕ, ◌+◌, ◌-◌, ◌∙◌, Vec, Global, refl, ap, arith, length, take}
-use Rattle.std.proofs.lemmas.List.{length-map}
-use Rattle.pb_propagate.specs.declared.store.stored_form.StoredForm.{StoredForm}
-use Rattle.pb_propagate.specs.engine.Engine.Fields.{shapes_of, stored_shape}
+use Rattle.pb_propagate.proofs.Common.{ℕ, ◌+◌, ◌-◌, ◌∙◌, ◌≡◌, ap, arith, Global, length, refl, take, Vec, length-map, StoredForm, shapes_of}
+use Rattle.pb_propagate.proofs.Common.{stored_shape}
 use Rattle.pb_propagate.proofs.lemmas.store.Links.{cut-length}
 use Rattle.pb_propagate.proofs.lemmas.store.Changes.{left-stored, take-at}
 use Rattle.pb_propagate.proofs.store.occurrence_lists.leave.Goals as goal

@@ -1,7 +1,4 @@
-use Rattle.std.proofs.Common.{[], ◌∷◌, ◌≡◌, ◌<◌, refl, ◌∙◌, get_or, ap, arith, length, length-append, length-set}
-use Rattle.pb_propagate.specs.declared.term.Term.{Term}
-use Rattle.pb_propagate.specs.engine.Engine.Counts.{place}
-use Rattle.pb_propagate.specs.engine.Engine.Terms.{terms_of}
+use Rattle.pb_propagate.proofs.Common.{◌<◌, ◌∙◌, ◌∷◌, ◌≡◌, [], ap, arith, get_or, length, length-append, length-set, refl, Term, place, terms_of}
 use Rattle.pb_propagate.proofs.lemmas.store.Places.{link-by}
 use Rattle.pb_propagate.proofs.lemmas.store.Longer.{longer-push, longer-then}
 use Rattle.pb_propagate.proofs.store.occurrence_lists.link.Goals as goal

@@ -1,8 +1,4 @@
-use Rattle.std.proofs.Common.{◌≡◌, ℕ, ◌<◌, [], List, length, set}
-use Rattle.pb_propagate.specs.engine.Engine.Lists.{Shape}
-use Rattle.pb_propagate.specs.engine.Engine.Fields.{entries_of, AreLonger}
-use Rattle.pb_propagate.specs.engine.Engine.Links.{IsLinked, cut, terms_at}
-use Rattle.pb_propagate.specs.engine.Engine.Terms.{terms_of}
+use Rattle.pb_propagate.proofs.Common.{ℕ, ◌<◌, ◌≡◌, [], length, List, set, AreLonger, entries_of, cut, IsLinked, terms_at, Shape, terms_of}
 use Rattle.pb_propagate.proofs.store.occurrence_lists.link.Given as goal
 
 abbrev pub invariant-terms : goal.invariant-terms

@@ -1,5 +1,4 @@
-use Rattle.std.proofs.Common.{arith, ◌∙◌, sym}
-use Rattle.pb_propagate.specs.engine.Engine.Terms.{terms_of}
+use Rattle.pb_propagate.proofs.Common.{◌∙◌, arith, sym, terms_of}
 use Rattle.pb_propagate.proofs.lemmas.store.Sorted.{kept-size, degree-read}
 use Rattle.pb_propagate.proofs.store.occurrence_lists.stored_of.Goals as goal
 

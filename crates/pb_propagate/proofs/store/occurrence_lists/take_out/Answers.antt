@@ -1,5 +1,4 @@
-use Rattle.std.proofs.Common.{[], get_or, refl, ap, arith, length}
-use Rattle.pb_propagate.specs.engine.Engine.Fields.{lists_of, spots_of}
+use Rattle.pb_propagate.proofs.Common.{[], ap, arith, get_or, length, refl, lists_of, spots_of}
 use Rattle.pb_propagate.proofs.lemmas.store.Places.{taken-lists, taken-last, taken-moved, spots-moved, set-read, spots-read}
 use Rattle.pb_propagate.proofs.store.occurrence_lists.take_out.Goals as goal
 

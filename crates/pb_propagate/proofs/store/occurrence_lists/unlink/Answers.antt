@@ -1,8 +1,5 @@
-use Rattle.std.proofs.Common.{[], ℕ, ◌-◌, ◌∙◌, Vec, Global, get_or, refl, ap, arith}
-use Rattle.std.proofs.lemmas.List.{length-map}
-use Rattle.pb_propagate.specs.declared.store.stored_form.StoredForm.{StoredForm}
-use Rattle.pb_propagate.specs.engine.Engine.Counts.{place}
-use Rattle.pb_propagate.specs.engine.Engine.Fields.{spots_of, shapes_of, lists_of, stored_shape}
+use Rattle.pb_propagate.proofs.Common.{ℕ, ◌-◌, ◌∙◌, [], ap, arith, get_or, Global, refl, Vec, length-map, StoredForm, place, lists_of, shapes_of}
+use Rattle.pb_propagate.proofs.Common.{spots_of, stored_shape}
 use Rattle.pb_propagate.proofs.lemmas.store.Places.{unlink-read, moved-rooms, entries-length, taken-length}
 use Rattle.pb_propagate.proofs.store.occurrence_lists.unlink.Goals as goal
 

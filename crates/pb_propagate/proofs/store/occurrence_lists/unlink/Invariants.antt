@@ -1,6 +1,4 @@
-use Rattle.std.proofs.Common.{◌≡◌, ℕ, ◌≤◌, [], get_or, length}
-use Rattle.pb_propagate.specs.engine.Engine.Fields.{shapes_of, entries_of, spots_of}
-use Rattle.pb_propagate.specs.engine.Engine.Links.{IsLinked, cut, terms_at}
+use Rattle.pb_propagate.proofs.Common.{ℕ, ◌≡◌, ◌≤◌, [], get_or, length, entries_of, shapes_of, spots_of, cut, IsLinked, terms_at}
 use Rattle.pb_propagate.proofs.store.occurrence_lists.unlink.Given as goal
 
 abbrev pub invariant-terms : goal.invariant-terms

@@ -1,5 +1,4 @@
-use Rattle.std.proofs.Common.{List, Vec, Global, ap, set}
-use Rattle.pb_propagate.specs.declared.store.stored_form.StoredForm.{StoredForm}
+use Rattle.pb_propagate.proofs.Common.{ap, Global, List, set, Vec, StoredForm}
 use Rattle.pb_propagate.proofs.lemmas.store.Changes.{vacated-stored}
 use Rattle.pb_propagate.proofs.store.occurrence_lists.vacate.Goals as goal
 

@@ -1,6 +1,4 @@
-use Rattle.std.specs.Prelude.{All}
-use Rattle.std.proofs.Common.{ℕ, List, ◌<◌, subst, sym, length}
-use Rattle.pb_propagate.specs.engine.Clauses.Shapes.{group_by}
+use Rattle.pb_propagate.proofs.Common.{ℕ, ◌<◌, length, List, subst, sym, All, group_by}
 use Rattle.pb_propagate.proofs.lemmas.clauses.Slots.{codes-inside}
 use Rattle.pb_propagate.proofs.store.occurrence_lists.watch.Goals as goal
 

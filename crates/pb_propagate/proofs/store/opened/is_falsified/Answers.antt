@@ -1,5 +1,4 @@
-use Rattle.std.proofs.Common.{sym}
-use Rattle.pb_normal.specs.meaning.Rules.{negation}
+use Rattle.pb_propagate.proofs.Common.{sym, negation}
 use Rattle.pb_propagate.proofs.lemmas.engine.Values.{says-none}
 use Rattle.pb_propagate.proofs.lemmas.root.Opens.{falsified-some}
 use Rattle.pb_propagate.proofs.store.opened.is_falsified.Goals as goal

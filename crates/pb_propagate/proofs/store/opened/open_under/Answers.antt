@@ -1,5 +1,4 @@
-use Rattle.std.proofs.Common.{arith}
-use Rattle.pb_propagate.specs.engine.Engine.Terms.{terms_of}
+use Rattle.pb_propagate.proofs.Common.{arith, terms_of}
 use Rattle.pb_propagate.proofs.lemmas.root.Opens.{summed-fits, summed-next}
 use Rattle.pb_propagate.proofs.store.opened.open_under.Goals as goal
 

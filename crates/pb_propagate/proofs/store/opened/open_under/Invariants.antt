@@ -1,4 +1,4 @@
-use Rattle.pb_propagate.specs.engine.Engine.Terms.{terms_of}
+use Rattle.pb_propagate.proofs.Common.{terms_of}
 use Rattle.pb_propagate.proofs.lemmas.root.Opens.{IsSummed}
 use Rattle.pb_propagate.proofs.store.opened.open_under.Given as goal
 

@@ -1,4 +1,4 @@
-use Rattle.std.proofs.Common.{sym, ◌∙◌}
+use Rattle.pb_propagate.proofs.Common.{◌∙◌, sym}
 use Rattle.pb_propagate.proofs.lemmas.root.Opens.{part-none, part-whole}
 use Rattle.pb_propagate.proofs.store.opened.part_of.Goals as goal
 

@@ -1,11 +1,5 @@
-use Rattle.std.specs.Prelude.{Bool, Option}
-use Rattle.std.proofs.Common.{Vec, Global, ◌≡◌, sym, ◌∙◌, ap, subst, inl, inr, arith, length, get_or}
-use Rattle.std.proofs.lemmas.Bool.{cases_eq}
-use Rattle.std.proofs.lemmas.List.{get_or_default}
-use Rattle.pb_normal.specs.declared.numbered.NumberedLiteral.{NumberedLiteral}
-use Rattle.pb_propagate.specs.engine.Engine.Fields.{shapes_of}
-use Rattle.pb_propagate.specs.engine.Engine.Lists.{IsDue}
-use Rattle.pb_propagate.specs.engine.Clauses.Shapes.{literal_at}
+use Rattle.pb_propagate.proofs.Common.{◌∙◌, ◌≡◌, ap, arith, Bool, get_or, Global, inl, inr, length, subst, sym, Vec, Option, cases_eq, get_or_default}
+use Rattle.pb_propagate.proofs.Common.{NumberedLiteral, literal_at, shapes_of, IsDue}
 use Rattle.pb_propagate.proofs.lemmas.root.Replaced.{same-reasons, other-then}
 use Rattle.pb_propagate.proofs.store.reasons.replace_by_codes.Goals as goal
 

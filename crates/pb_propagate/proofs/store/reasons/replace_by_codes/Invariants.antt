@@ -1,8 +1,4 @@
-use Rattle.std.proofs.Common.{ℕ, ◌<◌, get_or}
-use Rattle.pb_propagate.specs.engine.Engine.Fields.{shapes_of}
-use Rattle.pb_propagate.specs.engine.Engine.Lists.{IsDue}
-use Rattle.pb_propagate.specs.engine.Engine.Root.{HasOtherReasons}
-use Rattle.pb_propagate.specs.engine.Clauses.Shapes.{literal_at}
+use Rattle.pb_propagate.proofs.Common.{ℕ, ◌<◌, get_or, literal_at, shapes_of, IsDue, HasOtherReasons}
 use Rattle.pb_propagate.proofs.store.reasons.replace_by_codes.Given as goal
 
 abbrev pub invariant-literals : goal.invariant-literals

@@ -1,14 +1,6 @@
-use Rattle.std.specs.Prelude.{Bool, Option}
-use Rattle.std.proofs.Common.{Vec, Global, ◌≡◌, ◌<◌, [], ℕ, List, sym, ◌∙◌, ap, subst, inl, inr, arith, length, get_or}
-use Rattle.std.proofs.lemmas.Bool.{cases_eq}
-use Rattle.std.proofs.lemmas.List.{length-map}
-use Rattle.pb_propagate.specs.declared.store.Store.{Store}
-use Rattle.pb_propagate.specs.declared.store.stored_form.StoredForm.{StoredForm}
-use Rattle.pb_propagate.specs.declared.term.Term.{Term}
-use Rattle.pb_propagate.specs.engine.Engine.Fields.{shapes_of, stored_shape, IsSound}
-use Rattle.pb_propagate.specs.engine.Engine.Links.{terms_at}
-use Rattle.pb_propagate.specs.engine.Engine.Lists.{Shape, IsDue, AreInside}
-use Rattle.pb_propagate.specs.engine.Engine.Terms.{terms_of}
+use Rattle.pb_propagate.proofs.Common.{ℕ, ◌<◌, ◌∙◌, ◌≡◌, [], ap, arith, Bool, get_or, Global, inl, inr, length, List, subst, sym, Vec, Option}
+use Rattle.pb_propagate.proofs.Common.{cases_eq, length-map, Store, StoredForm, Term, IsSound, shapes_of, stored_shape, terms_at, AreInside, IsDue}
+use Rattle.pb_propagate.proofs.Common.{Shape, terms_of}
 use Rattle.pb_propagate.proofs.lemmas.engine.Puts.{place-inside}
 use Rattle.pb_propagate.proofs.lemmas.engine.VisitSteps.{shape-at}
 use Rattle.pb_propagate.proofs.lemmas.root.Replaced.{same-reasons, other-then}

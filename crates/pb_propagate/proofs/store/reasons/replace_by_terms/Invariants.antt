@@ -1,9 +1,4 @@
-use Rattle.std.proofs.Common.{ℕ, ◌<◌, get_or}
-use Rattle.pb_propagate.specs.declared.term.Term.{Term}
-use Rattle.pb_propagate.specs.engine.Engine.Fields.{shapes_of}
-use Rattle.pb_propagate.specs.engine.Engine.Lists.{IsDue}
-use Rattle.pb_propagate.specs.engine.Engine.Root.{HasOtherReasons}
-use Rattle.pb_propagate.specs.engine.Engine.Terms.{terms_of}
+use Rattle.pb_propagate.proofs.Common.{ℕ, ◌<◌, get_or, Term, shapes_of, IsDue, HasOtherReasons, terms_of}
 use Rattle.pb_propagate.proofs.store.reasons.replace_by_terms.Given as goal
 
 abbrev pub invariant-terms : goal.invariant-terms

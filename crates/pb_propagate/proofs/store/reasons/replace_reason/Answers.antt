@@ -1,5 +1,4 @@
-use Rattle.std.proofs.Common.{arith}
-use Rattle.pb_propagate.specs.engine.Engine.Fields.{shapes_of}
+use Rattle.pb_propagate.proofs.Common.{arith, shapes_of}
 use Rattle.pb_propagate.proofs.lemmas.root.Replaced.{explained-reasons, explained-needless}
 use Rattle.pb_propagate.proofs.store.reasons.replace_reason.Goals as goal
 

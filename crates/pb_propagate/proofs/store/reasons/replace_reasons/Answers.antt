@@ -1,6 +1,4 @@
-use Rattle.std.proofs.Common.{◌<◌, ℕ, List, subst, length, get_or}
-use Rattle.pb_propagate.specs.engine.Engine.Lists.{IsDue}
-use Rattle.pb_propagate.specs.engine.Clauses.Shapes.{clauses_of, literal_at}
+use Rattle.pb_propagate.proofs.Common.{ℕ, ◌<◌, get_or, length, List, subst, clauses_of, literal_at, IsDue}
 use Rattle.pb_propagate.proofs.lemmas.root.Replaced.{needless-codes, needless-terms}
 use Rattle.pb_propagate.proofs.store.reasons.replace_reasons.Goals as goal
 

@@ -1,4 +1,4 @@
-use Rattle.std.proofs.Common.{arith}
+use Rattle.pb_propagate.proofs.Common.{arith}
 use Rattle.pb_propagate.proofs.lemmas.store.Sorted.{places-none, places-next, places-all}
 use Rattle.pb_propagate.proofs.store.sorted_form.all_places.Goals as goal
 

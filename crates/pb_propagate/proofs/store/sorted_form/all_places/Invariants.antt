@@ -1,5 +1,4 @@
-use Rattle.std.proofs.Common.{◌≡◌, List, length}
-use Rattle.pb_normal.specs.declared.entry.Entry.{Entry}
+use Rattle.pb_propagate.proofs.Common.{◌≡◌, length, List, Entry}
 use Rattle.pb_propagate.proofs.lemmas.store.Sorted.{ArePlaces}
 use Rattle.pb_propagate.proofs.store.sorted_form.all_places.Given as goal
 

@@ -1,5 +1,4 @@
-use Rattle.std.proofs.Common.{◌≡◌, ℕ, ◌<◌, get_or}
-use Rattle.pb_normal.specs.declared.entry.Entry.{Entry}
+use Rattle.pb_propagate.proofs.Common.{ℕ, ◌<◌, ◌≡◌, get_or, Entry}
 use Rattle.pb_propagate.proofs.store.sorted_form.are_equal.Given as goal
 
 abbrev pub invariant-entries : goal.invariant-entries

@@ -1,6 +1,4 @@
-use Rattle.std.proofs.Common.{◌∙◌, refl, ap, map}
-use Rattle.std.proofs.lemmas.List.Sorted.{IsPermutation-refl}
-use Rattle.pb_propagate.specs.declared.term.Rank.{Rank}
+use Rattle.pb_propagate.proofs.Common.{◌∙◌, ap, map, refl, IsPermutation-refl, Rank}
 use Rattle.pb_propagate.proofs.lemmas.store.Sorted.{placed-inside, equal-falling}
 use Rattle.pb_propagate.proofs.store.sorted_form.order_of.Goals as goal
 

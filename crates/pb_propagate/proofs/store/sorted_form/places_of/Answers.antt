@@ -1,6 +1,4 @@
-use Rattle.std.proofs.Common.{ℕ, ◌++◌, ◌∷◌, [], List, get_or, ◌∙◌, sym, ap, arith, map}
-use Rattle.std.proofs.lemmas.List.{map_more, take_all}
-use Rattle.pb_propagate.specs.declared.term.Rank.{Rank}
+use Rattle.pb_propagate.proofs.Common.{ℕ, ◌++◌, ◌∙◌, ◌∷◌, [], ap, arith, get_or, List, map, sym, map_more, take_all, Rank}
 use Rattle.pb_propagate.proofs.store.sorted_form.places_of.Goals as goal
 
 pub ranks-preserved : goal.ranks-preserved

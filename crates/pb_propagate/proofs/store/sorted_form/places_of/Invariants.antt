@@ -1,4 +1,4 @@
-use Rattle.std.proofs.Common.{◌≡◌, map, take}
+use Rattle.pb_propagate.proofs.Common.{◌≡◌, map, take}
 use Rattle.pb_propagate.proofs.store.sorted_form.places_of.Given as goal
 
 abbrev pub invariant-ranks : goal.invariant-ranks

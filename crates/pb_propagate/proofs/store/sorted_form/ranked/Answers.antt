@@ -1,7 +1,4 @@
-use Rattle.std.proofs.Common.{rules, ◌-◌, ◌^◌, arith}
-use Rattle.std.proofs.lemmas.List.Sorted.{All-permutation, IsNonDecreasingBy-from_sort_by_key}
-use Rattle.pb_propagate.specs.declared.term.Rank.{Rank}
-use Rattle.pb_propagate.specs.engine.Engine.Forms.{IsPlaced}
+use Rattle.pb_propagate.proofs.Common.{◌-◌, ◌^◌, arith, rules, All-permutation, IsNonDecreasingBy-from_sort_by_key, Rank, IsPlaced}
 use Rattle.pb_propagate.proofs.lemmas.store.Sorted.{ranked-same, ranked-falling}
 use Rattle.pb_propagate.proofs.store.sorted_form.ranked.Goals as goal
 

@@ -1,4 +1,4 @@
-use Rattle.std.proofs.Common.{arith}
+use Rattle.pb_propagate.proofs.Common.{arith}
 use Rattle.pb_propagate.proofs.lemmas.store.Sorted.{standing-none, standing-next, standing-all}
 use Rattle.pb_propagate.proofs.store.sorted_form.standing.Goals as goal
 

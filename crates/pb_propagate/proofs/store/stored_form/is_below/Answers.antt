@@ -1,4 +1,4 @@
-use Rattle.std.proofs.Common.{ltb-true, ltb-false}
+use Rattle.pb_propagate.proofs.Common.{ltb-false, ltb-true}
 use Rattle.pb_propagate.proofs.store.stored_form.is_below.Goals as goal
 
 pub returns-clause-below : goal.returns-clause-below

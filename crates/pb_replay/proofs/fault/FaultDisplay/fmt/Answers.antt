@@ -1,4 +1,4 @@
-use Rattle.std.proofs.Common.{rules}
+use Rattle.pb_replay.proofs.Common.{rules}
 use Rattle.pb_replay.proofs.fault.FaultDisplay.fmt.Goals as goal
 
 pub returns-in-NotTotal-clause-writes : goal.returns-in-NotTotal-clause-writes

@@ -1,6 +1,4 @@
-use Rattle.std.specs.Prelude.{slice_get}
-use Rattle.std.proofs.Common.{ap, ◌∙◌}
-use Rattle.pb_replay.specs.contract.ReplayModel.{Replaying}
+use Rattle.pb_replay.proofs.Common.{◌∙◌, ap, slice_get, Replaying}
 use Rattle.pb_replay.proofs.replay.Replay.name_of.Goals as goal
 
 pub returns : goal.returns

@@ -1,5 +1,4 @@
-use Rattle.std.proofs.Common.{ap, length, ◌∙◌}
-use Rattle.pb_replay.specs.contract.ReplayModel.{Replaying}
+use Rattle.pb_replay.proofs.Common.{◌∙◌, ap, length, Replaying}
 use Rattle.pb_replay.proofs.replay.Replay.newest.Goals as goal
 
 pub returns : goal.returns

@@ -1,5 +1,4 @@
-use Rattle.std.proofs.Common.{refl}
-use Rattle.pb_replay.specs.contract.ReplayModel.{state_of}
+use Rattle.pb_replay.proofs.Common.{refl, state_of}
 use Rattle.pb_replay.proofs.replay.Replay.report_sound.Goals as goal
 
 pub returns-clause-problem : goal.returns-clause-problem

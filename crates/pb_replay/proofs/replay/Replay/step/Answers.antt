@@ -1,6 +1,4 @@
-use Rattle.std.specs.Prelude.{None}
-use Rattle.std.proofs.Common.{◌≡◌, inl, inr, refl, rules}
-use Rattle.pb_replay.specs.contract.ReplayModel.{state_of}
+use Rattle.pb_replay.proofs.Common.{◌≡◌, inl, inr, None, refl, rules, state_of}
 use Rattle.pb_replay.proofs.lemmas.rules.Ready.{kept-ok, kept-err, step-ok, step-err, step-unvalued}
 use Rattle.pb_replay.proofs.replay.Replay.step.Goals as goal
 

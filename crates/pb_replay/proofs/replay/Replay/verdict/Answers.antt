@@ -1,5 +1,4 @@
-use Rattle.std.proofs.Common.{refl, ◌∙◌, sym}
-use Rattle.pb_replay.specs.contract.ReplayModel.{problem_of, state_of}
+use Rattle.pb_replay.proofs.Common.{◌∙◌, refl, sym, problem_of, state_of}
 use Rattle.pb_propagate.proofs.lemmas.store.Options.{none_of}
 use Rattle.pb_replay.proofs.lemmas.rules.Ready.{meant, meant-written}
 use Rattle.pb_replay.proofs.replay.Replay.verdict.Goals as goal

@@ -1,4 +1,4 @@
-use Rattle.std.proofs.Common.{rules}
+use Rattle.pb_replay.proofs.Common.{rules}
 use Rattle.pb_replay.proofs.replay.Replay.visits.Goals as goal
 
 pub returns : goal.returns

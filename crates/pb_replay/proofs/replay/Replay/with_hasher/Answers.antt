@@ -1,4 +1,4 @@
-use Rattle.std.proofs.Common.{refl}
+use Rattle.pb_replay.proofs.Common.{refl}
 use Rattle.pb_replay.proofs.lemmas.rules.Ready.{ready_first}
 use Rattle.pb_replay.proofs.replay.Replay.with_hasher.Goals as goal
 

@@ -1,4 +1,4 @@
-use Rattle.std.proofs.Common.{rules}
+use Rattle.pb_replay.proofs.Common.{rules}
 use Rattle.pb_replay.proofs.state.find.place_of.Goals as goal
 
 pub returns-then-id-gt0 : goal.returns-then-id-gt0

@@ -1,5 +1,4 @@
-use Rattle.std.proofs.Common.{refl, take}
-use Rattle.pb_replay.specs.meaning.Statements.{literal_names}
+use Rattle.pb_replay.proofs.Common.{refl, take, literal_names}
 use Rattle.pb_replay.proofs.lemmas.rules.Evaluation.{prefix_in}
 use Rattle.pb_replay.proofs.lemmas.names.Named.{literal_next}
 use Rattle.pb_replay.proofs.state.literals.number_names.Goals as goal

@@ -1,6 +1,4 @@
-use Rattle.std.proofs.Common.{◌≡◌, take}
-use Rattle.pb_normal.specs.meaning.Names.{with_names}
-use Rattle.pb_replay.specs.meaning.Statements.{literal_names}
+use Rattle.pb_replay.proofs.Common.{◌≡◌, take, with_names, literal_names}
 use Rattle.pb_replay.proofs.state.literals.number_names.Given as goal
 
 -- the names of the literals so far have appeared

@@ -1,5 +1,4 @@
-use Rattle.std.proofs.Common.{◌≡◌, ◌<◌, All, length, take}
-use Rattle.pb_replay.specs.meaning.Replay.{numbered}
+use Rattle.pb_replay.proofs.Common.{◌<◌, ◌≡◌, All, length, take, numbered}
 use Rattle.pb_replay.proofs.state.literals.numbered_literals.Given as goal
 
 -- the literals so far are numbered

@@ -1,4 +1,4 @@
-use Rattle.std.proofs.Common.{◌∙◌, refl, rules}
+use Rattle.pb_replay.proofs.Common.{◌∙◌, refl, rules}
 use Rattle.pb_replay.proofs.lemmas.rules.Linked.{inside-added}
 use Rattle.pb_replay.proofs.state.live.add_shared.Goals as goal
 

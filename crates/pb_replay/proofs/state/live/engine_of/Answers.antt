@@ -1,7 +1,4 @@
-use Rattle.std.specs.Prelude.{Option, Some}
-use Rattle.std.proofs.Common.{◌++◌, ◌∷◌, [], arith, List, sym, ◌∙◌, ap, take, map}
-use Rattle.std.proofs.lemmas.List.{map_more, take_all}
-use Rattle.pb_normal.specs.meaning.Form.{Form}
+use Rattle.pb_replay.proofs.Common.{◌++◌, ◌∙◌, ◌∷◌, [], ap, arith, List, map, Some, sym, take, Option, map_more, take_all, Form}
 use Rattle.pb_replay.proofs.state.live.engine_of.Goals as goal
 
 pub loop-form-preserved : goal.loop-form-preserved

@@ -1,7 +1,4 @@
-use Rattle.std.specs.Prelude.{Option, Some}
-use Rattle.std.proofs.Common.{take, map}
-use Rattle.pb_normal.specs.meaning.Form.{Form}
-use Rattle.pb_replay.specs.contract.ReplayModel.{IsEngine}
+use Rattle.pb_replay.proofs.Common.{map, Some, take, Option, Form, IsEngine}
 use Rattle.pb_replay.proofs.state.live.engine_of.Given as goal
 
 -- the forms so far were added

@@ -1,4 +1,4 @@
-use Rattle.pb_replay.specs.contract.ReplayModel.{IsEngine}
+use Rattle.pb_replay.proofs.Common.{IsEngine}
 use Rattle.pb_replay.proofs.state.live.widen.Given as goal
 
 -- this many variables were added

@@ -1,5 +1,4 @@
-use Rattle.std.proofs.Common.{Err, ap, refl, rules, sym, take, ◌∙◌}
-use Rattle.std.proofs.Math.Seq.{take-length}
+use Rattle.pb_replay.proofs.Common.{◌∙◌, ap, Err, refl, rules, sym, take, take-length}
 use Rattle.pb_replay.proofs.lemmas.rules.Ready.{opened_ok, opened_err}
 use Rattle.pb_replay.proofs.lemmas.rules.States.{same-state}
 use Rattle.pb_replay.proofs.state.load.begun.Goals as goal

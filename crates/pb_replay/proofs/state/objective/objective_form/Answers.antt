@@ -1,9 +1,4 @@
-use Rattle.std.specs.Int.{w128}
-use Rattle.std.specs.Prelude.{option_map}
-use Rattle.std.proofs.Common.{rules, refl, take, sym, ap, FitsSigned}
-use Rattle.std.proofs.lemmas.Int.{to_z-of_z}
-use Rattle.pb_sums.specs.declared.Linear.{Linear}
-use Rattle.pb_normal.specs.meaning.Written.{names_of}
+use Rattle.pb_replay.proofs.Common.{ap, FitsSigned, refl, rules, sym, take, option_map, to_z-of_z, w128, names_of, Linear}
 use Rattle.pb_replay.proofs.lemmas.conclusions.Objectives.{unchanged, objective-made, objective-within}
 use Rattle.pb_replay.proofs.lemmas.rules.Rups.{fits_of, prefix_after}
 use Rattle.pb_replay.proofs.state.objective.objective_form.Goals as goal

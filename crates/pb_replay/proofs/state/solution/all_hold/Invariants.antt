@@ -1,7 +1,4 @@
-use Rattle.std.proofs.Common.{ℕ, ◌<◌, get_or}
-use Rattle.pb_normal.specs.meaning.Form.{Holds}
-use Rattle.pb_normal.specs.meaning.Rules.{assignment}
-use Rattle.pb_replay.specs.meaning.Replay.{no_form}
+use Rattle.pb_replay.proofs.Common.{ℕ, ◌<◌, get_or, Holds, assignment, no_form}
 use Rattle.pb_replay.proofs.state.solution.all_hold.Given as goal
 
 -- the forms so far hold

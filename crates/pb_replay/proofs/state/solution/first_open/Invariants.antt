@@ -1,4 +1,4 @@
-use Rattle.pb_replay.specs.engine.Solutions.{AreValued}
+use Rattle.pb_replay.proofs.Common.{AreValued}
 use Rattle.pb_replay.proofs.state.solution.first_open.Given as goal
 
 -- each name so far has a value

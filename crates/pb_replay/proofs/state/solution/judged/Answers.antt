@@ -1,8 +1,4 @@
-use Rattle.std.specs.Int.{w128}
-use Rattle.std.proofs.lemmas.Result.{err_from_is_err_and}
-use Rattle.pb_replay.specs.contract.ReplayModel.{problem_of}
-use Rattle.std.proofs.Common.{inr, ◌∙◌, FitsSigned}
-use Rattle.std.proofs.lemmas.Int.{fits_signed_from_abs, to_z-of_z}
+use Rattle.pb_replay.proofs.Common.{◌∙◌, FitsSigned, inr, fits_signed_from_abs, to_z-of_z, err_from_is_err_and, w128, problem_of}
 use Rattle.pb_replay.proofs.lemmas.solutions.Solved.{judged-ok, judged-err}
 use Rattle.pb_replay.proofs.state.solution.judged.Goals as goal
 

@@ -1,4 +1,4 @@
-use Rattle.std.proofs.Common.{rules}
+use Rattle.pb_replay.proofs.Common.{rules}
 use Rattle.pb_replay.proofs.state.solution.listed.Goals as goal
 
 pub loop-number-preserved : goal.loop-number-preserved

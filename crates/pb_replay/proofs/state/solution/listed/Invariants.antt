@@ -1,4 +1,4 @@
-use Rattle.std.proofs.Common.{◌≡◌, ◌<◌, ℕ, false, length, get_or, Some, None}
+use Rattle.pb_replay.proofs.Common.{ℕ, ◌<◌, ◌≡◌, false, get_or, length, None, Some}
 use Rattle.pb_replay.proofs.state.solution.listed.Given as goal
 
 -- each name so far has its value

@@ -1,10 +1,5 @@
-use Rattle.std.specs.Int.{w128}
-use Rattle.std.specs.Prelude.{option_map}
-use Rattle.std.proofs.Common.{◌^◌, arith, ◌∙◌, ap, ◌<◌, length, FitsSigned}
-use Rattle.std.proofs.lemmas.Int.{fits_signed_from_abs, to_z-of_z}
-use Rattle.pb_sums.specs.declared.Linear.{Linear}
-use Rattle.pb_normal.specs.meaning.Rules.{assignment}
-use Rattle.pb_normal.specs.meaning.Written.{magnitude}
+use Rattle.pb_replay.proofs.Common.{◌<◌, ◌^◌, ◌∙◌, ap, arith, FitsSigned, length, option_map, fits_signed_from_abs, to_z-of_z, w128, assignment}
+use Rattle.pb_replay.proofs.Common.{magnitude, Linear}
 use Rattle.pb_replay.proofs.lemmas.solutions.Values.{objective-has, objective-inside, objective-small, objective-value}
 use Rattle.pb_replay.proofs.state.solution.objective_value.Goals as goal
 

@@ -1,11 +1,5 @@
-use Rattle.std.specs.Int.{w128}
-use Rattle.std.proofs.Common.{take, ◌+◌, arith, ◌∙◌, ap, sym, ◌<◌, length, FitsSigned, ◌+ℤ◌, ℤ, to_z}
-use Rattle.std.proofs.lemmas.Int.{fits_signed_from_abs, to_z-of_z}
-use Rattle.pb_sums.specs.declared.Term.{Term}
-use Rattle.pb_normal.specs.meaning.Names.{number_in}
-use Rattle.pb_normal.specs.meaning.Rules.{assignment}
-use Rattle.pb_normal.specs.meaning.Written.{true_sum}
-use Rattle.pb_replay.specs.meaning.Replay.{by_name}
+use Rattle.pb_replay.proofs.Common.{ℤ, ◌+ℤ◌, ◌+◌, ◌<◌, ◌∙◌, ap, arith, FitsSigned, length, sym, take, to_z, fits_signed_from_abs, to_z-of_z, w128}
+use Rattle.pb_replay.proofs.Common.{number_in, assignment, true_sum, Term, by_name}
 use Rattle.pb_replay.proofs.lemmas.solutions.Values.{has-one, inside-one, next-fits, next-small, sum-more, magnitude-prefix, magnitude-more}
 use Rattle.pb_replay.proofs.state.solution.value_of.Goals as goal
 

@@ -1,7 +1,4 @@
-use Rattle.std.proofs.Common.{◌≡◌, ◌≤◌, take, unsigned_abs}
-use Rattle.pb_normal.specs.meaning.Rules.{assignment}
-use Rattle.pb_normal.specs.meaning.Written.{magnitude, true_sum}
-use Rattle.pb_replay.specs.meaning.Replay.{by_name}
+use Rattle.pb_replay.proofs.Common.{◌≡◌, ◌≤◌, take, unsigned_abs, assignment, magnitude, true_sum, by_name}
 use Rattle.pb_replay.proofs.state.solution.value_of.Given as goal
 
 -- the sum of the terms so far

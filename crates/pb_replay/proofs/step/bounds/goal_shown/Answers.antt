@@ -1,4 +1,4 @@
-use Rattle.std.proofs.Common.{inr, refl}
+use Rattle.pb_replay.proofs.Common.{inr, refl}
 use Rattle.pb_replay.proofs.lemmas.rules.Rups.{is_so, not_so}
 use Rattle.pb_replay.proofs.step.bounds.goal_shown.Goals as goal
 

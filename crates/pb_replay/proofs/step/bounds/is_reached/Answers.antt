@@ -1,4 +1,4 @@
-use Rattle.std.proofs.Common.{rules}
+use Rattle.pb_replay.proofs.Common.{rules}
 use Rattle.pb_replay.proofs.step.bounds.is_reached.Goals as goal
 
 pub returns-then-best-bound : goal.returns-then-best-bound

@@ -1,5 +1,4 @@
-use Rattle.std.specs.Prelude.{IsTrue}
-use Rattle.std.proofs.Common.{rules}
+use Rattle.pb_replay.proofs.Common.{IsTrue, rules}
 use Rattle.pb_replay.proofs.lemmas.conclusions.Bounding.{refuted-shown}
 use Rattle.pb_replay.proofs.step.bounds.is_shown.Goals as goal
 

@@ -1,8 +1,4 @@
-use Rattle.std.specs.Int.{w128}
-use Rattle.std.proofs.Common.{rules, FitsSigned, subst}
-use Rattle.std.proofs.lemmas.Int.{to_z-of_z}
-use Rattle.pb_replay.specs.engine.Bounds.{IsNamed, ShownAs}
-use Rattle.pb_propagate.specs.engine.Engine.Live.{Standing}
+use Rattle.pb_replay.proofs.Common.{FitsSigned, rules, subst, to_z-of_z, w128, Standing, IsNamed, ShownAs}
 use Rattle.pb_replay.proofs.lemmas.conclusions.Bounding.{objective-ok}
 use Rattle.pb_replay.proofs.step.bounds.objective_shown.Goals as goal
 

@@ -1,8 +1,4 @@
-use Rattle.std.specs.Int.{w128}
-use Rattle.std.proofs.Common.{rules, ◌≡◌, true, false, FitsSigned}
-use Rattle.std.proofs.lemmas.Int.{to_z-of_z}
-use Rattle.std.proofs.lemmas.Result.{err_from_is_err_and}
-use Rattle.pb_replay.specs.engine.Bounds.{IsBelow}
+use Rattle.pb_replay.proofs.Common.{◌≡◌, false, FitsSigned, rules, true, to_z-of_z, err_from_is_err_and, w128, IsBelow}
 use Rattle.pb_replay.proofs.lemmas.conclusions.Bounding.{lower-late, lower-missing, lower-found}
 use Rattle.pb_replay.proofs.lemmas.rules.Rups.{is_so, not_so}
 use Rattle.pb_replay.proofs.step.bounds.shows_finite.Goals as goal

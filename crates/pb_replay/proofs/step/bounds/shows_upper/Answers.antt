@@ -1,6 +1,4 @@
-use Rattle.std.specs.Int.{w128}
-use Rattle.std.proofs.Common.{rules, FitsSigned}
-use Rattle.std.proofs.lemmas.Int.{to_z-of_z}
+use Rattle.pb_replay.proofs.Common.{FitsSigned, rules, to_z-of_z, w128}
 use Rattle.pb_replay.proofs.lemmas.conclusions.Bounding.{upper-reached, upper-shown}
 use Rattle.pb_replay.proofs.step.bounds.shows_upper.Goals as goal
 

@@ -1,7 +1,4 @@
-use Rattle.pb_proof.specs.declared.Conclusion.TheVariants.{Bounds}
-use Rattle.pb_proof.specs.declared.Statement.TheVariants.{Conclude}
-use Rattle.std.specs.Prelude.{IsSome}
-use Rattle.std.proofs.Common.{rules}
+use Rattle.pb_replay.proofs.Common.{rules, IsSome, Bounds, Conclude}
 use Rattle.pb_replay.proofs.lemmas.solutions.Excluding.{some-objective}
 use Rattle.pb_replay.proofs.lemmas.names.Going.{goes-from}
 use Rattle.pb_replay.proofs.step.conclude.bounds.Goals as goal

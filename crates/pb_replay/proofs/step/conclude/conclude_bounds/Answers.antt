@@ -1,7 +1,4 @@
-use Rattle.std.specs.Prelude.{Some}
-use Rattle.std.proofs.Common.{refl}
-use Rattle.std.proofs.lemmas.Result.{err_from_is_err_and}
-use Rattle.pb_proof.specs.declared.Stage.TheVariants.{Closing}
+use Rattle.pb_replay.proofs.Common.{refl, Some, err_from_is_err_and, Closing}
 use Rattle.pb_replay.specs.declared.verdict.Verdict.TheVariants.{Bounds}
 use Rattle.pb_replay.proofs.lemmas.conclusions.Bounding.{bounds-ok, bounds-err}
 use Rattle.pb_replay.proofs.lemmas.solutions.Excluding.{some-objective}

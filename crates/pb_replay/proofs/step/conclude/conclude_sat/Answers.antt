@@ -1,8 +1,5 @@
-use Rattle.std.specs.Prelude.{Some}
-use Rattle.std.proofs.lemmas.Result.{err_from_is_err_and}
+use Rattle.pb_replay.proofs.Common.{refl, Some, err_from_is_err_and, Closing}
 use Rattle.pb_replay.specs.declared.verdict.Verdict.TheVariants.{Sat}
-use Rattle.std.proofs.Common.{refl}
-use Rattle.pb_proof.specs.declared.Stage.TheVariants.{Closing}
 use Rattle.pb_replay.proofs.lemmas.conclusions.Shows.{sat-ok, sat-err}
 use Rattle.pb_replay.proofs.step.conclude.conclude_sat.Goals as goal
 

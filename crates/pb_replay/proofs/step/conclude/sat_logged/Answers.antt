@@ -1,4 +1,4 @@
-use Rattle.std.proofs.Common.{rules, ◌≡◌, true, inl, refl, is_some}
+use Rattle.pb_replay.proofs.Common.{◌≡◌, inl, is_some, refl, rules, true}
 use Rattle.pb_replay.proofs.lemmas.conclusions.Shows.{logged-some}
 use Rattle.pb_replay.proofs.step.conclude.sat_logged.Goals as goal
 

@@ -1,8 +1,5 @@
-use Rattle.std.specs.Prelude.{Some}
-use Rattle.pb_proof.specs.declared.Conclusion.TheVariants.{Sat}
-use Rattle.pb_proof.specs.declared.Statement.TheVariants.{Conclude}
+use Rattle.pb_replay.proofs.Common.{◌∙◌, Some, Sat, Conclude}
 use Rattle.pb_replay.proofs.lemmas.names.Going.{goes-from}
-use Rattle.std.proofs.Common.{◌∙◌}
 use Rattle.pb_replay.proofs.step.conclude.sat_shown.Goals as goal
 
 pub returns-clause-goes : goal.returns-clause-goes

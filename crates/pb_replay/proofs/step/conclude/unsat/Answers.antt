@@ -1,6 +1,4 @@
-use Rattle.std.proofs.Common.{inr, refl}
-use Rattle.std.proofs.lemmas.Result.{err_from_is_err_and}
-use Rattle.pb_replay.specs.contract.ReplayModel.{state_of}
+use Rattle.pb_replay.proofs.Common.{inr, refl, err_from_is_err_and, state_of}
 use Rattle.pb_replay.proofs.lemmas.conclusions.Bounding.{left-then, left-stop}
 use Rattle.pb_replay.proofs.step.conclude.unsat.Goals as goal
 

@@ -1,6 +1,4 @@
-use Rattle.std.specs.Prelude.{None, Some}
-use Rattle.std.proofs.Common.{arith, inr, refl, ◌∙◌}
-use Rattle.std.proofs.lemmas.List.{get_or_default}
+use Rattle.pb_replay.proofs.Common.{◌∙◌, arith, inr, None, refl, Some, get_or_default}
 use Rattle.pb_replay.proofs.step.contradiction.some_contradiction.Goals as goal
 
 pub returns : goal.returns

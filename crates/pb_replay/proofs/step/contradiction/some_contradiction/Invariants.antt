@@ -1,7 +1,4 @@
-use Rattle.std.specs.Prelude.{Some, None}
-use Rattle.std.proofs.Common.{◌≡◌, ℕ, ◌<◌, get_or}
-use Rattle.pb_normal.specs.meaning.Form.{Form}
-use Rattle.pb_normal.specs.meaning.Rules.{IsContradiction}
+use Rattle.pb_replay.proofs.Common.{ℕ, ◌<◌, ◌≡◌, get_or, None, Some, Form, IsContradiction}
 use Rattle.pb_replay.proofs.step.contradiction.some_contradiction.Given as goal
 
 -- no form so far is a contradiction

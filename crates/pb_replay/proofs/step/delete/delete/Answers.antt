@@ -1,4 +1,4 @@
-use Rattle.std.proofs.Common.{refl, rules}
+use Rattle.pb_replay.proofs.Common.{refl, rules}
 use Rattle.pb_replay.proofs.lemmas.rules.Deleting.{delete-goes, delete-linked}
 use Rattle.pb_replay.proofs.step.delete.delete.Goals as goal
 

@@ -1,5 +1,5 @@
-use Rattle.std.proofs.Common.{rules, get_or, pos, FitsSigned, w64, ◌∙◌}
-use Rattle.std.proofs.lemmas.Int.{to_z-of_z}
+use Rattle.pb_replay.proofs.Common.{◌∙◌, FitsSigned, get_or, pos, rules, to_z-of_z}
+use Rattle.std.proofs.Common.{w64}
 use Rattle.pb_replay.proofs.lemmas.rules.Deletions.{stops, goes-on}
 use Rattle.pb_replay.proofs.step.delete.delete_each.Goals as goal
 

@@ -1,8 +1,4 @@
-use Rattle.std.specs.Prelude.{Result, Option, false}
-use Rattle.std.proofs.Common.{◌≡◌, List, drop}
-use Rattle.pb_normal.specs.meaning.Form.{Form}
-use Rattle.pb_replay.specs.meaning.Replay.{Deleted}
-use Rattle.pb_replay.specs.declared.fault.Fault.{Fault}
+use Rattle.pb_replay.proofs.Common.{◌≡◌, drop, false, List, Option, Result, Form, Fault, Deleted}
 use Rattle.pb_replay.proofs.step.delete.delete_each.Given as goal
 
 -- the result of the rest is the result of the whole

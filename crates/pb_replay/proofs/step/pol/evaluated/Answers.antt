@@ -1,5 +1,4 @@
-use Rattle.std.proofs.Common.{inl, inr}
-use Rattle.std.proofs.lemmas.Result.{err_from_is_err_and}
+use Rattle.pb_replay.proofs.Common.{inl, inr, err_from_is_err_and}
 use Rattle.pb_replay.proofs.lemmas.rules.Evaluation.{stands_first, word_takes, word_named, word_fails, stands_next, some_form, some_fault}
 use Rattle.pb_replay.proofs.step.pol.evaluated.Goals as goal
 

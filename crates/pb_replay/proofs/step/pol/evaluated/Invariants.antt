@@ -1,4 +1,4 @@
-use Rattle.pb_text.specs.meaning.Limits.{largest, top_of}
+use Rattle.pb_replay.proofs.Common.{largest, top_of}
 use Rattle.pb_replay.proofs.lemmas.rules.Evaluation.{Standing}
 use Rattle.pb_replay.proofs.step.pol.evaluated.Given as goal
 

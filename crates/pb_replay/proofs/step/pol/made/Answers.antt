@@ -1,4 +1,4 @@
-use Rattle.std.proofs.Common.{◌∙◌}
+use Rattle.pb_replay.proofs.Common.{◌∙◌}
 use Rattle.pb_replay.proofs.lemmas.rules.Made.{axiom_made, weaken_made, saturate_made, add_fails}
 use Rattle.pb_replay.proofs.step.pol.made.Goals as goal
 

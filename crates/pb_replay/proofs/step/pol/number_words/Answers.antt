@@ -1,5 +1,4 @@
-use Rattle.std.proofs.Common.{arith, refl, take}
-use Rattle.pb_replay.specs.meaning.Statements.{word_names}
+use Rattle.pb_replay.proofs.Common.{arith, refl, take, word_names}
 use Rattle.pb_replay.proofs.lemmas.rules.Evaluation.{next_names, prefix_in}
 use Rattle.pb_replay.proofs.step.pol.number_words.Goals as goal
 

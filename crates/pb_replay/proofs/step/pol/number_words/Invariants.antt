@@ -1,6 +1,4 @@
-use Rattle.std.proofs.Common.{◌≡◌, take}
-use Rattle.pb_normal.specs.meaning.Names.{with_names}
-use Rattle.pb_replay.specs.meaning.Statements.{word_names}
+use Rattle.pb_replay.proofs.Common.{◌≡◌, take, with_names, word_names}
 use Rattle.pb_replay.proofs.step.pol.number_words.Given as goal
 
 -- the names of the words so far are numbered

@@ -1,4 +1,4 @@
-use Rattle.std.proofs.Common.{refl, sym}
+use Rattle.pb_replay.proofs.Common.{refl, sym}
 use Rattle.pb_replay.proofs.lemmas.names.Named.{words_named}
 use Rattle.pb_replay.proofs.lemmas.rules.Pols.{pol-inside, pol-goes}
 use Rattle.pb_replay.proofs.step.pol.pol.Goals as goal

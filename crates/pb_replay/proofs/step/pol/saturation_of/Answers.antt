@@ -1,4 +1,4 @@
-use Rattle.std.proofs.Common.{rules}
+use Rattle.pb_replay.proofs.Common.{rules}
 use Rattle.pb_replay.proofs.step.pol.saturation_of.Goals as goal
 
 pub returns-clause-ok : goal.returns-clause-ok

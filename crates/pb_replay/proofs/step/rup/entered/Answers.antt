@@ -1,5 +1,4 @@
-use Rattle.std.proofs.Common.{refl, take, arith, rules, ◌∙◌}
-use Rattle.pb_normal.specs.meaning.Written.{names_of}
+use Rattle.pb_replay.proofs.Common.{◌∙◌, arith, refl, rules, take, names_of}
 use Rattle.pb_replay.proofs.lemmas.rules.Linked.{grown, linked-wider}
 use Rattle.pb_replay.proofs.lemmas.rules.Rups.{fits_of, prefix_after}
 use Rattle.pb_replay.proofs.step.rup.entered.Goals as goal

@@ -1,4 +1,4 @@
-use Rattle.std.proofs.Common.{rules}
+use Rattle.pb_replay.proofs.Common.{rules}
 use Rattle.pb_replay.proofs.step.rup.judge.Goals as goal
 
 pub returns-else-implied-clause-refused : goal.returns-else-implied-clause-refused

@@ -1,6 +1,4 @@
-use Rattle.std.proofs.lemmas.Result.{err_from_is_err_and}
-use Rattle.pb_replay.specs.contract.ReplayModel.{problem_of}
-use Rattle.pb_propagate.specs.meaning.Propagation.{Live}
+use Rattle.pb_replay.proofs.Common.{err_from_is_err_and, Live, problem_of}
 use Rattle.pb_replay.proofs.lemmas.conclusions.Shows.{own-conflict, own-value}
 use Rattle.pb_replay.proofs.lemmas.solutions.Solved.{completed-value}
 use Rattle.pb_replay.proofs.step.shown.own_value.Goals as goal

@@ -1,8 +1,4 @@
-use Rattle.std.specs.Prelude.{Contains, Err}
-use Rattle.std.proofs.Common.{inl, inr, refl, subst}
-use Rattle.std.proofs.lemmas.Bool.{both_ways}
-use Rattle.pb_replay.specs.meaning.Replay.{Completed}
-use Rattle.pb_replay.specs.contract.ReplayModel.{problem_of}
+use Rattle.pb_replay.proofs.Common.{Err, inl, inr, refl, subst, Contains, both_ways, problem_of, Completed}
 use Rattle.pb_replay.proofs.lemmas.rules.Ready.{own-length}
 use Rattle.pb_replay.proofs.lemmas.solutions.Solved.{shown-none}
 use Rattle.pb_replay.proofs.step.shown.shown.Goals as goal

@@ -1,4 +1,4 @@
-use Rattle.std.proofs.Common.{rules}
+use Rattle.pb_replay.proofs.Common.{rules}
 use Rattle.pb_replay.proofs.step.solution.better.Goals as goal
 
 pub returns-in-Some : goal.returns-in-Some

@@ -1,7 +1,4 @@
-use Rattle.std.proofs.Common.{length}
-use Rattle.std.proofs.lemmas.Result.{err_from_is_err_and}
-use Rattle.pb_propagate.specs.meaning.Propagation.{Live}
-use Rattle.pb_replay.specs.contract.ReplayModel.{problem_of}
+use Rattle.pb_replay.proofs.Common.{length, err_from_is_err_and, Live, problem_of}
 use Rattle.pb_replay.proofs.lemmas.solutions.Solved.{completed-value, conflicting-value}
 use Rattle.pb_replay.proofs.step.solution.completed.Goals as goal
 

@@ -1,6 +1,4 @@
-use Rattle.std.specs.Int.{w128}
-use Rattle.std.proofs.Common.{◌≡◌, rules, FitsSigned, pos, ◌-ℤ◌}
-use Rattle.std.proofs.lemmas.Int.{fits_signed_from_abs, to_z-of_z}
+use Rattle.pb_replay.proofs.Common.{◌-ℤ◌, ◌≡◌, FitsSigned, pos, rules, fits_signed_from_abs, to_z-of_z, w128}
 use Rattle.pb_replay.proofs.lemmas.names.Going.{demands-ok, logs-from}
 use Rattle.pb_replay.proofs.step.solution.demand_less.Goals as goal
 

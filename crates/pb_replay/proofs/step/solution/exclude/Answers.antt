@@ -1,9 +1,4 @@
-use Rattle.std.specs.Int.{w128}
-use Rattle.std.proofs.lemmas.Int.{fits_signed_from_abs, to_z-of_z}
-use Rattle.std.proofs.Common.{length, inl, inr}
-use Rattle.std.proofs.lemmas.Result.{err_from_is_err_and}
-use Rattle.pb_propagate.specs.meaning.Propagation.{Live}
-use Rattle.pb_replay.specs.contract.ReplayModel.{problem_of}
+use Rattle.pb_replay.proofs.Common.{inl, inr, length, fits_signed_from_abs, to_z-of_z, err_from_is_err_and, w128, Live, problem_of}
 use Rattle.pb_replay.proofs.lemmas.solutions.Excluding.{apart, solx-ok, solx-err}
 use Rattle.pb_replay.proofs.lemmas.names.Going.{logs-from}
 use Rattle.pb_replay.proofs.step.solution.exclude.Goals as goal

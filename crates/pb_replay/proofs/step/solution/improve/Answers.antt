@@ -1,9 +1,4 @@
-use Rattle.std.specs.Int.{w128}
-use Rattle.std.proofs.lemmas.Int.{fits_signed_from_abs, to_z-of_z}
-use Rattle.std.specs.Prelude.{ℤ}
-use Rattle.std.proofs.Common.{inl, inr, subst}
-use Rattle.std.proofs.lemmas.Result.{err_from_is_err_and}
-use Rattle.pb_replay.specs.engine.Bounds.{Demands}
+use Rattle.pb_replay.proofs.Common.{ℤ, inl, inr, subst, fits_signed_from_abs, to_z-of_z, err_from_is_err_and, w128, Demands}
 use Rattle.pb_replay.proofs.lemmas.solutions.Excluding.{some-objective, soli-ok, soli-err}
 use Rattle.pb_replay.proofs.lemmas.names.Going.{demands-from}
 use Rattle.pb_replay.proofs.step.solution.improve.Goals as goal

@@ -1,8 +1,4 @@
-use Rattle.std.specs.Prelude.{Some}
-use Rattle.std.specs.Int.{w128}
-use Rattle.std.proofs.Common.{rules, refl, FitsSigned, to_z, of_z}
-use Rattle.std.proofs.lemmas.Int.{to_z-of_z}
-use Rattle.std.proofs.lemmas.Result.{err_from_is_err_and}
+use Rattle.pb_replay.proofs.Common.{FitsSigned, of_z, refl, rules, Some, to_z, to_z-of_z, err_from_is_err_and, w128}
 use Rattle.pb_replay.proofs.lemmas.names.Going.{logs-ok, logs-err}
 use Rattle.pb_replay.proofs.step.solution.log.Goals as goal
 

@@ -1,7 +1,5 @@
-use Rattle.pb_proof.specs.declared.Statement.TheVariants.{Soli}
+use Rattle.pb_replay.proofs.Common.{◌∙◌, rules, IsSome, Soli}
 use Rattle.pb_replay.proofs.lemmas.names.Going.{goes-from}
-use Rattle.std.specs.Prelude.{IsSome}
-use Rattle.std.proofs.Common.{◌∙◌, rules}
 use Rattle.pb_replay.proofs.lemmas.solutions.Excluding.{some-objective}
 use Rattle.pb_replay.proofs.step.solution.soli.Goals as goal
 

@@ -1,6 +1,5 @@
-use Rattle.pb_proof.specs.declared.Statement.TheVariants.{Solx}
+use Rattle.pb_replay.proofs.Common.{◌∙◌, Solx}
 use Rattle.pb_replay.proofs.lemmas.names.Going.{goes-from}
-use Rattle.std.proofs.Common.{◌∙◌}
 use Rattle.pb_replay.proofs.step.solution.solx.Goals as goal
 
 pub returns-clause-goes : goal.returns-clause-goes

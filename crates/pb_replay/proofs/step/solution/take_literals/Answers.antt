@@ -1,4 +1,4 @@
-use Rattle.pb_replay.specs.meaning.Statements.{literal_names}
+use Rattle.pb_replay.proofs.Common.{literal_names}
 use Rattle.pb_replay.proofs.lemmas.names.Named.{names_named}
 use Rattle.pb_replay.proofs.step.solution.take_literals.Goals as goal
 

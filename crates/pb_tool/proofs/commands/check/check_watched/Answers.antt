@@ -1,7 +1,4 @@
-use Rattle.std.specs.Prelude.{Ok, Err}
-use Rattle.std.proofs.Common.{◌^◌, [], ◌++◌, Some, refl, rules, sym, append-nil, unwrap_or}
-use Rattle.pb_replay.specs.meaning.Replay.{first_state}
-use Rattle.pb_tool.specs.declared.fault.ToolFault.TheVariants.{Write}
+use Rattle.pb_tool.proofs.Common.{◌++◌, ◌^◌, [], append-nil, Err, Ok, refl, rules, Some, sym, unwrap_or, first_state, Write}
 use Rattle.pb_tool.proofs.lemmas.check.TwoSources as accepted
 use Rattle.pb_tool.proofs.lemmas.check.Peeked.{opening_unseen, replay_unseen}
 use Rattle.pb_tool.proofs.lemmas.check.Headline as headline

@@ -1,11 +1,6 @@
-use Rattle.std.proofs.Common.{◌^◌, ◌≤◌, [], ◌∷◌, ◌++◌, ap, ◌∙◌, append-nil, refl, subst, sym, Some, None, Ok, Err}
-use Rattle.pb_text.specs.contract.Automaton.{AcceptsItems, MayAsk}
-use Rattle.pb_text.specs.contract.Feeding.{place_of}
-use Rattle.pb_text.specs.declared.Place.{Place}
-use Rattle.pb_text.proofs.lemmas.text.Parts.{part_wrote}
-use Rattle.pb_text.proofs.lemmas.text.Writing.{writes_nothing}
-use Rattle.pb_text.specs.meaning.Pulling.{OfGiven}
-use Rattle.pb_tool.specs.contract.Show.{EndsAt, InText}
+use Rattle.pb_tool.proofs.Common.{◌++◌, ◌^◌, ◌∙◌, ◌∷◌, ◌≤◌, [], ap, append-nil, Err, None, Ok, refl, Some, subst, sym, part_wrote, writes_nothing}
+use Rattle.pb_tool.proofs.Common.{AcceptsItems, MayAsk, place_of, Place, OfGiven, EndsAt}
+use Rattle.pb_tool.specs.contract.Show.{InText}
 use Rattle.pb_tool.proofs.lemmas.show.GivenStatements.{given_broken, given_next, given_refused, given_row, given_shown, given_so_far}
 use Rattle.pb_tool.proofs.lemmas.show.ShownStatements.{fewer, first_pull, shown_more, shows_end, so_far_within}
 use Rattle.pb_tool.proofs.commands.show.show_each.Goals as goal

@@ -1,10 +1,4 @@
-use Rattle.std.proofs.Common.{◌≡◌, ◌+◌, ◌-◌, ◌^◌, List}
-use Rattle.pb_text.specs.contract.Feeding.{place_of}
-use Rattle.pb_text.specs.meaning.PullsInARow.{HasPulled}
-use Rattle.pb_text.specs.meaning.Writing.{Wrote}
-use Rattle.pb_text.specs.declared.Spanned.{Spanned}
-use Rattle.pb_tool.specs.contract.Show.{shown}
-use Rattle.pb_tool.specs.engine.Running.{HasGiven}
+use Rattle.pb_tool.proofs.Common.{◌+◌, ◌-◌, ◌^◌, ◌≡◌, List, place_of, Spanned, HasPulled, Wrote, shown, HasGiven}
 use Rattle.pb_tool.proofs.commands.show.show_each.Given as goal
 
 -- The lines of the statements so far were written, and the source has not failed. This holds for the bytes that are

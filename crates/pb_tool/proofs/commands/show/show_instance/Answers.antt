@@ -1,8 +1,4 @@
-use Rattle.std.proofs.Common.{Some, ◌++◌}
-use Rattle.pb_text.specs.contract.Automaton.{AcceptsItems, MayAsk}
-use Rattle.pb_opb.specs.engine.State.{opb}
-use Rattle.pb_opb.specs.contract.Canonical.{event_bytes}
-use Rattle.pb_tool.specs.meaning.Tidy.{AsksInInstanceText, IsInstanceText}
+use Rattle.pb_tool.proofs.Common.{◌++◌, Some, event_bytes, opb, AcceptsItems, MayAsk, AsksInInstanceText, IsInstanceText}
 use Rattle.pb_tool.proofs.lemmas.show.ShownStatements.{shows_to}
 use Rattle.pb_tool.proofs.commands.show.show_instance.Goals as goal
 

@@ -1,8 +1,4 @@
-use Rattle.std.proofs.Common.{Some, ◌++◌}
-use Rattle.pb_text.specs.contract.Automaton.{AcceptsItems, MayAsk}
-use Rattle.pb_proof.specs.engine.Machine.State.{proofs}
-use Rattle.pb_proof.specs.meaning.Canonical.{statement_bytes}
-use Rattle.pb_tool.specs.meaning.Files.{AsksInProofText, IsProofText}
+use Rattle.pb_tool.proofs.Common.{◌++◌, Some, proofs, statement_bytes, AcceptsItems, MayAsk, AsksInProofText, IsProofText}
 use Rattle.pb_tool.proofs.lemmas.show.ShownStatements.{shows_to}
 use Rattle.pb_tool.proofs.commands.show.show_proof.Goals as goal
 

@@ -1,4 +1,4 @@
-use Rattle.pb_text.proofs.lemmas.text.Parts.{part_then, part_broke}
+use Rattle.pb_tool.proofs.Common.{part_broke, part_then}
 use Rattle.pb_tool.proofs.lemmas.show.StatementLine.{line_parts}
 use Rattle.pb_tool.proofs.commands.show.write_spanned.Goals as goal
 

@@ -1,4 +1,4 @@
-use Rattle.std.proofs.Common.{refl}
+use Rattle.pb_tool.proofs.Common.{refl}
 use Rattle.pb_tool.proofs.commands.tidy.tidy_each.Goals as goal
 
 pub returns-in-Err-clause-tidies : goal.returns-in-Err-clause-tidies

@@ -1,6 +1,4 @@
-use Rattle.std.proofs.Common.{Some, ◌++◌}
-use Rattle.pb_text.specs.contract.Automaton.{AcceptsItems, MayAsk}
-use Rattle.pb_opb.specs.engine.State.{opb}
+use Rattle.pb_tool.proofs.Common.{◌++◌, Some, opb, AcceptsItems, MayAsk}
 use Rattle.pb_tool.proofs.lemmas.tidy.InstanceLines.{tidies_text}
 use Rattle.pb_tool.proofs.commands.tidy.tidy_instance.Goals as goal
 

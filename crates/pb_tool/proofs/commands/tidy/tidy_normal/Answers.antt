@@ -1,6 +1,4 @@
-use Rattle.std.proofs.Common.{Some, ◌++◌, ◌∙◌, refl}
-use Rattle.pb_text.specs.contract.Automaton.{AcceptsItems, MayAsk}
-use Rattle.pb_opb.specs.engine.State.{opb}
+use Rattle.pb_tool.proofs.Common.{◌++◌, ◌∙◌, refl, Some, opb, AcceptsItems, MayAsk}
 use Rattle.pb_tool.proofs.lemmas.tidy.NormalFile.{reported_faults, reported_file, reported_on, unnoted}
 use Rattle.pb_tool.proofs.commands.tidy.tidy_normal.Goals as goal
 

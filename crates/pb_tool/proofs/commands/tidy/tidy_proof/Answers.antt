@@ -1,6 +1,4 @@
-use Rattle.std.proofs.Common.{Some, ◌++◌}
-use Rattle.pb_text.specs.contract.Automaton.{AcceptsItems, MayAsk}
-use Rattle.pb_proof.specs.engine.Machine.State.{proofs}
+use Rattle.pb_tool.proofs.Common.{◌++◌, Some, proofs, AcceptsItems, MayAsk}
 use Rattle.pb_tool.proofs.lemmas.tidy.ProofLines.{tidies_text}
 use Rattle.pb_tool.proofs.commands.tidy.tidy_proof.Goals as goal
 

@@ -1,7 +1,4 @@
-use Rattle.std.proofs.Common.{◌++◌, ◌∷◌, [], append_assoc, refl}
-use Rattle.pb_text.specs.contract.Reasons.{place_text}
-use Rattle.pb_text.proofs.lemmas.text.Parts.{part_then, part_broke}
-use Rattle.pb_tool.specs.contract.Faults.{prefix_of}
+use Rattle.pb_tool.proofs.Common.{◌++◌, ◌∷◌, [], append_assoc, refl, part_broke, part_then, place_text, prefix_of}
 use Rattle.pb_tool.specs.contract.Refusals.{refusal_text}
 use Rattle.pb_tool.specs.declared.fault.Input.TheVariants.{Proof}
 use Rattle.pb_tool.proofs.fault.rejected.write_step.Goals as goal

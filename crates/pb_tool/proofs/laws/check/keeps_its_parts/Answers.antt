@@ -1,4 +1,4 @@
-use Rattle.std.proofs.Common.{rules}
+use Rattle.pb_tool.proofs.Common.{rules}
 use Rattle.pb_tool.proofs.laws.check.keeps_its_parts.Goals as goal
 
 pub returns : goal.returns

@@ -1,5 +1,4 @@
-use Rattle.std.specs.Prelude.{Some, []}
-use Rattle.pb_replay.specs.declared.verdict.Verdict.TheVariants.{Unsat}
+use Rattle.pb_tool.proofs.Common.{[], Some, Unsat}
 use Rattle.pb_tool.proofs.laws.check.unsat_is_exact.Goals as goal
 
 pub returns : goal.returns

@@ -1,5 +1,4 @@
-use Rattle.std.specs.Option.{option_copied}
-use Rattle.pb_trace.specs.Derived.{Keeps}
+use Rattle.pb_trace.proofs.Common.{option_copied, Keeps}
 use Rattle.pb_trace.proofs.propagation.Propagation.follow.Given as goal
 
 abbrev pub invariant-loop-next : goal.invariant-loop-next

@@ -1,7 +1,4 @@
-use Rattle.std.proofs.Common.{◌∙◌, refl, arith, get_or, subst}
-use Rattle.std.specs.Prelude.{Contains}
-use Rattle.std.proofs.lemmas.List.Elements.{Contains-get_or}
-use Rattle.pb_normal.proofs.lemmas.terms.Merging.{no_entry}
+use Rattle.pb_trace.proofs.Common.{◌∙◌, arith, get_or, refl, subst, Contains, Contains-get_or, no_entry}
 use Rattle.pb_trace.proofs.Deriving.{follows, forced, forced-same}
 use Rattle.pb_trace.proofs.propagation.Propagation.force_all.Goals.{then-slack-entry+in_ok-force, else-slack-entry}
 use Rattle.pb_trace.proofs.propagation.Propagation.force_all.Goals as goal

@@ -1,10 +1,4 @@
-use Rattle.std.proofs.Common.{◌≡◌, ◌+◌, List, Option}
-use Rattle.pb_normal.specs.meaning.Form.{Form, total}
-use Rattle.pb_propagate.specs.meaning.Propagation.{opened}
-use Rattle.pb_trace.specs.Derived.{IsSound, Names, free_by, literals}
-use Rattle.pb_trace.specs.declared.propagation.Forced.{Forced}
-use Rattle.pb_trace.specs.declared.propagation.Over.{Over}
-use Rattle.pb_trace.specs.declared.stored.Stored.{Stored}
+use Rattle.pb_trace.proofs.Common.{◌+◌, ◌≡◌, List, Option, Form, total, opened, free_by, IsSound, literals, Names, Forced, Over, Stored}
 use Rattle.pb_trace.proofs.propagation.Propagation.force_all.Given as goal
 
 -- the literals so far follow, and the slack stays

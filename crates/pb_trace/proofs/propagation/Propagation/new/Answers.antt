@@ -1,4 +1,4 @@
-use Rattle.std.proofs.Common.{refl}
+use Rattle.pb_trace.proofs.Common.{refl}
 use Rattle.pb_trace.proofs.Deriving.{sound-start}
 use Rattle.pb_trace.proofs.propagation.Propagation.new.Goals as goal
 

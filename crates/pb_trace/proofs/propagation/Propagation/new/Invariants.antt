@@ -1,4 +1,4 @@
-use Rattle.std.proofs.Common.{◌≡◌, ℕ, None, get_or}
+use Rattle.pb_trace.proofs.Common.{ℕ, ◌≡◌, get_or, None}
 use Rattle.pb_trace.proofs.propagation.Propagation.new.Given as goal
 
 -- the variables so far have no value

@@ -1,8 +1,5 @@
-use Rattle.std.proofs.Common.{arith, refl, ap}
-use Rattle.pb_normal.specs.meaning.Form.{each, total}
-use Rattle.pb_normal.proofs.lemmas.terms.Merging.{total-read, no_entry}
+use Rattle.pb_trace.proofs.Common.{ap, arith, refl, no_entry, total-read, each, total, free_by}
 use Rattle.pb_normal.proofs.lemmas.terms.Maps.{total-le-each}
-use Rattle.pb_trace.specs.Derived.{free_by}
 use Rattle.pb_trace.proofs.propagation.Propagation.open_sum.Goals as goal
 
 pub overflow_add-sum : goal.overflow_add-sum

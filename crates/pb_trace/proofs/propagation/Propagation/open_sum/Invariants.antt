@@ -1,6 +1,4 @@
-use Rattle.std.proofs.Common.{◌≡◌, ◌+◌, drop}
-use Rattle.pb_normal.specs.meaning.Form.{total}
-use Rattle.pb_trace.specs.Derived.{free_by}
+use Rattle.pb_trace.proofs.Common.{◌+◌, ◌≡◌, drop, total, free_by}
 use Rattle.pb_trace.proofs.propagation.Propagation.open_sum.Given as goal
 
 abbrev pub invariant-loop-entry : goal.invariant-loop-entry

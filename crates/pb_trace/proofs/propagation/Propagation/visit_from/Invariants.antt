@@ -1,5 +1,4 @@
-use Rattle.std.specs.Option.{option_copied}
-use Rattle.pb_trace.specs.Derived.{Keeps}
+use Rattle.pb_trace.proofs.Common.{option_copied, Keeps}
 use Rattle.pb_trace.proofs.propagation.Propagation.visit_from.Given as goal
 
 abbrev pub invariant-loop : goal.invariant-loop

@@ -1,7 +1,4 @@
-use Rattle.std.proofs.Common.{refl}
-use Rattle.pb_text.proofs.lemmas.text.Parts.{part_then, part_broke}
-use Rattle.std.proofs.Common.{ℕ, List, ◌++◌, ap, append-nil}
-use Rattle.std.specs.Prelude.{codes}
+use Rattle.pb_trace.proofs.Common.{ℕ, ◌++◌, ap, append-nil, List, refl, codes, part_broke, part_then}
 use Rattle.pb_trace.specs.Counted.{count_line}
 use Rattle.pb_trace.proofs.stats.Stats.write.Goals as goal
 

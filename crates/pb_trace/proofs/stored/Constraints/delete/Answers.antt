@@ -1,4 +1,4 @@
-use Rattle.std.proofs.lemmas.List.{map-set}
+use Rattle.pb_trace.proofs.Common.{map-set}
 use Rattle.pb_trace.proofs.stored.Constraints.delete.Goals as goal
 
 pub returns-in-Some : goal.returns-in-Some

@@ -1,8 +1,5 @@
-use Rattle.std.proofs.Common.{ℤ, pos, sym, ◌∙◌, arith, rules, get_or}
+use Rattle.pb_trace.proofs.Common.{ℤ, ◌∙◌, arith, get_or, pos, rules, sym, to_z-of_z, w64, live_in}
 use mir.Val.{SFits}
-use Rattle.std.specs.Int.{w64}
-use Rattle.std.proofs.lemmas.Int.{to_z-of_z}
-use Rattle.pb_trace.specs.Live.{live_in}
 use Rattle.pb_trace.proofs.Deleting.{without_more}
 use Rattle.pb_trace.proofs.stored.Constraints.delete_all.Goals as goal
 

@@ -1,6 +1,4 @@
-use Rattle.std.proofs.Common.{◌≡◌, take}
-use Rattle.pb_trace.specs.Live.{live_in}
-use Rattle.pb_trace.specs.Traced.{without_all}
+use Rattle.pb_trace.proofs.Common.{◌≡◌, take, live_in, without_all}
 use Rattle.pb_trace.proofs.stored.Constraints.delete_all.Given as goal
 
 -- the constraints so far are deleted

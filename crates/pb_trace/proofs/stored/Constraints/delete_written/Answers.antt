@@ -1,10 +1,5 @@
-use Rattle.std.proofs.Common.{ℕ, None, set, rules, ap, sym, ◌∙◌}
+use Rattle.pb_trace.proofs.Common.{ℕ, ◌∙◌, ap, None, rules, set, sym, to_z-of_z, length-map, map-set, w64, place, live_in}
 use mir.Val.{SFits}
-use Rattle.std.specs.Int.{w64}
-use Rattle.std.proofs.lemmas.Int.{to_z-of_z}
-use Rattle.std.proofs.lemmas.List.{length-map, map-set}
-use Rattle.pb_replay.specs.meaning.Replay.{place}
-use Rattle.pb_trace.specs.Live.{live_in}
 use Rattle.pb_trace.proofs.stored.Constraints.delete_written.Goals as goal
 
 pub returns-in-Some : goal.returns-in-Some

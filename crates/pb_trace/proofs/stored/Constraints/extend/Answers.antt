@@ -1,5 +1,4 @@
-use Rattle.std.proofs.Common.{length, arith}
-use Rattle.pb_trace.specs.Live.{live_in}
+use Rattle.pb_trace.proofs.Common.{arith, length, live_in}
 use Rattle.pb_trace.proofs.Adding.{newer_more}
 use Rattle.pb_trace.proofs.stored.Constraints.extend.Goals as goal
 

@@ -1,5 +1,4 @@
-use Rattle.std.proofs.Common.{◌≡◌, ◌≤◌, ◌-◌, ◌++◌, length, take, drop}
-use Rattle.pb_trace.specs.Live.{live_in}
+use Rattle.pb_trace.proofs.Common.{◌++◌, ◌-◌, ◌≡◌, ◌≤◌, drop, length, take, live_in}
 use Rattle.pb_trace.proofs.stored.Constraints.extend.Given as goal
 
 -- the newer constraints so far are stored

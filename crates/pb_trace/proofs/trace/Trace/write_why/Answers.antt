@@ -1,8 +1,4 @@
-use Rattle.std.proofs.Common.{Err, refl, ap, ◌∙◌, length}
-use Rattle.std.proofs.lemmas.Result.{err_from_is_err_and}
-use Rattle.pb_trace.specs.Live.{live_in}
-use Rattle.pb_trace.specs.Named.{Known}
-use Rattle.pb_trace.specs.Rejected.{IsText}
+use Rattle.pb_trace.proofs.Common.{◌∙◌, ap, Err, length, refl, err_from_is_err_and, live_in, Known, IsText}
 use Rattle.pb_trace.proofs.Naming.{shown_as}
 use Rattle.pb_trace.proofs.ReasonLines.{all_reasons, reasons_cut, why_of}
 use Rattle.pb_trace.proofs.trace.Trace.write_why.Goals as goal

@@ -1,6 +1,4 @@
-use Rattle.std.proofs.Common.{Err, ap, ◌∙◌}
-use Rattle.std.proofs.lemmas.Result.{err_from_is_err_and}
-use Rattle.pb_trace.specs.Rejected.{rejected_line}
+use Rattle.pb_trace.proofs.Common.{◌∙◌, ap, Err, err_from_is_err_and, rejected_line}
 use Rattle.pb_trace.proofs.ReasonLines.{after_start, start_broke}
 use Rattle.pb_trace.proofs.trace.Trace.write_wrong.Goals as goal
 

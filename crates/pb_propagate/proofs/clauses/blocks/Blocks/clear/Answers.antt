@@ -1,14 +1,8 @@
-use Rattle.std.specs.Prelude.{◌/◌, ◌%◌}
-use Rattle.std.proofs.Common.{◌≡◌, ℕ, ◌+◌, ◌*◌, ◌<◌, List, refl, sym, ◌∙◌, ap, arith, length, set, true}
-use Rattle.std.proofs.lemmas.List.{get_or_read}
-use Rattle.pb_propagate.specs.declared.clauses.lists.Watch.{Watch}
-use Rattle.pb_propagate.specs.declared.clauses.search.Search.{Search}
-use Rattle.pb_propagate.specs.engine.Clauses.Links.{idle, watch_at, list_at}
-use Rattle.pb_propagate.specs.engine.Clauses.Runs.{search_at}
-use Rattle.pb_propagate.specs.engine.Clauses.Blocks.{Contents, contents, number_at, watch_place, rewatched, searched, rewritten, stored_clause, stored_search}
+use Rattle.pb_propagate.proofs.Common.{ℕ, ◌*◌, ◌+◌, ◌/◌, ◌<◌, ◌∙◌, ◌≡◌, [], ap, arith, inl, length, List, refl, set, sym, true, ◌%◌, get_or_read}
+use Rattle.pb_propagate.proofs.Common.{Watch, Search, Contents, contents, number_at, rewatched, rewritten, searched, stored_clause, stored_search}
+use Rattle.pb_propagate.proofs.Common.{watch_place, idle, list_at, watch_at, search_at}
 use Rattle.pb_propagate.proofs.lemmas.clauses.Blocks.{block-behind, room-inside, clear-written}
 use Rattle.pb_propagate.proofs.clauses.blocks.Blocks.clear.Goals as goal
-use Rattle.std.proofs.Common.{inl, []}
 
 pub index-requires : goal.index-requires
 index-requires c =

@@ -1,7 +1,6 @@
-use Rattle.std.proofs.lemmas.Bool.{leb-true}
-use Rattle.std.proofs.Common.{◌≡◌, ℕ, ◌+◌, ◌<◌, ◌≤◌, ◌++◌, ◌∷◌, [], List, refl, sym, ◌∙◌, ap, arith, length, set, get_or-set_same, subst, inr, true}
-use Rattle.std.proofs.lemmas.List.{get_or_read}
-use Rattle.pb_propagate.specs.engine.Clauses.Blocks.{Contents, contents, number_at, rewritten, stored_clause, stored_search, stored_watch, table, AreBlocks}
+use Rattle.pb_propagate.proofs.Common.{ℕ, ◌++◌, ◌+◌, ◌<◌, ◌∙◌, ◌∷◌, ◌≡◌, ◌≤◌, [], ap, arith, get_or-set_same, inr, length, List, refl, set, subst}
+use Rattle.pb_propagate.proofs.Common.{sym, true, leb-true, get_or_read, AreBlocks, Contents, contents, number_at, rewritten, stored_clause}
+use Rattle.pb_propagate.proofs.Common.{stored_search, stored_watch, table}
 use Rattle.pb_propagate.proofs.lemmas.clauses.Blocks.{slot-behind, fitted-from}
 use Rattle.pb_propagate.proofs.clauses.blocks.Blocks.fit.Goals as goal
 

@@ -1,5 +1,4 @@
-use Rattle.std.proofs.Common.{ap, arith, length}
-use Rattle.pb_propagate.specs.engine.Clauses.Blocks.{Contents, stored_clause}
+use Rattle.pb_propagate.proofs.Common.{ap, arith, length, Contents, stored_clause}
 use Rattle.pb_propagate.proofs.lemmas.clauses.Blocks.{table-length}
 use Rattle.pb_propagate.proofs.clauses.blocks.Blocks.len.Goals as goal
 

@@ -1,14 +1,8 @@
-use Rattle.std.specs.Prelude.{◌/◌, ◌%◌}
-use Rattle.std.proofs.Common.{◌≡◌, ℕ, ◌+◌, ◌-◌, ◌*◌, ◌<◌, ◌≤◌, List, refl, sym, ◌∙◌, ap, arith, length, set, take, true}
-use Rattle.std.specs.Prelude.{drop}
-use Rattle.std.proofs.lemmas.List.{get_or_read}
-use Rattle.pb_propagate.specs.declared.clauses.search.Search.{Search}
-use Rattle.pb_propagate.specs.engine.Clauses.Links.{list_at}
-use Rattle.pb_propagate.specs.engine.Clauses.Runs.{search_at}
-use Rattle.pb_propagate.specs.engine.Clauses.Blocks.{Contents, contents, number_at, searched, rewritten, stored_clause, stored_search}
+use Rattle.pb_propagate.proofs.Common.{ℕ, ◌*◌, ◌+◌, ◌-◌, ◌/◌, ◌<◌, ◌∙◌, ◌≡◌, ◌≤◌, [], ap, arith, drop, length, List, refl, set, sym, take, true, ◌%◌}
+use Rattle.pb_propagate.proofs.Common.{get_or_read, Search, Contents, contents, number_at, rewritten, searched, stored_clause, stored_search, list_at}
+use Rattle.pb_propagate.proofs.Common.{search_at}
 use Rattle.pb_propagate.proofs.lemmas.clauses.Blocks.{slot-behind, table-at}
 use Rattle.pb_propagate.proofs.clauses.blocks.Blocks.literals.Goals as goal
-use Rattle.std.proofs.Common.{[]}
 
 pub index-requires : goal.index-requires
 index-requires c =

@@ -1,11 +1,6 @@
-use Rattle.std.specs.Prelude.{◌/◌, ◌%◌}
-use Rattle.std.proofs.Common.{◌≡◌, ℕ, ◌+◌, ◌*◌, ◌<◌, List, refl, sym, ◌∙◌, ap, arith, length, set, true}
-use Rattle.std.proofs.lemmas.List.{get_or_read}
-use Rattle.pb_propagate.specs.declared.clauses.lists.Watch.{Watch}
-use Rattle.pb_propagate.specs.declared.clauses.search.Search.{Search}
-use Rattle.pb_propagate.specs.engine.Clauses.Links.{idle, watch_at, list_at}
-use Rattle.pb_propagate.specs.engine.Clauses.Runs.{search_at}
-use Rattle.pb_propagate.specs.engine.Clauses.Blocks.{Contents, contents, number_at, watch_place, rewatched, searched, rewritten, stored_clause, stored_search}
+use Rattle.pb_propagate.proofs.Common.{ℕ, ◌*◌, ◌+◌, ◌/◌, ◌<◌, ◌∙◌, ◌≡◌, ap, arith, length, List, refl, set, sym, true, ◌%◌, get_or_read, Watch}
+use Rattle.pb_propagate.proofs.Common.{Search, Contents, contents, number_at, rewatched, rewritten, searched, stored_clause, stored_search}
+use Rattle.pb_propagate.proofs.Common.{watch_place, idle, list_at, watch_at, search_at}
 use Rattle.pb_propagate.proofs.lemmas.clauses.Blocks.{live-behind}
 use Rattle.pb_propagate.proofs.clauses.blocks.Blocks.spot.Goals as goal
 

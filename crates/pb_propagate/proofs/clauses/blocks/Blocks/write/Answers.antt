@@ -1,9 +1,8 @@
-use Rattle.std.proofs.Common.{◌≡◌, ℕ, ◌+◌, ◌<◌, ◌++◌, ◌∷◌, [], List, refl, sym, ◌∙◌, ap, arith, length, set, get_or-set_same, subst, inr, true}
-use Rattle.std.proofs.lemmas.List.{get_or_read}
-use Rattle.pb_propagate.specs.engine.Clauses.Blocks.{Contents, contents, number_at, rewritten, stored_clause, stored_search, stored_watch, table, AreBlocks}
+use Rattle.pb_propagate.proofs.Common.{ℕ, ◌++◌, ◌+◌, ◌<◌, ◌∙◌, ◌∷◌, ◌≡◌, ◌≤◌, [], ap, arith, get_or-set_same, inr, length, length-set, List, refl}
+use Rattle.pb_propagate.proofs.Common.{set, subst, sym, true, get_or_read, AreBlocks, Contents, contents, number_at, rewritten, stored_clause}
+use Rattle.pb_propagate.proofs.Common.{stored_search, stored_watch, table}
 use Rattle.pb_propagate.proofs.lemmas.clauses.Blocks.{room-inside, whole-written}
 use Rattle.pb_propagate.proofs.clauses.blocks.Blocks.write.Goals as goal
-use Rattle.std.proofs.Common.{◌≤◌, length-set}
 
 pub index-requires : goal.index-requires
 index-requires c =

@@ -1,5 +1,4 @@
-use Rattle.std.proofs.Common.{ap, sym, ◌∙◌, arith, length}
-use Rattle.pb_propagate.specs.engine.Clauses.Truths.{false_at}
+use Rattle.pb_propagate.proofs.Common.{◌∙◌, ap, arith, length, sym, false_at}
 use Rattle.pb_propagate.proofs.lemmas.clauses.Searches.{round-next, next-inside, passed-next}
 use Rattle.pb_propagate.proofs.clauses.search.Search.advance.Goals as goal
 

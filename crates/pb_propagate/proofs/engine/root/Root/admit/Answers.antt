@@ -1,14 +1,6 @@
-use Rattle.std.specs.Prelude.{slice_get}
-use Rattle.std.proofs.Common.{◌≡◌, ℕ, ◌++◌, ◌∷◌, [], List, Vec, Global, subst, sym, ◌∙◌, ap, inl, inr, length, length-set, get_or, arith}
-use Rattle.std.proofs.lemmas.List.{length-map}
-use Rattle.std.proofs.lemmas.Bool.{cases_eq}
-use Rattle.pb_propagate.specs.declared.assignment.Assignment.{Assignment}
-use Rattle.pb_propagate.specs.engine.Engine.Lists.{Shape, open_sum}
-use Rattle.pb_propagate.specs.engine.Engine.Counts.{IsTidy, beside}
-use Rattle.pb_propagate.specs.engine.Engine.Fields.{shapes_of, stored_shape}
-use Rattle.pb_propagate.specs.engine.Engine.Root.{IsServed, HasForm}
-use Rattle.pb_propagate.specs.engine.Clauses.Walked.{walked_codes}
-use Rattle.pb_propagate.specs.engine.Clauses.Links.{watch_lists}
+use Rattle.pb_propagate.proofs.Common.{ℕ, ◌++◌, ◌∙◌, ◌∷◌, ◌≡◌, [], ap, arith, get_or, Global, inl, inr, length, length-set, List, subst, sym, Vec}
+use Rattle.pb_propagate.proofs.Common.{slice_get, cases_eq, length-map, Assignment, watch_lists, walked_codes, beside, IsTidy, shapes_of}
+use Rattle.pb_propagate.proofs.Common.{stored_shape, open_sum, Shape, HasForm, IsServed}
 use Rattle.pb_propagate.proofs.lemmas.root.Roots.{kept-rooted}
 use Rattle.pb_propagate.proofs.lemmas.root.Admitted.{arrived, gained-rooted, admitted-rooted, served-walked, served-watch, clause-rooted, slot-counted, slot-tidy, grown-off}
 use Rattle.pb_propagate.proofs.lemmas.engine.Runs.{absent-push, absent-new}

@@ -1,9 +1,5 @@
-use Rattle.std.specs.Prelude.{slice_get}
-use Rattle.std.proofs.Common.{[], ◌∙◌, ap, sym, arith, length}
-use Rattle.std.proofs.lemmas.List.{length-map}
-use Rattle.pb_propagate.specs.engine.Engine.Fields.{shapes_of, forms_of, stored_shape}
-use Rattle.pb_propagate.specs.engine.Engine.Lists.{from_given}
-use Rattle.pb_propagate.specs.engine.Clauses.Shapes.{clauses_of}
+use Rattle.pb_propagate.proofs.Common.{◌∙◌, [], ap, arith, length, sym, slice_get, length-map, clauses_of, forms_of, shapes_of, stored_shape}
+use Rattle.pb_propagate.proofs.Common.{from_given}
 use Rattle.pb_propagate.proofs.lemmas.engine.Bounds.{waits-form}
 use Rattle.pb_propagate.proofs.lemmas.engine.Rests.{rest-lengths}
 use Rattle.pb_propagate.proofs.lemmas.engine.VisitSteps.{open-now}

@@ -1,10 +1,5 @@
-use Rattle.std.proofs.Common.{◌<◌, ◌∙◌, ap, sym, subst, arith, length}
-use Rattle.std.proofs.lemmas.List.{length-map}
-use Rattle.pb_propagate.specs.engine.Engine.Lists.{Shape, AreInside, says, open_sum}
-use Rattle.pb_propagate.specs.engine.Engine.Fields.{shapes_of, stored_shape}
-use Rattle.pb_propagate.specs.engine.Engine.Terms.{terms_of}
-use Rattle.pb_propagate.specs.engine.Clauses.Links.{list_at}
-use Rattle.pb_propagate.specs.engine.Clauses.Shapes.{slot_shape, clauses_of}
+use Rattle.pb_propagate.proofs.Common.{◌<◌, ◌∙◌, ap, arith, length, subst, sym, length-map, list_at, clauses_of, slot_shape, shapes_of, stored_shape}
+use Rattle.pb_propagate.proofs.Common.{AreInside, open_sum, says, Shape, terms_of}
 use Rattle.pb_propagate.proofs.lemmas.clauses.Shapes.{shape-some}
 use Rattle.pb_propagate.proofs.lemmas.engine.VisitSteps.{shape-at}
 use Rattle.pb_propagate.proofs.lemmas.root.Lost.{slot-is}

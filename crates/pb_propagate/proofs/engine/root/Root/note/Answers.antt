@@ -1,8 +1,4 @@
-use Rattle.std.proofs.Common.{◌<◌, ◌∷◌, [], subst, arith, length}
-use Rattle.std.proofs.lemmas.List.{length-map}
-use Rattle.pb_propagate.specs.declared.term.Term.{Term}
-use Rattle.pb_propagate.specs.engine.Engine.Lists.{Shape, AreInside}
-use Rattle.pb_propagate.specs.engine.Engine.Fields.{shapes_of, stored_shape}
+use Rattle.pb_propagate.proofs.Common.{◌<◌, ◌∷◌, [], arith, length, subst, length-map, Term, shapes_of, stored_shape, AreInside, Shape}
 use Rattle.pb_propagate.proofs.lemmas.engine.Puts.{place-inside}
 use Rattle.pb_propagate.proofs.lemmas.engine.VisitSteps.{shape-at}
 use Rattle.pb_propagate.proofs.lemmas.store.Places.{entries-length}

@@ -1,10 +1,7 @@
-use Rattle.std.proofs.Common.{[], ℕ, ◌≡◌, Vec, Global, ◌∙◌, ap, arith, length, get_or}
-use Rattle.std.proofs.lemmas.Option.{slice_get-get_or, slice_get_within}
-use Rattle.pb_propagate.specs.engine.Engine.Counts.{none}
-use Rattle.pb_propagate.specs.engine.Engine.Fields.{forms_of}
+use Rattle.pb_propagate.proofs.Common.{ℕ, ◌∙◌, ◌≡◌, [], ap, arith, get_or, Global, length, Vec, slice_get-get_or, slice_get_within, all_of, none}
+use Rattle.pb_propagate.proofs.Common.{forms_of}
 use Rattle.pb_propagate.proofs.lemmas.engine.Bounds.{form-inside}
 use Rattle.pb_propagate.proofs.lemmas.store.Changes.{forms-length}
-use Rattle.pb_propagate.specs.engine.Clauses.Shapes.{all_of}
 use Rattle.pb_propagate.proofs.lemmas.clauses.Watching.{ready-running}
 use Rattle.pb_propagate.proofs.lemmas.engine.Spent.{derivation-single}
 use Rattle.pb_propagate.proofs.lemmas.root.Fallen.{conflicts-fallen}

@@ -1,4 +1,4 @@
-use Rattle.std.proofs.Common.{rules}
+use Rattle.pb_propagate.proofs.Common.{rules}
 use Rattle.pb_propagate.proofs.store.sorted_form.SortedForm.form.Goals as goal
 
 pub returns-in-Some-clause-none : goal.returns-in-Some-clause-none

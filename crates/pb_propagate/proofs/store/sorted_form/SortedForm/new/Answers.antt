@@ -1,6 +1,4 @@
-use Rattle.std.proofs.Common.{ap, arith}
-use Rattle.std.specs.Prelude.{sum_by}
-use Rattle.pb_normal.specs.declared.entry.Entry.{Entry}
+use Rattle.pb_propagate.proofs.Common.{ap, arith, sum_by, Entry}
 use Rattle.pb_propagate.proofs.lemmas.store.Sorted.{total-each}
 use Rattle.pb_propagate.proofs.store.sorted_form.SortedForm.new.Goals as goal
 

@@ -1,5 +1,4 @@
-use Rattle.std.proofs.Common.{ap, []}
-use Rattle.pb_propagate.specs.engine.Engine.Forms.{picked}
+use Rattle.pb_propagate.proofs.Common.{[], ap, picked}
 use Rattle.pb_propagate.proofs.store.sorted_form.SortedForm.none.Goals as goal
 
 pub returns-clause-terms : goal.returns-clause-terms

@@ -1,5 +1,4 @@
-use Rattle.pb_replay.specs.contract.ReplayModel.{Replaying}
-use Rattle.std.proofs.Common.{ap, ◌∙◌}
+use Rattle.pb_tool.proofs.Common.{◌∙◌, ap, Replaying}
 use Rattle.pb_tool.proofs.commands.check.proof.check_proof.Goals as goal
 
 pub run_checker-requires-clause-unspent : goal.run_checker-requires-clause-unspent

@@ -1,5 +1,4 @@
-use Rattle.std.proofs.Common.{ℕ, Err, refl, ap, ◌∙◌}
-use Rattle.pb_tool.specs.contract.Runs.{faults_of_text}
+use Rattle.pb_tool.proofs.Common.{ℕ, ◌∙◌, ap, Err, refl, faults_of_text}
 use Rattle.pb_tool.proofs.lemmas.check.CheckerRuns.{run_begins}
 use Rattle.pb_tool.proofs.lemmas.show.ShownStatements.{fewer}
 use Rattle.pb_tool.proofs.commands.check.proof.check_statements.Goals as goal

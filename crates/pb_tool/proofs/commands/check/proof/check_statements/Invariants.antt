@@ -1,7 +1,4 @@
-use Rattle.std.proofs.Common.{◌≡◌, ◌+◌, ◌-◌, ◌^◌, ℕ, None}
-use Rattle.pb_replay.specs.contract.ReplayModel.{Replaying}
-use Rattle.pb_tool.specs.contract.Pieces.{fault_of, place_in}
-use Rattle.pb_tool.specs.engine.Running.{Begins, HasRun}
+use Rattle.pb_tool.proofs.Common.{ℕ, ◌+◌, ◌-◌, ◌^◌, ◌≡◌, None, Replaying, fault_of, place_in, Begins, HasRun}
 use Rattle.pb_tool.proofs.commands.check.proof.check_statements.Given as goal
 
 -- The statements so far were accepted and shown, and the source has not failed.

@@ -1,6 +1,4 @@
-use Rattle.std.proofs.Common.{ℕ, List, [], Option, ap, ◌∙◌}
-use Rattle.std.proofs.lemmas.Option.{unwrap_or-slice_get}
-use Rattle.std.specs.Prelude.{unwrap_or}
+use Rattle.pb_tool.proofs.Common.{ℕ, ◌∙◌, [], ap, List, Option, unwrap_or, unwrap_or-slice_get}
 use Rattle.pb_tool.proofs.commands.check.proof.copied_name.Goals as goal
 
 pub returns-in-None : goal.returns-in-None

@@ -1,11 +1,6 @@
-use Rattle.std.proofs.Common.{Ok, Err, sym, subst}
-use Rattle.pb_text.specs.meaning.Blank.{ReadsBlank}
-use Rattle.pb_tool.specs.contract.Runs.{Replays}
-use Rattle.pb_tool.specs.meaning.Verified.{InProof, AfterProof}
-use Rattle.pb_tool.specs.declared.fault.ToolFault.{ToolFault}
+use Rattle.pb_tool.proofs.Common.{Err, Ok, subst, sym, Verdict, ReadsBlank, Replays, ToolFault, AfterProof, InProof}
 use Rattle.pb_tool.proofs.lemmas.check.TwoSources.{step_report, whole_file}
 use Rattle.pb_tool.proofs.lemmas.check.GivenProof.{given_rest, given_text, given_report, given_whole}
-use Rattle.pb_replay.specs.declared.verdict.Verdict.{Verdict}
 use Rattle.pb_tool.proofs.lemmas.check.Peeked.{report_faults, report_unseen}
 use Rattle.pb_tool.proofs.lemmas.check.WatchCalls.{given_proof_rest, given_proof_ended, given_proof_rejected, given_proof_stopped, proof_rest, proof_ended, proof_rejected, proof_stopped}
 use Rattle.pb_tool.proofs.commands.check.proof.run_checker.Goals as goal

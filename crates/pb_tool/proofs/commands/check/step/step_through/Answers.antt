@@ -1,6 +1,4 @@
-use Rattle.std.proofs.Common.{Result, Err, ap}
-use Rattle.pb_text.proofs.lemmas.text.Results.{same_err}
-use Rattle.pb_replay.specs.declared.fault.Fault.{Fault}
+use Rattle.pb_tool.proofs.Common.{ap, Err, Result, Fault, same_err}
 use Rattle.pb_tool.proofs.lemmas.check.CheckerSteps.{stepped_err, stepped_ok}
 use Rattle.pb_tool.proofs.commands.check.step.step_through.Goals as goal
 

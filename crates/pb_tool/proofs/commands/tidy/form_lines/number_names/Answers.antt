@@ -1,4 +1,4 @@
-use Rattle.std.proofs.Common.{arith}
+use Rattle.pb_tool.proofs.Common.{arith}
 use Rattle.pb_tool.proofs.lemmas.tidy.FormLines.{named_at}
 use Rattle.pb_tool.proofs.commands.tidy.form_lines.number_names.Goals as goal
 

@@ -1,6 +1,4 @@
-use Rattle.std.proofs.Common.{◌≡◌, take}
-use Rattle.pb_normal.specs.meaning.Names.{with_names}
-use Rattle.pb_normal.specs.meaning.Written.{names_of}
+use Rattle.pb_tool.proofs.Common.{◌≡◌, take, with_names, names_of}
 use Rattle.pb_tool.proofs.commands.tidy.form_lines.number_names.Given as goal
 
 -- the names of the terms so far are numbered

@@ -1,4 +1,4 @@
-use Rattle.std.proofs.Common.{rules, ◌≡◌, Option, Some, None, refl}
+use Rattle.pb_tool.proofs.Common.{◌≡◌, None, Option, refl, rules, Some}
 use Rattle.pb_tool.proofs.lemmas.check.CheckerSteps as checked
 use Rattle.pb_tool.proofs.commands.check.checker.Checker.advance.Goals as goal
 

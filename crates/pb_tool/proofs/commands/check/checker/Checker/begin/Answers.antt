@@ -1,5 +1,4 @@
-use Rattle.std.proofs.Common.{[], ap, refl}
-use Rattle.pb_text.specs.declared.Place.{Place}
+use Rattle.pb_tool.proofs.Common.{[], ap, refl, Place}
 use Rattle.pb_tool.proofs.lemmas.check.CheckerSteps.{leads_none, somewhere}
 use Rattle.pb_tool.proofs.commands.check.checker.Checker.begin.Goals as goal
 

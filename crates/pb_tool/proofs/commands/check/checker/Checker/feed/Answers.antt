@@ -1,8 +1,5 @@
-use Rattle.std.proofs.Common.{◌++◌, ◌-◌, ℕ, List, length, take, drop, subst, refl, sym, ap, ◌∙◌, arith}
-use Rattle.std.proofs.lemmas.List.{length-drop}
-use Rattle.pb_tool.specs.contract.Pieces.{ChecksAt, AllocatesAt, fault_of}
-use Rattle.pb_tool.specs.contract.Checker.{Checking}
-use Rattle.pb_text.proofs.lemmas.text.Spans.{all_rest}
+use Rattle.pb_tool.proofs.Common.{ℕ, ◌++◌, ◌-◌, ◌∙◌, ap, arith, drop, length, List, refl, subst, sym, take, length-drop, all_rest, Checking}
+use Rattle.pb_tool.proofs.Common.{AllocatesAt, ChecksAt, fault_of}
 use Rattle.pb_tool.proofs.lemmas.check.CheckerSteps as checked
 use Rattle.pb_tool.proofs.commands.check.checker.Checker.feed.Goals as goal
 

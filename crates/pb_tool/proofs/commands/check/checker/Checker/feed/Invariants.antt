@@ -1,10 +1,5 @@
-use Rattle.std.proofs.Common.{◌≡◌, None, ◌+◌, ◌-◌, ◌≤◌, ◌++◌, ℕ, List, length, take, Result}
-use Rattle.pb_replay.specs.meaning.Problem.{Problem}
-use Rattle.pb_replay.specs.meaning.Meaning.{IsNamePrefix}
-use Rattle.pb_replay.specs.meaning.Replay.{State}
-use Rattle.pb_replay.specs.declared.fault.Fault.{Fault}
-use Rattle.pb_text.specs.declared.Limits.{Limits}
-use Rattle.pb_tool.specs.contract.Pieces.{ChecksAt, fault_of, place_in}
+use Rattle.pb_tool.proofs.Common.{ℕ, ◌++◌, ◌+◌, ◌-◌, ◌≡◌, ◌≤◌, length, List, None, Result, take, Fault, IsNamePrefix, Problem, State, Limits}
+use Rattle.pb_tool.proofs.Common.{ChecksAt, fault_of, place_in}
 use Rattle.pb_tool.proofs.commands.check.checker.Checker.feed.Given as goal
 
 -- the checker was fed all that was consumed of the piece

@@ -1,8 +1,4 @@
-use Rattle.std.proofs.Common.{rules, subst, sym, ◌∙◌, Err}
-use Rattle.pb_text.specs.contract.Feeding.{place_of}
-use Rattle.pb_text.specs.declared.Place.{Place}
-use Rattle.pb_text.specs.declared.place.Why.TheVariants.{Ended}
-use Rattle.pb_tool.specs.contract.Checks.{EndsAfter}
+use Rattle.pb_tool.proofs.Common.{◌∙◌, Err, rules, subst, sym, place_of, Place, Ended, EndsAfter}
 use Rattle.pb_tool.specs.declared.commands.check.checker.CheckFault.TheVariants.{Text}
 use Rattle.pb_tool.proofs.lemmas.check.CheckerSteps as checked
 use Rattle.pb_tool.proofs.commands.check.checker.Checker.finish.Goals as goal

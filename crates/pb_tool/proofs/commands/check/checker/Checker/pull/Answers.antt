@@ -1,6 +1,4 @@
-use Rattle.std.proofs.Common.{Option, sym, ◌∙◌, refl, subst}
-use Rattle.pb_replay.specs.declared.verdict.Verdict.{Verdict}
-use Rattle.pb_tool.specs.contract.Checker.{AsksAsText}
+use Rattle.pb_tool.proofs.Common.{◌∙◌, Option, refl, subst, sym, Verdict, AsksAsText}
 use Rattle.pb_tool.proofs.lemmas.check.CheckerRuns as runs
 use Rattle.pb_tool.proofs.commands.check.checker.Checker.pull.Goals as goal
 

@@ -1,6 +1,4 @@
-use Rattle.std.proofs.Common.{ap, sym, ◌∙◌}
-use Rattle.pb_tool.specs.contract.Checker.{Checking}
-use Rattle.pb_tool.specs.contract.Pieces.{fault_of}
+use Rattle.pb_tool.proofs.Common.{◌∙◌, ap, sym, Checking, fault_of}
 use Rattle.pb_tool.proofs.lemmas.check.CheckerSteps.{stays_counted}
 use Rattle.pb_tool.proofs.commands.check.checker.Checker.step.Goals as goal
 

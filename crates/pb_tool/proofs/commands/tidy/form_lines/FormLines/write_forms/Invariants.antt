@@ -1,5 +1,4 @@
-use Rattle.std.proofs.Common.{◌≡◌, ◌+◌, ◌++◌, length}
-use Rattle.pb_tool.specs.engine.NormalText.{form_lines}
+use Rattle.pb_tool.proofs.Common.{◌++◌, ◌+◌, ◌≡◌, length, form_lines}
 use Rattle.pb_tool.proofs.commands.tidy.form_lines.FormLines.write_forms.Given as goal
 
 -- the forms so far are written

@@ -1,5 +1,4 @@
-use Rattle.std.proofs.Common.{refl}
-use Rattle.pb_text.specs.meaning.Limits.{largest}
+use Rattle.pb_tool.proofs.Common.{refl, largest}
 use Rattle.pb_tool.proofs.lemmas.tidy.FormLines.{lines_added, passes_not, passes_now}
 use Rattle.pb_tool.proofs.commands.tidy.normal_text.Forms.add.Goals as goal
 

@@ -1,4 +1,4 @@
-use Rattle.pb_normal.specs.meaning.Written.{names_of}
+use Rattle.pb_tool.proofs.Common.{names_of}
 use Rattle.pb_tool.proofs.lemmas.tidy.FormLines.{lines_named}
 use Rattle.pb_tool.proofs.commands.tidy.normal_text.Forms.number.Goals as goal
 

@@ -1,5 +1,4 @@
-use Rattle.std.proofs.Common.{List, ℕ, subst}
-use Rattle.pb_text.specs.meaning.Writing.{Broke, Wrote}
+use Rattle.pb_tool.proofs.Common.{ℕ, List, subst, Broke, Wrote}
 use Rattle.pb_tool.proofs.lemmas.tidy.NormalFile.{kept_form}
 use Rattle.pb_tool.proofs.commands.tidy.normal_text.NormalText.write.Goals as goal
 

@@ -1,5 +1,4 @@
-use Rattle.pb_opb.specs.meaning.Values.{constraints_in}
-use Rattle.pb_tool.specs.engine.NormalText.{names_on}
+use Rattle.pb_tool.proofs.Common.{constraints_in, names_on}
 use Rattle.pb_tool.proofs.lemmas.tidy.StoredForms.{noted_comment, noted_constraint, noted_header, noted_objective}
 use Rattle.pb_tool.proofs.commands.tidy.normal_text.NormalTextGather.add.Goals as goal
 

@@ -1,5 +1,5 @@
 -- `and` makes the empty struct, with the statements that its clause names.
-use Rattle.std.proofs.Common.{List, [], ◌∷◌, ◌++◌, refl}
+use Rattle.pb_tool.proofs.Common.{◌++◌, ◌∷◌, [], List, refl, Notes}
 use seplogic.Ra.Ura.{Ura}
 use mir.Val.{Val, vptr, vstruct, vcons, vnil}
 use base.Logic.{SProp, ent}
@@ -26,7 +26,6 @@ use denote.Triple.Spec.{Meets, triple_of}
 use denote.Triple.Table.{entered}
 use denote.Triple.Walked.{says, Stays, stay_dropped, walk_of, ends_at, walk_Meets, Goes-dropped}
 use Rattle.pb_opb.specs.contracts.event.OpbEvent as E
-use Rattle.pb_tool.specs.declared.commands.tidy.notes.Notes.{Notes}
 use Rattle.pb_tool.specs.contracts.commands.tidy.notes.Notes as T
 use Rattle.pb_tool.specs.contracts.commands.tidy.notes.Notes.and as F
 use Rattle.pb_tool.specs.contracts.commands.tidy.notes.Notes.and.Key.{name as #self}

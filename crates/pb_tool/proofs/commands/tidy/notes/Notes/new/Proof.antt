@@ -21,7 +21,7 @@ use denote.Triple.Entry.{on_entry}
 use denote.Triple.Spec.{Meets, triple_of}
 use denote.Triple.Table.{entered}
 use denote.Triple.Walked.{says, ends_at, walked, walk_Meets}
-use Rattle.pb_tool.specs.declared.commands.tidy.notes.Notes.{Notes}
+use Rattle.pb_tool.proofs.Common.{Notes}
 use Rattle.pb_tool.specs.contracts.commands.tidy.notes.Notes as T
 use Rattle.pb_tool.specs.contracts.commands.tidy.notes.Notes.new.Key.{name as #it}
 use Rattle.pb_tool.specs.contracts.commands.tidy.notes.Notes.new as it

@@ -1,5 +1,4 @@
-use Rattle.std.proofs.Common.{refl}
-use Rattle.pb_text.proofs.lemmas.text.Parts.{part_then, part_broke}
+use Rattle.pb_tool.proofs.Common.{refl, part_broke, part_then}
 use Rattle.pb_tool.proofs.commands.tidy.proof_text.ProofTextCanonical.write_text.Goals as goal
 
 pub returns-in_err-write_before_steps : goal.returns-in_err-write_before_steps

@@ -1,0 +1,88 @@
+-- The names that the proofs of this crate cite, passed on from one place. Declares nothing.
+pub use Rattle.std.proofs.Common.{ℕ, ◌*◌, ◌++◌, ◌+◌, ◌-◌, ◌/◌, ◌<◌, ◌^◌, ◌||◌, ◌∙◌, ◌∷◌, ◌≡◌, ◌≤◌, ◌⊎◌, [], ap, arith, Bool, cond, drop, eq-eqb, eqb}
+pub use Rattle.std.proofs.Common.{false, FitsSigned, get_or, get_or-set_other, get_or-set_same, Global, if◌then◌else◌, inl, inr, length}
+pub use Rattle.std.proofs.Common.{length-append, length-set, List, ltb-false, ltb-true, map, min, None, not, of_z, pos, refl, rules, set, subst, suc}
+pub use Rattle.std.proofs.Common.{sym, take, to_z, true, Vec, zero}
+pub use Rattle.std.specs.Prelude.{ℤ, ◌%◌, ◌==◌, All, Contains, count_by, Err, filter, IfNone, IfSome, is_ok, is_some, IsPermutation, Ok, OnErr}
+pub use Rattle.std.specs.Prelude.{Option, option_map, Result, slice_get, slice_index_or, Some, sum, sum_by, swap_remove, unsigned_abs}
+pub use Rattle.std.proofs.Math.Bool.{not-not, or-false, or_comm}
+pub use Rattle.std.proofs.Math.Seq.{map-set_same, set-append_seam, take-append_seam}
+pub use Rattle.std.proofs.lemmas.Bool.{and_parts, both_ways, cases_Bool, cases_eq, cases_lt, eqb-true, false_from_ne_true, leb-true, ne_eqb, not-true}
+pub use Rattle.std.proofs.lemmas.Bool.{not_from_false, or_cases, or_left, or_right}
+pub use Rattle.std.proofs.lemmas.Bool.Decides.{nat_tests}
+pub use Rattle.std.proofs.lemmas.List.{append-nil, append_assoc, drop_all, drop_more, ext_get_or, get_or-append_right, get_or-drop, get_or-map}
+pub use Rattle.std.proofs.lemmas.List.{get_or-take, get_or_append_left, get_or_default, get_or_past, get_or_push, get_or_read, length-drop}
+pub use Rattle.std.proofs.lemmas.List.{length-map, length-take, length-take-le, map-append, map-set, map_more, set-get_or, set-set, set_past}
+pub use Rattle.std.proofs.lemmas.List.{take-append-drop, take-append-le, take-map, take_all, take_min, take_more, take_rest}
+pub use Rattle.std.proofs.lemmas.List.Elements.{All-cons, All-contains, All-nil, All-push, All-set, All-take, Contains-append_cases}
+pub use Rattle.std.proofs.lemmas.List.Elements.{Contains-append_left, Contains-append_right, Contains-get_or, Contains-push, Contains-push_cases}
+pub use Rattle.std.proofs.lemmas.List.Folds.{list_any-append}
+pub use Rattle.std.proofs.lemmas.List.Sorted.{All-permutation, Contains-permutation, IsNonDecreasingBy-from_sort_by_key, IsPermutation-map}
+pub use Rattle.std.proofs.lemmas.List.Sorted.{IsPermutation-refl, IsPermutation-sym, length_permutation, sum_by-IsPermutation}
+pub use Rattle.std.proofs.lemmas.List.Sums.{count_by-le-length, get_or-le-sum_by, sum-map, sum_by-append, sum_by-cons, sum_by-le-sum_by, sum_by-set}
+pub use Rattle.std.proofs.lemmas.List.Sums.{sum_by-swap_remove, sum_by_more, sum_by_more_le, sum_by_push}
+pub use Rattle.std.proofs.lemmas.Option.{get_or_from_slice_get, none-some, same_Some, slice_get-get_or, slice_get-map, slice_get_past}
+pub use Rattle.std.proofs.lemmas.Option.{slice_get_within}
+pub use Rattle.std.specs.Bool.{beq}
+pub use Rattle.std.specs.Int.{w128}
+pub use Rattle.std.specs.List.{list_any, range_with_len}
+pub use Rattle.pb_normal.specs.declared.entry.Entry.{Entry}
+pub use Rattle.pb_normal.specs.declared.numbered.NumberedLiteral.{NumberedLiteral}
+pub use Rattle.pb_normal.specs.meaning.Form.{counted, each, Form, IsNormal, IsRising, total}
+pub use Rattle.pb_normal.specs.meaning.Rules.{negation, negation_of, on, only, opposite}
+pub use Rattle.pb_propagate.specs.declared.assignment.Assignment.{Assignment}
+pub use Rattle.pb_propagate.specs.declared.clause.Group.{Group}
+pub use Rattle.pb_propagate.specs.declared.clause.Group.TheVariants.{Long, Short}
+pub use Rattle.pb_propagate.specs.declared.clauses.Clauses.{Clauses}
+pub use Rattle.pb_propagate.specs.declared.clauses.lists.Listed.{Listed}
+pub use Rattle.pb_propagate.specs.declared.clauses.lists.Watch.{Watch}
+pub use Rattle.pb_propagate.specs.declared.clauses.search.Search.{Search}
+pub use Rattle.pb_propagate.specs.declared.clauses.visiting.Visit.TheVariants.{Falsified, Forces, Leaves, Stays}
+pub use Rattle.pb_propagate.specs.declared.eager.Eager.{Eager}
+pub use Rattle.pb_propagate.specs.declared.heads.Heads.{Heads}
+pub use Rattle.pb_propagate.specs.declared.rests.Rests.{Rests}
+pub use Rattle.pb_propagate.specs.declared.run.Run.{Run}
+pub use Rattle.pb_propagate.specs.declared.store.Occurrence.{Occurrence}
+pub use Rattle.pb_propagate.specs.declared.store.Store.{Store}
+pub use Rattle.pb_propagate.specs.declared.store.stored_form.StoredForm.{StoredForm}
+pub use Rattle.pb_propagate.specs.declared.term.Rank.{Rank}
+pub use Rattle.pb_propagate.specs.declared.term.Term.{Term}
+pub use Rattle.pb_propagate.specs.engine.Clauses.Blocks.{AreBlocks, AreKept, begun, Contents, contents, HasBlock, IsBare, IsBefore, nowhere}
+pub use Rattle.pb_propagate.specs.engine.Clauses.Blocks.{number_at, rewatched, rewritten, searched, stored_clause, stored_search, stored_watch, table}
+pub use Rattle.pb_propagate.specs.engine.Clauses.Blocks.{watch_of, watch_place}
+pub use Rattle.pb_propagate.specs.engine.Clauses.Links.{AreBlocked, AreFewer, AreLinked, AreMore, entries_at, idle, IsListed, list_at, Remains, Sits}
+pub use Rattle.pb_propagate.specs.engine.Clauses.Links.{watch_at, watch_lists}
+pub use Rattle.pb_propagate.specs.engine.Clauses.Runs.{all_turned, AreNoted, ArePassed, AreReady, AreRound, AreServed, AreStored, AreWalked}
+pub use Rattle.pb_propagate.specs.engine.Clauses.Runs.{AreWithin, around, Grows, HasTrue, HasVisited, index_after, IsBroken, IsPair, IsRefitted}
+pub use Rattle.pb_propagate.specs.engine.Clauses.Runs.{IsRound, IsRunning, IsUnit, IsWatched, KeepsWalked, passed_of, search_at, turned}
+pub use Rattle.pb_propagate.specs.engine.Clauses.Shapes.{all_of, AreDifferent, AreJoined, clause_shape, clauses_of, code, code_in, codes_of_terms}
+pub use Rattle.pb_propagate.specs.engine.Clauses.Shapes.{group_by, IsClause, IsLight, joined, literal_at, offset, one_term, slot_shape}
+pub use Rattle.pb_propagate.specs.engine.Clauses.Truths.{AreMarked, false_at, flip, is_failed, is_met, true_at}
+pub use Rattle.pb_propagate.specs.engine.Clauses.Walked.{advanced, fallen, falsified_code, head, IsAhead, killed, walked_codes}
+pub use Rattle.pb_propagate.specs.engine.Engine.Counts.{added, Adopted, AreFalling, AreFound, AreSingle, Aside, beside, entry_weight, Grown, IsAbsent}
+pub use Rattle.pb_propagate.specs.engine.Engine.Counts.{IsCalm, IsCounted, IsDone, IsTidy, IsUndone, kept, more, NameForms, none, place, pushed}
+pub use Rattle.pb_propagate.specs.engine.Engine.Counts.{rest_open, rest_start, spared, spent, term_weight, weight_in, weight_on}
+pub use Rattle.pb_propagate.specs.engine.Engine.Denial.{AreDenied, denial_of, IsDisjunction, IsHit, IsOne, RunRefutes}
+pub use Rattle.pb_propagate.specs.engine.Engine.Fields.{AreLonger, entries_of, forms_of, HasEntered, HasFilled, IsEmpty, IsSound, IsUnlisted}
+pub use Rattle.pb_propagate.specs.engine.Engine.Fields.{lists_of, shapes_of, spots_of, stored_shape}
+pub use Rattle.pb_propagate.specs.engine.Engine.Forms.{AreAll, as_term, entry_at_place, entry_of, IsPlaced, IsStoredAs, picked}
+pub use Rattle.pb_propagate.specs.engine.Engine.Links.{AreCrossed, coefficient_at, Cross, cut, degree_at, entry_at, entry_cross, IsLinked, IsStored}
+pub use Rattle.pb_propagate.specs.engine.Engine.Links.{last, Moved, term_at, term_cross, terms_at, weighted}
+pub use Rattle.pb_propagate.specs.engine.Engine.Lists.{AreInside, begin, broken, by_reason, Conflicts, Derives, Extends, from_given, has, HaveReasons}
+pub use Rattle.pb_propagate.specs.engine.Engine.Lists.{holds, IsDue, IsSettled, IsWithin, KeepsReasons, open_part, open_sum, opposed, put, Puts, same}
+pub use Rattle.pb_propagate.specs.engine.Engine.Lists.{says, Shape, size, vacancy, Weighted}
+pub use Rattle.pb_propagate.specs.engine.Engine.Live.{Gives, Live, one_in, Standing, terms_in, value_says}
+pub use Rattle.pb_propagate.specs.engine.Engine.Progress.{Advances, AreSettled, assigned_to, Costs, Database, database, entries_against, IsOpen}
+pub use Rattle.pb_propagate.specs.engine.Engine.Progress.{IsTidyAt, list_of, Lowers, passed_to, Progress, progress, queued, queued_to, reasons_of}
+pub use Rattle.pb_propagate.specs.engine.Engine.Progress.{RunKeepsReasons, RunPays, RunReasons, RunRecords, RunSpends, seen, Spends, StaysTidy}
+pub use Rattle.pb_propagate.specs.engine.Engine.Progress.{taken_to, visited_to, VisitsEach}
+pub use Rattle.pb_propagate.specs.engine.Engine.Reached.{HasClash, HasEnded, IsCovered, IsFrom, IsMade}
+pub use Rattle.pb_propagate.specs.engine.Engine.Rest.{AllWait, AreAtRest, AreSlots, derived, eager_one, IsAtRest, IsEager, IsEnded, IsRefuted, IsSlot}
+pub use Rattle.pb_propagate.specs.engine.Engine.Rest.{kept_waits, waits}
+pub use Rattle.pb_propagate.specs.engine.Engine.Root.{alone, HasForm, HasGained, HasLost, HasOtherReasons, HasReached, HasVacated, HasWidened}
+pub use Rattle.pb_propagate.specs.engine.Engine.Root.{IsAnswered, IsAsked, IsFallen, IsFree, IsMet, IsNeedless, IsOtherUnit, IsRooted, IsSameWatch}
+pub use Rattle.pb_propagate.specs.engine.Engine.Root.{IsServed, posed}
+pub use Rattle.pb_propagate.specs.engine.Engine.Slots.{ArePlaced, form_at, numbered}
+pub use Rattle.pb_propagate.specs.engine.Engine.Terms.{terms_of}
+pub use Rattle.pb_propagate.specs.engine.Engine.Waiting.{IsWithout}
+pub use Rattle.pb_propagate.specs.meaning.Propagation.{Derivation, HasConflict, IsCompletion, MayPropagate, MeetsConflict, opened, With}
