@@ -25,7 +25,7 @@ struct Held {
 }
 
 impl<O> Recent<O> {
-    /// A writer that holds back all but so many texts, or nothing.
+    /// A writer that holds back all but the given number of texts, or nothing.
     pub(crate) fn new(alloc: Global, inner: O, most: Option<u64>) -> Self {
         let held = match most {
             Some(most) => Some(Held {

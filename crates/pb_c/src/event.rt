@@ -41,7 +41,7 @@ impl Statement {
         }
     }
 
-    /// A statement with so many tokens and bytes of free text.
+    /// A statement with these numbers of tokens and of bytes of free text.
     pub(crate) fn of(event: Event, tokens: usize, bytes: usize) -> Statement
         ensures { result ≡ event_of event tokens bytes }
     {

@@ -104,7 +104,7 @@ fn rest(store: &Store, rests: &Rests, clauses: &mut Clauses, run: &mut Run)
     run.next = 0;
 }
 
-// The root after a form was stored in a slot. It begins anew once the questions and completions without it took eight
+// The root after a form was stored in a slot. It begins again once the questions and completions without it took eight
 // visits for each form and variable.
 fn follow(
     store: &Store,

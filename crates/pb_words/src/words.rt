@@ -29,7 +29,7 @@ const MOST_BYTES: u64 = 1 << 40;
 const MOST_LINES: u64 = 1 << 40;
 
 /// Which accepted statements a trace prints, and how. If `from` or `to` is given, they begin in these lines of the proof,
-/// 1 to `2^40`. If `last` is given, only so many of them are printed, the last ones, 0 to `2^40`. If `ids` is true, the ids
+/// 1 to `2^40`. If `last` is given, only this many of them are printed, the last ones, 0 to `2^40`. If `ids` is true, the ids
 /// of constraints are printed without the constraints.
 #[derive(Clone, Copy, Debug)]
 pub struct Selection {
