@@ -181,14 +181,21 @@ impl<M: Machine> Feeder<M> {
                 event: None,
             });
         }
-        let mut used = self.feed_fast(piece);
+        let mut used: usize = 0;
         while used < piece.len() {
+            let fed = self.feed_statement(&piece[used..]);
+            used += fed.used;
+            if let Some(event) = fed.event {
+                return Ok(Fed::with_event(used, event));
+            }
+            if used == piece.len() {
+                return Ok(Fed { used, event: None });
+            }
             match self.take(piece[used]) {
                 Ok(None) => used += 1,
                 Ok(Some(event)) => return Ok(Fed::with_event(used + 1, event)),
                 Err(stop) => return Err(stop),
             }
-            used += self.feed_fast(&piece[used..]);
         }
         Ok(Fed { used, event: None })
     }
