@@ -1,6 +1,6 @@
 //! Lists and texts that contracts see as plain lists.
 
-ghost use Rattle.std.specs.Prelude.{◌≡◌, ◌↔◌, ◌∷◌, ◌++◌, [], List, ℕ, Bool, IsTrue, eqb, if◌then◌else◌, is_ok, IfErr, length, ◌<◌, ◌^◌};
+ghost use Rattle.std.specs.Prelude.{◌≡◌, ◌↔◌, ◌∷◌, ◌++◌, [], List, ℕ, Bool, IsTrue, true, eqb, if◌then◌else◌, is_ok, IfOk, IfErr, length, ◌<◌, ◌^◌};
 ghost use Rattle.std.specs.Iterator.Adapters.{IterYieldsInOrder};
 ghost use Rattle.std.specs.Slice.Iter.{iter_rest};
 ghost use Rattle.std.specs.Cmp.Lexicographic.{pointwise, lists_per, nat_list_eq_equiv};
@@ -30,6 +30,15 @@ impl<T> Sequence<T> {
         Sequence {
             items: Vec::new(alloc),
         }
+    }
+
+    /// The empty list with memory for this many values.
+    pub fn with_capacity(alloc: Global, capacity: usize) -> Result<Self, AllocError>
+        ensures empty { IfOk result (λ list. list ≡ []) }
+        ensures none { capacity ≡ 0 → is_ok result ≡ true }
+    {
+        let items = Vec::with_capacity(alloc, capacity)?;
+        Ok(Sequence { items })
     }
 
     /// The list of the values of a vector, which it stores.

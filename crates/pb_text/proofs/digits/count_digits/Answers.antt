@@ -1,6 +1,6 @@
 use Rattle.pb_text.proofs.Common.{◌∙◌, sym}
 use Rattle.pb_text.proofs.lemmas.numbers.DigitValues.{value_on, digits_on}
-use Rattle.pb_text.proofs.digits.number_prefix.Goals as goal
+use Rattle.pb_text.proofs.digits.count_digits.Goals as goal
 
 pub loop-i-preserved : goal.loop-i-preserved
 loop-i-preserved c = record {

@@ -1,5 +1,5 @@
 use Rattle.pb_text.proofs.Common.{◌≡◌, IsTrue, take, value_from, is_digit, Each}
-use Rattle.pb_text.proofs.digits.number_prefix.Given as goal
+use Rattle.pb_text.proofs.digits.count_digits.Given as goal
 
 abbrev pub invariant-loop-i : goal.invariant-loop-i
 invariant-loop-i l = record {
