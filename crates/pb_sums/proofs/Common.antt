@@ -51,6 +51,6 @@ pub use Rattle.pb_sums.specs.engine.Machine.{step, symbol, term, to, transition,
 pub use Rattle.pb_sums.specs.engine.Prefix.{after_name, after_number, after_space, begins_number, begins_relation, HasSign, IsSign, role, sign_read}
 pub use Rattle.pb_sums.specs.engine.Prefix.{text_after}
 pub use Rattle.pb_sums.specs.engine.State.{all_units, asks, first, in_hand, IsInOrder, last, over, ready, sums, SumState, units, with_work}
-pub use Rattle.pb_sums.specs.engine.TermParts.{AreSpacedTerms, begins_term, IsLiteral, IsSpacedNumber, IsTilde, LeadsToLinear, standing}
+pub use Rattle.pb_sums.specs.engine.TermParts.{AreSpacedTerms, begins_term, IsLiteral, IsSpacedLiteral, IsSpacedNumber, IsTilde, LeadsToLinear, standing}
 pub use Rattle.pb_sums.specs.meaning.Sums.{allows, Head, is_space, IsName, IsOneText, literal_bytes, reads_sums, Spaces0, Spaces1, Spells}
 pub use Rattle.pb_sums.specs.meaning.Sums.{SpellsFurther, SpellsLinear, SpellsLiteral, SpellsRelation, SpellsSum, SpellsTerm}

@@ -1,6 +1,7 @@
 //! Literals, sums and linear texts, read one byte at a time and written.
 #![tactic(auto)]
 
+mod capacity;
 mod classes;
 pub mod laws;
 mod linear;

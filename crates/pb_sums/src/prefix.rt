@@ -12,12 +12,41 @@ use crate::sum_kind::Part;
 use crate::transition::allows;
 use pb_text::bytes::is_name_byte;
 
+/// The maximum number of bytes that are read without a test for the end of the text.
+const WINDOW: usize = 12;
+
 /// The number of name bytes at the start of the text.
 #[inline(always)]
 pub fn name_prefix(text: &[u8]) -> usize
     ensures bound { result ≤ length text.now }
     ensures name { Each (λ b. IsTrue (is_name_byte b)) (take result text.now) }
     // It stops only where the name ends.
+    ensures stops { result < length text.now → is_name_byte (get_or text.now result 0) ≡ false }
+{
+    if let Some(window) = text.first_chunk::<WINDOW>() {
+        let count = count_name_bytes(window);
+        if count < WINDOW {
+            return count;
+        }
+    }
+    long_name_prefix(text)
+}
+
+/// The same for a text that is short, or that begins with a long name.
+#[cold]
+fn long_name_prefix(text: &[u8]) -> usize
+    ensures bound { result ≤ length text.now }
+    ensures name { Each (λ b. IsTrue (is_name_byte b)) (take result text.now) }
+    ensures stops { result < length text.now → is_name_byte (get_or text.now result 0) ≡ false }
+{
+    count_name_bytes(text)
+}
+
+/// The same, with a test for the end of the text before each byte.
+#[inline(always)]
+fn count_name_bytes(text: &[u8]) -> usize
+    ensures bound { result ≤ length text.now }
+    ensures name { Each (λ b. IsTrue (is_name_byte b)) (take result text.now) }
     ensures stops { result < length text.now → is_name_byte (get_or text.now result 0) ≡ false }
 {
     for (i, byte) in text.iter().enumerate() {

@@ -2,7 +2,7 @@
 
 ghost use Rattle.std.specs.Prelude.{◌≡◌, ◌≢◌, ◌≤◌, ◌<◌, ◌^◌, IfSome, None, true, get_or, length, take};
 ghost use Rattle.pb_sums.specs.engine.Prefix.{LacksLiteral, LacksNumber, begins_number, sign_read};
-ghost use Rattle.pb_sums.specs.engine.TermParts.{begins_term, IsTilde, IsSpacedNumber, IsLiteral};
+ghost use Rattle.pb_sums.specs.engine.TermParts.{begins_term, IsTilde, IsSpacedNumber, IsSpacedLiteral};
 
 use crate::linear::Literal;
 use crate::name::Name;
@@ -66,11 +66,12 @@ pub fn spaced_number_prefix(limit: u128, phase: Phase, text: &[u8]) -> Option<(u
     Some((end + 1, signed(negative, magnitude)))
 }
 
-/// A literal at the start of the text, and its length, if it is fast to read and does not allocate.
+/// A literal and a space after it at the start of the text, and their length, if they are fast to read. It does not
+/// allocate.
 #[inline(always)]
-pub fn literal_prefix(alloc: Global, text: &[u8]) -> Option<(usize, Literal)>
+pub fn spaced_literal_prefix(alloc: Global, text: &[u8]) -> Option<(usize, Literal)>
     ensures bound { IfSome result (λ r. r.0 ≤ length text.now) }
-    ensures runs { IfSome result (λ r. IsLiteral (take r.0 text.now) r.1) }
+    ensures runs { IfSome result (λ r. IsSpacedLiteral (take r.0 text.now) r.1) }
     ensures none { result ≡ None → LacksLiteral text.now }
 {
     let (tilde, negated) = tilde_prefix(text);
@@ -79,6 +80,10 @@ pub fn literal_prefix(alloc: Global, text: &[u8]) -> Option<(usize, Literal)>
     if length < 2 || length > SHORT || !is_letter(rest[0]) {
         return None;
     }
+    let end = tilde + length;
+    if end >= text.len() || text[end] != b' ' {
+        return None;
+    }
     let name = Name::short_prefix(alloc, rest, length);
-    Some((tilde + length, Literal { negated, name }))
+    Some((end + 1, Literal { negated, name }))
 }

@@ -4,11 +4,12 @@ ghost use Rattle.std.specs.Prelude.{◌≡◌, ◌≤◌, ◌<◌, ◌^◌, IfSo
 ghost use Rattle.pb_text.specs.meaning.Limits.{largest};
 ghost use Rattle.pb_sums.specs.engine.TermParts.{begins_term, IsSpacedTerm, AreSpacedTerms, IsSpacedDegree, LeadsToLinear};
 
+use crate::capacity::capacity_for;
 use crate::linear::{Linear, Relation, Term};
 use crate::phase::Phase;
 use crate::prefix::relation_prefix;
 use crate::sum_kind::Part;
-use crate::term_prefix::{literal_prefix, spaced_number_prefix};
+use crate::term_prefix::{spaced_literal_prefix, spaced_number_prefix};
 use pb_text::{Limits, Sequence};
 use std::alloc::Global;
 
@@ -41,14 +42,20 @@ pub fn linear_at(alloc: Global, limits: Limits, part: Part, text: &[u8]) -> Opti
     ))
 }
 
-/// Terms with a space after each at the start of a text, and their length, if there is one and memory suffices.
+/// Terms with a space after each at the start of a text, and their length, if there is one, the text has a `;` and memory
+/// suffices.
 #[inline(always)]
 fn terms_at(alloc: Global, limit: u128, text: &[u8]) -> Option<(usize, Sequence<Term>)>
     requires room { limit < 2 ^ 127 }
     ensures bound { IfSome result (λ r. r.0 ≤ length text.now) }
     ensures runs { IfSome result (λ r. AreSpacedTerms limit (take r.0 text.now) r.1 Phase.Between) }
 {
-    let mut terms = Sequence::new(alloc);
+    let Some(capacity) = capacity_for(text) else {
+        return None;
+    };
+    let Ok(mut terms) = Sequence::with_capacity(alloc, capacity) else {
+        return None;
+    };
     let mut phase = Phase::Start;
     let mut end: usize = 0;
     while let Some((length, term)) = term_at(alloc, limit, phase, &text[end..]) {
@@ -75,15 +82,11 @@ fn term_at(alloc: Global, limit: u128, phase: Phase, text: &[u8]) -> Option<(usi
     let Some((number, coefficient)) = spaced_number_prefix(limit, phase, text) else {
         return None;
     };
-    let rest = &text[number..];
-    let Some((length, literal)) = literal_prefix(alloc, rest) else {
+    let Some((length, literal)) = spaced_literal_prefix(alloc, &text[number..]) else {
         return None;
     };
-    if length >= rest.len() || rest[length] != b' ' {
-        return None;
-    }
     Some((
-        number + length + 1,
+        number + length,
         Term {
             coefficient,
             literal,

@@ -84,8 +84,8 @@ LacksNumber limit read text = (i : ℕ) × (negative : Bool) × HasSign read tex
 abbrev pub HasNameBytes : List ℕ → ℕ → Type 0
 HasNameBytes text n = (n ≤ length text) × Each (λ b. IsTrue (is_name_byte b)) (take n text) × (n < length text → is_name_byte (get_or text n 0) ≡ false)
 
--- The text does not begin with a literal whose name has at least two bytes, or that name is long.
+-- The text does not begin with a literal and a space after it whose name has at least two bytes, or that name is long.
 abbrev pub LacksLiteral : List ℕ → Type 0
 LacksLiteral text = (i : ℕ) × (i ≤ 1) × (i ≡ 0 → 0 < length text → get_or text 0 0 ≢ 126) × (i ≡ 1 → get_or text 0 0 ≡ 126)
     × (n : ℕ) × HasNameBytes (text_after i text) n × ((n < 2) ⊎ (is_letter (get_or (text_after i text) 0 0) ≡ false) ⊎
-    (22 < n))
+    (22 < n) ⊎ (length text ≤ i + n) ⊎ (get_or text (i + n) 0 ≢ 32))

@@ -37,6 +37,12 @@ abbrev pub IsLiteral : List ℕ → Literal → Type 0
 IsLiteral text l = (spaces : Spaces) (part : Part) (limit : ℕ) (xs : List Term) (z : ℤ) →
     Runs sums (standing spaces part limit xs [] (phase.TheVariants.Gap z)) text (standing spaces part limit xs l.name (phase.TheVariants.More z l.negated))
 
+-- a literal after a coefficient, and a space after it
+abbrev pub IsSpacedLiteral : List ℕ → Literal → Type 0
+IsSpacedLiteral text l = (spaces : Spaces) (part : Part) (limit : ℕ) (xs : List Term) (z : ℤ) →
+    Runs sums (standing spaces part limit xs [] (phase.TheVariants.Gap z)) text
+    (standing spaces part limit (xs ++ (record { coefficient = z; literal = l }) ∷ []) [] phase.TheVariants.Between)
+
 -- a term and a space after it, from this state
 abbrev pub IsSpacedTerm : ℕ → Phase → List ℕ → Term → Type 0
 IsSpacedTerm limit p text x = (spaces : Spaces) (part : Part) (xs : List Term) →

@@ -3,7 +3,7 @@ use Rattle.pb_sums.proofs.Common.{ℕ, ℤ, ◌++◌, ◌+◌, ◌<◌, ◌∷�
 use Rattle.pb_sums.proofs.Common.{sym, take, true, Err, if◌then◌else◌, is_err, is_ok, IsTrue, Ok, Result, runs_further, Go, IsState, Runs, value_from}
 use Rattle.pb_sums.proofs.Common.{is_digit, is_letter, is_name_byte, Each, signed, relation_bytes, Relation, AtLeast, Equal, Term, Phase, Part}
 use Rattle.pb_sums.proofs.Common.{Spaces, after_name, after_number, begins_number, begins_relation, HasSign, role, sign_read, text_after, sums}
-use Rattle.pb_sums.proofs.Common.{SumState, begins_term, IsLiteral, IsSpacedNumber, IsTilde, standing, allows}
+use Rattle.pb_sums.proofs.Common.{SumState, begins_term, IsLiteral, IsSpacedLiteral, IsSpacedNumber, IsTilde, standing, allows}
 use Rattle.pb_text.proofs.lemmas.machine.Running.{runs_on}
 use Rattle.pb_sums.specs.declared.linear.Literal.{Literal}
 use Rattle.pb_sums.specs.declared.phase.Phase as phase
@@ -61,7 +61,7 @@ after-both : (negated : Bool) (z : ℤ) → Some (phase.TheVariants.More z negat
 after-both false z = refl
 after-both true z = refl
 
-pub literal_runs : (text : List ℕ) (i j : ℕ) (negated : Bool) (name : List ℕ) → IsTilde negated (take i text) → 2 ≤ length (take j (text_after i text))
+literal_runs : (text : List ℕ) (i j : ℕ) (negated : Bool) (name : List ℕ) → IsTilde negated (take i text) → 2 ≤ length (take j (text_after i text))
     → IsTrue (is_letter (get_or (take j (text_after i text)) 0 0)) → Each (λ b. IsTrue (is_name_byte b)) (take j (text_after i text)) → name ≡ take j (text_after i text)
     → IsLiteral (take (i + j) text) (record { name = name; negated = negated })
 literal_runs text i j negated name s l h g e spaces part limit xs z =
@@ -69,25 +69,30 @@ literal_runs text i j negated name s l h g e spaces part limit xs z =
     (standing spaces part limit xs name (phase.TheVariants.More z negated)) (tilde-runs spaces part limit xs z negated (take i text) s)
     (name_runs spaces part limit xs [] name (after-tilde negated z) (phase.TheVariants.More z negated) (take j (text_after i text)) (after-both negated z) l h g e)
 
+-- a literal and a space
+pub spaced_literal_runs : (text : List ℕ) (i j : ℕ) (negated : Bool) (name : List ℕ) → IsTilde negated (take i text) → 2 ≤ length (take j (text_after i text))
+    → IsTrue (is_letter (get_or (take j (text_after i text)) 0 0)) → Each (λ b. IsTrue (is_name_byte b)) (take j (text_after i text)) → name ≡ take j (text_after i text)
+    → i + j < length text → get_or text (i + j) 0 ≡ 32 → IsSpacedLiteral (take (i + j + 1) text) (record { name = name; negated = negated })
+spaced_literal_runs text i j negated name s l h g e within f spaces part limit xs z =
+    let gap : SumState = standing spaces part limit xs [] (phase.TheVariants.Gap z) in
+    let more : SumState = standing spaces part limit xs name (phase.TheVariants.More z negated) in
+    let terms : List Term = xs ++ (record { coefficient = z; literal = record { name = name; negated = negated } }) ∷ [] in
+    let last : SumState = standing spaces part limit terms [] phase.TheVariants.Between in
+    runs_on sums gap text (i + j) more last within (literal_runs text i j negated name s l h g e spaces part limit xs z)
+    (subst (λ (x : ℕ). sums.step more x ≡ Go last) (sym f) refl)
+    (midway_state spaces part limit terms [] phase.TheVariants.Between tt refl)
+
 -- a coefficient, a space, a literal and a space
 pub term_runs : (spaces : Spaces) (part : Part) (limit : ℕ) (xs ys : List Term) (old new : List ℕ) (p : Phase) (text : List ℕ) (i j : ℕ) (z : ℤ) (l : Literal)
-    → begins_term p ≡ true → old ≡ [] → new ≡ [] → IsSpacedNumber limit p (take i text) z → IsLiteral (take j (text_after i text)) l → j < length (text_after i text) → get_or (text_after i text) j 0 ≡ 32
+    → begins_term p ≡ true → old ≡ [] → new ≡ [] → IsSpacedNumber limit p (take i text) z → IsSpacedLiteral (take j (text_after i text)) l
     → ys ≡ xs ++ (record { coefficient = z; literal = l }) ∷ []
-    → Runs sums (standing spaces part limit xs old p) (take (i + j + 1) text) (standing spaces part limit ys new phase.TheVariants.Between)
-term_runs spaces part limit xs ys old new p text i j z l b e f prefix literal within g h =
+    → Runs sums (standing spaces part limit xs old p) (take (i + j) text) (standing spaces part limit ys new phase.TheVariants.Between)
+term_runs spaces part limit xs ys old new p text i j z l b e f prefix literal h =
     let gap : SumState = standing spaces part limit xs [] (phase.TheVariants.Gap z) in
-    let more : SumState = standing spaces part limit xs l.name (phase.TheVariants.More z l.negated) in
-    let more-terms : List Term = xs ++ (record { coefficient = z; literal = l }) ∷ [] in
-    let last : SumState = standing spaces part limit more-terms [] phase.TheVariants.Between in
-    let same : i + (j + 1) ≡ i + j + 1 = omega arith in
-    let literal-run : Runs sums gap (take (j + 1) (text_after i text)) last =
-    runs_on sums gap (text_after i text) j more last within (literal spaces part limit xs z)
-    (subst (λ (x : ℕ). sums.step more x ≡ Go last) (sym g) refl)
-    (midway_state spaces part limit more-terms [] phase.TheVariants.Between tt refl) in
+    let last : SumState = standing spaces part limit (xs ++ (record { coefficient = z; literal = l }) ∷ []) [] phase.TheVariants.Between in
     let first : Runs sums (standing spaces part limit xs [] p) (take i text) gap =
     subst (λ (r : Option Relation). Runs sums (standing spaces part limit xs [] p) (take i text) (standing spaces part limit xs [] (after_number r z))) (no-role p b) (prefix spaces part xs) in
-    rw (e, f, h) (subst (λ (n : ℕ). Runs sums (standing spaces part limit xs [] p) (take n text) last) same
-    (runs_further sums (standing spaces part limit xs [] p) text i (j + 1) gap last first literal-run))
+    rw (e, f, h) (runs_further sums (standing spaces part limit xs [] p) text i j gap last first (literal spaces part limit xs z))
 
 -- a relation
 pub relation_runs : (spaces : Spaces) (part : Part) (limit : ℕ) (xs : List Term) (name : List ℕ) (p : Phase) (text : List ℕ) (r : Relation)

@@ -7,7 +7,6 @@ pub returns-clause-runs : goal.returns-clause-runs
 returns-clause-runs c spaces part xs =
     let fits : SFits w128 c.in-Some.coefficient = record { sfits = omega (arith, ints) } in
     rw (to_z-of_z w128 c.in-Some.coefficient fits) (
-    term_runs spaces part c.args.limit xs (xs ++ record { coefficient = c.in-Some.coefficient; literal = c.in-Some-literal_prefix.literal } ∷ []) [] [] c.args.phase
-    c.args.text.now c.in-Some.number c.in-Some-literal_prefix.length c.in-Some.coefficient c.in-Some-literal_prefix.literal
-    c.requires.begins refl refl c.in-Some.ensures.runs c.in-Some-literal_prefix.ensures.runs
-    c.if-length-rest.false c.if-rest-length-ne32.false refl)
+    term_runs spaces part c.args.limit xs (xs ++ record { coefficient = c.in-Some.coefficient; literal = c.in-Some-spaced_literal_prefix.literal } ∷ []) [] [] c.args.phase
+    c.args.text.now c.in-Some.number c.in-Some-spaced_literal_prefix.length c.in-Some.coefficient c.in-Some-spaced_literal_prefix.literal
+    c.requires.begins refl refl c.in-Some.ensures.runs c.in-Some-spaced_literal_prefix.ensures.runs refl)

@@ -12,9 +12,8 @@ returns-clause-runs c = rw (← c.self.view_is) (
     let fits : SFits w128 c.in-Some.coefficient = record { sfits = omega (arith, ints) } in
     let items = rw (to_z-of_z w128 c.in-Some.coefficient fits) at c.push.ensures.items in
     term_runs c.self.inside.spaces c.self.inside.part c.self.inside.limit c.self.inside.terms c.push.new.self c.self.inside.name c.self.inside.name c.self.inside.phase
-    c.args.text.now c.in-Some.number c.in-Some-literal_prefix.length c.in-Some.coefficient c.in-Some-literal_prefix.literal
-    (sym c.begins_term.ensures ∙ c.if-not-begins_term.false) none none c.in-Some.ensures.runs c.in-Some-literal_prefix.ensures.runs
-    c.if-length-rest.false c.if-rest-length-ne32.false
+    c.args.text.now c.in-Some.number c.in-Some-spaced_literal_prefix.length c.in-Some.coefficient c.in-Some-spaced_literal_prefix.literal
+    (sym c.begins_term.ensures ∙ c.if-not-begins_term.false) none none c.in-Some.ensures.runs c.in-Some-spaced_literal_prefix.ensures.runs
     (grown c.push.result _ _ _ items (sym c.if-is_err.ensures.value))
     )
 
