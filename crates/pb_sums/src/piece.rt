@@ -88,11 +88,16 @@ impl Piece {
 
     /// Prepends the digits of a number.
     #[inline]
+    #[tactic(auto, using(std::proofs::lemmas::Fmt::decimal_digit))]
     fn put_digits(&mut self, number: u128)
         requires { 39 + length self.old ≤ ROOM }
         ensures text { self.new ≡ decimal number ++ self.old }
         ensures short { length self.new ≤ 39 + length self.old }
     {
+        if number < 10 {
+            self.put(b'0' + number as u8);
+            return;
+        }
         match u64::try_from(number) {
             Ok(count) => self.put_count(count),
             Err(_) => self.put_wide(number),

@@ -1,4 +1,4 @@
-use Rattle.pb_sums.proofs.Common.{ℕ, ◌++◌, ◌+◌, ◌∷◌, [], arith, drop, length, length-drop, length-take, List, subst, sym, take, Each, prefix_parts}
+use Rattle.pb_sums.proofs.Common.{ℕ, ◌++◌, ◌∷◌, [], arith, drop, length, length-drop, length-take, List, subst, sym, take, Each, prefix_parts}
 use Rattle.std.specs.Prelude.{◌-◌, ◌≢◌}
 use Rattle.pb_sums.proofs.capacity.capacity_for.Goals as goal
 

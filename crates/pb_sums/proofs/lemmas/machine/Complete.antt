@@ -4,7 +4,7 @@ use Rattle.pb_sums.proofs.Common.{ℕ, ℤ, ◌*◌, ◌++◌, ◌+◌, ◌<◌,
 use Rattle.pb_sums.proofs.Common.{inl, inr, length, List, map, None, Option, refl, Some, subst, suc, sym, true, IsTrue, nat_le, le-mul_of_pos_right}
 use Rattle.pb_sums.proofs.Common.{pow-succ', le-leb, run, run-refuse, Takes, takes_then, nil_first, End, Go, Next, Refuse, is_name_byte, ◌⋅◌, Byte}
 use Rattle.pb_sums.proofs.Common.{digit, Each, Language, unmarked, Number, signed, value, Letter, Relation, AtLeast, Equal, SumEvent, Term, Action}
-use Rattle.pb_sums.proofs.Common.{EndSum, Stop, To, Kind, Digit, Equals, Greater, Minus, Plus, Semicolon, Space, Start, Tilde, Phase, Part, Spaces}
+use Rattle.pb_sums.proofs.Common.{EndSum, Stop, To, Kind, Digit, Equals, Greater, Minus, Plus, Semicolon, Space, Start, Tilde, Part, Spaces}
 use Rattle.pb_sums.proofs.Common.{act, action, at_name, digits, finished, fresh, kind, next_action, to, Work, allows, Head, is_space, reads_sums}
 use Rattle.pb_sums.proofs.Common.{Spaces0, Spaces1, Spells, SpellsFurther, SpellsLinear, SpellsLiteral, SpellsRelation, SpellsSum, SpellsTerm}
 use Rattle.pb_text.proofs.lemmas.numbers.DigitWalks.{ten_pos}

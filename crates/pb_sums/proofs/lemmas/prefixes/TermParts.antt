@@ -1,5 +1,5 @@
 -- Whole terms that are taken at once, and the run that they form.
-use Rattle.pb_sums.proofs.Common.{ℕ, ℤ, ◌++◌, ◌+◌, ◌<◌, ◌∷◌, ◌≡◌, ◌≤◌, [], arith, Bool, false, get_or, length, List, None, Option, refl, Some, subst}
+use Rattle.pb_sums.proofs.Common.{ℕ, ℤ, ◌++◌, ◌+◌, ◌<◌, ◌∷◌, ◌≡◌, ◌≤◌, [], Bool, false, get_or, length, List, None, Option, refl, Some, subst}
 use Rattle.pb_sums.proofs.Common.{sym, take, true, Err, if◌then◌else◌, is_err, is_ok, IsTrue, Ok, Result, runs_further, Go, IsState, Runs, value_from}
 use Rattle.pb_sums.proofs.Common.{is_digit, is_letter, is_name_byte, Each, signed, relation_bytes, Relation, AtLeast, Equal, Term, Phase, Part}
 use Rattle.pb_sums.proofs.Common.{Spaces, after_name, after_number, begins_number, begins_relation, HasSign, role, sign_read, text_after, sums}
