@@ -76,19 +76,13 @@ module _ (limit top : ℕ) where
 
   pub line_each : (r : LineKind) (t : List Letter) (e : Statement) → SpellsRest limit top r e t → (after : LineMachine) × ReadsStatement line_automaton (line_first limit top r) t e after
   line_each Count t (statement.TheVariants.F c) h = (line.TheVariants.Count (count_last top), reads_in _ _ _ _ count_carries t (counting top) c (count_last top) ((count_reads limit top t c (count_last top)).1 (h, refl)))
-  line_each Count t _ h = absurd h
   line_each Pol t (statement.TheVariants.Pol c) h = (line.TheVariants.Pol (pol_last limit top), reads_in _ _ _ _ pol_carries t (pol_first limit top) c (pol_last limit top) ((pol_reads limit top t c (pol_last limit top)).1 (h, refl)))
-  line_each Pol t _ h = absurd h
   line_each Rup t (statement.TheVariants.Rup c) h = (line.TheVariants.Rup (rup_last limit), reads_in _ _ _ _ rup_carries t (rup_first limit) c (rup_last limit) ((rup_reads limit top t c (rup_last limit)).1 (h, refl)))
-  line_each Rup t _ h = absurd h
   line_each Soli t (statement.TheVariants.Soli c) h = (line.TheVariants.Soli (literals_last false), reads_in _ _ _ _ soli_carries t (literals_first false) c (literals_last false) ((literals_reads false t c (literals_last false)).1 (h, refl)))
-  line_each Soli t _ h = absurd h
   line_each Solx t (statement.TheVariants.Solx c) h = (line.TheVariants.Solx (literals_last false), reads_in _ _ _ _ solx_carries t (literals_first false) c (literals_last false) ((literals_reads false t c (literals_last false)).1 (h, refl)))
-  line_each Solx t _ h = absurd h
   line_each Delete t (statement.TheVariants.Delete c) h = (line.TheVariants.Delete (ids_last top), reads_in _ _ _ _ delete_carries t (ids_first top) c (ids_last top) ((ids_reads limit top t c (ids_last top)).1 (h, refl)))
-  line_each Delete t _ h = absurd h
   line_each Conclusion t (statement.TheVariants.Conclude c) h = (line.TheVariants.Conclusion (conclusion_last limit top), reads_in _ _ _ _ conclusion_carries t (conclusion_first limit top) c (conclusion_last limit top) ((conclusion_reads limit top t c (conclusion_last limit top)).1 (h, refl)))
-  line_each Conclusion t _ h = absurd h
+  line_each _ t _ h = absurd h
 
   -- A new one has not begun, has not ended, and reads no number.
   pub line_fresh : (r : LineKind) → (line_automaton.done (line_first limit top r) ≡ false) × (line_automaton.begun (line_first limit top r) ≡ false) × (line_automaton.in_number (line_first limit top r) ≡ false)

@@ -65,8 +65,6 @@ flushed_units _ ls name = omega arith
 ready_one : (joined : Bool) (ph : LiteralsPhase) → ready joined ph ≤ 1
 ready_one true Start = omega arith
 ready_one false Start = omega arith
-ready_one joined Gap = omega arith
-ready_one joined Negation = omega arith
 ready_one joined _ = omega arith
 
 abbrev spent : LiteralsState → ℕ

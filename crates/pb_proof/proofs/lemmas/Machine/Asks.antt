@@ -58,19 +58,13 @@ module _ (limit top : ℕ) where
   -- the first word of a statement that may allocate
   first_word : (r : LineKind) (e : Statement) (t word : List Letter) (text : List ℕ) (b : ℕ) → SpellsRest limit top r e t → sound.Before r word → AsksAfter e text b → FirstWord e word
   first_word kind.Count (statement.F c) t word text b h k a = absurd a
-  first_word kind.Count _ t word text b h k a = absurd h
   first_word kind.Pol (statement.Pol c) t word text b h k a = k
-  first_word kind.Pol _ t word text b h k a = absurd h
   first_word kind.Rup (statement.Rup c) t word text b h k a = k
-  first_word kind.Rup _ t word text b h k a = absurd h
   first_word kind.Soli (statement.Soli c) t word text b h k a = k
-  first_word kind.Soli _ t word text b h k a = absurd h
   first_word kind.Solx (statement.Solx c) t word text b h k a = k
-  first_word kind.Solx _ t word text b h k a = absurd h
   first_word kind.Delete (statement.Delete c) t word text b h k a = k
-  first_word kind.Delete _ t word text b h k a = absurd h
   first_word kind.Conclusion (statement.Conclude c) t word text b h k a = k
-  first_word kind.Conclusion _ t word text b h k a = absurd h
+  first_word _ _ t word text b h k a = absurd h
 
   -- After the first word, the line machine reads.
   line_step : (s : ProofState) (b : ℕ) (r : LineKind) (i : LineMachine) → s.phase ≡ phase.Inside r → s.line ≡ Some i → proofs.step s b ≡ over s r (line_automaton.step i b)

@@ -228,14 +228,7 @@ module _ (limit top : ℕ) where
 
   begins_with : (f : Keyword) (t : List Letter) → Spaced (words_of f) t → (u : List Letter) × (t ≡ unmarked (first_byte f) ∷ u)
   begins_with keyword.Header t (a, b, e, h, k) = (b, e ∙ ap (λ x. x ++ b) h)
-  begins_with keyword.Formula t (a, b, e, h, k) = (b, e ∙ ap (λ x. x ++ b) h)
-  begins_with keyword.Pol t (a, b, e, h, k) = (b, e ∙ ap (λ x. x ++ b) h)
-  begins_with keyword.Rup t (a, b, e, h, k) = (b, e ∙ ap (λ x. x ++ b) h)
-  begins_with keyword.Solution t (a, b, e, h, k) = (b, e ∙ ap (λ x. x ++ b) h)
-  begins_with keyword.Delete t (a, b, e, h, k) = (b, e ∙ ap (λ x. x ++ b) h)
-  begins_with keyword.Output t (a, b, e, h, k) = (b, e ∙ ap (λ x. x ++ b) h)
-  begins_with keyword.Conclusion t (a, b, e, h, k) = (b, e ∙ ap (λ x. x ++ b) h)
-  begins_with keyword.End t (a, b, e, h, k) = (b, e ∙ ap (λ x. x ++ b) h)
+  begins_with _ t (a, b, e, h, k) = (b, e ∙ ap (λ x. x ++ b) h)
 
   -- From the stage, the words and the text after them are read.
   entered : (f : Keyword) (t u : List Letter) (e : Statement) (after : ProofState) → Spaced (words_of f) t → ReadsStatement proofs (spelt f 0) (t ++ u) e after

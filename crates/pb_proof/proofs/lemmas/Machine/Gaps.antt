@@ -25,10 +25,7 @@ Inside _ = Unit {0}
 after_inside : (f : Keyword) → Inside (next_action f)
 after_inside keyword.Header = refl
 after_inside keyword.Solution = refl
-after_inside keyword.Delete = tt
 after_inside keyword.Output = refl
-after_inside keyword.Conclusion = tt
-after_inside keyword.End = tt
 after_inside _ = tt
 
 pub spell_inside : (f : Keyword) (k b : ℕ) (other : Action) → Inside other → Inside (spell f k b other)
