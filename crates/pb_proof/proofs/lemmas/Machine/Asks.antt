@@ -3,7 +3,7 @@ use Rattle.pb_proof.proofs.Common.{ℕ, ◌++◌, ◌∙◌, ◌∷◌, ◌≡�
 use Rattle.pb_proof.proofs.Common.{prefixes_of, reads_after, Walks, never, bytes-append, End, Go, MayAsk, Next, ReadsStatement, Refuse, bytes, Letter}
 use Rattle.pb_proof.proofs.Common.{LineMachine, LineKind, Stage, Opening, Statement, conclusion_first, counting, ids_first, literals_first}
 use Rattle.pb_proof.proofs.Common.{line_automaton, line_first, SpellsRest, pol_first, rup_first, act, at, begin, giving, idle, proofs, ProofState}
-use Rattle.pb_proof.proofs.Common.{step_line, Asks, AsksAfter, FirstWord, stage_after, IsProof}
+use Rattle.pb_proof.proofs.Common.{step_line, Asks, AsksAfter, FirstWord, stage_after, IsProof, go_or_end, one_state, cond_both}
 use Rattle.pb_text.specs.meaning.Asking.{AsksOnly}
 use Rattle.pb_text.proofs.lemmas.machine.Asked as asked
 use Rattle.pb_proof.specs.engine.Machine.Transition.{transition}
@@ -112,15 +112,11 @@ module _ (limit top : ℕ) where
   -- no statement begins in a comment
   not_in_comment : {A : Type 0} (st : Stage) (t : List Letter) (e : Statement) (next : ProofState) → ReadsStatement proofs (at limit top (phase.Comment st)) t e next → A
   not_in_comment st [] e next r = absurd r
-  not_in_comment st (l ∷ []) e next (h, n) = absurd (let f : ⊥ = cc in f)
-  not_in_comment st (l ∷ k ∷ t) e next (mid, h, o, n, r) = never (proofs.begun mid) o (dark mid h)
-    where
-      dark : (m : ProofState) → proofs.step (at limit top (phase.Comment st)) l.byte ≡ Go m → proofs.begun m ≡ false
-      dark m g = by_test (nat_eq l.byte 10) refl
-        where
-          by_test : (x : Bool) → nat_eq l.byte 10 ≡ x → proofs.begun m ≡ false
-          by_test true e = let j : proofs.step (at limit top (phase.Comment st)) l.byte ≡ Go (at limit top (phase.Between st)) = rw e refl in let z : m ≡ at limit top (phase.Between st) = cc in ap proofs.begun z
-          by_test false e = let j : proofs.step (at limit top (phase.Comment st)) l.byte ≡ Go (at limit top (phase.Comment st)) = rw e refl in let z : m ≡ at limit top (phase.Comment st) = cc in ap proofs.begun z
+  not_in_comment st (l ∷ []) e next (h, n) = go_or_end _ e next h
+  not_in_comment st (l ∷ k ∷ t) e next (mid, h, o, n, r) = never (proofs.begun mid) o (
+    ap proofs.begun (sym (one_state _ mid h))
+    ∙ cond_both (nat_eq l.byte 10) (phase.Between st) (phase.Comment st) (λ q. is_within q ≡ false) (λ _. refl) (λ _. refl)
+    )
 
   from_idle : (A : Type 0) (p : Phase) (t : List Letter) (e : Statement) (next : ProofState) → is_within p ≡ false → ReadsStatement proofs (at limit top p) t e next
       → ((st : Stage) → p ≡ phase.Between st → A) → A
