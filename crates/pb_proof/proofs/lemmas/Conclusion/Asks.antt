@@ -1,7 +1,7 @@
 -- Where the conclusion machine may allocate.
 use Rattle.pb_proof.proofs.Common.{ℕ, ◌++◌, ◌+◌, ◌-◌, ◌∙◌, ◌∷◌, ◌≡◌, [], ap, append_assoc, false, List, refl, Some, subst, sym, true, false≢true}
 use Rattle.pb_proof.proofs.Common.{Literal, prefixes_of, Walks, bytes-append, End, Go, Next, ReadsStatement, Refuse, bytes, Letter, Conclusion}
-use Rattle.pb_proof.proofs.Common.{Showing, colon, asks, conclusion_automaton, conclusion_first, ConclusionState, showing_value, literals_automaton}
+use Rattle.pb_proof.proofs.Common.{Showing, asks, conclusion_automaton, conclusion_first, ConclusionState, showing_value, literals_automaton}
 use Rattle.pb_proof.proofs.Common.{LiteralsState, AsksConclusion, AsksShown}
 use Rattle.pb_proof.specs.engine.Line.Conclusion.{transition}
 use Rattle.pb_proof.specs.engine.Line.ConclusionState.{act, over, giving}

@@ -3,13 +3,13 @@ use Rattle.pb_proof.proofs.Common.{ℕ, ℤ, ◌++◌, ◌+◌, ◌-◌, ◌<◌
 use Rattle.pb_proof.proofs.Common.{sym, true, cond_both, false≢true, asks_after, at_name, ends_after, ends_nothing, first_asks_nothing, first_further}
 use Rattle.pb_proof.proofs.Common.{sums_asked, Literal, sums, SumState, AsksLiteral, EndsIn, literal_bytes, prefixes_of, Walks, blank_digit}
 use Rattle.pb_proof.proofs.Common.{digit_byte, letter_name, bytes-append, bytes-plain, is_blank, is_digit, is_letter, is_name_byte, ◌⋅◌, Bytes, digit}
-use Rattle.pb_proof.proofs.Common.{Each, Language, bytes, Letter, NameByte, NumberByte, IdsPhase, Gap, RupPhase, LiteralsPhase, name_byte}
-use Rattle.pb_proof.proofs.Common.{number_byte, before, ids_automaton, ids_first, IdsState, keeps, adds, is_more, literals_automaton, literals_first}
-use Rattle.pb_proof.proofs.Common.{LiteralsState, rup_asks, rup_automaton, rup_first, rup_transition, RupState, EndsNumber, IdsAction}
+use Rattle.pb_proof.proofs.Common.{Each, Language, bytes, Letter, NameByte, NumberByte, IdsPhase, RupPhase, LiteralsPhase, name_byte, number_byte}
+use Rattle.pb_proof.proofs.Common.{ids_automaton, ids_first, IdsState, keeps, adds, is_more, literals_automaton, literals_first, LiteralsState}
+use Rattle.pb_proof.proofs.Common.{rup_asks, rup_automaton, rup_first, rup_transition, RupState, EndsNumber, IdsAction}
 use Rattle.pb_text.specs.meaning.Numbers.{Digits as DigitsOf}
 use Rattle.pb_sums.specs.declared.Part as part
 use Rattle.pb_sums.specs.declared.Spaces.TheVariants.{Blank as BlankSpaces}
-use Rattle.pb_proof.specs.engine.Line.Ids.{transition, digits}
+use Rattle.pb_proof.specs.engine.Line.Ids.{transition}
 use Rattle.pb_proof.specs.engine.Line.Literals as literals
 use Rattle.pb_proof.specs.declared.line.rup.phase.RupPhase.TheVariants as rup
 use Rattle.pb_proof.specs.declared.line.delete.phase.IdsPhase.TheVariants.{Digits}

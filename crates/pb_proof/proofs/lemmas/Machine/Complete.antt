@@ -209,14 +209,7 @@ module _ (limit top : ℕ) where
 
   spelled_words : (f : Keyword) (t : List Letter) → Spaced (words_of f) t → Spelled f t
   spelled_words keyword.Header t h = to_spelled keyword.Header _ _ t refl (splits keyword.Header [] _ _ t refl h)
-  spelled_words keyword.Formula t h = to_spelled keyword.Formula _ _ t refl (splits keyword.Formula [] _ _ t refl h)
-  spelled_words keyword.Pol t h = to_spelled keyword.Pol _ _ t refl (splits keyword.Pol [] _ _ t refl h)
-  spelled_words keyword.Rup t h = to_spelled keyword.Rup _ _ t refl (splits keyword.Rup [] _ _ t refl h)
-  spelled_words keyword.Solution t h = to_spelled keyword.Solution _ _ t refl (splits keyword.Solution [] _ _ t refl h)
-  spelled_words keyword.Delete t h = to_spelled keyword.Delete _ _ t refl (splits keyword.Delete [] _ _ t refl h)
-  spelled_words keyword.Output t h = to_spelled keyword.Output _ _ t refl (splits keyword.Output [] _ _ t refl h)
-  spelled_words keyword.Conclusion t h = to_spelled keyword.Conclusion _ _ t refl (splits keyword.Conclusion [] _ _ t refl h)
-  spelled_words keyword.End t h = to_spelled keyword.End _ _ t refl (splits keyword.End [] _ _ t refl h)
+  spelled_words f t h = to_spelled f _ _ t refl (splits f [] _ _ t refl h)
 
   -- From the stage, the first byte of the words has the same step as within the words.
   abbrev first_byte : Keyword → ℕ
