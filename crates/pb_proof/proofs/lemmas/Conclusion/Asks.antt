@@ -1,5 +1,5 @@
 -- Where the conclusion machine may allocate.
-use Rattle.pb_proof.proofs.Common.{ℕ, ◌++◌, ◌+◌, ◌-◌, ◌∙◌, ◌∷◌, ◌≡◌, [], ap, append_assoc, false, List, refl, Some, subst, sym, true, false≢true}
+use Rattle.pb_proof.proofs.Common.{ℕ, ◌++◌, ◌∙◌, ◌∷◌, ◌≡◌, [], ap, append_assoc, List, refl, Some, subst, sym, true, false≢true}
 use Rattle.pb_proof.proofs.Common.{Literal, prefixes_of, Walks, bytes-append, End, Go, Next, ReadsStatement, Refuse, bytes, Letter, Conclusion}
 use Rattle.pb_proof.proofs.Common.{Showing, asks, conclusion_automaton, conclusion_first, ConclusionState, showing_value, literals_automaton}
 use Rattle.pb_proof.proofs.Common.{LiteralsState, AsksConclusion, AsksShown}

@@ -1,5 +1,5 @@
 -- Where the machines of ids, literals and linear texts may allocate.
-use Rattle.pb_proof.proofs.Common.{ℕ, ℤ, ◌++◌, ◌+◌, ◌-◌, ◌<◌, ◌||◌, ◌∙◌, ◌∷◌, ◌≡◌, [], ap, Bool, false, inl, IsTrue, List, map, nat_eq, refl, subst}
+use Rattle.pb_proof.proofs.Common.{ℕ, ℤ, ◌++◌, ◌+◌, ◌<◌, ◌||◌, ◌∙◌, ◌∷◌, ◌≡◌, [], ap, Bool, false, inl, IsTrue, List, map, nat_eq, refl, subst}
 use Rattle.pb_proof.proofs.Common.{sym, true, cond_both, false≢true, asks_after, at_name, ends_after, ends_nothing, first_asks_nothing, first_further}
 use Rattle.pb_proof.proofs.Common.{sums_asked, Literal, sums, SumState, AsksLiteral, EndsIn, literal_bytes, prefixes_of, Walks, blank_digit}
 use Rattle.pb_proof.proofs.Common.{digit_byte, letter_name, bytes-append, bytes-plain, is_blank, is_digit, is_letter, is_name_byte, ◌⋅◌, Bytes, digit}
