@@ -6,3 +6,4 @@ pub mod IdPrefixes
 pub mod Laws
 pub mod Spelled
 pub mod Texts
+pub mod Whole

@@ -1,14 +1,13 @@
 -- What the conclusion machine reads is a conclusion.
 use Rattle.pb_proof.proofs.Common.{ℕ, ℤ, ◌&&◌, ◌*◌, ◌++◌, ◌+◌, ◌-◌, ◌<◌, ◌∙◌, ◌∷◌, ◌≡◌, ◌≤◌, [], ap, Bool, false, inl, inr, length, List, nat_eq}
 use Rattle.pb_proof.proofs.Common.{nat_le, None, refl, Some, subst, sym, take, true, slice_index, and_parts, cond_both, eqb-true, Literal, ends_walk}
-use Rattle.pb_proof.proofs.Common.{Keeps, On, reported, Walks, walks_more, digits-grown, digits-one, after_it, grown, inside, next, none_yet, regroup}
-use Rattle.pb_proof.proofs.Common.{as_unmarked, some_digit, word_grown, word_whole, End, Go, Next, ReadsStatement, Refuse, is_blank, is_digit, ◌⋅◌}
-use Rattle.pb_proof.proofs.Common.{Blanks0, Blanks1, Byte, Bytes, digit, Empty, Language, unmarked, Digits, Sign, signed, Letter, plain, Bound}
-use Rattle.pb_proof.proofs.Common.{Finite, Infinite, Conclusion, To, Concluding, Owner, Showing, Side, Word, after_bound, after_id, begin_bound}
-use Rattle.pb_proof.proofs.Common.{between, colon, digits, first_word, id_digits, phase_after_bound, phase_after_word, PhaseFits, spell, word_of}
-use Rattle.pb_proof.proofs.Common.{conclusion_at, conclusion_automaton, conclusion_first, ConclusionState, is_in_number, literals_automaton}
-use Rattle.pb_proof.proofs.Common.{literals_first, LiteralsState, SpellsJoined, bounds_word, IdShown, inf_word, SpellsBound, SpellsConclusionLine}
-use Rattle.pb_proof.proofs.Common.{SpellsId, unsat_word}
+use Rattle.pb_proof.proofs.Common.{Keeps, On, Walks, walks_more, digits-grown, digits-one, after_it, grown, inside, next, none_yet, regroup}
+use Rattle.pb_proof.proofs.Common.{as_unmarked, some_digit, word_grown, word_whole, End, Go, Next, Refuse, is_blank, is_digit, ◌⋅◌, Blanks0, Blanks1}
+use Rattle.pb_proof.proofs.Common.{Byte, Bytes, digit, Empty, Language, unmarked, Digits, Sign, signed, Letter, plain, Bound, Finite, Infinite}
+use Rattle.pb_proof.proofs.Common.{Conclusion, To, Concluding, Owner, Showing, Side, Word, after_bound, after_id, begin_bound, between, colon, digits}
+use Rattle.pb_proof.proofs.Common.{first_word, id_digits, phase_after_bound, phase_after_word, PhaseFits, spell, word_of, conclusion_at}
+use Rattle.pb_proof.proofs.Common.{conclusion_automaton, ConclusionState, is_in_number, literals_automaton, literals_first, LiteralsState}
+use Rattle.pb_proof.proofs.Common.{SpellsJoined, bounds_word, IdShown, inf_word, SpellsBound, SpellsConclusionLine, SpellsId, unsat_word}
 use Rattle.pb_proof.specs.meaning.Lines.{Minus}
 use Rattle.pb_proof.specs.engine.Line.Conclusion.{next_action, transition}
 use Rattle.pb_proof.specs.engine.Line.ConclusionState.{giving, act, over}
@@ -291,7 +290,3 @@ known s l p h Refuse e f = tt
 
 pub keeps : Keeps conclusion_automaton Known Reported
 keeps s l p f = known s l (p ++ l ∷ []) f.0 (conclusion_automaton.step s l.byte) refl (sound s l p s.phase refl f.0 f.1)
-
-pub conclusion_reported : (limit top : ℕ) (t : List Letter) (e : Conclusion) (after : ConclusionState) → ReadsStatement conclusion_automaton (conclusion_first limit top) t e after → SpellsConclusionLine after.limit after.top e t
-conclusion_reported limit top t e after r =
-    reported conclusion_automaton Known Reported keeps t (conclusion_first limit top) [] e after r (tt, refl)

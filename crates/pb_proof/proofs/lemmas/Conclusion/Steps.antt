@@ -26,7 +26,7 @@ N = Next ConclusionState Conclusion
 abbrev IsNext : ConclusionState → Phase → Phase → Type 0
 IsNext s p q = (is_within q ≡ true) × (PhaseFits s.limit s.top p → PhaseFits s.limit s.top q)
 
-abbrev OnAction : ConclusionState → Phase → Action → Type 0
+abbrev pub OnAction : ConclusionState → Phase → Action → Type 0
 OnAction s p (To q) = IsNext s p q
 OnAction s p (Give shows) = p ≡ phase.Shown shows
 OnAction s p _ = Unit {0}

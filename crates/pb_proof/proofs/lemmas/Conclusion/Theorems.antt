@@ -1,8 +1,8 @@
 -- The laws of the conclusion machine.
 use Rattle.pb_proof.proofs.Common.{ℕ, ℤ, ◌++◌, ◌<◌, ◌↔◌, ◌∷◌, ◌≡◌, ◌≤◌, ◌⊎◌, [], ap, arith, Bool, drop, false, inl, inr, List, None, Option, refl}
-use Rattle.pb_proof.proofs.Common.{Some, subst, suc, sym, true, zero, false≢true, reads_before, ReadsOn, is_state, IsOfOne, reads_last, reads_after}
-use Rattle.pb_proof.proofs.Common.{Walks, Go, IsState, ReadsStatement, unmarked, signed, Letter, plain, Bound, Infinite, Conclusion, Concluding}
-use Rattle.pb_proof.proofs.Common.{Owner, Showing, Side, Word, is_within, phase_after_bound, phase_after_word, PhaseFits, word_of, conclusion_at}
+use Rattle.pb_proof.proofs.Common.{Some, subst, suc, sym, true, zero, false≢true, reads_before, ReadsOn, is_state, IsOfOne, reads_after, Walks, Go}
+use Rattle.pb_proof.proofs.Common.{IsState, ReadsStatement, unmarked, signed, Letter, plain, Bound, Infinite, Conclusion, Concluding, Owner, Showing}
+use Rattle.pb_proof.proofs.Common.{Side, Word, is_within, phase_after_bound, phase_after_word, PhaseFits, word_of, conclusion_at}
 use Rattle.pb_proof.proofs.Common.{conclusion_automaton, conclusion_first, conclusion_last, conclusion_value, ConclusionState, IsConclusionInOrder}
 use Rattle.pb_proof.proofs.Common.{kept, showing_value, spent, IsLiteralsInOrder, literals_automaton, literals_first, LiteralsState, inf_word}
 use Rattle.pb_proof.proofs.Common.{none_word, SpellsConclusionLine}
@@ -16,11 +16,12 @@ use Rattle.pb_proof.specs.declared.line.conclusion.phase.Concluding.TheVariants 
 use Rattle.pb_proof.specs.declared.line.conclusion.phase.Phase.{Phase}
 use Rattle.pb_proof.specs.declared.line.conclusion.phase.Phase.TheVariants as phase
 use Rattle.pb_proof.proofs.lemmas.Conclusion.Each.{conclusion_each, shown_at, shown_reads}
-use Rattle.pb_proof.proofs.lemmas.Conclusion.Prefix.{conclusion_reported}
 use Rattle.pb_proof.proofs.lemmas.Conclusion.Parts.{before_opens, spaced_opens, infinity_leads, infinity_left, signed_step, id_step, first_id_step, signed_id_step}
 use Rattle.pb_proof.proofs.lemmas.Conclusion.Steps.{continues, ends, not_done, done_stops, no_number, nothing_spent}
 use Rattle.pb_proof.proofs.lemmas.Conclusion.Walk.{at, word_left, word_leads, id_steps}
 use Rattle.pb_proof.proofs.lemmas.Literals.Theorems.{literals_of_one}
+use Rattle.pb_proof.proofs.lemmas.Conclusion.Prefix as prefixes
+use Rattle.pb_proof.proofs.lemmas.Line.Whole.{reads_exactly}
 
 abbrev last : ConclusionState → ConclusionState
 last s = conclusion_last s.limit s.top
@@ -148,19 +149,12 @@ conclusion_of_one = record {
   bounds = λ s. bounded s s.phase;
 }
 
--- After the line the machine has ended.
-pub conclusion_ends : (s after : ConclusionState) (text : List Letter) (e : Conclusion) → ReadsStatement conclusion_automaton s text e after → after ≡ conclusion_last s.limit s.top
-conclusion_ends s after text e r =
-    reads_last conclusion_automaton IsConclusionInOrder last conclusion_of_one text s e after r
-
 -- A new machine reads exactly the conclusions.
 pub conclusion_reads : (limit top : ℕ) (text : List Letter) (e : Conclusion) (after : ConclusionState) →
     ReadsStatement conclusion_automaton (conclusion_first limit top) text e after ↔ (SpellsConclusionLine limit top e text × (after ≡ conclusion_last limit top))
-conclusion_reads limit top text e after = (
-  (λ r. let i : after ≡ conclusion_last limit top = conclusion_ends (conclusion_first limit top) after text e r in
-      (subst (λ x. SpellsConclusionLine x.limit x.top e text) i (conclusion_reported limit top text e after r), i)),
-  (λ h. subst (λ x. ReadsStatement conclusion_automaton (conclusion_first limit top) text e x) (sym h.1) (conclusion_each limit top e text h.0)),
-)
+conclusion_reads limit top text e after =
+    reads_exactly conclusion_automaton IsConclusionInOrder last conclusion_of_one prefixes.Known prefixes.Reported prefixes.keeps (conclusion_first limit top) text e after (tt, refl)
+    (conclusion_each limit top e text)
 
 pub conclusion_is_state : (s : ConclusionState) → IsConclusionInOrder s → IsState conclusion_automaton s
 conclusion_is_state s h =

@@ -1,10 +1,10 @@
 -- How the conclusion machine walks through the parts of a conclusion.
 use Rattle.pb_proof.proofs.Common.{ℕ, ◌++◌, ◌+◌, ◌<◌, ◌∙◌, ◌∷◌, ◌≡◌, [], ap, append-nil, append_assoc, arith, Bool, cond, drop, false, IsTrue, length}
-use Rattle.pb_proof.proofs.Common.{length-append, List, nat_eq, None, refl, Some, subst, sym, take, take-append-drop, true, slice_index}
-use Rattle.pb_proof.proofs.Common.{get_or-append_seam, eq-eqb, nat_tests, length-take-le, Leads, Walks, walks_then, blank_digit, Go, is_blank}
-use Rattle.pb_proof.proofs.Common.{is_digit, ◌⋅◌, Bytes, Language, signed, Letter, plain, Bound, Finite, To, Concluding, Owner, Side, Word}
-use Rattle.pb_proof.proofs.Common.{after_bound, after_id, between, colon, digits, is_within, phase_after_bound, phase_after_word, spell, word_of}
-use Rattle.pb_proof.proofs.Common.{conclusion_at, conclusion_automaton, conclusion_last, conclusion_value, ConclusionState}
+use Rattle.pb_proof.proofs.Common.{length-append, List, nat_eq, refl, Some, subst, sym, take, take-append-drop, true, slice_index, get_or-append_seam}
+use Rattle.pb_proof.proofs.Common.{eq-eqb, nat_tests, length-take-le, Leads, Walks, walks_then, blank_digit, Go, is_blank, is_digit, ◌⋅◌, Bytes}
+use Rattle.pb_proof.proofs.Common.{Language, signed, Letter, plain, Bound, Finite, To, Concluding, Owner, Side, Word, after_bound, after_id, between}
+use Rattle.pb_proof.proofs.Common.{digits, is_within, phase_after_bound, phase_after_word, spell, word_of, conclusion_at, conclusion_automaton}
+use Rattle.pb_proof.proofs.Common.{conclusion_last, conclusion_value, ConclusionState, Showing}
 use Rattle.pb_proof.specs.engine.Line.Conclusion.{next_action, transition}
 use Rattle.pb_proof.specs.engine.Line.ConclusionState.{act}
 use Rattle.pb_proof.specs.declared.line.conclusion.phase.Word.TheVariants as word
@@ -15,8 +15,10 @@ use Rattle.pb_proof.specs.declared.line.conclusion.phase.Concluding.TheVariants 
 use Rattle.pb_proof.specs.declared.line.conclusion.phase.Phase.{Phase}
 use Rattle.pb_proof.specs.declared.line.conclusion.phase.Phase.TheVariants as phase
 use Rattle.pb_proof.specs.declared.line.conclusion.phase.Action.{Action}
-use Rattle.pb_proof.proofs.lemmas.Line.Ends.{TakesBlanks, MayEnd}
+use Rattle.pb_proof.proofs.lemmas.Line.Ends.{TakesBlanks, MayEnd, closing_feeds}
 use Rattle.pb_proof.proofs.lemmas.NumberTests.{not_zero}
+use Rattle.pb_proof.specs.declared.line.conclusion.phase.Action.TheVariants.{Give}
+use Rattle.pb_proof.proofs.lemmas.Conclusion.Steps.{OnAction, on_transition}
 
 module _ (limit top : ℕ) where
   abbrev pub at : Phase → ConclusionState
@@ -94,9 +96,7 @@ module _ (limit top : ℕ) where
 
   word_spelled : (w : Word) → Spelled (word_of w) (λ k. phase.Word w k) (phase_after_word w)
   word_spelled word.NoClaim = spelled_word word.NoClaim refl refl
-  word_spelled word.Unsat = spelled_word word.Unsat refl refl
-  word_spelled word.Sat = spelled_word word.Sat refl refl
-  word_spelled word.Bounds = spelled_word word.Bounds refl refl
+  word_spelled w = spelled_word w refl refl
 
   pub word_left : (w : Word) (k : ℕ) → k < length (word_of w) → Walks conclusion_automaton (at (phase.Word w k)) (plain (drop k (word_of w))) (at (phase_after_word w))
   word_left w k i = left_walk (word_of w) (λ j. phase.Word w j) (phase_after_word w) (word_spelled w) k i
@@ -145,10 +145,6 @@ module _ (limit top : ℕ) where
   between_blanks x = blanks_after (phase.Between x) (phase.Spaced x) (λ b h. rw h refl) (λ b h. rw h refl) refl refl
 
   -- the end of the line after a conclusion
-  semicolon_blanks : (c : Concluding)
-      → TakesBlanks conclusion_automaton (at (phase.Semicolon c)) (at (phase.Semicolon c))
-  semicolon_blanks c = blanks_after (phase.Semicolon c) (phase.Semicolon c) (λ b h. rw h refl) (λ b h. rw h refl) refl refl
-
   pub may_end : (c : Concluding) (s : ConclusionState) → Follows (phase.AfterValue c) s → MayEnd conclusion_automaton s (at (phase.AfterValue c)) (at (phase.Semicolon c)) (conclusion_value c) (conclusion_last limit top)
   may_end c s f = record {
     feeds = record { blanks = follows_blanks (phase.AfterValue c) (phase.AfterValue c) s (after_blanks_of c) f; ends = f 10 refl; ends_gap = refl };
@@ -156,29 +152,19 @@ module _ (limit top : ℕ) where
     closes_gap = refl;
     begun = refl;
     plain = refl;
-    last = record { blanks = semicolon_blanks c; ends = refl; ends_gap = refl };
+    last = closing_feeds conclusion_automaton (at (phase.Semicolon c)) (conclusion_last limit top) (conclusion_value c) (λ b h. rw h refl) refl refl refl;
   }
 
   -- the transition after a bound or an id is that after the conclusion, whatever was read last
-  act_cond : (p q : Phase) (b : ℕ) (c : Bool) (x y : Action) → act (at p) b x ≡ act (at q) b x → act (at p) b y ≡ act (at q) b y → act (at p) b (cond c x y) ≡ act (at q) b (cond c x y)
-  act_cond p q b true x y h k = h
-  act_cond p q b false x y h k = k
-
-  act_colon : (p q : Phase) (b : ℕ) (c : Concluding) → act (at p) b (colon c) ≡ act (at q) b (colon c)
-  act_colon p q b concluding.NoClaim = refl
-  act_colon p q b (concluding.Unsat None) = refl
-  act_colon p q b (concluding.Unsat (Some id)) = refl
-  act_colon p q b (concluding.Shows x) = refl
+  act_same : (p q r : Phase) (b : ℕ) (m : Action) → OnAction (at p) r m → ((x : Showing) → r ≡ phase.Shown x → ⊥) → act (at p) b m ≡ act (at q) b m
+  act_same p q r b (Give x) h n = absurd (n x h)
+  act_same p q r b _ h n = refl
 
   act_after : (p q : Phase) (b : ℕ) (c : Concluding) → act (at p) b (next_action c b) ≡ act (at q) b (next_action c b)
-  act_after p q b c =
-      act_cond p q b (is_blank b) _ _ refl
-      (act_cond p q b (nat_eq b 10) _ _ refl
-      (act_cond p q b (nat_eq b 59) _ _ refl
-      (act_cond p q b (nat_eq b 58) _ _ (act_colon p q b c) refl)))
+  act_after p q b c = act_same p q (phase.AfterValue c) b (next_action c b) (on_transition (at p) (phase.AfterValue c) b) (λ x e. cc)
 
   act_between : (p q : Phase) (b : ℕ) (x : Bound) → act (at p) b (between x b) ≡ act (at q) b (between x b)
-  act_between p q b x = act_cond p q b (is_blank b) _ _ refl (act_cond p q b (nat_eq b 58) _ _ refl refl)
+  act_between p q b x = act_same p q (phase.Between x) b (between x b) (on_transition (at p) (phase.Between x) b) (λ y e. cc)
 
   act_after_bound : (p : Phase) (b : ℕ) (x : Side) (y : Bound) → act (at p) b (after_bound x y b) ≡ conclusion_automaton.step (at (phase_after_bound x y)) b
   act_after_bound p b side.Lower y = act_between p (phase.Between y) b y

@@ -6,7 +6,7 @@ use Rattle.pb_proof.specs.engine.Line.Count.{at, act, transition, digits}
 use Rattle.pb_proof.specs.declared.line.byte_kind.NumberByte.TheVariants.{Blank}
 use Rattle.pb_proof.specs.declared.line.formula.phase.CountPhase.TheVariants.{Gap, Digits, Tail, Closing}
 use Rattle.pb_proof.proofs.lemmas.Line.ByteKinds.{number_blank, number_digit}
-use Rattle.pb_proof.proofs.lemmas.Line.Ends.{TakesBlanks, Feeds, MayEnd, blanks1_lead, line_reads}
+use Rattle.pb_proof.proofs.lemmas.Line.Ends.{TakesBlanks, Feeds, MayEnd, closing_feeds, blanks1_lead, line_reads}
 
 module _ (limit top : ℕ) where
   by_blank : (ph : CountPhase) (b : ℕ) → IsTrue (is_blank b) → count_automaton.step (at top ph) b ≡ act top (transition top ph Blank)
@@ -29,11 +29,7 @@ module _ (limit top : ℕ) where
   in_gap = record { enters = by_blank Start; stays = by_blank Gap; begun = refl; plain = refl }
 
   in_closing : (count : Option ℕ) → Feeds count_automaton (at top (Closing count)) (at top (Closing count)) count (count_last top)
-  in_closing count = record {
-    blanks = record { enters = by_blank (Closing count); stays = by_blank (Closing count); begun = refl; plain = refl };
-    ends = refl;
-    ends_gap = refl;
-  }
+  in_closing count = closing_feeds count_automaton (at top (Closing count)) (count_last top) count (by_blank (Closing count)) refl refl refl
 
   none_ends : MayEnd count_automaton (counting top) (at top Gap) (at top (Closing None)) None (count_last top)
   none_ends = record {

@@ -1,8 +1,8 @@
 -- The laws of the count machine.
 use Rattle.pb_proof.proofs.Common.{ℕ, ◌*◌, ◌+◌, ◌<◌, ◌^◌, ◌↔◌, ◌∷◌, ◌≡◌, [], ap, arith, false, List, nat_le, None, Option, refl, Some, subst, sym}
-use Rattle.pb_proof.proofs.Common.{true, cond_both, leb-true, ReadsOn, is_state, IsOfOne, reads_last, one_state, reported, End, Go, IsState, Next}
-use Rattle.pb_proof.proofs.Common.{ReadsStatement, Refuse, unmarked, Letter, NumberByte, Digit, Semicolon, CountPhase, Start, number_byte, ActionFits}
-use Rattle.pb_proof.proofs.Common.{count_automaton, count_last, counting, CountState, IsCountInOrder, SpellsCount}
+use Rattle.pb_proof.proofs.Common.{true, cond_both, leb-true, ReadsOn, is_state, IsOfOne, one_state, End, Go, IsState, Next, ReadsStatement, Refuse}
+use Rattle.pb_proof.proofs.Common.{unmarked, Letter, NumberByte, Digit, Semicolon, CountPhase, Start, number_byte, ActionFits, count_automaton}
+use Rattle.pb_proof.proofs.Common.{count_last, counting, CountState, IsCountInOrder, SpellsCount}
 use Rattle.pb_proof.specs.engine.Line.Count.{at, act, transition, digits, next_action, is_midway, is_done, PhaseFits}
 use Rattle.pb_proof.specs.declared.line.byte_kind.NumberByte.TheVariants.{Blank, Feed}
 use Rattle.pb_proof.specs.declared.line.formula.phase.CountPhase.TheVariants.{Gap, Digits, Tail, Closing, Done}
@@ -10,6 +10,7 @@ use Rattle.pb_proof.specs.declared.line.formula.phase.CountAction.{CountAction}
 use Rattle.pb_proof.specs.declared.line.formula.phase.CountAction as action
 use Rattle.pb_proof.proofs.lemmas.Count.Complete.{reads_each}
 use Rattle.pb_proof.proofs.lemmas.Count.Sound.{Prefix, Whole, keeps_prefix}
+use Rattle.pb_proof.proofs.lemmas.Line.Whole.{reads_exactly}
 
 abbrev N : Type 0
 N = Next CountState (Option ℕ)
@@ -97,18 +98,11 @@ count_of_one = record {
   bounds = λ s. omega arith;
 }
 
--- After the line the machine has ended.
-pub count_ends : (s after : CountState) (text : List Letter) (e : Option ℕ) → ReadsStatement count_automaton s text e after → after ≡ count_last s.top
-count_ends s after text e r = reads_last count_automaton IsCountInOrder last count_of_one text s e after r
-
 -- A new machine reads exactly the text after `f`.
 pub count_reads : (limit top : ℕ) (text : List Letter) (e : Option ℕ) (after : CountState) →
     ReadsStatement count_automaton (counting top) text e after ↔ (SpellsCount limit top e text × (after ≡ count_last top))
-count_reads limit top text e after = (
-  (λ r. let i : after ≡ count_last top = count_ends (counting top) after text e r in
-      (subst (λ x. Whole limit e x text) i (reported count_automaton Prefix (Whole limit) (keeps_prefix limit) text (counting top) [] e after r refl), i)),
-  (λ h. subst (λ x. ReadsStatement count_automaton (counting top) text e x) (sym h.1) (reads_each limit top e text h.0)),
-)
+count_reads limit top text e after =
+    reads_exactly count_automaton IsCountInOrder last count_of_one Prefix (Whole limit) (keeps_prefix limit) (counting top) text e after refl (reads_each limit top e text)
 
 pub count_is_state : (s : CountState) → IsCountInOrder s → IsState count_automaton s
 count_is_state s h = is_state count_automaton IsCountInOrder last count_of_one s h (λ i. refl)

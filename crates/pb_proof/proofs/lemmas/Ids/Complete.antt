@@ -10,7 +10,7 @@ use Rattle.pb_proof.specs.declared.line.byte_kind.NumberByte.TheVariants as kind
 use Rattle.pb_proof.specs.declared.line.delete.phase.IdsPhase.TheVariants.{Digits, Closing}
 use Rattle.pb_proof.specs.declared.line.delete.phase.IdsAction.TheVariants as action
 use Rattle.pb_proof.proofs.lemmas.Line.ByteKinds.{number_blank, number_digit}
-use Rattle.pb_proof.proofs.lemmas.Line.Ends.{TakesBlanks, MayEnd, blanks1_lead, line_reads, listed_walks}
+use Rattle.pb_proof.proofs.lemmas.Line.Ends.{TakesBlanks, MayEnd, closing_feeds, blanks1_lead, line_reads, listed_walks}
 use Rattle.pb_proof.proofs.lemmas.NumberTests.{not_zero}
 
 module _ (limit top : ℕ) where
@@ -59,11 +59,7 @@ module _ (limit top : ℕ) where
     closes_gap = refl;
     begun = refl;
     plain = refl;
-    last = record {
-      blanks = record { enters = λ b i. by_blank (at ids Closing) b i; stays = λ b i. by_blank (at ids Closing) b i; begun = refl; plain = refl };
-      ends = refl;
-      ends_gap = refl;
-    };
+    last = closing_feeds ids_automaton (at ids Closing) last ids (by_blank (at ids Closing)) refl refl refl;
   }
 
   digit_fits : (ids : List ℤ) (negative : Bool) (n d v : ℕ) → 10 * n + d ≡ v → v ≤ top → act top ids (digits top negative n d) ≡ Go (at ids (Digits negative v))

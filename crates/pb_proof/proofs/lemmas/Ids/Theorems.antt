@@ -1,47 +1,60 @@
 -- The laws of the ids machine.
 use Rattle.pb_proof.proofs.Common.{ℕ, ℤ, ◌*◌, ◌++◌, ◌+◌, ◌-◌, ◌<◌, ◌^◌, ◌↔◌, ◌∷◌, ◌≡◌, ◌≤◌, [], ap, arith, Bool, false, length, length-append, List}
 use Rattle.pb_proof.proofs.Common.{nat_eq, nat_le, refl, subst, suc, sym, true, zero, min-le_left, cond_both, le-leb, leb-true, ReadsOn, is_state}
-use Rattle.pb_proof.proofs.Common.{IsOfOne, reads_last, one_state, reported, never, End, Go, IsState, Next, ReadsStatement, Refuse, digit, unmarked}
-use Rattle.pb_proof.proofs.Common.{signed, Letter, NumberByte, IdsAction, IdsPhase, Between, Done, Gap, Minus, number_byte, before, ids_at}
-use Rattle.pb_proof.proofs.Common.{ids_automaton, ids_first, ids_last, IdsState, IsIdsInOrder, SpellsIds}
+use Rattle.pb_proof.proofs.Common.{IsOfOne, one_state, never, End, Go, IsState, Next, ReadsStatement, Refuse, digit, unmarked, signed, Letter}
+use Rattle.pb_proof.proofs.Common.{NumberByte, IdsAction, IdsPhase, Between, Done, Gap, Minus, number_byte, before, ids_at, ids_automaton, ids_first}
+use Rattle.pb_proof.proofs.Common.{ids_last, IdsState, IsIdsInOrder, SpellsIds}
 use Rattle.pb_proof.specs.engine.Line.Ids.{act, transition, digits, next_action, is_midway, is_done, is_in_number, ActionFits, PhaseFits}
 use Rattle.pb_proof.specs.declared.line.byte_kind.NumberByte.TheVariants as kind
 use Rattle.pb_proof.specs.declared.line.delete.phase.IdsPhase.TheVariants.{Start, Digits, Closing}
 use Rattle.pb_proof.specs.declared.line.delete.phase.IdsAction.TheVariants as action
 use Rattle.pb_proof.proofs.lemmas.Ids.Complete.{digits_after, reads_each}
 use Rattle.pb_proof.proofs.lemmas.Ids.Sound.{Prefix, Whole, keeps_prefix}
+use Rattle.pb_proof.proofs.lemmas.Line.Whole.{reads_exactly}
 
 abbrev N : Type 0
 N = Next IdsState (List ℤ)
 
--- The phase that `transition` leads to is midway, and an id that is being read is at most top.
-digits_fit : (top : ℕ) (negative : Bool) (n d : ℕ) → ActionFits top (digits top negative n d)
-digits_fit top negative n d = cond_both (nat_le (10 * n + d) top) _ _ (ActionFits top) (λ e. (leb-true (10 * n + d) top e, refl)) (λ _. tt)
+-- the machine has read the digits of an id, and the byte ends it
+abbrev pub EndsId : IdsPhase → NumberByte → Type 0
+EndsId (Digits negative n) kind.Blank = Unit {0}
+EndsId (Digits negative n) kind.Semicolon = Unit {0}
+EndsId (Digits negative n) kind.Feed = Unit {0}
+EndsId _ k = ⊥
 
-before_fits : (top : ℕ) (k : NumberByte) → ActionFits top (before top k)
-before_fits top kind.Minus = (tt, refl)
-before_fits top (kind.Digit d) = digits_fit top false 0 d
-before_fits top _ = tt
+-- The phase that a move leads to is midway, an id that is being read is at most top, and one that is stored ends here.
+abbrev pub OnAction : ℕ → IdsPhase → NumberByte → IdsAction → Type 0
+OnAction top ph k (action.Keep p id) = ActionFits top (action.Keep p id) × EndsId ph k
+OnAction top ph k (action.EndWith id) = EndsId ph k
+OnAction top ph k m = ActionFits top m
 
-after_fits : (top : ℕ) (id : ℤ) (k : NumberByte) → ActionFits top (next_action id k)
-after_fits top id kind.Blank = (tt, refl)
-after_fits top id kind.Semicolon = (tt, refl)
-after_fits top id _ = tt
+on_digits : (top : ℕ) (ph : IdsPhase) (k : NumberByte) (negative : Bool) (n d : ℕ) → OnAction top ph k (digits top negative n d)
+on_digits top ph k negative n d = cond_both (nat_le (10 * n + d) top) _ _ (OnAction top ph k) (λ e. (leb-true (10 * n + d) top e, refl)) (λ _. tt)
 
-pub transition_fits : (top : ℕ) (ph : IdsPhase) (k : NumberByte) → ActionFits top (transition top ph k)
-transition_fits top Start kind.Blank = (tt, refl)
-transition_fits top Gap kind.Blank = (tt, refl)
-transition_fits top Gap k = before_fits top k
-transition_fits top Between kind.Blank = (tt, refl)
-transition_fits top Between kind.Semicolon = (tt, refl)
-transition_fits top Between kind.Feed = tt
-transition_fits top Between k = before_fits top k
-transition_fits top Minus (kind.Digit d) = digits_fit top true 0 d
-transition_fits top (Digits negative n) (kind.Digit d) = digits_fit top negative n d
-transition_fits top (Digits negative n) k = cond_both (nat_eq n 0) _ _ (ActionFits top) (λ _. tt) (λ _. after_fits top (signed negative n) k)
-transition_fits top Closing kind.Blank = (tt, refl)
-transition_fits top Closing kind.Feed = tt
-transition_fits _ _ _ = tt
+on_before : (top : ℕ) (ph : IdsPhase) (k : NumberByte) → OnAction top ph k (before top k)
+on_before top ph kind.Minus = (tt, refl)
+on_before top ph (kind.Digit d) = on_digits top ph (kind.Digit d) false 0 d
+on_before top ph _ = tt
+
+on_after : (top : ℕ) (negative : Bool) (n : ℕ) (id : ℤ) (k : NumberByte) → OnAction top (Digits negative n) k (next_action id k)
+on_after top negative n id kind.Blank = ((tt, refl), tt)
+on_after top negative n id kind.Semicolon = ((tt, refl), tt)
+on_after top negative n id _ = tt
+
+pub on_transition : (top : ℕ) (ph : IdsPhase) (k : NumberByte) → OnAction top ph k (transition top ph k)
+on_transition top Start kind.Blank = (tt, refl)
+on_transition top Gap kind.Blank = (tt, refl)
+on_transition top Gap k = on_before top Gap k
+on_transition top Between kind.Blank = (tt, refl)
+on_transition top Between kind.Semicolon = (tt, refl)
+on_transition top Between kind.Feed = tt
+on_transition top Between k = on_before top Between k
+on_transition top Minus (kind.Digit d) = on_digits top Minus (kind.Digit d) true 0 d
+on_transition top (Digits negative n) (kind.Digit d) = on_digits top (Digits negative n) (kind.Digit d) negative n d
+on_transition top (Digits negative n) k =
+    cond_both (nat_eq n 0) _ _ (OnAction top (Digits negative n) k) (λ _. tt) (λ _. on_after top negative n (signed negative n) k)
+on_transition top Closing kind.Blank = (tt, refl)
+on_transition _ _ _ = tt
 
 -- What holds after a step that continues.
 record Steps (top : ℕ) (ids : List ℤ) (next : IdsState) : Type 0 where
@@ -50,17 +63,17 @@ record Steps (top : ℕ) (ids : List ℤ) (next : IdsState) : Type 0 where
   midway : is_midway next.phase ≡ true
   grows : length next.ids ≤ length ids + 1
 
-acted : (top : ℕ) (ids : List ℤ) (m : IdsAction) (next : IdsState) → ActionFits top m → act top ids m ≡ Go next → Steps top ids next
-acted top ids (action.To p) next h e =
+acted : (top : ℕ) (ids : List ℤ) (ph : IdsPhase) (k : NumberByte) (m : IdsAction) (next : IdsState) → OnAction top ph k m → act top ids m ≡ Go next → Steps top ids next
+acted top ids ph k (action.To p) next h e =
     subst (λ x. Steps top ids x) (one_state (ids_at top ids p) next e) (record { same_top = refl; fits = h.0; midway = h.1; grows = omega arith })
-acted top ids (action.Keep p id) next h e =
+acted top ids ph k (action.Keep p id) next h e =
     subst (λ x. Steps top ids x) (one_state (ids_at top (ids ++ id ∷ []) p) next e)
-    (record { same_top = refl; fits = h.0; midway = h.1; grows = omega (arith, length-append ids (id ∷ [])) })
-acted top ids action.End next h e = cc
-acted top ids _ next h e = cc
+    (record { same_top = refl; fits = h.0.0; midway = h.0.1; grows = omega (arith, length-append ids (id ∷ [])) })
+acted top ids ph k _ next h e = cc
 
 continues : (s next : IdsState) (b : ℕ) → ids_automaton.step s b ≡ Go next → Steps s.top s.ids next
-continues s next b e = acted s.top s.ids (transition s.top s.phase (number_byte b)) next (transition_fits s.top s.phase (number_byte b)) e
+continues s next b e =
+    acted s.top s.ids s.phase (number_byte b) (transition s.top s.phase (number_byte b)) next (on_transition s.top s.phase (number_byte b)) e
 
 ended : (top : ℕ) (ids : List ℤ) (m : IdsAction) (next : IdsState) (e : List ℤ) → act top ids m ≡ End e next → next ≡ ids_last top
 ended top ids (action.To p) next e i = cc
@@ -149,18 +162,11 @@ ids_of_one = record {
   bounds = λ s. min-le_left (length s.ids) (2 ^ 64 - 1);
 }
 
--- After the line the machine has ended.
-pub ids_ends : (s after : IdsState) (text : List Letter) (e : List ℤ) → ReadsStatement ids_automaton s text e after → after ≡ ids_last s.top
-ids_ends s after text e r = reads_last ids_automaton IsIdsInOrder last ids_of_one text s e after r
-
 -- A new machine reads exactly the ids.
 pub ids_reads : (limit top : ℕ) (text : List Letter) (e : List ℤ) (after : IdsState) →
     ReadsStatement ids_automaton (ids_first top) text e after ↔ (SpellsIds limit top e text × (after ≡ ids_last top))
-ids_reads limit top text e after = (
-  (λ r. let i : after ≡ ids_last top = ids_ends (ids_first top) after text e r in
-      (subst (λ x. Whole limit e x text) i (reported ids_automaton Prefix (Whole limit) (keeps_prefix limit) text (ids_first top) [] e after r (refl, refl)), i)),
-  (λ h. subst (λ x. ReadsStatement ids_automaton (ids_first top) text e x) (sym h.1) (reads_each limit top e text h.0)),
-)
+ids_reads limit top text e after =
+    reads_exactly ids_automaton IsIdsInOrder last ids_of_one Prefix (Whole limit) (keeps_prefix limit) (ids_first top) text e after (refl, refl) (reads_each limit top e text)
 
 pub ids_is_state : (s : IdsState) → IsIdsInOrder s → IsState ids_automaton s
 ids_is_state s g = is_state ids_automaton IsIdsInOrder last ids_of_one s g (λ i. ap length (g.3 i))

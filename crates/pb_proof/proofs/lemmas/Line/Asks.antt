@@ -1,16 +1,15 @@
 -- Where the machines of ids, literals and linear texts may allocate.
-use Rattle.pb_proof.proofs.Common.{ℕ, ℤ, ◌*◌, ◌++◌, ◌+◌, ◌-◌, ◌<◌, ◌||◌, ◌∙◌, ◌∷◌, ◌≡◌, [], ap, Bool, cond, false, inl, IsTrue, List, map, nat_eq}
-use Rattle.pb_proof.proofs.Common.{nat_le, refl, subst, sym, true, or-false, cond_both, false≢true, asks_after, at_name, ends_after, ends_nothing}
-use Rattle.pb_proof.proofs.Common.{first_asks_nothing, first_further, sums_asked, IsFirst, Literal, sums, SumState, AsksLiteral, EndsIn}
-use Rattle.pb_proof.proofs.Common.{literal_bytes, prefixes_of, Walks, blank_digit, digit_byte, letter_name, bytes-append, bytes-plain, is_blank}
-use Rattle.pb_proof.proofs.Common.{is_digit, is_letter, is_name_byte, ◌⋅◌, Bytes, digit, Each, Language, bytes, Letter, NameByte, NumberByte}
-use Rattle.pb_proof.proofs.Common.{IdsPhase, Between, Gap, Minus, RupPhase, LiteralsPhase, name_byte, number_byte, before, ids_automaton, ids_first}
-use Rattle.pb_proof.proofs.Common.{IdsState, keeps, adds, is_more, literals_automaton, literals_first, LiteralsState, rup_asks, rup_automaton}
-use Rattle.pb_proof.proofs.Common.{rup_first, rup_transition, RupState, EndsNumber}
+use Rattle.pb_proof.proofs.Common.{ℕ, ℤ, ◌++◌, ◌+◌, ◌<◌, ◌||◌, ◌∙◌, ◌∷◌, ◌≡◌, [], ap, Bool, false, inl, IsTrue, List, map, nat_eq, refl, subst}
+use Rattle.pb_proof.proofs.Common.{sym, true, cond_both, false≢true, asks_after, at_name, ends_after, ends_nothing, first_asks_nothing, first_further}
+use Rattle.pb_proof.proofs.Common.{sums_asked, Literal, sums, SumState, AsksLiteral, EndsIn, literal_bytes, prefixes_of, Walks, blank_digit}
+use Rattle.pb_proof.proofs.Common.{digit_byte, letter_name, bytes-append, bytes-plain, is_blank, is_digit, is_letter, is_name_byte, ◌⋅◌, Bytes, digit}
+use Rattle.pb_proof.proofs.Common.{Each, Language, bytes, Letter, NameByte, NumberByte, IdsPhase, RupPhase, LiteralsPhase, name_byte, number_byte}
+use Rattle.pb_proof.proofs.Common.{ids_automaton, ids_first, IdsState, keeps, adds, is_more, literals_automaton, literals_first, LiteralsState}
+use Rattle.pb_proof.proofs.Common.{rup_asks, rup_automaton, rup_first, rup_transition, RupState, EndsNumber, IdsAction}
 use Rattle.pb_text.specs.meaning.Numbers.{Digits as DigitsOf}
 use Rattle.pb_sums.specs.declared.Part as part
 use Rattle.pb_sums.specs.declared.Spaces.TheVariants.{Blank as BlankSpaces}
-use Rattle.pb_proof.specs.engine.Line.Ids.{transition, digits, is_in_number}
+use Rattle.pb_proof.specs.engine.Line.Ids.{transition}
 use Rattle.pb_proof.specs.engine.Line.Literals as literals
 use Rattle.pb_proof.specs.declared.line.rup.phase.RupPhase.TheVariants as rup
 use Rattle.pb_proof.specs.declared.line.delete.phase.IdsPhase.TheVariants.{Digits}
@@ -20,7 +19,9 @@ use Rattle.pb_proof.specs.declared.line.byte_kind.NameByte.TheVariants as name
 use Rattle.pb_proof.proofs.lemmas.Rup.Reads as reads
 use Rattle.pb_proof.proofs.lemmas.Ids.Sound as ids
 use Rattle.pb_proof.proofs.lemmas.Literals.Sound as sound
-use Rattle.pb_proof.proofs.lemmas.Line.ByteKinds.{NameMeans, name_means}
+use Rattle.pb_proof.proofs.lemmas.Line.ByteKinds.{NameMeans, name_means, NumberMeans, number_means}
+use Rattle.pb_proof.specs.declared.line.delete.phase.IdsAction.TheVariants as ids_action
+use Rattle.pb_proof.proofs.lemmas.Ids.Theorems as theorems
 
 -- ---- ends of texts
 pub joined_end : (a c t : List Letter) (end : List ℕ) → t ≡ a ++ c → EndsIn (bytes c) end → EndsIn (bytes t) end
@@ -52,94 +53,64 @@ literal_end P negated bs t (a, c, e, h, k) =
 
 -- ---- ids
 
-ids_quiet : (top : ℕ) (negative : Bool) (n d : ℕ) → keeps (digits top negative n d) ≡ false
-ids_quiet top negative n d = cond_both (nat_le (10 * n + d) top) _ _ (λ m. keeps m ≡ false) (λ _. refl) (λ _. refl)
-
-before_quiet : (top : ℕ) (k : NumberByte) → keeps (before top k) ≡ false
-before_quiet top number.Minus = refl
-before_quiet top (number.Digit d) = ids_quiet top false 0 d
-before_quiet top _ = refl
+ends_id : (top : ℕ) (ph : IdsPhase) (k : NumberByte) (m : IdsAction) → theorems.OnAction top ph k m → keeps m ≡ true → theorems.EndsId ph k
+ends_id top ph k (ids_action.Keep p id) f h = f.1
+ends_id top ph k (ids_action.EndWith id) f h = f
+ends_id top ph k _ f h = absurd (false≢true h)
 
 module _ (limit : ℕ) where
-  asks_dark : (top : ℕ) (negative : Bool) (n b : ℕ) → keeps (transition top (Digits negative n) (number_byte b)) ≡ true → is_digit b ≡ false
-  asks_dark top negative n b =
-      let P : NumberByte → Type 0 = λ k. keeps (transition top (Digits negative n) k) ≡ true → is_digit b ≡ false in
-      cond_both (is_blank b) _ _ P (λ e h. blank_digit b e)
-      (λ _. cond_both (is_digit b) _ _ P (λ _ h. absurd (false≢true (sym (ids_quiet top negative n (b - 48)) ∙ h))) (λ e. dark e (nat_eq b 45) (nat_eq b 59) (nat_eq b 10)))
-    where
-      dark : is_digit b ≡ false → (x y z : Bool)
-          → keeps (transition top (Digits negative n) (cond x number.Minus (cond y number.Semicolon (cond z number.Feed number.Other)))) ≡ true → is_digit b ≡ false
-      dark e x y z h = e
-
-  -- no other byte may allocate
-  quiet : (top : ℕ) (ph : IdsPhase) (k : NumberByte) → is_in_number ph ≡ false → keeps (transition top ph k) ≡ false
-  quiet top Gap number.Blank h = refl
-  quiet top Gap k h = before_quiet top k
-  quiet top Between number.Blank h = refl
-  quiet top Between number.Semicolon h = refl
-  quiet top Between number.Feed h = refl
-  quiet top Between k h = before_quiet top k
-  quiet top Minus (number.Digit d) h = ids_quiet top true 0 d
-  quiet top (Digits negative n) k h = cc
-  quiet top _ number.Blank h = refl
-  quiet top _ _ h = refl
-
-  ids_at : (ph : IdsPhase) (top : ℕ) (held : List ℤ) (t : List Letter) (b : ℕ) → ids.prefix top ph held t → keeps (transition top ph (number_byte b)) ≡ true → EndsNumber (bytes t) b
-  ids_at (Digits negative n) top held t b h k = number_end _ n t b h.1 (asks_dark top negative n b k)
-  ids_at ph top held t b h k = absurd (false≢true (sym (quiet top ph (number_byte b) refl) ∙ k))
+  ids_at : (ph : IdsPhase) (k : NumberByte) (top : ℕ) (held : List ℤ) (t : List Letter) (b : ℕ) → ids.prefix top ph held t → NumberMeans k b → theorems.EndsId ph k → EndsNumber (bytes t) b
+  ids_at (Digits negative n) number.Blank top held t b h m e = number_end _ n t b h.1 (blank_digit b m)
+  ids_at (Digits negative n) number.Semicolon top held t b h m e = number_end _ n t b h.1 (ap is_digit m)
+  ids_at (Digits negative n) number.Feed top held t b h m e = number_end _ n t b h.1 (ap is_digit m)
+  ids_at _ _ top held t b h m e = absurd e
 
   pub ids_asked : (top : ℕ) (t : List Letter) (s : IdsState) (b : ℕ) → Walks ids_automaton (ids_first top) t s → ids_automaton.asks s b ≡ true → EndsNumber (bytes t) b
   ids_asked top t s b w h =
-      ids_at s.phase s.top s.ids t b (prefixes_of ids_automaton ids.Prefix (ids.Whole limit) (ids.keeps_prefix limit) t (ids_first top) [] s w (refl, refl)) h
+      ids_at s.phase (number_byte b) s.top s.ids t b (prefixes_of ids_automaton ids.Prefix (ids.Whole limit) (ids.keeps_prefix limit) t (ids_first top) [] s w (refl, refl)) (number_means b)
+      (ends_id s.top s.phase (number_byte b) (transition s.top s.phase (number_byte b)) (theorems.on_transition s.top s.phase (number_byte b)) h)
 
 -- ---- literals
 letter_begins : (text : List ℕ) (b : ℕ) → IsTrue (is_letter b) → AsksLiteral text b
 letter_begins text b h = inl ([], ends_nothing text, (h, tt))
 
-module _ (b : ℕ) (text : List ℕ) where
-  after_quiet : (k : NameByte) → adds (literals.next_action k) ≡ false
-  after_quiet name.Blank = refl
-  after_quiet _ = refl
+-- the byte that may allocate: one that may be the next of the name, or any after a complete one
+abbrev Allows : LiteralsPhase → ℕ → Type 0
+Allows (at.First negated) b = IsTrue (is_name_byte b)
+Allows (at.More negated) b = Unit {0}
+Allows _ b = IsTrue (is_letter b)
 
-  begins_at : (k : NameByte) → NameMeans k b → adds (literals.before k) ≡ true → AsksLiteral text b
-  begins_at name.Tilde m h = absurd (false≢true h)
-  begins_at (name.Letter c) m h = letter_begins text b (subst (λ (x : ℕ). IsTrue (is_letter x)) (sym m.0) m.1)
-  begins_at _ m h = absurd (false≢true h)
+module _ (b : ℕ) where
+  letter : (c : ℕ) → NameMeans (name.Letter c) b → IsTrue (is_letter b)
+  letter c m = subst (λ (x : ℕ). IsTrue (is_letter x)) (sym m.0) m.1
 
-  start_at : (joined : Bool) (k : NameByte) → NameMeans k b → (adds (literals.transition joined at.Start k) || false) ≡ true → AsksLiteral text b
-  start_at true k m h = begins_at k m (sym (or-false (adds (literals.before k))) ∙ h)
-  start_at false k m h = absurd (false≢true (sym (ap (λ x. x || false) (after_quiet k)) ∙ h))
+  begins : (k : NameByte) → NameMeans k b → (adds (literals.before k) || false) ≡ true → IsTrue (is_letter b)
+  begins (name.Letter c) m h = letter c m
+  begins name.Tilde m h = absurd (false≢true h)
+  begins _ m h = absurd (false≢true h)
 
-  gap_at : (joined : Bool) (k : NameByte) → NameMeans k b → (adds (literals.transition joined at.Gap k) || false) ≡ true → AsksLiteral text b
-  gap_at joined k m h = begins_at k m (sym (or-false (adds (literals.before k))) ∙ h)
+  allows : (joined : Bool) (ph : LiteralsPhase) (k : NameByte) → NameMeans k b → (adds (literals.transition joined ph k) || is_more ph) ≡ true → Allows ph b
+  allows true at.Start k m h = begins k m h
+  allows false at.Start name.Blank m h = absurd (false≢true h)
+  allows joined at.Gap k m h = begins k m h
+  allows joined at.Negation (name.Letter c) m h = letter c m
+  allows joined (at.First negated) (name.Letter c) m h = letter_name b (letter c m)
+  allows joined (at.First negated) (name.Inner c) m h = subst (λ (x : ℕ). IsTrue (is_name_byte x)) (sym m.0) m.1
+  allows joined (at.More negated) k m h = tt
+  allows joined at.Closing name.Blank m h = absurd (false≢true h)
+  allows joined _ _ m h = absurd (false≢true h)
 
-  negation_at : (joined : Bool) (k : NameByte) → NameMeans k b → (adds (literals.transition joined at.Negation k) || false) ≡ true → AsksLiteral text b
-  negation_at joined (name.Letter c) m h = letter_begins text b (subst (λ (x : ℕ). IsTrue (is_letter x)) (sym m.0) m.1)
-  negation_at joined _ m h = absurd (false≢true h)
-
-  first_at : (joined negated : Bool) (bs : List ℕ) → EndsIn text bs → IsFirst bs → (k : NameByte) → NameMeans k b → (adds (literals.transition joined (at.First negated) k) || false) ≡ true → AsksLiteral text b
-  first_at joined negated bs e f (name.Letter c) m h = inl (bs, e, first_further bs b f (letter_name b (subst (λ (x : ℕ). IsTrue (is_letter x)) (sym m.0) m.1)))
-  first_at joined negated bs e f (name.Inner c) m h = inl (bs, e, first_further bs b f (subst (λ (x : ℕ). IsTrue (is_name_byte x)) (sym m.0) m.1))
-  first_at joined negated bs e f _ m h = absurd (false≢true h)
-
-  closing_at : (joined : Bool) (k : NameByte) → (adds (literals.transition joined at.Closing k) || false) ≡ true → AsksLiteral text b
-  closing_at joined name.Blank h = absurd (false≢true h)
-  closing_at joined _ h = absurd (false≢true h)
-
-literals_at : (ph : LiteralsPhase) (joined : Bool) (ls : List Literal) (bs : List ℕ) (t : List Letter) (b : ℕ) → sound.prefix joined ph ls bs t
-    → (adds (literals.transition joined ph (name_byte b)) || is_more ph) ≡ true → AsksLiteral (bytes t) b
-literals_at at.Start joined ls bs t b h k = start_at b (bytes t) joined (name_byte b) (name_means b) k
-literals_at at.Gap joined ls bs t b h k = gap_at b (bytes t) joined (name_byte b) (name_means b) k
-literals_at at.Negation joined ls bs t b h k = negation_at b (bytes t) joined (name_byte b) (name_means b) k
+literals_at : (ph : LiteralsPhase) (joined : Bool) (ls : List Literal) (bs : List ℕ) (t : List Letter) (b : ℕ) → sound.prefix joined ph ls bs t → Allows ph b → AsksLiteral (bytes t) b
 literals_at (at.First negated) joined ls bs t b (a, c, e, p, (f, is)) k =
-    first_at b (bytes t) joined negated bs (literal_end (sound.Before joined ls) negated bs t (a, c, e, p, is)) f (name_byte b) (name_means b) k
+    inl (bs, literal_end (sound.Before joined ls) negated bs t (a, c, e, p, is), first_further bs b f k)
 literals_at (at.More negated) joined ls bs t b (a, c, e, p, (f, is)) k = at_name (bytes t) bs b (literal_end (sound.Before joined ls) negated bs t (a, c, e, p, is)) f
-literals_at at.Closing joined ls bs t b h k = closing_at b (bytes t) joined (name_byte b) k
 literals_at at.Done joined ls bs t b h k = absurd h
+literals_at _ joined ls bs t b h k = letter_begins (bytes t) b k
 
 pub literals_asked : (joined : Bool) (t : List Letter) (s : LiteralsState) (b : ℕ) → Walks literals_automaton (literals_first joined) t s → literals_automaton.asks s b ≡ true → AsksLiteral (bytes t) b
 literals_asked joined t s b w h =
-    literals_at s.phase s.joined s.literals s.name t b (prefixes_of literals_automaton sound.Prefix sound.Whole sound.keeps_prefix t (literals_first joined) [] s w (refl, refl)) h
+    literals_at s.phase s.joined s.literals s.name t b (prefixes_of literals_automaton sound.Prefix sound.Whole sound.keeps_prefix t (literals_first joined) [] s w (refl, refl))
+    (allows b s.joined s.phase (name_byte b) (name_means b) h)
 
 -- ---- linear texts
 module _ (limit top : ℕ) where

@@ -32,6 +32,10 @@ module _ {S E : Type 0} (m : Automaton S E) where
     pub ends : m.step s 10 ≡ End e after
     pub ends_gap : m.step gap 10 ≡ End e after
 
+  pub closing_feeds : (closing after : S) (e : E) → ((b : ℕ) → IsTrue (is_blank b) → m.step closing b ≡ Go closing) → m.begun closing ≡ true → m.in_number closing ≡ false
+      → m.step closing 10 ≡ End e after → Feeds closing closing e after
+  closing_feeds closing after e f g h i = record { blanks = record { enters = f; stays = f; begun = g; plain = h }; ends = i; ends_gap = i }
+
   -- blank*, and the text after it, which either state reads
   pub after_blanks : (s gap after : S) (e : E) (t u : List Letter) → TakesBlanks s gap → Blanks0 t → ReadsStatement m s u e after → ReadsStatement m gap u e after → ReadsStatement m s (t ++ u) e after
   after_blanks s gap after e t u h ([], i, f) r q = subst (λ x. ReadsStatement m s (x ++ u) e after) (sym f) r

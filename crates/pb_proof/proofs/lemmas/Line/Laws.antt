@@ -3,6 +3,7 @@ use Rattle.pb_proof.proofs.Common.{ℕ, ◌<◌, ◌^◌, ◌≡◌, false, List
 use Rattle.pb_proof.proofs.Common.{LineMachine, LineKind, Statement, conclusion_automaton, conclusion_first, conclusion_last, count_automaton}
 use Rattle.pb_proof.proofs.Common.{count_last, counting, ids_automaton, ids_first, ids_last, literals_automaton, literals_first, literals_last}
 use Rattle.pb_proof.proofs.Common.{line_automaton, line_first, SpellsRest, pol_automaton, pol_first, pol_last, rup_automaton, rup_first, rup_last}
+use Rattle.pb_proof.proofs.Common.{Automaton}
 use Rattle.pb_sums.specs.declared.Part as part
 use Rattle.pb_proof.specs.declared.line.LineMachine as line
 use Rattle.pb_proof.specs.declared.machine.phase.LineKind.TheVariants.{Count, Pol, Rup, Soli, Solx, Delete, Conclusion}
@@ -50,45 +51,33 @@ line_begins (line.TheVariants.Delete s) next b e = begins_in _ _ _ _ delete_carr
 line_begins (line.TheVariants.Conclusion s) next b e = begins_in _ _ _ _ conclusion_carries conclusion_of_one.begins s next b e
 
 module _ (limit top : ℕ) where
-  -- What a new one reads is the text after the first word.
+  -- What a new line machine reads, the machine of the line reads.
+  within : {S E : Type 0} (m : Automaton S E) (into : S → LineMachine) (event : E → Statement) → Carries m line_automaton into event → (start : S) (r : LineKind) (t : List Letter) (e : Statement) (after : LineMachine)
+      → ReadsStatement line_automaton (into start) t e after → ((c : E) (last : S) → ReadsStatement m start t c last → SpellsRest limit top r (event c) t) → SpellsRest limit top r e t
+  within m into event carries start r t e after h f =
+      let (c, last, g, k) = reads_out m line_automaton into event carries t start e after h in
+      subst (λ x. SpellsRest limit top r x t) (sym g) (f c last k)
+
+  -- It is the text after the first word.
   pub line_only : (r : LineKind) (t : List Letter) (e : Statement) (after : LineMachine) → ReadsStatement line_automaton (line_first limit top r) t e after → SpellsRest limit top r e t
-  line_only Count t e after h =
-      let (c, last, f, k) = reads_out _ _ _ _ count_carries t (counting top) e after h in
-      subst (λ x. SpellsRest limit top Count x t) (sym f) ((count_reads limit top t c last).0 k).0
-  line_only Pol t e after h =
-      let (c, last, f, k) = reads_out _ _ _ _ pol_carries t (pol_first limit top) e after h in
-      subst (λ x. SpellsRest limit top Pol x t) (sym f) ((pol_reads limit top t c last).0 k).0
-  line_only Rup t e after h =
-      let (c, last, f, k) = reads_out _ _ _ _ rup_carries t (rup_first limit) e after h in
-      subst (λ x. SpellsRest limit top Rup x t) (sym f) ((rup_reads limit top t c last).0 k).0
-  line_only Soli t e after h =
-      let (c, last, f, k) = reads_out _ _ _ _ soli_carries t (literals_first false) e after h in
-      subst (λ x. SpellsRest limit top Soli x t) (sym f) ((literals_reads false t c last).0 k).0
-  line_only Solx t e after h =
-      let (c, last, f, k) = reads_out _ _ _ _ solx_carries t (literals_first false) e after h in
-      subst (λ x. SpellsRest limit top Solx x t) (sym f) ((literals_reads false t c last).0 k).0
-  line_only Delete t e after h =
-      let (c, last, f, k) = reads_out _ _ _ _ delete_carries t (ids_first top) e after h in
-      subst (λ x. SpellsRest limit top Delete x t) (sym f) ((ids_reads limit top t c last).0 k).0
+  line_only Count t e after h = within _ _ _ count_carries (counting top) Count t e after h (λ c last k. ((count_reads limit top t c last).0 k).0)
+  line_only Pol t e after h = within _ _ _ pol_carries (pol_first limit top) Pol t e after h (λ c last k. ((pol_reads limit top t c last).0 k).0)
+  line_only Rup t e after h = within _ _ _ rup_carries (rup_first limit) Rup t e after h (λ c last k. ((rup_reads limit top t c last).0 k).0)
+  line_only Soli t e after h = within _ _ _ soli_carries (literals_first false) Soli t e after h (λ c last k. ((literals_reads false t c last).0 k).0)
+  line_only Solx t e after h = within _ _ _ solx_carries (literals_first false) Solx t e after h (λ c last k. ((literals_reads false t c last).0 k).0)
+  line_only Delete t e after h = within _ _ _ delete_carries (ids_first top) Delete t e after h (λ c last k. ((ids_reads limit top t c last).0 k).0)
   line_only Conclusion t e after h =
-      let (c, last, f, k) = reads_out _ _ _ _ conclusion_carries t (conclusion_first limit top) e after h in
-      subst (λ x. SpellsRest limit top Conclusion x t) (sym f) ((conclusion_reads limit top t c last).0 k).0
+      within _ _ _ conclusion_carries (conclusion_first limit top) Conclusion t e after h (λ c last k. ((conclusion_reads limit top t c last).0 k).0)
 
   pub line_each : (r : LineKind) (t : List Letter) (e : Statement) → SpellsRest limit top r e t → (after : LineMachine) × ReadsStatement line_automaton (line_first limit top r) t e after
   line_each Count t (statement.TheVariants.F c) h = (line.TheVariants.Count (count_last top), reads_in _ _ _ _ count_carries t (counting top) c (count_last top) ((count_reads limit top t c (count_last top)).1 (h, refl)))
-  line_each Count t _ h = absurd h
   line_each Pol t (statement.TheVariants.Pol c) h = (line.TheVariants.Pol (pol_last limit top), reads_in _ _ _ _ pol_carries t (pol_first limit top) c (pol_last limit top) ((pol_reads limit top t c (pol_last limit top)).1 (h, refl)))
-  line_each Pol t _ h = absurd h
   line_each Rup t (statement.TheVariants.Rup c) h = (line.TheVariants.Rup (rup_last limit), reads_in _ _ _ _ rup_carries t (rup_first limit) c (rup_last limit) ((rup_reads limit top t c (rup_last limit)).1 (h, refl)))
-  line_each Rup t _ h = absurd h
   line_each Soli t (statement.TheVariants.Soli c) h = (line.TheVariants.Soli (literals_last false), reads_in _ _ _ _ soli_carries t (literals_first false) c (literals_last false) ((literals_reads false t c (literals_last false)).1 (h, refl)))
-  line_each Soli t _ h = absurd h
   line_each Solx t (statement.TheVariants.Solx c) h = (line.TheVariants.Solx (literals_last false), reads_in _ _ _ _ solx_carries t (literals_first false) c (literals_last false) ((literals_reads false t c (literals_last false)).1 (h, refl)))
-  line_each Solx t _ h = absurd h
   line_each Delete t (statement.TheVariants.Delete c) h = (line.TheVariants.Delete (ids_last top), reads_in _ _ _ _ delete_carries t (ids_first top) c (ids_last top) ((ids_reads limit top t c (ids_last top)).1 (h, refl)))
-  line_each Delete t _ h = absurd h
   line_each Conclusion t (statement.TheVariants.Conclude c) h = (line.TheVariants.Conclusion (conclusion_last limit top), reads_in _ _ _ _ conclusion_carries t (conclusion_first limit top) c (conclusion_last limit top) ((conclusion_reads limit top t c (conclusion_last limit top)).1 (h, refl)))
-  line_each Conclusion t _ h = absurd h
+  line_each _ t _ h = absurd h
 
   -- A new one has not begun, has not ended, and reads no number.
   pub line_fresh : (r : LineKind) → (line_automaton.done (line_first limit top r) ≡ false) × (line_automaton.begun (line_first limit top r) ≡ false) × (line_automaton.in_number (line_first limit top r) ≡ false)

@@ -20,6 +20,10 @@ both P Q a b h k = (a, b, refl, h, k)
 space1 : Blanks1 space
 space1 = (32, [], refl, tt, refl)
 
+-- with a space between the two
+spaced : (P Q : Language) (a b : List Letter) → P a → Q b → (P ⋅ Blanks1 ⋅ Q) (a ++ space ++ b)
+spaced P Q a b h k = both (P ⋅ Blanks1) Q (a ++ space) b (both P Blanks1 a space h space1) k
+
 space0 : Blanks0 space
 space0 = (32 ∷ [], (refl, tt), refl)
 
@@ -72,10 +76,10 @@ module _ (limit : ℕ) (small : limit < 2 ^ 127) where
     word_spelled (Id id) h = id_spelled top low id h
     word_spelled (Axiom l) h = literal_spelled l h
     word_spelled Add h = refl
-    word_spelled (Multiply k) h = both (Factor limit k ⋅ Blanks1) (Byte 42) (degree_text k ++ space) (one 42) (both (Factor limit k) Blanks1 (degree_text k) space (factor_spelled k h) space1) refl
-    word_spelled (Divide k) h = both (Factor limit k ⋅ Blanks1) (Byte 100) (degree_text k ++ space) (one 100) (both (Factor limit k) Blanks1 (degree_text k) space (factor_spelled k h) space1) refl
+    word_spelled (Multiply k) h = spaced (Factor limit k) (Byte 42) (degree_text k) (one 42) (factor_spelled k h) refl
+    word_spelled (Divide k) h = spaced (Factor limit k) (Byte 100) (degree_text k) (one 100) (factor_spelled k h) refl
     word_spelled Saturate h = refl
-    word_spelled (Weaken name) h = (h, both (Bytes name ⋅ Blanks1) (Byte 119) (plain name ++ space) (one 119) (both (Bytes name) Blanks1 (plain name) space refl space1) refl)
+    word_spelled (Weaken name) h = (h, spaced (Bytes name) (Byte 119) (plain name) (one 119) refl refl)
 
     conclusion_spelled : (c : Conclusion) → IsConclusion limit top c → SpellsConclusion limit top c (conclusion_text c)
     conclusion_spelled NoClaim h = refl
@@ -91,10 +95,8 @@ module _ (limit : ℕ) (small : limit < 2 ^ 127) where
         let i : List Letter = id_shown_text id in
         let u : List Letter = bound_text upper in
         both (W ⋅ Blanks1 ⋅ L ⋅ I ⋅ Blanks1 ⋅ U) (LiteralsShown shown) (w ++ space ++ l ++ i ++ space ++ u) (shown_text shown)
-        (both (W ⋅ Blanks1 ⋅ L ⋅ I ⋅ Blanks1) U (w ++ space ++ l ++ i ++ space) u
-        (both (W ⋅ Blanks1 ⋅ L ⋅ I) Blanks1 (w ++ space ++ l ++ i) space
-        (both (W ⋅ Blanks1 ⋅ L) I (w ++ space ++ l) i
-        (both (W ⋅ Blanks1) L (w ++ space) l (both W Blanks1 w space refl space1) (bound_spelled lower h.0)) (id_shown_spelled id h.1)) space1) (bound_spelled upper h.2)) (shown_spelled shown h.3)
+        (spaced (W ⋅ Blanks1 ⋅ L ⋅ I) U (w ++ space ++ l ++ i) u
+        (both (W ⋅ Blanks1 ⋅ L) I (w ++ space ++ l) i (spaced W L w l refl (bound_spelled lower h.0)) (id_shown_spelled id h.1)) (bound_spelled upper h.2)) (shown_spelled shown h.3)
 
     f_spelled : (count : Option ℕ) → IfGiven (λ n. n ≤ top) count → SpellsCount limit top count (count_text count)
     f_spelled None h = ended
@@ -103,14 +105,11 @@ module _ (limit : ℕ) (small : limit < 2 ^ 127) where
 
     pub line_spelled : (s : Statement) → IsStatementValue limit top s → SpellsStatement limit top s (line_text s)
     line_spelled Header h =
-        let A : Language = Bytes pseudo_word ⋅ Blanks1 in
-        let a : List Letter = plain pseudo_word ++ space in
-        both (A ⋅ Bytes proof_word ⋅ Blanks1 ⋅ Bytes version_word ⋅ Blanks1 ⋅ Bytes two_word) Feed (a ++ plain proof_word ++ space ++ plain version_word ++ space ++ plain two_word) feed
-        (both (A ⋅ Bytes proof_word ⋅ Blanks1 ⋅ Bytes version_word ⋅ Blanks1) (Bytes two_word) (a ++ plain proof_word ++ space ++ plain version_word ++ space) (plain two_word)
-        (both (A ⋅ Bytes proof_word ⋅ Blanks1 ⋅ Bytes version_word) Blanks1 (a ++ plain proof_word ++ space ++ plain version_word) space
-        (both (A ⋅ Bytes proof_word ⋅ Blanks1) (Bytes version_word) (a ++ plain proof_word ++ space) (plain version_word)
-        (both (A ⋅ Bytes proof_word) Blanks1 (a ++ plain proof_word) space
-        (both A (Bytes proof_word) a (plain proof_word) (both (Bytes pseudo_word) Blanks1 (plain pseudo_word) space refl space1) refl) space1) refl) space1) refl) fed
+        let A : Language = Bytes pseudo_word ⋅ Blanks1 ⋅ Bytes proof_word in
+        let a : List Letter = plain pseudo_word ++ space ++ plain proof_word in
+        both (A ⋅ Blanks1 ⋅ Bytes version_word ⋅ Blanks1 ⋅ Bytes two_word) Feed (a ++ space ++ plain version_word ++ space ++ plain two_word) feed
+        (spaced (A ⋅ Blanks1 ⋅ Bytes version_word) (Bytes two_word) (a ++ space ++ plain version_word) (plain two_word)
+        (spaced A (Bytes version_word) a (plain version_word) (spaced (Bytes pseudo_word) (Bytes proof_word) (plain pseudo_word) (plain proof_word) refl refl) refl) refl) fed
     line_spelled (F count) h = both (Bytes f_word) (SpellsCount limit top count) (plain f_word) (count_text count) refl (f_spelled count h)
     line_spelled (Pol ws) h =
         both (Bytes pol_word) (SpellsWords limit top ws) (plain pol_word) (listed_text word_text ws ++ feed) refl
@@ -126,17 +125,14 @@ module _ (limit : ℕ) (small : limit < 2 ^ 127) where
         (both (Listed SpellsLiteral ls) LineEnd (listed_text literal_text ls) feed (literals_spelled ls h) ended)
     line_spelled (Delete ids) h =
         both (Bytes del_word ⋅ Blanks1 ⋅ Bytes id_word) (SpellsIds limit top ids) (plain del_word ++ space ++ plain id_word) (listed_text degree_text ids ++ feed)
-        (both (Bytes del_word ⋅ Blanks1) (Bytes id_word) (plain del_word ++ space) (plain id_word) (both (Bytes del_word) Blanks1 (plain del_word) space refl space1) refl)
+        (spaced (Bytes del_word) (Bytes id_word) (plain del_word) (plain id_word) refl refl)
         (h.0, both (Listed (SpellsId top) ids) LineEnd (listed_text degree_text ids) feed (listed_spelled (SpellsId top) degree_text (IsId top) (id_spelled top low) ids h.1) ended)
     line_spelled Output h =
         both (Bytes output_word ⋅ Blanks1 ⋅ Bytes none_word) LineEnd (plain output_word ++ space ++ plain none_word) feed
-        (both (Bytes output_word ⋅ Blanks1) (Bytes none_word) (plain output_word ++ space) (plain none_word) (both (Bytes output_word) Blanks1 (plain output_word) space refl space1) refl) ended
+        (spaced (Bytes output_word) (Bytes none_word) (plain output_word) (plain none_word) refl refl) ended
     line_spelled (Conclude c) h =
         both (Bytes conclusion_word) (SpellsConclusionLine limit top c) (plain conclusion_word) (space ++ conclusion_text c ++ feed) refl
         (both (Blanks1 ⋅ SpellsConclusion limit top c) LineEnd (space ++ conclusion_text c) feed (both Blanks1 (SpellsConclusion limit top c) space (conclusion_text c) space1 (conclusion_spelled c h)) ended)
     line_spelled End h =
-        let A : Language = Bytes end_word ⋅ Blanks1 in
-        let a : List Letter = plain end_word ++ space in
-        both (A ⋅ Bytes pseudo_word ⋅ Blanks1) (Bytes proof_word) (a ++ plain pseudo_word ++ space) (plain proof_word)
-        (both (A ⋅ Bytes pseudo_word) Blanks1 (a ++ plain pseudo_word) space
-        (both A (Bytes pseudo_word) a (plain pseudo_word) (both (Bytes end_word) Blanks1 (plain end_word) space refl space1) refl) space1) refl
+        spaced (Bytes end_word ⋅ Blanks1 ⋅ Bytes pseudo_word) (Bytes proof_word) (plain end_word ++ space ++ plain pseudo_word) (plain proof_word)
+        (spaced (Bytes end_word) (Bytes pseudo_word) (plain end_word) (plain pseudo_word) refl refl) refl

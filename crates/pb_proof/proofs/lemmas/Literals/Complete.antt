@@ -7,7 +7,7 @@ use Rattle.pb_proof.specs.engine.Line.Literals.{step}
 use Rattle.pb_proof.specs.declared.line.byte_kind.NameByte.TheVariants as kind
 use Rattle.pb_proof.specs.declared.line.solution.phase.LiteralsPhase.TheVariants.{Gap, Closing}
 use Rattle.pb_proof.proofs.lemmas.Line.ByteKinds.{name_blank, name_letter, name_inner}
-use Rattle.pb_proof.proofs.lemmas.Line.Ends.{TakesBlanks, MayEnd, blanks1_lead, line_reads, listed_walks}
+use Rattle.pb_proof.proofs.lemmas.Line.Ends.{TakesBlanks, MayEnd, closing_feeds, blanks1_lead, line_reads, listed_walks}
 
 module _ (joined : Bool) where
   abbrev S : Type 0
@@ -51,16 +51,7 @@ module _ (joined : Bool) where
     closes_gap = refl;
     begun = refl;
     plain = refl;
-    last = record {
-      blanks = record {
-        enters = λ b i. by_kind (at_closing ls) b kind.Blank (name_blank b i);
-        stays = λ b i. by_kind (at_closing ls) b kind.Blank (name_blank b i);
-        begun = refl;
-        plain = refl;
-      };
-      ends = refl;
-      ends_gap = refl;
-    };
+    last = closing_feeds literals_automaton (at_closing ls) (literals_last joined) ls (λ b i. by_kind (at_closing ls) b kind.Blank (name_blank b i)) refl refl refl;
   }
 
   -- A literal may begin here.

@@ -1,15 +1,16 @@
 -- The laws of the literals machine.
 use Rattle.pb_proof.proofs.Common.{ℕ, ◌++◌, ◌+◌, ◌-◌, ◌^◌, ◌↔◌, ◌∷◌, ◌≡◌, ◌≤◌, [], ap, arith, Bool, cond, false, length, length-append, List, refl}
-use Rattle.pb_proof.proofs.Common.{subst, sym, true, min-le_left, add-grows, begin-grows, to-grows, Literal, ReadsOn, is_state, IsOfOne, reads_last}
-use Rattle.pb_proof.proofs.Common.{one_state, reported, never, End, Go, IsState, Next, ReadsStatement, Refuse, unmarked, Letter, NameByte}
-use Rattle.pb_proof.proofs.Common.{LiteralsAction, LiteralsPhase, First, More, Negation, name_byte, flushed, is_begun, IsLiteralsInOrder, literal}
-use Rattle.pb_proof.proofs.Common.{literals_at, literals_automaton, literals_first, literals_last, LiteralsState, SpellsJoined}
+use Rattle.pb_proof.proofs.Common.{subst, sym, true, min-le_left, add-grows, begin-grows, to-grows, Literal, ReadsOn, is_state, IsOfOne, one_state}
+use Rattle.pb_proof.proofs.Common.{never, End, Go, IsState, Next, ReadsStatement, Refuse, unmarked, Letter, NameByte, LiteralsAction, LiteralsPhase}
+use Rattle.pb_proof.proofs.Common.{First, More, Negation, name_byte, flushed, is_begun, IsLiteralsInOrder, literal, literals_at, literals_automaton}
+use Rattle.pb_proof.proofs.Common.{literals_first, literals_last, LiteralsState, SpellsJoined}
 use Rattle.pb_proof.specs.engine.Line.Literals.{act, transition, next_action, before, is_midway, is_done, units, in_hand, ready, all_units}
 use Rattle.pb_proof.specs.declared.line.byte_kind.NameByte.TheVariants as kind
 use Rattle.pb_proof.specs.declared.line.solution.phase.LiteralsPhase.TheVariants.{Start, Gap, Closing, Done}
 use Rattle.pb_proof.specs.declared.line.solution.phase.LiteralsAction as action
 use Rattle.pb_proof.proofs.lemmas.Literals.Complete.{reads_each}
 use Rattle.pb_proof.proofs.lemmas.Literals.Sound.{Prefix, Whole, keeps_prefix}
+use Rattle.pb_proof.proofs.lemmas.Line.Whole.{reads_exactly}
 
 abbrev N : Type 0
 N = Next LiteralsState (List Literal)
@@ -65,8 +66,6 @@ flushed_units _ ls name = omega arith
 ready_one : (joined : Bool) (ph : LiteralsPhase) → ready joined ph ≤ 1
 ready_one true Start = omega arith
 ready_one false Start = omega arith
-ready_one joined Gap = omega arith
-ready_one joined Negation = omega arith
 ready_one joined _ = omega arith
 
 abbrev spent : LiteralsState → ℕ
@@ -166,18 +165,11 @@ literals_of_one = record {
   bounds = λ s. omega (arith, min-le_left (all_units s) (2 ^ 64 - 1));
 }
 
--- After the line the machine has ended.
-pub literals_ends : (s after : LiteralsState) (text : List Letter) (e : List Literal) → ReadsStatement literals_automaton s text e after → after ≡ literals_last s.joined
-literals_ends s after text e r = reads_last literals_automaton IsLiteralsInOrder last literals_of_one text s e after r
-
 -- A new machine reads exactly the literals.
 pub literals_reads : (joined : Bool) (text : List Letter) (e : List Literal) (after : LiteralsState) →
     ReadsStatement literals_automaton (literals_first joined) text e after ↔ (SpellsJoined joined e text × (after ≡ literals_last joined))
-literals_reads joined text e after = (
-  (λ r. let i : after ≡ literals_last joined = literals_ends (literals_first joined) after text e r in
-      (subst (λ x. Whole e x text) i (reported literals_automaton Prefix Whole keeps_prefix text (literals_first joined) [] e after r (refl, refl)), i)),
-  (λ h. subst (λ x. ReadsStatement literals_automaton (literals_first joined) text e x) (sym h.1) (reads_each joined e text h.0)),
-)
+literals_reads joined text e after =
+    reads_exactly literals_automaton IsLiteralsInOrder last literals_of_one Prefix Whole keeps_prefix (literals_first joined) text e after (refl, refl) (reads_each joined e text)
 
 pub literals_is_state : (s : LiteralsState) → IsLiteralsInOrder s → IsState literals_automaton s
 literals_is_state s h = is_state literals_automaton IsLiteralsInOrder last literals_of_one s h (λ i. empty s.joined s.phase s.literals s.name i h)

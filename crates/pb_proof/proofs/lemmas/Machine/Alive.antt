@@ -159,10 +159,7 @@ comment_accepts limit top s h [] a = absurd (none s h a)
     none : (s : Stage) → HasGaps s → AcceptsItems proofs (idle limit top s) [] → ⊥
     none Opening h a = h
     none Complete h a = h
-    none Formula h a = cc
-    none Steps h a = cc
-    none Concluding h a = cc
-    none Closing h a = cc
+    none _ h a = cc
 comment_accepts limit top s h (i ∷ items) (mid, after, g, r, a) =
     (record { gap = 10 ∷ i.gap; text = i.text; event = i.event } ∷ items, (mid, after, (idle limit top s, refl, refl, g), r, a))
 

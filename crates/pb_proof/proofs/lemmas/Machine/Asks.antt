@@ -1,9 +1,9 @@
 -- If the proof machine may allocate at a byte, that byte is at a position of its statement that may allocate.
-use Rattle.pb_proof.proofs.Common.{ℕ, ◌++◌, ◌∙◌, ◌∷◌, ◌≡◌, [], ap, Bool, false, IsTrue, List, nat_eq, None, refl, Some, subst, sym, true, false≢true}
+use Rattle.pb_proof.proofs.Common.{ℕ, ◌++◌, ◌∙◌, ◌∷◌, ◌≡◌, [], ap, Bool, false, IsTrue, List, None, refl, Some, subst, sym, true, false≢true}
 use Rattle.pb_proof.proofs.Common.{prefixes_of, reads_after, Walks, never, bytes-append, End, Go, MayAsk, Next, ReadsStatement, Refuse, bytes, Letter}
 use Rattle.pb_proof.proofs.Common.{LineMachine, LineKind, Stage, Opening, Statement, conclusion_first, counting, ids_first, literals_first}
 use Rattle.pb_proof.proofs.Common.{line_automaton, line_first, SpellsRest, pol_first, rup_first, act, at, begin, giving, idle, proofs, ProofState}
-use Rattle.pb_proof.proofs.Common.{step_line, Asks, AsksAfter, FirstWord, stage_after, IsProof}
+use Rattle.pb_proof.proofs.Common.{step_line, Asks, AsksAfter, FirstWord, stage_after, IsProof, Automaton}
 use Rattle.pb_text.specs.meaning.Asking.{AsksOnly}
 use Rattle.pb_text.proofs.lemmas.machine.Asked as asked
 use Rattle.pb_proof.specs.engine.Machine.Transition.{transition}
@@ -15,62 +15,48 @@ use Rattle.pb_proof.specs.declared.machine.phase.Phase.{Phase}
 use Rattle.pb_proof.specs.declared.machine.phase.Phase.TheVariants as phase
 use Rattle.pb_proof.specs.declared.machine.phase.LineKind.TheVariants as kind
 use Rattle.pb_proof.specs.declared.statement.Statement.TheVariants as statement
-use Rattle.pb_proof.proofs.lemmas.Carried.{walks_out, reads_out}
+use Rattle.pb_proof.proofs.lemmas.Carried.{Carries, walks_out, reads_out}
 use Rattle.pb_proof.proofs.lemmas.Conclusion.Asks.{conclusion_asked}
 use Rattle.pb_proof.proofs.lemmas.Line.Laws.{count_carries, pol_carries, rup_carries, soli_carries, solx_carries, delete_carries, conclusion_carries, line_begins, line_only}
 use Rattle.pb_proof.proofs.lemmas.Line.Asks.{ids_asked, literals_asked, rup_asked}
 use Rattle.pb_proof.proofs.lemmas.Pol.Asks.{pol_asked}
 use Rattle.pb_proof.proofs.lemmas.Machine.Exact.{reads_proofs}
 use Rattle.pb_proof.proofs.lemmas.Machine.Sound as sound
+use Rattle.pb_proof.proofs.lemmas.Machine.Gaps.{comment_reads}
 
 module _ (limit top : ℕ) where
+  -- what the line machine asks for, the machine of the line asks for
+  within : {S E : Type 0} (m : Automaton S E) (into : S → LineMachine) (event : E → Statement) → Carries m line_automaton into event → (start : S)
+      → (q more : List Letter) (l : Letter) (i last : LineMachine) (e : Statement) → Walks line_automaton (into start) q i → ReadsStatement line_automaton i (l ∷ more) e last
+      → line_automaton.asks i l.byte ≡ true
+      → ((s after : S) (v : E) → Walks m start q s → ReadsStatement m s (l ∷ more) v after → m.asks s l.byte ≡ true → AsksAfter (event v) (bytes q) l.byte) → AsksAfter e (bytes q) l.byte
+  within m into event c start q more l i last e w r h f =
+      let (s, is, k) = walks_out m line_automaton into event c q start i w in
+      let (v, after, same, j) = reads_out m line_automaton into event c (l ∷ more) s e last (subst (λ x. ReadsStatement line_automaton x (l ∷ more) e last) is r) in
+      subst (λ y. AsksAfter y (bytes q) l.byte) (sym same) (f s after v k j (sym (c.asks s l.byte) ∙ subst (λ x. line_automaton.asks x l.byte ≡ true) is h))
+
   -- after the first word
   line_asks : (r : LineKind) (q more : List Letter) (l : Letter) (i last : LineMachine) (e : Statement) → Walks line_automaton (line_first limit top r) q i → ReadsStatement line_automaton i (l ∷ more) e last
       → line_automaton.asks i l.byte ≡ true → AsksAfter e (bytes q) l.byte
-  line_asks kind.Count q more l i last e w r h =
-      let (s, is, k) = walks_out _ _ _ _ count_carries q (counting top) i w in
-      absurd (false≢true (subst (λ x. line_automaton.asks x l.byte ≡ true) is h))
-  line_asks kind.Pol q more l i last e w r h =
-      let (s, is, k) = walks_out _ _ _ _ pol_carries q (pol_first limit top) i w in
-      let (v, after, same, j) = reads_out _ _ _ _ pol_carries (l ∷ more) s e last (subst (λ x. ReadsStatement line_automaton x (l ∷ more) e last) is r) in
-      subst (λ y. AsksAfter y (bytes q) l.byte) (sym same) (pol_asked limit top q s l.byte k (subst (λ x. line_automaton.asks x l.byte ≡ true) is h))
-  line_asks kind.Rup q more l i last e w r h =
-      let (s, is, k) = walks_out _ _ _ _ rup_carries q (rup_first limit) i w in
-      let (v, after, same, j) = reads_out _ _ _ _ rup_carries (l ∷ more) s e last (subst (λ x. ReadsStatement line_automaton x (l ∷ more) e last) is r) in
-      subst (λ y. AsksAfter y (bytes q) l.byte) (sym same) (rup_asked limit top q s l.byte k (subst (λ x. line_automaton.asks x l.byte ≡ true) is h))
-  line_asks kind.Soli q more l i last e w r h =
-      let (s, is, k) = walks_out _ _ _ _ soli_carries q (literals_first false) i w in
-      let (v, after, same, j) = reads_out _ _ _ _ soli_carries (l ∷ more) s e last (subst (λ x. ReadsStatement line_automaton x (l ∷ more) e last) is r) in
-      subst (λ y. AsksAfter y (bytes q) l.byte) (sym same) (literals_asked false q s l.byte k (subst (λ x. line_automaton.asks x l.byte ≡ true) is h))
-  line_asks kind.Solx q more l i last e w r h =
-      let (s, is, k) = walks_out _ _ _ _ solx_carries q (literals_first false) i w in
-      let (v, after, same, j) = reads_out _ _ _ _ solx_carries (l ∷ more) s e last (subst (λ x. ReadsStatement line_automaton x (l ∷ more) e last) is r) in
-      subst (λ y. AsksAfter y (bytes q) l.byte) (sym same) (literals_asked false q s l.byte k (subst (λ x. line_automaton.asks x l.byte ≡ true) is h))
-  line_asks kind.Delete q more l i last e w r h =
-      let (s, is, k) = walks_out _ _ _ _ delete_carries q (ids_first top) i w in
-      let (v, after, same, j) = reads_out _ _ _ _ delete_carries (l ∷ more) s e last (subst (λ x. ReadsStatement line_automaton x (l ∷ more) e last) is r) in
-      subst (λ y. AsksAfter y (bytes q) l.byte) (sym same) (ids_asked limit top q s l.byte k (subst (λ x. line_automaton.asks x l.byte ≡ true) is h))
+  line_asks kind.Count q more l i last e w r h = within _ _ _ count_carries (counting top) q more l i last e w r h (λ s after v k j a. absurd (false≢true a))
+  line_asks kind.Pol q more l i last e w r h = within _ _ _ pol_carries (pol_first limit top) q more l i last e w r h (λ s after v k j a. pol_asked limit top q s l.byte k a)
+  line_asks kind.Rup q more l i last e w r h = within _ _ _ rup_carries (rup_first limit) q more l i last e w r h (λ s after v k j a. rup_asked limit top q s l.byte k a)
+  line_asks kind.Soli q more l i last e w r h = within _ _ _ soli_carries (literals_first false) q more l i last e w r h (λ s after v k j a. literals_asked false q s l.byte k a)
+  line_asks kind.Solx q more l i last e w r h = within _ _ _ solx_carries (literals_first false) q more l i last e w r h (λ s after v k j a. literals_asked false q s l.byte k a)
+  line_asks kind.Delete q more l i last e w r h = within _ _ _ delete_carries (ids_first top) q more l i last e w r h (λ s after v k j a. ids_asked limit top q s l.byte k a)
   line_asks kind.Conclusion q more l i last e w r h =
-      let (s, is, k) = walks_out _ _ _ _ conclusion_carries q (conclusion_first limit top) i w in
-      let (v, after, same, j) = reads_out _ _ _ _ conclusion_carries (l ∷ more) s e last (subst (λ x. ReadsStatement line_automaton x (l ∷ more) e last) is r) in
-      subst (λ y. AsksAfter y (bytes q) l.byte) (sym same) (conclusion_asked limit top q more l s after v k j (subst (λ x. line_automaton.asks x l.byte ≡ true) is h))
+      within _ _ _ conclusion_carries (conclusion_first limit top) q more l i last e w r h (λ s after v k j a. conclusion_asked limit top q more l s after v k j a)
 
   -- the first word of a statement that may allocate
   first_word : (r : LineKind) (e : Statement) (t word : List Letter) (text : List ℕ) (b : ℕ) → SpellsRest limit top r e t → sound.Before r word → AsksAfter e text b → FirstWord e word
   first_word kind.Count (statement.F c) t word text b h k a = absurd a
-  first_word kind.Count _ t word text b h k a = absurd h
   first_word kind.Pol (statement.Pol c) t word text b h k a = k
-  first_word kind.Pol _ t word text b h k a = absurd h
   first_word kind.Rup (statement.Rup c) t word text b h k a = k
-  first_word kind.Rup _ t word text b h k a = absurd h
   first_word kind.Soli (statement.Soli c) t word text b h k a = k
-  first_word kind.Soli _ t word text b h k a = absurd h
   first_word kind.Solx (statement.Solx c) t word text b h k a = k
-  first_word kind.Solx _ t word text b h k a = absurd h
   first_word kind.Delete (statement.Delete c) t word text b h k a = k
-  first_word kind.Delete _ t word text b h k a = absurd h
   first_word kind.Conclusion (statement.Conclude c) t word text b h k a = k
-  first_word kind.Conclusion _ t word text b h k a = absurd h
+  first_word _ _ t word text b h k a = absurd h
 
   -- After the first word, the line machine reads.
   line_step : (s : ProofState) (b : ℕ) (r : LineKind) (i : LineMachine) → s.phase ≡ phase.Inside r → s.line ≡ Some i → proofs.step s b ≡ over s r (line_automaton.step i b)
@@ -115,23 +101,10 @@ module _ (limit top : ℕ) where
       let k : InGap (proofs.step s b) (proofs.asks s b) = subst (λ x. InGap (proofs.step x b) (proofs.asks x b)) (sym e) (gap_action p b (transition p b)) in
       (subst (λ x. InGap x (proofs.asks s b)) g k) o
 
-  -- no statement begins in a comment
-  not_in_comment : {A : Type 0} (st : Stage) (t : List Letter) (e : Statement) (next : ProofState) → ReadsStatement proofs (at limit top (phase.Comment st)) t e next → A
-  not_in_comment st [] e next r = absurd r
-  not_in_comment st (l ∷ []) e next (h, n) = absurd (let f : ⊥ = cc in f)
-  not_in_comment st (l ∷ k ∷ t) e next (mid, h, o, n, r) = never (proofs.begun mid) o (dark mid h)
-    where
-      dark : (m : ProofState) → proofs.step (at limit top (phase.Comment st)) l.byte ≡ Go m → proofs.begun m ≡ false
-      dark m g = by_test (nat_eq l.byte 10) refl
-        where
-          by_test : (x : Bool) → nat_eq l.byte 10 ≡ x → proofs.begun m ≡ false
-          by_test true e = let j : proofs.step (at limit top (phase.Comment st)) l.byte ≡ Go (at limit top (phase.Between st)) = rw e refl in let z : m ≡ at limit top (phase.Between st) = cc in ap proofs.begun z
-          by_test false e = let j : proofs.step (at limit top (phase.Comment st)) l.byte ≡ Go (at limit top (phase.Comment st)) = rw e refl in let z : m ≡ at limit top (phase.Comment st) = cc in ap proofs.begun z
-
   from_idle : (A : Type 0) (p : Phase) (t : List Letter) (e : Statement) (next : ProofState) → is_within p ≡ false → ReadsStatement proofs (at limit top p) t e next
       → ((st : Stage) → p ≡ phase.Between st → A) → A
   from_idle A (phase.Between st) t e next i r f = f st refl
-  from_idle A (phase.Comment st) t e next i r f = not_in_comment st t e next r
+  from_idle A (phase.Comment st) t e next i r f = absurd (comment_reads limit top st t e next r)
   from_idle A _ t e next i r f = never true refl i
 
   ends : (s next : ProofState) (t : List Letter) (e : Statement) → Idle s → ReadsStatement proofs s t e next → Idle next

@@ -209,14 +209,7 @@ module _ (limit top : ℕ) where
 
   spelled_words : (f : Keyword) (t : List Letter) → Spaced (words_of f) t → Spelled f t
   spelled_words keyword.Header t h = to_spelled keyword.Header _ _ t refl (splits keyword.Header [] _ _ t refl h)
-  spelled_words keyword.Formula t h = to_spelled keyword.Formula _ _ t refl (splits keyword.Formula [] _ _ t refl h)
-  spelled_words keyword.Pol t h = to_spelled keyword.Pol _ _ t refl (splits keyword.Pol [] _ _ t refl h)
-  spelled_words keyword.Rup t h = to_spelled keyword.Rup _ _ t refl (splits keyword.Rup [] _ _ t refl h)
-  spelled_words keyword.Solution t h = to_spelled keyword.Solution _ _ t refl (splits keyword.Solution [] _ _ t refl h)
-  spelled_words keyword.Delete t h = to_spelled keyword.Delete _ _ t refl (splits keyword.Delete [] _ _ t refl h)
-  spelled_words keyword.Output t h = to_spelled keyword.Output _ _ t refl (splits keyword.Output [] _ _ t refl h)
-  spelled_words keyword.Conclusion t h = to_spelled keyword.Conclusion _ _ t refl (splits keyword.Conclusion [] _ _ t refl h)
-  spelled_words keyword.End t h = to_spelled keyword.End _ _ t refl (splits keyword.End [] _ _ t refl h)
+  spelled_words f t h = to_spelled f _ _ t refl (splits f [] _ _ t refl h)
 
   -- From the stage, the first byte of the words has the same step as within the words.
   abbrev first_byte : Keyword → ℕ
@@ -228,14 +221,7 @@ module _ (limit top : ℕ) where
 
   begins_with : (f : Keyword) (t : List Letter) → Spaced (words_of f) t → (u : List Letter) × (t ≡ unmarked (first_byte f) ∷ u)
   begins_with keyword.Header t (a, b, e, h, k) = (b, e ∙ ap (λ x. x ++ b) h)
-  begins_with keyword.Formula t (a, b, e, h, k) = (b, e ∙ ap (λ x. x ++ b) h)
-  begins_with keyword.Pol t (a, b, e, h, k) = (b, e ∙ ap (λ x. x ++ b) h)
-  begins_with keyword.Rup t (a, b, e, h, k) = (b, e ∙ ap (λ x. x ++ b) h)
-  begins_with keyword.Solution t (a, b, e, h, k) = (b, e ∙ ap (λ x. x ++ b) h)
-  begins_with keyword.Delete t (a, b, e, h, k) = (b, e ∙ ap (λ x. x ++ b) h)
-  begins_with keyword.Output t (a, b, e, h, k) = (b, e ∙ ap (λ x. x ++ b) h)
-  begins_with keyword.Conclusion t (a, b, e, h, k) = (b, e ∙ ap (λ x. x ++ b) h)
-  begins_with keyword.End t (a, b, e, h, k) = (b, e ∙ ap (λ x. x ++ b) h)
+  begins_with _ t (a, b, e, h, k) = (b, e ∙ ap (λ x. x ++ b) h)
 
   -- From the stage, the words and the text after them are read.
   entered : (f : Keyword) (t u : List Letter) (e : Statement) (after : ProofState) → Spaced (words_of f) t → ReadsStatement proofs (spelt f 0) (t ++ u) e after

@@ -3,7 +3,7 @@ use Rattle.pb_proof.proofs.Common.{ℕ, ◌&&◌, ◌++◌, ◌+◌, ◌||◌, �
 use Rattle.pb_proof.proofs.Common.{nat_eq, not, refl, subst, sym, true, slice_index, or-true, cond_both, eqb-true, never, white_each, End, Go, Next}
 use Rattle.pb_proof.proofs.Common.{ReadsStatement, Refuse, SkipsGap, in_comment, IsBlank, Nothing, is_white, Letter, Keyword, Stage, Closing}
 use Rattle.pb_proof.proofs.Common.{Complete, Formula, Opening, Steps, Statement, act, at, HasGaps, idle, proofs, ProofState, enter, meets}
-use Rattle.pb_proof.proofs.Common.{next_action, pass, step_keyword, words_of, IsGap}
+use Rattle.pb_proof.proofs.Common.{next_action, pass, step_keyword, words_of, IsGap, go_or_end, one_state}
 use Rattle.pb_text.proofs.lemmas.text.Blanks.{blank_passes, in_comment-snoc, IsBlank-snoc, passes_at}
 use Rattle.pb_proof.specs.engine.Machine.Transition.{between, spell}
 use Rattle.pb_proof.specs.engine.Machine.State.{is_within}
@@ -25,10 +25,7 @@ Inside _ = Unit {0}
 after_inside : (f : Keyword) → Inside (next_action f)
 after_inside keyword.Header = refl
 after_inside keyword.Solution = refl
-after_inside keyword.Delete = tt
 after_inside keyword.Output = refl
-after_inside keyword.Conclusion = tt
-after_inside keyword.End = tt
 after_inside _ = tt
 
 pub spell_inside : (f : Keyword) (k b : ℕ) (other : Action) → Inside other → Inside (spell f k b other)
@@ -42,6 +39,15 @@ enter_inside Steps b = spell_inside (step_keyword b) 0 b action.Stop tt
 enter_inside Concluding b = spell_inside keyword.Conclusion 0 b action.Stop tt
 enter_inside Closing b = spell_inside keyword.End 0 b action.Stop tt
 enter_inside Complete b = tt
+
+-- no statement begins in a comment
+pub comment_reads : (limit top : ℕ) (s : Stage) (t : List Letter) (e : Statement) (after : ProofState) → ReadsStatement proofs (at limit top (phase.Comment s)) t e after → ⊥
+comment_reads limit top s [] e after r = r
+comment_reads limit top s (l ∷ []) e after (h, n) = go_or_end _ e after h
+comment_reads limit top s (l ∷ k ∷ t) e after (mid, h, o, n, r) = never (proofs.begun mid) o (
+  ap proofs.begun (sym (one_state _ mid h))
+  ∙ cond_both (nat_eq l.byte 10) (phase.Between s) (phase.Comment s) (λ q. is_within q ≡ false) (λ _. refl) (λ _. refl)
+  )
 
 module _ (limit top : ℕ) (s : Stage) (gaps : HasGaps s) where
   -- the state within a comment, or outside one
@@ -74,12 +80,30 @@ module _ (limit top : ℕ) (s : Stage) (gaps : HasGaps s) where
   star_mode : (b : ℕ) → nat_eq b 42 ≡ true → next_mode b false ≡ true
   star_mode b h = subst (λ x. next_mode x false ≡ true) (sym (eqb-true b 42 h)) refl
 
-  gap_byte : (commented : Bool) (b : ℕ) → InGap (Leads b commented) (proofs.step (gap_state commented) b)
-  gap_byte true b = by_feed (nat_eq b 10) refl
+  gap_step : (commented : Bool) (b : ℕ) → passed b commented ≡ true → proofs.step (gap_state commented) b ≡ Go (gap_state (next_mode b commented))
+  gap_step true b h = by_feed (nat_eq b 10) refl
     where
-      by_feed : (x : Bool) → nat_eq b 10 ≡ x → InGap (Leads b true) (act (gap_state true) b (action.To (cond x (phase.Between s) (phase.Comment s))))
-      by_feed true e = λ o. (or-true (is_white b || nat_eq b 42), ap gap_state (sym (ap (λ y. not y && (nat_eq b 42 || true)) e)))
-      by_feed false e = λ o. (or-true (is_white b || nat_eq b 42), ap gap_state (sym (ap (λ y. not y && (nat_eq b 42 || true)) e ∙ or-true (nat_eq b 42))))
+      by_feed : (x : Bool) → nat_eq b 10 ≡ x → act (gap_state true) b (action.To (cond x (phase.Between s) (phase.Comment s))) ≡ Go (gap_state (next_mode b true))
+      by_feed true e = ap (λ y. Go (gap_state y)) (sym (ap (λ y. not y && (nat_eq b 42 || true)) e))
+      by_feed false e = ap (λ y. Go (gap_state y)) (sym (ap (λ y. not y && (nat_eq b 42 || true)) e ∙ or-true (nat_eq b 42)))
+  gap_step false b h =
+      ap (act (gap_state false) b) (passing s b gaps)
+      ∙ by_white (is_white b) refl
+    where
+      by_star : is_white b ≡ false → (x : Bool) → nat_eq b 42 ≡ x
+          → act (gap_state false) b (cond x (action.To (phase.Comment s)) (enter s b)) ≡ Go (gap_state (next_mode b false))
+      by_star w true e = ap (λ y. Go (gap_state y)) (sym (star_mode b e))
+      by_star w false e = never false (sym (ap₂ (λ y z. y || z || false) w e) ∙ h) refl
+
+      by_white : (x : Bool) → is_white b ≡ x
+          → act (gap_state false) b (cond x (action.To (phase.Between s)) (cond (nat_eq b 42) (action.To (phase.Comment s)) (enter s b))) ≡ Go (gap_state (next_mode b false))
+      by_white true e = ap (λ y. Go (gap_state y)) (sym (white_mode b e))
+      by_white false e = by_star e (nat_eq b 42) refl
+
+  gap_byte : (commented : Bool) (b : ℕ) → InGap (Leads b commented) (proofs.step (gap_state commented) b)
+  gap_byte true b =
+      let p : passed b true ≡ true = or-true (is_white b || nat_eq b 42) in
+      subst (InGap (Leads b true)) (sym (gap_step true b p)) (λ o. (p, refl))
   gap_byte false b =
       subst (λ m. InGap (Leads b false) (act (gap_state false) b m)) (sym (passing s b gaps))
       (cond_both (is_white b) _ _ Q
@@ -111,26 +135,6 @@ module _ (limit top : ℕ) (s : Stage) (gaps : HasGaps s) where
   outside true = refl
   outside false = refl
 
-  gap_step : (commented : Bool) (b : ℕ) → passed b commented ≡ true → proofs.step (gap_state commented) b ≡ Go (gap_state (next_mode b commented))
-  gap_step true b h = by_feed (nat_eq b 10) refl
-    where
-      by_feed : (x : Bool) → nat_eq b 10 ≡ x → act (gap_state true) b (action.To (cond x (phase.Between s) (phase.Comment s))) ≡ Go (gap_state (next_mode b true))
-      by_feed true e = ap (λ y. Go (gap_state y)) (sym (ap (λ y. not y && (nat_eq b 42 || true)) e))
-      by_feed false e = ap (λ y. Go (gap_state y)) (sym (ap (λ y. not y && (nat_eq b 42 || true)) e ∙ or-true (nat_eq b 42)))
-  gap_step false b h =
-      ap (act (gap_state false) b) (passing s b gaps)
-      ∙ by_white (is_white b) refl
-    where
-      by_star : is_white b ≡ false → (x : Bool) → nat_eq b 42 ≡ x
-          → act (gap_state false) b (cond x (action.To (phase.Comment s)) (enter s b)) ≡ Go (gap_state (next_mode b false))
-      by_star w true e = ap (λ y. Go (gap_state y)) (sym (star_mode b e))
-      by_star w false e = never false (sym (ap₂ (λ y z. y || z || false) w e) ∙ h) refl
-
-      by_white : (x : Bool) → is_white b ≡ x
-          → act (gap_state false) b (cond x (action.To (phase.Between s)) (cond (nat_eq b 42) (action.To (phase.Comment s)) (enter s b))) ≡ Go (gap_state (next_mode b false))
-      by_white true e = ap (λ y. Go (gap_state y)) (sym (white_mode b e))
-      by_white false e = by_star e (nat_eq b 42) refl
-
   gap_each : (gap before : List ℕ) → IsBlank (before ++ gap) → SkipsGap proofs (gap_state (in_comment before)) gap (gap_state (in_comment (before ++ gap)))
   gap_each [] before h = ap (λ x. gap_state (in_comment x)) (append-nil before)
   gap_each (b ∷ gap) before h =
@@ -144,19 +148,6 @@ module _ (limit top : ℕ) (s : Stage) (gaps : HasGaps s) where
             (subst (λ x. SkipsGap proofs (gap_state (in_comment (before ++ b ∷ []))) gap (gap_state (in_comment x))) (sym e) k),
       )
 
-  -- no statement begins in a comment
-  comment_reads : (t : List Letter) (e : Statement) (after : ProofState) → ReadsStatement proofs (gap_state true) t e after → ⊥
-  comment_reads [] e after r = r
-  comment_reads (l ∷ []) e after (g, n) = no_end g
-    where
-      no_end : act (gap_state true) l.byte (action.To (cond (nat_eq l.byte 10) (phase.Between s) (phase.Comment s))) ≡ End e after → ⊥
-      no_end g = cc
-  comment_reads (l ∷ k ∷ t) e after (mid, g, i, n, r) = stays (nat_eq l.byte 10) g
-    where
-      stays : (x : Bool) → act (gap_state true) l.byte (action.To (cond x (phase.Between s) (phase.Comment s))) ≡ Go mid → ⊥
-      stays true g = let f : idle limit top s ≡ mid = cc in never (proofs.begun mid) i (ap proofs.begun (sym f))
-      stays false g = let f : at limit top (phase.Comment s) ≡ mid = cc in never (proofs.begun mid) i (ap proofs.begun (sym f))
-
   pub gap_before : (gap : List ℕ) (mid after : ProofState) (t : List Letter) (e : Statement) → SkipsGap proofs (idle limit top s) gap mid → ReadsStatement proofs mid t e after
       → IsGap gap × (mid ≡ idle limit top s)
   gap_before gap mid after t e h r =
@@ -164,7 +155,7 @@ module _ (limit top : ℕ) (s : Stage) (gaps : HasGaps s) where
       by_mode (in_comment gap) refl k
     where
       by_mode : (x : Bool) → in_comment gap ≡ x → IsBlank gap × (mid ≡ gap_state (in_comment gap)) → IsGap gap × (mid ≡ idle limit top s)
-      by_mode true c k = absurd (comment_reads t e after (subst (λ y. ReadsStatement proofs y t e after) (k.1 ∙ ap gap_state c) r))
+      by_mode true c k = absurd (comment_reads limit top s t e after (subst (λ y. ReadsStatement proofs y t e after) (k.1 ∙ ap gap_state c) r))
       by_mode false c k = ((k.0, c), k.1 ∙ ap gap_state c)
 
   pub gap_skips : (gap : List ℕ) → IsGap gap → SkipsGap proofs (idle limit top s) gap (idle limit top s)

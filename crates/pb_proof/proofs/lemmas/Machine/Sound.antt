@@ -88,19 +88,13 @@ module _ (limit top : ℕ) (here : Stage) where
   rest_statement : (r : LineKind) (e : Statement) (t : List Letter) → (Before r ⋅ SpellsRest limit top r e) t
       → (stage_of e ≡ stage_rest r) × SpellsStatement limit top e t × (next_stage r ≡ stage_after e)
   rest_statement kind.Count (statement.TheVariants.F c) t h = (refl, h, refl)
-  rest_statement kind.Count _ t h = absurd h.4
   rest_statement kind.Pol (statement.TheVariants.Pol c) t h = (refl, h, refl)
-  rest_statement kind.Pol _ t h = absurd h.4
   rest_statement kind.Rup (statement.TheVariants.Rup c) t h = (refl, h, refl)
-  rest_statement kind.Rup _ t h = absurd h.4
   rest_statement kind.Soli (statement.TheVariants.Soli c) t h = (refl, h, refl)
-  rest_statement kind.Soli _ t h = absurd h.4
   rest_statement kind.Solx (statement.TheVariants.Solx c) t h = (refl, h, refl)
-  rest_statement kind.Solx _ t h = absurd h.4
   rest_statement kind.Delete (statement.TheVariants.Delete c) t h = (refl, h, refl)
-  rest_statement kind.Delete _ t h = absurd h.4
   rest_statement kind.Conclusion (statement.TheVariants.Conclude c) t h = (refl, h, refl)
-  rest_statement kind.Conclusion _ t h = absurd h.4
+  rest_statement _ _ t h = absurd h.4
 
   module _ (s : ProofState) (l : Letter) (p : List Letter) (k : Known s) where
     -- what holds of an outcome, and after a move

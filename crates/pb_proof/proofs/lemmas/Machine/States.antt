@@ -42,10 +42,7 @@ within_on p q o d w f n = (o, record { owes = d; stays = λ _. w; fits = f; plai
 pub on_after : (p : Phase) → IsPlain p → (f : Keyword) → OnAction p (next_action f)
 on_after p o keyword.Header = within_on p phase.HeaderEnd o refl refl tt tt
 on_after p o keyword.Solution = within_on p phase.Solution o refl refl tt tt
-on_after p o keyword.Delete = o
 on_after p o keyword.Output = within_on p (phase.OutputEnd true) o refl refl tt tt
-on_after p o keyword.Conclusion = o
-on_after p o keyword.End = o
 on_after p o _ = o
 
 on_spell : (p : Phase) → IsPlain p → (f : Keyword) (k b : ℕ) (other : Action) → k < length (words_of f) → OnAction p other → OnAction p (spell f k b other)

@@ -1,9 +1,9 @@
 -- A run of the line machine is a run of the proof machine.
 -- A run of the sum machine is a run of the `rup` machine.
 use Rattle.pb_proof.proofs.Common.{ℕ, ◌<◌, ◌∙◌, ◌∷◌, ◌≡◌, ◌≤◌, [], ap, ap₂, arith, false, get_or, length, List, Option, refl, Some, subst, suc, sym}
-use Rattle.pb_proof.proofs.Common.{take, zero, Linear, SumEvent, sums, SumState, End, Go, Next, Pushes, Refuse, Runs, Push, is_blank, LineMachine}
-use Rattle.pb_proof.proofs.Common.{Give, LineKind, line_automaton, IsRupInOrder, rup_act, rup_automaton, rup_over, rup_transition, RupState, giving}
-use Rattle.pb_proof.proofs.Common.{Holds, IsInOrder, proofs, ProofState}
+use Rattle.pb_proof.proofs.Common.{take, zero, Linear, SumEvent, sums, SumState, End, Go, Next, Pushes, Runs, Push, is_blank, LineMachine, Give}
+use Rattle.pb_proof.proofs.Common.{LineKind, line_automaton, IsRupInOrder, rup_act, rup_automaton, rup_over, rup_transition, RupState, giving, Holds}
+use Rattle.pb_proof.proofs.Common.{IsInOrder, proofs, ProofState}
 use Rattle.pb_text.specs.declared.machine.Push.TheVariants as push
 use Rattle.pb_proof.specs.engine.Machine.State.{over}
 use Rattle.pb_proof.specs.declared.line.rup.phase.RupPhase.TheVariants.{Gap as GapRup, Inside as InsideRup}
@@ -25,12 +25,7 @@ within limit top r old h (b ∷ text) new (mid, continues, state, rest) =
 -- if a line machine is stored, the phase is `Inside`
 reading : (s : ProofState) (p : Phase) → Holds s p → (i : LineMachine) → s.line ≡ Some i → (r : LineKind) × (p ≡ phase.Inside r)
 reading s (phase.Inside r) h i e = (r, refl)
-reading s (phase.Between at) h i e = absurd (let f : ⊥ = cc in f)
-reading s (phase.Comment at) h i e = absurd (let f : ⊥ = cc in f)
-reading s (phase.Spelling f k) h i e = absurd (let f : ⊥ = cc in f)
-reading s phase.Solution h i e = absurd (let f : ⊥ = cc in f)
-reading s phase.HeaderEnd h i e = absurd (let f : ⊥ = cc in f)
-reading s (phase.OutputEnd may) h i e = absurd (let f : ⊥ = cc in f)
+reading s _ h i e = absurd (let f : ⊥ = cc in f)
 
 abbrev put : ProofState → Phase → Option LineMachine → ProofState
 put s p i = record { limit = s.limit; top = s.top; phase = p; line = i }
@@ -49,16 +44,13 @@ runs_given s h old e text new runs =
 
 goes_on : (s new : RupState) (e : Linear) (n : Next SumState SumEvent) → rup_over s n ≡ End e new → ⊥
 goes_on s new e (Go inner) h = cc
-goes_on s new e (End f inner) h = cc
-goes_on s new e Refuse h = cc
+goes_on s new e _ h = cc
 
 -- if a byte is given and not taken, nothing changes
 pub unmoved : (s new : RupState) (b : ℕ) (answer : Push Linear) → rup_transition s.phase b ≡ Give → Pushes rup_automaton s b answer new → (answer ≡ push.Go → ⊥) → new ≡ s
 unmoved s new b push.Go planned h k = absurd (k refl)
 unmoved s new b (push.Event e) planned h k = absurd (goes_on s new e (sums.step s.sums b) (sym (ap (rup_act s b) planned) ∙ h))
-unmoved s new b push.No planned h k = h.2
-unmoved s new b push.Large planned h k = h.2
-unmoved s new b push.Memory planned h k = h.2
+unmoved s new b _ planned h k = h.2
 
 -- within a constraint
 within_rup : (o : Option Linear) (old : SumState) → IsRupInOrder (record { phase = InsideRup; sums = old; linear = o }) → (text : List ℕ) (new : SumState) → Runs sums old text new

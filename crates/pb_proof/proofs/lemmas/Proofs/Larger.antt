@@ -1,15 +1,14 @@
 -- A proof remains a proof if numbers may be larger.
 use Rattle.pb_proof.proofs.Common.{ℕ, ℤ, ◌∷◌, ◌≤◌, [], arith, List, None, Option, refl, Some, All-cons, All-head, All-nil, All-tail, Linear, Blank}
 use Rattle.pb_proof.proofs.Common.{SpellsLinear, after_it, inside, ◌⋅◌, Blanks0, Blanks1, Byte, Bytes, Language, Count, Item, Letter, Bound, Finite}
-use Rattle.pb_proof.proofs.Common.{Infinite, Conclusion, Bounds, NoClaim, Sat, Unsat, Statement, Conclude, Delete, F, Header, Output, Pol, Rup, Soli}
-use Rattle.pb_proof.proofs.Common.{Solx, PolWord, Add, Axiom, Divide, Id, Multiply, Saturate, Weaken, bounds_word, conclusion_word, f_word, Factor}
-use Rattle.pb_proof.proofs.Common.{Feed, IdShown, LineEnd, Listed, LiteralsShown, rup_word, SpellsBound, SpellsConclusion, SpellsCount, SpellsId}
-use Rattle.pb_proof.proofs.Common.{SpellsRup, SpellsStatement, SpellsWord, unsat_word, AreSpelled, BeginsAtOnce, IsGap, IsProof}
+use Rattle.pb_proof.proofs.Common.{Infinite, Conclusion, Bounds, NoClaim, Sat, Unsat, Statement, Conclude, Delete, F, Pol, Rup, PolWord, Divide, Id}
+use Rattle.pb_proof.proofs.Common.{Multiply, bounds_word, conclusion_word, f_word, Factor, Feed, IdShown, LineEnd, Listed, LiteralsShown, rup_word}
+use Rattle.pb_proof.proofs.Common.{SpellsBound, SpellsConclusion, SpellsCount, SpellsId, SpellsRup, SpellsStatement, SpellsWord, unsat_word}
+use Rattle.pb_proof.proofs.Common.{AreSpelled, BeginsAtOnce, IsGap, IsProof}
 use Rattle.pb_text.proofs.lemmas.numbers.Numbers.{number-within}
 use Rattle.pb_sums.specs.declared.Part as part
 use Rattle.pb_sums.specs.declared.SumEvent as sum
 use Rattle.pb_sums.proofs.lemmas.values.Larger.{spells_larger}
-use Rattle.pb_proof.specs.declared.statement.Statement.TheVariants.{End}
 
 abbrev Within : Language → Language → Type 0
 Within P Q = (t : List Letter) → P t → Q t
@@ -40,14 +39,11 @@ module _ (limit limit' top top' : ℕ) (h : limit ≤ limit') (j : top ≤ top')
 
   word_grows : (w : PolWord) → Within (SpellsWord limit top w) (SpellsWord limit' top' w)
   word_grows (Id id) t k = id_grows id t k
-  word_grows (Axiom literal) t k = k
-  word_grows Add t k = k
   word_grows (Multiply z) t k =
       first_grows (Factor limit z ⋅ Blanks1) (Factor limit' z ⋅ Blanks1) (Byte 42) (first_grows (Factor limit z) (Factor limit' z) Blanks1 (factor_grows z)) t k
   word_grows (Divide z) t k =
       first_grows (Factor limit z ⋅ Blanks1) (Factor limit' z ⋅ Blanks1) (Byte 100) (first_grows (Factor limit z) (Factor limit' z) Blanks1 (factor_grows z)) t k
-  word_grows Saturate t k = k
-  word_grows (Weaken name) t k = k
+  word_grows _ t k = k
 
   bound_grows : (b : Bound) → Within (SpellsBound limit b) (SpellsBound limit' b)
   bound_grows (Finite z) t k = number-within limit limit' z h t k
@@ -84,21 +80,17 @@ module _ (limit limit' top top' : ℕ) (h : limit ≤ limit') (j : top ≤ top')
       (r, first_grows (Blanks1 ⋅ SpellsLinear Blank limit c) (Blanks1 ⋅ SpellsLinear Blank limit' c) Feed (last_grows Blanks1 (SpellsLinear Blank limit c) (SpellsLinear Blank limit' c) (linear_grows c)) t k)
 
   statement_grows : (e : Statement) → Within (SpellsStatement limit top e) (SpellsStatement limit' top' e)
-  statement_grows Header t k = k
   statement_grows (F c) t k = last_grows (Bytes f_word) (SpellsCount limit top c) (SpellsCount limit' top' c) (spelt_count c) t k
   statement_grows (Pol ws) t (a, b, e, i, (p, k)) =
       (a, b, e, i, (p, first_grows (Listed (SpellsWord limit top) ws) (Listed (SpellsWord limit' top') ws) LineEnd (listed_grows (SpellsWord limit top) (SpellsWord limit' top') word_grows ws) b k))
   statement_grows (Rup c) t k = last_grows (Bytes rup_word) (SpellsRup limit top c) (SpellsRup limit' top' c) (spelt_rup c) t k
-  statement_grows (Soli ls) t k = k
-  statement_grows (Solx ls) t k = k
   statement_grows (Delete ids) t (a, b, e, i, (p, k)) =
       (a, b, e, i, (p, first_grows (Listed (SpellsId top) ids) (Listed (SpellsId top') ids) LineEnd (listed_grows (SpellsId top) (SpellsId top') id_grows ids) b k))
-  statement_grows Output t k = k
   statement_grows (Conclude c) t k =
       last_grows (Bytes conclusion_word) (Blanks1 ⋅ SpellsConclusion limit top c ⋅ LineEnd) (Blanks1 ⋅ SpellsConclusion limit' top' c ⋅ LineEnd)
       (first_grows (Blanks1 ⋅ SpellsConclusion limit top c) (Blanks1 ⋅ SpellsConclusion limit' top' c) LineEnd
       (last_grows Blanks1 (SpellsConclusion limit top c) (SpellsConclusion limit' top' c) (conclusion_grows c))) t k
-  statement_grows End t k = k
+  statement_grows _ t k = k
 
   all_grow : (items : List (Item Statement)) → AreSpelled limit top items → AreSpelled limit' top' items
   all_grow [] k = All-nil (λ i. IsGap i.gap × SpellsStatement limit' top' i.event i.text)

@@ -1,10 +1,10 @@
 -- What holds of each state that the `rup` machine can be in.
-use Rattle.pb_proof.proofs.Common.{ℕ, ◌&&◌, ◌++◌, ◌+◌, ◌∙◌, ◌≡◌, ◌≤◌, [], ap, arith, Bool, cond, false, IsTrue, List, nat_eq, None, Option, refl}
-use Rattle.pb_proof.proofs.Common.{Some, subst, sym, true, cond_both, flushed-units, midway-not-done, reads_something, continues-midway, ended-last}
-use Rattle.pb_proof.proofs.Common.{Linear, SumEvent, sums, SumState, accepted, admits_before, final, IsAlive, refuses, reads_after, never}
-use Rattle.pb_proof.proofs.Common.{AcceptsItems, Admits, End, Go, is_large, IsState, Next, Refuse, is_blank, is_digit, Item, RupAction, Give}
-use Rattle.pb_proof.proofs.Common.{RupPhase, Inside, Tail, IsRupInOrder, linear_of, rup_act, rup_asks, rup_automaton, rup_done, rup_finish, rup_first}
-use Rattle.pb_proof.proofs.Common.{rup_in_number, rup_midway, rup_over, rup_transition, RupHolds, RupState, sum_first}
+use Rattle.pb_proof.proofs.Common.{ℕ, ◌&&◌, ◌++◌, ◌+◌, ◌∙◌, ◌≡◌, ◌≤◌, [], ap, arith, Bool, false, IsTrue, List, nat_eq, None, Option, refl, Some}
+use Rattle.pb_proof.proofs.Common.{subst, sym, true, cond_both, flushed-units, midway-not-done, reads_something, continues-midway, ended-last, Linear}
+use Rattle.pb_proof.proofs.Common.{SumEvent, sums, SumState, accepted, admits_before, final, IsAlive, refuses, reads_after, never, AcceptsItems}
+use Rattle.pb_proof.proofs.Common.{Admits, End, Go, is_large, IsState, Next, Refuse, is_blank, is_digit, Item, RupAction, Give, RupPhase, Inside}
+use Rattle.pb_proof.proofs.Common.{Tail, IsRupInOrder, linear_of, rup_act, rup_asks, rup_automaton, rup_done, rup_finish, rup_first, rup_in_number}
+use Rattle.pb_proof.proofs.Common.{rup_midway, rup_over, rup_transition, RupHolds, RupState, sum_first}
 use Rattle.pb_sums.specs.engine.Machine.{Work, Outcome, act, flushed, transition, kind, letter_at, is_numeric}
 use Rattle.pb_sums.specs.engine.State.{over, units}
 use Rattle.pb_sums.specs.declared.linear.Term.{Term}
@@ -19,12 +19,9 @@ use Rattle.pb_proof.proofs.lemmas.Rup.Reads.{given_walks}
 
 -- The constraint that the sum machine gives has at most as many units as that machine had.
 acted-terms : (ys xs : List Term) (name : List ℕ) (m : Action) (e : SumEvent) (w : Work) → act ys xs name m ≡ End e w → (linear_of e).terms ≡ ys
-acted-terms ys xs name (action.To p) e w h = absurd (let f : ⊥ = cc in f)
-acted-terms ys xs name (action.Begin p b) e w h = absurd (let f : ⊥ = cc in f)
-acted-terms ys xs name (action.Add p b) e w h = absurd (let f : ⊥ = cc in f)
 acted-terms ys xs name action.EndSum e w h = let f : sum.TheVariants.Sum ys ≡ e = cc in ap (λ x. (linear_of x).terms) (sym f)
 acted-terms ys xs name (action.EndLinear r z) e w h = let f : sum.TheVariants.Linear (record { terms = ys; relation = r; degree = z }) ≡ e = cc in ap (λ x. (linear_of x).terms) (sym f)
-acted-terms ys xs name action.Stop e w h = absurd (let f : ⊥ = cc in f)
+acted-terms ys xs name _ e w h = absurd (let f : ⊥ = cc in f)
 
 over-ends : (s next : SumState) (e : SumEvent) (n : Outcome) → over s n ≡ End e next → (w : Work) × (n ≡ End e w)
 over-ends s next e (Go v) h = absurd (let f : ⊥ = cc in f)
@@ -52,44 +49,23 @@ On s (Go next) = Continues s next
 On s (End e next) = (rup_done next.phase ≡ true) × (rup_automaton.spent next ≡ 0)
 On s Refuse = Unit {0}
 
-abbrev OnAction : RupAction → Type 0
-OnAction (To p) = rup_midway p ≡ true
-OnAction _ = Unit {0}
+-- what holds of a move from a phase
+abbrev OnAction : RupState → RupPhase → RupAction → Type 0
+OnAction s p (To q) = (rup_midway q ≡ true) × (RupHolds s p → RupHolds s q)
+OnAction s p Give = RupHolds s p → (s.linear ≡ None) × (rup_in_number s p ≡ sums.in_number s.sums)
+OnAction s p Finish = RupHolds s p → sums.spent s.sums ≡ 0
+OnAction s p Stop = Unit {0}
 
-on_transition : (p : RupPhase) (b : ℕ) → OnAction (rup_transition p b)
-on_transition Start b = cond_both (is_blank b) (To Gap) Stop OnAction (λ e. refl) (λ e. tt)
-on_transition Gap b = cond_both (is_blank b) (To Gap) Give OnAction (λ e. refl) (λ e. tt)
-on_transition Inside b = tt
-on_transition Tail b = cond_both (is_blank b) (To Tail) _ OnAction (λ e. refl) (λ e. cond_both (nat_eq b 10) Finish Stop OnAction (λ e. tt) (λ e. tt))
-on_transition Done b = tt
+on_transition : (s : RupState) (p : RupPhase) (b : ℕ) → OnAction s p (rup_transition p b)
+on_transition s Start b = cond_both (is_blank b) (To Gap) Stop (OnAction s Start) (λ e. (refl, λ h. h)) (λ e. tt)
+on_transition s Gap b = cond_both (is_blank b) (To Gap) Give (OnAction s Gap) (λ e. (refl, λ h. h)) (λ e h. (h.0, sym (ap sums.in_number h.1)))
+on_transition s Inside b = λ h. (h.0, refl)
+on_transition s Tail b =
+    cond_both (is_blank b) (To Tail) _ (OnAction s Tail) (λ e. (refl, λ h. h)) (λ e. cond_both (nat_eq b 10) Finish Stop (OnAction s Tail) (λ e h. h.1) (λ e. tt))
+on_transition s Done b = tt
 
--- where bytes are given to the sum machine, and where the line ends
-not_given : (x y : Bool) → cond x (To Tail) (cond y Finish Stop) ≡ Give → ⊥
-not_given true y e = cc
-not_given false true e = cc
-not_given false false e = cc
-
-given_none : (s : RupState) (p : RupPhase) (b : ℕ) → RupHolds s p → rup_transition p b ≡ Give → s.linear ≡ None
-given_none s Start b h e = h.0
-given_none s Gap b h e = h.0
-given_none s Inside b h e = h.0
-given_none s Tail b h e = absurd (not_given (is_blank b) (nat_eq b 10) e)
-given_none s Done b h e = h.0
-
-finish_empty : (s : RupState) (p : RupPhase) (b : ℕ) → RupHolds s p → rup_transition p b ≡ Finish → sums.spent s.sums ≡ 0
-finish_empty s Start b h e = absurd (not_finished (is_blank b) e)
-  where
-    not_finished : (x : Bool) → cond x (To Gap) Stop ≡ Finish → ⊥
-    not_finished true e = cc
-    not_finished false e = cc
-finish_empty s Gap b h e = absurd (not_finished (is_blank b) e)
-  where
-    not_finished : (x : Bool) → cond x (To Gap) Give ≡ Finish → ⊥
-    not_finished true e = cc
-    not_finished false e = cc
-finish_empty s Inside b h e = absurd (let f : ⊥ = cc in f)
-finish_empty s Tail b h e = h.1
-finish_empty s Done b h e = h.1
+known : (s : RupState) (b : ℕ) (m : RupAction) → rup_transition s.phase b ≡ m → OnAction s s.phase m
+known s b m e = subst (OnAction s s.phase) e (on_transition s s.phase b)
 
 on_given : (s : RupState) → IsState sums s.sums → s.linear ≡ None → (b : ℕ) (n : Next SumState SumEvent) → sums.step s.sums b ≡ n → On s (rup_over s n)
 on_given s state h b (Go inner) e = record { begins = refl; grows = omega (arith, state.grows b inner e) }
@@ -100,14 +76,14 @@ on_finish : (s : RupState) → sums.spent s.sums ≡ 0 → (o : Option Linear) �
 on_finish s h None = tt
 on_finish s h (Some c) = (refl, ap (λ (n : ℕ). 0 + n) h)
 
-on_act : (s : RupState) → IsRupInOrder s → (b : ℕ) (m : RupAction) → rup_transition s.phase b ≡ m → OnAction m → On s (rup_act s b m)
-on_act s h b (To p) e k = record { begins = k; grows = omega arith }
-on_act s h b Give e k = on_given s h.state (given_none s s.phase b h.holds e) b (sums.step s.sums b) refl
-on_act s h b Finish e k = on_finish s (finish_empty s s.phase b h.holds e) s.linear
-on_act s h b Stop e k = tt
+on_act : (s : RupState) → IsRupInOrder s → (b : ℕ) (m : RupAction) → OnAction s s.phase m → On s (rup_act s b m)
+on_act s h b (To p) k = record { begins = k.0; grows = omega arith }
+on_act s h b Give k = on_given s h.state (k h.holds).0 b (sums.step s.sums b) refl
+on_act s h b Finish k = on_finish s (k h.holds) s.linear
+on_act s h b Stop k = tt
 
 steps : (s : RupState) → IsRupInOrder s → (b : ℕ) → On s (rup_automaton.step s b)
-steps s h b = on_act s h b (rup_transition s.phase b) refl (on_transition s.phase b)
+steps s h b = on_act s h b (rup_transition s.phase b) (on_transition s s.phase b)
 
 continues : (s next : RupState) (b : ℕ) → IsRupInOrder s → rup_automaton.step s b ≡ Go next → Continues s next
 continues s next b h e = subst (On s) e (steps s h b)
@@ -129,49 +105,35 @@ begun_finish : (s : RupState) (o : Option Linear) → OnGo (rup_finish s o)
 begun_finish s None = tt
 begun_finish s (Some c) = tt
 
-begun_act : (s : RupState) (b : ℕ) (m : RupAction) → OnAction m → OnGo (rup_act s b m)
-begun_act s b (To p) k = k
+begun_act : (s : RupState) (b : ℕ) (m : RupAction) → OnAction s s.phase m → OnGo (rup_act s b m)
+begun_act s b (To p) k = k.0
 begun_act s b Give k = begun_given s (sums.step s.sums b)
 begun_act s b Finish k = begun_finish s s.linear
 begun_act s b Stop k = tt
 
 pub rup_begins : (s next : RupState) (b : ℕ) → rup_automaton.step s b ≡ Go next → rup_automaton.begun next ≡ true
-rup_begins s next b e = subst OnGo e (begun_act s b (rup_transition s.phase b) (on_transition s.phase b))
+rup_begins s next b e = subst OnGo e (begun_act s b (rup_transition s.phase b) (on_transition s s.phase b))
 
 midway_not_done : (p : RupPhase) → rup_midway p ≡ true → rup_done p ≡ false
-midway_not_done Start h = refl
-midway_not_done Gap h = refl
-midway_not_done Inside h = refl
-midway_not_done Tail h = refl
 midway_not_done Done h = sym h
+midway_not_done _ h = refl
 
 done_not_midway : (p : RupPhase) → rup_done p ≡ true → rup_midway p ≡ false
 done_not_midway Done h = refl
-done_not_midway Start h = refl
-done_not_midway Gap h = sym h
-done_not_midway Inside h = sym h
-done_not_midway Tail h = sym h
+done_not_midway _ h = never false h refl
 
 done_stops : (s : RupState) (p : RupPhase) (b : ℕ) → rup_done p ≡ true → rup_act s b (rup_transition p b) ≡ Refuse
 done_stops s Done b h = refl
-done_stops s Start b h = never false h refl
-done_stops s Gap b h = never false h refl
-done_stops s Inside b h = never false h refl
-done_stops s Tail b h = never false h refl
+done_stops s _ b h = never false h refl
 
 outside_plain : (s : RupState) (p : RupPhase) → rup_midway p ≡ false → rup_in_number s p ≡ false
-outside_plain s Start h = refl
-outside_plain s Done h = refl
-outside_plain s Gap h = refl
 outside_plain s Inside h = never true refl h
-outside_plain s Tail h = refl
+outside_plain s _ h = refl
 
 empty_outside : (s : RupState) (p : RupPhase) → RupHolds s p → rup_midway p ≡ false → rup_automaton.spent s ≡ 0
 empty_outside s Start h k = rw h.0 (ap (λ (x : SumState). 0 + sums.spent x) h.1)
 empty_outside s Done h k = rw h.0 (ap (λ (n : ℕ). 0 + n) h.1)
-empty_outside s Gap h k = never true refl k
-empty_outside s Inside h k = never true refl k
-empty_outside s Tail h k = never true refl k
+empty_outside s _ h k = never true refl k
 
 -- Each state that has not ended can end.
 finishing : (s : RupState) (c : Linear) → s.phase ≡ Tail → s.linear ≡ Some c → IsAlive rup_automaton s
@@ -239,46 +201,22 @@ rup_first_in_order limit state = record { holds = (refl, refl); state = state }
 
 -- What holds of the machine after a byte.
 pub to_order : (s : RupState) → IsRupInOrder s → (b : ℕ) (p : RupPhase) → rup_transition s.phase b ≡ To p → IsRupInOrder (record s { phase = p })
-to_order s h b p e = record { holds = held s.phase h.holds e; state = h.state }
-  where
-    at_gap : (x : Bool) (m : RupAction) → cond x (To Gap) m ≡ To p → (m ≡ To p → p ≡ Gap) → p ≡ Gap
-    at_gap true m e k = cc
-    at_gap false m e k = k e
-
-    at_tail : (x y : Bool) → cond x (To Tail) (cond y Finish Stop) ≡ To p → p ≡ Tail
-    at_tail true y e = cc
-    at_tail false true e = absurd (let f : ⊥ = cc in f)
-    at_tail false false e = absurd (let f : ⊥ = cc in f)
-
-    held : (q : RupPhase) → RupHolds s q → rup_transition q b ≡ To p → RupHolds s p
-    held Start h e = subst (RupHolds s) (sym (at_gap (is_blank b) Stop e (λ k. absurd (let f : ⊥ = cc in f)))) h
-    held Gap h e = subst (RupHolds s) (sym (at_gap (is_blank b) Give e (λ k. absurd (let f : ⊥ = cc in f)))) h
-    held Inside h e = absurd (let f : ⊥ = cc in f)
-    held Tail h e = subst (RupHolds s) (sym (at_tail (is_blank b) (nat_eq b 10) e)) h
-    held Done h e = absurd (let f : ⊥ = cc in f)
+to_order s h b p e = record { holds = (known s b (To p) e).1 h.holds; state = h.state }
 
 pub give_order : (s : RupState) → IsRupInOrder s → (b : ℕ) (inner : SumState) → rup_transition s.phase b ≡ Give → sums.step s.sums b ≡ Go inner → IsState sums inner → IsRupInOrder (record s { phase = Inside; sums = inner })
 give_order s h b inner e g state = record {
-  holds = (given_none s s.phase b h.holds e, midway-not-done inner.work.phase (continues-midway s.sums inner b g));
+  holds = ((known s b Give e h.holds).0, midway-not-done inner.work.phase (continues-midway s.sums inner b g));
   state = state;
 }
 
 pub tail_order : (s : RupState) (b : ℕ) (e : SumEvent) (inner : SumState) → sums.step s.sums b ≡ End e inner → IsState sums inner → IsRupInOrder (record { phase = Tail; sums = inner; linear = Some (linear_of e) })
 tail_order s b e inner g state = record { holds = ((linear_of e, refl), ended_empty s.sums inner b e g); state = state }
 
--- if a byte is given to the sum machine, a number is read if and only if that machine reads one
-given_number : (s : RupState) (p : RupPhase) (b : ℕ) → RupHolds s p → rup_transition p b ≡ Give → rup_in_number s p ≡ sums.in_number s.sums
-given_number s Inside b h e = refl
-given_number s Gap b h e = sym (ap sums.in_number h.1)
-given_number s Start b h e = sym (ap sums.in_number h.1)
-given_number s Tail b h e = absurd (not_given (is_blank b) (nat_eq b 10) e)
-given_number s Done b h e = absurd (let f : ⊥ = cc in f)
-
 module _ (s : RupState) (h : IsRupInOrder s) (b : ℕ) (planned : rup_transition s.phase b ≡ Give) where
   pub give_refused : sums.step s.sums b ≡ Refuse → (rup_automaton.step s b ≡ Refuse) × (is_large rup_automaton s b ≡ is_large sums s.sums b)
   give_refused stops = (
     ap (rup_act s b) planned ∙ ap (rup_over s) stops,
-    ap (λ (x : Bool). x && is_digit b) (given_number s s.phase b h.holds planned),
+    ap (λ (x : Bool). x && is_digit b) (known s b Give planned h.holds).1,
   )
 
   by_step : (n : Next SumState SumEvent) → sums.step s.sums b ≡ n → Admits sums s.sums b → Admits rup_automaton s b
