@@ -14,7 +14,7 @@ pub use Rattle.std.proofs.lemmas.Int.{fits_signed_from_abs, ints, to_z-of_z, to_
 pub use Rattle.std.proofs.lemmas.Iterator.{YieldsList-from_map, YieldsList-from_slice}
 pub use Rattle.std.proofs.lemmas.Iterator.Adapters.{items_from_extend}
 pub use Rattle.std.proofs.lemmas.Iterator.Consumers.{YieldsList-at, YieldsList-from_filter}
-pub use Rattle.std.proofs.lemmas.List.{drop_all, drop_more, get_or_append_left, length-append, length-map, length_push, map-append, take-append-drop}
+pub use Rattle.std.proofs.lemmas.List.{drop_all, drop_more, get_or_append_left, length-append, length-map, length_push, map-append, map-set, take-append-drop}
 pub use Rattle.std.proofs.lemmas.List.{take-map, take_all, take_more, take_rest}
 pub use Rattle.std.proofs.lemmas.List.Elements.{All-cons, All-filter, All-head, All-map, All-nil, All-push, All-tail}
 pub use Rattle.std.proofs.lemmas.Map.Entries.{lookup_tail, sum_by-insert_entry, sum_by-remove_entry}
@@ -42,6 +42,8 @@ pub use Rattle.pb_normal.specs.declared.side.Side.TheVariants.{AtLeast, AtMost}
 pub use Rattle.pb_normal.specs.engine.Adds.{Adds, Cancels, flip}
 pub use Rattle.pb_normal.specs.engine.Growing.{kind_form}
 pub use Rattle.pb_normal.specs.engine.Keyed.{IsAtItsKey, IsKeyed, TermCancels}
+pub use Rattle.pb_normal.specs.engine.NameTable.{AreEnds, chain_at, ends_of, hash_by, hashes_of, IsChained, IsLast, IsTable, listed, names_in, nexts_of, texts}
+unfoldable pub use Rattle.pb_normal.specs.engine.NameTable.{chain_of}
 pub use Rattle.pb_normal.specs.engine.Raw.{entry_of, is_below_0, raw_of, shift}
 pub use Rattle.pb_normal.specs.meaning.Constraints.{AreFormsOf, constraint_names, Fits, sides_in, with_sides}
 pub use Rattle.pb_normal.specs.meaning.Form.{AgreeOn, at_least_0, bound, coefficient, counted, each, Form, Holds, IsNormal, IsOrdered, IsOver}

@@ -2,4 +2,5 @@
 pub mod Adds
 pub mod Growing
 pub mod Keyed
+pub mod NameTable
 pub mod Raw

@@ -27,30 +27,3 @@ impl BuildHasher for HashKeys {
         })
     }
 }
-
-/// The first state of each hasher of a table. It is made once, as making it costs more than hashing a name.
-#[derive(Clone, Copy)]
-pub(crate) struct FirstState {
-    hasher: NameHasher,
-}
-
-impl FirstState {
-    /// The state that these keys give.
-    pub(crate) fn of(keys: &HashKeys) -> FirstState
-        ensures { result.hasher ≡ hasher_by keys.now }
-    {
-        FirstState {
-            hasher: keys.build_hasher(),
-        }
-    }
-}
-
-impl BuildHasher for FirstState {
-    type Hasher = NameHasher;
-
-    ghost build_hasher = { λ s. s.hasher };
-
-    fn build_hasher(&self) -> NameHasher {
-        self.hasher
-    }
-}

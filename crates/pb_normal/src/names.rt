@@ -4,28 +4,28 @@ ghost use Rattle.std.specs.Prelude.{◌≡◌, ◌↔◌, ◌<◌, [], length, I
 ghost use Rattle.std.specs.Option.{option_copied};
 ghost use Rattle.pb_normal.specs.meaning.Names.{AreDistinct, has_name, number_in, with_name};
 
-use crate::hash_keys::{FirstState, HashKeys};
-use indexmap::IndexSet;
+use crate::hash_keys::HashKeys;
+use crate::name_table::{NameTable, add, hash_of, number_of};
+use crate::name_text::name_at;
 use std::alloc::{AllocError, Global};
+use std::hash::BuildHasher;
 use std::marker::Model;
 
 /// The names that have a number, in the order of their first appearance; the first has the number 0.
 #[derive(Drop)]
 pub struct Names {
-    set: IndexSet<String, FirstState>,
-    alloc: Global,
+    table: NameTable,
 }
 
 impl Model for Names {
-    ghost use Rattle.std.specs.Prelude.{List, ℕ, map};
-    ghost use Rattle.std.specs.String.{string_bytes};
-    ghost use Rattle.pb_normal.specs.meaning.Names.{AreDistinct};
+    ghost use Rattle.std.specs.Prelude.{List, ℕ};
+    ghost use Rattle.pb_normal.specs.engine.NameTable.{IsTable, listed};
 
     ghost Value = { List (List ℕ) };
 
-    ghost view = { λ n. map string_bytes n.set.keys };
+    ghost view = { λ n. listed n.table };
 
-    ghost invariant = { λ n. AreDistinct (map string_bytes n.set.keys) };
+    ghost invariant = { λ n. IsTable n.table };
 }
 
 impl Names {
@@ -42,8 +42,13 @@ impl Names {
         ensures { result ≡ [] }
     {
         Names {
-            set: IndexSet::with_hasher(alloc, FirstState::of(&keys)),
-            alloc,
+            table: NameTable {
+                alloc,
+                hasher: keys.build_hasher(),
+                bytes: Vec::new(alloc),
+                entries: Vec::new(alloc),
+                heads: Vec::new(alloc),
+            },
         }
     }
 
@@ -52,21 +57,21 @@ impl Names {
         ensures length { result ≡ length self.now }
         ensures distinct { AreDistinct self.now }
     {
-        self.set.len()
+        self.table.entries.len()
     }
 
     /// Whether no name has a number.
     pub fn is_empty(&self) -> bool
         ensures { IsTrue result ↔ (self.now ≡ []) }
     {
-        self.set.is_empty()
+        self.table.entries.is_empty()
     }
 
     // Gives a proof the fact that no name appears twice.
     pub(crate) fn report_distinct(&self)
         ensures { AreDistinct self.now }
     {
-        let _ = &self.set;
+        let _ = &self.table;
     }
 
     /// The number of a name, or `None` if it has none.
@@ -75,17 +80,18 @@ impl Names {
             (number_in self.now name.now) else None) }
         ensures named { IfSome result (λ n. slice_get self.now n ≡ Some name.now) }
     {
-        self.set.get_index_of(name)
+        let hash = hash_of(self.table.hasher, name.as_bytes());
+        number_of(&self.table, hash, name)
     }
 
     /// The name with a number, or `None` if no name has it.
     pub fn name_of(&self, number: usize) -> Option<&str>
         ensures { option_copied result ≡ slice_get self.now number }
     {
-        match self.set.get_index(number) {
-            Some(name) => Some(name.as_str()),
-            None => None,
+        if number >= self.table.entries.len() {
+            return None;
         }
+        Some(self.text_of(number))
     }
 
     // The name with a number, which must belong to a name.
@@ -93,10 +99,11 @@ impl Names {
         requires { number < length self.now }
         ensures { slice_get self.now number ≡ Some result.now }
     {
-        match self.set.get_index(number) {
-            Some(name) => name.as_str(),
-            None => "",
-        }
+        name_at(
+            self.table.bytes.as_slice(),
+            self.table.entries.as_slice(),
+            number,
+        )
     }
 
     /// The number of a name. A name without a number gets the next one.
@@ -110,11 +117,10 @@ impl Names {
         ensures err { OnErr result (self.new ≡ self.old) }
         ensures distinct { AreDistinct self.new }
     {
-        if let Some(number) = self.set.get_index_of(name) {
+        let hash = hash_of(self.table.hasher, name.as_bytes());
+        if let Some(number) = number_of(&self.table, hash, name) {
             return Ok(number);
         }
-        let owned = String::from_str(self.alloc, name)?;
-        let (number, _) = self.set.insert_full(owned)?;
-        Ok(number)
+        add(&mut self.table, hash, name)
     }
 }

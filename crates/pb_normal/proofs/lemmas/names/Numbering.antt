@@ -72,7 +72,7 @@ slice_get-number (n ∷ names) q e = found_step (bytes_eq q n) q n names (number
 pub number_in-below : (names : List (List ℕ)) (q : List ℕ) → has_name names q ≡ true → number_in names q < length names
 number_in-below names q e = slice_get_within names (number_in names q) q (slice_get-number names q e)
 
-has_name-get : (names : List (List ℕ)) (x : ℕ) (q : List ℕ) → slice_get names x ≡ Some q → has_name names q ≡ true
+pub has_name-get : (names : List (List ℕ)) (x : ℕ) (q : List ℕ) → slice_get names x ≡ Some q → has_name names q ≡ true
 has_name-get [] x q e = absurd cc
 has_name-get (n ∷ names) zero q e =
     let same : q ≡ n = cc in
