@@ -13,7 +13,7 @@ pub use Rattle.std.proofs.lemmas.Grind.{common_steps, flat_map-append}
 pub use Rattle.std.proofs.lemmas.Int.{fits_signed_from_abs, ints, to_z-of_z, to_z_pos}
 pub use Rattle.std.proofs.lemmas.Iterator.{YieldsList-from_map, YieldsList-from_slice}
 pub use Rattle.std.proofs.lemmas.Iterator.Adapters.{items_from_extend}
-pub use Rattle.std.proofs.lemmas.Iterator.Consumers.{YieldsList-at, YieldsList-from_filter}
+pub use Rattle.std.proofs.lemmas.Iterator.Consumers.{YieldsList-at, YieldsList-from_first, YieldsList-from_filter}
 pub use Rattle.std.proofs.lemmas.List.{drop_all, drop_more, get_or_append_left, length-append, length-map, length_push, map-append, map-set, take-append-drop}
 pub use Rattle.std.proofs.lemmas.List.{take-map, take_all, take_more, take_rest}
 pub use Rattle.std.proofs.lemmas.List.Elements.{All-cons, All-filter, All-head, All-map, All-nil, All-push, All-tail}

@@ -6,6 +6,7 @@ ghost use Rattle.pb_normal.specs.meaning.Form.{total, each, IsRising};
 
 use crate::entry::Entry;
 use crate::merge::merged;
+use crate::terms::Terms;
 use std::alloc::{AllocError, Global};
 
 // Adds up the terms of each variable and sorts them by variable. Also returns the total that cancels, counted once for
@@ -65,6 +66,8 @@ fn added_up(alloc: Global, raw: &[Entry]) -> Result<(Vec<Entry>, u128), AllocErr
     let middle = raw.len() / 2;
     let (left, left_gone) = added_up(alloc, &raw[..middle])?;
     let (right, right_gone) = added_up(alloc, &raw[middle..])?;
-    let (both, gone) = merged(alloc, left.as_slice(), right.as_slice())?;
+    let left = Terms::wide(left);
+    let right = Terms::wide(right);
+    let (both, gone) = merged(alloc, &left, &right)?;
     Ok((both, left_gone + right_gone + gone))
 }

@@ -1,11 +1,14 @@
 //! Normal forms.
 
 ghost use Rattle.std.specs.Prelude.{◌≡◌, ◌<◌, ◌^◌, ◌↔◌, [], pos, IfOk, IfErr, length, IsTrue, All};
-ghost use Rattle.pb_normal.specs.meaning.Form.{IsNormal, ReadsTerm, total, each, size, Holds};
+ghost use Rattle.pb_normal.specs.meaning.Form.{IsNormal, ReadsTerm, counted, total, each, size, true_at, Holds};
 ghost use Rattle.pb_normal.specs.meaning.Rules.{IsContradiction, assignment};
 
+use crate::entries::Entries;
 use crate::entry::Entry;
 use crate::fault::NormalFault;
+use crate::terms::Terms;
+use std::alloc::AllocError;
 use std::marker::Model;
 
 /// A constraint in normal form: positive coefficients on literals of different variables, and a degree. It holds if the
@@ -14,7 +17,7 @@ use std::marker::Model;
 /// The terms are in the order of their variables. The sum of the coefficients and the degree are below `2^127`.
 #[derive(Drop)]
 pub struct Normal {
-    pub(crate) terms: Vec<Entry>,
+    pub(crate) terms: Terms,
     pub(crate) degree: u128,
 }
 
@@ -23,9 +26,9 @@ impl Model for Normal {
 
     ghost Value = { Form };
 
-    ghost view = { λ n. record { terms = n.terms.items; degree = n.degree } };
+    ghost view = { λ n. record { terms = n.terms; degree = n.degree } };
 
-    ghost invariant = { λ n. IsNormal record { terms = n.terms.items; degree = n.degree } };
+    ghost invariant = { λ n. IsNormal record { terms = n.terms; degree = n.degree } };
 }
 
 impl Normal {
@@ -41,7 +44,7 @@ impl Normal {
     pub fn is_empty(&self) -> bool
         ensures { IsTrue result ↔ (self.now.terms ≡ []) }
     {
-        self.terms.is_empty()
+        self.terms.len() == 0
     }
 
     /// A term: its variable, whether it is negated, and its coefficient.
@@ -49,16 +52,25 @@ impl Normal {
         requires { index < length self.now.terms }
         ensures { ReadsTerm self.now.terms index result }
     {
-        let t = self.terms[index];
+        let t = self.terms.get(index);
         (t.variable, t.negated, t.coefficient as i128)
     }
 
     /// The terms, in the order of their variables.
-    pub fn entries(&self) -> &[Entry]
-        ensures entries { result.now ≡ self.now.terms }
+    #[inline]
+    pub fn terms(&self) -> &Terms
+        ensures terms { result.now ≡ self.now.terms }
         ensures normal { IsNormal self.now }
     {
-        self.terms.as_slice()
+        &self.terms
+    }
+
+    /// The terms one after another, in the order of their variables.
+    pub fn entries(&self) -> Entries<'_>
+        ensures entries { result ≡ self.now.terms }
+        ensures normal { IsNormal self.now }
+    {
+        self.terms.iter()
     }
 
     /// The sum of the coefficients.
@@ -66,7 +78,7 @@ impl Normal {
         ensures size { result ≡ size self.now }
         ensures normal { IsNormal self.now }
     {
-        size_of(self.terms.as_slice())
+        size_of(&self.terms)
     }
 
     /// The degree.
@@ -83,19 +95,27 @@ impl Normal {
         ensures normal { IfOk result (λ r. IsNormal r) }
         ensures memory { IfErr result (λ e. e ≡ NormalFault.Memory) }
     {
-        let mut terms = Vec::new(*self.terms.allocator());
-        terms.extend_from_slice(self.terms.as_slice())?;
+        let terms = self.terms.copy()?;
         Ok(Normal {
             terms,
             degree: self.degree,
         })
     }
 
+    // The same form, in as little memory as it allows. Allocates once, or not at all.
+    pub(crate) fn compact(self) -> Result<Normal, AllocError>
+        ensures same { IfOk result (λ r. r ≡ self) }
+    {
+        let Normal { terms, degree } = self;
+        let terms = terms.compact()?;
+        Ok(Normal { terms, degree })
+    }
+
     /// Whether the two have the same terms and the same degree.
     pub fn is_same(&self, other: &Normal) -> bool
         ensures { IsTrue result ↔ (self.now ≡ other.now) }
     {
-        self.degree == other.degree && self.terms.as_slice() == other.terms.as_slice()
+        self.degree == other.degree && self.terms.is_same(&other.terms)
     }
 
     /// Whether it holds at these values, one for each variable.
@@ -104,10 +124,9 @@ impl Normal {
         ensures { IsTrue result ↔ Holds (assignment values.now) self.now }
     {
         let mut sum = 0;
-        for t in self.terms.iter() {
-            if values[t.variable] != t.negated {
-                sum += t.coefficient;
-            }
+        'terms: for i in 0..self.terms.len() {
+            let t = self.terms.get(i);
+            sum += counted(t, values);
         }
         sum >= self.degree
     }
@@ -120,13 +139,26 @@ impl Normal {
     }
 }
 
+// The coefficient of a term if its literal is true, and 0 otherwise.
+fn counted(term: Entry, values: &[bool]) -> u128
+    requires { term.variable < length values.now }
+    ensures { result ≡ counted (true_at (assignment values.now)) term }
+{
+    if values[term.variable] != term.negated {
+        term.coefficient
+    } else {
+        0
+    }
+}
+
 // The sum of the coefficients.
-pub(crate) fn size_of(terms: &[Entry]) -> u128
+pub(crate) fn size_of(terms: &Terms) -> u128
     requires { total each terms.now < 2 ^ 128 }
     ensures { result ≡ total each terms.now }
 {
     let mut sum = 0;
-    for t in terms {
+    'terms: for i in 0..terms.len() {
+        let t = terms.get(i);
         sum += t.coefficient;
     }
     sum

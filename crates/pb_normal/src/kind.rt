@@ -100,7 +100,7 @@ impl<'a> Kind<'a> {
         ensures { Cancels list.now.terms (kind_form self.now).terms result }
     {
         match self {
-            Kind::Listing(listing) => cancelled(list.entries(), listing.form().entries()),
+            Kind::Listing(listing) => cancelled(&list.terms, &listing.form().terms),
             Kind::Tree(tree) => tree.cancelled(list),
         }
     }

@@ -1,8 +1,10 @@
 //! Normal forms of linear constraints, and the rules of cutting planes on them.
 #![tactic(auto)]
 
+mod code;
 mod collect;
 mod constraints;
+mod entries;
 mod entry;
 mod fault;
 mod form;
@@ -22,10 +24,12 @@ mod numbered;
 mod rules;
 mod side;
 mod sum;
+mod terms;
 mod tree;
 mod written;
 
 pub use constraints::load;
+pub use entries::Entries;
 pub use entry::Entry;
 pub use fault::NormalFault;
 pub use form::Normal;
@@ -36,3 +40,4 @@ pub use names::Names;
 pub use numbered::NumberedLiteral;
 pub use side::Side;
 pub use sum::Sum;
+pub use terms::Terms;

@@ -15,6 +15,7 @@ use crate::fault::NormalFault;
 use crate::form::Normal;
 use crate::names::Names;
 use crate::side::Side;
+use crate::terms::Terms;
 use pb_sums::{Linear, Term};
 use pb_text::Limits;
 use std::alloc::{AllocError, Global};
@@ -52,10 +53,8 @@ impl Normal {
         let (collected_terms, gone) = collected(alloc, raw)?;
         let (up, down) = split(signed(linear.degree, side));
         let degree = (up + shift_of(terms, side)).saturating_sub(down + gone);
-        Ok(Normal {
-            terms: collected_terms,
-            degree,
-        })
+        let terms = Terms::wide(collected_terms).compact()?;
+        Ok(Normal { terms, degree })
     }
 }
 

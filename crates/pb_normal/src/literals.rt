@@ -9,6 +9,7 @@ use crate::entry::Entry;
 use crate::fault::NormalFault;
 use crate::form::Normal;
 use crate::numbered::NumberedLiteral;
+use crate::terms::Terms;
 use std::alloc::{AllocError, Global};
 
 impl Normal {
@@ -28,7 +29,8 @@ impl Normal {
     {
         let raw = units(alloc, literals)?;
         let (once, _) = collected(alloc, raw)?;
-        let terms = counted_once(alloc, once.as_slice())?;
+        let counted = counted_once(alloc, once.as_slice())?;
+        let terms = Terms::wide(counted).compact()?;
         Ok(Normal { terms, degree })
     }
 }

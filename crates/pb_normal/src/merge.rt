@@ -7,6 +7,7 @@ ghost use Rattle.pb_normal.specs.meaning.Form.{total, each, IsRising};
 ghost use Rattle.pb_normal.specs.meaning.Rules.{with_coefficient};
 
 use crate::entry::Entry;
+use crate::terms::Terms;
 use std::alloc::{AllocError, Global};
 
 // The sum of two terms of one variable, and how much of each cancels.
@@ -46,8 +47,8 @@ fn with_coefficient(term: Entry, coefficient: u128) -> Entry
 // The sum of two lists whose variables rise, and how much of each list cancels.
 pub(crate) fn merged(
     alloc: Global,
-    left: &[Entry],
-    right: &[Entry],
+    left: &Terms,
+    right: &Terms,
 ) -> Result<(Vec<Entry>, u128), AllocError>
     requires left_rising { IsRising 0 left.now }
     requires right_rising { IsRising 0 right.now }
@@ -56,13 +57,13 @@ pub(crate) fn merged(
     ensures rising { IfOk result (λ r. IsRising 0 r.0.items) }
     ensures adds { IfOk result (λ r. Adds left.now right.now r.0.items r.1) }
 {
-    let mut out = Vec::with_capacity(alloc, left.len() + right.len())?;
+    let mut out = Vec::with_capacity(alloc, left.len().saturating_add(right.len()))?;
     let mut cancelled = 0;
     let mut i = 0;
     let mut j = 0;
     'merge: while i < left.len() && j < right.len() {
-        let x = left[i];
-        let y = right[j];
+        let x = left.get(i);
+        let y = right.get(j);
         if x.variable < y.variable {
             out.push(x)?;
             i += 1;
@@ -79,13 +80,13 @@ pub(crate) fn merged(
             j += 1;
         }
     }
-    out.extend_from_slice(&left[i..])?;
-    out.extend_from_slice(&right[j..])?;
+    left.append_from(i, &mut out)?;
+    right.append_from(j, &mut out)?;
     Ok((out, cancelled))
 }
 
 // How much of each list cancels in the sum of two lists whose variables rise.
-pub(crate) fn cancelled(left: &[Entry], right: &[Entry]) -> u128
+pub(crate) fn cancelled(left: &Terms, right: &Terms) -> u128
     requires left_rising { IsRising 0 left.now }
     requires right_rising { IsRising 0 right.now }
     requires left_size { total each left.now < 2 ^ 127 }
@@ -96,8 +97,8 @@ pub(crate) fn cancelled(left: &[Entry], right: &[Entry]) -> u128
     let mut i = 0;
     let mut j = 0;
     'merge: while i < left.len() && j < right.len() {
-        let l = left[i];
-        let r = right[j];
+        let l = left.get(i);
+        let r = right.get(j);
         if l.variable < r.variable {
             i += 1;
         } else if r.variable < l.variable {

@@ -5,13 +5,14 @@ ghost use Rattle.std.specs.Int.{div_ceil};
 ghost use Rattle.std.specs.Int.RustNames.{unsigned_abs};
 ghost use Rattle.pb_text.specs.meaning.Limits.{largest};
 ghost use Rattle.pb_normal.specs.engine.Adds.{SumFits};
-ghost use Rattle.pb_normal.specs.meaning.Form.{IsNormal, IsWithin, Follows, FollowsBoth, IsOpposite, each, total};
+ghost use Rattle.pb_normal.specs.meaning.Form.{IsNormal, IsWithin, Follows, FollowsBoth, IsOpposite, counted, each, total};
 ghost use Rattle.pb_normal.specs.meaning.Rules.{IsSum, Passes, SumPasses, SumMeasures, SumIsContradiction, multiplied, divided, saturated, weakened, axiom_on, negation_of, with_coefficient, of_variable, opposite};
 
 use crate::entry::Entry;
 use crate::fault::NormalFault;
 use crate::form::{Normal, size_of};
 use crate::merge::{cancelled, merged};
+use crate::terms::Terms;
 use pb_text::Limits;
 use std::alloc::{AllocError, Global};
 
@@ -31,9 +32,12 @@ impl Normal {
         if size > limit || degree > limit {
             return Err(NormalFault::Overflow);
         }
-        let alloc = *self.terms.allocator();
-        let (terms, _) = merged(alloc, self.terms.as_slice(), other.terms.as_slice())?;
-        Ok(Normal { terms, degree })
+        let alloc = self.terms.allocator();
+        let (terms, _) = merged(alloc, &self.terms, &other.terms)?;
+        Ok(Normal {
+            terms: Terms::wide(terms),
+            degree,
+        })
     }
 
     // The sum of two forms, which is normal.
@@ -42,10 +46,13 @@ impl Normal {
         ensures sum { IfOk result (λ r. IsSum self.now other.now r) }
         ensures normal { IfOk result (λ r. IsNormal r) }
     {
-        let alloc = *self.terms.allocator();
-        let (terms, gone) = merged(alloc, self.terms.as_slice(), other.terms.as_slice())?;
+        let alloc = self.terms.allocator();
+        let (terms, gone) = merged(alloc, &self.terms, &other.terms)?;
         let degree = (self.degree + other.degree).saturating_sub(gone);
-        Ok(Normal { terms, degree })
+        Ok(Normal {
+            terms: Terms::wide(terms),
+            degree,
+        })
     }
 
     /// The form with all coefficients and the degree multiplied. `Overflow` comes if and only if the sum of the
@@ -61,12 +68,15 @@ impl Normal {
     {
         let k = factor.unsigned_abs();
         let most = limits.largest() / k;
-        if size_of(self.terms.as_slice()) > most || self.degree > most {
+        if size_of(&self.terms) > most || self.degree > most {
             return Err(NormalFault::Overflow);
         }
-        let terms = multiplied_terms(*self.terms.allocator(), self.terms.as_slice(), k)?;
+        let terms = multiplied_terms(self.terms.allocator(), &self.terms, k)?;
         let degree = self.degree * k;
-        Ok(Normal { terms, degree })
+        Ok(Normal {
+            terms: Terms::wide(terms),
+            degree,
+        })
     }
 
     // The form with all coefficients and the degree multiplied, which is normal.
@@ -74,9 +84,12 @@ impl Normal {
         requires fits { IsNormal (multiplied k self.now) }
         ensures product { IfOk result (λ r. r ≡ multiplied k self.now) }
     {
-        let terms = multiplied_terms(*self.terms.allocator(), self.terms.as_slice(), k)?;
+        let terms = multiplied_terms(self.terms.allocator(), &self.terms, k)?;
         let degree = self.degree * k;
-        Ok(Normal { terms, degree })
+        Ok(Normal {
+            terms: Terms::wide(terms),
+            degree,
+        })
     }
 
     /// The form with all coefficients and the degree divided and rounded up.
@@ -88,9 +101,12 @@ impl Normal {
         ensures memory { IfErr result (λ e. e ≡ NormalFault.Memory) }
     {
         let k = divisor.unsigned_abs();
-        let terms = divided_terms(*self.terms.allocator(), self.terms.as_slice(), k)?;
+        let terms = divided_terms(self.terms.allocator(), &self.terms, k)?;
         let degree = self.degree.div_ceil(k);
-        Ok(Normal { terms, degree })
+        Ok(Normal {
+            terms: Terms::wide(terms),
+            degree,
+        })
     }
 
     /// The form with every coefficient reduced to at most the degree.
@@ -100,9 +116,9 @@ impl Normal {
         ensures sound { IfOk result (λ r. Follows self.now r) }
         ensures memory { IfErr result (λ e. e ≡ NormalFault.Memory) }
     {
-        let terms = saturated_terms(*self.terms.allocator(), self.terms.as_slice(), self.degree)?;
+        let terms = saturated_terms(self.terms.allocator(), &self.terms, self.degree)?;
         Ok(Normal {
-            terms,
+            terms: Terms::wide(terms),
             degree: self.degree,
         })
     }
@@ -114,10 +130,13 @@ impl Normal {
         ensures sound { IfOk result (λ r. Follows self.now r) }
         ensures memory { IfErr result (λ e. e ≡ NormalFault.Memory) }
     {
-        let terms = terms_without(*self.terms.allocator(), self.terms.as_slice(), variable)?;
-        let dropped = coefficients_on(self.terms.as_slice(), variable);
+        let terms = terms_without(self.terms.allocator(), &self.terms, variable)?;
+        let dropped = coefficients_on(&self.terms, variable);
         let degree = self.degree.saturating_sub(dropped);
-        Ok(Normal { terms, degree })
+        Ok(Normal {
+            terms: Terms::wide(terms),
+            degree,
+        })
     }
 
     /// A literal with coefficient 1 and degree 0, which always holds.
@@ -132,7 +151,10 @@ impl Normal {
             negated,
             coefficient: 1,
         })?;
-        Ok(Normal { terms, degree: 0 })
+        Ok(Normal {
+            terms: Terms::wide(terms),
+            degree: 0,
+        })
     }
 
     /// The form that holds if and only if this one, of degree at least 1, does not.
@@ -143,9 +165,12 @@ impl Normal {
         ensures opposite { IfOk result (λ r. IsOpposite self.now r) }
         ensures memory { IfErr result (λ e. e ≡ NormalFault.Memory) }
     {
-        let terms = opposite_terms(*self.terms.allocator(), self.terms.as_slice())?;
-        let degree = (size_of(self.terms.as_slice()) + 1).saturating_sub(self.degree);
-        Ok(Normal { terms, degree })
+        let terms = opposite_terms(self.terms.allocator(), &self.terms)?;
+        let degree = (size_of(&self.terms) + 1).saturating_sub(self.degree);
+        Ok(Normal {
+            terms: Terms::wide(terms),
+            degree,
+        })
     }
 
     /// Whether the sum of the two, in unbounded integers, is a contradiction. It allocates nothing.
@@ -161,30 +186,31 @@ impl Normal {
 fn measures_of_sum(left: &Normal, right: &Normal) -> (u128, u128)
     ensures { SumMeasures left.now right.now result.0 result.1 }
 {
-    let gone = cancelled(left.terms.as_slice(), right.terms.as_slice());
-    let sizes = size_of(left.terms.as_slice()) + size_of(right.terms.as_slice());
+    let gone = cancelled(&left.terms, &right.terms);
+    let sizes = size_of(&left.terms) + size_of(&right.terms);
     let degrees = left.degree + right.degree;
     (sizes - 2 * gone, degrees.saturating_sub(gone))
 }
 
 // The five lists below have room for all terms from the start, so each is allocated once.
 
-fn multiplied_terms(alloc: Global, terms: &[Entry], k: u128) -> Result<Vec<Entry>, AllocError>
+fn multiplied_terms(alloc: Global, terms: &Terms, k: u128) -> Result<Vec<Entry>, AllocError>
     requires { All (λ t. t.coefficient * k < 2 ^ 128) terms.now }
     ensures { IfOk result (λ v.
         v.items ≡ map (λ t. with_coefficient t (t.coefficient * k)) terms.now) }
 {
     let mut out = Vec::with_capacity(alloc, terms.len())?;
-    out.extend(
-        terms.iter().map(|t| Entry {
+    'terms: for i in 0..terms.len() {
+        let t = terms.get(i);
+        out.push(Entry {
             coefficient: t.coefficient * k,
-            ..*t
-        }),
-    )?;
+            ..t
+        })?;
+    }
     Ok(out)
 }
 
-fn divided_terms(alloc: Global, terms: &[Entry], k: u128) -> Result<Vec<Entry>, AllocError>
+fn divided_terms(alloc: Global, terms: &Terms, k: u128) -> Result<Vec<Entry>, AllocError>
     requires { 0 < k }
     ensures { IfOk result (λ v.
         v.items ≡ map (λ t. with_coefficient t (div_ceil t.coefficient k)) terms.now) }
@@ -193,13 +219,13 @@ fn divided_terms(alloc: Global, terms: &[Entry], k: u128) -> Result<Vec<Entry>, 
     out.extend(
         terms.iter().map(|t| Entry {
             coefficient: t.coefficient.div_ceil(k),
-            ..*t
+            ..t
         }),
     )?;
     Ok(out)
 }
 
-fn saturated_terms(alloc: Global, terms: &[Entry], degree: u128) -> Result<Vec<Entry>, AllocError>
+fn saturated_terms(alloc: Global, terms: &Terms, degree: u128) -> Result<Vec<Entry>, AllocError>
     ensures { IfOk result (λ v. v.items ≡ filter (λ t. nat_lt 0 t.coefficient)
         (map (λ t. with_coefficient t (min t.coefficient degree)) terms.now)) }
 {
@@ -209,44 +235,54 @@ fn saturated_terms(alloc: Global, terms: &[Entry], degree: u128) -> Result<Vec<E
             .iter()
             .map(|t| Entry {
                 coefficient: t.coefficient.min(degree),
-                ..*t
+                ..t
             })
             .filter(|t| t.coefficient > 0),
     )?;
     Ok(out)
 }
 
-fn opposite_terms(alloc: Global, terms: &[Entry]) -> Result<Vec<Entry>, AllocError>
+fn opposite_terms(alloc: Global, terms: &Terms) -> Result<Vec<Entry>, AllocError>
     ensures { IfOk result (λ v. v.items ≡ map opposite terms.now) }
 {
     let mut out = Vec::with_capacity(alloc, terms.len())?;
     out.extend(
         terms.iter().map(|t| Entry {
             negated: !t.negated,
-            ..*t
+            ..t
         }),
     )?;
     Ok(out)
 }
 
-fn terms_without(alloc: Global, terms: &[Entry], variable: usize) -> Result<Vec<Entry>, AllocError>
+fn terms_without(alloc: Global, terms: &Terms, variable: usize) -> Result<Vec<Entry>, AllocError>
     ensures { IfOk result (λ v. v.items ≡ filter (λ t. not (t.variable == variable)) terms.now) }
 {
     let mut out = Vec::with_capacity(alloc, terms.len())?;
-    out.extend(terms.iter().map(|t| *t).filter(|t| t.variable != variable))?;
+    out.extend(terms.iter().filter(|t| t.variable != variable))?;
     Ok(out)
 }
 
+// The coefficient of a term on a variable or on its negation, and 0 for a term on another.
+fn coefficient_on(term: Entry, variable: usize) -> u128
+    ensures { result ≡ counted (of_variable variable) term }
+{
+    if term.variable == variable {
+        term.coefficient
+    } else {
+        0
+    }
+}
+
 // The sum of the coefficients on a variable and on its negation.
-fn coefficients_on(terms: &[Entry], variable: usize) -> u128
+fn coefficients_on(terms: &Terms, variable: usize) -> u128
     requires { total each terms.now < 2 ^ 127 }
     ensures { result ≡ total (of_variable variable) terms.now }
 {
     let mut sum = 0;
-    for t in terms {
-        if t.variable == variable {
-            sum += t.coefficient;
-        }
+    'terms: for i in 0..terms.len() {
+        let t = terms.get(i);
+        sum += coefficient_on(t, variable);
     }
     sum
 }

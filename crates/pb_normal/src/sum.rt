@@ -75,7 +75,10 @@ impl<'a> Sum<'a> {
     {
         match self.kind.listing(alloc)? {
             Listing::Held(form) => form.copy(),
-            Listing::Made(form) => Ok(form),
+            Listing::Made(form) => {
+                let form = form.compact()?;
+                Ok(form)
+            }
         }
     }
 

@@ -10,6 +10,7 @@ ghost use Rattle.pb_normal.specs.meaning.Rules.{IsSum, weakened, of_variable};
 use crate::entry::Entry;
 use crate::form::{Normal, size_of};
 use crate::merge::combined;
+use crate::terms::Terms;
 use std::alloc::{AllocError, Global};
 use std::collections::BTreeMap;
 use std::marker::Model;
@@ -39,10 +40,10 @@ impl Tree {
         ensures same { IfOk result (λ r. r ≡ form.now) }
     {
         let mut terms = BTreeMap::new(alloc);
-        let _ = put_all(&mut terms, form.terms.as_slice())?;
+        let _ = put_all(&mut terms, &form.terms)?;
         Ok(Tree {
             terms,
-            size: size_of(form.terms.as_slice()),
+            size: size_of(&form.terms),
             degree: form.degree,
         })
     }
@@ -60,7 +61,10 @@ impl Tree {
     {
         let Tree { terms, degree, .. } = self;
         let terms = terms.into_values().collect(alloc)?;
-        Ok(Normal { terms, degree })
+        Ok(Normal {
+            terms: Terms::wide(terms),
+            degree,
+        })
     }
 
     /// The sum of the coefficients.
@@ -82,7 +86,7 @@ impl Tree {
     pub(crate) fn cancelled(&self, other: &Normal) -> u128
         ensures { Cancels self.now.terms other.now.terms result }
     {
-        cancelled_by_list(&self.terms, other.terms.as_slice())
+        cancelled_by_list(&self.terms, &other.terms)
     }
 
     /// How much cancels in the sum with another tree. It allocates nothing.
@@ -102,8 +106,8 @@ impl Tree {
             size,
             degree,
         } = self;
-        let gone = put_all(&mut terms, other.terms.as_slice())?;
-        let size = size + size_of(other.terms.as_slice()) - 2 * gone;
+        let gone = put_all(&mut terms, &other.terms)?;
+        let size = size + size_of(&other.terms) - 2 * gone;
         let degree = (degree + other.degree).saturating_sub(gone);
         Ok(Tree {
             terms,
@@ -161,7 +165,7 @@ fn cancelled_by(terms: &BTreeMap<usize, Entry>, term: Entry) -> u128
 }
 
 // How much cancels in the sum with a list.
-fn cancelled_by_list(terms: &BTreeMap<usize, Entry>, list: &[Entry]) -> u128
+fn cancelled_by_list(terms: &BTreeMap<usize, Entry>, list: &Terms) -> u128
     requires keyed { IsKeyed terms.now }
     requires rising { IsRising 0 (values terms.now) }
     requires list_rising { IsRising 0 list.now }
@@ -169,8 +173,9 @@ fn cancelled_by_list(terms: &BTreeMap<usize, Entry>, list: &[Entry]) -> u128
     ensures { Cancels (values terms.now) list.now result }
 {
     let mut cancelled = 0;
-    for term in list {
-        cancelled += cancelled_by(terms, *term);
+    'terms: for i in 0..list.len() {
+        let term = list.get(i);
+        cancelled += cancelled_by(terms, term);
     }
     cancelled
 }
@@ -216,7 +221,7 @@ fn put(terms: &mut BTreeMap<usize, Entry>, term: Entry) -> Result<u128, AllocErr
 }
 
 // Adds all terms of a list, and returns how much of them cancels.
-fn put_all(terms: &mut BTreeMap<usize, Entry>, list: &[Entry]) -> Result<u128, AllocError>
+fn put_all(terms: &mut BTreeMap<usize, Entry>, list: &Terms) -> Result<u128, AllocError>
     requires keyed { IsKeyed terms.old }
     requires rising { IsRising 0 (values terms.old) }
     requires list_rising { IsRising 0 list.now }
@@ -226,8 +231,9 @@ fn put_all(terms: &mut BTreeMap<usize, Entry>, list: &[Entry]) -> Result<u128, A
     ensures adds { IfOk result (λ gone. Adds (values terms.old) list.now (values terms.new) gone) }
 {
     let mut cancelled = 0;
-    for term in list {
-        cancelled += put(terms, *term)?;
+    'terms: for i in 0..list.len() {
+        let term = list.get(i);
+        cancelled += put(terms, term)?;
     }
     Ok(cancelled)
 }

@@ -4,10 +4,10 @@ ghost use Rattle.std.specs.Prelude.{◌≡◌, ◌<◌, ◌^◌, IfOk, IfErr, Al
 ghost use Rattle.pb_normal.specs.meaning.Form.{total, each};
 ghost use Rattle.pb_normal.specs.meaning.Written.{term_of, linear_of};
 
-use crate::entry::Entry;
 use crate::fault::NormalFault;
 use crate::form::Normal;
 use crate::names::Names;
+use crate::terms::Terms;
 use pb_sums::{Linear, Literal, Name, Relation, Term};
 use pb_text::Sequence;
 use std::alloc::{AllocError, Global};
@@ -19,7 +19,7 @@ impl Normal {
         ensures linear { IfOk result (λ r. r ≡ linear_of names.now self.now) }
         ensures memory { IfErr result (λ e. e ≡ NormalFault.Memory) }
     {
-        let terms = named_terms(*self.terms.allocator(), names, self.terms.as_slice())?;
+        let terms = named_terms(self.terms.allocator(), names, &self.terms)?;
         Ok(Linear {
             terms: Sequence::from_vec(terms),
             relation: Relation::AtLeast,
@@ -28,13 +28,14 @@ impl Normal {
     }
 }
 
-fn named_terms(alloc: Global, names: &Names, terms: &[Entry]) -> Result<Vec<Term>, AllocError>
+fn named_terms(alloc: Global, names: &Names, terms: &Terms) -> Result<Vec<Term>, AllocError>
     requires named { All (λ t. t.variable < length names.now) terms.now }
     requires small { total each terms.now < 2 ^ 127 }
     ensures { IfOk result (λ v. v.items ≡ map (term_of names.now) terms.now) }
 {
     let mut out = Vec::with_capacity(alloc, terms.len())?;
-    for t in terms {
+    'terms: for i in 0..terms.len() {
+        let t = terms.get(i);
         let name = Name::from_text(alloc, names.text_of(t.variable))?;
         let literal = Literal {
             name,

@@ -243,7 +243,7 @@ impl Forms<'_> {
 fn holds_at(alloc: Global, form: &Normal, value: &str) -> Result<bool, NoForm> {
     let values: Vec<bool> = value.bytes().map(|letter| letter == b'1').collect(alloc)?;
     let count = values.len();
-    if form.entries().iter().all(|entry| entry.variable < count) {
+    if form.entries().all(|entry| entry.variable < count) {
         Ok(form.holds(values.as_slice()))
     } else {
         Err(NoForm::Broken(Broken::Word))

@@ -1,7 +1,8 @@
 -- What the merge of two lists preserves, and its steps. Offered to other crates.
 use Rattle.pb_normal.proofs.Common.{ℕ, ◌++◌, ◌+◌, ◌<◌, ◌∷◌, ◌≡◌, ◌≤◌, ◌⊎◌, [], add-zero, append-nil, append_assoc, arith, drop, false, get_or, IfSome}
-use Rattle.pb_normal.proofs.Common.{inl, inr, length, List, None, Option, Some, take, drop_all, take-append-drop, option_to_list, drop_read}
+use Rattle.pb_normal.proofs.Common.{ap, Bool, inl, inr, length, List, None, Option, Some, take, drop_all, take-append-drop, option_to_list, drop_read}
 use Rattle.pb_normal.proofs.Common.{take_read, Entry, Adds, each, IsRising, total}
+use Rattle.pb_normal.specs.meaning.Form.{counted}
 use Rattle.pb_normal.proofs.lemmas.terms.Totals.{Adds-append, Adds-apart, IsRising-between, IsRising-without, IsRising-instead, total-append, size-Adds, IsRising-positive}
 
 pub record Merging (left right : List Entry) (i j : ℕ) (out : List Entry) (c : ℕ) : Type 0 where
@@ -87,6 +88,10 @@ total-read xs i d x lt e =
     let s = total-append each (take i xs) (drop i xs) in
     let t = rw (take-append-drop, drop_read xs i d x lt e) at s in
     omega arith
+
+-- what the literals from an entry on add up to
+pub total-drop : (p : ℕ → Bool → Bool) (xs : List Entry) (i : ℕ) (d x : Entry) → i < length xs → x ≡ get_or xs i d → total p (drop i xs) ≡ counted p x + total p (drop (i + 1) xs)
+total-drop p xs i d x lt e = ap (total p) (drop_read xs i d x lt e)
 
 -- the default value of a read outside the list
 abbrev pub no_entry : Entry

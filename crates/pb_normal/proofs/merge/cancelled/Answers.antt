@@ -1,41 +1,41 @@
-use Rattle.pb_normal.proofs.Common.{◌<◌, arith, get_or, inl, inr, length, refl}
+use Rattle.pb_normal.proofs.Common.{◌<◌, arith, inl, inr, length}
 use Rattle.pb_normal.proofs.lemmas.terms.Totals.{size-Adds}
 use Rattle.pb_normal.proofs.lemmas.terms.Merging.{Merging-left, Merging-right, Merging-combined, Merging-end, Merging-end_rising, Merging-fits, total-read, positive-read, no_entry}
 use Rattle.pb_normal.proofs.merge.cancelled.Goals as goal
 
 pub merge-preserved-then-l-r : goal.merge-preserved-then-l-r
 merge-preserved-then-l-r c =
-    (_, Merging-left _ _ _ _ _ _ no_entry (get_or c.args.left.now c.merge.i no_entry) (get_or c.args.right.now c.merge.j no_entry) c.merge.invariant.1 (omega arith) (omega arith) refl refl (omega arith))
+    (_, Merging-left _ _ _ _ _ _ no_entry c.get-l.result c.get-r.result c.merge.invariant.1 (omega arith) (omega arith) (c.get-l.ensures.read no_entry) (c.get-r.ensures.read no_entry) (omega arith))
 
 pub merge-preserved-then-r-l : goal.merge-preserved-then-r-l
 merge-preserved-then-r-l c =
-    (_, Merging-right _ _ _ _ _ _ no_entry (get_or c.args.left.now c.merge.i no_entry) (get_or c.args.right.now c.merge.j no_entry) c.merge.invariant.1 (omega arith) (omega arith) refl refl (omega arith))
+    (_, Merging-right _ _ _ _ _ _ no_entry c.get-l.result c.get-r.result c.merge.invariant.1 (omega arith) (omega arith) (c.get-l.ensures.read no_entry) (c.get-r.ensures.read no_entry) (omega arith))
 
 pub combined-gone-requires-clause-left_positive : goal.combined-gone-requires-clause-left_positive
 combined-gone-requires-clause-left_positive c =
     let lt : c.merge.i < length c.args.left.now = omega arith in
-    positive-read 0 _ _ _ no_entry _ c.merge.invariant.1.left_rising lt refl
+    positive-read 0 _ _ _ no_entry _ c.merge.invariant.1.left_rising lt (c.get-l.ensures.read no_entry)
 
 pub combined-gone-requires-clause-fits : goal.combined-gone-requires-clause-fits
 combined-gone-requires-clause-fits c =
-    let x = total-read c.args.left.now c.merge.i no_entry _ (omega arith) refl in
-    let y = total-read c.args.right.now c.merge.j no_entry _ (omega arith) refl in
+    let x = total-read c.args.left.now c.merge.i no_entry _ (omega arith) (c.get-l.ensures.read no_entry) in
+    let y = total-read c.args.right.now c.merge.j no_entry _ (omega arith) (c.get-r.ensures.read no_entry) in
     omega arith
 
 pub overflow_add-cancelled : goal.overflow_add-cancelled
 overflow_add-cancelled c =
-    let x = total-read c.args.left.now c.merge.i no_entry _ (omega arith) refl in
-    let y = total-read c.args.right.now c.merge.j no_entry _ (omega arith) refl in
+    let x = total-read c.args.left.now c.merge.i no_entry _ (omega arith) (c.get-l.ensures.read no_entry) in
+    let y = total-read c.args.right.now c.merge.j no_entry _ (omega arith) (c.get-r.ensures.read no_entry) in
     let before = Merging-fits _ _ _ _ _ _ _ c.merge.invariant.1 c.requires.left_size c.requires.right_size in
     let here = size-Adds _ _ _ _ c.combined-gone.ensures.adds in
     omega arith
 
 pub merge-preserved : goal.merge-preserved
 merge-preserved c =
-    (_, Merging-combined _ _ _ _ _ _ no_entry (get_or c.args.left.now c.merge.i no_entry) (get_or c.args.right.now c.merge.j no_entry) _ _ c.merge.invariant.1 (omega arith) (omega arith) refl refl (omega arith) c.combined-gone.ensures.adds c.combined-gone.ensures.entry)
+    (_, Merging-combined _ _ _ _ _ _ no_entry c.get-l.result c.get-r.result _ _ c.merge.invariant.1 (omega arith) (omega arith) (c.get-l.ensures.read no_entry) (c.get-r.ensures.read no_entry) (omega arith) c.combined-gone.ensures.adds c.combined-gone.ensures.entry)
 
-pub returns-else-j-right : goal.returns-else-j-right
-returns-else-j-right c =
+pub returns-else-j-len : goal.returns-else-j-len
+returns-else-j-len c =
     (_, Merging-end_rising _ _ _ _ _ _ c.merge.invariant.1 (inr (omega arith)), Merging-end _ _ _ _ _ _ c.merge.invariant.1)
 
 pub returns-after-merge : goal.returns-after-merge

@@ -1,7 +1,13 @@
-use Rattle.pb_normal.proofs.Common.{◌*◌, rules, tests, YieldsList-from_map, YieldsList-from_slice, items_from_extend, Entry, with_coefficient}
+use Rattle.pb_normal.proofs.Common.{◌*◌, ◌<◌, ◌^◌, arith, refl, Entry, with_coefficient}
+use Rattle.std.proofs.lemmas.List.{map_more}
+use Rattle.pb_normal.proofs.lemmas.terms.Merging.{no_entry}
 use Rattle.pb_normal.proofs.rules.multiplied_terms.Goals as goal
 
-pub returns : goal.returns
-returns c =
-    let h = items_from_extend c.extend.result c.extend.ensures.ran (YieldsList-from_map _ (λ (t : Entry). with_coefficient t (t.coefficient * c.args.k)) (YieldsList-from_slice c.args.terms.now cc) c.map.ensures.closure (λ x r q k. search (rules, tests))) in
-    search rules
+pub overflow_mul-t : goal.overflow_mul-t
+overflow_mul-t c =
+    let small : c.get-t.result.coefficient * c.args.k < 2 ^ 128 = rw (c.get-t.ensures.read no_entry) (c.requires c.terms.i no_entry (omega arith)) in
+    omega (arith, small)
+
+pub terms-preserved : goal.terms-preserved
+terms-preserved c =
+    rw (c.in_ok-push.ensures.items, c.get-t.ensures.read no_entry, map_more (λ (t : Entry). with_coefficient t (t.coefficient * c.args.k)) c.args.terms.now c.terms.i no_entry (omega arith), c.terms.invariant) refl

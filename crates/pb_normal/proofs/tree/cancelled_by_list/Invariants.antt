@@ -3,5 +3,5 @@ use Rattle.pb_normal.proofs.lemmas.terms.Lookups.{AllCancel}
 use Rattle.pb_normal.proofs.tree.cancelled_by_list.Given as goal
 
 -- the terms so far are counted
-abbrev pub invariant-loop-term : goal.invariant-loop-term
-invariant-loop-term l = AllCancel l.terms (take l.term-index l.list) l.cancelled
+abbrev pub invariant-terms : goal.invariant-terms
+invariant-terms l = AllCancel l.terms (take l.i l.list) l.cancelled

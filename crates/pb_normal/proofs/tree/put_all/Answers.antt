@@ -5,18 +5,18 @@ use Rattle.pb_normal.proofs.tree.put_all.Goals as goal
 
 pub put-requires-clause-positive : goal.put-requires-clause-positive
 put-requires-clause-positive c =
-    let lt : c.loop-term.term-index < length c.args.list.now = omega arith in
-    positive-read 0 (take c.loop-term.term-index c.args.list.now) c.args.list.now c.loop-term.term-index no_entry _ (rw take-append-drop c.requires.list_rising) lt refl
+    let lt : c.terms.i < length c.args.list.now = omega arith in
+    positive-read 0 (take c.terms.i c.args.list.now) c.args.list.now c.terms.i no_entry _ (rw take-append-drop c.requires.list_rising) lt (c.get-term.ensures.read no_entry)
 
 pub put-requires-clause-fits : goal.put-requires-clause-fits
 put-requires-clause-fits c =
-    Putting-fits _ c.args.list.now _ c.loop-term.term-index _ _ no_entry (get_or c.args.list.now c.loop-term.term-index no_entry) c.loop-term.invariant.2 (omega arith) refl c.requires.fits
+    Putting-fits _ c.args.list.now _ c.terms.i _ _ no_entry c.get-term.result c.terms.invariant.2 (omega arith) (c.get-term.ensures.read no_entry) c.requires.fits
 
 pub overflow_add-cancelled : goal.overflow_add-cancelled
 overflow_add-cancelled c =
-    let fits = Putting-cancels _ c.args.list.now _ _ c.loop-term.term-index _ _ _ no_entry (get_or c.args.list.now c.loop-term.term-index no_entry) c.loop-term.invariant.2 (omega arith) refl c.in_ok-cancelled.ensures.adds c.requires.fits in
+    let fits = Putting-cancels _ c.args.list.now _ _ c.terms.i _ _ _ no_entry c.get-term.result c.terms.invariant.2 (omega arith) (c.get-term.ensures.read no_entry) c.in_ok-cancelled.ensures.adds c.requires.fits in
     omega arith
 
-pub loop-term-preserved : goal.loop-term-preserved
-loop-term-preserved c =
-    (c.in_ok-cancelled.ensures.keyed, c.in_ok-cancelled.ensures.rising, Putting-next _ c.args.list.now _ _ c.loop-term.term-index _ _ no_entry (get_or c.args.list.now c.loop-term.term-index no_entry) c.loop-term.invariant.2 (omega arith) refl c.in_ok-cancelled.ensures.adds)
+pub terms-preserved : goal.terms-preserved
+terms-preserved c =
+    (c.in_ok-cancelled.ensures.keyed, c.in_ok-cancelled.ensures.rising, Putting-next _ c.args.list.now _ _ c.terms.i _ _ no_entry c.get-term.result c.terms.invariant.2 (omega arith) (c.get-term.ensures.read no_entry) c.in_ok-cancelled.ensures.adds)

@@ -10,26 +10,26 @@ returns-in_err-terms-clause-overflow c =
     overflow-Memory _ _ c.from_residual.ensures.1 (rw c.largest-limit.ensures.value at within)
 
 -- the merged terms are those of the sum, and so is their size
-whole : (c : goal.In_ok-terms) → IsSum c.args.self.now c.args.other.now record { terms = c.in_ok-terms.terms.items; degree = c.measures_of_sum-size.result.1 } × (total each c.in_ok-terms.terms.items ≡ c.measures_of_sum-size.result.0)
+whole : (c : goal.After-wide) → IsSum c.args.self.now c.args.other.now record { terms = c.in_ok-terms.terms.items; degree = c.measures_of_sum-size.result.1 } × (total each c.in_ok-terms.terms.items ≡ c.measures_of_sum-size.result.0)
 whole c =
-    let adds = rw (c.as_slice.ensures.value, c.as_slice-2.ensures.value) at c.in_ok-terms.ensures.adds in
+    let adds = c.in_ok-terms.ensures.adds in
     rw (← c.self.view_is, ← c.other.view_is) (IsSum-measured _ _ _ _ _ _ (rw (← c.self.view_is, ← c.other.view_is) at c.measures_of_sum-size.ensures) c.in_ok-terms.ensures.rising adds)
 
 pub invariant_of-result : goal.invariant_of-result
-invariant_of-result c = record {
+invariant_of-result c = rw c.wide.ensures.same record {
   ordered = c.in_ok-terms.ensures.rising;
   size_in = omega (arith, (whole c).1);
   degree_in = omega arith;
 }
 
 pub returns-clause-sum : goal.returns-clause-sum
-returns-clause-sum c = (whole c).0
+returns-clause-sum c = rw c.wide.ensures.same (whole c).0
 
 pub returns-clause-normal : goal.returns-clause-normal
 returns-clause-normal c = invariant_of-result c
 
 pub returns-clause-within : goal.returns-clause-within
-returns-clause-within c = record {
+returns-clause-within c = rw c.wide.ensures.same record {
   size_in = omega (arith, (whole c).1);
   degree_in = omega arith;
 }

@@ -1,10 +1,8 @@
-use Rattle.pb_normal.proofs.Common.{ap, slice_eq-Decides, Form}
+use Rattle.pb_normal.proofs.Common.{ap, Form}
 use Rattle.pb_normal.proofs.lemmas.rules.Unique.{same_form}
-use Rattle.pb_normal.proofs.lemmas.terms.Entries.{entry-Decides}
+use Rattle.pb_normal.proofs.lemmas.terms.Entries.{true_unless_false}
 use Rattle.pb_normal.proofs.form.Normal.is_same.Goals as goal
 
 pub returns-then-self-other : goal.returns-then-self-other
 returns-then-self-other c =
-    let terms = slice_eq-Decides entry-Decides c.as_slice.result.now c.as_slice-then-self-other.result.now c.eq.result c.eq.ensures in
-    let same = rw (c.as_slice.ensures.value, c.as_slice-then-self-other.ensures.value) at terms in
-    rw (← c.self.view_is, ← c.other.view_is) (λ t. same_form _ _ _ _ (same.0 t) c.if-self-other.true, λ e. same.1 (ap (λ (f : Form). f.terms) e))
+    rw (← c.self.view_is, ← c.other.view_is) (λ t. same_form _ _ _ _ (c.is_same.ensures.yes t) c.if-self-other.true, λ e. true_unless_false _ (λ f. c.is_same.ensures.no f (ap (λ (f : Form). f.terms) e)))

@@ -8,8 +8,8 @@ pub returns-then-size_of-most-clause-overflow : goal.returns-then-size_of-most-c
 returns-then-size_of-most-clause-overflow c =
     let h : 0 < c.unsigned_abs-k.result = search rules in
     let factor : unsigned_abs c.args.factor ≡ c.unsigned_abs-k.result = grind (arith, common_steps) in
-    let f : Form = record { terms = c.self.inside.terms.items; degree = c.self.inside.degree } in
-    let size_is = rw c.as_slice.ensures.value at c.size_of.ensures in
+    let f : Form = record { terms = c.self.inside.terms; degree = c.self.inside.degree } in
+    let size_is = c.size_of.ensures in
     let passes : Passes c.largest.result (multiplied c.unsigned_abs-k.result f) = elim c.then-size_of-most.branch [
       | then-size_of-most-via-then-size_of-most w ↦
           Passes-size c.largest.result c.unsigned_abs-k.result f h (rw size_is at w.if-size_of-most.true)
@@ -21,34 +21,34 @@ returns-then-size_of-most-clause-overflow c =
 pub returns-in_err-terms-clause-overflow : goal.returns-in_err-terms-clause-overflow
 returns-in_err-terms-clause-overflow c =
     let factor : unsigned_abs c.args.factor ≡ c.unsigned_abs-k.result = grind (arith, common_steps) in
-    let f : Form = record { terms = c.self.inside.terms.items; degree = c.self.inside.degree } in
-    let size_is = rw c.as_slice.ensures.value at c.size_of.ensures in
+    let f : Form = record { terms = c.self.inside.terms; degree = c.self.inside.degree } in
+    let size_is = c.size_of.ensures in
     let within = IsWithin-multiplied c.largest.result c.unsigned_abs-k.result f (rw size_is at c.if-size_of-most.false) c.if-self-most.false in
     rw (← c.self.view_is, factor, ← c.largest.ensures.value) (overflow-Memory _ _ c.from_residual.ensures.1 (Passes-not _ _ within))
 
 pub multiplied_terms-requires : goal.multiplied_terms-requires
 multiplied_terms-requires c =
-    let size_is = rw c.as_slice.ensures.value at c.size_of.ensures in
+    let size_is = c.size_of.ensures in
     let le = within_quotient _ c.largest.result c.unsigned_abs-k.result (rw size_is at c.if-size_of-most.false) in
-    let all = All-multiplied c.unsigned_abs-k.result c.largest.result c.self.inside.terms.items le in
-    λ k d lt. rw c.as_slice-2.ensures.value (omega (arith, c.largest.ensures.room, all k d (rw c.as_slice-2.ensures.value at lt)))
+    let all = All-multiplied c.unsigned_abs-k.result c.largest.result c.self.inside.terms le in
+    λ k d lt. (omega (arith, c.largest.ensures.room, all k d (lt)))
 
 -- the product is within the limit
-within : (c : goal.In_ok-terms) → IsWithin c.largest.result (multiplied c.unsigned_abs-k.result record { terms = c.self.inside.terms.items; degree = c.self.inside.degree })
+within : (c : goal.After-wide) → IsWithin c.largest.result (multiplied c.unsigned_abs-k.result record { terms = c.self.inside.terms; degree = c.self.inside.degree })
 within c =
-    let size_is = rw c.as_slice.ensures.value at c.size_of.ensures in
+    let size_is = c.size_of.ensures in
     IsWithin-multiplied c.largest.result c.unsigned_abs-k.result _ (rw size_is at c.if-size_of-most.false) c.if-self-most.false
 
 pub invariant_of-result : goal.invariant_of-result
 invariant_of-result c =
     let h : 0 < c.unsigned_abs-k.result = search rules in
-    rw (c.in_ok-terms.ensures, c.as_slice-2.ensures.value) (IsNormal-multiplied c.largest.result c.unsigned_abs-k.result _ h c.largest.ensures.room c.self.invariant (within c))
+    rw (c.wide.ensures.same, c.in_ok-terms.ensures) (IsNormal-multiplied c.largest.result c.unsigned_abs-k.result _ h c.largest.ensures.room c.self.invariant (within c))
 
 pub returns-clause-normal : goal.returns-clause-normal
 returns-clause-normal c = invariant_of-result c
 
 pub returns-clause-within : goal.returns-clause-within
-returns-clause-within c = rw (← c.largest.ensures.value, c.in_ok-terms.ensures, c.as_slice-2.ensures.value) (within c)
+returns-clause-within c = rw (← c.largest.ensures.value, c.wide.ensures.same, c.in_ok-terms.ensures) (within c)
 
 pub returns-clause-overflow : goal.returns-clause-overflow
 returns-clause-overflow c =
@@ -57,5 +57,5 @@ returns-clause-overflow c =
 
 pub returns-clause-sound : goal.returns-clause-sound
 returns-clause-sound c =
-    let f : Form = record { terms = c.self.inside.terms.items; degree = c.self.inside.degree } in
-    rw (c.in_ok-terms.ensures, c.as_slice-2.ensures.value, ← c.self.view_is) (λ a. Holds-multiplied a c.unsigned_abs-k.result f)
+    let f : Form = record { terms = c.self.inside.terms; degree = c.self.inside.degree } in
+    rw (c.wide.ensures.same, c.in_ok-terms.ensures, ← c.self.view_is) (λ a. Holds-multiplied a c.unsigned_abs-k.result f)

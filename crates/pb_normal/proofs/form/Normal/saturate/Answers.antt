@@ -3,12 +3,12 @@ use Rattle.pb_normal.proofs.lemmas.rules.Scales.{IsNormal-saturated, Holds-satur
 use Rattle.pb_normal.proofs.form.Normal.saturate.Goals as goal
 
 pub invariant_of-result : goal.invariant_of-result
-invariant_of-result c = rw (c.in_ok-terms.ensures, c.as_slice.ensures.value) (IsNormal-saturated _ c.self.invariant)
+invariant_of-result c = rw (c.wide.ensures.same, c.in_ok-terms.ensures) (IsNormal-saturated _ c.self.invariant)
 
 pub returns-clause-normal : goal.returns-clause-normal
 returns-clause-normal c = invariant_of-result c
 
 pub returns-clause-sound : goal.returns-clause-sound
 returns-clause-sound c =
-    let f : Form = record { terms = c.self.inside.terms.items; degree = c.self.inside.degree } in
-    rw (c.in_ok-terms.ensures, c.as_slice.ensures.value, ← c.self.view_is) (λ a. Holds-saturated a f)
+    let f : Form = record { terms = c.self.inside.terms; degree = c.self.inside.degree } in
+    rw (c.wide.ensures.same, c.in_ok-terms.ensures, ← c.self.view_is) (λ a. Holds-saturated a f)

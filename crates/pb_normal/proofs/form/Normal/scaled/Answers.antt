@@ -5,6 +5,6 @@ use Rattle.pb_normal.proofs.form.Normal.scaled.Goals as goal
 pub multiplied_terms-requires : goal.multiplied_terms-requires
 multiplied_terms-requires c =
     let fits = rw (← c.self.view_is) at c.requires.fits in
-    let le : total each c.self.inside.terms.items * c.args.k ≤ 2 ^ 127 - 1 = omega (arith, fits.size_in, total-multiplied each c.args.k c.self.inside.terms.items) in
-    let all = All-multiplied c.args.k (2 ^ 127 - 1) c.self.inside.terms.items le in
-    λ i d lt. rw c.as_slice.ensures.value (omega (arith, all i d (rw c.as_slice.ensures.value at lt)))
+    let le : total each c.self.inside.terms * c.args.k ≤ 2 ^ 127 - 1 = omega (arith, fits.size_in, total-multiplied each c.args.k c.self.inside.terms) in
+    let all = All-multiplied c.args.k (2 ^ 127 - 1) c.self.inside.terms le in
+    λ i d lt. (omega (arith, all i d (lt)))

@@ -5,17 +5,17 @@ use Rattle.pb_normal.proofs.form.Normal.term.Goals as goal
 
 pub overflow_cast-result : goal.overflow_cast-result
 overflow_cast-result c =
-    let lt : c.args.index < length c.self.inside.terms.items = rw (← c.self.view_is) at c.requires in
-    let one = total-read c.self.inside.terms.items c.args.index c.index-t.result.now c.index-t.result.now lt c.index-t.ensures in
+    let lt : c.args.index < length c.self.inside.terms = rw (← c.self.view_is) at c.requires in
+    let one = total-read c.self.inside.terms c.args.index c.get-t.result c.get-t.result lt (c.get-t.ensures.read c.get-t.result) in
     fits_signed_from_abs _ _ (omega (arith, c.self.invariant.size_in))
 
 pub returns : goal.returns
 returns c =
-    let lt : c.args.index < length c.self.inside.terms.items = rw (← c.self.view_is) at c.requires in
-    let one = total-read c.self.inside.terms.items c.args.index c.index-t.result.now c.index-t.result.now lt c.index-t.ensures in
-    let same : to_z w128 c.index-t.result.now.coefficient ≡ pos c.index-t.result.now.coefficient = to_z_pos w128 _ (omega (arith, c.self.invariant.size_in)) in
-    let ordered = rw (← take-append-drop c.args.index c.self.inside.terms.items) at c.self.invariant.ordered in
-    let positive = positive-read 0 _ c.self.inside.terms.items c.args.index c.index-t.result.now c.index-t.result.now ordered lt c.index-t.ensures in
-    let read = slice_get-get_or c.self.inside.terms.items c.args.index c.index-t.result.now lt in
-    let found = rw (← c.index-t.ensures) at read in
+    let lt : c.args.index < length c.self.inside.terms = rw (← c.self.view_is) at c.requires in
+    let one = total-read c.self.inside.terms c.args.index c.get-t.result c.get-t.result lt (c.get-t.ensures.read c.get-t.result) in
+    let same : to_z w128 c.get-t.result.coefficient ≡ pos c.get-t.result.coefficient = to_z_pos w128 _ (omega (arith, c.self.invariant.size_in)) in
+    let ordered = rw (← take-append-drop c.args.index c.self.inside.terms) at c.self.invariant.ordered in
+    let positive = positive-read 0 _ c.self.inside.terms c.args.index c.get-t.result c.get-t.result ordered lt (c.get-t.ensures.read c.get-t.result) in
+    let read = slice_get-get_or c.self.inside.terms c.args.index c.get-t.result lt in
+    let found = rw (← c.get-t.ensures.read c.get-t.result) at read in
     rw (same, ← c.self.view_is) record { is = found; positive = omega (arith, ints) }

@@ -6,9 +6,9 @@ use Rattle.pb_normal.proofs.tree.Tree.of.Goals as goal
 pub invariant_of-result : goal.invariant_of-result
 invariant_of-result c =
     let none = ap values_of c.new-terms.ensures.empty in
-    let adds = rw (none, c.as_slice.ensures.value) at c.in_ok-put_all.ensures.adds in
+    let adds = rw (none) at c.in_ok-put_all.ensures.adds in
     let same = Adds-from_none _ _ _ c.form.invariant.ordered c.in_ok-put_all.ensures.rising adds in
-    let size_is = rw c.as_slice-2.ensures.value at c.size_of.ensures in
+    let size_is = c.size_of.ensures in
     record {
       keyed = c.in_ok-put_all.ensures.keyed;
       size_is = rw same size_is;
@@ -18,6 +18,6 @@ invariant_of-result c =
 pub returns : goal.returns
 returns c =
     let none = ap values_of c.new-terms.ensures.empty in
-    let adds = rw (none, c.as_slice.ensures.value) at c.in_ok-put_all.ensures.adds in
+    let adds = rw (none) at c.in_ok-put_all.ensures.adds in
     let same = Adds-from_none _ _ _ c.form.invariant.ordered c.in_ok-put_all.ensures.rising adds in
     record { same = rw same c.form.view_is }
