@@ -1,9 +1,5 @@
-use Rattle.std.proofs.Common.{◌≡◌, ◌∙◌, ap, codes}
-use Rattle.clap.specs.Simple.{app_of_fields}
-use Rattle.clap.specs.Words.{app_of, new_app}
-use Rattle.clap.specs.declared.builder.command.Command.{Command}
-use Rattle.clap.specs.declared.builder.command.Command.TheOpen.{Command-F}
-use Rattle.pb_words.specs.Words.{checker_command, instance_rule, value_rule, with_shared}
+use Rattle.pb_words.proofs.Common.{◌≡◌, ◌∙◌, ap, codes, app_of_fields, app_of, new_app, Command, Command-F, checker_command, instance_rule}
+use Rattle.pb_words.proofs.Common.{value_rule, with_shared}
 use Rattle.pb_words.proofs.lemmas.Added.{added_app, added_local, if_added}
 use Rattle.pb_words.proofs.words.options.checker.Goals as goal
 

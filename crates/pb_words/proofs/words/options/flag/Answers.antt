@@ -1,7 +1,4 @@
-use Rattle.std.proofs.Common.{◌∙◌, Some, ap}
-use Rattle.clap.specs.Walk.{Rule}
-use Rattle.clap.specs.Words.{rule_of}
-use Rattle.clap.specs.declared.builder.arg.Arg.{Arg}
+use Rattle.pb_words.proofs.Common.{◌∙◌, Some, ap, Rule, rule_of, Arg}
 use Rattle.pb_words.proofs.words.options.flag.Goals as goal
 
 pub returns-clause-rule : goal.returns-clause-rule

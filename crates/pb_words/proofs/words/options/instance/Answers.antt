@@ -1,7 +1,4 @@
-use Rattle.std.proofs.Common.{◌∙◌, ap, true}
-use Rattle.clap.specs.Walk.{Rule}
-use Rattle.clap.specs.Words.{rule_of}
-use Rattle.clap.specs.declared.builder.arg.Arg.{Arg}
+use Rattle.pb_words.proofs.Common.{◌∙◌, ap, true, Rule, rule_of, Arg}
 use Rattle.pb_words.proofs.words.options.instance.Goals as goal
 
 pub returns-clause-rule : goal.returns-clause-rule
