@@ -1,13 +1,8 @@
 -- The number of a flag, from its text.
-use Rattle.std.proofs.Common.{◌≡◌, ◌↔◌, ℕ, Bool, true, false, List, Option, Some, None, IsTrue, codes, ap, sym, ◌∙◌, subst, refl, inl, inr}
-use Rattle.std.specs.Prelude.{IsSomeAnd}
-use Rattle.std.specs.Str.{bytes_eq}
-use Rattle.std.proofs.lemmas.Slice.Eq.{bytes_eq-Decides}
+use Rattle.pb_words.proofs.Common.{◌≡◌, ◌↔◌, ℕ, Bool, true, false, List, Option, Some, None, IsTrue, codes, ap, sym, ◌∙◌, subst, refl, inl, inr}
+use Rattle.pb_words.proofs.Common.{IsSomeAnd, bytes_eq, bytes_eq-Decides, IsUnsignedIn, Row, WordsFault, IsChecker, IsEntryFault, IsFlag}
+use Rattle.pb_words.proofs.Common.{IsInstanceFault, IsNumberFault, IsSelectionFault, IsSwitch}
 use Rattle.std.specs.Str.Parse.{digits_value, without_leading_plus}
-use Rattle.clap.specs.Words.{IsUnsignedIn}
-use Rattle.clap.specs.Walk.{Row}
-use Rattle.pb_words.specs.declared.words.fault.WordsFault.{WordsFault}
-use Rattle.pb_words.specs.Words.{IsChecker, IsEntryFault, IsFlag, IsInstanceFault, IsNumberFault, IsSelectionFault, IsSwitch}
 
 pub absent : (low high : ℕ) (found : Option (List ℕ)) → None ≡ found → IsFlag low high found None
 absent low high found e = subst (λ (t : Option (List ℕ)). IsFlag low high t None) e refl

@@ -1,13 +1,12 @@
 -- What a parse of the command says of the arguments.
-use Rattle.std.proofs.Common.{◌≡◌, List, [], Option, Some, None, Result, Ok, Err, IfErr, IfOk, true, option_map, sym, ap, ◌∙◌, subst, inl, inr}
-use Rattle.std.specs.Prelude.{IsErrAnd, IsSomeAnd}
+use Rattle.pb_words.proofs.Common.{◌≡◌, List, [], Option, Some, None, Result, Ok, Err, IfErr, IfOk, true, option_map, sym, ap, ◌∙◌, subst, inl, inr}
+use Rattle.pb_words.proofs.Common.{IsErrAnd, IsSomeAnd, HasKind, fault_of, is_simple, is_simple_and_free, kind_of, WordsFault, AsksFor, ExplainsWords}
+use Rattle.pb_words.proofs.Common.{IsEntryFault, pb_command}
 use Rattle.clap.specs.declared.Error.{Error}
-use Rattle.clap.specs.Words.{App, HasKind, Row, Text, fault_of, is_simple, is_simple_and_free, kind_of, subcommand_of}
+use Rattle.clap.specs.Words.{App, Row, Text, subcommand_of}
 use Rattle.clap.specs.declared.error.ErrorKind.TheVariants.{OutOfMemory}
 use Rattle.pb_words.specs.declared.words.Job.{Job}
-use Rattle.pb_words.specs.declared.words.fault.WordsFault.{WordsFault}
 use Rattle.pb_words.specs.declared.words.fault.WordsFault.TheVariants.{Words, Memory}
-use Rattle.pb_words.specs.Words.{AsksFor, ExplainsWords, IsEntryFault, pb_command}
 
 pub right_words : (a : App) (words : List Text) → a ≡ pb_command → (is_simple_and_free a ≡ true → fault_of a words ≡ []) → fault_of pb_command words ≡ []
 right_words a words app right = subst (λ (x : App). fault_of x words ≡ []) app (right (ap is_simple_and_free app))

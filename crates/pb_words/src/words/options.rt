@@ -290,7 +290,7 @@ fn checker<'a>(
         .about(about)
         .after_help(help)
         .arg(instance(alloc))?
-        .arg(taking(
+        .arg(value_argument(
             alloc,
             "proof",
             "PROOF",
@@ -312,7 +312,7 @@ fn reader<'a>(
     let command = Command::new(alloc, name)
         .about(about)
         .after_help(help)
-        .arg(taking(
+        .arg(value_argument(
             alloc,
             "file",
             "FILE",
@@ -352,7 +352,7 @@ fn instance<'a>(alloc: Global) -> Arg<'a>
     ensures rule { rule_of result ≡ instance_rule }
     ensures local { result.global ≡ false }
 {
-    taking(
+    value_argument(
         alloc,
         "instance",
         "INSTANCE",
@@ -377,11 +377,11 @@ fn flag<'a>(alloc: Global, name: &'a str, value: &'a str, help: &'a str) -> Arg<
     ensures rule { rule_of result ≡ flag_rule name.entry.now }
     ensures local { result.global ≡ false }
 {
-    taking(alloc, name, value, help).long(name)
+    value_argument(alloc, name, value, help).long(name)
 }
 
 /// An argument that takes a value.
-fn taking<'a>(alloc: Global, name: &'a str, value: &'a str, help: &'a str) -> Arg<'a>
+fn value_argument<'a>(alloc: Global, name: &'a str, value: &'a str, help: &'a str) -> Arg<'a>
     ensures rule { rule_of result ≡ value_rule name.entry.now }
     ensures local { result.global ≡ false }
 {

@@ -1,6 +1,4 @@
-use Rattle.std.proofs.Common.{◌∙◌}
-use Rattle.clap.specs.Words.{found_of}
-use Rattle.clap.proofs.WalkLemmas.{first_value-rows}
+use Rattle.pb_words.proofs.Common.{◌∙◌, found_of, first_value-rows}
 use Rattle.pb_words.proofs.lemmas.Entries.{absent, given, outside}
 use Rattle.pb_words.proofs.words.flag_number.Goals as goal
 

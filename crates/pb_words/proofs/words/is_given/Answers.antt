@@ -1,6 +1,4 @@
-use Rattle.std.proofs.Common.{◌∙◌}
-use Rattle.clap.specs.Words.{found_of}
-use Rattle.clap.proofs.WalkLemmas.{first_value-rows}
+use Rattle.pb_words.proofs.Common.{◌∙◌, found_of, first_value-rows}
 use Rattle.pb_words.proofs.lemmas.Entries.{switched, not_switched}
 use Rattle.pb_words.proofs.words.is_given.Goals as goal
 

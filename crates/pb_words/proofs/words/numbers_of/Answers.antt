@@ -1,4 +1,4 @@
-use Rattle.std.proofs.Common.{rules}
+use Rattle.pb_words.proofs.Common.{rules}
 use Rattle.pb_words.proofs.words.numbers_of.Goals as goal
 
 pub returns-clause-ok : goal.returns-clause-ok

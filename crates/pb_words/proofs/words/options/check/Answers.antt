@@ -1,7 +1,5 @@
-use Rattle.std.proofs.Common.{◌≡◌, codes, false}
-use Rattle.clap.specs.Words.{app_of}
+use Rattle.pb_words.proofs.Common.{◌≡◌, codes, false, app_of, check_command, checker_command, switch_rule}
 use Rattle.clap.specs.declared.builder.Command.TheViews.{out-Command as fields_of}
-use Rattle.pb_words.specs.Words.{check_command, checker_command, switch_rule}
 use Rattle.pb_words.proofs.lemmas.Added.{added_app, added_local, if_added}
 use Rattle.pb_words.proofs.words.options.check.Goals as goal
 

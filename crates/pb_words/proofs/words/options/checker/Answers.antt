@@ -1,9 +1,5 @@
-use Rattle.std.proofs.Common.{◌≡◌, ◌∙◌, ap, codes}
-use Rattle.clap.specs.Simple.{app_of_fields}
-use Rattle.clap.specs.Words.{app_of, new_app}
-use Rattle.clap.specs.declared.builder.command.Command.{Command}
-use Rattle.clap.specs.declared.builder.command.Command.TheOpen.{Command-F}
-use Rattle.pb_words.specs.Words.{checker_command, instance_rule, value_rule, with_shared}
+use Rattle.pb_words.proofs.Common.{◌≡◌, ◌∙◌, ap, codes, app_of_fields, app_of, new_app, Command, Command-F, checker_command, instance_rule}
+use Rattle.pb_words.proofs.Common.{value_rule, with_shared}
 use Rattle.pb_words.proofs.lemmas.Added.{added_app, added_local, if_added}
 use Rattle.pb_words.proofs.words.options.checker.Goals as goal
 
@@ -11,13 +7,13 @@ pub with_shared-requires : goal.with_shared-requires
 with_shared-requires c =
     let local = ap (λ (f : Command-F Command). f.has_globals) c.after_help.ensures ∙ (ap (λ (f : Command-F Command). f.has_globals) c.about.ensures ∙ c.new.ensures.local) in
     let one = added_local _ _ _ c.in_ok-arg.ensures local c.instance.ensures.local in
-    added_local _ _ _ c.in_ok-command.ensures one c.taking.ensures.local
+    added_local _ _ _ c.in_ok-command.ensures one c.value_argument.ensures.local
 
 pub returns-clause-app : goal.returns-clause-app
 returns-clause-app c =
     let first = ap app_of_fields c.after_help.ensures ∙ (ap app_of_fields c.about.ensures ∙ c.new.ensures.app) in
     let one = added_app _ _ _ (new_app c.args.name.now) instance_rule c.in_ok-arg.ensures first c.instance.ensures.rule c.instance.ensures.local in
-    let two = added_app _ _ _ _ (value_rule (codes "proof")) c.in_ok-command.ensures one c.taking.ensures.rule c.taking.ensures.local in
+    let two = added_app _ _ _ _ (value_rule (codes "proof")) c.in_ok-command.ensures one c.value_argument.ensures.rule c.value_argument.ensures.local in
     if_added _ _ (λ d. app_of d ≡ checker_command c.args.name.now) (λ d is. is ∙ ap with_shared two) c.with_shared.ensures.app
 
 pub returns-clause-local : goal.returns-clause-local

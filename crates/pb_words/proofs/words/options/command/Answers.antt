@@ -1,8 +1,7 @@
-use Rattle.std.proofs.Common.{◌≡◌, ◌∙◌, ap, false}
-use Rattle.clap.specs.Words.{AddsSubcommand, App, app_of, with_subcommand}
+use Rattle.pb_words.proofs.Common.{◌≡◌, ◌∙◌, ap, false, AddsSubcommand, app_of, with_subcommand, Command, check_command, pb_program, show_command}
+use Rattle.pb_words.proofs.Common.{tidy_command, trace_command}
+use Rattle.clap.specs.Words.{App}
 use Rattle.clap.specs.declared.builder.Command.TheViews.{out-Command as fields_of}
-use Rattle.clap.specs.declared.builder.command.Command.{Command}
-use Rattle.pb_words.specs.Words.{check_command, pb_program, show_command, tidy_command, trace_command}
 use Rattle.pb_words.proofs.words.options.command.Goals as goal
 
 added : (old sub new : Command) (above below : App) → AddsSubcommand old sub new → app_of old ≡ above → app_of sub ≡ below → (fields_of sub).has_globals ≡ false

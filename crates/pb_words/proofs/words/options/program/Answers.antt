@@ -1,7 +1,4 @@
-use Rattle.std.proofs.Common.{◌∙◌, ap, true}
-use Rattle.clap.specs.Simple.{App, app_of_fields, on_top}
-use Rattle.clap.specs.declared.builder.command.Command.{Command}
-use Rattle.clap.specs.declared.builder.command.Command.TheOpen.{Command-F}
+use Rattle.pb_words.proofs.Common.{◌∙◌, ap, true, App, app_of_fields, on_top, Command, Command-F}
 use Rattle.pb_words.proofs.words.options.program.Goals as goal
 
 abbrev asked : Command-F Command → App

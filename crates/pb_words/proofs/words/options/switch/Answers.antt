@@ -1,8 +1,5 @@
-use Rattle.std.proofs.Common.{◌∙◌, Some, ap}
-use Rattle.clap.specs.Walk.{Rule}
-use Rattle.clap.specs.Words.{rule_of}
+use Rattle.pb_words.proofs.Common.{◌∙◌, Some, ap, Rule, rule_of, Arg}
 use Rattle.clap.specs.declared.builder.action.ArgAction.TheVariants.{SetTrue}
-use Rattle.clap.specs.declared.builder.arg.Arg.{Arg}
 use Rattle.pb_words.proofs.words.options.switch.Goals as goal
 
 pub returns-clause-rule : goal.returns-clause-rule

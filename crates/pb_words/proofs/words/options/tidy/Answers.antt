@@ -1,7 +1,5 @@
-use Rattle.std.proofs.Common.{◌≡◌, codes, false}
-use Rattle.clap.specs.Words.{app_of}
+use Rattle.pb_words.proofs.Common.{◌≡◌, codes, false, app_of, reader_command, switch_rule, tidy_command}
 use Rattle.clap.specs.declared.builder.Command.TheViews.{out-Command as fields_of}
-use Rattle.pb_words.specs.Words.{reader_command, switch_rule, tidy_command}
 use Rattle.pb_words.proofs.lemmas.Added.{added_app, added_local, if_added}
 use Rattle.pb_words.proofs.words.options.tidy.Goals as goal
 

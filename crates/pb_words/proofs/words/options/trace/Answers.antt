@@ -1,7 +1,5 @@
-use Rattle.std.proofs.Common.{◌≡◌, ◌∙◌, ap, codes, false}
-use Rattle.clap.specs.Words.{app_of}
+use Rattle.pb_words.proofs.Common.{◌≡◌, ◌∙◌, ap, codes, false, app_of, switch_rule, trace_command, with_selection}
 use Rattle.clap.specs.declared.builder.Command.TheViews.{out-Command as fields_of}
-use Rattle.pb_words.specs.Words.{switch_rule, trace_command, with_selection}
 use Rattle.pb_words.proofs.lemmas.Added.{added_app, added_local, if_added}
 use Rattle.pb_words.proofs.words.options.trace.Goals as goal
 

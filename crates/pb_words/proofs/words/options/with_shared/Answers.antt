@@ -1,7 +1,5 @@
-use Rattle.std.proofs.Common.{◌≡◌, refl, codes, false}
-use Rattle.clap.specs.Words.{app_of}
+use Rattle.pb_words.proofs.Common.{◌≡◌, refl, codes, false, app_of, flag_rule, switch_rule, with_shared}
 use Rattle.clap.specs.declared.builder.Command.TheViews.{out-Command as fields_of}
-use Rattle.pb_words.specs.Words.{flag_rule, switch_rule, with_shared}
 use Rattle.pb_words.proofs.lemmas.Added.{added_app, added_local, if_added}
 use Rattle.pb_words.proofs.words.options.with_shared.Goals as goal
 

@@ -1,8 +1,5 @@
-use Rattle.std.proofs.Common.{◌∙◌, ap}
-use Rattle.clap.specs.Walk.{Rule}
-use Rattle.clap.specs.Words.{rule_of}
-use Rattle.clap.specs.declared.builder.arg.Arg.{Arg}
-use Rattle.pb_words.proofs.words.options.taking.Goals as goal
+use Rattle.pb_words.proofs.Common.{◌∙◌, ap, Rule, rule_of, Arg}
+use Rattle.pb_words.proofs.words.options.value_argument.Goals as goal
 
 pub returns-clause-rule : goal.returns-clause-rule
 returns-clause-rule c = ap rule_of c.help.ensures ∙ (ap rule_of c.value_name.ensures ∙ ap (λ (r : Rule). record r { value_names = 1 }) c.new.ensures.rule)
