@@ -18,7 +18,7 @@ pub(crate) struct NameTable {
     pub(crate) hasher: NameHasher,
     pub(crate) bytes: Vec<u8>,
     pub(crate) entries: Vec<NameEntry>,
-    /// For each chain one more than the number of its last name, or 0.
+    /// For each chain one more than the number of its last name, or 0. Their count is a power of two.
     pub(crate) heads: Vec<u32>,
 }
 
@@ -66,7 +66,7 @@ fn reserve(table: &mut NameTable) -> Result<(), AllocError>
     }
     table.entries.reserve(1)?;
     if number == table.heads.len() {
-        let count = 2 * number + 16;
+        let count = (2 * number).max(16);
         table.heads = relinked(table.alloc, table.entries.as_mut_slice(), count)?;
     }
     Ok(())
