@@ -136,6 +136,11 @@ module _ (limit top : ℕ) where
   word_carries : (w : word.Word) → Carries limit top (Is limit top phase.Before) (Bytes (word_of w)) (Is limit top (phase_after_word w))
   word_carries w = leads_carry limit top phase.Before (phase_after_word w) (Bytes (word_of w)) (word_leads limit top w)
 
+  word_follows : (w : word.Word) (c : Concluding) → phase_after_word w ≡ phase.AfterValue c → Carries limit top (Is limit top phase.Before) (Bytes (word_of w)) (Follows limit top (phase.AfterValue c))
+  word_follows w c e =
+      carries_to (Is limit top phase.Before) (Is limit top (phase_after_word w)) (Follows limit top (phase.AfterValue c)) (Bytes (word_of w))
+      (λ s i. is_follows (phase.AfterValue c) s (i ∙ ap (λ q. here q) e)) (word_carries w)
+
   -- `UNSAT`, and an id
   unsat_gap : (s : ConclusionState) → s ≡ here (phase.AfterValue (concluding.Unsat None)) → TakesBlanks conclusion_automaton s (here (phase.AfterValue (concluding.Unsat None))) × Colons owner.Unsat s
   unsat_gap s e =
@@ -148,11 +153,8 @@ module _ (limit top : ℕ) where
 
   unsat_carries : (id : Option ℤ) → Carries limit top (Is limit top phase.Before) (Bytes unsat_word ⋅ IdShown limit top id) (Follows limit top (phase.AfterValue (concluding.Unsat id)))
   unsat_carries None =
-      carries_then limit top (Is limit top phase.Before) (Is limit top (phase.AfterValue (concluding.Unsat None))) (Follows limit top (phase.AfterValue (concluding.Unsat None))) (Bytes unsat_word) Empty
-      (word_carries word.TheVariants.Unsat)
-      (carries_to (Is limit top (phase.AfterValue (concluding.Unsat None))) (Is limit top (phase.AfterValue (concluding.Unsat None))) (Follows limit top (phase.AfterValue (concluding.Unsat None))) Empty
-      (is_follows (phase.AfterValue (concluding.Unsat None)))
-      (empty_carries (Is limit top (phase.AfterValue (concluding.Unsat None)))))
+      let F : ConclusionState → Type 0 = Follows limit top (phase.AfterValue (concluding.Unsat None)) in
+      carries_then limit top (Is limit top phase.Before) F F (Bytes unsat_word) Empty (word_follows word.TheVariants.Unsat (concluding.Unsat None) refl) (empty_carries F)
   unsat_carries (Some id) =
       let A : ConclusionState → Type 0 = Is limit top (phase.AfterValue (concluding.Unsat None)) in
       carries_then limit top (Is limit top phase.Before) A (Follows limit top (phase.AfterValue (concluding.Unsat (Some id)))) (Bytes unsat_word) (IdShown limit top (Some id))
@@ -220,11 +222,6 @@ module _ (limit top : ℕ) where
       → (t : List Letter) → (Blanks1 ⋅ P ⋅ LineEnd) t → ReadsStatement conclusion_automaton (conclusion_first limit top) t (conclusion_value c) (conclusion_last limit top)
   plain_reads c P f =
       ends_line c (Blanks1 ⋅ P) (carries_then limit top (Is limit top phase.Start) (Is limit top phase.Before) (Follows limit top (phase.AfterValue c)) Blanks1 P start_carries f)
-
-  word_follows : (w : word.Word) (c : Concluding) → phase_after_word w ≡ phase.AfterValue c → Carries limit top (Is limit top phase.Before) (Bytes (word_of w)) (Follows limit top (phase.AfterValue c))
-  word_follows w c e =
-      carries_to (Is limit top phase.Before) (Is limit top (phase_after_word w)) (Follows limit top (phase.AfterValue c)) (Bytes (word_of w))
-      (λ s i. is_follows (phase.AfterValue c) s (i ∙ ap (λ q. here q) e)) (word_carries w)
 
   pub conclusion_each : (c : Conclusion) (t : List Letter) → SpellsConclusionLine limit top c t → ReadsStatement conclusion_automaton (conclusion_first limit top) t c (conclusion_last limit top)
   conclusion_each NoClaim t h = plain_reads concluding.NoClaim (Bytes none_word) (word_follows word.TheVariants.NoClaim concluding.NoClaim refl) t h

@@ -45,9 +45,9 @@ pub comment_reads : (limit top : ℕ) (s : Stage) (t : List Letter) (e : Stateme
 comment_reads limit top s [] e after r = r
 comment_reads limit top s (l ∷ []) e after (h, n) = go_or_end _ e after h
 comment_reads limit top s (l ∷ k ∷ t) e after (mid, h, o, n, r) = never (proofs.begun mid) o (
-  ap proofs.begun (sym (one_state _ mid h))
-  ∙ cond_both (nat_eq l.byte 10) (phase.Between s) (phase.Comment s) (λ q. is_within q ≡ false) (λ _. refl) (λ _. refl)
-  )
+    ap proofs.begun (sym (one_state _ mid h))
+    ∙ cond_both (nat_eq l.byte 10) (phase.Between s) (phase.Comment s) (λ q. is_within q ≡ false) (λ _. refl) (λ _. refl)
+    )
 
 module _ (limit top : ℕ) (s : Stage) (gaps : HasGaps s) where
   -- the state within a comment, or outside one

@@ -42,11 +42,11 @@ ended_empty s next b e h = ap sums.spent (ended-last s next b e h)
 -- what holds after a byte
 record Continues (s next : RupState) : Type 0 where
   pub begins : rup_midway next.phase ≡ true
-  pub grows : rup_automaton.spent next ≤ rup_automaton.spent s + 1
+  pub grows : IsRupInOrder s → rup_automaton.spent next ≤ rup_automaton.spent s + 1
 
 abbrev On : RupState → Next RupState Linear → Type 0
 On s (Go next) = Continues s next
-On s (End e next) = (rup_done next.phase ≡ true) × (rup_automaton.spent next ≡ 0)
+On s (End e next) = IsRupInOrder s → (rup_done next.phase ≡ true) × (rup_automaton.spent next ≡ 0)
 On s Refuse = Unit {0}
 
 -- what holds of a move from a phase
@@ -67,52 +67,33 @@ on_transition s Done b = tt
 known : (s : RupState) (b : ℕ) (m : RupAction) → rup_transition s.phase b ≡ m → OnAction s s.phase m
 known s b m e = subst (OnAction s s.phase) e (on_transition s s.phase b)
 
-on_given : (s : RupState) → IsState sums s.sums → s.linear ≡ None → (b : ℕ) (n : Next SumState SumEvent) → sums.step s.sums b ≡ n → On s (rup_over s n)
-on_given s state h b (Go inner) e = record { begins = refl; grows = omega (arith, state.grows b inner e) }
-on_given s state h b (End x inner) e = record { begins = refl; grows = rw (ended_empty s.sums inner b x e) (omega (arith, ended_units s.sums inner b x e)) }
-on_given s state h b Refuse e = tt
+on_given : (s : RupState) (b : ℕ) (n : Next SumState SumEvent) → sums.step s.sums b ≡ n → On s (rup_over s n)
+on_given s b (Go inner) e = record { begins = refl; grows = λ h. omega (arith, h.state.grows b inner e) }
+on_given s b (End x inner) e = record { begins = refl; grows = λ h. rw (ended_empty s.sums inner b x e) (omega (arith, ended_units s.sums inner b x e)) }
+on_given s b Refuse e = tt
 
-on_finish : (s : RupState) → sums.spent s.sums ≡ 0 → (o : Option Linear) → On s (rup_finish s o)
-on_finish s h None = tt
-on_finish s h (Some c) = (refl, ap (λ (n : ℕ). 0 + n) h)
+on_finish : (s : RupState) → (IsRupInOrder s → sums.spent s.sums ≡ 0) → (o : Option Linear) → On s (rup_finish s o)
+on_finish s f None = tt
+on_finish s f (Some c) = λ h. (refl, ap (λ (n : ℕ). 0 + n) (f h))
 
-on_act : (s : RupState) → IsRupInOrder s → (b : ℕ) (m : RupAction) → OnAction s s.phase m → On s (rup_act s b m)
-on_act s h b (To p) k = record { begins = k.0; grows = omega arith }
-on_act s h b Give k = on_given s h.state (k h.holds).0 b (sums.step s.sums b) refl
-on_act s h b Finish k = on_finish s (k h.holds) s.linear
-on_act s h b Stop k = tt
+on_act : (s : RupState) (b : ℕ) (m : RupAction) → OnAction s s.phase m → On s (rup_act s b m)
+on_act s b (To p) k = record { begins = k.0; grows = λ h. omega arith }
+on_act s b Give k = on_given s b (sums.step s.sums b) refl
+on_act s b Finish k = on_finish s (λ h. k h.holds) s.linear
+on_act s b Stop k = tt
 
-steps : (s : RupState) → IsRupInOrder s → (b : ℕ) → On s (rup_automaton.step s b)
-steps s h b = on_act s h b (rup_transition s.phase b) (on_transition s s.phase b)
+steps : (s : RupState) (b : ℕ) → On s (rup_automaton.step s b)
+steps s b = on_act s b (rup_transition s.phase b) (on_transition s s.phase b)
 
-continues : (s next : RupState) (b : ℕ) → IsRupInOrder s → rup_automaton.step s b ≡ Go next → Continues s next
-continues s next b h e = subst (On s) e (steps s h b)
+continues : (s next : RupState) (b : ℕ) → rup_automaton.step s b ≡ Go next → Continues s next
+continues s next b e = subst (On s) e (steps s b)
 
 ends : (s next : RupState) (b : ℕ) (c : Linear) → IsRupInOrder s → rup_automaton.step s b ≡ End c next → (rup_done next.phase ≡ true) × (rup_automaton.spent next ≡ 0)
-ends s next b c h e = subst (On s) e (steps s h b)
+ends s next b c h e = subst (On s) e (steps s b) h
 
 -- after each byte that is taken the line has begun
-abbrev OnGo : Next RupState Linear → Type 0
-OnGo (Go next) = rup_midway next.phase ≡ true
-OnGo _ = Unit {0}
-
-begun_given : (s : RupState) (n : Next SumState SumEvent) → OnGo (rup_over s n)
-begun_given s (Go inner) = refl
-begun_given s (End x inner) = refl
-begun_given s Refuse = tt
-
-begun_finish : (s : RupState) (o : Option Linear) → OnGo (rup_finish s o)
-begun_finish s None = tt
-begun_finish s (Some c) = tt
-
-begun_act : (s : RupState) (b : ℕ) (m : RupAction) → OnAction s s.phase m → OnGo (rup_act s b m)
-begun_act s b (To p) k = k.0
-begun_act s b Give k = begun_given s (sums.step s.sums b)
-begun_act s b Finish k = begun_finish s s.linear
-begun_act s b Stop k = tt
-
 pub rup_begins : (s next : RupState) (b : ℕ) → rup_automaton.step s b ≡ Go next → rup_automaton.begun next ≡ true
-rup_begins s next b e = subst OnGo e (begun_act s b (rup_transition s.phase b) (on_transition s s.phase b))
+rup_begins s next b e = (continues s next b e).begins
 
 midway_not_done : (p : RupPhase) → rup_midway p ≡ true → rup_done p ≡ false
 midway_not_done Done h = sym h
@@ -186,11 +167,11 @@ pub rup_is_state : (s : RupState) → IsRupInOrder s → IsState rup_automaton s
 rup_is_state s h = record {
   live = live s h (rup_done s.phase) refl;
   ends = λ d b. done_stops s s.phase b d;
-  owes = λ b next e. midway_not_done next.phase (continues s next b h e).begins;
-  stays = λ i b next e. (continues s next b h e).begins;
+  owes = λ b next e. midway_not_done next.phase (continues s next b e).begins;
+  stays = λ i b next e. (continues s next b e).begins;
   finishes = λ b c next e. done_not_midway next.phase (ends s next b c h e).0;
   plain = λ o. outside_plain s s.phase o;
-  grows = λ b next e. (continues s next b h e).grows;
+  grows = λ b next e. (continues s next b e).grows h;
   bounds = omega (arith, h.state.bounds);
   empties = λ o. empty_outside s s.phase h.holds o;
 }
