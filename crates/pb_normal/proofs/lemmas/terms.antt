@@ -7,7 +7,6 @@ pub mod KeyedTerms
 pub mod Lookups
 pub mod Maps
 pub mod Merging
-pub mod Positions
 pub mod Removals
 pub mod Totals
 pub mod Variables

@@ -4,7 +4,6 @@ use Rattle.pb_normal.proofs.Common.{not, Ok, OnErr, Option, refl, Result, slice_
 use Rattle.pb_normal.proofs.Common.{or_right, nat_tests, map-append, take-map, slice_get_within, bytes_eq-Decides, list_any, position}
 use Rattle.pb_normal.proofs.Common.{position_or_len, bytes_eq, Term, Entry, Side, entry_of, raw_of, AfterPrefix, AreDistinct, has_name, HasNames}
 use Rattle.pb_normal.proofs.Common.{number_in, with_name, with_names, names_of, side_number, side_terms}
-use Rattle.pb_normal.proofs.lemmas.terms.Positions.{position_or_len-none}
 
 stays : (b : Bool) (n m : ℕ) → (b ≡ false → n ≡ m) → cond (not b) (1 + n) 0 ≡ cond (not b) (1 + m) 0
 stays true n m h = refl
@@ -131,21 +130,6 @@ AreDistinct-with names k d = by_test (has_name names k) refl
     by_test : (b : Bool) → has_name names k ≡ b → AreDistinct (cond b names (names ++ k ∷ []))
     by_test true t = d
     by_test false t = AreDistinct-push names k d t
-
--- a position in terms of names and numbers
-pub position-number : (names : List (List ℕ)) (q : List ℕ) → position (bytes_eq q) names ≡ cond (has_name names q) (let o : Option ℕ = Some (number_in names q) in o) None
-position-number names q = at (has_name names q) refl
-  where
-    at : (b : Bool) → has_name names q ≡ b → position (bytes_eq q) names ≡ cond b (let o : Option ℕ = Some (number_in names q) in o) None
-    at true e = let below : nat_lt (number_in names q) (length names) ≡ true = let lt = number_in-below names q e in grind (arith, nat_tests) in rw below refl
-    at false e = let none : number_in names q ≡ length names = position_or_len-none (bytes_eq q) names e in let past : nat_lt (number_in names q) (length names) ≡ false = grind (arith, nat_tests) in rw past refl
-
-pub found_at : (b : Bool) (m n : ℕ) → cond b (let o : Option ℕ = Some m in o) None ≡ Some n → m ≡ n
-found_at true m n e = cc
-found_at false m n e = absurd cc
-
-pub number_in-position : (names : List (List ℕ)) (q : List ℕ) (n : ℕ) → position (bytes_eq q) names ≡ Some n → n ≡ number_in names q
-number_in-position names q n e = sym (found_at _ _ n e)
 
 raw-with : (side : Side) (k : List ℕ) (ks : List (List ℕ)) (ts : List Term) → HasNames ks (names_of ts) → map (raw_of (with_name ks k)) (side_terms side ts) ≡ map (raw_of ks) (side_terms side ts)
 raw-with side k ks [] h = refl
