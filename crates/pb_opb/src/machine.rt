@@ -180,10 +180,12 @@ impl OpbMachine {
 
 impl OpbMachine {
     ghost use Rattle.pb_text.specs.contract.Automaton.{Continues, IsState, Runs};
+    ghost use Rattle.pb_opb.specs.engine.Machine.{transition};
     ghost use Rattle.pb_opb.specs.engine.State.{opb, keeps_line};
 
     /// Takes a byte that is not stored and ends no statement, as far as this is cheap to decide. Returns whether it
     /// took the byte.
+    #[inline(always)]
     fn advance(&mut self, byte: u8) -> bool
         ensures { Continues opb self.old byte result self.new }
     {
@@ -192,15 +194,21 @@ impl OpbMachine {
                 self.phase = next;
                 true
             }
-            Action::Give(next) => {
-                if !self.sums.try_continue(byte) {
-                    return false;
-                }
-                self.phase = next;
-                true
-            }
+            Action::Give(next) => self.continue_sum(next, byte),
             _ => false,
         }
+    }
+
+    /// Gives a byte to the machine of sums, if that is cheap. Returns whether it took the byte.
+    fn continue_sum(&mut self, phase: Phase, byte: u8) -> bool
+        requires { transition self.old.top self.old.phase byte ≡ Action.Give phase }
+        ensures { Continues opb self.old byte result self.new }
+    {
+        if !self.sums.try_continue(byte) {
+            return false;
+        }
+        self.phase = phase;
+        true
     }
 
     /// Stores the bytes before the first line feed and returns how many. If memory runs out, it stores none and returns
@@ -261,6 +269,7 @@ impl Machine for OpbMachine {
 
     ghost automaton = { opb };
 
+    #[inline(always)]
     fn try_continue(&mut self, byte: u8) -> bool {
         let went = self.advance(byte);
         let _ = self.is_done();
@@ -300,6 +309,7 @@ impl Machine for OpbMachine {
         is_done(self.phase)
     }
 
+    #[inline(always)]
     fn starts(&self, byte: u8) -> bool {
         if is_within(self.phase) {
             return false;

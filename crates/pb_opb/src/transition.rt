@@ -124,6 +124,7 @@ fn spell_min(read: usize, byte: u8) -> Action
 }
 
 /// Whether a statement has begun and not ended.
+#[inline(always)]
 pub fn is_within(phase: Phase) -> bool
     ensures { result ≡ is_within phase }
 {
@@ -131,6 +132,7 @@ pub fn is_within(phase: Phase) -> bool
 }
 
 /// Whether nothing may follow.
+#[inline(always)]
 pub fn is_done(phase: Phase) -> bool
     ensures { result ≡ is_done phase }
 {
