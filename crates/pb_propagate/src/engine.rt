@@ -104,8 +104,8 @@ fn rest(store: &Store, rests: &Rests, clauses: &mut Clauses, run: &mut Run)
     run.next = 0;
 }
 
-// The root after a form was stored in a slot. It begins again once the questions and completions without it took eight
-// visits for each form and variable.
+// The root after a form was stored in a slot. If it has ended, it begins again once the questions and completions since it
+// last began took eight visits for each form and variable.
 fn follow(
     store: &Store,
     run: &Run,

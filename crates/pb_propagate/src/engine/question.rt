@@ -124,7 +124,7 @@ fn question(
 }
 
 /// Whether propagation over the live forms and the negation of a goal meets a conflict. It continues from the root, each
-/// literal of which counts as a visit.
+/// literal of which counts as a visit. What it visits after the update pays for another root, should this one end.
 pub fn ask(
     store: &mut Store,
     clauses: &mut Clauses,
@@ -147,6 +147,8 @@ pub fn ask(
 {
     root.run.visits = Visits::of(root.run.assignment.list.len());
     let answer = question(store, clauses, root, goal);
+    let took = root.run.visits.number().saturating_sub(root.updated);
+    root.paid = root.paid.saturating_add(took);
     *visits = mem::replace(&mut root.run.visits, Visits::none());
     answer
 }

@@ -37,8 +37,11 @@ pub struct Root {
     pub fallen: bool,
     // For each literal, by its occurrence list, the last slot that took a form of one term for it.
     pub units: Vec<usize>,
-    // The visits of the questions and completions without it.
+    // The visits since it last began: those of questions after their updates, and of questions and completions without
+    // it.
     pub paid: u64,
+    // The visits of the last question when its update ended.
+    pub updated: u64,
 }
 
 // A run in which nothing is assigned, with the open sums of another.
@@ -199,6 +202,7 @@ impl Root {
             fallen: false,
             units: Vec::new(alloc),
             paid: 0,
+            updated: 0,
         }
     }
 
@@ -329,6 +333,7 @@ impl Root {
             self.waiting.list.as_slice(),
             count,
         )?;
+        self.updated = self.run.visits.number();
         if found {
             self.fall();
             return Ok(true);
