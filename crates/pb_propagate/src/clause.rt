@@ -7,7 +7,7 @@ ghost use Rattle.pb_propagate.specs.engine.Clauses.Truths.{flip};
 ghost use Rattle.pb_propagate.specs.engine.Clauses.Shapes.{IsLight, IsClause, code_in, codes_of_terms, group_by};
 
 use crate::store::sorted_form::term_of;
-use pb_normal::{Entry, Normal, NumberedLiteral};
+use pb_normal::{Entry, Normal, NumberedLiteral, Terms};
 use std::alloc::{AllocError, Global};
 
 /// Two groups of clauses: the short ones, of at most four literals, and the long ones. Propagation visits the long ones
@@ -38,12 +38,12 @@ pub fn is_clause(form: &Normal) -> bool
     if form.degree() != 1 {
         return false;
     }
-    let entries = form.entries();
+    let entries = form.terms();
     if entries.len() < 2 {
         return false;
     }
     'entries: for i in 0..entries.len() {
-        if !is_light(entries[i]) {
+        if !is_light(entries.get(i)) {
             return false;
         }
     }
@@ -83,14 +83,15 @@ pub fn opposite(code: usize) -> usize
 }
 
 /// The codes of the terms' literals, in the group of a clause with these terms.
-pub fn codes_of(alloc: Global, entries: &[Entry]) -> Result<Vec<u32>, AllocError>
+pub fn codes_of(alloc: Global, entries: &Terms) -> Result<Vec<u32>, AllocError>
     requires { All IsLight entries.now }
     ensures { IfOk result (λ codes. codes.items ≡ codes_of_terms entries.now) }
 {
     let group = group_of(entries.len());
     let mut codes = Vec::with_capacity(alloc, entries.len())?;
     'entries: for i in 0..entries.len() {
-        let term = term_of(entries[i]);
+        let entry = entries.get(i);
+        let term = term_of(entry);
         codes.push(code_of(group, term.literal) as u32)?;
     }
     Ok(codes)

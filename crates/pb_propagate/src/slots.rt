@@ -37,7 +37,7 @@ fn left_slot(kept: &[StoredForm], free: &mut Free, count: usize) -> Option<usize
 /// How many literals the clause has, or 0 if the form is no clause.
 pub fn clause_size(form: &Normal) -> usize {
     if form.degree() == 1 {
-        form.entries().len()
+        form.len()
     } else {
         0
     }
@@ -119,7 +119,7 @@ fn plan(
     if !is_clause(form) {
         return Ok(None);
     }
-    let codes = codes_of(alloc, form.entries())?;
+    let codes = codes_of(alloc, form.terms())?;
     let pair = match assigned {
         Some(assignment) => pick(assignment, codes.as_slice()),
         None => pair_of(codes.as_slice(), 0, 1),

@@ -1,7 +1,7 @@
 //! Propagation with reasons, over stored constraints. It runs after a rejection.
 
 ghost use Rattle.std.specs.Prelude.{◌≡◌, ◌<◌, [], None, IfOk, IfSome, IsTrue, OnOk, get_or, length};
-ghost use Rattle.pb_normal.specs.meaning.Form.{total};
+ghost use Rattle.pb_normal.specs.meaning.Form.{counted, total};
 ghost use Rattle.pb_trace.specs.Derived.{Forces, HasSlack, IsFresh, IsSoundOver, KeepsNamed, KeepsOver, NamesOver, Takes, falsified_by, free_by};
 
 use crate::open_sums::OpenSums;
@@ -299,7 +299,9 @@ impl Propagation {
         ensures { OnOk result
             (HasSlack self.old form.now slack → KeepsNamed reason form.now self.old self.new) }
     {
-        for entry in form.entries() {
+        let terms = form.terms();
+        'terms: for i in 0..terms.len() {
+            let entry = terms.get(i);
             if slack < entry.coefficient {
                 self.force(Forced {
                     variable: entry.variable,
@@ -317,12 +319,23 @@ impl Propagation {
         ensures { result ≡ total (free_by self.now.values.items) form.now.terms }
     {
         let mut sum = 0u128;
-        for entry in form.entries() {
-            if !self.is_false(entry) {
-                sum += entry.coefficient;
-            }
+        let terms = form.terms();
+        'terms: for i in 0..terms.len() {
+            let entry = terms.get(i);
+            sum += self.open_part(&entry);
         }
         sum
+    }
+
+    /// The coefficient of a term if its literal is not false, and 0 otherwise.
+    fn open_part(&self, entry: &Entry) -> u128
+        ensures { result ≡ counted (free_by self.now.values.items) entry.now }
+    {
+        if self.is_false(entry) {
+            0
+        } else {
+            entry.coefficient
+        }
     }
 
     /// The sum of the coefficients whose literals are true.

@@ -56,7 +56,7 @@ impl Base<'_> {
     fn note_uses(self, uses: &mut Uses, reason: Reason) -> Result<(), AllocError> {
         if let Some(form) = self.named(reason) {
             for entry in form.entries() {
-                uses.push(entry, reason)?;
+                uses.push(&entry, reason)?;
             }
         }
         Ok(())

@@ -11,7 +11,7 @@ ghost use Rattle.pb_normal.specs.meaning.Form.{total, each};
 ghost use Rattle.pb_trace.specs.Counted.{count_line};
 ghost use Rattle.pb_trace.specs.Changes.{HasAllNames, IsLinearText, coefficient_bytes, end_bytes, name_shown, term_shown, form_bytes, change_bytes, constraint_in, id_bytes, origin_bytes};
 
-use pb_normal::{Entry, Normal};
+use pb_normal::{Entry, Normal, Terms};
 use pb_proof::{PolWord, Statement, write_statement};
 use pb_sums::{write_count, write_literal, write_number, write_place};
 use pb_text::{Failed, Sink, Spanned, write_bytes};
@@ -156,7 +156,7 @@ pub(crate) fn write_form<S: Sink, N: Named>(
     ensures same { HasAllNames (N.names names.now) form.now →
         IsLinearText (N.names names.now) form.now }
 {
-    write_entries(form.entries(), names, out)?;
+    write_entries(form.terms(), names, out)?;
     write_end(form.degree(), out)
 }
 
@@ -179,13 +179,14 @@ fn write_degree<S: Sink>(degree: i128, out: &mut S) -> Result<(), Failed>
 }
 
 /// Writes terms, each with a space after it.
-fn write_entries<S: Sink, N: Named>(entries: &[Entry], names: &N, out: &mut S) -> Result<(), Failed>
+fn write_entries<S: Sink, N: Named>(entries: &Terms, names: &N, out: &mut S) -> Result<(), Failed>
     requires { total each entries.now < 2 ^ 127 }
     ensures { Writes S.contents S.faults out.old
         (head_bytes (map (term_shown (N.names names.now)) entries.now)) result out.new }
 {
-    for entry in entries {
-        write_entry(entry, names, out)?;
+    'entries: for i in 0..entries.len() {
+        let entry = entries.get(i);
+        write_entry(&entry, names, out)?;
     }
     Ok(())
 }

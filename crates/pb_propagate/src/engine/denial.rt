@@ -16,7 +16,7 @@ use crate::rests::Rests;
 use crate::run::{Run, propagate, try_put};
 use crate::store::Store;
 use crate::store::sorted_form::term_of;
-use pb_normal::{Entry, Normal, NumberedLiteral};
+use pb_normal::{Normal, NumberedLiteral, Terms};
 use std::alloc::AllocError;
 
 /// Whether a form is a clause: its degree and all its coefficients are 1.
@@ -28,9 +28,9 @@ pub fn is_disjunction(form: &Normal) -> bool
     if form.degree() != 1 {
         return false;
     }
-    let entries = form.entries();
+    let entries = form.terms();
     'entries: for i in 0..entries.len() {
-        if entries[i].coefficient != 1 {
+        if entries.get(i).coefficient != 1 {
             return false;
         }
     }
@@ -70,7 +70,7 @@ fn deny(
 }
 
 // The same for each literal of the clause, up to a conflict.
-fn deny_all(store: &Store, rests: &Rests, run: &mut Run, goal: &[Entry]) -> Result<bool, AllocError>
+fn deny_all(store: &Store, rests: &Rests, run: &mut Run, goal: &Terms) -> Result<bool, AllocError>
     requires store { IsSound store.now }
     requires inside { All (λ e. e.variable < store.now.variables) goal.now }
     requires light { All IsOne goal.now }
@@ -94,7 +94,8 @@ fn deny_all(store: &Store, rests: &Rests, run: &mut Run, goal: &[Entry]) -> Resu
     ensures found { OnOk result (RunVisitsEach run.old run.new) }
 {
     'literals: for i in 0..goal.len() {
-        let term = term_of(goal[i]);
+        let entry = goal.get(i);
+        let term = term_of(entry);
         if deny(store, rests, run, term.literal)? {
             return Ok(true);
         }
@@ -109,7 +110,7 @@ pub fn refute(
     rests: &Rests,
     clauses: &mut Clauses,
     run: &mut Run,
-    goal: &[Entry],
+    goal: &Terms,
 ) -> Result<bool, AllocError>
     requires store { IsSound store.now }
     requires inside { All (λ e. e.variable < store.now.variables) goal.now }

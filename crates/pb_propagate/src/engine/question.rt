@@ -86,7 +86,7 @@ fn pose_clause(
         return Ok(true);
     }
     let count = root.run.assignment.list.len();
-    let found = refute(store, &root.rests, clauses, &mut root.run, goal.entries())?;
+    let found = refute(store, &root.rests, clauses, &mut root.run, goal.terms())?;
     back(store, &root.rests, clauses, &mut root.run, count);
     Ok(found)
 }

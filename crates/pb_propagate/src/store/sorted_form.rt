@@ -6,7 +6,7 @@ ghost use Rattle.pb_propagate.specs.engine.Engine.Counts.{AreFalling};
 
 use crate::shared::Shared;
 use crate::term::{Rank, Term};
-use pb_normal::{Entry, Normal, NumberedLiteral};
+use pb_normal::{Entry, Normal, NumberedLiteral, Terms};
 use std::alloc::{AllocError, Global};
 
 /// A form or none, and the positions of its terms in order of falling coefficient. Each term is stored once, and the
@@ -32,13 +32,13 @@ pub fn term_of(entry: Entry) -> Term
 }
 
 // The positions of the terms with their coefficients, in the order of the form.
-fn standing(alloc: Global, entries: &[Entry]) -> Result<Vec<Rank>, AllocError>
+fn standing(alloc: Global, entries: &Terms) -> Result<Vec<Rank>, AllocError>
     ensures { IfOk result (λ ranks. All (IsPlaced entries.now) ranks.items ×
         (map entry_of (picked entries.now (map (λ r. r.place) ranks.items)) ≡ entries.now)) }
 {
     let mut ranks = Vec::with_capacity(alloc, entries.len())?;
     'entries: for place in 0..entries.len() {
-        let entry = entries[place];
+        let entry = entries.get(place);
         ranks.push(Rank {
             place,
             coefficient: entry.coefficient,
@@ -48,7 +48,7 @@ fn standing(alloc: Global, entries: &[Entry]) -> Result<Vec<Rank>, AllocError>
 }
 
 // The same, in order of falling coefficient.
-fn ranked(alloc: Global, entries: &[Entry]) -> Result<Vec<Rank>, AllocError>
+fn ranked(alloc: Global, entries: &Terms) -> Result<Vec<Rank>, AllocError>
     requires { sum_by (λ e. e.coefficient) entries.now < 2 ^ 127 }
     ensures placed { IfOk result (λ ranks. All (IsPlaced entries.now) ranks.items) }
     ensures same { IfOk result (λ ranks.
@@ -75,14 +75,14 @@ fn places_of(alloc: Global, ranks: &[Rank]) -> Result<Vec<usize>, AllocError>
 }
 
 // Whether all coefficients are equal.
-fn are_equal(entries: &[Entry]) -> bool
+fn are_equal(entries: &Terms) -> bool
     ensures { result ≡ true → (i j : ℕ) (d : Entry) → i < length entries.now →
         j < length entries.now →
         (slice_index_or entries.now i d).coefficient ≡ (slice_index_or entries.now j
         d).coefficient }
 {
     'entries: for i in 1..entries.len() {
-        if entries[i].coefficient != entries[0].coefficient {
+        if entries.get(i).coefficient != entries.get(0).coefficient {
             return false;
         }
     }
@@ -102,7 +102,7 @@ fn all_places(alloc: Global, count: usize) -> Result<Vec<usize>, AllocError>
 }
 
 // The positions in order of falling coefficient. If all coefficients are equal, nothing is sorted.
-fn order_of(alloc: Global, entries: &[Entry]) -> Result<Vec<usize>, AllocError>
+fn order_of(alloc: Global, entries: &Terms) -> Result<Vec<usize>, AllocError>
     requires { sum_by (λ e. e.coefficient) entries.now < 2 ^ 127 }
     ensures inside { IfOk result (λ order. All (λ p. p < length entries.now) order.items) }
     ensures same { IfOk result (λ order.
@@ -153,7 +153,7 @@ impl SortedForm {
         ensures same { IfOk result (λ f. IsPermutation (map entry_of (terms_of f)) form.terms) }
         ensures falling { IfOk result (λ f. AreFalling (terms_of f)) }
     {
-        let order = order_of(alloc, form.form().entries())?;
+        let order = order_of(alloc, form.form().terms())?;
         Ok(SortedForm {
             form: Some(form),
             order,
@@ -205,7 +205,7 @@ impl SortedForm {
     {
         let place = self.order[index];
         match &self.form {
-            Some(form) => term_of(form.form().entries()[place]),
+            Some(form) => term_of(form.form().terms().get(place)),
             None => unreachable!(),
         }
     }

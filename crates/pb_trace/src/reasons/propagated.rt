@@ -303,7 +303,7 @@ impl<'a> Scene<'a> {
             },
         };
         for entry in form.entries() {
-            if propagation.is_false(entry)
+            if propagation.is_false(&entry)
                 && let Some(needs) = needed.get_mut(entry.variable)
             {
                 *needs = true;

@@ -2,29 +2,29 @@ use Rattle.pb_trace.proofs.Common.{◌∙◌, ◌≡◌, arith, refl, take, comm
 use Rattle.pb_trace.proofs.Shown.{entry_bytes, texts_more, texts_at, head_entries}
 use Rattle.pb_trace.proofs.write.write_entries.Goals as goal
 
-pub loop-entry-init : goal.loop-entry-init
-loop-entry-init g c = writes_nothing g.S.Sink.contents g.S.Sink.faults c.args.out.now
+pub entries-init : goal.entries-init
+entries-init g c = writes_nothing g.S.Sink.contents g.S.Sink.faults c.args.out.now
 
 pub write_entry-requires : goal.write_entry-requires
 write_entry-requires g c =
-    let one = total-read c.args.entries.now c.loop-entry.entry-index no_entry _ (omega arith) refl in
-    omega (arith, c.requires)
+    let one = total-read c.args.entries.now c.entries.i no_entry _ (omega arith) (c.get-entry.ensures.read no_entry) in
+    omega (arith, c.requires, one)
 
 pub returns-in_err-write_entry : goal.returns-in_err-write_entry
 returns-in_err-write_entry g c =
     let names = g.N.Named.names c.args.names.now in
     part_then g.S.Sink.contents g.S.Sink.faults _ _ _ _ _ _ _
-    (head_entries names c.args.entries.now ∙ texts_at (entry_bytes names) c.args.entries.now c.loop-entry.entry-index no_entry (omega arith)) c.loop-entry.invariant
-    (part_broke g.S.Sink.contents g.S.Sink.faults _ _ _ _ _ _ refl c.from_residual.ensures.0 c.in_err-write_entry.ensures)
+    (head_entries names c.args.entries.now ∙ texts_at (entry_bytes names) c.args.entries.now c.entries.i no_entry (omega arith)) c.entries.invariant
+    (part_broke g.S.Sink.contents g.S.Sink.faults _ _ _ _ _ _ refl c.from_residual.ensures.0 (rw (c.get-entry.ensures.read no_entry) at c.in_err-write_entry.ensures))
 
-pub loop-entry-preserved : goal.loop-entry-preserved
-loop-entry-preserved g c =
+pub entries-preserved : goal.entries-preserved
+entries-preserved g c =
     part_wrote g.S.Sink.contents g.S.Sink.faults _ _ _ _ _ _
-    (texts_more (entry_bytes (g.N.Named.names c.args.names.now)) c.args.entries.now c.loop-entry.entry-index no_entry (omega arith)) c.loop-entry.invariant
-    c.in_ok-write_entry.ensures
+    (texts_more (entry_bytes (g.N.Named.names c.args.names.now)) c.args.entries.now c.entries.i no_entry (omega arith)) c.entries.invariant
+    (rw (c.get-entry.ensures.read no_entry) at c.in_ok-write_entry.ensures)
 
 pub returns : goal.returns
 returns g c =
     let names = g.N.Named.names c.args.names.now in
-    let all : take c.loop-entry.entry-index c.args.entries.now ≡ c.args.entries.now = grind (arith, common_steps) in
-    rw (head_entries names c.args.entries.now) (rw all at c.loop-entry.invariant)
+    let all : take c.entries.i c.args.entries.now ≡ c.args.entries.now = grind (arith, common_steps) in
+    rw (head_entries names c.args.entries.now) (rw all at c.entries.invariant)

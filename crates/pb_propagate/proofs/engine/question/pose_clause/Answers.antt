@@ -36,10 +36,10 @@ returns-then-branch-clause-asked c =
     })
 
 pub refute-requires-clause-inside : goal.refute-requires-clause-inside
-refute-requires-clause-inside c = rw c.entries.ensures.entries c.requires.inside
+refute-requires-clause-inside c = rw c.terms.ensures.terms c.requires.inside
 
 pub refute-requires-clause-light : goal.refute-requires-clause-light
-refute-requires-clause-light c = rw c.entries.ensures.entries c.requires.clause.light
+refute-requires-clause-light c = rw c.terms.ensures.terms c.requires.clause.light
 
 pub refute-requires-clause-values : goal.refute-requires-clause-values
 refute-requires-clause-values c = (c.in_ok-update.ensures.rooted c.if-branch.false).values
@@ -89,11 +89,11 @@ returns-in_err-found-clause-most c =
     let done = c.refute.new.run in
     let between = c.update.new.clauses in
     let lit : clauses_of between ≡ clauses_of c.args.clauses.now = c.update.ensures.literals in
-    let entries = ap (λ (xs : List Entry). length xs) c.entries.ensures.entries in
+    let entries = ap (λ (xs : List Entry). length xs) c.terms.ensures.terms in
     let costs = c.refute.ensures.costs in
-    let upper = both-costs store c.args.clauses.now between c.args.root.now.rests root.rests c.args.root.now.waiting.list.items (length c.entries.result.now) start root.run done lit c.requires.standing.rooted.work c.requires.visits (c.in_ok-update.ensures.pays c.if-branch.false) costs in
+    let upper = both-costs store c.args.clauses.now between c.args.root.now.rests root.rests c.args.root.now.waiting.list.items (length c.terms.result.now) start root.run done lit c.requires.standing.rooted.work c.requires.visits (c.in_ok-update.ensures.pays c.if-branch.false) costs in
     let extends = extends-then start.assignment.list.items root.run.assignment.list.items done.assignment.list.items c.update.ensures.costs.extends costs.extends in
-    let most = question-most store (clauses_of c.args.clauses.now) start.assignment.list.items done.assignment.list.items done.visits (length c.args.root.now.waiting.list.items + length c.entries.result.now) (sum done.candidates.items) c.requires.standing.sound c.requires.standing.joined costs.single (λ l on. opposite done.assignment.values.items done.assignment.list.items l done.assignment.agrees on) extends (reasons-derive c.requires.standing.rooted.reasoned) costs.bounded upper in
+    let most = question-most store (clauses_of c.args.clauses.now) start.assignment.list.items done.assignment.list.items done.visits (length c.args.root.now.waiting.list.items + length c.terms.result.now) (sum done.candidates.items) c.requires.standing.sound c.requires.standing.joined costs.single (λ l on. opposite done.assignment.values.items done.assignment.list.items l done.assignment.agrees on) extends (reasons-derive c.requires.standing.rooted.reasoned) costs.bounded upper in
     omega (arith, most, entries)
 
 pub returns-clause-most : goal.returns-clause-most
@@ -104,11 +104,11 @@ returns-clause-most c =
     let done = c.refute.new.run in
     let between = c.update.new.clauses in
     let lit : clauses_of between ≡ clauses_of c.args.clauses.now = c.update.ensures.literals in
-    let entries = ap (λ (xs : List Entry). length xs) c.entries.ensures.entries in
+    let entries = ap (λ (xs : List Entry). length xs) c.terms.ensures.terms in
     let costs = c.refute.ensures.costs in
-    let upper = both-costs store c.args.clauses.now between c.args.root.now.rests root.rests c.args.root.now.waiting.list.items (length c.entries.result.now) start root.run done lit c.requires.standing.rooted.work c.requires.visits (c.in_ok-update.ensures.pays c.if-branch.false) costs in
+    let upper = both-costs store c.args.clauses.now between c.args.root.now.rests root.rests c.args.root.now.waiting.list.items (length c.terms.result.now) start root.run done lit c.requires.standing.rooted.work c.requires.visits (c.in_ok-update.ensures.pays c.if-branch.false) costs in
     let extends = extends-then start.assignment.list.items root.run.assignment.list.items done.assignment.list.items c.update.ensures.costs.extends costs.extends in
-    let most = question-most store (clauses_of c.args.clauses.now) start.assignment.list.items done.assignment.list.items done.visits (length c.args.root.now.waiting.list.items + length c.entries.result.now) (sum done.candidates.items) c.requires.standing.sound c.requires.standing.joined costs.single (λ l on. opposite done.assignment.values.items done.assignment.list.items l done.assignment.agrees on) extends (reasons-derive c.requires.standing.rooted.reasoned) costs.bounded upper in
+    let most = question-most store (clauses_of c.args.clauses.now) start.assignment.list.items done.assignment.list.items done.visits (length c.args.root.now.waiting.list.items + length c.terms.result.now) (sum done.candidates.items) c.requires.standing.sound c.requires.standing.joined costs.single (λ l on. opposite done.assignment.values.items done.assignment.list.items l done.assignment.agrees on) extends (reasons-derive c.requires.standing.rooted.reasoned) costs.bounded upper in
     omega (arith, most, entries, c.back.ensures.visits)
 
 pub returns-clause-asked : goal.returns-clause-asked
@@ -122,11 +122,11 @@ returns-clause-asked c =
     let same : all_of store between ≡ all_of store c.args.clauses.now = ap (joined (shapes_of store.stored.items)) lit in
     let x = denial_of c.args.goal.now.terms in
     let all = all_of store c.args.clauses.now ++ (x ∷ []) in
-    let whole : all_of store between ++ (denial_of c.entries.result.now ∷ []) ≡ all = rw (same, c.entries.ensures.entries) refl in
+    let whole : all_of store between ++ (denial_of c.terms.result.now ∷ []) ≡ all = rw (same, c.terms.ensures.terms) refl in
     let reported = c.in_ok-found.ensures in
     let first = derives-entered (all_of store c.args.clauses.now) x [] root.run.assignment.list.items (reasons-derive c.in_ok-update.ensures.reasons) in
     let second = subst (λ xs. Derives xs root.run.assignment.list.items done.assignment.list.items) whole reported.derived in
-    posed x (denial-stored c.args.goal.now c.entries.ensures.normal c.requires.clause) (record {
+    posed x (denial-stored c.args.goal.now c.terms.ensures.normal c.requires.clause) (record {
       list = done.assignment.list.items;
       derived = derivation-then all [] root.run.assignment.list.items done.assignment.list.items first second;
       few = omega (arith, found-after (length done.assignment.list.items) done.visits (length start.assignment.list.items) (found-both (length start.assignment.list.items) (length root.run.assignment.list.items) (length root.run.assignment.list.items) (length done.assignment.list.items) start.visits root.run.visits root.run.visits done.visits c.requires.visits refl refl c.in_ok-update.ensures.found reported.found reported.rising) (omega (arith, done.assignment.list.ok.0, done.assignment.list.ok.1)), c.back.ensures.visits);

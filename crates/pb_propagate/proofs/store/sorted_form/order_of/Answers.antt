@@ -1,18 +1,18 @@
-use Rattle.pb_propagate.proofs.Common.{◌∙◌, ap, map, refl, IsPermutation-refl, Rank}
+use Rattle.pb_propagate.proofs.Common.{◌∙◌, ap, map, sym, IsPermutation-refl, Rank}
 use Rattle.pb_propagate.proofs.lemmas.store.Sorted.{placed-inside, equal-falling}
 use Rattle.pb_propagate.proofs.store.sorted_form.order_of.Goals as goal
 
 pub returns-then-are_equal-clause-inside : goal.returns-then-are_equal-clause-inside
-returns-then-are_equal-clause-inside c = (c.in_ok-places.ensures c.args.entries.now refl).0
+returns-then-are_equal-clause-inside c = (c.in_ok-places.ensures c.args.entries.now (sym c.len.ensures.length)).0
 
 pub returns-then-are_equal-clause-same : goal.returns-then-are_equal-clause-same
 returns-then-are_equal-clause-same c =
-    let picks = (c.in_ok-places.ensures c.args.entries.now refl).1 in
+    let picks = (c.in_ok-places.ensures c.args.entries.now (sym c.len.ensures.length)).1 in
     rw picks (IsPermutation-refl c.args.entries.now)
 
 pub returns-then-are_equal-clause-falling : goal.returns-then-are_equal-clause-falling
 returns-then-are_equal-clause-falling c =
-    equal-falling c.args.entries.now c.in_ok-places.places.items (c.are_equal.ensures c.if-are_equal.true) (c.in_ok-places.ensures c.args.entries.now refl).0
+    equal-falling c.args.entries.now c.in_ok-places.places.items (c.are_equal.ensures c.if-are_equal.true) (c.in_ok-places.ensures c.args.entries.now (sym c.len.ensures.length)).0
 
 pub returns-clause-inside : goal.returns-clause-inside
 returns-clause-inside c =

@@ -3,18 +3,19 @@ use Rattle.pb_trace.proofs.Deriving.{follows, forced, forced-same}
 use Rattle.pb_trace.proofs.propagation.Propagation.force_all.Goals.{then-slack-entry+in_ok-force, else-slack-entry}
 use Rattle.pb_trace.proofs.propagation.Propagation.force_all.Goals as goal
 
-pub loop-entry-preserved : goal.loop-entry-preserved
-loop-entry-preserved c negation stored over given named low sound =
-    let before = c.loop-entry.invariant negation stored over given named low sound in
-    let entry = get_or c.entries-entry-items.result.now c.loop-entry.entry-index no_entry in
-    let inside : Contains c.args.form.now.terms entry = subst (λ ts. Contains ts entry) c.entries-entry-items.ensures.entries (Contains-get_or c.entries-entry-items.result.now c.loop-entry.entry-index no_entry (omega arith)) in
+pub terms-preserved : goal.terms-preserved
+terms-preserved c negation stored over given named low sound =
+    let before = c.terms.invariant negation stored over given named low sound in
+    let entry = c.get-entry.result in
+    let read = get_or c.terms-terms.result.now c.terms.i no_entry in
+    let inside : Contains c.args.form.now.terms entry = rw (c.get-entry.ensures.read no_entry) (subst (λ ts. Contains ts read) c.terms-terms.ensures.terms (Contains-get_or c.terms-terms.result.now c.terms.i no_entry (omega arith))) in
     elim c.if-slack-entry.branch [
       | then-slack-entry+in_ok-force w ↦
           rw w.self-is (
-            forced negation stored over given c.loop-entry.self _ _ w.in_ok-force.ensures
-                (λ unset. follows negation stored over c.loop-entry.self.values.items c.loop-entry.self.forced.items _ c.args.form.now entry before.0.values unset named inside refl refl w.if-slack-entry.true before.1)
+            forced negation stored over given c.terms.self _ _ w.in_ok-force.ensures
+                (λ unset. follows negation stored over c.terms.self.values.items c.terms.self.forced.items _ c.args.form.now entry before.0.values unset named inside refl refl w.if-slack-entry.true before.1)
                 before.0,
-            forced-same c.loop-entry.self _ _ 0 c.args.form.now.terms entry c.entries-entry-items.ensures.normal.ordered inside refl refl w.in_ok-force.ensures ∙ before.1,
+            forced-same c.terms.self _ _ 0 c.args.form.now.terms entry c.terms-terms.ensures.normal.ordered inside refl refl w.in_ok-force.ensures ∙ before.1,
           )
       | else-slack-entry w ↦ rw w.self-is before
     ]

@@ -1,9 +1,17 @@
-use Rattle.pb_trace.proofs.Common.{ap, arith, refl, no_entry, total-read, each, total, free_by}
+use Rattle.pb_trace.proofs.Common.{ap, arith, no_entry, each, total, free_by}
 use Rattle.pb_normal.proofs.lemmas.terms.Maps.{total-le-each}
+use Rattle.pb_normal.proofs.lemmas.terms.Merging.{total-drop}
 use Rattle.pb_trace.proofs.propagation.Propagation.open_sum.Goals as goal
 
 pub overflow_add-sum : goal.overflow_add-sum
 overflow_add-sum c =
-    let all = total-le-each (free_by c.args.self.now.values.items) c.entries-entry-items.result.now in
-    let one = total-read c.entries-entry-items.result.now c.loop-entry.entry-index no_entry _ (omega arith) refl in
-    omega (arith, c.loop-entry.invariant, ap (total each) c.entries-entry-items.ensures.entries, c.entries-entry-items.ensures.normal.size_in)
+    let free = free_by c.args.self.now.values.items in
+    let all = total-le-each free c.terms-terms.result.now in
+    let rest = total-drop free c.terms-terms.result.now c.terms.i no_entry c.get-entry.result (omega arith) (c.get-entry.ensures.read no_entry) in
+    omega (arith, c.terms.invariant, all, rest, c.open_part-sum.ensures, ap (total each) c.terms-terms.ensures.terms, c.terms-terms.ensures.normal.size_in)
+
+pub terms-preserved : goal.terms-preserved
+terms-preserved c =
+    let free = free_by c.args.self.now.values.items in
+    let rest = total-drop free c.terms-terms.result.now c.terms.i no_entry c.get-entry.result (omega arith) (c.get-entry.ensures.read no_entry) in
+    omega (arith, c.terms.invariant, rest, c.open_part-sum.ensures)

@@ -4,13 +4,13 @@ use Rattle.pb_propagate.proofs.store.sorted_form.SortedForm.new.Goals as goal
 
 pub order_of-requires : goal.order_of-requires
 order_of-requires c =
-    omega (arith, total-each c.form-2.result.now.terms, ap (sum_by (λ (e : Entry). e.coefficient)) c.entries.ensures.entries, c.entries.ensures.normal.size_in)
+    omega (arith, total-each c.form-2.result.now.terms, ap (sum_by (λ (e : Entry). e.coefficient)) c.terms.ensures.terms, c.terms.ensures.normal.size_in)
 
 pub invariant_of-result : goal.invariant_of-result
-invariant_of-result c = record { inside = rw (c.entries.ensures.entries, c.form-2.ensures) at c.in_ok-order.ensures.inside }
+invariant_of-result c = record { inside = rw (c.terms.ensures.terms, c.form-2.ensures) at c.in_ok-order.ensures.inside }
 
 pub returns-clause-same : goal.returns-clause-same
-returns-clause-same c = rw (c.entries.ensures.entries, c.form-2.ensures) at c.in_ok-order.ensures.same
+returns-clause-same c = rw (c.terms.ensures.terms, c.form-2.ensures) at c.in_ok-order.ensures.same
 
 pub returns-clause-falling : goal.returns-clause-falling
-returns-clause-falling c = rw (c.entries.ensures.entries, c.form-2.ensures) at c.in_ok-order.ensures.falling
+returns-clause-falling c = rw (c.terms.ensures.terms, c.form-2.ensures) at c.in_ok-order.ensures.falling
