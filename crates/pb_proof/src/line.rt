@@ -6,7 +6,7 @@ mod conclusion;
 mod delete;
 mod formula;
 mod id_prefix;
-mod pol;
+pub(crate) mod pol;
 pub(crate) mod push;
 pub(crate) mod rup;
 mod solution;

@@ -9,6 +9,7 @@ pub(crate) mod phase;
 mod transition;
 
 use crate::line::LineMachine;
+use crate::line::pol::whole::pol_at;
 use crate::line::push::line_first;
 use crate::line::rup::whole::rup_at;
 use crate::machine::phase::{Action, LineKind, Phase, Stage};
@@ -235,6 +236,9 @@ impl Machine for ProofMachine {
         let Stage::Steps = stage else {
             return None;
         };
+        if let Some((last, words)) = pol_at(self.alloc, self.limits, piece) {
+            return Some((last, Statement::Pol(words)));
+        }
         let Some((last, linear)) = rup_at(self.alloc, self.limits, piece) else {
             return None;
         };

@@ -7,6 +7,7 @@ pub mod Covers
 pub mod Finished
 pub mod Prefixes
 pub mod Kinds
+pub mod Literals
 pub mod Postfix
 pub mod Pushes
 pub mod Sane
@@ -16,3 +17,4 @@ pub mod Theorems
 pub mod Trees
 pub mod Units
 pub mod Walks
+pub mod Whole

@@ -14,4 +14,5 @@ pub mod Machine
 pub mod Pol
 pub mod PolFast
 pub mod PolState
+pub mod PolWhole
 pub mod Rup

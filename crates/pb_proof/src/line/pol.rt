@@ -6,17 +6,19 @@ ghost use Rattle.pb_text.specs.meaning.Limits.{largest, top_of};
 mod close;
 mod fast;
 mod kind;
+mod literal_prefix;
 mod phase;
 mod transition;
+pub(crate) mod whole;
+mod word_prefix;
 mod words;
 
-use crate::line::id_prefix::id_prefix;
-use crate::line::pol::close::held_number;
-use crate::line::pol::fast::{held_before, operator};
+use crate::line::pol::fast::held_before;
 use crate::line::pol::kind::kind_of;
-use crate::line::pol::phase::{Action, Change, Held, Kind, Phase, Role};
+use crate::line::pol::phase::{Action, Phase};
 use crate::line::pol::transition::{in_hand, is_done, is_in_number, transition};
-use crate::line::pol::words::{count_units, finish, make_room, turn};
+use crate::line::pol::word_prefix::word_prefix;
+use crate::line::pol::words::{count_units, finish, turn};
 use crate::word::PolWord;
 use pb_sums::Name;
 use pb_text::bytes::is_digit;
@@ -74,48 +76,24 @@ impl PolMachine {
     ghost use Rattle.pb_text.specs.contract.Automaton.{Continues, IsState, Runs};
     ghost use Rattle.pb_proof.specs.engine.Line.PolState.{pol_automaton};
 
-    /// Takes an id and the space after it, if a word may begin here.
+    /// Takes a word and the space after it on a fast path.
     #[inline(always)]
-    fn take_id(&mut self, text: &[u8]) -> usize
+    fn take_word(&mut self, text: &[u8]) -> usize
         ensures bound { result ≤ length text.now }
         ensures runs { Runs pol_automaton self.old (take result text.now) self.new }
         ensures state { IsState pol_automaton self.new }
     {
         let _ = self.is_done();
-        if held_before(self.phase).is_none() {
-            return 0;
-        }
-        let Some((length, id)) = id_prefix(self.top, text) else {
-            return 0;
-        };
-        if make_room(&mut self.words).is_err() {
-            return 0;
-        }
-        self.words.push_reserved(PolWord::Id(id as i64));
-        self.name = Name::new(self.alloc);
-        self.phase = Phase::Gap(held_number(self.limit, self.depth, id as u128));
-        self.depth += 1;
-        let _ = self.is_done();
-        length
-    }
-
-    /// Takes an operator and the space after it, if an operator may come here.
-    #[inline(always)]
-    fn take_operator(&mut self, text: &[u8]) -> usize
-        ensures bound { result ≤ length text.now }
-        ensures runs { Runs pol_automaton self.old (take result text.now) self.new }
-        ensures state { IsState pol_automaton self.new }
-    {
-        let _ = self.is_done();
-        if text.len() < 2 || text[1] != b' ' {
-            return 0;
-        }
         let Some(held) = held_before(self.phase) else {
             return 0;
         };
-        let Some(change) = operator(self.depth, held, text[0]) else {
+        let Some((length, change, next)) = word_prefix(self.limit, self.top, self.depth, held, text)
+        else {
             return 0;
         };
+        if length >= text.len() || text[length] != b' ' {
+            return 0;
+        }
         if turn(
             self.alloc,
             &mut self.words,
@@ -127,65 +105,9 @@ impl PolMachine {
         {
             return 0;
         }
-        self.phase = Phase::Gap(Held::Nothing);
+        self.phase = Phase::Gap(next);
         let _ = self.is_done();
-        2
-    }
-
-    /// Takes the space before the first word.
-    #[inline(always)]
-    fn take_space(&mut self, byte: u8) -> bool
-        ensures continues { Continues pol_automaton self.old byte result self.new }
-        ensures state { IsState pol_automaton self.new }
-    {
-        let _ = self.is_done();
-        if byte != b' ' || !matches!(self.phase, Phase::Start) {
-            return false;
-        }
-        self.phase = Phase::Gap(Held::Nothing);
-        let _ = self.is_done();
-        true
-    }
-
-    /// Takes an `s`, if the operator may come here. A name may begin with it too.
-    #[inline(always)]
-    fn take_saturate(&mut self, byte: u8) -> bool
-        ensures continues { Continues pol_automaton self.old byte result self.new }
-        ensures state { IsState pol_automaton self.new }
-    {
-        let _ = self.is_done();
-        if byte != b's' || self.depth == 0 || held_before(self.phase).is_none() {
-            return false;
-        }
-        let mut name = Name::new(self.alloc);
-        if name.push(byte).is_err() {
-            return false;
-        }
-        self.name = name;
-        self.phase = Phase::Lone(Role::Saturate);
-        let _ = self.is_done();
-        true
-    }
-
-    /// Takes a word and the space after it on a fast path. The space before the first word and an `s` are taken alone.
-    #[inline(always)]
-    fn take_word(&mut self, text: &[u8]) -> usize
-        requires { 0 < length text.now }
-        ensures bound { result ≤ length text.now }
-        ensures runs { Runs pol_automaton self.old (take result text.now) self.new }
-        ensures state { IsState pol_automaton self.new }
-    {
-        if is_digit(text[0]) {
-            return self.take_id(text);
-        }
-        let length = self.take_operator(text);
-        if length > 0 {
-            return length;
-        }
-        if self.take_space(text[0]) {
-            return 1;
-        }
-        if self.take_saturate(text[0]) { 1 } else { 0 }
+        length + 1
     }
 }
 

@@ -9,7 +9,12 @@ use Rattle.pb_sums.specs.engine.Prefix.{text_after}
 use Rattle.pb_sums.specs.engine.TermParts.{LeadsToLinear}
 use Rattle.pb_sums.specs.declared.Part.TheVariants.{AtLeast}
 use Rattle.pb_sums.proofs.lemmas.machine.WholeTexts.{linear_ends, last_is_state, before_semicolon, linear_some}
-use Rattle.pb_proof.specs.engine.Machine.Whole.{LeadsToRup, rup_read, with_rup}
+use Rattle.pb_proof.proofs.Common.{carried, Next, PolWord, pol_automaton, pol_first, pol_last, PolState}
+use Rattle.pb_text.proofs.lemmas.text.Spans.{prefix_parts}
+use Rattle.pb_proof.specs.engine.Line.PolWhole.{IsExpression, IsClosing}
+use Rattle.pb_proof.specs.engine.Machine.State.{over}
+use Rattle.pb_proof.specs.engine.Machine.Whole.{LeadsToPol, LeadsToRup, rup_read, with_rup}
+use Rattle.pb_proof.proofs.lemmas.Pol.Whole as pol
 use Rattle.pb_proof.specs.declared.line.LineMachine.TheVariants as line
 use Rattle.pb_proof.specs.declared.line.rup.phase.RupPhase.TheVariants.{Gap}
 use Rattle.pb_proof.specs.declared.machine.phase.Keyword.TheVariants as keyword
@@ -18,18 +23,18 @@ use Rattle.pb_proof.specs.declared.machine.phase.Phase.TheVariants as phase
 use Rattle.pb_proof.specs.declared.machine.phase.Stage.TheVariants as stage
 use Rattle.pb_proof.specs.declared.statement.Statement.TheVariants as statement
 use Rattle.pb_proof.proofs.lemmas.Carried.{runs_in}
-use Rattle.pb_proof.proofs.lemmas.Line.Laws.{rup_carries}
+use Rattle.pb_proof.proofs.lemmas.Line.Laws.{pol_carries, rup_carries}
 use Rattle.pb_proof.proofs.lemmas.Machine.States.{is_state, begin_order}
 use Rattle.pb_proof.proofs.lemmas.Machine.Taken.{runs_given, rup_runs_begun}
 use Rattle.pb_proof.proofs.lemmas.Rup.States.{rup_is_state, tail_order}
 
 -- the first bytes of a text
-begins_rup : (text : List ℕ) → 4 ≤ length text → get_or text 0 0 ≡ 114 → get_or text 1 0 ≡ 117 → get_or text 2 0 ≡ 112 → get_or text 3 0 ≡ 32 → text ≡ 114 ∷ 117 ∷ 112 ∷ 32 ∷ text_after 4 text
-begins_rup [] h = absurd (let no : ⊥ = omega (arith, h) in no)
-begins_rup (a ∷ []) h = absurd (let no : ⊥ = omega (arith, h) in no)
-begins_rup (a ∷ b ∷ []) h = absurd (let no : ⊥ = omega (arith, h) in no)
-begins_rup (a ∷ b ∷ c ∷ []) h = absurd (let no : ⊥ = omega (arith, h) in no)
-begins_rup (a ∷ b ∷ c ∷ d ∷ text) h = λ i j k l. rw (all_rest (a ∷ b ∷ c ∷ d ∷ text) 4, i, j, k, l) refl
+begins_with : (x y z : ℕ) (text : List ℕ) → 4 ≤ length text → get_or text 0 0 ≡ x → get_or text 1 0 ≡ y → get_or text 2 0 ≡ z → get_or text 3 0 ≡ 32 → text ≡ x ∷ y ∷ z ∷ 32 ∷ text_after 4 text
+begins_with x y z [] h = absurd (let no : ⊥ = omega (arith, h) in no)
+begins_with x y z (a ∷ []) h = absurd (let no : ⊥ = omega (arith, h) in no)
+begins_with x y z (a ∷ b ∷ []) h = absurd (let no : ⊥ = omega (arith, h) in no)
+begins_with x y z (a ∷ b ∷ c ∷ []) h = absurd (let no : ⊥ = omega (arith, h) in no)
+begins_with x y z (a ∷ b ∷ c ∷ d ∷ text) h = λ i j k l. rw (all_rest (a ∷ b ∷ c ∷ d ∷ text) 4, i, j, k, l) refl
 
 -- the byte after them
 fifth : (text : List ℕ) → get_or (text_after 4 text) 0 0 ≡ get_or text 4 0
@@ -88,10 +93,45 @@ module _ (limit : ℕ) where
       let rest : List ℕ = text_after 4 text in
       let five : n + 5 ≡ suc (suc (suc (suc (n + 1)))) = omega arith in
       let cut : take (n + 5) text ≡ 114 ∷ 117 ∷ 112 ∷ 32 ∷ (take n rest ++ 59 ∷ []) =
-      ap (take (n + 5)) (begins_rup text (omega (arith, long)) r u p space) ∙ (ap (λ (k : ℕ). take k (114 ∷ 117 ∷ 112 ∷ 32 ∷ rest)) five
+      ap (take (n + 5)) (begins_with 114 117 112 text (omega (arith, long)) r u p space) ∙ (ap (λ (k : ℕ). take k (114 ∷ 117 ∷ 112 ∷ 32 ∷ rest)) five
       ∙ ap (λ (x : List ℕ). 114 ∷ 117 ∷ 112 ∷ 32 ∷ x) (take_more rest n 0 inside ∙ ap (λ (b : ℕ). take n rest ++ b ∷ []) semicolon)) in
       subst (λ (x : List ℕ). Runs proofs (idle limit top stage.Steps) x (with_rup limit top c)) (sym cut)
       (line_runs top h rest c n inside (ap is_blank (fifth text) ∙ begins) leads)
+
+-- a whole `pol` line but its line feed
+module _ (limit top : ℕ) (h : IsInOrder (idle limit top stage.Steps)) where
+  abbrev pol_spelt : ℕ → ProofState
+  pol_spelt k = at limit top (phase.Spelling keyword.Pol k)
+
+  pol_spelt_state : (k : ℕ) → 0 < k → k < 3 → IsState proofs (pol_spelt k)
+  pol_spelt_state k i j = is_state (pol_spelt k) (record { limit = h.limit; top = h.top; some = h.some; fits = (i, j); holds = refl })
+
+  abbrev pol_begun : ProofState
+  pol_begun = giving limit top kind.Pol (line.Pol (pol_first limit top))
+
+  pol_begun_order : IsInOrder pol_begun
+  pol_begun_order = begin_order (idle limit top stage.Steps) h 0 kind.Pol
+
+  pol_line : (t : List ℕ) (ws : List PolWord) (s : PolState) → Runs pol_automaton (pol_first limit top) t s → pol_automaton.step s 10 ≡ End ws (pol_last limit top)
+      → (mid : ProofState) × Runs proofs (idle limit top stage.Steps) (112 ∷ 111 ∷ 108 ∷ t) mid × (proofs.step mid 10 ≡ End (statement.Pol ws) (idle limit top stage.Steps))
+  pol_line t ws s runs ends =
+      let inner = runs_in _ _ _ _ pol_carries t (pol_first limit top) s runs in
+      let k = runs_given pol_begun pol_begun_order (line.Pol (pol_first limit top)) refl t (line.Pol s) inner in (
+        giving limit top kind.Pol (line.Pol s),
+        (pol_spelt 1, refl, pol_spelt_state 1 (omega arith) (omega arith), (pol_spelt 2, refl, pol_spelt_state 2 (omega arith) (omega arith), (pol_begun, refl, is_state pol_begun pol_begun_order, k.0))),
+        ap (λ (n : Next PolState (List PolWord)). over pol_begun kind.Pol (carried line.Pol statement.Pol n)) ends,
+      )
+
+pub pol_leads : (limit top : ℕ) (text : List ℕ) (ws : List PolWord) (n more : ℕ) → 4 ≤ length text → get_or text 0 0 ≡ 112 → get_or text 1 0 ≡ 111 → get_or text 2 0 ≡ 108 → get_or text 3 0 ≡ 32
+    → IsExpression limit top (take n (text_after 4 text)) ws → IsClosing (take more (text_after n (text_after 4 text))) → LeadsToPol limit top (take (4 + n + more) text) ws
+pol_leads limit top text ws n more long p o l space words closing h =
+    let rest : List ℕ = text_after 4 text in
+    let k = pol.line_runs limit top (take n rest) (take more (text_after n rest)) ws h.some words closing in
+    let four : 4 + n + more ≡ suc (suc (suc (suc (n + more)))) = omega arith in
+    let cut : take (4 + n + more) text ≡ 112 ∷ 111 ∷ 108 ∷ 32 ∷ (take n rest ++ take more (text_after n rest)) =
+    ap (take (4 + n + more)) (begins_with 112 111 108 text long p o l space) ∙ (ap (λ (k : ℕ). take k (112 ∷ 111 ∷ 108 ∷ 32 ∷ rest)) four
+    ∙ ap (λ (x : List ℕ). 112 ∷ 111 ∷ 108 ∷ 32 ∷ x) (prefix_parts rest n more)) in
+    rw cut (pol_line limit top h (32 ∷ (take n rest ++ take more (text_after n rest))) ws k.0 k.1 k.2)
 
 -- the whole line
 pub rup_taken : (limit top : ℕ) (s : ProofState) (text : List ℕ) (c : Linear) (n : ℕ) → s ≡ idle limit top stage.Steps → IsInOrder s
@@ -104,3 +144,9 @@ rup_taken limit top s text c n same h inside first feed leads = rw (same, first,
   leads top (subst IsInOrder same h),
   refl,
 )
+
+pub pol_taken : (limit top : ℕ) (s : ProofState) (text : List ℕ) (ws : List PolWord) (n : ℕ) → s ≡ idle limit top stage.Steps → IsInOrder s
+    → n < length text → get_or text 0 0 ≡ 112 → get_or text n 0 ≡ 10 → LeadsToPol limit top (take n text) ws
+    → TakesStatement proofs s text (Some (n, statement.Pol ws)) s
+pol_taken limit top s text ws n same h inside first feed leads =
+    let (mid, runs, ends) = leads (subst IsInOrder same h) in rw (same, first, feed) (inside, refl, mid, runs, ends)

@@ -2,9 +2,10 @@
 use Rattle.pb_proof.proofs.Common.{ℕ, ◌&&◌, ◌*◌, ◌++◌, ◌+◌, ◌-◌, ◌<◌, ◌∙◌, ◌∷◌, ◌≡◌, ◌≤◌, [], ap, arith, Bool, cond, false, get_or, IsTrue, length}
 use Rattle.pb_proof.proofs.Common.{List, nat_eq, nat_le, Option, pos, refl, Some, subst, suc, sym, take, true, and_parts, eqb-true, le-leb, same_Some}
 use Rattle.pb_proof.proofs.Common.{is_some, runs_more, AreDigits, value-grows, Go, IsState, Runs, value_from, is_digit, Change, Held, Kind, Phase}
-use Rattle.pb_proof.proofs.Common.{Role, PolWord, Id, IsSpacedId, bound, changed, counted, held_number, kind_of, number, transition, pol_automaton}
+use Rattle.pb_proof.proofs.Common.{Role, PolWord, bound, close, close_lone, zero, changed, counted, held_number, kind_of, number, transition, pol_automaton}
 use Rattle.pb_proof.proofs.Common.{PolState}
-use Rattle.pb_proof.specs.engine.Line.PolFast.{held_before, held_operator, operator}
+use Rattle.pb_proof.specs.engine.Line.PolFast.{held_operator, operator}
+use Rattle.pb_proof.specs.engine.Line.PolWhole.{IsFree, EndsAs, IsWord}
 use Rattle.pb_proof.specs.declared.line.pol.phase.Kind.TheVariants as kind
 use Rattle.pb_proof.specs.declared.line.pol.phase.Held.TheVariants as held
 use Rattle.pb_proof.specs.declared.line.pol.phase.Phase.TheVariants as phase
@@ -31,17 +32,6 @@ by_test P b n t c k rest met other = go (nat_eq b n && t) refl
     go : (x : Bool) → (nat_eq b n && t) ≡ x → Some c ≡ cond x (Some k) rest → P b c
     go true f e = let (g, h) = and_parts (nat_eq b n) t f in rw (eqb-true b n g, same_Some c k e) (met h)
     go false f e = other e
-
-gap_of : (p : Phase) (h : Held) → Some h ≡ held_before p → p ≡ phase.Gap h
-gap_of (phase.Gap held.Nothing) h e = cc
-gap_of (phase.Gap held.Number) h e = cc
-gap_of (phase.Gap held.Name) h e = cc
-gap_of _ h e = cc e
-
-two_bytes : (text : List ℕ) → 2 ≤ length text → take 2 text ≡ get_or text 0 0 ∷ get_or text 1 0 ∷ []
-two_bytes [] l = absurd (omega arith)
-two_bytes (b ∷ []) l = absurd (omega arith)
-two_bytes (b ∷ c ∷ text) l = refl
 
 module _ (limit top d : ℕ) (ws : List PolWord) (name : List ℕ) (some : 0 < top) where
   abbrev at : Phase → PolState
@@ -72,106 +62,127 @@ module _ (limit top d : ℕ) (ws : List PolWord) (name : List ℕ) (some : 0 < t
         digits_run (phase.Number (10 * n + (b - 48))) (10 * n + (b - 48)) c text (λ e. refl) h.1 l,
       )
 
-  takes_digits : (p : Phase) → is_some (held_before p) ≡ true → TakesDigits p 0
-  takes_digits (phase.Gap held.Nothing) e d = refl
-  takes_digits (phase.Gap held.Number) e d = refl
-  takes_digits (phase.Gap held.Name) e d = refl
-  takes_digits _ e d = cc e
+  takes_digits : (h : Held) → IsFree h → TakesDigits (phase.Gap h) 0
+  takes_digits held.Nothing f e = refl
+  takes_digits held.Number f e = refl
+  takes_digits held.Name f e = refl
+  takes_digits held.Large f e = absurd f
 
-  id_digits : (p : Phase) (ds : List ℕ) → is_some (held_before p) ≡ true → AreDigits ds → 0 < value_from 0 ds → value_from 0 ds ≤ bound limit top d
-      → Runs pol_automaton (at p) ds (at (phase.Number (value_from 0 ds)))
-  id_digits p [] e all i l = absurd (omega arith)
-  id_digits p (b ∷ ds) e all i l = digits_run p 0 b ds (takes_digits p e) all l
+  id_digits : (h : Held) (ds : List ℕ) → IsFree h → AreDigits ds → 0 < value_from 0 ds → value_from 0 ds ≤ bound limit top d
+      → Runs pol_automaton (at (phase.Gap h)) ds (at (phase.Number (value_from 0 ds)))
+  id_digits h [] f all i l = absurd (omega arith)
+  id_digits h (b ∷ ds) f all i l = digits_run (phase.Gap h) 0 b ds (takes_digits h f) all l
 
-  -- the state after an id and a space
-  abbrev with_id : ℕ → PolState
-  with_id v = state limit top (ws ++ Id (pos v) ∷ []) (suc d) [] (phase.Gap (held_number limit d v))
+  free_number : (n v : ℕ) → IsFree (held_number limit n v)
+  free_number zero v = tt
+  free_number (suc n) v = by (nat_le v limit)
+    where
+      by : (b : Bool) → IsFree (cond b held.Number held.Nothing)
+      by true = tt
+      by false = tt
 
-  space_on : (v : ℕ) → 0 < v → v ≤ top → pol_automaton.step (at (phase.Number v)) 32 ≡ Go (with_id v)
-  space_on v h i =
-      let fits : nat_le v top ≡ true = le-leb v top i in
-      let planned : action.Turn (change.Id (pos v)) (phase.Gap (held_number limit d v)) ≡ transition limit top d (phase.Number v) kind.Blank = rw (not_zero v h, fits) refl in
-      moved limit top ws d name (phase.Number v) 32 kind.Blank (action.Turn (change.Id (pos v)) (phase.Gap (held_number limit d v))) refl planned
-
-  -- an id and the space after it
-  pub id_runs : (p : Phase) (text : List ℕ) (v : ℕ) → is_some (held_before p) ≡ true → IsSpacedId top text v → Runs pol_automaton (at p) text (with_id v)
-  id_runs p text v e (ds, is, all, f, i, l) =
-      let first : Runs pol_automaton (at p) ds (at (phase.Number v)) =
-      subst (λ (n : ℕ). Runs pol_automaton (at p) ds (at (phase.Number n))) (sym f)
-      (id_digits p ds e all (subst (λ (n : ℕ). 0 < n) f i) (subst (λ (n : ℕ). n ≤ bound limit top d) f (bound_of_id limit top d v l))) in
-      subst (λ (t : List ℕ). Runs pol_automaton (at p) t (with_id v)) (sym is)
-      (runs_more pol_automaton (at p) ds (at (phase.Number v)) 32 (with_id v) first (space_on v i l)
-      (midway_state limit top (ws ++ Id (pos v) ∷ []) (suc d) [] (phase.Gap (held_number limit d v)) some refl))
-
-  -- the state after an operator and a space
-  abbrev changed_by : Change → PolState
-  changed_by c = state limit top (changed c ws name) (counted c d) [] (phase.Gap held.Nothing)
-
-  abbrev RunsTo : Phase → ℕ → Change → Type 0
-  RunsTo p b c = Runs pol_automaton (at p) (b ∷ 32 ∷ []) (changed_by c)
-
-  in_gap : (c : Change) → IsState pol_automaton (changed_by c)
-  in_gap c = midway_state limit top (changed c ws name) (counted c d) [] (phase.Gap held.Nothing) some refl
-
-  -- an operator that takes effect at its own byte
-  turned_first : (p : Phase) (b : ℕ) (k : Kind) (c : Change) → k ≡ kind_of b → action.Turn c phase.After ≡ transition limit top d p k → RunsTo p b c
-  turned_first p b k c e f = (
-    state limit top (changed c ws name) (counted c d) [] phase.After,
-    moved limit top ws d name p b k (action.Turn c phase.After) e f,
-    midway_state limit top (changed c ws name) (counted c d) [] phase.After some refl,
-    (
-      changed_by c,
-      moved limit top (changed c ws name) (counted c d) [] phase.After 32 kind.Blank (action.Turn change.Keep (phase.Gap held.Nothing)) refl refl,
-      in_gap c,
-      refl,
-    ),
-  )
-
-  -- and one that is a letter
-  turned_last : (p : Phase) (b : ℕ) (k : Kind) (r : Role) (c : Change) → k ≡ kind_of b → action.Begin (phase.Lone r) ≡ transition limit top d p k
-      → action.Turn c (phase.Gap held.Nothing) ≡ transition limit top d (phase.Lone r) kind.Blank → changed c ws (b ∷ []) ≡ changed c ws name → RunsTo p b c
-  turned_last p b k r c e f g h = (
-    state limit top ws d (b ∷ []) (phase.Lone r),
-    moved limit top ws d name p b k (action.Begin (phase.Lone r)) e f,
-    midway_state limit top ws d (b ∷ []) (phase.Lone r) some refl,
-    (
-      changed_by c,
-      moved limit top ws d (b ∷ []) (phase.Lone r) 32 kind.Blank (action.Turn c (phase.Gap held.Nothing)) refl g ∙ ap (λ x. Go (state limit top x (counted c d) [] (phase.Gap held.Nothing))) h,
-      in_gap c,
-      refl,
-    ),
-  )
-
-  plus_planned : (h : Held) → Some h ≡ held_before (phase.Gap h) → nat_le 2 d ≡ true → action.Turn change.Sum phase.After ≡ transition limit top d (phase.Gap h) kind.Plus
+  plus_planned : (h : Held) → IsFree h → nat_le 2 d ≡ true → action.Turn change.Sum phase.After ≡ transition limit top d (phase.Gap h) kind.Plus
   plus_planned held.Nothing e t = rw t refl
   plus_planned held.Number e t = rw t refl
   plus_planned held.Name e t = rw t refl
-  plus_planned held.Large e t = cc e
+  plus_planned held.Large e t = absurd e
 
-  saturate_planned : (h : Held) → Some h ≡ held_before (phase.Gap h) → nat_le 1 d ≡ true → action.Begin (phase.Lone role.Saturate) ≡ transition limit top d (phase.Gap h) kind.S
+  saturate_planned : (h : Held) → IsFree h → nat_le 1 d ≡ true → action.Begin (phase.Lone role.Saturate) ≡ transition limit top d (phase.Gap h) kind.S
   saturate_planned held.Nothing e t = rw t refl
   saturate_planned held.Number e t = rw t refl
   saturate_planned held.Name e t = rw t refl
-  saturate_planned held.Large e t = cc e
+  saturate_planned held.Large e t = absurd e
 
-  held_runs : (h : Held) (b : ℕ) (c : Change) → Some c ≡ held_operator h b → RunsTo (phase.Gap h) b c
-  held_runs held.Number b c e =
-      by_byte (RunsTo (phase.Gap held.Number)) b 42 c change.Multiply _ (turned_first (phase.Gap held.Number) 42 kind.Star change.Multiply refl refl)
-      (λ f. by_byte (RunsTo (phase.Gap held.Number)) b 100 c change.Divide _ (turned_last (phase.Gap held.Number) 100 kind.D role.Divide change.Divide refl refl refl refl) (λ g. cc g) f) e
-  held_runs held.Name b c e =
-      by_byte (RunsTo (phase.Gap held.Name)) b 119 c change.Weaken _ (turned_last (phase.Gap held.Name) 119 kind.W role.Weaken change.Weaken refl refl refl refl) (λ g. cc g) e
-  held_runs _ b c e = cc e
+  -- with the name that a literal has
+  module _ (n : List ℕ) where
+    -- a state after text in which the word ends by a change
+    abbrev Stands : Held → List ℕ → Change → Held → Type 0
+    Stands h text c next = EndsAs limit top (at (phase.Gap h)) text (changed c ws n) (counted c d) next × IsFree next
 
-  at_gap : (h : Held) (b : ℕ) (c : Change) → Some h ≡ held_before (phase.Gap h) → Some c ≡ operator d h b → RunsTo (phase.Gap h) b c
-  at_gap h b c i e =
-      by_test (RunsTo (phase.Gap h)) b 43 (nat_le 2 d) c change.Sum _ (λ t. turned_first (phase.Gap h) 43 kind.Plus change.Sum refl (plus_planned h i t))
-      (λ f. by_test (RunsTo (phase.Gap h)) b 115 (nat_le 1 d) c change.Saturate _
-      (λ t. turned_last (phase.Gap h) 115 kind.S role.Saturate change.Saturate refl (saturate_planned h i t) refl refl) (held_runs h b c) f) e
+    id_stands : (h : Held) (ds : List ℕ) (v : ℕ) → IsFree h → AreDigits ds → v ≡ value_from 0 ds → 0 < v → v ≤ top → Stands h ds (change.Id (pos v)) (held_number limit d v)
+    id_stands h ds v f all same i l =
+        let fits : nat_le v top ≡ true = le-leb v top l in
+        let closes : close limit top d (phase.Number v) ≡ Some (change.Id (pos v), held_number limit d v) = rw (not_zero v i, fits) refl in
+        let runs : Runs pol_automaton (at (phase.Gap h)) ds (at (phase.Number v)) =
+        subst (λ (m : ℕ). Runs pol_automaton (at (phase.Gap h)) ds (at (phase.Number m))) (sym same)
+        (id_digits h ds f all (subst (λ (m : ℕ). 0 < m) same i) (subst (λ (m : ℕ). m ≤ bound limit top d) same (bound_of_id limit top d v l))) in
+        ((ws, d, name, phase.Number v, change.Id (pos v), runs, closes, refl, refl), free_number d v)
 
-  -- an operator and the space after it
-  pub operator_runs : (p : Phase) (h : Held) (c : Change) (text : List ℕ) → Some h ≡ held_before p → Some c ≡ operator d h (get_or text 0 0) → 2 ≤ length text → get_or text 1 0 ≡ 32
-      → Runs pol_automaton (at p) (take 2 text) (changed_by c)
-  operator_runs p h c text i e l f =
-      let gap : p ≡ phase.Gap h = gap_of p h i in
-      let prefix : take 2 text ≡ get_or text 0 0 ∷ 32 ∷ [] = two_bytes text l ∙ ap (λ b. get_or text 0 0 ∷ b ∷ []) f in
-      rw (prefix, gap) (at_gap h (get_or text 0 0) c (subst (λ q. Some h ≡ held_before q) gap i) e)
+    -- an operator that takes effect at its own byte
+    turned_first : (h : Held) (b : ℕ) (k : Kind) (c : Change) → k ≡ kind_of b → action.Turn c phase.After ≡ transition limit top d (phase.Gap h) k → changed c ws name ≡ changed c ws n → Stands h (b ∷ []) c held.Nothing
+    turned_first h b k c e f i = (
+      (
+        changed c ws name,
+        counted c d,
+        [],
+        phase.After,
+        change.Keep,
+        (
+          state limit top (changed c ws name) (counted c d) [] phase.After,
+          moved limit top ws d name (phase.Gap h) b k (action.Turn c phase.After) e f,
+          midway_state limit top (changed c ws name) (counted c d) [] phase.After some refl,
+          refl,
+        ),
+        refl,
+        i,
+        refl,
+      ),
+      tt,
+    )
+
+    -- and one that is a letter
+    turned_last : (h : Held) (b : ℕ) (k : Kind) (r : Role) (c : Change) → k ≡ kind_of b → action.Begin (phase.Lone r) ≡ transition limit top d (phase.Gap h) k
+        → close_lone r ≡ Some (c, held.Nothing) → changed c ws (b ∷ []) ≡ changed c ws n → Stands h (b ∷ []) c held.Nothing
+    turned_last h b k r c e f g i = (
+      (
+        ws,
+        d,
+        b ∷ [],
+        phase.Lone r,
+        c,
+        (
+          state limit top ws d (b ∷ []) (phase.Lone r),
+          moved limit top ws d name (phase.Gap h) b k (action.Begin (phase.Lone r)) e f,
+          midway_state limit top ws d (b ∷ []) (phase.Lone r) some refl,
+          refl,
+        ),
+        g,
+        i,
+        refl,
+      ),
+      tt,
+    )
+
+    abbrev Operates : Held → ℕ → Change → Type 0
+    Operates h b c = Stands h (b ∷ []) c held.Nothing
+
+    held_stands : (h : Held) (b : ℕ) (c : Change) → Some c ≡ held_operator h b → Operates h b c
+    held_stands held.Number b c e =
+        by_byte (Operates held.Number) b 42 c change.Multiply _ (turned_first held.Number 42 kind.Star change.Multiply refl refl refl)
+        (λ f. by_byte (Operates held.Number) b 100 c change.Divide _ (turned_last held.Number 100 kind.D role.Divide change.Divide refl refl refl refl) (λ g. cc g) f) e
+    held_stands held.Name b c e =
+        by_byte (Operates held.Name) b 119 c change.Weaken _ (turned_last held.Name 119 kind.W role.Weaken change.Weaken refl refl refl refl) (λ g. cc g) e
+    held_stands _ b c e = cc e
+
+    operator_stands : (h : Held) (b : ℕ) (c : Change) → IsFree h → Some c ≡ operator d h b → Operates h b c
+    operator_stands h b c i e =
+        by_test (Operates h) b 43 (nat_le 2 d) c change.Sum _ (λ t. turned_first h 43 kind.Plus change.Sum refl (plus_planned h i t) refl)
+        (λ f. by_test (Operates h) b 115 (nat_le 1 d) c change.Saturate _
+        (λ t. turned_last h 115 kind.S role.Saturate change.Saturate refl (saturate_planned h i t) refl refl) (held_stands h b c) f) e
+
+-- ids, operators, and no word
+pub id_word : (limit top d : ℕ) (h : Held) (ds : List ℕ) (v : ℕ) (n : List ℕ) → AreDigits ds → v ≡ value_from 0 ds → 0 < v → v ≤ top
+    → IsWord limit top d h ds (change.Id (pos v)) n (held_number limit d v)
+id_word limit top d h ds v n all same i l ws name some f = id_stands limit top d ws name some n h ds v f all same i l
+
+no_operator : (h : Held) (c : Change) → Some c ≡ held_operator h 0 → ⊥
+no_operator held.Number c e = cc
+no_operator held.Name c e = cc
+no_operator _ c e = cc
+
+pub operator_word : (limit top d : ℕ) (h : Held) (text : List ℕ) (c : Change) (n : List ℕ) → Some c ≡ operator d h (get_or text 0 0) → IsWord limit top d h (take 1 text) c n held.Nothing
+operator_word limit top d h [] c n e ws name some f = absurd (no_operator h c e)
+operator_word limit top d h (b ∷ text) c n e ws name some f = operator_stands limit top d ws name some n h b c f e
+
+pub no_word : (limit top d : ℕ) (h : Held) (n : List ℕ) → IsWord limit top d h [] change.Keep n h
+no_word limit top d h n ws name some f = ((ws, d, name, phase.Gap h, change.Keep, refl, refl, refl, refl), f)

@@ -65,25 +65,25 @@ module _ (limit top : ℕ) (ws : List PolWord) (d : ℕ) where
   transition_letter kind.Letter e = refl
   transition_letter _ e = absurd (false≢true e)
 
-  transition_name : (negated : Bool) (k : Kind) → is_name_kind k ≡ true → transition limit top d (phase.Name negated) k ≡ action.Add (phase.Name negated)
+  pub transition_name : (negated : Bool) (k : Kind) → is_name_kind k ≡ true → transition limit top d (phase.Name negated) k ≡ action.Add (phase.Name negated)
   transition_name negated kind.Blank e = absurd (false≢true e)
   transition_name negated kind.Semicolon e = absurd (false≢true e)
   transition_name negated kind.Feed e = absurd (false≢true e)
   transition_name negated k e = ap (λ x. cond x (action.Add (phase.Name negated)) action.Stop) e
 
-  transition_second : (r : Role) → may_be_name r ≡ true → (k : Kind) → is_name_kind k ≡ true → transition limit top d (phase.Lone r) k ≡ action.Add (phase.Name false)
+  pub transition_second : (r : Role) → may_be_name r ≡ true → (k : Kind) → is_name_kind k ≡ true → transition limit top d (phase.Lone r) k ≡ action.Add (phase.Name false)
   transition_second r h kind.Blank e = absurd (false≢true e)
   transition_second r h kind.Semicolon e = absurd (false≢true e)
   transition_second r h kind.Feed e = absurd (false≢true e)
   transition_second r h k e = ap (λ x. cond (x && is_name_kind k) (action.Add (phase.Name false)) action.Stop) h ∙ ap (λ x. cond x (action.Add (phase.Name false)) action.Stop) e
 
-  transition_tilde : (k : Kind) → is_letter_kind k ≡ true → transition limit top d phase.Tilde k ≡ action.Begin phase.First
+  pub transition_tilde : (k : Kind) → is_letter_kind k ≡ true → transition limit top d phase.Tilde k ≡ action.Begin phase.First
   transition_tilde kind.Blank e = absurd (false≢true e)
   transition_tilde kind.Semicolon e = absurd (false≢true e)
   transition_tilde kind.Feed e = absurd (false≢true e)
   transition_tilde k e = ap (λ x. cond x (action.Begin phase.First) action.Stop) e
 
-  transition_first : (k : Kind) → is_name_kind k ≡ true → transition limit top d phase.First k ≡ action.Add (phase.Name true)
+  pub transition_first : (k : Kind) → is_name_kind k ≡ true → transition limit top d phase.First k ≡ action.Add (phase.Name true)
   transition_first kind.Blank e = absurd (false≢true e)
   transition_first kind.Semicolon e = absurd (false≢true e)
   transition_first kind.Feed e = absurd (false≢true e)

@@ -51,7 +51,8 @@ fn close_lone(role: Role) -> Option<(Change, Held)>
     }
 }
 
-fn held_name(negated: bool, depth: usize) -> Held
+/// How a literal may still change.
+pub fn held_name(negated: bool, depth: usize) -> Held
     ensures { result ≡ held_name negated depth }
 {
     if negated || depth == 0 {

@@ -1,15 +1,18 @@
-use Rattle.pb_proof.proofs.Common.{ℕ, ◌≡◌, [], arith, subst, sym, take, runs_on, Runs, pol_automaton}
+use Rattle.pb_proof.proofs.Common.{◌+◌, refl, subst, sym, take, when_ok, Runs, pol_automaton, PolState}
+use Rattle.pb_proof.proofs.lemmas.Pol.Covers.{state}
+use Rattle.pb_proof.proofs.lemmas.Pol.Pushes.{same_state}
+use Rattle.pb_proof.proofs.lemmas.Pol.Whole.{free_of, gap_of, word_blank}
 use Rattle.pb_proof.proofs.line.pol.PolMachine.take_word.Goals as goal
 
-pub returns-then-take_space-clause-runs : goal.returns-then-take_space-clause-runs
-returns-then-take_space-clause-runs c =
-    let none : c.take_operator-length.result ≡ 0 = omega arith in
-    let same = subst (λ (n : ℕ). Runs pol_automaton c.args.self.now (take n c.args.text.now) c.take_operator-length.new.self) none c.take_operator-length.ensures.runs in
-    runs_on pol_automaton c.args.self.now c.args.text.now 0 c.take_operator-length.new.self c.take_space.new.self c.requires same c.if-take_space.ensures.continues c.take_space.ensures.state
-
-pub returns-then-take_saturate-clause-runs : goal.returns-then-take_saturate-clause-runs
-returns-then-take_saturate-clause-runs c =
-    let none : c.take_operator-length.result ≡ 0 = omega arith in
-    let same = subst (λ (n : ℕ). Runs pol_automaton c.args.self.now (take n c.args.text.now) c.take_operator-length.new.self) none c.take_operator-length.ensures.runs in
-    let still = subst (λ x. Runs pol_automaton c.args.self.now [] x) (sym c.if-take_space.ensures.continues) same in
-    runs_on pol_automaton c.args.self.now c.args.text.now 0 c.take_space.new.self c.take_saturate.new.self c.requires still c.if-take_saturate.ensures.continues c.take_saturate.ensures.state
+pub returns-clause-runs : goal.returns-clause-runs
+returns-clause-runs c = rw (← c.self.view_is) (
+    let s = c.self.inside in
+    let text = c.args.text.now in
+    let n = c.in-Some-word_prefix.length in
+    let k = when_ok c.turn.result _ c.turn.ensures.ok (sym c.if-is_err.ensures.value) in
+    subst (λ (x : PolState). Runs pol_automaton (state s.limit s.top s.words.items s.depth s.name s.phase) (take (n + 1) text) x)
+    (same_state s.limit s.top _ _ _ _ _ _ _ _ (sym k.0) (sym k.1) (sym k.2) refl)
+    (rw (gap_of s.phase c.in-Some.held c.in-Some.ensures)
+    (word_blank s.limit s.top text n s.depth s.words.items s.name c.in-Some.held c.in-Some-word_prefix.next c.in-Some-word_prefix.change c.self.invariant.4.0
+    (free_of s.phase c.in-Some.held c.in-Some.ensures) c.if-length-text.false c.if-text-length-ne32.false (c.in-Some-word_prefix.ensures.word s.name)))
+    )

@@ -1,0 +1,1 @@
+use Rattle.pb_proof.proofs.line.pol.literal_prefix.name_at.Goals as goal

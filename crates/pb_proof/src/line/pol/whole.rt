@@ -1,0 +1,98 @@
+//! Whole `pol` lines at the start of a text.
+
+ghost use Rattle.std.specs.Prelude.{◌≡◌, ◌<◌, ◌≤◌, ◌^◌, IfSome, get_or, length, take};
+ghost use Rattle.pb_text.specs.meaning.Limits.{largest, top_of};
+ghost use Rattle.pb_proof.specs.engine.Line.PolWhole.{IsExpression, IsClosing};
+ghost use Rattle.pb_proof.specs.engine.Machine.Whole.{LeadsToPol};
+
+use crate::line::pol::literal_prefix::named_prefix;
+use crate::line::pol::phase::Held;
+use crate::line::pol::words::turn;
+use crate::word::PolWord;
+use pb_sums::Name;
+use pb_text::{Limits, Sequence};
+use std::alloc::Global;
+
+/// The words of a `pol` line at the start of a text, and the index of its line feed, if it is fast to read.
+pub(crate) fn pol_at(
+    alloc: Global,
+    limits: Limits,
+    text: &[u8],
+) -> Option<(usize, Sequence<PolWord>)>
+    ensures inside { IfSome result (λ r. r.0 < length text.now) }
+    ensures first { IfSome result (λ r. get_or text.now 0 0 ≡ 112) }
+    ensures line_feed { IfSome result (λ r. get_or text.now r.0 0 ≡ 10) }
+    ensures runs { IfSome result (λ r. LeadsToPol (largest limits) (top_of limits)
+        (take r.0 text.now) r.1) }
+{
+    if text.len() < 4 || text[0] != b'p' || text[1] != b'o' || text[2] != b'l' || text[3] != b' ' {
+        return None;
+    }
+    let limit = limits.largest();
+    let top = limits.top();
+    let rest = &text[4..];
+    let Some((length, words)) = words_at(alloc, limit, top, rest) else {
+        return None;
+    };
+    let Some(more) = closing_prefix(&rest[length..]) else {
+        return None;
+    };
+    Some((4 + length + more, words))
+}
+
+/// The words of one expression at the start of a text, and their length, if they are fast to read and memory suffices.
+#[inline(always)]
+fn words_at(alloc: Global, limit: u128, top: u64, text: &[u8]) -> Option<(usize, Sequence<PolWord>)>
+    requires top { top < 2 ^ 63 }
+    ensures bound { IfSome result (λ r. r.0 ≤ length text.now) }
+    ensures expression { IfSome result (λ r. IsExpression limit top (take r.0 text.now) r.1) }
+{
+    let mut words = Vec::new(alloc);
+    let mut name = Name::new(alloc);
+    let mut depth: usize = 0;
+    let mut held = Held::Nothing;
+    let mut end: usize = 0;
+    while let Some((length, change, next)) = named_prefix(
+        alloc,
+        limit,
+        top,
+        depth,
+        held,
+        &text[end..],
+        &mut name,
+    ) {
+        if turn(alloc, &mut words, &mut depth, &mut name, change).is_err() {
+            return None;
+        }
+        held = next;
+        end += length;
+        if end >= text.len() || text[end] != b' ' {
+            return if depth == 1 {
+                Some((end, Sequence::from_vec(words)))
+            } else {
+                None
+            };
+        }
+        end += 1;
+    }
+    None
+}
+
+/// The length of the `;` at the start of a text, or 0, if a line feed comes after it.
+#[inline(always)]
+fn closing_prefix(text: &[u8]) -> Option<usize>
+    ensures inside { IfSome result (λ n. n < length text.now) }
+    ensures closing { IfSome result (λ n. IsClosing (take n text.now)) }
+    ensures line_feed { IfSome result (λ n. get_or text.now n 0 ≡ 10) }
+{
+    if text.is_empty() {
+        return None;
+    }
+    if text[0] == b'\n' {
+        return Some(0);
+    }
+    if text.len() < 2 || text[0] != b';' || text[1] != b'\n' {
+        return None;
+    }
+    Some(1)
+}
