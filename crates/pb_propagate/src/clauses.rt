@@ -109,7 +109,9 @@ impl Clauses {
     }
 
     /// How many literals the slot has room for.
-    pub fn room(&self, slot: usize) -> usize {
+    pub fn room(&self, slot: usize) -> usize
+        ensures { result ≡ number_at self.now.blocks.rooms slot }
+    {
         self.blocks.room(slot)
     }
 

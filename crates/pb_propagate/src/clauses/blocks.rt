@@ -234,7 +234,9 @@ impl Blocks {
     }
 
     /// How many literals the block of a slot has room for.
-    pub fn room(&self, slot: usize) -> usize {
+    pub fn room(&self, slot: usize) -> usize
+        ensures { result ≡ number_at self.now.rooms slot }
+    {
         match self.rooms.get(slot) {
             Some(room) => *room as usize,
             None => 0,
