@@ -8,6 +8,7 @@ ghost use Rattle.pb_propagate.specs.engine.Engine.Root.{IsServed, IsFree, IsSame
 
 pub mod blocks;
 pub mod lists;
+pub mod reasons;
 pub mod search;
 pub mod visiting;
 pub mod watched;
@@ -108,7 +109,9 @@ impl Clauses {
     }
 
     /// How many literals the slot has room for.
-    pub fn room(&self, slot: usize) -> usize {
+    pub fn room(&self, slot: usize) -> usize
+        ensures { result ≡ number_at self.now.blocks.rooms slot }
+    {
         self.blocks.room(slot)
     }
 
@@ -224,14 +227,6 @@ impl Clauses {
             IsFree assignment.now.values.items (list_at self.now.blocks.literals slot)) }
     {
         free_literal(self.blocks.literals(slot), assignment)
-    }
-
-    /// The literals of a slot's clause.
-    pub fn codes(&self, slot: usize) -> &[u32]
-        requires { slot < length self.now.blocks.literals }
-        ensures { result.now ≡ list_at self.now.blocks.literals slot }
-    {
-        self.blocks.literals(slot)
     }
 
     /// Prepares for another run, whose searches go on where those of this run ended. Only the clauses in which a search has

@@ -1,18 +1,23 @@
 //! The slots of removed forms, by how many literals their blocks have room for.
 
+ghost use Rattle.std.specs.Prelude.{◌≡◌, ℕ, ◌<◌, [], List, length, OnOk, IfSome, IfNone};
+ghost use Rattle.pb_propagate.specs.engine.Engine.Free.{Holds, HasPut, HasTaken, IsSizeOf};
+
 use std::alloc::{AllocError, Global};
 
 /// Slots to use again. Each is in the list of its size, so that a clause finds a slot whose block has room for it.
 #[derive(Drop)]
 pub struct Free {
     // For each size the last slot of its list.
-    last: Vec<usize>,
+    last: [usize; 65],
     // For each slot the one before it in its list.
     before: Vec<usize>,
 }
 
 // Which list has the slots with room for that number of literals. Long clauses have room for a power of two.
-fn size_of(room: usize) -> usize {
+fn size_of(room: usize) -> usize
+    ensures { IsSizeOf room result }
+{
     if room <= 32 {
         return room;
     }
@@ -28,39 +33,48 @@ fn size_of(room: usize) -> usize {
 
 impl Free {
     /// No slots.
-    pub fn new(alloc: Global) -> Free {
+    pub fn new(alloc: Global) -> Free
+        ensures { (size : ℕ) → Holds result size [] }
+    {
+        let before = Vec::new(alloc);
         Free {
-            last: Vec::new(alloc),
-            before: Vec::new(alloc),
+            last: [usize::MAX; 65],
+            before,
         }
     }
 
     /// Makes room for one more slot, so that `put` loses none.
-    pub fn widen(&mut self, slot: usize) -> Result<(), AllocError> {
-        if self.last.is_empty() {
-            self.last.resize(65, usize::MAX)?;
+    pub fn widen(&mut self, slot: usize) -> Result<(), AllocError>
+        ensures { OnOk result ((size : ℕ) (slots : List ℕ) →
+            Holds self.old size slots → Holds self.new size slots) }
+    {
+        if slot < self.before.len() {
+            return Ok(());
         }
-        if slot >= self.before.len() {
-            self.before.push(usize::MAX)?;
-        }
+        self.before.push(usize::MAX)?;
         Ok(())
     }
 
-    /// Adds a slot whose block has that room.
-    pub fn put(&mut self, slot: usize, room: usize) {
+    /// Adds a slot whose block has that room. One for which there is no room is lost.
+    pub fn put(&mut self, slot: usize, room: usize)
+        ensures { (size : ℕ) × IsSizeOf room size × (slot < length self.old.before.items →
+            HasPut slot size self.old self.new) }
+    {
         let size = size_of(room);
-        if size >= self.last.len() || slot >= self.before.len() {
+        if slot >= self.before.len() {
             return;
         }
         self.before[slot] = self.last[size];
         self.last[size] = slot;
     }
 
-    // Takes a slot out of a list.
-    fn pop(&mut self, size: usize) -> Option<usize> {
-        if size >= self.last.len() {
-            return None;
-        }
+    // Takes the last slot out of a list.
+    fn pop(&mut self, size: usize) -> Option<usize>
+        requires { size < 65 }
+        ensures some { IfSome result (λ slot. HasTaken slot size self.old self.new) }
+        ensures none { IfNone result (self.new ≡ self.old) }
+        ensures empty { IfNone result ((slots : List ℕ) → Holds self.old size slots → slots ≡ []) }
+    {
         let slot = self.last[size];
         if slot >= self.before.len() {
             return None;
@@ -69,8 +83,25 @@ impl Free {
         Some(slot)
     }
 
+    // Takes a slot out of the first list that has one, from a size on.
+    fn pop_from(&mut self, size: usize) -> Option<usize>
+        ensures some { IfSome result (λ slot. (size : ℕ) × HasTaken slot size self.old self.new) }
+        ensures none { IfNone result (self.new ≡ self.old) }
+    {
+        'sizes: for more in size..65 {
+            if let Some(slot) = self.pop(more) {
+                return Some(slot);
+            }
+        }
+        None
+    }
+
     /// Takes a slot with just the room for that number of literals, else one that has no block, else one with more room.
-    pub fn take(&mut self, count: usize) -> Option<usize> {
+    pub fn take(&mut self, count: usize) -> Option<usize>
+        ensures some { IfSome result (λ slot. (size : ℕ) × HasTaken slot size self.old self.new) }
+        ensures none { IfNone result (self.new ≡ self.old) }
+        ensures empty { IfNone result ((slots : List ℕ) → Holds self.old 0 slots → slots ≡ []) }
+    {
         let size = size_of(count);
         if let Some(slot) = self.pop(size) {
             return Some(slot);
@@ -78,11 +109,6 @@ impl Free {
         if let Some(slot) = self.pop(0) {
             return Some(slot);
         }
-        'sizes: for more in size..65 {
-            if let Some(slot) = self.pop(more) {
-                return Some(slot);
-            }
-        }
-        None
+        self.pop_from(size)
     }
 }

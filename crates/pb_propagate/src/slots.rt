@@ -5,7 +5,7 @@ ghost use Rattle.pb_propagate.specs.engine.Engine.Counts.{IsAbsent};
 ghost use Rattle.pb_propagate.specs.engine.Engine.Fields.{forms_of};
 ghost use Rattle.pb_propagate.specs.engine.Engine.Rest.{IsAtRest, waits};
 ghost use Rattle.pb_propagate.specs.engine.Engine.Root.{HasWidened, HasGained, HasVacated};
-ghost use Rattle.pb_propagate.specs.engine.Clauses.Shapes.{IsPlanned};
+ghost use Rattle.pb_propagate.specs.engine.Clauses.Shapes.{IsClause, IsPlanned};
 ghost use Rattle.pb_propagate.specs.engine.Clauses.Runs.{AreReady, CanHold, IsRefitted};
 
 use crate::assignment::Assignment;
@@ -35,12 +35,14 @@ fn left_slot(kept: &[StoredForm], free: &mut Free, count: usize) -> Option<usize
 }
 
 /// How many literals the clause has, or 0 if the form is no clause.
-pub fn clause_size(form: &Normal) -> usize {
-    if form.degree() == 1 {
-        form.len()
-    } else {
-        0
+pub fn clause_size(form: &Normal) -> usize
+    ensures clause { IsClause form.now → result ≡ length form.now.terms }
+    ensures other { (IsClause form.now → ⊥) → result ≡ 0 }
+{
+    if !is_clause(form) {
+        return 0;
     }
+    form.len()
 }
 
 /// A slot without a form: that of a removed form, or a new one. A clause of `count` literals fits into its block, if it has

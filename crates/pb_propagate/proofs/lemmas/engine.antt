@@ -1,4 +1,5 @@
 -- Lemmas of propagation.
+pub mod Chains
 pub mod Advances
 pub mod Assumed
 pub mod Bounds

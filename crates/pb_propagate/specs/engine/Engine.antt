@@ -14,3 +14,4 @@ pub mod Denial
 pub mod Reached
 pub mod Slots
 pub mod Laws
+pub mod Free

@@ -35,6 +35,13 @@ impl Model for Blocks {
     ghost invariant = { λ b. AreBlocks b.words.items b.starts.items b.rooms.items };
 }
 
+/// A clause as it is read: its search and its literals.
+#[derive(Clone, Copy)]
+pub struct Clause<'a> {
+    pub search: Search,
+    pub literals: &'a [u32],
+}
+
 // Makes the common block, if there is no slot.
 fn begin(words: &mut Vec<u32>, starts: &[u32]) -> Result<(), AllocError>
     ensures first { OnOk result (length starts.now ≡ 0 → (length words.new.items ≡ 7) ×
@@ -148,15 +155,22 @@ impl Blocks {
         &self.words[start + 7..start + 7 + count]
     }
 
-    /// The search in the clause of a slot.
-    pub fn search(&self, slot: usize) -> Search
+    /// The clause of a slot with its search. What precedes the literals is read as one slice.
+    pub fn read(&self, slot: usize) -> Clause<'_>
         requires { slot < length self.now.literals }
-        ensures { result ≡ search_at self.now.searches slot }
+        ensures search { result.search ≡ search_at self.now.searches slot }
+        ensures literals { result.literals.now ≡ list_at self.now.literals slot }
+        ensures small { length result.literals.now < 2 ^ 32 }
     {
         let start = self.starts[slot] as usize;
-        Search {
-            position: self.words[start + 4] as usize,
-            passed: self.words[start + 5] as usize,
+        let header = &self.words[start..start + 7];
+        let count = header[6] as usize;
+        Clause {
+            search: Search {
+                position: header[4] as usize,
+                passed: header[5] as usize,
+            },
+            literals: &self.words[start + 7..start + 7 + count],
         }
     }
 
@@ -234,7 +248,9 @@ impl Blocks {
     }
 
     /// How many literals the block of a slot has room for.
-    pub fn room(&self, slot: usize) -> usize {
+    pub fn room(&self, slot: usize) -> usize
+        ensures { result ≡ number_at self.now.rooms slot }
+    {
         match self.rooms.get(slot) {
             Some(room) => *room as usize,
             None => 0,

@@ -133,9 +133,10 @@ fn search_clause(
     ensures rising { visits.old ≤ visits.new }
 {
     let slot = watch / 2;
-    let from = clauses.blocks.search(slot);
+    let clause = clauses.blocks.read(slot);
+    let from = clause.search;
+    let literals = clause.literals;
     note(&mut clauses.moved, slot, from.passed)?;
-    let literals = clauses.blocks.literals(slot);
     let stop = from.advance(literals, other, assignment, visits);
     if stop.passed >= literals.len() {
         clauses.blocks.seek(slot, stop);

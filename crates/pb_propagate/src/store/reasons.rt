@@ -1,6 +1,6 @@
 //! A form goes: the literals that it has forced need other reasons.
 
-ghost use Rattle.std.specs.Prelude.{◌≡◌, ℕ, ◌*◌, ◌^◌, ◌<◌, [], true, All, length, slice_index_or};
+ghost use Rattle.std.specs.Prelude.{◌≡◌, ℕ, ◌*◌, ◌^◌, ◌<◌, [], true, length, slice_index_or};
 ghost use Rattle.pb_propagate.specs.declared.term.Term.{Term};
 ghost use Rattle.pb_propagate.specs.engine.Engine.Lists.{HaveReasons, IsDue};
 ghost use Rattle.pb_propagate.specs.engine.Engine.Counts.{place};
@@ -8,18 +8,18 @@ ghost use Rattle.pb_propagate.specs.engine.Engine.Fields.{shapes_of, IsSound};
 ghost use Rattle.pb_propagate.specs.engine.Engine.Links.{terms_at};
 ghost use Rattle.pb_propagate.specs.engine.Engine.Root.{HasOtherReasons, IsNeedless};
 ghost use Rattle.pb_propagate.specs.engine.Clauses.Runs.{AreReady};
-ghost use Rattle.pb_propagate.specs.engine.Clauses.Shapes.{AreJoined, clauses_of, all_of, literal_at};
+ghost use Rattle.pb_propagate.specs.engine.Clauses.Shapes.{AreJoined, clauses_of, all_of};
 
 use crate::assignment::Assignment;
 use crate::clauses::Clauses;
+use crate::clauses::reasons::replace_by_literals;
 use crate::store::Store;
 use crate::store::units::other_unit;
-use crate::walk::literal_of;
 use pb_normal::NumberedLiteral;
 
-// Gives a literal whose reason is the form of a slot a unit as its reason, if another slot has one. Returns whether the
-// literal does not need the form.
-fn replace_reason(
+/// Gives a literal whose reason is the form of a slot a unit as its reason, if another slot has one. Returns whether the
+/// literal does not need the form.
+pub fn replace_reason(
     store: &Store,
     units: &[usize],
     assignment: &mut Assignment,
@@ -40,29 +40,6 @@ fn replace_reason(
         return false;
     };
     assignment.explain(literal.variable, unit);
-    true
-}
-
-// The same for each literal of a clause, up to one that needs the clause.
-fn replace_by_codes(
-    store: &Store,
-    units: &[usize],
-    assignment: &mut Assignment,
-    slot: usize,
-    codes: &[u32],
-) -> bool
-    requires inside { All (λ x. x < 4 * length assignment.old.values.items) codes.now }
-    ensures reasons { HasOtherReasons (shapes_of store.now.stored.items) slot
-        assignment.old assignment.new }
-    ensures needless { result ≡ true → (k d : ℕ) → k < length codes.now →
-        IsDue slot assignment.new.list.items assignment.new.reasons.items
-        (literal_at (slice_index_or codes.now k d)) → ⊥ }
-{
-    'literals: for i in 0..codes.len() {
-        if !replace_reason(store, units, assignment, slot, literal_of(codes[i])) {
-            return false;
-        }
-    }
     true
 }
 
@@ -115,7 +92,7 @@ pub fn replace_reasons(
         IsNeedless (all_of store.now clauses.now) slot assignment.new }
 {
     if clauses.is_filled(slot) {
-        return replace_by_codes(store, units, assignment, slot, clauses.codes(slot));
+        return replace_by_literals(clauses, store, units, assignment, slot);
     }
     replace_by_terms(store, units, assignment, slot)
 }

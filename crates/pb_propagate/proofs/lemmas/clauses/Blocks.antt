@@ -43,7 +43,7 @@ table-push n f g each = ext_get_or (g n) (table (n + 1) g) (table n f ++ (g n �
 slice-length : (ws : List ℕ) (a n : ℕ) → a + n ≤ length ws → length (take n (drop a ws)) ≡ n
 slice-length ws a n h = length-take-le n (drop a ws) (omega (arith, h, length-drop a ws))
 
-slice-at : (ws : List ℕ) (a n k : ℕ) → k < n → get_or (take n (drop a ws)) k 0 ≡ get_or ws (a + k) 0
+pub slice-at : (ws : List ℕ) (a n k : ℕ) → k < n → get_or (take n (drop a ws)) k 0 ≡ get_or ws (a + k) 0
 slice-at ws a n k h = get_or-take n (drop a ws) k 0 h ∙ get_or-drop a ws k 0
 
 pub slice-is : (ws : List ℕ) (a : ℕ) (xs : List ℕ) → a + length xs ≤ length ws → ((k : ℕ) → k < length xs → get_or ws (a + k) 0 ≡ get_or xs k 0) → take (length xs) (drop a ws) ≡ xs

@@ -9,7 +9,5 @@ returns-clause-needless c = λ yes.
 
 pub returns-then-is_filled-clause-needless : goal.returns-then-is_filled-clause-needless
 returns-then-is_filled-clause-needless c = λ yes.
-    let next = c.replace_by_codes.ensures in
-    let a = c.replace_by_codes.new.assignment in
-    let free = subst (λ (xs : List ℕ). (k d : ℕ) → k < length xs → IsDue c.args.slot a.list.items a.reasons.items (literal_at (get_or xs k d)) → ⊥) c.codes.ensures (next.needless yes) in
-    needless-codes c.args.store.now c.args.clauses.now c.args.slot a c.requires.slot (c.is_filled.ensures.yes c.if-is_filled.true) (next.reasons.reasoned (clauses_of c.args.clauses.now) c.requires.joined c.requires.reasoned) free
+    let next = c.replace_by_literals.ensures in
+    needless-codes c.args.store.now c.args.clauses.now c.args.slot c.replace_by_literals.new.assignment c.requires.slot (c.is_filled.ensures.yes c.if-is_filled.true) (next.reasons.reasoned (clauses_of c.args.clauses.now) c.requires.joined c.requires.reasoned) (next.needless yes)

@@ -1,5 +1,5 @@
 use Rattle.pb_propagate.proofs.Common.{ℕ, ◌<◌, get_or, literal_at, shapes_of, IsDue, HasOtherReasons}
-use Rattle.pb_propagate.proofs.store.reasons.replace_by_codes.Given as goal
+use Rattle.pb_propagate.proofs.clauses.reasons.replace_by_codes.Given as goal
 
 abbrev pub invariant-literals : goal.invariant-literals
 invariant-literals l = record {

@@ -1,7 +1,7 @@
 use Rattle.pb_propagate.proofs.Common.{◌∙◌, ◌≡◌, ap, arith, Bool, get_or, Global, inl, inr, length, subst, sym, Vec, Option, cases_eq, get_or_default}
 use Rattle.pb_propagate.proofs.Common.{NumberedLiteral, literal_at, shapes_of, IsDue}
 use Rattle.pb_propagate.proofs.lemmas.root.Replaced.{same-reasons, other-then}
-use Rattle.pb_propagate.proofs.store.reasons.replace_by_codes.Goals as goal
+use Rattle.pb_propagate.proofs.clauses.reasons.replace_by_codes.Goals as goal
 
 pub literals-init : goal.literals-init
 literals-init c = record {

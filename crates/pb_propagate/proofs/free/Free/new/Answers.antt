@@ -1,0 +1,7 @@
+use Rattle.pb_propagate.proofs.Common.{[], subst, sym}
+use Rattle.pb_propagate.proofs.lemmas.engine.Chains.{same-everywhere}
+use Rattle.pb_propagate.specs.engine.Engine.Free.{ended, IsChain, nobody}
+use Rattle.pb_propagate.proofs.free.Free.new.Goals as goal
+
+pub returns : goal.returns
+returns c = λ size. subst (λ n. IsChain c.new-before.result.items n []) (sym (same-everywhere 65 size nobody)) ended

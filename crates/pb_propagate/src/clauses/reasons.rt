@@ -1,0 +1,65 @@
+//! A clause goes: the literals that it has forced need other reasons. No visit is counted.
+
+ghost use Rattle.std.specs.Prelude.{◌≡◌, ℕ, ◌*◌, ◌<◌, true, All, length, slice_index_or};
+ghost use Rattle.pb_propagate.specs.engine.Engine.Lists.{IsDue};
+ghost use Rattle.pb_propagate.specs.engine.Engine.Fields.{shapes_of};
+ghost use Rattle.pb_propagate.specs.engine.Engine.Root.{HasOtherReasons};
+ghost use Rattle.pb_propagate.specs.engine.Clauses.Links.{list_at};
+ghost use Rattle.pb_propagate.specs.engine.Clauses.Runs.{AreReady};
+ghost use Rattle.pb_propagate.specs.engine.Clauses.Shapes.{clauses_of, literal_at};
+
+use crate::assignment::Assignment;
+use crate::clauses::Clauses;
+use crate::store::Store;
+use crate::store::reasons::replace_reason;
+use crate::walk::literal_of;
+
+// Gives each literal whose reason is the clause of a slot another reason, up to one that needs the clause.
+fn replace_by_codes(
+    store: &Store,
+    units: &[usize],
+    assignment: &mut Assignment,
+    slot: usize,
+    codes: &[u32],
+) -> bool
+    requires inside { All (λ x. x < 4 * length assignment.old.values.items) codes.now }
+    ensures reasons { HasOtherReasons (shapes_of store.now.stored.items) slot
+        assignment.old assignment.new }
+    ensures needless { result ≡ true → (k d : ℕ) → k < length codes.now →
+        IsDue slot assignment.new.list.items assignment.new.reasons.items
+        (literal_at (slice_index_or codes.now k d)) → ⊥ }
+{
+    'literals: for i in 0..codes.len() {
+        if !replace_reason(store, units, assignment, slot, literal_of(codes[i])) {
+            return false;
+        }
+    }
+    true
+}
+
+/// Gives each literal whose reason is the clause of a slot another reason. Returns false if one has no other.
+pub fn replace_by_literals(
+    clauses: &Clauses,
+    store: &Store,
+    units: &[usize],
+    assignment: &mut Assignment,
+    slot: usize,
+) -> bool
+    requires ready { AreReady clauses.now }
+    requires slot { slot < length clauses.now.blocks.literals }
+    requires widths { length clauses.now.lists.items ≡ 4 * length assignment.old.values.items }
+    ensures reasons { HasOtherReasons (shapes_of store.now.stored.items) slot
+        assignment.old assignment.new }
+    ensures needless { result ≡ true → (k d : ℕ) →
+        k < length (list_at (clauses_of clauses.now) slot) →
+        IsDue slot assignment.new.list.items assignment.new.reasons.items
+        (literal_at (slice_index_or (list_at (clauses_of clauses.now) slot) k d)) → ⊥ }
+{
+    replace_by_codes(
+        store,
+        units,
+        assignment,
+        slot,
+        clauses.blocks.literals(slot),
+    )
+}
