@@ -181,7 +181,7 @@ impl<M: Machine> Feeder<M> {
                 event: None,
             });
         }
-        let mut used: usize = 0;
+        let mut used = self.feed_body(piece);
         while used < piece.len() {
             let fed = self.feed_statement(&piece[used..]);
             used += fed.used;
