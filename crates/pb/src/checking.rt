@@ -4,12 +4,12 @@ ghost use Rattle.std.specs.Prelude.{IfSome, ◌<◌};
 
 use crate::explaining::explained_over;
 use crate::failure::Failure;
-use crate::output::{CAPACITY, flushed, keys_of, unit_of};
+use crate::output::{flushed, keys_of, read_buffer, unit_of, write_buffer};
 use crate::until::UntilFault;
 use crate::watching::{Asked, Watching};
 use pb_text::{Limits, Over};
 use pb_tool::{Input, ToolFault, Unwatched, Watch, check_watched};
-use std::io::{self, BufReader, BufWriter, Read, Write};
+use std::io::{self, Read, Write};
 use std::random::RandomSource;
 use std::time::Clock;
 
@@ -29,13 +29,8 @@ where
     E: Write,
     requires { IfSome longest (λ n. 0 < n) }
 {
-    let Ok(mut out) = BufWriter::with_capacity(
-        rt.alloc(),
-        CAPACITY,
-        UntilFault::new(io::writer(rt)),
-    ) else {
-        return Err(Failure::from(ToolFault::Memory(Input::Instance)));
-    };
+    let writer = UntilFault::new(io::writer(rt));
+    let mut out = write_buffer(rt.alloc(), writer, Input::Instance)?;
     if !asked.stats && !asked.progress {
         let done = check_for(rt, texts, &mut out, &mut Unwatched, longest, limits, asked);
         return ended(done, &mut out);
@@ -100,12 +95,8 @@ pub(crate) fn check_over<
     requires { IfSome longest (λ n. 0 < n) }
 {
     let (instance, proof) = texts;
-    let Ok(instance) = BufReader::with_capacity(rt.alloc(), CAPACITY, instance) else {
-        return Err(ToolFault::Memory(Input::Instance));
-    };
-    let Ok(proof) = BufReader::with_capacity(rt.alloc(), CAPACITY, proof) else {
-        return Err(ToolFault::Memory(Input::Proof));
-    };
+    let instance = read_buffer(rt.alloc(), instance, Input::Instance)?;
+    let proof = read_buffer(rt.alloc(), proof, Input::Proof)?;
     let checked = check_watched(
         rt.alloc(),
         keys_of(rt),

@@ -1,13 +1,38 @@
-//! What the commands share: the size of their buffers, the flush at the end, and the keys of the hashes.
+//! What the commands share: their buffers, the flush at the end, and the keys of the hashes.
 
 use pb_normal::HashKeys;
-use pb_tool::ToolFault;
+use pb_tool::{Input, ToolFault};
+use std::alloc::Global;
 use std::hash::RandomState;
-use std::io::Write;
+use std::io::{BufReader, BufWriter, Read, Write};
 use std::random::RandomSource;
 
 /// The size of each buffer, in bytes.
-pub(crate) const CAPACITY: usize = 1 << 16;
+const CAPACITY: usize = 1 << 16;
+
+/// A buffer over the reader of an input.
+pub(crate) fn read_buffer<I: Read + Drop>(
+    alloc: Global,
+    reader: I,
+    input: Input,
+) -> Result<BufReader<I>, ToolFault> {
+    match BufReader::with_capacity(alloc, CAPACITY, reader) {
+        Ok(reader) => Ok(reader),
+        Err(_) => Err(ToolFault::Memory(input)),
+    }
+}
+
+/// A buffer over a writer. If there is no memory for it, the fault names the input.
+pub(crate) fn write_buffer<O: Write + Drop>(
+    alloc: Global,
+    writer: O,
+    input: Input,
+) -> Result<BufWriter<O>, ToolFault> {
+    match BufWriter::with_capacity(alloc, CAPACITY, writer) {
+        Ok(writer) => Ok(writer),
+        Err(_) => Err(ToolFault::Memory(input)),
+    }
+}
 
 /// The result without its value.
 pub(crate) fn unit_of<T: Drop>(done: Result<T, ToolFault>) -> Result<(), ToolFault> {

@@ -2,7 +2,7 @@
 
 ghost use Rattle.std.specs.Prelude.{IfSome, ◌<◌};
 
-use crate::output::{CAPACITY, flushed, keys_of};
+use crate::output::{flushed, keys_of, read_buffer, write_buffer};
 use crate::tied::{Shared, Tied};
 use crate::until::UntilFault;
 use crate::visible::Visible;
@@ -10,7 +10,7 @@ use pb_text::{Limits, Over};
 use pb_tool::{Input, ToolFault, show, tidy_with_hasher};
 use std::alloc::Global;
 use std::cell::RefCell;
-use std::io::{self, BufReader, BufWriter, Read, Write};
+use std::io::{self, Read, Write};
 use std::random::RandomSource;
 
 /// Shows the input of a reader. What was written is flushed before more is read. On a terminal control bytes are made
@@ -26,13 +26,8 @@ pub(crate) fn show_over<I: Read + Drop, O: Write + Drop>(
     requires { IfSome longest (λ n. 0 < n) }
 {
     let out = Visible::new(UntilFault::new(out), on_terminal);
-    let out = match BufWriter::with_capacity(alloc, CAPACITY, out) {
-        Ok(out) => RefCell::new(out),
-        Err(_) => return Err(ToolFault::Memory(Input::File)),
-    };
-    let Ok(input) = BufReader::with_capacity(alloc, CAPACITY, Tied::new(input, &out)) else {
-        return Err(ToolFault::Memory(Input::File));
-    };
+    let out = RefCell::new(write_buffer(alloc, out, Input::File)?);
+    let input = read_buffer(alloc, Tied::new(input, &out), Input::File)?;
     let done = show(
         alloc,
         &mut Over::new(input),
@@ -55,12 +50,8 @@ pub(crate) fn tidy_over<R: Print + RandomSource + AllocGlobal, I: Read + Drop>(
     requires { IfSome longest (λ n. 0 < n) }
 {
     let out = Visible::new(UntilFault::new(io::writer(rt)), on_terminal);
-    let Ok(mut out) = BufWriter::with_capacity(rt.alloc(), CAPACITY, out) else {
-        return Err(ToolFault::Memory(Input::File));
-    };
-    let Ok(input) = BufReader::with_capacity(rt.alloc(), CAPACITY, input) else {
-        return Err(ToolFault::Memory(Input::File));
-    };
+    let mut out = write_buffer(rt.alloc(), out, Input::File)?;
+    let input = read_buffer(rt.alloc(), input, Input::File)?;
     let done = tidy_with_hasher(
         rt.alloc(),
         keys_of(rt),

@@ -4,7 +4,7 @@ ghost use Rattle.std.specs.Prelude.{IfSome, ◌<◌};
 
 use crate::both::Both;
 use crate::described::Unread;
-use crate::output::{CAPACITY, flushed, keys_of, unit_of};
+use crate::output::{flushed, keys_of, read_buffer, unit_of, write_buffer};
 use crate::recent::Recent;
 use crate::recorded::{Record, Recorded};
 use crate::tied::{Shared, Tied};
@@ -16,7 +16,7 @@ use pb_text::{Limits, Over, Spanned};
 use pb_tool::{CheckFault, Input, Selection, ToolFault, Unwatched, Watch, check_watched};
 use pb_trace::Trace;
 use std::cell::RefCell;
-use std::io::{self, BufReader, BufWriter, Read, Write};
+use std::io::{self, Read, Write};
 use std::random::RandomSource;
 use std::time::Clock;
 
@@ -117,10 +117,8 @@ where
     V: Watch,
     requires { IfSome longest (λ n. 0 < n) }
 {
-    let out = match BufWriter::with_capacity(rt.alloc(), CAPACITY, out) {
-        Ok(out) => RefCell::new(Recent::new(rt.alloc(), out, selection.last)),
-        Err(_) => return Err(ToolFault::Memory(Input::Instance)),
-    };
+    let out = write_buffer(rt.alloc(), out, Input::Instance)?;
+    let out = RefCell::new(Recent::new(rt.alloc(), out, selection.last));
     let traced = trace_to(rt, texts, &out, selection, longest, limits, watch);
     let mut out = out.into_inner();
     let released = out.release();
@@ -156,12 +154,8 @@ where
     let (instance, proof) = texts;
     let record = RefCell::new(Some(Vec::new(rt.alloc())));
     let instance = Recorded::new(instance, &record);
-    let Ok(instance) = BufReader::with_capacity(rt.alloc(), CAPACITY, instance) else {
-        return Err(ToolFault::Memory(Input::Instance));
-    };
-    let Ok(proof) = BufReader::with_capacity(rt.alloc(), CAPACITY, Tied::new(proof, out)) else {
-        return Err(ToolFault::Memory(Input::Proof));
-    };
+    let instance = read_buffer(rt.alloc(), instance, Input::Instance)?;
+    let proof = read_buffer(rt.alloc(), Tied::new(proof, out), Input::Proof)?;
     let Ok(line) = Vec::with_capacity(rt.alloc(), LINE) else {
         return Err(ToolFault::Memory(Input::Proof));
     };

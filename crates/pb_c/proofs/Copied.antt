@@ -1,6 +1,6 @@
 -- Arrays that are filled element by element.
 use Rattle.pb_c.proofs.Common.{ℕ, ℤ, ◌++◌, ◌+◌, ◌<◌, ◌∙◌, ◌∷◌, ◌≡◌, ◌≤ℤ◌, [], ap, ap₂, arith, Bool, false, length, List, map, negsuc, None, pos, refl}
-use Rattle.pb_c.proofs.Common.{slice_get, Some, sym, take, true, unsigned_abs, set, ints, map-append, take_all, take_more, take_more_set}
+use Rattle.pb_c.proofs.Common.{slice_get, Some, sym, take, true, unsigned_abs, set, ints, map-append, take_more, take_more_set}
 use Rattle.pb_c.proofs.Common.{get_or_from_slice_get, slice_get-get_or, slice_get_within}
 use mir.Val.{bool_byte}
 use Rattle.pb_pieces.specs.Terms.{bit}
@@ -14,11 +14,6 @@ pub copied_more : {X A : Type 0} (f : X → A) (from : List X) (to : List A) (i 
 copied_more {X} {A} f from to i x y inside at is filled =
     take_more_set to i y inside
     ∙ (ap₂ (λ (done : List A) (z : A). done ++ z ∷ []) filled is ∙ (sym (map-append f (take i from) (x ∷ [])) ∙ ap (λ (xs : List X). map f xs) (sym (take_next from i x at))))
-
--- all are copied
-pub copied_all : {X A : Type 0} (f : X → A) (from : List X) (to : List A) (i : ℕ) → i ≡ length from → length to ≡ length from → take i to ≡ map f (take i from) → to ≡ map f from
-copied_all {X} {A} f from to i end same filled =
-    sym (take_all i to (omega (arith, end, same))) ∙ (filled ∙ ap (λ (xs : List X). map f xs) (take_all i from (omega (arith, end))))
 
 -- the values that are copied
 pub positive_is : (z : ℤ) → pos 1 ≤ℤ z → pos (unsigned_abs z) ≡ z

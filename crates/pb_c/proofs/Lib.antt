@@ -1,11 +1,10 @@
 mod Common
 mod Answered
 mod Buffer
-mod CheckerSteps
 mod Claims
 mod Copied
 mod Fed
-mod InstanceSteps
+mod HandleSteps
 mod Joined
-mod ReaderSteps
+mod Machine
 mod Unsat

@@ -1,14 +1,9 @@
 -- Tokens keep the numbers of their names.
-use Rattle.pb_pieces.proofs.Common.{ℕ, ◌++◌, ◌∙◌, ◌∷◌, ◌≡◌, [], ap, append-nil, append_assoc, cond, false, List, map, None, Option, refl, Some, subst}
-use Rattle.pb_pieces.proofs.Common.{sym, true, flat_map-append, map_push, HasNames-push, number_in-append, with_names-push, has_name, HasNames}
+use Rattle.pb_pieces.proofs.Common.{ℕ, ◌++◌, ◌∙◌, ◌∷◌, ◌≡◌, [], ap, append-nil, append_assoc, List, map, None, Option, refl, Some, subst}
+use Rattle.pb_pieces.proofs.Common.{sym, flat_map-append, map_push, HasNames-push, with_names-push, HasNames}
 use Rattle.pb_pieces.proofs.Common.{number_in, with_name, with_names, Adds, AreTokens, name_in, names_of, number_of, HoldTokens, Token}
 use Rattle.pb_pieces.specs.declared.named_tokens.NamedTokens.{NamedTokens}
-
-keeps : (q k : List ℕ) (ks : List (List ℕ)) → has_name ks q ≡ true → number_in (with_name ks k) q ≡ number_in ks q
-keeps q k ks e = elim (has_name ks k) as (λ b. number_in (cond b ks (ks ++ k ∷ [])) q ≡ number_in ks q) [
-  | true ↦ refl
-  | false ↦ number_in-append ks (k ∷ []) q e
-]
+use Rattle.pb_pieces.proofs.Numbers.{keeps}
 
 abbrev pub numbers : List (List ℕ) → List Token → List ℕ
 numbers ks tokens = map (λ t. number_of ks t.name) tokens
@@ -60,15 +55,6 @@ one_named seen tokens t name n old new some h is number holds =
           ∙ ap (λ (x : List (List ℕ)). with_names [] x) (append_assoc seen (names_of tokens) (name ∷ []) ∙ ap (λ (x : List (List ℕ)). seen ++ x) (sym more))));
       named = subst (λ (x : List (List ℕ)). HasNames new.names x) (sym more) (subst (λ (x : List (List ℕ)). HasNames x (names_of tokens ++ name ∷ [])) (sym is) (HasNames-push old.names (names_of tokens) name h.named));
       arrays = subst (λ (x : List ℕ). HoldTokens (tokens ++ t ∷ []) x new.tokens) all holds;
-    }
-
--- no tokens after these
-pub none_after : (seen : List (List ℕ)) (tokens : List Token) (old new : NamedTokens) → AreTokens seen tokens old → new.names ≡ old.names → HoldTokens [] [] new.tokens → AreTokens (seen ++ names_of tokens) [] new
-none_after seen tokens old new h is holds =
-    record {
-      names_are = is ∙ (h.names_are ∙ ap (λ (x : List (List ℕ)). with_names [] x) (sym (append-nil (seen ++ names_of tokens))));
-      named = tt;
-      arrays = holds;
     }
 
 -- at the start nothing was added

@@ -5,7 +5,8 @@ use Rattle.pb_pieces.specs.Flat.{names_of}
 use Rattle.pb_pieces.specs.Terms.{HoldTerms}
 use Rattle.pb_pieces.specs.declared.flat.Named.{Named}
 
-keeps : (q k : List ℕ) (ks : List (List ℕ)) → has_name ks q ≡ true → number_in (with_name ks k) q ≡ number_in ks q
+-- a name that is there keeps its number
+pub keeps : (q k : List ℕ) (ks : List (List ℕ)) → has_name ks q ≡ true → number_in (with_name ks k) q ≡ number_in ks q
 keeps q k ks e = elim (has_name ks k) as (λ b. number_in (cond b ks (ks ++ k ∷ [])) q ≡ number_in ks q) [
   | true ↦ refl
   | false ↦ number_in-append ks (k ∷ []) q e

@@ -2,7 +2,7 @@
 use Rattle.pb_trace.proofs.Common.{ℕ, ◌++◌, ◌+◌, ◌<◌, ◌||◌, ◌∙◌, ◌∷◌, ◌≡◌, ◌≤◌, [], ap, arith, Bool, cond, eq-eqb, Err, false, get_or, inl, inr}
 use Rattle.pb_trace.proofs.Common.{length, List, None, not, Ok, Option, refl, Result, set, Some, subst, suc, sym, true, zero, Contains, MatchOption}
 use Rattle.pb_trace.proofs.Common.{OnOk, cases_Bool, cases_eq, get_or-set_other, get_or-set_same, map-append, Entry, counted, Form, IsRising, total}
-use Rattle.pb_trace.proofs.Common.{opened, AreValues, Begin, Derived, Follows, Forces, free_by, IsBroken, IsSound, Keeps, literal_of, literals, Names}
+use Rattle.pb_trace.proofs.Common.{opened, AreValues, Begin, Derived, Follows, Forces, IsBroken, IsSound, Keeps, literal_of, literals, Names}
 use Rattle.pb_trace.proofs.Common.{Then, true_by, Forced, Over, Stored}
 use Rattle.pb_normal.specs.declared.numbered.NumberedLiteral.{NumberedLiteral}
 use Rattle.pb_normal.specs.meaning.Rules.{on, only}
@@ -33,12 +33,6 @@ or_left false b h = absurd cc
 
 part-push : (list : List Forced) (f : Forced) → IsPart (literals list) (literals (list ++ (f ∷ [])))
 part-push list f v n h = on-push list f v n ∙ or_left (on (literals list) v n) (only f.variable f.negated v n) h
-
-total-same : (p q : ℕ → Bool → Bool) → ((v : ℕ) (n : Bool) → p v n ≡ q v n) → (ts : List Entry) → total p ts ≡ total q ts
-total-same p q e [] = refl
-total-same p q e (t ∷ ts) =
-    let one : counted p t ≡ counted q t = ap (λ b. cond b t.coefficient 0) (e t.variable t.negated) in
-    omega (arith, total-same p q e ts, one)
 
 total-alike : (p q : ℕ → Bool → Bool) (ts : List Entry) → ((t : Entry) → Contains ts t → p t.variable t.negated ≡ q t.variable t.negated) → total p ts ≡ total q ts
 total-alike p q [] e = refl
@@ -89,10 +83,6 @@ same-push list f m ts e rising inside variable negated = total-alike (opened (li
 
     other : (t : Entry) → Contains ts t → (on (literals list) t.variable (not t.negated) || only f.variable f.negated t.variable (not t.negated)) ≡ on (literals list) t.variable (not t.negated)
     other t there = rw (apart t there) (or_false (on (literals list) t.variable (not t.negated)))
-
--- what is open by the values is open by the list
-pub free-total : (values : List (Option Bool)) (list : List Forced) → AreValues values list → (ts : List Entry) → total (free_by values) ts ≡ total (opened (literals list)) ts
-free-total values list are ts = total-same (free_by values) (opened (literals list)) (λ v n. ap not (sym (are v (not n)))) ts
 
 -- the values after a literal is true
 values-push : (values : List (Option Bool)) (list : List Forced) (f : Forced) → get_or values f.variable None ≡ None → f.variable < length values → AreValues values list
@@ -179,13 +169,6 @@ pub forced-same : (old new : Propagation) (f : Forced) (m : ℕ) (ts : List Entr
     → total (opened (literals new.forced.items)) ts ≡ total (opened (literals old.forced.items)) ts
 forced-same old new f m ts e rising inside variable negated (inl same) = rw same refl
 forced-same old new f m ts e rising inside variable negated (inr (unset, within, values, list, conflict)) = rw list (same-push old.forced.items f m ts e rising inside variable negated)
-
--- one more value that is not there
-pub push-none : (values : List (Option Bool)) → ((v : ℕ) → get_or values v None ≡ None) → (v : ℕ) → get_or (values ++ (None ∷ [])) v None ≡ None
-push-none [] none zero = refl
-push-none [] none (suc v) = refl
-push-none (x ∷ xs) none zero = none zero
-push-none (x ∷ xs) none (suc v) = push-none xs (λ w. none (suc w)) v
 
 pub sound-start : (negation : Option Form) (stored : List Stored) (over : Over) (p : Propagation) → ((v : ℕ) → get_or p.values.items v None ≡ None) → p.forced.items ≡ [] → p.conflict ≡ None
     → IsSound negation stored over [] p

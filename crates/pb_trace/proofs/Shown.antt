@@ -8,9 +8,6 @@ use Rattle.pb_normal.specs.meaning.Written.{term_of, linear_of}
 
 -- the texts of list elements, up to one of them
 module _ {A : Type 0} (f : A → List ℕ) where
-  pub texts_none : flat_map f [] ≡ []
-  texts_none = refl
-
   texts_one : (x : A) → flat_map f (x ∷ []) ≡ f x
   texts_one x = flat_map-cons f x [] ∙ append-nil (f x)
 

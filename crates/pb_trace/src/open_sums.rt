@@ -36,7 +36,7 @@ impl OpenSums {
     pub(crate) fn lower(&mut self, found: Use) -> bool {
         match self.margins.get_mut(found.reason.position()) {
             Some(margin) => {
-                *margin = margin.saturating_sub(bounded(found.coefficient));
+                *margin = margin.saturating_sub(to_signed(found.coefficient));
                 *margin < 0
             }
             None => true,
@@ -51,7 +51,7 @@ impl OpenSums {
                 break;
             };
             if let Some(margin) = self.margins.get_mut(found.reason.position()) {
-                *margin = margin.saturating_add(bounded(found.coefficient));
+                *margin = margin.saturating_add(to_signed(found.coefficient));
             }
             at = found.next;
         }
@@ -79,12 +79,12 @@ fn margin_of(form: Option<&Normal>) -> i128 {
         size = size.saturating_add(entry.coefficient);
         largest = largest.max(entry.coefficient);
     }
-    bounded(size)
+    to_signed(size)
         .saturating_sub(form.degree())
-        .saturating_sub(bounded(largest))
+        .saturating_sub(to_signed(largest))
 }
 
 /// A number of at most 127 bits.
-fn bounded(number: u128) -> i128 {
+pub(crate) fn to_signed(number: u128) -> i128 {
     number.min(i128::MAX as u128) as i128
 }

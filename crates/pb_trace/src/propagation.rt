@@ -78,7 +78,7 @@ impl Over {
 
 impl<'a> Base<'a> {
     /// The constraint that a reason names, if it propagates.
-    pub(crate) fn named(self, reason: Reason) -> Option<&'a Normal>
+    pub(crate) fn form_named_by(self, reason: Reason) -> Option<&'a Normal>
         ensures { IfSome result (λ f. NamesOver self.entry reason f.now) }
     {
         match reason {
@@ -271,7 +271,7 @@ impl Propagation {
     fn visit_named(&mut self, base: Base<'_>, reason: Reason) -> Result<(), AllocError>
         ensures { OnOk result (KeepsOver base.entry self.old self.new) }
     {
-        match base.named(reason) {
+        match base.form_named_by(reason) {
             Some(form) => self.visit(form, reason),
             None => Ok(()),
         }

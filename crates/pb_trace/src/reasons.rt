@@ -16,6 +16,7 @@ ghost use Rattle.pb_trace.specs.Derived.{IsShownIn};
 ghost use Rattle.pb_trace.specs.Rejected.{IsUnshown};
 
 use crate::instance_text::InstanceText;
+use crate::open_sums::to_signed;
 use crate::piece::{Derivation, Lines, Piece, Reasons};
 use crate::propagation::Forced;
 use crate::stored::Constraints;
@@ -247,7 +248,7 @@ impl<'a> Scene<'a> {
 }
 
 /// A copy of a form.
-fn copied(form: &Normal) -> Result<Normal, AllocError> {
+fn copy_of(form: &Normal) -> Result<Normal, AllocError> {
     match form.copy() {
         Ok(form) => Ok(form),
         Err(_) => Err(AllocError),
@@ -256,5 +257,5 @@ fn copied(form: &Normal) -> Result<Normal, AllocError> {
 
 /// A number of at most 127 bits.
 fn number(value: u128) -> Piece {
-    Piece::Number(value.min(i128::MAX as u128) as i128)
+    Piece::Number(to_signed(value))
 }

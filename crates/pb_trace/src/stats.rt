@@ -1,8 +1,10 @@
 //! Counts of a check.
 
 ghost use Rattle.std.specs.Prelude.{◌≡◌};
+ghost use Rattle.std.specs.List.{flat_map};
 ghost use Rattle.pb_text.specs.meaning.Writing.{Writes};
-ghost use Rattle.pb_trace.specs.Counted.{no_counts, counted, deletions_of, seen, seen_by, statements_in, stats_bytes, visits_of};
+ghost use Rattle.pb_trace.specs.Counted.{count_line, counted, deletions_of, no_counts, seen};
+ghost use Rattle.pb_trace.specs.Counted.{seen_by, statements_in, stats_bytes, visits_of};
 
 use crate::write::write_counted;
 use pb_proof::Statement;
@@ -69,17 +71,20 @@ impl Stats {
     pub fn write<S: Sink>(&self, out: &mut S) -> Result<(), Failed>
         ensures { Writes S.contents S.faults out.old (stats_bytes self.now) result out.new }
     {
-        write_counted(b"statements", self.statements(), out)?;
-        write_counted(b"pol", self.pol, out)?;
-        write_counted(b"rup", self.rup, out)?;
-        write_counted(b"soli", self.soli, out)?;
-        write_counted(b"solx", self.solx, out)?;
-        write_counted(b"del id", self.delete, out)?;
-        write_counted(b"newest id", self.newest, out)?;
-        write_counted(b"live constraints at the end", self.live, out)?;
-        write_counted(b"live constraints at most", self.most_live, out)?;
-        write_counted(b"visits of propagation", self.visits, out)?;
-        write_counted(b"bytes of the proof", self.bytes, out)
+        let counts: [(&[u8], u64); 11] = [
+            (b"statements", self.statements()),
+            (b"pol", self.pol),
+            (b"rup", self.rup),
+            (b"soli", self.soli),
+            (b"solx", self.solx),
+            (b"del id", self.delete),
+            (b"newest id", self.newest),
+            (b"live constraints at the end", self.live),
+            (b"live constraints at most", self.most_live),
+            (b"visits of propagation", self.visits),
+            (b"bytes of the proof", self.bytes),
+        ];
+        write_counts(&counts, out)
     }
 
     /// Counts a statement by its kind.
@@ -99,6 +104,17 @@ impl Stats {
             | Statement::End => self.others = self.others.saturating_add(1),
         }
     }
+}
+
+/// Writes counts with their names, one a line.
+fn write_counts<S: Sink>(counts: &[(&[u8], u64)], out: &mut S) -> Result<(), Failed>
+    ensures { Writes S.contents S.faults out.old
+        (flat_map (λ c. count_line c.0.now c.1) counts.entry.now) result out.new }
+{
+    for (name, count) in counts {
+        write_counted(name, *count, out)?;
+    }
+    Ok(())
 }
 
 /// How many visits of propagation a statement needed.

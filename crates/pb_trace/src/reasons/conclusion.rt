@@ -101,7 +101,7 @@ impl Scene<'_> {
 
     /// Why the lower bound is not shown: the goal, the named constraint, and what propagates.
     fn say_no_lower(&mut self, id: Option<i64>, goal: &Normal) -> Result<(), AllocError> {
-        self.say(vec![in self.alloc; Piece::Text(b"goal: "), Piece::Form(super::copied(goal)?)]?)?;
+        self.say(vec![in self.alloc; Piece::Text(b"goal: "), Piece::Form(super::copy_of(goal)?)]?)?;
         if let Some(id) = id
             && let Some((found, _)) = self.constraints.find_written(id)
         {

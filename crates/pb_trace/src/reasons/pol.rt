@@ -1,14 +1,14 @@
 //! The words of a rejected `pol`, one after another.
 
 use crate::piece::Piece;
-use crate::reasons::{Scene, copied, number};
+use crate::reasons::{Scene, copy_of, number};
 use pb_normal::{Normal, NormalFault};
 use pb_proof::PolWord;
 use std::alloc::AllocError;
 
 /// What a word puts on the stack.
 #[derive(Drop)]
-enum Made {
+enum Outcome {
     Form(Normal),
     /// No live constraint has the id.
     NoId,
@@ -25,17 +25,17 @@ impl Scene<'_> {
         let mut position = 0usize;
         for word in words {
             position = position.saturating_add(1);
-            match self.made(word, &mut stack)? {
-                Made::Form(form) => {
-                    self.say_word(position, b" -> ", Some(copied(&form)?))?;
+            match self.apply(word, &mut stack)? {
+                Outcome::Form(form) => {
+                    self.say_word(position, b" -> ", Some(copy_of(&form)?))?;
                     stack.push(form)?;
                 }
-                Made::NoId => return self.say_word(position, b" -> no such id", None),
-                Made::Overflow(operands) => {
+                Outcome::NoId => return self.say_word(position, b" -> no such id", None),
+                Outcome::Overflow(operands) => {
                     self.say_word(position, b" -> overflow", None)?;
                     return self.say_operands(operands.as_slice());
                 }
-                Made::Nothing => return Ok(()),
+                Outcome::Nothing => return Ok(()),
             }
         }
         Ok(())
@@ -75,33 +75,33 @@ impl Scene<'_> {
     }
 
     /// What a word puts on the stack, in place of what it takes.
-    fn made(&self, word: &PolWord, stack: &mut Vec<Normal>) -> Result<Made, AllocError> {
+    fn apply(&self, word: &PolWord, stack: &mut Vec<Normal>) -> Result<Outcome, AllocError> {
         match word {
             PolWord::Id(id) => match self.constraints.find_written(*id) {
-                Some((_, form)) => Ok(Made::Form(copied(form)?)),
-                None => Ok(Made::NoId),
+                Some((_, form)) => Ok(Outcome::Form(copy_of(form)?)),
+                None => Ok(Outcome::NoId),
             },
             PolWord::Axiom(literal) => match self.names.number_of(literal.name.as_str()) {
                 Some(number) => self.axiom(number, literal.negated),
-                None => Ok(Made::Nothing),
+                None => Ok(Outcome::Nothing),
             },
             PolWord::Add => match (stack.pop(), stack.pop()) {
                 (Some(right), Some(left)) => self.sum(&left, &right),
-                _ => Ok(Made::Nothing),
+                _ => Ok(Outcome::Nothing),
             },
             _ => match stack.pop() {
-                Some(form) => self.changed(word, &form),
-                None => Ok(Made::Nothing),
+                Some(form) => self.apply_to_one(word, &form),
+                None => Ok(Outcome::Nothing),
             },
         }
     }
 
-    fn axiom(&self, number: usize, negated: bool) -> Result<Made, AllocError> {
+    fn axiom(&self, number: usize, negated: bool) -> Result<Outcome, AllocError> {
         let form = Normal::axiom(self.alloc, number, negated);
         self.result(form, Vec::new(self.alloc))
     }
 
-    fn sum(&self, left: &Normal, right: &Normal) -> Result<Made, AllocError> {
+    fn sum(&self, left: &Normal, right: &Normal) -> Result<Outcome, AllocError> {
         let operands = vec![in self.alloc;
             (left.size(), left.degree()),
             (right.size(), right.degree()),
@@ -110,7 +110,7 @@ impl Scene<'_> {
     }
 
     /// What a word makes of one form.
-    fn changed(&self, word: &PolWord, form: &Normal) -> Result<Made, AllocError> {
+    fn apply_to_one(&self, word: &PolWord, form: &Normal) -> Result<Outcome, AllocError> {
         let operands = vec![in self.alloc; (form.size(), form.degree())]?;
         match word {
             PolWord::Multiply(factor) if *factor >= 1 => self.result(
@@ -124,9 +124,9 @@ impl Scene<'_> {
             PolWord::Saturate => self.result(form.saturate(), operands),
             PolWord::Weaken(name) => match self.names.number_of(name.as_str()) {
                 Some(number) => self.result(form.weaken(number), operands),
-                None => Ok(Made::Nothing),
+                None => Ok(Outcome::Nothing),
             },
-            _ => Ok(Made::Nothing),
+            _ => Ok(Outcome::Nothing),
         }
     }
 
@@ -134,10 +134,10 @@ impl Scene<'_> {
         &self,
         form: Result<Normal, NormalFault>,
         operands: Vec<(u128, i128)>,
-    ) -> Result<Made, AllocError> {
+    ) -> Result<Outcome, AllocError> {
         match form {
-            Ok(form) => Ok(Made::Form(form)),
-            Err(NormalFault::Overflow) => Ok(Made::Overflow(operands)),
+            Ok(form) => Ok(Outcome::Form(form)),
+            Err(NormalFault::Overflow) => Ok(Outcome::Overflow(operands)),
             Err(NormalFault::Memory) => Err(AllocError),
         }
     }

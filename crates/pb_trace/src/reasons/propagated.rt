@@ -17,25 +17,25 @@ impl<'a> Scene<'a> {
     pub(crate) fn not_implied(mut self, goal: &Linear) -> Result<Reasons, AllocError>
         ensures { IfOk result (IsShownIn self.entry goal.now) }
     {
-        match self.derived_written(goal)? {
+        match self.derivation_of_written(goal)? {
             Some(derivation) => Ok(Reasons::Shown(None, derivation, self.lines)),
             None => Ok(Reasons::Nothing),
         }
     }
 
     /// What the negation of a written goal propagates, if the goal is within the limits and does not always hold.
-    fn derived_written(&mut self, goal: &Linear) -> Result<Option<Derivation>, AllocError>
+    fn derivation_of_written(&mut self, goal: &Linear) -> Result<Option<Derivation>, AllocError>
         ensures { IfOk result (IsDerivationIn self.old goal.now) }
     {
         let Some(form) = self.form_of(goal)? else {
             return Ok(None);
         };
-        let found = self.derived(&form)?;
+        let found = self.derivation_of(&form)?;
         Ok(found)
     }
 
     /// What the negation of a goal propagates, if the goal does not always hold. Lines say what came nearest to a conflict.
-    fn derived(&mut self, goal: &Normal) -> Result<Option<Derivation>, AllocError>
+    fn derivation_of(&mut self, goal: &Normal) -> Result<Option<Derivation>, AllocError>
         ensures { IfOk result (IsDerivationBy goal.now self.old.constraints.now) }
     {
         if goal.degree() < 1 {
@@ -92,7 +92,7 @@ impl<'a> Scene<'a> {
     /// Why propagation does not show a goal, after the lines so far.
     pub(crate) fn say_not_shown(&mut self, goal: &Normal) -> Result<(), AllocError> {
         let before = std::mem::replace(&mut self.lines, Lines::new(self.alloc));
-        match self.derived(goal)? {
+        match self.derivation_of(goal)? {
             Some(derivation) => self.shown = Some((before, derivation)),
             None => self.lines = before,
         }
@@ -120,7 +120,7 @@ impl<'a> Scene<'a> {
         let Ok(negation) = goal.negation() else {
             return Err(AllocError);
         };
-        let propagation = self.propagated(&negation, Over::Live)?;
+        let propagation = self.propagation_of(&negation, Over::Live)?;
         Ok(propagation.conflict.is_some())
     }
 
@@ -137,7 +137,7 @@ impl<'a> Scene<'a> {
     }
 
     /// What propagates from the negation of a goal.
-    fn propagated(&self, negation: &Normal, over: Over) -> Result<Propagation, AllocError> {
+    fn propagation_of(&self, negation: &Normal, over: Over) -> Result<Propagation, AllocError> {
         let base = self.base_of(negation, over);
         let variables = self.names.len();
         let uses = base.uses(self.alloc, variables)?;
@@ -246,12 +246,15 @@ impl<'a> Scene<'a> {
         {
             return Ok(());
         }
-        let propagation = self.propagated(negation, Over::All)?;
+        let propagation = self.propagation_of(negation, Over::All)?;
         let Some(conflict) = propagation.conflict else {
             return self.say_text(b"not implied either with the deleted constraints back");
         };
         self.say_text(b"implied with these deleted constraints back")?;
-        for id in self.used(negation, &propagation, conflict)?.as_slice() {
+        for id in self
+            .ids_needed(negation, &propagation, conflict)?
+            .as_slice()
+        {
             if let Some(stored) = self.constraints.find(*id)
                 && !stored.is_live
             {
@@ -262,7 +265,7 @@ impl<'a> Scene<'a> {
     }
 
     /// The ids of the constraints that a conflict needs, the last one first.
-    fn used(
+    fn ids_needed(
         &self,
         negation: &Normal,
         propagation: &Propagation,

@@ -1,23 +1,11 @@
 -- `empty` is null, and owns nothing.
 use Rattle.pb_c.proofs.Common.{◌++◌, ◌∷◌, ◌≡◌, [], List, None, Option, refl, subst, sym, one, leaves, proved_at, both}
-use mir.Val.{Val}
-use base.Logic.{SProp, ent, emp, id⊢}
-use base.Fml.{ftrue}
-use prog.Wp.{WpFn}
-use types.Kit.{‵, raw, ◌⊛◌, ◌$◌, ◌∵◌, !, qed, by, move, keep, split, fsplit, fjoin, suffices, use0, rewrite}
-use types.Run.{lit, no_more, and_then, returns, enter}
-use types.ByLocal.{alloc_all, pass_all, free_all, look_at, get, sets}
-use types.Part.{agg}
-use contract.Monad.{fact, fact_i}
-use contract.Running.{tables}
-use denote.Exit.{yes}
-use denote.RattleType.{owns}
-use denote.Signature.{types_at, plain}
-use denote.RawPtr.{null_ptr}
-use denote.Steps.{nothing}
-use denote.Param.{layout}
-use denote.Triple.Walked.{Stays, stay_dropped, walk_of, Goes-dropped}
-use Rattle.pb_c.proofs.CheckerSteps.{R, Z, LZ, held_good, held_in}
+use Rattle.pb_c.proofs.Machine.{agg, !, alloc_all, and_then, by, emp, ent, enter, fact, fact_i, fjoin, free_all, fsplit, ftrue, get, Goes-dropped}
+use Rattle.pb_c.proofs.Machine.{id⊢, keep, layout, lit, look_at, move, no_more, nothing, null_ptr, owns, pass_all, plain, qed, raw, returns, rewrite}
+use Rattle.pb_c.proofs.Machine.{sets, split, SProp, stay_dropped, Stays, suffices, tables, types_at, use0, Val, walk_of, WpFn, yes, ‵, ◌$◌, ◌∵◌, ◌⊛◌}
+use Rattle.pb_c.proofs.HandleSteps.{Z, LZ, held_good, held_in}
+use Rattle.pb_pieces.specs.contracts.session.Session.{the_row as R}
+use Rattle.pb_c.specs.contracts.handle.CheckerHandle.{the_type as named}
 use Rattle.pb_c.specs.contracts.handle.CheckerHandle.empty.{ended, clauses}
 use Rattle.pb_c.specs.contracts.handle.CheckerHandle.empty.Key.{name as #self}
 use Rattle.pb_c.proofs.handle.CheckerHandle.empty.Statement.{statement}
@@ -35,6 +23,6 @@ empty_spec 𝓤 𝓛 𝓜 𝓡 wired =
     suffices ! (Run (h.0 ∷ [])) (subst (λ (us : List Val). ent 𝓤 (Run (h.0 ∷ [])) (Run us)) (sym (λ i. h.1 i ++ [])) (id⊢ 𝓤 (Run (h.0 ∷ [])))) $
     enter ! 𝓣.C 𝓣.Λ fn (h.0 ∷ []) Post $ alloc_all ! (λ l. pass_all ! refl (h.2, tt) $
     sets ! (agg ! (and_then ! (lit ! tt) (and_then ! (get ! refl) (no_more !)))) refl (held_good null_ptr h.0 h.2) $
-    nothing ! $ held_in ! null_ptr h.0 a None $
+    nothing ! $ held_in named.name R ! null_ptr h.0 a None $
     use0 𝓛 (raw (fact 𝓤 (◌≡◌ {A = Option R.Denot} None None))) (fact_i 𝓤 (◌≡◌ {A = Option R.Denot} None None) (emp 𝓤) refl) $ nothing ! $ nothing ! $ fjoin ! $
     returns ! (look_at ! 0 refl) $ free_all ! refl $ keep ! (4 ∷ 0 ∷ 2 ∷ 1 ∷ []) $ by ! (leaves 𝓛 En hs c z (both (denote.RawPtr.ptr_val null_ptr) h.0) (record { at = null_ptr; alloc = a; value = None }) (tt, tt) (tt, tt))))

@@ -1,22 +1,12 @@
 -- `of_loose` keeps the pointer and what it owns.
 use Rattle.pb_c.proofs.Common.{◌++◌, ◌∷◌, ◌≡◌, [], List, refl, Some, subst, sym, leaves, proved_at, ghosts, both, Loose, loose_good, loose_out}
-use mir.Val.{Val, vptr}
-use base.Logic.{SProp, ent, emp, id⊢}
-use base.Fml.{ftrue}
-use prog.Wp.{WpFn}
-use types.Kit.{‵, raw, ◌⊛◌, ◌$◌, ◌∵◌, !, qed, by, move, keep, split, fsplit, fjoin, suffices, use0}
-use types.Run.{stop, fld, of_opd, no_more, and_then, returns, enter}
-use types.ByLocal.{alloc_all, pass_all, free_all, look_at, get, get_in, sets}
-use types.Part.{agg, sub, whole}
-use contract.Monad.{fact, fact_i}
-use contract.Running.{tables}
-use denote.Exit.{yes}
-use denote.RattleType.{RattleType, owns}
-use denote.Signature.{types_at, plain}
-use denote.RawPtr.{block_ptr}
-use denote.Steps.{nothing}
-use denote.Triple.Walked.{Stays, stay_dropped, walk_of, Goes-dropped}
-use Rattle.pb_c.proofs.ReaderSteps.{R, Z, LZ, held_good, held_in}
+use Rattle.pb_c.proofs.Machine.{agg, !, alloc_all, and_then, block_ptr, by, emp, ent, enter, fact, fact_i, fjoin, fld, free_all, fsplit, ftrue, get}
+use Rattle.pb_c.proofs.Machine.{get_in, Goes-dropped, id⊢, keep, look_at, move, no_more, nothing, of_opd, owns, pass_all, plain, qed, RattleType, raw}
+use Rattle.pb_c.proofs.Machine.{returns, sets, split, SProp, stay_dropped, Stays, stop, sub, suffices, tables, types_at, use0, Val, vptr, walk_of}
+use Rattle.pb_c.proofs.Machine.{whole, WpFn, yes, ‵, ◌$◌, ◌∵◌, ◌⊛◌}
+use Rattle.pb_c.proofs.HandleSteps.{Z, LZ, held_good, held_in}
+use Rattle.pb_pieces.specs.contracts.reader.Reader.{the_row as R}
+use Rattle.pb_c.specs.contracts.reader_handle.ReaderHandle.{the_type as named}
 use Rattle.pb_c.specs.contracts.reader_handle.ReaderHandle.of_loose.{ended, clauses}
 use Rattle.pb_c.specs.contracts.reader_handle.ReaderHandle.of_loose.Key.{name as #self}
 use Rattle.pb_c.proofs.reader_handle.ReaderHandle.of_loose.Statement.{statement}
@@ -36,6 +26,6 @@ of_loose_spec 𝓤 𝓛 𝓜 𝓡 wired =
     sets ! (of_opd ! (get_in ! (fld ! refl (stop !)) (sub ! 1 refl (whole !)))) refl fits $
     sets ! (of_opd ! (get ! refl)) refl (tt, tt) $
     sets ! (agg ! (and_then ! (get ! refl) (and_then ! (get ! refl) (no_more !)))) refl (held_good (block_ptr b o) h fits) $
-    held_in ! (block_ptr b o) h a (Some v.value) $
+    held_in named.name R ! (block_ptr b o) h a (Some v.value) $
     use0 𝓛 (raw (fact 𝓤 (Some v.value ≡ Some v.value))) (fact_i 𝓤 (Some v.value ≡ Some v.value) (emp 𝓤) refl) $ nothing ! $ nothing ! $ fjoin ! $
     returns ! (look_at ! 0 refl) $ free_all ! refl $ keep ! (4 ∷ 0 ∷ 2 ∷ 1 ∷ []) $ by ! (leaves 𝓛 En hs c z (both (vptr b o) h) (record { at = block_ptr b o; alloc = a; value = Some v.value }) (tt, tt) (tt, tt)))))
