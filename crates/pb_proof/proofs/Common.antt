@@ -120,7 +120,6 @@ pub use Rattle.pb_proof.specs.engine.Line.ConclusionState.{conclusion_value, Con
 pub use Rattle.pb_proof.specs.engine.Line.ConclusionState.{spent}
 pub use Rattle.pb_proof.specs.engine.Line.Count.{ActionFits, count_automaton, count_last, counting, CountState, IsCountInOrder}
 pub use Rattle.pb_proof.specs.engine.Line.Ended.{ended_lines}
-pub use Rattle.pb_proof.specs.engine.Line.IdPrefix.{IsSpacedId}
 pub use Rattle.pb_proof.specs.engine.Line.Ids.{before, begins_id, ids_at, ids_automaton, ids_first, ids_last, IdsState, IsIdsInOrder, keeps, step}
 pub use Rattle.pb_proof.specs.engine.Line.Literals.{adds, flushed, is_begun, is_more, IsLiteralsInOrder, literal, literals_at, literals_automaton}
 pub use Rattle.pb_proof.specs.engine.Line.Literals.{literals_first, literals_last, LiteralsState, SpellsJoined}

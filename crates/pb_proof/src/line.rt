@@ -5,7 +5,6 @@ pub(crate) mod classes;
 mod conclusion;
 mod delete;
 mod formula;
-mod id_prefix;
 pub(crate) mod pol;
 pub(crate) mod push;
 pub(crate) mod rup;

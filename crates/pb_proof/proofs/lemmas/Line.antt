@@ -2,7 +2,6 @@
 pub mod Asks
 pub mod ByteKinds
 pub mod Ends
-pub mod IdPrefixes
 pub mod Laws
 pub mod Spelled
 pub mod Texts

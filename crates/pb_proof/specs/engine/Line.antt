@@ -7,7 +7,6 @@ pub mod Count
 pub mod Ended
 pub mod Fields
 pub mod Finished
-pub mod IdPrefix
 pub mod Ids
 pub mod Literals
 pub mod Machine
