@@ -24,9 +24,9 @@ impl OpenSums {
     /// Those of what propagates, with no literal followed.
     pub(crate) fn of(base: Base<'_>, alloc: Global) -> Result<OpenSums, AllocError> {
         let mut margins = Vec::with_capacity(alloc, base.constraints.len())?;
-        margins.push(margin_of(base.named(Reason::Negation)))?;
+        margins.push(margin_of(base.form_named_by(Reason::Negation)))?;
         for index in 0..base.constraints.len() {
-            margins.push(margin_of(base.named(Reason::Id(index as u64 + 1))))?;
+            margins.push(margin_of(base.form_named_by(Reason::Id(index as u64 + 1))))?;
         }
         Ok(OpenSums { margins })
     }

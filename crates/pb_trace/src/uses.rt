@@ -40,12 +40,12 @@ impl Base<'_> {
 
     /// How many terms there are in what propagates.
     fn count_terms(self) -> usize {
-        let mut count = match self.named(Reason::Negation) {
+        let mut count = match self.form_named_by(Reason::Negation) {
             Some(form) => form.len(),
             None => 0,
         };
         for index in 0..self.constraints.len() {
-            if let Some(form) = self.named(Reason::Id(index as u64 + 1)) {
+            if let Some(form) = self.form_named_by(Reason::Id(index as u64 + 1)) {
                 count = count.saturating_add(form.len());
             }
         }
@@ -54,7 +54,7 @@ impl Base<'_> {
 
     /// Notes which literals the constraint that a reason names contains.
     fn note_uses(self, uses: &mut Uses, reason: Reason) -> Result<(), AllocError> {
-        if let Some(form) = self.named(reason) {
+        if let Some(form) = self.form_named_by(reason) {
             for entry in form.entries() {
                 uses.push(&entry, reason)?;
             }
