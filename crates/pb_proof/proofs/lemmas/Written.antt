@@ -1,5 +1,5 @@
 -- What is written, in parts.
-use Rattle.pb_proof.proofs.Common.{ℕ, ◌++◌, ◌+◌, ◌-◌, ◌<◌, ◌∙◌, ◌∷◌, ◌≡◌, ◌≤◌, [], ap, append-nil, append_assoc, arith, drop, get_or, length, List}
+use Rattle.pb_proof.proofs.Common.{bounds_word, conclusion_word, ℕ, ◌++◌, ◌+◌, ◌-◌, ◌<◌, ◌∙◌, ◌∷◌, ◌≡◌, ◌≤◌, [], ap, append-nil, append_assoc, arith, drop, get_or, length, List}
 use Rattle.pb_proof.proofs.Common.{refl, suc, sym, take, take-append-drop, drop-cons, drop_all, take_more, Proof, Statement, Conclude, F, Header}
 use Rattle.pb_proof.proofs.Common.{Output, lines, proof_bytes, statement_bytes}
 use Rattle.pb_proof.specs.meaning.Canonical.{listed_bytes}
@@ -95,11 +95,20 @@ lines-ended (x ∷ xs) s ys =
     after [] = refl
     after (y ∷ xs) = refl
 
+-- a conclusion of bounds, and the literals after it
+pub bounds_then : (a b c d x : List ℕ) → (conclusion_word ++ (32 ∷ (bounds_word ++ (32 ∷ (a ++ (b ++ (32 ∷ (c ++ d)))))))) ++ x
+    ≡ conclusion_word ++ (32 ∷ (bounds_word ++ (32 ∷ (a ++ (b ++ (32 ∷ (c ++ (d ++ x))))))))
+bounds_then a b c d x = simp append_assoc
+
 -- the parts of a proof
-pub proof_parts : (v : Proof) → proof_bytes v ≡ (statement_bytes Header ++ (10 ∷ [])) ++ (statement_bytes (F v.count)
-    ++ ((10 ∷ []) ++ (ended_lines v.steps ++ ((statement_bytes Output ++ (10 ∷ [])) ++ (statement_bytes (Conclude v.conclusion) ++ ((10 ∷ []) ++ statement_bytes End))))))
+pub proof_parts : (v : Proof) → proof_bytes v ≡ ((statement_bytes Header ++ (10 ∷ [])) ++ (statement_bytes (F v.count) ++ (10 ∷ [])))
+    ++ (ended_lines v.steps ++ ((statement_bytes Output ++ (10 ∷ [])) ++ (statement_bytes (Conclude v.conclusion) ++ ((10 ∷ []) ++ statement_bytes End))))
 proof_parts v =
-    ap (λ z. statement_bytes Header ++ (10 ∷ z)) (after v.steps ∙ ap (λ z. statement_bytes (F v.count) ++ (10 ∷ z)) (lines-ended v.steps Output (Conclude v.conclusion ∷ End ∷ [])))
+    let rest : List Statement = Output ∷ Conclude v.conclusion ∷ End ∷ [] in
+    ap (λ z. statement_bytes Header ++ (10 ∷ z))
+    (after v.steps
+    ∙ (ap (λ z. statement_bytes (F v.count) ++ (10 ∷ z)) (lines-ended v.steps Output (Conclude v.conclusion ∷ End ∷ []))
+    ∙ sym (append_assoc (statement_bytes (F v.count)) (10 ∷ []) (ended_lines v.steps ++ lines rest))))
   where
     after : (xs : List Statement) → lines (F v.count ∷ (xs ++ Output ∷ Conclude v.conclusion ∷ End ∷ [])) ≡ statement_bytes (F v.count) ++ (10 ∷ lines (xs ++ Output ∷ Conclude v.conclusion ∷ End ∷ []))
     after [] = refl

@@ -1,32 +1,20 @@
-use Rattle.pb_proof.proofs.Common.{refl, part_broke, part_then}
+use Rattle.pb_proof.proofs.Common.{ℕ, ◌++◌, ◌∙◌, ◌∷◌, ◌≡◌, [], ap, List, Option, Some, subst, sym, Literal, Writes, Bounds, Conclude, bound_bytes}
+use Rattle.pb_proof.proofs.Common.{id_shown_bytes, listed_bytes, literal_line, statement_bytes, bounds_word, conclusion_word}
+use Rattle.pb_proof.proofs.lemmas.Written.{bounds_then}
 use Rattle.pb_proof.proofs.write.write_bounds.Goals as goal
 
-pub returns-in_err-write_bytes : goal.returns-in_err-write_bytes
-returns-in_err-write_bytes g c =
-    part_broke g.S.Sink.contents g.S.Sink.faults _ _ _ _ _ _ refl c.from_residual.ensures.0 c.in_err-write_bytes.ensures
-
-pub returns-in_err-write_next_bound : goal.returns-in_err-write_next_bound
-returns-in_err-write_next_bound g c =
-    part_then g.S.Sink.contents g.S.Sink.faults _ _ _ _ _ _ _ refl c.in_ok-write_bytes.ensures
-    (part_broke g.S.Sink.contents g.S.Sink.faults _ _ _ _ _ _ refl c.from_residual-in_err-write_next_bound.ensures.0 c.in_err-write_next_bound.ensures)
-
-pub returns-in_err-write_id_shown : goal.returns-in_err-write_id_shown
-returns-in_err-write_id_shown g c =
-    part_then g.S.Sink.contents g.S.Sink.faults _ _ _ _ _ _ _ refl c.in_ok-write_bytes.ensures
-    (part_then g.S.Sink.contents g.S.Sink.faults _ _ _ _ _ _ _ refl c.in_ok-write_next_bound.ensures
-    (part_broke g.S.Sink.contents g.S.Sink.faults _ _ _ _ _ _ refl c.from_residual-in_err-write_id_shown.ensures.0 c.in_err-write_id_shown.ensures))
-
-pub returns-in_err-write_next_bound-2 : goal.returns-in_err-write_next_bound-2
-returns-in_err-write_next_bound-2 g c =
-    part_then g.S.Sink.contents g.S.Sink.faults _ _ _ _ _ _ _ refl c.in_ok-write_bytes.ensures
-    (part_then g.S.Sink.contents g.S.Sink.faults _ _ _ _ _ _ _ refl c.in_ok-write_next_bound.ensures
-    (part_then g.S.Sink.contents g.S.Sink.faults _ _ _ _ _ _ _ refl c.in_ok-write_id_shown.ensures
-    (part_broke g.S.Sink.contents g.S.Sink.faults _ _ _ _ _ _ refl c.from_residual-in_err-write_next_bound-2.ensures.0 c.in_err-write_next_bound-2.ensures)))
-
-pub returns : goal.returns
-returns g c =
-    part_then g.S.Sink.contents g.S.Sink.faults _ _ _ _ _ _ _ refl c.in_ok-write_bytes.ensures
-    (part_then g.S.Sink.contents g.S.Sink.faults _ _ _ _ _ _ _ refl c.in_ok-write_next_bound.ensures
-    (part_then g.S.Sink.contents g.S.Sink.faults _ _ _ _ _ _ _ refl c.in_ok-write_id_shown.ensures
-    (part_then g.S.Sink.contents g.S.Sink.faults _ _ _ _ _ _ _ refl c.in_ok-write_next_bound-2.ensures
-    c.write_shown.ensures)))
+pub returns-in-Some : goal.returns-in-Some
+returns-in-Some g c =
+    let l = bound_bytes c.args.lower in
+    let i = id_shown_bytes c.args.id in
+    let u = bound_bytes c.args.upper in
+    let ls = c.as_slice.result.now in
+    let lead : c.as_bytes-in-Some.result.now ≡ conclusion_word ++ (32 ∷ (bounds_word ++ (32 ∷ (l ++ (i ++ (32 ∷ (u ++ (32 ∷ 58 ∷ [])))))))) =
+    c.as_bytes-in-Some.ensures
+    ∙ (c.put_bounds-in-Some.ensures
+    ∙ ap (λ (z : List ℕ). conclusion_word ++ (32 ∷ (bounds_word ++ (32 ∷ (l ++ (i ++ (32 ∷ (u ++ z)))))))) (c.put_text.ensures ∙ ap (λ (z : List ℕ). 32 ∷ 58 ∷ z) c.new-piece.ensures)) in
+    subst (λ (z : List ℕ). Writes g.S.Sink.contents g.S.Sink.faults c.args.out.now z c.write_list.result c.write_list.new.out)
+    (ap (λ (z : List ℕ). z ++ listed_bytes literal_line ls) lead
+    ∙ (bounds_then l i u (32 ∷ 58 ∷ []) (listed_bytes literal_line ls)
+    ∙ ap (λ (s : Option (List Literal)). statement_bytes (Conclude (Bounds c.args.lower c.args.id c.args.upper s))) (sym (c.in-Some.is ∙ ap Some (sym c.as_slice.ensures)))))
+    c.write_list.ensures

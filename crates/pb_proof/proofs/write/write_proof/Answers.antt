@@ -2,51 +2,32 @@ use Rattle.pb_proof.proofs.Common.{refl, part_broke, part_then}
 use Rattle.pb_proof.proofs.lemmas.Written.{proof_parts}
 use Rattle.pb_proof.proofs.write.write_proof.Goals as goal
 
-pub returns-in_err-write_bytes : goal.returns-in_err-write_bytes
-returns-in_err-write_bytes g c =
-    part_broke g.S.Sink.contents g.S.Sink.faults _ _ _ _ _ _ (proof_parts c.args.proof.now) c.from_residual.ensures.0 c.in_err-write_bytes.ensures
-
-pub returns-in_err-write_f : goal.returns-in_err-write_f
-returns-in_err-write_f g c =
-    part_then g.S.Sink.contents g.S.Sink.faults _ _ _ _ _ _ _ (proof_parts c.args.proof.now) c.in_ok-write_bytes.ensures
-    (part_broke g.S.Sink.contents g.S.Sink.faults _ _ _ _ _ _ refl c.from_residual-in_err-write_f.ensures.0 c.in_err-write_f.ensures)
-
-pub returns-in_err-write_bytes-2 : goal.returns-in_err-write_bytes-2
-returns-in_err-write_bytes-2 g c =
-    part_then g.S.Sink.contents g.S.Sink.faults _ _ _ _ _ _ _ (proof_parts c.args.proof.now) c.in_ok-write_bytes.ensures
-    (part_then g.S.Sink.contents g.S.Sink.faults _ _ _ _ _ _ _ refl c.in_ok-write_f.ensures
-    (part_broke g.S.Sink.contents g.S.Sink.faults _ _ _ _ _ _ refl c.from_residual-in_err-write_bytes-2.ensures.0 c.in_err-write_bytes-2.ensures))
+pub returns-in_err-write_head : goal.returns-in_err-write_head
+returns-in_err-write_head g c =
+    part_broke g.S.Sink.contents g.S.Sink.faults _ _ _ _ _ _ (proof_parts c.args.proof.now) c.from_residual.ensures.0 c.in_err-write_head.ensures
 
 pub returns-in_err-write_steps : goal.returns-in_err-write_steps
 returns-in_err-write_steps g c =
-    part_then g.S.Sink.contents g.S.Sink.faults _ _ _ _ _ _ _ (proof_parts c.args.proof.now) c.in_ok-write_bytes.ensures
-    (part_then g.S.Sink.contents g.S.Sink.faults _ _ _ _ _ _ _ refl c.in_ok-write_f.ensures
-    (part_then g.S.Sink.contents g.S.Sink.faults _ _ _ _ _ _ _ refl c.in_ok-write_bytes-2.ensures
-    (part_broke g.S.Sink.contents g.S.Sink.faults _ _ _ _ _ _ refl c.from_residual-in_err-write_steps.ensures.0 (rw c.as_slice.ensures at c.in_err-write_steps.ensures))))
+    part_then g.S.Sink.contents g.S.Sink.faults _ _ _ _ _ _ _ (proof_parts c.args.proof.now) c.in_ok-write_head.ensures
+    (part_broke g.S.Sink.contents g.S.Sink.faults _ _ _ _ _ _ refl c.from_residual-in_err-write_steps.ensures.0 (rw c.as_slice.ensures at c.in_err-write_steps.ensures))
 
-pub returns-in_err-write_bytes-3 : goal.returns-in_err-write_bytes-3
-returns-in_err-write_bytes-3 g c =
-    part_then g.S.Sink.contents g.S.Sink.faults _ _ _ _ _ _ _ (proof_parts c.args.proof.now) c.in_ok-write_bytes.ensures
-    (part_then g.S.Sink.contents g.S.Sink.faults _ _ _ _ _ _ _ refl c.in_ok-write_f.ensures
-    (part_then g.S.Sink.contents g.S.Sink.faults _ _ _ _ _ _ _ refl c.in_ok-write_bytes-2.ensures
+pub returns-in_err-write_bytes : goal.returns-in_err-write_bytes
+returns-in_err-write_bytes g c =
+    part_then g.S.Sink.contents g.S.Sink.faults _ _ _ _ _ _ _ (proof_parts c.args.proof.now) c.in_ok-write_head.ensures
     (part_then g.S.Sink.contents g.S.Sink.faults _ _ _ _ _ _ _ refl (rw c.as_slice.ensures at c.in_ok-write_steps.ensures)
-    (part_broke g.S.Sink.contents g.S.Sink.faults _ _ _ _ _ _ refl c.from_residual-in_err-write_bytes-3.ensures.0 c.in_err-write_bytes-3.ensures))))
+    (part_broke g.S.Sink.contents g.S.Sink.faults _ _ _ _ _ _ refl c.from_residual-in_err-write_bytes.ensures.0 c.in_err-write_bytes.ensures))
 
 pub returns-in_err-write_conclusion : goal.returns-in_err-write_conclusion
 returns-in_err-write_conclusion g c =
-    part_then g.S.Sink.contents g.S.Sink.faults _ _ _ _ _ _ _ (proof_parts c.args.proof.now) c.in_ok-write_bytes.ensures
-    (part_then g.S.Sink.contents g.S.Sink.faults _ _ _ _ _ _ _ refl c.in_ok-write_f.ensures
-    (part_then g.S.Sink.contents g.S.Sink.faults _ _ _ _ _ _ _ refl c.in_ok-write_bytes-2.ensures
+    part_then g.S.Sink.contents g.S.Sink.faults _ _ _ _ _ _ _ (proof_parts c.args.proof.now) c.in_ok-write_head.ensures
     (part_then g.S.Sink.contents g.S.Sink.faults _ _ _ _ _ _ _ refl (rw c.as_slice.ensures at c.in_ok-write_steps.ensures)
-    (part_then g.S.Sink.contents g.S.Sink.faults _ _ _ _ _ _ _ refl c.in_ok-write_bytes-3.ensures
-    (part_broke g.S.Sink.contents g.S.Sink.faults _ _ _ _ _ _ refl c.from_residual-in_err-write_conclusion.ensures.0 c.in_err-write_conclusion.ensures)))))
+    (part_then g.S.Sink.contents g.S.Sink.faults _ _ _ _ _ _ _ refl c.in_ok-write_bytes.ensures
+    (part_broke g.S.Sink.contents g.S.Sink.faults _ _ _ _ _ _ refl c.from_residual-in_err-write_conclusion.ensures.0 c.in_err-write_conclusion.ensures)))
 
 pub returns : goal.returns
 returns g c =
-    part_then g.S.Sink.contents g.S.Sink.faults _ _ _ _ _ _ _ (proof_parts c.args.proof.now) c.in_ok-write_bytes.ensures
-    (part_then g.S.Sink.contents g.S.Sink.faults _ _ _ _ _ _ _ refl c.in_ok-write_f.ensures
-    (part_then g.S.Sink.contents g.S.Sink.faults _ _ _ _ _ _ _ refl c.in_ok-write_bytes-2.ensures
+    part_then g.S.Sink.contents g.S.Sink.faults _ _ _ _ _ _ _ (proof_parts c.args.proof.now) c.in_ok-write_head.ensures
     (part_then g.S.Sink.contents g.S.Sink.faults _ _ _ _ _ _ _ refl (rw c.as_slice.ensures at c.in_ok-write_steps.ensures)
-    (part_then g.S.Sink.contents g.S.Sink.faults _ _ _ _ _ _ _ refl c.in_ok-write_bytes-3.ensures
+    (part_then g.S.Sink.contents g.S.Sink.faults _ _ _ _ _ _ _ refl c.in_ok-write_bytes.ensures
     (part_then g.S.Sink.contents g.S.Sink.faults _ _ _ _ _ _ _ refl c.in_ok-write_conclusion.ensures
-    c.write_bytes-4.ensures)))))
+    c.write_bytes-2.ensures)))
