@@ -1,7 +1,6 @@
 pub mod Carried
 pub mod Conclusion
 pub mod Count
-pub mod Each
 pub mod Ids
 pub mod Line
 pub mod Literals

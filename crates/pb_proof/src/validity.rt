@@ -36,24 +36,16 @@ fn are_ids(ids: &[i64], top: u64) -> bool
     requires { top < 2 ^ 63 }
     ensures { IsTrue result ↔ All (IsId top) ids.now }
 {
-    for id in ids {
-        if !is_id(*id, top) {
-            return false;
-        }
-    }
-    true
+    ids.iter().all(|id| is_id(*id, top))
 }
 
 /// Whether each literal has a name of the grammar.
 fn are_literals(literals: &[Literal]) -> bool
     ensures { IsTrue result ↔ AreLiterals literals.now }
 {
-    for literal in literals {
-        if !is_name(literal.name.as_str()) {
-            return false;
-        }
-    }
-    true
+    literals
+        .iter()
+        .all(|literal| is_name(literal.name.as_str()))
 }
 
 /// Whether the word's id, factor, literal or name meets the rules.
@@ -73,12 +65,7 @@ fn word_is_value(word: &PolWord, limits: Limits) -> bool
 fn are_words(words: &[PolWord], limits: Limits) -> bool
     ensures { IsTrue result ↔ All (IsWord (largest limits) (top_of limits)) words.now }
 {
-    for word in words {
-        if !word_is_value(word, limits) {
-            return false;
-        }
-    }
-    true
+    words.iter().all(|word| word_is_value(word, limits))
 }
 
 /// How many expressions are finished after the word, if `finished` of them are finished before it.
@@ -229,12 +216,7 @@ fn are_steps(steps: &[Statement], limits: Limits) -> bool
     ensures { IsTrue result ↔ All (λ s. IsStep s ×
         IsStatementValue (largest limits) (top_of limits) s) steps.now }
 {
-    for step in steps {
-        if !step_is_value(step, limits) {
-            return false;
-        }
-    }
-    true
+    steps.iter().all(|step| step_is_value(step, limits))
 }
 
 /// Whether the proof has a text under the limits. Its steps have to be of the kinds that a step may have. The steps,
