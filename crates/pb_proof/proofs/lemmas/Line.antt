@@ -3,6 +3,4 @@ pub mod Asks
 pub mod ByteKinds
 pub mod Ends
 pub mod Laws
-pub mod Spelled
 pub mod Texts
-pub mod Whole

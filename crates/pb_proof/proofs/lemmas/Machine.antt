@@ -3,10 +3,8 @@ pub mod Alive
 pub mod Asks
 pub mod Complete
 pub mod Exact
-pub mod Gaps
 pub mod Orders
 pub mod Sound
 pub mod States
 pub mod Taken
-pub mod Words
 pub mod Whole

@@ -2,11 +2,10 @@
 use Rattle.std.specs.Prelude.{◌≡◌, ℕ, ◌^◌, ◌<◌, List, [], ◌++◌, All, Bool, true, Option}
 use Rattle.pb_text.specs.meaning.Reading.{Reads}
 use Rattle.pb_text.specs.meaning.Spelling.{Letter, Item, bytes_of}
-use Rattle.pb_text.specs.meaning.Whole.{events_at, events_of}
+use Rattle.pb_text.specs.meaning.Whole.{events_at, events_of, IsRead}
 use Rattle.pb_text.specs.declared.Place.{Place}
 use Rattle.pb_text.specs.declared.Spanned.{Spanned}
 use Rattle.pb_text.specs.declared.Stop.{Stop}
-use Rattle.pb_text.specs.meaning.Whole.{IsRead}
 use Rattle.pb_proof.specs.meaning.Lines.{SpellsStatement}
 use Rattle.pb_proof.specs.meaning.Proofs.{statements_of, IsProof, IsProofOf}
 use Rattle.pb_proof.specs.contract.Values.{IsStatementValue, IsProofValue}

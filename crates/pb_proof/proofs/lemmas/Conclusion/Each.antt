@@ -16,7 +16,7 @@ use Rattle.pb_proof.specs.declared.line.conclusion.phase.Phase.{Phase}
 use Rattle.pb_proof.specs.declared.line.conclusion.phase.Phase.TheVariants as phase
 use Rattle.pb_proof.proofs.lemmas.Conclusion.Parts.{Opens, before_opens, spaced_opens, bound_carries, AtId, id_carries}
 use Rattle.pb_proof.proofs.lemmas.Conclusion.Texts.{Body, line_shown}
-use Rattle.pb_proof.proofs.lemmas.Conclusion.Walk.{at, Carries, carries_then, Is, leads_carry, word_leads, start_blanks, bounded_blanks, id_blanks, Follows, follows_blanks, after_blanks_of, between_blanks, may_end, id_steps, id_follows}
+use Rattle.pb_proof.proofs.lemmas.Conclusion.Parts.{at, Carries, carries_then, Is, leads_carry, word_leads, start_blanks, bounded_blanks, id_blanks, Follows, follows_blanks, after_blanks_of, between_blanks, may_end, id_steps, id_follows}
 use Rattle.pb_proof.proofs.lemmas.Line.Ends.{TakesBlanks, blanks1_lead, blanks0_lead, after_blanks, line_reads, nil_last}
 use Rattle.pb_proof.proofs.lemmas.Literals.Theorems.{literals_reads}
 

@@ -5,23 +5,27 @@ use Rattle.pb_proof.proofs.Common.{IsState, ReadsStatement, unmarked, signed, Le
 use Rattle.pb_proof.proofs.Common.{Side, Word, is_within, phase_after_bound, phase_after_word, PhaseFits, word_of, conclusion_at}
 use Rattle.pb_proof.proofs.Common.{conclusion_automaton, conclusion_first, conclusion_last, conclusion_value, ConclusionState, IsConclusionInOrder}
 use Rattle.pb_proof.proofs.Common.{kept, showing_value, spent, IsLiteralsInOrder, literals_automaton, literals_first, LiteralsState, inf_word}
-use Rattle.pb_proof.proofs.Common.{none_word, SpellsConclusionLine}
-use Rattle.pb_proof.specs.engine.Line.Conclusion.{is_done}
-use Rattle.pb_proof.specs.engine.Line.ConclusionState.{act, Holds}
+use Rattle.pb_proof.proofs.Common.{none_word, SpellsConclusionLine, ◌&&◌, ◌-◌, ◌^◌, ◌∙◌, IsTrue, Literal, admits, end_or_refuse, go_or_refuse}
+use Rattle.pb_proof.proofs.Common.{refuses, Admits, End, is_large, Next, Refuse, Limits, is_digit, largest, top_of, asks, is_in_number}
+use Rattle.pb_proof.specs.engine.Line.Conclusion.{is_done, transition}
+use Rattle.pb_proof.specs.engine.Line.ConclusionState.{act, Holds, giving, over}
+use Rattle.pb_proof.specs.declared.line.conclusion.phase.Phase.{Phase}
+use Rattle.pb_proof.proofs.lemmas.Conclusion.Each.{conclusion_each, shown_at, shown_reads}
+use Rattle.pb_proof.proofs.lemmas.Conclusion.Parts.{before_opens, spaced_opens, infinity_leads, infinity_left, signed_step, id_step, first_id_step}
+use Rattle.pb_proof.proofs.lemmas.Conclusion.Parts.{signed_id_step, at, word_left, word_leads, id_steps}
+use Rattle.pb_proof.proofs.lemmas.Conclusion.Steps.{continues, ends, not_done, done_stops, no_number, nothing_spent, give_phase, idle_order}
+use Rattle.pb_proof.proofs.lemmas.Literals.Theorems.{literals_of_one}
+use Rattle.pb_proof.proofs.lemmas.Line.Ends.{reads_exactly}
+use Rattle.std.proofs.Math.Pow.{pow_mono}
+use Rattle.pb_proof.specs.declared.line.conclusion.phase.Action.{Action}
+use Rattle.pb_proof.specs.declared.line.conclusion.phase.Action.TheVariants.{Give}
 use Rattle.pb_proof.specs.declared.line.conclusion.phase.Word.TheVariants as word
 use Rattle.pb_proof.specs.declared.line.conclusion.phase.Owner.TheVariants as owner
 use Rattle.pb_proof.specs.declared.line.conclusion.phase.Side.TheVariants as side
 use Rattle.pb_proof.specs.declared.line.conclusion.phase.Showing.TheVariants as showing
 use Rattle.pb_proof.specs.declared.line.conclusion.phase.Concluding.TheVariants as concluding
-use Rattle.pb_proof.specs.declared.line.conclusion.phase.Phase.{Phase}
 use Rattle.pb_proof.specs.declared.line.conclusion.phase.Phase.TheVariants as phase
-use Rattle.pb_proof.proofs.lemmas.Conclusion.Each.{conclusion_each, shown_at, shown_reads}
-use Rattle.pb_proof.proofs.lemmas.Conclusion.Parts.{before_opens, spaced_opens, infinity_leads, infinity_left, signed_step, id_step, first_id_step, signed_id_step}
-use Rattle.pb_proof.proofs.lemmas.Conclusion.Steps.{continues, ends, not_done, done_stops, no_number, nothing_spent}
-use Rattle.pb_proof.proofs.lemmas.Conclusion.Walk.{at, word_left, word_leads, id_steps}
-use Rattle.pb_proof.proofs.lemmas.Literals.Theorems.{literals_of_one}
 use Rattle.pb_proof.proofs.lemmas.Conclusion.Prefix as prefixes
-use Rattle.pb_proof.proofs.lemmas.Line.Whole.{reads_exactly}
 
 abbrev last : ConclusionState → ConclusionState
 last s = conclusion_last s.limit s.top
@@ -159,3 +163,39 @@ conclusion_reads limit top text e after =
 pub conclusion_is_state : (s : ConclusionState) → IsConclusionInOrder s → IsState conclusion_automaton s
 conclusion_is_state s h =
     is_state conclusion_automaton IsConclusionInOrder last conclusion_of_one s h (λ i. nothing_spent s s.phase i)
+
+-- A push of the conclusion machine does what its transition says.
+
+module _ (s : ConclusionState) (h : IsConclusionInOrder s) (b : ℕ) (x : Showing) (planned : transition s.limit s.top s.phase b ≡ Give x) where
+  given : (n : Next LiteralsState (List Literal)) → literals_automaton.step s.literals b ≡ n → conclusion_automaton.step s b ≡ over s x n
+  given n e = ap (act s b) planned ∙ ap (over s x) e
+
+  pub give_order : (inner : LiteralsState) → literals_automaton.step s.literals b ≡ Go inner → IsConclusionInOrder (giving s inner)
+  give_order inner e = (continues s (giving s inner) b (given (Go inner) e)).keeps h
+
+  pub give_refused : literals_automaton.step s.literals b ≡ Refuse → (conclusion_automaton.step s b ≡ Refuse) × (is_large conclusion_automaton s b ≡ false)
+  give_refused e = (given Refuse e, ap (λ q. is_in_number s q && is_digit b) (give_phase s b x planned))
+
+  taken : (n : Next LiteralsState (List Literal)) → literals_automaton.step s.literals b ≡ n → Admits literals_automaton s.literals b → over s x n ≡ Refuse → ⊥
+  taken (Go inner) e a i = go_or_refuse _ i
+  taken (End ls inner) e a i = end_or_refuse _ _ i
+  taken Refuse e a i = refuses literals_automaton s.literals s.literals b e a.0 a.1 (a.2, a.3)
+
+  pub give_admits : IsTrue (literals_automaton.asks s.literals b) → Admits literals_automaton s.literals b → IsTrue (conclusion_automaton.asks s b) × Admits conclusion_automaton s b
+  give_admits asking a =
+      let n : Next LiteralsState (List Literal) = literals_automaton.step s.literals b in (
+        subst (λ (m : Action). IsTrue (asks s b m)) (sym planned) asking,
+        admits conclusion_automaton IsConclusionInOrder _ conclusion_of_one s b (over s x n) h (given n refl)
+            (taken n refl a),
+      )
+
+pub same_inner : (s : ConclusionState) (inner : LiteralsState) → inner ≡ s.literals → giving s inner ≡ s
+same_inner s inner e = ap (λ i. giving s i) e
+
+-- a new machine
+pub first_order : (limits : Limits) → IsConclusionInOrder (conclusion_first (largest limits) (top_of limits))
+first_order limits =
+    idle_order (largest limits) (top_of limits) phase.Start (below limits.bits limits.most_bits) limits.most_top (omega (arith, limits.least_top)) tt
+  where
+    below : (k : ℕ) → k ≤ 127 → 2 ^ k - 1 < 2 ^ 127
+    below k h = omega (arith, pow_mono h)

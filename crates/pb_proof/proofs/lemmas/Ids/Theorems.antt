@@ -3,14 +3,15 @@ use Rattle.pb_proof.proofs.Common.{ℕ, ℤ, ◌*◌, ◌++◌, ◌+◌, ◌-◌
 use Rattle.pb_proof.proofs.Common.{nat_eq, nat_le, refl, subst, suc, sym, true, zero, min-le_left, cond_both, le-leb, leb-true, ReadsOn, is_state}
 use Rattle.pb_proof.proofs.Common.{IsOfOne, one_state, never, End, Go, IsState, Next, ReadsStatement, Refuse, digit, unmarked, signed, Letter}
 use Rattle.pb_proof.proofs.Common.{NumberByte, IdsAction, IdsPhase, Between, Done, Gap, Minus, number_byte, before, ids_at, ids_automaton, ids_first}
-use Rattle.pb_proof.proofs.Common.{ids_last, IdsState, IsIdsInOrder, SpellsIds}
+use Rattle.pb_proof.proofs.Common.{ids_last, IdsState, IsIdsInOrder, SpellsIds, ◌∙◌, IsTrue, admits, end_or_refuse, go_or_refuse, Admits, keeps}
+use Rattle.pb_proof.proofs.Common.{AreDigits, value-grows, Runs, value_from, is_digit, begins_id}
 use Rattle.pb_proof.specs.engine.Line.Ids.{act, transition, digits, next_action, is_midway, is_done, is_in_number, ActionFits, PhaseFits}
-use Rattle.pb_proof.specs.declared.line.byte_kind.NumberByte.TheVariants as kind
 use Rattle.pb_proof.specs.declared.line.delete.phase.IdsPhase.TheVariants.{Start, Digits, Closing}
+use Rattle.pb_proof.proofs.lemmas.Ids.Texts.{digits_after, reads_each, Prefix, Whole, keeps_prefix}
+use Rattle.pb_proof.proofs.lemmas.Line.Ends.{reads_exactly}
+use Rattle.pb_proof.proofs.lemmas.Line.ByteKinds.{number_of_digit}
+use Rattle.pb_proof.specs.declared.line.byte_kind.NumberByte.TheVariants as kind
 use Rattle.pb_proof.specs.declared.line.delete.phase.IdsAction.TheVariants as action
-use Rattle.pb_proof.proofs.lemmas.Ids.Complete.{digits_after, reads_each}
-use Rattle.pb_proof.proofs.lemmas.Ids.Sound.{Prefix, Whole, keeps_prefix}
-use Rattle.pb_proof.proofs.lemmas.Line.Whole.{reads_exactly}
 
 abbrev N : Type 0
 N = Next IdsState (List ℤ)
@@ -170,3 +171,58 @@ ids_reads limit top text e after =
 
 pub ids_is_state : (s : IdsState) → IsIdsInOrder s → IsState ids_automaton s
 ids_is_state s g = is_state ids_automaton IsIdsInOrder last ids_of_one s g (λ i. ap length (g.3 i))
+
+-- A push of the ids machine does what its transition says.
+
+kept_acts : (top : ℕ) (ids : List ℤ) (m : IdsAction) → keeps m ≡ true → act top ids m ≡ Refuse → ⊥
+kept_acts top ids (action.Keep p id) h e = go_or_refuse _ e
+kept_acts top ids (action.EndWith id) h e = end_or_refuse _ _ e
+kept_acts top ids _ h e = cc
+
+-- a push may allocate at a byte that ends an id, and only if the byte is taken
+pub wants : (s : IdsState) (b : ℕ) (m : IdsAction) → IsIdsInOrder s → m ≡ transition s.top s.phase (number_byte b) → keeps m ≡ true
+    → IsTrue (ids_automaton.asks s b) × Admits ids_automaton s b
+wants s b m o f h = (
+  ap keeps (sym f) ∙ h,
+  admits ids_automaton IsIdsInOrder _ ids_of_one s b (act s.top s.ids m) o (ap (λ x. act s.top s.ids x) (sym f)) (kept_acts s.top s.ids m h),
+)
+
+-- a state within the ids
+pub midway_state : (top : ℕ) (ids : List ℤ) (p : IdsPhase) → top < 2 ^ 63 → 0 < top → PhaseFits top p → is_midway p ≡ true → IsState ids_automaton (ids_at top ids p)
+midway_state top ids p a b f h = ids_is_state (ids_at top ids p) (a, b, f, (λ i. never (is_midway p) h i))
+
+-- The digits of an id that are taken in one call are a run of the automaton.
+
+module _ (top : ℕ) (ids : List ℤ) (l : top < 2 ^ 63) (some : 0 < top) where
+  -- what a state does with a digit
+  abbrev TakesDigits : IdsPhase → ℕ → Type 0
+  TakesDigits p n = (d : ℕ) → transition top p (kind.Digit d) ≡ digits top false n d
+
+  digit_on : (p : IdsPhase) (n b : ℕ) → TakesDigits p n → IsTrue (is_digit b) → 10 * n + (b - 48) ≤ top
+      → ids_automaton.step (ids_at top ids p) b ≡ Go (ids_at top ids (Digits false (10 * n + (b - 48))))
+  digit_on p n b s e h =
+      let f : digits top false n (b - 48) ≡ action.To (Digits false (10 * n + (b - 48))) = rw (le-leb (10 * n + (b - 48)) top h) refl in
+      ap (act top ids) (ap (transition top p) (number_of_digit b e) ∙ (s (b - 48) ∙ f))
+
+  digits_run : (p : IdsPhase) (n b : ℕ) (text : List ℕ) → TakesDigits p n → AreDigits (b ∷ text) → value_from n (b ∷ text) ≤ top
+      → Runs ids_automaton (ids_at top ids p) (b ∷ text) (ids_at top ids (Digits false (value_from n (b ∷ text))))
+  digits_run p n b [] s h i =
+      (ids_at top ids (Digits false (10 * n + (b - 48))), digit_on p n b s h.0 i, midway_state top ids (Digits false (10 * n + (b - 48))) l some i refl, refl)
+  digits_run p n b (c ∷ text) s h i =
+      let fits : 10 * n + (b - 48) ≤ top = omega (arith, value-grows (10 * n + (b - 48)) (c ∷ text)) in (
+        ids_at top ids (Digits false (10 * n + (b - 48))),
+        digit_on p n b s h.0 fits,
+        midway_state top ids (Digits false (10 * n + (b - 48))) l some fits refl,
+        digits_run (Digits false (10 * n + (b - 48))) (10 * n + (b - 48)) c text (λ d. refl) h.1 i,
+      )
+
+  takes_digits : (p : IdsPhase) → begins_id p ≡ true → TakesDigits p 0
+  takes_digits Gap e d = refl
+  takes_digits Between e d = refl
+  takes_digits _ e d = cc e
+
+  -- where an id may begin
+  pub id_runs : (p : IdsPhase) (text : List ℕ) (n : ℕ) → begins_id p ≡ true → AreDigits text → 0 < length text → n ≡ value_from 0 text → n ≤ top
+      → Runs ids_automaton (ids_at top ids p) text (ids_at top ids (Digits false n))
+  id_runs p [] n e all h f i = absurd (omega arith)
+  id_runs p (b ∷ text) n e all h f i = rw f (digits_run p 0 b text (takes_digits p e) all (subst (λ (m : ℕ). m ≤ top) f i))

@@ -17,8 +17,8 @@ use Rattle.pb_proof.specs.declared.line.solution.phase.LiteralsPhase.TheVariants
 use Rattle.pb_proof.specs.declared.line.byte_kind.NumberByte.TheVariants as number
 use Rattle.pb_proof.specs.declared.line.byte_kind.NameByte.TheVariants as name
 use Rattle.pb_proof.proofs.lemmas.Rup.Reads as reads
-use Rattle.pb_proof.proofs.lemmas.Ids.Sound as ids
-use Rattle.pb_proof.proofs.lemmas.Literals.Sound as sound
+use Rattle.pb_proof.proofs.lemmas.Ids.Texts as ids
+use Rattle.pb_proof.proofs.lemmas.Literals.Texts as sound
 use Rattle.pb_proof.proofs.lemmas.Line.ByteKinds.{NameMeans, name_means, NumberMeans, number_means}
 use Rattle.pb_proof.specs.declared.line.delete.phase.IdsAction.TheVariants as ids_action
 use Rattle.pb_proof.proofs.lemmas.Ids.Theorems as theorems

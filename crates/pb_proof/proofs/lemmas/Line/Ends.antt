@@ -2,7 +2,8 @@
 use Rattle.pb_proof.proofs.Common.{ℕ, ◌++◌, ◌∙◌, ◌∷◌, ◌≡◌, [], ap, append-nil, append_assoc, false, inl, inr, IsTrue, List, refl, subst, sym, true}
 use Rattle.pb_proof.proofs.Common.{Leads, longer, reads_after, Walks, walks_then, after_it, grown, many-grown, next, none_yet, regroup, regroup3}
 use Rattle.pb_proof.proofs.Common.{some-grown, some-many, some-one, as_unmarked, Automaton, End, Go, ReadsStatement, is_blank, ◌⋅◌, Blanks0, Blanks1}
-use Rattle.pb_proof.proofs.Common.{Byte, Bytes, Each, Empty, Language, unmarked, Letter, Feed, LineEnd, Listed}
+use Rattle.pb_proof.proofs.Common.{Byte, Bytes, Each, Empty, Language, unmarked, Letter, Feed, LineEnd, Listed, ◌↔◌, IsOfOne, reads_last, Keeps}
+use Rattle.pb_proof.proofs.Common.{reported}
 
 module _ {S E : Type 0} (m : Automaton S E) where
   -- A blank leads from `s` to `gap`, and further blanks stay there.
@@ -174,3 +175,14 @@ module _ {A : Type 0} (P : A → Language) where
       let (mid, w, j) = f xs y s a i h in
       let (next, v, g) = listed_walks m At f (xs ++ y ∷ []) ys mid b j k in
       (next, subst (λ x. Walks m s x next) (sym e) (walks_then m a b s mid next w v), subst (λ x. At x next) (append_assoc xs (y ∷ []) ys) g)
+
+-- A machine of one text reads exactly a language, if each text that it reads is one of it, and it reads each.
+
+module _ {S E : Type 0} (m : Automaton S E) (Good : S → Type 0) (last : S → S) (h : IsOfOne m Good last) (Prefix : S → Language) (Whole : E → S → Language) where
+  pub reads_exactly : Keeps m Prefix Whole → (s : S) (text : List Letter) (e : E) (after : S) → Prefix s [] → (Whole e (last s) text → ReadsStatement m s text e (last s))
+      → ReadsStatement m s text e after ↔ (Whole e (last s) text × (after ≡ last s))
+  reads_exactly keeps s text e after f each = (
+    (λ r. let i : after ≡ last s = reads_last m Good last h text s e after r in
+        (subst (λ x. Whole e x text) i (reported m Prefix Whole keeps text s [] e after r f), i)),
+    (λ k. subst (λ x. ReadsStatement m s text e x) (sym k.1) (each k.0)),
+  )

@@ -9,11 +9,10 @@ use Rattle.pb_proof.specs.declared.line.LineMachine as line
 use Rattle.pb_proof.specs.declared.machine.phase.LineKind.TheVariants.{Count, Pol, Rup, Soli, Solx, Delete, Conclusion}
 use Rattle.pb_proof.specs.declared.statement.Statement as statement
 use Rattle.pb_proof.proofs.lemmas.Carried.{Carries, reads_in, reads_out, state_in, begins_in}
-use Rattle.pb_proof.proofs.lemmas.Count.Theorems.{count_reads, count_is_state, count_of_one}
+use Rattle.pb_proof.proofs.lemmas.Count.{count_reads, count_is_state, count_of_one}
 use Rattle.pb_proof.proofs.lemmas.Rup.Reads.{rup_reads}
 use Rattle.pb_proof.proofs.lemmas.Rup.States.{rup_is_state, rup_begins, rup_first_in_order}
-use Rattle.pb_proof.proofs.lemmas.Pol.Theorems.{pol_reads, pol_is_state, pol_first_in_order}
-use Rattle.pb_proof.proofs.lemmas.Pol.States.{of_one}
+use Rattle.pb_proof.proofs.lemmas.Pol.Theorems.{pol_reads, pol_is_state, pol_first_in_order, of_one}
 use Rattle.pb_proof.proofs.lemmas.Literals.Theorems.{literals_of_one, literals_reads, literals_is_state}
 use Rattle.pb_proof.proofs.lemmas.Ids.Theorems.{ids_of_one, ids_reads, ids_is_state}
 use Rattle.pb_proof.proofs.lemmas.Conclusion.Theorems.{conclusion_of_one, conclusion_reads, conclusion_is_state}

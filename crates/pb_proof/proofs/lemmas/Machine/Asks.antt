@@ -22,7 +22,7 @@ use Rattle.pb_proof.proofs.lemmas.Line.Asks.{ids_asked, literals_asked, rup_aske
 use Rattle.pb_proof.proofs.lemmas.Pol.Asks.{pol_asked}
 use Rattle.pb_proof.proofs.lemmas.Machine.Exact.{reads_proofs}
 use Rattle.pb_proof.proofs.lemmas.Machine.Sound as sound
-use Rattle.pb_proof.proofs.lemmas.Machine.Gaps.{comment_reads}
+use Rattle.pb_proof.proofs.lemmas.Machine.Orders.{comment_reads}
 
 module _ (limit top : ℕ) where
   -- what the line machine asks for, the machine of the line asks for

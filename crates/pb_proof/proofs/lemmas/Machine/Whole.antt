@@ -1,15 +1,13 @@
 -- A whole `rup` line leads from one step of a proof to the next.
-use Rattle.pb_proof.proofs.Common.{ℕ, ◌++◌, ◌+◌, ◌-◌, ◌<◌, ◌∙◌, ◌∷◌, ◌≡◌, ◌≤◌, [], ap, arith, drop, false, get_or, length, List, None, Option, refl}
-use Rattle.pb_proof.proofs.Common.{Some, subst, suc, sym, take, true, take_more, first_is_state, Linear, Blank, sums, SumState, runs_more, all_rest}
-use Rattle.pb_proof.proofs.Common.{End, Go, IsState, Runs, TakesStatement, is_blank, LineMachine, Inside, Tail, line_automaton, line_first}
-use Rattle.pb_proof.proofs.Common.{IsRupInOrder, rup_automaton, rup_first, RupState, sum_first, sum_last, at, giving, idle, IsInOrder, proofs}
-use Rattle.pb_proof.proofs.Common.{ProofState}
+use Rattle.pb_proof.proofs.Common.{ℕ, ◌++◌, ◌+◌, ◌<◌, ◌∙◌, ◌∷◌, ◌≡◌, ◌≤◌, [], ap, arith, false, get_or, length, List, None, refl, Some, subst, suc}
+use Rattle.pb_proof.proofs.Common.{sym, take, take_more, first_is_state, Linear, Blank, SumState, runs_more, all_rest, End, IsState, Runs}
+use Rattle.pb_proof.proofs.Common.{TakesStatement, is_blank, Inside, IsRupInOrder, rup_automaton, rup_first, RupState, sum_first, sum_last, at}
+use Rattle.pb_proof.proofs.Common.{giving, idle, IsInOrder, proofs, ProofState, carried, Next, PolWord, pol_automaton, pol_first, pol_last, PolState}
 use Rattle.pb_sums.specs.declared.SumEvent.TheVariants as sum
 use Rattle.pb_sums.specs.engine.Prefix.{text_after}
 use Rattle.pb_sums.specs.engine.TermParts.{LeadsToLinear}
 use Rattle.pb_sums.specs.declared.Part.TheVariants.{AtLeast}
 use Rattle.pb_sums.proofs.lemmas.machine.WholeTexts.{linear_ends, last_is_state, before_semicolon, linear_some}
-use Rattle.pb_proof.proofs.Common.{carried, Next, PolWord, pol_automaton, pol_first, pol_last, PolState}
 use Rattle.pb_text.proofs.lemmas.text.Spans.{prefix_parts}
 use Rattle.pb_proof.specs.engine.Line.PolWhole.{IsExpression, IsClosing}
 use Rattle.pb_proof.specs.engine.Machine.State.{over}

@@ -14,7 +14,7 @@ use Rattle.pb_proof.specs.declared.line.pol.phase.Action.TheVariants as action
 use Rattle.pb_proof.proofs.lemmas.Line.Ends.{MayEnd, blanks1_lead, line_reads}
 use Rattle.pb_proof.proofs.lemmas.Pol.Covers.{state, as_after}
 use Rattle.pb_proof.proofs.lemmas.Pol.Prefixes.{NotLarge, with_last_append, bound_of_id, bound_of_factor}
-use Rattle.pb_proof.proofs.lemmas.Pol.Trees.{Counts, postfix_counts}
+use Rattle.pb_proof.proofs.lemmas.Pol.Postfix.{Counts, postfix_counts}
 use Rattle.pb_proof.proofs.lemmas.Pol.Walks.{unsigned_walk, signed_walk, name_walk, negated_walk, takes_blanks, late_blanks}
 use Rattle.pb_proof.proofs.lemmas.NumberTests.{not_zero}
 

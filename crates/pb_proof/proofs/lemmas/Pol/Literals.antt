@@ -1,6 +1,6 @@
 -- Literals among postfix words that are taken at once.
 use Rattle.pb_proof.proofs.Common.{◌∙◌, arith, ℕ, ◌++◌, ◌+◌, ◌<◌, ◌∷◌, ◌≡◌, [], ap, append-nil, append_assoc, Bool, false, get_or, IsTrue, length, List, nat_le, refl}
-use Rattle.pb_proof.proofs.Common.{subst, suc, sym, take, true, zero, cond, false≢true, all_rest, IsName, Runs, is_letter, is_name_byte, Each, Held, Kind, Phase, Role}
+use Rattle.pb_proof.proofs.Common.{subst, suc, sym, take, true, zero, cond, false≢true, all_rest, IsName, Runs, is_name_byte, Each, Held, Kind, Phase, Role}
 use Rattle.pb_proof.proofs.Common.{PolWord, held_name, is_letter_kind, kind_of, may_be_name, role_of, transition, pol_automaton, PolState}
 use Rattle.pb_sums.specs.engine.Prefix.{text_after}
 use Rattle.pb_proof.specs.engine.Line.PolWhole.{IsFree, IsWord}
@@ -12,7 +12,7 @@ use Rattle.pb_proof.specs.declared.line.pol.phase.Change.TheVariants as change
 use Rattle.pb_proof.specs.declared.line.pol.phase.Action.TheVariants as action
 use Rattle.pb_proof.proofs.lemmas.Pol.Covers.{state}
 use Rattle.pb_proof.proofs.lemmas.Pol.Kinds.{of_letter, of_name}
-use Rattle.pb_proof.proofs.lemmas.Pol.Pushes.{moved, midway_state}
+use Rattle.pb_proof.proofs.lemmas.Pol.Theorems.{moved, midway_state}
 use Rattle.pb_proof.proofs.lemmas.Pol.Walks.{transition_first, transition_name, transition_second, transition_tilde}
 
 free_name : (negated : Bool) (d : ℕ) → IsFree (held_name negated d)

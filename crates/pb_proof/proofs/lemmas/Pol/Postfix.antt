@@ -1,8 +1,63 @@
 -- Postfix words determine their expression, and leave one. Offered to other crates.
-use Rattle.pb_proof.proofs.Common.{ℕ, ◌++◌, ◌∙◌, ◌∷◌, ◌≡◌, [], ap, arith, List, refl, subst, suc, sym, zero, PolWord, Add, Axiom, Divide, Id}
-use Rattle.pb_proof.proofs.Common.{Multiply, Saturate, Weaken, Constraint, LiteralAxiom, Product, Quotient, Saturation, Sum, Tree, Weakening, words}
+use Rattle.pb_proof.proofs.Common.{ℕ, ◌++◌, ◌∷◌, ◌≡◌, [], append-nil, append_assoc, arith, length, List, refl, suc, PolWord, Add, Axiom, Divide, Id}
+use Rattle.pb_proof.proofs.Common.{Multiply, Saturate, Weaken, Constraint, IsPostfix, LiteralAxiom, Product, Quotient, Saturation, Sum, Tree}
+use Rattle.pb_proof.proofs.Common.{Weakening, words, ◌∙◌, ap, subst, sym, zero, ◌↔◌, None, Option, Some}
 use Rattle.pb_proof.specs.contract.Leaving.{Leaves, WordsReport, WordsLeaveOne}
-use Rattle.pb_proof.proofs.lemmas.Pol.Trees.{Counts, postfix_counts, counts_postfix}
+use Rattle.pb_proof.specs.engine.Line.Finished.{finished_with}
+
+-- from `d` expressions, these words lead to one
+abbrev pub Counts : ℕ → List PolWord → Type 0
+Counts d [] = d ≡ 1
+Counts d (Id id ∷ ws) = Counts (suc d) ws
+Counts d (Axiom literal ∷ ws) = Counts (suc d) ws
+Counts (suc (suc d)) (Add ∷ ws) = Counts (suc d) ws
+Counts (suc d) (Multiply k ∷ ws) = Counts (suc d) ws
+Counts (suc d) (Divide k ∷ ws) = Counts (suc d) ws
+Counts (suc d) (Saturate ∷ ws) = Counts (suc d) ws
+Counts (suc d) (Weaken name ∷ ws) = Counts (suc d) ws
+Counts _ _ = ⊥
+
+-- the words of a stack of expressions, the newest first
+abbrev stacked : List Tree → List PolWord
+stacked [] = []
+stacked (a ∷ below) = stacked below ++ words a
+
+tree_counts : (a : Tree) (d : ℕ) (ws : List PolWord) → Counts (suc d) ws → Counts d (words a ++ ws)
+tree_counts (Constraint id) d ws h = h
+tree_counts (LiteralAxiom literal) d ws h = h
+tree_counts (Sum a b) d ws h = simp append_assoc (tree_counts a d _ (tree_counts b (suc d) _ h))
+tree_counts (Product a k) d ws h = rw append_assoc (tree_counts a d _ h)
+tree_counts (Quotient a k) d ws h = rw append_assoc (tree_counts a d _ h)
+tree_counts (Saturation a) d ws h = rw append_assoc (tree_counts a d _ h)
+tree_counts (Weakening a name) d ws h = rw append_assoc (tree_counts a d _ h)
+
+-- with such a stack below, these words end in one expression
+counts_tree : (ws : List PolWord) (below : List Tree) → Counts (length below) ws → (tree : Tree) × (stacked below ++ ws ≡ words tree)
+counts_tree [] [] h = absurd (omega arith)
+counts_tree [] (a ∷ []) h = (a, simp append-nil)
+counts_tree [] (a ∷ b ∷ below) h = absurd (omega arith)
+counts_tree (Id id ∷ ws) below h = let r = counts_tree ws (Constraint id ∷ below) h in (r.0, simp append_assoc at r.1)
+counts_tree (Axiom l ∷ ws) below h = let r = counts_tree ws (LiteralAxiom l ∷ below) h in (r.0, simp append_assoc at r.1)
+counts_tree (Add ∷ ws) [] h = absurd h
+counts_tree (Add ∷ ws) (a ∷ []) h = absurd h
+counts_tree (Add ∷ ws) (b ∷ a ∷ below) h = let r = counts_tree ws (Sum a b ∷ below) h in (r.0, simp append_assoc (simp append_assoc at r.1))
+counts_tree (Multiply k ∷ ws) [] h = absurd h
+counts_tree (Multiply k ∷ ws) (a ∷ below) h = let r = counts_tree ws (Product a k ∷ below) h in (r.0, simp append_assoc (simp append_assoc at r.1))
+counts_tree (Divide k ∷ ws) [] h = absurd h
+counts_tree (Divide k ∷ ws) (a ∷ below) h = let r = counts_tree ws (Quotient a k ∷ below) h in (r.0, simp append_assoc (simp append_assoc at r.1))
+counts_tree (Saturate ∷ ws) [] h = absurd h
+counts_tree (Saturate ∷ ws) (a ∷ below) h = let r = counts_tree ws (Saturation a ∷ below) h in (r.0, simp append_assoc (simp append_assoc at r.1))
+counts_tree (Weaken k ∷ ws) [] h = absurd h
+counts_tree (Weaken k ∷ ws) (a ∷ below) h = let r = counts_tree ws (Weakening a k ∷ below) h in (r.0, simp append_assoc (simp append_assoc at r.1))
+
+-- the words of an expression, and no others, lead from 0 to 1
+pub postfix_counts : (ws : List PolWord) → IsPostfix ws → Counts 0 ws
+postfix_counts ws (tree, e) = let h : Counts 0 (words tree ++ []) = tree_counts tree 0 [] refl in rw e (simp append-nil at h)
+
+pub counts_postfix : (ws : List PolWord) → Counts 0 ws → IsPostfix ws
+counts_postfix ws h = counts_tree ws [] h
+
+-- ---- expressions on a stack
 
 -- a word applied to a stack of expressions, the last one first
 pub one_word : PolWord → List Tree → List Tree
@@ -83,3 +138,36 @@ count_leaves (suc d) (Weaken name ∷ ws) h = (omega arith, at (suc d) _ ws (ome
 
 pub words_leave_one : WordsLeaveOne
 words_leave_one ws = ((λ h. count_leaves 0 ws (postfix_counts ws h)), (λ h. counts_postfix ws (leaves_count 0 ws h)))
+
+-- Words are those of one expression if and only if they lead from no finished expression to one.
+
+abbrev Given : Option ℕ → (ℕ → Type 0) → Type 0
+Given None P = ⊥
+Given (Some n) P = P n
+
+-- from `d` finished expressions, the words lead to one
+abbrev pub Leads : ℕ → List PolWord → Type 0
+Leads d [] = d ≡ 1
+Leads d (w ∷ ws) = Given (finished_with d w) (λ n. Leads n ws)
+
+same : {A : Type 0} → A ↔ A
+same = (λ h. h, λ h. h)
+
+leads_counts : (ws : List PolWord) (d : ℕ) → Leads d ws ↔ Counts d ws
+leads_counts [] d = same
+leads_counts (Id id ∷ ws) d = leads_counts ws (suc d)
+leads_counts (Axiom literal ∷ ws) d = leads_counts ws (suc d)
+leads_counts (Add ∷ ws) zero = same
+leads_counts (Add ∷ ws) (suc zero) = same
+leads_counts (Add ∷ ws) (suc (suc d)) = leads_counts ws (suc d)
+leads_counts (Multiply k ∷ ws) zero = same
+leads_counts (Multiply k ∷ ws) (suc d) = leads_counts ws (suc d)
+leads_counts (Divide k ∷ ws) zero = same
+leads_counts (Divide k ∷ ws) (suc d) = leads_counts ws (suc d)
+leads_counts (Saturate ∷ ws) zero = same
+leads_counts (Saturate ∷ ws) (suc d) = leads_counts ws (suc d)
+leads_counts (Weaken name ∷ ws) zero = same
+leads_counts (Weaken name ∷ ws) (suc d) = leads_counts ws (suc d)
+
+pub postfix_leads : (ws : List PolWord) → IsPostfix ws ↔ Leads 0 ws
+postfix_leads ws = (λ p. (leads_counts ws 0).1 (postfix_counts ws p), λ h. counts_postfix ws ((leads_counts ws 0).0 h))

@@ -7,7 +7,7 @@ use Rattle.pb_proof.specs.declared.line.pol.phase.Held.TheVariants as held
 use Rattle.pb_proof.specs.declared.line.pol.phase.Role.TheVariants as role
 use Rattle.pb_proof.specs.declared.line.pol.phase.Phase.TheVariants as phase
 use Rattle.pb_proof.proofs.lemmas.Line.Ends.{Closing, listed_append}
-use Rattle.pb_proof.proofs.lemmas.Pol.Trees.{Counts}
+use Rattle.pb_proof.proofs.lemmas.Pol.Postfix.{Counts}
 
 -- ids and factors are within the bound of a number
 pub bound_of_id : (limit top d n : ℕ) → n ≤ top → n ≤ bound limit top d

@@ -19,9 +19,9 @@ use Rattle.pb_proof.specs.declared.line.pol.phase.Change.TheVariants as change
 use Rattle.pb_proof.specs.declared.line.pol.phase.Action.TheVariants as action
 use Rattle.pb_proof.proofs.lemmas.Line.Ends.{semicolon_after_blanks, blank_closing, line_after_blanks, line_closing, gapped, first_blank, further_blank, gapped_some}
 use Rattle.pb_proof.proofs.lemmas.Pol.Kinds.{Says, kind_says, letter_kind, name_kind}
-use Rattle.pb_proof.proofs.lemmas.Pol.Trees.{Counts, counts_postfix}
+use Rattle.pb_proof.proofs.lemmas.Pol.Postfix.{Counts, counts_postfix}
 use Rattle.pb_proof.proofs.lemmas.Pol.Prefixes.{Words, Settled, settle, Holds, NotLarge, released, whole, takes_number, with_last_append, lead, at, Named, IsRole, Before, prefix, Prefix, Whole}
-use Rattle.pb_proof.proofs.lemmas.Literals.Names.{first_grown, more_grown}
+use Rattle.pb_proof.proofs.lemmas.Literals.Texts.{first_grown, more_grown}
 use Rattle.pb_proof.proofs.lemmas.NumberTests.{positive}
 
 -- letters

@@ -1,15 +1,193 @@
--- Words with blanks after them, and the end of the line.
-use Rattle.pb_proof.proofs.Common.{ℕ, ◌++◌, ◌+◌, ◌-◌, ◌<◌, ◌∙◌, ◌∷◌, ◌≡◌, [], ap, arith, drop, get_or, length, List, refl, Some, subst, suc, sym, take, true}
-use Rattle.pb_proof.specs.engine.Line.PolFast.{held_before}
-use Rattle.pb_proof.proofs.Common.{append-nil, same_Some, inl, inr, runs_more, runs_on, runs_further, End, Go, Runs, Change, Held, Phase, PolWord, blank, changed, close, cond, counted, feed, nat_eq, semicolon}
-use Rattle.pb_proof.proofs.Common.{transition, pol_automaton, pol_first, pol_last, PolState}
+-- Postfix words that are taken in one call are a run of the automaton.
+use Rattle.pb_proof.proofs.Common.{ℕ, ◌&&◌, ◌*◌, ◌++◌, ◌+◌, ◌-◌, ◌<◌, ◌∙◌, ◌∷◌, ◌≡◌, ◌≤◌, [], ap, arith, Bool, cond, false, get_or, IsTrue, length}
+use Rattle.pb_proof.proofs.Common.{List, nat_eq, nat_le, Option, pos, refl, Some, subst, suc, sym, take, true, and_parts, eqb-true, le-leb, same_Some}
+use Rattle.pb_proof.proofs.Common.{runs_more, AreDigits, value-grows, Go, IsState, Runs, value_from, is_digit, Change, Held, Kind, Phase, Role}
+use Rattle.pb_proof.proofs.Common.{PolWord, bound, close, close_lone, zero, changed, counted, held_number, kind_of, number, transition, pol_automaton}
+use Rattle.pb_proof.proofs.Common.{PolState, drop, append-nil, inl, inr, runs_on, runs_further, End, blank, feed, semicolon, pol_first, pol_last}
+use Rattle.pb_proof.specs.engine.Line.PolFast.{held_operator, operator, held_before}
 use Rattle.pb_proof.specs.engine.Line.PolWhole.{IsFree, EndsAs, IsWord, AreWords, IsExpression, IsClosing, standing, no_words}
+use Rattle.pb_proof.proofs.lemmas.Pol.Covers.{state}
+use Rattle.pb_proof.proofs.lemmas.Pol.Theorems.{moved, midway_state}
+use Rattle.pb_proof.proofs.lemmas.Pol.Prefixes.{bound_of_id}
+use Rattle.pb_proof.proofs.lemmas.NumberTests.{not_zero}
 use Rattle.pb_proof.specs.declared.line.pol.phase.Kind.TheVariants as kind
 use Rattle.pb_proof.specs.declared.line.pol.phase.Held.TheVariants as held
 use Rattle.pb_proof.specs.declared.line.pol.phase.Phase.TheVariants as phase
+use Rattle.pb_proof.specs.declared.line.pol.phase.Role.TheVariants as role
 use Rattle.pb_proof.specs.declared.line.pol.phase.Change.TheVariants as change
 use Rattle.pb_proof.specs.declared.line.pol.phase.Action.TheVariants as action
-use Rattle.pb_proof.proofs.lemmas.Pol.Pushes.{moved, midway_state}
+
+-- the outcomes of a test of a byte, alone and with another test
+by_byte : (P : ℕ → Change → Type 0) (b n : ℕ) (c k : Change) (rest : Option Change) → P n k → (Some c ≡ rest → P b c) → Some c ≡ cond (nat_eq b n) (Some k) rest → P b c
+by_byte P b n c k rest met other = go (nat_eq b n) refl
+  where
+    go : (x : Bool) → nat_eq b n ≡ x → Some c ≡ cond x (Some k) rest → P b c
+    go true f e = rw (eqb-true b n f, same_Some c k e) met
+    go false f e = other e
+
+by_test : (P : ℕ → Change → Type 0) (b n : ℕ) (t : Bool) (c k : Change) (rest : Option Change) → (t ≡ true → P n k) → (Some c ≡ rest → P b c) → Some c ≡ cond (nat_eq b n && t) (Some k) rest
+    → P b c
+by_test P b n t c k rest met other = go (nat_eq b n && t) refl
+  where
+    go : (x : Bool) → (nat_eq b n && t) ≡ x → Some c ≡ cond x (Some k) rest → P b c
+    go true f e = let (g, h) = and_parts (nat_eq b n) t f in rw (eqb-true b n g, same_Some c k e) (met h)
+    go false f e = other e
+
+module _ (limit top d : ℕ) (ws : List PolWord) (name : List ℕ) (some : 0 < top) where
+  abbrev at : Phase → PolState
+  at p = state limit top ws d name p
+
+  -- what a state does with a digit
+  abbrev TakesDigits : Phase → ℕ → Type 0
+  TakesDigits p n = (e : ℕ) → transition limit top d p (kind.Digit e) ≡ number limit top d n e
+
+  digit_on : (p : Phase) (n b : ℕ) → TakesDigits p n → IsTrue (is_digit b) → 10 * n + (b - 48) ≤ bound limit top d
+      → pol_automaton.step (at p) b ≡ Go (at (phase.Number (10 * n + (b - 48))))
+  digit_on p n b s e h =
+      let k : kind_of b ≡ kind.Digit (b - 48) = rw e refl in
+      let f : number limit top d n (b - 48) ≡ action.To (phase.Number (10 * n + (b - 48))) = rw (le-leb (10 * n + (b - 48)) (bound limit top d) h) refl in
+      moved limit top ws d name p b (kind.Digit (b - 48)) (action.To (phase.Number (10 * n + (b - 48)))) (sym k) (sym (s (b - 48) ∙ f))
+
+  numbered : (n : ℕ) → IsState pol_automaton (at (phase.Number n))
+  numbered n = midway_state limit top ws d name (phase.Number n) some refl
+
+  digits_run : (p : Phase) (n b : ℕ) (text : List ℕ) → TakesDigits p n → AreDigits (b ∷ text) → value_from n (b ∷ text) ≤ bound limit top d
+      → Runs pol_automaton (at p) (b ∷ text) (at (phase.Number (value_from n (b ∷ text))))
+  digits_run p n b [] s h l = (at (phase.Number (10 * n + (b - 48))), digit_on p n b s h.0 l, numbered (10 * n + (b - 48)), refl)
+  digits_run p n b (c ∷ text) s h l =
+      let fits : 10 * n + (b - 48) ≤ bound limit top d = omega (arith, value-grows (10 * n + (b - 48)) (c ∷ text)) in (
+        at (phase.Number (10 * n + (b - 48))),
+        digit_on p n b s h.0 fits,
+        numbered (10 * n + (b - 48)),
+        digits_run (phase.Number (10 * n + (b - 48))) (10 * n + (b - 48)) c text (λ e. refl) h.1 l,
+      )
+
+  takes_digits : (h : Held) → IsFree h → TakesDigits (phase.Gap h) 0
+  takes_digits held.Nothing f e = refl
+  takes_digits held.Number f e = refl
+  takes_digits held.Name f e = refl
+  takes_digits held.Large f e = absurd f
+
+  id_digits : (h : Held) (ds : List ℕ) → IsFree h → AreDigits ds → 0 < value_from 0 ds → value_from 0 ds ≤ bound limit top d
+      → Runs pol_automaton (at (phase.Gap h)) ds (at (phase.Number (value_from 0 ds)))
+  id_digits h [] f all i l = absurd (omega arith)
+  id_digits h (b ∷ ds) f all i l = digits_run (phase.Gap h) 0 b ds (takes_digits h f) all l
+
+  free_number : (n v : ℕ) → IsFree (held_number limit n v)
+  free_number zero v = tt
+  free_number (suc n) v = by (nat_le v limit)
+    where
+      by : (b : Bool) → IsFree (cond b held.Number held.Nothing)
+      by true = tt
+      by false = tt
+
+  plus_planned : (h : Held) → IsFree h → nat_le 2 d ≡ true → action.Turn change.Sum phase.After ≡ transition limit top d (phase.Gap h) kind.Plus
+  plus_planned held.Nothing e t = rw t refl
+  plus_planned held.Number e t = rw t refl
+  plus_planned held.Name e t = rw t refl
+  plus_planned held.Large e t = absurd e
+
+  saturate_planned : (h : Held) → IsFree h → nat_le 1 d ≡ true → action.Begin (phase.Lone role.Saturate) ≡ transition limit top d (phase.Gap h) kind.S
+  saturate_planned held.Nothing e t = rw t refl
+  saturate_planned held.Number e t = rw t refl
+  saturate_planned held.Name e t = rw t refl
+  saturate_planned held.Large e t = absurd e
+
+  -- with the name that a literal has
+  module _ (n : List ℕ) where
+    -- a state after text in which the word ends by a change
+    abbrev Stands : Held → List ℕ → Change → Held → Type 0
+    Stands h text c next = EndsAs limit top (at (phase.Gap h)) text (changed c ws n) (counted c d) next × IsFree next
+
+    id_stands : (h : Held) (ds : List ℕ) (v : ℕ) → IsFree h → AreDigits ds → v ≡ value_from 0 ds → 0 < v → v ≤ top → Stands h ds (change.Id (pos v)) (held_number limit d v)
+    id_stands h ds v f all same i l =
+        let fits : nat_le v top ≡ true = le-leb v top l in
+        let closes : close limit top d (phase.Number v) ≡ Some (change.Id (pos v), held_number limit d v) = rw (not_zero v i, fits) refl in
+        let runs : Runs pol_automaton (at (phase.Gap h)) ds (at (phase.Number v)) =
+        subst (λ (m : ℕ). Runs pol_automaton (at (phase.Gap h)) ds (at (phase.Number m))) (sym same)
+        (id_digits h ds f all (subst (λ (m : ℕ). 0 < m) same i) (subst (λ (m : ℕ). m ≤ bound limit top d) same (bound_of_id limit top d v l))) in
+        ((ws, d, name, phase.Number v, change.Id (pos v), runs, closes, refl, refl), free_number d v)
+
+    -- an operator that takes effect at its own byte
+    turned_first : (h : Held) (b : ℕ) (k : Kind) (c : Change) → k ≡ kind_of b → action.Turn c phase.After ≡ transition limit top d (phase.Gap h) k → changed c ws name ≡ changed c ws n → Stands h (b ∷ []) c held.Nothing
+    turned_first h b k c e f i = (
+      (
+        changed c ws name,
+        counted c d,
+        [],
+        phase.After,
+        change.Keep,
+        (
+          state limit top (changed c ws name) (counted c d) [] phase.After,
+          moved limit top ws d name (phase.Gap h) b k (action.Turn c phase.After) e f,
+          midway_state limit top (changed c ws name) (counted c d) [] phase.After some refl,
+          refl,
+        ),
+        refl,
+        i,
+        refl,
+      ),
+      tt,
+    )
+
+    -- and one that is a letter
+    turned_last : (h : Held) (b : ℕ) (k : Kind) (r : Role) (c : Change) → k ≡ kind_of b → action.Begin (phase.Lone r) ≡ transition limit top d (phase.Gap h) k
+        → close_lone r ≡ Some (c, held.Nothing) → changed c ws (b ∷ []) ≡ changed c ws n → Stands h (b ∷ []) c held.Nothing
+    turned_last h b k r c e f g i = (
+      (
+        ws,
+        d,
+        b ∷ [],
+        phase.Lone r,
+        c,
+        (
+          state limit top ws d (b ∷ []) (phase.Lone r),
+          moved limit top ws d name (phase.Gap h) b k (action.Begin (phase.Lone r)) e f,
+          midway_state limit top ws d (b ∷ []) (phase.Lone r) some refl,
+          refl,
+        ),
+        g,
+        i,
+        refl,
+      ),
+      tt,
+    )
+
+    abbrev Operates : Held → ℕ → Change → Type 0
+    Operates h b c = Stands h (b ∷ []) c held.Nothing
+
+    held_stands : (h : Held) (b : ℕ) (c : Change) → Some c ≡ held_operator h b → Operates h b c
+    held_stands held.Number b c e =
+        by_byte (Operates held.Number) b 42 c change.Multiply _ (turned_first held.Number 42 kind.Star change.Multiply refl refl refl)
+        (λ f. by_byte (Operates held.Number) b 100 c change.Divide _ (turned_last held.Number 100 kind.D role.Divide change.Divide refl refl refl refl) (λ g. cc g) f) e
+    held_stands held.Name b c e =
+        by_byte (Operates held.Name) b 119 c change.Weaken _ (turned_last held.Name 119 kind.W role.Weaken change.Weaken refl refl refl refl) (λ g. cc g) e
+    held_stands _ b c e = cc e
+
+    operator_stands : (h : Held) (b : ℕ) (c : Change) → IsFree h → Some c ≡ operator d h b → Operates h b c
+    operator_stands h b c i e =
+        by_test (Operates h) b 43 (nat_le 2 d) c change.Sum _ (λ t. turned_first h 43 kind.Plus change.Sum refl (plus_planned h i t) refl)
+        (λ f. by_test (Operates h) b 115 (nat_le 1 d) c change.Saturate _
+        (λ t. turned_last h 115 kind.S role.Saturate change.Saturate refl (saturate_planned h i t) refl refl) (held_stands h b c) f) e
+
+-- ids, operators, and no word
+pub id_word : (limit top d : ℕ) (h : Held) (ds : List ℕ) (v : ℕ) (n : List ℕ) → AreDigits ds → v ≡ value_from 0 ds → 0 < v → v ≤ top
+    → IsWord limit top d h ds (change.Id (pos v)) n (held_number limit d v)
+id_word limit top d h ds v n all same i l ws name some f = id_stands limit top d ws name some n h ds v f all same i l
+
+no_operator : (h : Held) (c : Change) → Some c ≡ held_operator h 0 → ⊥
+no_operator held.Number c e = cc
+no_operator held.Name c e = cc
+no_operator _ c e = cc
+
+pub operator_word : (limit top d : ℕ) (h : Held) (text : List ℕ) (c : Change) (n : List ℕ) → Some c ≡ operator d h (get_or text 0 0) → IsWord limit top d h (take 1 text) c n held.Nothing
+operator_word limit top d h [] c n e ws name some f = absurd (no_operator h c e)
+operator_word limit top d h (b ∷ text) c n e ws name some f = operator_stands limit top d ws name some n h b c f e
+
+pub no_word : (limit top d : ℕ) (h : Held) (n : List ℕ) → IsWord limit top d h [] change.Keep n h
+no_word limit top d h n ws name some f = ((ws, d, name, phase.Gap h, change.Keep, refl, refl, refl, refl), f)
+
+-- Words with blanks after them, and the end of the line.
 
 -- the phases before a word
 pub gap_of : (p : Phase) (h : Held) → Some h ≡ held_before p → p ≡ phase.Gap h

@@ -4,8 +4,7 @@ use Rattle.pb_proof.proofs.Common.{All-cons, All-head, All-map, All-nil, All-tai
 use Rattle.pb_proof.proofs.Common.{events_of, CanonicalProof, IsProofValue, IsStatementValue, Proof, Statement, Conclude, F, Header, Output}
 use Rattle.pb_proof.proofs.Common.{ended_lines, lines, proof_bytes, statement_bytes, SpellsStatement, AreSpelled, IsGap, IsStep, statements_of}
 use Rattle.pb_proof.specs.declared.statement.Statement.TheVariants.{End}
-use Rattle.pb_proof.proofs.lemmas.Line.Texts.{line_text, line_bytes, bytes-line}
-use Rattle.pb_proof.proofs.lemmas.Line.Spelled.{line_spelled}
+use Rattle.pb_proof.proofs.lemmas.Line.Texts.{line_text, line_bytes, bytes-line, line_spelled}
 use Rattle.pb_proof.proofs.lemmas.Written.{ended_none, ended-cons, lines-ended}
 
 abbrev item_of : Statement → Item Statement

@@ -1,5 +1,5 @@
 use Rattle.pb_proof.proofs.Common.{◌∙◌, ap, rules, subst, sym, unchanged, ids_at, IsIdsInOrder, keeps}
-use Rattle.pb_proof.proofs.lemmas.Ids.Pushes.{wants}
+use Rattle.pb_proof.proofs.lemmas.Ids.Theorems.{wants}
 use Rattle.pb_proof.proofs.line.delete.IdsMachine.take.Goals as goal
 
 pub returns-then-is_err : goal.returns-then-is_err

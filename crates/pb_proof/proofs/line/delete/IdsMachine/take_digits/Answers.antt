@@ -1,5 +1,5 @@
 use Rattle.pb_proof.proofs.Common.{◌<◌, ◌∙◌, ◌≡◌, arith, length, sym, take, length-take-le}
-use Rattle.pb_proof.proofs.lemmas.Ids.AtOnce.{id_runs}
+use Rattle.pb_proof.proofs.lemmas.Ids.Theorems.{id_runs}
 use Rattle.pb_proof.proofs.line.delete.IdsMachine.take_digits.Goals as goal
 
 pub returns-clause-runs : goal.returns-clause-runs

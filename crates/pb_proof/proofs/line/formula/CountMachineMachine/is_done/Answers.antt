@@ -1,4 +1,4 @@
-use Rattle.pb_proof.proofs.lemmas.Count.Theorems.{count_is_state}
+use Rattle.pb_proof.proofs.lemmas.Count.{count_is_state}
 use Rattle.pb_proof.proofs.line.formula.CountMachineMachine.is_done.Goals as goal
 
 pub returns-clause-state : goal.returns-clause-state

@@ -1,4 +1,4 @@
-use Rattle.pb_proof.proofs.Common.{arith, largest, top_of}
+use Rattle.pb_proof.proofs.Common.{arith}
 use Rattle.pb_proof.proofs.lemmas.Machine.Whole.{pol_leads}
 use Rattle.pb_proof.proofs.line.pol.whole.pol_at.Goals as goal
 

@@ -1,7 +1,5 @@
-use Rattle.pb_proof.proofs.Common.{◌<◌, ◌≡◌, ◌≤◌, ◌^◌, ap, arith, pos, sym, subst, take, to_z_pos, w64, Held, IsWord, ℤ}
-use Rattle.pb_proof.specs.engine.Line.PolWhole.{IsWord as IsPolWord}
-use Rattle.pb_proof.specs.declared.line.pol.phase.Change.TheVariants as change
-use Rattle.pb_proof.proofs.lemmas.Pol.AtOnce.{id_word}
+use Rattle.pb_proof.proofs.Common.{◌<◌, ◌≤◌, ◌^◌, arith, take, to_z_pos, w64}
+use Rattle.pb_proof.proofs.lemmas.Pol.Whole.{id_word}
 use Rattle.pb_proof.proofs.line.pol.word_prefix.id_word.Goals as goal
 
 pub returns-clause-word : goal.returns-clause-word

@@ -1,5 +1,5 @@
 use Rattle.pb_proof.proofs.Common.{◌||◌, ◌∙◌, ap, refl, subst, sym, unchanged, when_err, adds, is_more, IsLiteralsInOrder}
-use Rattle.pb_proof.proofs.lemmas.Literals.Pushes.{IsTaken, wants, same_state}
+use Rattle.pb_proof.proofs.lemmas.Literals.Theorems.{IsTaken, wants, same_state}
 use Rattle.pb_proof.proofs.line.solution.LiteralsMachine.take.Goals as goal
 
 pub returns-then-is_err : goal.returns-then-is_err

@@ -1,1 +1,0 @@
-use Rattle.pb_proof.proofs.line.pol.literal_prefix.name_at.Goals as goal
