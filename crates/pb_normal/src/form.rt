@@ -113,7 +113,7 @@ impl Normal {
         })
     }
 
-    // The same form, in as little memory as it allows. Allocates once, or not at all.
+    // The same form, in as little memory as it allows. Allocates once, or shrinks the list.
     pub(crate) fn compact(self) -> Result<Normal, AllocError>
         ensures same { IfOk result (λ r. r ≡ self) }
     {

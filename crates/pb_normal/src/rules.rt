@@ -215,7 +215,7 @@ fn measures_of_sum(left: &Normal, right: &Normal) -> (u128, u128)
     (sizes - 2 * gone, degrees.saturating_sub(gone))
 }
 
-// The five lists below have room for all terms from the start, so each is allocated once.
+// Three lists below have room for all terms from the start, so each is allocated once.
 
 fn multiplied_terms(alloc: Global, terms: &Terms, k: u128) -> Result<Vec<Entry>, AllocError>
     requires { All (λ t. t.coefficient * k < 2 ^ 128) terms.now }

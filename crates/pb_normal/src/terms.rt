@@ -146,7 +146,7 @@ impl Terms {
         true
     }
 
-    /// The same terms, stored in as little memory as they allow. Allocates once, or not at all.
+    /// The same terms, stored in as little memory as they allow. Allocates once, or shrinks the list.
     pub(crate) fn compact(self) -> Result<Terms, AllocError>
         ensures same { IfOk result (λ r. r ≡ self) }
     {
@@ -183,10 +183,11 @@ fn have_codes(terms: &[Entry]) -> bool
 }
 
 // The same terms, stored in as little memory as they allow.
-fn compacted(terms: Vec<Entry>) -> Result<Stored, AllocError>
+fn compacted(mut terms: Vec<Entry>) -> Result<Stored, AllocError>
     ensures same { IfOk result (λ r. entries_of r ≡ terms.items) }
 {
     if !have_codes(terms.as_slice()) {
+        terms.shrink_to_fit();
         return Ok(Stored::Wide(terms));
     }
     let codes = codes_of(*terms.allocator(), terms.as_slice())?;
