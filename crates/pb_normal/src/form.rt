@@ -7,7 +7,7 @@ ghost use Rattle.pb_normal.specs.meaning.Rules.{IsContradiction, assignment};
 use crate::entries::Entries;
 use crate::entry::Entry;
 use crate::fault::NormalFault;
-use crate::terms::Terms;
+use crate::terms::{Stored, Terms};
 use std::alloc::AllocError;
 use std::marker::Model;
 
@@ -102,7 +102,18 @@ impl Normal {
         })
     }
 
-    // The same form, in as little memory as it allows. Allocates once, or not at all.
+    // A copy whose terms are stored as entries.
+    pub(crate) fn widened(&self) -> Result<Normal, AllocError>
+        ensures same { IfOk result (λ r. r ≡ self.now) }
+    {
+        let entries = self.terms.to_entries()?;
+        Ok(Normal {
+            terms: Terms::wide(entries),
+            degree: self.degree,
+        })
+    }
+
+    // The same form, in as little memory as it allows. Allocates once, or shrinks the list.
     pub(crate) fn compact(self) -> Result<Normal, AllocError>
         ensures same { IfOk result (λ r. r ≡ self) }
     {
@@ -156,9 +167,19 @@ pub(crate) fn size_of(terms: &Terms) -> u128
     requires { total each terms.now < 2 ^ 128 }
     ensures { result ≡ total each terms.now }
 {
+    match &terms.stored {
+        Stored::Codes(codes) => codes.len() as u128,
+        Stored::Wide(list) => size_of_list(list.as_slice()),
+    }
+}
+
+// The same of a list.
+fn size_of_list(terms: &[Entry]) -> u128
+    requires { total each terms.now < 2 ^ 128 }
+    ensures { result ≡ total each terms.now }
+{
     let mut sum = 0;
-    'terms: for i in 0..terms.len() {
-        let t = terms.get(i);
+    for t in terms {
         sum += t.coefficient;
     }
     sum

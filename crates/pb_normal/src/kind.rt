@@ -28,6 +28,19 @@ impl<'a> Listing<'a> {
             Listing::Made(form) => form,
         }
     }
+
+    /// The form as one of its own. One that was made is not copied.
+    pub(crate) fn owned(self) -> Result<Normal, AllocError>
+        ensures same { IfOk result (λ r. r ≡ listing_form self.entry) }
+    {
+        match self {
+            Listing::Held(form) => {
+                let form = form.widened()?;
+                Ok(form)
+            }
+            Listing::Made(form) => Ok(form),
+        }
+    }
 }
 
 /// A form as a list of terms or as a tree.

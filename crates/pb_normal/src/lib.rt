@@ -12,6 +12,7 @@ mod hash_keys;
 mod kind;
 pub mod laws;
 mod linear;
+mod listed;
 mod literals;
 mod merge;
 mod name_chains;

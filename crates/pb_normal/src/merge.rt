@@ -7,7 +7,8 @@ ghost use Rattle.pb_normal.specs.meaning.Form.{total, each, IsRising};
 ghost use Rattle.pb_normal.specs.meaning.Rules.{with_coefficient};
 
 use crate::entry::Entry;
-use crate::terms::Terms;
+use crate::listed::Listed;
+use crate::terms::{Stored, Terms};
 use std::alloc::{AllocError, Global};
 
 // The sum of two terms of one variable, and how much of each cancels.
@@ -57,13 +58,52 @@ pub(crate) fn merged(
     ensures rising { IfOk result (λ r. IsRising 0 r.0.items) }
     ensures adds { IfOk result (λ r. Adds left.now right.now r.0.items r.1) }
 {
-    let mut out = Vec::with_capacity(alloc, left.len().saturating_add(right.len()))?;
+    match &left.stored {
+        Stored::Codes(codes) => merged_with(alloc, codes, right),
+        Stored::Wide(terms) => merged_with(alloc, terms, right),
+    }
+}
+
+// The same where it is known how the left list is stored.
+fn merged_with<L: Listed>(
+    alloc: Global,
+    left: &L,
+    right: &Terms,
+) -> Result<(Vec<Entry>, u128), AllocError>
+    requires left_rising { IsRising 0 (L.entries left.now) }
+    requires right_rising { IsRising 0 right.now }
+    requires left_size { total each (L.entries left.now) < 2 ^ 127 }
+    requires right_size { total each right.now < 2 ^ 127 }
+    ensures rising { IfOk result (λ r. IsRising 0 r.0.items) }
+    ensures adds { IfOk result (λ r. Adds (L.entries left.now) right.now r.0.items r.1) }
+{
+    match &right.stored {
+        Stored::Codes(codes) => merged_lists(alloc, left, codes),
+        Stored::Wide(terms) => merged_lists(alloc, left, terms),
+    }
+}
+
+// The same where it is known how both lists are stored.
+fn merged_lists<L: Listed, R: Listed>(
+    alloc: Global,
+    left: &L,
+    right: &R,
+) -> Result<(Vec<Entry>, u128), AllocError>
+    requires left_rising { IsRising 0 (L.entries left.now) }
+    requires right_rising { IsRising 0 (R.entries right.now) }
+    requires left_size { total each (L.entries left.now) < 2 ^ 127 }
+    requires right_size { total each (R.entries right.now) < 2 ^ 127 }
+    ensures rising { IfOk result (λ r. IsRising 0 r.0.items) }
+    ensures adds { IfOk result (λ r.
+        Adds (L.entries left.now) (R.entries right.now) r.0.items r.1) }
+{
+    let mut out = Vec::with_capacity(alloc, left.count().saturating_add(right.count()))?;
     let mut cancelled = 0;
     let mut i = 0;
     let mut j = 0;
-    'merge: while i < left.len() && j < right.len() {
-        let x = left.get(i);
-        let y = right.get(j);
+    'merge: while i < left.count() && j < right.count() {
+        let x = left.at(i);
+        let y = right.at(j);
         if x.variable < y.variable {
             out.push(x)?;
             i += 1;
@@ -80,8 +120,8 @@ pub(crate) fn merged(
             j += 1;
         }
     }
-    left.append_from(i, &mut out)?;
-    right.append_from(j, &mut out)?;
+    left.append_rest(i, &mut out)?;
+    right.append_rest(j, &mut out)?;
     Ok((out, cancelled))
 }
 
@@ -93,12 +133,40 @@ pub(crate) fn cancelled(left: &Terms, right: &Terms) -> u128
     requires right_size { total each right.now < 2 ^ 127 }
     ensures { Cancels left.now right.now result }
 {
+    match &left.stored {
+        Stored::Codes(codes) => cancelled_with(codes, right),
+        Stored::Wide(terms) => cancelled_with(terms, right),
+    }
+}
+
+// The same where it is known how the left list is stored.
+fn cancelled_with<L: Listed>(left: &L, right: &Terms) -> u128
+    requires left_rising { IsRising 0 (L.entries left.now) }
+    requires right_rising { IsRising 0 right.now }
+    requires left_size { total each (L.entries left.now) < 2 ^ 127 }
+    requires right_size { total each right.now < 2 ^ 127 }
+    ensures { Cancels (L.entries left.now) right.now result }
+{
+    match &right.stored {
+        Stored::Codes(codes) => cancelled_in_lists(left, codes),
+        Stored::Wide(terms) => cancelled_in_lists(left, terms),
+    }
+}
+
+// The same where it is known how both lists are stored.
+fn cancelled_in_lists<L: Listed, R: Listed>(left: &L, right: &R) -> u128
+    requires left_rising { IsRising 0 (L.entries left.now) }
+    requires right_rising { IsRising 0 (R.entries right.now) }
+    requires left_size { total each (L.entries left.now) < 2 ^ 127 }
+    requires right_size { total each (R.entries right.now) < 2 ^ 127 }
+    ensures { Cancels (L.entries left.now) (R.entries right.now) result }
+{
     let mut cancelled = 0;
     let mut i = 0;
     let mut j = 0;
-    'merge: while i < left.len() && j < right.len() {
-        let l = left.get(i);
-        let r = right.get(j);
+    'merge: while i < left.count() && j < right.count() {
+        let l = left.at(i);
+        let r = right.at(j);
         if l.variable < r.variable {
             i += 1;
         } else if r.variable < l.variable {

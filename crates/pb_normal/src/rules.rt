@@ -5,7 +5,7 @@ ghost use Rattle.std.specs.Int.{div_ceil};
 ghost use Rattle.std.specs.Int.RustNames.{unsigned_abs};
 ghost use Rattle.pb_text.specs.meaning.Limits.{largest};
 ghost use Rattle.pb_normal.specs.engine.Adds.{SumFits};
-ghost use Rattle.pb_normal.specs.meaning.Form.{IsNormal, IsWithin, Follows, FollowsBoth, IsOpposite, counted, each, total};
+ghost use Rattle.pb_normal.specs.meaning.Form.{IsNormal, IsRising, IsWithin, Follows, FollowsBoth, IsOpposite, counted, each, total};
 ghost use Rattle.pb_normal.specs.meaning.Rules.{IsSum, Passes, SumPasses, SumMeasures, SumIsContradiction, multiplied, divided, saturated, weakened, axiom_on, negation_of, with_coefficient, of_variable, opposite};
 
 use crate::entry::Entry;
@@ -100,12 +100,23 @@ impl Normal {
         ensures sound { IfOk result (λ r. Follows self.now r) }
         ensures memory { IfErr result (λ e. e ≡ NormalFault.Memory) }
     {
-        let k = divisor.unsigned_abs();
-        let terms = divided_terms(self.terms.allocator(), &self.terms, k)?;
-        let degree = self.degree.div_ceil(k);
+        let form = self.widened()?;
+        let quotient = form.divided(divisor.unsigned_abs())?;
+        Ok(quotient)
+    }
+
+    // The form with all coefficients and the degree divided and rounded up, in the same list if it has entries.
+    pub(crate) fn divided(self, k: u128) -> Result<Normal, AllocError>
+        requires { 0 < k }
+        ensures quotient { IfOk result (λ r. r ≡ divided k self) }
+        ensures normal { IfOk result (λ r. IsNormal r) }
+    {
+        let Normal { terms, degree } = self;
+        let mut terms = terms.into_entries()?;
+        divide_all(&mut terms, k);
         Ok(Normal {
             terms: Terms::wide(terms),
-            degree,
+            degree: degree.div_ceil(k),
         })
     }
 
@@ -116,10 +127,22 @@ impl Normal {
         ensures sound { IfOk result (λ r. Follows self.now r) }
         ensures memory { IfErr result (λ e. e ≡ NormalFault.Memory) }
     {
-        let terms = saturated_terms(self.terms.allocator(), &self.terms, self.degree)?;
+        let form = self.widened()?;
+        let saturation = form.saturated()?;
+        Ok(saturation)
+    }
+
+    // The form with every coefficient reduced to at most the degree, in the same list if it has entries.
+    pub(crate) fn saturated(self) -> Result<Normal, AllocError>
+        ensures saturated { IfOk result (λ r. r ≡ saturated self) }
+        ensures normal { IfOk result (λ r. IsNormal r) }
+    {
+        let Normal { terms, degree } = self;
+        let mut terms = terms.into_entries()?;
+        saturate_all(&mut terms, degree);
         Ok(Normal {
             terms: Terms::wide(terms),
-            degree: self.degree,
+            degree,
         })
     }
 
@@ -192,7 +215,7 @@ fn measures_of_sum(left: &Normal, right: &Normal) -> (u128, u128)
     (sizes - 2 * gone, degrees.saturating_sub(gone))
 }
 
-// The five lists below have room for all terms from the start, so each is allocated once.
+// Three lists below have room for all terms from the start, so each is allocated once.
 
 fn multiplied_terms(alloc: Global, terms: &Terms, k: u128) -> Result<Vec<Entry>, AllocError>
     requires { All (λ t. t.coefficient * k < 2 ^ 128) terms.now }
@@ -210,36 +233,53 @@ fn multiplied_terms(alloc: Global, terms: &Terms, k: u128) -> Result<Vec<Entry>,
     Ok(out)
 }
 
-fn divided_terms(alloc: Global, terms: &Terms, k: u128) -> Result<Vec<Entry>, AllocError>
+// The term with its coefficient divided and rounded up.
+fn divided_term(term: Entry, k: u128) -> Entry
     requires { 0 < k }
-    ensures { IfOk result (λ v.
-        v.items ≡ map (λ t. with_coefficient t (div_ceil t.coefficient k)) terms.now) }
+    ensures { result ≡ with_coefficient term (div_ceil term.coefficient k) }
 {
-    let mut out = Vec::with_capacity(alloc, terms.len())?;
-    out.extend(
-        terms.iter().map(|t| Entry {
-            coefficient: t.coefficient.div_ceil(k),
-            ..t
-        }),
-    )?;
-    Ok(out)
+    Entry {
+        coefficient: term.coefficient.div_ceil(k),
+        ..term
+    }
 }
 
-fn saturated_terms(alloc: Global, terms: &Terms, degree: u128) -> Result<Vec<Entry>, AllocError>
-    ensures { IfOk result (λ v. v.items ≡ filter (λ t. nat_lt 0 t.coefficient)
-        (map (λ t. with_coefficient t (min t.coefficient degree)) terms.now)) }
+// Divides each coefficient and rounds it up.
+fn divide_all(terms: &mut Vec<Entry>, k: u128)
+    requires { 0 < k }
+    ensures { terms.new.items ≡
+        map (λ t. with_coefficient t (div_ceil t.coefficient k)) terms.old.items }
 {
-    let mut out = Vec::with_capacity(alloc, terms.len())?;
-    out.extend(
-        terms
-            .iter()
-            .map(|t| Entry {
-                coefficient: t.coefficient.min(degree),
-                ..t
-            })
-            .filter(|t| t.coefficient > 0),
-    )?;
-    Ok(out)
+    'terms: for i in 0..terms.len() {
+        let t = terms[i];
+        terms[i] = divided_term(t, k);
+    }
+}
+
+// The term with its coefficient reduced to at most the degree.
+fn saturated_term(term: Entry, degree: u128) -> Entry
+    ensures { result ≡ with_coefficient term (min term.coefficient degree) }
+{
+    Entry {
+        coefficient: term.coefficient.min(degree),
+        ..term
+    }
+}
+
+// Reduces each coefficient to at most the degree, and drops the terms whose coefficient is then 0.
+fn saturate_all(terms: &mut Vec<Entry>, degree: u128)
+    requires { IsRising 0 terms.old.items }
+    ensures { terms.new.items ≡ filter (λ t. nat_lt 0 t.coefficient)
+        (map (λ t. with_coefficient t (min t.coefficient degree)) terms.old.items) }
+{
+    if degree == 0 {
+        terms.clear();
+        return;
+    }
+    'terms: for i in 0..terms.len() {
+        let t = terms[i];
+        terms[i] = saturated_term(t, degree);
+    }
 }
 
 fn opposite_terms(alloc: Global, terms: &Terms) -> Result<Vec<Entry>, AllocError>

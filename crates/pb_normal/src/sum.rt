@@ -191,8 +191,8 @@ impl<'a> Sum<'a> {
         if is_one(k) {
             return Ok(self);
         }
-        let listing = self.kind.listing(alloc)?;
-        let quotient = listing.form().divide(divisor)?;
+        let form = self.kind.listing(alloc)?.owned()?;
+        let quotient = form.divided(k)?;
         Ok(Sum::made(quotient))
     }
 
@@ -201,8 +201,8 @@ impl<'a> Sum<'a> {
         ensures saturated { IfOk result (λ r. r ≡ saturated self.entry) }
         ensures memory { IfErr result (λ e. e ≡ NormalFault.Memory) }
     {
-        let listing = self.kind.listing(alloc)?;
-        let saturation = listing.form().saturate()?;
+        let form = self.kind.listing(alloc)?.owned()?;
+        let saturation = form.saturated()?;
         Ok(Sum::made(saturation))
     }
 

@@ -83,16 +83,30 @@ impl Terms {
         Entries::of(self)
     }
 
-    /// Appends the terms from an index on to a list.
-    pub(crate) fn append_from(&self, from: usize, out: &mut Vec<Entry>) -> Result<(), AllocError>
-        requires { from ≤ length self.now }
-        ensures items { IfOk result (λ _. out.new.items ≡ out.old.items ++ drop from self.now) }
+    /// A list of the same terms.
+    pub(crate) fn to_entries(&self) -> Result<Vec<Entry>, AllocError>
+        ensures same { IfOk result (λ r. r.items ≡ self.now) }
     {
+        let mut out = Vec::with_capacity(self.allocator(), self.len())?;
         match &self.stored {
-            Stored::Codes(codes) => append_decoded(&codes[from..], out)?,
-            Stored::Wide(terms) => out.extend_from_slice(&terms[from..])?,
+            Stored::Codes(codes) => append_decoded(codes.as_slice(), &mut out)?,
+            Stored::Wide(terms) => out.extend_from_slice(terms.as_slice())?,
         }
-        Ok(())
+        Ok(out)
+    }
+
+    /// A list of the same terms. If they are stored in one, it is this.
+    pub(crate) fn into_entries(self) -> Result<Vec<Entry>, AllocError>
+        ensures same { IfOk result (λ r. r.items ≡ self) }
+    {
+        match self.stored {
+            Stored::Codes(codes) => {
+                let mut out = Vec::with_capacity(*codes.allocator(), codes.len())?;
+                append_decoded(codes.as_slice(), &mut out)?;
+                Ok(out)
+            }
+            Stored::Wide(terms) => Ok(terms),
+        }
     }
 
     /// A copy.
@@ -132,7 +146,7 @@ impl Terms {
         true
     }
 
-    /// The same terms, stored in as little memory as they allow. Allocates once, or not at all.
+    /// The same terms, stored in as little memory as they allow. Allocates once, or shrinks the list.
     pub(crate) fn compact(self) -> Result<Terms, AllocError>
         ensures same { IfOk result (λ r. r ≡ self) }
     {
@@ -169,10 +183,11 @@ fn have_codes(terms: &[Entry]) -> bool
 }
 
 // The same terms, stored in as little memory as they allow.
-fn compacted(terms: Vec<Entry>) -> Result<Stored, AllocError>
+fn compacted(mut terms: Vec<Entry>) -> Result<Stored, AllocError>
     ensures same { IfOk result (λ r. entries_of r ≡ terms.items) }
 {
     if !have_codes(terms.as_slice()) {
+        terms.shrink_to_fit();
         return Ok(Stored::Wide(terms));
     }
     let codes = codes_of(*terms.allocator(), terms.as_slice())?;

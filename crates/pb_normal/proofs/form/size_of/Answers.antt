@@ -1,14 +1,7 @@
 use Rattle.pb_normal.proofs.Common.{arith}
-use Rattle.pb_normal.proofs.lemmas.terms.Merging.{total-read, total-drop, no_entry}
-use Rattle.pb_normal.specs.meaning.Form.{each}
+use Rattle.pb_normal.proofs.lemmas.terms.Entries.{total-decoded}
 use Rattle.pb_normal.proofs.form.size_of.Goals as goal
 
-pub overflow_add-sum : goal.overflow_add-sum
-overflow_add-sum c =
-    let rest = total-drop each c.args.terms.now c.terms.i no_entry c.get-t.result (omega arith) (c.get-t.ensures.read no_entry) in
-    omega (arith, c.terms.invariant, c.requires, rest)
-
-pub terms-preserved : goal.terms-preserved
-terms-preserved c =
-    let rest = total-drop each c.args.terms.now c.terms.i no_entry c.get-t.result (omega arith) (c.get-t.ensures.read no_entry) in
-    omega (arith, c.terms.invariant, rest)
+pub returns-in-Codes : goal.returns-in-Codes
+returns-in-Codes c =
+    rw (← c.terms.view_is, c.in-Codes.is, total-decoded c.in-Codes.codes.items) (omega (arith, c.len.ensures, c.in-Codes.codes.ok.0))

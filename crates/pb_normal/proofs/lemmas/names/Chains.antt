@@ -1,6 +1,6 @@
 -- Chains of names with the same hash.
 use Rattle.pb_normal.proofs.Common.{ℕ, ◌++◌, ◌+◌, ◌-◌, ◌<◌, ◌∙◌, ◌∷◌, ◌≡◌, ◌≢◌, ◌≤◌, ◌⊎◌, [], ap, arith, cases_eq, cases_lt, get_or, get_or_append_left, inl, inr}
-use Rattle.pb_normal.proofs.Common.{length, List, length-map, map-set, refl, slice_get, Some, subst, suc, sym, zero, chain_at, hashes_of, nexts_of, chain_of, IsChained, IsLast}
+use Rattle.pb_normal.proofs.Common.{length, List, length-map, map-set, refl, slice_get, Some, subst, suc, sym, chain_at, hashes_of, nexts_of, chain_of, IsChained, IsLast}
 use Rattle.std.proofs.lemmas.List.{get_or-replicate, length-replicate, get_or-set_other, get_or-set_same, length-set}
 use Rattle.std.proofs.Math.ListN.{replicate, set}
 use Rattle.std.proofs.Math.Seq.{map-set_same}

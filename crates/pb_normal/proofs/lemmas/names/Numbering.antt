@@ -1,7 +1,7 @@
 -- A name keeps its number, and names appear one by one. Offered to other crates.
-use Rattle.pb_normal.proofs.Common.{ℕ, ◌++◌, ◌+◌, ◌<◌, ◌||◌, ◌∙◌, ◌∷◌, ◌≡◌, [], ap, arith, Bool, cond, Err, false, length, List, map, nat_lt, None}
+use Rattle.pb_normal.proofs.Common.{ℕ, ◌++◌, ◌+◌, ◌<◌, ◌||◌, ◌∙◌, ◌∷◌, ◌≡◌, [], ap, arith, Bool, cond, Err, false, length, List, map}
 use Rattle.pb_normal.proofs.Common.{not, Ok, OnErr, Option, refl, Result, slice_get, Some, suc, sym, take, true, zero, or_from, or_left, or_parts}
-use Rattle.pb_normal.proofs.Common.{or_right, nat_tests, map-append, take-map, slice_get_within, bytes_eq-Decides, list_any, position}
+use Rattle.pb_normal.proofs.Common.{or_right, map-append, take-map, slice_get_within, bytes_eq-Decides, list_any}
 use Rattle.pb_normal.proofs.Common.{position_or_len, bytes_eq, Term, Entry, Side, entry_of, raw_of, AfterPrefix, AreDistinct, has_name, HasNames}
 use Rattle.pb_normal.proofs.Common.{number_in, with_name, with_names, names_of, side_number, side_terms}
 

@@ -1,7 +1,7 @@
 -- Tables of names.
 use Rattle.pb_normal.proofs.Common.{ℕ, ◌++◌, ◌+◌, ◌<◌, ◌∙◌, ◌∷◌, ◌≡◌, ◌≢◌, ◌≤◌, [], ap, All, All-head, All-nil, All-push, All-tail, arith, Bool, cond, false, get_or, Global, IfOk, IfSome, length, length-append, length-map, List, map, map-append, None}
 use Rattle.pb_normal.proofs.Common.{Ok, Err, OnOk, Option, refl, Result, slice_get, Some, subst, suc, sym, true, zero, get_or_from_slice_get, slice_get_within}
-use Rattle.pb_normal.proofs.Common.{AreDistinct, ends_of, has_name, hash_by, hashes_of, IsChained, IsTable, listed, names_in, nexts_of, number_in, texts}
+use Rattle.pb_normal.proofs.Common.{AreDistinct, ends_of, has_name, hash_by, hashes_of, IsChained, IsTable, listed, names_in, nexts_of, number_in}
 use Rattle.std.proofs.lemmas.List.{get_or-map}
 use Rattle.std.specs.Prelude.{IfNone}
 use Rattle.std.specs.Str.{IsUtf8}

@@ -1,5 +1,5 @@
 -- Names in one list of bytes.
-use Rattle.pb_normal.proofs.Common.{ℕ, ◌++◌, ◌+◌, ◌-◌, ◌<◌, ◌∙◌, ◌∷◌, ◌≡◌, ◌≤◌, [], ap, append-nil, arith, drop, get_or, length, length-append, List, refl, slice_get}
+use Rattle.pb_normal.proofs.Common.{ℕ, ◌++◌, ◌+◌, ◌-◌, ◌<◌, ◌∙◌, ◌∷◌, ◌≡◌, ◌≤◌, [], ap, arith, drop, get_or, length, List, refl, slice_get}
 use Rattle.pb_normal.proofs.Common.{Some, suc, take, take_all, zero, AreEnds, ends_of, hashes_of, length-map, names_in, nexts_of, texts}
 use Rattle.std.proofs.lemmas.List.{drop-append-le, get_or-map, length-drop, take-append-le}
 use Rattle.std.proofs.Math.Seq.{drop-append_seam}

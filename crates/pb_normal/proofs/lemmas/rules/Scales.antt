@@ -1,6 +1,6 @@
 -- Multiplication and saturation. Offered to other crates.
 use Rattle.pb_normal.proofs.Common.{ℕ, ◌*◌, ◌+◌, ◌/◌, ◌<◌, ◌^◌, ◌∷◌, ◌≡◌, ◌≤◌, [], arith, Bool, cond, false, get_or, inl, inr, List, ltb, map, min}
-use Rattle.pb_normal.proofs.Common.{refl, suc, true, zero, mul-le-mul_left, cases_lt, nat_tests, div-add-mod', le-div, All, filter, Entry, counted}
+use Rattle.pb_normal.proofs.Common.{refl, suc, true, zero, ap, lt-ltb, mul-le-mul_left, cases_lt, nat_tests, div-add-mod', le-div, All, filter, Entry, counted}
 use Rattle.pb_normal.proofs.Common.{each, Form, Holds, IsNormal, IsRising, IsWithin, size, total, true_at, multiplied, Passes, saturated}
 use Rattle.pb_normal.proofs.Common.{with_coefficient}
 use Rattle.pb_normal.proofs.lemmas.terms.Maps.{IsRising-map, total-filter-le, total-map-le, counted-le}
@@ -74,6 +74,19 @@ least_of false n d r s le = omega arith
 total-capped : (p : ℕ → Bool → Bool) (d : ℕ) (ts : List Entry) → min d (total p ts) ≤ total p (map (λ t. with_coefficient t (min t.coefficient d)) ts)
 total-capped p d [] = omega arith
 total-capped p d (t ∷ ts) = least_of (p t.variable t.negated) t.coefficient d _ _ (total-capped p d ts)
+
+-- at degree 0 no term is left, and at any other degree each
+pub saturated_nothing : (ts : List Entry) → filter (λ t. ltb 0 t.coefficient) (map (λ t. with_coefficient t (min t.coefficient 0)) ts) ≡ []
+saturated_nothing [] = refl
+saturated_nothing (t ∷ ts) =
+    let none : min t.coefficient 0 ≡ 0 = omega arith in
+    rw none (saturated_nothing ts)
+
+pub saturated_each : (d n : ℕ) (ts : List Entry) → 0 < d → IsRising n ts → filter (λ t. ltb 0 t.coefficient) (map (λ t. with_coefficient t (min t.coefficient d)) ts) ≡ map (λ t. with_coefficient t (min t.coefficient d)) ts
+saturated_each d n [] h r = refl
+saturated_each d n (t ∷ ts) h r =
+    let positive : ltb 0 (min t.coefficient d) ≡ true = lt-ltb _ _ (omega (arith, r.1, h)) in
+    rw positive (ap (λ (xs : List Entry). with_coefficient t (min t.coefficient d) ∷ xs) (saturated_each d (t.variable + 1) ts h r.2))
 
 pub Holds-saturated : (a : ℕ → Bool) (f : Form) → Holds a f → Holds a (saturated f)
 Holds-saturated a f h =

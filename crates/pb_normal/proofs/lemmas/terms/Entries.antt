@@ -1,7 +1,8 @@
 -- Two entries are compared by their parts.
-use Rattle.pb_normal.proofs.Common.{◌&&◌, ◌≡◌, ap, Bool, eqb, false, refl, true, Decides-and, Decides-eqb, booleans_Decides, Entry}
+use Rattle.pb_normal.proofs.Common.{ℕ, ◌&&◌, ◌∷◌, ◌≡◌, [], ap, arith, Bool, eqb, false, length, List, map, refl, true, Decides-and, Decides-eqb, booleans_Decides, each, Entry, total}
 use Rattle.std.specs.Bool.{beq, Decides}
 use Rattle.pb_normal.proofs.lemmas.rules.Unique.{same_entry}
+use Rattle.pb_normal.specs.engine.Codes.{decoded}
 
 pub entry-Decides : (a b : Entry) → Decides (eqb a.variable b.variable && (beq a.negated b.negated && eqb a.coefficient b.coefficient)) (a ≡ b)
 entry-Decides a b =
@@ -12,3 +13,8 @@ entry-Decides a b =
 pub true_unless_false : (b : Bool) → (b ≡ false → ⊥) → b ≡ true
 true_unless_false true h = refl
 true_unless_false false h = absurd (h refl)
+
+-- each code counts 1
+pub total-decoded : (codes : List ℕ) → total each (map decoded codes) ≡ length codes
+total-decoded [] = refl
+total-decoded (x ∷ xs) = omega (arith, total-decoded xs)

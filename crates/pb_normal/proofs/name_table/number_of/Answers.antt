@@ -1,4 +1,3 @@
-use Rattle.pb_normal.proofs.Common.{rules}
 use Rattle.pb_normal.proofs.lemmas.names.Tables.{looked_up}
 use Rattle.pb_normal.proofs.name_table.number_of.Goals as goal
 

@@ -1,4 +1,4 @@
-use Rattle.pb_normal.proofs.Common.{ℕ, ◌+◌, ◌∙◌, ◌≡◌, ◌≤◌, ap, arith, length, refl, subst, sym, ends_of, hashes_of, IsChained, nexts_of}
+use Rattle.pb_normal.proofs.Common.{◌+◌, ◌∙◌, ◌≡◌, ◌≤◌, ap, arith, length, refl, ends_of, hashes_of, IsChained, nexts_of}
 use Rattle.std.proofs.lemmas.List.{with_items_is}
 use Rattle.pb_normal.proofs.lemmas.names.Tables.{ends_after, entries_after, hashes_after, IsTable-push, IsTable-same, listed-push}
 use Rattle.pb_normal.proofs.name_table.put.Goals as goal

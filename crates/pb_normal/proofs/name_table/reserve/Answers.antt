@@ -1,4 +1,4 @@
-use Rattle.pb_normal.proofs.Common.{ℕ, ◌*◌, ◌+◌, ◌∙◌, ◌≡◌, ◌≤◌, ap, arith, ends_of, hashes_of, IsChained, length, nexts_of, refl}
+use Rattle.pb_normal.proofs.Common.{◌∙◌, ◌≡◌, ◌≤◌, ap, arith, ends_of, hashes_of, IsChained, length, nexts_of, refl}
 use Rattle.std.proofs.lemmas.List.{with_items_is}
 use Rattle.pb_normal.proofs.lemmas.names.Tables.{IsTable-linked, IsTable-same}
 use Rattle.pb_normal.proofs.name_table.reserve.Goals as goal

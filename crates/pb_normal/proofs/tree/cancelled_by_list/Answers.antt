@@ -1,4 +1,4 @@
-use Rattle.pb_normal.proofs.Common.{◌<◌, ◌≡◌, arith, get_or, length, refl, take, take-append-drop, take_all}
+use Rattle.pb_normal.proofs.Common.{◌<◌, ◌≡◌, arith, length, take, take-append-drop, take_all}
 use Rattle.pb_normal.proofs.lemmas.terms.KeyedTerms.{total-prefix}
 use Rattle.pb_normal.proofs.lemmas.terms.Lookups.{AllCancel-next, AllCancel-fits, Cancels-AllCancel}
 use Rattle.pb_normal.proofs.lemmas.terms.Merging.{positive-read, no_entry}

@@ -1,4 +1,4 @@
-use Rattle.pb_normal.proofs.Common.{◌<◌, arith, get_or, length, refl, take, take-append-drop}
+use Rattle.pb_normal.proofs.Common.{◌<◌, arith, length, take, take-append-drop}
 use Rattle.pb_normal.proofs.lemmas.terms.Merging.{positive-read, no_entry}
 use Rattle.pb_normal.proofs.lemmas.terms.KeyedTerms.{Putting-fits, Putting-next, Putting-cancels}
 use Rattle.pb_normal.proofs.tree.put_all.Goals as goal

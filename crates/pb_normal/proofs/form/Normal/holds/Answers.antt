@@ -1,5 +1,5 @@
-use Rattle.pb_normal.proofs.Common.{◌<◌, arith, length, true_at, assignment}
-use Rattle.pb_normal.proofs.lemmas.terms.Merging.{total-read, total-drop, no_entry}
+use Rattle.pb_normal.proofs.Common.{arith, true_at, assignment}
+use Rattle.pb_normal.proofs.lemmas.terms.Merging.{total-drop, no_entry}
 use Rattle.pb_normal.proofs.lemmas.terms.Maps.{total-le-each}
 use Rattle.pb_normal.proofs.form.Normal.holds.Goals as goal
 

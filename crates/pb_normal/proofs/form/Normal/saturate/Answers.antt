@@ -1,14 +1,6 @@
-use Rattle.pb_normal.proofs.Common.{Form}
-use Rattle.pb_normal.proofs.lemmas.rules.Scales.{IsNormal-saturated, Holds-saturated}
+use Rattle.pb_normal.proofs.lemmas.rules.Scales.{Holds-saturated}
 use Rattle.pb_normal.proofs.form.Normal.saturate.Goals as goal
-
-pub invariant_of-result : goal.invariant_of-result
-invariant_of-result c = rw (c.wide.ensures.same, c.in_ok-terms.ensures) (IsNormal-saturated _ c.self.invariant)
-
-pub returns-clause-normal : goal.returns-clause-normal
-returns-clause-normal c = invariant_of-result c
 
 pub returns-clause-sound : goal.returns-clause-sound
 returns-clause-sound c =
-    let f : Form = record { terms = c.self.inside.terms; degree = c.self.inside.degree } in
-    rw (c.wide.ensures.same, c.in_ok-terms.ensures, ← c.self.view_is) (λ a. Holds-saturated a f)
+    rw (c.in_ok-saturation.ensures.saturated, c.in_ok-form.ensures.same) (λ a. Holds-saturated a c.args.self.now)

@@ -1,4 +1,3 @@
-use Rattle.pb_normal.proofs.Common.{rules}
 use Rattle.pb_normal.proofs.lemmas.names.Tables.{added_at, added_has, added_number}
 use Rattle.pb_normal.proofs.names.Names.number.Goals as goal
 

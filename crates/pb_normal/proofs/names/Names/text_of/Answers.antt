@@ -1,4 +1,3 @@
-use Rattle.pb_normal.proofs.Common.{rules}
 use Rattle.pb_normal.proofs.names.Names.text_of.Goals as goal
 
 pub name_at-requires-clause-readable : goal.name_at-requires-clause-readable
