@@ -1,6 +1,6 @@
 //! Short texts on the stack.
 
-ghost use Rattle.std.specs.Prelude.{◌≡◌, ◌+◌, ◌≤◌, ◌<◌, [], ◌∷◌, ◌++◌, length, decimal};
+ghost use Rattle.std.specs.Prelude.{◌≡◌, ◌+◌, ◌≤◌, ◌<◌, [], ◌∷◌, ◌++◌, ◌-◌, length, take, decimal};
 ghost use Rattle.std.specs.Fmt.{signed_decimal};
 ghost use Rattle.pb_sums.specs.contract.Canonical.{weight_bytes};
 
@@ -9,6 +9,9 @@ use std::marker::Model;
 
 /// The maximum length of a piece, in bytes.
 pub const ROOM: usize = 512;
+
+/// How many bytes of a short text are copied at once.
+const HALF: usize = 4;
 
 /// A text of at most `ROOM` bytes, which grows at its start. Contracts see it as the list of its bytes.
 #[derive(Drop)]
@@ -61,8 +64,9 @@ impl Piece {
         requires { length self.old < ROOM }
         ensures { self.new ≡ byte ∷ self.old }
     {
-        self.start -= 1;
-        self.bytes[self.start] = byte;
+        let start = self.start - 1;
+        self.bytes[start] = byte;
+        self.start = start;
     }
 
     /// Prepends a text.
@@ -71,9 +75,9 @@ impl Piece {
         requires { length text.now + length self.old ≤ ROOM }
         ensures { self.new ≡ text.now ++ self.old }
     {
-        let end = self.start;
-        self.start -= text.len();
-        self.bytes[self.start..end].copy_from_slice(text);
+        let start = self.start - text.len();
+        copy_text(text, &mut self.bytes[start..self.start]);
+        self.start = start;
     }
 
     /// Prepends the digits of a count.
@@ -138,4 +142,28 @@ impl Piece {
         self.put_digits(value.unsigned_abs());
         self.put(if value < 0 { b'-' } else { b'+' });
     }
+}
+
+/// Copies a text into a slice of its length.
+#[inline(always)]
+fn copy_text(text: &[u8], out: &mut [u8])
+    requires { length out.old ≡ length text.now }
+    ensures { out.new ≡ text.now }
+{
+    match (text.first_chunk::<HALF>(), text.last_chunk::<HALF>()) {
+        (Some(first), Some(last)) if text.len() <= 2 * HALF => copy_halves(*first, *last, out),
+        _ => out.copy_from_slice(text),
+    }
+}
+
+/// Copies the first and the last bytes of a text into a slice of its length. They may overlap.
+#[inline(always)]
+fn copy_halves(first: [u8; HALF], last: [u8; HALF], out: &mut [u8])
+    requires long { 4 ≤ length out.old }
+    requires short { length out.old ≤ 8 }
+    ensures { out.new ≡ take (length out.old - 4) first ++ last }
+{
+    let middle = out.len() - HALF;
+    out[..HALF].copy_from_slice(&first);
+    out[middle..].copy_from_slice(&last);
 }

@@ -244,10 +244,9 @@ fn put_end(relation: Relation, degree: i128, piece: &mut Piece)
 {
     piece.put_text(b" ;");
     piece.put_number(degree);
-    piece.put(b' ');
-    piece.put(b'=');
-    if relation == Relation::AtLeast {
-        piece.put(b'>');
+    match relation {
+        Relation::AtLeast => piece.put_text(b">= "),
+        Relation::Equal => piece.put_text(b"= "),
     }
 }
 
