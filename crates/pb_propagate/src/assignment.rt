@@ -184,14 +184,6 @@ impl Assignment {
         }
     }
 
-    /// Whether the literal of a code is true. A variable that is not there has no value.
-    pub fn has_satisfied(&self, code: usize) -> bool
-        requires { code + 1 < 2 ^ 64 }
-        ensures { result ≡ true_at self.now.values.items code }
-    {
-        self.has_falsified(opposite(code))
-    }
-
     /// Whether the literal of a code has no value.
     pub fn leaves_open(&self, code: u32) -> bool
         requires { code < 4 * length self.now.values.items }

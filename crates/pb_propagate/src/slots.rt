@@ -6,7 +6,7 @@ ghost use Rattle.pb_propagate.specs.engine.Engine.Fields.{forms_of};
 ghost use Rattle.pb_propagate.specs.engine.Engine.Rest.{IsAtRest, waits};
 ghost use Rattle.pb_propagate.specs.engine.Engine.Root.{HasWidened, HasGained, HasVacated};
 ghost use Rattle.pb_propagate.specs.engine.Clauses.Shapes.{IsClause, IsPlanned};
-ghost use Rattle.pb_propagate.specs.engine.Clauses.Runs.{AreReady, CanHold, IsRefitted};
+ghost use Rattle.pb_propagate.specs.engine.Clauses.Runs.{AreFree, AreReady, CanHold, IsFreePair, IsRefitted};
 
 use crate::assignment::Assignment;
 use crate::clause::{codes_of, is_clause};
@@ -104,7 +104,7 @@ struct Planned {
 }
 
 // How a form is stored if it is a clause that can be watched: it has two literals that the assigned ones do not falsify,
-// or one that is true, and the slot has room for it.
+// and the slot has room for it.
 fn plan(
     alloc: Global,
     form: &Normal,
@@ -116,6 +116,8 @@ fn plan(
     requires slot { slot < length clauses.old.blocks.literals }
     ensures planned { IfOk result (λ planned. IfSome planned (λ p. IsPlanned form.now p ×
         CanHold clauses.new slot (length p.codes.items))) }
+    ensures free { IfOk result (λ planned. IfSome planned (λ p. IfSome assigned.entry (λ a.
+        IsFreePair a.now.values.items p.codes.items p.pair))) }
     ensures clauses { IsRefitted clauses.old clauses.new }
 {
     if !is_clause(form) {
@@ -135,8 +137,8 @@ fn plan(
     Ok(Some(Planned { codes, pair }))
 }
 
-/// Stores a form in an empty slot. A clause with fewer than two literals that the assigned ones leave open, and none
-/// that is true, is stored with its entries.
+/// Stores a form in an empty slot. A clause of which the assigned literals falsify all but one or all is stored with its
+/// entries.
 pub fn occupy(
     store: &mut Store,
     run: &mut Run,
@@ -155,6 +157,8 @@ pub fn occupy(
     ensures forms { OnOk result (forms_of store.new.stored.items ≡ slice_set
         (forms_of store.old.stored.items) slot (Some form)) }
     ensures gained { OnOk result (HasGained store.old clauses.old store.new clauses.new slot) }
+    ensures free { OnOk result (IfSome assigned.entry (λ a.
+        AreFree a.now.values.items clauses.new.blocks.watches slot)) }
     // On failure the form may be in its slot, but not on the list of those that may propagate with nothing assigned.
     ensures refused { OnErr result
         ((forms_of store.new.stored.items ≡ forms_of store.old.stored.items) ⊎

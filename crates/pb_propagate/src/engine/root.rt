@@ -1,6 +1,6 @@
 //! The root: what the live forms force with nothing assumed.
 
-ghost use Rattle.std.specs.Prelude.{◌≡◌, ℕ, List, ◌+◌, ◌*◌, ◌<◌, ◌⊎◌, ◌++◌, ◌∷◌, [], true, false, length, take, slice_set, slice_index_or, Some, OnOk, IfOk};
+ghost use Rattle.std.specs.Prelude.{◌≡◌, ℕ, List, ◌+◌, ◌*◌, ◌<◌, ◌⊎◌, ◌++◌, ◌∷◌, [], true, false, length, take, slice_set, slice_index_or, Some, OnOk, IfOk, IfSome, IfNone};
 ghost use Rattle.pb_propagate.specs.declared.store.Store.{Store};
 ghost use Rattle.pb_propagate.specs.declared.clauses.Clauses.{Clauses};
 ghost use Rattle.pb_propagate.specs.engine.Engine.Lists.{Shape, HaveReasons, Conflicts, open_sum};
@@ -207,7 +207,10 @@ impl Root {
     }
 
     /// The literals that are forced, if they still follow.
-    pub fn assigned(&self) -> Option<&Assignment> {
+    pub fn assigned(&self) -> Option<&Assignment>
+        ensures some { IfSome result (λ a. a.now ≡ self.now.run.assignment) }
+        ensures none { IfNone result (self.now.live ≡ false) }
+    {
         if !self.live {
             return None;
         }
@@ -273,8 +276,7 @@ impl Root {
         Ok(())
     }
 
-    /// A form that was added waits for the next question. The root ends if the form is a clause in which a falsified
-    /// literal is watched.
+    /// A form that was added waits for the next question, unless it is a clause with watches.
     pub fn admit(&mut self, store: &Store, clauses: &Clauses, slot: usize) -> Result<(), AllocError>
         requires store { IsSound store.now }
         requires joined { AreJoined (shapes_of store.now.stored.items) (clauses_of clauses.now) }
@@ -283,13 +285,11 @@ impl Root {
         requires known { length clauses.now.blocks.literals ≡ length store.now.stored.items }
         requires slot { slot < length store.now.stored.items }
         requires gained { WasRootOf store.now clauses.now slot self.old }
-        ensures rooted { OnOk result (self.new.live ≡ true →
-            IsRootOf store.now clauses.now self.new) }
+        ensures rooted { OnOk result (IsRootOf store.now clauses.now self.new) }
         ensures fallen { self.new.fallen ≡ self.old.fallen }
     {
         reach(&mut self.run, &mut self.rests, &mut self.waiting, slot)?;
         if clauses.is_filled(slot) {
-            self.live = clauses.is_served(&self.run.assignment, slot);
             return Ok(());
         }
         lay(store, &mut self.run, slot)?;

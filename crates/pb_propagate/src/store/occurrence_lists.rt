@@ -10,8 +10,8 @@ ghost use Rattle.pb_propagate.specs.engine.Engine.Forms.{IsStoredAs};
 ghost use Rattle.pb_propagate.specs.engine.Engine.Terms.{terms_of};
 ghost use Rattle.pb_propagate.specs.engine.Engine.Fields.{stored_shape, shapes_of, forms_of, spots_of, lists_of, entries_of, IsSound, HasEntered, HasFilled, IsEmpty, IsUnlisted, AreLonger};
 ghost use Rattle.pb_propagate.specs.engine.Engine.Links.{IsLinked, Moved, cut, terms_at};
-ghost use Rattle.pb_propagate.specs.engine.Clauses.Links.{list_at, watch_at};
-ghost use Rattle.pb_propagate.specs.engine.Clauses.Runs.{AreReady, CanHold, IsPair};
+ghost use Rattle.pb_propagate.specs.engine.Clauses.Links.{list_at};
+ghost use Rattle.pb_propagate.specs.engine.Clauses.Runs.{AreReady, AreSet, CanHold, IsPair};
 ghost use Rattle.pb_propagate.specs.engine.Clauses.Shapes.{clauses_of, codes_of_terms};
 
 use crate::clauses::Clauses;
@@ -213,8 +213,8 @@ pub fn watch(
     ensures literals { OnOk result (clauses_of clauses.new ≡ slice_set (clauses_of clauses.old) slot
         (codes_of_terms form.terms)) }
     ensures lists { OnOk result (length clauses.new.lists.items ≡ length clauses.old.lists.items) }
-    ensures watches { OnOk result ((e : ℕ) → (e / 2 ≡ slot → ⊥) →
-        watch_at clauses.new.blocks.watches e ≡ watch_at clauses.old.blocks.watches e) }
+    ensures watches { OnOk result (
+        AreSet clauses.old.blocks.watches clauses.new.blocks.watches slot codes.items pair) }
     ensures kept { OnOk result ((k : StoredForm) × (k.terms.form ≡ Some form) × IsUnlisted k ×
         (store.new.stored.items ≡ slice_set store.old.stored.items slot k)) }
     ensures unchanged { OnErr result (store.new.stored.items ≡ store.old.stored.items) }

@@ -1,8 +1,9 @@
-use Rattle.pb_propagate.proofs.Common.{ℕ, ◌∙◌, ◌≡◌, ◌⊎◌, [], ap, arith, get_or-set_other, inl, inr, length, length-set, List, refl, rules, set, Some}
-use Rattle.pb_propagate.proofs.Common.{list_at, watch_at, clauses_of, codes_of_terms, forms_of, shapes_of}
+use Rattle.pb_propagate.proofs.Common.{ℕ, ◌∙◌, ◌≡◌, ◌⊎◌, [], ap, arith, get_or-set_other, inl, inr, length, length-set, List, rules, set, Some}
+use Rattle.pb_propagate.proofs.Common.{list_at, watch_at, watch_lists, clauses_of, codes_of_terms, forms_of, shapes_of}
 use Rattle.pb_propagate.proofs.lemmas.store.Changes.{forms-filled}
 use Rattle.pb_propagate.proofs.lemmas.store.Slots.{slots-bare, exact-absent, rest-filled, rest-watched, rest-refitted}
 use Rattle.pb_propagate.proofs.lemmas.clauses.Slots.{slots-vacant}
+use Rattle.pb_propagate.proofs.lemmas.root.Admitted.{no-watch, pair-free, some-all, some-map}
 use Rattle.pb_propagate.proofs.lemmas.root.Gained.{gained-filled}
 use Rattle.pb_propagate.proofs.slots.occupy.Goals as goal
 
@@ -103,7 +104,19 @@ returns-in-Some-clause-gained c =
     let reported = c.in_ok-watch.ensures in
     let k = reported.kept in
     let vacant = slots-vacant (forms_of store.stored.items) (shapes_of store.stored.items) (clauses_of c.args.clauses.now) c.args.slot c.requires.rest.slots c.requires.slot in
-    gained-filled store c.watch.new.store c.args.clauses.now c.watch.new.clauses c.args.slot k.0 c.watch.ensures.rest.2 k.3 (λ s apart. ap (λ (cs : List (List ℕ)). list_at cs s) reported.literals ∙ get_or-set_other (clauses_of c.plan.new.clauses) c.args.slot s (codes_of_terms c.args.form.terms) [] apart ∙ ap (λ (cs : List (List ℕ)). list_at cs s) c.plan.ensures.clauses.literals) (λ e apart. reported.watches e apart ∙ ap (λ ws. watch_at ws e) c.plan.ensures.clauses.watches) vacant c.requires.slot c.args.form k.1
+    gained-filled store c.watch.new.store c.args.clauses.now c.watch.new.clauses c.args.slot k.0 c.watch.ensures.rest.2 k.3 (λ s apart. ap (λ (cs : List (List ℕ)). list_at cs s) reported.literals ∙ get_or-set_other (clauses_of c.plan.new.clauses) c.args.slot s (codes_of_terms c.args.form.terms) [] apart ∙ ap (λ (cs : List (List ℕ)). list_at cs s) c.plan.ensures.clauses.literals) (λ e apart. reported.watches.others e apart ∙ ap (λ ws. watch_at ws e) c.plan.ensures.clauses.watches) vacant c.requires.slot c.args.form k.1
+
+pub returns-clause-free : goal.returns-clause-free
+returns-clause-free c =
+    let store = c.args.store.now in
+    let clauses = c.plan.new.clauses in
+    let none = ap (λ (cs : List (List ℕ)). list_at cs c.args.slot) c.plan.ensures.clauses.literals ∙ (slots-vacant (forms_of store.stored.items) (shapes_of store.stored.items) (clauses_of c.args.clauses.now) c.args.slot c.requires.rest.slots c.requires.slot).clause in
+    some-all c.args.assigned _ (λ a e here live. absurd (no-watch (clauses_of clauses) clauses.blocks.watches (watch_lists clauses.lists.items) c.args.slot e c.plan.ensures.clauses.ready.stored none here live))
+
+pub returns-in-Some-clause-free : goal.returns-in-Some-clause-free
+returns-in-Some-clause-free c =
+    let free = rw c.in-Some.is at c.in_ok-planned.ensures.free in
+    some-map c.args.assigned _ _ (λ a f. pair-free _ _ _ _ _ _ f c.in_ok-watch.ensures.watches) free
 
 pub watch-requires-clause-codes : goal.watch-requires-clause-codes
 watch-requires-clause-codes c =

@@ -18,9 +18,9 @@ use Rattle.pb_propagate.specs.engine.Engine.Counts.{IsTidy, beside}
 use Rattle.pb_propagate.specs.engine.Engine.Fields.{shapes_of, forms_of, IsSound, IsEmpty}
 use Rattle.pb_propagate.specs.engine.Engine.Forms.{IsStoredAs}
 use Rattle.pb_propagate.specs.engine.Engine.Slots.{form_at, numbered, ArePlaced}
-use Rattle.pb_propagate.specs.engine.Clauses.Truths.{true_at, false_at}
+use Rattle.pb_propagate.specs.engine.Clauses.Truths.{false_at}
 use Rattle.pb_propagate.specs.engine.Clauses.Links.{list_at, watch_at}
-use Rattle.pb_propagate.specs.engine.Clauses.Runs.{AreReady, AreWalked}
+use Rattle.pb_propagate.specs.engine.Clauses.Runs.{AreFree, AreReady, AreWalked}
 use Rattle.pb_propagate.specs.engine.Clauses.Shapes.{AreJoined, clauses_of, all_of, joined}
 use Rattle.pb_propagate.specs.engine.Clauses.Walked.{walked_codes}
 
@@ -57,12 +57,6 @@ terms_of_all store clauses = sum_by (λ (f : Shape). length f.terms) (all_of sto
 -- each number has the same form
 abbrev pub HasSameForms : Store → Store → Type 0
 HasSameForms old new = (places : List ℕ) → ArePlaced (forms_of old.stored.items) places → numbered (forms_of new.stored.items) places ≡ numbered (forms_of old.stored.items) places
-
--- a watched literal is true, or none of the two is falsified
-abbrev pub IsServed : List (Option Bool) → List Watch → ℕ → Type 0
-IsServed values watches s =
-    (true_at values (watch_at watches (2 * s)).literal ≡ true) ⊎ (true_at values (watch_at watches (2 * s + 1)).literal ≡ true) ⊎
-    ((false_at values (watch_at watches (2 * s)).literal ≡ false) × (false_at values (watch_at watches (2 * s + 1)).literal ≡ false))
 
 -- a literal of the clause is not falsified
 abbrev pub IsFree : List (Option Bool) → List ℕ → ℕ → Type 0
@@ -156,9 +150,9 @@ pub record HasGained (before : Store) (old : Clauses) (store : Store) (clauses :
   pub full : HasForm store slot
   pub watched : (e : ℕ) → (e / 2 ≡ slot → ⊥) → watch_at clauses.blocks.watches e ≡ watch_at old.blocks.watches e
 
--- the root is that of the forms before one came into the slot
+-- the root is that of the forms before one came into the slot, and falsifies no watched literal of that one
 abbrev pub WasRootOf : Store → Clauses → ℕ → Root → Type 0
-WasRootOf store clauses slot root = (before : Store) × (old : Clauses) × IsRootOf before old root × HasGained before old store clauses slot
+WasRootOf store clauses slot root = (before : Store) × (old : Clauses) × IsRootOf before old root × HasGained before old store clauses slot × AreFree root.run.assignment.values.items clauses.blocks.watches slot
 
 -- each list has an entry for the slot
 pub record HasReached (run run' : Run) (rests rests' : Rests) (waiting waiting' : Eager) (slot : ℕ) : Type 0 where

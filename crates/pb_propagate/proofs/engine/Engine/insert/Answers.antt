@@ -1,7 +1,8 @@
-use Rattle.pb_propagate.proofs.Common.{◌++◌, ◌-◌, ◌<◌, ◌^◌, ◌∙◌, ◌∷◌, ◌≡◌, [], ap, arith, inl, inr, None, rules, set, Some, slice_get_within}
+use Rattle.pb_propagate.proofs.Common.{◌++◌, ◌-◌, ◌<◌, ◌^◌, ◌∙◌, ◌∷◌, ◌≡◌, [], ap, arith, inl, inr, false, None, rules, set, Some, slice_get_within, subst, both_ways, Assignment, AreFree}
 use Rattle.pb_propagate.proofs.Common.{forms_of, Standing, numbered}
 use Rattle.pb_propagate.proofs.lemmas.store.Changes.{forms-length}
 use Rattle.pb_propagate.proofs.lemmas.store.Placed.{numbered-same, numbered-filled, numbered-grown, placed-agree, placed-filled}
+use Rattle.pb_propagate.proofs.lemmas.root.Admitted.{some-there}
 use Rattle.pb_propagate.proofs.lemmas.root.Fallen.{gained-fallen}
 use Rattle.pb_propagate.proofs.lemmas.root.Gained.{gained-both}
 use Rattle.pb_propagate.proofs.engine.Engine.insert.Goals as goal
@@ -93,7 +94,8 @@ pub follow-requires-clause-gained : goal.follow-requires-clause-gained
 follow-requires-clause-gained c = λ live.
     let e = c.self.inside in
     let r = c.self.invariant (ap (λ (v : Standing). v.spent) c.self.view_is ∙ c.requires.ready) in
-    (e.store, e.clauses, r.2 live, gained-both e.store c.vacancy.new.store c.occupy.new.store e.clauses c.vacancy.new.clauses c.occupy.new.clauses c.in_ok-slot.slot c.vacancy.ensures.variables c.in_ok-slot.ensures.widened c.in_ok-occupy.ensures.gained)
+    let free = some-there c.assigned.result _ _ (AreFree e.root.run.assignment.values.items c.occupy.new.clauses.blocks.watches c.in_ok-slot.slot) (e.root.live ≡ false) c.assigned.ensures.some c.in_ok-occupy.ensures.free c.assigned.ensures.none (λ no. both_ways _ no live) (λ a is free. subst (λ (x : Assignment). AreFree x.values.items c.occupy.new.clauses.blocks.watches c.in_ok-slot.slot) is free) in
+    (e.store, e.clauses, r.2 live, gained-both e.store c.vacancy.new.store c.occupy.new.store e.clauses c.vacancy.new.clauses c.occupy.new.clauses c.in_ok-slot.slot c.vacancy.ensures.variables c.in_ok-slot.ensures.widened c.in_ok-occupy.ensures.gained, free)
 
 pub follow-requires-clause-fallen : goal.follow-requires-clause-fallen
 follow-requires-clause-fallen c = λ fallen.
