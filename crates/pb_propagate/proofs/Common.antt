@@ -81,8 +81,8 @@ pub use Rattle.pb_propagate.specs.engine.Engine.Reached.{HasClash, HasEnded, IsC
 pub use Rattle.pb_propagate.specs.engine.Engine.Rest.{AllWait, AreAtRest, AreSlots, derived, eager_one, IsAtRest, IsEager, IsEnded, IsRefuted, IsSlot}
 pub use Rattle.pb_propagate.specs.engine.Engine.Rest.{kept_waits, waits}
 pub use Rattle.pb_propagate.specs.engine.Engine.Root.{alone, HasForm, HasGained, HasLost, HasOtherReasons, HasReached, HasVacated, HasWidened}
-pub use Rattle.pb_propagate.specs.engine.Engine.Root.{IsAnswered, IsAsked, IsFallen, IsFree, IsMet, IsNeedless, IsOtherUnit, IsRooted, IsSameWatch}
-pub use Rattle.pb_propagate.specs.engine.Engine.Root.{posed}
+pub use Rattle.pb_propagate.specs.engine.Engine.Root.{IsAnswered, IsAsked, IsConflict, IsFree, IsKeptConflict, IsMet, IsNeedless, IsOtherUnit, IsRooted, IsSameWatch}
+pub use Rattle.pb_propagate.specs.engine.Engine.Root.{IsVacant, posed, UpdateCosts, HasMet, HasUpdated}
 pub use Rattle.pb_propagate.specs.engine.Engine.Slots.{ArePlaced, form_at, numbered}
 pub use Rattle.pb_propagate.specs.engine.Engine.Terms.{terms_of}
 pub use Rattle.pb_propagate.specs.engine.Engine.Waiting.{IsWithout}

@@ -1,6 +1,7 @@
 //! The engine: live forms by number, and the results of propagation over them.
 
 pub mod completion;
+pub mod conflict;
 pub mod denial;
 pub mod losing;
 pub mod question;
@@ -15,7 +16,7 @@ ghost use Rattle.pb_propagate.specs.engine.Engine.Progress.{list_of, values_of, 
 ghost use Rattle.pb_propagate.specs.engine.Engine.Fields.{forms_of};
 ghost use Rattle.pb_propagate.specs.meaning.Propagation.{With, MeetsConflict, IsCompletion, IsRup};
 ghost use Rattle.pb_propagate.specs.engine.Engine.Rest.{AreAtRest, IsAtRest};
-ghost use Rattle.pb_propagate.specs.engine.Engine.Root.{IsRootOf, IsFallen, WasRootOf};
+ghost use Rattle.pb_propagate.specs.engine.Engine.Root.{IsRootOf, WasRootOf};
 ghost use Rattle.pb_propagate.specs.engine.Clauses.Shapes.{all_of};
 ghost use Rattle.pb_propagate.specs.declared.store.Store.{Store};
 ghost use Rattle.pb_propagate.specs.declared.clauses.Clauses.{Clauses};
@@ -25,6 +26,7 @@ use crate::assignment::Assignment;
 use crate::clauses::Clauses;
 use crate::eager::Eager;
 use crate::engine::completion::{extend, settle};
+use crate::engine::conflict::Conflict;
 use crate::engine::question::ask;
 use crate::engine::root::Root;
 use crate::engine::visits::Visits;
@@ -48,6 +50,7 @@ pub struct Engine {
     eager: Eager,
     clauses: Clauses,
     root: Root,
+    conflict: Conflict,
     // For each number the slot of its form, or no slot if the form was removed. The slot of a removed form is used
     // again.
     places: Vec<usize>,
@@ -66,7 +69,7 @@ impl Model for Engine {
     ghost use Rattle.pb_propagate.specs.engine.Engine.Fields.{forms_of};
     ghost use Rattle.pb_propagate.specs.engine.Engine.Rest.{IsAtRest};
     ghost use Rattle.pb_propagate.specs.engine.Engine.Slots.{numbered, ArePlaced};
-    ghost use Rattle.pb_propagate.specs.engine.Engine.Root.{IsRootOf, IsFallen};
+    ghost use Rattle.pb_propagate.specs.engine.Engine.Root.{IsRootOf, IsKeptConflict};
     ghost use Rattle.pb_propagate.specs.engine.Clauses.Shapes.{all_of};
 
     ghost view = { λ e. record { forms = numbered (forms_of e.store.stored.items) e.places.items; variables = e.store.variables; visits = e.run.visits; spent = e.spent } };
@@ -75,7 +78,7 @@ impl Model for Engine {
         IsAtRest e.store e.run e.eager e.clauses (forms_of e.store.stored.items) ×
         ArePlaced (forms_of e.store.stored.items) e.places.items ×
         (e.root.live ≡ true → IsRootOf e.store e.clauses e.root) ×
-        (e.root.fallen ≡ true → IsFallen (all_of e.store e.clauses) e.store.variables e.root) };
+        IsKeptConflict (all_of e.store e.clauses) e.store.variables e.conflict };
 }
 
 // Undoes a propagation that began from nothing.
@@ -118,16 +121,9 @@ fn follow(
         (forms_of store.now.stored.items) }
     requires slot { slot < length store.now.stored.items }
     requires gained { root.old.live ≡ true → WasRootOf store.now clauses.now slot root.old }
-    requires fallen { root.old.fallen ≡ true →
-        IsFallen (all_of store.now clauses.now) store.now.variables root.old }
-    ensures rooted { OnOk result (root.new.live ≡ true → IsRootOf store.now clauses.now root.new) }
-    ensures fallen { OnOk result (root.new.fallen ≡ true →
-        IsFallen (all_of store.now clauses.now) store.now.variables root.new) }
+    ensures { OnOk result (root.new.live ≡ true → IsRootOf store.now clauses.now root.new) }
 {
     root.note(store, slot);
-    if root.fallen {
-        return Ok(());
-    }
     if root.live {
         root.admit(store, clauses, slot)?;
         return Ok(());
@@ -166,6 +162,7 @@ impl Engine {
             eager: Eager::new(alloc),
             clauses: Clauses::new(alloc),
             root: Root::new(alloc),
+            conflict: Conflict::new(alloc),
             places: Vec::new(alloc),
             free: Free::new(alloc),
             spent: false,
@@ -192,6 +189,7 @@ impl Engine {
         self.root.run.assignment.widen()?;
         self.root.units.push(usize::MAX)?;
         self.root.units.push(usize::MAX)?;
+        self.conflict.assignment.widen()?;
         self.store.variables = self.store.occurrences.len() / 2;
         self.spent = false;
         Ok(())
@@ -253,6 +251,8 @@ impl Engine {
         }
         self.places[number] = usize::MAX;
         self.root.lose(&self.store, &self.clauses, slot);
+        let units = self.root.units.as_slice();
+        self.conflict.lose(&self.store, &self.clauses, units, slot);
         quit(
             &mut self.store,
             &mut self.run,
@@ -329,8 +329,8 @@ impl Engine {
             return Ok(true);
         }
         // A conflict that needs no goal. Each literal that leads to it is a visit.
-        if self.root.fallen {
-            self.run.visits = Visits::of(self.root.run.assignment.list.len());
+        if self.conflict.met {
+            self.run.visits = Visits::of(self.conflict.assignment.list.len());
             return Ok(true);
         }
         self.spent = true;
@@ -339,6 +339,7 @@ impl Engine {
                 &mut self.store,
                 &mut self.clauses,
                 &mut self.root,
+                &mut self.conflict,
                 &mut self.run.visits,
                 goal,
             )?;
@@ -390,12 +391,18 @@ impl Engine {
             IfSome found (λ values. (list : List NumberedLiteral) ×
             IsCompletion (Live self.old.forms) given.now list × Gives list values.items)) }
     {
-        if self.root.fallen {
+        if self.conflict.met {
             return Ok(None);
         }
         self.spent = true;
         if self.root.live {
-            let values = extend(&self.store, &mut self.clauses, &mut self.root, given)?;
+            let values = extend(
+                &self.store,
+                &mut self.clauses,
+                &mut self.root,
+                &mut self.conflict,
+                given,
+            )?;
             self.spent = false;
             return Ok(values);
         }

@@ -13,4 +13,4 @@ pub mod Asked
 pub mod Denials
 pub mod Returns
 pub mod Transplants
-pub mod Fallen
+pub mod Kept

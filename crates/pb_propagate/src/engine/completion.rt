@@ -7,11 +7,12 @@ ghost use Rattle.pb_propagate.specs.engine.Engine.Counts.{AreSingle};
 ghost use Rattle.pb_propagate.specs.engine.Engine.Progress.{IfFound, IfNotFound, RunIsOpen, RunStaysTidy, shapes_in, list_of, values_of, RunIsCalm, RunIsUndone, RunKeepsReasons, RunAdvances, RunIsWalked};
 ghost use Rattle.pb_propagate.specs.engine.Engine.Fields.{shapes_of, IsSound};
 ghost use Rattle.pb_propagate.specs.engine.Engine.Reached.{IsFrom, HasClash, HasEnded, IsMade, IsClashed};
-ghost use Rattle.pb_propagate.specs.engine.Engine.Root.{IsStanding, IsLeft};
+ghost use Rattle.pb_propagate.specs.engine.Engine.Root.{IsStanding, IsVacant, IsLeft};
 ghost use Rattle.pb_propagate.specs.engine.Clauses.Runs.{IsRunning, KeepsWalked};
 ghost use Rattle.pb_propagate.specs.engine.Clauses.Shapes.{AreJoined, clauses_of, all_of};
 
 use crate::clauses::Clauses;
+use crate::engine::conflict::Conflict;
 use crate::engine::root::{Root, back};
 use crate::rests::Rests;
 use crate::run::{Run, propagate, try_put};
@@ -109,12 +110,15 @@ pub fn extend(
     store: &Store,
     clauses: &mut Clauses,
     root: &mut Root,
+    conflict: &mut Conflict,
     given: &[NumberedLiteral],
 ) -> Result<Option<Vec<Option<bool>>>, AllocError>
     requires standing { IsStanding store.now clauses.old root.old }
+    requires vacant { IsVacant store.now.variables conflict.old }
     requires inside { All (λ l. l.variable < store.now.variables) given.now }
     ensures literals { clauses.new.blocks.literals ≡ clauses.old.blocks.literals }
-    ensures left { OnOk result (IsLeft store.now store.now clauses.old clauses.new root.new) }
+    ensures left { OnOk result (
+        IsLeft store.now store.now clauses.old clauses.new root.new conflict.new) }
     ensures clash { IfOk result (λ found. IfNone found (
         IsClashed (all_of store.now clauses.old) given.now)) }
     ensures ended { IfOk result (λ found. IfSome found (λ values.
@@ -122,8 +126,7 @@ pub fn extend(
     ensures count { IfOk result (λ found. IfSome found (λ values.
         length values.items ≡ store.now.variables)) }
 {
-    if root.update(store, clauses)? {
-        clauses.rest();
+    if root.update(store, clauses, conflict)? {
         return Ok(None);
     }
     let count = root.run.assignment.list.len();

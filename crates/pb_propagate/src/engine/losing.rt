@@ -1,72 +1,20 @@
 //! A form goes: what the root keeps.
 
-ghost use Rattle.std.specs.Prelude.{◌≡◌, ◌*◌, ◌<◌, true, false, length, Some};
+ghost use Rattle.std.specs.Prelude.{◌≡◌, ◌*◌, ◌<◌, true, length};
 ghost use Rattle.pb_propagate.specs.declared.store.Store.{Store};
 ghost use Rattle.pb_propagate.specs.declared.clauses.Clauses.{Clauses};
-ghost use Rattle.pb_propagate.specs.engine.Engine.Progress.{list_of};
 ghost use Rattle.pb_propagate.specs.engine.Engine.Waiting.{IsWithout};
 ghost use Rattle.pb_propagate.specs.engine.Engine.Fields.{shapes_of, IsSound};
-ghost use Rattle.pb_propagate.specs.engine.Engine.Root.{IsRootOf, IsFallen, IsMet, HasLost, IsNeedless};
+ghost use Rattle.pb_propagate.specs.engine.Engine.Root.{IsRootOf, HasLost, IsNeedless};
 ghost use Rattle.pb_propagate.specs.engine.Clauses.Runs.{AreReady};
 ghost use Rattle.pb_propagate.specs.engine.Clauses.Shapes.{AreJoined, clauses_of, all_of};
 
 use crate::clauses::Clauses;
 use crate::engine::root::Root;
 use crate::store::Store;
-use crate::store::opened::open_under;
 use crate::store::reasons::replace_reasons;
-use crate::store::stored_form::is_below;
 
 impl Root {
-    // Whether the form of a slot is falsified.
-    fn is_falsified(&self, store: &Store, clauses: &Clauses, slot: usize) -> bool
-        requires slot { slot < length store.now.stored.items }
-        requires sound { IsSound store.now }
-        requires ready { AreReady clauses.now }
-        requires known { length clauses.now.blocks.literals ≡ length store.now.stored.items }
-        requires widths { length clauses.now.lists.items ≡ 4 * store.now.variables }
-        requires values { length self.now.run.assignment.values.items ≡ store.now.variables }
-        ensures { result ≡ false →
-            IsMet (all_of store.now clauses.now) slot (list_of self.now.run) }
-    {
-        if !clauses.is_filled(slot) {
-            let kept = &store.stored[slot];
-            let opened = open_under(&kept.terms, self.run.assignment.values.as_slice());
-            return is_below(opened, kept.degree);
-        }
-        match clauses.free_literal(&self.run.assignment, slot) {
-            Some(_) => false,
-            None => true,
-        }
-    }
-
-    // The form of a slot goes. A conflict stays if its literals have other reasons, and the form is not the falsified one.
-    fn lose_conflict(&mut self, store: &Store, clauses: &Clauses, slot: usize)
-        requires slot { slot < length store.now.stored.items }
-        requires sound { IsSound store.now }
-        requires joined { AreJoined (shapes_of store.now.stored.items) (clauses_of clauses.now) }
-        requires ready { AreReady clauses.now }
-        requires known { length clauses.now.blocks.literals ≡ length store.now.stored.items }
-        requires widths { length clauses.now.lists.items ≡ 4 * store.now.variables }
-        requires fallen { IsFallen (all_of store.now clauses.now) store.now.variables self.old }
-        ensures live { self.new.live ≡ false }
-        ensures kept { self.new.fallen ≡ true →
-            IsFallen (all_of store.now clauses.now) store.now.variables self.new }
-        ensures spare { self.new.fallen ≡ true →
-            IsNeedless (all_of store.now clauses.now) slot self.new.run.assignment }
-        ensures met { self.new.fallen ≡ true →
-            IsMet (all_of store.now clauses.now) slot (list_of self.new.run) }
-    {
-        let units = self.units.as_slice();
-        if !replace_reasons(store, clauses, units, &mut self.run.assignment, slot) {
-            self.end();
-            return;
-        }
-        if self.is_falsified(store, clauses, slot) {
-            self.end();
-        }
-    }
-
     /// The form of a slot goes. The root stays if its literals have other reasons, and ends otherwise.
     pub fn lose(&mut self, store: &Store, clauses: &Clauses, slot: usize)
         requires slot { slot < length store.now.stored.items }
@@ -76,8 +24,6 @@ impl Root {
         requires known { length clauses.now.blocks.literals ≡ length store.now.stored.items }
         requires widths { length clauses.now.lists.items ≡ 4 * store.now.variables }
         requires rooted { self.old.live ≡ true → IsRootOf store.now clauses.now self.old }
-        requires fallen { self.old.fallen ≡ true →
-            IsFallen (all_of store.now clauses.now) store.now.variables self.old }
         ensures lost { self.new.live ≡ true → (self.old.live ≡ true) ×
             HasLost self.old.run self.new.run self.old.rests self.new.rests slot }
         ensures waiting { self.new.live ≡ true →
@@ -86,15 +32,7 @@ impl Root {
             length self.new.waiting.seats.items ≡ length self.old.waiting.seats.items }
         ensures spare { self.new.live ≡ true →
             IsNeedless (all_of store.now clauses.now) slot self.new.run.assignment }
-        ensures fallen { self.new.fallen ≡ true →
-            IsFallen (all_of store.now clauses.now) store.now.variables self.new ×
-            IsNeedless (all_of store.now clauses.now) slot self.new.run.assignment ×
-            IsMet (all_of store.now clauses.now) slot (list_of self.new.run) }
     {
-        if self.fallen {
-            self.lose_conflict(store, clauses, slot);
-            return;
-        }
         if !self.live {
             return;
         }

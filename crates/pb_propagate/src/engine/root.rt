@@ -3,18 +3,19 @@
 ghost use Rattle.std.specs.Prelude.{◌≡◌, ℕ, List, ◌+◌, ◌*◌, ◌<◌, ◌⊎◌, ◌++◌, ◌∷◌, [], true, false, length, take, slice_set, slice_index_or, Some, OnOk, IfOk, IfSome, IfNone};
 ghost use Rattle.pb_propagate.specs.declared.store.Store.{Store};
 ghost use Rattle.pb_propagate.specs.declared.clauses.Clauses.{Clauses};
-ghost use Rattle.pb_propagate.specs.engine.Engine.Lists.{Shape, HaveReasons, Conflicts, open_sum};
-ghost use Rattle.pb_propagate.specs.engine.Engine.Progress.{RunIsUndone, RunSpends, RunPays, RunVisitsEach, IfFound, IfNotFound, list_of, reasons_of, values_of};
+ghost use Rattle.pb_propagate.specs.engine.Engine.Lists.{Shape, open_sum};
+ghost use Rattle.pb_propagate.specs.engine.Engine.Progress.{RunIsUndone, IfFound, IfNotFound};
 ghost use Rattle.pb_propagate.specs.engine.Engine.Counts.{Grown, IsAbsent, IsCalm, IsUndone};
 ghost use Rattle.pb_propagate.specs.engine.Engine.Fields.{shapes_of, forms_of, IsSound};
 ghost use Rattle.pb_propagate.specs.engine.Engine.Rest.{IsAtRest};
-ghost use Rattle.pb_propagate.specs.engine.Engine.Root.{IsRootOf, WasRootOf, IsFallen, IsStanding, HasReached};
+ghost use Rattle.pb_propagate.specs.engine.Engine.Root.{IsRootOf, WasRootOf, IsStanding, IsVacant, IsKeptConflict, HasReached, UpdateCosts, HasMet, HasUpdated};
 ghost use Rattle.pb_propagate.specs.engine.Clauses.Runs.{AreReady, IsRunning};
 ghost use Rattle.pb_propagate.specs.engine.Clauses.Shapes.{AreJoined, clauses_of, all_of};
 
 use crate::assignment::Assignment;
 use crate::clauses::Clauses;
 use crate::eager::Eager;
+use crate::engine::conflict::Conflict;
 use crate::engine::visits::Visits;
 use crate::rests::Rests;
 use crate::run::{Run, place_of, propagate, queue, undo_forms};
@@ -33,8 +34,6 @@ pub struct Root {
     pub waiting: Eager,
     // Whether all its literals still follow from the live forms.
     pub live: bool,
-    // Whether they do so in a root that has ended with a conflict.
-    pub fallen: bool,
     // For each literal, by its occurrence list, the last slot that took a form of one term for it.
     pub units: Vec<usize>,
     // The visits since it last began: those of questions after their updates, and of questions and completions without
@@ -183,8 +182,7 @@ fn keep(run: &mut Run, rests: &mut Rests)
 impl Root {
     /// None yet.
     pub fn new(alloc: Global) -> Root
-        ensures live { result.live ≡ false }
-        ensures fallen { result.fallen ≡ false }
+        ensures { result.live ≡ false }
     {
         Root {
             run: Run {
@@ -199,7 +197,6 @@ impl Root {
             rests: Rests::none(alloc),
             waiting: Eager::new(alloc),
             live: false,
-            fallen: false,
             units: Vec::new(alloc),
             paid: 0,
             updated: 0,
@@ -220,20 +217,9 @@ impl Root {
     /// Ends the root: its forms are no longer the live ones.
     pub fn end(&mut self)
         ensures live { self.new.live ≡ false }
-        ensures fallen { self.new.fallen ≡ false }
         ensures run { self.new.run ≡ self.old.run }
     {
         self.live = false;
-        self.fallen = false;
-    }
-
-    // Ends the root with a conflict, which is kept.
-    fn fall(&mut self)
-        ensures live { self.new.live ≡ false }
-        ensures run { self.new.run ≡ self.old.run }
-    {
-        self.live = false;
-        self.fallen = true;
     }
 
     /// Remembers the form of a slot as the unit of its literal, if it has one term.
@@ -243,7 +229,6 @@ impl Root {
         ensures kept { (self.new.run ≡ self.old.run) × (self.new.rests ≡ self.old.rests) ×
             (self.new.waiting ≡ self.old.waiting) }
         ensures live { self.new.live ≡ self.old.live }
-        ensures fallen { self.new.fallen ≡ self.old.fallen }
     {
         let Some(literal) = only_literal(&store.stored[slot].terms) else {
             return;
@@ -263,8 +248,7 @@ impl Root {
     ) -> Result<(), AllocError>
         requires rest { IsAtRest store.now run.now eager.now clauses.now
             (forms_of store.now.stored.items) }
-        ensures rooted { OnOk result (IsRootOf store.now clauses.now self.new) }
-        ensures fallen { OnOk result (self.new.fallen ≡ false) }
+        ensures { OnOk result (IsRootOf store.now clauses.now self.new) }
     {
         let alloc = *store.stored.allocator();
         self.paid = 0;
@@ -272,7 +256,6 @@ impl Root {
         self.rests = rests_of(alloc, run)?;
         self.waiting = eager.copy(alloc)?;
         self.live = true;
-        self.fallen = false;
         Ok(())
     }
 
@@ -285,8 +268,7 @@ impl Root {
         requires known { length clauses.now.blocks.literals ≡ length store.now.stored.items }
         requires slot { slot < length store.now.stored.items }
         requires gained { WasRootOf store.now clauses.now slot self.old }
-        ensures rooted { OnOk result (IsRootOf store.now clauses.now self.new) }
-        ensures fallen { self.new.fallen ≡ self.old.fallen }
+        ensures { OnOk result (IsRootOf store.now clauses.now self.new) }
     {
         reach(&mut self.run, &mut self.rests, &mut self.waiting, slot)?;
         if clauses.is_filled(slot) {
@@ -298,31 +280,28 @@ impl Root {
         Ok(())
     }
 
-    /// Propagates the forms that wait. Returns whether a conflict is met. Then the root ends, and the conflict is kept.
-    pub fn update(&mut self, store: &Store, clauses: &mut Clauses) -> Result<bool, AllocError>
+    /// Propagates the forms that wait. Returns whether a conflict is met. Then the conflict is kept, and the root goes back:
+    /// the same forms wait.
+    pub fn update(
+        &mut self,
+        store: &Store,
+        clauses: &mut Clauses,
+        conflict: &mut Conflict,
+    ) -> Result<bool, AllocError>
         requires standing { IsStanding store.now clauses.old self.old }
+        requires vacant { IsVacant store.now.variables conflict.old }
         ensures literals { clauses.new.blocks.literals ≡ clauses.old.blocks.literals }
-        ensures running { OnOk result (IsRunning (values_of self.new.run) clauses.new) }
         ensures lists { OnOk result (
             length clauses.new.lists.items ≡ length clauses.old.lists.items) }
-        ensures costs { RunSpends store.now self.old.rests clauses.old
-            (length (list_of self.old.run))
-            self.old.waiting.list.items self.old.run self.new.run }
-        ensures pays { IfNotFound result (
-            RunPays store.now self.old.rests clauses.old clauses.new (length (list_of self.old.run))
-            self.old.waiting.list.items self.old.run self.new.run) }
-        ensures reasons { OnOk result (HaveReasons (all_of store.now clauses.old)
-            (reasons_of self.new.run) [] (list_of self.new.run)) }
-        ensures conflict { IfFound result (
-            Conflicts (all_of store.now clauses.old) (list_of self.new.run)) }
-        ensures found { OnOk result (RunVisitsEach self.old.run self.new.run) }
-        ensures ended { IfFound result (self.new.live ≡ false) }
-        ensures fallen { IfFound result (
-            IsFallen (all_of store.now clauses.old) store.now.variables self.new) }
-        ensures risen { IfNotFound result (self.new.fallen ≡ false) }
-        ensures rooted { IfNotFound result (IsRootOf store.now clauses.new self.new) }
-        ensures none { IfNotFound result (self.new.waiting.list.items ≡ []) }
-        ensures live { IfNotFound result (self.new.live ≡ self.old.live) }
+        ensures costs { UpdateCosts store.now clauses.old self.old self.new }
+        ensures rooted { OnOk result (IsRootOf store.now clauses.new self.new) }
+        ensures live { OnOk result (self.new.live ≡ self.old.live) }
+        ensures kept { OnOk result (
+            IsKeptConflict (all_of store.now clauses.old) store.now.variables conflict.new) }
+        ensures met { IfFound result (
+            HasMet store.now clauses.old clauses.new self.old self.new conflict.new) }
+        ensures updated { IfNotFound result (
+            HasUpdated store.now clauses.old clauses.new self.old self.new) }
     {
         let count = self.run.assignment.list.len();
         let found = propagate(
@@ -335,12 +314,12 @@ impl Root {
         )?;
         self.updated = self.run.visits.number();
         if found {
-            self.fall();
+            conflict.note(&self.run.assignment)?;
+            back(store, &self.rests, clauses, &mut self.run, count);
             return Ok(true);
         }
         keep(&mut self.run, &mut self.rests);
         self.waiting.clear();
-        self.fallen = false;
         Ok(false)
     }
 }

@@ -4,11 +4,10 @@ use Rattle.pb_propagate.proofs.Common.{length, length-set, List, map, refl, set,
 use Rattle.pb_propagate.proofs.Common.{get_or-map, get_or_default, length-map, map-set, sum_by-cons, get_or_from_slice_get, slice_get-get_or}
 use Rattle.pb_propagate.proofs.Common.{NumberedLiteral, Assignment, Clauses, Eager, Rests, Run, Store, StoredForm, Term, list_at, watch_at}
 use Rattle.pb_propagate.proofs.Common.{watch_lists, AreReady, AreWalked, all_of, AreJoined, clauses_of, joined, literal_at, one_term, slot_shape}
-use Rattle.pb_propagate.proofs.Common.{flip, true_at, walked_codes, shapes_of, stored_shape, HaveReasons, open_part, open_sum, Shape, size, HasLost}
+use Rattle.pb_propagate.proofs.Common.{walked_codes, shapes_of, stored_shape, HaveReasons, open_part, open_sum, Shape, size, HasLost}
 use Rattle.pb_propagate.proofs.Common.{HasVacated, IsNeedless, IsOtherUnit, IsRooted, IsSameWatch, IsWithout}
 use Rattle.pb_propagate.proofs.lemmas.clauses.Shapes.{joined-at}
 use Rattle.pb_propagate.proofs.lemmas.clauses.Slots.{joined-cleared}
-use Rattle.pb_propagate.proofs.lemmas.clauses.Truths.{flip-half}
 use Rattle.pb_propagate.proofs.lemmas.root.Admitted.{no-watch, form-kept}
 use Rattle.pb_propagate.proofs.lemmas.store.Gets.{get-set_other}
 use Rattle.pb_propagate.proofs.lemmas.engine.Reasoned.{IsMoved, moved-same, reasons-moved}

@@ -2,7 +2,7 @@
 use Rattle.pb_propagate.proofs.Common.{ℕ, ◌+◌, ◌<◌, ◌∙◌, ◌≡◌, ◌≤◌, ◌⊎◌, [], ap, arith, Bool, get_or, get_or-set_other, get_or-set_same, inl, inr}
 use Rattle.pb_propagate.proofs.Common.{length, List, refl, set, subst, sym, Option, slice_get, Some, cases_eq, ext_get_or, get_or_default}
 use Rattle.pb_propagate.proofs.Common.{get_or_read, length-map, NumberedLiteral, Assignment, Clauses, Watch, Eager, Rests, Run, Store, StoredForm}
-use Rattle.pb_propagate.proofs.Common.{watch_at, AreWalked, all_of, flip, walked_codes, beside, IsAbsent, IsCounted, IsTidy, IsUndone, rest_open}
+use Rattle.pb_propagate.proofs.Common.{AreWalked, all_of, walked_codes, beside, IsAbsent, IsCounted, IsTidy, IsUndone, rest_open}
 use Rattle.pb_propagate.proofs.Common.{rest_start, weight_in, shapes_of, stored_shape, HaveReasons, KeepsReasons, Shape, size, AreAtRest, IsEager}
 use Rattle.pb_propagate.proofs.Common.{HasForm, IsRooted}
 use Rattle.pb_propagate.proofs.lemmas.clauses.Literals.{Agree, true-listed, false-listed}

@@ -7,6 +7,7 @@ use Rattle.pb_propagate.specs.declared.store.Store.{Store}
 use Rattle.pb_propagate.specs.declared.assignment.Assignment.{Assignment}
 use Rattle.pb_propagate.specs.declared.run.Run.{Run}
 use Rattle.pb_propagate.specs.declared.engine.root.Root.{Root}
+use Rattle.pb_propagate.specs.declared.engine.conflict.Conflict.{Conflict}
 use Rattle.pb_propagate.specs.declared.rests.Rests.{Rests}
 use Rattle.pb_propagate.specs.declared.eager.Eager.{Eager}
 use Rattle.pb_normal.specs.meaning.Form.{Form}
@@ -14,13 +15,14 @@ use Rattle.pb_propagate.specs.declared.clauses.Clauses.{Clauses}
 use Rattle.pb_propagate.specs.declared.clauses.lists.Watch.{Watch}
 use Rattle.pb_propagate.specs.declared.term.Term.{Term}
 use Rattle.pb_propagate.specs.engine.Engine.Lists.{Shape, Derives, HaveReasons, IsDue, Conflicts, IsSettled, has, open_sum}
-use Rattle.pb_propagate.specs.engine.Engine.Counts.{IsTidy, beside}
+use Rattle.pb_propagate.specs.engine.Engine.Counts.{AreFound, IsTidy, beside}
+use Rattle.pb_propagate.specs.engine.Engine.Progress.{RunSpends, RunPays, RunVisitsEach, list_of, values_of}
 use Rattle.pb_propagate.specs.engine.Engine.Fields.{shapes_of, forms_of, IsSound, IsEmpty}
 use Rattle.pb_propagate.specs.engine.Engine.Forms.{IsStoredAs}
 use Rattle.pb_propagate.specs.engine.Engine.Slots.{form_at, numbered, ArePlaced}
 use Rattle.pb_propagate.specs.engine.Clauses.Truths.{false_at}
 use Rattle.pb_propagate.specs.engine.Clauses.Links.{list_at, watch_at}
-use Rattle.pb_propagate.specs.engine.Clauses.Runs.{AreFree, AreReady, AreWalked}
+use Rattle.pb_propagate.specs.engine.Clauses.Runs.{AreFree, AreReady, AreWalked, IsRunning}
 use Rattle.pb_propagate.specs.engine.Clauses.Shapes.{AreJoined, clauses_of, all_of, joined}
 use Rattle.pb_propagate.specs.engine.Clauses.Walked.{walked_codes}
 
@@ -66,15 +68,25 @@ IsFree values codes x = Contains codes x × (false_at values x ≡ false)
 abbrev pub IsMet : List Shape → ℕ → List NumberedLiteral → Type 0
 IsMet forms slot list = (x : Shape) → slice_get forms slot ≡ Some x → x.degree ≤ open_sum list x.terms
 
--- the literals of a root that has ended follow from the constraints, and one of these is falsified
-pub record IsFallen (forms : List Shape) (variables : ℕ) (root : Root) : Type 0 where
-  pub ended : root.live ≡ false
-  pub values : length root.run.assignment.values.items ≡ variables
-  pub reasoned : HaveReasons forms root.run.assignment.reasons.items [] root.run.assignment.list.items
+-- the literals follow from the constraints, and one of these is falsified under them
+pub record IsConflict (forms : List Shape) (a : Assignment) : Type 0 where
+  pub reasoned : HaveReasons forms a.reasons.items [] a.list.items
   pub slot : ℕ
   pub form : Shape
   pub stored : slice_get forms slot ≡ Some form
-  pub low : open_sum root.run.assignment.list.items form.terms < form.degree
+  pub low : open_sum a.list.items form.terms < form.degree
+
+-- a conflict is kept, or nothing is assigned
+pub record IsKeptConflict (forms : List Shape) (variables : ℕ) (conflict : Conflict) : Type 0 where
+  pub values : length conflict.assignment.values.items ≡ variables
+  pub none : conflict.met ≡ false → conflict.assignment.list.items ≡ []
+  pub holds : conflict.met ≡ true → IsConflict forms conflict.assignment
+
+-- no conflict is kept
+pub record IsVacant (variables : ℕ) (conflict : Conflict) : Type 0 where
+  pub unmet : conflict.met ≡ false
+  pub values : length conflict.assignment.values.items ≡ variables
+  pub list : conflict.assignment.list.items ≡ []
 
 -- no question is in progress, and the root is live
 pub record IsStanding (store : Store) (clauses : Clauses) (root : Root) : Type 0 where
@@ -84,14 +96,33 @@ pub record IsStanding (store : Store) (clauses : Clauses) (root : Root) : Type 0
   pub ready : AreReady clauses
   pub widths : length clauses.lists.items ≡ 4 * store.variables
 
--- what a question leaves: the same forms, no search in progress, and a root that is live, has ended, or has a conflict
-pub record IsLeft (before store : Store) (old clauses : Clauses) (root : Root) : Type 0 where
+-- what a question leaves: the same forms, no search in progress, the root, and a conflict if one is met
+pub record IsLeft (before store : Store) (old clauses : Clauses) (root : Root) (noted : Conflict) : Type 0 where
   pub sound : IsSound store
   pub kept : store.stored.items ≡ before.stored.items
   pub ready : AreReady clauses
   pub lists : length clauses.lists.items ≡ length old.lists.items
   pub rooted : root.live ≡ true → IsRootOf store clauses root
-  pub fallen : root.fallen ≡ true → IsFallen (all_of before old) before.variables root
+  pub conflict : IsKeptConflict (all_of before old) before.variables noted
+
+-- the cost of an update of the root, also of one that an allocation ends; `ended` is its run before it goes back
+pub record UpdateCosts (store : Store) (clauses : Clauses) (old new : Root) : Type 0 where
+  pub ended : Run
+  pub spends : RunSpends store old.rests clauses (length (list_of old.run)) old.waiting.list.items old.run ended
+  pub visits : new.run.visits ≡ ended.visits
+
+-- an update that has met a conflict
+pub record HasMet (store : Store) (old clauses : Clauses) (root root' : Root) (conflict : Conflict) : Type 0 where
+  pub ready : AreReady clauses
+  pub met : conflict.met ≡ true
+  pub found : AreFound (length (list_of root.run)) (length conflict.assignment.list.items) root.run.visits root'.run.visits
+
+-- an update that has met none: no form waits any more
+pub record HasUpdated (store : Store) (old clauses : Clauses) (root root' : Root) : Type 0 where
+  pub running : IsRunning (values_of root'.run) clauses
+  pub pays : RunPays store root.rests old clauses (length (list_of root.run)) root.waiting.list.items root.run root'.run
+  pub found : RunVisitsEach root.run root'.run
+  pub none : root'.waiting.list.items ≡ []
 
 -- the literal is that of the only term
 abbrev pub IsOnly : List Term → NumberedLiteral → Type 0

@@ -1,10 +1,10 @@
-use Rattle.pb_propagate.proofs.Common.{ℕ, ◌*◌, ◌∙◌, ◌≡◌, [], ap, false, Global, length, refl, sym, true, Vec, Listed, all_of, clauses_of, none}
+use Rattle.pb_propagate.proofs.Common.{◌*◌, ◌∙◌, ◌≡◌, [], ap, false, Global, length, refl, sym, true, Vec, Listed, all_of, clauses_of, none}
 use Rattle.pb_propagate.proofs.Common.{forms_of, shapes_of, begin, Live, Standing, numbered}
 use Rattle.pb_propagate.proofs.lemmas.clauses.Watching.{ready-running}
 use Rattle.pb_propagate.proofs.lemmas.engine.Rested.{rest-counted}
 use Rattle.pb_propagate.proofs.lemmas.engine.Rests.{rest-undone, rest-tidy-all, slots-kept}
 use Rattle.pb_propagate.proofs.lemmas.engine.Assumed.{refuted-meets, ended-free, ended-completion}
-use Rattle.pb_propagate.proofs.lemmas.root.Fallen.{fallen-conflicts}
+use Rattle.pb_propagate.proofs.lemmas.root.Kept.{kept-conflicts, kept-vacant}
 use Rattle.pb_propagate.proofs.lemmas.root.Roots.{none-walked}
 use Rattle.pb_propagate.proofs.lemmas.root.Transplants.{clash-refuted, root-clash, ended-made, map-none, map-some}
 use Rattle.pb_propagate.proofs.lemmas.store.Placed.{placed-kept}
@@ -22,6 +22,12 @@ extend-requires-clause-standing c =
       ready = both.0.ready;
       widths = both.0.widths;
     }
+
+pub extend-requires-clause-vacant : goal.extend-requires-clause-vacant
+extend-requires-clause-vacant c =
+    let e = c.self.inside in
+    let both = c.self.invariant (ap (λ (v : Standing). v.spent) c.self.view_is ∙ c.requires.ready) in
+    kept-vacant (all_of e.store e.clauses) e.store.variables e.conflict c.if-self.false both.3
 
 pub invariant_of-self-then-self-2 : goal.invariant_of-self-then-self-2
 invariant_of-self-then-self-2 c = λ ready.
@@ -50,7 +56,7 @@ invariant_of-self-then-self-2 c = λ ready.
       },
       both.1,
       reported.left.rooted,
-      λ fallen. rw lit (reported.left.fallen fallen),
+      rw lit reported.left.conflict,
     )
 
 pub returns-then-self-2-clause-conflict : goal.returns-then-self-2-clause-conflict
@@ -149,7 +155,7 @@ invariant_of-self-2 c = λ ready.
       },
       both.1,
       λ live. absurd (let e : true ≡ false = sym live ∙ c.if-self-2.false in cc),
-      λ fallen. absurd (let e : true ≡ false = sym fallen ∙ c.if-self.false in cc),
+      rw lit both.3,
     )
 
 pub returns-clause-conflict : goal.returns-clause-conflict
@@ -214,7 +220,7 @@ returns-then-self-clause-conflict c =
     let forms = forms_of e.store.stored.items in
     let shapes = all_of e.store e.clauses in
     let kept = placed-kept forms e.places.items shapes both.1 (slots-kept forms shapes both.0.slots) in
-    let fallen = both.3 c.if-self.true in
-    let list = e.root.run.assignment.list.items in
-    let clash = clash-refuted shapes list c.args.given.now (reasons-derive fallen.reasoned) (root-clash shapes list c.args.given.now (fallen-conflicts shapes e.store.variables e.root fallen)) in
+    let h = both.3.holds c.if-self.true in
+    let list = e.conflict.assignment.list.items in
+    let clash = clash-refuted shapes list c.args.given.now (reasons-derive h.reasoned) (root-clash shapes list c.args.given.now (kept-conflicts shapes e.conflict.assignment h)) in
     rw (← c.self.view_is) (refuted-meets (Live (numbered forms e.places.items)) shapes c.args.given.now clash.0 kept clash.1)

@@ -2,8 +2,8 @@ use Rattle.pb_propagate.proofs.Common.{◌++◌, ◌-◌, ◌<◌, ◌^◌, ◌�
 use Rattle.pb_propagate.proofs.Common.{forms_of, Standing, numbered}
 use Rattle.pb_propagate.proofs.lemmas.store.Changes.{forms-length}
 use Rattle.pb_propagate.proofs.lemmas.store.Placed.{numbered-same, numbered-filled, numbered-grown, placed-agree, placed-filled}
+use Rattle.pb_propagate.proofs.lemmas.root.Kept.{gained-kept}
 use Rattle.pb_propagate.proofs.lemmas.root.Admitted.{some-there}
-use Rattle.pb_propagate.proofs.lemmas.root.Fallen.{gained-fallen}
 use Rattle.pb_propagate.proofs.lemmas.root.Gained.{gained-both}
 use Rattle.pb_propagate.proofs.engine.Engine.insert.Goals as goal
 
@@ -18,7 +18,7 @@ invariant_of-self-2 c = λ ready.
     let none = c.in_ok-slot.ensures.slot in
     let small : slot < 2 ^ 64 - 1 = omega (arith, slice_get_within forms slot None none, keep.ok.0, keep.ok.1, forms-length keep.items) in
     let placed = placed-agree was forms e.places.items c.vacancy.ensures.forms r.1 in
-    (c.in_ok-occupy.ensures.rest, rw (c.in_ok-occupy.ensures.forms, c.in_ok-push.ensures.items) (placed-filled forms e.places.items slot c.args.form none small placed), c.in_ok-follow.ensures.rooted, c.in_ok-follow.ensures.fallen)
+    (c.in_ok-occupy.ensures.rest, rw (c.in_ok-occupy.ensures.forms, c.in_ok-push.ensures.items) (placed-filled forms e.places.items slot c.args.form none small placed), c.in_ok-follow.ensures, gained-kept e.store c.occupy.new.store e.clauses c.occupy.new.clauses slot e.conflict r.0.slots (gained-both e.store c.vacancy.new.store c.occupy.new.store e.clauses c.vacancy.new.clauses c.occupy.new.clauses slot c.vacancy.ensures.variables c.in_ok-slot.ensures.widened c.in_ok-occupy.ensures.gained) r.3)
 
 pub returns-in_err-slot-clause-unchanged : goal.returns-in_err-slot-clause-unchanged
 returns-in_err-slot-clause-unchanged c =
@@ -96,9 +96,3 @@ follow-requires-clause-gained c = λ live.
     let r = c.self.invariant (ap (λ (v : Standing). v.spent) c.self.view_is ∙ c.requires.ready) in
     let free = some-there c.assigned.result _ _ (AreFree e.root.run.assignment.values.items c.occupy.new.clauses.blocks.watches c.in_ok-slot.slot) (e.root.live ≡ false) c.assigned.ensures.some c.in_ok-occupy.ensures.free c.assigned.ensures.none (λ no. both_ways _ no live) (λ a is free. subst (λ (x : Assignment). AreFree x.values.items c.occupy.new.clauses.blocks.watches c.in_ok-slot.slot) is free) in
     (e.store, e.clauses, r.2 live, gained-both e.store c.vacancy.new.store c.occupy.new.store e.clauses c.vacancy.new.clauses c.occupy.new.clauses c.in_ok-slot.slot c.vacancy.ensures.variables c.in_ok-slot.ensures.widened c.in_ok-occupy.ensures.gained, free)
-
-pub follow-requires-clause-fallen : goal.follow-requires-clause-fallen
-follow-requires-clause-fallen c = λ fallen.
-    let e = c.self.inside in
-    let r = c.self.invariant (ap (λ (v : Standing). v.spent) c.self.view_is ∙ c.requires.ready) in
-    gained-fallen e.store c.occupy.new.store e.clauses c.occupy.new.clauses c.in_ok-slot.slot e.root r.0.slots (gained-both e.store c.vacancy.new.store c.occupy.new.store e.clauses c.vacancy.new.clauses c.occupy.new.clauses c.in_ok-slot.slot c.vacancy.ensures.variables c.in_ok-slot.ensures.widened c.in_ok-occupy.ensures.gained) (r.3 fallen)

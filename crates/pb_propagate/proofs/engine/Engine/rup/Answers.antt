@@ -13,7 +13,7 @@ use Rattle.pb_propagate.proofs.lemmas.engine.Spent.{spent-le}
 use Rattle.pb_propagate.proofs.lemmas.clauses.Killed.{fallen-most}
 use Rattle.pb_propagate.proofs.lemmas.engine.Completing.{closed-none}
 use Rattle.pb_propagate.proofs.lemmas.root.Asked.{asked-meets, asked-free}
-use Rattle.pb_propagate.proofs.lemmas.root.Fallen.{fallen-answered, fallen-few, fallen-same}
+use Rattle.pb_propagate.proofs.lemmas.root.Kept.{conflict-answered, conflict-few, kept-vacant}
 use Rattle.pb_propagate.proofs.lemmas.clauses.Watching.{ready-running}
 use Rattle.pb_propagate.proofs.lemmas.engine.Rests.{slots-entered, joined-entered, rest-entered, rest-tidy-first, rest-undone, rest-lengths, rest-left, eager-entered, with-kept, opposite-inside}
 use Rattle.pb_propagate.proofs.lemmas.engine.Reasoned.{reasons-derive}
@@ -130,7 +130,7 @@ invariant_of-self-2 c = λ ready.
       },
       rw left.0 both.1,
       λ live. absurd (let e : true ≡ false = sym live ∙ c.if-self-2.false in cc),
-      λ fallen. absurd (let e : true ≡ false = sym fallen ∙ c.if-self.false in cc),
+      rw (left.0, lit, c.leave.ensures.variables ∙ c.in_ok-enter.ensures.variables) both.3,
     )
 
 pub returns-clause-implied : goal.returns-clause-implied
@@ -401,6 +401,12 @@ ask-requires-clause-standing c =
       widths = both.0.widths;
     }
 
+pub ask-requires-clause-vacant : goal.ask-requires-clause-vacant
+ask-requires-clause-vacant c =
+    let e = c.self.inside in
+    let both = c.self.invariant (ap (λ (v : Standing). v.spent) c.self.view_is ∙ c.requires.ready) in
+    kept-vacant (all_of e.store e.clauses) e.store.variables e.conflict c.if-self.false both.3
+
 pub ask-requires-clause-inside : goal.ask-requires-clause-inside
 ask-requires-clause-inside c =
     let e = c.self.inside in
@@ -434,7 +440,7 @@ invariant_of-self-then-self-2 c = λ ready.
       },
       rw reported.left.kept both.1,
       reported.left.rooted,
-      λ fallen. rw (reported.left.kept, lit) (fallen-same (all_of e.store e.clauses) e.store.variables c.ask.new.store.variables c.ask.new.root c.ask.new.root refl refl (λ l s on at. at) ((reported.left.fallen fallen).values ∙ sym c.ask.ensures.variables) (reported.left.fallen fallen)),
+      rw (reported.left.kept, lit, c.ask.ensures.variables) reported.left.conflict,
     )
 
 pub returns-then-self-2-clause-forms : goal.returns-then-self-2-clause-forms
@@ -516,8 +522,8 @@ returns-then-self-clause-implied c = λ found.
     let forms = forms_of e.store.stored.items in
     let shapes = all_of e.store e.clauses in
     let visits = c.of-self-inside.result in
-    let list = e.root.run.assignment.list in
-    let answered = fallen-answered shapes e.store.variables visits e.root (omega (arith, c.of-self-inside.ensures, c.len.ensures, list.ok.0)) (both.3 c.if-self.true) in
+    let list = e.conflict.assignment.list in
+    let answered = conflict-answered shapes visits e.conflict.assignment (omega (arith, c.of-self-inside.ensures, c.len.ensures, list.ok.0)) (both.3.holds c.if-self.true) in
     let meets = asked-meets forms e.places.items shapes (negation_of c.args.goal.now) visits true both.1 both.0.slots refl (alone refl answered) in
     rw (← c.self.view_is) (inr meets.0)
 
@@ -534,8 +540,8 @@ returns-then-self-clause-conflict c = λ found.
     let forms = forms_of e.store.stored.items in
     let shapes = all_of e.store e.clauses in
     let visits = c.of-self-inside.result in
-    let list = e.root.run.assignment.list in
-    let answered = fallen-answered shapes e.store.variables visits e.root (omega (arith, c.of-self-inside.ensures, c.len.ensures, list.ok.0)) (both.3 c.if-self.true) in
+    let list = e.conflict.assignment.list in
+    let answered = conflict-answered shapes visits e.conflict.assignment (omega (arith, c.of-self-inside.ensures, c.len.ensures, list.ok.0)) (both.3.holds c.if-self.true) in
     let meets = asked-meets forms e.places.items shapes (negation_of c.args.goal.now) visits true both.1 both.0.slots refl (alone refl answered) in
     rw (← c.self.view_is) (inr meets)
 
@@ -548,9 +554,9 @@ returns-then-self-clause-most c =
     let both = c.self.invariant (ap (λ (v : Standing). v.spent) c.self.view_is ∙ c.requires.ready) in
     let forms = forms_of e.store.stored.items in
     let terms = slots-terms forms (all_of e.store e.clauses) both.0.slots in
-    let few = fallen-few e.store e.clauses e.store.variables e.root both.0.sound both.0.joined (both.3 c.if-self.true) in
+    let few = conflict-few e.store e.clauses e.conflict.assignment both.0.sound both.0.joined (both.3.holds c.if-self.true) in
     let same : numbered forms e.places.items ≡ c.args.self.now.forms = ap (λ (v : Standing). v.forms) c.self.view_is in
-    rw (← same) (omega (arith, few, terms, c.of-self-inside.ensures, c.len.ensures, e.root.run.assignment.list.ok.0, both.1.alike terms_in refl))
+    rw (← same) (omega (arith, few, terms, c.of-self-inside.ensures, c.len.ensures, e.conflict.assignment.list.ok.0, both.1.alike terms_in refl))
 
 pub returns-then-self-clause-forms : goal.returns-then-self-clause-forms
 returns-then-self-clause-forms c = ap (λ (v : Standing). v.forms) c.self.view_is

@@ -1,8 +1,8 @@
-use Rattle.pb_propagate.proofs.Common.{ℕ, ◌∙◌, ◌∷◌, ◌≡◌, [], ap, arith, Global, length, length-append, refl, Vec, all_of, clauses_of, shapes_of}
+use Rattle.pb_propagate.proofs.Common.{◌∙◌, ◌∷◌, ◌≡◌, [], ap, arith, length, length-append, refl, all_of, clauses_of, shapes_of}
 use Rattle.pb_propagate.proofs.Common.{spots_of, Standing}
 use Rattle.pb_propagate.proofs.lemmas.store.Places.{entries-length}
 use Rattle.pb_propagate.proofs.lemmas.engine.Wider.{widened-stored, half}
-use Rattle.pb_propagate.proofs.lemmas.root.Fallen.{fallen-same}
+use Rattle.pb_propagate.proofs.lemmas.root.Kept.{conflict-same}
 use Rattle.pb_propagate.proofs.lemmas.root.Roots.{widened-rooted}
 use Rattle.pb_propagate.proofs.engine.Engine.widen.Goals as goal
 
@@ -35,7 +35,11 @@ invariant_of-self-2 c = λ ready.
       },
       both.1,
       λ live. widened-rooted e.store _ e.clauses c.widen-3.new.self e.root.run c.widen-4.new.self e.root.rests e.root.waiting refl count (c.widen-3.ensures.literals ∙ c.widen-2.ensures.literals) (c.widen-3.ensures.watches ∙ c.widen-2.ensures.watches) c.widen-4.ensures.list c.in_ok-widen-4.ensures.values c.in_ok-widen-4.ensures.reasons (both.2 live),
-      λ fallen. rw lit (fallen-same (all_of e.store e.clauses) e.store.variables _ e.root _ refl c.widen-4.ensures.list c.in_ok-widen-4.ensures.reasons (omega (arith, c.in_ok-widen-4.ensures.values, (both.3 fallen).values, count)) (both.3 fallen)),
+      rw lit (record {
+        values = omega (arith, c.in_ok-widen-5.ensures.values, both.3.values, count);
+        none = λ unmet. c.widen-5.ensures.list ∙ both.3.none unmet;
+        holds = λ met. conflict-same (all_of e.store e.clauses) e.conflict.assignment c.widen-5.new.self c.widen-5.ensures.list c.in_ok-widen-5.ensures.reasons (both.3.holds met);
+      }),
     )
 
 pub returns-clause-variables : goal.returns-clause-variables

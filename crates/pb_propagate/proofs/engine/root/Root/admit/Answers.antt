@@ -7,8 +7,8 @@ use Rattle.pb_propagate.proofs.lemmas.engine.Runs.{absent-push, absent-new}
 use Rattle.pb_propagate.proofs.lemmas.store.Seats.{get-absent, push-older}
 use Rattle.pb_propagate.proofs.engine.root.Root.admit.Goals as goal
 
-pub returns-then-is_filled-clause-rooted : goal.returns-then-is_filled-clause-rooted
-returns-then-is_filled-clause-rooted c =
+pub returns-then-is_filled : goal.returns-then-is_filled
+returns-then-is_filled c =
     let store = c.args.store.now in
     let g = c.requires.gained in
     let me = c.args.self.now in
@@ -98,8 +98,8 @@ keep-requires-clause-undone c =
     let laid : IsTidy (beside c.reach.new.rests aside) (shapes_of store.stored.items) run.opens.items run.candidates.items run.assignment.list.items run.work.items run.trail.items run.next (length store.stored.items) = rw (list_is, cands_is, c.lay.ensures.next ∙ r.next) (rw long at tidy) in
     (shapes_of store.stored.items, long ∙ sym opens_now, record { clean = laid.clean; named = laid.marked })
 
-pub returns-clause-rooted : goal.returns-clause-rooted
-returns-clause-rooted c =
+pub returns : goal.returns
+returns c =
     let store = c.args.store.now in
     let g = c.requires.gained in
     let me = c.args.self.now in

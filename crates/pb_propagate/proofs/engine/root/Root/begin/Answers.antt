@@ -6,8 +6,8 @@ use Rattle.pb_propagate.proofs.lemmas.engine.VisitSteps.{open-now}
 use Rattle.pb_propagate.proofs.lemmas.root.Roots.{start-counted, start-tidy, none-walked}
 use Rattle.pb_propagate.proofs.engine.root.Root.begin.Goals as goal
 
-pub returns-clause-rooted : goal.returns-clause-rooted
-returns-clause-rooted c =
+pub returns : goal.returns
+returns c =
     let store = c.args.store.now in
     let keep = store.stored.items in
     let run = c.args.run.now in
