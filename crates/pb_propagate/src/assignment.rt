@@ -1,6 +1,6 @@
 //! The list of assigned literals.
 
-ghost use Rattle.std.specs.Prelude.{◌≡◌, ℕ, ◌+◌, ◌*◌, ◌^◌, ◌<◌, ◌⊎◌, ◌++◌, ◌∷◌, [], None, Some, not, true, false, length, take, sum_by, OnOk, OnErr, slice_index_or, slice_set};
+ghost use Rattle.std.specs.Prelude.{◌≡◌, ℕ, ◌+◌, ◌*◌, ◌<◌, ◌⊎◌, ◌++◌, ◌∷◌, [], None, Some, not, true, false, length, take, sum_by, OnOk, OnErr, slice_index_or, slice_set};
 ghost use Rattle.pb_normal.specs.declared.numbered.NumberedLiteral.{NumberedLiteral};
 ghost use Rattle.pb_normal.specs.meaning.Rules.{negation};
 ghost use Rattle.pb_propagate.specs.engine.Engine.Lists.{has, says, vacancy, KeepsReasons, IsDue};

@@ -1,6 +1,6 @@
 //! Forms take slots and leave them.
 
-ghost use Rattle.std.specs.Prelude.{◌≡◌, ℕ, ◌<◌, ◌++◌, ◌∷◌, ◌⊎◌, [], All, Some, None, true, false, length, filter, slice_get, slice_set, slice_index_or, swap_remove, IfSome, IfOk, OnOk, OnErr};
+ghost use Rattle.std.specs.Prelude.{◌≡◌, ℕ, ◌<◌, ◌++◌, ◌∷◌, [], All, Some, None, true, false, length, filter, slice_get, slice_set, slice_index_or, swap_remove, IfSome, IfOk, OnOk, OnErr};
 ghost use Rattle.pb_propagate.specs.engine.Engine.Counts.{IsAbsent};
 ghost use Rattle.pb_propagate.specs.engine.Engine.Fields.{forms_of};
 ghost use Rattle.pb_propagate.specs.engine.Engine.Rest.{IsAtRest, waits};
@@ -80,20 +80,19 @@ pub fn vacancy(
     Ok(slot)
 }
 
-// Adds a form to the list of those that may propagate with nothing assigned, if it is one.
-fn seat(store: &Store, eager: &mut Eager, slot: usize) -> Result<(), AllocError>
+/// Adds a form to the list of those that may propagate with nothing assigned, if it is one.
+pub fn seat(store: &Store, eager: &mut Eager, slot: usize)
     requires slot { slot < length store.now.stored.items }
     requires seats { length eager.old.seats.items ≡ length store.now.stored.items }
     requires absent { IsAbsent eager.old.list.items 0 slot }
-    ensures list { OnOk result (eager.new.list.items ≡ eager.old.list.items ++ filter
-        (waits store.now.stored.items) (slot ∷ [])) }
+    ensures list { eager.new.list.items ≡ eager.old.list.items ++ filter
+        (waits store.now.stored.items) (slot ∷ []) }
     ensures seats { length eager.new.seats.items ≡ length eager.old.seats.items }
 {
     if !store.stored[slot].eager {
-        return Ok(());
+        return;
     }
-    eager.put(slot)?;
-    Ok(())
+    eager.put(slot);
 }
 
 // How a clause is stored.
@@ -159,11 +158,8 @@ pub fn occupy(
     ensures gained { OnOk result (HasGained store.old clauses.old store.new clauses.new slot) }
     ensures free { OnOk result (IfSome assigned.entry (λ a.
         AreFree a.now.values.items clauses.new.blocks.watches slot)) }
-    // On failure the form may be in its slot, but not on the list of those that may propagate with nothing assigned.
     ensures refused { OnErr result
-        ((forms_of store.new.stored.items ≡ forms_of store.old.stored.items) ⊎
-        (forms_of store.new.stored.items ≡ slice_set (forms_of store.old.stored.items) slot
-        (Some form))) }
+        (forms_of store.new.stored.items ≡ forms_of store.old.stored.items) }
     ensures variables { store.new.variables ≡ store.old.variables }
     ensures visits { run.new.visits ≡ run.old.visits }
 {
@@ -178,7 +174,7 @@ pub fn occupy(
         return Ok(());
     }
     fill(store, run, slot, form)?;
-    seat(store, eager, slot)?;
+    seat(store, eager, slot);
     Ok(())
 }
 

@@ -1,21 +1,68 @@
-//! A form goes: what the root keeps.
+//! A form goes: what the root keeps. Nothing is allocated.
 
-ghost use Rattle.std.specs.Prelude.{◌≡◌, ◌*◌, ◌<◌, true, length};
+ghost use Rattle.std.specs.Prelude.{◌≡◌, ◌*◌, ◌<◌, [], true, length};
 ghost use Rattle.pb_propagate.specs.declared.store.Store.{Store};
 ghost use Rattle.pb_propagate.specs.declared.clauses.Clauses.{Clauses};
-ghost use Rattle.pb_propagate.specs.engine.Engine.Waiting.{IsWithout};
-ghost use Rattle.pb_propagate.specs.engine.Engine.Fields.{shapes_of, IsSound};
-ghost use Rattle.pb_propagate.specs.engine.Engine.Root.{IsRootOf, HasLost, IsNeedless};
+ghost use Rattle.pb_propagate.specs.engine.Engine.Progress.{list_of};
+ghost use Rattle.pb_propagate.specs.engine.Engine.Fields.{shapes_of, forms_of, IsSound};
+ghost use Rattle.pb_propagate.specs.engine.Engine.Rest.{AreSlots};
+ghost use Rattle.pb_propagate.specs.engine.Engine.Root.{IsRootOf, IsNeedless, IsSized, Loses};
 ghost use Rattle.pb_propagate.specs.engine.Clauses.Runs.{AreReady};
 ghost use Rattle.pb_propagate.specs.engine.Clauses.Shapes.{AreJoined, clauses_of, all_of};
 
 use crate::clauses::Clauses;
 use crate::engine::root::Root;
+use crate::slots::seat;
 use crate::store::Store;
 use crate::store::reasons::replace_reasons;
 
 impl Root {
-    /// The form of a slot goes. The root stays if its literals have other reasons, and ends otherwise.
+    // Begins again with no literal: the forms that may force something with nothing assigned wait.
+    fn restart(&mut self, store: &Store)
+        requires sized { IsSized store.now self.old }
+        ensures rooted { (clauses : Clauses) →
+            AreSlots (forms_of store.now.stored.items) (all_of store.now clauses) →
+            IsRootOf store.now clauses self.new }
+        ensures list { list_of self.new.run ≡ [] }
+        ensures live { self.new.live ≡ self.old.live }
+    {
+        self.run.assignment.cut(0);
+        self.run.work.clear();
+        self.run.trail.clear();
+        self.run.next = 0;
+        self.waiting.clear();
+        'forms: for form in 0..store.stored.len() {
+            let kept = &store.stored[form];
+            self.run.opens[form] = kept.total;
+            self.run.candidates[form] = 0;
+            self.rests.opens[form] = kept.total;
+            self.rests.starts[form] = 0;
+            seat(store, &mut self.waiting, form);
+        }
+    }
+
+    // No literal needs the form of a slot from now on. If one has no other reason, the root begins again.
+    fn release(&mut self, store: &Store, clauses: &Clauses, slot: usize)
+        requires slot { slot < length store.now.stored.items }
+        requires sound { IsSound store.now }
+        requires slots { AreSlots (forms_of store.now.stored.items) (all_of store.now clauses.now) }
+        requires joined { AreJoined (shapes_of store.now.stored.items) (clauses_of clauses.now) }
+        requires ready { AreReady clauses.now }
+        requires known { length clauses.now.blocks.literals ≡ length store.now.stored.items }
+        requires widths { length clauses.now.lists.items ≡ 4 * store.now.variables }
+        requires rooted { IsRootOf store.now clauses.now self.old }
+        ensures rooted { IsRootOf store.now clauses.now self.new }
+        ensures needless { IsNeedless (all_of store.now clauses.now) slot self.new.run.assignment }
+        ensures live { self.new.live ≡ self.old.live }
+    {
+        let units = self.units.as_slice();
+        if replace_reasons(store, clauses, units, &mut self.run.assignment, slot) {
+            return;
+        }
+        self.restart(store);
+    }
+
+    /// The form of a slot goes. A root that is live stays so.
     pub fn lose(&mut self, store: &Store, clauses: &Clauses, slot: usize)
         requires slot { slot < length store.now.stored.items }
         requires sound { IsSound store.now }
@@ -23,24 +70,15 @@ impl Root {
         requires ready { AreReady clauses.now }
         requires known { length clauses.now.blocks.literals ≡ length store.now.stored.items }
         requires widths { length clauses.now.lists.items ≡ 4 * store.now.variables }
+        requires slots { AreSlots (forms_of store.now.stored.items) (all_of store.now clauses.now) }
         requires rooted { self.old.live ≡ true → IsRootOf store.now clauses.now self.old }
-        ensures lost { self.new.live ≡ true → (self.old.live ≡ true) ×
-            HasLost self.old.run self.new.run self.old.rests self.new.rests slot }
-        ensures waiting { self.new.live ≡ true →
-            IsWithout slot self.old.waiting.list.items self.new.waiting.list.items }
-        ensures seats { self.new.live ≡ true →
-            length self.new.waiting.seats.items ≡ length self.old.waiting.seats.items }
-        ensures spare { self.new.live ≡ true →
-            IsNeedless (all_of store.now clauses.now) slot self.new.run.assignment }
+        ensures lost { self.old.live ≡ true → Loses store.now clauses.now slot self.new }
+        ensures live { self.new.live ≡ self.old.live }
     {
         if !self.live {
             return;
         }
-        let units = self.units.as_slice();
-        if !replace_reasons(store, clauses, units, &mut self.run.assignment, slot) {
-            self.end();
-            return;
-        }
+        self.release(store, clauses, slot);
         self.run.opens[slot] = 0;
         self.run.candidates[slot] = 0;
         self.rests.opens[slot] = 0;

@@ -136,19 +136,17 @@ fn reach(
 }
 
 // The form waits if it is on the work list.
-fn defer(waiting: &mut Eager, work: &[usize], slot: usize) -> Result<(), AllocError>
+fn defer(waiting: &mut Eager, work: &[usize], slot: usize)
     requires inside { slot < length waiting.old.seats.items }
     requires absent { IsAbsent waiting.old.list.items 0 slot }
-    ensures list { OnOk result (
-        ((work.now ≡ []) × (waiting.new.list.items ≡ waiting.old.list.items)) ⊎
-        (waiting.new.list.items ≡ waiting.old.list.items ++ slot ∷ [])) }
+    ensures list { ((work.now ≡ []) × (waiting.new.list.items ≡ waiting.old.list.items)) ⊎
+        (waiting.new.list.items ≡ waiting.old.list.items ++ slot ∷ []) }
     ensures seats { length waiting.new.seats.items ≡ length waiting.old.seats.items }
 {
     if work.is_empty() {
-        return Ok(());
+        return;
     }
-    waiting.put(slot)?;
-    Ok(())
+    waiting.put(slot);
 }
 
 // Questions return to the state of the run from now on.
@@ -275,7 +273,7 @@ impl Root {
             return Ok(());
         }
         lay(store, &mut self.run, slot)?;
-        defer(&mut self.waiting, self.run.work.as_slice(), slot)?;
+        defer(&mut self.waiting, self.run.work.as_slice(), slot);
         keep(&mut self.run, &mut self.rests);
         Ok(())
     }

@@ -3,7 +3,9 @@ use Rattle.pb_propagate.proofs.Common.{ℕ, ◌*◌, ◌+◌, ◌-◌, ◌<◌, 
 use Rattle.pb_propagate.proofs.Common.{length, List, map, None, refl, set, subst, suc, sym, true, zero, filter, Option, slice_get, Some, sum_by}
 use Rattle.pb_propagate.proofs.Common.{cases_Bool, cases_lt, length-map, length_permutation, sum_by-cons, sum_by-set, Form, StoredForm, list_at}
 use Rattle.pb_propagate.proofs.Common.{AreJoined, joined, one_term, slot_shape, AreFound, shapes_of, stored_shape, entry_of, Shape, one_in, terms_in}
-use Rattle.pb_propagate.proofs.Common.{AreSlots, eager_one, IsSlot, waits, form_at, terms_of}
+use Rattle.pb_propagate.proofs.Common.{AreSlots, eager_one, IsSlot, waits, form_at, terms_of, IsAbsent, get_or-map, slice_get_within}
+use Rattle.pb_propagate.proofs.lemmas.store.Options.{some-one}
+use Rattle.pb_propagate.proofs.lemmas.store.Seats.{AreSeated, absent-get}
 use Rattle.pb_propagate.proofs.lemmas.clauses.Slots.{joined-none}
 
 -- the terms of the stored forms are those of the live ones
@@ -107,6 +109,24 @@ listed-few os (x ∷ xs) apart live =
     let change = sum_by-set one_in os x None None inside in
     let rest = listed-few (set os x None) xs (λ i j s h k. let same = apart (suc i) (suc j) s h k in omega (arith, same)) (λ i s h. let g = live (suc i) s h in (g.0, get_or-set_other os x s None None (λ e. absurd (let same = apart 0 (suc i) s (ap (λ y. Some y) (sym e)) h in omega (arith, same))) ∙ g.1)) in
     omega (arith, rest, change, ap one_in f.1)
+
+-- a list without one of the numbers below a bound is shorter than the bound
+ones : (xs : List ℕ) (f : Form) → sum_by one_in (map (λ (x : ℕ). Some f) xs) ≡ length xs
+ones [] f = refl
+ones (x ∷ xs) f = omega (arith, sum_by-cons one_in (Some f) (map (λ (y : ℕ). Some f) xs), ones xs f)
+
+pub seated-room : (list seats : List ℕ) (form : ℕ) → form < length seats → IsAbsent list 0 form → AreSeated list seats → length list < length seats
+seated-room list seats form inside gone seated =
+    let f : Form = record { terms = []; degree = 0 } in
+    let full : List (Option Form) = map (λ (x : ℕ). Some f) seats in
+    let within : form < length full = omega (arith, inside, length-map {B = Option Form} seats (λ (x : ℕ). Some f)) in
+    let few = listed-few (set full form None) list (λ i j s h k. some-one (slice_get seats s) i j (seated i s h) (seated j s k)) (λ i s h.
+        let less : s < length seats = slice_get_within seats s i (seated i s h) in
+        let other : s ≡ form → ⊥ = λ e. absent-get list form i gone (h ∙ ap (λ z. Some z) e) in
+        (f, get_or-set_other full form s None None other ∙ get_or-map (λ (x : ℕ). Some f) seats s 0 None less)) in
+    let change = sum_by-set one_in full form None None within in
+    let one : get_or full form None ≡ Some f = get_or-map (λ (x : ℕ). Some f) seats form 0 None inside in
+    omega (arith, few, change, ones seats f, ap one_in one)
 
 -- no more forms wait than are on the list
 pub filter-few : (p : ℕ → Bool) (xs : List ℕ) → length (filter p xs) ≤ length xs

@@ -37,7 +37,7 @@ returns-clause-rest c =
     let keep = c.args.store.now.stored.items in
     rw (forms-filled keep c.fill.new.store.stored.items h.kept c.args.slot (Some c.args.form) h.keeps h.form)
     (rest-filled c.args.store.now c.fill.new.store c.args.run.now c.fill.new.run c.args.eager.now c.seat.new.eager c.plan.new.clauses (forms_of keep) c.args.form c.args.slot reported.sound c.requires.slot h
-    c.fill.ensures.variables c.fill.ensures.trail c.fill.ensures.rest c.in_ok-seat.ensures.list c.seat.ensures.seats (rest-refitted c.args.store.now c.args.run.now c.args.eager.now c.args.clauses.now c.plan.new.clauses (forms_of keep) c.plan.ensures.clauses c.requires.rest))
+    c.fill.ensures.variables c.fill.ensures.trail c.fill.ensures.rest c.seat.ensures.list c.seat.ensures.seats (rest-refitted c.args.store.now c.args.run.now c.args.eager.now c.args.clauses.now c.plan.new.clauses (forms_of keep) c.plan.ensures.clauses c.requires.rest))
 
 pub returns-clause-forms : goal.returns-clause-forms
 returns-clause-forms c =
@@ -46,17 +46,7 @@ returns-clause-forms c =
 
 pub returns-in_err-fill-clause-refused : goal.returns-in_err-fill-clause-refused
 returns-in_err-fill-clause-refused c =
-    let keep = c.args.store.now.stored.items in
-    let now = c.fill.new.store.stored.items in
-    let reported : (forms_of now ≡ forms_of keep) ⊎ (forms_of now ≡ set (forms_of keep) c.args.slot (Some c.args.form)) = inl (ap forms_of c.in_err-fill.ensures.unchanged) in
-    search (rules, reported)
-
-pub returns-in_err-seat-clause-refused : goal.returns-in_err-seat-clause-refused
-returns-in_err-seat-clause-refused c =
-    let h = c.in_ok-fill.ensures.filled in
-    let keep = c.args.store.now.stored.items in
-    let now = c.fill.new.store.stored.items in
-    let reported : (forms_of now ≡ forms_of keep) ⊎ (forms_of now ≡ set (forms_of keep) c.args.slot (Some c.args.form)) = inr (forms-filled keep now h.kept c.args.slot (Some c.args.form) h.keeps h.form) in
+    let reported = ap forms_of c.in_err-fill.ensures.unchanged in
     search (rules, reported)
 
 pub watch-requires-clause-slot : goal.watch-requires-clause-slot
@@ -86,9 +76,7 @@ returns-in-Some-clause-forms c =
 
 pub returns-in_err-watch-clause-refused : goal.returns-in_err-watch-clause-refused
 returns-in_err-watch-clause-refused c =
-    let keep = c.args.store.now.stored.items in
-    let now = c.watch.new.store.stored.items in
-    let reported : (forms_of now ≡ forms_of keep) ⊎ (forms_of now ≡ set (forms_of keep) c.args.slot (Some c.args.form)) = inl (ap forms_of c.in_err-watch.ensures.unchanged) in
+    let reported = ap forms_of c.in_err-watch.ensures.unchanged in
     search (rules, reported)
 
 pub returns-clause-gained : goal.returns-clause-gained

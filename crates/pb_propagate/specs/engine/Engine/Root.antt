@@ -17,6 +17,7 @@ use Rattle.pb_propagate.specs.declared.term.Term.{Term}
 use Rattle.pb_propagate.specs.engine.Engine.Lists.{Shape, Derives, HaveReasons, IsDue, Conflicts, IsSettled, has, open_sum}
 use Rattle.pb_propagate.specs.engine.Engine.Counts.{AreFound, IsTidy, beside}
 use Rattle.pb_propagate.specs.engine.Engine.Progress.{RunSpends, RunPays, RunVisitsEach, list_of, values_of}
+use Rattle.pb_propagate.specs.engine.Engine.Waiting.{IsWithout}
 use Rattle.pb_propagate.specs.engine.Engine.Fields.{shapes_of, forms_of, IsSound, IsEmpty}
 use Rattle.pb_propagate.specs.engine.Engine.Forms.{IsStoredAs}
 use Rattle.pb_propagate.specs.engine.Engine.Slots.{form_at, numbered, ArePlaced}
@@ -160,8 +161,7 @@ pub record HasVacated (before : Store) (old : Clauses) (store : Store) (clauses 
 
 -- the lists have the entry of an empty form for the slot
 pub record HasLost (run run' : Run) (rests rests' : Rests) (slot : ℕ) : Type 0 where
-  pub list : run'.assignment.list ≡ run.assignment.list
-  pub values : run'.assignment.values ≡ run.assignment.values
+  pub assignment : run'.assignment ≡ run.assignment
   pub work : run'.work ≡ run.work
   pub trail : run'.trail ≡ run.trail
   pub next : run'.next ≡ run.next
@@ -169,6 +169,25 @@ pub record HasLost (run run' : Run) (rests rests' : Rests) (slot : ℕ) : Type 0
   pub candidates : run'.candidates.items ≡ slice_set run.candidates.items slot 0
   pub rest_opens : rests'.opens.items ≡ slice_set rests.opens.items slot 0
   pub rest_starts : rests'.starts.items ≡ slice_set rests.starts.items slot 0
+
+-- the lists have an entry for each form and each variable
+pub record IsSized (store : Store) (root : Root) : Type 0 where
+  pub values : length root.run.assignment.values.items ≡ store.variables
+  pub opens : length root.run.opens.items ≡ length store.stored.items
+  pub candidates : length root.run.candidates.items ≡ length store.stored.items
+  pub rest_opens : length root.rests.opens.items ≡ length store.stored.items
+  pub rest_starts : length root.rests.starts.items ≡ length store.stored.items
+  pub seats : length root.waiting.seats.items ≡ length store.stored.items
+
+-- there was a root of the same forms that does not need the one of the slot, and the lists have the entry of an empty form
+-- for it
+pub record Loses (store : Store) (clauses : Clauses) (slot : ℕ) (root : Root) : Type 0 where
+  pub mid : Root
+  pub rooted : IsRootOf store clauses mid
+  pub needless : IsNeedless (all_of store clauses) slot mid.run.assignment
+  pub lost : HasLost mid.run root.run mid.rests root.rests slot
+  pub waiting : IsWithout slot mid.waiting.list.items root.waiting.list.items
+  pub seats : length root.waiting.seats.items ≡ length mid.waiting.seats.items
 
 -- a form came into a slot that was empty, or into a new one
 pub record HasGained (before : Store) (old : Clauses) (store : Store) (clauses : Clauses) (slot : ℕ) : Type 0 where

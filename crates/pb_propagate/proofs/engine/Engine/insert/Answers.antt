@@ -40,10 +40,7 @@ returns-in_err-occupy-clause-unchanged c =
     let small : slot < 2 ^ 64 - 1 = omega (arith, slice_get_within forms slot None none, keep.ok.0, keep.ok.1, forms-length keep.items) in
     let placed = placed-agree was forms e.places.items c.vacancy.ensures.forms r.1 in
     let same = numbered-same was forms e.places.items (λ n s h. c.vacancy.ensures.forms s) ∙ ap (λ (v : Standing). v.forms) c.self.view_is in
-    let reported : numbered (forms_of c.occupy.new.store.stored.items) e.places.items ≡ c.args.self.now.forms = elim c.in_err-occupy.ensures.refused [
-      | inl still ↦ ap (λ fs. numbered fs e.places.items) still ∙ same
-      | inr filled ↦ ap (λ fs. numbered fs e.places.items) filled ∙ numbered-filled forms e.places.items slot c.args.form none small placed ∙ same
-    ] in
+    let reported : numbered (forms_of c.occupy.new.store.stored.items) e.places.items ≡ c.args.self.now.forms = ap (λ fs. numbered fs e.places.items) c.in_err-occupy.ensures.refused ∙ same in
     search (rules, reported)
 
 pub returns-in_err-push-clause-unchanged : goal.returns-in_err-push-clause-unchanged

@@ -126,7 +126,7 @@ returns c =
       walked = rw c.lay.ensures.assignment r.walked;
     })
     laid
-    (λ s off. elim c.in_ok-defer.ensures.list [
+    (λ s off. elim c.defer.ensures.list [
       | inl same ↦ (rw same.1 at off, λ i from less found. absurd (omega (arith, less, ap length (sym c.as_slice.ensures.value ∙ same.0))))
       | inr more ↦
           let pushed = rw more at off in
@@ -144,7 +144,7 @@ returns c =
       rest_starts = c.keep.ensures.rests.1;
     })
     (c.defer.ensures.seats ∙ r.seats)
-    (λ i s at. elim c.in_ok-defer.ensures.list [
+    (λ i s at. elim c.defer.ensures.list [
       | inl same ↦ r.live i s (ap (λ xs. slice_get xs i) (sym same.1) ∙ at)
       | inr more ↦ elim (cases_eq s c.args.slot) [
         | inl here ↦ subst (HasForm store) (sym here) g.3.full

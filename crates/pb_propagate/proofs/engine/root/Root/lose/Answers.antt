@@ -1,0 +1,21 @@
+use Rattle.pb_propagate.proofs.Common.{refl}
+use Rattle.pb_propagate.proofs.engine.root.Root.lose.Goals as goal
+
+pub returns-clause-lost : goal.returns-clause-lost
+returns-clause-lost c = λ live. record {
+  mid = c.release.new.self;
+  rooted = c.release.ensures.rooted;
+  needless = c.release.ensures.needless;
+  lost = record {
+    assignment = refl;
+    work = refl;
+    trail = refl;
+    next = refl;
+    opens = refl;
+    candidates = refl;
+    rest_opens = refl;
+    rest_starts = refl;
+  };
+  waiting = c.remove.ensures.left;
+  seats = c.remove.ensures.seats;
+}
