@@ -78,7 +78,7 @@ pub use Rattle.pb_propagate.specs.engine.Engine.Progress.{IsTidyAt, list_of, Low
 pub use Rattle.pb_propagate.specs.engine.Engine.Progress.{RunKeepsReasons, RunPays, RunReasons, RunRecords, RunSpends, seen, Spends, StaysTidy}
 pub use Rattle.pb_propagate.specs.engine.Engine.Progress.{taken_to, visited_to, VisitsEach}
 pub use Rattle.pb_propagate.specs.engine.Engine.Reached.{HasClash, HasEnded, IsCovered, IsFrom, IsMade}
-pub use Rattle.pb_propagate.specs.engine.Engine.Rest.{AllWait, AreAtRest, AreSlots, derived, eager_one, IsAtRest, IsEager, IsEnded, IsRefuted, IsSlot}
+pub use Rattle.pb_propagate.specs.engine.Engine.Rest.{AllWait, AreAtRest, AreSlots, derived, IsAtRest, IsEager, IsEnded, IsRefuted, IsSlot}
 pub use Rattle.pb_propagate.specs.engine.Engine.Rest.{kept_waits, waits}
 pub use Rattle.pb_propagate.specs.engine.Engine.Root.{alone, HasForm, HasGained, HasLost, HasOtherReasons, HasReached, HasVacated, HasWidened}
 pub use Rattle.pb_propagate.specs.engine.Engine.Root.{IsAnswered, IsAsked, IsConflict, IsFree, IsKeptConflict, IsMet, IsNeedless, IsOtherUnit, IsRooted, IsSameWatch}

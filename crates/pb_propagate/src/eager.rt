@@ -83,18 +83,6 @@ impl Eager {
         self.list.clear();
     }
 
-    /// The same forms, in a list of their own.
-    pub fn copy(&self, alloc: Global) -> Result<Eager, AllocError>
-        ensures list { IfOk result (λ e. e.list.items ≡ self.now.list.items) }
-        ensures seats { IfOk result (λ e. e.seats.items ≡ self.now.seats.items) }
-    {
-        let mut list = Vec::with_capacity(alloc, self.seats.len())?;
-        list.extend_from_slice(self.list.as_slice())?;
-        let mut seats = Vec::with_capacity(alloc, self.seats.len())?;
-        seats.extend_from_slice(self.seats.as_slice())?;
-        Ok(Eager { list, seats })
-    }
-
     /// Removes a form from the list. The last one moves to its position.
     pub fn take(&mut self, form: usize)
         requires there { IsAbsent self.old.list.items 0 form → ⊥ }

@@ -1,6 +1,6 @@
 //! The completion of given literals.
 
-ghost use Rattle.std.specs.Prelude.{◌≡◌, ◌*◌, ◌<◌, ◌≤◌, true, All, length, OnOk, IfOk, IfSome, IfNone};
+ghost use Rattle.std.specs.Prelude.{◌≡◌, [], ◌*◌, ◌<◌, ◌≤◌, true, All, length, OnOk, IfOk, IfSome, IfNone};
 ghost use Rattle.pb_normal.specs.declared.numbered.NumberedLiteral.{NumberedLiteral};
 ghost use Rattle.pb_propagate.specs.engine.Engine.Lists.{IsWithin, Extends};
 ghost use Rattle.pb_propagate.specs.engine.Engine.Counts.{AreSingle};
@@ -61,7 +61,6 @@ pub fn settle(
     clauses: &mut Clauses,
     run: &mut Run,
     given: &[NumberedLiteral],
-    waiting: &[usize],
 ) -> Result<Option<Vec<Option<bool>>>, AllocError>
     requires store { IsSound store.now }
     requires inside { All (λ l. l.variable < store.now.variables) given.now }
@@ -69,10 +68,9 @@ pub fn settle(
     requires opens { length run.old.opens.items ≡ length store.now.stored.items }
     requires candidates { length run.old.candidates.items ≡ length store.now.stored.items }
     requires next { run.old.next ≤ length run.old.work.items }
-    requires waiting { All (λ s. s < length store.now.stored.items) waiting.now }
     requires single { AreSingle (list_of run.old) }
     requires counted { RunIsOpen store.now rests.now run.old }
-    requires tidy { RunIsCalm store.now rests.now waiting.now run.old }
+    requires tidy { RunIsCalm store.now rests.now [] run.old }
     requires joined { AreJoined (shapes_of store.now.stored.items) (clauses_of clauses.old) }
     requires running { IsRunning (values_of run.old) clauses.old }
     requires walked { RunIsWalked (length (list_of run.old)) clauses.old run.old }
@@ -97,7 +95,8 @@ pub fn settle(
     if assume(store, rests, run, given)? {
         return Ok(None);
     }
-    if propagate(store, rests, clauses, run, waiting, count)? {
+    let none = Vec::new(*store.stored.allocator());
+    if propagate(store, rests, clauses, run, none.as_slice(), count)? {
         return Ok(None);
     }
     let mut values = Vec::new(*store.stored.allocator());
@@ -130,15 +129,7 @@ pub fn extend(
         return Ok(None);
     }
     let count = root.run.assignment.list.len();
-    let none = Vec::new(*store.stored.allocator());
-    let values = settle(
-        store,
-        &root.rests,
-        clauses,
-        &mut root.run,
-        given,
-        none.as_slice(),
-    )?;
+    let values = settle(store, &root.rests, clauses, &mut root.run, given)?;
     back(store, &root.rests, clauses, &mut root.run, count);
     Ok(values)
 }

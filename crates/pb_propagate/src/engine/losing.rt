@@ -1,20 +1,36 @@
 //! A form goes: what the root keeps. Nothing is allocated.
 
-ghost use Rattle.std.specs.Prelude.{◌≡◌, ◌*◌, ◌<◌, [], true, length};
+ghost use Rattle.std.specs.Prelude.{◌≡◌, ◌*◌, ◌<◌, ◌++◌, ◌∷◌, [], filter, length};
 ghost use Rattle.pb_propagate.specs.declared.store.Store.{Store};
 ghost use Rattle.pb_propagate.specs.declared.clauses.Clauses.{Clauses};
 ghost use Rattle.pb_propagate.specs.engine.Engine.Progress.{list_of};
 ghost use Rattle.pb_propagate.specs.engine.Engine.Fields.{shapes_of, forms_of, IsSound};
-ghost use Rattle.pb_propagate.specs.engine.Engine.Rest.{AreSlots};
+ghost use Rattle.pb_propagate.specs.engine.Engine.Counts.{IsAbsent};
+ghost use Rattle.pb_propagate.specs.engine.Engine.Rest.{AreSlots, waits};
 ghost use Rattle.pb_propagate.specs.engine.Engine.Root.{IsRootOf, IsNeedless, IsSized, Loses};
 ghost use Rattle.pb_propagate.specs.engine.Clauses.Runs.{AreReady};
 ghost use Rattle.pb_propagate.specs.engine.Clauses.Shapes.{AreJoined, clauses_of, all_of};
 
 use crate::clauses::Clauses;
+use crate::eager::Eager;
 use crate::engine::root::Root;
-use crate::slots::seat;
 use crate::store::Store;
 use crate::store::reasons::replace_reasons;
+
+// Adds a form to those that wait if it may force something with nothing assigned.
+fn seat(store: &Store, waiting: &mut Eager, slot: usize)
+    requires slot { slot < length store.now.stored.items }
+    requires seats { length waiting.old.seats.items ≡ length store.now.stored.items }
+    requires absent { IsAbsent waiting.old.list.items 0 slot }
+    ensures list { waiting.new.list.items ≡ waiting.old.list.items ++ filter
+        (waits store.now.stored.items) (slot ∷ []) }
+    ensures seats { length waiting.new.seats.items ≡ length waiting.old.seats.items }
+{
+    if !store.stored[slot].eager {
+        return;
+    }
+    waiting.put(slot);
+}
 
 impl Root {
     // Begins again with no literal: the forms that may force something with nothing assigned wait.
@@ -24,7 +40,6 @@ impl Root {
             AreSlots (forms_of store.now.stored.items) (all_of store.now clauses) →
             IsRootOf store.now clauses self.new }
         ensures list { list_of self.new.run ≡ [] }
-        ensures live { self.new.live ≡ self.old.live }
     {
         self.run.assignment.cut(0);
         self.run.work.clear();
@@ -53,7 +68,6 @@ impl Root {
         requires rooted { IsRootOf store.now clauses.now self.old }
         ensures rooted { IsRootOf store.now clauses.now self.new }
         ensures needless { IsNeedless (all_of store.now clauses.now) slot self.new.run.assignment }
-        ensures live { self.new.live ≡ self.old.live }
     {
         let units = self.units.as_slice();
         if replace_reasons(store, clauses, units, &mut self.run.assignment, slot) {
@@ -62,7 +76,7 @@ impl Root {
         self.restart(store);
     }
 
-    /// The form of a slot goes. A root that is live stays so.
+    /// The form of a slot goes.
     pub fn lose(&mut self, store: &Store, clauses: &Clauses, slot: usize)
         requires slot { slot < length store.now.stored.items }
         requires sound { IsSound store.now }
@@ -71,13 +85,9 @@ impl Root {
         requires known { length clauses.now.blocks.literals ≡ length store.now.stored.items }
         requires widths { length clauses.now.lists.items ≡ 4 * store.now.variables }
         requires slots { AreSlots (forms_of store.now.stored.items) (all_of store.now clauses.now) }
-        requires rooted { self.old.live ≡ true → IsRootOf store.now clauses.now self.old }
-        ensures lost { self.old.live ≡ true → Loses store.now clauses.now slot self.new }
-        ensures live { self.new.live ≡ self.old.live }
+        requires rooted { IsRootOf store.now clauses.now self.old }
+        ensures { Loses store.now clauses.now slot self.new }
     {
-        if !self.live {
-            return;
-        }
         self.release(store, clauses, slot);
         self.run.opens[slot] = 0;
         self.run.candidates[slot] = 0;

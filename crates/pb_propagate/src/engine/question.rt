@@ -132,7 +132,7 @@ fn question(
 }
 
 /// Whether propagation over the live forms and the negation of a goal meets a conflict. It continues from the root, each
-/// literal of which counts as a visit. What it visits after the update pays for another root, should this one end.
+/// literal of which counts as a visit.
 pub fn ask(
     store: &mut Store,
     clauses: &mut Clauses,
@@ -158,8 +158,6 @@ pub fn ask(
 {
     root.run.visits = Visits::of(root.run.assignment.list.len());
     let answer = question(store, clauses, root, conflict, goal);
-    let took = root.run.visits.number().saturating_sub(root.updated);
-    root.paid = root.paid.saturating_add(took);
     *visits = mem::replace(&mut root.run.visits, Visits::none());
     answer
 }

@@ -1,13 +1,12 @@
 //! The root: what the live forms force with nothing assumed.
 
-ghost use Rattle.std.specs.Prelude.{◌≡◌, ℕ, List, ◌+◌, ◌*◌, ◌<◌, ◌⊎◌, ◌++◌, ◌∷◌, [], true, false, length, take, slice_set, slice_index_or, Some, OnOk, IfOk, IfSome, IfNone};
+ghost use Rattle.std.specs.Prelude.{◌≡◌, ℕ, List, ◌+◌, ◌*◌, ◌<◌, ◌⊎◌, ◌++◌, ◌∷◌, [], length, take, slice_set, slice_index_or, OnOk};
 ghost use Rattle.pb_propagate.specs.declared.store.Store.{Store};
 ghost use Rattle.pb_propagate.specs.declared.clauses.Clauses.{Clauses};
 ghost use Rattle.pb_propagate.specs.engine.Engine.Lists.{Shape, open_sum};
 ghost use Rattle.pb_propagate.specs.engine.Engine.Progress.{RunIsUndone, IfFound, IfNotFound};
 ghost use Rattle.pb_propagate.specs.engine.Engine.Counts.{Grown, IsAbsent, IsCalm, IsUndone};
-ghost use Rattle.pb_propagate.specs.engine.Engine.Fields.{shapes_of, forms_of, IsSound};
-ghost use Rattle.pb_propagate.specs.engine.Engine.Rest.{IsAtRest};
+ghost use Rattle.pb_propagate.specs.engine.Engine.Fields.{shapes_of, IsSound};
 ghost use Rattle.pb_propagate.specs.engine.Engine.Root.{IsRootOf, WasRootOf, IsStanding, IsVacant, IsKeptConflict, HasReached, UpdateCosts, HasMet, HasUpdated};
 ghost use Rattle.pb_propagate.specs.engine.Clauses.Runs.{AreReady, IsRunning};
 ghost use Rattle.pb_propagate.specs.engine.Clauses.Shapes.{AreJoined, clauses_of, all_of};
@@ -32,56 +31,8 @@ pub struct Root {
     pub rests: Rests,
     // The forms that may force something, or are falsified. No question has visited them since they were added.
     pub waiting: Eager,
-    // Whether all its literals still follow from the live forms.
-    pub live: bool,
     // For each literal, by its occurrence list, the last slot that took a form of one term for it.
     pub units: Vec<usize>,
-    // The visits since it last began: those of questions after their updates, and of questions and completions without
-    // it.
-    pub paid: u64,
-    // The visits of the last question when its update ended.
-    pub updated: u64,
-}
-
-// A run in which nothing is assigned, with the open sums of another.
-fn fresh(alloc: Global, run: &Run, variables: usize) -> Result<Run, AllocError>
-    ensures opens { IfOk result (λ r. r.opens.items ≡ run.now.opens.items) }
-    ensures candidates { IfOk result (λ r. r.candidates.items ≡ run.now.candidates.items) }
-    ensures list { IfOk result (λ r. r.assignment.list.items ≡ []) }
-    ensures values { IfOk result (λ r. length r.assignment.values.items ≡ variables) }
-    ensures work { IfOk result (λ r. r.work.items ≡ []) }
-    ensures trail { IfOk result (λ r. r.trail.items ≡ []) }
-    ensures next { IfOk result (λ r. r.next ≡ 0) }
-{
-    let mut opens = Vec::with_capacity(alloc, run.opens.len())?;
-    opens.extend_from_slice(run.opens.as_slice())?;
-    let mut candidates = Vec::with_capacity(alloc, run.candidates.len())?;
-    candidates.extend_from_slice(run.candidates.as_slice())?;
-    let mut assignment = Assignment::new(alloc);
-    'variables: for _ in 0..variables {
-        assignment.widen()?;
-    }
-    Ok(Run {
-        opens,
-        candidates,
-        assignment,
-        work: Vec::new(alloc),
-        next: 0,
-        trail: Vec::new(alloc),
-        visits: Visits::none(),
-    })
-}
-
-// The state of a run, as one to which questions return.
-fn rests_of(alloc: Global, run: &Run) -> Result<Rests, AllocError>
-    ensures opens { IfOk result (λ r. r.opens.items ≡ run.now.opens.items) }
-    ensures starts { IfOk result (λ r. r.starts.items ≡ run.now.candidates.items) }
-{
-    let mut opens = Vec::with_capacity(alloc, run.opens.len())?;
-    opens.extend_from_slice(run.opens.as_slice())?;
-    let mut starts = Vec::with_capacity(alloc, run.candidates.len())?;
-    starts.extend_from_slice(run.candidates.as_slice())?;
-    Ok(Rests { opens, starts })
 }
 
 /// Lowers the open sum of a form to that under the list. The form is put to work if it may then propagate or is
@@ -178,9 +129,10 @@ fn keep(run: &mut Run, rests: &mut Rests)
 }
 
 impl Root {
-    /// None yet.
+    /// The root of no forms, over no variables.
     pub fn new(alloc: Global) -> Root
-        ensures { result.live ≡ false }
+        ensures { (store : Store) (clauses : Clauses) → store.stored.items ≡ [] →
+            store.variables ≡ 0 → IsRootOf store clauses result }
     {
         Root {
             run: Run {
@@ -194,39 +146,16 @@ impl Root {
             },
             rests: Rests::none(alloc),
             waiting: Eager::new(alloc),
-            live: false,
             units: Vec::new(alloc),
-            paid: 0,
-            updated: 0,
         }
-    }
-
-    /// The literals that are forced, if they still follow.
-    pub fn assigned(&self) -> Option<&Assignment>
-        ensures some { IfSome result (λ a. a.now ≡ self.now.run.assignment) }
-        ensures none { IfNone result (self.now.live ≡ false) }
-    {
-        if !self.live {
-            return None;
-        }
-        Some(&self.run.assignment)
-    }
-
-    /// Ends the root: its forms are no longer the live ones.
-    pub fn end(&mut self)
-        ensures live { self.new.live ≡ false }
-        ensures run { self.new.run ≡ self.old.run }
-    {
-        self.live = false;
     }
 
     /// Remembers the form of a slot as the unit of its literal, if it has one term.
     pub fn note(&mut self, store: &Store, slot: usize)
         requires slot { slot < length store.now.stored.items }
         requires sound { IsSound store.now }
-        ensures kept { (self.new.run ≡ self.old.run) × (self.new.rests ≡ self.old.rests) ×
+        ensures { (self.new.run ≡ self.old.run) × (self.new.rests ≡ self.old.rests) ×
             (self.new.waiting ≡ self.old.waiting) }
-        ensures live { self.new.live ≡ self.old.live }
     {
         let Some(literal) = only_literal(&store.stored[slot].terms) else {
             return;
@@ -234,27 +163,6 @@ impl Root {
         if let Some(unit) = self.units.get_mut(place_of(literal)) {
             *unit = slot;
         }
-    }
-
-    /// No literal is forced yet: all forms that may force something with nothing assigned wait.
-    pub fn begin(
-        &mut self,
-        store: &Store,
-        run: &Run,
-        clauses: &Clauses,
-        eager: &Eager,
-    ) -> Result<(), AllocError>
-        requires rest { IsAtRest store.now run.now eager.now clauses.now
-            (forms_of store.now.stored.items) }
-        ensures { OnOk result (IsRootOf store.now clauses.now self.new) }
-    {
-        let alloc = *store.stored.allocator();
-        self.paid = 0;
-        self.run = fresh(alloc, run, store.variables)?;
-        self.rests = rests_of(alloc, run)?;
-        self.waiting = eager.copy(alloc)?;
-        self.live = true;
-        Ok(())
     }
 
     /// A form that was added waits for the next question, unless it is a clause with watches.
@@ -293,7 +201,6 @@ impl Root {
             length clauses.new.lists.items ≡ length clauses.old.lists.items) }
         ensures costs { UpdateCosts store.now clauses.old self.old self.new }
         ensures rooted { OnOk result (IsRootOf store.now clauses.new self.new) }
-        ensures live { OnOk result (self.new.live ≡ self.old.live) }
         ensures kept { OnOk result (
             IsKeptConflict (all_of store.now clauses.old) store.now.variables conflict.new) }
         ensures met { IfFound result (
@@ -310,7 +217,6 @@ impl Root {
             self.waiting.list.as_slice(),
             count,
         )?;
-        self.updated = self.run.visits.number();
         if found {
             conflict.note(&self.run.assignment)?;
             back(store, &self.rests, clauses, &mut self.run, count);

@@ -7,7 +7,7 @@ use Rattle.pb_propagate.proofs.Common.{NumberedLiteral, Form, Assignment, Clause
 use Rattle.pb_propagate.proofs.Common.{watch_lists, AreReady, AreStored, AreWalked, HasTrue, all_of, clauses_of, joined, one_term, slot_shape}
 use Rattle.pb_propagate.proofs.Common.{false_at, walked_codes, beside, Grown, IsAbsent, IsCalm, IsCounted, IsTidy, pushed, spared}
 use Rattle.pb_propagate.proofs.Common.{weight_in, forms_of, shapes_of, stored_shape, HaveReasons, open_sum, Shape, size, HasForm, HasGained}
-use Rattle.pb_propagate.proofs.Common.{HasReached, IsRooted, form_at, AreFree, AreSet, IsFreePair, IfNone, IfSome, None, Pair}
+use Rattle.pb_propagate.proofs.Common.{HasReached, IsRooted, form_at, AreFree, AreSet, IsFreePair, IfSome, None, Pair}
 use Rattle.pb_propagate.proofs.lemmas.clauses.Shapes.{joined-at, joined-length}
 use Rattle.pb_propagate.proofs.lemmas.engine.Rests.{element}
 use Rattle.pb_propagate.proofs.lemmas.engine.Reasoned.{moved-same, reasons-moved}
@@ -234,14 +234,6 @@ pair-free values old new s literals p free set e here live = elim (set.mine e he
 pub some-map : {X : Type 0} (o : Option X) (A B : X → Type 0) → ((a : X) → A a → B a) → IfSome o A → IfSome o B
 some-map None A B f h = h
 some-map (Some a) A B f h = f a h
-
-pub some-all : {X : Type 0} (o : Option X) (B : X → Type 0) → ((a : X) → B a) → IfSome o B
-some-all None B f = tt
-some-all (Some a) B f = f a
-
-pub some-there : {X : Type 0} (o : Option X) (A B : X → Type 0) (P N : Type 0) → IfSome o A → IfSome o B → IfNone o N → (N → ⊥) → ((a : X) → A a → B a → P) → P
-some-there None A B P N x y none not f = absurd (not none)
-some-there (Some a) A B P N x y none not f = f a x y
 
 -- a clause adds nothing to the occurrence lists
 pub clause-rooted : (store : Store) (clauses : Clauses) (run : Run) (rests : Rests) (waiting : Eager) (slot : ℕ) → slot < length store.stored.items → ((d : Shape) → ((get_or (shapes_of store.stored.items) slot d).terms ≡ []) × ((get_or (shapes_of store.stored.items) slot d).degree ≡ 0)) → get_or run.opens.items slot 0 ≡ 0 → IsRooted store clauses run rests waiting slot → IsRooted store clauses run rests waiting (length store.stored.items)

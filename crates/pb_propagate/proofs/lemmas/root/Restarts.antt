@@ -1,7 +1,7 @@
 -- A root that begins again with no literal.
 use Rattle.pb_propagate.proofs.Common.{ℕ, ◌++◌, ◌+◌, ◌<◌, ◌∙◌, ◌∷◌, ◌≡◌, ◌≤◌, [], ap, arith, Bool, false, get_or, get_or-set_other, get_or-set_same}
-use Rattle.pb_propagate.proofs.Common.{inl, inr, length, length-append, length-set, List, map, refl, set, sym, take, true, All, filter, slice_get, Some}
-use Rattle.pb_propagate.proofs.Common.{append-nil, both_ways, cases_eq, cases_lt, ext_get_or, get_or-map, get_or_append_left, get_or_push, length-map}
+use Rattle.pb_propagate.proofs.Common.{inl, inr, length, length-set, List, map, refl, set, sym, take, true, filter, slice_get, Some}
+use Rattle.pb_propagate.proofs.Common.{append-nil, both_ways, cases_eq, cases_lt, ext_get_or, get_or-map, length-map}
 use Rattle.pb_propagate.proofs.Common.{slice_get-get_or, slice_get_within, from_given, Assignment, Clauses, Eager, Rests, Run, Store, StoredForm, all_of, clauses_of}
 use Rattle.pb_propagate.proofs.Common.{IsAbsent, forms_of, shapes_of, stored_shape, HaveReasons, AllWait, AreAtRest, AreSlots, IsEager, IsRooted, waits, has, IsNeedless, Shape}
 use Rattle.pb_propagate.proofs.lemmas.engine.Bounds.{waits-form}
@@ -10,7 +10,6 @@ use Rattle.pb_propagate.proofs.lemmas.engine.Rests.{element, rest-lengths}
 use Rattle.pb_propagate.proofs.lemmas.engine.Runs.{absent-new, absent-push}
 use Rattle.pb_propagate.proofs.lemmas.engine.VisitSteps.{open-now}
 use Rattle.pb_propagate.proofs.lemmas.root.Roots.{start-counted, start-tidy, none-walked}
-use Rattle.pb_propagate.proofs.lemmas.store.Gets.{lt_of_apart}
 use Rattle.pb_propagate.proofs.lemmas.store.Seats.{get-absent, push-older}
 
 -- the first forms have their totals and first terms

@@ -1,4 +1,4 @@
--- The root: a propagation from nothing that has ended without a conflict, to which questions return.
+-- The root: a propagation from nothing without a conflict, to which questions return.
 use Rattle.std.specs.Prelude.{◌≡◌, ℕ, ◌+◌, ◌*◌, ◌/◌, ◌<◌, ◌≤◌, ◌⊎◌, ◌++◌, ◌∷◌, Contains, true, false, List, [], Bool, Option, Some, length, sum_by, slice_get, slice_set, slice_index, slice_index_or}
 use Rattle.pb_normal.specs.declared.numbered.NumberedLiteral.{NumberedLiteral}
 use Rattle.pb_normal.specs.meaning.Rules.{negation}
@@ -89,7 +89,7 @@ pub record IsVacant (variables : ℕ) (conflict : Conflict) : Type 0 where
   pub values : length conflict.assignment.values.items ≡ variables
   pub list : conflict.assignment.list.items ≡ []
 
--- no question is in progress, and the root is live
+-- no question is in progress
 pub record IsStanding (store : Store) (clauses : Clauses) (root : Root) : Type 0 where
   pub rooted : IsRootOf store clauses root
   pub sound : IsSound store
@@ -103,7 +103,7 @@ pub record IsLeft (before store : Store) (old clauses : Clauses) (root : Root) (
   pub kept : store.stored.items ≡ before.stored.items
   pub ready : AreReady clauses
   pub lists : length clauses.lists.items ≡ length old.lists.items
-  pub rooted : root.live ≡ true → IsRootOf store clauses root
+  pub rooted : IsRootOf store clauses root
   pub conflict : IsKeptConflict (all_of before old) before.variables noted
 
 -- the cost of an update of the root, also of one that an allocation ends; `ended` is its run before it goes back

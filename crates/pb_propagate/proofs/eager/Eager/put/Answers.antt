@@ -1,4 +1,4 @@
-use Rattle.pb_propagate.proofs.Common.{◌<◌, ◌≡◌, arith, length, length-set}
+use Rattle.pb_propagate.proofs.Common.{◌≡◌, arith, length, length-set}
 use Rattle.pb_propagate.proofs.lemmas.engine.Bounds.{seated-room}
 use Rattle.pb_propagate.proofs.lemmas.store.Seats.{seated-put}
 use Rattle.pb_propagate.proofs.eager.Eager.put.Goals as goal

@@ -1,4 +1,4 @@
-use Rattle.pb_propagate.proofs.Common.{arith, is_ok, length}
+use Rattle.pb_propagate.proofs.Common.{arith, is_ok}
 use Rattle.pb_propagate.proofs.lemmas.store.Seats.{room-widened, seated-widened}
 use Rattle.pb_propagate.proofs.eager.Eager.widen.Goals as goal
 

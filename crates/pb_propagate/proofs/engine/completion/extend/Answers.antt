@@ -30,9 +30,6 @@ settle-requires-clause-next c =
     let r = c.in_ok-update.ensures.rooted in
     omega (arith, r.next)
 
-pub settle-requires-clause-waiting : goal.settle-requires-clause-waiting
-settle-requires-clause-waiting c = rw (c.as_slice.ensures.value, c.new-none.ensures.items) (λ k d less. absurd (omega (arith, less)))
-
 pub settle-requires-clause-single : goal.settle-requires-clause-single
 settle-requires-clause-single c =
     let r = c.in_ok-update.ensures.rooted in
@@ -45,7 +42,7 @@ settle-requires-clause-counted c =
 pub settle-requires-clause-tidy : goal.settle-requires-clause-tidy
 settle-requires-clause-tidy c =
     let r = c.in_ok-update.ensures.rooted in
-    rw (c.as_slice.ensures.value, c.new-none.ensures.items, r.work, r.trail, r.next) (rw (c.in_ok-update.ensures.updated c.if-branch.false).none at r.tidy)
+    rw (r.work, r.trail, r.next) (rw (c.in_ok-update.ensures.updated c.if-branch.false).none at r.tidy)
 
 pub settle-requires-clause-joined : goal.settle-requires-clause-joined
 settle-requires-clause-joined c =
@@ -82,7 +79,7 @@ returns-then-branch-clause-left c = record {
   kept = refl;
   ready = (c.in_ok-update.ensures.met c.if-branch.true).ready;
   lists = c.in_ok-update.ensures.lists;
-  rooted = λ live. c.in_ok-update.ensures.rooted;
+  rooted = c.in_ok-update.ensures.rooted;
   conflict = c.in_ok-update.ensures.kept;
 }
 
@@ -103,7 +100,7 @@ returns-clause-left c =
       ready = c.back.ensures.ready;
       lists = omega (arith, ap (λ (v : Vec (Vec Listed Global) Global). length v.items) c.back.ensures.lists, reported.running.sizes, reported.values, r.values, c.requires.standing.widths);
       conflict = c.in_ok-update.ensures.kept;
-      rooted = λ live. back-rooted store between c.back.new.clauses run last root.rests root.waiting c.settle.new.run.assignment.list.items c.in_ok-update.ensures.rooted (record {
+      rooted = back-rooted store between c.back.new.clauses run last root.rests root.waiting c.settle.new.run.assignment.list.items c.in_ok-update.ensures.rooted (record {
         literals = (c.back.ensures.literals ∙ c.settle.ensures.literals);
         kept = λ old. subst (λ cs. AreWalked run.assignment.values.items cs c.back.new.clauses.blocks.watches codes) (sym c.back.ensures.literals) (subst (λ ws. AreWalked run.assignment.values.items c.settle.new.clauses.blocks.literals ws codes) (sym c.back.ensures.watches) (reported.kept run.assignment.values.items codes (grows-refl run.assignment.values.items) old));
         extends = reported.extends;

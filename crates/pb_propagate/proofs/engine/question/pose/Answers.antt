@@ -64,9 +64,6 @@ returns-then-branch-clause-asked c =
     let few = found-after (length a.list.items) c.update.new.self.run.visits (length c.args.root.now.run.assignment.list.items) (rw c.requires.visits at met.found) (omega (arith, a.list.ok.0, a.list.ok.1)) in
     alone refl (conflict-answered (all_of c.args.store.now c.args.clauses.now) c.update.new.self.run.visits a few (c.in_ok-update.ensures.kept.holds met.met))
 
-pub enter-requires-clause-opens : goal.enter-requires-clause-opens
-enter-requires-clause-opens c = c.in_ok-update.ensures.rooted.open_sizes
-
 pub propagate-requires-clause-opens : goal.propagate-requires-clause-opens
 propagate-requires-clause-opens c =
     let store = c.args.store.now in
@@ -263,7 +260,7 @@ returns-then-branch-clause-left c = record {
   kept = refl;
   ready = (c.in_ok-update.ensures.met c.if-branch.true).ready;
   lists = c.in_ok-update.ensures.lists;
-  rooted = λ live. c.in_ok-update.ensures.rooted;
+  rooted = c.in_ok-update.ensures.rooted;
   conflict = c.in_ok-update.ensures.kept;
 }
 
@@ -310,7 +307,7 @@ returns-clause-left c =
       ready = c.back.ensures.ready;
       lists = omega (arith, ap (λ (v : Vec (Vec Listed Global) Global). length v.items) c.back.ensures.lists, reported.running.sizes, reported.values, ap length values_is, r.values, c.requires.standing.widths);
       conflict = c.in_ok-update.ensures.kept;
-      rooted = λ live. record {
+      rooted = record {
         values = ap (λ (a : Assignment). length a.values.items) c.leave.ensures.rest.0 ∙ c.back.ensures.values ∙ reported.values ∙ ap (λ (a : Assignment). length a.values.items) (c.lay.ensures.assignment ∙ c.enter.ensures.rest.0) ∙ r.values ∙ sym (c.leave.ensures.variables ∙ c.enter.ensures.variables);
         opens = opens_is;
         starts = starts_is;

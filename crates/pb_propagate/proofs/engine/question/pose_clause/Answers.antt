@@ -138,7 +138,7 @@ returns-then-branch-clause-left c = record {
   kept = refl;
   ready = (c.in_ok-update.ensures.met c.if-branch.true).ready;
   lists = c.in_ok-update.ensures.lists;
-  rooted = λ live. c.in_ok-update.ensures.rooted;
+  rooted = c.in_ok-update.ensures.rooted;
   conflict = c.in_ok-update.ensures.kept;
 }
 
@@ -159,7 +159,7 @@ returns-clause-left c =
       ready = c.back.ensures.ready;
       lists = omega (arith, ap (λ (v : Vec (Vec Listed Global) Global). length v.items) c.back.ensures.lists, reported.running.sizes, reported.values, r.values, c.requires.standing.widths);
       conflict = c.in_ok-update.ensures.kept;
-      rooted = λ live. back-rooted store between c.back.new.clauses run last root.rests root.waiting c.refute.new.run.assignment.list.items c.in_ok-update.ensures.rooted (record {
+      rooted = back-rooted store between c.back.new.clauses run last root.rests root.waiting c.refute.new.run.assignment.list.items c.in_ok-update.ensures.rooted (record {
         literals = (c.back.ensures.literals ∙ c.refute.ensures.literals);
         kept = λ old. subst (λ cs. AreWalked run.assignment.values.items cs c.back.new.clauses.blocks.watches codes) (sym c.back.ensures.literals) (subst (λ ws. AreWalked run.assignment.values.items c.refute.new.clauses.blocks.literals ws codes) (sym c.back.ensures.watches) (reported.kept run.assignment.values.items codes (grows-refl run.assignment.values.items) old));
         extends = c.refute.ensures.costs.extends;

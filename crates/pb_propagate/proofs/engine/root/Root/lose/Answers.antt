@@ -1,8 +1,8 @@
 use Rattle.pb_propagate.proofs.Common.{refl}
 use Rattle.pb_propagate.proofs.engine.root.Root.lose.Goals as goal
 
-pub returns-clause-lost : goal.returns-clause-lost
-returns-clause-lost c = λ live. record {
+pub returns : goal.returns
+returns c = record {
   mid = c.release.new.self;
   rooted = c.release.ensures.rooted;
   needless = c.release.ensures.needless;

@@ -1,4 +1,4 @@
-use Rattle.pb_propagate.proofs.Common.{◌∙◌, ◌≡◌, ap, length, sym}
+use Rattle.pb_propagate.proofs.Common.{◌∙◌, ap, length, sym}
 use Rattle.pb_propagate.proofs.lemmas.root.Restarts.{empty-needless, reasoned-rooted}
 use Rattle.pb_propagate.proofs.engine.root.Root.release.Goals as goal
 

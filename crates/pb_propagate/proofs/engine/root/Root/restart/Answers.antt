@@ -1,4 +1,4 @@
-use Rattle.pb_propagate.proofs.Common.{◌<◌, ◌∙◌, ◌≡◌, ◌≤◌, [], ap, arith, get_or, get_or_read, Global, length, List, NumberedLiteral, refl, StoredForm, sym, Vec}
+use Rattle.pb_propagate.proofs.Common.{◌<◌, ◌∙◌, ◌≡◌, ◌≤◌, ap, arith, get_or, get_or_read, Global, length, refl, StoredForm, sym, Vec}
 use Rattle.pb_propagate.proofs.Common.{ℕ, Assignment}
 use Rattle.pb_propagate.proofs.lemmas.root.Restarts.{fresh-rooted, listed-absent, listed-eager, listed-next, listed-start, none-taken, reset-end, reset-next, reset-start}
 use Rattle.pb_propagate.proofs.engine.root.Root.restart.Goals as goal
@@ -23,7 +23,6 @@ forms-preserved c =
       work = v.work;
       trail = v.trail;
       next = v.next;
-      live = v.live;
     }
 
 pub forms-init : goal.forms-init
@@ -38,7 +37,6 @@ forms-init c =
       work = refl;
       trail = refl;
       next = refl;
-      live = refl;
     }
 
 pub returns-clause-rooted : goal.returns-clause-rooted

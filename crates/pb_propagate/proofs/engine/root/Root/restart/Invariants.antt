@@ -12,5 +12,4 @@ invariant-forms l = record {
   work : l.self.run.work ≡ l.initial.self.run.work;
   trail : l.self.run.trail ≡ l.initial.self.run.trail;
   next : l.self.run.next ≡ l.initial.self.run.next;
-  live : l.self.live ≡ l.initial.self.live;
 }
