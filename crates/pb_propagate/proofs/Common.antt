@@ -37,6 +37,7 @@ pub use Rattle.pb_propagate.specs.declared.clauses.Clauses.{Clauses}
 pub use Rattle.pb_propagate.specs.declared.clauses.lists.Listed.{Listed}
 pub use Rattle.pb_propagate.specs.declared.clauses.lists.Watch.{Watch}
 pub use Rattle.pb_propagate.specs.declared.clauses.search.Search.{Search}
+pub use Rattle.pb_propagate.specs.declared.clauses.watched.Pair.{Pair}
 pub use Rattle.pb_propagate.specs.declared.clauses.visiting.Visit.TheVariants.{Falsified, Forces, Leaves, Stays}
 pub use Rattle.pb_propagate.specs.declared.eager.Eager.{Eager}
 pub use Rattle.pb_propagate.specs.declared.heads.Heads.{Heads}
@@ -52,8 +53,8 @@ pub use Rattle.pb_propagate.specs.engine.Clauses.Blocks.{number_at, rewatched, r
 pub use Rattle.pb_propagate.specs.engine.Clauses.Blocks.{watch_of, watch_place}
 pub use Rattle.pb_propagate.specs.engine.Clauses.Links.{AreBlocked, AreFewer, AreLinked, AreMore, entries_at, idle, IsListed, list_at, Remains, Sits}
 pub use Rattle.pb_propagate.specs.engine.Clauses.Links.{watch_at, watch_lists}
-pub use Rattle.pb_propagate.specs.engine.Clauses.Runs.{all_turned, AreNoted, ArePassed, AreReady, AreRound, AreServed, AreStored, AreWalked}
-pub use Rattle.pb_propagate.specs.engine.Clauses.Runs.{AreWithin, around, Grows, HasTrue, HasVisited, index_after, IsBroken, IsPair, IsRefitted}
+pub use Rattle.pb_propagate.specs.engine.Clauses.Runs.{all_turned, AreFree, AreNoted, ArePassed, AreReady, AreRound, AreServed, AreStored, AreWalked}
+pub use Rattle.pb_propagate.specs.engine.Clauses.Runs.{AreSet, AreWithin, around, Grows, HasTrue, HasVisited, index_after, IsBroken, IsFreePair, IsPair, IsRefitted}
 pub use Rattle.pb_propagate.specs.engine.Clauses.Runs.{IsRound, IsRunning, IsUnit, IsWatched, KeepsWalked, passed_of, search_at, turned}
 pub use Rattle.pb_propagate.specs.engine.Clauses.Shapes.{all_of, AreDifferent, AreJoined, clause_shape, clauses_of, code, code_in, codes_of_terms}
 pub use Rattle.pb_propagate.specs.engine.Clauses.Shapes.{group_by, IsClause, IsLight, joined, literal_at, offset, one_term, slot_shape}
@@ -77,11 +78,11 @@ pub use Rattle.pb_propagate.specs.engine.Engine.Progress.{IsTidyAt, list_of, Low
 pub use Rattle.pb_propagate.specs.engine.Engine.Progress.{RunKeepsReasons, RunPays, RunReasons, RunRecords, RunSpends, seen, Spends, StaysTidy}
 pub use Rattle.pb_propagate.specs.engine.Engine.Progress.{taken_to, visited_to, VisitsEach}
 pub use Rattle.pb_propagate.specs.engine.Engine.Reached.{HasClash, HasEnded, IsCovered, IsFrom, IsMade}
-pub use Rattle.pb_propagate.specs.engine.Engine.Rest.{AllWait, AreAtRest, AreSlots, derived, eager_one, IsAtRest, IsEager, IsEnded, IsRefuted, IsSlot}
+pub use Rattle.pb_propagate.specs.engine.Engine.Rest.{AllWait, AreAtRest, AreSlots, derived, IsAtRest, IsEager, IsEnded, IsRefuted, IsSlot}
 pub use Rattle.pb_propagate.specs.engine.Engine.Rest.{kept_waits, waits}
 pub use Rattle.pb_propagate.specs.engine.Engine.Root.{alone, HasForm, HasGained, HasLost, HasOtherReasons, HasReached, HasVacated, HasWidened}
-pub use Rattle.pb_propagate.specs.engine.Engine.Root.{IsAnswered, IsAsked, IsFallen, IsFree, IsMet, IsNeedless, IsOtherUnit, IsRooted, IsSameWatch}
-pub use Rattle.pb_propagate.specs.engine.Engine.Root.{IsServed, posed}
+pub use Rattle.pb_propagate.specs.engine.Engine.Root.{IsAnswered, IsAsked, IsConflict, IsFree, IsKeptConflict, IsMet, IsNeedless, IsOtherUnit, IsRooted, IsSameWatch}
+pub use Rattle.pb_propagate.specs.engine.Engine.Root.{IsVacant, posed, UpdateCosts, HasMet, HasUpdated}
 pub use Rattle.pb_propagate.specs.engine.Engine.Slots.{ArePlaced, form_at, numbered}
 pub use Rattle.pb_propagate.specs.engine.Engine.Terms.{terms_of}
 pub use Rattle.pb_propagate.specs.engine.Engine.Waiting.{IsWithout}

@@ -1,6 +1,6 @@
 //! The list of assigned literals.
 
-ghost use Rattle.std.specs.Prelude.{◌≡◌, ℕ, ◌+◌, ◌*◌, ◌^◌, ◌<◌, ◌⊎◌, ◌++◌, ◌∷◌, [], None, Some, not, true, false, length, take, sum_by, OnOk, OnErr, slice_index_or, slice_set};
+ghost use Rattle.std.specs.Prelude.{◌≡◌, ℕ, ◌+◌, ◌*◌, ◌<◌, ◌⊎◌, ◌++◌, ◌∷◌, [], None, Some, not, true, false, length, take, sum_by, OnOk, OnErr, slice_index_or, slice_set};
 ghost use Rattle.pb_normal.specs.declared.numbered.NumberedLiteral.{NumberedLiteral};
 ghost use Rattle.pb_normal.specs.meaning.Rules.{negation};
 ghost use Rattle.pb_propagate.specs.engine.Engine.Lists.{has, says, vacancy, KeepsReasons, IsDue};
@@ -182,14 +182,6 @@ impl Assignment {
             Some(failed) => *failed,
             None => false,
         }
-    }
-
-    /// Whether the literal of a code is true. A variable that is not there has no value.
-    pub fn has_satisfied(&self, code: usize) -> bool
-        requires { code + 1 < 2 ^ 64 }
-        ensures { result ≡ true_at self.now.values.items code }
-    {
-        self.has_falsified(opposite(code))
     }
 
     /// Whether the literal of a code has no value.

@@ -3,8 +3,8 @@
 ghost use Rattle.std.specs.Prelude.{◌≡◌, ℕ, ◌+◌, ◌*◌, ◌/◌, ◌<◌, ◌≤◌, ◌++◌, ◌∷◌, [], List, All, Bool, Option, length, slice_set, slice_index, true, false, OnOk, OnErr, IfOk, IfSome};
 ghost use Rattle.pb_propagate.specs.engine.Clauses.Links.{watch_lists, list_at, idle, watch_at};
 ghost use Rattle.pb_propagate.specs.engine.Clauses.Blocks.{number_at};
-ghost use Rattle.pb_propagate.specs.engine.Clauses.Runs.{AreReady, CanHold, IsPair, IsRefitted, IsRunning};
-ghost use Rattle.pb_propagate.specs.engine.Engine.Root.{IsServed, IsFree, IsSameWatch};
+ghost use Rattle.pb_propagate.specs.engine.Clauses.Runs.{AreReady, AreSet, CanHold, IsPair, IsRefitted, IsRunning};
+ghost use Rattle.pb_propagate.specs.engine.Engine.Root.{IsFree, IsSameWatch};
 
 pub mod blocks;
 pub mod lists;
@@ -140,8 +140,8 @@ impl Clauses {
         ensures literals { OnOk result
             (self.new.blocks.literals ≡ slice_set self.old.blocks.literals slot literals.items) }
         ensures unchanged { OnErr result (self.new.blocks.literals ≡ self.old.blocks.literals) }
-        ensures watches { OnOk result ((e : ℕ) → (e / 2 ≡ slot → ⊥) →
-            watch_at self.new.blocks.watches e ≡ watch_at self.old.blocks.watches e) }
+        ensures watches { OnOk result (
+            AreSet self.old.blocks.watches self.new.blocks.watches slot literals.items pair) }
         ensures lists { OnOk result (length self.new.lists.items ≡ length self.old.lists.items) }
     {
         let first = literals[pair.first];
@@ -192,30 +192,6 @@ impl Clauses {
         let spot = self.blocks.spot(2 * slot + 1);
         take_out(&mut self.lists, &mut self.blocks, second, spot);
         self.blocks.clear(slot);
-    }
-
-    /// Whether the watches of a clause are on literals that are not falsified, or one of them is true.
-    pub fn is_served(&self, assignment: &Assignment, slot: usize) -> bool
-        requires rest { AreReady self.now }
-        requires filled { 0 < length (list_at self.now.blocks.literals slot) }
-        requires values { length self.now.lists.items ≡ 4 * length assignment.now.values.items }
-        ensures yes { result ≡ true →
-            IsServed assignment.now.values.items self.now.blocks.watches slot }
-        ensures no { result ≡ false →
-            IsServed assignment.now.values.items self.now.blocks.watches slot → ⊥ }
-    {
-        let first = self.blocks.watched(2 * slot);
-        let second = self.blocks.watched(2 * slot + 1);
-        if assignment.satisfies(first) {
-            return true;
-        }
-        if assignment.satisfies(second) {
-            return true;
-        }
-        if assignment.falsifies(first) {
-            return false;
-        }
-        !assignment.falsifies(second)
     }
 
     /// A literal of a slot's clause that is not falsified.

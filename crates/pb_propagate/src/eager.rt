@@ -1,12 +1,12 @@
 //! The forms that may propagate with nothing assigned.
 
-ghost use Rattle.std.specs.Prelude.{◌≡◌, ℕ, ◌<◌, ◌+◌, ◌++◌, ◌∷◌, [], Some, length, slice_get, swap_remove, true, false, OnOk, IfOk};
+ghost use Rattle.std.specs.Prelude.{◌≡◌, ℕ, ◌<◌, ◌≤◌, ◌+◌, ◌++◌, ◌∷◌, [], Some, length, slice_get, swap_remove, true, false, vec_capacity, OnOk, IfOk};
 ghost use Rattle.pb_propagate.specs.engine.Engine.Counts.{IsAbsent};
 ghost use Rattle.pb_propagate.specs.engine.Engine.Waiting.{IsWithout};
 
 use std::alloc::{AllocError, Global};
 
-/// Some of the forms, each once. A form is removed without a search.
+/// Some of the forms, each once. The list has room for all of them. A form is removed without a search.
 #[derive(Drop)]
 pub struct Eager {
     pub list: Vec<usize>,
@@ -14,6 +14,7 @@ pub struct Eager {
     pub seats: Vec<usize>,
     pub ghost seated: { (i s : ℕ) → slice_get list.items i ≡ Some s →
         slice_get seats.items s ≡ Some i },
+    pub ghost room: { length seats.items ≤ vec_capacity list },
 }
 
 impl Eager {
@@ -27,27 +28,28 @@ impl Eager {
         }
     }
 
-    /// Adds a form that is not on the list.
+    /// Adds a form that is not on the list, and room for it there.
     pub fn widen(&mut self) -> Result<(), AllocError>
         ensures list { self.new.list.items ≡ self.old.list.items }
         ensures seats { OnOk result
             (length self.new.seats.items ≡ length self.old.seats.items + 1) }
     {
+        let count = self.seats.len() + 1;
+        self.list.reserve(count.saturating_sub(self.list.len()))?;
         self.seats.push(0)?;
         Ok(())
     }
 
-    /// Adds a form to the list.
-    pub fn put(&mut self, form: usize) -> Result<(), AllocError>
+    /// Adds a form to the list. Nothing is allocated.
+    pub fn put(&mut self, form: usize)
         requires inside { form < length self.old.seats.items }
         requires absent { IsAbsent self.old.list.items 0 form }
-        ensures list { OnOk result (self.new.list.items ≡ self.old.list.items ++ form ∷ []) }
+        ensures list { self.new.list.items ≡ self.old.list.items ++ form ∷ [] }
         ensures seats { length self.new.seats.items ≡ length self.old.seats.items }
     {
         let seat = self.list.len();
-        self.list.push(form)?;
+        self.list.push_reserved(form);
         self.seats[form] = seat;
-        Ok(())
     }
 
     /// Whether the form is on the list.
@@ -79,18 +81,6 @@ impl Eager {
         ensures seats { self.new.seats ≡ self.old.seats }
     {
         self.list.clear();
-    }
-
-    /// The same forms, in a list of their own.
-    pub fn copy(&self, alloc: Global) -> Result<Eager, AllocError>
-        ensures list { IfOk result (λ e. e.list.items ≡ self.now.list.items) }
-        ensures seats { IfOk result (λ e. e.seats.items ≡ self.now.seats.items) }
-    {
-        let mut list = Vec::with_capacity(alloc, self.list.len())?;
-        list.extend_from_slice(self.list.as_slice())?;
-        let mut seats = Vec::with_capacity(alloc, self.seats.len())?;
-        seats.extend_from_slice(self.seats.as_slice())?;
-        Ok(Eager { list, seats })
     }
 
     /// Removes a form from the list. The last one moves to its position.

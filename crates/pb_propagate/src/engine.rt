@@ -1,58 +1,47 @@
 //! The engine: live forms by number, and the results of propagation over them.
 
 pub mod completion;
+pub mod conflict;
 pub mod denial;
 pub mod losing;
 pub mod question;
 pub mod root;
 pub mod visits;
 
-ghost use Rattle.std.specs.Prelude.{◌≡◌, List, Option, Some, None, ◌+◌, ◌*◌, ◌<◌, ◌≤◌, ◌++◌, ◌∷◌, [], ◌⊎◌, true, false, All, length, slice_index_or, slice_set, sum_by, OnOk, OnErr, IfOk, IfSome, IfNone};
+ghost use Rattle.std.specs.Prelude.{◌≡◌, List, Some, None, ◌+◌, ◌*◌, ◌<◌, ◌≤◌, ◌++◌, ◌∷◌, [], ◌⊎◌, true, false, All, length, slice_index_or, slice_set, sum_by, OnOk, OnErr, IfOk, IfSome, IfNone};
 ghost use Rattle.pb_normal.specs.meaning.Rules.{negation_of};
 ghost use Rattle.pb_normal.specs.declared.numbered.NumberedLiteral.{NumberedLiteral};
-ghost use Rattle.pb_propagate.specs.engine.Engine.Live.{Standing, Live, Gives, terms_in, one_in};
-ghost use Rattle.pb_propagate.specs.engine.Engine.Progress.{list_of, values_of, RunIsUndone};
-ghost use Rattle.pb_propagate.specs.engine.Engine.Fields.{forms_of};
+ghost use Rattle.pb_propagate.specs.engine.Engine.Live.{Live, Gives, terms_in, one_in};
 ghost use Rattle.pb_propagate.specs.meaning.Propagation.{With, MeetsConflict, IsCompletion, IsRup};
-ghost use Rattle.pb_propagate.specs.engine.Engine.Rest.{AreAtRest, IsAtRest};
-ghost use Rattle.pb_propagate.specs.engine.Engine.Root.{IsRootOf, IsFallen, WasRootOf};
-ghost use Rattle.pb_propagate.specs.engine.Clauses.Shapes.{all_of};
-ghost use Rattle.pb_propagate.specs.declared.store.Store.{Store};
-ghost use Rattle.pb_propagate.specs.declared.clauses.Clauses.{Clauses};
-ghost use Rattle.pb_propagate.specs.engine.Clauses.Runs.{AreReady, IsRunning};
 
-use crate::assignment::Assignment;
 use crate::clauses::Clauses;
-use crate::eager::Eager;
-use crate::engine::completion::{extend, settle};
+use crate::engine::completion::extend;
+use crate::engine::conflict::Conflict;
 use crate::engine::question::ask;
 use crate::engine::root::Root;
 use crate::engine::visits::Visits;
 use crate::free::Free;
-use crate::rests::Rests;
-use crate::run::{Run, choose, propagate, undo_forms};
 use crate::shared::Shared;
 use crate::slots::{clause_size, occupy, quit, vacancy};
 use crate::store::Store;
-use crate::store::occurrence_lists::{enter, leave};
-use pb_normal::{Normal, NormalFault, NumberedLiteral};
+use pb_normal::{Normal, NumberedLiteral};
 use std::alloc::{AllocError, Global};
 use std::marker::Model;
-use std::mem;
 
 /// Forms by number. Propagation over the live ones visits only what it touches.
 #[derive(Drop)]
 pub struct Engine {
     store: Store,
-    run: Run,
-    eager: Eager,
     clauses: Clauses,
     root: Root,
+    conflict: Conflict,
     // For each number the slot of its form, or no slot if the form was removed. The slot of a removed form is used
     // again.
     places: Vec<usize>,
     // The slots of removed forms.
     free: Free,
+    // Those of the last question.
+    visits: Visits,
     // Set while a call runs. It stays set if an allocation failed in the middle of the call.
     spent: bool,
 }
@@ -66,78 +55,16 @@ impl Model for Engine {
     ghost use Rattle.pb_propagate.specs.engine.Engine.Fields.{forms_of};
     ghost use Rattle.pb_propagate.specs.engine.Engine.Rest.{IsAtRest};
     ghost use Rattle.pb_propagate.specs.engine.Engine.Slots.{numbered, ArePlaced};
-    ghost use Rattle.pb_propagate.specs.engine.Engine.Root.{IsRootOf, IsFallen};
+    ghost use Rattle.pb_propagate.specs.engine.Engine.Root.{IsRootOf, IsKeptConflict};
     ghost use Rattle.pb_propagate.specs.engine.Clauses.Shapes.{all_of};
 
-    ghost view = { λ e. record { forms = numbered (forms_of e.store.stored.items) e.places.items; variables = e.store.variables; visits = e.run.visits; spent = e.spent } };
+    ghost view = { λ e. record { forms = numbered (forms_of e.store.stored.items) e.places.items; variables = e.store.variables; visits = e.visits; spent = e.spent } };
 
     ghost invariant = { λ e. e.spent ≡ false →
-        IsAtRest e.store e.run e.eager e.clauses (forms_of e.store.stored.items) ×
+        IsAtRest e.store e.clauses (forms_of e.store.stored.items) ×
         ArePlaced (forms_of e.store.stored.items) e.places.items ×
-        (e.root.live ≡ true → IsRootOf e.store e.clauses e.root) ×
-        (e.root.fallen ≡ true → IsFallen (all_of e.store e.clauses) e.store.variables e.root) };
-}
-
-// Undoes a propagation that began from nothing.
-fn rest(store: &Store, rests: &Rests, clauses: &mut Clauses, run: &mut Run)
-    requires opens { length run.old.opens.items ≡ length store.now.stored.items }
-    requires candidates { length run.old.candidates.items ≡ length store.now.stored.items }
-    requires undone { RunIsUndone store.now rests.now 0 run.old }
-    requires bare { (rests.now.opens.items ≡ []) × (rests.now.starts.items ≡ []) }
-    requires running { IsRunning (values_of run.old) clauses.old }
-    ensures ready { AreReady clauses.new }
-    ensures literals { clauses.new.blocks.literals ≡ clauses.old.blocks.literals }
-    ensures lists { clauses.new.lists ≡ clauses.old.lists }
-    ensures rest { AreAtRest store.now.stored.items run.new.opens.items run.new.candidates.items }
-    ensures values { length (values_of run.new) ≡ length (values_of run.old) }
-    ensures list { list_of run.new ≡ [] }
-    ensures work { run.new.work.items ≡ [] }
-    ensures trail { run.new.trail.items ≡ [] }
-    ensures next { run.new.next ≡ 0 }
-    ensures visits { run.new.visits ≡ run.old.visits }
-{
-    undo_forms(store, rests, run);
-    clauses.rest();
-    run.assignment.clear();
-    run.work.clear();
-    run.trail.clear();
-    run.next = 0;
-}
-
-// The root after a form was stored in a slot. If it has ended, it begins again once the questions and completions since it
-// last began took eight visits for each form and variable.
-fn follow(
-    store: &Store,
-    run: &Run,
-    eager: &Eager,
-    clauses: &Clauses,
-    root: &mut Root,
-    slot: usize,
-) -> Result<(), AllocError>
-    requires rest { IsAtRest store.now run.now eager.now clauses.now
-        (forms_of store.now.stored.items) }
-    requires slot { slot < length store.now.stored.items }
-    requires gained { root.old.live ≡ true → WasRootOf store.now clauses.now slot root.old }
-    requires fallen { root.old.fallen ≡ true →
-        IsFallen (all_of store.now clauses.now) store.now.variables root.old }
-    ensures rooted { OnOk result (root.new.live ≡ true → IsRootOf store.now clauses.now root.new) }
-    ensures fallen { OnOk result (root.new.fallen ≡ true →
-        IsFallen (all_of store.now clauses.now) store.now.variables root.new) }
-{
-    root.note(store, slot);
-    if root.fallen {
-        return Ok(());
-    }
-    if root.live {
-        root.admit(store, clauses, slot)?;
-        return Ok(());
-    }
-    let size = store.stored.len().saturating_add(store.variables) as u64;
-    if root.paid / 8 < size {
-        return Ok(());
-    }
-    root.begin(store, run, clauses, eager)?;
-    Ok(())
+        IsRootOf e.store e.clauses e.root ×
+        IsKeptConflict (all_of e.store e.clauses) e.store.variables e.conflict };
 }
 
 impl Engine {
@@ -154,20 +81,12 @@ impl Engine {
                 occurrences: Vec::new(alloc),
                 variables: 0,
             },
-            run: Run {
-                opens: Vec::new(alloc),
-                candidates: Vec::new(alloc),
-                assignment: Assignment::new(alloc),
-                work: Vec::new(alloc),
-                next: 0,
-                trail: Vec::new(alloc),
-                visits: Visits::none(),
-            },
-            eager: Eager::new(alloc),
             clauses: Clauses::new(alloc),
             root: Root::new(alloc),
+            conflict: Conflict::new(alloc),
             places: Vec::new(alloc),
             free: Free::new(alloc),
+            visits: Visits::none(),
             spent: false,
         }
     }
@@ -184,7 +103,6 @@ impl Engine {
         self.spent = true;
         self.store.occurrences.push(Vec::new(alloc))?;
         self.store.occurrences.push(Vec::new(alloc))?;
-        self.run.assignment.widen()?;
         // A literal has a list of watches for each group of clauses.
         self.clauses.widen()?;
         self.clauses.widen()?;
@@ -192,6 +110,7 @@ impl Engine {
         self.root.run.assignment.widen()?;
         self.root.units.push(usize::MAX)?;
         self.root.units.push(usize::MAX)?;
+        self.conflict.assignment.widen()?;
         self.store.variables = self.store.occurrences.len() / 2;
         self.spent = false;
         Ok(())
@@ -210,29 +129,14 @@ impl Engine {
         self.spent = true;
         let slot = vacancy(
             &mut self.store,
-            &mut self.run,
-            &mut self.eager,
             &mut self.clauses,
             &mut self.free,
             clause_size(form.form()),
         )?;
-        occupy(
-            &mut self.store,
-            &mut self.run,
-            &mut self.eager,
-            &mut self.clauses,
-            self.root.assigned(),
-            slot,
-            form,
-        )?;
-        follow(
-            &self.store,
-            &self.run,
-            &self.eager,
-            &self.clauses,
-            &mut self.root,
-            slot,
-        )?;
+        let assigned = &self.root.run.assignment;
+        occupy(&mut self.store, &mut self.clauses, assigned, slot, form)?;
+        self.root.note(&self.store, slot);
+        self.root.admit(&self.store, &self.clauses, slot)?;
         self.places.push(slot)?;
         self.spent = false;
         Ok(())
@@ -253,13 +157,9 @@ impl Engine {
         }
         self.places[number] = usize::MAX;
         self.root.lose(&self.store, &self.clauses, slot);
-        quit(
-            &mut self.store,
-            &mut self.run,
-            &mut self.eager,
-            &mut self.clauses,
-            slot,
-        );
+        let units = self.root.units.as_slice();
+        self.conflict.lose(&self.store, &self.clauses, units, slot);
+        quit(&mut self.store, &mut self.clauses, slot);
         self.free.put(slot, self.clauses.room(slot));
     }
 
@@ -298,7 +198,7 @@ impl Engine {
     pub fn visits(&self) -> u64
         ensures { result ≡ self.now.visits }
     {
-        self.run.visits.number()
+        self.visits.number()
     }
 
     /// Whether propagation over the live forms and the negation of the goal meets a conflict, or the goal has degree 0.
@@ -324,48 +224,26 @@ impl Engine {
             IsCompletion (With (Live self.old.forms) (negation_of goal.now)) [] list ×
             (length list ≤ self.new.visits)) }
     {
-        self.run.visits = Visits::none();
+        self.visits = Visits::none();
         if goal.degree() == 0 {
             return Ok(true);
         }
         // A conflict that needs no goal. Each literal that leads to it is a visit.
-        if self.root.fallen {
-            self.run.visits = Visits::of(self.root.run.assignment.list.len());
+        if self.conflict.met {
+            self.visits = Visits::of(self.conflict.assignment.list.len());
             return Ok(true);
         }
         self.spent = true;
-        if self.root.live {
-            let answer = ask(
-                &mut self.store,
-                &mut self.clauses,
-                &mut self.root,
-                &mut self.run.visits,
-                goal,
-            )?;
-            self.spent = false;
-            return Ok(answer);
-        }
-        let Ok(negation) = goal.negation() else {
-            return Err(AllocError);
-        };
-        let rests = Rests::none(*self.places.allocator());
-        let number = self.store.stored.len();
-        enter(&mut self.store, &mut self.run, negation)?;
-        choose(&self.store, number, &mut self.run.trail)?;
-        choose(&self.store, number, &mut self.run.work)?;
-        let found = propagate(
-            &self.store,
-            &rests,
+        let answer = ask(
+            &mut self.store,
             &mut self.clauses,
-            &mut self.run,
-            self.eager.list.as_slice(),
-            0,
+            &mut self.root,
+            &mut self.conflict,
+            &mut self.visits,
+            goal,
         )?;
-        rest(&self.store, &rests, &mut self.clauses, &mut self.run);
-        leave(&mut self.store, &mut self.run);
-        self.root.paid = self.root.paid.saturating_add(self.run.visits.number());
         self.spent = false;
-        Ok(found)
+        Ok(answer)
     }
 
     /// The values of the completion of given literals over the live forms, or `None` if a conflict is met. There is one
@@ -390,28 +268,17 @@ impl Engine {
             IfSome found (λ values. (list : List NumberedLiteral) ×
             IsCompletion (Live self.old.forms) given.now list × Gives list values.items)) }
     {
-        if self.root.fallen {
+        if self.conflict.met {
             return Ok(None);
         }
         self.spent = true;
-        if self.root.live {
-            let values = extend(&self.store, &mut self.clauses, &mut self.root, given)?;
-            self.spent = false;
-            return Ok(values);
-        }
-        let visits = mem::replace(&mut self.run.visits, Visits::none());
-        let rests = Rests::none(*self.places.allocator());
-        let values = settle(
+        let values = extend(
             &self.store,
-            &rests,
             &mut self.clauses,
-            &mut self.run,
+            &mut self.root,
+            &mut self.conflict,
             given,
-            self.eager.list.as_slice(),
         )?;
-        rest(&self.store, &rests, &mut self.clauses, &mut self.run);
-        self.root.paid = self.root.paid.saturating_add(self.run.visits.number());
-        self.run.visits = visits;
         self.spent = false;
         Ok(values)
     }

@@ -5,8 +5,7 @@ ghost use Rattle.pb_normal.specs.declared.numbered.NumberedLiteral.{NumberedLite
 ghost use Rattle.pb_normal.specs.meaning.Rules.{negation};
 ghost use Rattle.pb_propagate.specs.engine.Engine.Lists.{has, Conflicts};
 ghost use Rattle.pb_propagate.specs.engine.Engine.Counts.{place, Grown, IsAbsent, Adopted, AreSingle};
-ghost use Rattle.pb_propagate.specs.engine.Engine.Progress.{progress, chosen, IfFound, IfNotFound, AreSettled, RunIsOpen, RunIsTidy, RunStaysTidy, shapes_in, list_of, values_of, RunIsCalm, RunIsUndone, RunVisitsEach, RunIsShort, RunFits, RunReasons, RunRecords, RunLowers, RunCosts, RunAdvances, RunSpends, RunPays, RunIsWalked};
-ghost use Rattle.pb_propagate.specs.engine.Engine.Rest.{waits};
+ghost use Rattle.pb_propagate.specs.engine.Engine.Progress.{progress, IfFound, IfNotFound, AreSettled, RunIsOpen, RunIsTidy, RunStaysTidy, shapes_in, list_of, values_of, RunIsCalm, RunIsUndone, RunVisitsEach, RunIsShort, RunFits, RunReasons, RunRecords, RunLowers, RunCosts, RunAdvances, RunSpends, RunPays, RunIsWalked};
 ghost use Rattle.pb_propagate.specs.engine.Engine.Fields.{shapes_of, IsSound};
 ghost use Rattle.pb_propagate.specs.engine.Engine.Links.{terms_at};
 ghost use Rattle.pb_propagate.specs.engine.Clauses.Runs.{IsRunning, KeepsWalked};
@@ -216,18 +215,6 @@ fn visit_form(
             return Ok(true);
         }
     }
-}
-
-/// Adds a form to the work list if it may propagate with nothing assigned.
-pub fn choose(store: &Store, form: usize, work: &mut Vec<usize>) -> Result<(), AllocError>
-    requires { form < length store.now.stored.items }
-    ensures { OnOk result (work.new.items ≡ work.old.items ++ chosen store.now (form ∷ [])) }
-{
-    if !store.stored[form].eager {
-        return Ok(());
-    }
-    work.push(form)?;
-    Ok(())
 }
 
 /// Visits the forms of the work list, then the short clauses in which a falsified literal is watched, then the long

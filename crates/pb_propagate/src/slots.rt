@@ -1,20 +1,17 @@
 //! Forms take slots and leave them.
 
-ghost use Rattle.std.specs.Prelude.{◌≡◌, ℕ, ◌<◌, ◌++◌, ◌∷◌, ◌⊎◌, [], All, Some, None, true, false, length, filter, slice_get, slice_set, slice_index_or, swap_remove, IfSome, IfOk, OnOk, OnErr};
-ghost use Rattle.pb_propagate.specs.engine.Engine.Counts.{IsAbsent};
+ghost use Rattle.std.specs.Prelude.{◌≡◌, ℕ, ◌<◌, ◌++◌, ◌∷◌, [], All, Some, None, true, false, length, filter, slice_get, slice_set, slice_index_or, swap_remove, IfSome, IfOk, OnOk, OnErr};
 ghost use Rattle.pb_propagate.specs.engine.Engine.Fields.{forms_of};
-ghost use Rattle.pb_propagate.specs.engine.Engine.Rest.{IsAtRest, waits};
+ghost use Rattle.pb_propagate.specs.engine.Engine.Rest.{IsAtRest};
 ghost use Rattle.pb_propagate.specs.engine.Engine.Root.{HasWidened, HasGained, HasVacated};
 ghost use Rattle.pb_propagate.specs.engine.Clauses.Shapes.{IsClause, IsPlanned};
-ghost use Rattle.pb_propagate.specs.engine.Clauses.Runs.{AreReady, CanHold, IsRefitted};
+ghost use Rattle.pb_propagate.specs.engine.Clauses.Runs.{AreFree, AreReady, CanHold, IsFreePair, IsRefitted};
 
 use crate::assignment::Assignment;
 use crate::clause::{codes_of, is_clause};
 use crate::clauses::Clauses;
-use crate::clauses::watched::{Pair, pair_of, pick};
-use crate::eager::Eager;
+use crate::clauses::watched::{Pair, pick};
 use crate::free::Free;
-use crate::run::Run;
 use crate::shared::Shared;
 use crate::store::Store;
 use crate::store::occurrence_lists::{fill, vacate, watch, widen};
@@ -49,16 +46,13 @@ pub fn clause_size(form: &Normal) -> usize
 /// one.
 pub fn vacancy(
     store: &mut Store,
-    run: &mut Run,
-    eager: &mut Eager,
     clauses: &mut Clauses,
     free: &mut Free,
     count: usize,
 ) -> Result<usize, AllocError>
-    requires rest { IsAtRest store.old run.old eager.old clauses.old
-        (forms_of store.old.stored.items) }
-    ensures rest { OnOk result (IsAtRest store.new run.new eager.new clauses.new
-        (forms_of store.new.stored.items)) }
+    requires rest { IsAtRest store.old clauses.old (forms_of store.old.stored.items) }
+    ensures rest { OnOk result (
+        IsAtRest store.new clauses.new (forms_of store.new.stored.items)) }
     ensures slot { IfOk result (λ slot.
         slice_get (forms_of store.new.stored.items) slot ≡ Some None) }
     ensures forms { (s : ℕ) →
@@ -67,33 +61,15 @@ pub fn vacancy(
     ensures widened { IfOk result (λ slot.
         HasWidened store.old clauses.old store.new clauses.new slot) }
     ensures variables { store.new.variables ≡ store.old.variables }
-    ensures visits { run.new.visits ≡ run.old.visits }
 {
     if let Some(slot) = left_slot(store.stored.as_slice(), free, count) {
         return Ok(slot);
     }
     let slot = store.stored.len();
-    widen(store, run)?;
-    eager.widen()?;
+    widen(store)?;
     clauses.extend()?;
     free.widen(slot)?;
     Ok(slot)
-}
-
-// Adds a form to the list of those that may propagate with nothing assigned, if it is one.
-fn seat(store: &Store, eager: &mut Eager, slot: usize) -> Result<(), AllocError>
-    requires slot { slot < length store.now.stored.items }
-    requires seats { length eager.old.seats.items ≡ length store.now.stored.items }
-    requires absent { IsAbsent eager.old.list.items 0 slot }
-    ensures list { OnOk result (eager.new.list.items ≡ eager.old.list.items ++ filter
-        (waits store.now.stored.items) (slot ∷ [])) }
-    ensures seats { length eager.new.seats.items ≡ length eager.old.seats.items }
-{
-    if !store.stored[slot].eager {
-        return Ok(());
-    }
-    eager.put(slot)?;
-    Ok(())
 }
 
 // How a clause is stored.
@@ -104,11 +80,11 @@ struct Planned {
 }
 
 // How a form is stored if it is a clause that can be watched: it has two literals that the assigned ones do not falsify,
-// or one that is true, and the slot has room for it.
+// and the slot has room for it.
 fn plan(
     alloc: Global,
     form: &Normal,
-    assigned: Option<&Assignment>,
+    assigned: &Assignment,
     clauses: &mut Clauses,
     slot: usize,
 ) -> Result<Option<Planned>, AllocError>
@@ -116,17 +92,15 @@ fn plan(
     requires slot { slot < length clauses.old.blocks.literals }
     ensures planned { IfOk result (λ planned. IfSome planned (λ p. IsPlanned form.now p ×
         CanHold clauses.new slot (length p.codes.items))) }
+    ensures free { IfOk result (λ planned. IfSome planned (λ p.
+        IsFreePair assigned.now.values.items p.codes.items p.pair)) }
     ensures clauses { IsRefitted clauses.old clauses.new }
 {
     if !is_clause(form) {
         return Ok(None);
     }
     let codes = codes_of(alloc, form.terms())?;
-    let pair = match assigned {
-        Some(assignment) => pick(assignment, codes.as_slice()),
-        None => pair_of(codes.as_slice(), 0, 1),
-    };
-    let Some(pair) = pair else {
+    let Some(pair) = pick(assigned, codes.as_slice()) else {
         return Ok(None);
     };
     if !clauses.fit(slot, codes.len())? {
@@ -135,33 +109,28 @@ fn plan(
     Ok(Some(Planned { codes, pair }))
 }
 
-/// Stores a form in an empty slot. A clause with fewer than two literals that the assigned ones leave open, and none
-/// that is true, is stored with its entries.
+/// Stores a form in an empty slot. A clause of which the assigned literals falsify all but one or all is stored with its
+/// entries.
 pub fn occupy(
     store: &mut Store,
-    run: &mut Run,
-    eager: &mut Eager,
     clauses: &mut Clauses,
-    assigned: Option<&Assignment>,
+    assigned: &Assignment,
     slot: usize,
     form: Shared,
 ) -> Result<(), AllocError>
-    requires rest { IsAtRest store.old run.old eager.old clauses.old
-        (forms_of store.old.stored.items) }
+    requires rest { IsAtRest store.old clauses.old (forms_of store.old.stored.items) }
     requires slot { slice_get (forms_of store.old.stored.items) slot ≡ Some None }
     requires inside { All (λ t. t.variable < store.old.variables) form.terms }
-    ensures rest { OnOk result (IsAtRest store.new run.new eager.new clauses.new
-        (forms_of store.new.stored.items)) }
+    ensures rest { OnOk result (
+        IsAtRest store.new clauses.new (forms_of store.new.stored.items)) }
     ensures forms { OnOk result (forms_of store.new.stored.items ≡ slice_set
         (forms_of store.old.stored.items) slot (Some form)) }
     ensures gained { OnOk result (HasGained store.old clauses.old store.new clauses.new slot) }
-    // On failure the form may be in its slot, but not on the list of those that may propagate with nothing assigned.
-    ensures refused { OnErr result
-        ((forms_of store.new.stored.items ≡ forms_of store.old.stored.items) ⊎
-        (forms_of store.new.stored.items ≡ slice_set (forms_of store.old.stored.items) slot
-        (Some form))) }
+    ensures free { OnOk result (
+        AreFree assigned.now.values.items clauses.new.blocks.watches slot) }
+    ensures refused { OnErr result (
+        forms_of store.new.stored.items ≡ forms_of store.old.stored.items) }
     ensures variables { store.new.variables ≡ store.old.variables }
-    ensures visits { run.new.visits ≡ run.old.visits }
 {
     if let Some(planned) = plan(
         *store.stored.allocator(),
@@ -173,43 +142,20 @@ pub fn occupy(
         watch(store, clauses, slot, form, planned.codes, planned.pair)?;
         return Ok(());
     }
-    fill(store, run, slot, form)?;
-    seat(store, eager, slot)?;
+    fill(store, slot, form)?;
     Ok(())
 }
 
-// Removes a form from the list of those that may propagate with nothing assigned, if it is one.
-fn unseat(store: &Store, eager: &mut Eager, slot: usize)
-    requires slot { slot < length store.now.stored.items }
-    requires there { waits store.now.stored.items slot ≡ true →
-        IsAbsent eager.old.list.items 0 slot → ⊥ }
-    ensures taken { waits store.now.stored.items slot ≡ true → (seat : ℕ) ×
-        (slice_get eager.old.list.items seat ≡ Some slot) ×
-        (eager.new.list.items ≡ swap_remove eager.old.list.items seat slot) }
-    ensures same { waits store.now.stored.items slot ≡ false →
-        eager.new.list.items ≡ eager.old.list.items }
-    ensures seats { length eager.new.seats.items ≡ length eager.old.seats.items }
-{
-    if !store.stored[slot].eager {
-        return;
-    }
-    eager.take(slot);
-}
-
 /// Removes the form of a slot, which is then empty.
-pub fn quit(store: &mut Store, run: &mut Run, eager: &mut Eager, clauses: &mut Clauses, slot: usize)
-    requires rest { IsAtRest store.old run.old eager.old clauses.old
-        (forms_of store.old.stored.items) }
+pub fn quit(store: &mut Store, clauses: &mut Clauses, slot: usize)
+    requires rest { IsAtRest store.old clauses.old (forms_of store.old.stored.items) }
     requires slot { slot < length store.old.stored.items }
-    ensures rest { IsAtRest store.new run.new eager.new clauses.new
-        (forms_of store.new.stored.items) }
+    ensures rest { IsAtRest store.new clauses.new (forms_of store.new.stored.items) }
     ensures forms { forms_of store.new.stored.items ≡ slice_set
         (forms_of store.old.stored.items) slot None }
     ensures vacated { HasVacated store.old clauses.old store.new clauses.new slot }
     ensures variables { store.new.variables ≡ store.old.variables }
-    ensures visits { run.new.visits ≡ run.old.visits }
 {
-    unseat(store, eager, slot);
     clauses.empty(slot);
-    vacate(store, run, slot);
+    vacate(store, slot);
 }

@@ -7,10 +7,11 @@ pub mod Lost
 pub mod Opens
 pub mod Questions
 pub mod Replaced
+pub mod Restarts
 pub mod Rooted
 pub mod Roots
 pub mod Asked
 pub mod Denials
 pub mod Returns
 pub mod Transplants
-pub mod Fallen
+pub mod Kept

@@ -1,7 +1,8 @@
 //! The two literals that a new clause watches.
 
-ghost use Rattle.std.specs.Prelude.{◌≡◌, ◌<◌, ◌≤◌, length, IfSome};
-ghost use Rattle.pb_propagate.specs.engine.Clauses.Runs.{IsPair};
+ghost use Rattle.std.specs.Prelude.{◌≡◌, ◌<◌, false, length, slice_index, IfSome};
+ghost use Rattle.pb_propagate.specs.engine.Clauses.Runs.{IsPair, IsFreePair};
+ghost use Rattle.pb_propagate.specs.engine.Clauses.Truths.{false_at};
 
 use crate::assignment::Assignment;
 
@@ -14,7 +15,9 @@ pub struct Pair {
 
 // The first position from a position on with a literal that is not falsified.
 fn next_free(assignment: &Assignment, literals: &[u32], from: usize) -> Option<usize>
-    ensures { IfSome result (λ i. i < length literals.now) }
+    ensures inside { IfSome result (λ i. i < length literals.now) }
+    ensures free { IfSome result (λ i.
+        false_at assignment.now.values.items (slice_index literals.now i) ≡ false) }
 {
     'literals: for i in from..literals.len() {
         if !assignment.has_falsified(literals[i] as usize) {
@@ -28,7 +31,7 @@ fn next_free(assignment: &Assignment, literals: &[u32], from: usize) -> Option<u
 pub fn pair_of(literals: &[u32], first: usize, second: usize) -> Option<Pair>
     requires first { first < length literals.now }
     requires second { second < length literals.now }
-    ensures { IfSome result (IsPair literals.now) }
+    ensures { IfSome result (λ p. IsPair literals.now p × (p.first ≡ first) × (p.second ≡ second)) }
 {
     if literals[first] == literals[second] {
         return None;
@@ -36,17 +39,12 @@ pub fn pair_of(literals: &[u32], first: usize, second: usize) -> Option<Pair>
     Some(Pair { first, second })
 }
 
-/// Two literals of a clause that are not falsified, or one that is true and any other. There may be none.
+/// Two literals of a clause that are not falsified. There may be none.
 pub fn pick(assignment: &Assignment, literals: &[u32]) -> Option<Pair>
-    requires two { 2 ≤ length literals.now }
-    ensures { IfSome result (IsPair literals.now) }
+    ensures pair { IfSome result (IsPair literals.now) }
+    ensures free { IfSome result (IsFreePair assignment.now.values.items literals.now) }
 {
     let first = next_free(assignment, literals, 0)?;
-    if let Some(second) = next_free(assignment, literals, first + 1) {
-        return pair_of(literals, first, second);
-    }
-    if !assignment.has_satisfied(literals[first] as usize) {
-        return None;
-    }
-    pair_of(literals, first, if first == 0 { 1 } else { 0 })
+    let second = next_free(assignment, literals, first + 1)?;
+    pair_of(literals, first, second)
 }

@@ -1,17 +1,18 @@
 //! The completion of given literals.
 
-ghost use Rattle.std.specs.Prelude.{◌≡◌, ◌*◌, ◌<◌, ◌≤◌, true, All, length, OnOk, IfOk, IfSome, IfNone};
+ghost use Rattle.std.specs.Prelude.{◌≡◌, [], ◌*◌, ◌<◌, ◌≤◌, true, All, length, OnOk, IfOk, IfSome, IfNone};
 ghost use Rattle.pb_normal.specs.declared.numbered.NumberedLiteral.{NumberedLiteral};
 ghost use Rattle.pb_propagate.specs.engine.Engine.Lists.{IsWithin, Extends};
 ghost use Rattle.pb_propagate.specs.engine.Engine.Counts.{AreSingle};
 ghost use Rattle.pb_propagate.specs.engine.Engine.Progress.{IfFound, IfNotFound, RunIsOpen, RunStaysTidy, shapes_in, list_of, values_of, RunIsCalm, RunIsUndone, RunKeepsReasons, RunAdvances, RunIsWalked};
 ghost use Rattle.pb_propagate.specs.engine.Engine.Fields.{shapes_of, IsSound};
 ghost use Rattle.pb_propagate.specs.engine.Engine.Reached.{IsFrom, HasClash, HasEnded, IsMade, IsClashed};
-ghost use Rattle.pb_propagate.specs.engine.Engine.Root.{IsStanding, IsLeft};
+ghost use Rattle.pb_propagate.specs.engine.Engine.Root.{IsStanding, IsVacant, IsLeft};
 ghost use Rattle.pb_propagate.specs.engine.Clauses.Runs.{IsRunning, KeepsWalked};
 ghost use Rattle.pb_propagate.specs.engine.Clauses.Shapes.{AreJoined, clauses_of, all_of};
 
 use crate::clauses::Clauses;
+use crate::engine::conflict::Conflict;
 use crate::engine::root::{Root, back};
 use crate::rests::Rests;
 use crate::run::{Run, propagate, try_put};
@@ -60,7 +61,6 @@ pub fn settle(
     clauses: &mut Clauses,
     run: &mut Run,
     given: &[NumberedLiteral],
-    waiting: &[usize],
 ) -> Result<Option<Vec<Option<bool>>>, AllocError>
     requires store { IsSound store.now }
     requires inside { All (λ l. l.variable < store.now.variables) given.now }
@@ -68,10 +68,9 @@ pub fn settle(
     requires opens { length run.old.opens.items ≡ length store.now.stored.items }
     requires candidates { length run.old.candidates.items ≡ length store.now.stored.items }
     requires next { run.old.next ≤ length run.old.work.items }
-    requires waiting { All (λ s. s < length store.now.stored.items) waiting.now }
     requires single { AreSingle (list_of run.old) }
     requires counted { RunIsOpen store.now rests.now run.old }
-    requires tidy { RunIsCalm store.now rests.now waiting.now run.old }
+    requires tidy { RunIsCalm store.now rests.now [] run.old }
     requires joined { AreJoined (shapes_of store.now.stored.items) (clauses_of clauses.old) }
     requires running { IsRunning (values_of run.old) clauses.old }
     requires walked { RunIsWalked (length (list_of run.old)) clauses.old run.old }
@@ -96,7 +95,8 @@ pub fn settle(
     if assume(store, rests, run, given)? {
         return Ok(None);
     }
-    if propagate(store, rests, clauses, run, waiting, count)? {
+    let none = Vec::new(*store.stored.allocator());
+    if propagate(store, rests, clauses, run, none.as_slice(), count)? {
         return Ok(None);
     }
     let mut values = Vec::new(*store.stored.allocator());
@@ -109,12 +109,15 @@ pub fn extend(
     store: &Store,
     clauses: &mut Clauses,
     root: &mut Root,
+    conflict: &mut Conflict,
     given: &[NumberedLiteral],
 ) -> Result<Option<Vec<Option<bool>>>, AllocError>
     requires standing { IsStanding store.now clauses.old root.old }
+    requires vacant { IsVacant store.now.variables conflict.old }
     requires inside { All (λ l. l.variable < store.now.variables) given.now }
     ensures literals { clauses.new.blocks.literals ≡ clauses.old.blocks.literals }
-    ensures left { OnOk result (IsLeft store.now store.now clauses.old clauses.new root.new) }
+    ensures left { OnOk result (
+        IsLeft store.now store.now clauses.old clauses.new root.new conflict.new) }
     ensures clash { IfOk result (λ found. IfNone found (
         IsClashed (all_of store.now clauses.old) given.now)) }
     ensures ended { IfOk result (λ found. IfSome found (λ values.
@@ -122,20 +125,11 @@ pub fn extend(
     ensures count { IfOk result (λ found. IfSome found (λ values.
         length values.items ≡ store.now.variables)) }
 {
-    if root.update(store, clauses)? {
-        clauses.rest();
+    if root.update(store, clauses, conflict)? {
         return Ok(None);
     }
     let count = root.run.assignment.list.len();
-    let none = Vec::new(*store.stored.allocator());
-    let values = settle(
-        store,
-        &root.rests,
-        clauses,
-        &mut root.run,
-        given,
-        none.as_slice(),
-    )?;
+    let values = settle(store, &root.rests, clauses, &mut root.run, given)?;
     back(store, &root.rests, clauses, &mut root.run, count);
     Ok(values)
 }

@@ -1,20 +1,20 @@
 //! The root: what the live forms force with nothing assumed.
 
-ghost use Rattle.std.specs.Prelude.{◌≡◌, ℕ, List, ◌+◌, ◌*◌, ◌<◌, ◌⊎◌, ◌++◌, ◌∷◌, [], true, false, length, take, slice_set, slice_index_or, Some, OnOk, IfOk};
+ghost use Rattle.std.specs.Prelude.{◌≡◌, ℕ, List, ◌+◌, ◌*◌, ◌<◌, ◌⊎◌, ◌++◌, ◌∷◌, [], length, take, slice_set, slice_index_or, OnOk};
 ghost use Rattle.pb_propagate.specs.declared.store.Store.{Store};
 ghost use Rattle.pb_propagate.specs.declared.clauses.Clauses.{Clauses};
-ghost use Rattle.pb_propagate.specs.engine.Engine.Lists.{Shape, HaveReasons, Conflicts, open_sum};
-ghost use Rattle.pb_propagate.specs.engine.Engine.Progress.{RunIsUndone, RunSpends, RunPays, RunVisitsEach, IfFound, IfNotFound, list_of, reasons_of, values_of};
+ghost use Rattle.pb_propagate.specs.engine.Engine.Lists.{Shape, open_sum};
+ghost use Rattle.pb_propagate.specs.engine.Engine.Progress.{RunIsUndone, IfFound, IfNotFound};
 ghost use Rattle.pb_propagate.specs.engine.Engine.Counts.{Grown, IsAbsent, IsCalm, IsUndone};
-ghost use Rattle.pb_propagate.specs.engine.Engine.Fields.{shapes_of, forms_of, IsSound};
-ghost use Rattle.pb_propagate.specs.engine.Engine.Rest.{IsAtRest};
-ghost use Rattle.pb_propagate.specs.engine.Engine.Root.{IsRootOf, WasRootOf, IsFallen, IsStanding, HasReached};
+ghost use Rattle.pb_propagate.specs.engine.Engine.Fields.{shapes_of, IsSound};
+ghost use Rattle.pb_propagate.specs.engine.Engine.Root.{IsRootOf, WasRootOf, IsStanding, IsVacant, IsKeptConflict, HasReached, UpdateCosts, HasMet, HasUpdated};
 ghost use Rattle.pb_propagate.specs.engine.Clauses.Runs.{AreReady, IsRunning};
 ghost use Rattle.pb_propagate.specs.engine.Clauses.Shapes.{AreJoined, clauses_of, all_of};
 
 use crate::assignment::Assignment;
 use crate::clauses::Clauses;
 use crate::eager::Eager;
+use crate::engine::conflict::Conflict;
 use crate::engine::visits::Visits;
 use crate::rests::Rests;
 use crate::run::{Run, place_of, propagate, queue, undo_forms};
@@ -31,58 +31,8 @@ pub struct Root {
     pub rests: Rests,
     // The forms that may force something, or are falsified. No question has visited them since they were added.
     pub waiting: Eager,
-    // Whether all its literals still follow from the live forms.
-    pub live: bool,
-    // Whether they do so in a root that has ended with a conflict.
-    pub fallen: bool,
     // For each literal, by its occurrence list, the last slot that took a form of one term for it.
     pub units: Vec<usize>,
-    // The visits since it last began: those of questions after their updates, and of questions and completions without
-    // it.
-    pub paid: u64,
-    // The visits of the last question when its update ended.
-    pub updated: u64,
-}
-
-// A run in which nothing is assigned, with the open sums of another.
-fn fresh(alloc: Global, run: &Run, variables: usize) -> Result<Run, AllocError>
-    ensures opens { IfOk result (λ r. r.opens.items ≡ run.now.opens.items) }
-    ensures candidates { IfOk result (λ r. r.candidates.items ≡ run.now.candidates.items) }
-    ensures list { IfOk result (λ r. r.assignment.list.items ≡ []) }
-    ensures values { IfOk result (λ r. length r.assignment.values.items ≡ variables) }
-    ensures work { IfOk result (λ r. r.work.items ≡ []) }
-    ensures trail { IfOk result (λ r. r.trail.items ≡ []) }
-    ensures next { IfOk result (λ r. r.next ≡ 0) }
-{
-    let mut opens = Vec::with_capacity(alloc, run.opens.len())?;
-    opens.extend_from_slice(run.opens.as_slice())?;
-    let mut candidates = Vec::with_capacity(alloc, run.candidates.len())?;
-    candidates.extend_from_slice(run.candidates.as_slice())?;
-    let mut assignment = Assignment::new(alloc);
-    'variables: for _ in 0..variables {
-        assignment.widen()?;
-    }
-    Ok(Run {
-        opens,
-        candidates,
-        assignment,
-        work: Vec::new(alloc),
-        next: 0,
-        trail: Vec::new(alloc),
-        visits: Visits::none(),
-    })
-}
-
-// The state of a run, as one to which questions return.
-fn rests_of(alloc: Global, run: &Run) -> Result<Rests, AllocError>
-    ensures opens { IfOk result (λ r. r.opens.items ≡ run.now.opens.items) }
-    ensures starts { IfOk result (λ r. r.starts.items ≡ run.now.candidates.items) }
-{
-    let mut opens = Vec::with_capacity(alloc, run.opens.len())?;
-    opens.extend_from_slice(run.opens.as_slice())?;
-    let mut starts = Vec::with_capacity(alloc, run.candidates.len())?;
-    starts.extend_from_slice(run.candidates.as_slice())?;
-    Ok(Rests { opens, starts })
 }
 
 /// Lowers the open sum of a form to that under the list. The form is put to work if it may then propagate or is
@@ -137,19 +87,17 @@ fn reach(
 }
 
 // The form waits if it is on the work list.
-fn defer(waiting: &mut Eager, work: &[usize], slot: usize) -> Result<(), AllocError>
+fn defer(waiting: &mut Eager, work: &[usize], slot: usize)
     requires inside { slot < length waiting.old.seats.items }
     requires absent { IsAbsent waiting.old.list.items 0 slot }
-    ensures list { OnOk result (
-        ((work.now ≡ []) × (waiting.new.list.items ≡ waiting.old.list.items)) ⊎
-        (waiting.new.list.items ≡ waiting.old.list.items ++ slot ∷ [])) }
+    ensures list { ((work.now ≡ []) × (waiting.new.list.items ≡ waiting.old.list.items)) ⊎
+        (waiting.new.list.items ≡ waiting.old.list.items ++ slot ∷ []) }
     ensures seats { length waiting.new.seats.items ≡ length waiting.old.seats.items }
 {
     if work.is_empty() {
-        return Ok(());
+        return;
     }
-    waiting.put(slot)?;
-    Ok(())
+    waiting.put(slot);
 }
 
 // Questions return to the state of the run from now on.
@@ -181,10 +129,10 @@ fn keep(run: &mut Run, rests: &mut Rests)
 }
 
 impl Root {
-    /// None yet.
+    /// The root of no forms, over no variables.
     pub fn new(alloc: Global) -> Root
-        ensures live { result.live ≡ false }
-        ensures fallen { result.fallen ≡ false }
+        ensures { (store : Store) (clauses : Clauses) → store.stored.items ≡ [] →
+            store.variables ≡ 0 → IsRootOf store clauses result }
     {
         Root {
             run: Run {
@@ -198,49 +146,16 @@ impl Root {
             },
             rests: Rests::none(alloc),
             waiting: Eager::new(alloc),
-            live: false,
-            fallen: false,
             units: Vec::new(alloc),
-            paid: 0,
-            updated: 0,
         }
-    }
-
-    /// The literals that are forced, if they still follow.
-    pub fn assigned(&self) -> Option<&Assignment> {
-        if !self.live {
-            return None;
-        }
-        Some(&self.run.assignment)
-    }
-
-    /// Ends the root: its forms are no longer the live ones.
-    pub fn end(&mut self)
-        ensures live { self.new.live ≡ false }
-        ensures fallen { self.new.fallen ≡ false }
-        ensures run { self.new.run ≡ self.old.run }
-    {
-        self.live = false;
-        self.fallen = false;
-    }
-
-    // Ends the root with a conflict, which is kept.
-    fn fall(&mut self)
-        ensures live { self.new.live ≡ false }
-        ensures run { self.new.run ≡ self.old.run }
-    {
-        self.live = false;
-        self.fallen = true;
     }
 
     /// Remembers the form of a slot as the unit of its literal, if it has one term.
     pub fn note(&mut self, store: &Store, slot: usize)
         requires slot { slot < length store.now.stored.items }
         requires sound { IsSound store.now }
-        ensures kept { (self.new.run ≡ self.old.run) × (self.new.rests ≡ self.old.rests) ×
+        ensures { (self.new.run ≡ self.old.run) × (self.new.rests ≡ self.old.rests) ×
             (self.new.waiting ≡ self.old.waiting) }
-        ensures live { self.new.live ≡ self.old.live }
-        ensures fallen { self.new.fallen ≡ self.old.fallen }
     {
         let Some(literal) = only_literal(&store.stored[slot].terms) else {
             return;
@@ -250,31 +165,7 @@ impl Root {
         }
     }
 
-    /// No literal is forced yet: all forms that may force something with nothing assigned wait.
-    pub fn begin(
-        &mut self,
-        store: &Store,
-        run: &Run,
-        clauses: &Clauses,
-        eager: &Eager,
-    ) -> Result<(), AllocError>
-        requires rest { IsAtRest store.now run.now eager.now clauses.now
-            (forms_of store.now.stored.items) }
-        ensures rooted { OnOk result (IsRootOf store.now clauses.now self.new) }
-        ensures fallen { OnOk result (self.new.fallen ≡ false) }
-    {
-        let alloc = *store.stored.allocator();
-        self.paid = 0;
-        self.run = fresh(alloc, run, store.variables)?;
-        self.rests = rests_of(alloc, run)?;
-        self.waiting = eager.copy(alloc)?;
-        self.live = true;
-        self.fallen = false;
-        Ok(())
-    }
-
-    /// A form that was added waits for the next question. The root ends if the form is a clause in which a falsified
-    /// literal is watched.
+    /// A form that was added waits for the next question, unless it is a clause with watches.
     pub fn admit(&mut self, store: &Store, clauses: &Clauses, slot: usize) -> Result<(), AllocError>
         requires store { IsSound store.now }
         requires joined { AreJoined (shapes_of store.now.stored.items) (clauses_of clauses.now) }
@@ -283,46 +174,39 @@ impl Root {
         requires known { length clauses.now.blocks.literals ≡ length store.now.stored.items }
         requires slot { slot < length store.now.stored.items }
         requires gained { WasRootOf store.now clauses.now slot self.old }
-        ensures rooted { OnOk result (self.new.live ≡ true →
-            IsRootOf store.now clauses.now self.new) }
-        ensures fallen { self.new.fallen ≡ self.old.fallen }
+        ensures { OnOk result (IsRootOf store.now clauses.now self.new) }
     {
         reach(&mut self.run, &mut self.rests, &mut self.waiting, slot)?;
         if clauses.is_filled(slot) {
-            self.live = clauses.is_served(&self.run.assignment, slot);
             return Ok(());
         }
         lay(store, &mut self.run, slot)?;
-        defer(&mut self.waiting, self.run.work.as_slice(), slot)?;
+        defer(&mut self.waiting, self.run.work.as_slice(), slot);
         keep(&mut self.run, &mut self.rests);
         Ok(())
     }
 
-    /// Propagates the forms that wait. Returns whether a conflict is met. Then the root ends, and the conflict is kept.
-    pub fn update(&mut self, store: &Store, clauses: &mut Clauses) -> Result<bool, AllocError>
+    /// Propagates the forms that wait. Returns whether a conflict is met. Then the conflict is kept, and the root goes back:
+    /// the same forms wait.
+    pub fn update(
+        &mut self,
+        store: &Store,
+        clauses: &mut Clauses,
+        conflict: &mut Conflict,
+    ) -> Result<bool, AllocError>
         requires standing { IsStanding store.now clauses.old self.old }
+        requires vacant { IsVacant store.now.variables conflict.old }
         ensures literals { clauses.new.blocks.literals ≡ clauses.old.blocks.literals }
-        ensures running { OnOk result (IsRunning (values_of self.new.run) clauses.new) }
         ensures lists { OnOk result (
             length clauses.new.lists.items ≡ length clauses.old.lists.items) }
-        ensures costs { RunSpends store.now self.old.rests clauses.old
-            (length (list_of self.old.run))
-            self.old.waiting.list.items self.old.run self.new.run }
-        ensures pays { IfNotFound result (
-            RunPays store.now self.old.rests clauses.old clauses.new (length (list_of self.old.run))
-            self.old.waiting.list.items self.old.run self.new.run) }
-        ensures reasons { OnOk result (HaveReasons (all_of store.now clauses.old)
-            (reasons_of self.new.run) [] (list_of self.new.run)) }
-        ensures conflict { IfFound result (
-            Conflicts (all_of store.now clauses.old) (list_of self.new.run)) }
-        ensures found { OnOk result (RunVisitsEach self.old.run self.new.run) }
-        ensures ended { IfFound result (self.new.live ≡ false) }
-        ensures fallen { IfFound result (
-            IsFallen (all_of store.now clauses.old) store.now.variables self.new) }
-        ensures risen { IfNotFound result (self.new.fallen ≡ false) }
-        ensures rooted { IfNotFound result (IsRootOf store.now clauses.new self.new) }
-        ensures none { IfNotFound result (self.new.waiting.list.items ≡ []) }
-        ensures live { IfNotFound result (self.new.live ≡ self.old.live) }
+        ensures costs { UpdateCosts store.now clauses.old self.old self.new }
+        ensures rooted { OnOk result (IsRootOf store.now clauses.new self.new) }
+        ensures kept { OnOk result (
+            IsKeptConflict (all_of store.now clauses.old) store.now.variables conflict.new) }
+        ensures met { IfFound result (
+            HasMet store.now clauses.old clauses.new self.old self.new conflict.new) }
+        ensures updated { IfNotFound result (
+            HasUpdated store.now clauses.old clauses.new self.old self.new) }
     {
         let count = self.run.assignment.list.len();
         let found = propagate(
@@ -333,14 +217,13 @@ impl Root {
             self.waiting.list.as_slice(),
             count,
         )?;
-        self.updated = self.run.visits.number();
         if found {
-            self.fall();
+            conflict.note(&self.run.assignment)?;
+            back(store, &self.rests, clauses, &mut self.run, count);
             return Ok(true);
         }
         keep(&mut self.run, &mut self.rests);
         self.waiting.clear();
-        self.fallen = false;
         Ok(false)
     }
 }

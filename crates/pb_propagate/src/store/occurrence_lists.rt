@@ -10,8 +10,8 @@ ghost use Rattle.pb_propagate.specs.engine.Engine.Forms.{IsStoredAs};
 ghost use Rattle.pb_propagate.specs.engine.Engine.Terms.{terms_of};
 ghost use Rattle.pb_propagate.specs.engine.Engine.Fields.{stored_shape, shapes_of, forms_of, spots_of, lists_of, entries_of, IsSound, HasEntered, HasFilled, IsEmpty, IsUnlisted, AreLonger};
 ghost use Rattle.pb_propagate.specs.engine.Engine.Links.{IsLinked, Moved, cut, terms_at};
-ghost use Rattle.pb_propagate.specs.engine.Clauses.Links.{list_at, watch_at};
-ghost use Rattle.pb_propagate.specs.engine.Clauses.Runs.{AreReady, CanHold, IsPair};
+ghost use Rattle.pb_propagate.specs.engine.Clauses.Links.{list_at};
+ghost use Rattle.pb_propagate.specs.engine.Clauses.Runs.{AreReady, AreSet, CanHold, IsPair};
 ghost use Rattle.pb_propagate.specs.engine.Clauses.Shapes.{clauses_of, codes_of_terms};
 
 use crate::clauses::Clauses;
@@ -213,8 +213,8 @@ pub fn watch(
     ensures literals { OnOk result (clauses_of clauses.new ≡ slice_set (clauses_of clauses.old) slot
         (codes_of_terms form.terms)) }
     ensures lists { OnOk result (length clauses.new.lists.items ≡ length clauses.old.lists.items) }
-    ensures watches { OnOk result ((e : ℕ) → (e / 2 ≡ slot → ⊥) →
-        watch_at clauses.new.blocks.watches e ≡ watch_at clauses.old.blocks.watches e) }
+    ensures watches { OnOk result (
+        AreSet clauses.old.blocks.watches clauses.new.blocks.watches slot codes.items pair) }
     ensures kept { OnOk result ((k : StoredForm) × (k.terms.form ≡ Some form) × IsUnlisted k ×
         (store.new.stored.items ≡ slice_set store.old.stored.items slot k)) }
     ensures unchanged { OnErr result (store.new.stored.items ≡ store.old.stored.items) }
@@ -229,64 +229,48 @@ pub fn watch(
 }
 
 /// Adds an empty form after the others.
-pub fn widen(store: &mut Store, run: &mut Run) -> Result<(), AllocError>
+pub fn widen(store: &mut Store) -> Result<(), AllocError>
     requires sound { IsSound store.old }
     ensures sound { OnOk result (IsSound store.new) }
     ensures kept { OnOk result ((k : StoredForm) × IsEmpty k ×
         (store.new.stored.items ≡ store.old.stored.items ++ k ∷ [])) }
     ensures unchanged { OnErr result (store.new.stored.items ≡ store.old.stored.items) }
-    ensures opens { OnOk result (run.new.opens.items ≡ run.old.opens.items ++ 0 ∷ []) }
-    ensures candidates { OnOk result
-        (run.new.candidates.items ≡ run.old.candidates.items ++ 0 ∷ []) }
     ensures occurrences { store.new.occurrences ≡ store.old.occurrences }
     ensures variables { store.new.variables ≡ store.old.variables }
-    ensures trail { run.new.trail ≡ run.old.trail }
-    ensures rest { (run.new.assignment ≡ run.old.assignment) × (run.new.work ≡ run.old.work) ×
-        (run.new.next ≡ run.old.next) × (run.new.visits ≡ run.old.visits) }
 {
     let alloc = *store.stored.allocator();
-    run.opens.push(0)?;
-    run.candidates.push(0)?;
     store.spots.push(Vec::new(alloc))?;
     store.stored.push(empty_stored(alloc))?;
     Ok(())
 }
 
 /// Stores a form in the slot of an empty one.
-pub fn fill(store: &mut Store, run: &mut Run, slot: usize, form: Shared) -> Result<(), AllocError>
+pub fn fill(store: &mut Store, slot: usize, form: Shared) -> Result<(), AllocError>
     requires sound { IsSound store.old }
     requires inside { All (λ t. t.variable < store.old.variables) form.terms }
     requires slot { slot < length store.old.stored.items }
     requires empty { terms_at (shapes_of store.old.stored.items) slot ≡ [] }
-    requires opens { length run.old.opens.items ≡ length store.old.stored.items }
     ensures sound { OnOk result (IsSound store.new) }
     ensures unchanged { OnErr result (store.new.stored.items ≡ store.old.stored.items) }
     ensures filled { OnOk result
-        (HasFilled form slot store.old.stored.items store.new.stored.items run.old.opens.items
-        run.new.opens.items) }
+        (HasFilled form slot store.old.stored.items store.new.stored.items) }
     ensures longer { OnOk result (
         AreLonger store.old.occurrences.items store.new.occurrences.items) }
     ensures variables { store.new.variables ≡ store.old.variables }
-    ensures trail { run.new.trail ≡ run.old.trail }
-    ensures rest { (run.new.candidates ≡ run.old.candidates) ×
-        (run.new.assignment ≡ run.old.assignment) × (run.new.work ≡ run.old.work) ×
-        (run.new.next ≡ run.old.next) × (run.new.visits ≡ run.old.visits) }
 {
     let alloc = *store.stored.allocator();
     let kept = stored_of(alloc, form)?;
     let mut spots = Vec::with_capacity(alloc, kept.terms.len())?;
     link(&kept.terms, slot, &mut store.occurrences, &mut spots)?;
-    run.opens[slot] = kept.total;
     store.spots[slot] = spots;
     store.stored[slot] = kept;
     Ok(())
 }
 
-/// Adds a form after the others.
+/// Adds a form after the others, with its open sum and candidate.
 pub fn enter(store: &mut Store, run: &mut Run, form: Normal) -> Result<(), AllocError>
     requires sound { IsSound store.old }
     requires inside { All (λ t. t.variable < store.old.variables) form.terms }
-    requires opens { length run.old.opens.items ≡ length store.old.stored.items }
     ensures sound { OnOk result (IsSound store.new) }
     ensures unchanged { OnErr result ((s : ℕ) →
         slice_index_or (forms_of store.new.stored.items) s None ≡ slice_index_or
@@ -303,8 +287,12 @@ pub fn enter(store: &mut Store, run: &mut Run, form: Normal) -> Result<(), Alloc
 {
     let form = Shared::new(*store.stored.allocator(), form)?;
     let slot = store.stored.len();
-    widen(store, run)?;
-    fill(store, run, slot, form)?;
+    run.opens.reserve(1)?;
+    run.candidates.reserve(1)?;
+    widen(store)?;
+    fill(store, slot, form)?;
+    run.opens.push_reserved(store.stored[slot].total);
+    run.candidates.push_reserved(0);
     Ok(())
 }
 
@@ -333,23 +321,16 @@ pub fn leave(store: &mut Store, run: &mut Run)
 }
 
 /// Removes a form. An empty one takes its slot.
-pub fn vacate(store: &mut Store, run: &mut Run, form: usize)
+pub fn vacate(store: &mut Store, form: usize)
     requires sound { IsSound store.old }
     requires form { form < length store.old.stored.items }
-    requires opens { length run.old.opens.items ≡ length store.old.stored.items }
     ensures sound { IsSound store.new }
     ensures kept { (k : StoredForm) × IsEmpty k ×
         (store.new.stored.items ≡ slice_set store.old.stored.items form k) }
-    ensures opens { run.new.opens.items ≡ slice_set run.old.opens.items form 0 }
     ensures variables { store.new.variables ≡ store.old.variables }
-    ensures trail { run.new.trail ≡ run.old.trail }
-    ensures rest { (run.new.candidates ≡ run.old.candidates) ×
-        (run.new.assignment ≡ run.old.assignment) × (run.new.work ≡ run.old.work) ×
-        (run.new.next ≡ run.old.next) × (run.new.visits ≡ run.old.visits) }
 {
     let alloc = *store.stored.allocator();
     unlink(store, form);
     store.stored[form] = empty_stored(alloc);
     store.spots[form] = Vec::new(alloc);
-    run.opens[form] = 0;
 }

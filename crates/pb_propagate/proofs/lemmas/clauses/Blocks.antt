@@ -1,7 +1,7 @@
 -- Blocks of words, one of which is written.
-use Rattle.pb_propagate.proofs.Common.{ℕ, ◌*◌, ◌++◌, ◌+◌, ◌-◌, ◌/◌, ◌<◌, ◌^◌, ◌∙◌, ◌∷◌, ◌≡◌, ◌≤◌, ◌⊎◌, [], ap, arith, Bool, drop, false, get_or}
-use Rattle.pb_propagate.proofs.Common.{get_or-set_other, get_or-set_same, inl, inr, length, length-append, length-set, List, map, refl, set, subst}
-use Rattle.pb_propagate.proofs.Common.{sym, take, true, ◌%◌, ◌==◌, slice_index_or, both_ways, cases_Bool, cases_eq, cases_lt, eqb-true, ext_get_or}
+use Rattle.pb_propagate.proofs.Common.{ℕ, ◌*◌, ◌++◌, ◌+◌, ◌-◌, ◌/◌, ◌<◌, ◌^◌, ◌∙◌, ◌∷◌, ◌≡◌, ◌≤◌, ◌⊎◌, [], ap, arith, drop, get_or}
+use Rattle.pb_propagate.proofs.Common.{get_or-set_other, get_or-set_same, inl, inr, length, length-append, length-set, List, refl, set, subst}
+use Rattle.pb_propagate.proofs.Common.{sym, take, true, ◌%◌, ◌==◌, both_ways, cases_Bool, cases_eq, cases_lt, eqb-true, ext_get_or}
 use Rattle.pb_propagate.proofs.Common.{get_or-drop, get_or-map, get_or-take, get_or_append_left, get_or_past, length-drop, length-take-le}
 use Rattle.pb_propagate.proofs.Common.{range_with_len, Watch, Search, AreBlocks, AreKept, begun, Contents, contents, IsBare, IsBefore, nowhere}
 use Rattle.pb_propagate.proofs.Common.{number_at, rewatched, rewritten, searched, stored_clause, stored_search, stored_watch, table, watch_of}

@@ -2,7 +2,7 @@
 use Rattle.pb_propagate.proofs.Common.{ℕ, ◌++◌, ◌+◌, ◌/◌, ◌<◌, ◌||◌, ◌∙◌, ◌∷◌, ◌≡◌, ◌≤◌, ◌⊎◌, [], ap, arith, Bool, cond, eq-eqb, false, get_or}
 use Rattle.pb_propagate.proofs.Common.{get_or-set_other, inl, inr, length, List, map, refl, set, subst, suc, sym, true, ◌==◌, Contains, count_by}
 use Rattle.pb_propagate.proofs.Common.{slice_get, Some, sum, sum_by, both_ways, cases_lt, eqb-true, get_or-map, get_or_past, length-map}
-use Rattle.pb_propagate.proofs.Common.{count_by-le-length, get_or-le-sum_by, sum-map, sum_by-cons, sum_by-set, slice_get-get_or, Watch, list_at}
+use Rattle.pb_propagate.proofs.Common.{get_or-le-sum_by, sum-map, sum_by-cons, sum_by-set, slice_get-get_or, Watch, list_at}
 use Rattle.pb_propagate.proofs.Common.{watch_at, AreStored, flip}
 pub use Rattle.pb_propagate.specs.engine.Clauses.Walked.{killed}
 use Rattle.pb_propagate.proofs.lemmas.clauses.Codes.{has, AreSingle}
@@ -125,15 +125,6 @@ killed-more (xs ∷ clauses) walked l fresh =
     let b = sum_by-cons (λ ys. count_by (λ x. has walked x) ys) xs clauses in
     let c = sum_by-cons (λ ys. count_by (λ x. l == x) ys) xs clauses in
     omega (arith, a, b, c, one, rest)
-
-pub killed-most : (clauses : List (List ℕ)) (walked : List ℕ) → killed clauses walked ≤ sum_by length clauses
-killed-most [] walked = omega arith
-killed-most (xs ∷ clauses) walked =
-    let rest = killed-most clauses walked in
-    let one = count_by-le-length (λ x. has walked x) xs in
-    let a = sum_by-cons (λ ys. count_by (λ x. has walked x) ys) xs clauses in
-    let b = sum_by-cons (λ (ys : List ℕ). length ys) xs clauses in
-    omega (arith, a, b, one, rest)
 
 -- the positions that searches have passed
 pub passed-most : (ps : List ℕ) (clauses : List (List ℕ)) → ((s : ℕ) → get_or ps s 0 ≤ length (list_at clauses s)) → sum ps ≤ sum_by length clauses

@@ -7,7 +7,7 @@ use Rattle.pb_propagate.specs.engine.Engine.Lists.{has}
 use Rattle.pb_propagate.proofs.lemmas.engine.Literals.{same-refl}
 use Rattle.pb_propagate.proofs.lemmas.clauses.Literals.{code-injective, groups-apart}
 use Rattle.pb_propagate.proofs.lemmas.clauses.Codes.{has as stands}
-use Rattle.pb_propagate.proofs.lemmas.clauses.Counts.{killed, killed-more, killed-most, occurs, count-some}
+use Rattle.pb_propagate.proofs.lemmas.clauses.Counts.{killed, killed-more, occurs, count-some}
 use Rattle.pb_propagate.proofs.lemmas.clauses.Stores.{slot-room}
 
 -- a list and its negations have no literal in common
@@ -126,12 +126,6 @@ killed-both clauses list one =
     by x (inl a) (inr b) = split-apart negation (λ l. l) list x a b
     by x (inr a) (inl b) = split-apart (λ l. l) negation list x b a
     by x (inr a) (inr b) = codes-apart Long list x one a b
-
-pub fallen-most : (clauses : List (List ℕ)) (list : List NumberedLiteral) → fallen clauses list ≤ sum_by length clauses
-fallen-most clauses list =
-    let fs = map (falsified_code Short) list in
-    let fl = map (falsified_code Long) list in
-    omega (arith, killed-join clauses fs fl (λ x a b. split-apart negation negation list x a b), killed-most clauses (fs ++ fl))
 
 -- a literal of a clause occurs
 pub occurs-some : (clauses : List (List ℕ)) (s l : ℕ) → 0 < length (list_at clauses s) → Contains (list_at clauses s) l → 1 ≤ occurs clauses l

@@ -1,5 +1,5 @@
 -- A watch is removed from a list or added to one.
-use Rattle.pb_propagate.proofs.Common.{ℕ, ◌++◌, ◌+◌, ◌-◌, ◌<◌, ◌^◌, ◌∙◌, ◌∷◌, ◌≡◌, ◌≤◌, ◌⊎◌, [], ap, arith, false, get_or, get_or-set_other}
+use Rattle.pb_propagate.proofs.Common.{ℕ, ◌++◌, ◌+◌, ◌-◌, ◌<◌, ◌^◌, ◌∙◌, ◌∷◌, ◌≡◌, ◌≤◌, ◌⊎◌, [], ap, arith, false, get_or-set_other}
 use Rattle.pb_propagate.proofs.Common.{get_or-set_same, inl, inr, length, length-set, List, refl, set, subst, sym, true, slice_get, Some, swap_remove}
 use Rattle.pb_propagate.proofs.Common.{both_ways, cases_eq, cases_lt, get_or_past, none-some, same_Some, slice_get_within, Watch, AreLinked, idle}
 use Rattle.pb_propagate.proofs.Common.{list_at, Remains, Sits, watch_at}

@@ -1,11 +1,11 @@
 -- What a search in a clause has found, and what it leaves.
 use Rattle.pb_propagate.proofs.Common.{ℕ, ◌*◌, ◌++◌, ◌+◌, ◌/◌, ◌<◌, ◌∙◌, ◌∷◌, ◌≡◌, ◌≤◌, ◌⊎◌, [], ap, arith, Bool, false, get_or, Global, length, List}
-use Rattle.pb_propagate.proofs.Common.{map, min, refl, set, subst, sym, true, Vec, Contains, Option, slice_get, Some, sum, All-contains, Clauses}
-use Rattle.pb_propagate.proofs.Common.{Listed, Watch, Search, Falsified, Forces, Leaves, Stays, Contents, rewatched, searched, AreLinked, AreMore}
-use Rattle.pb_propagate.proofs.Common.{IsListed, list_at, Remains, watch_at, watch_lists, all_turned, AreStored, around, HasVisited, IsBroken}
-use Rattle.pb_propagate.proofs.Common.{IsRound, IsRunning, IsUnit, passed_of, search_at, turned, false_at, flip, true_at}
-use Rattle.pb_propagate.proofs.lemmas.clauses.Readings.{Reading, Resuming, reading-live, reading-slot, resuming-within, resuming-round, resuming-inside, resuming-turned, searched-by, visiting-by, running-end, running-move, covered-by}
-use Rattle.pb_propagate.proofs.lemmas.clauses.Searches.{turned-round, round-inside, round-next}
+use Rattle.pb_propagate.proofs.Common.{refl, subst, sym, true, Vec, Contains, Option, slice_get, Some, All-contains, Clauses}
+use Rattle.pb_propagate.proofs.Common.{Listed, Search, Falsified, Forces, Leaves, Stays, Contents, rewatched, searched, AreLinked, AreMore}
+use Rattle.pb_propagate.proofs.Common.{IsListed, list_at, Remains, watch_at, watch_lists, all_turned, AreStored, around, HasVisited}
+use Rattle.pb_propagate.proofs.Common.{IsRound, IsRunning, passed_of, turned, false_at, flip, true_at}
+use Rattle.pb_propagate.proofs.lemmas.clauses.Readings.{Reading, Resuming, reading-live, resuming-round, resuming-turned, searched-by, visiting-by, running-end, running-move}
+use Rattle.pb_propagate.proofs.lemmas.clauses.Searches.{turned-round, round-next}
 use Rattle.pb_propagate.proofs.lemmas.clauses.Steps.{broken-of, unit-of, served-true, served-move, walked-move, HasSearched, Shifted, Visiting}
 use Rattle.pb_propagate.proofs.lemmas.clauses.Turned.{turned-size, unit-back, broken-back}
 use Rattle.pb_propagate.proofs.lemmas.clauses.Truths.{flip-half}

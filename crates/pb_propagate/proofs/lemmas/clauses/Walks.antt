@@ -1,5 +1,5 @@
 -- The walk over the watches of a falsified literal.
-use Rattle.pb_propagate.proofs.Common.{ℕ, ◌*◌, ◌++◌, ◌+◌, ◌-◌, ◌/◌, ◌<◌, ◌^◌, ◌∙◌, ◌∷◌, ◌≡◌, ◌≤◌, ◌⊎◌, [], ap, arith, Bool, get_or, inl, inr, length}
+use Rattle.pb_propagate.proofs.Common.{ℕ, ◌*◌, ◌++◌, ◌+◌, ◌-◌, ◌/◌, ◌<◌, ◌^◌, ◌∙◌, ◌∷◌, ◌≡◌, ◌≤◌, [], ap, arith, Bool, get_or, inl, inr, length}
 use Rattle.pb_propagate.proofs.Common.{length-append, List, refl, subst, sym, true, Option, Contains-push_cases, slice_get_within, NumberedLiteral}
 use Rattle.pb_propagate.proofs.Common.{Clauses, Watch, Forces, AreLinked, list_at, watch_at, watch_lists, all_turned, AreServed, AreWalked, Grows}
 use Rattle.pb_propagate.proofs.Common.{HasTrue, HasVisited, index_after, IsRunning, KeepsWalked, literal_at, false_at, true_at, has, IsWithin}

@@ -6,7 +6,7 @@ use Rattle.pb_propagate.proofs.Common.{length-map, map-append, take-append-le, t
 use Rattle.pb_propagate.proofs.Common.{Contains-append_right, Contains-push, Contains-push_cases, NumberedLiteral, negation, Group, Long, Short}
 use Rattle.pb_propagate.proofs.Common.{Clauses, Watch, Search, Heads, list_at, watch_at, watch_lists, AreReady, AreServed, AreStored, AreWalked}
 use Rattle.pb_propagate.proofs.Common.{Grows, HasTrue, IsRunning, passed_of, clause_shape, clauses_of, code_in, literal_at, offset, false_at, flip}
-use Rattle.pb_propagate.proofs.Common.{true_at, AreSingle, more, none, begin, Derives, IsSettled, put, same, Shape}
+use Rattle.pb_propagate.proofs.Common.{AreSingle, more, none, begin, Derives, IsSettled, put, same, Shape}
 use Rattle.pb_propagate.specs.engine.Engine.Lists.{has}
 pub use Rattle.pb_propagate.specs.engine.Clauses.Walked.{falsified_code, walked_codes, reached_codes, head, advanced}
 use Rattle.pb_propagate.proofs.lemmas.engine.Literals.{same-true, same-refl, negation-negation, has-get}
@@ -15,7 +15,7 @@ use Rattle.pb_propagate.proofs.lemmas.store.Gets.{last-is}
 use Rattle.pb_propagate.proofs.lemmas.clauses.Readings.{running-bounded}
 use Rattle.pb_propagate.proofs.lemmas.clauses.Searches.{ready-round, passed-at}
 use Rattle.pb_propagate.proofs.lemmas.clauses.Turned.{turned-count}
-use Rattle.pb_propagate.proofs.lemmas.clauses.Truths.{flip-half, flip-flip}
+use Rattle.pb_propagate.proofs.lemmas.clauses.Truths.{flip-half}
 use Rattle.pb_propagate.proofs.lemmas.clauses.Codes.{has as stands}
 use Rattle.pb_propagate.proofs.lemmas.clauses.Counts.{killed, killed-more, occurs, list-short, passed-most}
 use Rattle.pb_propagate.proofs.lemmas.clauses.Literals.{Agree, false-listed, false-code, code-injective, code-of}

@@ -1,9 +1,11 @@
 -- The number of visits of a propagation, in terms of the live forms.
-use Rattle.pb_propagate.proofs.Common.{ℕ, ◌*◌, ◌+◌, ◌-◌, ◌<◌, ◌^◌, ◌∙◌, ◌∷◌, ◌≡◌, ◌≤◌, [], ap, arith, Bool, false, get_or, get_or-set_other, inl, inr}
-use Rattle.pb_propagate.proofs.Common.{length, List, map, None, refl, set, subst, suc, sym, true, zero, filter, Option, slice_get, Some, sum_by}
-use Rattle.pb_propagate.proofs.Common.{cases_Bool, cases_lt, length-map, length_permutation, sum_by-cons, sum_by-set, Form, StoredForm, list_at}
-use Rattle.pb_propagate.proofs.Common.{AreJoined, joined, one_term, slot_shape, AreFound, shapes_of, stored_shape, entry_of, Shape, one_in, terms_in}
-use Rattle.pb_propagate.proofs.Common.{AreSlots, eager_one, IsSlot, waits, form_at, terms_of}
+use Rattle.pb_propagate.proofs.Common.{ℕ, ◌+◌, ◌<◌, ◌∙◌, ◌∷◌, ◌≡◌, ◌≤◌, [], ap, arith, false, get_or, get_or-set_other}
+use Rattle.pb_propagate.proofs.Common.{length, List, map, None, refl, set, subst, suc, sym, true, zero, Option, slice_get, Some, sum_by}
+use Rattle.pb_propagate.proofs.Common.{length-map, length_permutation, sum_by-cons, sum_by-set, Form, StoredForm, list_at}
+use Rattle.pb_propagate.proofs.Common.{AreJoined, joined, one_term, slot_shape, shapes_of, stored_shape, entry_of, Shape, one_in, terms_in}
+use Rattle.pb_propagate.proofs.Common.{AreSlots, IsSlot, waits, form_at, IsAbsent, get_or-map, slice_get_within}
+use Rattle.pb_propagate.proofs.lemmas.store.Options.{some-one}
+use Rattle.pb_propagate.proofs.lemmas.store.Seats.{AreSeated, absent-get}
 use Rattle.pb_propagate.proofs.lemmas.clauses.Slots.{joined-none}
 
 -- the terms of the stored forms are those of the live ones
@@ -36,41 +38,6 @@ terms-both (x ∷ xs) (codes ∷ clauses) short bare =
 
 pub joined-terms : (xs : List Shape) (clauses : List (List ℕ)) → AreJoined xs clauses → sum_by (λ f. length f.terms) (joined xs clauses) ≡ sum_by (λ f. length f.terms) xs + sum_by length clauses
 joined-terms xs clauses j = terms-both xs clauses j.short j.apart
-
--- a form that may propagate with nothing assigned is live
-live-one : (p : Option Form) (x : StoredForm) → IsSlot p (stored_shape x) → eager_one x ≤ one_in p
-live-one p x s = elim (cases_Bool x.eager) [
-  | inr idle ↦ rw idle (omega arith)
-  | inl eager ↦ rw eager (live p s (x.busy eager))
-]
-  where
-    live : (q : Option Form) → IsSlot q (stored_shape x) → 0 < x.degree + length (terms_of x.terms) → 1 ≤ one_in q
-    live None e some = absurd (omega (arith, some, ap length e.0, e.1))
-    live (Some f) e some = omega arith
-
-bare-none : (x : StoredForm) → terms_of x.terms ≡ [] → x.degree ≡ 0 → eager_one x ≡ 0
-bare-none x h k = elim (cases_Bool x.eager) [
-  | inr idle ↦ rw idle refl
-  | inl eager ↦ absurd (let some = x.busy eager in omega (arith, some, ap length h, k))
-]
-
-eager-both : (os : List (Option Form)) (keep : List StoredForm) (clauses : List (List ℕ)) → AreBare (shapes_of keep) clauses → AreSlots os (joined (shapes_of keep) clauses) → sum_by eager_one keep ≤ sum_by one_in os
-eager-both os [] clauses bare a = omega arith
-eager-both [] (k ∷ ks) [] bare a = absurd (let e : true ≡ false = a in cc)
-eager-both [] (k ∷ ks) (codes ∷ clauses) bare a = absurd (let e : true ≡ false = a in cc)
-eager-both (o ∷ os) (k ∷ ks) [] bare a =
-    let rest = eager-both os ks [] (λ s d less some. absurd (omega (arith, some))) (subst (AreSlots os) (sym (joined-none (shapes_of ks))) a.1) in
-    omega (arith, live-one o k a.0, rest, sum_by-cons eager_one k ks, sum_by-cons one_in o os)
-eager-both (o ∷ os) (k ∷ ks) (codes ∷ clauses) bare a =
-    let rest = eager-both os ks clauses (λ s d less some. bare (suc s) d (omega (arith, less)) some) a.1 in
-    omega (arith, first codes a.0 (λ some. bare 0 (stored_shape k) (omega arith) some), rest, sum_by-cons eager_one k ks, sum_by-cons one_in o os)
-  where
-    first : (ys : List ℕ) → IsSlot o (slot_shape (stored_shape k) ys) → (0 < length ys → (terms_of k.terms ≡ []) × (k.degree ≡ 0)) → eager_one k ≤ one_in o
-    first [] s h = live-one o k s
-    first (y ∷ ys) s h = let e = h (omega arith) in omega (arith, bare-none k e.0 e.1)
-
-pub slots-eager : (os : List (Option Form)) (keep : List StoredForm) (clauses : List (List ℕ)) → AreJoined (shapes_of keep) clauses → AreSlots os (joined (shapes_of keep) clauses) → sum_by eager_one keep ≤ sum_by one_in os
-slots-eager os keep clauses j a = eager-both os keep clauses j.apart a
 
 -- a form that may propagate with nothing assigned is in its slot
 pub waits-form : (os : List (Option Form)) (keep : List StoredForm) (clauses : List (List ℕ)) (s : ℕ) → AreSlots os (joined (shapes_of keep) clauses) → waits keep s ≡ true → (f : Form) × (form_at os s ≡ Some f)
@@ -108,22 +75,20 @@ listed-few os (x ∷ xs) apart live =
     let rest = listed-few (set os x None) xs (λ i j s h k. let same = apart (suc i) (suc j) s h k in omega (arith, same)) (λ i s h. let g = live (suc i) s h in (g.0, get_or-set_other os x s None None (λ e. absurd (let same = apart 0 (suc i) s (ap (λ y. Some y) (sym e)) h in omega (arith, same))) ∙ g.1)) in
     omega (arith, rest, change, ap one_in f.1)
 
--- no more forms wait than are on the list
-pub filter-few : (p : ℕ → Bool) (xs : List ℕ) → length (filter p xs) ≤ length xs
-filter-few p [] = omega arith
-filter-few p (x ∷ xs) = by_head (p x) refl (filter-few p xs)
-  where
-    by_head : (b : Bool) → p x ≡ b → length (filter p xs) ≤ length xs → length (filter p (x ∷ xs)) ≤ length (x ∷ xs)
-    by_head true e h = rw e (omega (arith, h))
-    by_head false e h = rw e (omega (arith, h))
+-- a list without one of the numbers below a bound is shorter than the bound
+ones : (xs : List ℕ) (f : Form) → sum_by one_in (map (λ (x : ℕ). Some f) xs) ≡ length xs
+ones [] f = refl
+ones (x ∷ xs) f = omega (arith, sum_by-cons one_in (Some f) (map (λ (y : ℕ). Some f) xs), ones xs f)
 
--- the list is no longer than the number of visits
-pub found-least : (n v n0 v0 : ℕ) → n0 ≡ 0 → v0 ≡ 0 → AreFound n0 n v0 v → n < 2 ^ 64 → n ≤ v
-found-least n v n0 v0 e f found small =
-    elim (cases_lt v (2 ^ 64 - 1)) [
-      | inl below ↦ let few = found below in omega (arith, few, e, f)
-      | inr at_top ↦ omega (arith, at_top, small)
-    ]
-
-pub most-visits : (v c0 v0 w n0 l c t k f : ℕ) → v + c0 ≤ v0 + (w - n0) + 2 * l + c + 3 * k → v0 ≡ 0 → c ≤ t → l ≡ t → w ≤ f → v ≤ 3 * (t + k) + f
-most-visits v c0 v0 w n0 l c t k f h a b d e = omega (arith, h, a, b, d, e)
+pub seated-room : (list seats : List ℕ) (form : ℕ) → form < length seats → IsAbsent list 0 form → AreSeated list seats → length list < length seats
+seated-room list seats form inside gone seated =
+    let f : Form = record { terms = []; degree = 0 } in
+    let full : List (Option Form) = map (λ (x : ℕ). Some f) seats in
+    let within : form < length full = omega (arith, inside, length-map {B = Option Form} seats (λ (x : ℕ). Some f)) in
+    let few = listed-few (set full form None) list (λ i j s h k. some-one (slice_get seats s) i j (seated i s h) (seated j s k)) (λ i s h.
+    let less : s < length seats = slice_get_within seats s i (seated i s h) in
+    let other : s ≡ form → ⊥ = λ e. absent-get list form i gone (h ∙ ap (λ z. Some z) e) in
+    (f, get_or-set_other full form s None None other ∙ get_or-map (λ (x : ℕ). Some f) seats s 0 None less)) in
+    let change = sum_by-set one_in full form None None within in
+    let one : get_or full form None ≡ Some f = get_or-map (λ (x : ℕ). Some f) seats form 0 None inside in
+    omega (arith, few, change, ones seats f, ap one_in one)

@@ -1,15 +1,14 @@
 -- A form that was added comes to the root.
-use Rattle.pb_propagate.proofs.Common.{ℕ, ◌*◌, ◌++◌, ◌+◌, ◌/◌, ◌<◌, ◌∙◌, ◌∷◌, ◌≡◌, ◌≤◌, ◌⊎◌, [], ap, arith, Bool, get_or, get_or-set_other}
-use Rattle.pb_propagate.proofs.Common.{get_or-set_same, Global, inl, inr, length, length-append, List, None, refl, set, subst, suc, sym, true, Vec}
+use Rattle.pb_propagate.proofs.Common.{ℕ, ◌++◌, ◌+◌, ◌/◌, ◌<◌, ◌∙◌, ◌∷◌, ◌≡◌, ◌≤◌, ◌⊎◌, [], ap, arith, Bool, get_or, get_or-set_other}
+use Rattle.pb_propagate.proofs.Common.{get_or-set_same, Global, inl, inr, length, length-append, List, refl, set, subst, suc, sym, true, Vec}
 use Rattle.pb_propagate.proofs.Common.{zero, All, Contains, Option, slice_get, Some, both_ways, cases_eq, cases_lt, get_or-map, get_or_append_left}
 use Rattle.pb_propagate.proofs.Common.{get_or_default, get_or_push, length-map, get_or_from_slice_get, slice_get-get_or, slice_get_within}
 use Rattle.pb_propagate.proofs.Common.{NumberedLiteral, Form, Assignment, Clauses, Watch, Eager, Rests, Run, Store, StoredForm, list_at, watch_at}
 use Rattle.pb_propagate.proofs.Common.{watch_lists, AreReady, AreStored, AreWalked, HasTrue, all_of, clauses_of, joined, one_term, slot_shape}
-use Rattle.pb_propagate.proofs.Common.{false_at, flip, true_at, walked_codes, beside, Grown, IsAbsent, IsCalm, IsCounted, IsTidy, pushed, spared}
+use Rattle.pb_propagate.proofs.Common.{false_at, walked_codes, beside, Grown, IsAbsent, IsCalm, IsCounted, IsTidy, pushed, spared}
 use Rattle.pb_propagate.proofs.Common.{weight_in, forms_of, shapes_of, stored_shape, HaveReasons, open_sum, Shape, size, HasForm, HasGained}
-use Rattle.pb_propagate.proofs.Common.{HasReached, IsRooted, IsServed, form_at}
+use Rattle.pb_propagate.proofs.Common.{HasReached, IsRooted, form_at, AreFree, AreSet, IsFreePair, IfSome, None, Pair}
 use Rattle.pb_propagate.proofs.lemmas.clauses.Shapes.{joined-at, joined-length}
-use Rattle.pb_propagate.proofs.lemmas.clauses.Truths.{flip-half, flip-even, flip-flip, same-slot, not_both}
 use Rattle.pb_propagate.proofs.lemmas.engine.Rests.{element}
 use Rattle.pb_propagate.proofs.lemmas.engine.Reasoned.{moved-same, reasons-moved}
 
@@ -220,28 +219,21 @@ admitted-rooted before store old clauses run run' rests rests' waiting waiting' 
     let walked = served-walked run.assignment.values.items old.blocks.literals clauses.blocks.literals old.blocks.watches clauses.blocks.watches codes slot g.filled g.watched (λ e here live k. absurd (no-watch (clauses_of clauses) clauses.blocks.watches (watch_lists clauses.lists.items) slot e ready.stored none here live)) r.walked in
     gained-rooted before store old clauses run run' rests rests' waiting waiting' slot inside r g h walked
 
--- a served clause with a walked watch has a true literal
-pub served-watch : (values : List (Option Bool)) (clauses : List (List ℕ)) (ws : List Watch) (ls : List (List ℕ)) (codes : List ℕ) (slot e : ℕ) → AreStored clauses ws ls → 0 < length (list_at clauses slot) → ((x : ℕ) → Contains codes x → false_at values x ≡ true) → IsServed values ws slot → e / 2 ≡ slot → Contains codes (watch_at ws e).literal → HasTrue values clauses (e / 2)
-served-watch values clauses ws ls codes slot e stored some failed served here h = by served (cases_eq e (2 * slot))
-  where
-    low : false_at values (watch_at ws e).literal ≡ true
-    low = failed (watch_at ws e).literal h
+-- free watches of a slot are not among the walked ones
+pub free-walked : (values : List (Option Bool)) (clauses : List (List ℕ)) (ws : List Watch) (codes : List ℕ) (slot e : ℕ) → ((x : ℕ) → Contains codes x → false_at values x ≡ true) → AreFree values ws slot → e / 2 ≡ slot → (watch_at ws e).live ≡ true → Contains codes (watch_at ws e).literal → HasTrue values clauses (e / 2)
+free-walked values clauses ws codes slot e failed free here live h = absurd (both_ways _ (free e here live) (failed (watch_at ws e).literal h))
 
-    second : (e ≡ 2 * slot → ⊥) → e ≡ 2 * slot + 1
-    second n = same-slot e (2 * slot) (omega (arith, here)) n ∙ flip-even slot
+-- two literals that are not falsified are watched
+pub pair-free : (values : List (Option Bool)) (old new : List Watch) (s : ℕ) (literals : List ℕ) (p : Pair) → IsFreePair values literals p → AreSet old new s literals p → AreFree values new s
+pair-free values old new s literals p free set e here live = elim (set.mine e here) [
+  | inl is ↦ ap (false_at values) is ∙ free.first
+  | inr is ↦ ap (false_at values) is ∙ free.second
+]
 
-    live_2 : (watch_at ws (2 * slot + 1)).live ≡ true
-    live_2 = ap (λ t. (watch_at ws t).live) (sym (flip-even slot)) ∙ stored.paired (2 * slot) (stored.full slot some)
-
-    -- a watch of the slot on a true literal
-    met : (k : ℕ) → k / 2 ≡ e / 2 → (watch_at ws k).live ≡ true → true_at values (watch_at ws k).literal ≡ true → HasTrue values clauses (e / 2)
-    met k is live truth = ((watch_at ws k).literal, subst (λ t. Contains (list_at clauses t) (watch_at ws k).literal) is (stored.watched k live), truth)
-
-    by : IsServed values ws slot → (e ≡ 2 * slot) ⊎ (e ≡ 2 * slot → ⊥) → HasTrue values clauses (e / 2)
-    by (inl one) q = met (2 * slot) (omega (arith, here)) (stored.full slot some) one
-    by (inr (inl two)) q = met (2 * slot + 1) (omega (arith, here)) live_2 two
-    by (inr (inr free)) (inl is) = absurd (both_ways _ (ap (λ t. false_at values (watch_at ws t).literal) is ∙ free.0) low)
-    by (inr (inr free)) (inr n) = absurd (both_ways _ (ap (λ t. false_at values (watch_at ws t).literal) (second n) ∙ free.1) low)
+-- what holds of a value that is there
+pub some-map : {X : Type 0} (o : Option X) (A B : X → Type 0) → ((a : X) → A a → B a) → IfSome o A → IfSome o B
+some-map None A B f h = h
+some-map (Some a) A B f h = f a h
 
 -- a clause adds nothing to the occurrence lists
 pub clause-rooted : (store : Store) (clauses : Clauses) (run : Run) (rests : Rests) (waiting : Eager) (slot : ℕ) → slot < length store.stored.items → ((d : Shape) → ((get_or (shapes_of store.stored.items) slot d).terms ≡ []) × ((get_or (shapes_of store.stored.items) slot d).degree ≡ 0)) → get_or run.opens.items slot 0 ≡ 0 → IsRooted store clauses run rests waiting slot → IsRooted store clauses run rests waiting (length store.stored.items)

@@ -1,5 +1,5 @@
 -- A form came into a slot.
-use Rattle.pb_propagate.proofs.Common.{ℕ, ◌*◌, ◌++◌, ◌+◌, ◌/◌, ◌<◌, ◌∙◌, ◌∷◌, ◌≡◌, ◌≤◌, [], ap, arith, get_or, get_or-set_other, get_or-set_same, inl}
+use Rattle.pb_propagate.proofs.Common.{ℕ, ◌*◌, ◌++◌, ◌+◌, ◌/◌, ◌<◌, ◌∙◌, ◌∷◌, ◌≡◌, ◌≤◌, ◌⊎◌, [], ap, arith, get_or, get_or-set_other, get_or-set_same, inl}
 use Rattle.pb_propagate.proofs.Common.{inr, length, length-append, length-set, List, None, set, sym, slice_get, Some, cases_eq, cases_lt}
 use Rattle.pb_propagate.proofs.Common.{get_or_append_left, get_or_past, get_or_push, length-map, get_or_from_slice_get, slice_get_within, Form}
 use Rattle.pb_propagate.proofs.Common.{Clauses, Watch, Store, StoredForm, idle, list_at, watch_at, all_of, clauses_of, joined, slot_shape, forms_of}
@@ -7,6 +7,7 @@ use Rattle.pb_propagate.proofs.Common.{shapes_of, stored_shape, Shape, HasGained
 use Rattle.pb_propagate.proofs.lemmas.store.Changes.{forms-filled, forms-length}
 use Rattle.pb_propagate.proofs.lemmas.clauses.Shapes.{joined-at, joined-length}
 use Rattle.pb_propagate.proofs.lemmas.clauses.Slots.{IsVacant}
+use Rattle.pb_propagate.proofs.lemmas.clauses.Truths.{flip-even, same-slot}
 use Rattle.pb_propagate.proofs.lemmas.store.Gets.{get-set_other, get-push_other}
 
 -- two idle watches after the others change nothing
@@ -29,6 +30,17 @@ idle-push ws e = elim (cases_lt e (length ws)) [
 pub watches-apart : (ws mid new : List Watch) (slot e : ℕ) (a b : Watch) → mid ≡ set ws (2 * slot) a → new ≡ set mid (2 * slot + 1) b → (e / 2 ≡ slot → ⊥) → watch_at new e ≡ watch_at ws e
 watches-apart ws mid new slot e a b first second apart =
     ap (λ xs. watch_at xs e) second ∙ get_or-set_other mid (2 * slot + 1) e b idle (λ is. apart (omega (arith, is))) ∙ ap (λ xs. watch_at xs e) first ∙ get_or-set_other ws (2 * slot) e a idle (λ is. apart (omega (arith, is)))
+
+pub watches-mine : (ws mid new : List Watch) (slot e : ℕ) (a b : Watch) → mid ≡ set ws (2 * slot) a → new ≡ set mid (2 * slot + 1) b → 2 * slot + 1 < length ws → e / 2 ≡ slot → (watch_at new e ≡ a) ⊎ (watch_at new e ≡ b)
+watches-mine ws mid new slot e a b first second room here = elim (cases_eq e (2 * slot)) [
+  | inl is ↦ inl (ap (λ xs. watch_at xs e) second ∙ get_or-set_other mid (2 * slot + 1) e b idle (λ h. absurd (omega (arith, is, h))) ∙ ap (λ xs. watch_at xs e) first ∙ ap (λ k. watch_at (set ws (2 * slot) a) k) is ∙ get_or-set_same ws (2 * slot) a idle (omega (arith, room)))
+  | inr other ↦
+      let is : e ≡ 2 * slot + 1 = halves e slot here other in
+      inr (ap (λ xs. watch_at xs e) second ∙ ap (λ k. watch_at (set mid (2 * slot + 1) b) k) is ∙ get_or-set_same mid (2 * slot + 1) b idle (omega (arith, room, ap length first, length-set ws (2 * slot) a)))
+]
+  where
+    halves : (e s : ℕ) → e / 2 ≡ s → (e ≡ 2 * s → ⊥) → e ≡ 2 * s + 1
+    halves e s here other = same-slot e (2 * s) (omega (arith, here)) other ∙ flip-even s
 
 -- a vacant slot has no terms
 pub vacant-bare : (xs : List Shape) (clauses : List (List ℕ)) (s : ℕ) (x : Shape) → IsVacant xs clauses s → slice_get (joined xs clauses) s ≡ Some x → x.terms ≡ []

@@ -4,11 +4,10 @@ use Rattle.pb_propagate.proofs.Common.{length, length-set, List, map, refl, set,
 use Rattle.pb_propagate.proofs.Common.{get_or-map, get_or_default, length-map, map-set, sum_by-cons, get_or_from_slice_get, slice_get-get_or}
 use Rattle.pb_propagate.proofs.Common.{NumberedLiteral, Assignment, Clauses, Eager, Rests, Run, Store, StoredForm, Term, list_at, watch_at}
 use Rattle.pb_propagate.proofs.Common.{watch_lists, AreReady, AreWalked, all_of, AreJoined, clauses_of, joined, literal_at, one_term, slot_shape}
-use Rattle.pb_propagate.proofs.Common.{flip, true_at, walked_codes, shapes_of, stored_shape, HaveReasons, open_part, open_sum, Shape, size, HasLost}
+use Rattle.pb_propagate.proofs.Common.{walked_codes, shapes_of, stored_shape, HaveReasons, open_part, open_sum, Shape, size, HasLost}
 use Rattle.pb_propagate.proofs.Common.{HasVacated, IsNeedless, IsOtherUnit, IsRooted, IsSameWatch, IsWithout}
 use Rattle.pb_propagate.proofs.lemmas.clauses.Shapes.{joined-at}
 use Rattle.pb_propagate.proofs.lemmas.clauses.Slots.{joined-cleared}
-use Rattle.pb_propagate.proofs.lemmas.clauses.Truths.{flip-half}
 use Rattle.pb_propagate.proofs.lemmas.root.Admitted.{no-watch, form-kept}
 use Rattle.pb_propagate.proofs.lemmas.store.Gets.{get-set_other}
 use Rattle.pb_propagate.proofs.lemmas.engine.Reasoned.{IsMoved, moved-same, reasons-moved}
@@ -83,7 +82,7 @@ lost-reasons before store old clauses slot a g n =
 
 -- the root stays
 pub lost-rooted : (before store : Store) (old clauses : Clauses) (run run' : Run) (rests rests' : Rests) (waiting waiting' : Eager) (slot : ℕ) → slot < length before.stored.items → slot < length old.blocks.literals → AreReady clauses → HasVacated before old store clauses slot → HasLost run run' rests rests' slot → IsWithout slot waiting.list.items waiting'.list.items → length waiting'.seats.items ≡ length waiting.seats.items →
-    IsNeedless (all_of before old) slot run'.assignment → IsRooted before old run rests waiting (length before.stored.items) → IsRooted store clauses run' rests' waiting' (length store.stored.items)
+    IsNeedless (all_of before old) slot run.assignment → IsRooted before old run rests waiting (length before.stored.items) → IsRooted store clauses run' rests' waiting' (length store.stored.items)
 lost-rooted before store old clauses run run' rests rests' waiting waiting' slot inside room ready g h without seats spare r = record {
   values = ap length valued ∙ r.values ∙ sym g.variables;
   opens = h.opens ∙ ap (λ xs. set xs slot 0) r.opens ∙ sym h.rest_opens;
@@ -128,7 +127,7 @@ lost-rooted before store old clauses run run' rests rests' waiting waiting' slot
   work = ap (λ (v : Vec ℕ Global). v.items) h.work ∙ r.work;
   trail = ap (λ (v : Vec ℕ Global). v.items) h.trail ∙ r.trail;
   next = h.next ∙ r.next;
-  reasoned = lost-reasons before store old clauses slot run'.assignment g spare;
+  reasoned = rw h.assignment (lost-reasons before store old clauses slot run.assignment g spare);
   walked = rw (valued, listed) (vacated-walked run.assignment.values.items old clauses (walked_codes (length run.assignment.list.items) run.assignment.list.items) slot ready none_there g.emptied g.watched r.walked);
   seats = seats ∙ r.seats ∙ sym longer;
   live = λ i s at.
@@ -140,10 +139,10 @@ lost-rooted before store old clauses run run' rests rests' waiting waiting' slot
     k = g.kept.0
 
     listed : run'.assignment.list.items ≡ run.assignment.list.items
-    listed = ap (λ (v : Vec NumberedLiteral Global). v.items) h.list
+    listed = ap (λ (a : Assignment). a.list.items) h.assignment
 
     valued : run'.assignment.values.items ≡ run.assignment.values.items
-    valued = ap (λ (v : Vec (Option Bool) Global). v.items) h.values
+    valued = ap (λ (a : Assignment). a.values.items) h.assignment
 
     longer : length store.stored.items ≡ length before.stored.items
     longer = ap length g.kept.2 ∙ length-set before.stored.items slot k

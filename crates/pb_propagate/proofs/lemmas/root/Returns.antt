@@ -122,3 +122,22 @@ back-rooted store between after run last rests waiting new r b =
       seats = r.seats;
       live = r.live;
     }
+
+-- the same forms wait
+pub rooted-waiting : {store : Store} {clauses : Clauses} {run : Run} {rests : Rests} {busy : ℕ} (waiting waiting' : Eager) → waiting'.list ≡ waiting.list → waiting'.seats ≡ waiting.seats → IsRooted store clauses run rests waiting busy → IsRooted store clauses run rests waiting' busy
+rooted-waiting waiting waiting' list seats r = record {
+  values = r.values;
+  opens = r.opens;
+  starts = r.starts;
+  open_sizes = r.open_sizes;
+  start_sizes = r.start_sizes;
+  counted = r.counted;
+  tidy = rw list r.tidy;
+  work = r.work;
+  trail = r.trail;
+  next = r.next;
+  reasoned = r.reasoned;
+  walked = r.walked;
+  seats = rw seats r.seats;
+  live = rw list r.live;
+}

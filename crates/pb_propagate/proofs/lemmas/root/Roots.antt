@@ -1,10 +1,10 @@
 -- The state to which questions return becomes that of the run.
 use Rattle.pb_propagate.proofs.Common.{ℕ, ◌+◌, ◌<◌, ◌∙◌, ◌≡◌, ◌≤◌, ◌⊎◌, [], ap, arith, Bool, get_or, get_or-set_other, get_or-set_same, inl, inr}
-use Rattle.pb_propagate.proofs.Common.{length, List, refl, set, subst, sym, Option, slice_get, Some, cases_eq, ext_get_or, get_or_default}
+use Rattle.pb_propagate.proofs.Common.{length, List, refl, set, subst, sym, Option, slice_get, slice_get_within, Some, cases_eq, ext_get_or, get_or_default}
 use Rattle.pb_propagate.proofs.Common.{get_or_read, length-map, NumberedLiteral, Assignment, Clauses, Watch, Eager, Rests, Run, Store, StoredForm}
-use Rattle.pb_propagate.proofs.Common.{watch_at, AreWalked, all_of, flip, walked_codes, beside, IsAbsent, IsCounted, IsTidy, IsUndone, rest_open}
+use Rattle.pb_propagate.proofs.Common.{AreWalked, all_of, walked_codes, beside, IsAbsent, IsCounted, IsTidy, IsUndone, rest_open}
 use Rattle.pb_propagate.proofs.Common.{rest_start, weight_in, shapes_of, stored_shape, HaveReasons, KeepsReasons, Shape, size, AreAtRest, IsEager}
-use Rattle.pb_propagate.proofs.Common.{HasForm, IsRooted}
+use Rattle.pb_propagate.proofs.Common.{from_given, HasForm, IsRooted}
 use Rattle.pb_propagate.proofs.lemmas.clauses.Literals.{Agree, true-listed, false-listed}
 use Rattle.pb_propagate.proofs.lemmas.store.Gets.{lt_of_apart}
 use Rattle.pb_propagate.proofs.lemmas.engine.Reasoned.{reasons-keep}
@@ -140,6 +140,37 @@ none-walked values clauses ws = record {
   failed = λ x there. absurd (omega (arith, there.1));
   done = λ e live there. absurd (omega (arith, there.1));
 }
+
+-- the root of no forms over no variables
+pub new-rooted : (store : Store) (clauses : Clauses) (run : Run) (rests : Rests) (waiting : Eager) → store.stored.items ≡ [] → store.variables ≡ 0 → run.assignment.values.items ≡ [] → run.assignment.list.items ≡ [] → run.opens.items ≡ [] → run.candidates.items ≡ [] → run.work.items ≡ [] → run.trail.items ≡ [] → run.next ≡ 0 →
+    rests.opens.items ≡ [] → rests.starts.items ≡ [] → waiting.list.items ≡ [] → waiting.seats.items ≡ [] → IsRooted store clauses run rests waiting (length store.stored.items)
+new-rooted store clauses run rests waiting none variables values list opens cands work trail next rest_opens rest_starts waits seats =
+    let empty = ap length none in
+    let shapes = length-map store.stored.items stored_shape in
+    record {
+      values = ap length values ∙ sym variables;
+      opens = opens ∙ sym rest_opens;
+      starts = cands ∙ sym rest_starts;
+      open_sizes = ap length opens ∙ sym empty;
+      start_sizes = ap length cands ∙ sym empty;
+      counted = λ s d less apart. absurd (omega (arith, less, empty));
+      tidy = record {
+        calm = λ s d less busy off gone. absurd (omega (arith, less, empty, shapes));
+        passed = λ s d less. absurd (omega (arith, less, empty, shapes));
+        bounded = λ s d less. absurd (omega (arith, less, empty, shapes));
+        clean = λ s d less gone. absurd (omega (arith, less, empty, shapes));
+        named = λ i d less. absurd (omega (arith, less));
+        marked = λ i d less. absurd (omega (arith, less));
+        traced = λ s gone. gone;
+      };
+      work = work;
+      trail = trail;
+      next = next;
+      reasoned = rw list from_given;
+      walked = rw list (none-walked run.assignment.values.items clauses.blocks.literals clauses.blocks.watches);
+      seats = ap length seats ∙ sym empty;
+      live = λ i s at. absurd (omega (arith, slice_get_within waiting.list.items i s at, ap length waits));
+    }
 
 -- a run with another count of visits
 pub rooted-counted : {store : Store} {clauses : Clauses} {run : Run} {rests : Rests} {waiting : Eager} {busy : ℕ} (visits : ℕ) → IsRooted store clauses run rests waiting busy → IsRooted store clauses (record { opens = run.opens; candidates = run.candidates; assignment = run.assignment; work = run.work; next = run.next; trail = run.trail; visits = visits }) rests waiting busy

@@ -1,6 +1,6 @@
 -- A list of numbers, each once, and the position of each in it.
-use Rattle.pb_propagate.proofs.Common.{ℕ, ◌++◌, ◌+◌, ◌-◌, ◌<◌, ◌∙◌, ◌∷◌, ◌≡◌, ◌⊎◌, [], ap, arith, Bool, false, get_or, if◌then◌else◌, inl, inr}
-use Rattle.pb_propagate.proofs.Common.{length, List, set, suc, sym, true, zero, slice_get, Some, swap_remove, cases_eq, cases_lt}
+use Rattle.pb_propagate.proofs.Common.{ℕ, ◌++◌, ◌+◌, ◌-◌, ◌<◌, ◌∙◌, ◌∷◌, ◌≡◌, ◌≤◌, ◌⊎◌, [], ap, arith, Bool, false, get_or, if◌then◌else◌, inl, inr}
+use Rattle.pb_propagate.proofs.Common.{length, length-append, List, set, suc, sym, true, zero, slice_get, Some, swap_remove, cases_eq, cases_lt}
 use Rattle.pb_propagate.proofs.Common.{get_or_from_slice_get, slice_get-get_or, slice_get_within, IsAbsent, IsWithout}
 use Rattle.pb_propagate.proofs.lemmas.store.Options.{some-one, none-some}
 use Rattle.pb_propagate.proofs.lemmas.store.Gets.{lt_of_apart, get-set_same, get-set_other, get-push_less, get-push_same, get-push_past}
@@ -116,6 +116,10 @@ swap-to xs q d j t inside h other = elim (cases_eq j (length xs - 1)) [
 pub seated-widened : (list seats seats' : List ℕ) (b : Bool) → seats' ≡ (if b then seats ++ (0 ∷ []) else seats) → AreSeated list seats → AreSeated list seats'
 seated-widened list seats seats' true e old i s h = rw e (get-push_less seats s 0 (slice_get_within seats s i (old i s h)) ∙ old i s h)
 seated-widened list seats seats' false e old i s h = rw e (old i s h)
+
+pub room-widened : (seats seats' : List ℕ) (b : Bool) (room : ℕ) → seats' ≡ (if b then seats ++ (0 ∷ []) else seats) → length seats + 1 ≤ room → length seats' ≤ room
+room-widened seats seats' true room e less = omega (arith, ap length e, length-append seats (0 ∷ []), less)
+room-widened seats seats' false room e less = omega (arith, ap length e, less)
 
 -- what is on a list with one number more, and is another one, was there before
 pub push-older : (xs : List ℕ) (x i s : ℕ) → (s ≡ x → ⊥) → slice_get (xs ++ (x ∷ [])) i ≡ Some s → slice_get xs i ≡ Some s

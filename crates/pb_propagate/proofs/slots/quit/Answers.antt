@@ -1,10 +1,7 @@
 use Rattle.pb_propagate.proofs.Common.{arith, None, length-map, StoredForm, forms_of}
 use Rattle.pb_propagate.proofs.lemmas.store.Changes.{forms-filled}
-use Rattle.pb_propagate.proofs.lemmas.store.Slots.{eager-there, rest-quit}
+use Rattle.pb_propagate.proofs.lemmas.store.Slots.{rest-quit}
 use Rattle.pb_propagate.proofs.slots.quit.Goals as goal
-
-pub unseat-requires-clause-there : goal.unseat-requires-clause-there
-unseat-requires-clause-there c = eager-there c.args.store.now.stored.items c.args.eager.now.list.items c.args.slot c.requires.rest.eager
 
 pub returns-clause-rest : goal.returns-clause-rest
 returns-clause-rest c =
@@ -12,8 +9,7 @@ returns-clause-rest c =
     let k = reported.kept in
     let keep = c.args.store.now.stored.items in
     rw (forms-filled keep c.vacate.new.store.stored.items k.0 c.args.slot None k.2 k.1.form)
-    (rest-quit c.args.store.now c.vacate.new.store c.args.run.now c.vacate.new.run c.args.eager.now c.unseat.new.eager c.args.clauses.now c.empty.new.self (forms_of keep) k.0 c.args.slot (omega (arith, c.requires.slot, length-map keep (λ (x : StoredForm). x.terms.form))) reported.sound k.1 k.2 reported.opens
-    reported.variables reported.trail reported.rest c.unseat.ensures.taken c.unseat.ensures.same c.unseat.ensures.seats c.empty.ensures.rest c.empty.ensures.literals c.empty.ensures.lists c.requires.rest)
+    (rest-quit c.args.store.now c.vacate.new.store c.args.clauses.now c.empty.new.self (forms_of keep) k.0 c.args.slot (omega (arith, c.requires.slot, length-map keep (λ (x : StoredForm). x.terms.form))) reported.sound k.1 k.2 reported.variables c.empty.ensures.rest c.empty.ensures.literals c.empty.ensures.lists c.requires.rest)
 
 pub returns-clause-forms : goal.returns-clause-forms
 returns-clause-forms c =

@@ -10,8 +10,7 @@ returns-clause-rest c =
     let k = reported.kept in
     let forms = forms_of c.args.store.now.stored.items in
     rw (forms-widened c.args.store.now.stored.items c.widen.new.store.stored.items k.0 k.2 k.1.form)
-    (rest-widened c.args.store.now c.widen.new.store c.args.run.now c.widen.new.run c.args.eager.now c.widen-2.new.self c.args.clauses.now c.extend.new.self forms k.0 reported.sound k.1 k.2 reported.opens reported.candidates
-    c.widen.ensures.variables c.widen.ensures.trail c.widen.ensures.rest c.widen-2.ensures.list c.in_ok-widen-2.ensures.seats c.in_ok-extend.ensures.rest c.in_ok-extend.ensures.literals c.extend.ensures.lists c.requires.rest)
+    (rest-widened c.args.store.now c.widen.new.store c.args.clauses.now c.extend.new.self forms k.0 reported.sound k.1 k.2 c.widen.ensures.variables c.in_ok-extend.ensures.rest c.in_ok-extend.ensures.literals c.extend.ensures.lists c.requires.rest)
 
 pub returns-clause-slot : goal.returns-clause-slot
 returns-clause-slot c =

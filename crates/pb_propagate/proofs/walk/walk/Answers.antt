@@ -1,4 +1,4 @@
-use Rattle.pb_propagate.proofs.Common.{ℕ, ◌++◌, ◌+◌, ◌<◌, ◌∙◌, ◌∷◌, [], ap, arith, Global, length, refl, subst, sym, Vec, NumberedLiteral, negation}
+use Rattle.pb_propagate.proofs.Common.{◌++◌, ◌+◌, ◌<◌, ◌∙◌, ◌∷◌, [], ap, arith, length, refl, subst, sym, NumberedLiteral, negation}
 use Rattle.pb_propagate.proofs.Common.{Falsified, Forces, Leaves, Stays, list_at, watch_lists, HasVisited, IsBroken, IsUnit, all_of, clauses_of}
 use Rattle.pb_propagate.proofs.Common.{shapes_of, has, database, list_of, progress, reasons_of}
 use Rattle.pb_propagate.proofs.lemmas.clauses.Literals.{true-listed, false-listed}

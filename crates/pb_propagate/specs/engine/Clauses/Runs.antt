@@ -61,6 +61,20 @@ pub record IsPair (literals : List ℕ) (p : Pair) : Type 0 where
   pub second : p.second < length literals
   pub apart : slice_index literals p.first ≡ slice_index literals p.second → ⊥
 
+-- none of the literals at the two positions is falsified
+pub record IsFreePair (values : List (Option Bool)) (literals : List ℕ) (p : Pair) : Type 0 where
+  pub first : false_at values (slice_index literals p.first) ≡ false
+  pub second : false_at values (slice_index literals p.second) ≡ false
+
+-- the watches of a slot are on the literals at two positions, and no other watch has changed
+pub record AreSet (old new : List Watch) (s : ℕ) (literals : List ℕ) (p : Pair) : Type 0 where
+  pub mine : (e : ℕ) → e / 2 ≡ s → ((watch_at new e).literal ≡ slice_index literals p.first) ⊎ ((watch_at new e).literal ≡ slice_index literals p.second)
+  pub others : (e : ℕ) → (e / 2 ≡ s → ⊥) → watch_at new e ≡ watch_at old e
+
+-- no watch of the slot is on a falsified literal
+abbrev pub AreFree : List (Option Bool) → List Watch → ℕ → Type 0
+AreFree values watches s = (e : ℕ) → e / 2 ≡ s → (watch_at watches e).live ≡ true → false_at values (watch_at watches e).literal ≡ false
+
 -- a watch of the slot is on the literal
 pub record IsWatched (watches : List Watch) (s x : ℕ) : Type 0 where
   pub watch : ℕ

@@ -52,13 +52,12 @@ pub record HasEntered (f : Form) (keep keep' : List StoredForm) (opens opens' ca
   pub opened : opens' ≡ opens ++ (kept.total ∷ [])
   pub candidates : cands' ≡ cands ++ (0 ∷ [])
 
--- a form is stored in the slot of an empty one, with its open sum as at rest
-pub record HasFilled (f : Form) (slot : ℕ) (keep keep' : List StoredForm) (opens opens' : List ℕ) : Type 0 where
+-- a form is stored in the slot of an empty one
+pub record HasFilled (f : Form) (slot : ℕ) (keep keep' : List StoredForm) : Type 0 where
   pub kept : StoredForm
   pub is : IsStoredAs f (stored_shape kept)
   pub form : kept.terms.form ≡ Some f
   pub keeps : keep' ≡ slice_set keep slot kept
-  pub opened : opens' ≡ slice_set opens slot kept.total
 
 -- the form has nothing in the occurrence lists
 pub record IsUnlisted (k : StoredForm) : Type 0 where

@@ -1,5 +1,5 @@
 -- A run of propagation as lists, and what each function of propagation does to it.
-use Rattle.std.specs.Prelude.{◌≡◌, ℕ, ◌+◌, ◌-◌, ◌*◌, ◌<◌, ◌≤◌, ◌++◌, ◌∷◌, [], true, false, Contains, Result, IfOk, List, Bool, Option, Some, filter, length, sum, sum_by, take, slice_get, slice_set, slice_index, slice_index_or}
+use Rattle.std.specs.Prelude.{◌≡◌, ℕ, ◌+◌, ◌-◌, ◌*◌, ◌<◌, ◌≤◌, ◌++◌, ◌∷◌, [], true, false, Contains, Result, IfOk, List, Bool, Option, Some, length, sum, sum_by, take, slice_get, slice_set, slice_index, slice_index_or}
 use Rattle.pb_normal.specs.declared.numbered.NumberedLiteral.{NumberedLiteral}
 use Rattle.pb_normal.specs.meaning.Rules.{negation}
 use Rattle.pb_propagate.specs.declared.store.Store.{Store}
@@ -10,7 +10,6 @@ use Rattle.pb_propagate.specs.declared.clauses.Clauses.{Clauses}
 use Rattle.pb_propagate.specs.engine.Engine.Lists.{Shape, Weighted, Extends, HaveReasons, KeepsReasons, IsSettled, has}
 use Rattle.pb_propagate.specs.engine.Engine.Counts.{place, Grown, IsCalm, IsCounted, IsTidy, IsAbsent, IsUndone, AreFound, AreSingle, beside, rest_open, spent}
 use Rattle.pb_propagate.specs.engine.Engine.Fields.{shapes_of, entries_of}
-use Rattle.pb_propagate.specs.engine.Engine.Rest.{waits}
 use Rattle.pb_propagate.specs.engine.Engine.Links.{coefficient_at}
 use Rattle.pb_propagate.specs.engine.Clauses.Links.{watch_lists, list_at}
 use Rattle.pb_propagate.specs.engine.Clauses.Runs.{AreServed, AreWalked, passed_of}
@@ -95,10 +94,6 @@ pub record Lowers (d : Database) (e : Visited) (old new : Progress) : Type 0 whe
   pub candidates : new.candidates ≡ old.candidates
   pub list : new.list ≡ old.list
   pub next : new.next ≡ old.next
-
--- the forms on a list that may propagate with nothing assigned
-abbrev pub chosen : Store → List ℕ → List ℕ
-chosen store list = filter (waits store.stored.items) list
 
 -- the form's open sum is below its degree
 abbrev pub IsShort : Database → ℕ → Progress → Type 0

@@ -1,12 +1,10 @@
 -- The engine between two calls.
-use Rattle.std.specs.Prelude.{◌≡◌, ℕ, ◌<◌, ◌≤◌, ◌*◌, List, [], ◌∷◌, map, length, sum_by, All, Contains, Option, Some, None, Bool, slice_get, true, false, if◌then◌else◌}
+use Rattle.std.specs.Prelude.{◌≡◌, ℕ, ◌<◌, ◌*◌, List, [], ◌∷◌, map, length, All, Contains, Option, Some, None, Bool, slice_get, true, false}
 use Rattle.pb_normal.specs.declared.numbered.NumberedLiteral.{NumberedLiteral}
 use Rattle.pb_normal.specs.meaning.Form.{Form}
 use Rattle.pb_normal.specs.meaning.Rules.{negation}
 use Rattle.pb_propagate.specs.declared.store.stored_form.StoredForm.{StoredForm}
 use Rattle.pb_propagate.specs.declared.store.Store.{Store}
-use Rattle.pb_propagate.specs.declared.run.Run.{Run}
-use Rattle.pb_propagate.specs.declared.eager.Eager.{Eager}
 use Rattle.pb_propagate.specs.engine.Engine.Forms.{IsStoredAs}
 use Rattle.pb_propagate.specs.engine.Engine.Lists.{Shape, has, IsWithin, Derives, Conflicts, IsSettled}
 use Rattle.pb_propagate.specs.engine.Engine.Counts.{IsAbsent}
@@ -34,10 +32,6 @@ kept_waits (Some k) = k.eager
 abbrev pub waits : List StoredForm → ℕ → Bool
 waits keep s = kept_waits (slice_get keep s)
 
--- one if a form may propagate with nothing assigned
-abbrev pub eager_one : StoredForm → ℕ
-eager_one k = if k.eager then 1 else 0
-
 -- each form on the list may propagate with nothing assigned
 abbrev pub AllWait : List StoredForm → List ℕ → Type 0
 AllWait keep list = (i s : ℕ) → slice_get list i ≡ Some s → waits keep s ≡ true
@@ -52,23 +46,14 @@ pub record AreAtRest (keep : List StoredForm) (opens cands : List ℕ) : Type 0 
   pub opened : opens ≡ map (λ k. k.total) keep
   pub passed : cands ≡ map (λ k. 0) keep
 
-pub record IsAtRest (store : Store) (run : Run) (waiting : Eager) (clauses : Clauses) (forms : List (Option Form)) : Type 0 where
+-- the store and the clauses hold the forms, and no search has begun
+pub record IsAtRest (store : Store) (clauses : Clauses) (forms : List (Option Form)) : Type 0 where
   pub sound : IsSound store
   pub slots : AreSlots forms (all_of store clauses)
   pub joined : AreJoined (shapes_of store.stored.items) (clauses_of clauses)
   pub ready : AreReady clauses
   pub widths : length clauses.lists.items ≡ 4 * store.variables
   pub known : length clauses.blocks.literals ≡ length store.stored.items
-  pub rest : AreAtRest store.stored.items run.opens.items run.candidates.items
-  pub values : length run.assignment.values.items ≡ store.variables
-  pub list : run.assignment.list.items ≡ []
-  pub work : run.work.items ≡ []
-  pub trail : run.trail.items ≡ []
-  pub next : run.next ≡ 0
-  pub eager : IsEager store.stored.items waiting.list.items
-  pub exact : AllWait store.stored.items waiting.list.items
-  pub few : length waiting.list.items ≤ sum_by eager_one store.stored.items
-  pub seats : length waiting.seats.items ≡ length store.stored.items
 
 -- a derivation from the given literals, in any order
 pub record IsDerived (shapes : List Shape) (given list : List NumberedLiteral) : Type 0 where

@@ -1,4 +1,4 @@
--- The root: a propagation from nothing that has ended without a conflict, to which questions return.
+-- The root: a propagation from nothing without a conflict, to which questions return.
 use Rattle.std.specs.Prelude.{◌≡◌, ℕ, ◌+◌, ◌*◌, ◌/◌, ◌<◌, ◌≤◌, ◌⊎◌, ◌++◌, ◌∷◌, Contains, true, false, List, [], Bool, Option, Some, length, sum_by, slice_get, slice_set, slice_index, slice_index_or}
 use Rattle.pb_normal.specs.declared.numbered.NumberedLiteral.{NumberedLiteral}
 use Rattle.pb_normal.specs.meaning.Rules.{negation}
@@ -7,6 +7,7 @@ use Rattle.pb_propagate.specs.declared.store.Store.{Store}
 use Rattle.pb_propagate.specs.declared.assignment.Assignment.{Assignment}
 use Rattle.pb_propagate.specs.declared.run.Run.{Run}
 use Rattle.pb_propagate.specs.declared.engine.root.Root.{Root}
+use Rattle.pb_propagate.specs.declared.engine.conflict.Conflict.{Conflict}
 use Rattle.pb_propagate.specs.declared.rests.Rests.{Rests}
 use Rattle.pb_propagate.specs.declared.eager.Eager.{Eager}
 use Rattle.pb_normal.specs.meaning.Form.{Form}
@@ -14,13 +15,15 @@ use Rattle.pb_propagate.specs.declared.clauses.Clauses.{Clauses}
 use Rattle.pb_propagate.specs.declared.clauses.lists.Watch.{Watch}
 use Rattle.pb_propagate.specs.declared.term.Term.{Term}
 use Rattle.pb_propagate.specs.engine.Engine.Lists.{Shape, Derives, HaveReasons, IsDue, Conflicts, IsSettled, has, open_sum}
-use Rattle.pb_propagate.specs.engine.Engine.Counts.{IsTidy, beside}
+use Rattle.pb_propagate.specs.engine.Engine.Counts.{AreFound, IsTidy, beside}
+use Rattle.pb_propagate.specs.engine.Engine.Progress.{RunSpends, RunPays, RunVisitsEach, list_of, values_of}
+use Rattle.pb_propagate.specs.engine.Engine.Waiting.{IsWithout}
 use Rattle.pb_propagate.specs.engine.Engine.Fields.{shapes_of, forms_of, IsSound, IsEmpty}
 use Rattle.pb_propagate.specs.engine.Engine.Forms.{IsStoredAs}
 use Rattle.pb_propagate.specs.engine.Engine.Slots.{form_at, numbered, ArePlaced}
-use Rattle.pb_propagate.specs.engine.Clauses.Truths.{true_at, false_at}
+use Rattle.pb_propagate.specs.engine.Clauses.Truths.{false_at}
 use Rattle.pb_propagate.specs.engine.Clauses.Links.{list_at, watch_at}
-use Rattle.pb_propagate.specs.engine.Clauses.Runs.{AreReady, AreWalked}
+use Rattle.pb_propagate.specs.engine.Clauses.Runs.{AreFree, AreReady, AreWalked, IsRunning}
 use Rattle.pb_propagate.specs.engine.Clauses.Shapes.{AreJoined, clauses_of, all_of, joined}
 use Rattle.pb_propagate.specs.engine.Clauses.Walked.{walked_codes}
 
@@ -58,12 +61,6 @@ terms_of_all store clauses = sum_by (λ (f : Shape). length f.terms) (all_of sto
 abbrev pub HasSameForms : Store → Store → Type 0
 HasSameForms old new = (places : List ℕ) → ArePlaced (forms_of old.stored.items) places → numbered (forms_of new.stored.items) places ≡ numbered (forms_of old.stored.items) places
 
--- a watched literal is true, or none of the two is falsified
-abbrev pub IsServed : List (Option Bool) → List Watch → ℕ → Type 0
-IsServed values watches s =
-    (true_at values (watch_at watches (2 * s)).literal ≡ true) ⊎ (true_at values (watch_at watches (2 * s + 1)).literal ≡ true) ⊎
-    ((false_at values (watch_at watches (2 * s)).literal ≡ false) × (false_at values (watch_at watches (2 * s + 1)).literal ≡ false))
-
 -- a literal of the clause is not falsified
 abbrev pub IsFree : List (Option Bool) → List ℕ → ℕ → Type 0
 IsFree values codes x = Contains codes x × (false_at values x ≡ false)
@@ -72,17 +69,27 @@ IsFree values codes x = Contains codes x × (false_at values x ≡ false)
 abbrev pub IsMet : List Shape → ℕ → List NumberedLiteral → Type 0
 IsMet forms slot list = (x : Shape) → slice_get forms slot ≡ Some x → x.degree ≤ open_sum list x.terms
 
--- the literals of a root that has ended follow from the constraints, and one of these is falsified
-pub record IsFallen (forms : List Shape) (variables : ℕ) (root : Root) : Type 0 where
-  pub ended : root.live ≡ false
-  pub values : length root.run.assignment.values.items ≡ variables
-  pub reasoned : HaveReasons forms root.run.assignment.reasons.items [] root.run.assignment.list.items
+-- the literals follow from the constraints, and one of these is falsified under them
+pub record IsConflict (forms : List Shape) (a : Assignment) : Type 0 where
+  pub reasoned : HaveReasons forms a.reasons.items [] a.list.items
   pub slot : ℕ
   pub form : Shape
   pub stored : slice_get forms slot ≡ Some form
-  pub low : open_sum root.run.assignment.list.items form.terms < form.degree
+  pub low : open_sum a.list.items form.terms < form.degree
 
--- no question is in progress, and the root is live
+-- a conflict is kept, or nothing is assigned
+pub record IsKeptConflict (forms : List Shape) (variables : ℕ) (conflict : Conflict) : Type 0 where
+  pub values : length conflict.assignment.values.items ≡ variables
+  pub none : conflict.met ≡ false → conflict.assignment.list.items ≡ []
+  pub holds : conflict.met ≡ true → IsConflict forms conflict.assignment
+
+-- no conflict is kept
+pub record IsVacant (variables : ℕ) (conflict : Conflict) : Type 0 where
+  pub unmet : conflict.met ≡ false
+  pub values : length conflict.assignment.values.items ≡ variables
+  pub list : conflict.assignment.list.items ≡ []
+
+-- no question is in progress
 pub record IsStanding (store : Store) (clauses : Clauses) (root : Root) : Type 0 where
   pub rooted : IsRootOf store clauses root
   pub sound : IsSound store
@@ -90,14 +97,33 @@ pub record IsStanding (store : Store) (clauses : Clauses) (root : Root) : Type 0
   pub ready : AreReady clauses
   pub widths : length clauses.lists.items ≡ 4 * store.variables
 
--- what a question leaves: the same forms, no search in progress, and a root that is live, has ended, or has a conflict
-pub record IsLeft (before store : Store) (old clauses : Clauses) (root : Root) : Type 0 where
+-- what a question leaves: the same forms, no search in progress, the root, and a conflict if one is met
+pub record IsLeft (before store : Store) (old clauses : Clauses) (root : Root) (noted : Conflict) : Type 0 where
   pub sound : IsSound store
   pub kept : store.stored.items ≡ before.stored.items
   pub ready : AreReady clauses
   pub lists : length clauses.lists.items ≡ length old.lists.items
-  pub rooted : root.live ≡ true → IsRootOf store clauses root
-  pub fallen : root.fallen ≡ true → IsFallen (all_of before old) before.variables root
+  pub rooted : IsRootOf store clauses root
+  pub conflict : IsKeptConflict (all_of before old) before.variables noted
+
+-- the cost of an update of the root, also of one that an allocation ends; `ended` is its run before it goes back
+pub record UpdateCosts (store : Store) (clauses : Clauses) (old new : Root) : Type 0 where
+  pub ended : Run
+  pub spends : RunSpends store old.rests clauses (length (list_of old.run)) old.waiting.list.items old.run ended
+  pub visits : new.run.visits ≡ ended.visits
+
+-- an update that has met a conflict
+pub record HasMet (store : Store) (old clauses : Clauses) (root root' : Root) (conflict : Conflict) : Type 0 where
+  pub ready : AreReady clauses
+  pub met : conflict.met ≡ true
+  pub found : AreFound (length (list_of root.run)) (length conflict.assignment.list.items) root.run.visits root'.run.visits
+
+-- an update that has met none: no form waits any more
+pub record HasUpdated (store : Store) (old clauses : Clauses) (root root' : Root) : Type 0 where
+  pub running : IsRunning (values_of root'.run) clauses
+  pub pays : RunPays store root.rests old clauses (length (list_of root.run)) root.waiting.list.items root.run root'.run
+  pub found : RunVisitsEach root.run root'.run
+  pub none : root'.waiting.list.items ≡ []
 
 -- the literal is that of the only term
 abbrev pub IsOnly : List Term → NumberedLiteral → Type 0
@@ -135,8 +161,7 @@ pub record HasVacated (before : Store) (old : Clauses) (store : Store) (clauses 
 
 -- the lists have the entry of an empty form for the slot
 pub record HasLost (run run' : Run) (rests rests' : Rests) (slot : ℕ) : Type 0 where
-  pub list : run'.assignment.list ≡ run.assignment.list
-  pub values : run'.assignment.values ≡ run.assignment.values
+  pub assignment : run'.assignment ≡ run.assignment
   pub work : run'.work ≡ run.work
   pub trail : run'.trail ≡ run.trail
   pub next : run'.next ≡ run.next
@@ -144,6 +169,25 @@ pub record HasLost (run run' : Run) (rests rests' : Rests) (slot : ℕ) : Type 0
   pub candidates : run'.candidates.items ≡ slice_set run.candidates.items slot 0
   pub rest_opens : rests'.opens.items ≡ slice_set rests.opens.items slot 0
   pub rest_starts : rests'.starts.items ≡ slice_set rests.starts.items slot 0
+
+-- the lists have an entry for each form and each variable
+pub record IsSized (store : Store) (root : Root) : Type 0 where
+  pub values : length root.run.assignment.values.items ≡ store.variables
+  pub opens : length root.run.opens.items ≡ length store.stored.items
+  pub candidates : length root.run.candidates.items ≡ length store.stored.items
+  pub rest_opens : length root.rests.opens.items ≡ length store.stored.items
+  pub rest_starts : length root.rests.starts.items ≡ length store.stored.items
+  pub seats : length root.waiting.seats.items ≡ length store.stored.items
+
+-- there was a root of the same forms that does not need the one of the slot, and the lists have the entry of an empty form
+-- for it
+pub record Loses (store : Store) (clauses : Clauses) (slot : ℕ) (root : Root) : Type 0 where
+  pub mid : Root
+  pub rooted : IsRootOf store clauses mid
+  pub needless : IsNeedless (all_of store clauses) slot mid.run.assignment
+  pub lost : HasLost mid.run root.run mid.rests root.rests slot
+  pub waiting : IsWithout slot mid.waiting.list.items root.waiting.list.items
+  pub seats : length root.waiting.seats.items ≡ length mid.waiting.seats.items
 
 -- a form came into a slot that was empty, or into a new one
 pub record HasGained (before : Store) (old : Clauses) (store : Store) (clauses : Clauses) (slot : ℕ) : Type 0 where
@@ -156,9 +200,9 @@ pub record HasGained (before : Store) (old : Clauses) (store : Store) (clauses :
   pub full : HasForm store slot
   pub watched : (e : ℕ) → (e / 2 ≡ slot → ⊥) → watch_at clauses.blocks.watches e ≡ watch_at old.blocks.watches e
 
--- the root is that of the forms before one came into the slot
+-- the root is that of the forms before one came into the slot, and falsifies no watched literal of that one
 abbrev pub WasRootOf : Store → Clauses → ℕ → Root → Type 0
-WasRootOf store clauses slot root = (before : Store) × (old : Clauses) × IsRootOf before old root × HasGained before old store clauses slot
+WasRootOf store clauses slot root = (before : Store) × (old : Clauses) × IsRootOf before old root × HasGained before old store clauses slot × AreFree root.run.assignment.values.items clauses.blocks.watches slot
 
 -- each list has an entry for the slot
 pub record HasReached (run run' : Run) (rests rests' : Rests) (waiting waiting' : Eager) (slot : ℕ) : Type 0 where

@@ -1,8 +1,8 @@
-use Rattle.pb_propagate.proofs.Common.{ℕ, ◌*◌, ◌+◌, ◌/◌, ◌<◌, ◌∙◌, ◌≡◌, ap, arith, false, get_or-set_other, inr, length, length-set, List, refl, set}
-use Rattle.pb_propagate.proofs.Common.{subst, sym, true, get_or_read, Watch, Search, begun, Contents, HasBlock, number_at, rewatched, rewritten}
-use Rattle.pb_propagate.proofs.Common.{searched, AreLinked, idle, list_at, watch_at, watch_lists}
+use Rattle.pb_propagate.proofs.Common.{◌*◌, ◌+◌, ◌/◌, ◌∙◌, ◌≡◌, ap, arith, get_or-set_other, inl, inr, length, length-set, refl, set}
+use Rattle.pb_propagate.proofs.Common.{subst, sym, true, get_or_read, Watch, Search, begun, Contents, HasBlock, number_at, rewatched}
+use Rattle.pb_propagate.proofs.Common.{AreLinked, idle, list_at, watch_at, watch_lists}
 use Rattle.pb_propagate.proofs.lemmas.clauses.Stores.{rest-fill, empty-dead}
-use Rattle.pb_propagate.proofs.lemmas.root.Gained.{watches-apart}
+use Rattle.pb_propagate.proofs.lemmas.root.Gained.{watches-apart, watches-mine}
 use Rattle.pb_propagate.proofs.clauses.Clauses.fill.Goals as goal
 
 -- a search that begins
@@ -79,9 +79,19 @@ returns-clause-literals c =
     literals
 
 pub returns-clause-watches : goal.returns-clause-watches
-returns-clause-watches c = λ e apart.
-    ap (λ (b : Contents). watch_at b.watches e) c.write.ensures ∙ ap (λ (b : Contents). watch_at b.watches e) c.seek.ensures
-    ∙ watches-apart c.args.self.now.blocks.watches c.put_in.new.blocks.watches c.put_in-2.new.blocks.watches c.args.slot e _ _ (ap (λ (b : Contents). b.watches) c.in_ok-put_in.ensures.watches) (ap (λ (b : Contents). b.watches) c.in_ok-put_in-2.ensures.watches) apart
+returns-clause-watches c =
+    let xs = c.args.literals.items in
+    let ws = c.args.self.now.blocks.watches in
+    let first = ap (λ (b : Contents). b.watches) c.in_ok-put_in.ensures.watches in
+    let second = ap (λ (b : Contents). b.watches) c.in_ok-put_in-2.ensures.watches in
+    let same = ap (λ (b : Contents). b.watches) c.write.ensures ∙ ap (λ (b : Contents). b.watches) c.seek.ensures in
+    record {
+      mine = λ e here. elim (watches-mine ws c.put_in.new.blocks.watches c.put_in-2.new.blocks.watches c.args.slot e _ _ first second (omega (arith, c.requires.slot, c.requires.rest.stored.pairs)) here) [
+        | inl is ↦ inl (ap (λ ws. (watch_at ws e).literal) same ∙ ap (λ (w : Watch). w.literal) is ∙ get_or_read xs c.args.pair.first c.index-first.result.now c.requires.pair.first c.index-first.ensures 0)
+        | inr is ↦ inr (ap (λ ws. (watch_at ws e).literal) same ∙ ap (λ (w : Watch). w.literal) is ∙ get_or_read xs c.args.pair.second c.index-second.result.now c.requires.pair.second c.index-second.ensures 0)
+      ];
+      others = λ e apart. ap (λ ws. watch_at ws e) same ∙ watches-apart ws c.put_in.new.blocks.watches c.put_in-2.new.blocks.watches c.args.slot e _ _ first second apart;
+    }
 
 pub returns-clause-rest : goal.returns-clause-rest
 returns-clause-rest c =

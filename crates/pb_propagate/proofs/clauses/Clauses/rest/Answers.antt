@@ -1,4 +1,4 @@
-use Rattle.pb_propagate.proofs.Common.{◌+◌, ◌<◌, ◌∙◌, ap, arith, get_or, length, length-set, List, refl, set, subst, sym, Search, Contents, passed_of}
+use Rattle.pb_propagate.proofs.Common.{◌+◌, ◌<◌, ◌∙◌, ap, arith, get_or, length, length-set, List, refl, subst, sym, Search, Contents, passed_of}
 use Rattle.pb_propagate.proofs.Common.{search_at}
 use Rattle.pb_propagate.proofs.lemmas.clauses.Readings.{searches-length}
 use Rattle.pb_propagate.proofs.lemmas.clauses.Searches.{passed-length, passed-set, position-kept}

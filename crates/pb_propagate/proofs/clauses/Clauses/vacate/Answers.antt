@@ -1,4 +1,4 @@
-use Rattle.pb_propagate.proofs.Common.{ℕ, ◌*◌, ◌+◌, ◌/◌, ◌<◌, ◌∙◌, ◌≡◌, [], ap, arith, false, inl, inr, length, refl, set, subst, sym, true, Watch}
+use Rattle.pb_propagate.proofs.Common.{ℕ, ◌*◌, ◌+◌, ◌∙◌, ◌≡◌, [], ap, arith, inr, length, refl, set, subst, sym, true, Watch}
 use Rattle.pb_propagate.proofs.Common.{Contents, AreLinked, list_at, watch_at, watch_lists}
 use Rattle.pb_propagate.proofs.lemmas.clauses.Listed.{lists-length}
 use Rattle.pb_propagate.proofs.lemmas.clauses.Stores.{slot-sits, stands-by, rest-vacate}

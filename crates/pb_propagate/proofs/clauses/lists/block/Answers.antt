@@ -1,4 +1,4 @@
-use Rattle.pb_propagate.proofs.Common.{◌≡◌, refl, Listed}
+use Rattle.pb_propagate.proofs.Common.{◌≡◌, refl}
 use Rattle.pb_propagate.proofs.lemmas.clauses.Listed.{watch-kept, list-older, set-older}
 use Rattle.pb_propagate.proofs.clauses.lists.block.Goals as goal
 

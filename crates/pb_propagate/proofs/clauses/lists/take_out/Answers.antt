@@ -1,7 +1,7 @@
-use Rattle.pb_propagate.proofs.Common.{ℕ, ◌+◌, ◌-◌, ◌<◌, ◌∙◌, ◌≡◌, ap, arith, get_or-set_other, get_or-set_same, Global, length, length-set, List}
+use Rattle.pb_propagate.proofs.Common.{ℕ, ◌+◌, ◌-◌, ◌<◌, ◌∙◌, ◌≡◌, ap, arith, get_or-set_other, get_or-set_same, Global, length, List}
 use Rattle.pb_propagate.proofs.Common.{refl, set, subst, sym, true, Vec, IfNone, IfSome, slice_get, Some, same_Some, Listed, Watch, Contents}
 use Rattle.pb_propagate.proofs.Common.{AreLinked, idle, list_at, Remains, watch_at, watch_lists}
-use Rattle.pb_propagate.proofs.lemmas.clauses.Linked.{take-last, take-moved, sits-within, moved-apart, list-small, placed, placed-remains, Removing}
+use Rattle.pb_propagate.proofs.lemmas.clauses.Linked.{take-last, take-moved, sits-within, moved-apart, list-small, placed, placed-remains}
 use Rattle.pb_propagate.proofs.lemmas.clauses.Listed.{lists-length}
 use Rattle.pb_propagate.proofs.clauses.lists.take_out.Goals as goal
 

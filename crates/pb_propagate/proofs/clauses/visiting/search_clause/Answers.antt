@@ -1,4 +1,4 @@
-use Rattle.pb_propagate.proofs.Common.{ℕ, ◌+◌, ◌/◌, ◌<◌, ◌^◌, ◌∙◌, ◌≡◌, ◌≤◌, ap, arith, get_or, inl, length, min, refl, set, subst, sym, Search}
+use Rattle.pb_propagate.proofs.Common.{ℕ, ◌+◌, ◌/◌, ◌<◌, ◌^◌, ◌∙◌, ◌≡◌, ◌≤◌, ap, arith, get_or, inl, length, min, subst, sym, Search}
 use Rattle.pb_propagate.proofs.Common.{Contents, rewatched, AreLinked, list_at, watch_lists, IsRound}
 use Rattle.pb_propagate.proofs.lemmas.clauses.Readings.{Reading, Resuming, reading-slot, reading-small, resuming-within, resuming-round, resuming-inside, running-bounded, bounded-raised, covered-by}
 use Rattle.pb_propagate.proofs.lemmas.clauses.Searches.{round-inside}

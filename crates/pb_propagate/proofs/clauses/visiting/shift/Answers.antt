@@ -1,4 +1,4 @@
-use Rattle.pb_propagate.proofs.Common.{◌<◌, ◌∙◌, ap, arith, get_or-set_same, inl, inr, length, Watch, Contents, idle, watch_at}
+use Rattle.pb_propagate.proofs.Common.{◌∙◌, ap, arith, get_or-set_same, inl, inr, Watch, Contents, idle, watch_at}
 use Rattle.pb_propagate.proofs.lemmas.clauses.Linked.{sits-within}
 use Rattle.pb_propagate.proofs.clauses.visiting.shift.Goals as goal
 

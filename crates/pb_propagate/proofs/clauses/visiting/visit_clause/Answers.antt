@@ -1,4 +1,4 @@
-use Rattle.pb_propagate.proofs.Common.{◌∙◌, ◌≡◌, ap, arith, length, refl, sym, true, watch_at}
+use Rattle.pb_propagate.proofs.Common.{◌∙◌, ap, arith, refl, sym, watch_at}
 use Rattle.pb_propagate.proofs.lemmas.clauses.Readings.{Reading, reading-small, running-bounded}
 use Rattle.pb_propagate.proofs.lemmas.clauses.Visited.{running-blocked, visited-stays, blocker-small, other-watched}
 use Rattle.pb_propagate.proofs.clauses.visiting.visit_clause.Goals as goal

@@ -1,4 +1,4 @@
-use Rattle.pb_propagate.proofs.Common.{◌-◌, ◌∙◌, ap, arith, length, swap_remove, slice_get_within}
+use Rattle.pb_propagate.proofs.Common.{◌-◌, ◌∙◌, ap, arith, length, length-set, swap_remove, slice_get_within}
 use Rattle.pb_propagate.proofs.lemmas.store.Unlinks.{swap-length}
 use Rattle.pb_propagate.proofs.lemmas.store.Seats.{seat-inside, seat-got, taken-is, moved-last, seated-moved, seated-last}
 use Rattle.pb_propagate.proofs.eager.Eager.take.Goals as goal
@@ -23,7 +23,10 @@ invariant_of-self c =
     let got = seat-got me.list.items me.seats.items c.args.form seat c.requires.there me.seated c.index-seat.ensures in
     let inside = slice_get_within me.list.items seat c.args.form got in
     let size = swap-length me.list.items seat c.swap_remove.result inside in
-    record { seated = rw c.swap_remove.ensures.items (seated-last me.list.items me.seats.items seat c.swap_remove.result (omega (arith, inside, size, ap length c.swap_remove.ensures.items, c.len.ensures, now.ok.0, c.if-seat-len.true)) me.seated) }
+    record {
+      seated = rw c.swap_remove.ensures.items (seated-last me.list.items me.seats.items seat c.swap_remove.result (omega (arith, inside, size, ap length c.swap_remove.ensures.items, c.len.ensures, now.ok.0, c.if-seat-len.true)) me.seated);
+      room = omega (arith, me.room, c.swap_remove.ensures.capacity);
+    }
 
 pub returns-then-seat-len-clause-list : goal.returns-then-seat-len-clause-list
 returns-then-seat-len-clause-list c =
@@ -52,7 +55,10 @@ invariant_of-self-2 c =
     let got = seat-got me.list.items me.seats.items c.args.form seat c.requires.there me.seated c.index-seat.ensures in
     let inside = slice_get_within me.list.items seat c.args.form got in
     let last = moved-last me.list.items now.items seat c.swap_remove.result m inside c.swap_remove.ensures.items (omega (arith, c.len.ensures, now.ok.0, c.if-seat-len.false)) c.index-moved.ensures in
-    record { seated = rw c.swap_remove.ensures.items (seated-moved me.list.items me.seats.items seat c.swap_remove.result m last.0 last.1 me.seated) }
+    record {
+      seated = rw c.swap_remove.ensures.items (seated-moved me.list.items me.seats.items seat c.swap_remove.result m last.0 last.1 me.seated);
+      room = omega (arith, me.room, c.swap_remove.ensures.capacity, length-set me.seats.items m seat);
+    }
 
 pub returns-clause-list : goal.returns-clause-list
 returns-clause-list c =

@@ -1,8 +1,16 @@
-use Rattle.pb_propagate.proofs.Common.{is_ok}
-use Rattle.pb_propagate.proofs.lemmas.store.Seats.{seated-widened}
+use Rattle.pb_propagate.proofs.Common.{arith, is_ok}
+use Rattle.pb_propagate.proofs.lemmas.store.Seats.{room-widened, seated-widened}
 use Rattle.pb_propagate.proofs.eager.Eager.widen.Goals as goal
 
 pub invariant_of-self : goal.invariant_of-self
 invariant_of-self c =
     let me = c.args.self.now in
-    record { seated = seated-widened me.list.items me.seats.items c.push.new.self.items (is_ok c.push.result) c.push.ensures.items me.seated }
+    record { seated = rw c.reserve.ensures.items me.seated; room = omega (arith, me.room, c.reserve.ensures.capacity) }
+
+pub invariant_of-self-2 : goal.invariant_of-self-2
+invariant_of-self-2 c =
+    let me = c.args.self.now in
+    record {
+      seated = seated-widened c.reserve.new.self.items me.seats.items c.push.new.self.items (is_ok c.push.result) c.push.ensures.items (rw c.reserve.ensures.items me.seated);
+      room = room-widened me.seats.items c.push.new.self.items (is_ok c.push.result) _ c.push.ensures.items (omega (arith, c.in_ok-reserve.ensures.ok, c.saturating_sub.ensures, c.len-count.ensures, me.seats.ok.0));
+    }

@@ -1,8 +1,8 @@
-use Rattle.pb_propagate.proofs.Common.{◌++◌, ◌-◌, ◌<◌, ◌^◌, ◌∙◌, ◌∷◌, ◌≡◌, [], ap, arith, inl, inr, None, rules, set, Some, slice_get_within}
+use Rattle.pb_propagate.proofs.Common.{◌++◌, ◌-◌, ◌<◌, ◌^◌, ◌∙◌, ◌∷◌, ◌≡◌, [], ap, arith, None, rules, set, Some, slice_get_within}
 use Rattle.pb_propagate.proofs.Common.{forms_of, Standing, numbered}
 use Rattle.pb_propagate.proofs.lemmas.store.Changes.{forms-length}
 use Rattle.pb_propagate.proofs.lemmas.store.Placed.{numbered-same, numbered-filled, numbered-grown, placed-agree, placed-filled}
-use Rattle.pb_propagate.proofs.lemmas.root.Fallen.{gained-fallen}
+use Rattle.pb_propagate.proofs.lemmas.root.Kept.{gained-kept}
 use Rattle.pb_propagate.proofs.lemmas.root.Gained.{gained-both}
 use Rattle.pb_propagate.proofs.engine.Engine.insert.Goals as goal
 
@@ -17,7 +17,7 @@ invariant_of-self-2 c = λ ready.
     let none = c.in_ok-slot.ensures.slot in
     let small : slot < 2 ^ 64 - 1 = omega (arith, slice_get_within forms slot None none, keep.ok.0, keep.ok.1, forms-length keep.items) in
     let placed = placed-agree was forms e.places.items c.vacancy.ensures.forms r.1 in
-    (c.in_ok-occupy.ensures.rest, rw (c.in_ok-occupy.ensures.forms, c.in_ok-push.ensures.items) (placed-filled forms e.places.items slot c.args.form none small placed), c.in_ok-follow.ensures.rooted, c.in_ok-follow.ensures.fallen)
+    (c.in_ok-occupy.ensures.rest, rw (c.in_ok-occupy.ensures.forms, c.in_ok-push.ensures.items) (placed-filled forms e.places.items slot c.args.form none small placed), c.in_ok-admit.ensures, gained-kept e.store c.occupy.new.store e.clauses c.occupy.new.clauses slot e.conflict r.0.slots (gained-both e.store c.vacancy.new.store c.occupy.new.store e.clauses c.vacancy.new.clauses c.occupy.new.clauses slot c.vacancy.ensures.variables c.in_ok-slot.ensures.widened c.in_ok-occupy.ensures.gained) r.3)
 
 pub returns-in_err-slot-clause-unchanged : goal.returns-in_err-slot-clause-unchanged
 returns-in_err-slot-clause-unchanged c =
@@ -30,19 +30,10 @@ returns-in_err-slot-clause-unchanged c =
 pub returns-in_err-occupy-clause-unchanged : goal.returns-in_err-occupy-clause-unchanged
 returns-in_err-occupy-clause-unchanged c =
     let e = c.self.inside in
-    let r = c.self.invariant (ap (λ (v : Standing). v.spent) c.self.view_is ∙ c.requires.ready) in
-    let keep = c.vacancy.new.store.stored in
-    let forms = forms_of keep.items in
+    let forms = forms_of c.vacancy.new.store.stored.items in
     let was = forms_of e.store.stored.items in
-    let slot = c.in_ok-slot.slot in
-    let none = c.in_ok-slot.ensures.slot in
-    let small : slot < 2 ^ 64 - 1 = omega (arith, slice_get_within forms slot None none, keep.ok.0, keep.ok.1, forms-length keep.items) in
-    let placed = placed-agree was forms e.places.items c.vacancy.ensures.forms r.1 in
-    let same = numbered-same was forms e.places.items (λ n s h. c.vacancy.ensures.forms s) ∙ ap (λ (v : Standing). v.forms) c.self.view_is in
-    let reported : numbered (forms_of c.occupy.new.store.stored.items) e.places.items ≡ c.args.self.now.forms = elim c.in_err-occupy.ensures.refused [
-      | inl still ↦ ap (λ fs. numbered fs e.places.items) still ∙ same
-      | inr filled ↦ ap (λ fs. numbered fs e.places.items) filled ∙ numbered-filled forms e.places.items slot c.args.form none small placed ∙ same
-    ] in
+    let same : numbered forms e.places.items ≡ c.args.self.now.forms = numbered-same was forms e.places.items (λ n s h. c.vacancy.ensures.forms s) ∙ ap (λ (v : Standing). v.forms) c.self.view_is in
+    let reported : numbered (forms_of c.occupy.new.store.stored.items) e.places.items ≡ c.args.self.now.forms = ap (λ fs. numbered fs e.places.items) c.in_err-occupy.ensures.refused ∙ same in
     search (rules, reported)
 
 pub returns-in_err-push-clause-unchanged : goal.returns-in_err-push-clause-unchanged
@@ -60,8 +51,8 @@ returns-in_err-push-clause-unchanged c =
     numbered-filled forms e.places.items slot c.args.form none small placed ∙ numbered-same was forms e.places.items (λ n s h. c.vacancy.ensures.forms s) ∙ ap (λ (v : Standing). v.forms) c.self.view_is in
     search (rules, same)
 
-pub returns-in_err-follow-clause-unchanged : goal.returns-in_err-follow-clause-unchanged
-returns-in_err-follow-clause-unchanged c =
+pub returns-in_err-admit-clause-unchanged : goal.returns-in_err-admit-clause-unchanged
+returns-in_err-admit-clause-unchanged c =
     let e = c.self.inside in
     let r = c.self.invariant (ap (λ (v : Standing). v.spent) c.self.view_is ∙ c.requires.ready) in
     let keep = c.vacancy.new.store.stored in
@@ -89,14 +80,9 @@ returns-clause-forms c =
     let same = numbered-same was forms e.places.items (λ n s h. c.vacancy.ensures.forms s) ∙ ap (λ (v : Standing). v.forms) c.self.view_is in
     rw (c.in_ok-occupy.ensures.forms, c.in_ok-push.ensures.items) (numbered-grown forms e.places.items slot c.args.form none small placed ∙ ap (λ xs. xs ++ (Some c.args.form ∷ [])) same)
 
-pub follow-requires-clause-gained : goal.follow-requires-clause-gained
-follow-requires-clause-gained c = λ live.
+pub admit-requires-clause-gained : goal.admit-requires-clause-gained
+admit-requires-clause-gained c =
     let e = c.self.inside in
     let r = c.self.invariant (ap (λ (v : Standing). v.spent) c.self.view_is ∙ c.requires.ready) in
-    (e.store, e.clauses, r.2 live, gained-both e.store c.vacancy.new.store c.occupy.new.store e.clauses c.vacancy.new.clauses c.occupy.new.clauses c.in_ok-slot.slot c.vacancy.ensures.variables c.in_ok-slot.ensures.widened c.in_ok-occupy.ensures.gained)
-
-pub follow-requires-clause-fallen : goal.follow-requires-clause-fallen
-follow-requires-clause-fallen c = λ fallen.
-    let e = c.self.inside in
-    let r = c.self.invariant (ap (λ (v : Standing). v.spent) c.self.view_is ∙ c.requires.ready) in
-    gained-fallen e.store c.occupy.new.store e.clauses c.occupy.new.clauses c.in_ok-slot.slot e.root r.0.slots (gained-both e.store c.vacancy.new.store c.occupy.new.store e.clauses c.vacancy.new.clauses c.occupy.new.clauses c.in_ok-slot.slot c.vacancy.ensures.variables c.in_ok-slot.ensures.widened c.in_ok-occupy.ensures.gained) (r.3 fallen)
+    let kept = c.note.ensures in
+    rw (kept.0, kept.1, kept.2) (e.store, e.clauses, r.2, gained-both e.store c.vacancy.new.store c.occupy.new.store e.clauses c.vacancy.new.clauses c.occupy.new.clauses c.in_ok-slot.slot c.vacancy.ensures.variables c.in_ok-slot.ensures.widened c.in_ok-occupy.ensures.gained, c.in_ok-occupy.ensures.free)

@@ -1,7 +1,7 @@
 use Rattle.pb_propagate.proofs.Common.{◌<◌, ◌∙◌, ap, arith, length, None, set, sym, forms_of, Standing}
 use Rattle.pb_propagate.proofs.lemmas.store.Changes.{forms-length}
 use Rattle.pb_propagate.proofs.lemmas.store.Placed.{numbered-length, numbered-none, numbered-left, placed-left, taken-by}
-use Rattle.pb_propagate.proofs.lemmas.root.Fallen.{lost-fallen}
+use Rattle.pb_propagate.proofs.lemmas.root.Kept.{lost-kept}
 use Rattle.pb_propagate.proofs.lemmas.root.Lost.{lost-rooted}
 use Rattle.pb_propagate.proofs.engine.Engine.remove.Goals as goal
 
@@ -19,12 +19,9 @@ invariant_of-self c = λ ready.
     let room : c.index-slot.result.now < length e.store.stored.items = omega (arith, c.if-slot-len.false, c.len.ensures, e.store.stored.ok.0) in (
       c.quit.ensures.rest,
       rw c.quit.ensures.forms (placed-left (forms_of e.store.stored.items) e.places.items c.args.number c.index-slot.result.now t r.1),
-      λ live.
-          let lost = c.lose.ensures.lost live in
-          lost-rooted e.store c.quit.new.store e.clauses c.quit.new.clauses e.root.run c.lose.new.self.run e.root.rests c.lose.new.self.rests e.root.waiting c.lose.new.self.waiting c.index-slot.result.now room (omega (arith, room, r.0.known)) c.quit.ensures.rest.ready c.quit.ensures.vacated lost.1 (c.lose.ensures.waiting live) (c.lose.ensures.seats live) (c.lose.ensures.spare live) (r.2 lost.0),
-      λ fallen.
-          let kept = c.lose.ensures.fallen fallen in
-          lost-fallen e.store c.quit.new.store e.clauses c.quit.new.clauses c.index-slot.result.now c.lose.new.self c.quit.ensures.vacated kept.1 kept.2 kept.0,
+      let l = c.lose.ensures in
+          lost-rooted e.store c.quit.new.store e.clauses c.quit.new.clauses l.mid.run c.lose.new.self.run l.mid.rests c.lose.new.self.rests l.mid.waiting c.lose.new.self.waiting c.index-slot.result.now room (omega (arith, room, r.0.known)) c.quit.ensures.rest.ready c.quit.ensures.vacated l.lost l.waiting l.seats l.needless l.rooted,
+      lost-kept e.store c.quit.new.store e.clauses c.quit.new.clauses c.index-slot.result.now c.lose-2.new.self c.quit.ensures.vacated c.lose-2.ensures.spare c.lose-2.ensures.unbroken c.lose-2.ensures.kept,
     )
 
 pub returns-then-slot-len-clause-forms : goal.returns-then-slot-len-clause-forms

@@ -1,7 +1,8 @@
-use Rattle.pb_propagate.proofs.Common.{ℕ, ◌∙◌, ◌≡◌, [], ap, arith, Global, length, refl, subst, sym, take, Vec, IfNone, IfSome, Listed, Watch}
-use Rattle.pb_propagate.proofs.Common.{AreWalked, all_of, clauses_of, joined, walked_codes, none, shapes_of, HasClash, HasEnded}
+use Rattle.pb_propagate.proofs.Common.{◌∙◌, ◌≡◌, [], ap, arith, Global, length, refl, subst, sym, take, Vec, IfNone, IfSome, Listed}
+use Rattle.pb_propagate.proofs.Common.{AreWalked, all_of, clauses_of, Derives, joined, walked_codes, none, shapes_of, HasClash, HasEnded}
 use Rattle.pb_propagate.proofs.lemmas.clauses.Walks.{grows-refl}
 use Rattle.pb_propagate.proofs.lemmas.engine.Spent.{derivation-single}
+use Rattle.pb_propagate.proofs.lemmas.root.Kept.{kept-conflicts}
 use Rattle.pb_propagate.proofs.lemmas.root.Returns.{back-rooted, root-counted}
 use Rattle.pb_propagate.proofs.lemmas.root.Transplants.{clash-refuted, ended-made, root-clash, map-none, map-some}
 use Rattle.pb_propagate.proofs.lemmas.engine.Reasoned.{reasons-derive}
@@ -10,39 +11,38 @@ use Rattle.pb_propagate.proofs.engine.completion.extend.Goals as goal
 pub returns-then-branch-clause-clash : goal.returns-then-branch-clause-clash
 returns-then-branch-clause-clash c =
     let shapes = all_of c.args.store.now c.args.clauses.now in
-    let list = c.update.new.self.run.assignment.list.items in
-    clash-refuted shapes list c.args.given.now (reasons-derive c.in_ok-update.ensures.reasons) (root-clash shapes list c.args.given.now (c.in_ok-update.ensures.conflict c.if-branch.true))
+    let a = c.update.new.conflict.assignment in
+    let met = c.in_ok-update.ensures.met c.if-branch.true in
+    let h = c.in_ok-update.ensures.kept.holds met.met in
+    clash-refuted shapes a.list.items c.args.given.now (reasons-derive h.reasoned) (root-clash shapes a.list.items c.args.given.now (kept-conflicts shapes a h))
 
 pub settle-requires-clause-values : goal.settle-requires-clause-values
-settle-requires-clause-values c = (c.in_ok-update.ensures.rooted c.if-branch.false).values
+settle-requires-clause-values c = c.in_ok-update.ensures.rooted.values
 
 pub settle-requires-clause-opens : goal.settle-requires-clause-opens
-settle-requires-clause-opens c = (c.in_ok-update.ensures.rooted c.if-branch.false).open_sizes
+settle-requires-clause-opens c = c.in_ok-update.ensures.rooted.open_sizes
 
 pub settle-requires-clause-candidates : goal.settle-requires-clause-candidates
-settle-requires-clause-candidates c = (c.in_ok-update.ensures.rooted c.if-branch.false).start_sizes
+settle-requires-clause-candidates c = c.in_ok-update.ensures.rooted.start_sizes
 
 pub settle-requires-clause-next : goal.settle-requires-clause-next
 settle-requires-clause-next c =
-    let r = c.in_ok-update.ensures.rooted c.if-branch.false in
+    let r = c.in_ok-update.ensures.rooted in
     omega (arith, r.next)
-
-pub settle-requires-clause-waiting : goal.settle-requires-clause-waiting
-settle-requires-clause-waiting c = rw (c.as_slice.ensures.value, c.new-none.ensures.items) (λ k d less. absurd (omega (arith, less)))
 
 pub settle-requires-clause-single : goal.settle-requires-clause-single
 settle-requires-clause-single c =
-    let r = c.in_ok-update.ensures.rooted c.if-branch.false in
+    let r = c.in_ok-update.ensures.rooted in
     derivation-single (all_of c.args.store.now c.update.new.clauses) [] c.update.new.self.run.assignment.list.items none (reasons-derive r.reasoned)
 
 pub settle-requires-clause-counted : goal.settle-requires-clause-counted
 settle-requires-clause-counted c =
-    root-counted c.args.store.now c.update.new.clauses c.update.new.self.run c.update.new.self.rests c.update.new.self.waiting (c.in_ok-update.ensures.rooted c.if-branch.false)
+    root-counted c.args.store.now c.update.new.clauses c.update.new.self.run c.update.new.self.rests c.update.new.self.waiting c.in_ok-update.ensures.rooted
 
 pub settle-requires-clause-tidy : goal.settle-requires-clause-tidy
 settle-requires-clause-tidy c =
-    let r = c.in_ok-update.ensures.rooted c.if-branch.false in
-    rw (c.as_slice.ensures.value, c.new-none.ensures.items, r.work, r.trail, r.next) (rw (c.in_ok-update.ensures.none c.if-branch.false) at r.tidy)
+    let r = c.in_ok-update.ensures.rooted in
+    rw (r.work, r.trail, r.next) (rw (c.in_ok-update.ensures.updated c.if-branch.false).none at r.tidy)
 
 pub settle-requires-clause-joined : goal.settle-requires-clause-joined
 settle-requires-clause-joined c =
@@ -50,10 +50,10 @@ settle-requires-clause-joined c =
     rw lit c.requires.standing.joined
 
 pub settle-requires-clause-running : goal.settle-requires-clause-running
-settle-requires-clause-running c = c.in_ok-update.ensures.running
+settle-requires-clause-running c = (c.in_ok-update.ensures.updated c.if-branch.false).running
 
 pub settle-requires-clause-walked : goal.settle-requires-clause-walked
-settle-requires-clause-walked c = (c.in_ok-update.ensures.rooted c.if-branch.false).walked
+settle-requires-clause-walked c = c.in_ok-update.ensures.rooted.walked
 
 pub returns-clause-clash : goal.returns-clause-clash
 returns-clause-clash c =
@@ -62,7 +62,7 @@ returns-clause-clash c =
     let lit : clauses_of c.update.new.clauses ≡ clauses_of c.args.clauses.now = c.update.ensures.literals in
     let same : all_of store c.update.new.clauses ≡ all_of store c.args.clauses.now = ap (joined (shapes_of store.stored.items)) lit in
     let found = subst (λ xs. IfNone c.in_ok-values.values (HasClash xs list c.args.given.now)) same c.in_ok-values.ensures.clash in
-    map-none c.in_ok-values.values (clash-refuted (all_of store c.args.clauses.now) list c.args.given.now (reasons-derive c.in_ok-update.ensures.reasons)) found
+    map-none c.in_ok-values.values (clash-refuted (all_of store c.args.clauses.now) list c.args.given.now (subst (λ xs. Derives xs [] list) same (reasons-derive c.in_ok-update.ensures.rooted.reasoned))) found
 
 pub returns-clause-ended : goal.returns-clause-ended
 returns-clause-ended c =
@@ -71,16 +71,16 @@ returns-clause-ended c =
     let lit : clauses_of c.update.new.clauses ≡ clauses_of c.args.clauses.now = c.update.ensures.literals in
     let same : all_of store c.update.new.clauses ≡ all_of store c.args.clauses.now = ap (joined (shapes_of store.stored.items)) lit in
     let found = subst (λ xs. IfSome c.in_ok-values.values (λ values. HasEnded xs list c.args.given.now values.items)) same c.in_ok-values.ensures.ended in
-    map-some c.in_ok-values.values (λ values. ended-made (all_of store c.args.clauses.now) list c.args.given.now values.items (reasons-derive c.in_ok-update.ensures.reasons)) found
+    map-some c.in_ok-values.values (λ values. ended-made (all_of store c.args.clauses.now) list c.args.given.now values.items (subst (λ xs. Derives xs [] list) same (reasons-derive c.in_ok-update.ensures.rooted.reasoned))) found
 
 pub returns-then-branch-clause-left : goal.returns-then-branch-clause-left
 returns-then-branch-clause-left c = record {
   sound = c.requires.standing.sound;
   kept = refl;
-  ready = c.rest.ensures.rest;
-  lists = ap (λ (v : Vec (Vec Listed Global) Global). length v.items) c.rest.ensures.lists ∙ c.in_ok-update.ensures.lists;
-  rooted = λ live. absurd (let e = sym live ∙ c.in_ok-update.ensures.ended c.if-branch.true in cc);
-  fallen = λ fallen. c.in_ok-update.ensures.fallen c.if-branch.true;
+  ready = (c.in_ok-update.ensures.met c.if-branch.true).ready;
+  lists = c.in_ok-update.ensures.lists;
+  rooted = c.in_ok-update.ensures.rooted;
+  conflict = c.in_ok-update.ensures.kept;
 }
 
 pub returns-clause-left : goal.returns-clause-left
@@ -93,14 +93,14 @@ returns-clause-left c =
     let last = c.back.new.run in
     let count_is : c.len-count.result ≡ length run.assignment.list.items = omega (arith, c.len-count.ensures, run.assignment.list.ok.0) in
     let codes = walked_codes (length run.assignment.list.items) run.assignment.list.items in
-    let r = c.in_ok-update.ensures.rooted c.if-branch.false in
+    let r = c.in_ok-update.ensures.rooted in
     record {
       sound = c.requires.standing.sound;
       kept = refl;
       ready = c.back.ensures.ready;
       lists = omega (arith, ap (λ (v : Vec (Vec Listed Global) Global). length v.items) c.back.ensures.lists, reported.running.sizes, reported.values, r.values, c.requires.standing.widths);
-      fallen = λ fallen. absurd (let e = sym fallen ∙ c.in_ok-update.ensures.risen c.if-branch.false in cc);
-      rooted = λ live. back-rooted store between c.back.new.clauses run last root.rests root.waiting c.settle.new.run.assignment.list.items (c.in_ok-update.ensures.rooted c.if-branch.false) (record {
+      conflict = c.in_ok-update.ensures.kept;
+      rooted = back-rooted store between c.back.new.clauses run last root.rests root.waiting c.settle.new.run.assignment.list.items c.in_ok-update.ensures.rooted (record {
         literals = (c.back.ensures.literals ∙ c.settle.ensures.literals);
         kept = λ old. subst (λ cs. AreWalked run.assignment.values.items cs c.back.new.clauses.blocks.watches codes) (sym c.back.ensures.literals) (subst (λ ws. AreWalked run.assignment.values.items c.settle.new.clauses.blocks.literals ws codes) (sym c.back.ensures.watches) (reported.kept run.assignment.values.items codes (grows-refl run.assignment.values.items) old));
         extends = reported.extends;

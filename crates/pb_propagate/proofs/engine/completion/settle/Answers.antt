@@ -1,4 +1,4 @@
-use Rattle.pb_propagate.proofs.Common.{◌++◌, ◌∙◌, ◌≡◌, ap, arith, length, length-append, subst, sym, AreWalked, all_of, clauses_of, walked_codes}
+use Rattle.pb_propagate.proofs.Common.{◌++◌, ◌∙◌, ◌≡◌, [], ap, arith, length, length-append, subst, sym, AreWalked, all_of, clauses_of, walked_codes}
 use Rattle.pb_propagate.proofs.Common.{shapes_of, list_of, reasons_of}
 use Rattle.pb_propagate.proofs.lemmas.clauses.Walks.{grows-trans, running-grow, walked-grow}
 use Rattle.pb_propagate.proofs.lemmas.engine.Derivations.{derivation-keeps}
@@ -26,7 +26,10 @@ pub propagate-requires-clause-single : goal.propagate-requires-clause-single
 propagate-requires-clause-single c = c.in_ok-assume.ensures.advances.costs.single c.requires.single
 
 pub propagate-requires-clause-tidy : goal.propagate-requires-clause-tidy
-propagate-requires-clause-tidy c = c.in_ok-assume.ensures.tidy c.args.waiting.now (length c.args.store.now.stored.items) c.requires.tidy
+propagate-requires-clause-tidy c = rw (c.as_slice.ensures.value, c.new-none.ensures.items) (c.in_ok-assume.ensures.tidy [] (length c.args.store.now.stored.items) c.requires.tidy)
+
+pub propagate-requires-clause-waiting : goal.propagate-requires-clause-waiting
+propagate-requires-clause-waiting c = rw (c.as_slice.ensures.value, c.new-none.ensures.items) (λ k d less. absurd (omega (arith, less)))
 
 pub propagate-requires-clause-running : goal.propagate-requires-clause-running
 propagate-requires-clause-running c = running-grow c.args.clauses.now c.args.run.now.assignment.values.items c.assume.new.run.assignment.values.items (assigned-grow c.args.run.now.assignment c.assume.new.run.assignment c.in_ok-assume.ensures.advances.values c.in_ok-assume.ensures.advances.costs.extends) c.requires.running
@@ -48,7 +51,7 @@ returns-then-branch-clause-running c = running-grow c.args.clauses.now c.args.ru
 
 pub returns-then-branch-clause-undone : goal.returns-then-branch-clause-undone
 returns-then-branch-clause-undone c =
-    let t = c.in_ok-assume.ensures.tidy c.args.waiting.now (length c.args.store.now.stored.items) c.requires.tidy in
+    let t = c.in_ok-assume.ensures.tidy [] (length c.args.store.now.stored.items) c.requires.tidy in
     record { clean = t.clean; named = t.marked }
 
 pub returns-then-branch-clause-clash : goal.returns-then-branch-clause-clash
@@ -89,7 +92,7 @@ returns-clause-ended c =
     let done = c.propagate.new.run.assignment in
     let later = derivation-keeps (all_of c.args.store.now c.args.clauses.now) mid done.list.items (reasons-derive c.in_ok-propagate.ensures.reasons.added) in
     let first = extends-within start mid c.in_ok-assume.ensures.advances.costs.extends in
-    let copy : c.extend_from_slice.new.self.items ≡ done.values.items = c.in_ok-extend_from_slice.ensures.items ∙ ap (λ xs. xs ++ c.as_slice.result.now) c.new-values.ensures.items ∙ c.as_slice.ensures.value in
+    let copy : c.extend_from_slice.new.self.items ≡ done.values.items = c.in_ok-extend_from_slice.ensures.items ∙ ap (λ xs. xs ++ c.as_slice-2.result.now) c.new-values.ensures.items ∙ c.as_slice-2.ensures.value in
     record {
       list = done.list.items;
       covered = record {

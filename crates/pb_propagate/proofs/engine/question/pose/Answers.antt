@@ -1,6 +1,6 @@
 use Rattle.pb_propagate.proofs.Common.{ℕ, ◌++◌, ◌+◌, ◌∙◌, ◌∷◌, ◌≡◌, [], ap, arith, get_or, Global, length, length-append, length-set, List, refl}
 use Rattle.pb_propagate.proofs.Common.{rules, set, subst, sym, take, Vec, Contains, sum, sum_by, take-append_seam, length-map, sum_by_push}
-use Rattle.pb_propagate.proofs.Common.{NumberedLiteral, Assignment, Listed, Watch, Grows, all_of, clauses_of, joined, walked_codes, beside, IsTidy}
+use Rattle.pb_propagate.proofs.Common.{NumberedLiteral, Assignment, Listed, Grows, all_of, clauses_of, joined, walked_codes, beside, IsTidy}
 use Rattle.pb_propagate.proofs.Common.{none, forms_of, shapes_of, stored_shape, Conflicts, Derives, KeepsReasons, open_sum, Shape, list_of}
 use Rattle.pb_propagate.proofs.Common.{reasons_of, alone, posed, ArePlaced, numbered}
 use Rattle.pb_propagate.proofs.lemmas.clauses.Literals.{Agree}
@@ -12,6 +12,7 @@ use Rattle.pb_propagate.proofs.lemmas.engine.Runs.{grown-length}
 use Rattle.pb_propagate.proofs.lemmas.engine.Spent.{derivation-single}
 use Rattle.pb_propagate.proofs.lemmas.engine.Values.{opposite}
 use Rattle.pb_propagate.proofs.lemmas.root.Extends.{extends-then}
+use Rattle.pb_propagate.proofs.lemmas.root.Kept.{conflict-answered}
 use Rattle.pb_propagate.proofs.lemmas.root.Questions.{entered-shapes, laid-counted, laid-tidy, undone-same, derives-entered, kept-terms, found-after, found-both, question-most, updated-most, both-parts}
 use Rattle.pb_propagate.proofs.lemmas.root.Roots.{walked-agree}
 use Rattle.pb_propagate.proofs.lemmas.store.Placed.{numbered-entered}
@@ -20,23 +21,27 @@ use Rattle.pb_propagate.proofs.engine.question.pose.Goals as goal
 
 pub returns-in_err-update-clause-most : goal.returns-in_err-update-clause-most
 returns-in_err-update-clause-most c =
-    let most = updated-most c.args.store.now c.args.clauses.now c.args.root.now.rests c.args.root.now.waiting.list.items c.args.root.now.run c.update.new.self.run c.requires.standing.sound c.requires.standing.joined (reasons-derive c.requires.standing.rooted.reasoned) c.requires.standing.rooted.work c.requires.visits c.update.ensures.costs in
-    omega (arith, most)
+    let costs = c.update.ensures.costs in
+    let most = updated-most c.args.store.now c.args.clauses.now c.args.root.now.rests c.args.root.now.waiting.list.items c.args.root.now.run costs.ended c.requires.standing.sound c.requires.standing.joined (reasons-derive c.requires.standing.rooted.reasoned) c.requires.standing.rooted.work c.requires.visits costs.spends in
+    omega (arith, most, costs.visits)
 
 pub returns-then-branch-clause-most : goal.returns-then-branch-clause-most
 returns-then-branch-clause-most c =
-    let most = updated-most c.args.store.now c.args.clauses.now c.args.root.now.rests c.args.root.now.waiting.list.items c.args.root.now.run c.update.new.self.run c.requires.standing.sound c.requires.standing.joined (reasons-derive c.requires.standing.rooted.reasoned) c.requires.standing.rooted.work c.requires.visits c.update.ensures.costs in
-    omega (arith, most)
+    let costs = c.update.ensures.costs in
+    let most = updated-most c.args.store.now c.args.clauses.now c.args.root.now.rests c.args.root.now.waiting.list.items c.args.root.now.run costs.ended c.requires.standing.sound c.requires.standing.joined (reasons-derive c.requires.standing.rooted.reasoned) c.requires.standing.rooted.work c.requires.visits costs.spends in
+    omega (arith, most, costs.visits)
 
 pub returns-in_err-enter-clause-most : goal.returns-in_err-enter-clause-most
 returns-in_err-enter-clause-most c =
-    let most = updated-most c.args.store.now c.args.clauses.now c.args.root.now.rests c.args.root.now.waiting.list.items c.args.root.now.run c.update.new.self.run c.requires.standing.sound c.requires.standing.joined (reasons-derive c.requires.standing.rooted.reasoned) c.requires.standing.rooted.work c.requires.visits c.update.ensures.costs in
-    omega (arith, most, c.enter.ensures.rest.3)
+    let costs = c.update.ensures.costs in
+    let most = updated-most c.args.store.now c.args.clauses.now c.args.root.now.rests c.args.root.now.waiting.list.items c.args.root.now.run costs.ended c.requires.standing.sound c.requires.standing.joined (reasons-derive c.requires.standing.rooted.reasoned) c.requires.standing.rooted.work c.requires.visits costs.spends in
+    omega (arith, most, costs.visits, c.enter.ensures.rest.3)
 
 pub returns-in_err-lay-clause-most : goal.returns-in_err-lay-clause-most
 returns-in_err-lay-clause-most c =
-    let most = updated-most c.args.store.now c.args.clauses.now c.args.root.now.rests c.args.root.now.waiting.list.items c.args.root.now.run c.update.new.self.run c.requires.standing.sound c.requires.standing.joined (reasons-derive c.requires.standing.rooted.reasoned) c.requires.standing.rooted.work c.requires.visits c.update.ensures.costs in
-    omega (arith, most, c.enter.ensures.rest.3, c.lay.ensures.visits)
+    let costs = c.update.ensures.costs in
+    let most = updated-most c.args.store.now c.args.clauses.now c.args.root.now.rests c.args.root.now.waiting.list.items c.args.root.now.run costs.ended c.requires.standing.sound c.requires.standing.joined (reasons-derive c.requires.standing.rooted.reasoned) c.requires.standing.rooted.work c.requires.visits costs.spends in
+    omega (arith, most, costs.visits, c.enter.ensures.rest.3, c.lay.ensures.visits)
 
 pub returns-in_err-lay-clause-forms : goal.returns-in_err-lay-clause-forms
 returns-in_err-lay-clause-forms c =
@@ -54,19 +59,10 @@ returns-in_err-found-clause-forms c =
 
 pub returns-then-branch-clause-asked : goal.returns-then-branch-clause-asked
 returns-then-branch-clause-asked c =
-    let done = c.update.new.self.run in
-    let reported = c.in_ok-update.ensures in
-    alone refl (record {
-      list = done.assignment.list.items;
-      derived = reasons-derive reported.reasons;
-      few = found-after (length done.assignment.list.items) done.visits (length c.args.root.now.run.assignment.list.items) (rw c.requires.visits at reported.found) (omega (arith, done.assignment.list.ok.0, done.assignment.list.ok.1));
-      one_sided = λ l on. opposite done.assignment.values.items done.assignment.list.items l done.assignment.agrees on;
-      conflict = λ found. reported.conflict c.if-branch.true;
-      settled = λ found. absurd cc;
-    })
-
-pub enter-requires-clause-opens : goal.enter-requires-clause-opens
-enter-requires-clause-opens c = (c.in_ok-update.ensures.rooted c.if-branch.false).open_sizes
+    let met = c.in_ok-update.ensures.met c.if-branch.true in
+    let a = c.update.new.conflict.assignment in
+    let few = found-after (length a.list.items) c.update.new.self.run.visits (length c.args.root.now.run.assignment.list.items) (rw c.requires.visits at met.found) (omega (arith, a.list.ok.0, a.list.ok.1)) in
+    alone refl (conflict-answered (all_of c.args.store.now c.args.clauses.now) c.update.new.self.run.visits a few (c.in_ok-update.ensures.kept.holds met.met))
 
 pub propagate-requires-clause-opens : goal.propagate-requires-clause-opens
 propagate-requires-clause-opens c =
@@ -76,7 +72,7 @@ propagate-requires-clause-opens c =
     let run = root.run in
     let rests = root.rests in
     let between = c.update.new.clauses in
-    let r = c.in_ok-update.ensures.rooted c.if-branch.false in
+    let r = c.in_ok-update.ensures.rooted in
     let new = c.enter.new in
     let h = c.in_ok-enter.ensures.entered in
     let list_is = ap (λ (a : Assignment). a.list.items) c.enter.ensures.rest.0 in
@@ -92,7 +88,7 @@ propagate-requires-clause-single c =
     let run = root.run in
     let rests = root.rests in
     let between = c.update.new.clauses in
-    let r = c.in_ok-update.ensures.rooted c.if-branch.false in
+    let r = c.in_ok-update.ensures.rooted in
     let new = c.enter.new in
     let h = c.in_ok-enter.ensures.entered in
     let list_is = ap (λ (a : Assignment). a.list.items) c.enter.ensures.rest.0 in
@@ -108,7 +104,7 @@ propagate-requires-clause-joined c =
     let run = root.run in
     let rests = root.rests in
     let between = c.update.new.clauses in
-    let r = c.in_ok-update.ensures.rooted c.if-branch.false in
+    let r = c.in_ok-update.ensures.rooted in
     let new = c.enter.new in
     let h = c.in_ok-enter.ensures.entered in
     let list_is = ap (λ (a : Assignment). a.list.items) c.enter.ensures.rest.0 in
@@ -123,7 +119,7 @@ propagate-requires-clause-counted c =
     let run = root.run in
     let rests = root.rests in
     let between = c.update.new.clauses in
-    let r = c.in_ok-update.ensures.rooted c.if-branch.false in
+    let r = c.in_ok-update.ensures.rooted in
     let new = c.enter.new in
     let h = c.in_ok-enter.ensures.entered in
     let list_is = ap (λ (a : Assignment). a.list.items) c.enter.ensures.rest.0 in
@@ -140,7 +136,7 @@ propagate-requires-clause-tidy c =
     let run = root.run in
     let rests = root.rests in
     let between = c.update.new.clauses in
-    let r = c.in_ok-update.ensures.rooted c.if-branch.false in
+    let r = c.in_ok-update.ensures.rooted in
     let new = c.enter.new in
     let h = c.in_ok-enter.ensures.entered in
     let list_is = ap (λ (a : Assignment). a.list.items) c.enter.ensures.rest.0 in
@@ -150,7 +146,7 @@ propagate-requires-clause-tidy c =
     let work_is = ap (λ (v : Vec ℕ Global). v.items) c.enter.ensures.rest.1 ∙ r.work in
     let queued = rw (list_is, work_is) at c.in_ok-lay.ensures.work in
     let trail_is = c.in_ok-lay.ensures.trail ∙ ap (λ (xs : List ℕ). xs ++ (c.len-number.result ∷ [])) (ap (λ (v : Vec ℕ Global). v.items) c.enter.ensures.trail ∙ r.trail) in
-    let none_waits = c.in_ok-update.ensures.none c.if-branch.false in
+    let none_waits = (c.in_ok-update.ensures.updated c.if-branch.false).none in
     let before : IsTidy (beside rests []) (shapes_of keep) run.opens.items run.candidates.items run.assignment.list.items [] [] 0 c.len-number.result = rw number_is (rw none_waits at r.tidy) in
     let tidy = laid-tidy rests c.args.form keep new.store.stored.items run.opens.items new.run.opens.items run.candidates.items new.run.candidates.items c.lay.new.run.opens.items run.assignment.list.items c.lay.new.run.work.items c.lay.new.run.trail.items c.len-number.result h number_is r.open_sizes r.start_sizes (omega (arith, ap length r.opens, r.open_sizes)) (omega (arith, ap length r.starts, r.start_sizes)) before low queued trail_is in
     let cands_is = ap (λ (v : Vec ℕ Global). v.items) c.lay.ensures.candidates in
@@ -159,7 +155,7 @@ propagate-requires-clause-tidy c =
 pub propagate-requires-clause-running : goal.propagate-requires-clause-running
 propagate-requires-clause-running c =
     let values_is = ap (λ (a : Assignment). a.values.items) (c.lay.ensures.assignment ∙ c.enter.ensures.rest.0) in
-    rw values_is c.in_ok-update.ensures.running
+    rw values_is (c.in_ok-update.ensures.updated c.if-branch.false).running
 
 pub returns-in_err-found-clause-most : goal.returns-in_err-found-clause-most
 returns-in_err-found-clause-most c =
@@ -169,7 +165,7 @@ returns-in_err-found-clause-most c =
     let run = root.run in
     let rests = root.rests in
     let between = c.update.new.clauses in
-    let r = c.in_ok-update.ensures.rooted c.if-branch.false in
+    let r = c.in_ok-update.ensures.rooted in
     let new = c.enter.new in
     let h = c.in_ok-enter.ensures.entered in
     let list_is = ap (λ (a : Assignment). a.list.items) c.enter.ensures.rest.0 in
@@ -186,8 +182,8 @@ returns-in_err-found-clause-most c =
     let few = grown-length c.len-number.result c.enter.new.run.work.items c.lay.new.run.work.items c.in_ok-lay.ensures.work in
     let spends = rw (count_is, c.as_slice.ensures.value ∙ c.new-none.ensures.items) at c.propagate.ensures.costs in
     let cands = ap (λ (v : Vec ℕ Global). sum v.items) c.lay.ensures.candidates ∙ ap sum h.candidates ∙ sum_by_push (λ (n : ℕ). n) run.candidates.items 0 in
-    let upper = both-parts store new.store c.args.clauses.now between c.args.root.now.rests rests c.args.root.now.waiting.list.items c.args.root.now.run run c.lay.new.run done lit c.in_ok-enter.ensures.longer laid_is (omega (arith, cands)) (c.lay.ensures.visits ∙ c.enter.ensures.rest.3) c.requires.standing.rooted.work (omega (arith, few.1, ap length work_is)) c.requires.visits (c.in_ok-update.ensures.pays c.if-branch.false) spends in
-    let extends = extends-then c.args.root.now.run.assignment.list.items run.assignment.list.items done.assignment.list.items c.update.ensures.costs.extends (rw laid_is at spends.extends) in
+    let upper = both-parts store new.store c.args.clauses.now between c.args.root.now.rests rests c.args.root.now.waiting.list.items c.args.root.now.run run c.lay.new.run done lit c.in_ok-enter.ensures.longer laid_is (omega (arith, cands)) (c.lay.ensures.visits ∙ c.enter.ensures.rest.3) c.requires.standing.rooted.work (omega (arith, few.1, ap length work_is)) c.requires.visits (c.in_ok-update.ensures.updated c.if-branch.false).pays spends in
+    let extends = extends-then c.args.root.now.run.assignment.list.items run.assignment.list.items done.assignment.list.items (c.in_ok-update.ensures.updated c.if-branch.false).pays.extends (rw laid_is at spends.extends) in
     let most = question-most new.store clauses c.args.root.now.run.assignment.list.items done.assignment.list.items done.visits (length c.args.root.now.waiting.list.items + 1) (sum done.candidates.items) c.in_ok-enter.ensures.sound
     (joined-entered c.args.form keep new.store.stored.items clauses run.opens.items new.run.opens.items run.candidates.items new.run.candidates.items h c.requires.standing.joined) spends.single (λ l on. opposite done.assignment.values.items done.assignment.list.items l done.assignment.agrees on) extends start spends.bounded upper in
     let more = ap (sum_by (λ (f : Shape). length f.terms)) whole ∙ sum_by_push (λ (f : Shape). length f.terms) (all_of store c.args.clauses.now) (stored_shape h.kept) in
@@ -201,7 +197,7 @@ returns-clause-most c =
     let run = root.run in
     let rests = root.rests in
     let between = c.update.new.clauses in
-    let r = c.in_ok-update.ensures.rooted c.if-branch.false in
+    let r = c.in_ok-update.ensures.rooted in
     let new = c.enter.new in
     let h = c.in_ok-enter.ensures.entered in
     let list_is = ap (λ (a : Assignment). a.list.items) c.enter.ensures.rest.0 in
@@ -218,8 +214,8 @@ returns-clause-most c =
     let few = grown-length c.len-number.result c.enter.new.run.work.items c.lay.new.run.work.items c.in_ok-lay.ensures.work in
     let spends = rw (count_is, c.as_slice.ensures.value ∙ c.new-none.ensures.items) at c.propagate.ensures.costs in
     let cands = ap (λ (v : Vec ℕ Global). sum v.items) c.lay.ensures.candidates ∙ ap sum h.candidates ∙ sum_by_push (λ (n : ℕ). n) run.candidates.items 0 in
-    let upper = both-parts store new.store c.args.clauses.now between c.args.root.now.rests rests c.args.root.now.waiting.list.items c.args.root.now.run run c.lay.new.run done lit c.in_ok-enter.ensures.longer laid_is (omega (arith, cands)) (c.lay.ensures.visits ∙ c.enter.ensures.rest.3) c.requires.standing.rooted.work (omega (arith, few.1, ap length work_is)) c.requires.visits (c.in_ok-update.ensures.pays c.if-branch.false) spends in
-    let extends = extends-then c.args.root.now.run.assignment.list.items run.assignment.list.items done.assignment.list.items c.update.ensures.costs.extends (rw laid_is at spends.extends) in
+    let upper = both-parts store new.store c.args.clauses.now between c.args.root.now.rests rests c.args.root.now.waiting.list.items c.args.root.now.run run c.lay.new.run done lit c.in_ok-enter.ensures.longer laid_is (omega (arith, cands)) (c.lay.ensures.visits ∙ c.enter.ensures.rest.3) c.requires.standing.rooted.work (omega (arith, few.1, ap length work_is)) c.requires.visits (c.in_ok-update.ensures.updated c.if-branch.false).pays spends in
+    let extends = extends-then c.args.root.now.run.assignment.list.items run.assignment.list.items done.assignment.list.items (c.in_ok-update.ensures.updated c.if-branch.false).pays.extends (rw laid_is at spends.extends) in
     let most = question-most new.store clauses c.args.root.now.run.assignment.list.items done.assignment.list.items done.visits (length c.args.root.now.waiting.list.items + 1) (sum done.candidates.items) c.in_ok-enter.ensures.sound
     (joined-entered c.args.form keep new.store.stored.items clauses run.opens.items new.run.opens.items run.candidates.items new.run.candidates.items h c.requires.standing.joined) spends.single (λ l on. opposite done.assignment.values.items done.assignment.list.items l done.assignment.agrees on) extends start spends.bounded upper in
     let more = ap (sum_by (λ (f : Shape). length f.terms)) whole ∙ sum_by_push (λ (f : Shape). length f.terms) (all_of store c.args.clauses.now) (stored_shape h.kept) in
@@ -233,7 +229,7 @@ returns-clause-asked c =
     let run = root.run in
     let rests = root.rests in
     let between = c.update.new.clauses in
-    let r = c.in_ok-update.ensures.rooted c.if-branch.false in
+    let r = c.in_ok-update.ensures.rooted in
     let new = c.enter.new in
     let h = c.in_ok-enter.ensures.entered in
     let list_is = ap (λ (a : Assignment). a.list.items) c.enter.ensures.rest.0 in
@@ -244,7 +240,7 @@ returns-clause-asked c =
     let whole : all_of new.store c.args.clauses.now ≡ all_of store c.args.clauses.now ++ (stored_shape h.kept ∷ []) =
     ap (λ xs. joined xs clauses) (entered-shapes c.args.form keep new.store.stored.items run.opens.items new.run.opens.items run.candidates.items new.run.candidates.items h) ∙ joined-push (shapes_of keep) clauses (stored_shape h.kept) c.requires.standing.joined.short in
     let whole_now : all_of new.store between ≡ all_of store c.args.clauses.now ++ (stored_shape h.kept ∷ []) = ap (joined (shapes_of new.store.stored.items)) lit ∙ whole in
-    let start : Derives (all_of new.store c.args.clauses.now) [] run.assignment.list.items = rw whole (derives-entered (all_of store c.args.clauses.now) (stored_shape h.kept) [] run.assignment.list.items (reasons-derive c.in_ok-update.ensures.reasons)) in
+    let start : Derives (all_of new.store c.args.clauses.now) [] run.assignment.list.items = rw whole (derives-entered (all_of store c.args.clauses.now) (stored_shape h.kept) [] run.assignment.list.items (subst (λ xs. Derives xs [] run.assignment.list.items) (ap (joined (shapes_of keep)) lit) (reasons-derive r.reasoned))) in
     let done = c.propagate.new.run in
     let reported = c.in_ok-found.ensures in
     let derived : Derives (all_of new.store c.args.clauses.now) run.assignment.list.items done.assignment.list.items = rw (laid_is, lit) at (reasons-derive reported.reasons.added) in
@@ -252,7 +248,7 @@ returns-clause-asked c =
     posed (stored_shape h.kept) h.is (record {
       list = done.assignment.list.items;
       derived = rw whole at all;
-      few = omega (arith, found-after (length done.assignment.list.items) done.visits (length c.args.root.now.run.assignment.list.items) (found-both (length c.args.root.now.run.assignment.list.items) (length run.assignment.list.items) (length c.lay.new.run.assignment.list.items) (length done.assignment.list.items) c.args.root.now.run.visits run.visits c.lay.new.run.visits done.visits c.requires.visits (ap length laid_is) (c.lay.ensures.visits ∙ c.enter.ensures.rest.3) c.in_ok-update.ensures.found reported.found c.in_ok-found.ensures.rising) (omega (arith, done.assignment.list.ok.0, done.assignment.list.ok.1)), c.back.ensures.visits, c.leave.ensures.rest.3);
+      few = omega (arith, found-after (length done.assignment.list.items) done.visits (length c.args.root.now.run.assignment.list.items) (found-both (length c.args.root.now.run.assignment.list.items) (length run.assignment.list.items) (length c.lay.new.run.assignment.list.items) (length done.assignment.list.items) c.args.root.now.run.visits run.visits c.lay.new.run.visits done.visits c.requires.visits (ap length laid_is) (c.lay.ensures.visits ∙ c.enter.ensures.rest.3) (c.in_ok-update.ensures.updated c.if-branch.false).found reported.found c.in_ok-found.ensures.rising) (omega (arith, done.assignment.list.ok.0, done.assignment.list.ok.1)), c.back.ensures.visits, c.leave.ensures.rest.3);
       one_sided = λ l on. opposite done.assignment.values.items done.assignment.list.items l done.assignment.agrees on;
       conflict = λ found. subst (λ xs. Conflicts xs done.assignment.list.items) (whole_now) (reported.conflict found);
       settled = λ found f has. reported.settled found f (subst (λ xs. Contains xs f) (sym whole_now) has);
@@ -262,10 +258,10 @@ pub returns-then-branch-clause-left : goal.returns-then-branch-clause-left
 returns-then-branch-clause-left c = record {
   sound = c.requires.standing.sound;
   kept = refl;
-  ready = c.rest.ensures.rest;
-  lists = ap (λ (v : Vec (Vec Listed Global) Global). length v.items) c.rest.ensures.lists ∙ c.in_ok-update.ensures.lists;
-  rooted = λ live. absurd (let e = sym live ∙ c.in_ok-update.ensures.ended c.if-branch.true in cc);
-  fallen = λ fallen. c.in_ok-update.ensures.fallen c.if-branch.true;
+  ready = (c.in_ok-update.ensures.met c.if-branch.true).ready;
+  lists = c.in_ok-update.ensures.lists;
+  rooted = c.in_ok-update.ensures.rooted;
+  conflict = c.in_ok-update.ensures.kept;
 }
 
 pub returns-clause-left : goal.returns-clause-left
@@ -276,7 +272,7 @@ returns-clause-left c =
     let run = root.run in
     let rests = root.rests in
     let between = c.update.new.clauses in
-    let r = c.in_ok-update.ensures.rooted c.if-branch.false in
+    let r = c.in_ok-update.ensures.rooted in
     let new = c.enter.new in
     let h = c.in_ok-enter.ensures.entered in
     let list_is = ap (λ (a : Assignment). a.list.items) c.enter.ensures.rest.0 in
@@ -310,8 +306,8 @@ returns-clause-left c =
       kept = kept_is;
       ready = c.back.ensures.ready;
       lists = omega (arith, ap (λ (v : Vec (Vec Listed Global) Global). length v.items) c.back.ensures.lists, reported.running.sizes, reported.values, ap length values_is, r.values, c.requires.standing.widths);
-      fallen = λ fallen. absurd (let e = sym fallen ∙ c.in_ok-update.ensures.risen c.if-branch.false in cc);
-      rooted = λ live. record {
+      conflict = c.in_ok-update.ensures.kept;
+      rooted = record {
         values = ap (λ (a : Assignment). length a.values.items) c.leave.ensures.rest.0 ∙ c.back.ensures.values ∙ reported.values ∙ ap (λ (a : Assignment). length a.values.items) (c.lay.ensures.assignment ∙ c.enter.ensures.rest.0) ∙ r.values ∙ sym (c.leave.ensures.variables ∙ c.enter.ensures.variables);
         opens = opens_is;
         starts = starts_is;

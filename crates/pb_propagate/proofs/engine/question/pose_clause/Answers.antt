@@ -1,5 +1,5 @@
-use Rattle.pb_propagate.proofs.Common.{ℕ, ◌++◌, ◌+◌, ◌∙◌, ◌∷◌, ◌≡◌, [], ap, arith, Global, length, List, refl, subst, sym, take, Vec, sum, Entry}
-use Rattle.pb_propagate.proofs.Common.{Listed, Watch, AreWalked, all_of, clauses_of, joined, walked_codes, none, denial_of, shapes_of, Conflicts}
+use Rattle.pb_propagate.proofs.Common.{◌++◌, ◌+◌, ◌∙◌, ◌∷◌, ◌≡◌, [], ap, arith, Global, length, List, refl, subst, sym, take, Vec, sum, Entry}
+use Rattle.pb_propagate.proofs.Common.{Listed, AreWalked, all_of, clauses_of, joined, walked_codes, none, denial_of, shapes_of, Conflicts}
 use Rattle.pb_propagate.proofs.Common.{Derives, AreSettled, alone, posed}
 use Rattle.pb_propagate.proofs.lemmas.clauses.Walks.{grows-refl}
 use Rattle.pb_propagate.proofs.lemmas.engine.Derivations.{derivation-then}
@@ -7,6 +7,7 @@ use Rattle.pb_propagate.proofs.lemmas.engine.Spent.{derivation-single}
 use Rattle.pb_propagate.proofs.lemmas.engine.Values.{opposite}
 use Rattle.pb_propagate.proofs.lemmas.root.Denials.{denial-stored}
 use Rattle.pb_propagate.proofs.lemmas.root.Extends.{extends-then}
+use Rattle.pb_propagate.proofs.lemmas.root.Kept.{conflict-answered}
 use Rattle.pb_propagate.proofs.lemmas.root.Questions.{derives-entered, found-after, found-both, question-most, updated-most}
 use Rattle.pb_propagate.proofs.lemmas.root.Returns.{both-costs, back-rooted, root-counted}
 use Rattle.pb_propagate.proofs.lemmas.engine.Reasoned.{reasons-derive}
@@ -14,26 +15,22 @@ use Rattle.pb_propagate.proofs.engine.question.pose_clause.Goals as goal
 
 pub returns-in_err-update-clause-most : goal.returns-in_err-update-clause-most
 returns-in_err-update-clause-most c =
-    let most = updated-most c.args.store.now c.args.clauses.now c.args.root.now.rests c.args.root.now.waiting.list.items c.args.root.now.run c.update.new.self.run c.requires.standing.sound c.requires.standing.joined (reasons-derive c.requires.standing.rooted.reasoned) c.requires.standing.rooted.work c.requires.visits c.update.ensures.costs in
-    omega (arith, most)
+    let costs = c.update.ensures.costs in
+    let most = updated-most c.args.store.now c.args.clauses.now c.args.root.now.rests c.args.root.now.waiting.list.items c.args.root.now.run costs.ended c.requires.standing.sound c.requires.standing.joined (reasons-derive c.requires.standing.rooted.reasoned) c.requires.standing.rooted.work c.requires.visits costs.spends in
+    omega (arith, most, costs.visits)
 
 pub returns-then-branch-clause-most : goal.returns-then-branch-clause-most
 returns-then-branch-clause-most c =
-    let most = updated-most c.args.store.now c.args.clauses.now c.args.root.now.rests c.args.root.now.waiting.list.items c.args.root.now.run c.update.new.self.run c.requires.standing.sound c.requires.standing.joined (reasons-derive c.requires.standing.rooted.reasoned) c.requires.standing.rooted.work c.requires.visits c.update.ensures.costs in
-    omega (arith, most)
+    let costs = c.update.ensures.costs in
+    let most = updated-most c.args.store.now c.args.clauses.now c.args.root.now.rests c.args.root.now.waiting.list.items c.args.root.now.run costs.ended c.requires.standing.sound c.requires.standing.joined (reasons-derive c.requires.standing.rooted.reasoned) c.requires.standing.rooted.work c.requires.visits costs.spends in
+    omega (arith, most, costs.visits)
 
 pub returns-then-branch-clause-asked : goal.returns-then-branch-clause-asked
 returns-then-branch-clause-asked c =
-    let done = c.update.new.self.run in
-    let reported = c.in_ok-update.ensures in
-    alone refl (record {
-      list = done.assignment.list.items;
-      derived = reasons-derive reported.reasons;
-      few = found-after (length done.assignment.list.items) done.visits (length c.args.root.now.run.assignment.list.items) (rw c.requires.visits at reported.found) (omega (arith, done.assignment.list.ok.0, done.assignment.list.ok.1));
-      one_sided = λ l on. opposite done.assignment.values.items done.assignment.list.items l done.assignment.agrees on;
-      conflict = λ found. reported.conflict c.if-branch.true;
-      settled = λ found. absurd cc;
-    })
+    let met = c.in_ok-update.ensures.met c.if-branch.true in
+    let a = c.update.new.conflict.assignment in
+    let few = found-after (length a.list.items) c.update.new.self.run.visits (length c.args.root.now.run.assignment.list.items) (rw c.requires.visits at met.found) (omega (arith, a.list.ok.0, a.list.ok.1)) in
+    alone refl (conflict-answered (all_of c.args.store.now c.args.clauses.now) c.update.new.self.run.visits a few (c.in_ok-update.ensures.kept.holds met.met))
 
 pub refute-requires-clause-inside : goal.refute-requires-clause-inside
 refute-requires-clause-inside c = rw c.terms.ensures.terms c.requires.inside
@@ -42,33 +39,33 @@ pub refute-requires-clause-light : goal.refute-requires-clause-light
 refute-requires-clause-light c = rw c.terms.ensures.terms c.requires.clause.light
 
 pub refute-requires-clause-values : goal.refute-requires-clause-values
-refute-requires-clause-values c = (c.in_ok-update.ensures.rooted c.if-branch.false).values
+refute-requires-clause-values c = c.in_ok-update.ensures.rooted.values
 
 pub refute-requires-clause-opens : goal.refute-requires-clause-opens
-refute-requires-clause-opens c = (c.in_ok-update.ensures.rooted c.if-branch.false).open_sizes
+refute-requires-clause-opens c = c.in_ok-update.ensures.rooted.open_sizes
 
 pub refute-requires-clause-candidates : goal.refute-requires-clause-candidates
-refute-requires-clause-candidates c = (c.in_ok-update.ensures.rooted c.if-branch.false).start_sizes
+refute-requires-clause-candidates c = c.in_ok-update.ensures.rooted.start_sizes
 
 pub refute-requires-clause-work : goal.refute-requires-clause-work
 refute-requires-clause-work c =
-    let r = c.in_ok-update.ensures.rooted c.if-branch.false in
+    let r = c.in_ok-update.ensures.rooted in
     (r.work, r.next)
 
 pub refute-requires-clause-single : goal.refute-requires-clause-single
 refute-requires-clause-single c =
-    let r = c.in_ok-update.ensures.rooted c.if-branch.false in
+    let r = c.in_ok-update.ensures.rooted in
     derivation-single (all_of c.args.store.now c.update.new.clauses) [] c.update.new.self.run.assignment.list.items none (reasons-derive r.reasoned)
 
 pub refute-requires-clause-counted : goal.refute-requires-clause-counted
 refute-requires-clause-counted c =
-    let r = c.in_ok-update.ensures.rooted c.if-branch.false in
+    let r = c.in_ok-update.ensures.rooted in
     root-counted c.args.store.now c.update.new.clauses c.update.new.self.run c.update.new.self.rests c.update.new.self.waiting r
 
 pub refute-requires-clause-tidy : goal.refute-requires-clause-tidy
 refute-requires-clause-tidy c =
-    let r = c.in_ok-update.ensures.rooted c.if-branch.false in
-    rw (r.work, r.trail, r.next) (rw (c.in_ok-update.ensures.none c.if-branch.false) at r.tidy)
+    let r = c.in_ok-update.ensures.rooted in
+    rw (r.work, r.trail, r.next) (rw (c.in_ok-update.ensures.updated c.if-branch.false).none at r.tidy)
 
 pub refute-requires-clause-joined : goal.refute-requires-clause-joined
 refute-requires-clause-joined c =
@@ -76,10 +73,10 @@ refute-requires-clause-joined c =
     rw lit c.requires.standing.joined
 
 pub refute-requires-clause-running : goal.refute-requires-clause-running
-refute-requires-clause-running c = c.in_ok-update.ensures.running
+refute-requires-clause-running c = (c.in_ok-update.ensures.updated c.if-branch.false).running
 
 pub refute-requires-clause-walked : goal.refute-requires-clause-walked
-refute-requires-clause-walked c = (c.in_ok-update.ensures.rooted c.if-branch.false).walked
+refute-requires-clause-walked c = c.in_ok-update.ensures.rooted.walked
 
 pub returns-in_err-found-clause-most : goal.returns-in_err-found-clause-most
 returns-in_err-found-clause-most c =
@@ -91,8 +88,8 @@ returns-in_err-found-clause-most c =
     let lit : clauses_of between ≡ clauses_of c.args.clauses.now = c.update.ensures.literals in
     let entries = ap (λ (xs : List Entry). length xs) c.terms.ensures.terms in
     let costs = c.refute.ensures.costs in
-    let upper = both-costs store c.args.clauses.now between c.args.root.now.rests root.rests c.args.root.now.waiting.list.items (length c.terms.result.now) start root.run done lit c.requires.standing.rooted.work c.requires.visits (c.in_ok-update.ensures.pays c.if-branch.false) costs in
-    let extends = extends-then start.assignment.list.items root.run.assignment.list.items done.assignment.list.items c.update.ensures.costs.extends costs.extends in
+    let upper = both-costs store c.args.clauses.now between c.args.root.now.rests root.rests c.args.root.now.waiting.list.items (length c.terms.result.now) start root.run done lit c.requires.standing.rooted.work c.requires.visits (c.in_ok-update.ensures.updated c.if-branch.false).pays costs in
+    let extends = extends-then start.assignment.list.items root.run.assignment.list.items done.assignment.list.items (c.in_ok-update.ensures.updated c.if-branch.false).pays.extends costs.extends in
     let most = question-most store (clauses_of c.args.clauses.now) start.assignment.list.items done.assignment.list.items done.visits (length c.args.root.now.waiting.list.items + length c.terms.result.now) (sum done.candidates.items) c.requires.standing.sound c.requires.standing.joined costs.single (λ l on. opposite done.assignment.values.items done.assignment.list.items l done.assignment.agrees on) extends (reasons-derive c.requires.standing.rooted.reasoned) costs.bounded upper in
     omega (arith, most, entries)
 
@@ -106,8 +103,8 @@ returns-clause-most c =
     let lit : clauses_of between ≡ clauses_of c.args.clauses.now = c.update.ensures.literals in
     let entries = ap (λ (xs : List Entry). length xs) c.terms.ensures.terms in
     let costs = c.refute.ensures.costs in
-    let upper = both-costs store c.args.clauses.now between c.args.root.now.rests root.rests c.args.root.now.waiting.list.items (length c.terms.result.now) start root.run done lit c.requires.standing.rooted.work c.requires.visits (c.in_ok-update.ensures.pays c.if-branch.false) costs in
-    let extends = extends-then start.assignment.list.items root.run.assignment.list.items done.assignment.list.items c.update.ensures.costs.extends costs.extends in
+    let upper = both-costs store c.args.clauses.now between c.args.root.now.rests root.rests c.args.root.now.waiting.list.items (length c.terms.result.now) start root.run done lit c.requires.standing.rooted.work c.requires.visits (c.in_ok-update.ensures.updated c.if-branch.false).pays costs in
+    let extends = extends-then start.assignment.list.items root.run.assignment.list.items done.assignment.list.items (c.in_ok-update.ensures.updated c.if-branch.false).pays.extends costs.extends in
     let most = question-most store (clauses_of c.args.clauses.now) start.assignment.list.items done.assignment.list.items done.visits (length c.args.root.now.waiting.list.items + length c.terms.result.now) (sum done.candidates.items) c.requires.standing.sound c.requires.standing.joined costs.single (λ l on. opposite done.assignment.values.items done.assignment.list.items l done.assignment.agrees on) extends (reasons-derive c.requires.standing.rooted.reasoned) costs.bounded upper in
     omega (arith, most, entries, c.back.ensures.visits)
 
@@ -124,12 +121,12 @@ returns-clause-asked c =
     let all = all_of store c.args.clauses.now ++ (x ∷ []) in
     let whole : all_of store between ++ (denial_of c.terms.result.now ∷ []) ≡ all = rw (same, c.terms.ensures.terms) refl in
     let reported = c.in_ok-found.ensures in
-    let first = derives-entered (all_of store c.args.clauses.now) x [] root.run.assignment.list.items (reasons-derive c.in_ok-update.ensures.reasons) in
+    let first = derives-entered (all_of store c.args.clauses.now) x [] root.run.assignment.list.items (subst (λ xs. Derives xs [] root.run.assignment.list.items) same (reasons-derive c.in_ok-update.ensures.rooted.reasoned)) in
     let second = subst (λ xs. Derives xs root.run.assignment.list.items done.assignment.list.items) whole reported.derived in
     posed x (denial-stored c.args.goal.now c.terms.ensures.normal c.requires.clause) (record {
       list = done.assignment.list.items;
       derived = derivation-then all [] root.run.assignment.list.items done.assignment.list.items first second;
-      few = omega (arith, found-after (length done.assignment.list.items) done.visits (length start.assignment.list.items) (found-both (length start.assignment.list.items) (length root.run.assignment.list.items) (length root.run.assignment.list.items) (length done.assignment.list.items) start.visits root.run.visits root.run.visits done.visits c.requires.visits refl refl c.in_ok-update.ensures.found reported.found reported.rising) (omega (arith, done.assignment.list.ok.0, done.assignment.list.ok.1)), c.back.ensures.visits);
+      few = omega (arith, found-after (length done.assignment.list.items) done.visits (length start.assignment.list.items) (found-both (length start.assignment.list.items) (length root.run.assignment.list.items) (length root.run.assignment.list.items) (length done.assignment.list.items) start.visits root.run.visits root.run.visits done.visits c.requires.visits refl refl (c.in_ok-update.ensures.updated c.if-branch.false).found reported.found reported.rising) (omega (arith, done.assignment.list.ok.0, done.assignment.list.ok.1)), c.back.ensures.visits);
       one_sided = λ l on. opposite done.assignment.values.items done.assignment.list.items l done.assignment.agrees on;
       conflict = λ found. subst (λ xs. Conflicts xs done.assignment.list.items) whole (reported.conflict found);
       settled = λ found. subst (λ xs. AreSettled xs done.assignment.list.items) whole (reported.settled found);
@@ -139,10 +136,10 @@ pub returns-then-branch-clause-left : goal.returns-then-branch-clause-left
 returns-then-branch-clause-left c = record {
   sound = c.requires.standing.sound;
   kept = refl;
-  ready = c.rest.ensures.rest;
-  lists = ap (λ (v : Vec (Vec Listed Global) Global). length v.items) c.rest.ensures.lists ∙ c.in_ok-update.ensures.lists;
-  rooted = λ live. absurd (let e = sym live ∙ c.in_ok-update.ensures.ended c.if-branch.true in cc);
-  fallen = λ fallen. c.in_ok-update.ensures.fallen c.if-branch.true;
+  ready = (c.in_ok-update.ensures.met c.if-branch.true).ready;
+  lists = c.in_ok-update.ensures.lists;
+  rooted = c.in_ok-update.ensures.rooted;
+  conflict = c.in_ok-update.ensures.kept;
 }
 
 pub returns-clause-left : goal.returns-clause-left
@@ -155,14 +152,14 @@ returns-clause-left c =
     let last = c.back.new.run in
     let count_is : c.len-count.result ≡ length run.assignment.list.items = omega (arith, c.len-count.ensures, run.assignment.list.ok.0) in
     let codes = walked_codes (length run.assignment.list.items) run.assignment.list.items in
-    let r = c.in_ok-update.ensures.rooted c.if-branch.false in
+    let r = c.in_ok-update.ensures.rooted in
     record {
       sound = c.requires.standing.sound;
       kept = refl;
       ready = c.back.ensures.ready;
       lists = omega (arith, ap (λ (v : Vec (Vec Listed Global) Global). length v.items) c.back.ensures.lists, reported.running.sizes, reported.values, r.values, c.requires.standing.widths);
-      fallen = λ fallen. absurd (let e = sym fallen ∙ c.in_ok-update.ensures.risen c.if-branch.false in cc);
-      rooted = λ live. back-rooted store between c.back.new.clauses run last root.rests root.waiting c.refute.new.run.assignment.list.items (c.in_ok-update.ensures.rooted c.if-branch.false) (record {
+      conflict = c.in_ok-update.ensures.kept;
+      rooted = back-rooted store between c.back.new.clauses run last root.rests root.waiting c.refute.new.run.assignment.list.items c.in_ok-update.ensures.rooted (record {
         literals = (c.back.ensures.literals ∙ c.refute.ensures.literals);
         kept = λ old. subst (λ cs. AreWalked run.assignment.values.items cs c.back.new.clauses.blocks.watches codes) (sym c.back.ensures.literals) (subst (λ ws. AreWalked run.assignment.values.items c.refute.new.clauses.blocks.literals ws codes) (sym c.back.ensures.watches) (reported.kept run.assignment.values.items codes (grows-refl run.assignment.values.items) old));
         extends = c.refute.ensures.costs.extends;

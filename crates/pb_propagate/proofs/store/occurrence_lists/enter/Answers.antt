@@ -1,4 +1,4 @@
-use Rattle.pb_propagate.proofs.Common.{ℕ, ◌∙◌, ◌∷◌, ◌≡◌, [], ap, arith, get_or, Global, length, length-append, None, rules, sym, Vec, forms_of}
+use Rattle.pb_propagate.proofs.Common.{ℕ, ◌++◌, ◌<◌, ◌∙◌, ◌∷◌, ◌≡◌, [], ap, arith, get_or, get_or-set_same, length, length-append, None, rules, StoredForm, forms_of}
 use Rattle.pb_propagate.proofs.lemmas.store.Changes.{set-end, empty-end, forms-more}
 use Rattle.pb_propagate.proofs.store.occurrence_lists.enter.Goals as goal
 
@@ -14,13 +14,6 @@ fill-requires-clause-empty c =
     let k = c.in_ok-widen.ensures.kept in
     empty-end keep c.widen.new.store.stored.items k.0 c.len-slot.result k.2 (omega (arith, c.len-slot.ensures, c.args.store.now.stored.ok.0)) k.1.terms
 
-pub fill-requires-clause-opens : goal.fill-requires-clause-opens
-fill-requires-clause-opens c =
-    let keep = c.args.store.now.stored.items in
-    let opens = c.args.run.now.opens.items in
-    let k = c.in_ok-widen.ensures.kept in
-    omega (arith, c.requires.opens, ap length k.2, length-append keep (k.0 ∷ []), ap length c.in_ok-widen.ensures.opens, length-append opens (0 ∷ []))
-
 pub returns-in_err-fill-clause-unchanged : goal.returns-in_err-fill-clause-unchanged
 returns-in_err-fill-clause-unchanged c =
     let k = c.in_ok-widen.ensures.kept in
@@ -32,15 +25,17 @@ returns-in_err-fill-clause-unchanged c =
 pub returns-clause-entered : goal.returns-clause-entered
 returns-clause-entered c =
     let store = c.args.store.now in
-    let run = c.args.run.now in
     let k = c.in_ok-widen.ensures.kept in
     let h = c.in_ok-fill.ensures.filled in
     let slot : c.len-slot.result ≡ length store.stored.items = omega (arith, c.len-slot.ensures, store.stored.ok.0) in
+    let room : c.len-slot.result < length c.widen.new.store.stored.items = omega (arith, slot, ap length k.2, length-append store.stored.items (k.0 ∷ [])) in
+    let entry = c.index.result.now in
+    let read : entry ≡ h.kept = c.index.ensures ∙ ap (λ xs. get_or xs c.len-slot.result entry) h.keeps ∙ get_or-set_same c.widen.new.store.stored.items c.len-slot.result h.kept entry room in
     record {
       kept = h.kept;
       is = rw c.in_ok-form.ensures at h.is;
       form = rw c.in_ok-form.ensures at h.form;
       keeps = h.keeps ∙ set-end store.stored.items c.widen.new.store.stored.items c.len-slot.result k.0 h.kept k.2 slot;
-      opened = h.opened ∙ set-end run.opens.items c.widen.new.run.opens.items c.len-slot.result 0 h.kept.total c.in_ok-widen.ensures.opens (slot ∙ sym c.requires.opens);
-      candidates = ap (λ (v : Vec ℕ Global). v.items) c.fill.ensures.rest.0 ∙ c.in_ok-widen.ensures.candidates;
+      opened = c.push_reserved.ensures.items ∙ ap (λ xs. xs ++ (entry.total ∷ [])) c.reserve.ensures.items ∙ ap (λ (x : StoredForm). c.args.run.now.opens.items ++ (x.total ∷ [])) read;
+      candidates = c.push_reserved-2.ensures.items ∙ ap (λ xs. xs ++ (0 ∷ [])) c.reserve-2.ensures.items;
     }

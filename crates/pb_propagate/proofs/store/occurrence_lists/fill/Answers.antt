@@ -27,5 +27,4 @@ returns-clause-filled c = record {
   is = c.in_ok-kept.ensures.is;
   form = c.in_ok-kept.ensures.form;
   keeps = refl;
-  opened = refl;
 }

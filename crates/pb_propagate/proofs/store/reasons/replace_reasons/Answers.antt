@@ -1,4 +1,4 @@
-use Rattle.pb_propagate.proofs.Common.{ℕ, ◌<◌, get_or, length, List, subst, clauses_of, literal_at, IsDue}
+use Rattle.pb_propagate.proofs.Common.{clauses_of}
 use Rattle.pb_propagate.proofs.lemmas.root.Replaced.{needless-codes, needless-terms}
 use Rattle.pb_propagate.proofs.store.reasons.replace_reasons.Goals as goal
 

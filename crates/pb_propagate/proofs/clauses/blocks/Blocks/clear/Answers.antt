@@ -1,6 +1,5 @@
-use Rattle.pb_propagate.proofs.Common.{ℕ, ◌*◌, ◌+◌, ◌/◌, ◌<◌, ◌∙◌, ◌≡◌, [], ap, arith, inl, length, List, refl, set, sym, true, ◌%◌, get_or_read}
-use Rattle.pb_propagate.proofs.Common.{Watch, Search, Contents, contents, number_at, rewatched, rewritten, searched, stored_clause, stored_search}
-use Rattle.pb_propagate.proofs.Common.{watch_place, idle, list_at, watch_at, search_at}
+use Rattle.pb_propagate.proofs.Common.{◌∙◌, [], ap, arith, inl, get_or_read}
+use Rattle.pb_propagate.proofs.Common.{Contents, rewritten}
 use Rattle.pb_propagate.proofs.lemmas.clauses.Blocks.{block-behind, room-inside, clear-written}
 use Rattle.pb_propagate.proofs.clauses.blocks.Blocks.clear.Goals as goal
 

@@ -1,5 +1,5 @@
-use Rattle.pb_propagate.proofs.Common.{ℕ, ◌*◌, ◌++◌, ◌+◌, ◌<◌, ◌∙◌, ◌∷◌, ◌≡◌, [], ap, arith, get_or-set_same, inr, length, List, refl, set, subst}
-use Rattle.pb_propagate.proofs.Common.{sym, true, get_or_read, AreBlocks, Contents, contents, number_at, rewritten, stored_clause, stored_search}
+use Rattle.pb_propagate.proofs.Common.{ℕ, ◌*◌, ◌++◌, ◌∙◌, ◌∷◌, [], ap, length, List, subst}
+use Rattle.pb_propagate.proofs.Common.{sym, AreBlocks, stored_clause, stored_search}
 use Rattle.pb_propagate.proofs.Common.{stored_watch, table}
 use Rattle.pb_propagate.proofs.lemmas.clauses.Blocks.{extended-from}
 use Rattle.pb_propagate.proofs.clauses.blocks.Blocks.extend.Goals as goal

@@ -1,6 +1,5 @@
-use Rattle.pb_propagate.proofs.Common.{ℕ, ◌++◌, ◌+◌, ◌<◌, ◌∙◌, ◌∷◌, ◌≡◌, ◌≤◌, [], ap, arith, get_or-set_same, inr, length, List, refl, set, subst}
-use Rattle.pb_propagate.proofs.Common.{sym, true, leb-true, get_or_read, AreBlocks, Contents, contents, number_at, rewritten, stored_clause}
-use Rattle.pb_propagate.proofs.Common.{stored_search, stored_watch, table}
+use Rattle.pb_propagate.proofs.Common.{◌∙◌, ◌≡◌, ◌≤◌, ap, arith, get_or-set_same, length}
+use Rattle.pb_propagate.proofs.Common.{sym, leb-true, get_or_read, Contents, number_at}
 use Rattle.pb_propagate.proofs.lemmas.clauses.Blocks.{slot-behind, fitted-from}
 use Rattle.pb_propagate.proofs.clauses.blocks.Blocks.fit.Goals as goal
 

@@ -1,6 +1,6 @@
-use Rattle.pb_propagate.proofs.Common.{ℕ, ◌*◌, ◌+◌, ◌/◌, ◌<◌, ◌∙◌, ◌≡◌, ap, arith, length, List, refl, set, sym, true, ◌%◌, get_or_read, Watch}
-use Rattle.pb_propagate.proofs.Common.{Search, Contents, contents, number_at, rewatched, rewritten, searched, stored_clause, stored_search}
-use Rattle.pb_propagate.proofs.Common.{watch_place, idle, list_at, watch_at, search_at}
+use Rattle.pb_propagate.proofs.Common.{◌*◌, ◌+◌, ◌/◌, ◌∙◌, ◌≡◌, ap, arith, set, ◌%◌, get_or_read}
+use Rattle.pb_propagate.proofs.Common.{Contents, rewatched}
+use Rattle.pb_propagate.proofs.Common.{watch_place, idle}
 use Rattle.pb_propagate.proofs.lemmas.clauses.Blocks.{live-behind, idle-written}
 use Rattle.pb_propagate.proofs.clauses.blocks.Blocks.idle.Goals as goal
 

@@ -1,6 +1,5 @@
-use Rattle.pb_propagate.proofs.Common.{ℕ, ◌*◌, ◌+◌, ◌-◌, ◌/◌, ◌<◌, ◌∙◌, ◌≡◌, ◌≤◌, [], ap, arith, drop, length, List, refl, set, sym, take, true, ◌%◌}
-use Rattle.pb_propagate.proofs.Common.{get_or_read, Search, Contents, contents, number_at, rewritten, searched, stored_clause, stored_search, list_at}
-use Rattle.pb_propagate.proofs.Common.{search_at}
+use Rattle.pb_propagate.proofs.Common.{◌+◌, ◌-◌, ◌∙◌, ◌≡◌, ◌≤◌, [], ap, arith, drop, length, sym, take}
+use Rattle.pb_propagate.proofs.Common.{get_or_read, Contents, number_at, stored_clause, list_at}
 use Rattle.pb_propagate.proofs.lemmas.clauses.Blocks.{slot-behind, table-at}
 use Rattle.pb_propagate.proofs.clauses.blocks.Blocks.literals.Goals as goal
 

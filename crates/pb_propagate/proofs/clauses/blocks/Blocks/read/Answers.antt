@@ -1,4 +1,4 @@
-use Rattle.pb_propagate.proofs.Common.{ℕ, ◌*◌, ◌+◌, ◌-◌, ◌/◌, ◌<◌, ◌∙◌, ◌≡◌, ◌≤◌, [], ap, arith, drop, length, List, refl, sym, take}
+use Rattle.pb_propagate.proofs.Common.{ℕ, ◌+◌, ◌-◌, ◌<◌, ◌∙◌, ◌≡◌, ◌≤◌, [], ap, arith, drop, length, List, refl, sym, take}
 use Rattle.pb_propagate.proofs.Common.{get_or, get_or_read, Search, Contents, number_at, stored_clause, stored_search, list_at, search_at}
 use Rattle.pb_propagate.proofs.lemmas.clauses.Blocks.{slice-at, slot-behind, table-at}
 use Rattle.pb_propagate.proofs.clauses.blocks.Blocks.read.Goals as goal

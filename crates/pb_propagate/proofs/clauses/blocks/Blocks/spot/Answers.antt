@@ -1,6 +1,6 @@
-use Rattle.pb_propagate.proofs.Common.{ℕ, ◌*◌, ◌+◌, ◌/◌, ◌<◌, ◌∙◌, ◌≡◌, ap, arith, length, List, refl, set, sym, true, ◌%◌, get_or_read, Watch}
-use Rattle.pb_propagate.proofs.Common.{Search, Contents, contents, number_at, rewatched, rewritten, searched, stored_clause, stored_search}
-use Rattle.pb_propagate.proofs.Common.{watch_place, idle, list_at, watch_at, search_at}
+use Rattle.pb_propagate.proofs.Common.{◌*◌, ◌+◌, ◌/◌, ◌∙◌, ◌≡◌, ap, arith, sym, ◌%◌, get_or_read, Watch}
+use Rattle.pb_propagate.proofs.Common.{number_at}
+use Rattle.pb_propagate.proofs.Common.{watch_place}
 use Rattle.pb_propagate.proofs.lemmas.clauses.Blocks.{live-behind}
 use Rattle.pb_propagate.proofs.clauses.blocks.Blocks.spot.Goals as goal
 

@@ -1,6 +1,5 @@
-use Rattle.pb_propagate.proofs.Common.{ℕ, ◌++◌, ◌+◌, ◌<◌, ◌∙◌, ◌∷◌, ◌≡◌, ◌≤◌, [], ap, arith, get_or-set_same, inr, length, length-set, List, refl}
-use Rattle.pb_propagate.proofs.Common.{set, subst, sym, true, get_or_read, AreBlocks, Contents, contents, number_at, rewritten, stored_clause}
-use Rattle.pb_propagate.proofs.Common.{stored_search, stored_watch, table}
+use Rattle.pb_propagate.proofs.Common.{◌+◌, ◌<◌, ◌∙◌, ◌≤◌, ap, arith, length, length-set}
+use Rattle.pb_propagate.proofs.Common.{get_or_read, Contents, number_at, rewritten}
 use Rattle.pb_propagate.proofs.lemmas.clauses.Blocks.{room-inside, whole-written}
 use Rattle.pb_propagate.proofs.clauses.blocks.Blocks.write.Goals as goal
 

@@ -1,14 +1,14 @@
 use Rattle.pb_propagate.proofs.Common.{ℕ, ◌++◌, ◌∙◌, ◌∷◌, ◌≡◌, [], ap, arith, get_or, Global, inl, inr, length, length-set, List, subst, sym, Vec}
-use Rattle.pb_propagate.proofs.Common.{slice_get, cases_eq, length-map, Assignment, watch_lists, walked_codes, beside, IsTidy, shapes_of}
-use Rattle.pb_propagate.proofs.Common.{stored_shape, open_sum, Shape, HasForm, IsServed}
+use Rattle.pb_propagate.proofs.Common.{slice_get, cases_eq, length-map, Assignment, walked_codes, beside, IsTidy, shapes_of}
+use Rattle.pb_propagate.proofs.Common.{stored_shape, open_sum, Shape, HasForm}
 use Rattle.pb_propagate.proofs.lemmas.root.Roots.{kept-rooted}
-use Rattle.pb_propagate.proofs.lemmas.root.Admitted.{arrived, gained-rooted, admitted-rooted, served-walked, served-watch, clause-rooted, slot-counted, slot-tidy, grown-off}
+use Rattle.pb_propagate.proofs.lemmas.root.Admitted.{arrived, gained-rooted, admitted-rooted, served-walked, free-walked, clause-rooted, slot-counted, slot-tidy, grown-off}
 use Rattle.pb_propagate.proofs.lemmas.engine.Runs.{absent-push, absent-new}
 use Rattle.pb_propagate.proofs.lemmas.store.Seats.{get-absent, push-older}
 use Rattle.pb_propagate.proofs.engine.root.Root.admit.Goals as goal
 
-pub returns-then-is_filled-clause-rooted : goal.returns-then-is_filled-clause-rooted
-returns-then-is_filled-clause-rooted c =
+pub returns-then-is_filled : goal.returns-then-is_filled
+returns-then-is_filled c =
     let store = c.args.store.now in
     let g = c.requires.gained in
     let me = c.args.self.now in
@@ -17,10 +17,7 @@ returns-then-is_filled-clause-rooted c =
     let reached = c.in_ok-reach.ensures in
     let codes = walked_codes (length run.assignment.list.items) run.assignment.list.items in
     let filled = c.is_filled.ensures.yes c.if-is_filled.true in
-    let values_are = ap (λ (a : Assignment). a.values.items) reached.assignment in
-    λ live.
-    let served : IsServed run.assignment.values.items c.args.clauses.now.blocks.watches c.args.slot = subst (λ vs. IsServed vs c.args.clauses.now.blocks.watches c.args.slot) values_are (c.is_served-self.ensures.yes live) in
-    let walked = served-walked run.assignment.values.items g.1.blocks.literals c.args.clauses.now.blocks.literals g.1.blocks.watches c.args.clauses.now.blocks.watches codes c.args.slot g.3.filled g.3.watched (λ e here live h. served-watch run.assignment.values.items c.args.clauses.now.blocks.literals c.args.clauses.now.blocks.watches (watch_lists c.args.clauses.now.lists.items) codes c.args.slot e c.requires.ready.stored filled r.walked.failed served here h) r.walked in
+    let walked = served-walked run.assignment.values.items g.1.blocks.literals c.args.clauses.now.blocks.literals g.1.blocks.watches c.args.clauses.now.blocks.watches codes c.args.slot g.3.filled g.3.watched (λ e here live h. free-walked run.assignment.values.items c.args.clauses.now.blocks.literals c.args.clauses.now.blocks.watches codes c.args.slot e r.walked.failed g.4 here live h) r.walked in
     let rooted = gained-rooted g.0 store g.1 c.args.clauses.now run c.reach.new.run me.rests c.reach.new.rests me.waiting c.reach.new.waiting c.args.slot c.requires.slot r g.3 reached walked in
     let there = arrived g.0 store g.1 c.args.clauses.now run c.reach.new.run me.rests c.reach.new.rests me.waiting c.reach.new.waiting c.args.slot c.requires.slot r g.3 reached in
     clause-rooted store c.args.clauses.now c.reach.new.run c.reach.new.rests c.reach.new.waiting c.args.slot c.requires.slot (λ d. c.requires.joined.apart c.args.slot d (omega (arith, c.requires.slot, length-map store.stored.items stored_shape)) filled) there.open_none rooted
@@ -101,8 +98,8 @@ keep-requires-clause-undone c =
     let laid : IsTidy (beside c.reach.new.rests aside) (shapes_of store.stored.items) run.opens.items run.candidates.items run.assignment.list.items run.work.items run.trail.items run.next (length store.stored.items) = rw (list_is, cands_is, c.lay.ensures.next ∙ r.next) (rw long at tidy) in
     (shapes_of store.stored.items, long ∙ sym opens_now, record { clean = laid.clean; named = laid.marked })
 
-pub returns-clause-rooted : goal.returns-clause-rooted
-returns-clause-rooted c =
+pub returns : goal.returns
+returns c =
     let store = c.args.store.now in
     let g = c.requires.gained in
     let me = c.args.self.now in
@@ -119,7 +116,7 @@ returns-clause-rooted c =
     let tidy = slot-tidy c.reach.new.rests aside (shapes_of store.stored.items) c.reach.new.run.opens.items c.reach.new.run.candidates.items run.opens.items c.reach.new.run.assignment.list.items run.work.items run.trail.items c.args.slot (omega (arith, c.requires.slot, long)) (omega (arith, c.requires.slot, r.open_sizes)) r.tidy c.in_ok-lay.ensures.opens queued noted in
     let laid : IsTidy (beside c.reach.new.rests aside) (shapes_of store.stored.items) run.opens.items run.candidates.items run.assignment.list.items run.work.items run.trail.items run.next (length store.stored.items) = rw (list_is, cands_is, c.lay.ensures.next ∙ r.next) (rw long at tidy) in
     let waiting = c.defer.new.waiting in
-    λ live. kept-rooted store c.args.clauses.now run c.keep.new.run c.reach.new.rests c.keep.new.rests aside waiting
+    kept-rooted store c.args.clauses.now run c.keep.new.run c.reach.new.rests c.keep.new.rests aside waiting
     (record {
       values = rw c.lay.ensures.assignment r.values;
       opens = opens_now;
@@ -129,7 +126,7 @@ returns-clause-rooted c =
       walked = rw c.lay.ensures.assignment r.walked;
     })
     laid
-    (λ s off. elim c.in_ok-defer.ensures.list [
+    (λ s off. elim c.defer.ensures.list [
       | inl same ↦ (rw same.1 at off, λ i from less found. absurd (omega (arith, less, ap length (sym c.as_slice.ensures.value ∙ same.0))))
       | inr more ↦
           let pushed = rw more at off in
@@ -147,7 +144,7 @@ returns-clause-rooted c =
       rest_starts = c.keep.ensures.rests.1;
     })
     (c.defer.ensures.seats ∙ r.seats)
-    (λ i s at. elim c.in_ok-defer.ensures.list [
+    (λ i s at. elim c.defer.ensures.list [
       | inl same ↦ r.live i s (ap (λ xs. slice_get xs i) (sym same.1) ∙ at)
       | inr more ↦ elim (cases_eq s c.args.slot) [
         | inl here ↦ subst (HasForm store) (sym here) g.3.full

@@ -1,4 +1,21 @@
+use Rattle.pb_propagate.proofs.Common.{refl}
 use Rattle.pb_propagate.proofs.engine.root.Root.lose.Goals as goal
 
-pub returns-then-self-clause-fallen : goal.returns-then-self-clause-fallen
-returns-then-self-clause-fallen c = λ fallen. (c.lose_conflict.ensures.kept fallen, c.lose_conflict.ensures.spare fallen, c.lose_conflict.ensures.met fallen)
+pub returns : goal.returns
+returns c = record {
+  mid = c.release.new.self;
+  rooted = c.release.ensures.rooted;
+  needless = c.release.ensures.needless;
+  lost = record {
+    assignment = refl;
+    work = refl;
+    trail = refl;
+    next = refl;
+    opens = refl;
+    candidates = refl;
+    rest_opens = refl;
+    rest_starts = refl;
+  };
+  waiting = c.remove.ensures.left;
+  seats = c.remove.ensures.seats;
+}

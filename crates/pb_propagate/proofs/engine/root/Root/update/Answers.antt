@@ -1,12 +1,14 @@
-use Rattle.pb_propagate.proofs.Common.{ℕ, ◌∙◌, ◌≡◌, [], ap, arith, get_or, Global, length, Vec, slice_get-get_or, slice_get_within, all_of, none}
-use Rattle.pb_propagate.proofs.Common.{forms_of}
-use Rattle.pb_propagate.proofs.lemmas.engine.Bounds.{form-inside}
-use Rattle.pb_propagate.proofs.lemmas.store.Changes.{forms-length}
+use Rattle.pb_propagate.proofs.Common.{ℕ, ◌∙◌, ◌≡◌, [], ap, arith, get_or, Global, length, refl, subst, sym, take, Vec, slice_get-get_or, slice_get_within, all_of, none}
+use Rattle.pb_propagate.proofs.Common.{AreWalked, forms_of, Listed, walked_codes}
+use Rattle.pb_propagate.proofs.lemmas.clauses.Walks.{grows-refl}
 use Rattle.pb_propagate.proofs.lemmas.clauses.Watching.{ready-running}
+use Rattle.pb_propagate.proofs.lemmas.engine.Bounds.{form-inside}
 use Rattle.pb_propagate.proofs.lemmas.engine.Spent.{derivation-single}
-use Rattle.pb_propagate.proofs.lemmas.root.Fallen.{conflicts-fallen}
-use Rattle.pb_propagate.proofs.lemmas.root.Roots.{kept-rooted}
 use Rattle.pb_propagate.proofs.lemmas.engine.Reasoned.{reasons-derive, run-reasons-rooted}
+use Rattle.pb_propagate.proofs.lemmas.root.Kept.{conflicts-kept, conflict-same, met-kept, vacant-kept}
+use Rattle.pb_propagate.proofs.lemmas.root.Returns.{back-rooted, rooted-waiting}
+use Rattle.pb_propagate.proofs.lemmas.root.Roots.{kept-rooted}
+use Rattle.pb_propagate.proofs.lemmas.store.Changes.{forms-length}
 use Rattle.pb_propagate.proofs.engine.root.Root.update.Goals as goal
 
 pub propagate-requires-clause-single : goal.propagate-requires-clause-single
@@ -23,60 +25,95 @@ propagate-requires-clause-waiting c =
 pub propagate-requires-clause-running : goal.propagate-requires-clause-running
 propagate-requires-clause-running c = ready-running c.args.clauses.now c.args.self.now.run.assignment.values.items c.requires.standing.ready (omega (arith, c.requires.standing.widths, c.requires.standing.rooted.values))
 
-pub returns-then-found-clause-running : goal.returns-then-found-clause-running
-returns-then-found-clause-running c = rw c.fall.ensures.run c.in_ok-found.ensures.running
-
-pub returns-then-found-clause-costs : goal.returns-then-found-clause-costs
-returns-then-found-clause-costs c =
-    let store = c.args.store.now in
-    let me = c.args.self.now in
-    let r = c.requires.standing.rooted in
-    let done = c.propagate.new.run in
-    let reported = c.in_ok-found.ensures in
-    let count_is : c.len-count.result ≡ length me.run.assignment.list.items = omega (arith, c.len-count.ensures, me.run.assignment.list.ok.0) in
-    let costs = rw (count_is, c.as_slice.ensures.value) at c.propagate.ensures.costs in
-    rw c.fall.ensures.run costs
-
+-- an allocation ends it
 pub returns-in_err-found-clause-costs : goal.returns-in_err-found-clause-costs
 returns-in_err-found-clause-costs c =
     let me = c.args.self.now in
     let count_is : c.len-count.result ≡ length me.run.assignment.list.items = omega (arith, c.len-count.ensures, me.run.assignment.list.ok.0) in
-    rw (count_is, c.as_slice.ensures.value) at c.propagate.ensures.costs
+    let spends = rw (count_is, c.as_slice.ensures.value) at c.propagate.ensures.costs in
+    record { ended = c.propagate.new.run; spends = spends; visits = refl }
 
-pub returns-then-found-clause-reasons : goal.returns-then-found-clause-reasons
-returns-then-found-clause-reasons c =
+pub returns-in_err-note-clause-costs : goal.returns-in_err-note-clause-costs
+returns-in_err-note-clause-costs c =
+    let me = c.args.self.now in
+    let count_is : c.len-count.result ≡ length me.run.assignment.list.items = omega (arith, c.len-count.ensures, me.run.assignment.list.ok.0) in
+    let spends = rw (count_is, c.as_slice.ensures.value) at c.propagate.ensures.costs in
+    record { ended = c.propagate.new.run; spends = spends; visits = refl }
+
+-- a conflict is met
+pub note-requires-clause-values : goal.note-requires-clause-values
+note-requires-clause-values c = c.requires.vacant.values ∙ sym (c.in_ok-found.ensures.values ∙ c.requires.standing.rooted.values)
+
+pub note-requires-clause-reasoned : goal.note-requires-clause-reasoned
+note-requires-clause-reasoned c = (all_of c.args.store.now c.args.clauses.now, run-reasons-rooted c.requires.standing.rooted.reasoned c.in_ok-found.ensures.reasons)
+
+pub returns-then-found-clause-lists : goal.returns-then-found-clause-lists
+returns-then-found-clause-lists c = omega (arith, ap (λ (v : Vec (Vec Listed Global) Global). length v.items) c.back.ensures.lists, c.in_ok-found.ensures.running.sizes, c.in_ok-found.ensures.values, c.requires.standing.rooted.values, c.requires.standing.widths)
+
+pub returns-then-found-clause-costs : goal.returns-then-found-clause-costs
+returns-then-found-clause-costs c =
+    let me = c.args.self.now in
+    let count_is : c.len-count.result ≡ length me.run.assignment.list.items = omega (arith, c.len-count.ensures, me.run.assignment.list.ok.0) in
+    let spends = rw (count_is, c.as_slice.ensures.value) at c.propagate.ensures.costs in
+    record { ended = c.propagate.new.run; spends = spends; visits = c.back.ensures.visits }
+
+pub returns-then-found-clause-rooted : goal.returns-then-found-clause-rooted
+returns-then-found-clause-rooted c =
     let store = c.args.store.now in
     let me = c.args.self.now in
+    let run = me.run in
     let r = c.requires.standing.rooted in
     let done = c.propagate.new.run in
     let reported = c.in_ok-found.ensures in
-    let count_is : c.len-count.result ≡ length me.run.assignment.list.items = omega (arith, c.len-count.ensures, me.run.assignment.list.ok.0) in
-    rw c.fall.ensures.run (run-reasons-rooted r.reasoned reported.reasons)
+    let count_is : c.len-count.result ≡ length run.assignment.list.items = omega (arith, c.len-count.ensures, run.assignment.list.ok.0) in
+    let codes = walked_codes (length run.assignment.list.items) run.assignment.list.items in
+    back-rooted store c.args.clauses.now c.back.new.clauses run c.back.new.run me.rests _ done.assignment.list.items (rooted-waiting me.waiting _ refl refl r) (record {
+      literals = c.back.ensures.literals ∙ c.propagate.ensures.literals;
+      kept = λ old. subst (λ cs. AreWalked run.assignment.values.items cs c.back.new.clauses.blocks.watches codes) (sym c.back.ensures.literals) (subst (λ ws. AreWalked run.assignment.values.items c.propagate.new.clauses.blocks.literals ws codes) (sym c.back.ensures.watches) (reported.kept run.assignment.values.items codes (grows-refl run.assignment.values.items) old));
+      extends = c.propagate.ensures.costs.extends;
+      reasons = rw c.back.ensures.reasons reported.reasons.kept;
+      cut = c.back.ensures.list ∙ ap (λ n. take n done.assignment.list.items) count_is;
+      values = c.back.ensures.values ∙ reported.values;
+      opens = c.back.ensures.opens;
+      candidates = c.back.ensures.candidates;
+      undone = c.back.ensures.undone;
+      work = c.back.ensures.work;
+      trail = c.back.ensures.trail;
+      next = c.back.ensures.next;
+    })
 
-pub returns-then-found-clause-conflict : goal.returns-then-found-clause-conflict
-returns-then-found-clause-conflict c = λ found. rw c.fall.ensures.run (c.in_ok-found.ensures.conflict c.if-found.true)
-
-pub returns-then-found-clause-found : goal.returns-then-found-clause-found
-returns-then-found-clause-found c = rw c.fall.ensures.run c.in_ok-found.ensures.found
-
-pub returns-clause-reasons : goal.returns-clause-reasons
-returns-clause-reasons c =
-    let store = c.args.store.now in
-    let me = c.args.self.now in
-    let r = c.requires.standing.rooted in
-    let done = c.propagate.new.run in
+pub returns-then-found-clause-kept : goal.returns-then-found-clause-kept
+returns-then-found-clause-kept c =
+    let forms = all_of c.args.store.now c.args.clauses.now in
+    let done = c.propagate.new.run.assignment in
     let reported = c.in_ok-found.ensures in
+    let noted = c.in_ok-note.ensures in
+    let reasoned = run-reasons-rooted c.requires.standing.rooted.reasoned reported.reasons in
+    let holds = conflict-same forms done c.note.new.self.assignment noted.list noted.reasons (conflicts-kept forms done reasoned (reported.conflict c.if-found.true)) in
+    met-kept forms c.args.store.now.variables c.note.new.self (noted.values ∙ c.requires.vacant.values) noted.met holds
+
+pub returns-then-found-clause-met : goal.returns-then-found-clause-met
+returns-then-found-clause-met c = λ found. record {
+  ready = c.back.ensures.ready;
+  met = c.in_ok-note.ensures.met;
+  found = rw (c.in_ok-note.ensures.list, c.back.ensures.visits) c.in_ok-found.ensures.found;
+}
+
+-- none is met
+pub returns-clause-costs : goal.returns-clause-costs
+returns-clause-costs c =
+    let me = c.args.self.now in
     let count_is : c.len-count.result ≡ length me.run.assignment.list.items = omega (arith, c.len-count.ensures, me.run.assignment.list.ok.0) in
-    rw c.keep.ensures.assignment (run-reasons-rooted r.reasoned reported.reasons)
+    let spends = rw (count_is, c.as_slice.ensures.value) at c.propagate.ensures.costs in
+    record { ended = c.propagate.new.run; spends = spends; visits = c.keep.ensures.visits }
 
 pub returns-clause-rooted : goal.returns-clause-rooted
-returns-clause-rooted c = λ found.
+returns-clause-rooted c =
     let store = c.args.store.now in
     let me = c.args.self.now in
     let r = c.requires.standing.rooted in
     let done = c.propagate.new.run in
     let reported = c.in_ok-found.ensures in
-    let count_is : c.len-count.result ≡ length me.run.assignment.list.items = omega (arith, c.len-count.ensures, me.run.assignment.list.ok.0) in
     let end = c.if-found.false in
     let reasoned = run-reasons-rooted r.reasoned reported.reasons in
     let lit = c.propagate.ensures.literals in
@@ -104,18 +141,27 @@ returns-clause-rooted c = λ found.
     (ap (λ (v : Vec ℕ Global). length v.items) c.clear.ensures.seats ∙ r.seats)
     (λ i s at. absurd (omega (arith, slice_get_within c.clear.new.self.list.items i s at, ap length c.clear.ensures.list)))
 
-pub returns-then-found-clause-lists : goal.returns-then-found-clause-lists
-returns-then-found-clause-lists c = omega (arith, c.in_ok-found.ensures.running.sizes, c.in_ok-found.ensures.values, c.requires.standing.rooted.values, c.requires.standing.widths)
-
 pub returns-clause-lists : goal.returns-clause-lists
 returns-clause-lists c = omega (arith, c.in_ok-found.ensures.running.sizes, c.in_ok-found.ensures.values, c.requires.standing.rooted.values, c.requires.standing.widths)
 
-pub returns-then-found-clause-fallen : goal.returns-then-found-clause-fallen
-returns-then-found-clause-fallen c = λ found.
-    let store = c.args.store.now in
+pub returns-clause-kept : goal.returns-clause-kept
+returns-clause-kept c = vacant-kept (all_of c.args.store.now c.args.clauses.now) c.args.store.now.variables c.args.conflict.now c.requires.vacant
+
+pub returns-clause-updated : goal.returns-clause-updated
+returns-clause-updated c = λ none.
     let me = c.args.self.now in
-    let done = c.propagate.new.run in
     let reported = c.in_ok-found.ensures in
-    let forms = all_of store c.args.clauses.now in
-    let reasoned = run-reasons-rooted c.requires.standing.rooted.reasoned reported.reasons in
-    conflicts-fallen forms store.variables c.fall.new.self c.fall.ensures.live (rw c.fall.ensures.run (reported.values ∙ c.requires.standing.rooted.values)) (rw c.fall.ensures.run reasoned) (rw c.fall.ensures.run (reported.conflict c.if-found.true))
+    let end = c.if-found.false in
+    let count_is : c.len-count.result ≡ length me.run.assignment.list.items = omega (arith, c.len-count.ensures, me.run.assignment.list.ok.0) in
+    let pays = rw (count_is, c.as_slice.ensures.value) at (reported.pays end) in
+    record {
+      running = rw c.keep.ensures.assignment reported.running;
+      pays = record {
+        extends = rw c.keep.ensures.assignment pays.extends;
+        single = rw c.keep.ensures.assignment pays.single;
+        bounded = rw c.keep.ensures.candidates pays.bounded;
+        upper = rw (c.keep.ensures.assignment, c.keep.ensures.candidates, c.keep.ensures.visits) pays.upper;
+      };
+      found = rw (c.keep.ensures.assignment, c.keep.ensures.visits) reported.found;
+      none = c.clear.ensures.list;
+    }

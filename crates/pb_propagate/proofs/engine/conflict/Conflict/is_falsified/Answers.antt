@@ -3,8 +3,8 @@ use Rattle.pb_propagate.proofs.Common.{AreInside, open_sum, says, Shape, terms_o
 use Rattle.pb_propagate.proofs.lemmas.clauses.Shapes.{shape-some}
 use Rattle.pb_propagate.proofs.lemmas.engine.VisitSteps.{shape-at}
 use Rattle.pb_propagate.proofs.lemmas.root.Lost.{slot-is}
-use Rattle.pb_propagate.proofs.lemmas.root.Fallen.{free-met}
-use Rattle.pb_propagate.proofs.engine.root.Root.is_falsified.Goals as goal
+use Rattle.pb_propagate.proofs.lemmas.root.Kept.{free-met}
+use Rattle.pb_propagate.proofs.engine.conflict.Conflict.is_falsified.Goals as goal
 
 pub open_under-opened-requires-clause-inside : goal.open_under-opened-requires-clause-inside
 open_under-opened-requires-clause-inside c =
@@ -18,7 +18,7 @@ open_under-opened-requires-clause-inside c =
 pub returns-then-not-is_filled : goal.returns-then-not-is_filled
 returns-then-not-is_filled c = λ above x at.
     let store = c.args.store.now in
-    let run = c.args.self.now.run in
+    let run = c.args.self.now in
     let k = c.index-kept.result.now in
     let none = c.is_filled.ensures.no c.if-not-is_filled.true in
     let is = slot-is store c.args.clauses.now c.args.slot x c.requires.slot at ∙ ap (slot_shape _) none ∙ shape-at store.stored.items c.args.slot k c.requires.slot c.index-kept.ensures x in
@@ -29,7 +29,7 @@ returns-then-not-is_filled c = λ above x at.
 
 pub returns-in-Some : goal.returns-in-Some
 returns-in-Some c = λ found x at.
-    let run = c.args.self.now.run in
+    let run = c.args.self.now in
     let codes = list_at (clauses_of c.args.clauses.now) c.args.slot in
     let is = slot-is c.args.store.now c.args.clauses.now c.args.slot x c.requires.slot at ∙ shape-some _ codes (c.is_filled.ensures.yes c.if-not-is_filled.false) in
     free-met run.assignment.values.items run.assignment.list.items codes _ x run.assignment.agrees is c.in-Some.ensures.some

@@ -1,0 +1,14 @@
+use Rattle.pb_propagate.proofs.Common.{ap, both_ways, length, refl, rules}
+use Rattle.pb_propagate.proofs.engine.Engine.new.Goals as goal
+
+pub invariant_of-result : goal.invariant_of-result
+invariant_of-result c = λ ready. (
+  search rules,
+  search rules,
+  c.new-5.ensures _ _ c.new.ensures.items refl,
+  record {
+    values = ap length c.new-6.ensures.values;
+    none = λ unmet. c.new-6.ensures.list;
+    holds = λ met. absurd (both_ways _ c.new-6.ensures.met met);
+  },
+)

@@ -1,0 +1,124 @@
+//! A conflict that the live forms meet with nothing assumed. It is kept beside the root.
+
+ghost use Rattle.std.specs.Prelude.{◌≡◌, List, ◌*◌, ◌<◌, [], true, false, length, OnOk};
+ghost use Rattle.pb_propagate.specs.declared.store.Store.{Store};
+ghost use Rattle.pb_propagate.specs.declared.clauses.Clauses.{Clauses};
+ghost use Rattle.pb_propagate.specs.engine.Engine.Lists.{Shape, HaveReasons, KeepsReasons};
+ghost use Rattle.pb_propagate.specs.engine.Engine.Fields.{shapes_of, IsSound};
+ghost use Rattle.pb_propagate.specs.engine.Engine.Root.{IsKeptConflict, IsMet, IsNeedless};
+ghost use Rattle.pb_propagate.specs.engine.Clauses.Runs.{AreReady};
+ghost use Rattle.pb_propagate.specs.engine.Clauses.Shapes.{AreJoined, clauses_of, all_of};
+
+use crate::assignment::Assignment;
+use crate::clauses::Clauses;
+use crate::store::Store;
+use crate::store::opened::open_under;
+use crate::store::reasons::replace_reasons;
+use crate::store::stored_form::is_below;
+use std::alloc::{AllocError, Global};
+
+/// The literals of a conflict, each with the form that forces it after those before it. A live form is falsified under
+/// them. Nothing is assigned if no conflict is kept.
+#[derive(Drop)]
+pub struct Conflict {
+    pub assignment: Assignment,
+    // Whether one is kept.
+    pub met: bool,
+}
+
+impl Conflict {
+    /// None yet.
+    pub fn new(alloc: Global) -> Conflict
+        ensures met { result.met ≡ false }
+        ensures list { result.assignment.list.items ≡ [] }
+        ensures values { result.assignment.values.items ≡ [] }
+    {
+        Conflict {
+            assignment: Assignment::new(alloc),
+            met: false,
+        }
+    }
+
+    /// Keeps the literals of a run under which a form is falsified.
+    pub fn note(&mut self, found: &Assignment) -> Result<(), AllocError>
+        requires none { self.old.assignment.list.items ≡ [] }
+        requires values { length self.old.assignment.values.items ≡ length found.now.values.items }
+        requires reasoned { (forms : List Shape) ×
+            HaveReasons forms found.now.reasons.items [] found.now.list.items }
+        ensures met { OnOk result (self.new.met ≡ true) }
+        ensures values { OnOk result (length self.new.assignment.values.items ≡ length
+            self.old.assignment.values.items) }
+        ensures list { OnOk result (self.new.assignment.list.items ≡ found.now.list.items) }
+        ensures reasons { OnOk result (KeepsReasons found.now.list.items found.now.reasons.items
+            self.new.assignment.reasons.items) }
+    {
+        'literals: for i in 0..found.list.len() {
+            let literal = found.list[i];
+            self.assignment
+                .put(literal, found.reasons[literal.variable])?;
+        }
+        self.met = true;
+        Ok(())
+    }
+
+    // Whether the form of a slot is falsified.
+    fn is_falsified(&self, store: &Store, clauses: &Clauses, slot: usize) -> bool
+        requires slot { slot < length store.now.stored.items }
+        requires sound { IsSound store.now }
+        requires ready { AreReady clauses.now }
+        requires known { length clauses.now.blocks.literals ≡ length store.now.stored.items }
+        requires widths { length clauses.now.lists.items ≡ 4 * store.now.variables }
+        requires values { length self.now.assignment.values.items ≡ store.now.variables }
+        ensures { result ≡ false →
+            IsMet (all_of store.now clauses.now) slot self.now.assignment.list.items }
+    {
+        if !clauses.is_filled(slot) {
+            let kept = &store.stored[slot];
+            let opened = open_under(&kept.terms, self.assignment.values.as_slice());
+            return is_below(opened, kept.degree);
+        }
+        match clauses.free_literal(&self.assignment, slot) {
+            Some(_) => false,
+            None => true,
+        }
+    }
+
+    // No conflict is kept.
+    fn clear(&mut self)
+        ensures met { self.new.met ≡ false }
+        ensures list { self.new.assignment.list.items ≡ [] }
+        ensures values { length self.new.assignment.values.items ≡ length
+            self.old.assignment.values.items }
+    {
+        self.assignment.clear();
+        self.met = false;
+    }
+
+    /// The form of a slot goes. The conflict stays if its literals have other reasons, and the form is not the falsified
+    /// one.
+    pub fn lose(&mut self, store: &Store, clauses: &Clauses, units: &[usize], slot: usize)
+        requires slot { slot < length store.now.stored.items }
+        requires sound { IsSound store.now }
+        requires joined { AreJoined (shapes_of store.now.stored.items) (clauses_of clauses.now) }
+        requires ready { AreReady clauses.now }
+        requires known { length clauses.now.blocks.literals ≡ length store.now.stored.items }
+        requires widths { length clauses.now.lists.items ≡ 4 * store.now.variables }
+        requires kept { IsKeptConflict (all_of store.now clauses.now) store.now.variables self.old }
+        ensures kept { IsKeptConflict (all_of store.now clauses.now) store.now.variables self.new }
+        ensures spare { self.new.met ≡ true →
+            IsNeedless (all_of store.now clauses.now) slot self.new.assignment }
+        ensures unbroken { self.new.met ≡ true →
+            IsMet (all_of store.now clauses.now) slot self.new.assignment.list.items }
+    {
+        if !self.met {
+            return;
+        }
+        if !replace_reasons(store, clauses, units, &mut self.assignment, slot) {
+            self.clear();
+            return;
+        }
+        if self.is_falsified(store, clauses, slot) {
+            self.clear();
+        }
+    }
+}
