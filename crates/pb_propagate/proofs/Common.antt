@@ -55,11 +55,14 @@ pub use Rattle.pb_propagate.specs.engine.Clauses.Links.{AreBlocked, AreFewer, Ar
 pub use Rattle.pb_propagate.specs.engine.Clauses.Links.{watch_at, watch_lists}
 pub use Rattle.pb_propagate.specs.engine.Clauses.Runs.{all_turned, AreFree, AreNoted, ArePassed, AreReady, AreRound, AreServed, AreStored, AreWalked}
 pub use Rattle.pb_propagate.specs.engine.Clauses.Runs.{AreSet, AreWithin, around, Grows, HasTrue, HasVisited, index_after, IsBroken, IsFreePair, IsPair, IsRefitted}
-pub use Rattle.pb_propagate.specs.engine.Clauses.Runs.{IsRound, IsRunning, IsUnit, IsWatched, KeepsWalked, passed_of, search_at, turned}
+pub use Rattle.pb_propagate.specs.engine.Clauses.Runs.{IsRound, IsRunning, IsSameWatch, IsUnit, IsWatched, KeepsWalked, passed_of, search_at, turned}
 pub use Rattle.pb_propagate.specs.engine.Clauses.Shapes.{all_of, AreDifferent, AreJoined, clause_shape, clauses_of, code, code_in, codes_of_terms}
 pub use Rattle.pb_propagate.specs.engine.Clauses.Shapes.{group_by, IsClause, IsLight, joined, literal_at, offset, one_term, slot_shape}
 pub use Rattle.pb_propagate.specs.engine.Clauses.Truths.{AreMarked, false_at, flip, is_failed, is_met, true_at}
-pub use Rattle.pb_propagate.specs.engine.Clauses.Walked.{advanced, fallen, falsified_code, head, IsAhead, killed, walked_codes}
+pub use Rattle.pb_propagate.specs.engine.Clauses.Walked.{advanced, fallen, falsified_code, head, heads_at, IsAhead, killed, reached}
+pub use Rattle.pb_propagate.specs.engine.Clauses.Walked.{reached_codes}
+pub use Rattle.pb_propagate.specs.engine.Clauses.Marks.{AreMarks, HasListed, IsMark, IsWalkedTo, KeepsMarks}
+pub use Rattle.pb_propagate.specs.declared.heads.Walked.{Walked}
 pub use Rattle.pb_propagate.specs.engine.Engine.Counts.{added, Adopted, AreFalling, AreFound, AreSingle, Aside, beside, entry_weight, Grown, IsAbsent}
 pub use Rattle.pb_propagate.specs.engine.Engine.Counts.{IsCalm, IsCounted, IsDone, IsTidy, IsUndone, kept, more, NameForms, none, place, pushed}
 pub use Rattle.pb_propagate.specs.engine.Engine.Counts.{rest_open, rest_start, spared, spent, term_weight, weight_in, weight_on}
@@ -75,14 +78,14 @@ pub use Rattle.pb_propagate.specs.engine.Engine.Lists.{says, Shape, size, vacanc
 pub use Rattle.pb_propagate.specs.engine.Engine.Live.{Gives, Live, one_in, Standing, terms_in, value_says}
 pub use Rattle.pb_propagate.specs.engine.Engine.Progress.{Advances, AreSettled, assigned_to, Costs, Database, database, entries_against, IsOpen}
 pub use Rattle.pb_propagate.specs.engine.Engine.Progress.{IsTidyAt, list_of, Lowers, passed_to, Progress, progress, queued, queued_to, reasons_of}
-pub use Rattle.pb_propagate.specs.engine.Engine.Progress.{RunKeepsReasons, RunPays, RunReasons, RunRecords, RunSpends, seen, Spends, StaysTidy}
+pub use Rattle.pb_propagate.specs.engine.Engine.Progress.{RunKeepsReasons, RunPays, RunReasons, RunRecords, RunSpends, seen, seen_to, Spends, StaysTidy}
 pub use Rattle.pb_propagate.specs.engine.Engine.Progress.{taken_to, visited_to, VisitsEach}
 pub use Rattle.pb_propagate.specs.engine.Engine.Reached.{HasClash, HasEnded, IsCovered, IsFrom, IsMade}
 pub use Rattle.pb_propagate.specs.engine.Engine.Rest.{AllWait, AreAtRest, AreSlots, derived, IsAtRest, IsEager, IsEnded, IsRefuted, IsSlot}
 pub use Rattle.pb_propagate.specs.engine.Engine.Rest.{kept_waits, waits}
 pub use Rattle.pb_propagate.specs.engine.Engine.Root.{alone, HasForm, HasGained, HasLost, HasOtherReasons, HasReached, HasVacated, HasWidened}
-pub use Rattle.pb_propagate.specs.engine.Engine.Root.{IsAnswered, IsAsked, IsConflict, IsFree, IsKeptConflict, IsMet, IsNeedless, IsOtherUnit, IsRooted, IsSameWatch}
-pub use Rattle.pb_propagate.specs.engine.Engine.Root.{IsVacant, posed, UpdateCosts, HasMet, HasUpdated}
+pub use Rattle.pb_propagate.specs.engine.Engine.Root.{HasMet, HasUpdated, IsAnswered, IsAsked, IsConflict, IsFree, IsKeptConflict, IsMet}
+pub use Rattle.pb_propagate.specs.engine.Engine.Root.{IsNeedless, IsOtherUnit, IsRooted, IsVacant, posed, UpdateCosts}
 pub use Rattle.pb_propagate.specs.engine.Engine.Slots.{ArePlaced, form_at, numbered}
 pub use Rattle.pb_propagate.specs.engine.Engine.Terms.{terms_of}
 pub use Rattle.pb_propagate.specs.engine.Engine.Waiting.{IsWithout}

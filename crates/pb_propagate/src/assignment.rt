@@ -1,6 +1,6 @@
 //! The list of assigned literals.
 
-ghost use Rattle.std.specs.Prelude.{◌≡◌, ℕ, ◌+◌, ◌*◌, ◌<◌, ◌⊎◌, ◌++◌, ◌∷◌, [], None, Some, not, true, false, length, take, sum_by, OnOk, OnErr, slice_index_or, slice_set};
+ghost use Rattle.std.specs.Prelude.{◌≡◌, ℕ, ◌≤◌, ◌+◌, ◌*◌, ◌<◌, ◌⊎◌, ◌++◌, ◌∷◌, [], None, Some, not, true, false, length, take, sum_by, OnOk, OnErr, slice_index_or, slice_set};
 ghost use Rattle.pb_normal.specs.declared.numbered.NumberedLiteral.{NumberedLiteral};
 ghost use Rattle.pb_normal.specs.meaning.Rules.{negation};
 ghost use Rattle.pb_propagate.specs.engine.Engine.Lists.{has, says, vacancy, KeepsReasons, IsDue};
@@ -227,6 +227,21 @@ impl Assignment {
             return false;
         }
         self.contains(literal)
+    }
+
+    /// How many literals are before the first one whose reason is the form of a slot.
+    pub fn before_due(&self, slot: usize) -> usize
+        ensures within { result ≤ length self.now.list.items }
+        ensures none { (l : NumberedLiteral) →
+            IsDue slot (take result self.now.list.items) self.now.reasons.items l → ⊥ }
+    {
+        'literals: for i in 0..self.list.len() {
+            let literal = self.list[i];
+            if self.is_due(literal, slot) {
+                return i;
+            }
+        }
+        self.list.len()
     }
 
     /// Gives the literal of a variable another reason.

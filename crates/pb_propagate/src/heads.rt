@@ -1,16 +1,86 @@
 //! How far the literals of a list are walked in each group of clauses.
 
-ghost use Rattle.std.specs.Prelude.{◌+◌, ◌*◌, ◌^◌, ◌<◌, ◌≤◌, All, length, IfSome, IfNone};
+ghost use Rattle.std.specs.Prelude.{◌≡◌, ◌+◌, ◌-◌, ◌*◌, ◌^◌, ◌<◌, ◌≤◌, ◌++◌, [], All, length, replicate, slice_index_or, take, IfSome, IfNone, OnOk};
 ghost use Rattle.pb_propagate.specs.engine.Clauses.Walked.{IsAhead};
 
 use crate::clause::{Group, code_of};
 use pb_normal::NumberedLiteral;
+use std::alloc::{AllocError, Global};
 
 /// How many literals of the list are walked in each group.
 #[derive(Clone, Copy)]
 pub struct Heads {
     pub short: usize,
     pub long: usize,
+}
+
+impl Heads {
+    /// The first `count` literals are walked in both groups.
+    pub fn at(count: usize) -> Heads
+        ensures { (result.short ≡ count) × (result.long ≡ count) }
+    {
+        Heads {
+            short: count,
+            long: count,
+        }
+    }
+}
+
+/// How far the literals of a list are walked, and how far they were when each of them was put.
+#[derive(Drop)]
+pub struct Walked {
+    pub heads: Heads,
+    // For each literal of the list how many were walked before it was put. If the list is cut there, so many still are.
+    pub marks: Vec<Heads>,
+}
+
+/// Marks the next literals of a list: when they were put, so many were walked.
+pub fn mark(marks: &mut Vec<Heads>, count: usize, heads: Heads) -> Result<(), AllocError>
+    ensures { OnOk result (marks.new.items ≡ marks.old.items ++ replicate count heads) }
+{
+    'literals: for _ in 0..count {
+        marks.push(heads)?;
+    }
+    Ok(())
+}
+
+impl Walked {
+    /// No literal is walked, and none is on the list.
+    pub fn none(alloc: Global) -> Walked
+        ensures heads { (result.heads.short ≡ 0) × (result.heads.long ≡ 0) }
+        ensures marks { result.marks.items ≡ [] }
+    {
+        Walked {
+            heads: Heads::at(0),
+            marks: Vec::new(alloc),
+        }
+    }
+
+    /// The list is cut to its first `count` literals: as many are walked as when the next one was put.
+    pub fn cut(&mut self, count: usize)
+        ensures heads { self.new.heads ≡ slice_index_or self.old.marks.items count
+            record { short = 0; long = 0 } }
+        ensures marks { self.new.marks.items ≡ take count self.old.marks.items }
+    {
+        self.heads = match self.marks.get(count) {
+            Some(heads) => *heads,
+            None => Heads::at(0),
+        };
+        self.marks.truncate(count);
+    }
+
+    /// All literals of the list are walked. One without a mark is taken for one that was put before any was walked.
+    pub fn finish(&mut self, count: usize) -> Result<(), AllocError>
+        ensures heads { OnOk result (
+            (self.new.heads.short ≡ count) × (self.new.heads.long ≡ count)) }
+        ensures marks { OnOk result (self.new.marks.items ≡ self.old.marks.items ++
+            replicate (count - length self.old.marks.items) record { short = 0; long = 0 }) }
+    {
+        let unmarked = count.saturating_sub(self.marks.len());
+        mark(&mut self.marks, unmarked, Heads::at(0))?;
+        self.heads = Heads::at(count);
+        Ok(())
+    }
 }
 
 /// The code whose watches are visited next, and the heads after that.

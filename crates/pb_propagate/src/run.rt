@@ -6,6 +6,8 @@ ghost use Rattle.pb_normal.specs.meaning.Rules.{negation};
 ghost use Rattle.pb_propagate.specs.engine.Engine.Lists.{has, Conflicts};
 ghost use Rattle.pb_propagate.specs.engine.Engine.Counts.{place, Grown, IsAbsent, Adopted, AreSingle};
 ghost use Rattle.pb_propagate.specs.engine.Engine.Progress.{progress, IfFound, IfNotFound, AreSettled, RunIsOpen, RunIsTidy, RunStaysTidy, shapes_in, list_of, values_of, RunIsCalm, RunIsUndone, RunVisitsEach, RunIsShort, RunFits, RunReasons, RunRecords, RunLowers, RunCosts, RunAdvances, RunSpends, RunPays, RunIsWalked};
+ghost use Rattle.pb_propagate.specs.engine.Clauses.Walked.{heads_at};
+ghost use Rattle.pb_propagate.specs.engine.Clauses.Marks.{KeepsMarks};
 ghost use Rattle.pb_propagate.specs.engine.Engine.Fields.{shapes_of, IsSound};
 ghost use Rattle.pb_propagate.specs.engine.Engine.Links.{terms_at};
 ghost use Rattle.pb_propagate.specs.engine.Clauses.Runs.{IsRunning, KeepsWalked};
@@ -14,7 +16,7 @@ ghost use Rattle.pb_propagate.specs.engine.Clauses.Shapes.{AreJoined, clauses_of
 use crate::assignment::Assignment;
 use crate::clauses::Clauses;
 use crate::engine::visits::Visits;
-use crate::heads::{Heads, next_walk};
+use crate::heads::{Heads, mark, next_walk};
 use crate::rests::Rests;
 use crate::store::stored_form::is_below;
 use crate::store::{Store, Visited, visit, visit_term, weight_of};
@@ -219,14 +221,16 @@ fn visit_form(
 
 /// Visits the forms of the work list, then the short clauses in which a falsified literal is watched, then the long
 /// ones. When none is left, the next waiting form is taken, until none waits. A unit that is falsified so ends a question
-/// before further clauses are visited. The first `from` literals are walked already. Returns whether a conflict was met.
+/// before further clauses are visited. The literals up to `from` are walked already, and each literal that is walked on
+/// gets a mark. Returns whether a conflict was met.
 pub fn propagate(
     store: &Store,
     rests: &Rests,
     clauses: &mut Clauses,
     run: &mut Run,
     waiting: &[usize],
-    from: usize,
+    from: Heads,
+    marks: &mut Vec<Heads>,
 ) -> Result<bool, AllocError>
     requires store { IsSound store.now }
     requires values { length (values_of run.old) ≡ store.now.variables }
@@ -239,13 +243,14 @@ pub fn propagate(
     requires tidy { RunIsCalm store.now rests.now waiting.now run.old }
     requires joined { AreJoined (shapes_of store.now.stored.items) (clauses_of clauses.old) }
     requires running { IsRunning (values_of run.old) clauses.old }
-    requires from { from ≤ length (list_of run.old) }
     requires walked { RunIsWalked from clauses.old run.old }
     ensures literals { clauses.new.blocks.literals ≡ clauses.old.blocks.literals }
     ensures running { OnOk result (IsRunning (values_of run.new) clauses.new) }
     ensures walked { IfNotFound result (
-        RunIsWalked (length (list_of run.new)) clauses.new run.new) }
+        RunIsWalked (heads_at (length (list_of run.new))) clauses.new run.new) }
     ensures kept { OnOk result (KeepsWalked (values_of run.old) clauses.old clauses.new) }
+    ensures marks { OnOk result (KeepsMarks clauses.old clauses.new (list_of run.old)
+        (list_of run.new) marks.old.items marks.new.items) }
     ensures values { OnOk result (length (values_of run.new) ≡ length (values_of run.old)) }
     ensures opens { OnOk result (length run.new.opens.items ≡ length store.now.stored.items) }
     ensures candidates { OnOk result (
@@ -265,10 +270,8 @@ pub fn propagate(
     ensures rising { OnOk result (run.old.visits ≤ run.new.visits) }
 {
     let mut taken = 0;
-    let mut heads = Heads {
-        short: from,
-        long: from,
-    };
+    let mut heads = from;
+    let mut marked = run.assignment.list.len();
     'work: loop {
         if run.next < run.work.len() {
             let form = run.work[run.next];
@@ -280,6 +283,9 @@ pub fn propagate(
             if walk(store, rests, clauses, run, ahead.code)? {
                 return Ok(true);
             }
+            let count = run.assignment.list.len();
+            mark(marks, count - marked, heads)?;
+            marked = count;
             heads = ahead.heads;
         } else if taken < waiting.len() {
             run.trail.push(waiting[taken])?;

@@ -3,6 +3,7 @@
 pub mod occurrence_lists;
 pub mod opened;
 pub mod reasons;
+pub mod refresh;
 pub mod sorted_form;
 pub mod stored_form;
 pub mod units;

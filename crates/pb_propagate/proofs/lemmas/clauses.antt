@@ -4,6 +4,7 @@ pub mod Codes
 pub mod Counts
 pub mod Few
 pub mod Gets
+pub mod Heads
 pub mod Killed
 pub mod Linked
 pub mod Listed

@@ -7,7 +7,7 @@ pub mod Lost
 pub mod Opens
 pub mod Questions
 pub mod Replaced
-pub mod Restarts
+pub mod Retracted
 pub mod Rooted
 pub mod Roots
 pub mod Asked

@@ -5,3 +5,4 @@ pub mod Blocks
 pub mod Runs
 pub mod Shapes
 pub mod Walked
+pub mod Marks

@@ -9,6 +9,7 @@ pub mod Live
 pub mod Rest
 pub mod Waiting
 pub mod Root
+pub mod Refreshed
 pub mod Progress
 pub mod Denial
 pub mod Reached

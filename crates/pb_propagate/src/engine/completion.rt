@@ -9,11 +9,13 @@ ghost use Rattle.pb_propagate.specs.engine.Engine.Fields.{shapes_of, IsSound};
 ghost use Rattle.pb_propagate.specs.engine.Engine.Reached.{IsFrom, HasClash, HasEnded, IsMade, IsClashed};
 ghost use Rattle.pb_propagate.specs.engine.Engine.Root.{IsStanding, IsVacant, IsLeft};
 ghost use Rattle.pb_propagate.specs.engine.Clauses.Runs.{IsRunning, KeepsWalked};
+ghost use Rattle.pb_propagate.specs.engine.Clauses.Walked.{heads_at};
 ghost use Rattle.pb_propagate.specs.engine.Clauses.Shapes.{AreJoined, clauses_of, all_of};
 
 use crate::clauses::Clauses;
 use crate::engine::conflict::Conflict;
 use crate::engine::root::{Root, back};
+use crate::heads::Heads;
 use crate::rests::Rests;
 use crate::run::{Run, propagate, try_put};
 use crate::store::Store;
@@ -61,6 +63,7 @@ pub fn settle(
     clauses: &mut Clauses,
     run: &mut Run,
     given: &[NumberedLiteral],
+    marks: &mut Vec<Heads>,
 ) -> Result<Option<Vec<Option<bool>>>, AllocError>
     requires store { IsSound store.now }
     requires inside { All (λ l. l.variable < store.now.variables) given.now }
@@ -73,7 +76,7 @@ pub fn settle(
     requires tidy { RunIsCalm store.now rests.now [] run.old }
     requires joined { AreJoined (shapes_of store.now.stored.items) (clauses_of clauses.old) }
     requires running { IsRunning (values_of run.old) clauses.old }
-    requires walked { RunIsWalked (length (list_of run.old)) clauses.old run.old }
+    requires walked { RunIsWalked (heads_at (length (list_of run.old))) clauses.old run.old }
     ensures literals { clauses.new.blocks.literals ≡ clauses.old.blocks.literals }
     ensures running { OnOk result (IsRunning (values_of run.new) clauses.new) }
     ensures kept { OnOk result (KeepsWalked (values_of run.old) clauses.old clauses.new) }
@@ -96,7 +99,15 @@ pub fn settle(
         return Ok(None);
     }
     let none = Vec::new(*store.stored.allocator());
-    if propagate(store, rests, clauses, run, none.as_slice(), count)? {
+    if propagate(
+        store,
+        rests,
+        clauses,
+        run,
+        none.as_slice(),
+        Heads::at(count),
+        marks,
+    )? {
         return Ok(None);
     }
     let mut values = Vec::new(*store.stored.allocator());
@@ -129,7 +140,15 @@ pub fn extend(
         return Ok(None);
     }
     let count = root.run.assignment.list.len();
-    let values = settle(store, &root.rests, clauses, &mut root.run, given)?;
+    root.spare.clear();
+    let values = settle(
+        store,
+        &root.rests,
+        clauses,
+        &mut root.run,
+        given,
+        &mut root.spare,
+    )?;
     back(store, &root.rests, clauses, &mut root.run, count);
     Ok(values)
 }

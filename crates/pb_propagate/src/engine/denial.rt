@@ -9,9 +9,11 @@ ghost use Rattle.pb_propagate.specs.engine.Engine.Counts.{Adopted, AreSingle};
 ghost use Rattle.pb_propagate.specs.engine.Engine.Progress.{IfFound, IfNotFound, AreSettled, RunIsOpen, RunStaysTidy, shapes_in, list_of, values_of, RunIsCalm, RunIsUndone, RunVisitsEach, RunKeepsReasons, RunCosts, RunAdvances, RunIsWalked};
 ghost use Rattle.pb_propagate.specs.engine.Engine.Fields.{shapes_of, IsSound};
 ghost use Rattle.pb_propagate.specs.engine.Clauses.Runs.{IsRunning, KeepsWalked};
+ghost use Rattle.pb_propagate.specs.engine.Clauses.Walked.{heads_at};
 ghost use Rattle.pb_propagate.specs.engine.Clauses.Shapes.{AreJoined, clauses_of, all_of};
 
 use crate::clauses::Clauses;
+use crate::heads::Heads;
 use crate::rests::Rests;
 use crate::run::{Run, propagate, try_put};
 use crate::store::Store;
@@ -111,6 +113,7 @@ pub fn refute(
     clauses: &mut Clauses,
     run: &mut Run,
     goal: &Terms,
+    marks: &mut Vec<Heads>,
 ) -> Result<bool, AllocError>
     requires store { IsSound store.now }
     requires inside { All (λ e. e.variable < store.now.variables) goal.now }
@@ -124,7 +127,7 @@ pub fn refute(
     requires tidy { RunIsCalm store.now rests.now [] run.old }
     requires joined { AreJoined (shapes_of store.now.stored.items) (clauses_of clauses.old) }
     requires running { IsRunning (values_of run.old) clauses.old }
-    requires walked { RunIsWalked (length (list_of run.old)) clauses.old run.old }
+    requires walked { RunIsWalked (heads_at (length (list_of run.old))) clauses.old run.old }
     ensures literals { clauses.new.blocks.literals ≡ clauses.old.blocks.literals }
     ensures running { OnOk result (IsRunning (values_of run.new) clauses.new) }
     ensures kept { OnOk result (KeepsWalked (values_of run.old) clauses.old clauses.new) }
@@ -150,6 +153,14 @@ pub fn refute(
         return Ok(true);
     }
     let none = Vec::new(*store.stored.allocator());
-    let found = propagate(store, rests, clauses, run, none.as_slice(), count)?;
+    let found = propagate(
+        store,
+        rests,
+        clauses,
+        run,
+        none.as_slice(),
+        Heads::at(count),
+        marks,
+    )?;
     Ok(found)
 }

@@ -1,62 +1,44 @@
 //! A form goes: what the root keeps. Nothing is allocated.
 
-ghost use Rattle.std.specs.Prelude.{◌≡◌, ◌*◌, ◌<◌, ◌++◌, ◌∷◌, [], filter, length};
+ghost use Rattle.std.specs.Prelude.{◌≡◌, ◌-◌, ◌*◌, ◌<◌, length, take};
 ghost use Rattle.pb_propagate.specs.declared.store.Store.{Store};
 ghost use Rattle.pb_propagate.specs.declared.clauses.Clauses.{Clauses};
 ghost use Rattle.pb_propagate.specs.engine.Engine.Progress.{list_of};
 ghost use Rattle.pb_propagate.specs.engine.Engine.Fields.{shapes_of, forms_of, IsSound};
-ghost use Rattle.pb_propagate.specs.engine.Engine.Counts.{IsAbsent};
-ghost use Rattle.pb_propagate.specs.engine.Engine.Rest.{AreSlots, waits};
+ghost use Rattle.pb_propagate.specs.engine.Engine.Rest.{AreSlots};
 ghost use Rattle.pb_propagate.specs.engine.Engine.Root.{IsRootOf, IsNeedless, IsSized, Loses};
 ghost use Rattle.pb_propagate.specs.engine.Clauses.Runs.{AreReady};
 ghost use Rattle.pb_propagate.specs.engine.Clauses.Shapes.{AreJoined, clauses_of, all_of};
 
 use crate::clauses::Clauses;
-use crate::eager::Eager;
 use crate::engine::root::Root;
 use crate::store::Store;
 use crate::store::reasons::replace_reasons;
-
-// Adds a form to those that wait if it may force something with nothing assigned.
-fn seat(store: &Store, waiting: &mut Eager, slot: usize)
-    requires slot { slot < length store.now.stored.items }
-    requires seats { length waiting.old.seats.items ≡ length store.now.stored.items }
-    requires absent { IsAbsent waiting.old.list.items 0 slot }
-    ensures list { waiting.new.list.items ≡ waiting.old.list.items ++ filter
-        (waits store.now.stored.items) (slot ∷ []) }
-    ensures seats { length waiting.new.seats.items ≡ length waiting.old.seats.items }
-{
-    if !store.stored[slot].eager {
-        return;
-    }
-    waiting.put(slot);
-}
+use crate::store::refresh::refresh_all;
 
 impl Root {
-    // Begins again with no literal: the forms that may force something with nothing assigned wait.
-    fn restart(&mut self, store: &Store)
+    // Takes the last literal off the list. The forms with its variable are as if it had not been put.
+    fn retract(&mut self, store: &Store)
+        requires sound { IsSound store.now }
         requires sized { IsSized store.now self.old }
+        requires some { 0 < length (list_of self.old.run) }
         ensures rooted { (clauses : Clauses) →
             AreSlots (forms_of store.now.stored.items) (all_of store.now clauses) →
-            IsRootOf store.now clauses self.new }
-        ensures list { list_of self.new.run ≡ [] }
+            IsRootOf store.now clauses self.old → IsRootOf store.now clauses self.new }
+        ensures list { list_of self.new.run ≡ take (length (list_of self.old.run) - 1)
+            (list_of self.old.run) }
+        ensures reasons { self.new.run.assignment.reasons ≡ self.old.run.assignment.reasons }
     {
-        self.run.assignment.cut(0);
-        self.run.work.clear();
-        self.run.trail.clear();
-        self.run.next = 0;
-        self.waiting.clear();
-        'forms: for form in 0..store.stored.len() {
-            let kept = &store.stored[form];
-            self.run.opens[form] = kept.total;
-            self.run.candidates[form] = 0;
-            self.rests.opens[form] = kept.total;
-            self.rests.starts[form] = 0;
-            seat(store, &mut self.waiting, form);
-        }
+        let count = self.run.assignment.list.len();
+        let last = count - 1;
+        let literal = self.run.assignment.list[last];
+        self.run.assignment.cut(last);
+        self.walked.cut(last);
+        refresh_all(store, self, literal);
+        refresh_all(store, self, literal.negation());
     }
 
-    // No literal needs the form of a slot from now on. If one has no other reason, the root begins again.
+    // No literal needs the form of a slot from now on. If one has no other reason, it and those after it are taken off.
     fn release(&mut self, store: &Store, clauses: &Clauses, slot: usize)
         requires slot { slot < length store.now.stored.items }
         requires sound { IsSound store.now }
@@ -73,7 +55,10 @@ impl Root {
         if replace_reasons(store, clauses, units, &mut self.run.assignment, slot) {
             return;
         }
-        self.restart(store);
+        let count = self.run.assignment.before_due(slot);
+        'literals: while self.run.assignment.list.len() > count {
+            self.retract(store);
+        }
     }
 
     /// The form of a slot goes.

@@ -14,6 +14,7 @@ use crate::engine::conflict::Conflict;
 use crate::engine::denial::{is_disjunction, refute};
 use crate::engine::root::{Root, back, lay};
 use crate::engine::visits::Visits;
+use crate::heads::Heads;
 use crate::run::propagate;
 use crate::store::Store;
 use crate::store::occurrence_lists::{enter, leave};
@@ -49,6 +50,7 @@ fn pose(
     }
     let count = root.run.assignment.list.len();
     let number = store.stored.len();
+    root.spare.clear();
     enter(store, &mut root.run, form)?;
     lay(store, &mut root.run, number)?;
     let none = Vec::new(*store.stored.allocator());
@@ -58,7 +60,8 @@ fn pose(
         clauses,
         &mut root.run,
         none.as_slice(),
-        count,
+        Heads::at(count),
+        &mut root.spare,
     )?;
     back(store, &root.rests, clauses, &mut root.run, count);
     leave(store, &mut root.run);
@@ -91,7 +94,15 @@ fn pose_clause(
         return Ok(true);
     }
     let count = root.run.assignment.list.len();
-    let found = refute(store, &root.rests, clauses, &mut root.run, goal.terms())?;
+    root.spare.clear();
+    let found = refute(
+        store,
+        &root.rests,
+        clauses,
+        &mut root.run,
+        goal.terms(),
+        &mut root.spare,
+    )?;
     back(store, &root.rests, clauses, &mut root.run, count);
     Ok(found)
 }

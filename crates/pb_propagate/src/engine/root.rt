@@ -16,6 +16,7 @@ use crate::clauses::Clauses;
 use crate::eager::Eager;
 use crate::engine::conflict::Conflict;
 use crate::engine::visits::Visits;
+use crate::heads::{Heads, Walked};
 use crate::rests::Rests;
 use crate::run::{Run, place_of, propagate, queue, undo_forms};
 use crate::store::Store;
@@ -31,6 +32,10 @@ pub struct Root {
     pub rests: Rests,
     // The forms that may force something, or are falsified. No question has visited them since they were added.
     pub waiting: Eager,
+    // How far the literals are walked.
+    pub walked: Walked,
+    // The marks of a question, which nobody reads.
+    pub spare: Vec<Heads>,
     // For each literal, by its occurrence list, the last slot that took a form of one term for it.
     pub units: Vec<usize>,
 }
@@ -146,6 +151,8 @@ impl Root {
             },
             rests: Rests::none(alloc),
             waiting: Eager::new(alloc),
+            walked: Walked::none(alloc),
+            spare: Vec::new(alloc),
             units: Vec::new(alloc),
         }
     }
@@ -155,7 +162,7 @@ impl Root {
         requires slot { slot < length store.now.stored.items }
         requires sound { IsSound store.now }
         ensures { (self.new.run ≡ self.old.run) × (self.new.rests ≡ self.old.rests) ×
-            (self.new.waiting ≡ self.old.waiting) }
+            (self.new.waiting ≡ self.old.waiting) × (self.new.walked ≡ self.old.walked) }
     {
         let Some(literal) = only_literal(&store.stored[slot].terms) else {
             return;
@@ -215,14 +222,18 @@ impl Root {
             clauses,
             &mut self.run,
             self.waiting.list.as_slice(),
-            count,
+            self.walked.heads,
+            &mut self.walked.marks,
         )?;
         if found {
             conflict.note(&self.run.assignment)?;
             back(store, &self.rests, clauses, &mut self.run, count);
+            self.walked.marks.truncate(count);
             return Ok(true);
         }
         keep(&mut self.run, &mut self.rests);
+        let whole = self.run.assignment.list.len();
+        self.walked.finish(whole)?;
         self.waiting.clear();
         Ok(false)
     }

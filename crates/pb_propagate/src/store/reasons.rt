@@ -88,6 +88,8 @@ pub fn replace_reasons(
         assignment.old.list.items }
     ensures list { assignment.new.list ≡ assignment.old.list }
     ensures values { assignment.new.values ≡ assignment.old.values }
+    ensures reasoned { HaveReasons (all_of store.now clauses.now) assignment.new.reasons.items []
+        assignment.new.list.items }
     ensures needless { result ≡ true →
         IsNeedless (all_of store.now clauses.now) slot assignment.new }
 {

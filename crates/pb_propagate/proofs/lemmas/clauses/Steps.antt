@@ -3,7 +3,7 @@ use Rattle.pb_propagate.proofs.Common.{ℕ, ◌*◌, ◌++◌, ◌+◌, ◌/◌,
 use Rattle.pb_propagate.proofs.Common.{get_or-set_same, inl, inr, length, length-set, List, refl, set, subst, sym, true, All, Contains, Option}
 use Rattle.pb_propagate.proofs.Common.{slice_get, Some, both_ways, cases_eq, cases_lt, get_or_default, All-contains, Contains-append_left}
 use Rattle.pb_propagate.proofs.Common.{Contains-get_or, Contains-push, Contains-push_cases, same_Some, Watch, AreLinked, list_at, Remains, watch_at}
-use Rattle.pb_propagate.proofs.Common.{AreNoted, ArePassed, AreServed, AreStored, AreWalked, Grows, HasTrue, IsBroken, IsUnit, IsWatched, false_at}
+use Rattle.pb_propagate.proofs.Common.{AreNoted, ArePassed, AreServed, AreStored, HasTrue, IsBroken, IsUnit, IsWatched, false_at}
 use Rattle.pb_propagate.proofs.Common.{flip, true_at}
 use Rattle.pb_propagate.proofs.lemmas.clauses.Linked.{sits-within}
 use Rattle.pb_propagate.proofs.lemmas.clauses.Truths.{flip-half, flip-flip, flip-apart, same-slot}
@@ -254,7 +254,7 @@ stored-move values clauses passed ws ws' ls ls' l index e other place g m = reco
     full-at s some (inr n) = (m.others (2 * s) n).live ∙ g.stored.full s some
 
 -- a watch that stayed, or that is on a literal which is not falsified
-shifted-old : (values : List (Option Bool)) (clauses : List (List ℕ)) (passed : List ℕ) (ws ws' : List Watch) (ls ls' : List (List ℕ)) (l index e other place k : ℕ) → Visiting values clauses passed ws ls l index e other place → Shifted values clauses ws ws' ls ls' index e place → false_at values (watch_at ws' k).literal ≡ true → Remains index (watch_at ws k) (watch_at ws' k)
+pub shifted-old : (values : List (Option Bool)) (clauses : List (List ℕ)) (passed : List ℕ) (ws ws' : List Watch) (ls ls' : List (List ℕ)) (l index e other place k : ℕ) → Visiting values clauses passed ws ls l index e other place → Shifted values clauses ws ws' ls ls' index e place → false_at values (watch_at ws' k).literal ≡ true → Remains index (watch_at ws k) (watch_at ws' k)
 shifted-old values clauses passed ws ws' ls ls' l index e other place k g m low = elim (cases_eq k e) [
   | inl is ↦ absurd (both_ways _ (ap (λ t. false_at values (watch_at ws' t).literal) is ∙ (found-open values clauses passed ws ws' ls ls' l index e other place g m).0) low)
   | inr n ↦ m.others k n
@@ -270,15 +270,6 @@ served-move values all clauses passed ws ws' ls ls' l index e other place walked
   here = λ k live h less.
       let r = shifted-old values clauses passed ws ws' ls ls' l index e other place k g m (ap (false_at values) h ∙ g.failed) in
       old.here k (sym r.live ∙ live) (sym r.literal ∙ h) (omega (arith, r.spot less, less));
-}
-
--- what was walked under fewer values stays so
-pub walked-move : (base values : List (Option Bool)) (all clauses : List (List ℕ)) (passed : List ℕ) (ws ws' : List Watch) (ls ls' : List (List ℕ)) (l index e other place : ℕ) (codes : List ℕ) → Grows base values → Visiting values clauses passed ws ls l index e other place → Shifted values clauses ws ws' ls ls' index e place → AreWalked base all ws codes → AreWalked base all ws' codes
-walked-move base values all clauses passed ws ws' ls ls' l index e other place codes more g m old = record {
-  failed = old.failed;
-  done = λ k live h.
-      let r = shifted-old values clauses passed ws ws' ls ls' l index e other place k g m (more.failed (watch_at ws' k).literal (old.failed (watch_at ws' k).literal h)) in
-      old.done k (sym r.live ∙ live) (subst (Contains codes) r.literal h);
 }
 
 -- a true literal of a visited clause

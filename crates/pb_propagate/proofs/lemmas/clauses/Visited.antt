@@ -6,7 +6,7 @@ use Rattle.pb_propagate.proofs.Common.{IsListed, list_at, Remains, watch_at, wat
 use Rattle.pb_propagate.proofs.Common.{IsRound, IsRunning, passed_of, turned, false_at, flip, true_at}
 use Rattle.pb_propagate.proofs.lemmas.clauses.Readings.{Reading, Resuming, reading-live, resuming-round, resuming-turned, searched-by, visiting-by, running-end, running-move}
 use Rattle.pb_propagate.proofs.lemmas.clauses.Searches.{turned-round, round-next}
-use Rattle.pb_propagate.proofs.lemmas.clauses.Steps.{broken-of, unit-of, served-true, served-move, walked-move, HasSearched, Shifted, Visiting}
+use Rattle.pb_propagate.proofs.lemmas.clauses.Steps.{broken-of, unit-of, served-true, served-move, shifted-old, HasSearched, Shifted, Visiting}
 use Rattle.pb_propagate.proofs.lemmas.clauses.Turned.{turned-size, unit-back, broken-back}
 use Rattle.pb_propagate.proofs.lemmas.clauses.Truths.{flip-half}
 use Rattle.pb_propagate.proofs.lemmas.clauses.Listed.{lists-length, blocked-more}
@@ -56,7 +56,7 @@ module _ (c : Clauses) (values : List (Option Bool)) (l index e other : ℕ) (fr
       running = ended;
       served = λ walked old. old;
       found = broken-back s.run.starts c.blocks.literals values (broken-of values (all_turned s.run.starts c.blocks.literals) (passed_of c) c.blocks.watches (watch_lists c.lists.items) l index e other stop.passed visiting end-at low);
-      kept = λ base codes more old. old;
+      kept = λ k live failed. (refl, refl);
     })
 
     -- all but one are falsified
@@ -70,7 +70,7 @@ module _ (c : Clauses) (values : List (Option Bool)) (l index e other : ℕ) (fr
         unit-back s.run.starts c.blocks.literals values (e / 2) other (unit-of values (all_turned s.run.starts c.blocks.literals) (passed_of c) c.blocks.watches (watch_lists c.lists.items) l index e other stop.passed visiting end-at untrue unfailed),
         (e, s.reading.item, other-watched c values l index e other s.run s.reading),
       );
-      kept = λ base codes more old. old;
+      kept = λ k live failed. (refl, refl);
     })
 
   -- the watch has moved
@@ -100,7 +100,9 @@ module _ (c : Clauses) (values : List (Option Bool)) (l index e other : ℕ) (fr
       running = running-move c values l index e other from stop next xs b2.watches moved_v lists' s.run s.failed s.reading s.resuming sought round one noted sizes more shifted;
       served = λ walked old. served-move values c.blocks.literals (all_turned s.run.starts c.blocks.literals) (passed_of c) c.blocks.watches b2.watches (watch_lists c.lists.items) (watch_lists lists'.items) l index e other stop.passed walked visiting shifted old;
       found = shorter;
-      kept = λ base codes grown old. walked-move base values c.blocks.literals (all_turned s.run.starts c.blocks.literals) (passed_of c) c.blocks.watches b2.watches (watch_lists c.lists.items) (watch_lists lists'.items) l index e other stop.passed codes grown visiting shifted old;
+      kept = λ k live failed.
+          let r = shifted-old values (all_turned s.run.starts c.blocks.literals) (passed_of c) c.blocks.watches b2.watches (watch_lists c.lists.items) (watch_lists lists'.items) l index e other stop.passed k visiting shifted failed in
+          (r.live, r.literal);
     })
 
   pub sought-round : (next : Search) → stop.passed < length xs → next.position ≡ around (stop.position + 1) (length xs) → next.passed ≡ stop.passed + 1 → IsRound (get_or s.run.starts (e / 2) 0) next (length xs)
@@ -125,7 +127,7 @@ visited-stays c values l index e x lists' run same item here met = record {
   running = run;
   served = λ walked old. served-true values c.blocks.literals c.blocks.watches (watch_lists lists'.items) walked l index e run.stored.linked (ap (λ ls. slice_get (list_at ls l) index) same ∙ item) (x, here, met) old;
   found = ap (λ ls. length (list_at ls l)) same;
-  kept = λ base codes more old. old;
+  kept = λ k live failed. (refl, refl);
 }
 
 -- the blocker of an entry is a literal of the clause

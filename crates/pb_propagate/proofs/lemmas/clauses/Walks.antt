@@ -11,15 +11,21 @@ use Rattle.pb_propagate.proofs.lemmas.clauses.Literals.{Agree, true-listed, fals
 use Rattle.pb_propagate.proofs.lemmas.clauses.Steps.{served-true}
 
 pub grows-refl : (values : List (Option Bool)) → Grows values values
-grows-refl values = record { sizes = refl; met = λ x h. h; failed = λ x h. h }
+grows-refl values = record { met = λ x h. h; failed = λ x h. h }
 
 pub grows-trans : (a b c : List (Option Bool)) → Grows a b → Grows b c → Grows a c
-grows-trans a b c p q = record { sizes = q.sizes ∙ p.sizes; met = λ x h. q.met x (p.met x h); failed = λ x h. q.failed x (p.failed x h) }
+grows-trans a b c p q = record { met = λ x h. q.met x (p.met x h); failed = λ x h. q.failed x (p.failed x h) }
+
+-- visits one after another
+pub kept-then : (values values' : List (Option Bool)) (a b c : Clauses) → Grows values values' → KeepsWalked values a b → KeepsWalked values' b c → KeepsWalked values a c
+kept-then values values' a b c more p q e live failed =
+    let s = q e live (more.failed (watch_at c.blocks.watches e).literal failed) in
+    let r = p e (sym s.0 ∙ live) (ap (false_at values) (sym s.1) ∙ failed) in
+    (s.0 ∙ r.0, s.1 ∙ r.1)
 
 -- a longer list
-pub grows-listed : (values values' : List (Option Bool)) (list list' : List NumberedLiteral) → length values' ≡ length values → Agree values list → Agree values' list' → IsWithin list list' → Grows values values'
-grows-listed values values' list list' sizes a a' within = record {
-  sizes = sizes;
+pub grows-listed : (values values' : List (Option Bool)) (list list' : List NumberedLiteral) → Agree values list → Agree values' list' → IsWithin list list' → Grows values values'
+grows-listed values values' list list' a a' within = record {
   met = λ x h. true-listed values' list' x a' ∙ within (literal_at x) (sym (true-listed values list x a) ∙ h);
   failed = λ x h. false-listed values' list' x a' ∙ within _ (sym (false-listed values list x a) ∙ h);
 }
@@ -42,8 +48,8 @@ walked-grow old new clauses ws walked g s = record {
   done = λ e live h. true-grow old new clauses (e / 2) g (s.done e live h);
 }
 
-pub running-grow : (c : Clauses) (old new : List (Option Bool)) → Grows old new → IsRunning old c → IsRunning new c
-running-grow c old new g r = record {
+pub running-grow : (c : Clauses) (old new : List (Option Bool)) → length new ≡ length old → Grows old new → IsRunning old c → IsRunning new c
+running-grow c old new sizes g r = record {
   starts = r.starts;
   stored = r.stored;
   blocked = r.blocked;
@@ -57,7 +63,7 @@ running-grow c old new g r = record {
   };
   round = r.round;
   noted = r.noted;
-  sizes = r.sizes ∙ ap (λ n. 4 * n) (sym g.sizes);
+  sizes = r.sizes ∙ ap (λ n. 4 * n) (sym sizes);
 }
 
 -- at the end of the list
@@ -94,7 +100,7 @@ walking-start c l start running failed = record {
   within = omega arith;
   served = λ walked s. s;
   grows = grows-refl start.values;
-  kept = λ base codes more old. old;
+  kept = λ e live failed. (refl, refl);
   found = λ few. omega arith;
 }
 
@@ -113,26 +119,26 @@ walking-next {c0} {c} {l} {index} {start} {now} c' r seen w v literals within vi
   within = within;
   served = λ walked s. v.served walked (w.served walked s);
   grows = w.grows;
-  kept = λ base codes more old. v.kept base codes (grows-trans base start.values now.values more w.grows) (w.kept base codes more old);
+  kept = kept-then start.values now.values c0 c c' w.grows w.kept v.kept;
   found = λ few. let more = visit.counted few in let old = w.found (omega (arith, few, more)) in omega (arith, old, more);
 }
 
 -- a visit, and the literal that it forces
 pub walking-forces : {c0 c : Clauses} {l index : ℕ} {start now : Progress} (c' : Clauses) (seen : ℕ) (f : Forced) (after : Progress) → IsWalking c0 c l index start now → HasVisited now.values c c' l index (Forces f) → c'.blocks.literals ≡ c.blocks.literals → index < length (list_at (watch_lists c.lists.items) l) → IsVisit seen now.visits → seen ≤ after.visits → length after.values ≡ length now.values → after.list ≡ now.list ++ (literal_at f.code ∷ []) → Agree now.values now.list → Agree after.values after.list → IsWalking c0 c' l (index + 1) start after
 walking-forces {c0} {c} {l} {index} {start} {now} c' seen f after w v literals inside visit risen widths listed agree agree' =
-    let g = grows-listed now.values after.values now.list after.list widths agree agree' (λ k h. subst (λ xs. has xs k ≡ true) (sym listed) (has-push_old now.list (literal_at f.code) k h)) in
+    let g = grows-listed now.values after.values now.list after.list agree agree' (λ k h. subst (λ xs. has xs k ≡ true) (sym listed) (has-push_old now.list (literal_at f.code) k h)) in
     let met : true_at after.values f.code ≡ true = true-listed after.values after.list f.code agree' ∙ ap (λ xs. has xs (literal_at f.code)) listed ∙ has-push_new now.list (literal_at f.code) in
     let same = v.found.0 in
     record {
       literals = literals ∙ w.literals;
       sizes = v.lists ∙ w.sizes;
-      running = running-grow c' now.values after.values g v.running;
+      running = running-grow c' now.values after.values widths g v.running;
       failed = g.failed l w.failed;
       within = omega (arith, inside, same);
       served = λ walked s.
           let item = v.found.2 in
           served-true after.values c'.blocks.literals c'.blocks.watches (watch_lists c'.lists.items) walked l index item.0 v.running.stored.linked item.1 (f.code, item.2, met) (served-grow now.values after.values c'.blocks.literals c'.blocks.watches walked l index g (v.served walked (w.served walked s)));
       grows = grows-trans start.values now.values after.values w.grows g;
-      kept = λ base codes more old. v.kept base codes (grows-trans base start.values now.values more w.grows) (w.kept base codes more old);
+      kept = kept-then start.values now.values c0 c c' w.grows w.kept v.kept;
       found = λ few. let more = visit.counted (omega (arith, few, risen)) in let old = w.found (omega (arith, few, more, risen)) in omega (arith, old, more, risen, ap length listed, length-append now.list (literal_at f.code ∷ []));
     }

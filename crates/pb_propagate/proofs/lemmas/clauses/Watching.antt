@@ -8,7 +8,7 @@ use Rattle.pb_propagate.proofs.Common.{Clauses, Watch, Search, Heads, list_at, w
 use Rattle.pb_propagate.proofs.Common.{Grows, HasTrue, IsRunning, passed_of, clause_shape, clauses_of, code_in, literal_at, offset, false_at, flip}
 use Rattle.pb_propagate.proofs.Common.{AreSingle, more, none, begin, Derives, IsSettled, put, same, Shape}
 use Rattle.pb_propagate.specs.engine.Engine.Lists.{has}
-pub use Rattle.pb_propagate.specs.engine.Clauses.Walked.{falsified_code, walked_codes, reached_codes, head, advanced}
+pub use Rattle.pb_propagate.specs.engine.Clauses.Walked.{falsified_code, heads_at, reached_codes, reached, head, advanced}
 use Rattle.pb_propagate.proofs.lemmas.engine.Literals.{same-true, same-refl, negation-negation, has-get}
 use Rattle.pb_propagate.proofs.lemmas.engine.Values.{says-inside}
 use Rattle.pb_propagate.proofs.lemmas.store.Gets.{last-is}
@@ -21,10 +21,6 @@ use Rattle.pb_propagate.proofs.lemmas.clauses.Counts.{killed, killed-more, occur
 use Rattle.pb_propagate.proofs.lemmas.clauses.Literals.{Agree, false-listed, false-code, code-injective, code-of}
 use Rattle.pb_propagate.proofs.lemmas.clauses.Shapes.{Served, met, free, served-settled}
 use Rattle.pb_propagate.proofs.lemmas.clauses.Walks.{running-grow, walked-grow}
-
--- the occurrences of the codes that are walked
-abbrev pub reached : List (List ℕ) → Heads → List NumberedLiteral → ℕ
-reached clauses h list = killed clauses (map (falsified_code Short) (take h.short list)) + killed clauses (map (falsified_code Long) (take h.long list))
 
 -- what the walks may have cost
 abbrev pub cost : Clauses → Clauses → Heads → List NumberedLiteral → ℕ
@@ -56,12 +52,12 @@ ready-running c values r sizes = record {
   sizes = sizes;
 }
 
-pub watching-start : (c : Clauses) (values : List (Option Bool)) (list : List NumberedLiteral) (n : ℕ) → IsRunning values c → n ≤ length list → AreWalked values c.blocks.literals c.blocks.watches (walked_codes n list) → IsWatching c c values list (record { short = n; long = n })
-watching-start c values list n running within walked = record {
+pub watching-start : (c : Clauses) (values : List (Option Bool)) (list : List NumberedLiteral) (h : Heads) → IsRunning values c → h.short ≤ length list → h.long ≤ length list → AreWalked values c.blocks.literals c.blocks.watches (reached_codes h list) → IsWatching c c values list h
+watching-start c values list h running short long walked = record {
   literals = refl;
   running = running;
-  short = within;
-  long = within;
+  short = short;
+  long = long;
   served = walked;
 }
 
@@ -85,10 +81,10 @@ codes-same h list list' a b same = rw (same h.short a, same h.long b) refl
 pub reached-same : (clauses : List (List ℕ)) (h : Heads) (list list' : List NumberedLiteral) → h.short ≤ length list → h.long ≤ length list → AreSameFirst list list' → reached clauses h list' ≡ reached clauses h list
 reached-same clauses h list list' a b same = rw (same h.short a, same h.long b) refl
 
-pub watching-grow : (forms : List Shape) (c0 c : Clauses) (values values' : List (Option Bool)) (list list' : List NumberedLiteral) (h : Heads) → Grows values values' → Derives forms list list' → IsWatching c0 c values list h → IsWatching c0 c values' list' h
-watching-grow forms c0 c values values' list list' h g d w = record {
+pub watching-grow : (forms : List Shape) (c0 c : Clauses) (values values' : List (Option Bool)) (list list' : List NumberedLiteral) (h : Heads) → length values' ≡ length values → Grows values values' → Derives forms list list' → IsWatching c0 c values list h → IsWatching c0 c values' list' h
+watching-grow forms c0 c values values' list list' h sizes g d w = record {
   literals = w.literals;
-  running = running-grow c values values' g w.running;
+  running = running-grow c values values' sizes g w.running;
   short = omega (arith, w.short, derived-longer forms list list' d);
   long = omega (arith, w.long, derived-longer forms list list' d);
   served = subst (AreWalked values' c.blocks.literals c.blocks.watches) (sym (codes-same h list list' w.short w.long (λ n within. derived-take forms list list' n within d))) (walked-grow values values' c.blocks.literals c.blocks.watches (reached_codes h list) g w.served);
@@ -298,7 +294,7 @@ served-by values clauses ws ls walked s stored served all some = by (false_at va
     by false false h k = free (watch_at ws (2 * s)).literal (watch_at ws (flip (2 * s))).literal at_a at_b (stored.apart (2 * s) live) h k
 
 -- the position of a literal of the list
-has-place : (xs : List NumberedLiteral) (l : NumberedLiteral) → has xs l ≡ true → (i : ℕ) × (i < length xs) × (get_or xs i l ≡ l)
+pub has-place : (xs : List NumberedLiteral) (l : NumberedLiteral) → has xs l ≡ true → (i : ℕ) × (i < length xs) × (get_or xs i l ≡ l)
 unfolding has
 has-place [] l h = absurd (both_ways _ refl h)
 has-place (x ∷ xs) l h = elim (or_cases (same x l) (has xs l) h) [
@@ -328,5 +324,5 @@ watching-settled c0 c values list h s a one short long some w =
     served-settled values list (list_at (clauses_of c0) s) a one (served-by values (clauses_of c0) c.blocks.watches (watch_lists c.lists.items) (reached_codes h list) s stored (subst (λ cs. AreWalked values cs c.blocks.watches (reached_codes h list)) w.literals w.served) (λ y failed. all-walked values list h y a short long failed) some)
 
 -- at the end all literals are walked
-pub walked-whole : (values : List (Option Bool)) (clauses : List (List ℕ)) (ws : List Watch) (list : List NumberedLiteral) (h : Heads) → h.short ≡ length list → h.long ≡ length list → AreWalked values clauses ws (reached_codes h list) → AreWalked values clauses ws (walked_codes (length list) list)
+pub walked-whole : (values : List (Option Bool)) (clauses : List (List ℕ)) (ws : List Watch) (list : List NumberedLiteral) (h : Heads) → h.short ≡ length list → h.long ≡ length list → AreWalked values clauses ws (reached_codes h list) → AreWalked values clauses ws (reached_codes (heads_at (length list)) list)
 walked-whole values clauses ws list h short long w = subst (λ n. AreWalked values clauses ws (map (falsified_code Short) (take (length list) list) ++ map (falsified_code Long) (take n list))) long (subst (λ n. AreWalked values clauses ws (map (falsified_code Short) (take n list) ++ map (falsified_code Long) (take h.long list))) short w)

@@ -1,13 +1,15 @@
 -- A form that was added comes to the root.
 use Rattle.pb_propagate.proofs.Common.{ℕ, ◌++◌, ◌+◌, ◌/◌, ◌<◌, ◌∙◌, ◌∷◌, ◌≡◌, ◌≤◌, ◌⊎◌, [], ap, arith, Bool, get_or, get_or-set_other}
 use Rattle.pb_propagate.proofs.Common.{get_or-set_same, Global, inl, inr, length, length-append, List, refl, set, subst, suc, sym, true, Vec}
-use Rattle.pb_propagate.proofs.Common.{zero, All, Contains, Option, slice_get, Some, both_ways, cases_eq, cases_lt, get_or-map, get_or_append_left}
+use Rattle.pb_propagate.proofs.Common.{zero, All, Option, slice_get, Some, cases_eq, cases_lt, get_or-map, get_or_append_left}
 use Rattle.pb_propagate.proofs.Common.{get_or_default, get_or_push, length-map, get_or_from_slice_get, slice_get-get_or, slice_get_within}
 use Rattle.pb_propagate.proofs.Common.{NumberedLiteral, Form, Assignment, Clauses, Watch, Eager, Rests, Run, Store, StoredForm, list_at, watch_at}
-use Rattle.pb_propagate.proofs.Common.{watch_lists, AreReady, AreStored, AreWalked, HasTrue, all_of, clauses_of, joined, one_term, slot_shape}
-use Rattle.pb_propagate.proofs.Common.{false_at, walked_codes, beside, Grown, IsAbsent, IsCalm, IsCounted, IsTidy, pushed, spared}
+use Rattle.pb_propagate.proofs.Common.{watch_lists, AreReady, AreStored, all_of, clauses_of, joined, one_term, slot_shape}
+use Rattle.pb_propagate.proofs.Common.{false_at, Walked, IsWalkedTo, beside, Grown, IsAbsent, IsCalm, IsCounted, IsTidy, pushed, spared}
 use Rattle.pb_propagate.proofs.Common.{weight_in, forms_of, shapes_of, stored_shape, HaveReasons, open_sum, Shape, size, HasForm, HasGained}
 use Rattle.pb_propagate.proofs.Common.{HasReached, IsRooted, form_at, AreFree, AreSet, IsFreePair, IfSome, None, Pair}
+use Rattle.pb_propagate.proofs.lemmas.clauses.Heads.{KeepsFallen, walks-kept}
+use Rattle.pb_propagate.proofs.lemmas.clauses.Literals.{Agree, false-listed}
 use Rattle.pb_propagate.proofs.lemmas.clauses.Shapes.{joined-at, joined-length}
 use Rattle.pb_propagate.proofs.lemmas.engine.Rests.{element}
 use Rattle.pb_propagate.proofs.lemmas.engine.Reasoned.{moved-same, reasons-moved}
@@ -45,8 +47,8 @@ pub record Arrived (before store : Store) (old clauses : Clauses) (run run' : Ru
   pub open_none : get_or run'.opens.items slot 0 ≡ 0
   pub cand_none : get_or run'.candidates.items slot 0 ≡ 0
 
-pub arrived : (before store : Store) (old clauses : Clauses) (run run' : Run) (rests rests' : Rests) (waiting waiting' : Eager) (slot : ℕ) → slot < length store.stored.items → IsRooted before old run rests waiting (length before.stored.items) → HasGained before old store clauses slot → HasReached run run' rests rests' waiting waiting' slot → Arrived before store old clauses run run' slot
-arrived before store old clauses run run' rests rests' waiting waiting' slot inside r g h = elim h.lists [
+pub arrived : (before store : Store) (old clauses : Clauses) (run run' : Run) (rests rests' : Rests) (waiting waiting' : Eager) (walked : Walked) (slot : ℕ) → slot < length store.stored.items → IsRooted before old run rests waiting walked (length before.stored.items) → HasGained before old store clauses slot → HasReached run run' rests rests' waiting waiting' slot → Arrived before store old clauses run run' slot
+arrived before store old clauses run run' rests rests' waiting waiting' walked slot inside r g h = elim h.lists [
   | inl stay ↦ by_longer stay g.longer
   | inr grown ↦ by_new grown g.longer
 ]
@@ -129,9 +131,9 @@ gained-reasons before store old clauses slot reasons list g h = reasons-moved (a
 ]) h
 
 -- the root for all forms but the new one
-pub gained-rooted : (before store : Store) (old clauses : Clauses) (run run' : Run) (rests rests' : Rests) (waiting waiting' : Eager) (slot : ℕ) → slot < length store.stored.items → IsRooted before old run rests waiting (length before.stored.items) → HasGained before old store clauses slot → HasReached run run' rests rests' waiting waiting' slot →
-    AreWalked run.assignment.values.items clauses.blocks.literals clauses.blocks.watches (walked_codes (length run.assignment.list.items) run.assignment.list.items) → IsRooted store clauses run' rests' waiting' slot
-gained-rooted before store old clauses run run' rests rests' waiting waiting' slot inside r g h walked = record {
+pub gained-rooted : (before store : Store) (old clauses : Clauses) (run run' : Run) (rests rests' : Rests) (waiting waiting' : Eager) (walked : Walked) (slot : ℕ) → slot < length store.stored.items → IsRooted before old run rests waiting walked (length before.stored.items) → HasGained before old store clauses slot → HasReached run run' rests rests' waiting waiting' slot →
+    IsWalkedTo clauses run.assignment.list.items walked → IsRooted store clauses run' rests' waiting' walked slot
+gained-rooted before store old clauses run run' rests rests' waiting waiting' walked slot inside r g h walks = record {
   values = ap (λ (x : Assignment). length x.values.items) h.assignment ∙ r.values ∙ sym g.variables;
   opens = opens_same;
   starts = starts_same;
@@ -170,13 +172,13 @@ gained-rooted before store old clauses run run' rests rests' waiting waiting' sl
   trail = ap (λ (v : Vec ℕ Global). v.items) h.trail ∙ r.trail;
   next = h.next ∙ r.next;
   reasoned = rw h.assignment (gained-reasons before store old clauses slot run.assignment.reasons.items run.assignment.list.items g r.reasoned);
-  walked = rw h.assignment walked;
+  walks = rw h.assignment walks;
   seats = h.seats (r.seats ∙ sym r.open_sizes) ∙ a.sizes;
   live = λ i s at. form-kept before store s (λ one. g.empty (subst (HasForm before) one (r.live i s (rw h.waits at at)))) (g.kept s) (r.live i s (rw h.waits at at));
 }
   where
     a : Arrived before store old clauses run run' slot
-    a = arrived before store old clauses run run' rests rests' waiting waiting' slot inside r g h
+    a = arrived before store old clauses run run' rests rests' waiting waiting' walked slot inside r g h
 
     opens_same : run'.opens.items ≡ rests'.opens.items
     opens_same = elim h.lists [
@@ -193,17 +195,14 @@ gained-rooted before store old clauses run run' rests rests' waiting waiting' sl
     shape : (s : ℕ) (d : Shape) → s < length before.stored.items → (s ≡ slot → ⊥) → get_or (shapes_of store.stored.items) s d ≡ get_or (shapes_of before.stored.items) s d
     shape s d less apart = same-shape store.stored.items before.stored.items s d less (g.kept s apart)
 
--- the watches of a slot are served, as those of the others are
-pub served-walked : (values : List (Option Bool)) (clauses clauses' : List (List ℕ)) (ws ws' : List Watch) (codes : List ℕ) (slot : ℕ) → ((s : ℕ) → (s ≡ slot → ⊥) → list_at clauses' s ≡ list_at clauses s) → ((e : ℕ) → (e / 2 ≡ slot → ⊥) → watch_at ws' e ≡ watch_at ws e) → ((e : ℕ) → e / 2 ≡ slot → (watch_at ws' e).live ≡ true → Contains codes (watch_at ws' e).literal → HasTrue values clauses' (e / 2)) → AreWalked values clauses ws codes → AreWalked values clauses' ws' codes
-served-walked values clauses clauses' ws ws' codes slot kept same mine w = record {
-  failed = w.failed;
-  done = λ e live h. elim (cases_eq (e / 2) slot) [
-    | inl here ↦ mine e here live h
-    | inr apart ↦
-        let met = w.done e (ap (λ (x : Watch). x.live) (sym (same e apart)) ∙ live) (subst (Contains codes) (ap (λ (x : Watch). x.literal) (same e apart)) h) in
-        (met.0, subst (λ xs. Contains xs met.0) (sym (kept (e / 2) apart)) met.1, met.2)
-  ];
-}
+-- no watch of the slot is falsified, and the others are as they were
+pub gained-keeps : (values : List (Option Bool)) (list : List NumberedLiteral) (before store : Store) (old clauses : Clauses) (slot : ℕ) → Agree values list → HasGained before old store clauses slot → ((e : ℕ) → e / 2 ≡ slot → (watch_at clauses.blocks.watches e).live ≡ true → false_at values (watch_at clauses.blocks.watches e).literal ≡ true → ⊥) → KeepsFallen old clauses list
+gained-keeps values list before store old clauses slot a g free e live failed = elim (cases_eq (e / 2) slot) [
+  | inl here ↦ absurd (free e here live (false-listed values list (watch_at clauses.blocks.watches e).literal a ∙ failed))
+  | inr apart ↦
+      let same = g.watched e apart in
+      ((ap (λ (x : Watch). x.live) same, ap (λ (x : Watch). x.literal) same), g.filled (e / 2) apart)
+]
 
 -- a slot without a clause has no watch
 pub no-watch : (clauses : List (List ℕ)) (ws : List Watch) (ls : List (List ℕ)) (slot e : ℕ) → AreStored clauses ws ls → list_at clauses slot ≡ [] → e / 2 ≡ slot → (watch_at ws e).live ≡ true → ⊥
@@ -212,16 +211,11 @@ no-watch clauses ws ls slot e stored none here live =
     omega (arith, there.1, ap length (ap (list_at clauses) here ∙ none))
 
 -- the root for all forms but the new one, which is no clause
-pub admitted-rooted : (before store : Store) (old clauses : Clauses) (run run' : Run) (rests rests' : Rests) (waiting waiting' : Eager) (slot : ℕ) → slot < length store.stored.items → IsRooted before old run rests waiting (length before.stored.items) → HasGained before old store clauses slot → HasReached run run' rests rests' waiting waiting' slot →
-    AreReady clauses → list_at (clauses_of clauses) slot ≡ [] → IsRooted store clauses run' rests' waiting' slot
-admitted-rooted before store old clauses run run' rests rests' waiting waiting' slot inside r g h ready none =
-    let codes = walked_codes (length run.assignment.list.items) run.assignment.list.items in
-    let walked = served-walked run.assignment.values.items old.blocks.literals clauses.blocks.literals old.blocks.watches clauses.blocks.watches codes slot g.filled g.watched (λ e here live k. absurd (no-watch (clauses_of clauses) clauses.blocks.watches (watch_lists clauses.lists.items) slot e ready.stored none here live)) r.walked in
-    gained-rooted before store old clauses run run' rests rests' waiting waiting' slot inside r g h walked
-
--- free watches of a slot are not among the walked ones
-pub free-walked : (values : List (Option Bool)) (clauses : List (List ℕ)) (ws : List Watch) (codes : List ℕ) (slot e : ℕ) → ((x : ℕ) → Contains codes x → false_at values x ≡ true) → AreFree values ws slot → e / 2 ≡ slot → (watch_at ws e).live ≡ true → Contains codes (watch_at ws e).literal → HasTrue values clauses (e / 2)
-free-walked values clauses ws codes slot e failed free here live h = absurd (both_ways _ (free e here live) (failed (watch_at ws e).literal h))
+pub admitted-rooted : (before store : Store) (old clauses : Clauses) (run run' : Run) (rests rests' : Rests) (waiting waiting' : Eager) (walked : Walked) (slot : ℕ) → slot < length store.stored.items → IsRooted before old run rests waiting walked (length before.stored.items) → HasGained before old store clauses slot → HasReached run run' rests rests' waiting waiting' slot →
+    AreReady clauses → list_at (clauses_of clauses) slot ≡ [] → IsRooted store clauses run' rests' waiting' walked slot
+admitted-rooted before store old clauses run run' rests rests' waiting waiting' walked slot inside r g h ready none =
+    let keeps = gained-keeps run.assignment.values.items run.assignment.list.items before store old clauses slot run.assignment.agrees g (λ e here live failed. no-watch (clauses_of clauses) clauses.blocks.watches (watch_lists clauses.lists.items) slot e ready.stored none here live) in
+    gained-rooted before store old clauses run run' rests rests' waiting waiting' walked slot inside r g h (walks-kept old clauses run.assignment.list.items walked keeps r.walks)
 
 -- two literals that are not falsified are watched
 pub pair-free : (values : List (Option Bool)) (old new : List Watch) (s : ℕ) (literals : List ℕ) (p : Pair) → IsFreePair values literals p → AreSet old new s literals p → AreFree values new s
@@ -236,8 +230,8 @@ some-map None A B f h = h
 some-map (Some a) A B f h = f a h
 
 -- a clause adds nothing to the occurrence lists
-pub clause-rooted : (store : Store) (clauses : Clauses) (run : Run) (rests : Rests) (waiting : Eager) (slot : ℕ) → slot < length store.stored.items → ((d : Shape) → ((get_or (shapes_of store.stored.items) slot d).terms ≡ []) × ((get_or (shapes_of store.stored.items) slot d).degree ≡ 0)) → get_or run.opens.items slot 0 ≡ 0 → IsRooted store clauses run rests waiting slot → IsRooted store clauses run rests waiting (length store.stored.items)
-clause-rooted store clauses run rests waiting slot inside bare none r = record {
+pub clause-rooted : (store : Store) (clauses : Clauses) (run : Run) (rests : Rests) (waiting : Eager) (walked : Walked) (slot : ℕ) → slot < length store.stored.items → ((d : Shape) → ((get_or (shapes_of store.stored.items) slot d).terms ≡ []) × ((get_or (shapes_of store.stored.items) slot d).degree ≡ 0)) → get_or run.opens.items slot 0 ≡ 0 → IsRooted store clauses run rests waiting walked slot → IsRooted store clauses run rests waiting walked (length store.stored.items)
+clause-rooted store clauses run rests waiting walked slot inside bare none r = record {
   values = r.values;
   opens = r.opens;
   starts = r.starts;
@@ -266,7 +260,7 @@ clause-rooted store clauses run rests waiting slot inside bare none r = record {
   trail = r.trail;
   next = r.next;
   reasoned = r.reasoned;
-  walked = r.walked;
+  walks = r.walks;
   seats = r.seats;
   live = r.live;
 }

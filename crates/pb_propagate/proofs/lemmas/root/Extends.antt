@@ -2,12 +2,22 @@
 use Rattle.pb_propagate.proofs.Common.{ℕ, ◌++◌, ◌||◌, ◌∙◌, ◌∷◌, ◌≡◌, ◌≤◌, [], ap, arith, Bool, cond, drop, false, get_or, length, List, map, refl}
 use Rattle.pb_propagate.proofs.Common.{subst, sym, take, true, ◌==◌, count_by, both_ways, append-nil, append_assoc, map-append, take-append-drop}
 use Rattle.pb_propagate.proofs.Common.{sum_by-append, sum_by-cons, NumberedLiteral, negation, Long, Short, Heads, fallen, falsified_code, killed}
-use Rattle.pb_propagate.proofs.Common.{place, spent, begin, Derives, Extends, put, Shape, Weighted}
+use Rattle.pb_propagate.proofs.Common.{place, spent, begin, Derives, Extends, IsWithin, put, reached, same, Shape, Weighted}
+use Rattle.pb_propagate.proofs.Common.{list_any, list_any-append, or_left}
 use Rattle.pb_propagate.specs.engine.Clauses.Walked.{has}
-use Rattle.pb_propagate.proofs.lemmas.clauses.Watching.{reached}
+use Rattle.pb_propagate.specs.engine.Engine.Lists.{has as listed}
 
 pub extends-none : (a : List NumberedLiteral) → Extends a a
 extends-none a = ([], sym (append-nil a))
+
+longer : (a r : List NumberedLiteral) (k : NumberedLiteral) → listed a k ≡ true → listed (a ++ r) k ≡ true
+unfolding listed
+longer a r k on =
+    let split = list_any-append (λ x. same x k) a r in
+    rw split (or_left (list_any (λ x. same x k) a) (list_any (λ x. same x k) r) on)
+
+pub extends-within : (a b : List NumberedLiteral) → Extends a b → IsWithin a b
+extends-within a b (r, e) l h = ap (λ xs. listed xs l) e ∙ longer a r l h
 
 pub extends-then : (a b c : List NumberedLiteral) → Extends a b → Extends b c → Extends a c
 extends-then a b c (r, e) (s, f) = (r ++ s, f ∙ ap (λ xs. xs ++ s) e ∙ append_assoc a r s)

@@ -1,11 +1,12 @@
 -- The form of a slot goes, and the root stays.
-use Rattle.pb_propagate.proofs.Common.{ℕ, ◌/◌, ◌<◌, ◌∙◌, ◌≡◌, [], ap, arith, Bool, get_or, get_or-set_other, get_or-set_same, Global, inl, inr}
-use Rattle.pb_propagate.proofs.Common.{length, length-set, List, map, refl, set, subst, sym, Vec, Contains, Option, slice_get, Some, cases_eq}
+use Rattle.pb_propagate.proofs.Common.{ℕ, ◌/◌, ◌<◌, ◌∙◌, ◌≡◌, [], ap, arith, get_or, get_or-set_other, get_or-set_same, Global, inl, inr}
+use Rattle.pb_propagate.proofs.Common.{length, length-set, List, map, refl, set, subst, sym, Vec, Contains, slice_get, Some, cases_eq}
 use Rattle.pb_propagate.proofs.Common.{get_or-map, get_or_default, length-map, map-set, sum_by-cons, get_or_from_slice_get, slice_get-get_or}
 use Rattle.pb_propagate.proofs.Common.{NumberedLiteral, Assignment, Clauses, Eager, Rests, Run, Store, StoredForm, Term, list_at, watch_at}
-use Rattle.pb_propagate.proofs.Common.{watch_lists, AreReady, AreWalked, all_of, AreJoined, clauses_of, joined, literal_at, one_term, slot_shape}
-use Rattle.pb_propagate.proofs.Common.{walked_codes, shapes_of, stored_shape, HaveReasons, open_part, open_sum, Shape, size, HasLost}
+use Rattle.pb_propagate.proofs.Common.{watch_lists, AreReady, all_of, AreJoined, clauses_of, joined, literal_at, one_term, slot_shape}
+use Rattle.pb_propagate.proofs.Common.{Walked, shapes_of, stored_shape, HaveReasons, open_part, open_sum, Shape, size, HasLost}
 use Rattle.pb_propagate.proofs.Common.{HasVacated, IsNeedless, IsOtherUnit, IsRooted, IsSameWatch, IsWithout}
+use Rattle.pb_propagate.proofs.lemmas.clauses.Heads.{KeepsFallen, walks-kept}
 use Rattle.pb_propagate.proofs.lemmas.clauses.Shapes.{joined-at}
 use Rattle.pb_propagate.proofs.lemmas.clauses.Slots.{joined-cleared}
 use Rattle.pb_propagate.proofs.lemmas.root.Admitted.{no-watch, form-kept}
@@ -51,18 +52,12 @@ pub slot-is : (store : Store) (clauses : Clauses) (slot : ℕ) (x : Shape) → s
 slot-is store clauses slot x less at =
     sym (get_or_from_slice_get (all_of store clauses) slot x x at) ∙ joined-at (shapes_of store.stored.items) (clauses_of clauses) slot x (omega (arith, less, length-map store.stored.items stored_shape))
 
--- the walked watches are still served
-vacated-walked : (values : List (Option Bool)) (old clauses : Clauses) (codes : List ℕ) (slot : ℕ) → AreReady clauses → list_at (clauses_of clauses) slot ≡ [] → clauses_of clauses ≡ set (clauses_of old) slot [] → ((e : ℕ) → (e / 2 ≡ slot → ⊥) → IsSameWatch (watch_at old.blocks.watches e) (watch_at clauses.blocks.watches e)) → AreWalked values old.blocks.literals old.blocks.watches codes → AreWalked values clauses.blocks.literals clauses.blocks.watches codes
-vacated-walked values old clauses codes slot ready none emptied same w = record {
-  failed = w.failed;
-  done = λ e live h. elim (cases_eq (e / 2) slot) [
-    | inl here ↦ absurd (no-watch (clauses_of clauses) clauses.blocks.watches (watch_lists clauses.lists.items) slot e ready.stored none here live)
-    | inr apart ↦
-        let met = w.done e (sym (same e apart).0 ∙ live) (subst (Contains codes) (same e apart).1 h) in
-        let there : list_at (clauses_of clauses) (e / 2) ≡ list_at (clauses_of old) (e / 2) = ap (λ cs. list_at cs (e / 2)) emptied ∙ get_or-set_other (clauses_of old) slot (e / 2) [] [] apart in
-        (met.0, subst (λ xs. Contains xs met.0) (sym there) met.1, met.2)
-  ];
-}
+-- the watches of the other slots are as they were
+pub vacated-keeps : (list : List NumberedLiteral) (old clauses : Clauses) (slot : ℕ) → AreReady clauses → list_at (clauses_of clauses) slot ≡ [] → clauses_of clauses ≡ set (clauses_of old) slot [] → ((e : ℕ) → (e / 2 ≡ slot → ⊥) → IsSameWatch (watch_at old.blocks.watches e) (watch_at clauses.blocks.watches e)) → KeepsFallen old clauses list
+vacated-keeps list old clauses slot ready none emptied same e live failed = elim (cases_eq (e / 2) slot) [
+  | inl here ↦ absurd (no-watch (clauses_of clauses) clauses.blocks.watches (watch_lists clauses.lists.items) slot e ready.stored none here live)
+  | inr apart ↦ (same e apart, ap (λ cs. list_at cs (e / 2)) emptied ∙ get_or-set_other (clauses_of old) slot (e / 2) [] [] apart)
+]
 
 -- the constraints after the form went
 pub vacated-all : (before store : Store) (old clauses : Clauses) (slot : ℕ) (g : HasVacated before old store clauses slot) → all_of store clauses ≡ set (all_of before old) slot (stored_shape g.kept.0)
@@ -81,9 +76,9 @@ lost-reasons before store old clauses slot a g n =
     ]) n.reasoned
 
 -- the root stays
-pub lost-rooted : (before store : Store) (old clauses : Clauses) (run run' : Run) (rests rests' : Rests) (waiting waiting' : Eager) (slot : ℕ) → slot < length before.stored.items → slot < length old.blocks.literals → AreReady clauses → HasVacated before old store clauses slot → HasLost run run' rests rests' slot → IsWithout slot waiting.list.items waiting'.list.items → length waiting'.seats.items ≡ length waiting.seats.items →
-    IsNeedless (all_of before old) slot run.assignment → IsRooted before old run rests waiting (length before.stored.items) → IsRooted store clauses run' rests' waiting' (length store.stored.items)
-lost-rooted before store old clauses run run' rests rests' waiting waiting' slot inside room ready g h without seats spare r = record {
+pub lost-rooted : (before store : Store) (old clauses : Clauses) (run run' : Run) (rests rests' : Rests) (waiting waiting' : Eager) (walked : Walked) (slot : ℕ) → slot < length before.stored.items → slot < length old.blocks.literals → AreReady clauses → HasVacated before old store clauses slot → HasLost run run' rests rests' slot → IsWithout slot waiting.list.items waiting'.list.items → length waiting'.seats.items ≡ length waiting.seats.items →
+    IsNeedless (all_of before old) slot run.assignment → IsRooted before old run rests waiting walked (length before.stored.items) → IsRooted store clauses run' rests' waiting' walked (length store.stored.items)
+lost-rooted before store old clauses run run' rests rests' waiting waiting' walked slot inside room ready g h without seats spare r = record {
   values = ap length valued ∙ r.values ∙ sym g.variables;
   opens = h.opens ∙ ap (λ xs. set xs slot 0) r.opens ∙ sym h.rest_opens;
   starts = h.candidates ∙ ap (λ xs. set xs slot 0) r.starts ∙ sym h.rest_starts;
@@ -128,7 +123,7 @@ lost-rooted before store old clauses run run' rests rests' waiting waiting' slot
   trail = ap (λ (v : Vec ℕ Global). v.items) h.trail ∙ r.trail;
   next = h.next ∙ r.next;
   reasoned = rw h.assignment (lost-reasons before store old clauses slot run.assignment g spare);
-  walked = rw (valued, listed) (vacated-walked run.assignment.values.items old clauses (walked_codes (length run.assignment.list.items) run.assignment.list.items) slot ready none_there g.emptied g.watched r.walked);
+  walks = rw listed (walks-kept old clauses run.assignment.list.items walked (vacated-keeps run.assignment.list.items old clauses slot ready none_there g.emptied g.watched) r.walks);
   seats = seats ∙ r.seats ∙ sym longer;
   live = λ i s at.
       let w = without.older i s at in

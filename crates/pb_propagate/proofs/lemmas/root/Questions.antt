@@ -3,7 +3,7 @@ use Rattle.pb_propagate.proofs.Common.{ℕ, ◌*◌, ◌++◌, ◌+◌, ◌-◌,
 use Rattle.pb_propagate.proofs.Common.{length, length-append, List, map, refl, set, suc, sym, take, Vec, zero, sum, sum_by, cases_eq, cases_lt}
 use Rattle.pb_propagate.proofs.Common.{ext_get_or, get_or_append_left, get_or_default, get_or_past, get_or_push, length-map, length-take, map-append}
 use Rattle.pb_propagate.proofs.Common.{take-append-drop, take_all, Contains-append_left, length_permutation, sum_by-append, sum_by-cons}
-use Rattle.pb_propagate.proofs.Common.{NumberedLiteral, Form, negation, Long, Short, Clauses, Rests, Run, Occurrence, Store, StoredForm, all_of}
+use Rattle.pb_propagate.proofs.Common.{NumberedLiteral, Form, negation, Long, Short, Clauses, Heads, heads_at, reached, Rests, Run, Occurrence, Store, StoredForm, all_of}
 use Rattle.pb_propagate.proofs.Common.{AreJoined, clauses_of, code_in, joined, fallen, AreFound, AreSingle, beside, Grown, IsCalm, IsCounted, IsTidy}
 use Rattle.pb_propagate.proofs.Common.{IsUndone, place, rest_open, spent, AreLonger, entries_of, HasEntered, IsSound, lists_of, shapes_of, spots_of}
 use Rattle.pb_propagate.proofs.Common.{stored_shape, entry_of, IsStoredAs, weighted, Derives, Extends, open_sum, Shape, size, RunPays, RunSpends}
@@ -190,21 +190,21 @@ spent-longer forms forms' occ occ' (l ∷ list) h =
     count-at fs (x ∷ xs) (suc n) = count-at fs xs n
 
 -- the number of visits, if only the forms that wait were visited
-pub updated-most : (store : Store) (clauses : Clauses) (rests : Rests) (waiting : List ℕ) (old new : Run) → IsSound store → AreJoined (shapes_of store.stored.items) (clauses_of clauses) → Derives (all_of store clauses) [] old.assignment.list.items → old.work.items ≡ [] → old.visits ≡ length old.assignment.list.items →
-    RunSpends store rests clauses (length old.assignment.list.items) waiting old new → new.visits ≤ 3 * sum_by (λ (f : Shape). length f.terms) (all_of store clauses) + length waiting
-updated-most store clauses rests waiting old new sound j d work visits s =
+pub updated-most : (store : Store) (clauses : Clauses) (rests : Rests) (waiting : List ℕ) (from : Heads) (old new : Run) → IsSound store → AreJoined (shapes_of store.stored.items) (clauses_of clauses) → Derives (all_of store clauses) [] old.assignment.list.items → old.work.items ≡ [] → old.visits ≡ length old.assignment.list.items →
+    RunSpends store rests clauses from waiting old new → new.visits ≤ 3 * sum_by (λ (f : Shape). length f.terms) (all_of store clauses) + length waiting
+updated-most store clauses rests waiting from old new sound j d work visits s =
     question-most store (clauses_of clauses) old.assignment.list.items new.assignment.list.items new.visits (length waiting) (sum new.candidates.items) sound j s.single (λ l on. opposite new.assignment.values.items new.assignment.list.items l new.assignment.agrees on) s.extends d s.bounded (omega (arith, s.upper, visits, ap length work))
 
 -- The visits of both parts of a question: what the first has read is not paid again.
-pub both-parts : (store store' : Store) (clauses between : Clauses) (rests rests' : Rests) (waiting : List ℕ) (old mid laid new : Run) → clauses_of between ≡ clauses_of clauses → AreLonger store.occurrences.items store'.occurrences.items → laid.assignment.list.items ≡ mid.assignment.list.items → sum laid.candidates.items ≡ sum mid.candidates.items → laid.visits ≡ mid.visits →
+pub both-parts : (store store' : Store) (clauses between : Clauses) (rests rests' : Rests) (waiting : List ℕ) (from : Heads) (old mid laid new : Run) (at : Heads) → at ≡ heads_at (length mid.assignment.list.items) → clauses_of between ≡ clauses_of clauses → AreLonger store.occurrences.items store'.occurrences.items → laid.assignment.list.items ≡ mid.assignment.list.items → sum laid.candidates.items ≡ sum mid.candidates.items → laid.visits ≡ mid.visits →
     old.work.items ≡ [] → length laid.work.items ≤ 1 → old.visits ≡ length old.assignment.list.items →
-    RunPays store rests clauses between (length old.assignment.list.items) waiting old mid → RunSpends store' rests' between (length mid.assignment.list.items) [] laid new →
+    RunPays store rests clauses between from waiting old mid → RunSpends store' rests' between at [] laid new →
     new.visits ≤ length old.assignment.list.items + (length waiting + 1) + sum new.candidates.items + 2 * spent (entries_of (shapes_of store'.stored.items) store'.occurrences.items) new.assignment.list.items + 2 * fallen (clauses_of clauses) new.assignment.list.items + sum_by length (clauses_of clauses)
-both-parts store store' clauses between rests rests' waiting old mid laid new same longer list cands visits work few begun first second =
+both-parts store store' clauses between rests rests' waiting from old mid laid new at heads same longer list cands visits work few begun first second =
     let more = spent-longer (shapes_of store.stored.items) (shapes_of store'.stored.items) store.occurrences.items store'.occurrences.items mid.assignment.list.items longer in
     let now = ap (spent (entries_of (shapes_of store'.stored.items) store'.occurrences.items)) list in
     let walked : take (length mid.assignment.list.items) laid.assignment.list.items ≡ mid.assignment.list.items = ap (take (length mid.assignment.list.items)) list ∙ take_all (length mid.assignment.list.items) mid.assignment.list.items (omega arith) in
-    let seen_mid : fallen (clauses_of between) (take (length mid.assignment.list.items) laid.assignment.list.items) ≡ fallen (clauses_of clauses) mid.assignment.list.items = ap (λ cs. fallen cs (take (length mid.assignment.list.items) laid.assignment.list.items)) same ∙ ap (fallen (clauses_of clauses)) walked in
+    let seen_mid : reached (clauses_of between) at laid.assignment.list.items ≡ fallen (clauses_of clauses) mid.assignment.list.items = ap (λ h. reached (clauses_of between) h laid.assignment.list.items) heads ∙ ap (λ cs. fallen cs (take (length mid.assignment.list.items) laid.assignment.list.items)) same ∙ ap (fallen (clauses_of clauses)) walked in
     let seen_new : fallen (clauses_of between) new.assignment.list.items ≡ fallen (clauses_of clauses) new.assignment.list.items = ap (λ cs. fallen cs new.assignment.list.items) same in
     let sizes : sum_by length (clauses_of between) ≡ sum_by length (clauses_of clauses) = ap (sum_by length) same in
     omega (arith, first.upper, second.upper, more, now, seen_mid, seen_new, sizes, cands, visits, ap length work, few, begun)

@@ -1,39 +1,22 @@
 -- What a question on the root costs, and how it comes back to the root.
-use Rattle.pb_propagate.proofs.Common.{ℕ, ◌*◌, ◌++◌, ◌+◌, ◌<◌, ◌∙◌, ◌≡◌, ◌≤◌, [], ap, arith, length, List, map, refl, subst, sym, take, true, sum}
-use Rattle.pb_propagate.proofs.Common.{sum_by, take-append_seam, or_left, length-map, take_all, list_any-append, list_any, NumberedLiteral}
-use Rattle.pb_propagate.proofs.Common.{Assignment, Long, Short, Clauses, Eager, Rests, Run, Store, AreWalked, AreWithin, Grows, passed_of, clauses_of}
-use Rattle.pb_propagate.proofs.Common.{fallen, falsified_code, walked_codes, AreSingle, IsCounted, IsUndone, spent, weight_in, RunRefutes, entries_of}
-use Rattle.pb_propagate.proofs.Common.{shapes_of, stored_shape, Extends, IsWithin, KeepsReasons, same, Advances, Costs, database, progress, RunPays}
+use Rattle.pb_propagate.proofs.Common.{ℕ, ◌*◌, ◌+◌, ◌<◌, ◌∙◌, ◌≡◌, ◌≤◌, [], ap, arith, length, List, refl, sym, take, sum}
+use Rattle.pb_propagate.proofs.Common.{sum_by, take-append_seam, length-map, NumberedLiteral}
+use Rattle.pb_propagate.proofs.Common.{Assignment, Long, Short, Clauses, Eager, Rests, Run, Store, Heads, Walked, IsWalkedTo, AreWithin, Grows, passed_of, clauses_of}
+use Rattle.pb_propagate.proofs.Common.{fallen, falsified_code, heads_at, reached, AreSingle, IsCounted, IsUndone, spent, weight_in, RunRefutes, entries_of}
+use Rattle.pb_propagate.proofs.Common.{shapes_of, stored_shape, Extends, HaveReasons, all_of, KeepsReasons, same, Advances, Costs, database, progress, RunPays}
 use Rattle.pb_propagate.proofs.Common.{RunSpends, IsRooted}
-use Rattle.pb_propagate.specs.engine.Engine.Lists.{has}
 use Rattle.pb_propagate.proofs.lemmas.clauses.Counts.{passed-most}
-use Rattle.pb_propagate.proofs.lemmas.clauses.Literals.{Agree}
 use Rattle.pb_propagate.proofs.lemmas.clauses.Walks.{grows-listed}
 use Rattle.pb_propagate.proofs.lemmas.engine.Reasoned.{reasons-keep}
-use Rattle.pb_propagate.proofs.lemmas.root.Extends.{extends-then, spent-extends, killed-longer}
-use Rattle.pb_propagate.proofs.lemmas.root.Roots.{keep-all, walked-agree}
-
-longer : (a r : List NumberedLiteral) (k : NumberedLiteral) → has a k ≡ true → has (a ++ r) k ≡ true
-unfolding has
-longer a r k on =
-    let split = list_any-append (λ x. same x k) a r in
-    rw split (or_left (list_any (λ x. same x k) a) (list_any (λ x. same x k) r) on)
-
-pub extends-within : (a b : List NumberedLiteral) → Extends a b → IsWithin a b
-extends-within a b (r, e) l h = ap (λ xs. has xs l) e ∙ longer a r l h
+use Rattle.pb_propagate.proofs.lemmas.root.Extends.{extends-then, extends-within, spent-extends, killed-longer}
+use Rattle.pb_propagate.proofs.lemmas.root.Roots.{keep-all}
 
 -- values of a longer list
-pub assigned-grow : (old new : Assignment) → length new.values.items ≡ length old.values.items → Extends old.list.items new.list.items → Grows old.values.items new.values.items
-assigned-grow old new sizes more = grows-listed old.values.items new.values.items old.list.items new.list.items sizes old.agrees new.agrees (extends-within old.list.items new.list.items more)
+pub assigned-grow : (old new : Assignment) → Extends old.list.items new.list.items → Grows old.values.items new.values.items
+assigned-grow old new more = grows-listed old.values.items new.values.items old.list.items new.list.items old.agrees new.agrees (extends-within old.list.items new.list.items more)
 
 fallen-extends : (clauses : List (List ℕ)) (a b : List NumberedLiteral) → Extends a b → fallen clauses a ≤ fallen clauses b
 fallen-extends clauses a b more = omega (arith, killed-longer clauses (falsified_code Short) a b more, killed-longer clauses (falsified_code Long) a b more)
-
--- the first literals have the same codes
-pub walked-first : (n : ℕ) (old new : List NumberedLiteral) → n ≡ length old → Extends old new → walked_codes n new ≡ walked_codes (length old) old
-walked-first n old new is (more, e) =
-    let first : take n new ≡ take (length old) old = ap (λ m. take m new) is ∙ ap (take (length old)) e ∙ take-append_seam old more ∙ sym (take_all (length old) old (omega arith)) in
-    ap (λ xs. map (falsified_code Short) xs ++ map (falsified_code Long) xs) first
 
 -- literals were assigned, and nothing was propagated
 pub refutes-short : (store : Store) (rests : Rests) (c : Clauses) (count : ℕ) (old new : Run) → AreWithin (passed_of c) (clauses_of c) → AreSingle old.assignment.list.items → sum new.candidates.items ≤ sum_by (λ f. length f.terms) (shapes_of store.stored.items) → Costs (database store rests) 0 count (progress old) (progress new) → RunRefutes store rests c count old new
@@ -49,12 +32,12 @@ refutes-short store rests c count old new within single bounded costs =
     }
 
 -- and then what follows was propagated
-pub refutes-long : (store : Store) (rests : Rests) (c : Clauses) (count from : ℕ) (old mid new : Run) → from ≡ length old.assignment.list.items → old.work.items ≡ [] → old.next ≡ 0 → Advances (database store rests) 0 count (progress old) (progress mid) → RunSpends store rests c from [] mid new → RunRefutes store rests c count old new
+pub refutes-long : (store : Store) (rests : Rests) (c : Clauses) (count : ℕ) (from : Heads) (old mid new : Run) → from ≡ heads_at (length old.assignment.list.items) → old.work.items ≡ [] → old.next ≡ 0 → Advances (database store rests) 0 count (progress old) (progress mid) → RunSpends store rests c from [] mid new → RunRefutes store rests c count old new
 refutes-long store rests c count from old mid new start work next a s =
     let e = a.costs.extends in
-    let walked : take from mid.assignment.list.items ≡ old.assignment.list.items =
-    ap (λ n. take n mid.assignment.list.items) start ∙ ap (take (length old.assignment.list.items)) e.1 ∙ take-append_seam old.assignment.list.items e.0 in
-    let same = ap (fallen (clauses_of c)) walked in
+    let walked : take (length old.assignment.list.items) mid.assignment.list.items ≡ old.assignment.list.items =
+    ap (take (length old.assignment.list.items)) e.1 ∙ take-append_seam old.assignment.list.items e.0 in
+    let same : reached (clauses_of c) from mid.assignment.list.items ≡ fallen (clauses_of c) old.assignment.list.items = ap (λ k. reached (clauses_of c) k mid.assignment.list.items) start ∙ ap (fallen (clauses_of c)) walked in
     record {
       extends = extends-then old.assignment.list.items mid.assignment.list.items new.assignment.list.items e s.extends;
       single = s.single;
@@ -63,18 +46,18 @@ refutes-long store rests c count from old mid new start work next a s =
     }
 
 -- The visits of an update and a question after it: what the first has read is not paid again.
-pub both-costs : (store : Store) (clauses between : Clauses) (rests rests' : Rests) (waiting : List ℕ) (count : ℕ) (old mid new : Run) → clauses_of between ≡ clauses_of clauses → old.work.items ≡ [] → old.visits ≡ length old.assignment.list.items →
-    RunPays store rests clauses between (length old.assignment.list.items) waiting old mid → RunRefutes store rests' between count mid new →
+pub both-costs : (store : Store) (clauses between : Clauses) (rests rests' : Rests) (waiting : List ℕ) (from : Heads) (count : ℕ) (old mid new : Run) → clauses_of between ≡ clauses_of clauses → old.work.items ≡ [] → old.visits ≡ length old.assignment.list.items →
+    RunPays store rests clauses between from waiting old mid → RunRefutes store rests' between count mid new →
     new.visits ≤ length old.assignment.list.items + (length waiting + count) + sum new.candidates.items + 2 * spent (entries_of (shapes_of store.stored.items) store.occurrences.items) new.assignment.list.items + 2 * fallen (clauses_of clauses) new.assignment.list.items + sum_by length (clauses_of clauses)
-both-costs store clauses between rests rests' waiting count old mid new same work begun first second =
+both-costs store clauses between rests rests' waiting from count old mid new same work begun first second =
     let seen_mid : fallen (clauses_of between) mid.assignment.list.items ≡ fallen (clauses_of clauses) mid.assignment.list.items = ap (λ cs. fallen cs mid.assignment.list.items) same in
     let seen_new : fallen (clauses_of between) new.assignment.list.items ≡ fallen (clauses_of clauses) new.assignment.list.items = ap (λ cs. fallen cs new.assignment.list.items) same in
     let sizes : sum_by length (clauses_of between) ≡ sum_by length (clauses_of clauses) = ap (sum_by length) same in
     omega (arith, first.upper, second.upper, seen_mid, seen_new, sizes, ap length work, begun)
 
 -- the open sums of the root are those of its list
-pub root-counted : (store : Store) (clauses : Clauses) (run : Run) (rests : Rests) (waiting : Eager) → IsRooted store clauses run rests waiting (length store.stored.items) → IsCounted (shapes_of store.stored.items) run.opens.items run.assignment.list.items []
-root-counted store clauses run rests waiting r = record {
+pub root-counted : (store : Store) (clauses : Clauses) (run : Run) (rests : Rests) (waiting : Eager) (walked : Walked) → IsRooted store clauses run rests waiting walked (length store.stored.items) → IsCounted (shapes_of store.stored.items) run.opens.items run.assignment.list.items []
+root-counted store clauses run rests waiting walked r = record {
   each = λ s d less.
       let inside : s < length store.stored.items = omega (arith, less, length-map store.stored.items stored_shape) in
       let none : weight_in s [] ≡ 0 = refl in
@@ -82,9 +65,9 @@ root-counted store clauses run rests waiting r = record {
 }
 
 -- what undoing a question leaves
-pub record IsBack (store : Store) (between after : Clauses) (run last : Run) (rests : Rests) (new : List NumberedLiteral) : Type 0 where
+pub record IsBack (store : Store) (between after : Clauses) (run last : Run) (rests : Rests) (walked : Walked) (new : List NumberedLiteral) : Type 0 where
   pub literals : clauses_of after ≡ clauses_of between
-  pub kept : AreWalked run.assignment.values.items between.blocks.literals between.blocks.watches (walked_codes (length run.assignment.list.items) run.assignment.list.items) → AreWalked run.assignment.values.items after.blocks.literals after.blocks.watches (walked_codes (length run.assignment.list.items) run.assignment.list.items)
+  pub walks : IsWalkedTo after run.assignment.list.items walked
   pub extends : Extends run.assignment.list.items new
   pub reasons : KeepsReasons run.assignment.list.items run.assignment.reasons.items last.assignment.reasons.items
   pub cut : last.assignment.list.items ≡ take (length run.assignment.list.items) new
@@ -96,16 +79,14 @@ pub record IsBack (store : Store) (between after : Clauses) (run last : Run) (re
   pub trail : last.trail.items ≡ []
   pub next : last.next ≡ 0
 
-pub back-rooted : (store : Store) (between after : Clauses) (run last : Run) (rests : Rests) (waiting : Eager) (new : List NumberedLiteral) → IsRooted store between run rests waiting (length store.stored.items) → IsBack store between after run last rests new → IsRooted store after last rests waiting (length store.stored.items)
-back-rooted store between after run last rests waiting new r b =
+pub back-rooted : (store : Store) (between after : Clauses) (run last : Run) (rests : Rests) (waiting : Eager) (walked walked' : Walked) (new : List NumberedLiteral) → IsRooted store between run rests waiting walked (length store.stored.items) → IsBack store between after run last rests walked' new → IsRooted store after last rests waiting walked' (length store.stored.items)
+back-rooted store between after run last rests waiting walked walked' new r b =
     let shapes = shapes_of store.stored.items in
     let long = length-map store.stored.items stored_shape in
     let same = keep-all rests shapes last.opens.items last.candidates.items [] 0 (omega arith) (omega (arith, long, b.opens)) (omega (arith, b.opens, b.candidates)) (omega (arith, ap length r.opens, r.open_sizes, b.opens)) (omega (arith, ap length r.starts, r.start_sizes, b.candidates)) b.undone in
     let opens_is : last.opens.items ≡ run.opens.items = sym same.0 ∙ sym r.opens in
     let starts_is : last.candidates.items ≡ run.candidates.items = sym same.1 ∙ sym r.starts in
     let list_is : last.assignment.list.items ≡ run.assignment.list.items = b.cut ∙ ap (take (length run.assignment.list.items)) b.extends.1 ∙ take-append_seam run.assignment.list.items b.extends.0 in
-    let agrees : Agree last.assignment.values.items run.assignment.list.items = subst (λ xs. Agree last.assignment.values.items xs) list_is last.assignment.agrees in
-    let walked = walked-agree run.assignment.values.items last.assignment.values.items run.assignment.list.items after.blocks.literals after.blocks.watches (walked_codes (length run.assignment.list.items) run.assignment.list.items) run.assignment.agrees agrees (b.kept r.walked) in
     record {
       values = b.values ∙ r.values;
       opens = sym same.0;
@@ -118,13 +99,13 @@ back-rooted store between after run last rests waiting new r b =
       trail = b.trail;
       next = b.next;
       reasoned = rw (b.literals, list_is) (reasons-keep run.assignment.reasons.items last.assignment.reasons.items b.reasons r.reasoned);
-      walked = rw list_is walked;
+      walks = rw list_is b.walks;
       seats = r.seats;
       live = r.live;
     }
 
 -- the same forms wait
-pub rooted-waiting : {store : Store} {clauses : Clauses} {run : Run} {rests : Rests} {busy : ℕ} (waiting waiting' : Eager) → waiting'.list ≡ waiting.list → waiting'.seats ≡ waiting.seats → IsRooted store clauses run rests waiting busy → IsRooted store clauses run rests waiting' busy
+pub rooted-waiting : {store : Store} {clauses : Clauses} {run : Run} {rests : Rests} {walked : Walked} {busy : ℕ} (waiting waiting' : Eager) → waiting'.list ≡ waiting.list → waiting'.seats ≡ waiting.seats → IsRooted store clauses run rests waiting walked busy → IsRooted store clauses run rests waiting' walked busy
 rooted-waiting waiting waiting' list seats r = record {
   values = r.values;
   opens = r.opens;
@@ -137,7 +118,27 @@ rooted-waiting waiting waiting' list seats r = record {
   trail = r.trail;
   next = r.next;
   reasoned = r.reasoned;
-  walked = r.walked;
+  walks = r.walks;
   seats = rw seats r.seats;
   live = rw list r.live;
+}
+
+-- other reasons for the same literals
+pub reasoned-rooted : {store : Store} {clauses : Clauses} {run : Run} {rests : Rests} {waiting : Eager} {walked : Walked} {busy : ℕ} (a : Assignment) → a.list ≡ run.assignment.list → a.values ≡ run.assignment.values → HaveReasons (all_of store clauses) a.reasons.items [] a.list.items → IsRooted store clauses run rests waiting walked busy →
+    IsRooted store clauses (record { opens = run.opens; candidates = run.candidates; assignment = a; work = run.work; next = run.next; trail = run.trail; visits = run.visits }) rests waiting walked busy
+reasoned-rooted a list values reasoned r = record {
+  values = rw values r.values;
+  opens = r.opens;
+  starts = r.starts;
+  open_sizes = r.open_sizes;
+  start_sizes = r.start_sizes;
+  counted = rw list r.counted;
+  tidy = rw list r.tidy;
+  work = r.work;
+  trail = r.trail;
+  next = r.next;
+  reasoned = reasoned;
+  walks = rw list r.walks;
+  seats = r.seats;
+  live = r.live;
 }

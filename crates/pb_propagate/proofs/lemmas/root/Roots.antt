@@ -1,11 +1,11 @@
 -- The state to which questions return becomes that of the run.
-use Rattle.pb_propagate.proofs.Common.{ℕ, ◌+◌, ◌<◌, ◌∙◌, ◌≡◌, ◌≤◌, ◌⊎◌, [], ap, arith, Bool, get_or, get_or-set_other, get_or-set_same, inl, inr}
-use Rattle.pb_propagate.proofs.Common.{length, List, refl, set, subst, sym, Option, slice_get, slice_get_within, Some, cases_eq, ext_get_or, get_or_default}
-use Rattle.pb_propagate.proofs.Common.{get_or_read, length-map, NumberedLiteral, Assignment, Clauses, Watch, Eager, Rests, Run, Store, StoredForm}
-use Rattle.pb_propagate.proofs.Common.{AreWalked, all_of, walked_codes, beside, IsAbsent, IsCounted, IsTidy, IsUndone, rest_open}
+use Rattle.pb_propagate.proofs.Common.{ℕ, ◌+◌, ◌<◌, ◌∙◌, ◌≡◌, ◌≤◌, ◌⊎◌, [], ap, arith, get_or, get_or-set_other, get_or-set_same, inl, inr}
+use Rattle.pb_propagate.proofs.Common.{length, List, refl, set, sym, slice_get, slice_get_within, Some, cases_eq, ext_get_or, get_or_default}
+use Rattle.pb_propagate.proofs.Common.{get_or_read, length-map, NumberedLiteral, Assignment, Clauses, Eager, Rests, Run, Store, StoredForm}
+use Rattle.pb_propagate.proofs.Common.{all_of, Walked, IsWalkedTo, heads_at, beside, IsAbsent, IsCounted, IsTidy, IsUndone, rest_open}
+use Rattle.pb_propagate.proofs.lemmas.clauses.Heads.{walks-none}
 use Rattle.pb_propagate.proofs.Common.{rest_start, weight_in, shapes_of, stored_shape, HaveReasons, KeepsReasons, Shape, size, AreAtRest, IsEager}
 use Rattle.pb_propagate.proofs.Common.{from_given, HasForm, IsRooted}
-use Rattle.pb_propagate.proofs.lemmas.clauses.Literals.{Agree, true-listed, false-listed}
 use Rattle.pb_propagate.proofs.lemmas.store.Gets.{lt_of_apart}
 use Rattle.pb_propagate.proofs.lemmas.engine.Reasoned.{reasons-keep}
 use Rattle.pb_propagate.proofs.lemmas.engine.VisitSteps.{open-now}
@@ -73,20 +73,20 @@ pub record IsKept (run run' : Run) (rests' : Rests) : Type 0 where
   pub rest_starts : rests'.starts.items ≡ run.candidates.items
 
 -- the parts of a root that lists of forms that wait do not touch
-pub record IsEnded (store : Store) (clauses : Clauses) (run : Run) : Type 0 where
+pub record IsEnded (store : Store) (clauses : Clauses) (run : Run) (walked : Walked) : Type 0 where
   pub values : length run.assignment.values.items ≡ store.variables
   pub opens : length run.opens.items ≡ length store.stored.items
   pub candidates : length run.candidates.items ≡ length store.stored.items
   pub counted : IsCounted (shapes_of store.stored.items) run.opens.items run.assignment.list.items []
   pub reasoned : HaveReasons (all_of store clauses) run.assignment.reasons.items [] run.assignment.list.items
-  pub walked : AreWalked run.assignment.values.items clauses.blocks.literals clauses.blocks.watches (walked_codes (length run.assignment.list.items) run.assignment.list.items)
+  pub walks : IsWalkedTo clauses run.assignment.list.items walked
 
-pub kept-rooted : (store : Store) (clauses : Clauses) (run run' : Run) (rests rests' : Rests) (aside : List ℕ) (waiting' : Eager) → IsEnded store clauses run →
+pub kept-rooted : (store : Store) (clauses : Clauses) (run run' : Run) (rests rests' : Rests) (aside : List ℕ) (waiting' : Eager) (walked : Walked) → IsEnded store clauses run walked →
     IsTidy (beside rests aside) (shapes_of store.stored.items) run.opens.items run.candidates.items run.assignment.list.items run.work.items run.trail.items run.next (length store.stored.items) →
     ((s : ℕ) → IsAbsent waiting'.list.items 0 s → IsAbsent aside 0 s × IsAbsent run.work.items run.next s) → IsKept run run' rests' →
     length waiting'.seats.items ≡ length store.stored.items → ((i s : ℕ) → slice_get waiting'.list.items i ≡ Some s → HasForm store s) →
-    IsRooted store clauses run' rests' waiting' (length store.stored.items)
-kept-rooted store clauses run run' rests rests' aside waiting' e tidy waits k seats live =
+    IsRooted store clauses run' rests' waiting' walked (length store.stored.items)
+kept-rooted store clauses run run' rests rests' aside waiting' walked e tidy waits k seats live =
     let long = length-map store.stored.items stored_shape in
     let tidy_f : IsTidy (beside rests aside) (shapes_of store.stored.items) run.opens.items run.candidates.items run.assignment.list.items run.work.items run.trail.items run.next (length (shapes_of store.stored.items)) = rw long tidy in
     let still = kept-tidy rests rests' aside waiting'.list.items (shapes_of store.stored.items) run.opens.items run.candidates.items run.assignment.list.items run.work.items run.trail.items run.next waits (omega (arith, long, e.opens)) k.rest_opens k.rest_starts tidy_f in
@@ -103,7 +103,7 @@ kept-rooted store clauses run run' rests rests' aside waiting' e tidy waits k se
       trail = k.trail;
       next = k.next;
       reasoned = rw k.assignment e.reasoned;
-      walked = rw k.assignment e.walked;
+      walks = rw k.assignment e.walks;
       seats = seats;
       live = live;
     }
@@ -134,17 +134,10 @@ start-tidy rests keep eager opens cands opened started r e = record {
   traced = λ s gone. gone;
 }
 
--- no literal is walked yet
-pub none-walked : (values : List (Option Bool)) (clauses : List (List ℕ)) (ws : List Watch) → AreWalked values clauses ws (walked_codes 0 [])
-none-walked values clauses ws = record {
-  failed = λ x there. absurd (omega (arith, there.1));
-  done = λ e live there. absurd (omega (arith, there.1));
-}
-
 -- the root of no forms over no variables
-pub new-rooted : (store : Store) (clauses : Clauses) (run : Run) (rests : Rests) (waiting : Eager) → store.stored.items ≡ [] → store.variables ≡ 0 → run.assignment.values.items ≡ [] → run.assignment.list.items ≡ [] → run.opens.items ≡ [] → run.candidates.items ≡ [] → run.work.items ≡ [] → run.trail.items ≡ [] → run.next ≡ 0 →
-    rests.opens.items ≡ [] → rests.starts.items ≡ [] → waiting.list.items ≡ [] → waiting.seats.items ≡ [] → IsRooted store clauses run rests waiting (length store.stored.items)
-new-rooted store clauses run rests waiting none variables values list opens cands work trail next rest_opens rest_starts waits seats =
+pub new-rooted : (store : Store) (clauses : Clauses) (run : Run) (rests : Rests) (waiting : Eager) (walked : Walked) → store.stored.items ≡ [] → store.variables ≡ 0 → run.assignment.values.items ≡ [] → run.assignment.list.items ≡ [] → run.opens.items ≡ [] → run.candidates.items ≡ [] → run.work.items ≡ [] → run.trail.items ≡ [] → run.next ≡ 0 →
+    rests.opens.items ≡ [] → rests.starts.items ≡ [] → waiting.list.items ≡ [] → waiting.seats.items ≡ [] → walked.heads ≡ heads_at 0 → walked.marks.items ≡ [] → IsRooted store clauses run rests waiting walked (length store.stored.items)
+new-rooted store clauses run rests waiting walked none variables values list opens cands work trail next rest_opens rest_starts waits seats heads marks =
     let empty = ap length none in
     let shapes = length-map store.stored.items stored_shape in
     record {
@@ -167,13 +160,13 @@ new-rooted store clauses run rests waiting none variables values list opens cand
       trail = trail;
       next = next;
       reasoned = rw list from_given;
-      walked = rw list (none-walked run.assignment.values.items clauses.blocks.literals clauses.blocks.watches);
+      walks = rw list (walks-none clauses walked heads marks);
       seats = ap length seats ∙ sym empty;
       live = λ i s at. absurd (omega (arith, slice_get_within waiting.list.items i s at, ap length waits));
     }
 
 -- a run with another count of visits
-pub rooted-counted : {store : Store} {clauses : Clauses} {run : Run} {rests : Rests} {waiting : Eager} {busy : ℕ} (visits : ℕ) → IsRooted store clauses run rests waiting busy → IsRooted store clauses (record { opens = run.opens; candidates = run.candidates; assignment = run.assignment; work = run.work; next = run.next; trail = run.trail; visits = visits }) rests waiting busy
+pub rooted-counted : {store : Store} {clauses : Clauses} {run : Run} {rests : Rests} {waiting : Eager} {walked : Walked} {busy : ℕ} (visits : ℕ) → IsRooted store clauses run rests waiting walked busy → IsRooted store clauses (record { opens = run.opens; candidates = run.candidates; assignment = run.assignment; work = run.work; next = run.next; trail = run.trail; visits = visits }) rests waiting walked busy
 rooted-counted visits r = record {
   values = r.values;
   opens = r.opens;
@@ -186,24 +179,15 @@ rooted-counted visits r = record {
   trail = r.trail;
   next = r.next;
   reasoned = r.reasoned;
-  walked = r.walked;
+  walks = r.walks;
   seats = r.seats;
   live = r.live;
 }
 
--- values of one list have the same watches served
-pub walked-agree : (values values' : List (Option Bool)) (list : List NumberedLiteral) (clauses : List (List ℕ)) (ws : List Watch) (codes : List ℕ) → Agree values list → Agree values' list → AreWalked values clauses ws codes → AreWalked values' clauses ws codes
-walked-agree values values' list clauses ws codes a b w = record {
-  failed = λ x h. false-listed values' list x b ∙ sym (false-listed values list x a) ∙ w.failed x h;
-  done = λ e live h. let met = w.done e live h in (met.0, met.1, true-listed values' list met.0 b ∙ sym (true-listed values list met.0 a) ∙ met.2);
-}
-
 -- one more variable, which has no value
-pub widened-rooted : (store store' : Store) (clauses clauses' : Clauses) (run : Run) (assignment : Assignment) (rests : Rests) (waiting : Eager) → store'.stored ≡ store.stored → store'.variables ≡ store.variables + 1 → clauses'.blocks.literals ≡ clauses.blocks.literals → clauses'.blocks.watches ≡ clauses.blocks.watches → assignment.list.items ≡ run.assignment.list.items → length assignment.values.items ≡ length run.assignment.values.items + 1 → KeepsReasons run.assignment.list.items run.assignment.reasons.items assignment.reasons.items →
-    IsRooted store clauses run rests waiting (length store.stored.items) → IsRooted store' clauses' (record { opens = run.opens; candidates = run.candidates; assignment = assignment; work = run.work; next = run.next; trail = run.trail; visits = run.visits }) rests waiting (length store'.stored.items)
-widened-rooted store store' clauses clauses' run assignment rests waiting stored variables literals watches list values keeps r =
-    let agrees : Agree assignment.values.items run.assignment.list.items = subst (Agree assignment.values.items) list assignment.agrees in
-    let walked = walked-agree run.assignment.values.items assignment.values.items run.assignment.list.items clauses.blocks.literals clauses.blocks.watches (walked_codes (length run.assignment.list.items) run.assignment.list.items) run.assignment.agrees agrees r.walked in
+pub widened-rooted : (store store' : Store) (clauses clauses' : Clauses) (run : Run) (assignment : Assignment) (rests : Rests) (waiting : Eager) (walked : Walked) → store'.stored ≡ store.stored → store'.variables ≡ store.variables + 1 → clauses'.blocks.literals ≡ clauses.blocks.literals → clauses'.blocks.watches ≡ clauses.blocks.watches → assignment.list.items ≡ run.assignment.list.items → length assignment.values.items ≡ length run.assignment.values.items + 1 → KeepsReasons run.assignment.list.items run.assignment.reasons.items assignment.reasons.items →
+    IsRooted store clauses run rests waiting walked (length store.stored.items) → IsRooted store' clauses' (record { opens = run.opens; candidates = run.candidates; assignment = assignment; work = run.work; next = run.next; trail = run.trail; visits = run.visits }) rests waiting walked (length store'.stored.items)
+widened-rooted store store' clauses clauses' run assignment rests waiting walked stored variables literals watches list values keeps r =
     record {
       values = omega (arith, values, r.values, variables);
       opens = r.opens;
@@ -216,7 +200,7 @@ widened-rooted store store' clauses clauses' run assignment rests waiting stored
       trail = r.trail;
       next = r.next;
       reasoned = rw (stored, literals, list) (reasons-keep run.assignment.reasons.items assignment.reasons.items keeps r.reasoned);
-      walked = rw (list, literals, watches) walked;
+      walks = record { now = rw (list, literals, watches) r.walks.now; marks = rw (list, literals, watches) r.walks.marks; level = rw list r.walks.level };
       seats = rw stored r.seats;
       live = rw stored r.live;
     }

@@ -1,6 +1,6 @@
-use Rattle.pb_propagate.proofs.Common.{ℕ, ◌++◌, ◌+◌, ◌<◌, ◌∙◌, ◌∷◌, ◌≤◌, [], ap, arith, drop, get_or, Global, inl, inr, length, List, subst, sym, Vec}
+use Rattle.pb_propagate.proofs.Common.{ℕ, ◌++◌, ◌+◌, ◌<◌, ◌∙◌, ◌∷◌, ◌≤◌, [], ap, arith, drop, get_or, Global, inl, inr, length, length-append, List, refl, subst, sym, Vec}
 use Rattle.pb_propagate.proofs.Common.{sum, sum_by, drop_all, get_or_default, length-map, take_rest, NumberedLiteral, Heads, AreServed, AreWalked}
-use Rattle.pb_propagate.proofs.Common.{passed_of, all_of, clauses_of, joined, false_at, advanced, falsified_code, head, IsAhead, spent, entries_of}
+use Rattle.pb_propagate.proofs.Common.{passed_of, all_of, clauses_of, joined, false_at, advanced, falsified_code, head, heads_at, IsAhead, spent, entries_of}
 use Rattle.pb_propagate.proofs.Common.{shapes_of, stored_shape, Conflicts, IsSettled, database, progress, queued_to, RunReasons}
 use Rattle.pb_propagate.proofs.lemmas.engine.Derivations.{derivation-keeps}
 use Rattle.pb_propagate.proofs.lemmas.engine.Reasoned.{reasons-derive, run-reasons-none, run-reasons-then}
@@ -11,7 +11,8 @@ use Rattle.pb_propagate.proofs.lemmas.root.Extends.{extends-none}
 use Rattle.pb_propagate.proofs.lemmas.engine.Spent.{sum-bounded}
 use Rattle.pb_propagate.proofs.lemmas.engine.Values.{opposite}
 use Rattle.pb_propagate.proofs.lemmas.clauses.Shapes.{derives-joined, conflicts-joined, joined-source}
-use Rattle.pb_propagate.proofs.lemmas.clauses.Walks.{grows-refl, grows-trans, grows-listed, running-grow}
+use Rattle.pb_propagate.proofs.lemmas.clauses.Heads.{mark-walked, walked-mark, marking-start, marking-grow, marking-found, marking-next}
+use Rattle.pb_propagate.proofs.lemmas.clauses.Walks.{grows-refl, grows-trans, grows-listed, kept-then, running-grow}
 use Rattle.pb_propagate.proofs.lemmas.clauses.Watching.{IsWatching, cost, next-of, listed-small, ahead-room, advanced-sum, walked-whole, watching-start, watching-grow, watching-next, watching-settled, derived-take, cost-grow, cost-next, cost-broken, cost-most}
 use Rattle.pb_propagate.proofs.run.propagate.Goals as goal
 
@@ -21,11 +22,12 @@ work-init c =
     let run = c.args.run.now in
     record {
       grows = grows-refl run.assignment.values.items;
-      kept = λ base codes more old. old;
+      kept = λ e live failed. (refl, refl);
+      marking = marking-start c.args.clauses.now run.assignment.list.items c.args.marks.now.items c.len-marked.result c.args.from (omega (arith, c.len-marked.ensures, run.assignment.list.ok.0)) c.requires.walked;
       taken = omega arith;
-      watching = watching-start c.args.clauses.now run.assignment.values.items run.assignment.list.items c.args.from c.requires.running c.requires.from c.requires.walked;
+      watching = watching-start c.args.clauses.now run.assignment.values.items run.assignment.list.items c.args.from c.requires.running c.requires.walked.short c.requires.walked.long (mark-walked run.assignment.values.items c.args.clauses.now.blocks.literals c.args.clauses.now.blocks.watches run.assignment.list.items c.args.from run.assignment.agrees c.requires.walked);
       reasons = run-reasons-none (all_of store c.args.clauses.now) run;
-      state = propagating-start (database c.args.store.now c.args.rests.now) c.args.waiting.now (length store.stored.items) (cost c.args.clauses.now c.args.clauses.now (record { short = c.args.from; long = c.args.from }) run.assignment.list.items) (progress run) c.requires.counted c.requires.tidy c.requires.opens c.requires.candidates c.requires.next;
+      state = propagating-start (database c.args.store.now c.args.rests.now) c.args.waiting.now (length store.stored.items) (cost c.args.clauses.now c.args.clauses.now c.args.from run.assignment.list.items) (progress run) c.requires.counted c.requires.tidy c.requires.opens c.requires.candidates c.requires.next;
     }
 
 pub next_walk-requires : goal.next_walk-requires
@@ -188,12 +190,17 @@ work-preserved-in-Some c =
     let paid = subst (λ (h : Heads). done.visits + spent lists run.assignment.list.items + cost c.args.clauses.now c.work.clauses c.work.heads run.assignment.list.items ≤ run.visits + cost c.args.clauses.now c.walk.new.clauses h done.assignment.list.items + spent lists done.assignment.list.items) (sym a.after)
     (cost-next c.args.clauses.now c.work.clauses c.walk.new.clauses run.assignment.values.items run.assignment.list.items done.assignment.list.items a.group c.work.heads run.visits done.visits (spent lists run.assignment.list.items) (spent lists done.assignment.list.items) a.literal (state.costs.single c.requires.single) a.inside a.is after covered w) in
     let walked = subst (λ t. (xs : List ℕ) → AreServed c.work.run.assignment.values.items c.work.clauses.blocks.literals c.work.clauses.blocks.watches xs t 0 → AreWalked c.walk.new.run.assignment.values.items c.walk.new.clauses.blocks.literals c.walk.new.clauses.blocks.watches (xs ++ (t ∷ []))) a.code (reported.walked c.if-branch-2.false) in
+    let watching : IsWatching c.args.clauses.now c.walk.new.clauses done.assignment.values.items done.assignment.list.items c.in-Some.ahead.heads =
+    subst (IsWatching c.args.clauses.now c.walk.new.clauses done.assignment.values.items done.assignment.list.items) (sym a.after)
+    (watching-next (all_of store c.args.clauses.now) c.args.clauses.now c.work.clauses c.walk.new.clauses run.assignment.values.items done.assignment.values.items run.assignment.list.items done.assignment.list.items a.group c.work.heads a.literal a.inside a.is next.failed reported.literals reported.running derived walked w) in
+    let one = walked-mark done.assignment.values.items c.walk.new.clauses.blocks.literals c.walk.new.clauses.blocks.watches done.assignment.list.items c.in-Some.ahead.heads done.assignment.agrees watching.short watching.long watching.served in
+    let moved = marking-found run.assignment.values.items c.walk.new.clauses done.assignment.list.items run.assignment.agrees reported.literals reported.kept reported.advances.costs.extends c.work.invariant.marking in
     record {
       grows = grows-trans start.assignment.values.items run.assignment.values.items done.assignment.values.items c.work.invariant.grows reported.grows;
-      kept = λ base codes more old. reported.kept base codes (grows-trans base start.assignment.values.items run.assignment.values.items more c.work.invariant.grows) (c.work.invariant.kept base codes more old);
+      kept = kept-then start.assignment.values.items run.assignment.values.items c.args.clauses.now c.work.clauses c.walk.new.clauses c.work.invariant.grows c.work.invariant.kept reported.kept;
+      marking = marking-next c.mark.new.marks.items c.len-count.result c.in-Some.ahead.heads (omega (arith, c.len-count.ensures, done.assignment.list.ok.0)) c.in_ok-mark.ensures one moved;
       taken = c.work.invariant.taken;
-      watching = subst (IsWatching c.args.clauses.now c.walk.new.clauses done.assignment.values.items done.assignment.list.items) (sym a.after)
-          (watching-next (all_of store c.args.clauses.now) c.args.clauses.now c.work.clauses c.walk.new.clauses run.assignment.values.items done.assignment.values.items run.assignment.list.items done.assignment.list.items a.group c.work.heads a.literal a.inside a.is next.failed reported.literals reported.running derived walked w);
+      watching = watching;
       reasons = run-reasons-then c.work.invariant.reasons reasons;
       state = propagating-walk (cost c.args.clauses.now c.walk.new.clauses c.in-Some.ahead.heads done.assignment.list.items) state (reported.counted c.if-branch-2.false) (reported.tidy (drop c.work.taken c.args.waiting.now) (length store.stored.items) state.tidy) reported.advances reported.found same paid;
     }
@@ -236,8 +243,8 @@ returns-then-branch-clause-running c =
     let w = c.work.invariant.watching in
     let done = c.visit_form.new.run in
     let derived = derives-joined (shapes_of store.stored.items) (clauses_of c.args.clauses.now) run.assignment.list.items done.assignment.list.items c.requires.joined (reasons-derive c.in_ok-visit_form.ensures.reasons.added) in
-    let grows = grows-listed run.assignment.values.items done.assignment.values.items run.assignment.list.items done.assignment.list.items c.in_ok-visit_form.ensures.advances.values run.assignment.agrees done.assignment.agrees (derivation-keeps (all_of store c.args.clauses.now) run.assignment.list.items done.assignment.list.items derived) in
-    running-grow c.work.clauses run.assignment.values.items done.assignment.values.items grows w.running
+    let grows = grows-listed run.assignment.values.items done.assignment.values.items run.assignment.list.items done.assignment.list.items run.assignment.agrees done.assignment.agrees (derivation-keeps (all_of store c.args.clauses.now) run.assignment.list.items done.assignment.list.items derived) in
+    running-grow c.work.clauses run.assignment.values.items done.assignment.values.items c.in_ok-visit_form.ensures.advances.values grows w.running
 
 pub returns-then-branch-clause-reasons : goal.returns-then-branch-clause-reasons
 returns-then-branch-clause-reasons c =
@@ -266,14 +273,15 @@ work-preserved-else-branch c =
     let done = c.visit_form.new.run in
     let inside : run.next + 1 ≤ length run.work.items = omega (arith, c.if-run-len.true, c.len.ensures, run.work.ok.0) in
     let derived = derives-joined (shapes_of store.stored.items) (clauses_of c.args.clauses.now) run.assignment.list.items done.assignment.list.items c.requires.joined (reasons-derive c.in_ok-visit_form.ensures.reasons.added) in
-    let grows = grows-listed run.assignment.values.items done.assignment.values.items run.assignment.list.items done.assignment.list.items c.in_ok-visit_form.ensures.advances.values run.assignment.agrees done.assignment.agrees (derivation-keeps (all_of store c.args.clauses.now) run.assignment.list.items done.assignment.list.items derived) in
+    let grows = grows-listed run.assignment.values.items done.assignment.values.items run.assignment.list.items done.assignment.list.items run.assignment.agrees done.assignment.agrees (derivation-keeps (all_of store c.args.clauses.now) run.assignment.list.items done.assignment.list.items derived) in
     let reported = c.in_ok-visit_form.ensures in
     let tidy = rw (take_rest c.args.waiting.now c.work.taken) at (reported.tidy c.if-branch.false) in
     record {
       grows = grows-trans c.args.run.now.assignment.values.items run.assignment.values.items done.assignment.values.items c.work.invariant.grows grows;
       kept = c.work.invariant.kept;
+      marking = marking-grow done.assignment.list.items reported.advances.costs.extends c.work.invariant.marking;
       taken = c.work.invariant.taken;
-      watching = watching-grow (all_of store c.args.clauses.now) c.args.clauses.now c.work.clauses run.assignment.values.items done.assignment.values.items run.assignment.list.items done.assignment.list.items c.work.heads grows derived w;
+      watching = watching-grow (all_of store c.args.clauses.now) c.args.clauses.now c.work.clauses run.assignment.values.items done.assignment.values.items run.assignment.list.items done.assignment.list.items c.work.heads c.in_ok-visit_form.ensures.advances.values grows derived w;
       reasons = run-reasons-then c.work.invariant.reasons (run-reasons-joined (shapes_of store.stored.items) (clauses_of c.args.clauses.now) run done c.requires.joined reported.reasons.kept reported.reasons.added);
       state = propagating-next (cost c.args.clauses.now c.work.clauses c.work.heads done.assignment.list.items) state (reported.counted c.if-branch.false) tidy reported.advances reported.found (omega (arith, inside)) (cost-grow (all_of store c.args.clauses.now) c.args.clauses.now c.work.clauses run.assignment.list.items done.assignment.list.items c.work.heads w.short w.long derived);
     }
@@ -327,6 +335,7 @@ work-preserved c =
     record {
       grows = c.work.invariant.grows;
       kept = c.work.invariant.kept;
+      marking = c.work.invariant.marking;
       taken = omega (arith, less);
       watching = w;
       reasons = record { kept = c.work.invariant.reasons.kept; added = c.work.invariant.reasons.added };
@@ -354,13 +363,13 @@ returns-else-taken-waiting-clause-walked c = λ found.
     let run = c.work.run in
     let w = c.work.invariant.watching in
     let end = subst (λ (xs : List NumberedLiteral). (length xs ≤ c.work.heads.short) × (length xs ≤ c.work.heads.long)) c.as_slice.ensures.value c.in_default.ensures.none in
-    walked-whole run.assignment.values.items c.work.clauses.blocks.literals c.work.clauses.blocks.watches run.assignment.list.items c.work.heads (omega (arith, w.short, end.0)) (omega (arith, w.long, end.1)) w.served
+    walked-mark run.assignment.values.items c.work.clauses.blocks.literals c.work.clauses.blocks.watches run.assignment.list.items (heads_at (length run.assignment.list.items)) run.assignment.agrees (omega arith) (omega arith) (walked-whole run.assignment.values.items c.work.clauses.blocks.literals c.work.clauses.blocks.watches run.assignment.list.items c.work.heads (omega (arith, w.short, end.0)) (omega (arith, w.long, end.1)) w.served)
 
 pub returns-then-branch-clause-kept : goal.returns-then-branch-clause-kept
 returns-then-branch-clause-kept c = c.work.invariant.kept
 
 pub returns-then-branch-2-clause-kept : goal.returns-then-branch-2-clause-kept
-returns-then-branch-2-clause-kept c = λ base codes more old. c.in_ok-walk.ensures.kept base codes (grows-trans base c.args.run.now.assignment.values.items c.work.run.assignment.values.items more c.work.invariant.grows) (c.work.invariant.kept base codes more old)
+returns-then-branch-2-clause-kept c = kept-then c.args.run.now.assignment.values.items c.work.run.assignment.values.items c.args.clauses.now c.work.clauses c.walk.new.clauses c.work.invariant.grows c.work.invariant.kept c.in_ok-walk.ensures.kept
 
 pub returns-else-taken-waiting-clause-reasons : goal.returns-else-taken-waiting-clause-reasons
 returns-else-taken-waiting-clause-reasons c = c.work.invariant.reasons
@@ -397,3 +406,33 @@ returns-then-branch-2-clause-rising c = omega (arith, c.work.invariant.state.ris
 
 pub returns-else-taken-waiting-clause-rising : goal.returns-else-taken-waiting-clause-rising
 returns-else-taken-waiting-clause-rising c = c.work.invariant.state.rising
+
+pub returns-in_err-mark-clause-costs : goal.returns-in_err-mark-clause-costs
+returns-in_err-mark-clause-costs c =
+    let store = c.args.store.now in
+    let run = c.work.run in
+    let state = c.work.invariant.state in
+    let w = c.work.invariant.watching in
+    let a = subst (λ xs. IsAhead c.work.heads xs c.in-Some.ahead) c.as_slice.ensures.value c.in-Some.ensures.some in
+    let done = c.walk.new.run in
+    let costs = c.in_ok-walk.ensures.advances.costs in
+    let lists = entries_of (shapes_of store.stored.items) store.occurrences.items in
+    let same = ap (λ (v : Vec ℕ Global). v.items) c.walk.ensures.candidates in
+    let covered = walk-covered (database c.args.store.now c.args.rests.now) c.work.clauses c.walk.new.clauses c.in-Some.ahead.code (falsified_code a.group a.literal) same a.code costs in
+    let bounded = sum-bounded (shapes_of store.stored.items) run.candidates.items (state.candidate_sizes ∙ sym (length-map store.stored.items stored_shape)) state.tidy.bounded in
+    let broken = cost-broken c.args.clauses.now c.work.clauses c.walk.new.clauses run.assignment.values.items run.assignment.list.items a.group c.work.heads run.visits done.visits (spent lists run.assignment.list.items) (spent lists done.assignment.list.items) a.literal (state.costs.single c.requires.single) a.inside a.is c.walk.ensures.bounded covered w in
+    propagating-spends (clauses_of c.args.clauses.now) (advanced a.group c.work.heads) (sum_by length (clauses_of c.args.clauses.now)) (progress done) 0 c.requires.single c.requires.next state costs.extends costs.single (omega (arith, bounded, ap sum same)) (omega (arith, state.within)) (omega (arith, broken, ap sum same))
+
+pub returns-then-branch-clause-marks : goal.returns-then-branch-clause-marks
+returns-then-branch-clause-marks c = (marking-grow c.visit_form.new.run.assignment.list.items c.in_ok-visit_form.ensures.advances.costs.extends c.work.invariant.marking).kept
+
+pub returns-then-branch-2-clause-marks : goal.returns-then-branch-2-clause-marks
+returns-then-branch-2-clause-marks c = (marking-found c.work.run.assignment.values.items c.walk.new.clauses c.walk.new.run.assignment.list.items c.work.run.assignment.agrees c.in_ok-walk.ensures.literals c.in_ok-walk.ensures.kept c.in_ok-walk.ensures.advances.costs.extends c.work.invariant.marking).kept
+
+pub returns-else-taken-waiting-clause-marks : goal.returns-else-taken-waiting-clause-marks
+returns-else-taken-waiting-clause-marks c = c.work.invariant.marking.kept
+
+pub overflow_sub-count : goal.overflow_sub-count
+overflow_sub-count c =
+    let e = c.in_ok-walk.ensures.advances.costs.extends in
+    omega (arith, c.work.invariant.marking.within, c.len-count.ensures, ap length e.1, length-append c.work.run.assignment.list.items e.0)

@@ -1,6 +1,7 @@
-use Rattle.pb_propagate.proofs.Common.{◌*◌, ◌+◌, ◌-◌, ◌≤◌, length, take, sum, sum_by, Grows, KeepsWalked, passed_of, all_of, entries_of, shapes_of}
-use Rattle.pb_propagate.proofs.Common.{database, progress, RunReasons, seen}
+use Rattle.pb_propagate.proofs.Common.{◌*◌, ◌+◌, ◌-◌, ◌≤◌, length, sum_by, Grows, KeepsWalked, all_of, entries_of, shapes_of}
+use Rattle.pb_propagate.proofs.Common.{database, progress, RunReasons, seen_to}
 use Rattle.pb_propagate.proofs.lemmas.engine.Propagated.{IsPropagating}
+use Rattle.pb_propagate.proofs.lemmas.clauses.Heads.{IsMarking}
 use Rattle.pb_propagate.proofs.lemmas.clauses.Watching.{IsWatching, cost}
 use Rattle.pb_propagate.proofs.run.propagate.Given as goal
 
@@ -11,7 +12,8 @@ invariant-work l = record {
   grows : Grows l.initial.run.assignment.values.items l.run.assignment.values.items;
   kept : KeepsWalked l.initial.run.assignment.values.items l.initial.clauses l.clauses;
   reasons : RunReasons (all_of l.store l.initial.clauses) l.initial.run l.run;
-  state : IsPropagating (database l.store l.rests) l.waiting (length l.store.stored.items) (seen l.initial.clauses (take l.from l.initial.run.assignment.list.items) (sum (passed_of l.initial.clauses))) (cost l.initial.clauses l.clauses l.heads l.run.assignment.list.items) l.taken (progress l.initial.run) (progress l.run);
+  marking : IsMarking l.initial.clauses l.clauses l.initial.run.assignment.list.items l.run.assignment.list.items l.initial.marks.items l.marks.items l.marked l.heads;
+  state : IsPropagating (database l.store l.rests) l.waiting (length l.store.stored.items) (seen_to l.initial.clauses l.fn.from l.initial.run.assignment.list.items) (cost l.initial.clauses l.clauses l.heads l.run.assignment.list.items) l.taken (progress l.initial.run) (progress l.run);
 }
 
 abbrev pub decreases-work : goal.decreases-work

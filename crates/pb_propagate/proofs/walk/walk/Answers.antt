@@ -3,7 +3,7 @@ use Rattle.pb_propagate.proofs.Common.{Falsified, Forces, Leaves, Stays, list_at
 use Rattle.pb_propagate.proofs.Common.{shapes_of, has, database, list_of, progress, reasons_of}
 use Rattle.pb_propagate.proofs.lemmas.clauses.Literals.{true-listed, false-listed}
 use Rattle.pb_propagate.proofs.lemmas.clauses.Shapes.{broken-conflicts, conflicts-joined}
-use Rattle.pb_propagate.proofs.lemmas.clauses.Walks.{grows-trans, IsWalking, walking-start, walking-next, walking-forces, walked-end}
+use Rattle.pb_propagate.proofs.lemmas.clauses.Walks.{kept-then, IsWalking, walking-start, walking-next, walking-forces, walked-end}
 use Rattle.pb_propagate.proofs.lemmas.clauses.Readings.{running-bounded}
 use Rattle.pb_propagate.proofs.lemmas.engine.Watched.{walk-start, walk-next, walk-ends, walk-then, walk-costs, walk-done}
 use Rattle.pb_propagate.proofs.lemmas.engine.Advances.{on-err}
@@ -143,7 +143,7 @@ returns-in-Falsified-clause-running c =
 pub returns-in-Falsified-clause-kept : goal.returns-in-Falsified-clause-kept
 returns-in-Falsified-clause-kept c =
     let v : HasVisited c.watches.run.assignment.values.items c.watches.clauses c.visit_clause.new.clauses c.args.literal c.watches.index Falsified = subst (HasVisited c.watches.run.assignment.values.items c.watches.clauses c.visit_clause.new.clauses c.args.literal c.watches.index) c.in-Falsified.is c.in_ok-visit_clause.ensures.watch in
-    λ base codes more old. v.kept base codes (grows-trans base c.args.run.now.assignment.values.items c.watches.run.assignment.values.items more c.watches.invariant.walking.grows) (c.watches.invariant.walking.kept base codes more old)
+    kept-then c.args.run.now.assignment.values.items c.watches.run.assignment.values.items c.args.clauses.now c.watches.clauses c.visit_clause.new.clauses c.watches.invariant.walking.grows c.watches.invariant.walking.kept v.kept
 
 pub returns-in-Falsified-clause-reasons : goal.returns-in-Falsified-clause-reasons
 returns-in-Falsified-clause-reasons c = record { kept = c.watches.invariant.reasons.kept; added = c.watches.invariant.reasons.added }

@@ -155,7 +155,6 @@ pub record AreReady (c : Clauses) : Type 0 where
 
 -- what was true or falsified still is
 pub record Grows (old new : List (Option Bool)) : Type 0 where
-  pub sizes : length new ≡ length old
   pub met : (x : ℕ) → true_at old x ≡ true → true_at new x ≡ true
   pub failed : (x : ℕ) → false_at old x ≡ true → false_at new x ≡ true
 
@@ -164,9 +163,13 @@ pub record AreWalked (values : List (Option Bool)) (clauses : List (List ℕ)) (
   pub failed : (x : ℕ) → Contains walked x → false_at values x ≡ true
   pub done : (e : ℕ) → (watch_at watches e).live ≡ true → Contains walked (watch_at watches e).literal → HasTrue values clauses (e / 2)
 
--- what was walked, at a state that has only grown since, stays so
+-- the same literal is watched
+abbrev pub IsSameWatch : Watch → Watch → Type 0
+IsSameWatch old new = (new.live ≡ old.live) × (new.literal ≡ old.literal)
+
+-- no watch has moved to a falsified literal
 abbrev pub KeepsWalked : List (Option Bool) → Clauses → Clauses → Type 0
-KeepsWalked values old new = (base : List (Option Bool)) (codes : List ℕ) → Grows base values → AreWalked base old.blocks.literals old.blocks.watches codes → AreWalked base new.blocks.literals new.blocks.watches codes
+KeepsWalked values old new = (e : ℕ) → (watch_at new.blocks.watches e).live ≡ true → false_at values (watch_at new.blocks.watches e).literal ≡ true → IsSameWatch (watch_at old.blocks.watches e) (watch_at new.blocks.watches e)
 
 -- what a visit to the watch at a position of a list leaves, and what it has found
 pub record HasVisited (values : List (Option Bool)) (old new : Clauses) (l index : ℕ) (r : Visit) : Type 0 where

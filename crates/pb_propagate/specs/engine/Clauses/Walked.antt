@@ -25,9 +25,13 @@ falsified_code g l = code_in g (negation l)
 abbrev pub reached_codes : Heads → List NumberedLiteral → List ℕ
 reached_codes h list = map (falsified_code Short) (take h.short list) ++ map (falsified_code Long) (take h.long list)
 
--- the codes that the first literals of the list falsify
-abbrev pub walked_codes : ℕ → List NumberedLiteral → List ℕ
-walked_codes n list = reached_codes record { short = n; long = n } list
+-- the occurrences, in clauses, of the codes that the heads reach
+abbrev pub reached : List (List ℕ) → Heads → List NumberedLiteral → ℕ
+reached clauses h list = killed clauses (map (falsified_code Short) (take h.short list)) + killed clauses (map (falsified_code Long) (take h.long list))
+
+-- the heads that reach the first literals in both groups
+abbrev pub heads_at : ℕ → Heads
+heads_at n = record { short = n; long = n }
 
 -- the occurrences, in clauses, of the codes that a list falsifies
 abbrev pub fallen : List (List ℕ) → List NumberedLiteral → ℕ

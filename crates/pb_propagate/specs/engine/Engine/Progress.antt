@@ -1,5 +1,5 @@
 -- A run of propagation as lists, and what each function of propagation does to it.
-use Rattle.std.specs.Prelude.{◌≡◌, ℕ, ◌+◌, ◌-◌, ◌*◌, ◌<◌, ◌≤◌, ◌++◌, ◌∷◌, [], true, false, Contains, Result, IfOk, List, Bool, Option, Some, length, sum, sum_by, take, slice_get, slice_set, slice_index, slice_index_or}
+use Rattle.std.specs.Prelude.{◌≡◌, ℕ, ◌+◌, ◌-◌, ◌*◌, ◌<◌, ◌≤◌, ◌++◌, ◌∷◌, [], true, false, Contains, Result, IfOk, List, Bool, Option, Some, length, sum, sum_by, slice_get, slice_set, slice_index, slice_index_or}
 use Rattle.pb_normal.specs.declared.numbered.NumberedLiteral.{NumberedLiteral}
 use Rattle.pb_normal.specs.meaning.Rules.{negation}
 use Rattle.pb_propagate.specs.declared.store.Store.{Store}
@@ -12,8 +12,10 @@ use Rattle.pb_propagate.specs.engine.Engine.Counts.{place, Grown, IsCalm, IsCoun
 use Rattle.pb_propagate.specs.engine.Engine.Fields.{shapes_of, entries_of}
 use Rattle.pb_propagate.specs.engine.Engine.Links.{coefficient_at}
 use Rattle.pb_propagate.specs.engine.Clauses.Links.{watch_lists, list_at}
+use Rattle.pb_propagate.specs.declared.heads.Heads.{Heads}
 use Rattle.pb_propagate.specs.engine.Clauses.Runs.{AreServed, AreWalked, passed_of}
-use Rattle.pb_propagate.specs.engine.Clauses.Walked.{fallen, walked_codes}
+use Rattle.pb_propagate.specs.engine.Clauses.Marks.{IsMark}
+use Rattle.pb_propagate.specs.engine.Clauses.Walked.{fallen, reached}
 use Rattle.pb_propagate.specs.engine.Clauses.Shapes.{clauses_of}
 
 -- the state of a run
@@ -219,19 +221,23 @@ WalkCosts store rests c c' literal old new = RunCosts store rests (sum (passed_o
 abbrev pub WalkAdvances : Store → Rests → Clauses → Clauses → ℕ → Run → Run → Type 0
 WalkAdvances store rests c c' literal old new = RunAdvances store rests (sum (passed_of c)) (2 * length (list_at (watch_lists c.lists.items) literal) + sum (passed_of c')) old new
 
--- the first `from` literals were walked before; all clauses may have been searched to their ends
-abbrev pub RunSpends : Store → Rests → Clauses → ℕ → List ℕ → Run → Run → Type 0
+-- two visits for each watch of the literals that the heads reach, and one for each literal that a search passed
+abbrev pub seen_to : Clauses → Heads → List NumberedLiteral → ℕ
+seen_to c from list = 2 * reached (clauses_of c) from list + sum (passed_of c)
+
+-- some literals were walked before; all clauses may have been searched to their ends
+abbrev pub RunSpends : Store → Rests → Clauses → Heads → List ℕ → Run → Run → Type 0
 RunSpends store rests c from waiting old new =
-    Spends (database store rests) (seen c (take from (list_of old)) (sum (passed_of c))) (queued waiting (progress old) + seen c (list_of new) (sum_by length (clauses_of c))) (progress old) (progress new)
+    Spends (database store rests) (seen_to c from (list_of old)) (queued waiting (progress old) + seen c (list_of new) (sum_by length (clauses_of c))) (progress old) (progress new)
 
 -- the same of a propagation that has ended: the clauses were searched as far as is known
-abbrev pub RunPays : Store → Rests → Clauses → Clauses → ℕ → List ℕ → Run → Run → Type 0
+abbrev pub RunPays : Store → Rests → Clauses → Clauses → Heads → List ℕ → Run → Run → Type 0
 RunPays store rests c c' from waiting old new =
-    Spends (database store rests) (seen c (take from (list_of old)) (sum (passed_of c))) (queued waiting (progress old) + seen c (list_of new) (sum (passed_of c'))) (progress old) (progress new)
+    Spends (database store rests) (seen_to c from (list_of old)) (queued waiting (progress old) + seen c (list_of new) (sum (passed_of c'))) (progress old) (progress new)
 
--- the watches of the first literals of the list were walked
-abbrev pub RunIsWalked : ℕ → Clauses → Run → Type 0
-RunIsWalked count c run = AreWalked run.assignment.values.items c.blocks.literals c.blocks.watches (walked_codes count run.assignment.list.items)
+-- the literals that the heads reach are walked
+abbrev pub RunIsWalked : Heads → Clauses → Run → Type 0
+RunIsWalked heads c run = IsMark c.blocks.literals c.blocks.watches run.assignment.list.items heads
 
 -- the watches of one more literal were walked
 abbrev pub HasWalked : Clauses → Clauses → ℕ → Run → Run → Type 0

@@ -12,7 +12,6 @@ use Rattle.pb_propagate.specs.declared.rests.Rests.{Rests}
 use Rattle.pb_propagate.specs.declared.eager.Eager.{Eager}
 use Rattle.pb_normal.specs.meaning.Form.{Form}
 use Rattle.pb_propagate.specs.declared.clauses.Clauses.{Clauses}
-use Rattle.pb_propagate.specs.declared.clauses.lists.Watch.{Watch}
 use Rattle.pb_propagate.specs.declared.term.Term.{Term}
 use Rattle.pb_propagate.specs.engine.Engine.Lists.{Shape, Derives, HaveReasons, IsDue, Conflicts, IsSettled, has, open_sum}
 use Rattle.pb_propagate.specs.engine.Engine.Counts.{AreFound, IsTidy, beside}
@@ -23,9 +22,11 @@ use Rattle.pb_propagate.specs.engine.Engine.Forms.{IsStoredAs}
 use Rattle.pb_propagate.specs.engine.Engine.Slots.{form_at, numbered, ArePlaced}
 use Rattle.pb_propagate.specs.engine.Clauses.Truths.{false_at}
 use Rattle.pb_propagate.specs.engine.Clauses.Links.{list_at, watch_at}
-use Rattle.pb_propagate.specs.engine.Clauses.Runs.{AreFree, AreReady, AreWalked, IsRunning}
+use Rattle.pb_propagate.specs.engine.Clauses.Runs.{AreFree, AreReady, IsRunning, IsSameWatch}
 use Rattle.pb_propagate.specs.engine.Clauses.Shapes.{AreJoined, clauses_of, all_of, joined}
-use Rattle.pb_propagate.specs.engine.Clauses.Walked.{walked_codes}
+use Rattle.pb_propagate.specs.declared.heads.Walked.{Walked}
+use Rattle.pb_propagate.specs.engine.Clauses.Marks.{IsWalkedTo}
+use Rattle.pb_propagate.specs.engine.Clauses.Walked.{heads_at}
 
 -- the slot has a form
 abbrev pub HasForm : Store → ℕ → Type 0
@@ -33,7 +34,7 @@ HasForm store s = (f : Form) × (form_at (forms_of store.stored.items) s ≡ Som
 
 -- The state of the forms under the literals that they force. The forms that wait may force more. One form may be left out:
 -- none is if `busy` is no form's number.
-pub record IsRooted (store : Store) (clauses : Clauses) (run : Run) (rests : Rests) (waiting : Eager) (busy : ℕ) : Type 0 where
+pub record IsRooted (store : Store) (clauses : Clauses) (run : Run) (rests : Rests) (waiting : Eager) (walked : Walked) (busy : ℕ) : Type 0 where
   pub values : length run.assignment.values.items ≡ store.variables
   pub opens : run.opens.items ≡ rests.opens.items
   pub starts : run.candidates.items ≡ rests.starts.items
@@ -45,13 +46,13 @@ pub record IsRooted (store : Store) (clauses : Clauses) (run : Run) (rests : Res
   pub trail : run.trail.items ≡ []
   pub next : run.next ≡ 0
   pub reasoned : HaveReasons (all_of store clauses) run.assignment.reasons.items [] run.assignment.list.items
-  pub walked : AreWalked run.assignment.values.items clauses.blocks.literals clauses.blocks.watches (walked_codes (length run.assignment.list.items) run.assignment.list.items)
+  pub walks : IsWalkedTo clauses run.assignment.list.items walked
   pub seats : length waiting.seats.items ≡ length store.stored.items
   pub live : (i s : ℕ) → slice_get waiting.list.items i ≡ Some s → HasForm store s
 
 -- the same of the program's root, with no form left out
 abbrev pub IsRootOf : Store → Clauses → Root → Type 0
-IsRootOf store clauses root = IsRooted store clauses root.run root.rests root.waiting (length store.stored.items)
+IsRootOf store clauses root = IsRooted store clauses root.run root.rests root.waiting root.walked (length store.stored.items)
 
 -- the number of terms of all constraints
 abbrev pub terms_of_all : Store → Clauses → ℕ
@@ -109,7 +110,7 @@ pub record IsLeft (before store : Store) (old clauses : Clauses) (root : Root) (
 -- the cost of an update of the root, also of one that an allocation ends; `ended` is its run before it goes back
 pub record UpdateCosts (store : Store) (clauses : Clauses) (old new : Root) : Type 0 where
   pub ended : Run
-  pub spends : RunSpends store old.rests clauses (length (list_of old.run)) old.waiting.list.items old.run ended
+  pub spends : RunSpends store old.rests clauses old.walked.heads old.waiting.list.items old.run ended
   pub visits : new.run.visits ≡ ended.visits
 
 -- an update that has met a conflict
@@ -121,9 +122,10 @@ pub record HasMet (store : Store) (old clauses : Clauses) (root root' : Root) (c
 -- an update that has met none: no form waits any more
 pub record HasUpdated (store : Store) (old clauses : Clauses) (root root' : Root) : Type 0 where
   pub running : IsRunning (values_of root'.run) clauses
-  pub pays : RunPays store root.rests old clauses (length (list_of root.run)) root.waiting.list.items root.run root'.run
+  pub pays : RunPays store root.rests old clauses root.walked.heads root.waiting.list.items root.run root'.run
   pub found : RunVisitsEach root.run root'.run
   pub none : root'.waiting.list.items ≡ []
+  pub walked : root'.walked.heads ≡ heads_at (length (list_of root'.run))
 
 -- the literal is that of the only term
 abbrev pub IsOnly : List Term → NumberedLiteral → Type 0
@@ -147,10 +149,6 @@ pub record HasOtherReasons (shapes : List Shape) (slot : ℕ) (old new : Assignm
 pub record IsNeedless (forms : List Shape) (slot : ℕ) (a : Assignment) : Type 0 where
   pub reasoned : HaveReasons forms a.reasons.items [] a.list.items
   pub none : (l : NumberedLiteral) → IsDue slot a.list.items a.reasons.items l → ⊥
-
--- the same literal is watched
-abbrev pub IsSameWatch : Watch → Watch → Type 0
-IsSameWatch old new = (new.live ≡ old.live) × (new.literal ≡ old.literal)
 
 -- the form of a slot went
 pub record HasVacated (before : Store) (old : Clauses) (store : Store) (clauses : Clauses) (slot : ℕ) : Type 0 where
@@ -188,6 +186,7 @@ pub record Loses (store : Store) (clauses : Clauses) (slot : ℕ) (root : Root) 
   pub lost : HasLost mid.run root.run mid.rests root.rests slot
   pub waiting : IsWithout slot mid.waiting.list.items root.waiting.list.items
   pub seats : length root.waiting.seats.items ≡ length mid.waiting.seats.items
+  pub walked : root.walked ≡ mid.walked
 
 -- a form came into a slot that was empty, or into a new one
 pub record HasGained (before : Store) (old : Clauses) (store : Store) (clauses : Clauses) (slot : ℕ) : Type 0 where

@@ -85,4 +85,4 @@ admit-requires-clause-gained c =
     let e = c.self.inside in
     let r = c.self.invariant (ap (λ (v : Standing). v.spent) c.self.view_is ∙ c.requires.ready) in
     let kept = c.note.ensures in
-    rw (kept.0, kept.1, kept.2) (e.store, e.clauses, r.2, gained-both e.store c.vacancy.new.store c.occupy.new.store e.clauses c.vacancy.new.clauses c.occupy.new.clauses c.in_ok-slot.slot c.vacancy.ensures.variables c.in_ok-slot.ensures.widened c.in_ok-occupy.ensures.gained, c.in_ok-occupy.ensures.free)
+    rw (kept.0, kept.1, kept.2, kept.3) (e.store, e.clauses, r.2, gained-both e.store c.vacancy.new.store c.occupy.new.store e.clauses c.vacancy.new.clauses c.occupy.new.clauses c.in_ok-slot.slot c.vacancy.ensures.variables c.in_ok-slot.ensures.widened c.in_ok-occupy.ensures.gained, c.in_ok-occupy.ensures.free)

@@ -20,7 +20,7 @@ invariant_of-self c = λ ready.
       c.quit.ensures.rest,
       rw c.quit.ensures.forms (placed-left (forms_of e.store.stored.items) e.places.items c.args.number c.index-slot.result.now t r.1),
       let l = c.lose.ensures in
-          lost-rooted e.store c.quit.new.store e.clauses c.quit.new.clauses l.mid.run c.lose.new.self.run l.mid.rests c.lose.new.self.rests l.mid.waiting c.lose.new.self.waiting c.index-slot.result.now room (omega (arith, room, r.0.known)) c.quit.ensures.rest.ready c.quit.ensures.vacated l.lost l.waiting l.seats l.needless l.rooted,
+          rw l.walked (lost-rooted e.store c.quit.new.store e.clauses c.quit.new.clauses l.mid.run c.lose.new.self.run l.mid.rests c.lose.new.self.rests l.mid.waiting c.lose.new.self.waiting l.mid.walked c.index-slot.result.now room (omega (arith, room, r.0.known)) c.quit.ensures.rest.ready c.quit.ensures.vacated l.lost l.waiting l.seats l.needless l.rooted),
       lost-kept e.store c.quit.new.store e.clauses c.quit.new.clauses c.index-slot.result.now c.lose-2.new.self c.quit.ensures.vacated c.lose-2.ensures.spare c.lose-2.ensures.unbroken c.lose-2.ensures.kept,
     )
 

@@ -24,7 +24,7 @@ invariant_of-self-2 c = λ ready.
         known = ap length (c.widen-2.ensures.literals ∙ c.widen.ensures.literals) ∙ r.known;
       },
       both.1,
-      widened-rooted e.store _ e.clauses c.widen-2.new.self e.root.run c.widen-3.new.self e.root.rests e.root.waiting refl count (c.widen-2.ensures.literals ∙ c.widen.ensures.literals) (c.widen-2.ensures.watches ∙ c.widen.ensures.watches) c.widen-3.ensures.list c.in_ok-widen-3.ensures.values c.in_ok-widen-3.ensures.reasons both.2,
+      widened-rooted e.store _ e.clauses c.widen-2.new.self e.root.run c.widen-3.new.self e.root.rests e.root.waiting e.root.walked refl count (c.widen-2.ensures.literals ∙ c.widen.ensures.literals) (c.widen-2.ensures.watches ∙ c.widen.ensures.watches) c.widen-3.ensures.list c.in_ok-widen-3.ensures.values c.in_ok-widen-3.ensures.reasons both.2,
       rw lit (record {
         values = omega (arith, c.in_ok-widen-4.ensures.values, both.3.values, count);
         none = λ unmet. c.widen-4.ensures.list ∙ both.3.none unmet;

@@ -3,7 +3,7 @@ use Rattle.pb_propagate.proofs.Common.{list_of, progress, reasons_of}
 use Rattle.pb_propagate.proofs.lemmas.engine.Assumed.{Assumed, assumed-next, none-assumed, opposed-clash}
 use Rattle.pb_propagate.proofs.lemmas.engine.Advances.{advances-refl, advances-then}
 use Rattle.pb_propagate.proofs.lemmas.engine.Reasoned.{keeps-then}
-use Rattle.pb_propagate.proofs.lemmas.root.Returns.{extends-within}
+use Rattle.pb_propagate.proofs.lemmas.root.Extends.{extends-within}
 use Rattle.pb_propagate.proofs.engine.completion.assume.Goals as goal
 
 pub given-init : goal.given-init

@@ -1,6 +1,6 @@
-use Rattle.pb_propagate.proofs.Common.{◌∙◌, ◌≡◌, [], ap, arith, Global, length, refl, subst, sym, take, Vec, IfNone, IfSome, Listed}
-use Rattle.pb_propagate.proofs.Common.{AreWalked, all_of, clauses_of, Derives, joined, walked_codes, none, shapes_of, HasClash, HasEnded}
-use Rattle.pb_propagate.proofs.lemmas.clauses.Walks.{grows-refl}
+use Rattle.pb_propagate.proofs.Common.{◌∙◌, ◌≡◌, [], ap, arith, Global, length, refl, subst, take, Vec, IfNone, IfSome, Listed}
+use Rattle.pb_propagate.proofs.Common.{IsMark, all_of, clauses_of, Derives, joined, none, shapes_of, HasClash, HasEnded}
+use Rattle.pb_propagate.proofs.lemmas.clauses.Heads.{visits-back, walks-kept}
 use Rattle.pb_propagate.proofs.lemmas.engine.Spent.{derivation-single}
 use Rattle.pb_propagate.proofs.lemmas.root.Kept.{kept-conflicts}
 use Rattle.pb_propagate.proofs.lemmas.root.Returns.{back-rooted, root-counted}
@@ -37,7 +37,7 @@ settle-requires-clause-single c =
 
 pub settle-requires-clause-counted : goal.settle-requires-clause-counted
 settle-requires-clause-counted c =
-    root-counted c.args.store.now c.update.new.clauses c.update.new.self.run c.update.new.self.rests c.update.new.self.waiting c.in_ok-update.ensures.rooted
+    root-counted c.args.store.now c.update.new.clauses c.update.new.self.run c.update.new.self.rests c.update.new.self.waiting c.update.new.self.walked c.in_ok-update.ensures.rooted
 
 pub settle-requires-clause-tidy : goal.settle-requires-clause-tidy
 settle-requires-clause-tidy c =
@@ -53,7 +53,7 @@ pub settle-requires-clause-running : goal.settle-requires-clause-running
 settle-requires-clause-running c = (c.in_ok-update.ensures.updated c.if-branch.false).running
 
 pub settle-requires-clause-walked : goal.settle-requires-clause-walked
-settle-requires-clause-walked c = c.in_ok-update.ensures.rooted.walked
+settle-requires-clause-walked c = subst (IsMark c.update.new.clauses.blocks.literals c.update.new.clauses.blocks.watches c.update.new.self.run.assignment.list.items) (c.in_ok-update.ensures.updated c.if-branch.false).walked c.in_ok-update.ensures.rooted.walks.now
 
 pub returns-clause-clash : goal.returns-clause-clash
 returns-clause-clash c =
@@ -92,7 +92,6 @@ returns-clause-left c =
     let reported = c.in_ok-values.ensures in
     let last = c.back.new.run in
     let count_is : c.len-count.result ≡ length run.assignment.list.items = omega (arith, c.len-count.ensures, run.assignment.list.ok.0) in
-    let codes = walked_codes (length run.assignment.list.items) run.assignment.list.items in
     let r = c.in_ok-update.ensures.rooted in
     record {
       sound = c.requires.standing.sound;
@@ -100,9 +99,9 @@ returns-clause-left c =
       ready = c.back.ensures.ready;
       lists = omega (arith, ap (λ (v : Vec (Vec Listed Global) Global). length v.items) c.back.ensures.lists, reported.running.sizes, reported.values, r.values, c.requires.standing.widths);
       conflict = c.in_ok-update.ensures.kept;
-      rooted = back-rooted store between c.back.new.clauses run last root.rests root.waiting c.settle.new.run.assignment.list.items c.in_ok-update.ensures.rooted (record {
+      rooted = back-rooted store between c.back.new.clauses run last root.rests root.waiting root.walked root.walked c.settle.new.run.assignment.list.items c.in_ok-update.ensures.rooted (record {
         literals = (c.back.ensures.literals ∙ c.settle.ensures.literals);
-        kept = λ old. subst (λ cs. AreWalked run.assignment.values.items cs c.back.new.clauses.blocks.watches codes) (sym c.back.ensures.literals) (subst (λ ws. AreWalked run.assignment.values.items c.settle.new.clauses.blocks.literals ws codes) (sym c.back.ensures.watches) (reported.kept run.assignment.values.items codes (grows-refl run.assignment.values.items) old));
+        walks = walks-kept between c.back.new.clauses run.assignment.list.items root.walked (visits-back run.assignment.values.items between c.settle.new.clauses c.back.new.clauses run.assignment.list.items run.assignment.agrees (c.back.ensures.literals ∙ c.settle.ensures.literals) c.back.ensures.watches reported.kept) c.in_ok-update.ensures.rooted.walks;
         extends = reported.extends;
         reasons = rw c.back.ensures.reasons reported.reasons;
         cut = c.back.ensures.list ∙ ap (λ n. take n c.settle.new.run.assignment.list.items) count_is;

@@ -1,9 +1,10 @@
-use Rattle.pb_propagate.proofs.Common.{◌++◌, ◌∙◌, ◌≡◌, [], ap, arith, length, length-append, subst, sym, AreWalked, all_of, clauses_of, walked_codes}
+use Rattle.pb_propagate.proofs.Common.{◌++◌, ◌∙◌, ◌≡◌, [], refl, ap, arith, length, subst, sym, IsMark, all_of, clauses_of, heads_at}
 use Rattle.pb_propagate.proofs.Common.{shapes_of, list_of, reasons_of}
-use Rattle.pb_propagate.proofs.lemmas.clauses.Walks.{grows-trans, running-grow, walked-grow}
+use Rattle.pb_propagate.proofs.lemmas.clauses.Heads.{heads-is, mark-more}
+use Rattle.pb_propagate.proofs.lemmas.clauses.Walks.{kept-then, running-grow}
 use Rattle.pb_propagate.proofs.lemmas.engine.Derivations.{derivation-keeps}
-use Rattle.pb_propagate.proofs.lemmas.root.Extends.{extends-then, derives-extends}
-use Rattle.pb_propagate.proofs.lemmas.root.Returns.{assigned-grow, extends-within, walked-first}
+use Rattle.pb_propagate.proofs.lemmas.root.Extends.{extends-within, extends-then, derives-extends}
+use Rattle.pb_propagate.proofs.lemmas.root.Returns.{assigned-grow}
 use Rattle.pb_propagate.proofs.lemmas.root.Transplants.{clash-joined}
 use Rattle.pb_propagate.proofs.lemmas.engine.Reasoned.{keeps-then, reasons-derive}
 use Rattle.pb_propagate.proofs.engine.completion.settle.Goals as goal
@@ -32,22 +33,17 @@ pub propagate-requires-clause-waiting : goal.propagate-requires-clause-waiting
 propagate-requires-clause-waiting c = rw (c.as_slice.ensures.value, c.new-none.ensures.items) (λ k d less. absurd (omega (arith, less)))
 
 pub propagate-requires-clause-running : goal.propagate-requires-clause-running
-propagate-requires-clause-running c = running-grow c.args.clauses.now c.args.run.now.assignment.values.items c.assume.new.run.assignment.values.items (assigned-grow c.args.run.now.assignment c.assume.new.run.assignment c.in_ok-assume.ensures.advances.values c.in_ok-assume.ensures.advances.costs.extends) c.requires.running
-
-pub propagate-requires-clause-from : goal.propagate-requires-clause-from
-propagate-requires-clause-from c =
-    let e = c.in_ok-assume.ensures.advances.costs.extends in
-    omega (arith, c.len-count.ensures, c.args.run.now.assignment.list.ok.0, ap length e.1, length-append c.args.run.now.assignment.list.items e.0)
+propagate-requires-clause-running c = running-grow c.args.clauses.now c.args.run.now.assignment.values.items c.assume.new.run.assignment.values.items c.in_ok-assume.ensures.advances.values (assigned-grow c.args.run.now.assignment c.assume.new.run.assignment c.in_ok-assume.ensures.advances.costs.extends) c.requires.running
 
 pub propagate-requires-clause-walked : goal.propagate-requires-clause-walked
 propagate-requires-clause-walked c =
     let old = c.args.run.now.assignment.list.items in
     let count_is : c.len-count.result ≡ length old = omega (arith, c.len-count.ensures, c.args.run.now.assignment.list.ok.0) in
-    let walked = walked-grow c.args.run.now.assignment.values.items c.assume.new.run.assignment.values.items c.args.clauses.now.blocks.literals c.args.clauses.now.blocks.watches (walked_codes (length old) old) (assigned-grow c.args.run.now.assignment c.assume.new.run.assignment c.in_ok-assume.ensures.advances.values c.in_ok-assume.ensures.advances.costs.extends) c.requires.walked in
-    subst (AreWalked c.assume.new.run.assignment.values.items c.args.clauses.now.blocks.literals c.args.clauses.now.blocks.watches) (sym (walked-first c.len-count.result old c.assume.new.run.assignment.list.items count_is c.in_ok-assume.ensures.advances.costs.extends)) walked
+    let heads : c.at.result ≡ heads_at (length old) = heads-is c.at.result (length old) (c.at.ensures.0 ∙ count_is) (c.at.ensures.1 ∙ count_is) in
+    subst (IsMark c.args.clauses.now.blocks.literals c.args.clauses.now.blocks.watches c.assume.new.run.assignment.list.items) (sym heads) (mark-more c.args.clauses.now.blocks.literals c.args.clauses.now.blocks.watches old c.assume.new.run.assignment.list.items (heads_at (length old)) c.in_ok-assume.ensures.advances.costs.extends c.requires.walked)
 
 pub returns-then-branch-clause-running : goal.returns-then-branch-clause-running
-returns-then-branch-clause-running c = running-grow c.args.clauses.now c.args.run.now.assignment.values.items c.assume.new.run.assignment.values.items (assigned-grow c.args.run.now.assignment c.assume.new.run.assignment c.in_ok-assume.ensures.advances.values c.in_ok-assume.ensures.advances.costs.extends) c.requires.running
+returns-then-branch-clause-running c = running-grow c.args.clauses.now c.args.run.now.assignment.values.items c.assume.new.run.assignment.values.items c.in_ok-assume.ensures.advances.values (assigned-grow c.args.run.now.assignment c.assume.new.run.assignment c.in_ok-assume.ensures.advances.costs.extends) c.requires.running
 
 pub returns-then-branch-clause-undone : goal.returns-then-branch-clause-undone
 returns-then-branch-clause-undone c =
@@ -66,9 +62,7 @@ returns-then-branch-2-clause-clash c = record {
 }
 
 pub returns-then-branch-2-clause-kept : goal.returns-then-branch-2-clause-kept
-returns-then-branch-2-clause-kept c = λ base codes more old.
-    let grown = assigned-grow c.args.run.now.assignment c.assume.new.run.assignment c.in_ok-assume.ensures.advances.values c.in_ok-assume.ensures.advances.costs.extends in
-    c.in_ok-propagate.ensures.kept base codes (grows-trans base c.args.run.now.assignment.values.items c.assume.new.run.assignment.values.items more grown) old
+returns-then-branch-2-clause-kept c = kept-then c.args.run.now.assignment.values.items c.assume.new.run.assignment.values.items c.args.clauses.now c.args.clauses.now c.propagate.new.clauses (assigned-grow c.args.run.now.assignment c.assume.new.run.assignment c.in_ok-assume.ensures.advances.costs.extends) (λ e live failed. (refl, refl)) c.in_ok-propagate.ensures.kept
 
 pub returns-then-branch-2-clause-extends : goal.returns-then-branch-2-clause-extends
 returns-then-branch-2-clause-extends c =
@@ -76,9 +70,7 @@ returns-then-branch-2-clause-extends c =
     extends-then c.args.run.now.assignment.list.items mid c.propagate.new.run.assignment.list.items c.in_ok-assume.ensures.advances.costs.extends (derives-extends (all_of c.args.store.now c.args.clauses.now) mid c.propagate.new.run.assignment.list.items (reasons-derive c.in_ok-propagate.ensures.reasons.added))
 
 pub returns-clause-kept : goal.returns-clause-kept
-returns-clause-kept c = λ base codes more old.
-    let grown = assigned-grow c.args.run.now.assignment c.assume.new.run.assignment c.in_ok-assume.ensures.advances.values c.in_ok-assume.ensures.advances.costs.extends in
-    c.in_ok-propagate.ensures.kept base codes (grows-trans base c.args.run.now.assignment.values.items c.assume.new.run.assignment.values.items more grown) old
+returns-clause-kept c = kept-then c.args.run.now.assignment.values.items c.assume.new.run.assignment.values.items c.args.clauses.now c.args.clauses.now c.propagate.new.clauses (assigned-grow c.args.run.now.assignment c.assume.new.run.assignment c.in_ok-assume.ensures.advances.costs.extends) (λ e live failed. (refl, refl)) c.in_ok-propagate.ensures.kept
 
 pub returns-clause-extends : goal.returns-clause-extends
 returns-clause-extends c =

@@ -3,7 +3,7 @@ use Rattle.pb_propagate.proofs.Common.{database, list_of, progress, reasons_of}
 use Rattle.pb_propagate.proofs.lemmas.engine.Advances.{advances-refl, advances-then, advances-as, costs-then, costs-as, on-err}
 use Rattle.pb_propagate.proofs.lemmas.root.Denials.{denied-next, denied-more, hit-conflicts}
 use Rattle.pb_propagate.proofs.lemmas.engine.Reasoned.{keeps-then}
-use Rattle.pb_propagate.proofs.lemmas.root.Returns.{extends-within}
+use Rattle.pb_propagate.proofs.lemmas.root.Extends.{extends-within}
 use Rattle.pb_propagate.proofs.engine.denial.deny_all.Goals as goal
 
 abbrev bare : Entry

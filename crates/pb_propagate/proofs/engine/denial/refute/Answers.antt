@@ -1,20 +1,22 @@
-use Rattle.pb_propagate.proofs.Common.{ℕ, ◌∙◌, ◌≡◌, [], ap, arith, Global, length, length-append, subst, sym, Vec, sum, length-map, AreWalked, all_of}
-use Rattle.pb_propagate.proofs.Common.{clauses_of, walked_codes, denial_of, shapes_of, stored_shape, begin, list_of, reasons_of}
+use Rattle.pb_propagate.proofs.Common.{ℕ, ◌∙◌, ◌≡◌, [], ap, refl, arith, Global, length, subst, sym, Vec, sum, length-map, IsMark, all_of}
+use Rattle.pb_propagate.proofs.Common.{clauses_of, heads_at, denial_of, shapes_of, stored_shape, begin, list_of, reasons_of}
 use Rattle.pb_propagate.proofs.lemmas.clauses.Readings.{running-bounded}
-use Rattle.pb_propagate.proofs.lemmas.clauses.Walks.{grows-trans, running-grow, walked-grow}
+use Rattle.pb_propagate.proofs.lemmas.clauses.Heads.{heads-is, mark-more}
+use Rattle.pb_propagate.proofs.lemmas.clauses.Walks.{kept-then, running-grow}
 use Rattle.pb_propagate.proofs.lemmas.engine.Derivations.{derivation-keeps}
 use Rattle.pb_propagate.proofs.lemmas.engine.Spent.{sum-bounded}
 use Rattle.pb_propagate.proofs.lemmas.engine.Values.{opposite}
 use Rattle.pb_propagate.proofs.lemmas.root.Denials.{denied-conflicts, denied-derives, denied-later, denial-settled, more-conflicts, more-settled}
-use Rattle.pb_propagate.proofs.lemmas.root.Returns.{assigned-grow, extends-within, refutes-short, refutes-long, walked-first}
+use Rattle.pb_propagate.proofs.lemmas.root.Extends.{extends-within}
+use Rattle.pb_propagate.proofs.lemmas.root.Returns.{assigned-grow, refutes-short, refutes-long}
 use Rattle.pb_propagate.proofs.lemmas.engine.Reasoned.{keeps-then, reasons-derive}
 use Rattle.pb_propagate.proofs.engine.denial.refute.Goals as goal
 
 pub returns-then-branch-clause-running : goal.returns-then-branch-clause-running
-returns-then-branch-clause-running c = running-grow c.args.clauses.now c.args.run.now.assignment.values.items c.deny_all.new.run.assignment.values.items (assigned-grow c.args.run.now.assignment c.deny_all.new.run.assignment c.in_ok-deny_all.ensures.advances.values c.in_ok-deny_all.ensures.advances.costs.extends) c.requires.running
+returns-then-branch-clause-running c = running-grow c.args.clauses.now c.args.run.now.assignment.values.items c.deny_all.new.run.assignment.values.items c.in_ok-deny_all.ensures.advances.values (assigned-grow c.args.run.now.assignment c.deny_all.new.run.assignment c.in_ok-deny_all.ensures.advances.costs.extends) c.requires.running
 
 pub returns-then-branch-clause-kept : goal.returns-then-branch-clause-kept
-returns-then-branch-clause-kept c = λ base codes more old. old
+returns-then-branch-clause-kept c = λ e live failed. (refl, refl)
 
 pub returns-then-branch-clause-values : goal.returns-then-branch-clause-values
 returns-then-branch-clause-values c = c.in_ok-deny_all.ensures.advances.values
@@ -79,38 +81,31 @@ propagate-requires-clause-tidy c =
     rw (c.as_slice.ensures.value, c.new-none.ensures.items) (c.in_ok-deny_all.ensures.tidy [] (length c.args.store.now.stored.items) c.requires.tidy)
 
 pub propagate-requires-clause-running : goal.propagate-requires-clause-running
-propagate-requires-clause-running c = running-grow c.args.clauses.now c.args.run.now.assignment.values.items c.deny_all.new.run.assignment.values.items (assigned-grow c.args.run.now.assignment c.deny_all.new.run.assignment c.in_ok-deny_all.ensures.advances.values c.in_ok-deny_all.ensures.advances.costs.extends) c.requires.running
-
-pub propagate-requires-clause-from : goal.propagate-requires-clause-from
-propagate-requires-clause-from c =
-    let e = c.in_ok-deny_all.ensures.advances.costs.extends in
-    omega (arith, c.len-count.ensures, c.args.run.now.assignment.list.ok.0, ap length e.1, length-append c.args.run.now.assignment.list.items e.0)
+propagate-requires-clause-running c = running-grow c.args.clauses.now c.args.run.now.assignment.values.items c.deny_all.new.run.assignment.values.items c.in_ok-deny_all.ensures.advances.values (assigned-grow c.args.run.now.assignment c.deny_all.new.run.assignment c.in_ok-deny_all.ensures.advances.costs.extends) c.requires.running
 
 pub propagate-requires-clause-walked : goal.propagate-requires-clause-walked
 propagate-requires-clause-walked c =
     let old = c.args.run.now.assignment.list.items in
     let count_is : c.len-count.result ≡ length old = omega (arith, c.len-count.ensures, c.args.run.now.assignment.list.ok.0) in
-    let walked = walked-grow c.args.run.now.assignment.values.items c.deny_all.new.run.assignment.values.items c.args.clauses.now.blocks.literals c.args.clauses.now.blocks.watches (walked_codes (length old) old) (assigned-grow c.args.run.now.assignment c.deny_all.new.run.assignment c.in_ok-deny_all.ensures.advances.values c.in_ok-deny_all.ensures.advances.costs.extends) c.requires.walked in
-    subst (AreWalked c.deny_all.new.run.assignment.values.items c.args.clauses.now.blocks.literals c.args.clauses.now.blocks.watches) (sym (walked-first c.len-count.result old c.deny_all.new.run.assignment.list.items count_is c.in_ok-deny_all.ensures.advances.costs.extends)) walked
+    let heads : c.at.result ≡ heads_at (length old) = heads-is c.at.result (length old) (c.at.ensures.0 ∙ count_is) (c.at.ensures.1 ∙ count_is) in
+    subst (IsMark c.args.clauses.now.blocks.literals c.args.clauses.now.blocks.watches c.deny_all.new.run.assignment.list.items) (sym heads) (mark-more c.args.clauses.now.blocks.literals c.args.clauses.now.blocks.watches old c.deny_all.new.run.assignment.list.items (heads_at (length old)) c.in_ok-deny_all.ensures.advances.costs.extends c.requires.walked)
 
 pub returns-in_err-found-clause-costs : goal.returns-in_err-found-clause-costs
 returns-in_err-found-clause-costs c =
     let run = c.args.run.now in
     let count_is : c.len-count.result ≡ length run.assignment.list.items = omega (arith, c.len-count.ensures, run.assignment.list.ok.0) in
     let spends = rw (c.as_slice.ensures.value ∙ c.new-none.ensures.items) at c.propagate.ensures.costs in
-    refutes-long c.args.store.now c.args.rests.now c.args.clauses.now (length c.args.goal.now) c.len-count.result run c.deny_all.new.run c.propagate.new.run count_is c.requires.work.0 c.requires.work.1 c.in_ok-deny_all.ensures.advances spends
+    refutes-long c.args.store.now c.args.rests.now c.args.clauses.now (length c.args.goal.now) c.at.result run c.deny_all.new.run c.propagate.new.run (heads-is c.at.result (length run.assignment.list.items) (c.at.ensures.0 ∙ count_is) (c.at.ensures.1 ∙ count_is)) c.requires.work.0 c.requires.work.1 c.in_ok-deny_all.ensures.advances spends
 
 pub returns-clause-costs : goal.returns-clause-costs
 returns-clause-costs c =
     let run = c.args.run.now in
     let count_is : c.len-count.result ≡ length run.assignment.list.items = omega (arith, c.len-count.ensures, run.assignment.list.ok.0) in
     let spends = rw (c.as_slice.ensures.value ∙ c.new-none.ensures.items) at c.propagate.ensures.costs in
-    refutes-long c.args.store.now c.args.rests.now c.args.clauses.now (length c.args.goal.now) c.len-count.result run c.deny_all.new.run c.propagate.new.run count_is c.requires.work.0 c.requires.work.1 c.in_ok-deny_all.ensures.advances spends
+    refutes-long c.args.store.now c.args.rests.now c.args.clauses.now (length c.args.goal.now) c.at.result run c.deny_all.new.run c.propagate.new.run (heads-is c.at.result (length run.assignment.list.items) (c.at.ensures.0 ∙ count_is) (c.at.ensures.1 ∙ count_is)) c.requires.work.0 c.requires.work.1 c.in_ok-deny_all.ensures.advances spends
 
 pub returns-clause-kept : goal.returns-clause-kept
-returns-clause-kept c = λ base codes more old.
-    let grown = assigned-grow c.args.run.now.assignment c.deny_all.new.run.assignment c.in_ok-deny_all.ensures.advances.values c.in_ok-deny_all.ensures.advances.costs.extends in
-    c.in_ok-found.ensures.kept base codes (grows-trans base c.args.run.now.assignment.values.items c.deny_all.new.run.assignment.values.items more grown) old
+returns-clause-kept c = kept-then c.args.run.now.assignment.values.items c.deny_all.new.run.assignment.values.items c.args.clauses.now c.args.clauses.now c.propagate.new.clauses (assigned-grow c.args.run.now.assignment c.deny_all.new.run.assignment c.in_ok-deny_all.ensures.advances.costs.extends) (λ e live failed. (refl, refl)) c.in_ok-found.ensures.kept
 
 pub returns-clause-values : goal.returns-clause-values
 returns-clause-values c = c.in_ok-found.ensures.values ∙ c.in_ok-deny_all.ensures.advances.values

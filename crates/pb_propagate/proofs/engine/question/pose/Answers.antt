@@ -1,11 +1,10 @@
 use Rattle.pb_propagate.proofs.Common.{ℕ, ◌++◌, ◌+◌, ◌∙◌, ◌∷◌, ◌≡◌, [], ap, arith, get_or, Global, length, length-append, length-set, List, refl}
 use Rattle.pb_propagate.proofs.Common.{rules, set, subst, sym, take, Vec, Contains, sum, sum_by, take-append_seam, length-map, sum_by_push}
-use Rattle.pb_propagate.proofs.Common.{NumberedLiteral, Assignment, Listed, Grows, all_of, clauses_of, joined, walked_codes, beside, IsTidy}
+use Rattle.pb_propagate.proofs.Common.{NumberedLiteral, Assignment, Listed, KeepsWalked, IsMark, all_of, clauses_of, joined, beside, IsTidy}
 use Rattle.pb_propagate.proofs.Common.{none, forms_of, shapes_of, stored_shape, Conflicts, Derives, KeepsReasons, open_sum, Shape, list_of}
 use Rattle.pb_propagate.proofs.Common.{reasons_of, alone, posed, ArePlaced, numbered}
-use Rattle.pb_propagate.proofs.lemmas.clauses.Literals.{Agree}
+use Rattle.pb_propagate.proofs.lemmas.clauses.Heads.{heads-is, visits-back, walks-kept}
 use Rattle.pb_propagate.proofs.lemmas.clauses.Slots.{joined-push}
-use Rattle.pb_propagate.proofs.lemmas.clauses.Walks.{grows-refl}
 use Rattle.pb_propagate.proofs.lemmas.engine.Derivations.{derivation-then}
 use Rattle.pb_propagate.proofs.lemmas.engine.Rests.{joined-entered, prefix-of}
 use Rattle.pb_propagate.proofs.lemmas.engine.Runs.{grown-length}
@@ -14,7 +13,6 @@ use Rattle.pb_propagate.proofs.lemmas.engine.Values.{opposite}
 use Rattle.pb_propagate.proofs.lemmas.root.Extends.{extends-then}
 use Rattle.pb_propagate.proofs.lemmas.root.Kept.{conflict-answered}
 use Rattle.pb_propagate.proofs.lemmas.root.Questions.{entered-shapes, laid-counted, laid-tidy, undone-same, derives-entered, kept-terms, found-after, found-both, question-most, updated-most, both-parts}
-use Rattle.pb_propagate.proofs.lemmas.root.Roots.{walked-agree}
 use Rattle.pb_propagate.proofs.lemmas.store.Placed.{numbered-entered}
 use Rattle.pb_propagate.proofs.lemmas.engine.Reasoned.{reasons-derive, reasons-keep}
 use Rattle.pb_propagate.proofs.engine.question.pose.Goals as goal
@@ -22,25 +20,25 @@ use Rattle.pb_propagate.proofs.engine.question.pose.Goals as goal
 pub returns-in_err-update-clause-most : goal.returns-in_err-update-clause-most
 returns-in_err-update-clause-most c =
     let costs = c.update.ensures.costs in
-    let most = updated-most c.args.store.now c.args.clauses.now c.args.root.now.rests c.args.root.now.waiting.list.items c.args.root.now.run costs.ended c.requires.standing.sound c.requires.standing.joined (reasons-derive c.requires.standing.rooted.reasoned) c.requires.standing.rooted.work c.requires.visits costs.spends in
+    let most = updated-most c.args.store.now c.args.clauses.now c.args.root.now.rests c.args.root.now.waiting.list.items c.args.root.now.walked.heads c.args.root.now.run costs.ended c.requires.standing.sound c.requires.standing.joined (reasons-derive c.requires.standing.rooted.reasoned) c.requires.standing.rooted.work c.requires.visits costs.spends in
     omega (arith, most, costs.visits)
 
 pub returns-then-branch-clause-most : goal.returns-then-branch-clause-most
 returns-then-branch-clause-most c =
     let costs = c.update.ensures.costs in
-    let most = updated-most c.args.store.now c.args.clauses.now c.args.root.now.rests c.args.root.now.waiting.list.items c.args.root.now.run costs.ended c.requires.standing.sound c.requires.standing.joined (reasons-derive c.requires.standing.rooted.reasoned) c.requires.standing.rooted.work c.requires.visits costs.spends in
+    let most = updated-most c.args.store.now c.args.clauses.now c.args.root.now.rests c.args.root.now.waiting.list.items c.args.root.now.walked.heads c.args.root.now.run costs.ended c.requires.standing.sound c.requires.standing.joined (reasons-derive c.requires.standing.rooted.reasoned) c.requires.standing.rooted.work c.requires.visits costs.spends in
     omega (arith, most, costs.visits)
 
 pub returns-in_err-enter-clause-most : goal.returns-in_err-enter-clause-most
 returns-in_err-enter-clause-most c =
     let costs = c.update.ensures.costs in
-    let most = updated-most c.args.store.now c.args.clauses.now c.args.root.now.rests c.args.root.now.waiting.list.items c.args.root.now.run costs.ended c.requires.standing.sound c.requires.standing.joined (reasons-derive c.requires.standing.rooted.reasoned) c.requires.standing.rooted.work c.requires.visits costs.spends in
+    let most = updated-most c.args.store.now c.args.clauses.now c.args.root.now.rests c.args.root.now.waiting.list.items c.args.root.now.walked.heads c.args.root.now.run costs.ended c.requires.standing.sound c.requires.standing.joined (reasons-derive c.requires.standing.rooted.reasoned) c.requires.standing.rooted.work c.requires.visits costs.spends in
     omega (arith, most, costs.visits, c.enter.ensures.rest.3)
 
 pub returns-in_err-lay-clause-most : goal.returns-in_err-lay-clause-most
 returns-in_err-lay-clause-most c =
     let costs = c.update.ensures.costs in
-    let most = updated-most c.args.store.now c.args.clauses.now c.args.root.now.rests c.args.root.now.waiting.list.items c.args.root.now.run costs.ended c.requires.standing.sound c.requires.standing.joined (reasons-derive c.requires.standing.rooted.reasoned) c.requires.standing.rooted.work c.requires.visits costs.spends in
+    let most = updated-most c.args.store.now c.args.clauses.now c.args.root.now.rests c.args.root.now.waiting.list.items c.args.root.now.walked.heads c.args.root.now.run costs.ended c.requires.standing.sound c.requires.standing.joined (reasons-derive c.requires.standing.rooted.reasoned) c.requires.standing.rooted.work c.requires.visits costs.spends in
     omega (arith, most, costs.visits, c.enter.ensures.rest.3, c.lay.ensures.visits)
 
 pub returns-in_err-lay-clause-forms : goal.returns-in_err-lay-clause-forms
@@ -180,9 +178,9 @@ returns-in_err-found-clause-most c =
     let done = c.propagate.new.run in
     let work_is = ap (λ (v : Vec ℕ Global). v.items) c.enter.ensures.rest.1 ∙ r.work in
     let few = grown-length c.len-number.result c.enter.new.run.work.items c.lay.new.run.work.items c.in_ok-lay.ensures.work in
-    let spends = rw (count_is, c.as_slice.ensures.value ∙ c.new-none.ensures.items) at c.propagate.ensures.costs in
+    let spends = rw (c.as_slice.ensures.value ∙ c.new-none.ensures.items) at c.propagate.ensures.costs in
     let cands = ap (λ (v : Vec ℕ Global). sum v.items) c.lay.ensures.candidates ∙ ap sum h.candidates ∙ sum_by_push (λ (n : ℕ). n) run.candidates.items 0 in
-    let upper = both-parts store new.store c.args.clauses.now between c.args.root.now.rests rests c.args.root.now.waiting.list.items c.args.root.now.run run c.lay.new.run done lit c.in_ok-enter.ensures.longer laid_is (omega (arith, cands)) (c.lay.ensures.visits ∙ c.enter.ensures.rest.3) c.requires.standing.rooted.work (omega (arith, few.1, ap length work_is)) c.requires.visits (c.in_ok-update.ensures.updated c.if-branch.false).pays spends in
+    let upper = both-parts store new.store c.args.clauses.now between c.args.root.now.rests rests c.args.root.now.waiting.list.items c.args.root.now.walked.heads c.args.root.now.run run c.lay.new.run done c.at.result (heads-is c.at.result (length run.assignment.list.items) (c.at.ensures.0 ∙ count_is) (c.at.ensures.1 ∙ count_is)) lit c.in_ok-enter.ensures.longer laid_is (omega (arith, cands)) (c.lay.ensures.visits ∙ c.enter.ensures.rest.3) c.requires.standing.rooted.work (omega (arith, few.1, ap length work_is)) c.requires.visits (c.in_ok-update.ensures.updated c.if-branch.false).pays spends in
     let extends = extends-then c.args.root.now.run.assignment.list.items run.assignment.list.items done.assignment.list.items (c.in_ok-update.ensures.updated c.if-branch.false).pays.extends (rw laid_is at spends.extends) in
     let most = question-most new.store clauses c.args.root.now.run.assignment.list.items done.assignment.list.items done.visits (length c.args.root.now.waiting.list.items + 1) (sum done.candidates.items) c.in_ok-enter.ensures.sound
     (joined-entered c.args.form keep new.store.stored.items clauses run.opens.items new.run.opens.items run.candidates.items new.run.candidates.items h c.requires.standing.joined) spends.single (λ l on. opposite done.assignment.values.items done.assignment.list.items l done.assignment.agrees on) extends start spends.bounded upper in
@@ -212,9 +210,9 @@ returns-clause-most c =
     let done = c.propagate.new.run in
     let work_is = ap (λ (v : Vec ℕ Global). v.items) c.enter.ensures.rest.1 ∙ r.work in
     let few = grown-length c.len-number.result c.enter.new.run.work.items c.lay.new.run.work.items c.in_ok-lay.ensures.work in
-    let spends = rw (count_is, c.as_slice.ensures.value ∙ c.new-none.ensures.items) at c.propagate.ensures.costs in
+    let spends = rw (c.as_slice.ensures.value ∙ c.new-none.ensures.items) at c.propagate.ensures.costs in
     let cands = ap (λ (v : Vec ℕ Global). sum v.items) c.lay.ensures.candidates ∙ ap sum h.candidates ∙ sum_by_push (λ (n : ℕ). n) run.candidates.items 0 in
-    let upper = both-parts store new.store c.args.clauses.now between c.args.root.now.rests rests c.args.root.now.waiting.list.items c.args.root.now.run run c.lay.new.run done lit c.in_ok-enter.ensures.longer laid_is (omega (arith, cands)) (c.lay.ensures.visits ∙ c.enter.ensures.rest.3) c.requires.standing.rooted.work (omega (arith, few.1, ap length work_is)) c.requires.visits (c.in_ok-update.ensures.updated c.if-branch.false).pays spends in
+    let upper = both-parts store new.store c.args.clauses.now between c.args.root.now.rests rests c.args.root.now.waiting.list.items c.args.root.now.walked.heads c.args.root.now.run run c.lay.new.run done c.at.result (heads-is c.at.result (length run.assignment.list.items) (c.at.ensures.0 ∙ count_is) (c.at.ensures.1 ∙ count_is)) lit c.in_ok-enter.ensures.longer laid_is (omega (arith, cands)) (c.lay.ensures.visits ∙ c.enter.ensures.rest.3) c.requires.standing.rooted.work (omega (arith, few.1, ap length work_is)) c.requires.visits (c.in_ok-update.ensures.updated c.if-branch.false).pays spends in
     let extends = extends-then c.args.root.now.run.assignment.list.items run.assignment.list.items done.assignment.list.items (c.in_ok-update.ensures.updated c.if-branch.false).pays.extends (rw laid_is at spends.extends) in
     let most = question-most new.store clauses c.args.root.now.run.assignment.list.items done.assignment.list.items done.visits (length c.args.root.now.waiting.list.items + 1) (sum done.candidates.items) c.in_ok-enter.ensures.sound
     (joined-entered c.args.form keep new.store.stored.items clauses run.opens.items new.run.opens.items run.candidates.items new.run.candidates.items h c.requires.standing.joined) spends.single (λ l on. opposite done.assignment.values.items done.assignment.list.items l done.assignment.agrees on) extends start spends.bounded upper in
@@ -296,11 +294,8 @@ returns-clause-left c =
     let last_is : reasons_of last.run ≡ reasons_of done = ap (λ (a : Assignment). a.reasons.items) c.leave.ensures.rest.0 ∙ ap (λ (v : Vec ℕ Global). v.items) c.back.ensures.reasons in
     let keeps : KeepsReasons (list_of run) (reasons_of run) (reasons_of last.run) = subst (λ xs. KeepsReasons (list_of run) (reasons_of run) xs) (sym last_is) (subst (λ (a : Assignment). KeepsReasons a.list.items a.reasons.items (reasons_of done)) mine reported.reasons.kept) in
     let values_is = ap (λ (a : Assignment). a.values.items) (c.lay.ensures.assignment ∙ c.enter.ensures.rest.0) in
-    let codes = walked_codes (length run.assignment.list.items) run.assignment.list.items in
-    let served = reported.kept run.assignment.values.items codes (subst (λ vs. Grows run.assignment.values.items vs) (sym values_is) (grows-refl run.assignment.values.items)) r.walked in
-    let watches_is = c.back.ensures.watches in
-    let agrees : Agree last.run.assignment.values.items run.assignment.list.items = subst (λ xs. Agree last.run.assignment.values.items xs) end_is last.run.assignment.agrees in
-    let walked = walked-agree run.assignment.values.items last.run.assignment.values.items run.assignment.list.items c.propagate.new.clauses.blocks.literals c.propagate.new.clauses.blocks.watches codes run.assignment.agrees agrees served in
+    let moved = subst (λ vs. KeepsWalked vs between c.propagate.new.clauses) values_is reported.kept in
+    let fallen = visits-back run.assignment.values.items between c.propagate.new.clauses b.clauses run.assignment.list.items run.assignment.agrees lit c.back.ensures.watches moved in
     record {
       sound = c.leave.ensures.sound;
       kept = kept_is;
@@ -319,8 +314,18 @@ returns-clause-left c =
         trail = ap (λ (v : Vec ℕ Global). v.items) c.leave.ensures.trail ∙ c.back.ensures.trail;
         next = c.leave.ensures.rest.2 ∙ c.back.ensures.next;
         reasoned = rw (kept_is, lit, end_is) (reasons-keep (reasons_of run) (reasons_of last.run) keeps r.reasoned);
-        walked = rw (end_is, watches_is, c.back.ensures.literals) walked;
+        walks = rw end_is (walks-kept between b.clauses run.assignment.list.items root.walked fallen r.walks);
         seats = r.seats ∙ sym (ap length kept_is);
         live = rw kept_is r.live;
       };
     }
+
+pub propagate-requires-clause-walked : goal.propagate-requires-clause-walked
+propagate-requires-clause-walked c =
+    let root = c.update.new.self in
+    let list = root.run.assignment.list.items in
+    let laid_is = ap (λ (a : Assignment). a.list.items) (c.lay.ensures.assignment ∙ c.enter.ensures.rest.0) in
+    let count_is : c.len-count.result ≡ length list = omega (arith, c.len-count.ensures, root.run.assignment.list.ok.0) in
+    let heads = heads-is c.at.result (length list) (c.at.ensures.0 ∙ count_is) (c.at.ensures.1 ∙ count_is) in
+    let whole = subst (IsMark c.update.new.clauses.blocks.literals c.update.new.clauses.blocks.watches list) (c.in_ok-update.ensures.updated c.if-branch.false).walked c.in_ok-update.ensures.rooted.walks.now in
+    rw (laid_is, heads) whole

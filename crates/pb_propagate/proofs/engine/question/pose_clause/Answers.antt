@@ -1,7 +1,7 @@
-use Rattle.pb_propagate.proofs.Common.{◌++◌, ◌+◌, ◌∙◌, ◌∷◌, ◌≡◌, [], ap, arith, Global, length, List, refl, subst, sym, take, Vec, sum, Entry}
-use Rattle.pb_propagate.proofs.Common.{Listed, AreWalked, all_of, clauses_of, joined, walked_codes, none, denial_of, shapes_of, Conflicts}
+use Rattle.pb_propagate.proofs.Common.{◌++◌, ◌+◌, ◌∙◌, ◌∷◌, ◌≡◌, [], ap, arith, Global, length, List, refl, subst, take, Vec, sum, Entry}
+use Rattle.pb_propagate.proofs.Common.{Listed, IsMark, all_of, clauses_of, joined, none, denial_of, shapes_of, Conflicts}
 use Rattle.pb_propagate.proofs.Common.{Derives, AreSettled, alone, posed}
-use Rattle.pb_propagate.proofs.lemmas.clauses.Walks.{grows-refl}
+use Rattle.pb_propagate.proofs.lemmas.clauses.Heads.{visits-back, walks-kept}
 use Rattle.pb_propagate.proofs.lemmas.engine.Derivations.{derivation-then}
 use Rattle.pb_propagate.proofs.lemmas.engine.Spent.{derivation-single}
 use Rattle.pb_propagate.proofs.lemmas.engine.Values.{opposite}
@@ -16,13 +16,13 @@ use Rattle.pb_propagate.proofs.engine.question.pose_clause.Goals as goal
 pub returns-in_err-update-clause-most : goal.returns-in_err-update-clause-most
 returns-in_err-update-clause-most c =
     let costs = c.update.ensures.costs in
-    let most = updated-most c.args.store.now c.args.clauses.now c.args.root.now.rests c.args.root.now.waiting.list.items c.args.root.now.run costs.ended c.requires.standing.sound c.requires.standing.joined (reasons-derive c.requires.standing.rooted.reasoned) c.requires.standing.rooted.work c.requires.visits costs.spends in
+    let most = updated-most c.args.store.now c.args.clauses.now c.args.root.now.rests c.args.root.now.waiting.list.items c.args.root.now.walked.heads c.args.root.now.run costs.ended c.requires.standing.sound c.requires.standing.joined (reasons-derive c.requires.standing.rooted.reasoned) c.requires.standing.rooted.work c.requires.visits costs.spends in
     omega (arith, most, costs.visits)
 
 pub returns-then-branch-clause-most : goal.returns-then-branch-clause-most
 returns-then-branch-clause-most c =
     let costs = c.update.ensures.costs in
-    let most = updated-most c.args.store.now c.args.clauses.now c.args.root.now.rests c.args.root.now.waiting.list.items c.args.root.now.run costs.ended c.requires.standing.sound c.requires.standing.joined (reasons-derive c.requires.standing.rooted.reasoned) c.requires.standing.rooted.work c.requires.visits costs.spends in
+    let most = updated-most c.args.store.now c.args.clauses.now c.args.root.now.rests c.args.root.now.waiting.list.items c.args.root.now.walked.heads c.args.root.now.run costs.ended c.requires.standing.sound c.requires.standing.joined (reasons-derive c.requires.standing.rooted.reasoned) c.requires.standing.rooted.work c.requires.visits costs.spends in
     omega (arith, most, costs.visits)
 
 pub returns-then-branch-clause-asked : goal.returns-then-branch-clause-asked
@@ -60,7 +60,7 @@ refute-requires-clause-single c =
 pub refute-requires-clause-counted : goal.refute-requires-clause-counted
 refute-requires-clause-counted c =
     let r = c.in_ok-update.ensures.rooted in
-    root-counted c.args.store.now c.update.new.clauses c.update.new.self.run c.update.new.self.rests c.update.new.self.waiting r
+    root-counted c.args.store.now c.update.new.clauses c.update.new.self.run c.update.new.self.rests c.update.new.self.waiting c.update.new.self.walked r
 
 pub refute-requires-clause-tidy : goal.refute-requires-clause-tidy
 refute-requires-clause-tidy c =
@@ -76,7 +76,7 @@ pub refute-requires-clause-running : goal.refute-requires-clause-running
 refute-requires-clause-running c = (c.in_ok-update.ensures.updated c.if-branch.false).running
 
 pub refute-requires-clause-walked : goal.refute-requires-clause-walked
-refute-requires-clause-walked c = c.in_ok-update.ensures.rooted.walked
+refute-requires-clause-walked c = subst (IsMark c.update.new.clauses.blocks.literals c.update.new.clauses.blocks.watches c.update.new.self.run.assignment.list.items) (c.in_ok-update.ensures.updated c.if-branch.false).walked c.in_ok-update.ensures.rooted.walks.now
 
 pub returns-in_err-found-clause-most : goal.returns-in_err-found-clause-most
 returns-in_err-found-clause-most c =
@@ -88,7 +88,7 @@ returns-in_err-found-clause-most c =
     let lit : clauses_of between ≡ clauses_of c.args.clauses.now = c.update.ensures.literals in
     let entries = ap (λ (xs : List Entry). length xs) c.terms.ensures.terms in
     let costs = c.refute.ensures.costs in
-    let upper = both-costs store c.args.clauses.now between c.args.root.now.rests root.rests c.args.root.now.waiting.list.items (length c.terms.result.now) start root.run done lit c.requires.standing.rooted.work c.requires.visits (c.in_ok-update.ensures.updated c.if-branch.false).pays costs in
+    let upper = both-costs store c.args.clauses.now between c.args.root.now.rests root.rests c.args.root.now.waiting.list.items c.args.root.now.walked.heads (length c.terms.result.now) start root.run done lit c.requires.standing.rooted.work c.requires.visits (c.in_ok-update.ensures.updated c.if-branch.false).pays costs in
     let extends = extends-then start.assignment.list.items root.run.assignment.list.items done.assignment.list.items (c.in_ok-update.ensures.updated c.if-branch.false).pays.extends costs.extends in
     let most = question-most store (clauses_of c.args.clauses.now) start.assignment.list.items done.assignment.list.items done.visits (length c.args.root.now.waiting.list.items + length c.terms.result.now) (sum done.candidates.items) c.requires.standing.sound c.requires.standing.joined costs.single (λ l on. opposite done.assignment.values.items done.assignment.list.items l done.assignment.agrees on) extends (reasons-derive c.requires.standing.rooted.reasoned) costs.bounded upper in
     omega (arith, most, entries)
@@ -103,7 +103,7 @@ returns-clause-most c =
     let lit : clauses_of between ≡ clauses_of c.args.clauses.now = c.update.ensures.literals in
     let entries = ap (λ (xs : List Entry). length xs) c.terms.ensures.terms in
     let costs = c.refute.ensures.costs in
-    let upper = both-costs store c.args.clauses.now between c.args.root.now.rests root.rests c.args.root.now.waiting.list.items (length c.terms.result.now) start root.run done lit c.requires.standing.rooted.work c.requires.visits (c.in_ok-update.ensures.updated c.if-branch.false).pays costs in
+    let upper = both-costs store c.args.clauses.now between c.args.root.now.rests root.rests c.args.root.now.waiting.list.items c.args.root.now.walked.heads (length c.terms.result.now) start root.run done lit c.requires.standing.rooted.work c.requires.visits (c.in_ok-update.ensures.updated c.if-branch.false).pays costs in
     let extends = extends-then start.assignment.list.items root.run.assignment.list.items done.assignment.list.items (c.in_ok-update.ensures.updated c.if-branch.false).pays.extends costs.extends in
     let most = question-most store (clauses_of c.args.clauses.now) start.assignment.list.items done.assignment.list.items done.visits (length c.args.root.now.waiting.list.items + length c.terms.result.now) (sum done.candidates.items) c.requires.standing.sound c.requires.standing.joined costs.single (λ l on. opposite done.assignment.values.items done.assignment.list.items l done.assignment.agrees on) extends (reasons-derive c.requires.standing.rooted.reasoned) costs.bounded upper in
     omega (arith, most, entries, c.back.ensures.visits)
@@ -151,7 +151,6 @@ returns-clause-left c =
     let reported = c.in_ok-found.ensures in
     let last = c.back.new.run in
     let count_is : c.len-count.result ≡ length run.assignment.list.items = omega (arith, c.len-count.ensures, run.assignment.list.ok.0) in
-    let codes = walked_codes (length run.assignment.list.items) run.assignment.list.items in
     let r = c.in_ok-update.ensures.rooted in
     record {
       sound = c.requires.standing.sound;
@@ -159,9 +158,9 @@ returns-clause-left c =
       ready = c.back.ensures.ready;
       lists = omega (arith, ap (λ (v : Vec (Vec Listed Global) Global). length v.items) c.back.ensures.lists, reported.running.sizes, reported.values, r.values, c.requires.standing.widths);
       conflict = c.in_ok-update.ensures.kept;
-      rooted = back-rooted store between c.back.new.clauses run last root.rests root.waiting c.refute.new.run.assignment.list.items c.in_ok-update.ensures.rooted (record {
+      rooted = back-rooted store between c.back.new.clauses run last root.rests root.waiting root.walked root.walked c.refute.new.run.assignment.list.items c.in_ok-update.ensures.rooted (record {
         literals = (c.back.ensures.literals ∙ c.refute.ensures.literals);
-        kept = λ old. subst (λ cs. AreWalked run.assignment.values.items cs c.back.new.clauses.blocks.watches codes) (sym c.back.ensures.literals) (subst (λ ws. AreWalked run.assignment.values.items c.refute.new.clauses.blocks.literals ws codes) (sym c.back.ensures.watches) (reported.kept run.assignment.values.items codes (grows-refl run.assignment.values.items) old));
+        walks = walks-kept between c.back.new.clauses run.assignment.list.items root.walked (visits-back run.assignment.values.items between c.refute.new.clauses c.back.new.clauses run.assignment.list.items run.assignment.agrees (c.back.ensures.literals ∙ c.refute.ensures.literals) c.back.ensures.watches reported.kept) c.in_ok-update.ensures.rooted.walks;
         extends = c.refute.ensures.costs.extends;
         reasons = rw c.back.ensures.reasons reported.reasons;
         cut = c.back.ensures.list ∙ ap (λ n. take n c.refute.new.run.assignment.list.items) count_is;

@@ -1,8 +1,9 @@
 use Rattle.pb_propagate.proofs.Common.{ℕ, ◌++◌, ◌∙◌, ◌∷◌, ◌≡◌, [], ap, arith, get_or, Global, inl, inr, length, length-set, List, subst, sym, Vec}
-use Rattle.pb_propagate.proofs.Common.{slice_get, cases_eq, length-map, Assignment, walked_codes, beside, IsTidy, shapes_of}
+use Rattle.pb_propagate.proofs.Common.{slice_get, cases_eq, length-map, Assignment, both_ways, beside, IsTidy, shapes_of}
 use Rattle.pb_propagate.proofs.Common.{stored_shape, open_sum, Shape, HasForm}
+use Rattle.pb_propagate.proofs.lemmas.clauses.Heads.{walks-kept}
 use Rattle.pb_propagate.proofs.lemmas.root.Roots.{kept-rooted}
-use Rattle.pb_propagate.proofs.lemmas.root.Admitted.{arrived, gained-rooted, admitted-rooted, served-walked, free-walked, clause-rooted, slot-counted, slot-tidy, grown-off}
+use Rattle.pb_propagate.proofs.lemmas.root.Admitted.{arrived, gained-keeps, gained-rooted, admitted-rooted, clause-rooted, slot-counted, slot-tidy, grown-off}
 use Rattle.pb_propagate.proofs.lemmas.engine.Runs.{absent-push, absent-new}
 use Rattle.pb_propagate.proofs.lemmas.store.Seats.{get-absent, push-older}
 use Rattle.pb_propagate.proofs.engine.root.Root.admit.Goals as goal
@@ -15,19 +16,19 @@ returns-then-is_filled c =
     let run = me.run in
     let r = g.2 in
     let reached = c.in_ok-reach.ensures in
-    let codes = walked_codes (length run.assignment.list.items) run.assignment.list.items in
     let filled = c.is_filled.ensures.yes c.if-is_filled.true in
-    let walked = served-walked run.assignment.values.items g.1.blocks.literals c.args.clauses.now.blocks.literals g.1.blocks.watches c.args.clauses.now.blocks.watches codes c.args.slot g.3.filled g.3.watched (λ e here live h. free-walked run.assignment.values.items c.args.clauses.now.blocks.literals c.args.clauses.now.blocks.watches codes c.args.slot e r.walked.failed g.4 here live h) r.walked in
-    let rooted = gained-rooted g.0 store g.1 c.args.clauses.now run c.reach.new.run me.rests c.reach.new.rests me.waiting c.reach.new.waiting c.args.slot c.requires.slot r g.3 reached walked in
-    let there = arrived g.0 store g.1 c.args.clauses.now run c.reach.new.run me.rests c.reach.new.rests me.waiting c.reach.new.waiting c.args.slot c.requires.slot r g.3 reached in
-    clause-rooted store c.args.clauses.now c.reach.new.run c.reach.new.rests c.reach.new.waiting c.args.slot c.requires.slot (λ d. c.requires.joined.apart c.args.slot d (omega (arith, c.requires.slot, length-map store.stored.items stored_shape)) filled) there.open_none rooted
+    let keeps = gained-keeps run.assignment.values.items run.assignment.list.items g.0 store g.1 c.args.clauses.now c.args.slot run.assignment.agrees g.3 (λ e here live failed. absurd (both_ways _ (g.4 e here live) failed)) in
+    let walks = walks-kept g.1 c.args.clauses.now run.assignment.list.items me.walked keeps r.walks in
+    let rooted = gained-rooted g.0 store g.1 c.args.clauses.now run c.reach.new.run me.rests c.reach.new.rests me.waiting c.reach.new.waiting me.walked c.args.slot c.requires.slot r g.3 reached walks in
+    let there = arrived g.0 store g.1 c.args.clauses.now run c.reach.new.run me.rests c.reach.new.rests me.waiting c.reach.new.waiting me.walked c.args.slot c.requires.slot r g.3 reached in
+    clause-rooted store c.args.clauses.now c.reach.new.run c.reach.new.rests c.reach.new.waiting me.walked c.args.slot c.requires.slot (λ d. c.requires.joined.apart c.args.slot d (omega (arith, c.requires.slot, length-map store.stored.items stored_shape)) filled) there.open_none rooted
 
 pub lay-requires-clause-opens : goal.lay-requires-clause-opens
 lay-requires-clause-opens c =
     let store = c.args.store.now in
     let g = c.requires.gained in
     let me = c.args.self.now in
-    let r = admitted-rooted g.0 store g.1 c.args.clauses.now me.run c.reach.new.run me.rests c.reach.new.rests me.waiting c.reach.new.waiting c.args.slot c.requires.slot g.2 g.3 c.in_ok-reach.ensures c.requires.ready (c.is_filled.ensures.no c.if-is_filled.false) in
+    let r = admitted-rooted g.0 store g.1 c.args.clauses.now me.run c.reach.new.run me.rests c.reach.new.rests me.waiting c.reach.new.waiting me.walked c.args.slot c.requires.slot g.2 g.3 c.in_ok-reach.ensures c.requires.ready (c.is_filled.ensures.no c.if-is_filled.false) in
     r.open_sizes
 
 pub lay-requires-clause-values : goal.lay-requires-clause-values
@@ -35,7 +36,7 @@ lay-requires-clause-values c =
     let store = c.args.store.now in
     let g = c.requires.gained in
     let me = c.args.self.now in
-    let r = admitted-rooted g.0 store g.1 c.args.clauses.now me.run c.reach.new.run me.rests c.reach.new.rests me.waiting c.reach.new.waiting c.args.slot c.requires.slot g.2 g.3 c.in_ok-reach.ensures c.requires.ready (c.is_filled.ensures.no c.if-is_filled.false) in
+    let r = admitted-rooted g.0 store g.1 c.args.clauses.now me.run c.reach.new.run me.rests c.reach.new.rests me.waiting c.reach.new.waiting me.walked c.args.slot c.requires.slot g.2 g.3 c.in_ok-reach.ensures c.requires.ready (c.is_filled.ensures.no c.if-is_filled.false) in
     r.values
 
 pub defer-requires-clause-inside : goal.defer-requires-clause-inside
@@ -43,7 +44,7 @@ defer-requires-clause-inside c =
     let store = c.args.store.now in
     let g = c.requires.gained in
     let me = c.args.self.now in
-    let r = admitted-rooted g.0 store g.1 c.args.clauses.now me.run c.reach.new.run me.rests c.reach.new.rests me.waiting c.reach.new.waiting c.args.slot c.requires.slot g.2 g.3 c.in_ok-reach.ensures c.requires.ready (c.is_filled.ensures.no c.if-is_filled.false) in
+    let r = admitted-rooted g.0 store g.1 c.args.clauses.now me.run c.reach.new.run me.rests c.reach.new.rests me.waiting c.reach.new.waiting me.walked c.args.slot c.requires.slot g.2 g.3 c.in_ok-reach.ensures c.requires.ready (c.is_filled.ensures.no c.if-is_filled.false) in
     omega (arith, c.requires.slot, r.seats)
 
 pub defer-requires-clause-absent : goal.defer-requires-clause-absent
@@ -56,7 +57,7 @@ keep-requires-clause-opens c =
     let store = c.args.store.now in
     let g = c.requires.gained in
     let me = c.args.self.now in
-    let r = admitted-rooted g.0 store g.1 c.args.clauses.now me.run c.reach.new.run me.rests c.reach.new.rests me.waiting c.reach.new.waiting c.args.slot c.requires.slot g.2 g.3 c.in_ok-reach.ensures c.requires.ready (c.is_filled.ensures.no c.if-is_filled.false) in
+    let r = admitted-rooted g.0 store g.1 c.args.clauses.now me.run c.reach.new.run me.rests c.reach.new.rests me.waiting c.reach.new.waiting me.walked c.args.slot c.requires.slot g.2 g.3 c.in_ok-reach.ensures c.requires.ready (c.is_filled.ensures.no c.if-is_filled.false) in
     let d : Shape = record { terms = []; degree = 0 } in
     let opens_now = ap length (c.in_ok-lay.ensures.opens d) ∙ length-set c.reach.new.run.opens.items c.args.slot (open_sum c.reach.new.run.assignment.list.items (get_or (shapes_of store.stored.items) c.args.slot d).terms) ∙ r.open_sizes in
     sym (ap length r.opens) ∙ r.open_sizes ∙ sym opens_now
@@ -66,7 +67,7 @@ keep-requires-clause-starts c =
     let store = c.args.store.now in
     let g = c.requires.gained in
     let me = c.args.self.now in
-    let r = admitted-rooted g.0 store g.1 c.args.clauses.now me.run c.reach.new.run me.rests c.reach.new.rests me.waiting c.reach.new.waiting c.args.slot c.requires.slot g.2 g.3 c.in_ok-reach.ensures c.requires.ready (c.is_filled.ensures.no c.if-is_filled.false) in
+    let r = admitted-rooted g.0 store g.1 c.args.clauses.now me.run c.reach.new.run me.rests c.reach.new.rests me.waiting c.reach.new.waiting me.walked c.args.slot c.requires.slot g.2 g.3 c.in_ok-reach.ensures c.requires.ready (c.is_filled.ensures.no c.if-is_filled.false) in
     sym (ap length r.starts) ∙ ap (λ (v : Vec ℕ Global). length v.items) (sym c.lay.ensures.candidates)
 
 pub keep-requires-clause-sizes : goal.keep-requires-clause-sizes
@@ -74,7 +75,7 @@ keep-requires-clause-sizes c =
     let store = c.args.store.now in
     let g = c.requires.gained in
     let me = c.args.self.now in
-    let r = admitted-rooted g.0 store g.1 c.args.clauses.now me.run c.reach.new.run me.rests c.reach.new.rests me.waiting c.reach.new.waiting c.args.slot c.requires.slot g.2 g.3 c.in_ok-reach.ensures c.requires.ready (c.is_filled.ensures.no c.if-is_filled.false) in
+    let r = admitted-rooted g.0 store g.1 c.args.clauses.now me.run c.reach.new.run me.rests c.reach.new.rests me.waiting c.reach.new.waiting me.walked c.args.slot c.requires.slot g.2 g.3 c.in_ok-reach.ensures c.requires.ready (c.is_filled.ensures.no c.if-is_filled.false) in
     let d : Shape = record { terms = []; degree = 0 } in
     let opens_now = ap length (c.in_ok-lay.ensures.opens d) ∙ length-set c.reach.new.run.opens.items c.args.slot (open_sum c.reach.new.run.assignment.list.items (get_or (shapes_of store.stored.items) c.args.slot d).terms) ∙ r.open_sizes in
     ap (λ (v : Vec ℕ Global). length v.items) c.lay.ensures.candidates ∙ r.start_sizes ∙ sym opens_now
@@ -84,7 +85,7 @@ keep-requires-clause-undone c =
     let store = c.args.store.now in
     let g = c.requires.gained in
     let me = c.args.self.now in
-    let r = admitted-rooted g.0 store g.1 c.args.clauses.now me.run c.reach.new.run me.rests c.reach.new.rests me.waiting c.reach.new.waiting c.args.slot c.requires.slot g.2 g.3 c.in_ok-reach.ensures c.requires.ready (c.is_filled.ensures.no c.if-is_filled.false) in
+    let r = admitted-rooted g.0 store g.1 c.args.clauses.now me.run c.reach.new.run me.rests c.reach.new.rests me.waiting c.reach.new.waiting me.walked c.args.slot c.requires.slot g.2 g.3 c.in_ok-reach.ensures c.requires.ready (c.is_filled.ensures.no c.if-is_filled.false) in
     let d : Shape = record { terms = []; degree = 0 } in
     let opens_now = ap length (c.in_ok-lay.ensures.opens d) ∙ length-set c.reach.new.run.opens.items c.args.slot (open_sum c.reach.new.run.assignment.list.items (get_or (shapes_of store.stored.items) c.args.slot d).terms) ∙ r.open_sizes in
     let run = c.lay.new.run in
@@ -103,7 +104,7 @@ returns c =
     let store = c.args.store.now in
     let g = c.requires.gained in
     let me = c.args.self.now in
-    let r = admitted-rooted g.0 store g.1 c.args.clauses.now me.run c.reach.new.run me.rests c.reach.new.rests me.waiting c.reach.new.waiting c.args.slot c.requires.slot g.2 g.3 c.in_ok-reach.ensures c.requires.ready (c.is_filled.ensures.no c.if-is_filled.false) in
+    let r = admitted-rooted g.0 store g.1 c.args.clauses.now me.run c.reach.new.run me.rests c.reach.new.rests me.waiting c.reach.new.waiting me.walked c.args.slot c.requires.slot g.2 g.3 c.in_ok-reach.ensures c.requires.ready (c.is_filled.ensures.no c.if-is_filled.false) in
     let d : Shape = record { terms = []; degree = 0 } in
     let opens_now = ap length (c.in_ok-lay.ensures.opens d) ∙ length-set c.reach.new.run.opens.items c.args.slot (open_sum c.reach.new.run.assignment.list.items (get_or (shapes_of store.stored.items) c.args.slot d).terms) ∙ r.open_sizes in
     let run = c.lay.new.run in
@@ -116,14 +117,14 @@ returns c =
     let tidy = slot-tidy c.reach.new.rests aside (shapes_of store.stored.items) c.reach.new.run.opens.items c.reach.new.run.candidates.items run.opens.items c.reach.new.run.assignment.list.items run.work.items run.trail.items c.args.slot (omega (arith, c.requires.slot, long)) (omega (arith, c.requires.slot, r.open_sizes)) r.tidy c.in_ok-lay.ensures.opens queued noted in
     let laid : IsTidy (beside c.reach.new.rests aside) (shapes_of store.stored.items) run.opens.items run.candidates.items run.assignment.list.items run.work.items run.trail.items run.next (length store.stored.items) = rw (list_is, cands_is, c.lay.ensures.next ∙ r.next) (rw long at tidy) in
     let waiting = c.defer.new.waiting in
-    kept-rooted store c.args.clauses.now run c.keep.new.run c.reach.new.rests c.keep.new.rests aside waiting
+    kept-rooted store c.args.clauses.now run c.keep.new.run c.reach.new.rests c.keep.new.rests aside waiting me.walked
     (record {
       values = rw c.lay.ensures.assignment r.values;
       opens = opens_now;
       candidates = ap (λ (v : Vec ℕ Global). length v.items) c.lay.ensures.candidates ∙ r.start_sizes;
       counted = rw list_is (slot-counted (shapes_of store.stored.items) c.reach.new.run.opens.items run.opens.items c.reach.new.run.assignment.list.items c.args.slot (omega (arith, c.requires.slot, r.open_sizes)) (λ s e less apart. r.counted s e (omega (arith, less, long)) apart) c.in_ok-lay.ensures.opens);
       reasoned = rw c.lay.ensures.assignment r.reasoned;
-      walked = rw c.lay.ensures.assignment r.walked;
+      walks = rw c.lay.ensures.assignment r.walks;
     })
     laid
     (λ s off. elim c.defer.ensures.list [

@@ -18,4 +18,5 @@ returns c = record {
   };
   waiting = c.remove.ensures.left;
   seats = c.remove.ensures.seats;
+  walked = refl;
 }

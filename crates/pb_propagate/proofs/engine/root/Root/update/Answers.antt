@@ -1,6 +1,7 @@
-use Rattle.pb_propagate.proofs.Common.{ℕ, ◌∙◌, ◌≡◌, [], ap, arith, get_or, Global, length, refl, subst, sym, take, Vec, slice_get-get_or, slice_get_within, all_of, none}
-use Rattle.pb_propagate.proofs.Common.{AreWalked, forms_of, Listed, walked_codes}
-use Rattle.pb_propagate.proofs.lemmas.clauses.Walks.{grows-refl}
+use Rattle.pb_propagate.proofs.Common.{ℕ, ◌∙◌, ◌≡◌, [], ap, arith, get_or, Global, length, refl, sym, take, Vec, slice_get-get_or, slice_get_within, all_of, none}
+use Rattle.pb_propagate.proofs.Common.{◌++◌, ◌-◌, forms_of, Assignment, Listed, heads_at}
+use Rattle.std.proofs.Math.ListN.{replicate}
+use Rattle.pb_propagate.proofs.lemmas.clauses.Heads.{heads-is, visits-back, walks-back, walks-ended}
 use Rattle.pb_propagate.proofs.lemmas.clauses.Watching.{ready-running}
 use Rattle.pb_propagate.proofs.lemmas.engine.Bounds.{form-inside}
 use Rattle.pb_propagate.proofs.lemmas.engine.Spent.{derivation-single}
@@ -30,14 +31,14 @@ pub returns-in_err-found-clause-costs : goal.returns-in_err-found-clause-costs
 returns-in_err-found-clause-costs c =
     let me = c.args.self.now in
     let count_is : c.len-count.result ≡ length me.run.assignment.list.items = omega (arith, c.len-count.ensures, me.run.assignment.list.ok.0) in
-    let spends = rw (count_is, c.as_slice.ensures.value) at c.propagate.ensures.costs in
+    let spends = rw c.as_slice.ensures.value at c.propagate.ensures.costs in
     record { ended = c.propagate.new.run; spends = spends; visits = refl }
 
 pub returns-in_err-note-clause-costs : goal.returns-in_err-note-clause-costs
 returns-in_err-note-clause-costs c =
     let me = c.args.self.now in
     let count_is : c.len-count.result ≡ length me.run.assignment.list.items = omega (arith, c.len-count.ensures, me.run.assignment.list.ok.0) in
-    let spends = rw (count_is, c.as_slice.ensures.value) at c.propagate.ensures.costs in
+    let spends = rw c.as_slice.ensures.value at c.propagate.ensures.costs in
     record { ended = c.propagate.new.run; spends = spends; visits = refl }
 
 -- a conflict is met
@@ -54,7 +55,7 @@ pub returns-then-found-clause-costs : goal.returns-then-found-clause-costs
 returns-then-found-clause-costs c =
     let me = c.args.self.now in
     let count_is : c.len-count.result ≡ length me.run.assignment.list.items = omega (arith, c.len-count.ensures, me.run.assignment.list.ok.0) in
-    let spends = rw (count_is, c.as_slice.ensures.value) at c.propagate.ensures.costs in
+    let spends = rw c.as_slice.ensures.value at c.propagate.ensures.costs in
     record { ended = c.propagate.new.run; spends = spends; visits = c.back.ensures.visits }
 
 pub returns-then-found-clause-rooted : goal.returns-then-found-clause-rooted
@@ -66,10 +67,9 @@ returns-then-found-clause-rooted c =
     let done = c.propagate.new.run in
     let reported = c.in_ok-found.ensures in
     let count_is : c.len-count.result ≡ length run.assignment.list.items = omega (arith, c.len-count.ensures, run.assignment.list.ok.0) in
-    let codes = walked_codes (length run.assignment.list.items) run.assignment.list.items in
-    back-rooted store c.args.clauses.now c.back.new.clauses run c.back.new.run me.rests _ done.assignment.list.items (rooted-waiting me.waiting _ refl refl r) (record {
+    back-rooted store c.args.clauses.now c.back.new.clauses run c.back.new.run me.rests _ me.walked (record { heads = me.walked.heads; marks = c.truncate.new.self }) done.assignment.list.items (rooted-waiting me.waiting _ refl refl r) (record {
       literals = c.back.ensures.literals ∙ c.propagate.ensures.literals;
-      kept = λ old. subst (λ cs. AreWalked run.assignment.values.items cs c.back.new.clauses.blocks.watches codes) (sym c.back.ensures.literals) (subst (λ ws. AreWalked run.assignment.values.items c.propagate.new.clauses.blocks.literals ws codes) (sym c.back.ensures.watches) (reported.kept run.assignment.values.items codes (grows-refl run.assignment.values.items) old));
+      walks = walks-back c.args.clauses.now c.back.new.clauses run.assignment.list.items done.assignment.list.items me.walked (record { heads = me.walked.heads; marks = c.truncate.new.self }) c.propagate.new.marks.items r.walks c.propagate.ensures.costs.extends (visits-back run.assignment.values.items c.args.clauses.now c.propagate.new.clauses c.back.new.clauses run.assignment.list.items run.assignment.agrees (c.back.ensures.literals ∙ c.propagate.ensures.literals) c.back.ensures.watches reported.kept) (λ long old. rw (c.back.ensures.literals, c.back.ensures.watches) (reported.marks long old)) refl (c.truncate.ensures.items ∙ ap (λ n. take n c.propagate.new.marks.items) count_is);
       extends = c.propagate.ensures.costs.extends;
       reasons = rw c.back.ensures.reasons reported.reasons.kept;
       cut = c.back.ensures.list ∙ ap (λ n. take n done.assignment.list.items) count_is;
@@ -104,7 +104,7 @@ pub returns-clause-costs : goal.returns-clause-costs
 returns-clause-costs c =
     let me = c.args.self.now in
     let count_is : c.len-count.result ≡ length me.run.assignment.list.items = omega (arith, c.len-count.ensures, me.run.assignment.list.ok.0) in
-    let spends = rw (count_is, c.as_slice.ensures.value) at c.propagate.ensures.costs in
+    let spends = rw c.as_slice.ensures.value at c.propagate.ensures.costs in
     record { ended = c.propagate.new.run; spends = spends; visits = c.keep.ensures.visits }
 
 pub returns-clause-rooted : goal.returns-clause-rooted
@@ -117,14 +117,16 @@ returns-clause-rooted c =
     let end = c.if-found.false in
     let reasoned = run-reasons-rooted r.reasoned reported.reasons in
     let lit = c.propagate.ensures.literals in
-    kept-rooted store c.propagate.new.clauses done c.keep.new.run me.rests c.keep.new.rests [] c.clear.new.self
+    let whole_is : c.len-whole.result ≡ length done.assignment.list.items = omega (arith, c.len-whole.ensures, done.assignment.list.ok.0, ap (λ (a : Assignment). length a.list.items) c.keep.ensures.assignment, c.keep.new.run.assignment.list.ok.0) in
+    let heads = heads-is c.finish.new.self.heads (length done.assignment.list.items) (c.in_ok-finish.ensures.heads.0 ∙ whole_is) (c.in_ok-finish.ensures.heads.1 ∙ whole_is) in
+    kept-rooted store c.propagate.new.clauses done c.keep.new.run me.rests c.keep.new.rests [] c.clear.new.self c.finish.new.self
     (record {
       values = reported.values ∙ r.values;
       opens = reported.opens;
       candidates = reported.candidates;
       counted = reported.counted end;
       reasoned = rw lit reasoned;
-      walked = reported.walked end;
+      walks = walks-ended c.args.clauses.now c.propagate.new.clauses me.run.assignment.list.items done.assignment.list.items me.walked c.finish.new.self c.propagate.new.marks.items r.walks reported.marks (reported.walked end) heads (c.in_ok-finish.ensures.marks ∙ ap (λ n. c.propagate.new.marks.items ++ replicate (n - length c.propagate.new.marks.items) (heads_at 0)) whole_is);
     })
     (reported.tidy end)
     (λ s off. (λ i from less at. absurd (omega (arith, less)), λ i from less at. let end_is = reported.done end in absurd (omega (arith, from, less, end_is))))
@@ -153,7 +155,9 @@ returns-clause-updated c = λ none.
     let reported = c.in_ok-found.ensures in
     let end = c.if-found.false in
     let count_is : c.len-count.result ≡ length me.run.assignment.list.items = omega (arith, c.len-count.ensures, me.run.assignment.list.ok.0) in
-    let pays = rw (count_is, c.as_slice.ensures.value) at (reported.pays end) in
+    let pays = rw c.as_slice.ensures.value at (reported.pays end) in
+    let done = c.propagate.new.run in
+    let whole_is : c.len-whole.result ≡ length done.assignment.list.items = omega (arith, c.len-whole.ensures, done.assignment.list.ok.0, ap (λ (a : Assignment). length a.list.items) c.keep.ensures.assignment, c.keep.new.run.assignment.list.ok.0) in
     record {
       running = rw c.keep.ensures.assignment reported.running;
       pays = record {
@@ -164,4 +168,10 @@ returns-clause-updated c = λ none.
       };
       found = rw (c.keep.ensures.assignment, c.keep.ensures.visits) reported.found;
       none = c.clear.ensures.list;
+      walked = rw c.keep.ensures.assignment (heads-is c.finish.new.self.heads (length c.propagate.new.run.assignment.list.items) (c.in_ok-finish.ensures.heads.0 ∙ whole_is) (c.in_ok-finish.ensures.heads.1 ∙ whole_is));
     }
+
+pub returns-in_err-finish-clause-costs : goal.returns-in_err-finish-clause-costs
+returns-in_err-finish-clause-costs c =
+    let spends = rw c.as_slice.ensures.value at c.propagate.ensures.costs in
+    record { ended = c.propagate.new.run; spends = spends; visits = c.keep.ensures.visits }

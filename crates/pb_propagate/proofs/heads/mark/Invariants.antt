@@ -1,0 +1,6 @@
+use Rattle.pb_propagate.proofs.Common.{◌≡◌, ◌++◌}
+use Rattle.std.proofs.Math.ListN.{replicate}
+use Rattle.pb_propagate.proofs.heads.mark.Given as goal
+
+abbrev pub invariant-literals : goal.invariant-literals
+invariant-literals l = l.marks.items ≡ l.initial.marks.items ++ replicate l.counter l.heads

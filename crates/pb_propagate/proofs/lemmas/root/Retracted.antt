@@ -1,0 +1,306 @@
+-- The last literal of the root's list is taken off.
+use Rattle.pb_propagate.proofs.Common.{ℕ, ◌++◌, ◌+◌, ◌<◌, ◌∙◌, ◌∷◌, ◌≡◌, ◌≤◌, [], ap, arith, Bool, false, get_or, inl, inr, Global, length, Vec}
+use Rattle.pb_propagate.proofs.Common.{List, None, refl, subst, suc, sym, take, true, ◌==◌, Option, slice_get, Some, cases_lt, eqb-true}
+use Rattle.pb_propagate.proofs.Common.{or_cases, or_left, or_right, get_or_default, get_or_from_slice_get, get_or_past, length-map, length-append, slice_get-get_or, slice_get_within}
+use Rattle.pb_propagate.proofs.Common.{sum_by-cons, take_all, take-append-le, length-take-le, get_or-take, get_or-map, map, IsDue, Occurrence, weighted, Eager, Rests, NumberedLiteral, negation, Form, Assignment, Clauses, Store, StoredForm, Term, all_of, clauses_of}
+use Rattle.pb_propagate.proofs.Common.{IsCalm, place, weight_in, weight_on, entries_of, forms_of, IsSound, shapes_of, spots_of, stored_shape, terms_at}
+use Rattle.pb_propagate.proofs.Common.{HaveReasons, open_sum, Shape, size, Weighted, AreSlots, HasForm, IsWalkedTo, from_given, by_reason}
+use Rattle.pb_propagate.specs.declared.engine.root.Root.{Root}
+use Rattle.pb_propagate.specs.engine.Engine.Counts.{entry_weight, IsDone}
+use Rattle.pb_propagate.specs.engine.Engine.Links.{term_cross}
+use Rattle.pb_propagate.specs.engine.Engine.Lists.{has}
+use Rattle.pb_propagate.specs.engine.Engine.Refreshed.{AreRefreshed, IsRefreshed}
+use Rattle.pb_propagate.specs.engine.Engine.Root.{IsRootOf, IsSized}
+use Rattle.pb_propagate.proofs.lemmas.clauses.Slots.{slots-vacant}
+use Rattle.pb_propagate.proofs.lemmas.engine.Literals.{has-push_cases, has-get, negation-negation}
+use Rattle.pb_propagate.proofs.lemmas.engine.Runs.{open_sum-push}
+use Rattle.pb_propagate.proofs.lemmas.clauses.Watching.{has-place}
+use Rattle.pb_propagate.proofs.lemmas.engine.Puts.{entries-at, form-within, place-inside}
+use Rattle.pb_propagate.proofs.lemmas.store.Unlinks.{entry-back}
+use Rattle.pb_propagate.proofs.lemmas.store.Weights.{index-within}
+
+-- forms are refreshed one after another
+pub refreshed-none : (store : Store) (r : Root) → IsSized store r → AreRefreshed store r r
+refreshed-none store r sized = record {
+  each = λ s. inl (record { opened = refl; passed = refl; absent = λ off. off });
+  sized = sized;
+  assignment = refl;
+  work = refl;
+  trail = refl;
+  next = refl;
+  walked = refl;
+  opens = λ e. e;
+  starts = λ e. e;
+  live = λ i s at. inr (i, at);
+}
+
+pub refreshed-stays : (store : Store) (b c : Root) (s : ℕ) → AreRefreshed store b c → IsRefreshed store b s → IsRefreshed store c s
+refreshed-stays store b c s next r = elim (next.each s) [
+  | inl u ↦ record {
+    opened = λ d. u.opened ∙ r.opened d ∙ ap (λ (a : Assignment). open_sum a.list.items (get_or (shapes_of store.stored.items) s d).terms) (sym next.assignment);
+    passed = u.passed ∙ r.passed;
+    calm = λ off d k. subst (λ o. IsCalm (get_or (shapes_of store.stored.items) s d) o k) (sym u.opened) (r.calm (u.absent off) d k);
+  }
+  | inr new ↦ new
+]
+
+pub refreshed-at : {store : Store} {root : Root} {form s : ℕ} → s ≡ form → IsRefreshed store root form → IsRefreshed store root s
+refreshed-at {store} {root} one r = subst (IsRefreshed store root) (sym one) r
+
+pub refreshed-then : (store : Store) (a b c : Root) → AreRefreshed store a b → AreRefreshed store b c → AreRefreshed store a c
+refreshed-then store a b c p q = record {
+  each = λ s. elim (q.each s) [
+    | inl u ↦ elim (p.each s) [
+      | inl v ↦ inl (record { opened = u.opened ∙ v.opened; passed = u.passed ∙ v.passed; absent = λ off. v.absent (u.absent off) })
+      | inr r ↦ inr (refreshed-stays store b c s q r)
+    ]
+    | inr r ↦ inr r
+  ];
+  sized = q.sized;
+  assignment = q.assignment ∙ p.assignment;
+  work = q.work ∙ p.work;
+  trail = q.trail ∙ p.trail;
+  next = q.next ∙ p.next;
+  walked = q.walked ∙ p.walked;
+  opens = λ e. q.opens (p.opens e);
+  starts = λ e. q.starts (p.starts e);
+  live = λ i s at. elim (q.live i s at) [
+    | inl some ↦ inl some
+    | inr old ↦ p.live old.0 s old.1
+  ];
+}
+
+-- a form with a weight among some entries has one of them
+weight-entry : (s : ℕ) (es : List Weighted) → 0 < weight_in s es → (j : ℕ) × (e : Weighted) × (slice_get es j ≡ Some e) × (e.form ≡ s)
+unfolding entry_weight
+weight-entry s [] h = absurd (omega (arith, h))
+weight-entry s (e ∷ es) h = by (e.form == s) refl (weight-entry s es)
+  where
+    none-of : (e.form == s) ≡ false → entry_weight s e ≡ 0
+    none-of is = rw is
+
+    by : (b : Bool) → (e.form == s) ≡ b → (0 < weight_in s es → (j : ℕ) × (x : Weighted) × (slice_get es j ≡ Some x) × (x.form ≡ s)) → (j : ℕ) × (x : Weighted) × (slice_get (e ∷ es) j ≡ Some x) × (x.form ≡ s)
+    by true is rest = (0, e, refl, eqb-true e.form s is)
+    by false is rest =
+        let more = rest (omega (arith, h, sum_by-cons (entry_weight s) e es, none-of is)) in
+        (suc more.0, more.1, more.2, more.3)
+
+-- a term has an entry
+term-entry : (store : Store) (s k : ℕ) (t : Term) → IsSound store → s < length (shapes_of store.stored.items) → slice_get (terms_at (shapes_of store.stored.items) s) k ≡ Some t →
+    (j : ℕ) × (e : Weighted) × (slice_get (get_or (entries_of (shapes_of store.stored.items) store.occurrences.items) (place t.literal) []) j ≡ Some e) × (e.form ≡ s)
+term-entry store s k t sound inside at =
+    let forms = shapes_of store.stored.items in
+    let spots = spots_of store.spots.items in
+    let lists = entries_of forms store.occurrences.items in
+    let room : k < length (get_or spots s []) = omega (arith, sound.rooms s inside, slice_get_within (terms_at forms s) k t at) in
+    let q = get_or (get_or spots s []) k 0 in
+    let spot : slice_get (get_or spots s []) k ≡ Some q = slice_get-get_or (get_or spots s []) k 0 room in
+    let named = ap (λ o. term_cross o (slice_get (get_or spots s []) k)) at ∙ ap (term_cross (Some t)) spot in
+    let found = entry-back (slice_get (get_or lists (place t.literal) []) q) s k t.coefficient ((sound.whole.crossed s k (place t.literal) q t.coefficient).0 named) in
+    (q, found.entry, found.is, found.form)
+
+-- a slot with terms has a form
+terms-form : (store : Store) (clauses : Clauses) (s : ℕ) → AreSlots (forms_of store.stored.items) (all_of store clauses) → 0 < length (terms_at (shapes_of store.stored.items) s) → HasForm store s
+terms-form store clauses s slots some = by (slice_get (forms_of store.stored.items) s) refl
+  where
+    bare : Shape
+    bare = record { terms = []; degree = 0 }
+
+    inside : s < length (forms_of store.stored.items)
+    inside = elim (cases_lt s (length (shapes_of store.stored.items))) [
+      | inl less ↦ omega (arith, less, length-map store.stored.items stored_shape, length-map store.stored.items (λ (k : StoredForm). k.terms.form))
+      | inr past ↦ absurd (omega (arith, some, ap (λ (x : Shape). length x.terms) (past-default past)))
+    ]
+      where
+        past-default : length (shapes_of store.stored.items) ≤ s → get_or (shapes_of store.stored.items) s bare ≡ bare
+        past-default h = get_or_past (shapes_of store.stored.items) s bare h
+
+    by : (o : Option (Option Form)) → slice_get (forms_of store.stored.items) s ≡ o → HasForm store s
+    by None is = absurd (let there = slice_get-get_or (forms_of store.stored.items) s None inside in let e : None ≡ Some (get_or (forms_of store.stored.items) s None) = sym is ∙ there in cc)
+    by (Some None) is =
+        let v = slots-vacant (forms_of store.stored.items) (shapes_of store.stored.items) (clauses_of clauses) s slots is in
+        absurd (omega (arith, some, ap length (v.terms bare)))
+    by (Some (Some f)) is = (f, get_or_from_slice_get (forms_of store.stored.items) s (Some f) None is)
+
+-- the first literals have the same reasons
+pub reasons-first : {forms : List Shape} {reasons : List ℕ} (list : List NumberedLiteral) (n : ℕ) → HaveReasons forms reasons [] list → HaveReasons forms reasons [] (take n list)
+reasons-first _ n from_given = subst (HaveReasons _ _ []) (sym (take_all n [] (omega arith))) from_given
+reasons-first _ n (by_reason {list} l s x h at stored puts) = elim (cases_lt n (length list + 1)) [
+  | inl less ↦ subst (HaveReasons _ _ []) (sym (take-append-le n list (l ∷ []) (omega (arith, less)))) (reasons-first list n h)
+  | inr past ↦ subst (HaveReasons _ _ []) (sym (take_all n (list ++ (l ∷ [])) (omega (arith, past, length-append list (l ∷ []))))) (by_reason l s x h at stored puts)
+]
+
+-- the root after its list was cut, before forms are refreshed
+pub record IsCut (old mid : Root) (first : List NumberedLiteral) : Type 0 where
+  pub opens : mid.run.opens ≡ old.run.opens
+  pub candidates : mid.run.candidates ≡ old.run.candidates
+  pub rests : mid.rests ≡ old.rests
+  pub waiting : mid.waiting ≡ old.waiting
+  pub work : mid.run.work ≡ old.run.work
+  pub trail : mid.run.trail ≡ old.run.trail
+  pub next : mid.run.next ≡ old.run.next
+  pub list : mid.run.assignment.list.items ≡ first
+  pub values : length mid.run.assignment.values.items ≡ length old.run.assignment.values.items
+  pub reasons : mid.run.assignment.reasons ≡ old.run.assignment.reasons
+
+-- each form with an entry of the literal is refreshed
+abbrev pub AllRefreshed : Store → Root → NumberedLiteral → Type 0
+AllRefreshed store r l = (j : ℕ) (e : Weighted) → slice_get (get_or (entries_of (shapes_of store.stored.items) store.occurrences.items) (place l) []) j ≡ Some e → IsRefreshed store r e.form
+
+pub retracted-rooted : (store : Store) (clauses : Clauses) (old mid new : Root) (first : List NumberedLiteral) (l : NumberedLiteral) → old.run.assignment.list.items ≡ first ++ (l ∷ []) → has first l ≡ false → HaveReasons (all_of store clauses) old.run.assignment.reasons.items [] first → IsSound store → AreSlots (forms_of store.stored.items) (all_of store clauses) →
+    IsRootOf store clauses old → AreRefreshed store mid new → IsCut old mid first → AllRefreshed store new l → AllRefreshed store new (negation l) → IsWalkedTo clauses first mid.walked → IsRootOf store clauses new
+retracted-rooted store clauses old mid new first l listed absent reasoned sound slots r f cut mine theirs walks = record {
+  values = ap (λ (a : Assignment). length a.values.items) f.assignment ∙ cut.values ∙ r.values;
+  opens = opens_same;
+  starts = starts_same;
+  open_sizes = f.sized.opens;
+  start_sizes = f.sized.candidates;
+  counted = λ s d less apart. elim (f.each s) [
+    | inl u ↦ elim (cases_lt 0 (weight_on (negation l) (get_or shapes s d).terms)) [
+      | inl some ↦
+          let e = weight-entry s (get_or lists (place (negation l)) []) (omega (arith, some, sound.whole.linked s d (negation l) (omega (arith, less, long)))) in
+          ((subst (IsRefreshed store new) e.3 (theirs e.0 e.1 e.2)).opened d)
+      | inr none ↦
+          let was = r.counted s d less (λ e. absurd (omega (arith, e, less))) in
+          let sum = open_sum-push first l absent (get_or shapes s d).terms in
+          u.opened ∙ was-open s ∙ omega (arith, was, sum, none, ap (λ xs. open_sum xs (get_or shapes s d).terms) listed, ap (λ xs. open_sum xs (get_or shapes s d).terms) now)
+    ]
+    | inr n ↦ n.opened d
+  ];
+  tidy = record {
+    calm = λ s d less idle off gone. elim (f.each s) [
+      | inl u ↦
+          let calm = r.tidy.calm s d less idle (rw (ap (λ (w : Eager). w.list.items) cut.waiting) at (u.absent off)) gone in
+          rw (u.opened ∙ was-open s, u.passed ∙ was-start s) calm
+      | inr n ↦ n.calm off d (get_or new.run.candidates.items s 0)
+    ];
+    passed = λ s d less k t early within. elim (f.each s) [
+      | inl u ↦
+          let done = r.tidy.passed s d less k t (omega (arith, early, u.passed, was-start s)) within in
+          rw now (done-first s d k t less within early (rw listed at done))
+      | inr n ↦ absurd (omega (arith, early, n.passed))
+    ];
+    bounded = λ s d less. elim (f.each s) [
+      | inl u ↦ omega (arith, r.tidy.bounded s d less, u.passed, was-start s)
+      | inr n ↦ omega (arith, n.passed)
+    ];
+    clean = λ s d less gone. (
+      get_or_default new.run.opens.items s 0 (size (get_or shapes s d).terms) (omega (arith, less, long, f.sized.opens)) ∙ ap (λ xs. get_or xs s (size (get_or shapes s d).terms)) opens_same,
+      ap (λ xs. get_or xs s 0) starts_same,
+    );
+    named = λ i d less. absurd (omega (arith, less));
+    marked = λ i d less. absurd (omega (arith, less));
+    traced = λ s gone. gone;
+  };
+  work = ap (λ (v : Vec ℕ Global). v.items) (f.work ∙ cut.work) ∙ r.work;
+  trail = ap (λ (v : Vec ℕ Global). v.items) (f.trail ∙ cut.trail) ∙ r.trail;
+  next = f.next ∙ cut.next ∙ r.next;
+  reasoned = rw (f.assignment, cut.list, cut.reasons) reasoned;
+  walks = rw (f.walked, now) walks;
+  seats = f.sized.seats;
+  live = λ i s at. elim (f.live i s at) [
+    | inl some ↦ terms-form store clauses s slots some
+    | inr was ↦ r.live was.0 s (rw (ap (λ (w : Eager). w.list.items) cut.waiting) at was.1)
+  ];
+}
+  where
+    shapes : List Shape
+    shapes = shapes_of store.stored.items
+
+    lists : List (List Weighted)
+    lists = entries_of (shapes_of store.stored.items) store.occurrences.items
+
+    long : length (shapes_of store.stored.items) ≡ length store.stored.items
+    long = length-map store.stored.items stored_shape
+
+    now : new.run.assignment.list.items ≡ first
+    now = ap (λ (a : Assignment). a.list.items) f.assignment ∙ cut.list
+
+    opens_same : new.run.opens.items ≡ new.rests.opens.items
+    opens_same = f.opens (ap (λ (v : Vec ℕ Global). v.items) cut.opens ∙ r.opens ∙ ap (λ (v : Rests). v.opens.items) (sym cut.rests))
+
+    starts_same : new.run.candidates.items ≡ new.rests.starts.items
+    starts_same = f.starts (ap (λ (v : Vec ℕ Global). v.items) cut.candidates ∙ r.starts ∙ ap (λ (v : Rests). v.starts.items) (sym cut.rests))
+
+    was-open : (s : ℕ) → get_or mid.run.opens.items s 0 ≡ get_or old.run.opens.items s 0
+    was-open s = ap (λ (v : Vec ℕ Global). get_or v.items s 0) cut.opens
+
+    was-start : (s : ℕ) → get_or mid.run.candidates.items s 0 ≡ get_or old.run.candidates.items s 0
+    was-start s = ap (λ (v : Vec ℕ Global). get_or v.items s 0) cut.candidates
+
+    -- a term of the literal's variable is none before the candidate
+    none-passed : (s k : ℕ) (t : Term) → s < length (shapes_of store.stored.items) → slice_get (terms_at (shapes_of store.stored.items) s) k ≡ Some t → AllRefreshed store new t.literal → k < get_or new.run.candidates.items s 0 → ⊥
+    none-passed s k t less at all early =
+        let e = term-entry store s k t sound less at in
+        let n = subst (IsRefreshed store new) e.3 (all e.0 e.1 e.2) in
+        omega (arith, early, n.passed)
+
+    done-first : (s : ℕ) (d : Shape) (k : ℕ) (t : Term) → s < length (shapes_of store.stored.items) → k < length (get_or (shapes_of store.stored.items) s d).terms → k < get_or new.run.candidates.items s 0 → IsDone (first ++ (l ∷ [])) (get_or (get_or (shapes_of store.stored.items) s d).terms k t).literal → IsDone first (get_or (get_or (shapes_of store.stored.items) s d).terms k t).literal
+    done-first s d k t less within early done =
+        let m = get_or (get_or shapes s d).terms k t in
+        let here : (get_or shapes s d).terms ≡ terms_at shapes s = ap (λ (x : Shape). x.terms) (get_or_default shapes s d (record { terms = []; degree = 0 }) less) in
+        let at : slice_get (terms_at shapes s) k ≡ Some m = ap (λ xs. slice_get xs k) (sym here) ∙ slice_get-get_or (get_or shapes s d).terms k t within in
+        elim (or_cases (has (first ++ (l ∷ [])) m.literal) (has (first ++ (l ∷ [])) (negation m.literal)) done) [
+          | inl on ↦ elim (has-push_cases first l m.literal on) [
+            | inl was ↦ or_left (has first m.literal) (has first (negation m.literal)) was
+            | inr is ↦ absurd (none-passed s k m less at (subst (AllRefreshed store new) is mine) early)
+          ]
+          | inr off ↦ elim (has-push_cases first l (negation m.literal) off) [
+            | inl was ↦ or_right (has first m.literal) (has first (negation m.literal)) was
+            | inr is ↦ absurd (none-passed s k m less at (subst (AllRefreshed store new) (ap negation is ∙ negation-negation m.literal) theirs) early)
+          ]
+        ]
+
+-- a literal of the first ones is not due if none of them is
+pub due-first : (slot : ℕ) (list : List NumberedLiteral) (reasons : List ℕ) (n : ℕ) → n ≤ length list → ((j : ℕ) (d : NumberedLiteral) → j < n → IsDue slot list reasons (get_or list j d) → ⊥) → (l : NumberedLiteral) → IsDue slot (take n list) reasons l → ⊥
+due-first slot list reasons n within none l (on, at) =
+    let w = has-place (take n list) l on in
+    let small : w.0 < n = omega (arith, w.1, length-take-le n list within) in
+    let is : get_or list w.0 l ≡ l = sym (get_or-take n list w.0 l small) ∙ w.2 in
+    none w.0 l small (has-get list w.0 l (omega (arith, small, within)), ap (λ (k : NumberedLiteral). slice_get reasons k.variable) is ∙ at)
+
+pub before-next : (slot : ℕ) (list : List NumberedLiteral) (reasons : List ℕ) (i : ℕ) (l : NumberedLiteral) → i < length list → l ≡ get_or list i l → ((j : ℕ) (d : NumberedLiteral) → j < i → IsDue slot list reasons (get_or list j d) → ⊥) → (IsDue slot list reasons l → ⊥) → (j : ℕ) (d : NumberedLiteral) → j < i + 1 → IsDue slot list reasons (get_or list j d) → ⊥
+before-next slot list reasons i l inside is old never j d less due = elim (cases_lt j i) [
+  | inl before ↦ old j d before due
+  | inr after ↦
+      let at : j ≡ i = omega (arith, after, less) in
+      never (subst (IsDue slot list reasons) (ap (λ k. get_or list k d) at ∙ get_or_default list i d l inside ∙ sym is) due)
+]
+
+-- an entry of the list of a literal
+pub record IsOccurrence (store : Store) (l : NumberedLiteral) (items : List Occurrence) (o : Occurrence) : Type 0 where
+  pub form : o.form < length store.stored.items
+  pub some : 0 < length (terms_at (shapes_of store.stored.items) o.form)
+  pub entries : get_or (entries_of (shapes_of store.stored.items) store.occurrences.items) (place l) [] ≡ map (weighted (shapes_of store.stored.items)) items
+
+-- the list of a literal, as the program reads it
+pub listed-entries : (store : Store) (l : NumberedLiteral) (q : ℕ) (v : Vec Occurrence Global) → IsSound store → l.variable < store.variables → q ≡ place l → v ≡ get_or store.occurrences.items q v → get_or (entries_of (shapes_of store.stored.items) store.occurrences.items) (place l) [] ≡ map (weighted (shapes_of store.stored.items)) v.items
+listed-entries store l q v sound inside at read =
+    let forms = shapes_of store.stored.items in
+    let there : q < length store.occurrences.items = omega (arith, place-inside l store.variables inside, at, sound.places, length-map store.occurrences.items (λ (w : Vec Occurrence Global). map (weighted forms) w.items)) in
+    entries-at forms store.occurrences.items (place l) q v there read at
+
+pub occurrence-read : (store : Store) (l : NumberedLiteral) (q : ℕ) (v : Vec Occurrence Global) (j : ℕ) (o : Occurrence) → IsSound store → l.variable < store.variables → q ≡ place l → v ≡ get_or store.occurrences.items q v → o ≡ get_or v.items j o → j < length v.items → IsOccurrence store l v.items o
+occurrence-read store l q v j o sound inside at read item less =
+    let forms = shapes_of store.stored.items in
+    let same = listed-entries store l q v sound inside at read in
+    let form = form-within forms (get_or (entries_of forms store.occurrences.items) (place l) []) v.items j o (length forms) same item less (sound.named (place l)) in
+    let index = index-within forms (spots_of store.spots.items) store.occurrences.items (place l) j v.items o same item less sound.whole in
+    record {
+      form = omega (arith, form, length-map store.stored.items stored_shape);
+      some = omega (arith, index);
+      entries = same;
+    }
+
+-- one more entry is refreshed
+pub all-next : (store : Store) (l : NumberedLiteral) (items : List Occurrence) (b c : Root) (i : ℕ) (o : Occurrence) → IsOccurrence store l items o → o ≡ get_or items i o → i < length items → AreRefreshed store b c → IsRefreshed store c o.form →
+    ((j : ℕ) (e : Weighted) → j < i → slice_get (get_or (entries_of (shapes_of store.stored.items) store.occurrences.items) (place l) []) j ≡ Some e → IsRefreshed store b e.form) → (j : ℕ) (e : Weighted) → j < i + 1 → slice_get (get_or (entries_of (shapes_of store.stored.items) store.occurrences.items) (place l) []) j ≡ Some e → IsRefreshed store c e.form
+all-next store l items b c i o there item inside next mine old j e less at = elim (cases_lt j i) [
+  | inl before ↦ refreshed-stays store b c e.form next (old j e before at)
+  | inr after ↦
+      let forms = shapes_of store.stored.items in
+      let here : j ≡ i = omega (arith, after, less) in
+      let got : slice_get (map (weighted forms) items) i ≡ Some e = ap (λ xs. slice_get xs i) (sym there.entries) ∙ ap (slice_get (get_or (entries_of forms store.occurrences.items) (place l) [])) (sym here) ∙ at in
+      let is : e ≡ weighted forms o = sym (get_or_from_slice_get (map (weighted forms) items) i e e got) ∙ get_or_default (map (weighted forms) items) i e (weighted forms o) (omega (arith, inside, length-map items (weighted forms))) ∙ get_or-map (weighted forms) items i o (weighted forms o) inside ∙ ap (weighted forms) (sym item) in
+      subst (IsRefreshed store c) (ap (λ (x : Weighted). x.form) (sym is)) mine
+]

@@ -1,0 +1,38 @@
+use Rattle.pb_propagate.proofs.Common.{◌<◌, ap, arith, length, length-map, shapes_of, weighted, slice_get_within}
+use Rattle.pb_propagate.proofs.lemmas.root.Retracted.{all-next, listed-entries, occurrence-read, refreshed-none, refreshed-then}
+use Rattle.pb_propagate.proofs.store.refresh.refresh_all.Goals as goal
+
+pub entries-init : goal.entries-init
+entries-init c = record {
+  each = refreshed-none c.args.store.now c.args.root.now c.requires.sized;
+  all = λ j e less at. absurd (omega (arith, less));
+}
+
+pub refresh-requires : goal.refresh-requires
+refresh-requires c =
+    let v = c.index-entries.result.now in
+    let less : c.entries.j < length v.items = omega (arith, c.entries-test.true, c.len-j-end.ensures, v.ok.0) in
+    let o = occurrence-read c.args.store.now c.args.literal c.place_of.result v c.entries.j c.index-entry.result.now c.requires.store c.requires.inside c.place_of.ensures.place c.index-entries.ensures c.index-entry.ensures less in
+    record {
+      store = c.requires.store;
+      form = o.form;
+      some = o.some;
+      sized = c.entries.invariant.each.sized;
+    }
+
+pub entries-preserved : goal.entries-preserved
+entries-preserved c =
+    let v = c.index-entries.result.now in
+    let less : c.entries.j < length v.items = omega (arith, c.entries-test.true, c.len-j-end.ensures, v.ok.0) in
+    let o = occurrence-read c.args.store.now c.args.literal c.place_of.result v c.entries.j c.index-entry.result.now c.requires.store c.requires.inside c.place_of.ensures.place c.index-entries.ensures c.index-entry.ensures less in
+    record {
+      each = refreshed-then c.args.store.now c.args.root.now c.entries.root c.refresh.new.root c.entries.invariant.each c.refresh.ensures.each;
+      all = all-next c.args.store.now c.args.literal v.items c.entries.root c.refresh.new.root c.entries.j c.index-entry.result.now o c.index-entry.ensures less c.refresh.ensures.each c.refresh.ensures.form c.entries.invariant.all;
+    }
+
+pub returns-clause-all : goal.returns-clause-all
+returns-clause-all c = λ j e at.
+    let v = c.index-entries.result.now in
+    let same = listed-entries c.args.store.now c.args.literal c.place_of.result v c.requires.store c.requires.inside c.place_of.ensures.place c.index-entries.ensures in
+    let inside = slice_get_within _ j e at in
+    c.entries.invariant.all j e (omega (arith, inside, ap length same, length-map v.items (weighted (shapes_of c.args.store.now.stored.items)), c.entries-test.false, c.len-j-end.ensures, v.ok.0)) at

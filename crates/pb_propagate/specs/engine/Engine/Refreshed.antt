@@ -1,0 +1,35 @@
+-- Forms of the root after literals lost their values.
+use Rattle.std.specs.Prelude.{◌≡◌, ℕ, ◌<◌, ◌⊎◌, length, Some, slice_get, slice_index_or}
+use Rattle.pb_propagate.specs.declared.store.Store.{Store}
+use Rattle.pb_propagate.specs.declared.engine.root.Root.{Root}
+use Rattle.pb_propagate.specs.engine.Engine.Lists.{Shape, open_sum}
+use Rattle.pb_propagate.specs.engine.Engine.Counts.{IsAbsent, IsCalm}
+use Rattle.pb_propagate.specs.engine.Engine.Fields.{shapes_of}
+use Rattle.pb_propagate.specs.engine.Engine.Links.{terms_at}
+use Rattle.pb_propagate.specs.engine.Engine.Progress.{list_of}
+use Rattle.pb_propagate.specs.engine.Engine.Root.{IsSized}
+
+-- the form has its open sum under the list, and its first term as candidate; it waits, or is calm
+pub record IsRefreshed (store : Store) (root : Root) (s : ℕ) : Type 0 where
+  pub opened : (d : Shape) → slice_index_or root.run.opens.items s 0 ≡ open_sum (list_of root.run) (slice_index_or (shapes_of store.stored.items) s d).terms
+  pub passed : slice_index_or root.run.candidates.items s 0 ≡ 0
+  pub calm : IsAbsent root.waiting.list.items 0 s → (d : Shape) (c : ℕ) → IsCalm (slice_index_or (shapes_of store.stored.items) s d) (slice_index_or root.run.opens.items s 0) c
+
+-- the form is as it was
+pub record IsUntouched (old new : Root) (s : ℕ) : Type 0 where
+  pub opened : slice_index_or new.run.opens.items s 0 ≡ slice_index_or old.run.opens.items s 0
+  pub passed : slice_index_or new.run.candidates.items s 0 ≡ slice_index_or old.run.candidates.items s 0
+  pub absent : IsAbsent new.waiting.list.items 0 s → IsAbsent old.waiting.list.items 0 s
+
+-- some forms are refreshed, and nothing else has changed
+pub record AreRefreshed (store : Store) (old new : Root) : Type 0 where
+  pub each : (s : ℕ) → IsUntouched old new s ⊎ IsRefreshed store new s
+  pub sized : IsSized store new
+  pub assignment : new.run.assignment ≡ old.run.assignment
+  pub work : new.run.work ≡ old.run.work
+  pub trail : new.run.trail ≡ old.run.trail
+  pub next : new.run.next ≡ old.run.next
+  pub walked : new.walked ≡ old.walked
+  pub opens : old.run.opens.items ≡ old.rests.opens.items → new.run.opens.items ≡ new.rests.opens.items
+  pub starts : old.run.candidates.items ≡ old.rests.starts.items → new.run.candidates.items ≡ new.rests.starts.items
+  pub live : (i s : ℕ) → slice_get new.waiting.list.items i ≡ Some s → (0 < length (terms_at (shapes_of store.stored.items) s)) ⊎ ((j : ℕ) × (slice_get old.waiting.list.items j ≡ Some s))
