@@ -147,11 +147,36 @@ def fallen(count):
     return chained + [clause(f"~{links[-1]}")], rups(clause(end) for end in names("a", count))
 
 
+def shortened(count):
+    """A chain from a unit. Its last clause is deleted, and a step needs the literal before it, until none is left."""
+    links = names("x", count)
+    chained = [clause(links[0])] + [clause(f"~{one}", other) for one, other in zip(links, links[1:])]
+    return chained, [f"del id {i + 1}\nrup {clause(links[i - 1], 'zz')}" for i in range(count - 1, 0, -1)]
+
+
+def withdrawn(count):
+    """Units, each of which forces an end. The last one is deleted, and a step needs the end before it, until none is left."""
+    units, ends = names("u", count), names("a", count)
+    forced = [clause(f"~{one}", end) for one, end in zip(units, ends)]
+    steps = [f"del id {i + 1}\nrup {clause(ends[i - 1], 'zz')}" for i in range(count - 1, 0, -1)]
+    return [clause(one) for one in units] + forced, steps
+
+
+def lent(count):
+    """A chain from a unit, and a unit that is a step, is used by another one, and is deleted, as many times."""
+    links = names("x", count)
+    chained = [clause(links[0])] + [clause(f"~{one}", other) for one, other in zip(links, links[1:])]
+    lending = [clause("y1", f"~{links[-1]}", "y2"), clause("y1", "~y2"), clause("~y1", "y3")]
+    first = len(chained) + len(lending) + 1
+    steps = [f"rup {clause('y1')}rup {clause('y3', 'zz')}del id {first + 2 * i}\n" for i in range(count)]
+    return chained + lending, steps
+
+
 # The families, each with its smallest size.
 FAMILIES = {
     facts: 2_500, chain: 2_500, again: 4_000, satisfied: 20_000, copies: 10_000, sums: 8_000, weakened: 10_000, axioms: 10_000,
     divided: 5_000, multiplied: 5_000, deleted: 10_000, dropped: 2_500, reasons: 2_500, pairs: 2_500, news: 2_500,
-    heavy: 2_500, late: 2_500, fallen: 2_500,
+    heavy: 2_500, late: 2_500, fallen: 2_500, shortened: 1_000, withdrawn: 1_000, lent: 2_500,
 }
 
 
