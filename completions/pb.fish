@@ -1,5 +1,5 @@
 # Completion of pb for fish.
-complete -c pb -n __fish_use_subcommand -f -a check -d 'Check a proof of an instance, and print what it shows'
+complete -c pb -n __fish_use_subcommand -f -a check -d 'Check a proof against an instance, and print the verdict'
 complete -c pb -n __fish_use_subcommand -f -a trace -d 'Check a proof, and print each statement with the constraints that it adds'
 complete -c pb -n __fish_use_subcommand -f -a tidy -d 'Print the canonical text of an instance or a proof'
 complete -c pb -n __fish_use_subcommand -f -a show -d 'Print each statement of an instance or a proof'

@@ -28,9 +28,10 @@ const MOST_BYTES: u64 = 1 << 40;
 /// The largest number that `--last`, `--from` and `--to` allow.
 const MOST_LINES: u64 = 1 << 40;
 
-/// Which accepted statements a trace prints, and how. If `from` or `to` is given, they begin in these lines of the proof,
-/// 1 to `2^40`. If `last` is given, only this many of them are printed, the last ones, 0 to `2^40`. If `ids` is true, the ids
-/// of constraints are printed without the constraints.
+/// Which accepted statements a trace prints, and how. If `from` or `to` is given, they begin in
+/// these lines of the proof, 1 to `2^40`. If `last` is given, only this many of them are printed,
+/// the last ones, 0 to `2^40`. If `ids` is true, the ids of constraints are printed without the
+/// constraints.
 #[derive(Clone, Copy, Debug)]
 pub struct Selection {
     pub last: Option<u64>,
@@ -39,9 +40,9 @@ pub struct Selection {
     pub ids: bool,
 }
 
-/// What the arguments ask for. `longest` is the maximum number of bytes of a statement, 1 to `2^40`, if there is such a
-/// limit. `bits` is the number of bits of the largest magnitude of a number, 31 to 127. If `quiet` is true, no hint
-/// follows the line of a fault.
+/// What the arguments ask for. `longest` is the maximum number of bytes of a statement, 1 to
+/// `2^40`, if there is such a limit. `bits` is the number of bits of the largest magnitude of a
+/// number, 31 to 127. If `quiet` is true, no hint follows the line of a fault.
 #[derive(Debug, Drop)]
 pub enum Job {
     /// Print each statement of the file, or of standard input, with its position.
@@ -51,8 +52,8 @@ pub enum Job {
         bits: u32,
         quiet: bool,
     },
-    /// Print the canonical text of the file, or of standard input. If `normal` is true, it is an instance, and each
-    /// constraint is printed in normal form.
+    /// Print the canonical text of the file, or of standard input. If `normal` is true, it is an
+    /// instance, and each constraint is printed in normal form.
     Tidy {
         normal: bool,
         file: Option<String>,
@@ -60,9 +61,10 @@ pub enum Job {
         bits: u32,
         quiet: bool,
     },
-    /// Check whether the proof, or standard input, proves what it claims about the instance. If `stats` is true, counts
-    /// are printed after the check. If `progress` is true, a progress line is printed while it runs. If `explain` is true,
-    /// the reasons are printed if a statement is rejected.
+    /// Check whether the proof, or standard input, proves what it claims about the instance. If
+    /// `stats` is true, counts are printed after the check. If `progress` is true, a progress line
+    /// is printed while it runs. If `explain` is true, the reasons are printed if a statement is
+    /// rejected.
     Check {
         instance: String,
         proof: Option<String>,
@@ -73,8 +75,9 @@ pub enum Job {
         bits: u32,
         quiet: bool,
     },
-    /// Check the proof, or standard input, and print the selected statements with the constraints that they add, and the
-    /// reasons if a statement is rejected. If `progress` is true, a progress line is printed while it runs.
+    /// Check the proof, or standard input, and print the selected statements with the constraints
+    /// that they add, and the reasons if a statement is rejected. If `progress` is true, a progress
+    /// line is printed while it runs.
     Trace {
         instance: String,
         proof: Option<String>,
@@ -234,7 +237,8 @@ fn file_name(
     }
 }
 
-/// Whether a flag without a value is given. The parser then returns `true` as its text, and `false` otherwise.
+/// Whether a flag without a value is given. The parser then returns `true` as its text, and `false`
+/// otherwise.
 fn is_given(given: &ArgMatches<'_>, flag: &str) -> bool
     ensures { IsSwitch (first_of flag.now (rows_of (found_of given.now))) result }
 {

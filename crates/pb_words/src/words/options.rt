@@ -178,7 +178,7 @@ fn show<'a>(alloc: Global) -> Result<Command<'a>, AllocError>
     reader(
         alloc,
         "show",
-        "Print each statement of an instance or a proof as it comes, after its line and column",
+        "Print each statement of an instance or a proof with its position, as it is read",
         SHOW_HELP,
     )
 }
@@ -207,7 +207,7 @@ fn check<'a>(alloc: Global) -> Result<Command<'a>, AllocError>
     checker(
         alloc,
         "check",
-        "Check a proof of an instance, and print what it shows",
+        "Check a proof against an instance, and print the verdict",
         CHECK_HELP,
     )?
     .arg(switch(
