@@ -16,8 +16,8 @@ pub(crate) fn answer_memory<E: Write>(errors: &mut E) -> u8 {
     FAILED
 }
 
-/// Writes the line of a fault and returns the exit status. If standard error cannot be written, only the status reports
-/// it.
+/// Writes the line of a fault and returns the exit status. If standard error cannot be written,
+/// only the status reports it.
 pub(crate) fn answer_fault<E: Write>(fault: &ToolFault, errors: &mut E) -> u8 {
     let _ = write_fault(fault, &mut Over::new(errors));
     status(fault)

@@ -33,7 +33,8 @@ pub(crate) fn job_of(alloc: Global, words: &[String]) -> Result<Job, WordsFault>
     read_words(alloc, texts.as_slice())
 }
 
-/// Whether the arguments are `help --help`. clap knows no flag of `help`, so they are read as `help help`.
+/// Whether the arguments are `help --help`. clap knows no flag of `help`, so they are read as
+/// `help help`.
 fn is_help_of_help(words: &[&str]) -> bool {
     words.len() == 3 && words[1] == "help" && (words[2] == "--help" || words[2] == "-h")
 }
@@ -81,7 +82,8 @@ fn usage_of(words: &[String]) -> &'static [u8] {
     }
 }
 
-/// Reports that the arguments could not be read, and returns the exit status. One is not UTF-8, or memory ran out.
+/// Reports that the arguments could not be read, and returns the exit status. One is not UTF-8, or
+/// memory ran out.
 pub(crate) fn answer_no_words<R: Env, E: Write>(rt: &R, error: &io::Error, errors: &mut E) -> u8 {
     if error.kind() != io::ErrorKind::InvalidData {
         return answer_memory(errors);
@@ -102,7 +104,8 @@ pub(crate) fn answer_no_words<R: Env, E: Write>(rt: &R, error: &io::Error, error
     USAGE
 }
 
-/// Writes a line of bytes. Bytes that are not printable ASCII are written as `\x` and two hexadecimal digits.
+/// Writes a line of bytes. Bytes that are not printable ASCII are written as `\x` and two
+/// hexadecimal digits.
 fn write_escaped<E: Write>(bytes: &[u8], errors: &mut E) {
     for byte in bytes {
         let _ = match *byte {

@@ -13,8 +13,9 @@ use std::io::{self, Read, Write};
 use std::random::RandomSource;
 use std::time::Clock;
 
-/// Checks a proof of an instance, and writes on standard error what is asked for. The progress line ends before the
-/// verdict is written. If `asked.explain` is true, a failure has the reasons of a rejection.
+/// Checks a proof of an instance, and writes on standard error what is asked for. The progress line
+/// ends before the verdict is written. If `asked.explain` is true, a failure has the reasons of a
+/// rejection.
 pub(crate) fn check_asked<R, I, E>(
     rt: &R,
     texts: (I, I),
@@ -56,8 +57,8 @@ fn ended<O: Write>(
     }
 }
 
-/// Checks the proof from one reader against the instance from another, and finds the reasons of a rejection if they are
-/// asked for.
+/// Checks the proof from one reader against the instance from another, and finds the reasons of a
+/// rejection if they are asked for.
 fn check_for<R: RandomSource + AllocGlobal, I: Read + Drop, O: Write, V: Watch>(
     rt: &R,
     texts: (I, I),
@@ -77,7 +78,8 @@ fn check_for<R: RandomSource + AllocGlobal, I: Read + Drop, O: Write, V: Watch>(
     (done, None)
 }
 
-/// Checks the proof from one reader against the instance from another. The verdict is not flushed yet.
+/// Checks the proof from one reader against the instance from another. The verdict is not flushed
+/// yet.
 pub(crate) fn check_over<
     R: RandomSource + AllocGlobal,
     I: Read + Drop,

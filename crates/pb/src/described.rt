@@ -24,7 +24,8 @@ impl<'a> Unread<'a> {
         }
     }
 
-    /// What the text says. It is read once, and the record is emptied. Without memory for it nothing is known.
+    /// What the text says. It is read once, and the record is emptied. Without memory for it
+    /// nothing is known.
     pub(crate) fn take(&mut self) -> Option<InstanceText> {
         let record = self.record.take()?;
         let bytes = match record.try_borrow_mut() {

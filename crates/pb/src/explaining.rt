@@ -63,8 +63,8 @@ impl Watch for Explaining<'_> {
     }
 }
 
-/// What a check of the proof from one reader against the instance from another writes of a rejected statement, and how
-/// the check ended.
+/// What a check of the proof from one reader against the instance from another writes of a rejected
+/// statement, and how the check ended.
 pub(crate) fn explained_over<R, I, O, V>(
     rt: &R,
     texts: (I, I),
@@ -105,8 +105,8 @@ pub(crate) fn can_repeat<R: Files>(rt: &R, instance: &str, proof: &Option<String
     size_of(rt, named(instance)).is_some() && size_of(rt, path_of(proof)).is_some()
 }
 
-/// Writes why a statement was rejected, after the line of the fault. If the check did not find the reasons, its files
-/// are read again.
+/// Writes why a statement was rejected, after the line of the fault. If the check did not find the
+/// reasons, its files are read again.
 pub(crate) fn write_reasons<R, S, E>(
     rt: &R,
     standard: S,

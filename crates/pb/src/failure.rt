@@ -3,8 +3,8 @@
 use pb_tool::{Input, ToolFault};
 use std::io;
 
-/// Why a job failed. If a file did not open, `reason` is what the system said of it. If a statement was rejected and the
-/// check has found why, `reasons` are the lines that say so.
+/// Why a job failed. If a file did not open, `reason` is what the system said of it. If a statement
+/// was rejected and the check has found why, `reasons` are the lines that say so.
 #[derive(Drop)]
 pub(crate) struct Failure {
     pub(crate) fault: ToolFault,

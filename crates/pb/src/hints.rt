@@ -1,4 +1,5 @@
-//! Lines on standard error that begin with `pb: `: what the system said of a file, and what to do after a fault.
+//! Lines on standard error that begin with `pb: `: what the system said of a file, and what to do
+//! after a fault.
 
 mod foreign;
 mod rules;
@@ -51,7 +52,8 @@ fn waits_for(job: &Job) -> Option<&'static str> {
     }
 }
 
-/// Writes one line after that of a fault, if there is something to say. A file that was rejected is read again for it.
+/// Writes one line after that of a fault, if there is something to say. A file that was rejected is
+/// read again for it.
 pub(crate) fn write_hint<R: Files + AllocGlobal, E: Write>(
     rt: &R,
     job: &Job,
@@ -80,7 +82,8 @@ pub(crate) fn write_hint<R: Files + AllocGlobal, E: Write>(
     }
 }
 
-/// Writes the name of a file and why the system did not open it. The number of the error is left out.
+/// Writes the name of a file and why the system did not open it. The number of the error is left
+/// out.
 fn write_reason<E: Write>(alloc: Global, path: &str, reason: io::Error, errors: &mut E) {
     let Ok(reason) = format!(in alloc; "{reason}") else {
         return;
@@ -101,7 +104,8 @@ fn write_line<E: Write>(name: &str, hint: Hint, errors: &mut E) {
     };
 }
 
-/// The hint for a byte of a file that was not accepted. The file is read again at its start and at that line.
+/// The hint for a byte of a file that was not accepted. The file is read again at its start and at
+/// that line.
 fn hint_of<R: Files + AllocGlobal>(rt: &R, path: &str, input: Input, place: Place) -> Option<Hint> {
     let first = bytes_at(rt, path, 0, WINDOW)?;
     let is_proof = match input {

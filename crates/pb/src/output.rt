@@ -48,8 +48,8 @@ pub(crate) fn flushed<O: Write>(done: Result<(), ToolFault>, out: &mut O) -> Res
     }
 }
 
-/// The keys by which names are hashed. They are random, as names come from untrusted files. If the system gives no
-/// random keys, which no file can cause, they are fixed.
+/// The keys by which names are hashed. They are random, as names come from untrusted files. If the
+/// system gives no random keys, which no file can cause, they are fixed.
 pub(crate) fn keys_of<R: RandomSource>(rt: &R) -> HashKeys {
     match RandomState::new(rt) {
         Ok(state) => HashKeys::Random(state),

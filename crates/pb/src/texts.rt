@@ -13,8 +13,8 @@ use std::cell::RefCell;
 use std::io::{self, Read, Write};
 use std::random::RandomSource;
 
-/// Shows the input of a reader. What was written is flushed before more is read. On a terminal control bytes are made
-/// visible.
+/// Shows the input of a reader. What was written is flushed before more is read. On a terminal
+/// control bytes are made visible.
 pub(crate) fn show_over<I: Read + Drop, O: Write + Drop>(
     alloc: Global,
     input: I,

@@ -3,8 +3,8 @@
 use std::cell::RefCell;
 use std::io::{self, Read, Write};
 
-/// A reader that flushes what was written before it waits for more. If the flush fails, it reads nothing: nobody is
-/// left to read the output. The writer returns the error again at the end.
+/// A reader that flushes what was written before it waits for more. If the flush fails, it reads
+/// nothing: nobody is left to read the output. The writer returns the error again at the end.
 #[derive(Drop)]
 pub(crate) struct Tied<'a, I, O> {
     input: I,

@@ -72,8 +72,8 @@ impl<O: Write> Watch for Tracing<'_, O> {
     }
 }
 
-/// Checks a proof of an instance, writes a line for each statement that is selected, and on standard error what is asked
-/// for. The progress line ends before the last lines are written.
+/// Checks a proof of an instance, writes a line for each statement that is selected, and on
+/// standard error what is asked for. The progress line ends before the last lines are written.
 pub(crate) fn trace_asked<R, I, E>(
     rt: &R,
     texts: (I, I),
@@ -99,8 +99,8 @@ where
     done
 }
 
-/// Checks the proof from one reader against the instance from another, and writes a line for each statement that is
-/// selected. What was written is flushed before more of the proof is read.
+/// Checks the proof from one reader against the instance from another, and writes a line for each
+/// statement that is selected. What was written is flushed before more of the proof is read.
 fn trace_over<R, I, O, V>(
     rt: &R,
     texts: (I, I),
@@ -133,8 +133,9 @@ where
     flushed(done, &mut out.into_inner())
 }
 
-/// Checks the proof from one reader against the instance from another, and writes a line for each statement that is
-/// selected. It returns the line of the verdict, once every line before it was written.
+/// Checks the proof from one reader against the instance from another, and writes a line for each
+/// statement that is selected. It returns the line of the verdict, once every line before it was
+/// written.
 fn trace_to<R, I, O, V>(
     rt: &R,
     texts: (I, I),

@@ -1,4 +1,5 @@
-//! A reader that is not called again after its end, and a writer that is not called again after an error.
+//! A reader that is not called again after its end, and a writer that is not called again after an
+//! error.
 
 use std::io::{self, Read, Write};
 
@@ -29,8 +30,9 @@ impl<R: Read> Read for UntilEnd<R> {
     }
 }
 
-/// A writer that is not called again after its first error, whatever its kind, or once it has taken no byte. Every
-/// later call fails at once, so a buffer over it writes nothing more, even when it is dropped.
+/// A writer that is not called again after its first error, whatever its kind, or once it has taken
+/// no byte. Every later call fails at once, so a buffer over it writes nothing more, even when it
+/// is dropped.
 #[derive(Drop)]
 pub(crate) struct UntilFault<W> {
     inner: W,
@@ -69,7 +71,8 @@ impl<W: Write> Write for UntilFault<W> {
     }
 }
 
-/// The error of a writer that has failed. Its kind is never `Interrupted`, after which a buffer would try again.
+/// The error of a writer that has failed. Its kind is never `Interrupted`, after which a buffer
+/// would try again.
 fn fault() -> io::Error {
     io::Error::from(io::ErrorKind::Other)
 }

@@ -5,8 +5,9 @@ use std::io::{self, Write};
 /// The digits of a byte.
 const DIGITS: &[u8; 16] = b"0123456789abcdef";
 
-/// A writer that writes a byte as `\xNN` if it goes to a terminal and the byte is neither printable ASCII nor a tab nor
-/// a line feed. Comments of a file can have control bytes, which a terminal obeys. Elsewhere all bytes stay as they are.
+/// A writer that writes a byte as `\xNN` if it goes to a terminal and the byte is neither printable
+/// ASCII nor a tab nor a line feed. Comments of a file can have control bytes, which a terminal
+/// obeys. Elsewhere all bytes stay as they are.
 #[derive(Drop)]
 pub(crate) struct Visible<W> {
     inner: W,

@@ -53,15 +53,16 @@ impl<'a, R: Clock, E: Write> Watching<'a, R, E> {
         }
     }
 
-    /// Ends the line, so that what follows on the same terminal begins a new one. If standard error cannot be written,
-    /// nothing reports it.
+    /// Ends the line, so that what follows on the same terminal begins a new one. If standard error
+    /// cannot be written, nothing reports it.
     pub(crate) fn end_line(&mut self) {
         if self.is_written && self.asked.is_terminal {
             let _ = self.errors.write_all(b"\n");
         }
     }
 
-    /// Writes the counts and the seconds if they are asked for. If standard error cannot be written, nothing reports it.
+    /// Writes the counts and the seconds if they are asked for. If standard error cannot be
+    /// written, nothing reports it.
     pub(crate) fn end(&mut self) {
         if !self.asked.stats {
             return;
@@ -105,8 +106,9 @@ impl<'a, R: Clock, E: Write> Watching<'a, R, E> {
         true
     }
 
-    /// Writes how far the check is. On a terminal the line may be one or two bytes shorter than the one before it, so it
-    /// ends in two blanks: the bytes so far never decrease, so a rate with fewer digits comes with more seconds.
+    /// Writes how far the check is. On a terminal the line may be one or two bytes shorter than the
+    /// one before it, so it ends in two blanks: the bytes so far never decrease, so a rate with
+    /// fewer digits comes with more seconds.
     fn write_line(&mut self)
         ensures { self.new.stats ≡ self.old.stats }
     {

@@ -79,7 +79,8 @@ pub(crate) fn tidied(alloc: Global, text: &[u8], normal: bool, asked: Asked) -> 
     }
 }
 
-/// What `pb show` writes for a text, followed by the line of a fault if there is one; and its status.
+/// What `pb show` writes for a text, followed by the line of a fault if there is one; and its
+/// status.
 pub(crate) fn shown(alloc: Global, text: &[u8], asked: Asked) -> Answer
     requires { IfSome asked.longest (λ n. 0 < n) }
     ensures { AnswerOfShow asked.limits (unwrap_or asked.longest (2 ^ 40)) text.now result.text
@@ -96,8 +97,8 @@ pub(crate) fn shown(alloc: Global, text: &[u8], asked: Asked) -> Answer
     }
 }
 
-/// The text of a page, followed by the line of a fault, and the status of the fault. If memory runs out, a prefix of
-/// the line follows, and the status says so.
+/// The text of a page, followed by the line of a fault, and the status of the fault. If memory runs
+/// out, a prefix of the line follows, and the status says so.
 fn fault_answer(mut page: Page, fault: &ToolFault) -> Answer
     ensures { (after : APage) × EndsIn page fault.now after result.status ×
         (result.text ≡ after.text) }
@@ -109,7 +110,8 @@ fn fault_answer(mut page: Page, fault: &ToolFault) -> Answer
     }
 }
 
-/// Writes the line of a fault to a page. Returns the status of the fault, or that memory ran out for its line.
+/// Writes the line of a fault to a page. Returns the status of the fault, or that memory ran out
+/// for its line.
 fn write_end(page: &mut Page, fault: &ToolFault) -> u8
     ensures { EndsIn page.old fault.now page.new result }
 {

@@ -29,8 +29,9 @@ pub struct Sizes {
     pub name_bytes: usize,
 }
 
-/// Reads an instance, and has the handle own its arrays. What the handle owned before is freed. If the status is not 0,
-/// the handle owns nothing, and the report says where and why the instance is rejected.
+/// Reads an instance, and has the handle own its arrays. What the handle owned before is freed. If
+/// the status is not 0, the handle owns nothing, and the report says where and why the instance is
+/// rejected.
 #[unsafe(no_mangle)]
 pub extern "C" fn pb_instance_read(
     alloc: Global,
@@ -101,8 +102,8 @@ fn sizes_of(flat: &Flat) -> Sizes
     }
 }
 
-/// Copies the arrays of the terms. Each array has to have as many elements as there are terms. Otherwise the status is 2,
-/// and nothing is written.
+/// Copies the arrays of the terms. Each array has to have as many elements as there are terms.
+/// Otherwise the status is 2, and nothing is written.
 #[unsafe(no_mangle)]
 pub extern "C" fn pb_instance_terms(
     alloc: Global,
@@ -152,8 +153,9 @@ fn copy_terms(
     0
 }
 
-/// Copies the arrays of the rows, the objective if there is one and then the constraints. Each array has to have as many
-/// elements as there are rows. Otherwise the status is 2, and nothing is written.
+/// Copies the arrays of the rows, the objective if there is one and then the constraints. Each
+/// array has to have as many elements as there are rows. Otherwise the status is 2, and nothing is
+/// written.
 #[unsafe(no_mangle)]
 pub extern "C" fn pb_instance_rows(
     alloc: Global,
@@ -202,8 +204,9 @@ fn copy_rows(
     0
 }
 
-/// Copies the positions of the rows: the line, the column and the offset of the first byte, and the offset past the last
-/// one. Each array has to have as many elements as there are rows. Otherwise the status is 2, and nothing is written.
+/// Copies the positions of the rows: the line, the column and the offset of the first byte, and the
+/// offset past the last one. Each array has to have as many elements as there are rows. Otherwise
+/// the status is 2, and nothing is written.
 #[unsafe(no_mangle)]
 pub extern "C" fn pb_instance_places(
     alloc: Global,

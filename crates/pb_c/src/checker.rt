@@ -17,8 +17,9 @@ use std::alloc::Global;
 /// The status if memory ran out.
 const FAILED: u8 = 3;
 
-/// Reads an instance, and has the handle own a session for proofs of it. What the handle owned before is freed. If the
-/// status is not 0, the handle owns nothing, and the report says where and why the instance is rejected.
+/// Reads an instance, and has the handle own a session for proofs of it. What the handle owned
+/// before is freed. If the status is not 0, the handle owns nothing, and the report says where and
+/// why the instance is rejected.
 #[unsafe(no_mangle)]
 pub extern "C" fn pb_checker_open(
     alloc: Global,
@@ -59,9 +60,9 @@ pub extern "C" fn pb_checker_open(
     }
 }
 
-/// Takes a piece of the proof, cut anywhere, and checks each statement that ends in it. `used` is then how many of its
-/// bytes belong to the proof. If the status is not 0, the report says where and why the proof is rejected, and each
-/// later call reports the same.
+/// Takes a piece of the proof, cut anywhere, and checks each statement that ends in it. `used` is
+/// then how many of its bytes belong to the proof. If the status is not 0, the report says where
+/// and why the proof is rejected, and each later call reports the same.
 #[unsafe(no_mangle)]
 pub extern "C" fn pb_checker_feed(
     alloc: Global,
@@ -70,7 +71,8 @@ pub extern "C" fn pb_checker_feed(
     used: &mut usize,
     report: &mut Report,
 ) -> u8
-    // A checker for an instance and a text of a proof is then one for that text followed by the piece.
+    // A checker for an instance and a text of a proof is then one for that text followed by the
+    // piece.
     ensures fed { (options : SomeOptions) (i fed : List ℕ) → IsCheckerFor options i fed checker.old
         → IsCheckerFor options i (fed ++ piece.now) checker.new }
     // The status and the report are those of the first fault in that text, if there is one.
@@ -120,13 +122,14 @@ pub extern "C" fn pb_checker_finish(
     claim: &mut Claim,
     report: &mut Report,
 ) -> u8
-    // It stays a checker for the instance and the text. The status and the report are those of the first fault in that
-    // text or at its end, if there is one.
+    // It stays a checker for the instance and the text. The status and the report are those of the
+    // first fault in that text or at its end, if there is one.
     ensures stands { (options : SomeOptions) (i fed : List ℕ) →
         IsCheckerFor options i fed checker.old
         → IsCheckerFor options i fed checker.new }
     ensures answers { Answers checker.new result report.new }
-    // With status 0, the two texts are an instance and a proof that the rules accept with this claim, as `check` says.
+    // With status 0, the two texts are an instance and a proof that the rules accept with this
+    // claim, as `check` says.
     ensures concludes { (options : SomeOptions) (i fed : List ℕ) →
         IsCheckerFor options i fed checker.old
         → Concludes options i fed result claim.new }

@@ -43,9 +43,10 @@ pub extern "C" fn pb_checker_terms(
     status
 }
 
-/// Copies the live constraint with the id: the numbers of the names of its terms, whether each is negated, the
-/// coefficients and the degree. Each array has to have as many elements as the constraint has terms. Otherwise, or if no
-/// live constraint has the id, the status is 2, and nothing is written.
+/// Copies the live constraint with the id: the numbers of the names of its terms, whether each is
+/// negated, the coefficients and the degree. Each array has to have as many elements as the
+/// constraint has terms. Otherwise, or if no live constraint has the id, the status is 2, and
+/// nothing is written.
 #[unsafe(no_mangle)]
 pub extern "C" fn pb_checker_constraint(
     alloc: Global,

@@ -1,4 +1,5 @@
-//! The library for programs in C and for languages that call C. `include/pb.h` declares its functions.
+//! The library for programs in C and for languages that call C. `include/pb.h` declares its
+//! functions.
 #![tactic(auto)]
 
 mod answer;
@@ -50,8 +51,8 @@ pub extern "C" fn pb_version() -> u32
     VERSION
 }
 
-/// Checks a proof of an instance, and puts the line that `pb check` prints into `line`. With status 0 it is the
-/// verdict, and otherwise the reason why there is none.
+/// Checks a proof of an instance, and puts the line that `pb check` prints into `line`. With status
+/// 0 it is the verdict, and otherwise the reason why there is none.
 #[unsafe(no_mangle)]
 pub extern "C" fn pb_check(
     alloc: Global,
@@ -95,8 +96,8 @@ fn check_into(
     status
 }
 
-/// Puts the canonical text of `text` into `out`, as `pb tidy` prints it. With `normal` it is the normal form of an
-/// instance. If the status is not 0, it puts the line of the fault there.
+/// Puts the canonical text of `text` into `out`, as `pb tidy` prints it. With `normal` it is the
+/// normal form of an instance. If the status is not 0, it puts the line of the fault there.
 #[unsafe(no_mangle)]
 pub extern "C" fn pb_tidy(
     alloc: Global,
@@ -119,8 +120,8 @@ pub extern "C" fn pb_tidy(
     status
 }
 
-/// Puts the statements of a text into `out`, each with its position, as `pb show` prints them. If the status is not 0,
-/// the line of the fault follows the statements that were read.
+/// Puts the statements of a text into `out`, each with its position, as `pb show` prints them. If
+/// the status is not 0, the line of the fault follows the statements that were read.
 #[unsafe(no_mangle)]
 pub extern "C" fn pb_show(
     alloc: Global,

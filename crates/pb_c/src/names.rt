@@ -9,8 +9,9 @@ use crate::options::WRONG_WORDS;
 use pb_normal::Names;
 use std::alloc::Global;
 
-/// Copies all names: their bytes, one name after another, and where each begins. The arrays have to have as many elements
-/// as the names have bytes, and as there are names. Otherwise the status is 2, and nothing is written.
+/// Copies all names: their bytes, one name after another, and where each begins. The arrays have to
+/// have as many elements as the names have bytes, and as there are names. Otherwise the status is
+/// 2, and nothing is written.
 #[unsafe(no_mangle)]
 pub extern "C" fn pb_instance_names(
     alloc: Global,

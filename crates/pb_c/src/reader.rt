@@ -19,8 +19,8 @@ use std::alloc::Global;
 /// The status if memory ran out.
 const FAILED: u8 = 3;
 
-/// Has the handle own a reader of texts of the format: 1 for instances, 2 for proofs. What the handle owned before is
-/// freed. If the status is not 0, the handle owns nothing.
+/// Has the handle own a reader of texts of the format: 1 for instances, 2 for proofs. What the
+/// handle owned before is freed. If the status is not 0, the handle owns nothing.
 #[unsafe(no_mangle)]
 pub extern "C" fn pb_reader_open(
     alloc: Global,
@@ -90,9 +90,9 @@ fn report_of_reader(reader: &Reader) -> Report
     Report::of_text(input_of(reader), reader.place())
 }
 
-/// Takes a piece of the text, cut anywhere, through the end of the next statement. `used` is then how many bytes it took,
-/// and `event` the statement that ends there, if any. If the status is not 0, the report says where and why the text is
-/// rejected, and each later call reports the same.
+/// Takes a piece of the text, cut anywhere, through the end of the next statement. `used` is then
+/// how many bytes it took, and `event` the statement that ends there, if any. If the status is not
+/// 0, the report says where and why the text is rejected, and each later call reports the same.
 #[unsafe(no_mangle)]
 pub extern "C" fn pb_reader_feed(
     alloc: Global,
@@ -209,8 +209,8 @@ fn finish_reader(reader: &mut Reader, report: &mut Report) -> u8
     }
 }
 
-/// Copies the tokens of the last statement. Each array has to have as many elements as there are tokens. Otherwise the
-/// status is 2, and nothing is written.
+/// Copies the tokens of the last statement. Each array has to have as many elements as there are
+/// tokens. Otherwise the status is 2, and nothing is written.
 #[unsafe(no_mangle)]
 pub extern "C" fn pb_reader_tokens(
     alloc: Global,

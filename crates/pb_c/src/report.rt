@@ -58,7 +58,8 @@ pub struct Report {
     pub column: u64,
     /// The offset, in bytes and from 0.
     pub offset: u64,
-    /// The byte, the count, the number of the name or the id of the constraint that the reason is about, or 0.
+    /// The byte, the count, the number of the name or the id of the constraint that the reason is
+    /// about, or 0.
     pub number: u64,
     /// The id, as written, that names no live constraint, or 0.
     pub id: i64,

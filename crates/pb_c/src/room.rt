@@ -2,7 +2,8 @@
 
 ghost use Rattle.pb_c.specs.Buffer.{Puts};
 
-/// Puts a text into the room, as much of it as fits, and returns the length of the whole text in bytes.
+/// Puts a text into the room, as much of it as fits, and returns the length of the whole text in
+/// bytes.
 pub(crate) fn put(text: &[u8], room: &mut [u8]) -> usize
     ensures { Puts text.now room.old room.new result }
 {

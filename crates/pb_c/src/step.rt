@@ -26,10 +26,10 @@ pub struct State {
     pub visits: u64,
 }
 
-/// Takes a piece of the proof up to the end of the next statement, which is checked. `used` is then how many of its bytes
-/// belong to the proof, and `ended` whether a statement ended there and was accepted. If none did, it took the whole
-/// piece. If the status is not 0, the report says where and why the proof is rejected, and each later call reports the
-/// same.
+/// Takes a piece of the proof up to the end of the next statement, which is checked. `used` is then
+/// how many of its bytes belong to the proof, and `ended` whether a statement ended there and was
+/// accepted. If none did, it took the whole piece. If the status is not 0, the report says where
+/// and why the proof is rejected, and each later call reports the same.
 #[unsafe(no_mangle)]
 pub extern "C" fn pb_checker_step(
     alloc: Global,
@@ -39,7 +39,8 @@ pub extern "C" fn pb_checker_step(
     ended: &mut bool,
     report: &mut Report,
 ) -> u8
-    // A checker for an instance and a text of a proof is then one for that text followed by the bytes that it took.
+    // A checker for an instance and a text of a proof is then one for that text followed by the
+    // bytes that it took.
     ensures fed { (options : SomeOptions) (i fed : List ℕ) → IsCheckerFor options i fed checker.old
         → IsCheckerFor options i (fed ++ bytes_to ended.new used.new piece.now) checker.new }
     // The status and the report are those of the first fault in that text, if there is one.

@@ -18,10 +18,10 @@ const REJECTED: u8 = 1;
 /// The status if memory ran out.
 const FAILED: u8 = 3;
 
-/// Puts the canonical text of a statement of a kind into `out`, without a line feed. Its tokens are in four arrays, as
-/// `pb_reader_tokens` copies them, and its free text is `text`. The names that the tokens are numbered by are in two
-/// arrays, as `pb_instance_names` copies them. If the status is not 0, nothing is put. If it is 1, `wrong` is then the index
-/// of the token that breaks a rule.
+/// Puts the canonical text of a statement of a kind into `out`, without a line feed. Its tokens are
+/// in four arrays, as `pb_reader_tokens` copies them, and its free text is `text`. The names that
+/// the tokens are numbered by are in two arrays, as `pb_instance_names` copies them. If the status
+/// is not 0, nothing is put. If it is 1, `wrong` is then the index of the token that breaks a rule.
 #[unsafe(no_mangle)]
 pub extern "C" fn pb_write_statement(
     alloc: Global,
@@ -92,7 +92,8 @@ fn line_of(
     }
 }
 
-/// Sets the index of the token at fault, or the number of tokens, and returns the status of the fault.
+/// Sets the index of the token at fault, or the number of tokens, and returns the status of the
+/// fault.
 fn fail(fault: MakeFault, count: usize, wrong: &mut usize) -> u8
     ensures failed { result ≢ 0 }
     ensures within { wrong.new ≤ count }

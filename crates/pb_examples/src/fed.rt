@@ -11,8 +11,8 @@ use pb_replay::{Replay, Verdict};
 use pb_tool::{CheckFault, Checker};
 use std::alloc::Global;
 
-/// Whether a proof that comes in pieces shows that the instance of a replay has no solution. The pieces may be cut
-/// anywhere. A fault says where the proof is rejected, and why.
+/// Whether a proof that comes in pieces shows that the instance of a replay has no solution. The
+/// pieces may be cut anywhere. A fault says where the proof is rejected, and why.
 pub fn is_refuted_in_pieces(
     alloc: Global,
     replay: Replay,
@@ -20,7 +20,8 @@ pub fn is_refuted_in_pieces(
 ) -> Result<bool, CheckFault>
     // `true` means that no assignment satisfies the instance.
     ensures unsat { result ≡ Ok true → IsRefuted replay }
-    // The pieces in a row begin with a proof that the rules accept. The answer is whether its verdict is UNSAT.
+    // The pieces in a row begin with a proof that the rules accept. The answer is whether its
+    // verdict is UNSAT.
     ensures exact { IfOk result (ReportsUnsat replay (flat_map (λ piece. piece.now) pieces.now)) }
 {
     reads_are_of_proofs();

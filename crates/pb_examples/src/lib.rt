@@ -1,4 +1,5 @@
-//! Small programs over the library, each proved. The README of the project prints the first, `refuted.rt`.
+//! Small programs over the library, each proved. The README of the project prints the first,
+//! `refuted.rt`.
 #![tactic(auto)]
 
 mod fed;

@@ -8,10 +8,11 @@ use pb_opb::{read_instance, write_instance};
 use pb_text::{Failed, Limits, Over, Stop, Why};
 use std::alloc::Global;
 
-/// The canonical text of the instance that begins a text. It fails if the text begins with no instance, or if memory
-/// runs out.
+/// The canonical text of the instance that begins a text. It fails if the text begins with no
+/// instance, or if memory runs out.
 pub fn canonical(alloc: Global, text: &[u8]) -> Result<Vec<u8>, Stop>
-    // The text begins with a text of an instance, and the result is the canonical text of that instance.
+    // The text begins with a text of an instance, and the result is the canonical text of that
+    // instance.
     ensures same { IfOk result (λ bytes. IsRewritten text.now bytes.items) }
 {
     instances_are_values();

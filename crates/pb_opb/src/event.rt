@@ -6,7 +6,8 @@ use pb_text::{Bytes, Sequence};
 /// A statement of an instance in OPB, as it is read.
 #[derive(Drop)]
 pub enum OpbEvent {
-    /// The first line: how many variables and constraints it declares, and the bytes after the second count.
+    /// The first line: how many variables and constraints it declares, and the bytes after the
+    /// second count.
     Header {
         variables: u64,
         constraints: u64,

@@ -35,7 +35,8 @@ impl InstanceSoFar {
         }
     }
 
-    /// How many objectives and constraints there are with one more. Memory cannot hold more than `2^64 - 1` of them.
+    /// How many objectives and constraints there are with one more. Memory cannot hold more than
+    /// `2^64 - 1` of them.
     fn with_one(&self) -> Result<u64, AllocError>
         ensures count { IfOk result (λ ended. ended ≡ self.now.ended + 1) }
         ensures full { OnErr result (2 ^ 64 - 1 ≤ self.now.ended) }

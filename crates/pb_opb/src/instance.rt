@@ -12,8 +12,8 @@ pub struct Comment {
     pub text: Bytes,
 }
 
-/// An instance in OPB, as written. White space is not stored, and a comment after the last constraint is not part of
-/// it.
+/// An instance in OPB, as written. White space is not stored, and a comment after the last
+/// constraint is not part of it.
 #[derive(Drop)]
 pub struct Instance {
     /// The first count of the header, as declared. The second is the number of constraints.

@@ -14,8 +14,8 @@ pub fn one_instance()
     ensures { OneInstance }
 {}
 
-/// In all instances whose texts begin with the same bytes, the statements that end within these bytes are the same.
-/// Their positions are the same too.
+/// In all instances whose texts begin with the same bytes, the statements that end within these
+/// bytes are the same. Their positions are the same too.
 pub fn fixed_spans()
     ensures { FixedSpans }
 {}
@@ -40,7 +40,8 @@ pub fn written_instance_reads_back()
     ensures { ReadsBack }
 {}
 
-/// An instance that was read meets the rules, and its header declares as many constraints as there are.
+/// An instance that was read meets the rules, and its header declares as many constraints as there
+/// are.
 pub fn instances_are_values()
     ensures { InstanceValues }
 {}

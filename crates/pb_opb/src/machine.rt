@@ -18,8 +18,8 @@ use std::alloc::Global;
 use std::marker::Model;
 use std::mem;
 
-/// A machine that reads one instance, through the `;` of its last constraint. If the first line declares no constraint,
-/// it reads that line only.
+/// A machine that reads one instance, through the `;` of its last constraint. If the first line
+/// declares no constraint, it reads that line only.
 #[derive(Drop)]
 pub struct OpbMachine {
     alloc: Global,
@@ -57,7 +57,8 @@ impl OpbMachine {
     ghost use Rattle.pb_opb.specs.meaning.Instances.{IsInstance};
     ghost use Rattle.pb_opb.specs.engine.State.{opb, begin};
 
-    /// A machine before an instance, which accepts exactly the instances under the limits. It allocates nothing.
+    /// A machine before an instance, which accepts exactly the instances under the limits. It
+    /// allocates nothing.
     pub fn new(alloc: Global, limits: Limits) -> Self
         ensures accepts { (items : List (Item OpbEvent)) →
             AcceptsItems opb result items ↔ IsInstance (largest limits) (top_of limits) items }
@@ -67,7 +68,8 @@ impl OpbMachine {
             → Reads (AcceptsItems opb result) longest input used spans place done stop
             → Reads (IsInstance (largest limits) (top_of limits)) longest input used spans place
             done stop }
-        // It may allocate only at a byte of a tail or a comment, at one of a name, and at one that ends a literal.
+        // It may allocate only at a byte of a tail or a comment, at one of a name, and at one that
+        // ends a literal.
         ensures asks { (used : List ℕ) (b : ℕ) → MayAsk opb result used b →
             AsksOnly (IsInstance (largest limits) (top_of limits)) (Asks (top_of limits)) used b }
         ensures begins { result ≡ begin (largest limits) (top_of limits) }
@@ -183,8 +185,8 @@ impl OpbMachine {
     ghost use Rattle.pb_opb.specs.engine.Machine.{transition};
     ghost use Rattle.pb_opb.specs.engine.State.{opb, keeps_line};
 
-    /// Takes a byte that is not stored and ends no statement, as far as this is cheap to decide. Returns whether it
-    /// took the byte.
+    /// Takes a byte that is not stored and ends no statement, as far as this is cheap to decide.
+    /// Returns whether it took the byte.
     #[inline(always)]
     fn advance(&mut self, byte: u8) -> bool
         ensures { Continues opb self.old byte result self.new }
@@ -211,8 +213,8 @@ impl OpbMachine {
         true
     }
 
-    /// Stores the bytes before the first line feed and returns how many. If memory runs out, it stores none and returns
-    /// `None`.
+    /// Stores the bytes before the first line feed and returns how many. If memory runs out, it
+    /// stores none and returns `None`.
     fn keep_line(&mut self, piece: &[u8]) -> Option<usize>
         requires { keeps_line self.old.phase ≡ true }
         ensures bound { IfSome result (λ n. n ≤ length piece.now) }

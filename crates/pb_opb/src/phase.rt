@@ -22,9 +22,11 @@ pub enum Phase {
     Count(Field, u64),
     /// The header's counts, and bytes of its tail.
     Tail,
-    /// A whole statement, and perhaps white space. The flag says whether an objective may still come.
+    /// A whole statement, and perhaps white space. The flag says whether an objective may still
+    /// come.
     Between(bool),
-    /// The star of a comment, and bytes of it. The flag says whether an objective may come after it.
+    /// The star of a comment, and bytes of it. The flag says whether an objective may come after
+    /// it.
     Comment(bool),
     /// This many bytes of `min:`.
     Min(usize),

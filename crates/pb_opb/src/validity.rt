@@ -33,7 +33,8 @@ fn is_tail(bytes: &[u8]) -> bool
     }
 }
 
-/// Whether there is no objective, or one whose sum is within the limits and which comes before some constraint.
+/// Whether there is no objective, or one whose sum is within the limits and which comes before some
+/// constraint.
 fn objective_is_value(
     objective: &Option<Sequence<Term>>,
     constraints: &[Linear],
@@ -59,7 +60,8 @@ fn are_linears(constraints: &[Linear], limits: Limits) -> bool
     true
 }
 
-/// Whether a comment comes after at least this many statements and before the last one, in one line.
+/// Whether a comment comes after at least this many statements and before the last one, in one
+/// line.
 fn comment_is_value(comment: &Comment, least: u64, statements: u64) -> bool
     ensures { IsTrue result ↔ (least ≤ comment.now.before) × (comment.now.before < statements) ×
         IsInLine comment.now.text }
@@ -90,7 +92,8 @@ fn counts_are_within(instance: &Instance, top: u64) -> bool
 }
 
 /// Whether the instance has a text under the limits:
-/// - its sums and constraints are within them, as are the count of variables and the number of constraints;
+/// - its sums and constraints are within them, as are the count of variables and the number of
+///   constraints;
 /// - there is no objective without a constraint;
 /// - the tail is empty, or a blank and then no line feed;
 /// - no comment holds a line feed, and the comments come in order, each before the last constraint.

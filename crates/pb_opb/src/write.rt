@@ -58,8 +58,8 @@ fn put_comment(text: &[u8], piece: &mut Piece) -> bool
     true
 }
 
-/// Prepends the line of a statement without its line feed, if it surely fits, and returns whether it did. If it did not,
-/// the piece may have a part of it.
+/// Prepends the line of a statement without its line feed, if it surely fits, and returns whether
+/// it did. If it did not, the piece may have a part of it.
 pub fn put_event(event: &OpbEvent, piece: &mut Piece) -> bool
     ensures { IsTrue result → piece.new ≡ event_bytes event.now ++ piece.old }
 {
@@ -124,8 +124,8 @@ fn write_line<S: Sink>(linear: &Linear, out: &mut S) -> Result<(), Failed>
     write_linear(linear, out)
 }
 
-/// Writes the constraints from the one with this number on, each after a line feed. The comments that are due come
-/// before each.
+/// Writes the constraints from the one with this number on, each after a line feed. The comments
+/// that are due come before each.
 fn write_constraints<S: Sink>(
     first: u64,
     comments: &[Comment],
@@ -147,7 +147,8 @@ fn write_constraints<S: Sink>(
     Ok(())
 }
 
-/// Writes the objective and the constraints, each after a line feed. The comments that are due come before each.
+/// Writes the objective and the constraints, each after a line feed. The comments that are due come
+/// before each.
 fn write_all<S: Sink>(
     terms: &[Term],
     comments: &[Comment],
@@ -179,8 +180,9 @@ fn write_body<S: Sink>(instance: &Instance, out: &mut S) -> Result<(), Failed>
     }
 }
 
-/// Writes the canonical text of the instance: one line for each statement. There is no line feed after the last line,
-/// except after that of the header. A comment whose number is not below the number of statements is not written.
+/// Writes the canonical text of the instance: one line for each statement. There is no line feed
+/// after the last line, except after that of the header. A comment whose number is not below the
+/// number of statements is not written.
 pub fn write_instance<S: Sink>(instance: &Instance, out: &mut S) -> Result<(), Failed>
     ensures { Writes S.contents S.faults out.old (instance_bytes instance.now) result out.new }
 {

@@ -17,8 +17,8 @@ use pb_sums::{Relation, Term};
 use pb_text::{Sequence, Spanned};
 use std::alloc::{AllocError, Global};
 
-/// An instance in flat arrays: its terms one after another, with the names that they are numbered by, and its objective
-/// and constraints, with their positions.
+/// An instance in flat arrays: its terms one after another, with the names that they are numbered
+/// by, and its objective and constraints, with their positions.
 #[derive(Drop)]
 pub struct Flat {
     pub named: Named,

@@ -1,5 +1,5 @@
-//! The pieces that programs in other languages take: a check of a proof while it is written, an instance as flat arrays, statements as
-//! tokens, and numbers in two words.
+//! The pieces that programs in other languages take: a check of a proof while it is written, an
+//! instance as flat arrays, statements as tokens, and numbers in two words.
 #![tactic(auto)]
 
 mod any_statement;

@@ -19,8 +19,9 @@ use pb_proof::{Conclusion, Statement};
 use pb_text::{Bytes, Limits, Sequence};
 use std::alloc::{AllocError, Global};
 
-/// The statement of a kind with the tokens of the arrays and a free text. First each token is tested by the rules of its
-/// kind under the limits. Then the tokens have to be those of a statement that has a text under the limits.
+/// The statement of a kind with the tokens of the arrays and a free text. First each token is
+/// tested by the rules of its kind under the limits. Then the tokens have to be those of a
+/// statement that has a text under the limits.
 pub fn make_statement(
     alloc: Global,
     kind: EventKind,
@@ -41,7 +42,8 @@ pub fn make_statement(
     Ok(statement)
 }
 
-/// Succeeds if these are the tokens of the statement. Otherwise the fault has the index of the first that differs.
+/// Succeeds if these are the tokens of the statement. Otherwise the fault has the index of the
+/// first that differs.
 fn have_same_tokens(statement: &AnyStatement, given: Vec<GivenToken>) -> Result<(), MakeFault>
     ensures { OnOk result (tokens_in statement.now ≡ map token_in given.items) }
 {
@@ -80,7 +82,8 @@ fn wrong_index(statement: &AnyStatement, count: usize) -> usize {
     }
 }
 
-/// A statement of the kind that the tokens and the text state. If they do not belong to the kind, it has others.
+/// A statement of the kind that the tokens and the text state. If they do not belong to the kind,
+/// it has others.
 fn statement_from(
     alloc: Global,
     kind: EventKind,

@@ -7,7 +7,8 @@ use std::alloc::{AllocError, AllocFailed};
 pub enum MakeFault {
     /// The arrays do not have one length.
     Lengths,
-    /// The token with this index breaks a rule. The number of tokens stands for one that is missing, or for the free text.
+    /// The token with this index breaks a rule. The number of tokens stands for one that is
+    /// missing, or for the free text.
     Token(usize),
     /// Memory ran out.
     Memory,

@@ -9,7 +9,8 @@ use crate::tokens::{TokenKind, Tokens};
 use pb_normal::{HashKeys, Names};
 use std::alloc::{AllocError, Global};
 
-/// The tokens of a statement, and the names of all statements so far, numbered by their first appearance.
+/// The tokens of a statement, and the names of all statements so far, numbered by their first
+/// appearance.
 #[derive(Drop)]
 pub struct NamedTokens {
     pub names: Names,

@@ -40,7 +40,8 @@ pub enum Reader {
 }
 
 impl Reader {
-    /// A reader of a text of the format. No statement may have more than `longest` bytes, if there is such a limit.
+    /// A reader of a text of the format. No statement may have more than `longest` bytes, if there
+    /// is such a limit.
     pub fn open(
         alloc: Global,
         keys: HashKeys,
@@ -65,8 +66,8 @@ impl Reader {
         }
     }
 
-    /// Takes bytes of the piece through the end of the next statement, or all of them. After the last statement it takes
-    /// none. After a fault it returns that fault again.
+    /// Takes bytes of the piece through the end of the next statement, or all of them. After the
+    /// last statement it takes none. After a fault it returns that fault again.
     pub fn feed(&mut self, piece: &[u8]) -> Result<Taken, Stop>
         // What held for all the text before now holds for that text followed by these bytes.
         ensures gives { (format : Format) (limits : SomeLimits) (longest : ℕ) (fed : List ℕ)
@@ -91,7 +92,8 @@ impl Reader {
         }
     }
 
-    /// Call this at the end of the text: whether it may end here. After a fault it returns that fault again.
+    /// Call this at the end of the text: whether it may end here. After a fault it returns that
+    /// fault again.
     pub fn finish(&mut self) -> Result<(), Stop>
         // The whole text was read, or it has ended too soon.
         ensures ends { (format : Format) (limits : SomeLimits) (longest : ℕ) (fed : List ℕ)

@@ -1,4 +1,5 @@
-//! A check of a proof of an instance, in pieces, with the same answer as a check of both texts at once.
+//! A check of a proof of an instance, in pieces, with the same answer as a check of both texts at
+//! once.
 
 ghost use Rattle.std.specs.Prelude.{◌≡◌, ◌+◌, ◌-◌, ◌<◌, ◌≤◌, ◌^◌, ◌++◌, ℕ, List, [], None, Some, Err, IfErr, IfOk, IfSome, OnOk, cond, drop, false, length, min, slice_get, true, unwrap_or};
 ghost use Rattle.std.specs.Option.{option_copied};
@@ -44,8 +45,9 @@ pub struct Session {
 }
 
 impl Session {
-    /// A session for the instance that is this text. Only white space and comments may follow the instance. No
-    /// statement of the instance or of a proof may have more than `longest` bytes, if there is such a limit.
+    /// A session for the instance that is this text. Only white space and comments may follow the
+    /// instance. No statement of the instance or of a proof may have more than `longest` bytes, if
+    /// there is such a limit.
     pub fn open(
         alloc: Global,
         keys: HashKeys,
@@ -80,9 +82,10 @@ impl Session {
         }
     }
 
-    /// Takes a piece of the proof. Each statement that ends in it is checked at once. Returns the number of bytes that
-    /// belong to the proof: the whole piece, or the bytes through the last byte of the proof, and none after that. The
-    /// other bytes are stored for `finish`. After a fault it returns that fault again, and takes nothing.
+    /// Takes a piece of the proof. Each statement that ends in it is checked at once. Returns the
+    /// number of bytes that belong to the proof: the whole piece, or the bytes through the last
+    /// byte of the proof, and none after that. The other bytes are stored for `finish`. After a
+    /// fault it returns that fault again, and takes nothing.
     pub fn feed(&mut self, piece: &[u8]) -> Result<usize, CheckFault>
         // What held for all the text before now holds for that text followed by this piece.
         ensures fed { (limits : SomeLimits) (longest : ℕ) (i fed : List ℕ) →
@@ -111,9 +114,10 @@ impl Session {
         }
     }
 
-    /// Takes a piece of the proof up to the end of the next statement, which is checked. If none ends in the piece, it
-    /// takes the whole piece, as `feed` does. Returns how many bytes belong to the proof, and whether a statement ended
-    /// there and was accepted. After a fault it returns that fault again, and takes nothing.
+    /// Takes a piece of the proof up to the end of the next statement, which is checked. If none
+    /// ends in the piece, it takes the whole piece, as `feed` does. Returns how many bytes belong
+    /// to the proof, and whether a statement ended there and was accepted. After a fault it returns
+    /// that fault again, and takes nothing.
     pub fn step(&mut self, piece: &[u8]) -> Result<Went, CheckFault>
         // What held for all the text before now holds for that text followed by the bytes taken.
         ensures fed { (limits : SomeLimits) (longest : ℕ) (i fed : List ℕ) →
@@ -183,8 +187,8 @@ impl Session {
         }
     }
 
-    /// What the proof shows, if it ends here. Only white space and comments may follow its last statement. After a
-    /// fault it returns that fault again, and so does each later call.
+    /// What the proof shows, if it ends here. Only white space and comments may follow its last
+    /// statement. After a fault it returns that fault again, and so does each later call.
     pub fn finish(&mut self) -> Result<Verdict, CheckFault>
         // A verdict changes nothing.
         ensures ok { OnOk result (self.new ≡ self.old) }
@@ -195,7 +199,8 @@ impl Session {
             → IsSession limits longest i fed self.new }
         ensures fault { self.new.fault ≡ fault_in result }
         ensures again { IfSome self.old.fault (λ e. (result ≡ Err e) × (self.new ≡ self.old)) }
-        // The text of the instance and the joined pieces are verified with the verdict, as `check` says of two texts.
+        // The text of the instance and the joined pieces are verified with the verdict, as `check`
+        // says of two texts.
         ensures verified { (limits : SomeLimits) (longest : ℕ) (i fed : List ℕ) →
             IsSession limits longest i fed self.old
             → IfOk result (AreVerified limits longest i fed) }
@@ -233,7 +238,8 @@ impl Session {
         self.checker.place()
     }
 
-    /// How much of the current statement is stored: at most as much as its bytes so far, and nothing between statements.
+    /// How much of the current statement is stored: at most as much as its bytes so far, and
+    /// nothing between statements.
     pub fn held(&self) -> usize
         ensures held { result ≡ held_in self.now }
         ensures few { (limits : SomeLimits) (longest : ℕ) (i fed : List ℕ) →
@@ -243,7 +249,8 @@ impl Session {
         self.checker.held()
     }
 
-    /// How many statements of the proof were accepted: all that have ended, or those before the fault.
+    /// How many statements of the proof were accepted: all that have ended, or those before the
+    /// fault.
     pub fn accepted(&self) -> u64
         ensures accepted { result ≡ self.now.accepted }
         // Before a fault these are all statements that end in the text.
@@ -284,8 +291,8 @@ impl Session {
     }
 }
 
-/// If `StandsAt` holds of a feeder of proofs and an input, the feeder has read that input. No proof is a prefix of
-/// another.
+/// If `StandsAt` holds of a feeder of proofs and an input, the feeder has read that input. No proof
+/// is a prefix of another.
 fn texts_are_read()
     ensures read { TextsAreRead }
     ensures free { PrefixFree }

@@ -109,7 +109,8 @@ fn number_at(lows: &[u64], highs: &[i64], index: usize) -> Option<i128>
     }
 }
 
-/// The name with a number, where the kind of a token has one. Without a name the number has to be 0.
+/// The name with a number, where the kind of a token has one. Without a name the number has to be
+/// 0.
 fn name_given(
     alloc: Global,
     kind: TokenKind,

@@ -24,7 +24,8 @@ pub struct Event {
     pub past: Place,
 }
 
-/// What a feed took: `used` bytes of the piece, and the statement that ends with the last of them, if any.
+/// What a feed took: `used` bytes of the piece, and the statement that ends with the last of them,
+/// if any.
 #[derive(Clone, Copy)]
 pub struct Taken {
     pub used: usize,
@@ -41,8 +42,8 @@ pub struct TokenReader<M: Machine> {
 }
 
 impl<E: Tokenized + Drop, M: Machine<Event = E> + Drop> TokenReader<M> {
-    /// A reader with a machine that has begun no statement. No statement may have more than `longest` bytes, if there
-    /// is such a limit.
+    /// A reader with a machine that has begun no statement. No statement may have more than
+    /// `longest` bytes, if there is such a limit.
     pub fn new(alloc: Global, keys: HashKeys, machine: M, longest: Option<u64>) -> Self
         requires between { M.automaton.begun machine ≡ false }
         requires some { IfSome longest (λ n. 0 < n) }
@@ -64,8 +65,8 @@ impl<E: Tokenized + Drop, M: Machine<Event = E> + Drop> TokenReader<M> {
         self.feeder.place()
     }
 
-    /// Takes bytes of the piece through the end of the next statement, or all of them. After the last statement it takes
-    /// none. After a fault it returns that fault again.
+    /// Takes bytes of the piece through the end of the next statement, or all of them. After the
+    /// last statement it takes none. After a fault it returns that fault again.
     pub fn feed(&mut self, piece: &[u8]) -> Result<Taken, Stop>
         // What held for all the text before now holds for that text followed by these bytes.
         ensures gives { (longest : ℕ) (start : M) (fed : List ℕ) (spans : List (ASpanned E))
@@ -133,7 +134,8 @@ impl<E: Tokenized + Drop, M: Machine<Event = E> + Drop> TokenReader<M> {
         }
     }
 
-    /// Call this at the end of the text: whether it may end here. After a fault it returns that fault again.
+    /// Call this at the end of the text: whether it may end here. After a fault it returns that
+    /// fault again.
     pub fn finish(&mut self) -> Result<(), Stop>
         ensures ends { (longest : ℕ) (start : M) (fed : List ℕ) (spans : List (ASpanned E))
             → self.old.fault ≡ None → IsReading E.Tokenized longest start fed spans self.old

@@ -42,7 +42,8 @@ fn has_right_number(token: &GivenToken, limits: Limits) -> bool {
     }
 }
 
-/// The index of the first word that finds too few expressions before it. Without one it is the number of words.
+/// The index of the first word that finds too few expressions before it. Without one it is the
+/// number of words.
 pub(crate) fn first_wrong_word(words: &[PolWord]) -> usize {
     let mut finished: usize = 0;
     for (index, word) in words.iter().enumerate() {

@@ -55,7 +55,8 @@ pub trait Tokenized {
     /// Its tokens, in the order in which they are written.
     ghost tokens: { Self → List Token };
 
-    /// The bytes that follow the counts of a header, or the text of a comment. Other statements have none.
+    /// The bytes that follow the counts of a header, or the text of a comment. Other statements
+    /// have none.
     ghost text: { Self → List ℕ };
 
     /// What it is.

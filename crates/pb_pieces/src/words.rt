@@ -6,7 +6,8 @@ ghost use Rattle.pb_pieces.specs.Words.{high_word, low_word};
 /// One more than the largest word.
 const WORD: u128 = 1 << 64;
 
-/// A number as the two words of its two's complement: it is `2^64` times the second word plus the first.
+/// A number as the two words of its two's complement: it is `2^64` times the second word plus the
+/// first.
 pub fn split(value: i128) -> (u64, i64)
     ensures low { result.0 ≡ low_word value }
     ensures high { result.1 ≡ high_word value }

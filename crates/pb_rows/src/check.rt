@@ -69,8 +69,9 @@ fn check_both(
     Ok(reported)
 }
 
-/// Feeds a proof to a checker in one piece. Unless the call says `once`, also feeds it in pieces of 1, 2 and 37 bytes,
-/// and in two pieces with each cut. Returns the first unexpected result, or else the one of one piece.
+/// Feeds a proof to a checker in one piece. Unless the call says `once`, also feeds it in pieces of
+/// 1, 2 and 37 bytes, and in two pieces with each cut. Returns the first unexpected result, or else
+/// the one of one piece.
 pub(crate) fn run_checker(
     alloc: Global,
     call: &Call,
@@ -154,8 +155,8 @@ fn report_checker(
     Ok(())
 }
 
-/// Feeds a proof piece by piece up to the first fault, and finishes it if there was none. Notes whether something was
-/// stored after a whole line, with which each statement ends.
+/// Feeds a proof piece by piece up to the first fault, and finishes it if there was none. Notes
+/// whether something was stored after a whole line, with which each statement ends.
 fn feed_to_end(
     checker: &mut Checker,
     proof: &[u8],
@@ -179,8 +180,8 @@ fn feed_piece(checker: &mut Checker, piece: &[u8], is_stored: &mut bool) -> Resu
     Ok(())
 }
 
-/// Makes the calls of a finished checker again. They must return its fault; or use no byte of a piece, and return the
-/// verdict. The position must not change. Reports any difference.
+/// Makes the calls of a finished checker again. They must return its fault; or use no byte of a
+/// piece, and return the verdict. The position must not change. Reports any difference.
 fn report_again(
     checker: &mut Checker,
     end: Result<Verdict, CheckFault>,

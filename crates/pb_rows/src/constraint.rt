@@ -76,8 +76,8 @@ pub(crate) fn is_rule(word: &str) -> bool {
     )
 }
 
-/// Runs the words of the call: a constraint of the instance, and rules that make one form from another. Writes the last
-/// form, and reports the answers to questions in between.
+/// Runs the words of the call: a constraint of the instance, and rules that make one form from
+/// another. Writes the last form, and reports the answers to questions in between.
 pub(crate) fn run_forms(
     alloc: Global,
     call: &Call,

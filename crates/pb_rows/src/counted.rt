@@ -32,7 +32,8 @@ impl Gather for Counted {
     }
 }
 
-/// Reads an instance and counts its statements. Reports the end, and how many bytes were left in the reader.
+/// Reads an instance and counts its statements. Reports the end, and how many bytes were left in
+/// the reader.
 pub(crate) fn run_count(alloc: Global, call: &Call, text: &[u8]) -> Result<Done, Broken> {
     let machine = OpbMachine::new(alloc, call.limits()?);
     let nothing = Counted {

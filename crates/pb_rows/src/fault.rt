@@ -15,7 +15,8 @@ struct Parts {
     byte: u8,
 }
 
-/// Reports the line and the status of the fault that the words of the call name, as `fault byte=103 line=2 column=14`.
+/// Reports the line and the status of the fault that the words of the call name, as
+/// `fault byte=103 line=2 column=14`.
 pub(crate) fn run_fault(alloc: Global, line: &str) -> Result<Done, Broken> {
     let mut parts = Parts {
         input: Input::File,

@@ -72,8 +72,8 @@ impl Shape {
     }
 }
 
-/// Feeds a text in one piece, in pieces of 1, 2 and 37 bytes, and in two pieces with each cut. Returns the first
-/// unexpected result, or else the last one.
+/// Feeds a text in one piece, in pieces of 1, 2 and 37 bytes, and in two pieces with each cut.
+/// Returns the first unexpected result, or else the last one.
 pub(crate) fn run_feed(
     alloc: Global,
     call: &Call,
@@ -188,8 +188,8 @@ fn take_prefix<E: Drop, M: Machine<Event = E>>(feeder: &mut Feeder<M>, prefix: &
     }
 }
 
-/// The result of a feeder at the end. A feeder that stopped must return its stop again for each call, whatever it is
-/// fed.
+/// The result of a feeder at the end. A feeder that stopped must return its stop again for each
+/// call, whatever it is fed.
 fn end_of<E: Drop, M: Machine<Event = E>>(
     feeder: &mut Feeder<M>,
     fed: Result<(), Stop>,

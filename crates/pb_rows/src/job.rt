@@ -8,8 +8,9 @@ use pb_text::write_bytes;
 use pb_words::{Job, Selection, WordsFault, read_words};
 use std::alloc::Global;
 
-/// Reads the lines of the input as the words of a command line. Reports the job that they ask for, or else the kind of
-/// the error and the exit status. With `shows=` it also reports whether the error's text has the given word.
+/// Reads the lines of the input as the words of a command line. Reports the job that they ask for,
+/// or else the kind of the error and the exit status. With `shows=` it also reports whether the
+/// error's text has the given word.
 pub(crate) fn run_words(alloc: Global, line: &str, text: &[u8]) -> Result<Done, Broken> {
     let words: Vec<&str> = lines_of(text)?.lines().collect(alloc)?;
     let mut reported = page(alloc);

@@ -11,8 +11,8 @@ use pb_sums::{write_count, write_number};
 use pb_text::{Limits, write_bytes};
 use std::alloc::Global;
 
-/// Makes a value of the lines of the input, and reports whether it meets the rules. `judge statement` does so for each
-/// line.
+/// Makes a value of the lines of the input, and reports whether it meets the rules.
+/// `judge statement` does so for each line.
 pub(crate) fn run_judge(alloc: Global, call: &Call, text: &[u8]) -> Result<Done, Broken> {
     let limits = call.limits()?;
     let lines = lines_of(text)?;

@@ -42,7 +42,8 @@ const FAILED: u8 = 3;
 /// The word that asks for a line before each row, so that a row that does not end can be found.
 const EACH: &str = "--each";
 
-/// The word that asks for the visits of a proof instead of rows. The files of an instance and of its proof follow it.
+/// The word that asks for the visits of a proof instead of rows. The files of an instance and of
+/// its proof follow it.
 const VISITS: &str = "--visits";
 
 fn main(rt: HostRuntime) -> ExitCode {

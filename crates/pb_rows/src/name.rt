@@ -16,8 +16,9 @@ pub(crate) fn run_names(alloc: Global, text: &[u8]) -> Result<Done, Broken> {
     Ok(answered(alloc, reported))
 }
 
-/// Numbers names. A line `x1` finds the number of the name or gives it one. A line `? x1` only finds it, and `# 0`
-/// finds the name of a number. Reports each result, and finally how many names there are.
+/// Numbers names. A line `x1` finds the number of the name or gives it one. A line `? x1` only
+/// finds it, and `# 0` finds the name of a number. Reports each result, and finally how many names
+/// there are.
 pub(crate) fn run_numbers(alloc: Global, text: &[u8]) -> Result<Done, Broken> {
     let lines = lines_of(text)?;
     let mut reported = page(alloc);

@@ -12,8 +12,8 @@ use pb_proof::ProofMachine;
 use pb_text::{Feeder, Machine, Over, Source, Spanned, Stop, pull};
 use std::alloc::Global;
 
-/// Pulls all events of a text from a reader and writes them. Reports the end, whether one more pull returns the same,
-/// and how many bytes were left to the reader.
+/// Pulls all events of a text from a reader and writes them. Reports the end, whether one more pull
+/// returns the same, and how many bytes were left to the reader.
 pub(crate) fn run_pull(alloc: Global, call: &Call, text: &[u8]) -> Result<Done, Broken> {
     let limits = call.limits()?;
     match call.grammar {

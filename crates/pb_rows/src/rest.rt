@@ -7,7 +7,8 @@ use crate::turns::reader_of;
 use pb_text::{BYTE_LIMIT, Over, rest_is_blank};
 use std::alloc::Global;
 
-/// Reads the input as the rest after the position of the call. Reports its end and how many bytes were left.
+/// Reads the input as the rest after the position of the call. Reports its end and how many bytes
+/// were left.
 pub(crate) fn run_rest(alloc: Global, call: &Call, text: &[u8]) -> Result<Done, Broken> {
     let start = call.rest_start;
     let is_far = start.line > BYTE_LIMIT + 1 || start.column > BYTE_LIMIT + 1;

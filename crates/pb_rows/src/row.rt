@@ -84,7 +84,8 @@ impl<'a> Row<'a> {
         };
     }
 
-    /// Begins a row with a line: its call only, or its call, its input and the lines of its result, separated by ` | `.
+    /// Begins a row with a line: its call only, or its call, its input and the lines of its result,
+    /// separated by ` | `.
     pub(crate) fn begin_line(&mut self, number: u64, line: &'a str) -> Result<(), Broken> {
         let mut parts = line.split(" | ");
         self.begin(number, parts.next().unwrap_or(""));

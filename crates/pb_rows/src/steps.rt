@@ -15,8 +15,8 @@ use pb_tool::ToolFault;
 use std::alloc::Global;
 use std::str::FromStr;
 
-/// The least that a proof has before its `f`; before its steps and its output; before its conclusion; and before its
-/// closing words.
+/// The least that a proof has before its `f`; before its steps and its output; before its
+/// conclusion; and before its closing words.
 const HEADER: &[u8] = b"pseudo-Boolean proof version 2.0\n";
 
 pub const BEFORE_STEPS: &[u8] = b"pseudo-Boolean proof version 2.0\nf\n";
@@ -31,10 +31,10 @@ impl Named for Replay {
     }
 }
 
-/// Steps a replay over the instance through the statements of a proof, whose header is not in the row. With `alone`
-/// each line is read by itself. Writes the constraints that are live at the end, each after its id. Reports the verdict
-/// if there is one, or the first fault. With `visits-least` and `visits-most` it reports whether the visits of the last
-/// `rup` are in that range.
+/// Steps a replay over the instance through the statements of a proof, whose header is not in the
+/// row. With `alone` each line is read by itself. Writes the constraints that are live at the end,
+/// each after its id. Reports the verdict if there is one, or the first fault. With `visits-least`
+/// and `visits-most` it reports whether the visits of the last `rup` are in that range.
 pub(crate) fn run_steps(alloc: Global, call: &Call, text: &[u8]) -> Result<Done, Broken> {
     let (instance, lines) = inputs_of(text)?;
     let mut reported = page(alloc);

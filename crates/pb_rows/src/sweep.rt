@@ -7,8 +7,8 @@ use crate::row::call::{Call, Verb};
 use pb_text::Why;
 use std::alloc::Global;
 
-/// Feeds every proper prefix of a text, or each of them followed by a byte 0. Reports the first that did not stop at
-/// its end, or at that byte.
+/// Feeds every proper prefix of a text, or each of them followed by a byte 0. Reports the first
+/// that did not stop at its end, or at that byte.
 pub(crate) fn run_sweep(alloc: Global, call: &Call, text: &[u8]) -> Result<Done, Broken> {
     for at in 0..text.len() {
         let end = feed_changed(alloc, call, text, at)?;

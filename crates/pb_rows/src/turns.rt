@@ -1,4 +1,5 @@
-//! Rows of `show`, `tidy` and `check`. Each call of a reader or the writer can be made to fail in turn.
+//! Rows of `show`, `tidy` and `check`. Each call of a reader or the writer can be made to fail in
+//! turn.
 
 use crate::broken::Broken;
 use crate::check::run_check;
@@ -15,7 +16,8 @@ const UNWRITTEN: &[u8] = b"output: write fault\nstatus 3\n";
 /// More calls than a row makes.
 const CALLS: u64 = 100_000;
 
-/// How often a reader or a writer was called, and the position after the bytes that a reader has given.
+/// How often a reader or a writer was called, and the position after the bytes that a reader has
+/// given.
 #[derive(Clone, Copy)]
 pub struct Calls {
     count: u64,
@@ -56,7 +58,8 @@ fn place_after(text: &[u8]) -> Place {
     place
 }
 
-/// The output and the result of a run. Also the calls of the reader or the writer that fails in turn.
+/// The output and the result of a run. Also the calls of the reader or the writer that fails in
+/// turn.
 #[derive(Drop)]
 pub struct Run {
     done: Done,
@@ -90,9 +93,9 @@ pub(crate) fn writer_of(alloc: Global, call: &Call) -> FaultyWriter {
     writer
 }
 
-/// Runs a call. Or runs it with each call of a reader or the writer failing in turn, up to the first run that makes no
-/// such call. That run must give what is expected; the others must give the fault, after a prefix of what is expected.
-/// Returns the first run that does not.
+/// Runs a call. Or runs it with each call of a reader or the writer failing in turn, up to the
+/// first run that makes no such call. That run must give what is expected; the others must give the
+/// fault, after a prefix of what is expected. Returns the first run that does not.
 pub(crate) fn run_turns(
     alloc: Global,
     call: &Call,
@@ -137,8 +140,8 @@ fn failing(call: &Call, number: u64) -> Call {
     failing
 }
 
-/// Whether it is the fault at its position, after a prefix of the expected output. If a read fails, only `show` may
-/// have written.
+/// Whether it is the fault at its position, after a prefix of the expected output. If a read fails,
+/// only `show` may have written.
 fn is_fault(alloc: Global, call: &Call, run: &Run, wanted: &Done) -> Result<bool, Broken> {
     let mut reported = page(alloc);
     report_failed(call, run.calls.place, &mut reported)?;

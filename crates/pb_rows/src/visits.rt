@@ -16,8 +16,8 @@ struct Visits {
     visits: u64,
 }
 
-/// Steps a replay of an instance through the statements of a proof, each of which it must accept. Writes the number of
-/// the statements, and the number of visits that their `rup`s took.
+/// Steps a replay of an instance through the statements of a proof, each of which it must accept.
+/// Writes the number of the statements, and the number of visits that their `rup`s took.
 pub(crate) fn write_visits<S: Sink>(
     alloc: Global,
     instance: &[u8],

@@ -107,7 +107,8 @@ fn write_by_id<S: Sink>(id: u64, slack: u128, facts: &Facts<'_>, out: &mut S) ->
     write_slack(slack, out)
 }
 
-/// Writes a slack, and ends the line. That of a clause which forces a literal is 0, and is written whole.
+/// Writes a slack, and ends the line. That of a clause which forces a literal is 0, and is written
+/// whole.
 fn write_slack<S: Sink>(slack: u128, out: &mut S) -> Result<(), Failed>
     ensures { Writes S.contents S.faults out.old (slack_bytes slack) result out.new }
 {

@@ -12,8 +12,8 @@ use pb_tool::{CheckFault, ToolFault, Watch};
 use std::alloc::Global;
 use std::marker::Model;
 
-/// Writes why a statement is rejected, as a `Trace` does after the line of that statement, and nothing else. It stores
-/// what accepted statements add.
+/// Writes why a statement is rejected, as a `Trace` does after the line of that statement, and
+/// nothing else. It stores what accepted statements add.
 #[derive(Drop)]
 pub struct Explained<S> {
     trace: Trace<S>,
@@ -42,7 +42,8 @@ impl<S: Sink> Explained<S> {
         }
     }
 
-    /// Takes what the text of the instance says. The lines of its constraints are shown from then on.
+    /// Takes what the text of the instance says. The lines of its constraints are shown from then
+    /// on.
     pub fn describe(&mut self, text: InstanceText)
         ensures lines { self.new.lines ≡ text.lines.items }
         ensures out { self.new.out ≡ self.old.out }
@@ -59,7 +60,8 @@ impl<S: Sink> Explained<S> {
         self.trace.into_out()
     }
 
-    /// Whether all reasons were written. Otherwise memory ran out, or the output could not be written.
+    /// Whether all reasons were written. Otherwise memory ran out, or the output could not be
+    /// written.
     pub fn end(&self) -> Result<(), ToolFault>
         ensures { result ≡ self.now.end }
     {

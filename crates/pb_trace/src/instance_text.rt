@@ -6,10 +6,12 @@ use pb_sums::Term;
 use pb_text::Sequence;
 use std::alloc::Global;
 
-/// What the text of an instance says beside its constraints. A trace shows it, and checks nothing by it.
+/// What the text of an instance says beside its constraints. A trace shows it, and checks nothing
+/// by it.
 #[derive(Drop)]
 pub struct InstanceText {
-    /// The line in which each loaded constraint begins, counted from 1. Both of an equality have its line.
+    /// The line in which each loaded constraint begins, counted from 1. Both of an equality have
+    /// its line.
     pub lines: Vec<u64>,
     /// How many constraints are written, or 0 if that is not known.
     pub written: u64,

@@ -1,4 +1,5 @@
-//! What a check shows on the way: a trace of its statements with the reasons of a rejection, and counts.
+//! What a check shows on the way: a trace of its statements with the reasons of a rejection, and
+//! counts.
 #![tactic(auto)]
 
 mod broken;

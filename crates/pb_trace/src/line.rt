@@ -22,8 +22,8 @@ impl Named for Replay {
     }
 }
 
-/// Writes the line of an accepted statement, with the constraints after an id. What the statement deletes is deleted
-/// from the stored constraints.
+/// Writes the line of an accepted statement, with the constraints after an id. What the statement
+/// deletes is deleted from the stored constraints.
 pub(crate) fn write_line<S: Sink>(
     style: Style<'_>,
     read: &Spanned<Statement>,
@@ -43,7 +43,8 @@ pub(crate) fn write_line<S: Sink>(
     Ok(())
 }
 
-/// What a trace writes before each constraint that a statement adds. Those of `f` are on lines of their own.
+/// What a trace writes before each constraint that a statement adds. Those of `f` are on lines of
+/// their own.
 fn arrow_of(statement: &Statement) -> &'static [u8]
     ensures { result.now ≡ arrow_of statement.now }
 {
@@ -155,8 +156,8 @@ fn write_deleted<S: Sink>(
     Ok(())
 }
 
-/// Deletes a stored constraint by its id, in a line of the proof, and writes it. If there is no such constraint, it does
-/// nothing.
+/// Deletes a stored constraint by its id, in a line of the proof, and writes it. If there is no
+/// such constraint, it does nothing.
 fn write_deletion<S: Sink>(
     style: Style<'_>,
     id: i64,

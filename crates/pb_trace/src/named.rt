@@ -10,7 +10,8 @@ use crate::stored::Stored;
 use crate::write::{line_of, write_change, write_numbered_arrow};
 use pb_text::{Failed, Sink, write_bytes};
 
-/// Writes an id and its stored constraint after an arrow, with the lines where that was added and deleted.
+/// Writes an id and its stored constraint after an arrow, with the lines where that was added and
+/// deleted.
 pub(crate) fn write_named<S: Sink>(
     arrow: &[u8],
     id: u64,

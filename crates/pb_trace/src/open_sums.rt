@@ -5,9 +5,9 @@ use crate::uses::{Use, Uses};
 use pb_normal::Normal;
 use std::alloc::{AllocError, Global};
 
-/// For the negation and then each stored constraint, how much of it may still be falsified before it can force a
-/// literal: its open sum, after the literals that were followed, without its degree and its largest coefficient. Only
-/// below 0 it can force one.
+/// For the negation and then each stored constraint, how much of it may still be falsified before
+/// it can force a literal: its open sum, after the literals that were followed, without its degree
+/// and its largest coefficient. Only below 0 it can force one.
 #[derive(Drop)]
 pub(crate) struct OpenSums {
     margins: Vec<i128>,
@@ -31,8 +31,8 @@ impl OpenSums {
         Ok(OpenSums { margins })
     }
 
-    /// Lowers the open sum of a constraint of which a literal was falsified, and returns whether it can force a literal
-    /// then.
+    /// Lowers the open sum of a constraint of which a literal was falsified, and returns whether it
+    /// can force a literal then.
     pub(crate) fn lower(&mut self, found: Use) -> bool {
         match self.margins.get_mut(found.reason.position()) {
             Some(margin) => {
@@ -59,7 +59,8 @@ impl OpenSums {
 }
 
 impl Reason {
-    /// The position of the constraint that it names among the negation and then the stored constraints.
+    /// The position of the constraint that it names among the negation and then the stored
+    /// constraints.
     fn position(self) -> usize {
         match self {
             Reason::Given | Reason::Negation => 0,
@@ -68,8 +69,8 @@ impl Reason {
     }
 }
 
-/// The sum of the coefficients of a constraint, without its degree and its largest coefficient. It is 0 for one that
-/// does not propagate.
+/// The sum of the coefficients of a constraint, without its degree and its largest coefficient. It
+/// is 0 for one that does not propagate.
 fn margin_of(form: Option<&Normal>) -> i128 {
     let Some(form) = form else {
         return 0;

@@ -15,7 +15,8 @@ pub(crate) enum Piece {
     Number(i128),
     /// The literal of the variable with this number, and whether it is negated.
     Literal(usize, bool),
-    /// The constraint with this id, live or deleted, after its id. Where it was added and deleted follows.
+    /// The constraint with this id, live or deleted, after its id. Where it was added and deleted
+    /// follows.
     Constraint(u64),
     /// A constraint that has no id.
     Form(Normal),
@@ -23,7 +24,8 @@ pub(crate) enum Piece {
     Word(usize),
 }
 
-/// Lines, each without the two spaces before it and the line feed. The parts of all are in one list.
+/// Lines, each without the two spaces before it and the line feed. The parts of all are in one
+/// list.
 #[derive(Drop)]
 pub(crate) struct Lines {
     pub(crate) pieces: Vec<Piece>,
@@ -31,7 +33,8 @@ pub(crate) struct Lines {
     pub(crate) ends: Vec<usize>,
 }
 
-/// Literals that became true, in order: given ones, and those that a negation and stored constraints then force.
+/// Literals that became true, in order: given ones, and those that a negation and stored
+/// constraints then force.
 #[derive(Drop)]
 pub(crate) struct Derivation {
     pub(crate) negation: Option<Normal>,

@@ -49,7 +49,8 @@ pub(crate) struct Base<'a> {
     pub(crate) over: Over,
 }
 
-/// A propagation: the values of the variables, and the literals in the order in which they became true.
+/// A propagation: the values of the variables, and the literals in the order in which they became
+/// true.
 #[derive(Drop)]
 pub(crate) struct Propagation {
     values: Vec<Option<bool>>,
@@ -115,8 +116,8 @@ impl Propagation {
         })
     }
 
-    /// What propagates with nothing given. Each literal follows from those before it by the constraint that its reason
-    /// names.
+    /// What propagates with nothing given. Each literal follows from those before it by the
+    /// constraint that its reason names.
     pub(crate) fn from_nothing(
         alloc: Global,
         variables: usize,
@@ -172,7 +173,8 @@ impl Propagation {
         }
     }
 
-    /// Propagates from the literals so far, until nothing more follows or a constraint is falsified.
+    /// Propagates from the literals so far, until nothing more follows or a constraint is
+    /// falsified.
     pub(crate) fn propagate(&mut self, base: Base<'_>, uses: &Uses) -> Result<(), AllocError>
         ensures { OnOk result (KeepsOver base.entry self.old self.new) }
     {
@@ -184,7 +186,8 @@ impl Propagation {
         self.follow(0, base, uses)
     }
 
-    /// Whether the literals so far and one more propagate to a conflict. It leaves the propagation as it was.
+    /// Whether the literals so far and one more propagate to a conflict. It leaves the propagation
+    /// as it was.
     pub(crate) fn conflicts_with(
         &mut self,
         forced: Forced,
@@ -199,7 +202,8 @@ impl Propagation {
         Ok(conflicts)
     }
 
-    /// Takes back all literals but the first ones, up to a count, which were followed, and a conflict.
+    /// Takes back all literals but the first ones, up to a count, which were followed, and a
+    /// conflict.
     fn undo(&mut self, count: usize, uses: &Uses) {
         for next in count..self.followed {
             if let Some(forced) = self.forced.get(next) {
@@ -218,7 +222,8 @@ impl Propagation {
         self.conflict = None;
     }
 
-    /// Visits what the literals falsify in part that became true, in their order from one on, until nothing more follows.
+    /// Visits what the literals falsify in part that became true, in their order from one on, until
+    /// nothing more follows.
     fn follow(&mut self, first: usize, base: Base<'_>, uses: &Uses) -> Result<(), AllocError>
         ensures { OnOk result (KeepsOver base.entry self.old self.new) }
     {

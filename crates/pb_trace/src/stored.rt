@@ -54,7 +54,8 @@ impl Constraints {
         Ok(())
     }
 
-    /// Stores a copy of a constraint. Without one, it stores one that always holds, as a deleted one.
+    /// Stores a copy of a constraint. Without one, it stores one that always holds, as a deleted
+    /// one.
     fn store(&mut self, form: Option<&Normal>, line: u64) -> Result<(), Broken>
         ensures ok { OnOk result
             (stored_in self.new ≡ stored_in self.old ++ option_copied form.entry ∷ []) }
@@ -131,7 +132,8 @@ impl Constraints {
         }
     }
 
-    /// The id of the constraint, live or deleted, that an id as it is written means, or 0 if there is none.
+    /// The id of the constraint, live or deleted, that an id as it is written means, or 0 if there
+    /// is none.
     pub(crate) fn number_of(&self, id: i64) -> u64 {
         let index = self.index_of(id);
         if index < self.newest() { index + 1 } else { 0 }
@@ -145,7 +147,8 @@ impl Constraints {
         }
     }
 
-    /// The index of the constraint with an id as it is written, or the number of constraints if there is none.
+    /// The index of the constraint with an id as it is written, or the number of constraints if
+    /// there is none.
     fn index_of(&self, id: i64) -> u64
         ensures { result ≡ place (length self.now.forms.items) id }
     {
@@ -186,7 +189,8 @@ impl Constraints {
         }
     }
 
-    /// Deletes a constraint by its id as it is written, in a line. If there is no such constraint, it does nothing.
+    /// Deletes a constraint by its id as it is written, in a line. If there is no such constraint,
+    /// it does nothing.
     fn delete_written(&mut self, id: i64, line: u64)
         ensures { stored_in self.new ≡ without (stored_in self.old) id }
     {

@@ -22,9 +22,10 @@ use pb_tool::{CheckFault, Input, ToolFault, Watch};
 use std::alloc::Global;
 use std::marker::Model;
 
-/// Writes a line for each accepted statement: its position, its canonical text, and each constraint that it adds, as in
-/// `3:1 pol 1 2 + -> 3: >= 1 ;`. `f` and `del id` have a line for each constraint, and `soli` ends with the best value so
-/// far. If a statement is rejected, further lines say why. Each of these begins with two spaces.
+/// Writes a line for each accepted statement: its position, its canonical text, and each constraint
+/// that it adds, as in `3:1 pol 1 2 + -> 3: >= 1 ;`. `f` and `del id` have a line for each
+/// constraint, and `soli` ends with the best value so far. If a statement is rejected, further
+/// lines say why. Each of these begins with two spaces.
 #[derive(Drop)]
 pub struct Trace<S> {
     out: S,
@@ -73,7 +74,8 @@ impl<S: Sink> Trace<S> {
         }
     }
 
-    /// Takes what the text of the instance says. The lines of its constraints are shown from then on.
+    /// Takes what the text of the instance says. The lines of its constraints are shown from then
+    /// on.
     pub fn describe(&mut self, text: InstanceText)
         ensures lines { self.new.lines ≡ text.lines.items }
         ensures out { self.new.out ≡ self.old.out }
@@ -91,7 +93,8 @@ impl<S: Sink> Trace<S> {
         self.out
     }
 
-    /// Whether all lines were written. Otherwise memory ran out, or the output could not be written.
+    /// Whether all lines were written. Otherwise memory ran out, or the output could not be
+    /// written.
     pub fn end(&self) -> Result<(), ToolFault>
         ensures { result ≡ self.now.end }
     {
@@ -102,7 +105,8 @@ impl<S: Sink> Trace<S> {
         }
     }
 
-    /// Takes an accepted statement without its line: the reasons of a later rejection need what it adds and deletes.
+    /// Takes an accepted statement without its line: the reasons of a later rejection need what it
+    /// adds and deletes.
     pub fn follow(&mut self, read: &Spanned<Statement>, replay: &Replay)
         ensures { FollowsLine S.contents S.faults self.old read.now replay.now self.new }
     {
@@ -114,8 +118,8 @@ impl<S: Sink> Trace<S> {
         }
     }
 
-    /// Writes why a statement was rejected, without the line of the statement. If memory ran out for it, the statement
-    /// may be right, and nothing is written.
+    /// Writes why a statement was rejected, without the line of the statement. If memory ran out
+    /// for it, the statement may be right, and nothing is written.
     pub fn explain(&mut self, read: &Spanned<Statement>, replay: &Replay, fault: CheckFault)
         ensures { ShowsReasons S.contents S.faults [] self.old read.now replay.now fault self.new }
     {
@@ -240,8 +244,8 @@ impl<S: Sink> Trace<S> {
         Ok(())
     }
 
-    /// Writes the line of a rejected statement, and the reasons. If memory ran out, the statement may be right, and
-    /// nothing is written.
+    /// Writes the line of a rejected statement, and the reasons. If memory ran out, the statement
+    /// may be right, and nothing is written.
     fn write_rejected(
         &mut self,
         read: &Spanned<Statement>,

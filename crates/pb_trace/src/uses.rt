@@ -28,7 +28,8 @@ pub(crate) struct Use {
 }
 
 impl Base<'_> {
-    /// What contains the literals of this many variables: the negation first, and then constraints by their ids.
+    /// What contains the literals of this many variables: the negation first, and then constraints
+    /// by their ids.
     pub(crate) fn uses(self, alloc: Global, variables: usize) -> Result<Uses, AllocError> {
         let mut uses = Uses::new(alloc, variables, self.count_terms())?;
         for index in (0..self.constraints.len()).rev() {

@@ -71,7 +71,8 @@ pub(crate) fn write_change<S: Sink, N: Named>(
     write_form(form, names, out)
 }
 
-/// Writes an id and its constraint after an arrow, with the line of the instance in which it is written.
+/// Writes an id and its constraint after an arrow, with the line of the instance in which it is
+/// written.
 pub(crate) fn write_constraint<S: Sink, N: Named>(
     style: Style<'_>,
     arrow: &[u8],
@@ -160,7 +161,8 @@ pub(crate) fn write_form<S: Sink, N: Named>(
     write_end(form.degree(), out)
 }
 
-/// Writes the end of a form: `>=`, the degree and ` ;`. That of a clause has degree 1, and is written whole.
+/// Writes the end of a form: `>=`, the degree and ` ;`. That of a clause has degree 1, and is
+/// written whole.
 fn write_end<S: Sink>(degree: i128, out: &mut S) -> Result<(), Failed>
     ensures { Writes S.contents S.faults out.old (end_bytes degree) result out.new }
 {
@@ -201,7 +203,8 @@ fn write_entry<S: Sink, N: Named>(entry: &Entry, names: &N, out: &mut S) -> Resu
     write_bytes(b" ", out)
 }
 
-/// Writes a coefficient after `+`, and a space. That of each literal of a clause is 1, so this one is written whole.
+/// Writes a coefficient after `+`, and a space. That of each literal of a clause is 1, so this one
+/// is written whole.
 fn write_coefficient<S: Sink>(coefficient: u128, out: &mut S) -> Result<(), Failed>
     requires { coefficient < 2 ^ 127 }
     ensures { Writes S.contents S.faults out.old

@@ -41,7 +41,8 @@ pub(crate) fn foreign(first: &[u8], is_proof: bool) -> Option<Hint> {
     Some(Hint::Foreign(advice))
 }
 
-/// What the first line of a proof is that begins with these bytes, if it is the header of another version, or a clause.
+/// What the first line of a proof is that begins with these bytes, if it is the header of another
+/// version, or a clause.
 fn foreign_proof(first: &[u8]) -> Option<Hint> {
     let text = str::from_utf8(first).ok()?;
     let mut words = text.split_whitespace();

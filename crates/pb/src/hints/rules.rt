@@ -13,7 +13,8 @@ const OUTSIDE: &str = "no script rewrites it";
 const DROPPED: &str =
     "the hints of rup are not read; pb-pbp2profile (in a clone contrib/pbp2profile) drops them";
 
-/// The hint for a line of a proof that begins with these bytes, and that was rejected after the bytes `before`.
+/// The hint for a line of a proof that begins with these bytes, and that was rejected after the
+/// bytes `before`.
 pub(crate) fn rule_hint(line: &[u8], before: &[u8]) -> Option<Hint> {
     let text = str::from_utf8(line).ok()?;
     let mut words = text.lines().next()?.split_whitespace();

@@ -10,8 +10,8 @@ use crate::transition::transition;
 use pb_sums::{Part, linear_at};
 
 impl OpbMachine {
-    /// Takes a whole constraint at the start of a piece, if one may begin and it is fast to read. It returns the index
-    /// of its `;`, and the event.
+    /// Takes a whole constraint at the start of a piece, if one may begin and it is fast to read.
+    /// It returns the index of its `;`, and the event.
     pub(super) fn take_constraint(&mut self, piece: &[u8]) -> Option<(usize, OpbEvent)>
         ensures { TakesStatement opb self.old piece.now result self.new }
     {

@@ -2,7 +2,8 @@
 
 use crate::row::call::Verb;
 
-/// Whether a call accepts a word with this key. A word of another call is an error, so that none is silently ignored.
+/// Whether a call accepts a word with this key. A word of another call is an error, so that none is
+/// silently ignored.
 pub(crate) fn accepts(verb: Verb, key: &str) -> bool {
     match key {
         "same" => true,

@@ -151,8 +151,8 @@ pub(crate) fn call_of(line: &str) -> Result<Call, Broken> {
     Ok(call)
 }
 
-/// Sets what a word after the verb says, if the call accepts it. A word that is left to the rows of the verb sets
-/// nothing.
+/// Sets what a word after the verb says, if the call accepts it. A word that is left to the rows of
+/// the verb sets nothing.
 fn take_word(call: &mut Call, word: &str) -> Result<(), Broken> {
     if is_left(call.verb, word) {
         return Ok(());

@@ -3,7 +3,8 @@
 use crate::broken::Broken;
 use itoa::Buffer;
 
-/// Adds the bytes of a line, and a line feed unless the line ends in a `\`. A blank at its start is skipped.
+/// Adds the bytes of a line, and a line feed unless the line ends in a `\`. A blank at its start is
+/// skipped.
 pub(crate) fn add_line(bytes: &mut Vec<u8>, line: &str) -> Result<(), Broken> {
     let line = line.strip_prefix(' ').unwrap_or(line);
     match line.strip_suffix('\\') {
@@ -46,8 +47,8 @@ fn add_group(bytes: &mut Vec<u8>, group: &str) -> Result<(), Broken> {
     Ok(())
 }
 
-/// Adds the bytes of a text without groups, in which `\#` is the number of the turn, counted from 0, and `\+` the next
-/// number.
+/// Adds the bytes of a text without groups, in which `\#` is the number of the turn, counted from
+/// 0, and `\+` the next number.
 fn add_turn(bytes: &mut Vec<u8>, text: &str, turn: u32) -> Result<(), Broken> {
     let mut parts = text.split('\\');
     if let Some(part) = parts.next() {
@@ -72,8 +73,8 @@ fn add_number(bytes: &mut Vec<u8>, number: u32, rest: &str) -> Result<(), Broken
     Ok(())
 }
 
-/// Adds the text after a `\`: `t`, `r`, `n`, `s` for a tab, a return, a line feed and a `\`, or two hexadecimal digits
-/// of a byte.
+/// Adds the text after a `\`: `t`, `r`, `n`, `s` for a tab, a return, a line feed and a `\`, or two
+/// hexadecimal digits of a byte.
 fn add_escaped(bytes: &mut Vec<u8>, part: &str) -> Result<(), Broken> {
     let (code, rest) = match part.split_at_checked(2) {
         Some(pair) => pair,

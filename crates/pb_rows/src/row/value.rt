@@ -8,8 +8,8 @@ use pb_text::{Bytes, Sequence};
 use std::alloc::Global;
 use std::str::FromStr;
 
-/// The instance of lines `variables N`, `tail BYTES`, `objective`, `comment BEFORE BYTES` and `constraint COEFFICIENT
-/// DEGREE` on the name `x1`. Bytes are given by their hexadecimal digits.
+/// The instance of lines `variables N`, `tail BYTES`, `objective`, `comment BEFORE BYTES` and
+/// `constraint COEFFICIENT DEGREE` on the name `x1`. Bytes are given by their hexadecimal digits.
 pub(crate) fn instance_of(alloc: Global, lines: &str) -> Result<Instance, Broken> {
     let mut instance = Instance {
         variables: 0,

@@ -27,7 +27,8 @@ impl Scene<'_> {
         self.say_contradictions()
     }
 
-    /// The constraint with an id as it is written, and what a contradiction with its terms would be.
+    /// The constraint with an id as it is written, and what a contradiction with its terms would
+    /// be.
     fn say_named(&mut self, id: i64) -> Result<(), AllocError> {
         let Some((found, form)) = self.constraints.find_written(id) else {
             return Ok(());
@@ -137,7 +138,8 @@ impl Scene<'_> {
         })
     }
 
-    /// Whether the constraint with an id is a contradiction, or its sum with the negation of a goal is one.
+    /// Whether the constraint with an id is a contradiction, or its sum with the negation of a goal
+    /// is one.
     fn is_refuted(&self, id: Option<i64>, goal: &Normal) -> Result<bool, AllocError> {
         let Some(id) = id else {
             return Ok(false);

@@ -78,8 +78,8 @@ impl Scene<'_> {
         Ok(())
     }
 
-    /// The literals with which, as a further one, a clause would be implied. Those of the constraints nearest to a
-    /// conflict come first.
+    /// The literals with which, as a further one, a clause would be implied. Those of the
+    /// constraints nearest to a conflict come first.
     pub(crate) fn say_lacking(
         &mut self,
         propagation: &mut Propagation,
@@ -172,8 +172,8 @@ fn is_lacking(
     propagation.conflicts_with(forced, base, uses)
 }
 
-/// How near a constraint came to a conflict, if a literal of it is open and it is not satisfied: its slack over the least
-/// coefficient of an open literal.
+/// How near a constraint came to a conflict, if a literal of it is open and it is not satisfied:
+/// its slack over the least coefficient of an open literal.
 fn near_of(propagation: &Propagation, form: &Normal, id: u64) -> Option<Near> {
     let degree = form.degree().unsigned_abs();
     let (mut sum, mut open_sum, mut open, mut least) = (0u128, 0u128, 0usize, u128::MAX);

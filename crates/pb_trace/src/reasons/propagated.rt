@@ -23,7 +23,8 @@ impl<'a> Scene<'a> {
         }
     }
 
-    /// What the negation of a written goal propagates, if the goal is within the limits and does not always hold.
+    /// What the negation of a written goal propagates, if the goal is within the limits and does
+    /// not always hold.
     fn derivation_of_written(&mut self, goal: &Linear) -> Result<Option<Derivation>, AllocError>
         ensures { IfOk result (IsDerivationIn self.old goal.now) }
     {
@@ -34,7 +35,8 @@ impl<'a> Scene<'a> {
         Ok(found)
     }
 
-    /// What the negation of a goal propagates, if the goal does not always hold. Lines say what came nearest to a conflict.
+    /// What the negation of a goal propagates, if the goal does not always hold. Lines say what
+    /// came nearest to a conflict.
     fn derivation_of(&mut self, goal: &Normal) -> Result<Option<Derivation>, AllocError>
         ensures { IfOk result (IsDerivationBy goal.now self.old.constraints.now) }
     {
