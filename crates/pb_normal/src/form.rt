@@ -1,11 +1,11 @@
 //! Normal forms.
 
 ghost use Rattle.std.specs.Prelude.{◌≡◌, ◌<◌, ◌^◌, ◌↔◌, [], pos, IfOk, IfErr, length, IsTrue, All};
-ghost use Rattle.pb_normal.specs.meaning.Form.{IsNormal, ReadsTerm, counted, total, each, size, true_at, Holds};
+ghost use Rattle.pb_normal.specs.meaning.Form.{IsNormal, ReadsTerm, total, each, size, Holds};
 ghost use Rattle.pb_normal.specs.meaning.Rules.{IsContradiction, assignment};
 
+use crate::choice::{Each, TrueAt, total_of};
 use crate::entries::Entries;
-use crate::entry::Entry;
 use crate::fault::NormalFault;
 use crate::terms::{Stored, Terms};
 use std::alloc::AllocError;
@@ -134,12 +134,7 @@ impl Normal {
         requires { All (λ t. t.variable < length values.now) self.now.terms }
         ensures { IsTrue result ↔ Holds (assignment values.now) self.now }
     {
-        let mut sum = 0;
-        'terms: for i in 0..self.terms.len() {
-            let t = self.terms.get(i);
-            sum += counted(t, values);
-        }
-        sum >= self.degree
+        total_of(&self.terms, &TrueAt { values }) >= self.degree
     }
 
     /// Whether its degree exceeds the sum of its coefficients, so that it holds nowhere.
@@ -150,18 +145,6 @@ impl Normal {
     }
 }
 
-// The coefficient of a term if its literal is true, and 0 otherwise.
-fn counted(term: Entry, values: &[bool]) -> u128
-    requires { term.variable < length values.now }
-    ensures { result ≡ counted (true_at (assignment values.now)) term }
-{
-    if values[term.variable] != term.negated {
-        term.coefficient
-    } else {
-        0
-    }
-}
-
 // The sum of the coefficients.
 pub(crate) fn size_of(terms: &Terms) -> u128
     requires { total each terms.now < 2 ^ 128 }
@@ -169,18 +152,6 @@ pub(crate) fn size_of(terms: &Terms) -> u128
 {
     match &terms.stored {
         Stored::Codes(codes) => codes.len() as u128,
-        Stored::Wide(list) => size_of_list(list.as_slice()),
+        _ => total_of(terms, &Each {}),
     }
-}
-
-// The same of a list.
-fn size_of_list(terms: &[Entry]) -> u128
-    requires { total each terms.now < 2 ^ 128 }
-    ensures { result ≡ total each terms.now }
-{
-    let mut sum = 0;
-    for t in terms {
-        sum += t.coefficient;
-    }
-    sum
 }

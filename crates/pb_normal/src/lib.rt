@@ -1,7 +1,9 @@
 //! Normal forms of linear constraints, and the rules of cutting planes on them.
 #![tactic(auto)]
 
+mod choice;
 mod code;
+mod coded_term;
 mod collect;
 mod constraints;
 mod entries;

@@ -2,9 +2,8 @@
 
 ghost use Rattle.std.specs.Prelude.{◌≡◌, ◌<◌, ◌≤◌, ◌++◌, List, IfOk, drop, length, get_or, map};
 ghost use Rattle.pb_normal.specs.declared.entry.Entry.{Entry};
-ghost use Rattle.pb_normal.specs.engine.Codes.{decoded};
 
-use crate::code::{append_decoded, decoded};
+use crate::code::{Coded, append_decoded};
 use crate::entry::Entry;
 use std::alloc::AllocError;
 
@@ -29,8 +28,8 @@ pub(crate) trait Listed {
         ensures { IfOk result (λ _. out.new.items ≡ out.old.items ++ drop from (entries self.now)) };
 }
 
-impl Listed for Vec<u32> {
-    ghost entries = { λ codes. map decoded codes.items };
+impl<T: Coded + Copy> Listed for Vec<T> {
+    ghost entries = { λ codes. map T.term codes.items };
 
     #[inline]
     fn count(&self) -> usize {
@@ -39,7 +38,7 @@ impl Listed for Vec<u32> {
 
     #[inline]
     fn at(&self, index: usize) -> Entry {
-        decoded(self[index])
+        self[index].entry()
     }
 
     fn append_rest(&self, from: usize, out: &mut Vec<Entry>) -> Result<(), AllocError> {

@@ -60,6 +60,7 @@ pub(crate) fn merged(
 {
     match &left.stored {
         Stored::Codes(codes) => merged_with(alloc, codes, right),
+        Stored::Narrow(terms) => merged_with(alloc, terms, right),
         Stored::Wide(terms) => merged_with(alloc, terms, right),
     }
 }
@@ -79,6 +80,7 @@ fn merged_with<L: Listed>(
 {
     match &right.stored {
         Stored::Codes(codes) => merged_lists(alloc, left, codes),
+        Stored::Narrow(terms) => merged_lists(alloc, left, terms),
         Stored::Wide(terms) => merged_lists(alloc, left, terms),
     }
 }
@@ -135,6 +137,7 @@ pub(crate) fn cancelled(left: &Terms, right: &Terms) -> u128
 {
     match &left.stored {
         Stored::Codes(codes) => cancelled_with(codes, right),
+        Stored::Narrow(terms) => cancelled_with(terms, right),
         Stored::Wide(terms) => cancelled_with(terms, right),
     }
 }
@@ -149,6 +152,7 @@ fn cancelled_with<L: Listed>(left: &L, right: &Terms) -> u128
 {
     match &right.stored {
         Stored::Codes(codes) => cancelled_in_lists(left, codes),
+        Stored::Narrow(terms) => cancelled_in_lists(left, terms),
         Stored::Wide(terms) => cancelled_in_lists(left, terms),
     }
 }

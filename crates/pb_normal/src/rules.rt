@@ -5,14 +5,16 @@ ghost use Rattle.std.specs.Int.{div_ceil};
 ghost use Rattle.std.specs.Int.RustNames.{unsigned_abs};
 ghost use Rattle.pb_text.specs.meaning.Limits.{largest};
 ghost use Rattle.pb_normal.specs.engine.Adds.{SumFits};
-ghost use Rattle.pb_normal.specs.meaning.Form.{IsNormal, IsRising, IsWithin, Follows, FollowsBoth, IsOpposite, counted, each, total};
-ghost use Rattle.pb_normal.specs.meaning.Rules.{IsSum, Passes, SumPasses, SumMeasures, SumIsContradiction, multiplied, divided, saturated, weakened, axiom_on, negation_of, with_coefficient, of_variable, opposite};
+ghost use Rattle.pb_normal.specs.meaning.Form.{IsNormal, IsRising, IsWithin, Follows, FollowsBoth, IsOpposite};
+ghost use Rattle.pb_normal.specs.meaning.Rules.{IsSum, Passes, SumPasses, SumMeasures, SumIsContradiction, multiplied, divided, saturated, weakened, axiom_on, negation_of, with_coefficient, opposite};
 
+use crate::choice::{OnVariable, total_of};
 use crate::entry::Entry;
 use crate::fault::NormalFault;
 use crate::form::{Normal, size_of};
+use crate::listed::Listed;
 use crate::merge::{cancelled, merged};
-use crate::terms::Terms;
+use crate::terms::{Stored, Terms};
 use pb_text::Limits;
 use std::alloc::{AllocError, Global};
 
@@ -154,7 +156,7 @@ impl Normal {
         ensures memory { IfErr result (λ e. e ≡ NormalFault.Memory) }
     {
         let terms = terms_without(self.terms.allocator(), &self.terms, variable)?;
-        let dropped = coefficients_on(&self.terms, variable);
+        let dropped = total_of(&self.terms, &OnVariable { variable });
         let degree = self.degree.saturating_sub(dropped);
         Ok(Normal {
             terms: Terms::wide(terms),
@@ -215,16 +217,28 @@ fn measures_of_sum(left: &Normal, right: &Normal) -> (u128, u128)
     (sizes - 2 * gone, degrees.saturating_sub(gone))
 }
 
-// Three lists below have room for all terms from the start, so each is allocated once.
+// The functions below choose once how terms are read. Each list has room for all terms from the start.
 
 fn multiplied_terms(alloc: Global, terms: &Terms, k: u128) -> Result<Vec<Entry>, AllocError>
     requires { All (λ t. t.coefficient * k < 2 ^ 128) terms.now }
     ensures { IfOk result (λ v.
         v.items ≡ map (λ t. with_coefficient t (t.coefficient * k)) terms.now) }
 {
-    let mut out = Vec::with_capacity(alloc, terms.len())?;
-    'terms: for i in 0..terms.len() {
-        let t = terms.get(i);
+    match &terms.stored {
+        Stored::Codes(codes) => multiplied_list(alloc, codes, k),
+        Stored::Narrow(terms) => multiplied_list(alloc, terms, k),
+        Stored::Wide(terms) => multiplied_list(alloc, terms, k),
+    }
+}
+
+fn multiplied_list<L: Listed>(alloc: Global, terms: &L, k: u128) -> Result<Vec<Entry>, AllocError>
+    requires { All (λ t. t.coefficient * k < 2 ^ 128) (L.entries terms.now) }
+    ensures { IfOk result (λ v.
+        v.items ≡ map (λ t. with_coefficient t (t.coefficient * k)) (L.entries terms.now)) }
+{
+    let mut out = Vec::with_capacity(alloc, terms.count())?;
+    'terms: for i in 0..terms.count() {
+        let t = terms.at(i);
         out.push(Entry {
             coefficient: t.coefficient * k,
             ..t
@@ -285,44 +299,51 @@ fn saturate_all(terms: &mut Vec<Entry>, degree: u128)
 fn opposite_terms(alloc: Global, terms: &Terms) -> Result<Vec<Entry>, AllocError>
     ensures { IfOk result (λ v. v.items ≡ map opposite terms.now) }
 {
-    let mut out = Vec::with_capacity(alloc, terms.len())?;
-    out.extend(
-        terms.iter().map(|t| Entry {
+    match &terms.stored {
+        Stored::Codes(codes) => opposite_list(alloc, codes),
+        Stored::Narrow(terms) => opposite_list(alloc, terms),
+        Stored::Wide(terms) => opposite_list(alloc, terms),
+    }
+}
+
+fn opposite_list<L: Listed>(alloc: Global, terms: &L) -> Result<Vec<Entry>, AllocError>
+    ensures { IfOk result (λ v. v.items ≡ map opposite (L.entries terms.now)) }
+{
+    let mut out = Vec::with_capacity(alloc, terms.count())?;
+    'terms: for i in 0..terms.count() {
+        let t = terms.at(i);
+        out.push(Entry {
             negated: !t.negated,
             ..t
-        }),
-    )?;
+        })?;
+    }
     Ok(out)
 }
 
 fn terms_without(alloc: Global, terms: &Terms, variable: usize) -> Result<Vec<Entry>, AllocError>
     ensures { IfOk result (λ v. v.items ≡ filter (λ t. not (t.variable == variable)) terms.now) }
 {
-    let mut out = Vec::with_capacity(alloc, terms.len())?;
-    out.extend(terms.iter().filter(|t| t.variable != variable))?;
+    match &terms.stored {
+        Stored::Codes(codes) => list_without(alloc, codes, variable),
+        Stored::Narrow(terms) => list_without(alloc, terms, variable),
+        Stored::Wide(terms) => list_without(alloc, terms, variable),
+    }
+}
+
+fn list_without<L: Listed>(
+    alloc: Global,
+    terms: &L,
+    variable: usize,
+) -> Result<Vec<Entry>, AllocError>
+    ensures { IfOk result (λ v.
+        v.items ≡ filter (λ t. not (t.variable == variable)) (L.entries terms.now)) }
+{
+    let mut out = Vec::with_capacity(alloc, terms.count())?;
+    'terms: for i in 0..terms.count() {
+        let t = terms.at(i);
+        if t.variable != variable {
+            out.push(t)?;
+        }
+    }
     Ok(out)
-}
-
-// The coefficient of a term on a variable or on its negation, and 0 for a term on another.
-fn coefficient_on(term: Entry, variable: usize) -> u128
-    ensures { result ≡ counted (of_variable variable) term }
-{
-    if term.variable == variable {
-        term.coefficient
-    } else {
-        0
-    }
-}
-
-// The sum of the coefficients on a variable and on its negation.
-fn coefficients_on(terms: &Terms, variable: usize) -> u128
-    requires { total each terms.now < 2 ^ 127 }
-    ensures { result ≡ total (of_variable variable) terms.now }
-{
-    let mut sum = 0;
-    'terms: for i in 0..terms.len() {
-        let t = terms.get(i);
-        sum += coefficient_on(t, variable);
-    }
-    sum
 }

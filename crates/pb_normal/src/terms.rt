@@ -1,12 +1,13 @@
 //! The terms of a form. Where they allow it, they are stored in little memory.
 
-ghost use Rattle.std.specs.Prelude.{◌≡◌, ◌<◌, ◌≤◌, ◌++◌, All, true, false, IfOk, drop, length, get_or};
-ghost use Rattle.pb_normal.specs.engine.Codes.{IsUnit};
+ghost use Rattle.std.specs.Prelude.{◌≡◌, ◌<◌, true, false, IfOk, length, get_or};
 ghost use Rattle.pb_normal.specs.engine.Compact.{entries_of};
 
-use crate::code::{append_decoded, codes_of, decoded, has_code};
+use crate::code::{can_store_all, coded_all, decoded_all};
+use crate::coded_term::CodedTerm;
 use crate::entries::Entries;
 use crate::entry::Entry;
+use crate::listed::Listed;
 use std::alloc::{AllocError, Global};
 use std::marker::Model;
 
@@ -15,6 +16,8 @@ use std::marker::Model;
 pub(crate) enum Stored {
     /// The codes of the literals of terms with coefficient 1: twice the variable, and 1 more if it is negated.
     Codes(Vec<u32>),
+    /// The same codes, each with a coefficient that fits 64 bits.
+    Narrow(Vec<CodedTerm>),
     /// Any terms.
     Wide(Vec<Entry>),
 }
@@ -49,6 +52,7 @@ impl Terms {
     pub(crate) fn allocator(&self) -> Global {
         match &self.stored {
             Stored::Codes(codes) => *codes.allocator(),
+            Stored::Narrow(terms) => *terms.allocator(),
             Stored::Wide(terms) => *terms.allocator(),
         }
     }
@@ -60,6 +64,7 @@ impl Terms {
     {
         match &self.stored {
             Stored::Codes(codes) => codes.len(),
+            Stored::Narrow(terms) => terms.len(),
             Stored::Wide(terms) => terms.len(),
         }
     }
@@ -71,8 +76,9 @@ impl Terms {
         ensures read { (d : Entry) → result ≡ get_or self.now index d }
     {
         match &self.stored {
-            Stored::Codes(codes) => decoded(codes[index]),
-            Stored::Wide(terms) => terms[index],
+            Stored::Codes(codes) => codes.at(index),
+            Stored::Narrow(terms) => terms.at(index),
+            Stored::Wide(terms) => terms.at(index),
         }
     }
 
@@ -87,12 +93,11 @@ impl Terms {
     pub(crate) fn to_entries(&self) -> Result<Vec<Entry>, AllocError>
         ensures same { IfOk result (λ r. r.items ≡ self.now) }
     {
-        let mut out = Vec::with_capacity(self.allocator(), self.len())?;
         match &self.stored {
-            Stored::Codes(codes) => append_decoded(codes.as_slice(), &mut out)?,
-            Stored::Wide(terms) => out.extend_from_slice(terms.as_slice())?,
+            Stored::Codes(codes) => decoded_all(*codes.allocator(), codes.as_slice()),
+            Stored::Narrow(terms) => decoded_all(*terms.allocator(), terms.as_slice()),
+            Stored::Wide(terms) => copied(terms),
         }
-        Ok(out)
     }
 
     /// A list of the same terms. If they are stored in one, it is this.
@@ -100,11 +105,8 @@ impl Terms {
         ensures same { IfOk result (λ r. r.items ≡ self) }
     {
         match self.stored {
-            Stored::Codes(codes) => {
-                let mut out = Vec::with_capacity(*codes.allocator(), codes.len())?;
-                append_decoded(codes.as_slice(), &mut out)?;
-                Ok(out)
-            }
+            Stored::Codes(codes) => decoded_all(*codes.allocator(), codes.as_slice()),
+            Stored::Narrow(terms) => decoded_all(*terms.allocator(), terms.as_slice()),
             Stored::Wide(terms) => Ok(terms),
         }
     }
@@ -114,16 +116,9 @@ impl Terms {
         ensures same { IfOk result (λ r. r ≡ self.now) }
     {
         let stored = match &self.stored {
-            Stored::Codes(codes) => {
-                let mut copy = Vec::new(*codes.allocator());
-                copy.extend_from_slice(codes.as_slice())?;
-                Stored::Codes(copy)
-            }
-            Stored::Wide(terms) => {
-                let mut copy = Vec::new(*terms.allocator());
-                copy.extend_from_slice(terms.as_slice())?;
-                Stored::Wide(copy)
-            }
+            Stored::Codes(codes) => Stored::Codes(copied(codes)?),
+            Stored::Narrow(terms) => Stored::Narrow(copied(terms)?),
+            Stored::Wide(terms) => Stored::Wide(copied(terms)?),
         };
         Ok(Terms { stored })
     }
@@ -146,19 +141,16 @@ impl Terms {
         true
     }
 
-    /// The same terms, stored in as little memory as they allow. Allocates once, or shrinks the list.
+    /// The same terms. A list of entries is stored in as little memory as they allow: it allocates once, or shrinks.
     pub(crate) fn compact(self) -> Result<Terms, AllocError>
         ensures same { IfOk result (λ r. r ≡ self) }
     {
-        match self.stored {
-            Stored::Codes(codes) => Ok(Terms {
-                stored: Stored::Codes(codes),
-            }),
-            Stored::Wide(terms) => {
-                let stored = compacted(terms)?;
-                Ok(Terms { stored })
-            }
-        }
+        let stored = match self.stored {
+            Stored::Codes(codes) => Stored::Codes(codes),
+            Stored::Narrow(terms) => Stored::Narrow(terms),
+            Stored::Wide(terms) => compacted(terms)?,
+        };
+        Ok(Terms { stored })
     }
 }
 
@@ -170,26 +162,27 @@ fn are_same(left: Entry, right: Entry) -> bool
     left == right
 }
 
-// Whether all terms have codes.
-fn have_codes(terms: &[Entry]) -> bool
-    ensures { result ≡ true → All IsUnit terms.now }
+// A copy of a list.
+fn copied<T: Copy>(list: &Vec<T>) -> Result<Vec<T>, AllocError>
+    ensures { IfOk result (λ r. r.items ≡ list.now.items) }
 {
-    'terms: for i in 0..terms.len() {
-        if !has_code(terms[i]) {
-            return false;
-        }
-    }
-    true
+    let mut copy = Vec::new(*list.allocator());
+    copy.extend_from_slice(list.as_slice())?;
+    Ok(copy)
 }
 
 // The same terms, stored in as little memory as they allow.
 fn compacted(mut terms: Vec<Entry>) -> Result<Stored, AllocError>
     ensures same { IfOk result (λ r. entries_of r ≡ terms.items) }
 {
-    if !have_codes(terms.as_slice()) {
-        terms.shrink_to_fit();
-        return Ok(Stored::Wide(terms));
+    if can_store_all::<u32>(terms.as_slice()) {
+        let codes = coded_all(*terms.allocator(), terms.as_slice())?;
+        return Ok(Stored::Codes(codes));
     }
-    let codes = codes_of(*terms.allocator(), terms.as_slice())?;
-    Ok(Stored::Codes(codes))
+    if can_store_all::<CodedTerm>(terms.as_slice()) {
+        let narrow = coded_all(*terms.allocator(), terms.as_slice())?;
+        return Ok(Stored::Narrow(narrow));
+    }
+    terms.shrink_to_fit();
+    Ok(Stored::Wide(terms))
 }

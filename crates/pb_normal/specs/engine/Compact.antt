@@ -2,9 +2,10 @@
 use Rattle.std.specs.Prelude.{List, map}
 use Rattle.pb_normal.specs.declared.entry.Entry.{Entry}
 use Rattle.pb_normal.specs.declared.terms.Stored.{Stored}
-use Rattle.pb_normal.specs.declared.terms.Stored.TheVariants.{Codes, Wide}
-use Rattle.pb_normal.specs.engine.Codes.{decoded}
+use Rattle.pb_normal.specs.declared.terms.Stored.TheVariants.{Codes, Narrow, Wide}
+use Rattle.pb_normal.specs.engine.Codes.{decoded, weighed}
 
 abbrev pub entries_of : Stored → List Entry
 entries_of (Codes codes) = map decoded codes.items
+entries_of (Narrow terms) = map weighed terms.items
 entries_of (Wide terms) = terms.items

@@ -1,0 +1,8 @@
+use Rattle.pb_normal.proofs.Common.{arith, refl, opposite}
+use Rattle.std.proofs.lemmas.List.{map_more}
+use Rattle.pb_normal.proofs.lemmas.terms.Merging.{no_entry}
+use Rattle.pb_normal.proofs.rules.opposite_list.Goals as goal
+
+pub terms-preserved : goal.terms-preserved
+terms-preserved g c =
+    rw (c.in_ok-push.ensures.items, c.at-t.ensures no_entry, map_more opposite (g.L.Listed.entries c.args.terms.now) c.terms.i no_entry (omega arith), c.terms.invariant) refl
