@@ -9,9 +9,9 @@ use crate::merge::merged;
 use crate::terms::Terms;
 use std::alloc::{AllocError, Global};
 
-// Adds up the terms of each variable and sorts them by variable. Also returns the total that cancels, counted once for
-// each pair of opposite literals. If the variables differ, a sort is enough, which allocates nothing. If they rise
-// already, nothing is sorted.
+// Adds up the terms of each variable and sorts them by variable. Also returns the total that
+// cancels, counted once for each pair of opposite literals. If the variables differ, a sort is
+// enough, which allocates nothing. If they rise already, nothing is sorted.
 pub(crate) fn collected(
     alloc: Global,
     mut raw: Vec<Entry>,

@@ -77,11 +77,11 @@ fn test(constraints: &[Linear], limits: Limits) -> Result<(), NormalFault>
     Ok(())
 }
 
-/// The forms of the constraints in order, over the numbers of their names. A constraint `>=` has one form; an equality
-/// has that of its side "at least" and then that of its side "at most".
+/// The forms of the constraints in order, over the numbers of their names. A constraint `>=` has
+/// one form; an equality has that of its side "at least" and then that of its side "at most".
 ///
-/// `Overflow` comes if and only if some constraint exceeds the limit, before anything is allocated, and leaves the
-/// names as they are. After `Memory` a prefix of the list of names has appeared.
+/// `Overflow` comes if and only if some constraint exceeds the limit, before anything is allocated,
+/// and leaves the names as they are. After `Memory` a prefix of the list of names has appeared.
 pub fn load(
     alloc: Global,
     names: &mut Names,

@@ -11,10 +11,11 @@ use crate::terms::{Stored, Terms};
 use std::alloc::AllocError;
 use std::marker::Model;
 
-/// A constraint in normal form: positive coefficients on literals of different variables, and a degree. It holds if the
-/// coefficients of its true literals add up to at least the degree.
+/// A constraint in normal form: positive coefficients on literals of different variables, and a
+/// degree. It holds if the coefficients of its true literals add up to at least the degree.
 ///
-/// The terms are in the order of their variables. The sum of the coefficients and the degree are below `2^127`.
+/// The terms are in the order of their variables. The sum of the coefficients and the degree are
+/// below `2^127`.
 #[derive(Drop)]
 pub struct Normal {
     pub(crate) terms: Terms,

@@ -6,7 +6,8 @@ ghost use Rattle.pb_normal.specs.contract.HashKeys.{hasher_by};
 use crate::name_hasher::NameHasher;
 use std::hash::{BuildHasher, DefaultHasher, RandomState};
 
-/// The keys by which names are hashed. No result depends on them, but the time that colliding names take does.
+/// The keys by which names are hashed. No result depends on them, but the time that colliding names
+/// take does.
 #[derive(Clone, Copy)]
 pub enum HashKeys {
     /// Always the same keys: whoever picks the names can make them collide.

@@ -10,8 +10,8 @@ ghost use Rattle.pb_normal.specs.meaning.Names.{AreDistinct, HasNames, has_name,
 ghost use Rattle.pb_normal.specs.meaning.Rules.{IsSum, multiplied, divided, saturated, weakened, axiom_on, negation_of, IsContradiction};
 ghost use Rattle.pb_normal.specs.meaning.Written.{names_of, IsFormOf, IsSideOf, SameSolutions, SameAsForm, SameAsForms, linear_of};
 
-/// If its operands hold, the result of a rule holds. A negation holds if and only if the form, of degree at least 1,
-/// does not. A contradiction holds nowhere.
+/// If its operands hold, the result of a rule holds. A negation holds if and only if the form, of
+/// degree at least 1, does not. A contradiction holds nowhere.
 pub fn rules_are_sound()
     ensures sum { (f g r : Form) → IsSum f g r → FollowsBoth f g r }
     ensures product { (k : ℕ) (f : Form) → Follows f (multiplied k f) }
@@ -23,8 +23,8 @@ pub fn rules_are_sound()
     ensures contradiction { (f : Form) (a : ℕ → Bool) → IsContradiction f → ¬ Holds a f }
 {}
 
-/// A form is determined by its coefficients and its degree. Two forms have only one sum, and a written sum with a
-/// degree has only one form.
+/// A form is determined by its coefficients and its degree. Two forms have only one sum, and a
+/// written sum with a degree has only one form.
 pub fn forms_are_unique()
     ensures coefficients { (r s : Form) → IsOrdered r → IsOrdered s →
         ((x : ℕ) → coefficient r x ≡ coefficient s x) → r.degree ≡ s.degree → r ≡ s }
@@ -33,10 +33,10 @@ pub fn forms_are_unique()
         IsFormOf names ts d r → IsFormOf names ts d s → r ≡ s }
 {}
 
-/// The form of a side of a constraint holds if and only if that side does. So a constraint `>=` holds if and only if
-/// its form does, and a constraint `=` if and only if both of its forms do. A form remains the form of its constraint
-/// if more names appear, and it is written in the same way. Written with its names, it is a constraint that holds if
-/// and only if the form does.
+/// The form of a side of a constraint holds if and only if that side does. So a constraint `>=`
+/// holds if and only if its form does, and a constraint `=` if and only if both of its forms do. A
+/// form remains the form of its constraint if more names appear, and it is written in the same way.
+/// Written with its names, it is a constraint that holds if and only if the form does.
 pub fn written_forms_are_exact()
     ensures same { (names : List (List ℕ)) (side : Side) (linear : Linear) (r : Form) →
         AreDistinct names → HasNames names (names_of linear.terms) →
@@ -59,8 +59,9 @@ pub fn written_forms_are_exact()
         linear_of (names ++ more) f ≡ linear_of names f }
 {}
 
-/// After other names appear, the names before them have the same numbers, and each of the others has a number. If the
-/// names were distinct, they still are. If each of the others had a number, no name is new.
+/// After other names appear, the names before them have the same numbers, and each of the others
+/// has a number. If the names were distinct, they still are. If each of the others had a number, no
+/// name is new.
 pub fn names_keep_their_numbers()
     ensures prefix { (names others : List (List ℕ)) → (more : List (List ℕ)) ×
         (with_names names others ≡ names ++ more) }
@@ -86,14 +87,15 @@ pub fn rules_keep_variables()
         IsOver (λ v. nat_lt v n) f ↔ All (λ t. t.variable < n) f.terms }
 {}
 
-/// Whether a form holds depends on the values of its variables only. The coefficients of any choice of literals add up
-/// to at most those of all literals.
+/// Whether a form holds depends on the values of its variables only. The coefficients of any choice
+/// of literals add up to at most those of all literals.
 pub fn forms_hold_by_their_variables()
     ensures alike { (a b : ℕ → Bool) (f : Form) → AgreeOn a b f → Holds a f ↔ Holds b f }
     ensures part { (p : ℕ → Bool → Bool) (f : Form) → total p f.terms ≤ size f }
 {}
 
-/// A name's number is its position, and the only one if the names are distinct. It is the same if more names follow.
+/// A name's number is its position, and the only one if the names are distinct. It is the same if
+/// more names follow.
 pub fn numbers_are_places()
     ensures found { (names : List (List ℕ)) (name : List ℕ) → has_name names name ≡ true →
         slice_get names (number_in names name) ≡ Some name }

@@ -21,10 +21,12 @@ use pb_text::Limits;
 use std::alloc::{AllocError, Global};
 
 impl Normal {
-    /// The normal form of one side of a constraint, over the numbers of its names, whatever its relation.
+    /// The normal form of one side of a constraint, over the numbers of its names, whatever its
+    /// relation.
     ///
-    /// `Overflow` comes if and only if the magnitudes of all coefficients and of the degree add up to more than the
-    /// limit. It leaves the names as they are. After `Memory` a prefix of the list of names has appeared.
+    /// `Overflow` comes if and only if the magnitudes of all coefficients and of the degree add up
+    /// to more than the limit. It leaves the names as they are. After `Memory` a prefix of the list
+    /// of names has appeared.
     pub fn from_linear(
         alloc: Global,
         names: &mut Names,
@@ -58,16 +60,17 @@ impl Normal {
     }
 }
 
-/// Whether a constraint fits: the magnitudes of all coefficients and of the degree add up to at most the limit. It
-/// allocates nothing. The forms of both sides overflow if and only if the constraint does not fit.
+/// Whether a constraint fits: the magnitudes of all coefficients and of the degree add up to at
+/// most the limit. It allocates nothing. The forms of both sides overflow if and only if the
+/// constraint does not fit.
 pub fn fits(linear: &Linear, limits: Limits) -> bool
     ensures { IsTrue result ↔ Fits (largest limits) linear.now }
 {
     is_within(linear.terms.as_slice(), linear.degree, limits.largest())
 }
 
-/// Whether the magnitudes of all coefficients add up to at most the limit, as those of an objective must. It allocates
-/// nothing.
+/// Whether the magnitudes of all coefficients add up to at most the limit, as those of an objective
+/// must. It allocates nothing.
 pub fn terms_fit(terms: &[Term], limits: Limits) -> bool
     ensures { IsTrue result ↔ (magnitude terms.now ≤ largest limits) }
 {

@@ -7,8 +7,8 @@ use crate::code::{Coded, append_decoded};
 use crate::entry::Entry;
 use std::alloc::AllocError;
 
-/// A list of terms that is read by index. Code over it is compiled for each way in which terms are stored, so its loops
-/// do not test which way it is.
+/// A list of terms that is read by index. Code over it is compiled for each way in which terms are
+/// stored, so its loops do not test which way it is.
 pub(crate) trait Listed {
     /// The terms.
     ghost entries: { Self → List Entry };

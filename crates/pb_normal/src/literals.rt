@@ -13,8 +13,8 @@ use crate::terms::Terms;
 use std::alloc::{AllocError, Global};
 
 impl Normal {
-    /// The constraint that at least `degree` of the literals of a list hold. Each has coefficient 1, however
-    /// often the list contains it. With degree 1 the form is the clause of the literals.
+    /// The constraint that at least `degree` of the literals of a list hold. Each has coefficient
+    /// 1, however often the list contains it. With degree 1 the form is the clause of the literals.
     pub fn from_literals(
         alloc: Global,
         literals: &[NumberedLiteral],

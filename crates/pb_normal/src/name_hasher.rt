@@ -8,8 +8,8 @@ use std::hash::{DefaultHasher, Hasher};
 
 /// A keyed hasher that is fast for short names.
 ///
-/// It hides two words of 8 bytes by secret words, multiplies them to 128 bits, and joins the halves by exclusive or.
-/// It is not cryptographic.
+/// It hides two words of 8 bytes by secret words, multiplies them to 128 bits, and joins the halves
+/// by exclusive or. It is not cryptographic.
 #[derive(Clone, Copy)]
 pub struct NameHasher {
     // First a secret word, and then what was written.
@@ -101,7 +101,8 @@ fn after_blocks(bytes: &[u8], start: u64, key: u64) -> u64
     state
 }
 
-// Two words that have the last 16 bytes, or all bytes if there are fewer. They may have some bytes twice.
+// Two words that have the last 16 bytes, or all bytes if there are fewer. They may have some bytes
+// twice.
 #[inline(always)]
 fn ends(bytes: &[u8]) -> (u64, u64)
     ensures { result ≡ ends_of bytes.now }

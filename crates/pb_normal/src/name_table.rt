@@ -11,14 +11,16 @@ use crate::name_hasher::NameHasher;
 use std::alloc::{AllocError, Global};
 use std::hash::Hasher;
 
-/// The names in one list of bytes. Those whose hashes have the same chain are linked, the last one first.
+/// The names in one list of bytes. Those whose hashes have the same chain are linked, the last one
+/// first.
 #[derive(Drop)]
 pub(crate) struct NameTable {
     pub(crate) alloc: Global,
     pub(crate) hasher: NameHasher,
     pub(crate) bytes: Vec<u8>,
     pub(crate) entries: Vec<NameEntry>,
-    /// For each chain one more than the number of its last name, or 0. Their count is a power of two.
+    /// For each chain one more than the number of its last name, or 0. Their count is a power of
+    /// two.
     pub(crate) heads: Vec<u32>,
 }
 

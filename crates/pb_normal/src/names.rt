@@ -11,7 +11,8 @@ use std::alloc::{AllocError, Global};
 use std::hash::BuildHasher;
 use std::marker::Model;
 
-/// The names that have a number, in the order of their first appearance; the first has the number 0.
+/// The names that have a number, in the order of their first appearance; the first has the number
+/// 0.
 #[derive(Drop)]
 pub struct Names {
     table: NameTable,
@@ -29,8 +30,8 @@ impl Model for Names {
 }
 
 impl Names {
-    /// No names. It allocates nothing. The keys of its hasher are fixed: for names from untrusted input use
-    /// `with_hasher`.
+    /// No names. It allocates nothing. The keys of its hasher are fixed: for names from untrusted
+    /// input use `with_hasher`.
     pub fn new(alloc: Global) -> Names
         ensures { result ≡ [] }
     {

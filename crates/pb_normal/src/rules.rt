@@ -19,8 +19,8 @@ use pb_text::Limits;
 use std::alloc::{AllocError, Global};
 
 impl Normal {
-    /// The sum of two forms. `Overflow` comes if and only if the sum of its coefficients or its degree exceeds the
-    /// limit.
+    /// The sum of two forms. `Overflow` comes if and only if the sum of its coefficients or its
+    /// degree exceeds the limit.
     pub fn add(&self, other: &Normal, limits: Limits) -> Result<Normal, NormalFault>
         ensures sum { IfOk result (λ r. IsSum self.now other.now r) }
         ensures normal { IfOk result (λ r. IsNormal r) }
@@ -57,8 +57,8 @@ impl Normal {
         })
     }
 
-    /// The form with all coefficients and the degree multiplied. `Overflow` comes if and only if the sum of the
-    /// coefficients or the degree of the result exceeds the limit.
+    /// The form with all coefficients and the degree multiplied. `Overflow` comes if and only if
+    /// the sum of the coefficients or the degree of the result exceeds the limit.
     pub fn multiply(&self, factor: i128, limits: Limits) -> Result<Normal, NormalFault>
         requires { pos 1 ≤ℤ factor }
         ensures product { IfOk result (λ r. r ≡ multiplied (unsigned_abs factor) self.now) }
@@ -107,7 +107,8 @@ impl Normal {
         Ok(quotient)
     }
 
-    // The form with all coefficients and the degree divided and rounded up, in the same list if it has entries.
+    // The form with all coefficients and the degree divided and rounded up, in the same list if it
+    // has entries.
     pub(crate) fn divided(self, k: u128) -> Result<Normal, AllocError>
         requires { 0 < k }
         ensures quotient { IfOk result (λ r. r ≡ divided k self) }
@@ -134,7 +135,8 @@ impl Normal {
         Ok(saturation)
     }
 
-    // The form with every coefficient reduced to at most the degree, in the same list if it has entries.
+    // The form with every coefficient reduced to at most the degree, in the same list if it has
+    // entries.
     pub(crate) fn saturated(self) -> Result<Normal, AllocError>
         ensures saturated { IfOk result (λ r. r ≡ saturated self) }
         ensures normal { IfOk result (λ r. IsNormal r) }
@@ -217,7 +219,8 @@ fn measures_of_sum(left: &Normal, right: &Normal) -> (u128, u128)
     (sizes - 2 * gone, degrees.saturating_sub(gone))
 }
 
-// The functions below choose once how terms are read. Each list has room for all terms from the start.
+// The functions below choose once how terms are read. Each list has room for all terms from the
+// start.
 
 fn multiplied_terms(alloc: Global, terms: &Terms, k: u128) -> Result<Vec<Entry>, AllocError>
     requires { All (λ t. t.coefficient * k < 2 ^ 128) terms.now }

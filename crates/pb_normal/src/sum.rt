@@ -17,14 +17,14 @@ use std::marker::Model;
 /// The fewest terms for which a form becomes a tree.
 const MANY: usize = 32;
 
-/// How many small changes in a row make the list anew, before the form becomes a tree. To make a tree takes about as
-/// long.
+/// How many small changes in a row make the list anew, before the form becomes a tree. To make a
+/// tree takes about as long.
 const LISTED: usize = 16;
 
 /// A form that one rule after another changes.
 ///
-/// A change is small if it weakens, or adds a form with few terms. After some small changes in a row, each takes time
-/// in the terms that it adds, and not in all terms of the form.
+/// A change is small if it weakens, or adds a form with few terms. After some small changes in a
+/// row, each takes time in the terms that it adds, and not in all terms of the form.
 #[derive(Drop)]
 pub struct Sum<'a> {
     kind: Kind<'a>,
@@ -82,7 +82,8 @@ impl<'a> Sum<'a> {
         }
     }
 
-    /// The sum of both. `Overflow` comes if and only if the sum of its coefficients or its degree exceeds the limit.
+    /// The sum of both. `Overflow` comes if and only if the sum of its coefficients or its degree
+    /// exceeds the limit.
     pub fn add(self, alloc: Global, other: Sum<'a>, limits: Limits) -> Result<Sum<'a>, NormalFault>
         ensures sum { IfOk result (λ r. IsSum self.entry other.entry r) }
         ensures within { IfOk result (λ r. IsWithin (largest limits) r) }
@@ -132,8 +133,8 @@ impl<'a> Sum<'a> {
         })
     }
 
-    /// All coefficients and the degree multiplied. `Overflow` comes if and only if the sum of the coefficients or the
-    /// degree of the result exceeds the limit.
+    /// All coefficients and the degree multiplied. `Overflow` comes if and only if the sum of the
+    /// coefficients or the degree of the result exceeds the limit.
     pub fn multiply(
         self,
         alloc: Global,
@@ -155,7 +156,8 @@ impl<'a> Sum<'a> {
         Ok(product)
     }
 
-    // All coefficients and the degree multiplied; the result is normal. A factor of 1 is a small change.
+    // All coefficients and the degree multiplied; the result is normal. A factor of 1 is a small
+    // change.
     fn scaled(self, alloc: Global, k: u128) -> Result<Sum<'a>, AllocError>
         requires fits { IsNormal (multiplied k self) }
         ensures product { IfOk result (λ r. r ≡ multiplied k self.entry) }

@@ -14,7 +14,8 @@ use std::marker::Model;
 /// How terms are stored.
 #[derive(Drop)]
 pub(crate) enum Stored {
-    /// The codes of the literals of terms with coefficient 1: twice the variable, and 1 more if it is negated.
+    /// The codes of the literals of terms with coefficient 1: twice the variable, and 1 more if it
+    /// is negated.
     Codes(Vec<u32>),
     /// The same codes, each with a coefficient that fits 64 bits.
     Narrow(Vec<CodedTerm>),
@@ -141,7 +142,8 @@ impl Terms {
         true
     }
 
-    /// The same terms. A list of entries is stored in as little memory as they allow: it allocates once, or shrinks.
+    /// The same terms. A list of entries is stored in as little memory as they allow: it allocates
+    /// once, or shrinks.
     pub(crate) fn compact(self) -> Result<Terms, AllocError>
         ensures same { IfOk result (λ r. r ≡ self) }
     {

@@ -15,7 +15,8 @@ use std::alloc::{AllocError, Global};
 use std::collections::BTreeMap;
 use std::marker::Model;
 
-/// A form whose terms are in a map by their variables. Its size is kept, so that a small change takes little time.
+/// A form whose terms are in a map by their variables. Its size is kept, so that a small change
+/// takes little time.
 #[derive(Drop)]
 pub(crate) struct Tree {
     terms: BTreeMap<usize, Entry>,

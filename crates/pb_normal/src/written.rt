@@ -13,7 +13,8 @@ use pb_text::Sequence;
 use std::alloc::{AllocError, Global};
 
 impl Normal {
-    /// The form as a constraint `>=` over the names of its variables, each of which must have a name.
+    /// The form as a constraint `>=` over the names of its variables, each of which must have a
+    /// name.
     pub fn to_linear(&self, names: &Names) -> Result<Linear, NormalFault>
         requires { All (λ t. t.variable < length names.now) self.now.terms }
         ensures linear { IfOk result (λ r. r ≡ linear_of names.now self.now) }
