@@ -17,7 +17,6 @@ use crate::source::{Failed, Source};
 
 /// The next event of the source, or `None` after the last one. It takes exactly the bytes used. If the source has no
 /// more bytes, it returns what `finish` would. Once done or stopped, it does not call the source.
-#[inline(always)]
 pub fn pull<S: Source, M: Machine>(
     source: &mut S,
     feeder: &mut Feeder<M>,
@@ -69,7 +68,6 @@ pub fn pull<S: Source, M: Machine>(
 }
 
 /// Takes available bytes, at most through the end of a statement. If none ends there, it also takes the next byte.
-#[inline(always)]
 fn draw<S: Source, M: Machine>(
     source: &mut S,
     feeder: &mut Feeder<M>,
@@ -98,7 +96,6 @@ fn draw<S: Source, M: Machine>(
 }
 
 /// Takes only the next byte of the source.
-#[inline(never)]
 fn take_next<S: Source, M: Machine>(
     source: &mut S,
     feeder: &mut Feeder<M>,

@@ -86,7 +86,6 @@ impl<T: BufRead> Source for Over<T> {
         self.inner.consume(1);
     }
 
-    #[inline(always)]
     fn pour<M: Machine>(
         &mut self,
         feeder: &mut Feeder<M>,
@@ -138,7 +137,6 @@ fn next_of<T: BufRead>(reader: &mut T) -> Result<Option<u8>, Failed>
 }
 
 /// Feeds the available bytes of a reader to a feeder, at most through the end of a statement, and takes them.
-#[inline(always)]
 fn pour_from<T: BufRead, M: Machine>(
     reader: &mut T,
     history: &mut History,

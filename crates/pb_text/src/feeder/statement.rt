@@ -13,7 +13,6 @@ impl<M: Machine> Feeder<M> {
     ghost use Rattle.pb_text.specs.engine.Prefixes.{TakesPrefix, taken};
 
     /// Takes a prefix of a piece that is fast to take, at most through the end of a statement.
-    #[inline(always)]
     pub(crate) fn feed_statement(&mut self, piece: &[u8]) -> Fed<M::Event>
         requires unfinished { is_complete self.old ≡ false }
         requires running { halt_of self.old ≡ None }
@@ -90,7 +89,6 @@ impl<M: Machine> Feeder<M> {
     }
 
     /// Takes a prefix of a piece in parts, at most through the end of a statement.
-    #[inline(never)]
     fn feed_part(&mut self, piece: &[u8]) -> Fed<M::Event>
         requires unfinished { is_complete self.old ≡ false }
         requires running { halt_of self.old ≡ None }
