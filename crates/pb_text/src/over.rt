@@ -1,10 +1,11 @@
 //! A source over any buffered reader, and a sink over any writer.
 
-ghost use Rattle.std.specs.Prelude.{◌≡◌, [], None, false};
+ghost use Rattle.std.specs.Prelude.{◌≡◌, [], None, false, OnOk, OnErr};
 ghost use Rattle.pb_text.specs.contract.Automaton.{IsState};
 ghost use Rattle.pb_text.specs.contract.Feeding.{state_of, halt_of, is_complete};
 ghost use Rattle.pb_text.specs.contract.Over.{Shows, reported};
 ghost use Rattle.pb_text.specs.contract.Pouring.{Pours, brought};
+ghost use Rattle.pb_text.specs.meaning.Writing.{one_more};
 
 use crate::feeder::{Fed, Feeder};
 use crate::history::History;
@@ -91,13 +92,12 @@ impl<T: BufRead> Source for Over<T> {
         feeder: &mut Feeder<M>,
     ) -> Result<Option<Spanned<M::Event>>, Failed> {
         self.shown = None;
-        match pour_from(&mut self.inner, &mut self.history, feeder) {
-            Ok(event) => Ok(event),
-            Err(Failed) => {
-                self.failures = self.failures.saturating_add(1);
-                Err(Failed)
-            }
-        }
+        pour_from(
+            &mut self.inner,
+            &mut self.history,
+            &mut self.failures,
+            feeder,
+        )
     }
 
     fn failures(&self) -> u64 {
@@ -136,10 +136,12 @@ fn next_of<T: BufRead>(reader: &mut T) -> Result<Option<u8>, Failed>
     }
 }
 
-/// Feeds the available bytes of a reader to a feeder, at most through the end of a statement, and takes them.
+/// Feeds the available bytes of a reader to a feeder, at most through the end of a statement, and takes them. It counts
+/// a failure.
 fn pour_from<T: BufRead, M: Machine>(
     reader: &mut T,
     history: &mut History,
+    failures: &mut u64,
     feeder: &mut Feeder<M>,
 ) -> Result<Option<Spanned<M::Event>>, Failed>
     requires unfinished { is_complete feeder.old ≡ false }
@@ -150,6 +152,8 @@ fn pour_from<T: BufRead, M: Machine>(
     ensures unfinished { brought result ≡ None → is_complete feeder.new ≡ false }
     ensures running { halt_of feeder.new ≡ None }
     ensures state { IsState M.automaton (state_of feeder.new) }
+    ensures ok { OnOk result (failures.new ≡ failures.old) }
+    ensures err { OnErr result (failures.new ≡ one_more failures.old) }
 {
     match reader.fill_buf() {
         Ok(bytes) => {
@@ -158,6 +162,9 @@ fn pour_from<T: BufRead, M: Machine>(
             reader.consume(used);
             Ok(event)
         }
-        Err(_) => Err(Failed),
+        Err(_) => {
+            *failures = failures.saturating_add(1);
+            Err(Failed)
+        }
     }
 }

@@ -1,23 +1,42 @@
-use Rattle.pb_text.proofs.Common.{ℕ, ◌+◌, ◌<◌, ◌∙◌, ◌≡◌, ◌≢◌, ap, arith, get_or, length, List, subst, sym, take, true≢false, take-length, take_more}
-use Rattle.pb_text.proofs.Common.{Each}
-use Rattle.pb_text.proofs.lemmas.text.Languages.{each-append}
-use Rattle.pb_text.proofs.place.has_line_feed.Goals.{then-byte-eq10, else-byte-eq10}
+use Rattle.pb_text.proofs.Common.{ℕ, ◌++◌, ◌∷◌, ◌≡◌, ◌≤◌, [], arith, drop, length, length-drop, length-take, List, subst, suc, sym, take, zero, Each}
+use Rattle.pb_text.proofs.Common.{take-append-drop, take-take}
+use Rattle.std.specs.Prelude.{◌-◌, ◌≢◌}
+use Rattle.pb_text.proofs.lemmas.text.Spans.{prefix_parts}
 use Rattle.pb_text.proofs.place.has_line_feed.Goals as goal
 
-pub loop-byte-init : goal.loop-byte-init
-loop-byte-init c h = tt
+-- two texts without a line feed
+each_joined : (P : ℕ → Type 0) (xs ys : List ℕ) → Each P xs → Each P ys → Each P (xs ++ ys)
+each_joined P [] ys first second = second
+each_joined P (x ∷ xs) ys first second = (first.0, each_joined P xs ys first.1 second)
 
--- one more byte that is no line feed
-one_more : (text : List ℕ) (i : ℕ) → i < length text → Each (λ b. b ≢ 10) (take i text) → get_or text i 0 ≢ 10 → Each (λ b. b ≢ 10) (take (i + 1) text)
-one_more text i h each none = subst (λ (x : List ℕ). Each (λ b. b ≢ 10) x) (sym (take_more text i 0 h)) (each-append (λ b. b ≢ 10) (take i text) (get_or text i 0) each none)
+pub loop-chunk-preserved : goal.loop-chunk-preserved
+loop-chunk-preserved c =
+    let text = c.args.text.now in
+    let i = c.loop-chunk.searched in
+    let rest = take (length text - i) (drop i text) in
+    let chunk = subst (λ (x : List ℕ). Each (λ b. b ≢ 10) x) c.in-Some.ensures.cases.same (c.has_line_feed_in.ensures c.if-has_line_feed_in.false) in
+    record {
+      bound = omega (arith, c.in-Some.ensures.cases.enough, length-take (length text - i) (drop i text), length-drop i text, c.loop-chunk.invariant.bound);
+      none = subst (λ (x : List ℕ). Each (λ b. b ≢ 10) x) (sym (prefix_parts text i 16)) (each_joined (λ b. b ≢ 10) (take i text) (take 16 rest) c.loop-chunk.invariant.none chunk);
+    }
 
-pub loop-byte-preserved : goal.loop-byte-preserved
-loop-byte-preserved c h = elim c.if-byte-eq10.branch [
-  | then-byte-eq10 w ↦ absurd (true≢false (sym w.found-is ∙ h))
-  | else-byte-eq10 w ↦ one_more c.args.text.now c.loop-byte.byte-index c.loop-byte-test.true (c.loop-byte.invariant (sym w.found-is ∙ h)) w.if-byte-eq10.false
-]
+-- a prefix of a text without a line feed
+each_prefix : (P : ℕ → Type 0) (n : ℕ) (xs : List ℕ) → Each P xs → Each P (take n xs)
+each_prefix P zero xs all = tt
+each_prefix P (suc n) [] all = tt
+each_prefix P (suc n) (x ∷ xs) all = (all.0, each_prefix P n xs all.1)
 
-pub returns : goal.returns
-returns c h =
-    let all : c.loop-byte.byte-index ≡ length c.args.text.now = omega arith in
-    subst (λ (x : List ℕ). Each (λ b. b ≢ 10) x) (ap (λ (k : ℕ). take k c.args.text.now) all ∙ take-length c.args.text.now) (c.loop-byte.invariant h)
+-- all bytes of a text are in a prefix or in the last chunk, if these meet
+meet : (P : ℕ → Type 0) (text chunk : List ℕ) (i n : ℕ) → n ≤ i → chunk ≡ drop n text → Each P (take i text) → Each P chunk → Each P text
+meet P text chunk i n below same first second =
+    let start : Each P (take n text) = subst (λ (x : List ℕ). Each P x) (take-take n i text below) (each_prefix P n (take i text) first) in
+    subst (λ (x : List ℕ). Each P x) (take-append-drop n text) (each_joined P (take n text) (drop n text) start (subst (λ (x : List ℕ). Each P x) same second))
+
+pub returns-in-Some-last_chunk : goal.returns-in-Some-last_chunk
+returns-in-Some-last_chunk c none =
+    let text = c.args.text.now in
+    let i = c.loop-chunk.searched in
+    let n = length text - 16 in
+    let last = c.in-Some-last_chunk.ensures.cases in
+    let short = c.in_default.ensures.cases in
+    meet (λ b. b ≢ 10) text c.in-Some-last_chunk.chunk.now i n (omega (arith, short, length-take (length text - i) (drop i text), length-drop i text, c.loop-chunk.invariant.bound)) last.1.same c.loop-chunk.invariant.none (c.has_line_feed_in-in-Some-last_chunk.ensures none)
