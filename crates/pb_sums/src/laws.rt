@@ -27,7 +27,8 @@ pub fn larger_limits()
     ensures { LargerLimits }
 {}
 
-/// The canonical text of a value within the limits is a text of that value, and it is what the writers write.
+/// The canonical text of a value within the limits is a text of that value, and it is what the
+/// writers write.
 pub fn canonical_spells()
     ensures linear { CanonicalLinear }
     ensures sum { CanonicalSum }
@@ -39,8 +40,8 @@ pub fn keeps_its_state()
     ensures { KeepsItsState }
 {}
 
-/// A name stores only its text, and a short text only its length, its 22 bytes and its allocator, as contracts see
-/// these.
+/// A name stores only its text, and a short text only its length, its 22 bytes and its allocator,
+/// as contracts see these.
 pub fn names_keep_their_texts()
     ensures names { NameKeeps }
     ensures short { ShortKeeps }

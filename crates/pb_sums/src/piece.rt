@@ -13,7 +13,8 @@ pub const ROOM: usize = 512;
 /// How many bytes of a short text are copied at once.
 const HALF: usize = 4;
 
-/// A text of at most `ROOM` bytes, which grows at its start. Contracts see it as the list of its bytes.
+/// A text of at most `ROOM` bytes, which grows at its start. Contracts see it as the list of its
+/// bytes.
 #[derive(Drop)]
 pub struct Piece {
     bytes: [u8; ROOM],

@@ -57,7 +57,8 @@ fn count_name_bytes(text: &[u8]) -> usize
     text.len()
 }
 
-/// The length of the sign at the start of the text, or 0 if it was already read, and whether it is a minus.
+/// The length of the sign at the start of the text, or 0 if it was already read, and whether it is
+/// a minus.
 #[inline(always)]
 pub fn sign_prefix(read: Option<bool>, text: &[u8]) -> (usize, bool)
     ensures bound { result.0 ≤ length text.now }

@@ -1,6 +1,7 @@
 //! What a machine reads.
 
-/// Which bytes are space. `White` is a blank or a line feed; `Blank` is a space, tab or carriage return.
+/// Which bytes are space. `White` is a blank or a line feed; `Blank` is a space, tab or carriage
+/// return.
 #[derive(Clone, Copy, Debug, PartialEq, Eq)]
 pub enum Spaces {
     White,

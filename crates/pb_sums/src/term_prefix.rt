@@ -44,7 +44,8 @@ pub fn tilde_prefix(text: &[u8]) -> (usize, bool)
     }
 }
 
-/// A number and a space after it at the start of the text, and their length, if they are fast to read.
+/// A number and a space after it at the start of the text, and their length, if they are fast to
+/// read.
 #[inline(always)]
 pub fn spaced_number_prefix(limit: u128, phase: Phase, text: &[u8]) -> Option<(usize, i128)>
     requires room { limit < 2 ^ 127 }
@@ -66,8 +67,8 @@ pub fn spaced_number_prefix(limit: u128, phase: Phase, text: &[u8]) -> Option<(u
     Some((end + 1, signed(negative, magnitude)))
 }
 
-/// A literal and a space after it at the start of the text, and their length, if they are fast to read. It does not
-/// allocate.
+/// A literal and a space after it at the start of the text, and their length, if they are fast to
+/// read. It does not allocate.
 #[inline(always)]
 pub fn spaced_literal_prefix(alloc: Global, text: &[u8]) -> Option<(usize, Literal)>
     ensures bound { IfSome result (λ r. r.0 ≤ length text.now) }

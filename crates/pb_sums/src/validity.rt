@@ -45,7 +45,8 @@ fn term_is_value(term: &Term, limit: u128) -> bool
     is_within(term.coefficient, limit) && is_name(term.literal.name.as_str())
 }
 
-/// Whether each term has a name of the grammar, and a coefficient whose magnitude is within the limits.
+/// Whether each term has a name of the grammar, and a coefficient whose magnitude is within the
+/// limits.
 pub fn sum_is_value(terms: &[Term], limits: Limits) -> bool
     ensures { IsTrue result ↔ AreTerms (largest limits) terms.now }
 {

@@ -13,8 +13,8 @@ use crate::term_prefix::{spaced_literal_prefix, spaced_number_prefix};
 use pb_text::{Limits, Sequence};
 use std::alloc::Global;
 
-/// A linear text at the start of a text, and the index of its `;`, if it is fast to read: it has a term, and one space
-/// after each number, literal and relation.
+/// A linear text at the start of a text, and the index of its `;`, if it is fast to read: it has a
+/// term, and one space after each number, literal and relation.
 pub fn linear_at(alloc: Global, limits: Limits, part: Part, text: &[u8]) -> Option<(usize, Linear)>
     ensures inside { IfSome result (λ r. r.0 < length text.now) }
     ensures semicolon { IfSome result (λ r. get_or text.now r.0 0 ≡ 59) }
@@ -42,8 +42,8 @@ pub fn linear_at(alloc: Global, limits: Limits, part: Part, text: &[u8]) -> Opti
     ))
 }
 
-/// Terms with a space after each at the start of a text, and their length, if there is one, the text has a `;` and memory
-/// suffices.
+/// Terms with a space after each at the start of a text, and their length, if there is one, the
+/// text has a `;` and memory suffices.
 #[inline(always)]
 fn terms_at(alloc: Global, limit: u128, text: &[u8]) -> Option<(usize, Sequence<Term>)>
     requires room { limit < 2 ^ 127 }

@@ -225,7 +225,8 @@ fn put_whole_term(term: &Term, piece: &mut Piece) -> bool
     true
 }
 
-/// Prepends a sum if it surely fits, and returns whether it did. If it did not, the piece may have a part of it.
+/// Prepends a sum if it surely fits, and returns whether it did. If it did not, the piece may have
+/// a part of it.
 fn put_sum(terms: &[Term], piece: &mut Piece) -> bool
     ensures { IsTrue result → piece.new ≡ sum_bytes terms.now ++ piece.old }
 {
@@ -261,7 +262,8 @@ fn put_tail(linear: &Linear, piece: &mut Piece)
     }
 }
 
-/// Prepends a linear text if it surely fits, and returns whether it did. If it did not, the piece may have a part of it.
+/// Prepends a linear text if it surely fits, and returns whether it did. If it did not, the piece
+/// may have a part of it.
 pub fn put_linear(linear: &Linear, piece: &mut Piece) -> bool
     ensures { IsTrue result → piece.new ≡ linear_bytes linear.now ++ piece.old }
 {

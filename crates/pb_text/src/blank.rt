@@ -11,9 +11,9 @@ use crate::feeder::BYTE_LIMIT;
 use crate::place::{Place, Stop, Why};
 use crate::source::{Failed, Source};
 
-/// `Ok` if the input ends at offset `2^40` at most, and its rest, which begins at `place`, is white space and comments.
-/// A comment is `*` through the next line feed or the end. Otherwise the first of: `Byte` at the first other byte,
-/// `TooLong` at the byte at offset `2^40`, `Read`.
+/// `Ok` if the input ends at offset `2^40` at most, and its rest, which begins at `place`, is white
+/// space and comments. A comment is `*` through the next line feed or the end. Otherwise the first
+/// of: `Byte` at the first other byte, `TooLong` at the byte at offset `2^40`, `Read`.
 pub fn rest_is_blank<S: Source>(source: &mut S, place: Place) -> Result<(), Stop>
     requires offset { place.offset ≤ 2 ^ 40 }
     requires line { place.line ≤ 2 ^ 40 + 1 }
@@ -22,7 +22,8 @@ pub fn rest_is_blank<S: Source>(source: &mut S, place: Place) -> Result<(), Stop
     // For any source, also a file: the rest is what its calls have given since.
     ensures given { OfGiven (λ left rest. ReadsBlank place left result rest) (S.history source.old)
         (S.history source.new) }
-    // The rest ends only if the source has shown its end. A byte that does not belong there is the one it has shown.
+    // The rest ends only if the source has shown its end. A byte that does not belong there is the
+    // one it has shown.
     ensures ended { OnOk result (S.ended source.new ≡ true) }
     ensures shown { IfErr result (λ s. IsShown (S.shown source.new) (S.ended source.new) s.why) }
     // `Read` comes only if the source failed.

@@ -13,7 +13,8 @@ const SMALL: u64 = 1 << 60;
 /// The maximum number of bytes that are read without a test for the end of the text.
 const WINDOW: usize = 8;
 
-/// The number of digits at the start of the text, and their value. It stops once the value is no longer below `SMALL`.
+/// The number of digits at the start of the text, and their value. It stops once the value is no
+/// longer below `SMALL`.
 #[inline(always)]
 pub fn number_prefix(text: &[u8]) -> (usize, u64)
     ensures bound { result.0 ≤ length text.now }

@@ -1,11 +1,12 @@
-//! Readers and writers in memory that fail, or that give or take few bytes per call: to test the state after a fault.
+//! Readers and writers in memory that fail, or that give or take few bytes per call: to test the
+//! state after a fault.
 
 ghost use Rattle.std.specs.Prelude.{◌≡◌, None};
 
 use std::io::{self, BufRead, ErrorKind, Read, Write};
 
-/// A reader of bytes in memory. It shows at most `most` bytes per call. It fails at call number `fails_at`, counted
-/// from 1 over all calls that read.
+/// A reader of bytes in memory. It shows at most `most` bytes per call. It fails at call number
+/// `fails_at`, counted from 1 over all calls that read.
 #[derive(Drop)]
 pub struct FaultyReader<'a> {
     pub left: &'a [u8],
@@ -64,7 +65,8 @@ impl BufRead for FaultyReader<'_> {
     }
 }
 
-/// A writer to memory. It takes at most `most` bytes per call. It fails at call number `fails_at`, counted from 1.
+/// A writer to memory. It takes at most `most` bytes per call. It fails at call number `fails_at`,
+/// counted from 1.
 #[derive(Drop)]
 pub struct FaultyWriter {
     pub taken: Vec<u8>,

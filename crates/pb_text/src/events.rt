@@ -11,8 +11,8 @@ use crate::place::{Place, Spanned, Stop};
 use crate::source::Source;
 use std::iter::FusedIterator;
 
-/// The events of a source in order: each call is a `pull`. The first stop is its last item. After the last event, or a
-/// stop, it yields nothing more and does not call the source.
+/// The events of a source in order: each call is a `pull`. The first stop is its last item. After
+/// the last event, or a stop, it yields nothing more and does not call the source.
 #[derive(Drop)]
 pub struct Events<'s, S, M: Machine> {
     source: &'s mut S,

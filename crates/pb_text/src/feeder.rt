@@ -14,7 +14,8 @@ use crate::place::{Place, Spanned, Stop, Why};
 /// The maximum number of bytes read from one input.
 pub const BYTE_LIMIT: u64 = 1 << 40;
 
-/// What a feed took: `used` bytes of the piece, and the event that ends with the last of them, if any.
+/// What a feed took: `used` bytes of the piece, and the event that ends with the last of them, if
+/// any.
 #[derive(Drop)]
 pub struct Fed<E> {
     pub used: usize,
@@ -93,7 +94,8 @@ impl<M: Machine> Feeder<M> {
     pub fn is_done(&self) -> bool
         ensures done { result ≡ is_complete self.now }
         ensures state { IsState M.automaton (state_of self.now) }
-        // The spans that were returned, the position, this result and the stop are those of a read of the input.
+        // The spans that were returned, the position, this result and the stop are those of a read
+        // of the input.
         ensures reads { (longest : ℕ) (start : M) (input : List ℕ) (spans : List (Spanned M.Event))
             → StandsAt longest start input spans self.now
             → (used : List ℕ) × Reads (AcceptsItems M.automaton start) longest input used spans
@@ -144,10 +146,11 @@ impl<M: Machine> Feeder<M> {
         }
     }
 
-    /// Takes bytes of the piece through the end of the next event, or all of them. After a stop, and after the last
-    /// event, it takes none.
+    /// Takes bytes of the piece through the end of the next event, or all of them. After a stop,
+    /// and after the last event, it takes none.
     pub fn feed(&mut self, piece: &[u8]) -> Result<Fed<M::Event>, Stop>
-        // If `StandsAt` held for all earlier input, it holds for that input followed by these bytes.
+        // If `StandsAt` held for all earlier input, it holds for that input followed by these
+        // bytes.
         ensures feeds { FeedsOnce self.old piece.now result self.new }
         ensures stop { halt_of self.new ≡ stop_of result }
         ensures used { IfOk result (λ fed.
@@ -249,7 +252,8 @@ impl<M: Machine> Feeder<M> {
         }
     }
 
-    /// Takes a prefix of a piece that is fast to take and ends no statement. It returns the length of the prefix.
+    /// Takes a prefix of a piece that is fast to take and ends no statement. It returns the length
+    /// of the prefix.
     #[inline(always)]
     pub(crate) fn feed_fast(&mut self, piece: &[u8]) -> usize
         requires unfinished { is_complete self.old ≡ false }
@@ -268,8 +272,8 @@ impl<M: Machine> Feeder<M> {
         entered + self.feed_body(&piece[entered..])
     }
 
-    /// If no statement has begun, takes a prefix of a piece, at most through the first byte of one. It returns the
-    /// length.
+    /// If no statement has begun, takes a prefix of a piece, at most through the first byte of one.
+    /// It returns the length.
     #[inline(always)]
     fn skip_gap(&mut self, piece: &[u8]) -> usize
         requires unfinished { is_complete self.old ≡ false }
@@ -294,7 +298,8 @@ impl<M: Machine> Feeder<M> {
         used
     }
 
-    /// Takes a byte between two statements, or the first byte of one, if that is fast. It returns whether it did.
+    /// Takes a byte between two statements, or the first byte of one, if that is fast. It returns
+    /// whether it did.
     #[inline(always)]
     fn try_continue(&mut self, byte: u8) -> bool
         requires unfinished { is_complete self.old ≡ false }
@@ -320,7 +325,8 @@ impl<M: Machine> Feeder<M> {
         true
     }
 
-    /// Takes a prefix of a piece while the statement that has begun continues. It returns the length of the prefix.
+    /// Takes a prefix of a piece while the statement that has begun continues. It returns the
+    /// length of the prefix.
     #[inline(always)]
     fn feed_body(&mut self, piece: &[u8]) -> usize
         requires unfinished { is_complete self.old ≡ false }

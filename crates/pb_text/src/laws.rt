@@ -14,7 +14,8 @@ ghost use Rattle.pb_text.specs.declared.place.Stop.{Stop};
 
 use crate::machine::Machine;
 
-/// However the input is cut: after any sequence of feeds to a new feeder, the results are a read of all bytes fed.
+/// However the input is cut: after any sequence of feeds to a new feeder, the results are a read of
+/// all bytes fed.
 pub fn any_cutting<M: Machine>()
     // If none stopped, the number of bytes used is what the feeds report.
     ensures reads { (longest : ℕ) (start : M) (before after : Feeder M M.Event M.Machine)
@@ -34,8 +35,8 @@ pub fn any_cutting<M: Machine>()
         → IsUnread (halt_of after) }
 {}
 
-/// A feeder that `StandsAt` its input has read it. The spans that it returned, its position, whether the text is
-/// complete, and its stop are those of a read.
+/// A feeder that `StandsAt` its input has read it. The spans that it returned, its position,
+/// whether the text is complete, and its stop are those of a read.
 pub fn standing_is_reading<M: Machine>()
     ensures { (longest : ℕ) (start : M) (input : List ℕ) (spans : List (Spanned M.Event))
         (feeder : Feeder M M.Event M.Machine)
@@ -44,19 +45,21 @@ pub fn standing_is_reading<M: Machine>()
         (place_of feeder) (is_complete feeder) (halt_of feeder) }
 {}
 
-/// All texts of a machine that begin with the same prefix have the same statements that end within it, at the same
-/// positions.
+/// All texts of a machine that begin with the same prefix have the same statements that end within
+/// it, at the same positions.
 pub fn fixed_spans<M: Machine>()
     ensures { (start : M) → HasFixedSpans (AcceptsItems M.automaton start) }
 {}
 
-/// A feeder stores only its machine, the positions of the next byte and of the statement that has begun, its limit and
-/// its stop, as contracts see these. What the types of the fields hide is not covered.
+/// A feeder stores only its machine, the positions of the next byte and of the statement that has
+/// begun, its limit and its stop, as contracts see these. What the types of the fields hide is not
+/// covered.
 pub fn keeps_its_parts<M: Machine>()
     ensures { KeepsItsParts M M.Event M.Machine }
 {}
 
-/// A list stores only the vector of its values, and a text only the vector of its bytes, as contracts see these.
+/// A list stores only the vector of its values, and a text only the vector of its bytes, as
+/// contracts see these.
 pub fn lists_keep_their_items<T>()
     ensures lists { SequenceKeeps T }
     ensures texts { BytesKeep }

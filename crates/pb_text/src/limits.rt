@@ -18,8 +18,8 @@ pub struct Limits {
 impl Limits {
     ghost use Rattle.pb_text.specs.meaning.Limits.{bits_of, top_of, largest, AreLimits};
 
-    /// Limits with `bits` from 31 to 127, and `top` from 1 to the smaller of `2^63 - 1` and `2^bits - 1`. Otherwise
-    /// `None`.
+    /// Limits with `bits` from 31 to 127, and `top` from 1 to the smaller of `2^63 - 1` and
+    /// `2^bits - 1`. Otherwise `None`.
     pub fn new(bits: u32, top: u64) -> Option<Limits>
         ensures valid { IsSome result ↔ AreLimits bits top }
         ensures bits { IfSome result (λ limits. bits_of limits ≡ bits) }

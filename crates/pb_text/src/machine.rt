@@ -20,8 +20,9 @@ pub enum Push<E> {
 
 /// A reader of a text, one byte at a time.
 ///
-/// Its automaton alone says what a machine accepts: the states that bytes lead to, and the statements that end on the
-/// way. A machine stores the statement that it is in, and nothing of earlier ones.
+/// Its automaton alone says what a machine accepts: the states that bytes lead to, and the
+/// statements that end on the way. A machine stores the statement that it is in, and nothing of
+/// earlier ones.
 pub trait Machine {
     type Event;
 
@@ -32,8 +33,8 @@ pub trait Machine {
         ensures pushes { Pushes automaton self.old byte result self.new }
         ensures state { IsState automaton self.new };
 
-    /// Takes a byte that ends no statement, if that is fast and no allocation is refused. Otherwise it leaves the
-    /// machine unchanged, and `push` says why.
+    /// Takes a byte that ends no statement, if that is fast and no allocation is refused. Otherwise
+    /// it leaves the machine unchanged, and `push` says why.
     fn try_continue(&mut self, byte: u8) -> bool
         ensures continues { Continues automaton self.old byte result self.new }
         ensures state { IsState automaton self.new }
@@ -43,8 +44,8 @@ pub trait Machine {
         false
     }
 
-    /// Takes a byte that ends a statement, if that is fast and no allocation is refused, and returns the event.
-    /// Otherwise it leaves the machine unchanged, and `push` says why.
+    /// Takes a byte that ends a statement, if that is fast and no allocation is refused, and
+    /// returns the event. Otherwise it leaves the machine unchanged, and `push` says why.
     fn try_finish(&mut self, byte: u8) -> Option<Self::Event>
         ensures finishes { Finishes automaton self.old byte result self.new }
         ensures state { IsState automaton self.new }
@@ -54,8 +55,9 @@ pub trait Machine {
         None
     }
 
-    /// Takes the first byte of a piece as `try_continue` does, or a longer prefix that is faster to take at once.
-    /// Such a prefix may be a whole name or number. It returns the number of bytes taken.
+    /// Takes the first byte of a piece as `try_continue` does, or a longer prefix that is faster to
+    /// take at once. Such a prefix may be a whole name or number. It returns the number of bytes
+    /// taken.
     fn take_prefix(&mut self, piece: &[u8]) -> usize
         requires { 0 < length piece.now }
         ensures bound { result ≤ length piece.now }
@@ -65,8 +67,8 @@ pub trait Machine {
         if self.try_continue(piece[0]) { 1 } else { 0 }
     }
 
-    /// Takes a prefix of a piece as `try_continue` does, and returns its length. It may leave bytes that
-    /// `try_continue` would take.
+    /// Takes a prefix of a piece as `try_continue` does, and returns its length. It may leave bytes
+    /// that `try_continue` would take.
     fn take_run(&mut self, piece: &[u8]) -> usize
         ensures bound { result ≤ length piece.now }
         ensures runs { Runs automaton self.old (take result piece.now) self.new }
@@ -84,8 +86,9 @@ pub trait Machine {
         taken
     }
 
-    /// Takes a whole statement at the start of a piece, if none has begun and that is fast. It returns the index of its
-    /// last byte, and the event. Otherwise it leaves the machine unchanged.
+    /// Takes a whole statement at the start of a piece, if none has begun and that is fast. It
+    /// returns the index of its last byte, and the event. Otherwise it leaves the machine
+    /// unchanged.
     fn take_statement(&mut self, piece: &[u8]) -> Option<(usize, Self::Event)>
         ensures statement { TakesStatement automaton self.old piece.now result self.new }
         ensures state { IsState automaton self.new }

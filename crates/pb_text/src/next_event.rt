@@ -15,8 +15,9 @@ use crate::machine::Machine;
 use crate::place::{Spanned, Stop, Why};
 use crate::source::{Failed, Source};
 
-/// The next event of the source, or `None` after the last one. It takes exactly the bytes used. If the source has no
-/// more bytes, it returns what `finish` would. Once done or stopped, it does not call the source.
+/// The next event of the source, or `None` after the last one. It takes exactly the bytes used. If
+/// the source has no more bytes, it returns what `finish` would. Once done or stopped, it does not
+/// call the source.
 pub fn pull<S: Source, M: Machine>(
     source: &mut S,
     feeder: &mut Feeder<M>,
@@ -47,7 +48,8 @@ pub fn pull<S: Source, M: Machine>(
     // `Memory` comes only at a byte that may allocate.
     ensures memory { halt_of feeder.old ≡ None → IfErr result (λ stop. (b : ℕ) ×
         WantsMemory stop feeder.new b) }
-    // A rejected byte is the one that the source has shown. The input ends only if the source has shown its end.
+    // A rejected byte is the one that the source has shown. The input ends only if the source has
+    // shown its end.
     ensures shown { halt_of feeder.old ≡ None →
         IfErr result (λ stop. IsShown (S.shown source.new) (S.ended source.new) stop.why) }
     ensures state { halt_of feeder.old ≡ None → IsState M.automaton (state_of feeder.new) }
@@ -58,8 +60,8 @@ pub fn pull<S: Source, M: Machine>(
     if feeder.is_done() {
         return Ok(None);
     }
-    // Each loop takes the available bytes, at most through the end of a statement. If none ends there, it also takes
-    // the next byte.
+    // Each loop takes the available bytes, at most through the end of a statement. If none ends
+    // there, it also takes the next byte.
     loop {
         match source.pour(feeder) {
             Ok(None) => {}

@@ -15,8 +15,9 @@ use crate::sink::Sink;
 use crate::source::{Failed, Source};
 use std::io::{BufRead, Write};
 
-/// The bytes of a reader or a writer in order. It fails if a call to the reader or writer failed, or if a write took no
-/// byte. An interrupted call is a failure like any other, and nothing is retried.
+/// The bytes of a reader or a writer in order. It fails if a call to the reader or writer failed,
+/// or if a write took no byte. An interrupted call is a failure like any other, and nothing is
+/// retried.
 #[derive(Drop)]
 pub struct Over<T> {
     inner: T,
@@ -136,8 +137,8 @@ fn next_of<T: BufRead>(reader: &mut T) -> Result<Option<u8>, Failed>
     }
 }
 
-/// Feeds the available bytes of a reader to a feeder, at most through the end of a statement, and takes them. It counts
-/// a failure.
+/// Feeds the available bytes of a reader to a feeder, at most through the end of a statement, and
+/// takes them. It counts a failure.
 fn pour_from<T: BufRead, M: Machine>(
     reader: &mut T,
     history: &mut History,

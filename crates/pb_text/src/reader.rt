@@ -14,9 +14,9 @@ use crate::place::{Spanned, Stop};
 use crate::whole::{Gather, read_whole};
 use std::io::BufRead;
 
-/// Reads one text of a machine from a reader, as `read_whole` does. It also returns the source over the reader, which
-/// counts the failures of the reader. If the reader reports its bytes, those left are the ones after that text, or
-/// after the last byte taken.
+/// Reads one text of a machine from a reader, as `read_whole` does. It also returns the source over
+/// the reader, which counts the failures of the reader. If the reader reports its bytes, those left
+/// are the ones after that text, or after the last byte taken.
 pub fn read_from<T: BufRead + Drop, M: Machine + Drop, G: Gather<Event = M::Event> + Drop>(
     reader: T,
     machine: M,
@@ -28,11 +28,13 @@ pub fn read_from<T: BufRead + Drop, M: Machine + Drop, G: Gather<Event = M::Even
     ensures reads { ReadsWhole (AcceptsItems M.automaton machine) longest G.with empty
         (MayAsk M.automaton machine) G.asks (T.remaining reader) result.0
         (T.remaining (inner_of result.1)) }
-    // For any reader, also a file: what was read is a text of the bytes that the calls of the source have given.
+    // For any reader, also a file: what was read is a text of the bytes that the calls of the
+    // source have given.
     ensures given { OfGiven (λ left rest.
         ReadsWhole (AcceptsItems M.automaton machine) longest G.with empty
         (MayAsk M.automaton machine) G.asks left result.0 rest) [] (history_of result.1) }
-    // A rejected byte is the one that the source has shown. The input ends only if the source has shown its end.
+    // A rejected byte is the one that the source has shown. The input ends only if the source has
+    // shown its end.
     ensures shown { IfErr result.0 (λ s. IsShown (shown_of result.1) (ended_of result.1) s.why) }
     ensures past { IfOk result.0 (λ m. IsInReach m.past) }
     // `Read` comes only if the reader failed.

@@ -13,7 +13,8 @@ pub trait Sink {
     /// How many times it has failed.
     ghost faults: { Self → ℕ };
 
-    /// Takes a prefix of a piece, at least one byte, and returns its length. If it fails, it takes none.
+    /// Takes a prefix of a piece, at least one byte, and returns its length. If it fails, it takes
+    /// none.
     fn take(&mut self, piece: &[u8]) -> Result<usize, Failed>
         requires { 0 < length piece.now }
         ensures { Takes contents faults self.old piece.now result self.new };

@@ -53,8 +53,9 @@ pub trait Source {
         requires { (b : ℕ) × (shown self.old ≡ Some b) }
         ensures { Skips left shown ended history faults self.old self.new };
 
-    /// Feeds available bytes to a feeder, at most through the end of a statement, and takes them. It returns the
-    /// event that ends there, if any. It may take no bytes; the default implementation takes none.
+    /// Feeds available bytes to a feeder, at most through the end of a statement, and takes them.
+    /// It returns the event that ends there, if any. It may take no bytes; the default
+    /// implementation takes none.
     fn pour<M: Machine>(
         &mut self,
         feeder: &mut Feeder<M>,

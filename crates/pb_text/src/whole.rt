@@ -31,10 +31,11 @@ pub trait Gather {
         ensures asking { OnErr result (IsTrue (asks self.old event)) };
 }
 
-/// Reads one text of a machine and collects its events, starting with `empty`. It takes only the bytes of that text.
+/// Reads one text of a machine and collects its events, starting with `empty`. It takes only the
+/// bytes of that text.
 ///
-/// A stop is that of the machine's feeder, which reports `Memory` only at a byte that may allocate. `Memory` also comes
-/// if an event could not be stored; its position is then after that event.
+/// A stop is that of the machine's feeder, which reports `Memory` only at a byte that may allocate.
+/// `Memory` also comes if an event could not be stored; its position is then after that event.
 pub fn read_whole<S: Source, M: Machine + Drop, G: Gather<Event = M::Event> + Drop>(
     source: &mut S,
     machine: M,
@@ -50,7 +51,8 @@ pub fn read_whole<S: Source, M: Machine + Drop, G: Gather<Event = M::Event> + Dr
         ReadsWhole (AcceptsItems M.automaton machine) longest G.with empty
         (MayAsk M.automaton machine) G.asks left result rest) (S.history source.old)
         (S.history source.new) }
-    // A rejected byte is the one that the source has shown. The input ends only if the source has shown its end.
+    // A rejected byte is the one that the source has shown. The input ends only if the source has
+    // shown its end.
     ensures shown { IfErr result (λ s. IsShown (S.shown source.new) (S.ended source.new) s.why) }
     ensures past { IfOk result (λ m. IsInReach m.past) }
     // `Read` comes only if the source failed.

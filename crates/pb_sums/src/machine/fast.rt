@@ -23,8 +23,8 @@ impl SumMachine {
     ghost use Rattle.pb_sums.specs.engine.Prefix.{LacksNumber, LacksRelation, begins_number, begins_relation, sign_read};
     ghost use Rattle.pb_sums.specs.engine.State.{sums};
 
-    /// If a term may begin, takes a whole term and a space after it. After the sign of a term, takes the rest and the
-    /// space.
+    /// If a term may begin, takes a whole term and a space after it. After the sign of a term,
+    /// takes the rest and the space.
     #[inline(always)]
     fn take_term(&mut self, text: &[u8]) -> usize
         ensures bound { result ≤ length text.now }
