@@ -19,7 +19,7 @@ use crate::clauses::watched::Pair;
 use crate::run::{Run, place_of};
 use crate::shared::Shared;
 use crate::store::sorted_form::SortedForm;
-use crate::store::stored_form::{StoredForm, is_below};
+use crate::store::stored_form::StoredForm;
 use crate::store::{Occurrence, Store};
 use pb_normal::{Normal, NumberedLiteral};
 use std::alloc::{AllocError, Global};
@@ -34,7 +34,6 @@ fn bound_of(terms: &SortedForm, degree: u128) -> u128
         result ≡ degree + (slice_index_or (terms_of terms.now) 0 d).coefficient }
     ensures calm { (opened c : ℕ) → result ≤ opened →
         IsCalm record { terms = terms_of terms.now; degree = degree } opened c }
-    ensures some { 0 < result → 0 < degree + length (terms_of terms.now) }
 {
     if terms.len() == 0 {
         return degree;
@@ -69,14 +68,12 @@ fn stored_of(alloc: Global, form: Shared) -> Result<StoredForm, AllocError>
     let total = normal.size();
     let terms = SortedForm::new(alloc, form)?;
     let bound = bound_of(&terms, degree);
-    let eager = is_below(total, bound);
     let even = is_even(&terms);
     Ok(StoredForm {
         terms,
         degree,
         total,
         bound,
-        eager,
         even,
     })
 }
@@ -171,7 +168,6 @@ fn empty_stored(alloc: Global) -> StoredForm
         degree: 0,
         total: 0,
         bound: 0,
-        eager: false,
         even: true,
     }
 }
@@ -186,7 +182,6 @@ fn watched_stored(alloc: Global, form: Shared) -> StoredForm
         degree: 0,
         total: 0,
         bound: 0,
-        eager: false,
         even: true,
     }
 }

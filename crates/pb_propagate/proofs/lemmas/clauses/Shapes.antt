@@ -130,11 +130,6 @@ pub conflicts-joined : (xs : List Shape) (clauses : List (List ℕ)) (list : Lis
 conflicts-joined xs clauses list j (opposed l here there) = opposed l here there
 conflicts-joined xs clauses list j (broken f among low) = broken f (kept-joined xs clauses f j among (omega (arith, low))) low
 
-pub refuted-joined : (xs : List Shape) (clauses : List (List ℕ)) (given list : List NumberedLiteral) → AreJoined xs clauses → IsRefuted xs given list → IsRefuted (joined xs clauses) given list
-refuted-joined xs clauses given list j (opposite l here there) = opposite l here there
-refuted-joined xs clauses given list j (derived d low) =
-    derived (record { first = d.first; within = d.within; covers = d.covers; derived = derives-joined xs clauses d.first list j d.derived }) (conflicts-joined xs clauses list j low)
-
 -- what a clause derives
 one-among : (codes : List ℕ) (x : ℕ) → Contains codes x → Contains (map one_term codes) (one_term x)
 one-among codes x (k, inside, is) = (k, omega (arith, inside, length-map codes one_term), get_or-map one_term codes k x (one_term x) inside ∙ ap one_term is)

@@ -44,12 +44,6 @@ absent-before xs l k h = elim (cases_Bool (has xs k)) [
   | inr gone ↦ gone
 ]
 
-one-of-two : (m n : Bool) → (m ≡ n) ⊎ (m ≡ not n)
-one-of-two true true = inl refl
-one-of-two true false = inr refl
-one-of-two false true = inr refl
-one-of-two false false = inl refl
-
 says-elsewhere : (values : List (Option Bool)) (v : ℕ) (k : NumberedLiteral) → (k.variable ≡ v → ⊥) → says (set values v None) k ≡ says values k
 unfolding says
 says-elsewhere values v k apart = ap (λ x. holds x k.negated) (get_or-set_other values v k.variable None None apart)
@@ -101,16 +95,6 @@ pub record IsCut (values0 : List (Option Bool)) (list0 : List NumberedLiteral) (
   pub within : length list ≤ length list0
   pub enough : min count (length list0) ≤ length list
 
-pub cut-start : (values : List (Option Bool)) (list : List NumberedLiteral) (count : ℕ) → Agree values list → length list + sum_by vacancy values ≡ length values → IsCut values list count values list
-cut-start values list count a room = record {
-  agrees = a;
-  room = room;
-  sizes = refl;
-  first = sym (take_all (length list) list (omega arith));
-  within = omega arith;
-  enough = omega arith;
-}
-
 take-take : {X : Type 0} (m n : ℕ) (xs : List X) → m ≤ n → take m (take n xs) ≡ take m xs
 take-take zero n [] h = refl
 take-take zero zero (x ∷ xs) h = refl
@@ -142,8 +126,3 @@ cut-next values0 list0 count values list n l more e is c =
       within = omega (arith, short, e, c.within);
       enough = omega (arith, short, e, more);
     }
-
-pub cut-end : (values0 : List (Option Bool)) (list0 : List NumberedLiteral) (count : ℕ) (values : List (Option Bool)) (list : List NumberedLiteral) → length list ≤ count → IsCut values0 list0 count values list → list ≡ take count list0
-cut-end values0 list0 count values list short c =
-    let size : length list ≡ min count (length list0) = omega (arith, short, c.within, c.enough) in
-    c.first ∙ ap (λ k. take k list0) size ∙ take_min count list0

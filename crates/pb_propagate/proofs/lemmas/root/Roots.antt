@@ -108,32 +108,6 @@ kept-rooted store clauses run run' rests rests' aside waiting' walked e tidy wai
       live = live;
     }
 
--- what a propagation from nothing needs, if questions return to where it starts
-pub start-counted : (keep : List StoredForm) (opens cands : List ℕ) → AreAtRest keep opens cands → IsCounted (shapes_of keep) opens [] []
-start-counted keep opens cands r = record {
-  each = λ s d inside.
-      let at = rest-at keep opens cands r s d (omega (arith, inside, length-map keep stored_shape)) in
-      let sum = open_sum-empty (get_or (shapes_of keep) s d).terms in
-      let nothing : weight_in s [] ≡ 0 = refl in
-      omega (arith, at.0, sum, nothing);
-}
-
-pub start-tidy : (rests : Rests) (keep : List StoredForm) (eager opens cands : List ℕ) → rests.opens.items ≡ opens → rests.starts.items ≡ cands → AreAtRest keep opens cands → IsEager keep eager → IsTidy (beside rests eager) (shapes_of keep) opens cands [] [] [] 0 (length keep)
-start-tidy rests keep eager opens cands opened started r e = record {
-  calm = λ s d inside idle off gone.
-      let at = rest-at keep opens cands r s d (omega (arith, inside, length-map keep stored_shape)) in
-      rw (at.0, at.1) ((calm-but keep eager e).aside s d inside off);
-  passed = λ s d inside k f before within. absurd (omega (arith, before, (rest-at keep opens cands r s d (omega (arith, inside, length-map keep stored_shape))).1));
-  bounded = λ s d inside. omega (arith, (rest-at keep opens cands r s d (omega (arith, inside, length-map keep stored_shape))).1);
-  clean = λ s d inside gone. (
-    get_or_default opens s 0 (size (get_or (shapes_of keep) s d).terms) (omega (arith, inside, length-map keep stored_shape, (rest-lengths keep opens cands r).0)) ∙ sym (ap (λ xs. get_or xs s (size (get_or (shapes_of keep) s d).terms)) opened),
-    sym (ap (λ xs. get_or xs s 0) started),
-  );
-  named = λ i d less. absurd (omega (arith, less));
-  marked = λ i d less. absurd (omega (arith, less));
-  traced = λ s gone. gone;
-}
-
 -- the root of no forms over no variables
 pub new-rooted : (store : Store) (clauses : Clauses) (run : Run) (rests : Rests) (waiting : Eager) (walked : Walked) → store.stored.items ≡ [] → store.variables ≡ 0 → run.assignment.values.items ≡ [] → run.assignment.list.items ≡ [] → run.opens.items ≡ [] → run.candidates.items ≡ [] → run.work.items ≡ [] → run.trail.items ≡ [] → run.next ≡ 0 →
     rests.opens.items ≡ [] → rests.starts.items ≡ [] → waiting.list.items ≡ [] → waiting.seats.items ≡ [] → walked.heads ≡ heads_at 0 → walked.marks.items ≡ [] → IsRooted store clauses run rests waiting walked (length store.stored.items)

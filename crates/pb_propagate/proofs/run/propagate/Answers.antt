@@ -45,19 +45,14 @@ next_walk-requires c =
 
 pub walk-requires-clause-failed : goal.walk-requires-clause-failed
 walk-requires-clause-failed c =
-    let store = c.args.store.now in
     let run = c.work.run in
-    let state = c.work.invariant.state in
-    let w = c.work.invariant.watching in
     let a = subst (λ xs. IsAhead c.work.heads xs c.in-Some.ahead) c.as_slice.ensures.value c.in-Some.ensures.some in
     let next = next-of run.assignment.values.items run.assignment.list.items a.group (head a.group c.work.heads) a.literal run.assignment.agrees a.inside a.is in
     ap (false_at run.assignment.values.items) a.code ∙ next.failed
 
 pub walk-requires-clause-literal : goal.walk-requires-clause-literal
 walk-requires-clause-literal c =
-    let store = c.args.store.now in
     let run = c.work.run in
-    let state = c.work.invariant.state in
     let w = c.work.invariant.watching in
     let a = subst (λ xs. IsAhead c.work.heads xs c.in-Some.ahead) c.as_slice.ensures.value c.in-Some.ensures.some in
     let next = next-of run.assignment.values.items run.assignment.list.items a.group (head a.group c.work.heads) a.literal run.assignment.agrees a.inside a.is in
@@ -103,9 +98,7 @@ returns-then-branch-2-clause-reasons c =
 pub returns-then-branch-2-clause-undone : goal.returns-then-branch-2-clause-undone
 returns-then-branch-2-clause-undone c =
     let store = c.args.store.now in
-    let run = c.work.run in
     let state = c.work.invariant.state in
-    let w = c.work.invariant.watching in
     let tidy = c.in_ok-walk.ensures.tidy (drop c.work.taken c.args.waiting.now) (length store.stored.items) state.tidy in
     record { clean = tidy.clean; named = tidy.marked }
 
@@ -113,7 +106,6 @@ pub returns-then-branch-2-clause-conflict : goal.returns-then-branch-2-clause-co
 returns-then-branch-2-clause-conflict c =
     let store = c.args.store.now in
     let run = c.work.run in
-    let state = c.work.invariant.state in
     let w = c.work.invariant.watching in
     λ found. subst (λ ls. Conflicts (joined (shapes_of c.args.store.now.stored.items) ls) c.walk.new.run.assignment.list.items) w.literals (c.in_ok-walk.ensures.conflict c.if-branch-2.true)
 
@@ -161,7 +153,6 @@ returns-else-taken-waiting-clause-values c =
 
 pub work-smaller-in-Some : goal.work-smaller-in-Some
 work-smaller-in-Some c =
-    let store = c.args.store.now in
     let run = c.work.run in
     let state = c.work.invariant.state in
     let w = c.work.invariant.watching in
@@ -215,7 +206,6 @@ visit_form-requires-clause-tidy c =
 
 pub returns-in_err-visit_form-clause-costs : goal.returns-in_err-visit_form-clause-costs
 returns-in_err-visit_form-clause-costs c =
-    let store = c.args.store.now in
     let run = c.work.run in
     let state = c.work.invariant.state in
     let w = c.work.invariant.watching in
@@ -226,7 +216,6 @@ returns-in_err-visit_form-clause-costs c =
 
 pub returns-then-branch-clause-costs : goal.returns-then-branch-clause-costs
 returns-then-branch-clause-costs c =
-    let store = c.args.store.now in
     let run = c.work.run in
     let state = c.work.invariant.state in
     let w = c.work.invariant.watching in
@@ -239,7 +228,6 @@ pub returns-then-branch-clause-running : goal.returns-then-branch-clause-running
 returns-then-branch-clause-running c =
     let store = c.args.store.now in
     let run = c.work.run in
-    let state = c.work.invariant.state in
     let w = c.work.invariant.watching in
     let done = c.visit_form.new.run in
     let derived = derives-joined (shapes_of store.stored.items) (clauses_of c.args.clauses.now) run.assignment.list.items done.assignment.list.items c.requires.joined (reasons-derive c.in_ok-visit_form.ensures.reasons.added) in
@@ -256,7 +244,6 @@ returns-then-branch-clause-conflict c =
 
 pub work-smaller-else-branch : goal.work-smaller-else-branch
 work-smaller-else-branch c =
-    let store = c.args.store.now in
     let run = c.work.run in
     let state = c.work.invariant.state in
     let w = c.work.invariant.watching in
@@ -318,7 +305,6 @@ returns-else-taken-waiting-clause-costs c =
 
 pub work-smaller : goal.work-smaller
 work-smaller c =
-    let store = c.args.store.now in
     let run = c.work.run in
     let state = c.work.invariant.state in
     let w = c.work.invariant.watching in
@@ -328,7 +314,6 @@ work-smaller c =
 pub work-preserved : goal.work-preserved
 work-preserved c =
     let store = c.args.store.now in
-    let run = c.work.run in
     let state = c.work.invariant.state in
     let w = c.work.invariant.watching in
     let less : c.work.taken < length c.args.waiting.now = omega (arith, c.if-taken-waiting.true) in

@@ -118,7 +118,6 @@ pub returns-then-branch-clause-advances : goal.returns-then-branch-clause-advanc
 returns-then-branch-clause-advances c =
     let i = c.watches.invariant in
     let inside : c.watches.index < length (list_at (watch_lists c.watches.clauses.lists.items) c.args.literal) = omega (arith, c.watches-test.true, c.watch_count.ensures) in
-    let v : HasVisited c.watches.run.assignment.values.items c.watches.clauses c.visit_clause.new.clauses c.args.literal c.watches.index (Forces c.in-Forces.forced) = subst (HasVisited c.watches.run.assignment.values.items c.watches.clauses c.visit_clause.new.clauses c.args.literal c.watches.index) c.in-Forces.is c.in_ok-visit_clause.ensures.watch in
     walk-then (walk-ends (database c.args.store.now c.args.rests.now) c.args.clauses.now c.watches.clauses c.visit_clause.new.clauses c.args.literal c.watches.index c.visit_clause.new.visits inside c.visit_clause.ensures.covered c.visit_clause.ensures.rising i.advances) c.in_ok-put-in-Forces.ensures.advances
 
 pub returns-then-branch-clause-conflict : goal.returns-then-branch-clause-conflict

@@ -64,7 +64,6 @@ pub record IsUnlisted (k : StoredForm) : Type 0 where
   pub terms : terms_of k.terms ≡ []
   pub degree : k.degree ≡ 0
   pub total : k.total ≡ 0
-  pub eager : k.eager ≡ false
 
 -- an empty form
 pub record IsEmpty (k : StoredForm) : Type 0 where
@@ -72,4 +71,3 @@ pub record IsEmpty (k : StoredForm) : Type 0 where
   pub terms : terms_of k.terms ≡ []
   pub degree : k.degree ≡ 0
   pub total : k.total ≡ 0
-  pub eager : k.eager ≡ false

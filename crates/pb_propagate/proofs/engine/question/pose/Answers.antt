@@ -68,8 +68,6 @@ propagate-requires-clause-opens c =
     let keep = store.stored.items in
     let root = c.update.new.self in
     let run = root.run in
-    let rests = root.rests in
-    let between = c.update.new.clauses in
     let r = c.in_ok-update.ensures.rooted in
     let new = c.enter.new in
     let h = c.in_ok-enter.ensures.entered in
@@ -81,17 +79,11 @@ propagate-requires-clause-opens c =
 pub propagate-requires-clause-single : goal.propagate-requires-clause-single
 propagate-requires-clause-single c =
     let store = c.args.store.now in
-    let keep = store.stored.items in
     let root = c.update.new.self in
     let run = root.run in
-    let rests = root.rests in
     let between = c.update.new.clauses in
     let r = c.in_ok-update.ensures.rooted in
-    let new = c.enter.new in
-    let h = c.in_ok-enter.ensures.entered in
-    let list_is = ap (λ (a : Assignment). a.list.items) c.enter.ensures.rest.0 in
     let laid_is = ap (λ (a : Assignment). a.list.items) (c.lay.ensures.assignment ∙ c.enter.ensures.rest.0) in
-    let number_is : c.len-number.result ≡ length keep = omega (arith, c.len-number.ensures, store.stored.ok.0) in
     rw laid_is (derivation-single (all_of store between) [] run.assignment.list.items none (reasons-derive r.reasoned))
 
 pub propagate-requires-clause-joined : goal.propagate-requires-clause-joined
@@ -100,12 +92,9 @@ propagate-requires-clause-joined c =
     let keep = store.stored.items in
     let root = c.update.new.self in
     let run = root.run in
-    let rests = root.rests in
     let between = c.update.new.clauses in
-    let r = c.in_ok-update.ensures.rooted in
     let new = c.enter.new in
     let h = c.in_ok-enter.ensures.entered in
-    let list_is = ap (λ (a : Assignment). a.list.items) c.enter.ensures.rest.0 in
     let lit : clauses_of between ≡ clauses_of c.args.clauses.now = c.update.ensures.literals in
     rw lit (joined-entered c.args.form keep new.store.stored.items (clauses_of c.args.clauses.now) run.opens.items new.run.opens.items run.candidates.items new.run.candidates.items h c.requires.standing.joined)
 
@@ -115,8 +104,6 @@ propagate-requires-clause-counted c =
     let keep = store.stored.items in
     let root = c.update.new.self in
     let run = root.run in
-    let rests = root.rests in
-    let between = c.update.new.clauses in
     let r = c.in_ok-update.ensures.rooted in
     let new = c.enter.new in
     let h = c.in_ok-enter.ensures.entered in
@@ -133,7 +120,6 @@ propagate-requires-clause-tidy c =
     let root = c.update.new.self in
     let run = root.run in
     let rests = root.rests in
-    let between = c.update.new.clauses in
     let r = c.in_ok-update.ensures.rooted in
     let new = c.enter.new in
     let h = c.in_ok-enter.ensures.entered in
@@ -225,7 +211,6 @@ returns-clause-asked c =
     let keep = store.stored.items in
     let root = c.update.new.self in
     let run = root.run in
-    let rests = root.rests in
     let between = c.update.new.clauses in
     let r = c.in_ok-update.ensures.rooted in
     let new = c.enter.new in

@@ -29,15 +29,11 @@ propagate-requires-clause-running c = ready-running c.args.clauses.now c.args.se
 -- an allocation ends it
 pub returns-in_err-found-clause-costs : goal.returns-in_err-found-clause-costs
 returns-in_err-found-clause-costs c =
-    let me = c.args.self.now in
-    let count_is : c.len-count.result ≡ length me.run.assignment.list.items = omega (arith, c.len-count.ensures, me.run.assignment.list.ok.0) in
     let spends = rw c.as_slice.ensures.value at c.propagate.ensures.costs in
     record { ended = c.propagate.new.run; spends = spends; visits = refl }
 
 pub returns-in_err-note-clause-costs : goal.returns-in_err-note-clause-costs
 returns-in_err-note-clause-costs c =
-    let me = c.args.self.now in
-    let count_is : c.len-count.result ≡ length me.run.assignment.list.items = omega (arith, c.len-count.ensures, me.run.assignment.list.ok.0) in
     let spends = rw c.as_slice.ensures.value at c.propagate.ensures.costs in
     record { ended = c.propagate.new.run; spends = spends; visits = refl }
 
@@ -53,8 +49,6 @@ returns-then-found-clause-lists c = omega (arith, ap (λ (v : Vec (Vec Listed Gl
 
 pub returns-then-found-clause-costs : goal.returns-then-found-clause-costs
 returns-then-found-clause-costs c =
-    let me = c.args.self.now in
-    let count_is : c.len-count.result ≡ length me.run.assignment.list.items = omega (arith, c.len-count.ensures, me.run.assignment.list.ok.0) in
     let spends = rw c.as_slice.ensures.value at c.propagate.ensures.costs in
     record { ended = c.propagate.new.run; spends = spends; visits = c.back.ensures.visits }
 
@@ -102,8 +96,6 @@ returns-then-found-clause-met c = λ found. record {
 -- none is met
 pub returns-clause-costs : goal.returns-clause-costs
 returns-clause-costs c =
-    let me = c.args.self.now in
-    let count_is : c.len-count.result ≡ length me.run.assignment.list.items = omega (arith, c.len-count.ensures, me.run.assignment.list.ok.0) in
     let spends = rw c.as_slice.ensures.value at c.propagate.ensures.costs in
     record { ended = c.propagate.new.run; spends = spends; visits = c.keep.ensures.visits }
 
