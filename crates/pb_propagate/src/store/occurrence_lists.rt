@@ -9,9 +9,9 @@ ghost use Rattle.pb_propagate.specs.engine.Engine.Counts.{AreFalling, IsCalm, pl
 ghost use Rattle.pb_propagate.specs.engine.Engine.Forms.{IsStoredAs};
 ghost use Rattle.pb_propagate.specs.engine.Engine.Terms.{terms_of};
 ghost use Rattle.pb_propagate.specs.engine.Engine.Fields.{stored_shape, shapes_of, forms_of, spots_of, lists_of, entries_of, IsSound, HasEntered, HasFilled, IsEmpty, IsUnlisted, AreLonger};
+ghost use Rattle.pb_propagate.specs.engine.Engine.Slots.{MayHold};
 ghost use Rattle.pb_propagate.specs.engine.Engine.Links.{IsLinked, Moved, cut, terms_at};
-ghost use Rattle.pb_propagate.specs.engine.Clauses.Links.{list_at};
-ghost use Rattle.pb_propagate.specs.engine.Clauses.Runs.{AreReady, AreSet, CanHold, IsPair};
+ghost use Rattle.pb_propagate.specs.engine.Clauses.Runs.{AreReady, AreSet};
 ghost use Rattle.pb_propagate.specs.engine.Clauses.Shapes.{clauses_of, codes_of_terms};
 
 use crate::clauses::Clauses;
@@ -195,15 +195,7 @@ pub fn watch(
     codes: Vec<u32>,
     pair: Pair,
 ) -> Result<(), AllocError>
-    requires ready { AreReady clauses.old }
-    requires slot { slot < length store.old.stored.items }
-    requires known { length clauses.old.blocks.literals ≡ length store.old.stored.items }
-    requires empty { list_at (clauses_of clauses.old) slot ≡ [] }
-    requires codes { codes.items ≡ codes_of_terms form.terms }
-    requires room { CanHold clauses.old slot (length codes.items) }
-    requires pair { IsPair codes.items pair }
-    requires inside { All (λ t. t.variable < store.old.variables) form.terms }
-    requires widths { length clauses.old.lists.items ≡ 4 * store.old.variables }
+    requires { MayHold store.old clauses.old slot form codes.items pair }
     ensures ready { OnOk result (AreReady clauses.new) }
     ensures literals { OnOk result (clauses_of clauses.new ≡ slice_set (clauses_of clauses.old) slot
         (codes_of_terms form.terms)) }

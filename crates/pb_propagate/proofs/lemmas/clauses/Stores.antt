@@ -4,7 +4,7 @@ use Rattle.pb_propagate.proofs.Common.{get_or-set_same, Global, inl, inr, length
 use Rattle.pb_propagate.proofs.Common.{true, Vec, All, Contains, Option, slice_get, Some, both_ways, cases_eq, cases_lt}
 use Rattle.pb_propagate.proofs.Common.{get_or_past, get_or_read, map-append, Contains-get_or, slice_get_within, Clauses, Listed, Watch}
 use Rattle.pb_propagate.proofs.Common.{Search, begun, Contents, AreBlocked, AreFewer, AreLinked, AreMore, entries_at, idle, IsListed, list_at, Sits}
-use Rattle.pb_propagate.proofs.Common.{watch_at, watch_lists, AreNoted, AreReady, AreStored, IsPair, IsRunning, passed_of, search_at, flip}
+use Rattle.pb_propagate.proofs.Common.{watch_at, watch_lists, AreReady, AreStored, IsPair, IsRunning, passed_of, search_at, flip}
 use Rattle.pb_propagate.specs.declared.clauses.watched.Pair.{Pair}
 use Rattle.pb_propagate.proofs.lemmas.clauses.Linked.{list-within}
 use Rattle.pb_propagate.proofs.lemmas.clauses.Listed.{lists-length, watch-entries, listed-live, blocked-set}

@@ -1,7 +1,6 @@
 -- Literals, coded, and their truth.
-use Rattle.pb_propagate.proofs.Common.{ℕ, ◌*◌, ◌+◌, ◌/◌, ◌≡◌, arith, Bool, false, get_or, List, None, true, ◌%◌, ◌==◌, Option, Some, nat_tests}
-use Rattle.pb_propagate.proofs.Common.{is_failed, is_met}
-use Rattle.pb_propagate.specs.engine.Clauses.Truths.{flip, true_at, false_at}
+use Rattle.pb_propagate.proofs.Common.{ℕ, ◌*◌, ◌+◌, ◌/◌, ◌≡◌, arith, ◌%◌, ◌==◌, nat_tests}
+use Rattle.pb_propagate.specs.engine.Clauses.Truths.{flip}
 
 pub flip-half : (c : ℕ) → flip c / 2 ≡ c / 2
 unfolding flip

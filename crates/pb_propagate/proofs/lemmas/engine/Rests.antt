@@ -3,10 +3,9 @@ use Rattle.pb_propagate.proofs.Common.{ℕ, ◌++◌, ◌-◌, ◌<◌, ◌∙�
 use Rattle.pb_propagate.proofs.Common.{length-append, List, map, None, refl, set, subst, suc, sym, take, true, zero, All, Contains, Option}
 use Rattle.pb_propagate.proofs.Common.{slice_get, Some, take-append_seam, get_or-map}
 use Rattle.pb_propagate.proofs.Common.{length-map, map-append, Contains-append_left, Contains-push_cases, same_Some, Entry, Form}
-use Rattle.pb_propagate.proofs.Common.{opposite, StoredForm, AreJoined, IsCalm}
-use Rattle.pb_propagate.proofs.Common.{HasEntered, shapes_of, stored_shape, IsStoredAs, Shape, size, Live, AreAtRest, AreSlots, IsEager, IsSlot}
-use Rattle.pb_propagate.proofs.Common.{kept_waits, With}
-use Rattle.pb_propagate.proofs.lemmas.engine.Rested.{IsEager as IsCalmBut}
+use Rattle.pb_propagate.proofs.Common.{opposite, StoredForm, AreJoined}
+use Rattle.pb_propagate.proofs.Common.{HasEntered, shapes_of, stored_shape, IsStoredAs, Shape, Live, AreSlots, IsSlot}
+use Rattle.pb_propagate.proofs.Common.{With}
 use Rattle.pb_propagate.proofs.lemmas.engine.Bridge.{AreKept}
 use Rattle.pb_propagate.proofs.lemmas.store.Gets.{last-is}
 use Rattle.pb_propagate.proofs.lemmas.clauses.Slots.{AreJoined-push}

@@ -24,6 +24,19 @@ same-shape xs ys s d less same =
     let theirs : get_or (shapes_of ys) s d ≡ stored_shape k = get_or-map stored_shape ys s k d less ∙ ap stored_shape (e.at k) in
     mine ∙ sym theirs
 
+-- a slot without terms has no clause and no terms
+bare-parts : (x : Shape) (codes : List ℕ) → (slot_shape x codes).terms ≡ [] → x.terms ≡ []
+bare-parts x [] h = h
+bare-parts x (c ∷ codes) h = absurd (omega (arith, ap length h, length-map (c ∷ codes) one_term))
+
+pub bare-slot : (keep : List StoredForm) (clauses : List (List ℕ)) (s : ℕ) (d : Shape) → s < length keep → ((x : Shape) → slice_get (joined (shapes_of keep) clauses) s ≡ Some x → x.terms ≡ []) → (get_or (shapes_of keep) s d).terms ≡ []
+bare-slot keep clauses s d less bare =
+    let inside : s < length (shapes_of keep) = omega (arith, less, length-map keep stored_shape) in
+    let room : s < length (joined (shapes_of keep) clauses) = omega (arith, inside, joined-length (shapes_of keep) clauses) in
+    let x = get_or (joined (shapes_of keep) clauses) s d in
+    let none : x.terms ≡ [] = bare x (slice_get-get_or (joined (shapes_of keep) clauses) s d room) in
+    bare-parts (get_or (shapes_of keep) s d) (list_at clauses s) (ap (λ (f : Shape). f.terms) (sym (joined-at (shapes_of keep) clauses s d inside)) ∙ none)
+
 -- the lists after an entry was added for a new slot
 pub record Arrived (before store : Store) (old clauses : Clauses) (run run' : Run) (slot : ℕ) : Type 0 where
   pub sizes : length run'.opens.items ≡ length store.stored.items

@@ -2,7 +2,7 @@
 use Rattle.pb_propagate.proofs.Common.{ℕ, ◌++◌, ◌+◌, ◌<◌, ◌∙◌, ◌∷◌, ◌≡◌, ◌≤◌, ◌⊎◌, [], ap, arith, Bool, drop, false, get_or, get_or-set_other}
 use Rattle.pb_propagate.proofs.Common.{get_or-set_same, inl, inr, length, length-append, length-set, List, min, None, not, refl, set, subst, suc, sym}
 use Rattle.pb_propagate.proofs.Common.{take, true, zero, Option, Some, sum_by, both_ways, cases_Bool, cases_eq, cases_lt, length-take-le, set_past}
-use Rattle.pb_propagate.proofs.Common.{take_all, take_min, take_more, sum_by-set, NumberedLiteral, negation, has, holds, vacancy}
+use Rattle.pb_propagate.proofs.Common.{take_all, take_more, sum_by-set, NumberedLiteral, negation, has, holds, vacancy}
 use Rattle.pb_propagate.specs.engine.Engine.Lists.{says}
 use Rattle.pb_propagate.proofs.lemmas.engine.Literals.{literal_ext, has-push_old, has-push_new, has-push_cases}
 use Rattle.pb_propagate.proofs.lemmas.engine.Values.{Agree, Forgotten, says-none, says-inside, opposite, forget-next, forget-none, vacancy-none}
@@ -43,6 +43,12 @@ absent-before xs l k h = elim (cases_Bool (has xs k)) [
   | inl there ↦ absurd (both_ways _ h (has-push_old xs l k there))
   | inr gone ↦ gone
 ]
+
+one-of-two : (m n : Bool) → (m ≡ n) ⊎ (m ≡ not n)
+one-of-two true true = inl refl
+one-of-two true false = inr refl
+one-of-two false true = inr refl
+one-of-two false false = inl refl
 
 says-elsewhere : (values : List (Option Bool)) (v : ℕ) (k : NumberedLiteral) → (k.variable ≡ v → ⊥) → says (set values v None) k ≡ says values k
 unfolding says

@@ -1,16 +1,15 @@
 -- The state to which questions return becomes that of the run.
 use Rattle.pb_propagate.proofs.Common.{ℕ, ◌+◌, ◌<◌, ◌∙◌, ◌≡◌, ◌≤◌, ◌⊎◌, [], ap, arith, get_or, get_or-set_other, get_or-set_same, inl, inr}
-use Rattle.pb_propagate.proofs.Common.{length, List, refl, set, sym, slice_get, slice_get_within, Some, cases_eq, ext_get_or, get_or_default}
-use Rattle.pb_propagate.proofs.Common.{get_or_read, length-map, NumberedLiteral, Assignment, Clauses, Eager, Rests, Run, Store, StoredForm}
+use Rattle.pb_propagate.proofs.Common.{length, List, set, sym, slice_get, slice_get_within, Some, cases_eq, ext_get_or, get_or_default}
+use Rattle.pb_propagate.proofs.Common.{get_or_read, length-map, NumberedLiteral, Assignment, Clauses, Eager, Rests, Run, Store}
 use Rattle.pb_propagate.proofs.Common.{all_of, Walked, IsWalkedTo, heads_at, beside, IsAbsent, IsCounted, IsTidy, IsUndone, rest_open}
+use Rattle.pb_propagate.specs.engine.Engine.Propagation.{IsKept}
 use Rattle.pb_propagate.proofs.lemmas.clauses.Heads.{walks-none}
-use Rattle.pb_propagate.proofs.Common.{rest_start, weight_in, shapes_of, stored_shape, HaveReasons, KeepsReasons, Shape, size, AreAtRest, IsEager}
+use Rattle.pb_propagate.proofs.Common.{rest_start, shapes_of, stored_shape, HaveReasons, KeepsReasons, Shape, size}
 use Rattle.pb_propagate.proofs.Common.{from_given, HasForm, IsRooted}
 use Rattle.pb_propagate.proofs.lemmas.store.Gets.{lt_of_apart}
 use Rattle.pb_propagate.proofs.lemmas.engine.Reasoned.{reasons-keep}
 use Rattle.pb_propagate.proofs.lemmas.engine.VisitSteps.{open-now}
-use Rattle.pb_propagate.proofs.lemmas.engine.Rests.{rest-at, rest-lengths, calm-but}
-use Rattle.pb_propagate.proofs.lemmas.engine.Rested.{open_sum-empty}
 
 -- one form more
 pub keep-next : (rests rests' : Rests) (forms : List Shape) (opens cands trail : List ℕ) (i form o c : ℕ) → i < length trail → form ≡ get_or trail i form → form < length opens → form < length cands → o ≡ get_or opens form o → c ≡ get_or cands form c → length rests.opens.items ≡ length opens → length rests.starts.items ≡ length cands →
@@ -60,17 +59,6 @@ kept-tidy rests rests' aside aside' forms opens cands list work trail next waits
   marked = λ i d less. absurd (omega (arith, less));
   traced = λ s gone. gone;
 }
-
--- what is read of the run and of the state to which questions return
-pub record IsKept (run run' : Run) (rests' : Rests) : Type 0 where
-  pub opens : run'.opens ≡ run.opens
-  pub candidates : run'.candidates ≡ run.candidates
-  pub assignment : run'.assignment ≡ run.assignment
-  pub work : run'.work.items ≡ []
-  pub trail : run'.trail.items ≡ []
-  pub next : run'.next ≡ 0
-  pub rest_opens : rests'.opens.items ≡ run.opens.items
-  pub rest_starts : rests'.starts.items ≡ run.candidates.items
 
 -- the parts of a root that lists of forms that wait do not touch
 pub record IsEnded (store : Store) (clauses : Clauses) (run : Run) (walked : Walked) : Type 0 where

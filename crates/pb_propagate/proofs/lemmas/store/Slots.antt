@@ -7,7 +7,7 @@ use Rattle.pb_propagate.proofs.Common.{Form, IsNormal, Clauses, Listed}
 use Rattle.pb_propagate.proofs.Common.{Store, StoredForm, AreReady, IsRefitted, clause_shape, clauses_of, code, codes_of_terms, group_by}
 use Rattle.pb_propagate.proofs.Common.{IsClause, joined, HasFilled, IsEmpty, IsSound, IsUnlisted, shapes_of, stored_shape, terms_at, Shape}
 use Rattle.pb_propagate.proofs.Common.{AreSlots, IsAtRest}
-use Rattle.pb_propagate.proofs.lemmas.engine.Rests.{element, slots-set, slots-more, slots-length}
+use Rattle.pb_propagate.proofs.lemmas.engine.Rests.{slots-set, slots-more, slots-length}
 use Rattle.pb_propagate.proofs.lemmas.clauses.Slots.{IsVacant, slots-vacant, joined-widen, AreJoined-widen, joined-set, AreJoined-set, joined-clause, AreJoined-clause, joined-cleared, AreJoined-cleared, clause-kept, rising-different}
 use Rattle.pb_propagate.proofs.lemmas.clauses.Shapes.{joined-length}
 

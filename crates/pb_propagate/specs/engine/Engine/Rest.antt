@@ -1,13 +1,11 @@
 -- The engine between two calls.
-use Rattle.std.specs.Prelude.{◌≡◌, ℕ, ◌<◌, ◌*◌, List, [], ◌∷◌, map, length, All, Contains, Option, Some, None, Bool, slice_get, true, false}
+use Rattle.std.specs.Prelude.{◌≡◌, ℕ, ◌<◌, ◌*◌, List, [], ◌∷◌, length, Contains, Option, Some, None, true, false}
 use Rattle.pb_normal.specs.declared.numbered.NumberedLiteral.{NumberedLiteral}
 use Rattle.pb_normal.specs.meaning.Form.{Form}
 use Rattle.pb_normal.specs.meaning.Rules.{negation}
-use Rattle.pb_propagate.specs.declared.store.stored_form.StoredForm.{StoredForm}
 use Rattle.pb_propagate.specs.declared.store.Store.{Store}
 use Rattle.pb_propagate.specs.engine.Engine.Forms.{IsStoredAs}
 use Rattle.pb_propagate.specs.engine.Engine.Lists.{Shape, has, IsWithin, Derives, Conflicts, IsSettled}
-use Rattle.pb_propagate.specs.engine.Engine.Counts.{IsAbsent}
 use Rattle.pb_propagate.specs.engine.Engine.Fields.{shapes_of, IsSound}
 use Rattle.pb_propagate.specs.declared.clauses.Clauses.{Clauses}
 use Rattle.pb_propagate.specs.engine.Clauses.Runs.{AreReady}
