@@ -79,10 +79,10 @@ pub use Rattle.pb_propagate.specs.engine.Engine.Live.{Gives, Live, one_in, Stand
 pub use Rattle.pb_propagate.specs.engine.Engine.Progress.{Advances, AreSettled, assigned_to, Costs, Database, database, entries_against, IsOpen}
 pub use Rattle.pb_propagate.specs.engine.Engine.Progress.{IsTidyAt, list_of, Lowers, passed_to, Progress, progress, queued, queued_to, reasons_of}
 pub use Rattle.pb_propagate.specs.engine.Engine.Progress.{RunKeepsReasons, RunPays, RunReasons, RunRecords, RunSpends, seen, seen_to, Spends, StaysTidy}
-pub use Rattle.pb_propagate.specs.engine.Engine.Progress.{taken_to, visited_to, VisitsEach}
+pub use Rattle.pb_propagate.specs.engine.Engine.Progress.{taken_to, visited_to, VisitsEach, AreOpen, RunIsCounted, RunIsOpen, RunVisitsEach, shapes_in, values_of}
+pub use Rattle.pb_propagate.specs.engine.Engine.Propagation.{GoesBack, IsReadyRun, Propagates, RunGains, RunPuts, RunVisits}
 pub use Rattle.pb_propagate.specs.engine.Engine.Reached.{HasClash, HasEnded, IsCovered, IsFrom, IsMade}
-pub use Rattle.pb_propagate.specs.engine.Engine.Rest.{AllWait, AreAtRest, AreSlots, derived, IsAtRest, IsEager, IsEnded, IsRefuted, IsSlot}
-pub use Rattle.pb_propagate.specs.engine.Engine.Rest.{kept_waits, waits}
+pub use Rattle.pb_propagate.specs.engine.Engine.Rest.{AreSlots, derived, IsAtRest, IsEnded, IsRefuted, IsSlot}
 pub use Rattle.pb_propagate.specs.engine.Engine.Root.{alone, HasForm, HasGained, HasLost, HasOtherReasons, HasReached, HasVacated, HasWidened}
 pub use Rattle.pb_propagate.specs.engine.Engine.Root.{HasMet, HasUpdated, IsAnswered, IsAsked, IsConflict, IsFree, IsKeptConflict, IsMet}
 pub use Rattle.pb_propagate.specs.engine.Engine.Root.{IsNeedless, IsOtherUnit, IsRooted, IsVacant, posed, UpdateCosts}

@@ -1,7 +1,7 @@
 //! Clauses by slots.
 
-ghost use Rattle.std.specs.Prelude.{◌≡◌, ℕ, ◌+◌, ◌*◌, ◌/◌, ◌<◌, ◌≤◌, ◌++◌, ◌∷◌, [], List, All, Bool, Option, length, slice_set, slice_index, true, false, OnOk, OnErr, IfOk, IfSome};
-ghost use Rattle.pb_propagate.specs.engine.Clauses.Links.{watch_lists, list_at, idle, watch_at};
+ghost use Rattle.std.specs.Prelude.{◌≡◌, ℕ, ◌+◌, ◌*◌, ◌/◌, ◌<◌, ◌≤◌, ◌++◌, ◌∷◌, [], List, All, Bool, Option, length, slice_set, true, false, OnOk, OnErr, IfOk, IfSome};
+ghost use Rattle.pb_propagate.specs.engine.Clauses.Links.{watch_lists, list_at, watch_at};
 ghost use Rattle.pb_propagate.specs.engine.Clauses.Blocks.{number_at};
 ghost use Rattle.pb_propagate.specs.engine.Clauses.Runs.{AreReady, AreSet, CanHold, IsPair, IsRefitted, IsRunning, IsSameWatch};
 ghost use Rattle.pb_propagate.specs.engine.Engine.Root.{IsFree};

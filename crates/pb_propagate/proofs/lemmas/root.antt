@@ -12,6 +12,7 @@ pub mod Rooted
 pub mod Roots
 pub mod Asked
 pub mod Denials
+pub mod Ready
 pub mod Returns
 pub mod Transplants
 pub mod Kept

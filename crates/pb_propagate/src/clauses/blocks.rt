@@ -1,7 +1,7 @@
 //! The clauses of slots, each with its watches and its search in one block of words. What propagation reads of a clause is
 //! so in one place of the memory.
 
-ghost use Rattle.std.specs.Prelude.{◌≡◌, ℕ, ◌+◌, ◌-◌, ◌*◌, ◌/◌, ◌%◌, ◌^◌, ◌<◌, ◌≤◌, ◌⊎◌, ◌++◌, ◌∷◌, [], true, List, length, slice_set, IfOk, OnOk, OnErr};
+ghost use Rattle.std.specs.Prelude.{◌≡◌, ℕ, ◌+◌, ◌-◌, ◌*◌, ◌/◌, ◌%◌, ◌^◌, ◌<◌, ◌≤◌, ◌⊎◌, ◌++◌, ◌∷◌, [], true, length, slice_set, IfOk, OnOk, OnErr};
 ghost use Rattle.pb_propagate.specs.declared.clauses.lists.Watch.{Watch};
 ghost use Rattle.pb_propagate.specs.engine.Clauses.Links.{idle, list_at, watch_at};
 ghost use Rattle.pb_propagate.specs.engine.Clauses.Runs.{search_at};

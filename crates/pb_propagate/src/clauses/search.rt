@@ -74,12 +74,10 @@ impl Search {
         assignment: &Assignment,
         visits: &mut Visits,
     ) -> Search
-        requires position { self.position < length literals.now }
-        requires passed { self.passed ≤ length literals.now }
+        requires within { (self.position < length literals.now) × (self.passed ≤ length literals.now) }
         requires inside { All (λ x. x < 4 * length assignment.now.values.items) literals.now }
         ensures position { result.position < length literals.now }
-        ensures after { self.passed ≤ result.passed }
-        ensures within { result.passed ≤ length literals.now }
+        ensures within { (self.passed ≤ result.passed) × (result.passed ≤ length literals.now) }
         ensures round { (start : ℕ) → IsRound start self (length literals.now) →
             IsRound start result (length literals.now) }
         ensures passed { (start k d : ℕ) → IsRound start self (length literals.now) →

@@ -82,19 +82,18 @@ fn shift(
     found: u32,
     blocker: u32,
 ) -> Result<(), AllocError>
-    requires literal { literal < length lists.old.items }
-    requires found { found < length lists.old.items }
+    requires inside { (literal < length lists.old.items) × (found < length lists.old.items) }
     requires apart { found ≡ literal → ⊥ }
     requires item { slice_get (list_at (watch_lists lists.old.items) literal) index ≡ Some watch }
     requires block { HasBlock blocks.old (watch / 2) }
     requires linked { AreLinked blocks.old.watches (watch_lists lists.old.items) }
     ensures linked { OnOk result (AreLinked blocks.new.watches (watch_lists lists.new.items)) }
-    ensures literal { OnOk result ((watch_at blocks.new.watches watch).literal ≡ found) }
-    ensures live { OnOk result ((watch_at blocks.new.watches watch).live ≡ true) }
+    ensures moved { OnOk result (((watch_at blocks.new.watches watch).literal ≡ found) ×
+        ((watch_at blocks.new.watches watch).live ≡ true)) }
     ensures others { OnOk result ((k : ℕ) → (k ≡ watch → ⊥) →
         Remains index (watch_at blocks.old.watches k) (watch_at blocks.new.watches k)) }
-    ensures watches { OnOk result (length blocks.new.watches ≡ length blocks.old.watches) }
-    ensures lists { OnOk result (length lists.new.items ≡ length lists.old.items) }
+    ensures sizes { OnOk result ((length blocks.new.watches ≡ length blocks.old.watches) ×
+        (length lists.new.items ≡ length lists.old.items)) }
     ensures shorter { OnOk result
         (length (list_at (watch_lists lists.new.items) literal) + 1 ≡ length
         (list_at (watch_lists lists.old.items) literal)) }

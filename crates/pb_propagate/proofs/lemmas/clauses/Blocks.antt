@@ -56,10 +56,6 @@ slice-same ws ws' a n h h' each = ext_get_or 0 (take n (drop a ws')) (take n (dr
     let less : k < n = omega (arith, l, slice-length ws' a n h') in
     slice-at ws' a n k less ∙ each (a + k) (omega arith) (omega (arith, less)) ∙ sym (slice-at ws a n k less))
 
--- a watch as it is stored
-pub watch-nowhere : (l : ℕ) → watch_of l nowhere ≡ idle
-watch-nowhere l = refl
-
 pub watch-live : (l spot : ℕ) → (spot ≡ nowhere → ⊥) → watch_of l spot ≡ record { literal = l; live = true; spot = spot }
 watch-live l spot n = elim (cases_Bool (spot == nowhere)) [
   | inl is ↦ absurd (n (eqb-true spot nowhere is))
@@ -200,12 +196,6 @@ pub only-set : (words : List ℕ) (p x : ℕ) → AreOnly p p words (set words p
 only-set words p x = record {
   size = length-set words p x;
   others = λ i n m. get_or-set_other words p i x 0 n;
-}
-
-pub only-both : (words : List ℕ) (p q x y : ℕ) → AreOnly p q words (set (set words p x) q y)
-only-both words p q x y = record {
-  size = length-set (set words p x) q y ∙ length-set words p x;
-  others = λ i n m. get_or-set_other (set words p x) q i y 0 m ∙ get_or-set_other words p i x 0 n;
 }
 
 -- they are in the block of a slot

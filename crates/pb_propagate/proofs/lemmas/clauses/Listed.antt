@@ -94,10 +94,6 @@ list-fewer occ p v v1 room value each x there = elim (list-older occ p v v1 (λ 
   | inr old ↦ old
 ]
 
--- blockers
-pub blocked-fewer : (clauses : List (List ℕ)) (old new : List (Vec Listed Global)) → AreFewer old new → AreBlocked clauses old → AreBlocked clauses new
-blocked-fewer clauses old new fewer b x there = b x (fewer x there)
-
 pub blocked-more : (clauses : List (List ℕ)) (entry : Listed) (old new : List (Vec Listed Global)) → AreMore entry old new → Contains (list_at clauses (entry.watch / 2)) entry.blocker → AreBlocked clauses old → AreBlocked clauses new
 blocked-more clauses entry old new more here b x there = elim (more x there) [
   | inl is ↦ subst (λ (y : Listed). Contains (list_at clauses (y.watch / 2)) y.blocker) (sym is) here

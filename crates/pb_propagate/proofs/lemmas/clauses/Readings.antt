@@ -102,7 +102,6 @@ bounded-raised c values s x run inside within ss' now t = by (cases_eq t s)
 pub visiting-by : (c : Clauses) (values : List (Option Bool)) (l index e other : ℕ) (from stop : Search) (xs : List ℕ) → (run : IsRunning values c) → false_at values l ≡ true → Reading c l index e other → Resuming c (e / 2) from xs → HasSearched values (turned (get_or run.starts (e / 2) 0) xs) from.passed other stop.passed →
     Visiting values (all_turned run.starts c.blocks.literals) (passed_of c) c.blocks.watches (watch_lists c.lists.items) l index e other stop.passed
 visiting-by c values l index e other from stop xs run failed r s searched =
-    let two = reading-slot c values l index e other run r in
     record {
       stored = stored-turned run.starts c.blocks.literals c.blocks.watches (watch_lists c.lists.items) run.stored;
       passes = run.passed;

@@ -4,7 +4,7 @@ use Rattle.pb_propagate.proofs.Common.{get_or-set_same, Global, inl, inr, length
 use Rattle.pb_propagate.proofs.Common.{true, Vec, All, Contains, Option, slice_get, Some, both_ways, cases_eq, cases_lt}
 use Rattle.pb_propagate.proofs.Common.{get_or_past, get_or_read, map-append, Contains-get_or, slice_get_within, Clauses, Listed, Watch}
 use Rattle.pb_propagate.proofs.Common.{Search, begun, Contents, AreBlocked, AreFewer, AreLinked, AreMore, entries_at, idle, IsListed, list_at, Sits}
-use Rattle.pb_propagate.proofs.Common.{watch_at, watch_lists, AreNoted, AreReady, AreStored, IsPair, IsRunning, passed_of, search_at, flip}
+use Rattle.pb_propagate.proofs.Common.{watch_at, watch_lists, AreReady, AreStored, IsPair, IsRunning, passed_of, search_at, flip}
 use Rattle.pb_propagate.specs.declared.clauses.watched.Pair.{Pair}
 use Rattle.pb_propagate.proofs.lemmas.clauses.Linked.{list-within}
 use Rattle.pb_propagate.proofs.lemmas.clauses.Listed.{lists-length, watch-entries, listed-live, blocked-set}
@@ -36,14 +36,6 @@ stored-same clauses clauses' ws ws' ls ls' same same_w same_l pairs longer old =
 -- the slots that a run has touched and that are not yet as at rest are on the trail from a position on
 pub record AreLeft (passed moved : List ℕ) (from : ℕ) : Type 0 where
   pub each : (s : ℕ) → (get_or passed s 0 ≡ 0) ⊎ ((k : ℕ) × (from ≤ k) × (k < length moved) × (get_or moved k s ≡ s))
-
-pub left-start : (passed moved : List ℕ) → AreNoted passed moved → AreLeft passed moved 0
-left-start passed moved n = record {
-  each = λ s. elim (n.noted s) [
-    | inl z ↦ inl z
-    | inr c ↦ inr (c.0, omega arith, c.1, c.2)
-  ];
-}
 
 pub left-next : (passed moved : List ℕ) (i slot : ℕ) → i < length moved → slot ≡ get_or moved i slot → slot < length passed → AreLeft passed moved i → AreLeft (set passed slot 0) moved (i + 1)
 left-next passed moved i slot inside is room old = record { each = λ s. at s (cases_eq s slot) (old.each s) }
@@ -409,7 +401,3 @@ pub stands-by : (ws : List Watch) (ls : List (List ℕ)) (e : ℕ) (w : Watch) �
 stands-by ws ls e w linked live is =
     let item : slice_get (list_at ls w.literal) w.spot ≡ Some e = linked.sits e w.literal w.spot (record { live = live; literal = ap (λ (x : Watch). x.literal) (sym is); spot = ap (λ (x : Watch). x.spot) (sym is) }) in
     record { item = item; literal = list-within ls w.literal w.spot e item; spot = slice_get_within (list_at ls w.literal) w.spot e item }
-
--- a slot with one more clause
-pub slot-pushed : (clauses clauses' : List (List ℕ)) (s : ℕ) → clauses' ≡ clauses ++ ([] ∷ []) → list_at clauses' s ≡ list_at clauses s
-slot-pushed clauses clauses' s pushed = ap (λ xs. list_at xs s) pushed ∙ push-default clauses s []

@@ -36,7 +36,6 @@ returns-clause-each c =
     let store = c.args.store.now in
     let me = c.args.root.now in
     let form = c.args.form in
-    let k = c.index-kept.result.now in
     let o = c.open_under-opened.result in
     let z = c.requires.sized in
     record {
