@@ -10,8 +10,9 @@ use crate::store::sorted_form::term_of;
 use pb_normal::{Entry, Normal, NumberedLiteral, Terms};
 use std::alloc::{AllocError, Global};
 
-/// Two groups of clauses: the short ones, of at most four literals, and the long ones. Propagation visits the long ones
-/// only when the short ones force nothing more. A literal has a code for each group.
+/// Two groups of clauses: the short ones, of at most four literals, and the long ones. A question
+/// visits the long ones only when the short ones force nothing more. A literal has a code for each
+/// group.
 #[derive(Clone, Copy)]
 pub enum Group {
     Short,

@@ -15,7 +15,7 @@ ghost use Rattle.pb_propagate.specs.engine.Clauses.Shapes.{all_of};
 use crate::assignment::Assignment;
 use crate::clauses::Clauses;
 use crate::engine::visits::Visits;
-use crate::heads::{Heads, mark, next_walk};
+use crate::heads::{Heads, Order, mark, next_walk};
 use crate::rests::Rests;
 use crate::store::stored_form::is_below;
 use crate::store::{Store, Visited, visit, visit_term, weight_of};
@@ -202,16 +202,18 @@ fn visit_form(
     }
 }
 
-/// Visits the forms of the work list, then the short clauses in which a falsified literal is watched, then the long
-/// ones. When none is left, the next waiting form is taken, until none waits. A unit that is falsified so ends a question
-/// before further clauses are visited. The literals up to `from` are walked already, and each literal that is walked on
-/// gets a mark. Returns whether a conflict was met.
+/// Visits the forms of the work list, then the clauses in which a falsified literal is watched, in
+/// the given order. When none is left, the next waiting form is taken, until none waits. A unit
+/// that is falsified so ends a question before further clauses are visited. The literals up to
+/// `from` are walked already, and each literal that is put gets a mark. Returns whether a conflict
+/// was met.
 pub fn propagate(
     store: &Store,
     rests: &Rests,
     clauses: &mut Clauses,
     run: &mut Run,
     waiting: &[usize],
+    order: Order,
     from: Heads,
     marks: &mut Vec<Heads>,
 ) -> Result<bool, AllocError>
@@ -240,7 +242,7 @@ pub fn propagate(
             if visit_form(store, rests, run, form, &waiting[taken..])? {
                 return Ok(true);
             }
-        } else if let Some(ahead) = next_walk(heads, run.assignment.list.as_slice()) {
+        } else if let Some(ahead) = next_walk(order, heads, run.assignment.list.as_slice()) {
             if walk(store, rests, clauses, run, ahead.code)? {
                 return Ok(true);
             }

@@ -10,6 +10,7 @@ pub mod Replaced
 pub mod Retracted
 pub mod Rooted
 pub mod Roots
+pub mod Released
 pub mod Asked
 pub mod Denials
 pub mod Ready

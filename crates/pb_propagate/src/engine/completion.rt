@@ -14,7 +14,7 @@ ghost use Rattle.pb_propagate.specs.engine.Clauses.Shapes.{all_of};
 use crate::clauses::Clauses;
 use crate::engine::conflict::Conflict;
 use crate::engine::root::{Root, back};
-use crate::heads::Heads;
+use crate::heads::{Heads, Order};
 use crate::rests::Rests;
 use crate::run::{Run, propagate, try_put};
 use crate::store::Store;
@@ -84,6 +84,7 @@ pub fn settle(
         clauses,
         run,
         none.as_slice(),
+        Order::ShortFirst,
         Heads::at(count),
         marks,
     )? {

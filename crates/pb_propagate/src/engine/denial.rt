@@ -13,7 +13,7 @@ ghost use Rattle.pb_propagate.specs.engine.Clauses.Walked.{heads_at};
 ghost use Rattle.pb_propagate.specs.engine.Clauses.Shapes.{all_of};
 
 use crate::clauses::Clauses;
-use crate::heads::Heads;
+use crate::heads::{Heads, Order};
 use crate::rests::Rests;
 use crate::run::{Run, propagate, try_put};
 use crate::store::Store;
@@ -135,6 +135,7 @@ pub fn refute(
         clauses,
         run,
         none.as_slice(),
+        Order::ShortFirst,
         Heads::at(count),
         marks,
     )?;

@@ -17,7 +17,7 @@ use crate::clauses::Clauses;
 use crate::eager::Eager;
 use crate::engine::conflict::Conflict;
 use crate::engine::visits::Visits;
-use crate::heads::{Heads, Walked};
+use crate::heads::{Heads, Order, Walked};
 use crate::rests::Rests;
 use crate::run::{Run, place_of, propagate, queue, undo_forms};
 use crate::store::Store;
@@ -215,6 +215,7 @@ impl Root {
             clauses,
             &mut self.run,
             self.waiting.list.as_slice(),
+            Order::ByLiteral,
             self.walked.heads,
             &mut self.walked.marks,
         )?;

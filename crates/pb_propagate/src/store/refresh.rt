@@ -22,7 +22,8 @@ fn wait_below(waiting: &mut Eager, form: usize, opened: u128, bound: u128)
         IsAbsent waiting.old.list.items 0 s }
     ensures above { IsAbsent waiting.new.list.items 0 form → bound ≤ opened }
     ensures older { (i s : ℕ) → slice_get waiting.new.list.items i ≡ Some s →
-        (s ≡ form) ⊎ ((j : ℕ) × (slice_get waiting.old.list.items j ≡ Some s)) }
+        ((s ≡ form) × (opened < bound)) ⊎
+        ((j : ℕ) × (slice_get waiting.old.list.items j ≡ Some s)) }
     ensures seats { length waiting.new.seats.items ≡ length waiting.old.seats.items }
 {
     if opened >= bound {

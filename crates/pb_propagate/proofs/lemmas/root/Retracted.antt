@@ -251,22 +251,6 @@ retracted-rooted store clauses old mid new first l listed absent reasoned sound 
           ]
         ]
 
--- a literal of the first ones is not due if none of them is
-pub due-first : (slot : ℕ) (list : List NumberedLiteral) (reasons : List ℕ) (n : ℕ) → n ≤ length list → ((j : ℕ) (d : NumberedLiteral) → j < n → IsDue slot list reasons (get_or list j d) → ⊥) → (l : NumberedLiteral) → IsDue slot (take n list) reasons l → ⊥
-due-first slot list reasons n within none l (on, at) =
-    let w = has-place (take n list) l on in
-    let small : w.0 < n = omega (arith, w.1, length-take-le n list within) in
-    let is : get_or list w.0 l ≡ l = sym (get_or-take n list w.0 l small) ∙ w.2 in
-    none w.0 l small (has-get list w.0 l (omega (arith, small, within)), ap (λ (k : NumberedLiteral). slice_get reasons k.variable) is ∙ at)
-
-pub before-next : (slot : ℕ) (list : List NumberedLiteral) (reasons : List ℕ) (i : ℕ) (l : NumberedLiteral) → i < length list → l ≡ get_or list i l → ((j : ℕ) (d : NumberedLiteral) → j < i → IsDue slot list reasons (get_or list j d) → ⊥) → (IsDue slot list reasons l → ⊥) → (j : ℕ) (d : NumberedLiteral) → j < i + 1 → IsDue slot list reasons (get_or list j d) → ⊥
-before-next slot list reasons i l inside is old never j d less due = elim (cases_lt j i) [
-  | inl before ↦ old j d before due
-  | inr after ↦
-      let at : j ≡ i = omega (arith, after, less) in
-      never (subst (IsDue slot list reasons) (ap (λ k. get_or list k d) at ∙ get_or_default list i d l inside ∙ sym is) due)
-]
-
 -- an entry of the list of a literal
 pub record IsOccurrence (store : Store) (l : NumberedLiteral) (items : List Occurrence) (o : Occurrence) : Type 0 where
   pub form : o.form < length store.stored.items

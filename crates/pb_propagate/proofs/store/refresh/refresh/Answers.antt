@@ -63,7 +63,7 @@ returns-clause-each c =
       opens = λ e. ap (λ xs. set xs form o) e;
       starts = λ e. ap (λ xs. set xs form 0) e;
       live = λ i s at. elim (c.wait_below.ensures.older i s at) [
-        | inl one ↦ inl (subst (λ j. 0 < length (terms_at (shapes_of store.stored.items) j)) (sym one) c.requires.some)
+        | inl one ↦ inl (subst (λ j. 0 < length (terms_at (shapes_of store.stored.items) j)) (sym one.0) c.requires.some)
         | inr old ↦ inr old
       ];
     }
