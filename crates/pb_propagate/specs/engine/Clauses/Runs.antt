@@ -113,6 +113,10 @@ pub record AreServed (values : List (Option Bool)) (clauses : List (List ℕ)) (
   pub done : (e : ℕ) → (watch_at watches e).live ≡ true → Contains walked (watch_at watches e).literal → HasTrue values clauses (e / 2)
   pub here : (e : ℕ) → (watch_at watches e).live ≡ true → (watch_at watches e).literal ≡ l → (watch_at watches e).spot < index → HasTrue values clauses (e / 2)
 
+-- the same of the watches of a literal that a walk has visited
+abbrev pub IsServedTo : List (Option Bool) → Clauses → List ℕ → ℕ → ℕ → Type 0
+IsServedTo values c walked l index = AreServed values c.blocks.literals c.blocks.watches walked l index
+
 -- all literals of a slot's clause but one are falsified, and that one is open
 pub record IsUnit (values : List (Option Bool)) (clauses : List (List ℕ)) (slot x : ℕ) : Type 0 where
   pub stands : Contains (list_at clauses slot) x
