@@ -117,18 +117,6 @@ pub fn pass_true(
     index
 }
 
-// Adds a slot to the trail when its search begins.
-fn note(moved: &mut Vec<usize>, slot: usize, passed: usize) -> Result<(), AllocError>
-    ensures { OnOk result ((moved.new.items ≡ moved.old.items ++ slot ∷ []) ⊎
-        ((0 < passed) × (moved.new.items ≡ moved.old.items))) }
-{
-    if passed > 0 {
-        return Ok(());
-    }
-    moved.push(slot)?;
-    Ok(())
-}
-
 // Moves a watch from a position of a literal's list to another literal's list.
 fn shift(
     lists: &mut Vec<Vec<Listed>>,
@@ -193,7 +181,6 @@ fn search_clause(
     let clause = clauses.blocks.read(slot);
     let from = clause.search;
     let literals = clause.literals;
-    note(&mut clauses.moved, slot, from.passed)?;
     let stop = from.advance(literals, other, assignment, visits);
     if stop.passed >= literals.len() {
         clauses.blocks.seek(slot, stop);

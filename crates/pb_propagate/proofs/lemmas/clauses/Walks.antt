@@ -63,7 +63,6 @@ running-grow c old new sizes g r = record {
     ];
   };
   round = r.round;
-  noted = r.noted;
   sizes = r.sizes ∙ ap (λ n. 4 * n) (sym sizes);
 }
 

@@ -93,7 +93,7 @@ returns-then-falsifies-clause-watch c =
       passed = c.advance-stop.ensures.passed;
       found = c.advance-stop.ensures.found;
     } in
-    visited-falsified c.args.clauses.now c.args.assignment.now.values.items c.args.literal c.args.index c.args.watch c.args.other c.read-clause.result.search c.advance-stop.result c.read-clause.result.literals.now sought c.if-stop-literals.true c.note.new.moved c.in_ok-note.ensures c.seek.new.self c.seek.ensures (sym c.if-falsifies.ensures)
+    visited-falsified c.args.clauses.now c.args.assignment.now.values.items c.args.literal c.args.index c.args.watch c.args.other c.read-clause.result.search c.advance-stop.result c.read-clause.result.literals.now sought c.if-stop-literals.true c.seek.new.self c.seek.ensures (sym c.if-falsifies.ensures)
 
 pub returns-then-stop-literals-clause-watch : goal.returns-then-stop-literals-clause-watch
 returns-then-stop-literals-clause-watch c =
@@ -110,7 +110,7 @@ returns-then-stop-literals-clause-watch c =
       passed = c.advance-stop.ensures.passed;
       found = c.advance-stop.ensures.found;
     } in
-    visited-forces c.args.clauses.now c.args.assignment.now.values.items c.args.literal c.args.index c.args.watch c.args.other c.read-clause.result.search c.advance-stop.result c.read-clause.result.literals.now sought c.if-stop-literals.true c.note.new.moved c.in_ok-note.ensures c.seek.new.self c.seek.ensures c.requires.untrue (sym c.if-falsifies.ensures)
+    visited-forces c.args.clauses.now c.args.assignment.now.values.items c.args.literal c.args.index c.args.watch c.args.other c.read-clause.result.search c.advance-stop.result c.read-clause.result.literals.now sought c.if-stop-literals.true c.seek.new.self c.seek.ensures c.requires.untrue (sym c.if-falsifies.ensures)
 
 pub returns-clause-watch : goal.returns-clause-watch
 returns-clause-watch c =
@@ -129,7 +129,7 @@ returns-clause-watch c =
     } in
     let round = sought-round c.args.clauses.now c.args.assignment.now.values.items c.args.literal c.args.index c.args.watch c.args.other c.read-clause.result.search c.advance-stop.result c.read-clause.result.literals.now sought c.next-next.result (omega (arith, c.if-stop-literals.false)) c.next-next.ensures.position c.next-next.ensures.passed in
     let r = c.in_ok-shift.ensures in
-    visited-leaves c.args.clauses.now c.args.assignment.now.values.items c.args.literal c.args.index c.args.watch c.args.other c.read-clause.result.search c.advance-stop.result c.read-clause.result.literals.now sought (omega (arith, c.if-stop-literals.false)) c.note.new.moved c.in_ok-note.ensures c.next-next.result round c.next-next.ensures.passed
+    visited-leaves c.args.clauses.now c.args.assignment.now.values.items c.args.literal c.args.index c.args.watch c.args.other c.read-clause.result.search c.advance-stop.result c.read-clause.result.literals.now sought (omega (arith, c.if-stop-literals.false)) c.next-next.result round c.next-next.ensures.passed
     c.shift.new.lists c.seek-2.new.self c.shift.new.blocks c.seek-2.ensures c.shift.ensures.kept r.linked r.literal r.live r.others r.watches r.lists r.more r.shorter
 
 pub returns-then-falsifies-clause-covered : goal.returns-then-falsifies-clause-covered
@@ -183,9 +183,6 @@ returns-in_err-shift-clause-bounded c =
     let reading : Reading c.args.clauses.now c.args.literal c.args.index c.args.watch c.args.other = record { item = c.requires.item; other_is = c.requires.other } in
     let resuming : Resuming c.args.clauses.now (c.args.watch / 2) c.read-clause.result.search c.read-clause.result.literals.now = record { from_is = c.read-clause.ensures.search; items = c.read-clause.ensures.literals } in
     bounded-raised c.args.clauses.now c.args.assignment.now.values.items (c.args.watch / 2) c.next-next.result c.requires.running (reading-slot c.args.clauses.now c.args.assignment.now.values.items c.args.literal c.args.index c.args.watch c.args.other c.requires.running reading).1 (omega (arith, c.if-stop-literals.false, c.next-next.ensures.passed, ap length resuming.items)) _ (ap (λ (b : Contents). b.searches) (c.shift.ensures.kept ∙ ap (λ (b : Contents). rewatched b c.shift.new.blocks.watches) c.seek-2.ensures))
-
-pub returns-in_err-note-clause-bounded : goal.returns-in_err-note-clause-bounded
-returns-in_err-note-clause-bounded c = running-bounded c.args.clauses.now c.args.assignment.now.values.items c.requires.running
 
 pub returns-clause-literals : goal.returns-clause-literals
 returns-clause-literals c = ap (λ (b : Contents). b.literals) (c.shift.ensures.kept ∙ ap (λ (b : Contents). rewatched b c.shift.new.blocks.watches) c.seek-2.ensures)
