@@ -48,12 +48,12 @@ pub use Rattle.pb_propagate.specs.declared.store.Store.{Store}
 pub use Rattle.pb_propagate.specs.declared.store.stored_form.StoredForm.{StoredForm}
 pub use Rattle.pb_propagate.specs.declared.term.Rank.{Rank}
 pub use Rattle.pb_propagate.specs.declared.term.Term.{Term}
-pub use Rattle.pb_propagate.specs.engine.Clauses.Blocks.{AreBlocks, AreKept, begun, Contents, contents, HasBlock, IsBare, IsBefore, nowhere}
-pub use Rattle.pb_propagate.specs.engine.Clauses.Blocks.{number_at, rewatched, rewritten, searched, stored_clause, stored_search, stored_watch, table}
+pub use Rattle.pb_propagate.specs.engine.Clauses.Blocks.{AreBlocks, AreKept, begun, Contents, contents, HasBlock, IsBare, IsBefore, IsRenewed, nowhere}
+pub use Rattle.pb_propagate.specs.engine.Clauses.Blocks.{number_at, passed_by, rewatched, rewritten, searched, stored_clause, stored_search, stored_watch, table}
 pub use Rattle.pb_propagate.specs.engine.Clauses.Blocks.{watch_of, watch_place}
 pub use Rattle.pb_propagate.specs.engine.Clauses.Links.{AreBlocked, AreFewer, AreLinked, AreMore, entries_at, idle, IsListed, list_at, Remains, Sits}
 pub use Rattle.pb_propagate.specs.engine.Clauses.Links.{watch_at, watch_lists}
-pub use Rattle.pb_propagate.specs.engine.Clauses.Runs.{all_turned, AreFree, AreNoted, ArePassed, AreReady, AreRound, AreServed, AreStored, AreWalked}
+pub use Rattle.pb_propagate.specs.engine.Clauses.Runs.{all_turned, AreFree, ArePassed, AreReady, AreRound, AreServed, AreStored, AreWalked}
 pub use Rattle.pb_propagate.specs.engine.Clauses.Runs.{AreSet, AreWithin, around, Grows, HasTrue, HasVisited, index_after, IsBroken, IsFreePair, IsPair, IsRefitted}
 pub use Rattle.pb_propagate.specs.engine.Clauses.Runs.{IsRound, IsRunning, IsSameWatch, IsUnit, IsWatched, KeepsWalked, passed_of, search_at, turned}
 pub use Rattle.pb_propagate.specs.engine.Clauses.Shapes.{all_of, AreDifferent, AreJoined, clause_shape, clauses_of, code, code_in, codes_of_terms}

@@ -70,17 +70,13 @@ pub fn code_of(group: Group, literal: NumberedLiteral) -> usize
     if literal.negated { first + 1 } else { first }
 }
 
-/// The code of a literal's negation in the same group, and the other of the two watches of a clause. It is compiled as an
-/// exclusive or with 1.
+/// The code of a literal's negation in the same group, and the other of the two watches of a
+/// clause.
 pub fn opposite(code: usize) -> usize
     requires { code + 1 < 2 ^ 64 }
     ensures { result ≡ flip code }
 {
-    if code % 2 == 0 {
-        code + 1
-    } else {
-        code / 2 * 2
-    }
+    code ^ 1
 }
 
 /// The codes of the terms' literals, in the group of a clause with these terms.

@@ -10,7 +10,7 @@ ghost use Rattle.pb_propagate.specs.engine.Clauses.Runs.{AreWithin, IsRunning, p
 ghost use Rattle.pb_propagate.specs.engine.Clauses.Shapes.{AreJoined, clauses_of, all_of, literal_at};
 
 use crate::clauses::Clauses;
-use crate::clauses::visiting::{Visit, visit_clause};
+use crate::clauses::visiting::{Visit, pass_true, visit_clause};
 use crate::rests::Rests;
 use crate::run::{Run, put};
 use crate::store::Store;
@@ -58,7 +58,7 @@ pub fn walk(
         let assignment = &run.assignment;
         match visit_clause(clauses, assignment, literal, index, &mut run.visits)? {
             Visit::Stays => {
-                index += 1;
+                index = pass_true(clauses, assignment, literal, index + 1, &mut run.visits);
             }
             Visit::Leaves => {}
             Visit::Forces(forced) => {

@@ -3,9 +3,9 @@ use Rattle.pb_propagate.proofs.Common.{Falsified, Forces, Leaves, Stays, list_at
 use Rattle.pb_propagate.proofs.Common.{shapes_of, has, database, list_of, progress, reasons_of}
 use Rattle.pb_propagate.proofs.lemmas.clauses.Literals.{true-listed, false-listed}
 use Rattle.pb_propagate.proofs.lemmas.clauses.Shapes.{broken-conflicts, conflicts-joined}
-use Rattle.pb_propagate.proofs.lemmas.clauses.Walks.{kept-then, IsWalking, walking-start, walking-next, walking-forces, walked-end}
+use Rattle.pb_propagate.proofs.lemmas.clauses.Walks.{kept-then, IsWalking, walking-start, walking-next, walking-pass, walking-forces, walked-end}
 use Rattle.pb_propagate.proofs.lemmas.clauses.Readings.{running-bounded}
-use Rattle.pb_propagate.proofs.lemmas.engine.Watched.{walk-start, walk-next, walk-ends, walk-then, walk-costs, walk-done}
+use Rattle.pb_propagate.proofs.lemmas.engine.Watched.{walk-start, walk-next, walk-pass, walk-ends, walk-then, walk-costs, walk-done}
 use Rattle.pb_propagate.proofs.lemmas.engine.Advances.{on-err}
 use Rattle.pb_propagate.proofs.lemmas.engine.Reasoned.{run-reasons-none, keeps-then, reasons-within}
 use Rattle.pb_propagate.proofs.lemmas.root.Ready.{open-later}
@@ -29,10 +29,11 @@ watches-preserved-in-Stays c =
     let i = c.watches.invariant in
     let inside : c.watches.index < length (list_at (watch_lists c.watches.clauses.lists.items) c.args.literal) = omega (arith, c.watches-test.true, c.watch_count.ensures) in
     let v : HasVisited c.watches.run.assignment.values.items c.watches.clauses c.visit_clause.new.clauses c.args.literal c.watches.index Stays = subst (HasVisited c.watches.run.assignment.values.items c.watches.clauses c.visit_clause.new.clauses c.args.literal c.watches.index) c.in-Stays.is c.in_ok-visit_clause.ensures.watch in
+    let passed = c.pass_true-index.ensures in
     record {
       reasons = record { kept = i.reasons.kept; added = i.reasons.added };
-      walking = walking-next c.visit_clause.new.clauses Stays c.visit_clause.new.visits i.walking v c.visit_clause.ensures.literals (omega (arith, inside, v.found)) (record { counted = c.visit_clause.ensures.counted; rising = c.visit_clause.ensures.rising });
-      advances = walk-next (database c.args.store.now c.args.rests.now) c.args.clauses.now c.watches.clauses c.visit_clause.new.clauses c.args.literal c.watches.index (c.watches.index + 1) c.visit_clause.new.visits inside (omega (arith, inside, v.found)) (omega (arith, v.found)) c.visit_clause.ensures.covered c.visit_clause.ensures.rising i.advances;
+      walking = walking-pass c.pass_true-index.result c.pass_true-index.new.visits (walking-next c.visit_clause.new.clauses Stays c.visit_clause.new.visits i.walking v c.visit_clause.ensures.literals (omega (arith, inside, v.found)) (record { counted = c.visit_clause.ensures.counted; rising = c.visit_clause.ensures.rising })) passed.within passed.served passed.rising;
+      advances = walk-pass (database c.args.store.now c.args.rests.now) c.args.clauses.now c.visit_clause.new.clauses c.args.literal (c.watches.index + 1) c.pass_true-index.result c.pass_true-index.new.visits passed.after passed.within (omega (arith, passed.count)) passed.rising (walk-next (database c.args.store.now c.args.rests.now) c.args.clauses.now c.watches.clauses c.visit_clause.new.clauses c.args.literal c.watches.index (c.watches.index + 1) c.visit_clause.new.visits inside (omega (arith, inside, v.found)) (omega (arith, v.found)) c.visit_clause.ensures.covered c.visit_clause.ensures.rising i.advances);
       candidates = i.candidates;
       sums = i.sums;
       tidy = i.tidy;

@@ -70,17 +70,17 @@ shift-requires-clause-block c = inl (omega (arith, c.advance-stop.ensures.positi
 
 pub returns-then-falsifies-clause-watch : goal.returns-then-falsifies-clause-watch
 returns-then-falsifies-clause-watch c =
-    visited-falsified c.args.clauses.now c.args.assignment.now.values.items c.args.literal c.args.index c.args.watch c.args.other c.read-clause.result.search c.advance-stop.result c.read-clause.result.literals.now (sought (goal.at.returns-then-falsifies-clause-watch c).After-advance-stop) c.if-stop-literals.true c.note.new.moved c.in_ok-note.ensures c.seek.new.self c.seek.ensures (sym c.if-falsifies.ensures)
+    visited-falsified c.args.clauses.now c.args.assignment.now.values.items c.args.literal c.args.index c.args.watch c.args.other c.read-clause.result.search c.advance-stop.result c.read-clause.result.literals.now (sought (goal.at.returns-then-falsifies-clause-watch c).After-advance-stop) c.if-stop-literals.true c.seek.new.self c.seek.ensures (sym c.if-falsifies.ensures)
 
 pub returns-then-stop-literals-clause-watch : goal.returns-then-stop-literals-clause-watch
 returns-then-stop-literals-clause-watch c =
-    visited-forces c.args.clauses.now c.args.assignment.now.values.items c.args.literal c.args.index c.args.watch c.args.other c.read-clause.result.search c.advance-stop.result c.read-clause.result.literals.now (sought (goal.at.returns-then-stop-literals-clause-watch c).After-advance-stop) c.if-stop-literals.true c.note.new.moved c.in_ok-note.ensures c.seek.new.self c.seek.ensures c.requires.untrue (sym c.if-falsifies.ensures)
+    visited-forces c.args.clauses.now c.args.assignment.now.values.items c.args.literal c.args.index c.args.watch c.args.other c.read-clause.result.search c.advance-stop.result c.read-clause.result.literals.now (sought (goal.at.returns-then-stop-literals-clause-watch c).After-advance-stop) c.if-stop-literals.true c.seek.new.self c.seek.ensures c.requires.untrue (sym c.if-falsifies.ensures)
 
 pub returns-clause-watch : goal.returns-clause-watch
 returns-clause-watch c =
     let round = sought-round c.args.clauses.now c.args.assignment.now.values.items c.args.literal c.args.index c.args.watch c.args.other c.read-clause.result.search c.advance-stop.result c.read-clause.result.literals.now (sought (goal.at.returns-clause-watch c).After-advance-stop) c.next-next.result (omega (arith, c.if-stop-literals.false)) c.next-next.ensures.position c.next-next.ensures.passed in
     let r = c.in_ok-shift.ensures in
-    visited-leaves c.args.clauses.now c.args.assignment.now.values.items c.args.literal c.args.index c.args.watch c.args.other c.read-clause.result.search c.advance-stop.result c.read-clause.result.literals.now (sought (goal.at.returns-clause-watch c).After-advance-stop) (omega (arith, c.if-stop-literals.false)) c.note.new.moved c.in_ok-note.ensures c.next-next.result round c.next-next.ensures.passed
+    visited-leaves c.args.clauses.now c.args.assignment.now.values.items c.args.literal c.args.index c.args.watch c.args.other c.read-clause.result.search c.advance-stop.result c.read-clause.result.literals.now (sought (goal.at.returns-clause-watch c).After-advance-stop) (omega (arith, c.if-stop-literals.false)) c.next-next.result round c.next-next.ensures.passed
     c.shift.new.lists c.seek-2.new.self c.shift.new.blocks c.seek-2.ensures c.shift.ensures.kept r.linked r.moved.0 r.moved.1 r.others r.sizes.0 r.sizes.1 r.more r.shorter
 
 pub returns-then-falsifies-clause-covered : goal.returns-then-falsifies-clause-covered
@@ -118,9 +118,6 @@ returns-clause-bounded c =
 pub returns-in_err-shift-clause-bounded : goal.returns-in_err-shift-clause-bounded
 returns-in_err-shift-clause-bounded c =
     bounded-raised c.args.clauses.now c.args.assignment.now.values.items (c.args.watch / 2) c.next-next.result c.requires.running (reading-slot c.args.clauses.now c.args.assignment.now.values.items c.args.literal c.args.index c.args.watch c.args.other c.requires.running (reading (goal.at.returns-in_err-shift-clause-bounded c).After-read-clause)).1 (omega (arith, c.if-stop-literals.false, c.next-next.ensures.passed, ap length (resuming (goal.at.returns-in_err-shift-clause-bounded c).After-read-clause).items)) _ (ap (λ (b : Contents). b.searches) (c.shift.ensures.kept ∙ ap (λ (b : Contents). rewatched b c.shift.new.blocks.watches) c.seek-2.ensures))
-
-pub returns-in_err-note-clause-bounded : goal.returns-in_err-note-clause-bounded
-returns-in_err-note-clause-bounded c = running-bounded c.args.clauses.now c.args.assignment.now.values.items c.requires.running
 
 pub returns-clause-literals : goal.returns-clause-literals
 returns-clause-literals c = ap (λ (b : Contents). b.literals) (c.shift.ensures.kept ∙ ap (λ (b : Contents). rewatched b c.shift.new.blocks.watches) c.seek-2.ensures)

@@ -9,7 +9,7 @@ invariant_of-self-2 c =
     let starts_is = c.push_reserved.ensures.items ∙ ap (λ (xs : List ℕ). xs ++ (0 ∷ [])) c.reserve.ensures.items in
     let rooms_is = c.push_reserved-2.ensures.items ∙ ap (λ (xs : List ℕ). xs ++ (0 ∷ [])) c.reserve-2.ensures.items in
     let h = extended-from c.args.self.now c.self.inside.words.items c.begin.new.words.items c.self.inside.starts.items c.as_slice.result.now c.self.inside.rooms.items c.self.view_is c.self.invariant (c.as_slice.ensures.value ∙ c.reserve.ensures.items) c.in_ok-begin.ensures.first c.begin.ensures.kept in
-    subst (λ ss. AreBlocks c.begin.new.words.items ss c.push_reserved-2.new.self.items) (sym starts_is) (subst (λ rs. AreBlocks c.begin.new.words.items (c.self.inside.starts.items ++ (0 ∷ [])) rs) (sym rooms_is) h.blocks)
+    subst (λ ss. AreBlocks c.begin.new.words.items ss c.push_reserved-2.new.self.items c.self.inside.run) (sym starts_is) (subst (λ rs. AreBlocks c.begin.new.words.items (c.self.inside.starts.items ++ (0 ∷ [])) rs c.self.inside.run) (sym rooms_is) h.blocks)
 
 pub returns-clause-literals : goal.returns-clause-literals
 returns-clause-literals c =
@@ -21,7 +21,7 @@ pub returns-clause-searches : goal.returns-clause-searches
 returns-clause-searches c =
     let starts_is = c.push_reserved.ensures.items ∙ ap (λ (xs : List ℕ). xs ++ (0 ∷ [])) c.reserve.ensures.items in
     let h = extended-from c.args.self.now c.self.inside.words.items c.begin.new.words.items c.self.inside.starts.items c.as_slice.result.now c.self.inside.rooms.items c.self.view_is c.self.invariant (c.as_slice.ensures.value ∙ c.reserve.ensures.items) c.in_ok-begin.ensures.first c.begin.ensures.kept in
-    ap (λ (ss : List ℕ). table (length ss) (stored_search c.begin.new.words.items ss)) starts_is ∙ h.searches
+    ap (λ (ss : List ℕ). table (length ss) (stored_search c.begin.new.words.items ss c.self.inside.run)) starts_is ∙ h.searches
 
 pub returns-clause-watches : goal.returns-clause-watches
 returns-clause-watches c =

@@ -6,23 +6,23 @@ use Rattle.pb_propagate.proofs.clauses.blocks.Blocks.fit.Goals as goal
 
 pub index-requires : goal.index-requires
 index-requires c =
-    let slot = slot-behind c.args.self.now c.self.inside.words.items c.self.inside.starts.items c.self.inside.rooms.items c.args.slot c.self.view_is c.requires.slot in
+    let slot = slot-behind _ c.args.self.now c.self.inside.words.items c.self.inside.starts.items c.self.inside.rooms.items c.args.slot c.self.view_is c.requires.slot in
     omega (arith, slot, c.self.invariant.sizes, c.self.inside.rooms.ok.0)
 
 pub index_mut-requires : goal.index_mut-requires
 index_mut-requires c =
-    let slot = slot-behind c.args.self.now c.self.inside.words.items c.self.inside.starts.items c.self.inside.rooms.items c.args.slot c.self.view_is c.requires.slot in
+    let slot = slot-behind _ c.args.self.now c.self.inside.words.items c.self.inside.starts.items c.self.inside.rooms.items c.args.slot c.self.view_is c.requires.slot in
     omega (arith, slot, c.self.inside.starts.ok.0)
 
 pub index_mut-requires-2 : goal.index_mut-requires-2
 index_mut-requires-2 c =
-    let slot = slot-behind c.args.self.now c.self.inside.words.items c.self.inside.starts.items c.self.inside.rooms.items c.args.slot c.self.view_is c.requires.slot in
+    let slot = slot-behind _ c.args.self.now c.self.inside.words.items c.self.inside.starts.items c.self.inside.rooms.items c.args.slot c.self.view_is c.requires.slot in
     omega (arith, slot, c.self.invariant.sizes, c.self.inside.rooms.ok.0)
 
 -- the block is new
-fitted : (c : In_ok-append) → HasFitted c.self.inside.words.items c.append.new.words.items c.self.inside.starts.items c.self.inside.rooms.items c.args.slot c.len-start.result c.room_of-room.result
+fitted : (c : In_ok-append) → HasFitted c.self.inside.words.items c.append.new.words.items c.self.inside.starts.items c.self.inside.rooms.items c.self.inside.run c.args.slot c.len-start.result c.room_of-room.result
 fitted c =
-    let slot = slot-behind c.args.self.now c.self.inside.words.items c.self.inside.starts.items c.self.inside.rooms.items c.args.slot c.self.view_is c.requires.slot in
+    let slot = slot-behind _ c.args.self.now c.self.inside.words.items c.self.inside.starts.items c.self.inside.rooms.items c.args.slot c.self.view_is c.requires.slot in
     let none : number_at c.self.inside.rooms.items c.args.slot ≡ 0 = omega (arith, c.if-held-gt0.false, get_or_read c.self.inside.rooms.items c.args.slot c.index.result.now (omega (arith, slot, c.self.invariant.sizes)) c.index.ensures 0) in
     let at : c.len-start.result ≡ length c.self.inside.words.items = omega (arith, c.len-start.ensures, c.self.inside.words.ok.0) in
     fitted-from c.args.self.now c.self.inside.words.items c.append.new.words.items c.self.inside.starts.items c.self.inside.rooms.items c.args.slot c.len-start.result c.room_of-room.result c.self.view_is c.self.invariant c.requires.slot none (omega (arith, c.if-slot-ge2147483647.false)) at
@@ -42,7 +42,7 @@ returns-clause-watches c = (fitted (goal.at.returns-clause-watches c).In_ok-appe
 
 pub returns-then-held-gt0-clause-fits : goal.returns-then-held-gt0-clause-fits
 returns-then-held-gt0-clause-fits c = λ fits.
-    let slot = slot-behind c.args.self.now c.self.inside.words.items c.self.inside.starts.items c.self.inside.rooms.items c.args.slot c.self.view_is c.requires.slot in
+    let slot = slot-behind _ c.args.self.now c.self.inside.words.items c.self.inside.starts.items c.self.inside.rooms.items c.args.slot c.self.view_is c.requires.slot in
     let held = get_or_read c.self.inside.rooms.items c.args.slot c.index.result.now (omega (arith, slot, c.self.invariant.sizes)) c.index.ensures 0 in
     let room : number_at c.args.self.now.rooms c.args.slot ≡ number_at c.self.inside.rooms.items c.args.slot = ap (λ (v : Contents). number_at v.rooms c.args.slot) (sym c.self.view_is) in
     let most : c.args.count ≤ c.index.result.now = leb-true c.args.count c.index.result.now fits in
@@ -50,6 +50,6 @@ returns-then-held-gt0-clause-fits c = λ fits.
 
 pub returns-clause-fits : goal.returns-clause-fits
 returns-clause-fits c = λ same.
-    let slot = slot-behind c.args.self.now c.self.inside.words.items c.self.inside.starts.items c.self.inside.rooms.items c.args.slot c.self.view_is c.requires.slot in
+    let slot = slot-behind _ c.args.self.now c.self.inside.words.items c.self.inside.starts.items c.self.inside.rooms.items c.args.slot c.self.view_is c.requires.slot in
     let room = get_or-set_same c.self.inside.rooms.items c.args.slot c.room_of-room.result 0 (omega (arith, slot, c.self.invariant.sizes)) in
     (omega (arith, room, c.room_of-room.ensures), omega (arith, c.if-count-ge2147483648.false), omega (arith, c.if-slot-ge2147483647.false))

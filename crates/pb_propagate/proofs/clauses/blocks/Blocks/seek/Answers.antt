@@ -25,6 +25,14 @@ index_mut-requires-2 c =
     let inside = c.self.invariant.inside c.args.slot slot in
     omega (arith, at, inside, c.self.inside.words.ok.0)
 
+pub index_mut-requires-3 : goal.index_mut-requires-3
+index_mut-requires-3 c =
+    let room = block-behind c.args.self.now c.self.inside.words.items c.self.inside.starts.items c.self.inside.rooms.items c.args.slot c.self.view_is c.self.invariant c.requires.block in
+    let slot = room-inside c.self.inside.words.items c.self.inside.starts.items c.self.inside.rooms.items c.self.invariant c.args.slot room in
+    let at = get_or_read c.self.inside.starts.items c.args.slot c.index.result.now slot c.index.ensures 0 in
+    let inside = c.self.invariant.inside c.args.slot slot in
+    omega (arith, at, inside, c.self.inside.words.ok.0)
+
 pub invariant_of-self : goal.invariant_of-self
 invariant_of-self c =
     let room = block-behind c.args.self.now c.self.inside.words.items c.self.inside.starts.items c.self.inside.rooms.items c.args.slot c.self.view_is c.self.invariant c.requires.block in
