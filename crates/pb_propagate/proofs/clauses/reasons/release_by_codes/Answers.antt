@@ -1,4 +1,4 @@
-use Rattle.pb_propagate.proofs.Common.{◌<◌, ◌∙◌, ◌≡◌, ap, arith, get_or, inl, inr, subst, sym, cases_eq, get_or_default}
+use Rattle.pb_propagate.proofs.Common.{◌∙◌, ◌≡◌, ap, arith, get_or, inl, inr, subst, sym, cases_eq, get_or_default}
 use Rattle.pb_propagate.proofs.Common.{NumberedLiteral, literal_at, IsDue}
 use Rattle.pb_propagate.proofs.lemmas.root.Released.{released-same, released-then, some-released, some-sized}
 use Rattle.pb_propagate.proofs.clauses.reasons.release_by_codes.Goals as goal

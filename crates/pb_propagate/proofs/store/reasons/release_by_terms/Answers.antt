@@ -1,4 +1,4 @@
-use Rattle.pb_propagate.proofs.Common.{ℕ, ◌<◌, ◌∙◌, ◌≡◌, [], ap, arith, get_or, inl, inr, length, List, subst, sym, cases_eq, Term, shapes_of, terms_at}
+use Rattle.pb_propagate.proofs.Common.{◌∙◌, ◌≡◌, [], ap, arith, get_or, inl, inr, length, List, subst, sym, cases_eq, Term, shapes_of, terms_at}
 use Rattle.pb_propagate.proofs.Common.{IsDue, Shape, terms_of}
 use Rattle.pb_propagate.proofs.lemmas.engine.VisitSteps.{shape-at}
 use Rattle.pb_propagate.proofs.lemmas.root.Replaced.{terms-inside}

@@ -1,4 +1,4 @@
-use Rattle.pb_propagate.proofs.Common.{arith, place, entries_of, shapes_of, refl}
+use Rattle.pb_propagate.proofs.Common.{arith, shapes_of, refl}
 use Rattle.pb_propagate.proofs.lemmas.engine.Puts.{place-inside}
 use Rattle.pb_propagate.proofs.lemmas.root.Released.{released-then, replaced-released, shortened-released, some-released, some-sized}
 use Rattle.pb_propagate.proofs.lemmas.store.Places.{entries-length}

@@ -1,4 +1,4 @@
-use Rattle.pb_propagate.proofs.Common.{◌-◌, ap, arith, length, length-take-le, true}
+use Rattle.pb_propagate.proofs.Common.{◌-◌, ap, arith, length, length-take-le}
 use Rattle.pb_propagate.proofs.lemmas.root.Released.{due-some, some-shortened, some-sized, shortened-same, shortened-then}
 use Rattle.pb_propagate.proofs.engine.root.Root.withdraw.Goals as goal
 
