@@ -4,8 +4,8 @@ ghost use Rattle.std.specs.Prelude.{◌≡◌, ℕ, ◌*◌, ◌<◌, true, All,
 ghost use Rattle.pb_propagate.specs.engine.Engine.Lists.{IsDue};
 ghost use Rattle.pb_propagate.specs.engine.Engine.Fields.{shapes_of, IsSound};
 ghost use Rattle.pb_propagate.specs.engine.Engine.Progress.{list_of, reasons_of};
-ghost use Rattle.pb_propagate.specs.engine.Engine.Refreshed.{IsReleased};
-ghost use Rattle.pb_propagate.specs.engine.Engine.Root.{HasOtherReasons, IsSized};
+ghost use Rattle.pb_propagate.specs.engine.Engine.Refreshed.{IsReleased, IsSomeRoot};
+ghost use Rattle.pb_propagate.specs.engine.Engine.Root.{HasOtherReasons};
 ghost use Rattle.pb_propagate.specs.engine.Clauses.Links.{list_at};
 ghost use Rattle.pb_propagate.specs.engine.Clauses.Runs.{AreReady};
 ghost use Rattle.pb_propagate.specs.engine.Clauses.Shapes.{clauses_of, literal_at};
@@ -71,7 +71,7 @@ pub fn replace_by_literals(
 // with those after it.
 fn release_by_codes(store: &Store, root: &mut Root, slot: usize, codes: &[u32])
     requires sound { IsSound store.now }
-    requires sized { IsSized store.now root.old }
+    requires rooted { IsSomeRoot store.now root.old }
     requires inside { All (λ x. x < 4 * store.now.variables) codes.now }
     ensures released { IsReleased store.now slot root.old root.new }
     ensures needless { (k d : ℕ) → k < length codes.now →
@@ -89,7 +89,7 @@ pub fn release_by_literals(clauses: &Clauses, store: &Store, root: &mut Root, sl
     requires slot { slot < length clauses.now.blocks.literals }
     requires widths { length clauses.now.lists.items ≡ 4 * store.now.variables }
     requires sound { IsSound store.now }
-    requires sized { IsSized store.now root.old }
+    requires rooted { IsSomeRoot store.now root.old }
     ensures released { IsReleased store.now slot root.old root.new }
     ensures needless { (k d : ℕ) → k < length (list_at (clauses_of clauses.now) slot) →
         IsDue slot (list_of root.new.run) (reasons_of root.new.run)

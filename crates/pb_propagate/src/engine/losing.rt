@@ -6,9 +6,9 @@ ghost use Rattle.pb_propagate.specs.declared.clauses.Clauses.{Clauses};
 ghost use Rattle.pb_propagate.specs.engine.Engine.Lists.{IsDue};
 ghost use Rattle.pb_propagate.specs.engine.Engine.Progress.{list_of, reasons_of};
 ghost use Rattle.pb_propagate.specs.engine.Engine.Fields.{shapes_of, forms_of, IsSound};
-ghost use Rattle.pb_propagate.specs.engine.Engine.Refreshed.{IsReleased, IsShortened};
+ghost use Rattle.pb_propagate.specs.engine.Engine.Refreshed.{IsReleased, IsShortened, IsSomeRoot};
 ghost use Rattle.pb_propagate.specs.engine.Engine.Rest.{AreSlots};
-ghost use Rattle.pb_propagate.specs.engine.Engine.Root.{IsRootOf, IsNeedless, IsSized, Loses};
+ghost use Rattle.pb_propagate.specs.engine.Engine.Root.{IsRootOf, IsNeedless, Loses};
 ghost use Rattle.pb_propagate.specs.engine.Clauses.Runs.{AreReady};
 ghost use Rattle.pb_propagate.specs.engine.Clauses.Shapes.{AreJoined, clauses_of, all_of};
 
@@ -17,7 +17,7 @@ use crate::clauses::reasons::release_by_literals;
 use crate::engine::root::Root;
 use crate::store::Store;
 use crate::store::reasons::{release_by_terms, replace_reason};
-use crate::store::refresh::refresh_all;
+use crate::store::refresh::{lift_all, refresh_all};
 use pb_normal::NumberedLiteral;
 
 impl Root {
@@ -25,7 +25,7 @@ impl Root {
     // put.
     fn retract(&mut self, store: &Store)
         requires sound { IsSound store.now }
-        requires sized { IsSized store.now self.old }
+        requires rooted { IsSomeRoot store.now self.old }
         requires some { 0 < length (list_of self.old.run) }
         ensures shortened { IsShortened store.now self.old self.new }
         ensures list { list_of self.new.run ≡ take (length (list_of self.old.run) - 1)
@@ -36,15 +36,15 @@ impl Root {
         let literal = self.run.assignment.list[last];
         self.run.assignment.cut(last);
         self.walked.cut(last);
+        lift_all(store, self, literal.negation());
         refresh_all(store, self, literal);
-        refresh_all(store, self, literal.negation());
     }
 
     // Takes literals off the list, the last one first, until a literal is not due to the form of a
     // slot.
     fn withdraw(&mut self, store: &Store, slot: usize, literal: NumberedLiteral)
         requires sound { IsSound store.now }
-        requires sized { IsSized store.now self.old }
+        requires rooted { IsSomeRoot store.now self.old }
         requires inside { literal.variable < store.now.variables }
         ensures shortened { IsShortened store.now self.old self.new }
         ensures needless { IsDue slot (list_of self.new.run) (reasons_of self.new.run) literal → ⊥ }
@@ -58,7 +58,7 @@ impl Root {
     /// those after it are taken off.
     pub fn release_literal(&mut self, store: &Store, slot: usize, literal: NumberedLiteral)
         requires sound { IsSound store.now }
-        requires sized { IsSized store.now self.old }
+        requires rooted { IsSomeRoot store.now self.old }
         requires inside { literal.variable < store.now.variables }
         ensures released { IsReleased store.now slot self.old self.new }
         ensures needless { IsDue slot (list_of self.new.run) (reasons_of self.new.run) literal → ⊥ }

@@ -7,8 +7,8 @@ ghost use Rattle.pb_propagate.specs.engine.Engine.Counts.{place};
 ghost use Rattle.pb_propagate.specs.engine.Engine.Fields.{shapes_of, IsSound};
 ghost use Rattle.pb_propagate.specs.engine.Engine.Links.{terms_at};
 ghost use Rattle.pb_propagate.specs.engine.Engine.Progress.{list_of, reasons_of};
-ghost use Rattle.pb_propagate.specs.engine.Engine.Refreshed.{IsReleased};
-ghost use Rattle.pb_propagate.specs.engine.Engine.Root.{HasOtherReasons, IsNeedless, IsSized};
+ghost use Rattle.pb_propagate.specs.engine.Engine.Refreshed.{IsReleased, IsSomeRoot};
+ghost use Rattle.pb_propagate.specs.engine.Engine.Root.{HasOtherReasons, IsNeedless};
 ghost use Rattle.pb_propagate.specs.engine.Clauses.Runs.{AreReady};
 ghost use Rattle.pb_propagate.specs.engine.Clauses.Shapes.{AreJoined, clauses_of, all_of};
 
@@ -106,7 +106,7 @@ pub fn replace_reasons(
 /// is taken off the root, with those after it.
 pub fn release_by_terms(store: &Store, root: &mut Root, slot: usize)
     requires sound { IsSound store.now }
-    requires sized { IsSized store.now root.old }
+    requires rooted { IsSomeRoot store.now root.old }
     requires slot { slot < length store.now.stored.items }
     ensures released { IsReleased store.now slot root.old root.new }
     ensures needless { (k : ℕ) (d : Term) →

@@ -5,7 +5,7 @@ use Rattle.pb_propagate.proofs.lemmas.engine.Literals.{has-none}
 use Rattle.pb_propagate.proofs.lemmas.root.Extends.{extends-none, extends-then, extends-within}
 use Rattle.pb_propagate.proofs.lemmas.root.Returns.{reasoned-rooted}
 use Rattle.pb_propagate.specs.declared.engine.root.Root.{Root}
-use Rattle.pb_propagate.specs.engine.Engine.Refreshed.{IsReleased, IsShortened}
+use Rattle.pb_propagate.specs.engine.Engine.Refreshed.{IsReleased, IsShortened, IsSomeRoot}
 use Rattle.pb_propagate.specs.engine.Engine.Root.{IsRootOf, IsSized}
 
 -- the lists of a root have their sizes
@@ -48,6 +48,15 @@ released-then {store} {slot} {a} {b} {c} p q = record {
   fewer = λ l due. p.fewer l (q.fewer l due);
   rooted = λ clauses j slots r. q.rooted clauses j slots (p.rooted clauses j slots r);
 }
+
+pub some-sized : (store : Store) (root : Root) → IsSomeRoot store root → IsSized store root
+some-sized store root r = rooted-sized store r.0 root r.3
+
+pub some-shortened : {store : Store} {old new : Root} → IsSomeRoot store old → IsShortened store old new → IsSomeRoot store new
+some-shortened r s = (r.0, r.1, r.2, s.rooted r.0 r.2 r.3)
+
+pub some-released : {store : Store} {slot : ℕ} {old new : Root} → IsSomeRoot store old → IsReleased store slot old new → IsSomeRoot store new
+some-released r s = (r.0, r.1, r.2, s.rooted r.0 r.1 r.2 r.3)
 
 -- a reason is replaced
 pub replaced-released : (store : Store) (slot : ℕ) (old new : Root) (a : Assignment) → new ≡ record old { run = record old.run { assignment = a } } → IsSized store old → HasOtherReasons (shapes_of store.stored.items) slot old.run.assignment a → IsReleased store slot old new

@@ -1,11 +1,11 @@
-use Rattle.pb_propagate.proofs.Common.{◌<◌, ◌∙◌, ◌≡◌, ap, arith, get_or, inl, inr, subst, sym, cases_eq, get_or_default}
+use Rattle.pb_propagate.proofs.Common.{◌∙◌, ◌≡◌, ap, arith, get_or, inl, inr, subst, sym, cases_eq, get_or_default}
 use Rattle.pb_propagate.proofs.Common.{NumberedLiteral, literal_at, IsDue}
-use Rattle.pb_propagate.proofs.lemmas.root.Released.{released-same, released-then}
+use Rattle.pb_propagate.proofs.lemmas.root.Released.{released-same, released-then, some-released, some-sized}
 use Rattle.pb_propagate.proofs.clauses.reasons.release_by_codes.Goals as goal
 
 pub literals-init : goal.literals-init
 literals-init c = record {
-  released = released-same c.args.store.now c.args.slot c.args.root.now c.requires.sized;
+  released = released-same c.args.store.now c.args.slot c.args.root.now (some-sized c.args.store.now c.args.root.now c.requires.rooted);
   needless = λ k d less. absurd (omega (arith, less));
 }
 
@@ -14,7 +14,7 @@ release_literal-requires c =
     let all = c.requires.inside c.literals.i 0 c.literals-test.true in
     record {
       sound = c.requires.sound;
-      sized = c.literals.invariant.released.sized;
+      rooted = some-released c.requires.rooted c.literals.invariant.released;
       inside = omega (arith, all, ap (λ (l : NumberedLiteral). l.variable) c.literal_of.ensures);
     }
 

@@ -1,13 +1,13 @@
-use Rattle.pb_propagate.proofs.Common.{ℕ, ◌<◌, ◌∙◌, ◌≡◌, [], ap, arith, get_or, inl, inr, length, List, subst, sym, cases_eq, Term, shapes_of, terms_at}
+use Rattle.pb_propagate.proofs.Common.{◌∙◌, ◌≡◌, [], ap, arith, get_or, inl, inr, length, List, subst, sym, cases_eq, Term, shapes_of, terms_at}
 use Rattle.pb_propagate.proofs.Common.{IsDue, Shape, terms_of}
 use Rattle.pb_propagate.proofs.lemmas.engine.VisitSteps.{shape-at}
 use Rattle.pb_propagate.proofs.lemmas.root.Replaced.{terms-inside}
-use Rattle.pb_propagate.proofs.lemmas.root.Released.{released-same, released-then}
+use Rattle.pb_propagate.proofs.lemmas.root.Released.{released-same, released-then, some-released, some-sized}
 use Rattle.pb_propagate.proofs.store.reasons.release_by_terms.Goals as goal
 
 pub terms-init : goal.terms-init
 terms-init c = record {
-  released = released-same c.args.store.now c.args.slot c.args.root.now c.requires.sized;
+  released = released-same c.args.store.now c.args.slot c.args.root.now (some-sized c.args.store.now c.args.root.now c.requires.rooted);
   needless = λ k d less. absurd (omega (arith, less));
 }
 
@@ -17,7 +17,7 @@ release_literal-requires c =
     let all = terms-inside c.args.store.now c.args.slot c.index.result.now c.requires.sound c.requires.slot c.index.ensures c.terms.i t (omega (arith, c.terms-test.true, c.len-i-end.ensures)) in
     record {
       sound = c.requires.sound;
-      sized = c.terms.invariant.released.sized;
+      rooted = some-released c.requires.rooted c.terms.invariant.released;
       inside = omega (arith, all, ap (λ (x : Term). x.literal.variable) (c.term.ensures t));
     }
 

@@ -1,5 +1,5 @@
-use Rattle.pb_propagate.proofs.Common.{ℕ, ◌<◌, ◌∙◌, ◌≡◌, [], ap, arith, Bool, get_or, Global, inl, inr, length, List, subst, sym, Vec, Option}
-use Rattle.pb_propagate.proofs.Common.{cases_eq, length-map, Store, StoredForm, Term, IsSound, shapes_of, stored_shape, terms_at, AreInside, IsDue}
+use Rattle.pb_propagate.proofs.Common.{◌<◌, ◌∙◌, ◌≡◌, [], ap, arith, Bool, get_or, Global, inl, inr, length, List, subst, sym, Vec, Option}
+use Rattle.pb_propagate.proofs.Common.{cases_eq, Term, shapes_of, terms_at, IsDue}
 use Rattle.pb_propagate.proofs.Common.{Shape, terms_of}
 use Rattle.pb_propagate.proofs.lemmas.engine.Puts.{place-inside}
 use Rattle.pb_propagate.proofs.lemmas.engine.VisitSteps.{shape-at}

@@ -1,12 +1,11 @@
 use Rattle.pb_propagate.proofs.Common.{arith}
 use Rattle.pb_propagate.proofs.lemmas.root.Replaced.{needless-codes, needless-terms}
-use Rattle.pb_propagate.proofs.lemmas.root.Released.{rooted-sized}
 use Rattle.pb_propagate.proofs.engine.root.Root.release.Goals as goal
 
 pub release_by_literals-requires : goal.release_by_literals-requires
 release_by_literals-requires c = record {
   sound = c.requires.sound;
-  sized = rooted-sized c.args.store.now c.args.clauses.now c.args.self.now c.requires.rooted;
+  rooted = (c.args.clauses.now, c.requires.joined, c.requires.slots, c.requires.rooted);
   ready = c.requires.ready;
   slot = omega (arith, c.requires.slot, c.requires.known);
   widths = c.requires.widths;
@@ -23,7 +22,7 @@ returns-then-is_filled-clause-needless c =
 pub release_by_terms-requires : goal.release_by_terms-requires
 release_by_terms-requires c = record {
   sound = c.requires.sound;
-  sized = rooted-sized c.args.store.now c.args.clauses.now c.args.self.now c.requires.rooted;
+  rooted = (c.args.clauses.now, c.requires.joined, c.requires.slots, c.requires.rooted);
   slot = c.requires.slot;
 }
 

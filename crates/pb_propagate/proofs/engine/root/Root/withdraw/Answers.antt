@@ -1,9 +1,9 @@
-use Rattle.pb_propagate.proofs.Common.{◌-◌, ap, arith, length, length-take-le, true}
-use Rattle.pb_propagate.proofs.lemmas.root.Released.{due-some, shortened-same, shortened-then}
+use Rattle.pb_propagate.proofs.Common.{◌-◌, ap, arith, length, length-take-le}
+use Rattle.pb_propagate.proofs.lemmas.root.Released.{due-some, some-shortened, some-sized, shortened-same, shortened-then}
 use Rattle.pb_propagate.proofs.engine.root.Root.withdraw.Goals as goal
 
 pub literals-init : goal.literals-init
-literals-init c = shortened-same c.args.store.now c.args.self.now c.requires.sized
+literals-init c = shortened-same c.args.store.now c.args.self.now (some-sized c.args.store.now c.args.self.now c.requires.rooted)
 
 pub is_due-requires : goal.is_due-requires
 is_due-requires c = omega (arith, c.requires.inside, c.literals.invariant.sized.values)
@@ -13,7 +13,7 @@ retract-requires c =
     let due = c.is_due.ensures.yes c.literals-test.true in
     record {
       sound = c.requires.sound;
-      sized = c.literals.invariant.sized;
+      rooted = some-shortened c.requires.rooted c.literals.invariant;
       some = due-some c.literals.self.run.assignment.list.items c.args.literal due.0;
     }
 
