@@ -1,4 +1,4 @@
-use Rattle.pb_propagate.proofs.Common.{◌++◌, ◌+◌, ◌∙◌, ◌∷◌, ◌≡◌, [], ap, arith, Global, length, List, refl, subst, Vec, sum, Entry}
+use Rattle.pb_propagate.proofs.Common.{◌++◌, ◌+◌, ◌∷◌, ◌≡◌, [], ap, arith, Global, length, List, refl, subst, Vec, sum, Entry}
 use Rattle.pb_propagate.proofs.Common.{Listed, all_of, clauses_of, joined, denial_of, shapes_of, Conflicts}
 use Rattle.pb_propagate.proofs.Common.{Derives, AreSettled, alone, posed}
 use Rattle.pb_propagate.proofs.lemmas.engine.Derivations.{derivation-then}
