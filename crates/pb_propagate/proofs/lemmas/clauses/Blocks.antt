@@ -1,11 +1,10 @@
 -- Blocks of words, one of which is written.
-use Rattle.pb_propagate.proofs.Common.{ℕ, ◌*◌, ◌++◌, ◌+◌, ◌-◌, ◌/◌, ◌<◌, ◌^◌, ◌∙◌, ◌∷◌, ◌≡◌, ◌≤◌, ◌⊎◌, [], ap, arith, drop, get_or}
-use Rattle.pb_propagate.proofs.Common.{get_or-set_other, get_or-set_same, inl, inr, length, length-append, length-set, List, refl, set, subst}
-use Rattle.pb_propagate.proofs.Common.{sym, take, true, ◌%◌, ◌==◌, both_ways, cases_Bool, cases_eq, cases_lt, eqb-true, ext_get_or}
-use Rattle.pb_propagate.proofs.Common.{get_or-drop, get_or-map, get_or-take, get_or_append_left, get_or_past, length-drop, length-take-le}
-use Rattle.pb_propagate.proofs.Common.{range_with_len, Watch, Search, AreBlocks, AreKept, begun, Contents, contents, IsBare, IsBefore, nowhere}
-use Rattle.pb_propagate.proofs.Common.{number_at, rewatched, rewritten, searched, stored_clause, stored_search, stored_watch, table, watch_of}
-use Rattle.pb_propagate.proofs.Common.{watch_place, idle, list_at, watch_at}
+use Rattle.pb_propagate.proofs.Common.{ℕ, ◌*◌, ◌++◌, ◌+◌, ◌-◌, ◌/◌, ◌<◌, ◌^◌, ◌∙◌, ◌∷◌, ◌≡◌, ◌≤◌, ◌⊎◌, [], ap, arith, drop, get_or, get_or-set_other}
+use Rattle.pb_propagate.proofs.Common.{get_or-set_same, inl, inr, length, length-append, length-set, List, refl, set, subst, sym, take, true, ◌%◌}
+use Rattle.pb_propagate.proofs.Common.{◌==◌, both_ways, cases_Bool, cases_eq, cases_lt, eqb-true, ext_get_or, get_or-drop, get_or-map, get_or-take}
+use Rattle.pb_propagate.proofs.Common.{get_or_append_left, get_or_past, length-drop, length-take-le, range_with_len, Watch, Search, AreBlocks}
+use Rattle.pb_propagate.proofs.Common.{AreKept, begun, Contents, contents, IsBare, IsBefore, nowhere, number_at, rewatched, rewritten, searched}
+use Rattle.pb_propagate.proofs.Common.{stored_clause, stored_search, stored_watch, table, watch_of, watch_place, idle, list_at, watch_at}
 use Rattle.std.proofs.lemmas.List.FromFn.{length-map-range_with_len, length-range_with_len, get_or-range_with_len}
 use Rattle.pb_propagate.proofs.lemmas.clauses.Gets.{last-is, push-default}
 

@@ -3,8 +3,7 @@ use Rattle.pb_propagate.proofs.Common.{ℕ, ◌*◌, ◌++◌, ◌+◌, ◌/◌,
 use Rattle.pb_propagate.proofs.Common.{get_or-set_same, inl, inr, length, length-set, List, refl, set, subst, sym, true, All, Contains, Option}
 use Rattle.pb_propagate.proofs.Common.{slice_get, Some, both_ways, cases_eq, cases_lt, get_or_default, All-contains, Contains-append_left}
 use Rattle.pb_propagate.proofs.Common.{Contains-get_or, Contains-push, Contains-push_cases, same_Some, Watch, AreLinked, list_at, Remains, watch_at}
-use Rattle.pb_propagate.proofs.Common.{AreNoted, ArePassed, AreServed, AreStored, HasTrue, IsBroken, IsUnit, IsWatched, false_at}
-use Rattle.pb_propagate.proofs.Common.{flip, true_at}
+use Rattle.pb_propagate.proofs.Common.{AreNoted, ArePassed, AreServed, AreStored, HasTrue, IsBroken, IsUnit, IsWatched, false_at, flip, true_at}
 use Rattle.pb_propagate.proofs.lemmas.clauses.Linked.{sits-within}
 use Rattle.pb_propagate.proofs.lemmas.clauses.Truths.{flip-half, flip-flip, flip-apart, same-slot}
 
