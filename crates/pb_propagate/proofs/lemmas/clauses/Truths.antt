@@ -1,5 +1,5 @@
 -- Literals, coded, and their truth.
-use Rattle.pb_propagate.proofs.Common.{ℕ, ◌*◌, ◌+◌, ◌/◌, ◌≡◌, arith, ◌%◌, ◌==◌, nat_tests}
+use Rattle.pb_propagate.proofs.Common.{ℕ, ◌*◌, ◌+◌, ◌/◌, ◌≡◌, arith, nat_tests}
 use Rattle.pb_propagate.specs.engine.Clauses.Truths.{flip}
 
 pub flip-half : (c : ℕ) → flip c / 2 ≡ c / 2

@@ -1,8 +1,7 @@
 -- The number of visits of a propagation, in terms of the live forms.
-use Rattle.pb_propagate.proofs.Common.{ℕ, ◌+◌, ◌<◌, ◌∙◌, ◌∷◌, ◌≡◌, ◌≤◌, [], ap, arith, false, get_or, get_or-set_other}
-use Rattle.pb_propagate.proofs.Common.{length, List, map, None, refl, set, suc, sym, true, zero, Option, slice_get, Some, sum_by}
-use Rattle.pb_propagate.proofs.Common.{length-map, length_permutation, sum_by-cons, sum_by-set, Form, list_at}
-use Rattle.pb_propagate.proofs.Common.{AreJoined, joined, one_term, slot_shape, entry_of, Shape, one_in, terms_in}
+use Rattle.pb_propagate.proofs.Common.{ℕ, ◌+◌, ◌<◌, ◌∙◌, ◌∷◌, ◌≡◌, ◌≤◌, [], ap, arith, false, get_or, get_or-set_other, length, List, map, None, refl}
+use Rattle.pb_propagate.proofs.Common.{set, suc, sym, true, zero, Option, slice_get, Some, sum_by, length-map, length_permutation, sum_by-cons}
+use Rattle.pb_propagate.proofs.Common.{sum_by-set, Form, list_at, AreJoined, joined, one_term, slot_shape, entry_of, Shape, one_in, terms_in}
 use Rattle.pb_propagate.proofs.Common.{AreSlots, IsSlot, form_at, IsAbsent, get_or-map, slice_get_within}
 use Rattle.pb_propagate.proofs.lemmas.store.Options.{some-one}
 use Rattle.pb_propagate.proofs.lemmas.store.Seats.{AreSeated, absent-get}

@@ -1,11 +1,9 @@
 -- The engine between two calls: what a call finds, and what it leaves.
-use Rattle.pb_propagate.proofs.Common.{ℕ, ◌++◌, ◌-◌, ◌<◌, ◌∙◌, ◌∷◌, ◌≡◌, ◌⊎◌, [], ap, arith, false, get_or, inl, inr, length}
-use Rattle.pb_propagate.proofs.Common.{length-append, List, map, None, refl, set, subst, suc, sym, take, true, zero, All, Contains, Option}
-use Rattle.pb_propagate.proofs.Common.{slice_get, Some, take-append_seam, get_or-map}
-use Rattle.pb_propagate.proofs.Common.{length-map, map-append, Contains-append_left, Contains-push_cases, same_Some, Entry, Form}
-use Rattle.pb_propagate.proofs.Common.{opposite, StoredForm, AreJoined}
-use Rattle.pb_propagate.proofs.Common.{HasEntered, shapes_of, stored_shape, IsStoredAs, Shape, Live, AreSlots, IsSlot}
-use Rattle.pb_propagate.proofs.Common.{With}
+use Rattle.pb_propagate.proofs.Common.{ℕ, ◌++◌, ◌-◌, ◌<◌, ◌∙◌, ◌∷◌, ◌≡◌, ◌⊎◌, [], ap, arith, false, get_or, inl, inr, length, length-append, List}
+use Rattle.pb_propagate.proofs.Common.{map, None, refl, set, subst, suc, sym, take, true, zero, All, Contains, Option, slice_get, Some}
+use Rattle.pb_propagate.proofs.Common.{take-append_seam, get_or-map, length-map, map-append, Contains-append_left, Contains-push_cases, same_Some}
+use Rattle.pb_propagate.proofs.Common.{Entry, Form, opposite, StoredForm, AreJoined, HasEntered, shapes_of, stored_shape, IsStoredAs, Shape, Live}
+use Rattle.pb_propagate.proofs.Common.{AreSlots, IsSlot, With}
 use Rattle.pb_propagate.proofs.lemmas.engine.Bridge.{AreKept}
 use Rattle.pb_propagate.proofs.lemmas.store.Gets.{last-is}
 use Rattle.pb_propagate.proofs.lemmas.clauses.Slots.{AreJoined-push}

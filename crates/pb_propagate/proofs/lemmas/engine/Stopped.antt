@@ -1,5 +1,5 @@
 -- What a propagation costs that ends: at a visit to a form, in a walk, or between them.
-use Rattle.pb_propagate.proofs.Common.{ℕ, ◌*◌, ◌+◌, ◌<◌, ◌≡◌, ◌≤◌, ◌∙◌, ap, arith, length, List, sym, length-map, sum, sum_by, Clauses, Heads, Rests, Store}
+use Rattle.pb_propagate.proofs.Common.{ℕ, ◌*◌, ◌+◌, ◌≡◌, ◌≤◌, ◌∙◌, ap, arith, length, List, sym, length-map, sum, sum_by, Clauses, Heads, Rests, Store}
 use Rattle.pb_propagate.proofs.Common.{advanced, AreSingle, AreWithin, clauses_of, Costs, database, falsified_code, IsAhead, passed_of, Progress, queued}
 use Rattle.pb_propagate.proofs.Common.{seen, shapes_of, spent, Spends, stored_shape, taken_to}
 use Rattle.pb_propagate.specs.declared.heads.Ahead.{Ahead}

@@ -1,5 +1,5 @@
 -- Open sums under the values of some literals.
-use Rattle.pb_propagate.proofs.Common.{ℕ, ◌+◌, ◌<◌, ◌∙◌, ◌∷◌, ◌≡◌, ◌≤◌, [], ap, arith, Bool, false, get_or, length, List, None, not, refl, sym, take}
+use Rattle.pb_propagate.proofs.Common.{ℕ, ◌+◌, ◌<◌, ◌∙◌, ◌≡◌, ◌≤◌, ap, arith, Bool, false, get_or, length, List, None, not, refl, sym, take}
 use Rattle.pb_propagate.proofs.Common.{true, Option, Some, sum_by_more, sum_by_more_le, beq, NumberedLiteral, negation, Term, open_part}
 use Rattle.pb_propagate.proofs.Common.{open_sum, says, size}
 use Rattle.pb_propagate.proofs.lemmas.engine.Literals.{open_part-falsified, open_part-open}

@@ -1,5 +1,5 @@
 -- What the parts of a question need, and what they leave: literals that are assigned, a propagation, and the way back.
-use Rattle.pb_propagate.proofs.Common.{ℕ, ◌+◌, ◌∙◌, ◌≡◌, ◌≤◌, [], arith, length, List, refl, subst, all_of, none}
+use Rattle.pb_propagate.proofs.Common.{ℕ, ◌+◌, ◌∙◌, ◌≤◌, [], arith, length, List, refl, subst, all_of, none}
 use Rattle.pb_propagate.proofs.Common.{Clauses, Eager, Heads, Rests, Run, Store, Walked, AreJoined, clauses_of, heads_at, IsRunning, Advances, database, Database}
 use Rattle.pb_propagate.proofs.Common.{IsRooted, HasUpdated, list_of, progress, reasons_of, shapes_in, values_of, AreOpen, IsCounted, Progress, RunIsOpen}
 use Rattle.pb_propagate.proofs.Common.{IsReadyRun, Propagates, RunGains, RunPuts, RunVisits, RunVisitsEach, RunReasons}

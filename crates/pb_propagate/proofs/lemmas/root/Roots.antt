@@ -1,12 +1,11 @@
 -- The state to which questions return becomes that of the run.
-use Rattle.pb_propagate.proofs.Common.{ℕ, ◌+◌, ◌<◌, ◌∙◌, ◌≡◌, ◌≤◌, ◌⊎◌, [], ap, arith, get_or, get_or-set_other, get_or-set_same, inl, inr}
-use Rattle.pb_propagate.proofs.Common.{length, List, set, sym, slice_get, slice_get_within, Some, cases_eq, ext_get_or, get_or_default}
-use Rattle.pb_propagate.proofs.Common.{get_or_read, length-map, NumberedLiteral, Assignment, Clauses, Eager, Rests, Run, Store}
-use Rattle.pb_propagate.proofs.Common.{all_of, Walked, IsWalkedTo, heads_at, beside, IsAbsent, IsCounted, IsTidy, IsUndone, rest_open}
+use Rattle.pb_propagate.proofs.Common.{ℕ, ◌+◌, ◌<◌, ◌∙◌, ◌≡◌, ◌≤◌, ◌⊎◌, [], ap, arith, get_or, get_or-set_other, get_or-set_same, inl, inr, length}
+use Rattle.pb_propagate.proofs.Common.{List, set, sym, slice_get, slice_get_within, Some, cases_eq, ext_get_or, get_or_default, get_or_read}
+use Rattle.pb_propagate.proofs.Common.{length-map, NumberedLiteral, Assignment, Clauses, Eager, Rests, Run, Store, all_of, Walked, IsWalkedTo}
+use Rattle.pb_propagate.proofs.Common.{heads_at, beside, IsAbsent, IsCounted, IsTidy, IsUndone, rest_open, rest_start, shapes_of, stored_shape}
+use Rattle.pb_propagate.proofs.Common.{HaveReasons, KeepsReasons, Shape, size, from_given, HasForm, IsRooted}
 use Rattle.pb_propagate.specs.engine.Engine.Propagation.{IsKept}
 use Rattle.pb_propagate.proofs.lemmas.clauses.Heads.{walks-none}
-use Rattle.pb_propagate.proofs.Common.{rest_start, shapes_of, stored_shape, HaveReasons, KeepsReasons, Shape, size}
-use Rattle.pb_propagate.proofs.Common.{from_given, HasForm, IsRooted}
 use Rattle.pb_propagate.proofs.lemmas.store.Gets.{lt_of_apart}
 use Rattle.pb_propagate.proofs.lemmas.engine.Reasoned.{reasons-keep}
 use Rattle.pb_propagate.proofs.lemmas.engine.VisitSteps.{open-now}

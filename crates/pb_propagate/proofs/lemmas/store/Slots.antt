@@ -1,12 +1,9 @@
 -- Forms take slots and leave them.
-use Rattle.pb_propagate.proofs.Common.{ℕ, ◌*◌, ◌++◌, ◌<◌, ◌∙◌, ◌∷◌, ◌≡◌, [], ap, arith, get_or, Global}
-use Rattle.pb_propagate.proofs.Common.{length, length-append, length-set, List, None, set, sym, Vec, Option}
-use Rattle.pb_propagate.proofs.Common.{slice_get, Some, map-set_same}
-use Rattle.pb_propagate.proofs.Common.{get_or-map, length-map, map-append, map-set}
-use Rattle.pb_propagate.proofs.Common.{Form, IsNormal, Clauses, Listed}
-use Rattle.pb_propagate.proofs.Common.{Store, StoredForm, AreReady, IsRefitted, clause_shape, clauses_of, code, codes_of_terms, group_by}
-use Rattle.pb_propagate.proofs.Common.{IsClause, joined, HasFilled, IsEmpty, IsSound, IsUnlisted, shapes_of, stored_shape, terms_at, Shape}
-use Rattle.pb_propagate.proofs.Common.{AreSlots, IsAtRest}
+use Rattle.pb_propagate.proofs.Common.{ℕ, ◌*◌, ◌++◌, ◌<◌, ◌∙◌, ◌∷◌, ◌≡◌, [], ap, arith, get_or, Global, length, length-append, length-set, List, None}
+use Rattle.pb_propagate.proofs.Common.{set, sym, Vec, Option, slice_get, Some, map-set_same, get_or-map, length-map, map-append, map-set, Form}
+use Rattle.pb_propagate.proofs.Common.{IsNormal, Clauses, Listed, Store, StoredForm, AreReady, IsRefitted, clause_shape, clauses_of, code}
+use Rattle.pb_propagate.proofs.Common.{codes_of_terms, group_by, IsClause, joined, HasFilled, IsEmpty, IsSound, IsUnlisted, shapes_of, stored_shape}
+use Rattle.pb_propagate.proofs.Common.{terms_at, Shape, AreSlots, IsAtRest}
 use Rattle.pb_propagate.proofs.lemmas.engine.Rests.{slots-set, slots-more, slots-length}
 use Rattle.pb_propagate.proofs.lemmas.clauses.Slots.{IsVacant, slots-vacant, joined-widen, AreJoined-widen, joined-set, AreJoined-set, joined-clause, AreJoined-clause, joined-cleared, AreJoined-cleared, clause-kept, rising-different}
 use Rattle.pb_propagate.proofs.lemmas.clauses.Shapes.{joined-length}

@@ -1,7 +1,6 @@
-use Rattle.pb_propagate.proofs.Common.{sum_by, ◌+◌, ◌*◌, ◌∙◌, ◌≡◌, ◌≤◌, [], ap, arith, inl, inr, length}
-use Rattle.pb_propagate.proofs.Common.{List, of_z, pos, refl, sym, true, w128}
-use Rattle.pb_propagate.proofs.Common.{NumberedLiteral, negation_of, all_of, clauses_of, forms_of}
-use Rattle.pb_propagate.proofs.Common.{Live, one_in, Standing, terms_in, alone, numbered, IsCompletion, MeetsConflict, With}
+use Rattle.pb_propagate.proofs.Common.{sum_by, ◌+◌, ◌*◌, ◌∙◌, ◌≡◌, ◌≤◌, [], ap, arith, inl, inr, length, List, of_z, pos, refl, sym, true, w128}
+use Rattle.pb_propagate.proofs.Common.{NumberedLiteral, negation_of, all_of, clauses_of, forms_of, Live, one_in, Standing, terms_in, alone, numbered}
+use Rattle.pb_propagate.proofs.Common.{IsCompletion, MeetsConflict, With}
 use Rattle.pb_propagate.proofs.lemmas.engine.Bounds.{slots-terms}
 use Rattle.pb_propagate.proofs.lemmas.root.Asked.{asked-meets, asked-free}
 use Rattle.pb_propagate.proofs.lemmas.root.Kept.{conflict-answered, conflict-few, kept-vacant}

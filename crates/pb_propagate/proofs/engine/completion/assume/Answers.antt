@@ -1,4 +1,4 @@
-use Rattle.pb_propagate.proofs.Common.{◌+◌, ◌∙◌, ◌≡◌, false, get_or, inl, true, NumberedLiteral, negation, shapes_of, begin, has}
+use Rattle.pb_propagate.proofs.Common.{◌+◌, ◌≡◌, false, get_or, inl, true, NumberedLiteral, negation, shapes_of, begin, has}
 use Rattle.pb_propagate.proofs.lemmas.engine.Assumed.{Assumed, assumed-next, none-assumed, opposed-clash}
 use Rattle.pb_propagate.proofs.lemmas.root.Ready.{puts-none, puts-then}
 use Rattle.pb_propagate.proofs.engine.completion.assume.Goals as goal

@@ -1,4 +1,4 @@
-use Rattle.pb_propagate.proofs.Common.{◌∙◌, ◌≡◌, [], ap, arith, Global, length, refl, subst, Vec, IfNone, IfSome, Listed}
+use Rattle.pb_propagate.proofs.Common.{◌≡◌, [], ap, arith, Global, length, refl, subst, Vec, IfNone, IfSome, Listed}
 use Rattle.pb_propagate.proofs.Common.{all_of, clauses_of, Derives, joined, shapes_of, HasClash, HasEnded}
 use Rattle.pb_propagate.proofs.lemmas.root.Kept.{kept-conflicts}
 use Rattle.pb_propagate.proofs.lemmas.root.Ready.{updated-ready}

@@ -1,5 +1,4 @@
-use Rattle.pb_propagate.proofs.Common.{◌++◌, ◌∙◌, ◌≡◌, [], ap, arith, length, all_of, clauses_of}
-use Rattle.pb_propagate.proofs.Common.{shapes_of}
+use Rattle.pb_propagate.proofs.Common.{◌++◌, ◌∙◌, ◌≡◌, ap, arith, length, all_of, clauses_of, shapes_of}
 use Rattle.pb_propagate.proofs.lemmas.clauses.Heads.{heads-is}
 use Rattle.pb_propagate.proofs.lemmas.engine.Derivations.{derivation-keeps}
 use Rattle.pb_propagate.proofs.lemmas.root.Extends.{extends-within}

@@ -1,6 +1,5 @@
-use Rattle.pb_propagate.proofs.Common.{ℕ, ◌∙◌, ◌≡◌, [], ap, arith, Global, length, sym, Vec, sum, length-map, all_of}
-use Rattle.pb_propagate.proofs.Common.{clauses_of, denial_of, shapes_of, stored_shape, begin}
-use Rattle.pb_propagate.proofs.Common.{RunRefutes}
+use Rattle.pb_propagate.proofs.Common.{ℕ, ◌∙◌, ◌≡◌, ap, arith, Global, length, sym, Vec, sum, length-map, all_of, clauses_of, denial_of, shapes_of}
+use Rattle.pb_propagate.proofs.Common.{stored_shape, begin, RunRefutes}
 use Rattle.pb_propagate.proofs.lemmas.clauses.Readings.{running-bounded}
 use Rattle.pb_propagate.proofs.lemmas.clauses.Heads.{heads-is}
 use Rattle.pb_propagate.proofs.lemmas.engine.Derivations.{derivation-keeps}

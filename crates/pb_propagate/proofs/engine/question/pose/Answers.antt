@@ -1,8 +1,8 @@
 use Rattle.pb_propagate.proofs.Common.{ℕ, ◌++◌, ◌+◌, ◌∙◌, ◌∷◌, ◌≡◌, [], ap, arith, get_or, Global, length, length-append, length-set, List, refl}
 use Rattle.pb_propagate.proofs.Common.{rules, set, subst, sym, take, Vec, Contains, sum, sum_by, take-append_seam, length-map, sum_by_push}
-use Rattle.pb_propagate.proofs.Common.{NumberedLiteral, Assignment, Listed, KeepsWalked, IsMark, all_of, clauses_of, joined, beside, IsTidy}
-use Rattle.pb_propagate.proofs.Common.{none, forms_of, shapes_of, stored_shape, Conflicts, Derives, KeepsReasons, open_sum, Shape, list_of}
-use Rattle.pb_propagate.proofs.Common.{reasons_of, alone, posed, ArePlaced, numbered}
+use Rattle.pb_propagate.proofs.Common.{NumberedLiteral, Assignment, Listed, KeepsWalked, IsMark, all_of, clauses_of, joined, beside, IsTidy, none}
+use Rattle.pb_propagate.proofs.Common.{forms_of, shapes_of, stored_shape, Conflicts, Derives, KeepsReasons, open_sum, Shape, list_of, reasons_of}
+use Rattle.pb_propagate.proofs.Common.{alone, posed, ArePlaced, numbered, ◌*◌, ◌≤◌}
 use Rattle.pb_propagate.proofs.lemmas.clauses.Heads.{heads-is, visits-back, walks-kept}
 use Rattle.pb_propagate.proofs.lemmas.clauses.Slots.{joined-push}
 use Rattle.pb_propagate.proofs.lemmas.engine.Derivations.{derivation-then}
@@ -16,7 +16,6 @@ use Rattle.pb_propagate.proofs.lemmas.root.Questions.{entered-shapes, laid-count
 use Rattle.pb_propagate.proofs.lemmas.store.Placed.{numbered-entered}
 use Rattle.pb_propagate.proofs.lemmas.engine.Reasoned.{reasons-derive, reasons-keep}
 use Rattle.pb_propagate.specs.engine.Engine.Root.{terms_of_all}
-use Rattle.pb_propagate.proofs.Common.{◌*◌, ◌≤◌}
 use Rattle.pb_propagate.proofs.engine.question.pose.Goals.{After-propagate}
 use Rattle.pb_propagate.proofs.engine.question.pose.Goals as goal
 

@@ -1,6 +1,5 @@
-use Rattle.pb_propagate.proofs.Common.{◌++◌, ◌+◌, ◌∙◌, ◌∷◌, ◌≡◌, [], ap, arith, Global, length, List, refl, subst, Vec, sum, Entry}
-use Rattle.pb_propagate.proofs.Common.{Listed, all_of, clauses_of, joined, denial_of, shapes_of, Conflicts}
-use Rattle.pb_propagate.proofs.Common.{Derives, AreSettled, alone, posed}
+use Rattle.pb_propagate.proofs.Common.{◌++◌, ◌+◌, ◌∷◌, ◌≡◌, [], ap, arith, Global, length, List, refl, subst, Vec, sum, Entry, Listed, all_of}
+use Rattle.pb_propagate.proofs.Common.{clauses_of, joined, denial_of, shapes_of, Conflicts, Derives, AreSettled, alone, posed, ◌*◌, ◌≤◌}
 use Rattle.pb_propagate.proofs.lemmas.engine.Derivations.{derivation-then}
 use Rattle.pb_propagate.proofs.lemmas.engine.Values.{opposite}
 use Rattle.pb_propagate.proofs.lemmas.root.Denials.{denial-stored}
@@ -11,7 +10,6 @@ use Rattle.pb_propagate.proofs.lemmas.root.Ready.{updated-ready}
 use Rattle.pb_propagate.proofs.lemmas.root.Returns.{both-costs, question-back}
 use Rattle.pb_propagate.proofs.lemmas.engine.Reasoned.{reasons-derive}
 use Rattle.pb_propagate.specs.engine.Engine.Root.{terms_of_all}
-use Rattle.pb_propagate.proofs.Common.{◌*◌, ◌≤◌}
 use Rattle.pb_propagate.proofs.engine.question.pose_clause.Goals.{After-refute}
 use Rattle.pb_propagate.proofs.engine.question.pose_clause.Goals as goal
 

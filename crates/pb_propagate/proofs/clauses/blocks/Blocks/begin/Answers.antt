@@ -1,6 +1,5 @@
-use Rattle.pb_propagate.proofs.Common.{ℕ, ◌+◌, ◌<◌, ◌∙◌, ◌≡◌, ap, arith, length, List, sym}
-use Rattle.pb_propagate.proofs.Common.{get_or_read, Search, Contents, contents, number_at, searched, stored_search}
-use Rattle.pb_propagate.proofs.Common.{search_at}
+use Rattle.pb_propagate.proofs.Common.{ℕ, ◌+◌, ◌<◌, ◌∙◌, ◌≡◌, ap, arith, length, List, sym, get_or_read, Search, Contents, contents, number_at}
+use Rattle.pb_propagate.proofs.Common.{searched, stored_search, search_at}
 use Rattle.pb_propagate.proofs.lemmas.clauses.Blocks.{slot-behind, table-at, start-room, shared-begun, begin-written}
 use Rattle.pb_propagate.proofs.clauses.blocks.Blocks.begin.Goals as goal
 

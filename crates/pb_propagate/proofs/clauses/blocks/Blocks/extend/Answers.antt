@@ -1,5 +1,4 @@
-use Rattle.pb_propagate.proofs.Common.{ℕ, ◌*◌, ◌++◌, ◌∙◌, ◌∷◌, [], ap, length, List, subst}
-use Rattle.pb_propagate.proofs.Common.{sym, AreBlocks, stored_clause, stored_search}
+use Rattle.pb_propagate.proofs.Common.{ℕ, ◌*◌, ◌++◌, ◌∙◌, ◌∷◌, [], ap, length, List, subst, sym, AreBlocks, stored_clause, stored_search}
 use Rattle.pb_propagate.proofs.Common.{stored_watch, table}
 use Rattle.pb_propagate.proofs.lemmas.clauses.Blocks.{extended-from}
 use Rattle.pb_propagate.proofs.clauses.blocks.Blocks.extend.Goals as goal

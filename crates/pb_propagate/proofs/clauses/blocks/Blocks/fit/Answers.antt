@@ -1,5 +1,4 @@
-use Rattle.pb_propagate.proofs.Common.{◌∙◌, ◌≡◌, ◌≤◌, ap, arith, get_or-set_same, length}
-use Rattle.pb_propagate.proofs.Common.{sym, leb-true, get_or_read, Contents, number_at}
+use Rattle.pb_propagate.proofs.Common.{◌∙◌, ◌≡◌, ◌≤◌, ap, arith, get_or-set_same, length, sym, leb-true, get_or_read, Contents, number_at}
 use Rattle.pb_propagate.proofs.lemmas.clauses.Blocks.{HasFitted, slot-behind, fitted-from}
 use Rattle.pb_propagate.proofs.clauses.blocks.Blocks.fit.Goals.{In_ok-append}
 use Rattle.pb_propagate.proofs.clauses.blocks.Blocks.fit.Goals as goal

@@ -1,5 +1,4 @@
-use Rattle.pb_propagate.proofs.Common.{◌∙◌, ap, arith, get_or_read}
-use Rattle.pb_propagate.proofs.Common.{Contents, searched}
+use Rattle.pb_propagate.proofs.Common.{◌∙◌, ap, arith, get_or_read, Contents, searched}
 use Rattle.pb_propagate.proofs.lemmas.clauses.Blocks.{block-behind, room-inside, seek-written}
 use Rattle.pb_propagate.proofs.clauses.blocks.Blocks.seek.Goals as goal
 

@@ -1,4 +1,4 @@
-use Rattle.pb_propagate.proofs.Common.{ℕ, ◌∙◌, ◌≡◌, [], ap, arith, get_or, Global, length, refl, sym, take, Vec, slice_get-get_or, slice_get_within, all_of, none}
+use Rattle.pb_propagate.proofs.Common.{ℕ, ◌∙◌, ◌≡◌, [], ap, arith, get_or, Global, length, refl, sym, take, Vec, slice_get-get_or, slice_get_within, all_of}
 use Rattle.pb_propagate.proofs.Common.{◌++◌, ◌-◌, forms_of, Assignment, Listed, heads_at}
 use Rattle.std.proofs.Math.ListN.{replicate}
 use Rattle.pb_propagate.proofs.lemmas.clauses.Heads.{heads-is, visits-back, walks-back, walks-ended}
