@@ -48,12 +48,12 @@ pub use Rattle.pb_propagate.specs.declared.store.Store.{Store}
 pub use Rattle.pb_propagate.specs.declared.store.stored_form.StoredForm.{StoredForm}
 pub use Rattle.pb_propagate.specs.declared.term.Rank.{Rank}
 pub use Rattle.pb_propagate.specs.declared.term.Term.{Term}
-pub use Rattle.pb_propagate.specs.engine.Clauses.Blocks.{AreBlocks, AreKept, begun, Contents, contents, HasBlock, IsBare, IsBefore, nowhere}
-pub use Rattle.pb_propagate.specs.engine.Clauses.Blocks.{number_at, rewatched, rewritten, searched, stored_clause, stored_search, stored_watch, table}
+pub use Rattle.pb_propagate.specs.engine.Clauses.Blocks.{AreBlocks, AreKept, begun, Contents, contents, HasBlock, IsBare, IsBefore, IsRenewed, nowhere}
+pub use Rattle.pb_propagate.specs.engine.Clauses.Blocks.{number_at, passed_by, rewatched, rewritten, searched, stored_clause, stored_search, stored_watch, table}
 pub use Rattle.pb_propagate.specs.engine.Clauses.Blocks.{watch_of, watch_place}
 pub use Rattle.pb_propagate.specs.engine.Clauses.Links.{AreBlocked, AreFewer, AreLinked, AreMore, entries_at, idle, IsListed, list_at, Remains, Sits}
 pub use Rattle.pb_propagate.specs.engine.Clauses.Links.{watch_at, watch_lists}
-pub use Rattle.pb_propagate.specs.engine.Clauses.Runs.{all_turned, AreFree, AreNoted, ArePassed, AreReady, AreRound, AreServed, AreStored, AreWalked}
+pub use Rattle.pb_propagate.specs.engine.Clauses.Runs.{all_turned, AreFree, ArePassed, AreReady, AreRound, AreServed, AreStored, AreWalked}
 pub use Rattle.pb_propagate.specs.engine.Clauses.Runs.{AreSet, AreWithin, around, Grows, HasTrue, HasVisited, index_after, IsBroken, IsFreePair, IsPair, IsRefitted}
 pub use Rattle.pb_propagate.specs.engine.Clauses.Runs.{IsRound, IsRunning, IsSameWatch, IsUnit, IsWatched, KeepsWalked, passed_of, search_at, turned}
 pub use Rattle.pb_propagate.specs.engine.Clauses.Shapes.{all_of, AreDifferent, AreJoined, clause_shape, clauses_of, code, code_in, codes_of_terms}
@@ -79,10 +79,10 @@ pub use Rattle.pb_propagate.specs.engine.Engine.Live.{Gives, Live, one_in, Stand
 pub use Rattle.pb_propagate.specs.engine.Engine.Progress.{Advances, AreSettled, assigned_to, Costs, Database, database, entries_against, IsOpen}
 pub use Rattle.pb_propagate.specs.engine.Engine.Progress.{IsTidyAt, list_of, Lowers, passed_to, Progress, progress, queued, queued_to, reasons_of}
 pub use Rattle.pb_propagate.specs.engine.Engine.Progress.{RunKeepsReasons, RunPays, RunReasons, RunRecords, RunSpends, seen, seen_to, Spends, StaysTidy}
-pub use Rattle.pb_propagate.specs.engine.Engine.Progress.{taken_to, visited_to, VisitsEach}
+pub use Rattle.pb_propagate.specs.engine.Engine.Progress.{taken_to, visited_to, VisitsEach, AreOpen, RunIsCounted, RunIsOpen, RunVisitsEach, shapes_in, values_of}
+pub use Rattle.pb_propagate.specs.engine.Engine.Propagation.{GoesBack, IsReadyRun, Propagates, RunGains, RunPuts, RunVisits}
 pub use Rattle.pb_propagate.specs.engine.Engine.Reached.{HasClash, HasEnded, IsCovered, IsFrom, IsMade}
-pub use Rattle.pb_propagate.specs.engine.Engine.Rest.{AllWait, AreAtRest, AreSlots, derived, IsAtRest, IsEager, IsEnded, IsRefuted, IsSlot}
-pub use Rattle.pb_propagate.specs.engine.Engine.Rest.{kept_waits, waits}
+pub use Rattle.pb_propagate.specs.engine.Engine.Rest.{AreSlots, derived, IsAtRest, IsEnded, IsRefuted, IsSlot}
 pub use Rattle.pb_propagate.specs.engine.Engine.Root.{alone, HasForm, HasGained, HasLost, HasOtherReasons, HasReached, HasVacated, HasWidened}
 pub use Rattle.pb_propagate.specs.engine.Engine.Root.{HasMet, HasUpdated, IsAnswered, IsAsked, IsConflict, IsFree, IsKeptConflict, IsMet}
 pub use Rattle.pb_propagate.specs.engine.Engine.Root.{IsNeedless, IsOtherUnit, IsRooted, IsVacant, posed, UpdateCosts}

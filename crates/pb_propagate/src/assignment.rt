@@ -229,21 +229,6 @@ impl Assignment {
         self.contains(literal)
     }
 
-    /// How many literals are before the first one whose reason is the form of a slot.
-    pub fn before_due(&self, slot: usize) -> usize
-        ensures within { result ≤ length self.now.list.items }
-        ensures none { (l : NumberedLiteral) →
-            IsDue slot (take result self.now.list.items) self.now.reasons.items l → ⊥ }
-    {
-        'literals: for i in 0..self.list.len() {
-            let literal = self.list[i];
-            if self.is_due(literal, slot) {
-                return i;
-            }
-        }
-        self.list.len()
-    }
-
     /// Gives the literal of a variable another reason.
     pub fn explain(&mut self, variable: usize, reason: usize)
         requires { variable < length self.old.values.items }

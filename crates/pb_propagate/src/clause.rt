@@ -10,8 +10,9 @@ use crate::store::sorted_form::term_of;
 use pb_normal::{Entry, Normal, NumberedLiteral, Terms};
 use std::alloc::{AllocError, Global};
 
-/// Two groups of clauses: the short ones, of at most four literals, and the long ones. Propagation visits the long ones
-/// only when the short ones force nothing more. A literal has a code for each group.
+/// Two groups of clauses: the short ones, of at most four literals, and the long ones. A question
+/// visits the long ones only when the short ones force nothing more. A literal has a code for each
+/// group.
 #[derive(Clone, Copy)]
 pub enum Group {
     Short,
@@ -69,17 +70,13 @@ pub fn code_of(group: Group, literal: NumberedLiteral) -> usize
     if literal.negated { first + 1 } else { first }
 }
 
-/// The code of a literal's negation in the same group, and the other of the two watches of a clause. It is compiled as an
-/// exclusive or with 1.
+/// The code of a literal's negation in the same group, and the other of the two watches of a
+/// clause.
 pub fn opposite(code: usize) -> usize
     requires { code + 1 < 2 ^ 64 }
     ensures { result ≡ flip code }
 {
-    if code % 2 == 0 {
-        code + 1
-    } else {
-        code / 2 * 2
-    }
+    code ^ 1
 }
 
 /// The codes of the terms' literals, in the group of a clause with these terms.

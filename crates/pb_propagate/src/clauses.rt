@@ -1,7 +1,7 @@
 //! Clauses by slots.
 
-ghost use Rattle.std.specs.Prelude.{◌≡◌, ℕ, ◌+◌, ◌*◌, ◌/◌, ◌<◌, ◌≤◌, ◌++◌, ◌∷◌, [], List, All, Bool, Option, length, slice_set, slice_index, true, false, OnOk, OnErr, IfOk, IfSome};
-ghost use Rattle.pb_propagate.specs.engine.Clauses.Links.{watch_lists, list_at, idle, watch_at};
+ghost use Rattle.std.specs.Prelude.{◌≡◌, ℕ, ◌+◌, ◌*◌, ◌/◌, ◌<◌, ◌≤◌, ◌++◌, ◌∷◌, [], List, All, Bool, Option, length, slice_set, true, false, OnOk, OnErr, IfOk, IfSome};
+ghost use Rattle.pb_propagate.specs.engine.Clauses.Links.{watch_lists, list_at, watch_at};
 ghost use Rattle.pb_propagate.specs.engine.Clauses.Blocks.{number_at};
 ghost use Rattle.pb_propagate.specs.engine.Clauses.Runs.{AreReady, AreSet, CanHold, IsPair, IsRefitted, IsRunning, IsSameWatch};
 ghost use Rattle.pb_propagate.specs.engine.Engine.Root.{IsFree};
@@ -38,8 +38,6 @@ fn free_literal(literals: &[u32], assignment: &Assignment) -> Option<u32>
 pub struct Clauses {
     // The clause of each slot, with its search and its watches.
     blocks: Blocks,
-    // The slots whose search has begun in this run.
-    moved: Vec<usize>,
     // For each code, the watches on it.
     lists: Vec<Vec<Listed>>,
 }
@@ -53,7 +51,6 @@ impl Clauses {
     {
         Clauses {
             blocks: Blocks::new(alloc),
-            moved: Vec::new(alloc),
             lists: Vec::new(alloc),
         }
     }
@@ -205,8 +202,8 @@ impl Clauses {
         free_literal(self.blocks.literals(slot), assignment)
     }
 
-    /// Prepares for another run, whose searches go on where those of this run ended. Only the clauses in which a search has
-    /// begun are visited, and nothing is allocated.
+    /// Prepares for another run, whose searches go on where those of this run ended. Nothing is
+    /// allocated.
     pub fn rest(&mut self)
         requires running { (values : List (Option Bool)) × IsRunning values self.old }
         ensures rest { AreReady self.new }
@@ -214,10 +211,6 @@ impl Clauses {
         ensures lists { self.new.lists ≡ self.old.lists }
         ensures watches { self.new.blocks.watches ≡ self.old.blocks.watches }
     {
-        'slots: for i in 0..self.moved.len() {
-            let slot = self.moved[i];
-            self.blocks.begin(slot);
-        }
-        self.moved.clear();
+        self.blocks.renew();
     }
 }

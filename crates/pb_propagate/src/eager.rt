@@ -1,6 +1,6 @@
 //! The forms that may propagate with nothing assigned.
 
-ghost use Rattle.std.specs.Prelude.{◌≡◌, ℕ, ◌<◌, ◌≤◌, ◌+◌, ◌++◌, ◌∷◌, [], Some, length, slice_get, swap_remove, true, false, vec_capacity, OnOk, IfOk};
+ghost use Rattle.std.specs.Prelude.{◌≡◌, ℕ, ◌<◌, ◌≤◌, ◌+◌, ◌++◌, ◌∷◌, [], Some, length, slice_get, swap_remove, true, false, vec_capacity, OnOk};
 ghost use Rattle.pb_propagate.specs.engine.Engine.Counts.{IsAbsent};
 ghost use Rattle.pb_propagate.specs.engine.Engine.Waiting.{IsWithout};
 

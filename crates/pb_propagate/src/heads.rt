@@ -1,6 +1,6 @@
 //! How far the literals of a list are walked in each group of clauses.
 
-ghost use Rattle.std.specs.Prelude.{◌≡◌, ◌+◌, ◌-◌, ◌*◌, ◌^◌, ◌<◌, ◌≤◌, ◌++◌, [], All, length, replicate, slice_index_or, take, IfSome, IfNone, OnOk};
+ghost use Rattle.std.specs.Prelude.{◌≡◌, ◌+◌, ◌-◌, ◌*◌, ◌^◌, ◌<◌, ◌≤◌, ◌⊎◌, ◌++◌, [], true, false, All, length, replicate, slice_index_or, take, IfSome, IfNone, OnOk};
 ghost use Rattle.pb_propagate.specs.engine.Clauses.Walked.{IsAhead};
 
 use crate::clause::{Group, code_of};
@@ -26,15 +26,25 @@ impl Heads {
     }
 }
 
+/// In which order the literals of a list are walked.
+#[derive(Clone, Copy)]
+pub enum Order {
+    /// All of them in the short clauses, then all of them in the long ones.
+    ShortFirst,
+    /// Each of them in the short clauses, and at once in the long ones.
+    ByLiteral,
+}
+
 /// How far the literals of a list are walked, and how far they were when each of them was put.
 #[derive(Drop)]
 pub struct Walked {
     pub heads: Heads,
-    // For each literal of the list how many were walked before it was put. If the list is cut there, so many still are.
+    // For each literal of the list, the heads from before it was put. They still hold if the list
+    // is cut before that literal.
     pub marks: Vec<Heads>,
 }
 
-/// Marks the next literals of a list: when they were put, so many were walked.
+/// Marks the next literals of a list: each was put when the list was walked up to these heads.
 pub fn mark(marks: &mut Vec<Heads>, count: usize, heads: Heads) -> Result<(), AllocError>
     ensures { OnOk result (marks.new.items ≡ marks.old.items ++ replicate count heads) }
 {
@@ -56,7 +66,8 @@ impl Walked {
         }
     }
 
-    /// The list is cut to its first `count` literals: as many are walked as when the next one was put.
+    /// The list is cut to its first `count` literals. The heads are those from before the next
+    /// literal was put.
     pub fn cut(&mut self, count: usize)
         ensures heads { self.new.heads ≡ slice_index_or self.old.marks.items count
             record { short = 0; long = 0 } }
@@ -69,7 +80,7 @@ impl Walked {
         self.marks.truncate(count);
     }
 
-    /// All literals of the list are walked. One without a mark is taken for one that was put before any was walked.
+    /// All literals of the list are walked. A literal without a mark gets that of an empty walk.
     pub fn finish(&mut self, count: usize) -> Result<(), AllocError>
         ensures heads { OnOk result (
             (self.new.heads.short ≡ count) × (self.new.heads.long ≡ count)) }
@@ -90,14 +101,29 @@ pub struct Ahead {
     pub heads: Heads,
 }
 
-/// The next literal of the list in the short clauses, or if all are walked there, in the long ones.
-pub fn next_walk(heads: Heads, list: &[NumberedLiteral]) -> Option<Ahead>
+// Whether the next walk is in the long clauses: no literal is left in the short ones, or the order
+// wants it.
+fn goes_long(order: Order, heads: Heads, count: usize) -> bool
+    ensures yes { result ≡ true → (count ≤ heads.short) ⊎ (heads.long < heads.short) }
+    ensures no { result ≡ false → heads.short < count }
+{
+    if heads.short >= count {
+        return true;
+    }
+    match order {
+        Order::ShortFirst => false,
+        Order::ByLiteral => heads.long < heads.short,
+    }
+}
+
+/// The next walk over a list in that order. There is none if each literal is walked in both groups.
+pub fn next_walk(order: Order, heads: Heads, list: &[NumberedLiteral]) -> Option<Ahead>
     requires fits { All (λ l. 4 * l.variable + 4 ≤ 2 ^ 64) list.now }
     ensures some { IfSome result (IsAhead heads list.now) }
     ensures none { IfNone result ((length list.now ≤ heads.short) ×
         (length list.now ≤ heads.long)) }
 {
-    if heads.short < list.len() {
+    if !goes_long(order, heads, list.len()) {
         let code = code_of(Group::Short, list[heads.short].negation());
         let heads = Heads {
             short: heads.short + 1,

@@ -4,19 +4,18 @@ ghost use Rattle.std.specs.Prelude.{◌≡◌, ◌≤◌, ◌+◌, ◌-◌, ◌*
 ghost use Rattle.pb_normal.specs.declared.numbered.NumberedLiteral.{NumberedLiteral};
 ghost use Rattle.pb_normal.specs.meaning.Rules.{negation};
 ghost use Rattle.pb_propagate.specs.engine.Engine.Lists.{has, Conflicts};
-ghost use Rattle.pb_propagate.specs.engine.Engine.Counts.{place, Grown, IsAbsent, Adopted, AreSingle};
-ghost use Rattle.pb_propagate.specs.engine.Engine.Progress.{progress, IfFound, IfNotFound, AreSettled, RunIsOpen, RunIsTidy, RunStaysTidy, shapes_in, list_of, values_of, RunIsCalm, RunIsUndone, RunVisitsEach, RunIsShort, RunFits, RunReasons, RunRecords, RunLowers, RunCosts, RunAdvances, RunSpends, RunPays, RunIsWalked};
-ghost use Rattle.pb_propagate.specs.engine.Clauses.Walked.{heads_at};
+ghost use Rattle.pb_propagate.specs.engine.Engine.Counts.{place, Grown, IsAbsent, Adopted};
+ghost use Rattle.pb_propagate.specs.engine.Engine.Progress.{progress, IfFound, IfNotFound, RunIsCounted, RunIsOpen, RunIsTidy, shapes_in, list_of, RunIsCalm, RunIsUndone, RunIsShort, RunFits, RunReasons, RunRecords, RunLowers, RunCosts, RunSpends};
+ghost use Rattle.pb_propagate.specs.engine.Engine.Propagation.{IsReadyRun, Propagates, RunGains, HasSettled, RunPuts, RunVisits};
 ghost use Rattle.pb_propagate.specs.engine.Clauses.Marks.{KeepsMarks};
 ghost use Rattle.pb_propagate.specs.engine.Engine.Fields.{shapes_of, IsSound};
 ghost use Rattle.pb_propagate.specs.engine.Engine.Links.{terms_at};
-ghost use Rattle.pb_propagate.specs.engine.Clauses.Runs.{IsRunning, KeepsWalked};
-ghost use Rattle.pb_propagate.specs.engine.Clauses.Shapes.{AreJoined, clauses_of, all_of};
+ghost use Rattle.pb_propagate.specs.engine.Clauses.Shapes.{all_of};
 
 use crate::assignment::Assignment;
 use crate::clauses::Clauses;
 use crate::engine::visits::Visits;
-use crate::heads::{Heads, mark, next_walk};
+use crate::heads::{Heads, Order, mark, next_walk};
 use crate::rests::Rests;
 use crate::store::stored_form::is_below;
 use crate::store::{Store, Visited, visit, visit_term, weight_of};
@@ -106,19 +105,15 @@ pub fn put(
 ) -> Result<bool, AllocError>
     requires store { IsSound store.now }
     requires inside { literal.variable < store.now.variables }
-    requires values { length (values_of run.old) ≡ store.now.variables }
-    requires opens { length run.old.opens.items ≡ length store.now.stored.items }
-    requires next { run.old.next ≤ length run.old.work.items }
+    requires sums { RunIsOpen store.now run.old }
     requires absent { has (list_of run.old) literal ≡ false }
     requires not_falsified { has (list_of run.old) (negation literal) ≡ false }
-    requires counted { RunIsOpen store.now rests.now run.old }
-    ensures advances { OnOk result (RunAdvances store.now rests.now 0 0 run.old run.new) }
+    ensures puts { OnOk result (RunPuts store.now rests.now 0 run.old run.new) }
     ensures costs { OnErr result (RunCosts store.now rests.now 0 0 run.old run.new) }
     ensures candidates { run.new.candidates ≡ run.old.candidates }
     ensures list { OnOk result ((list_of run.new) ≡ list_of run.old ++ literal ∷ []) }
-    ensures reasons { OnOk result (RunRecords reason literal run.old run.new) }
-    ensures tidy { OnOk result (RunStaysTidy store.now rests.now run.old run.new) }
-    ensures counted { IfNotFound result (RunIsOpen store.now rests.now run.new) }
+    ensures reason { OnOk result (RunRecords reason literal run.old run.new) }
+    ensures counted { IfNotFound result (RunIsCounted store.now run.new) }
     ensures conflict { IfFound result (Conflicts (shapes_in store.now) (list_of run.new)) }
 {
     run.assignment.put(literal, reason)?;
@@ -142,17 +137,13 @@ pub fn try_put(
 ) -> Result<bool, AllocError>
     requires store { IsSound store.now }
     requires inside { literal.variable < store.now.variables }
-    requires values { length (values_of run.old) ≡ store.now.variables }
-    requires opens { length run.old.opens.items ≡ length store.now.stored.items }
-    requires next { run.old.next ≤ length run.old.work.items }
-    requires counted { RunIsOpen store.now rests.now run.old }
-    ensures advances { OnOk result (RunAdvances store.now rests.now 0 0 run.old run.new) }
+    requires sums { RunIsOpen store.now run.old }
+    ensures puts { OnOk result (RunPuts store.now rests.now 0 run.old run.new) }
     ensures costs { OnErr result (RunCosts store.now rests.now 0 0 run.old run.new) }
     ensures candidates { run.new.candidates ≡ run.old.candidates }
     ensures adopted { OnOk result (Adopted literal (list_of run.old) (list_of run.new)) }
-    ensures reasons { OnOk result (RunRecords reason literal run.old run.new) }
-    ensures tidy { OnOk result (RunStaysTidy store.now rests.now run.old run.new) }
-    ensures counted { IfNotFound result (RunIsOpen store.now rests.now run.new) }
+    ensures reason { OnOk result (RunRecords reason literal run.old run.new) }
+    ensures sums { IfNotFound result (RunIsOpen store.now run.new) }
     ensures conflict { IfFound result (Conflicts (shapes_in store.now) (list_of run.new)) }
 {
     if run.assignment.contains(literal) {
@@ -176,24 +167,16 @@ fn visit_form(
 ) -> Result<bool, AllocError>
     requires store { IsSound store.now }
     requires form { form < length store.now.stored.items }
-    requires values { length (values_of run.old) ≡ store.now.variables }
-    requires opens { length run.old.opens.items ≡ length store.now.stored.items }
-    requires candidates { length run.old.candidates.items ≡ length store.now.stored.items }
-    requires next { run.old.next ≤ length run.old.work.items }
-    requires counted { RunIsOpen store.now rests.now run.old }
+    requires sums { RunIsOpen store.now run.old }
     requires tidy { RunIsTidy store.now rests.now waiting.now form run.old }
     requires there { IsAbsent run.old.work.items 0 form → ⊥ }
-    ensures advances { OnOk result (RunAdvances store.now rests.now 0 1 run.old run.new) }
+    ensures visits { OnOk result (RunVisits store.now rests.now run.old run.new) }
     ensures costs { OnErr result (RunCosts store.now rests.now 0 1 run.old run.new) }
-    ensures reasons { OnOk result (RunReasons (shapes_in store.now) run.old run.new) }
-    ensures counted { IfNotFound result (RunIsOpen store.now rests.now run.new) }
-    ensures tidy { IfNotFound result (
-        RunIsCalm store.now rests.now waiting.now run.new) }
-    ensures undone { OnOk result (RunIsUndone store.now rests.now 0 run.new) }
+    ensures counted { IfNotFound result (RunIsCounted store.now run.new) }
+    ensures tidy { IfNotFound result (RunIsCalm store.now rests.now waiting.now run.new) }
     ensures conflict { IfFound result (Conflicts (shapes_in store.now) (list_of run.new)) }
     ensures bounded { sum run.new.candidates.items ≤
         sum_by (λ f. length f.terms) (shapes_in store.now) }
-    ensures found { OnOk result (RunVisitsEach run.old run.new) }
 {
     let kept = &store.stored[form];
     'terms: loop {
@@ -219,55 +202,35 @@ fn visit_form(
     }
 }
 
-/// Visits the forms of the work list, then the short clauses in which a falsified literal is watched, then the long
-/// ones. When none is left, the next waiting form is taken, until none waits. A unit that is falsified so ends a question
-/// before further clauses are visited. The literals up to `from` are walked already, and each literal that is walked on
-/// gets a mark. Returns whether a conflict was met.
+/// Visits the forms of the work list, then the clauses in which a falsified literal is watched, in
+/// the given order. When none is left, the next waiting form is taken, until none waits. A unit
+/// that is falsified so ends a question before further clauses are visited. The literals up to
+/// `from` are walked already, and each literal that is put gets a mark. Returns whether a conflict
+/// was met.
 pub fn propagate(
     store: &Store,
     rests: &Rests,
     clauses: &mut Clauses,
     run: &mut Run,
     waiting: &[usize],
+    order: Order,
     from: Heads,
     marks: &mut Vec<Heads>,
 ) -> Result<bool, AllocError>
     requires store { IsSound store.now }
-    requires values { length (values_of run.old) ≡ store.now.variables }
-    requires opens { length run.old.opens.items ≡ length store.now.stored.items }
-    requires candidates { length run.old.candidates.items ≡ length store.now.stored.items }
-    requires next { run.old.next ≤ length run.old.work.items }
     requires waiting { All (λ s. s < length store.now.stored.items) waiting.now }
-    requires single { AreSingle (list_of run.old) }
-    requires counted { RunIsOpen store.now rests.now run.old }
-    requires tidy { RunIsCalm store.now rests.now waiting.now run.old }
-    requires joined { AreJoined (shapes_of store.now.stored.items) (clauses_of clauses.old) }
-    requires running { IsRunning (values_of run.old) clauses.old }
-    requires walked { RunIsWalked from clauses.old run.old }
+    requires ready { IsReadyRun store.now rests.now clauses.old waiting.now from run.old }
     ensures literals { clauses.new.blocks.literals ≡ clauses.old.blocks.literals }
-    ensures running { OnOk result (IsRunning (values_of run.new) clauses.new) }
-    ensures walked { IfNotFound result (
-        RunIsWalked (heads_at (length (list_of run.new))) clauses.new run.new) }
-    ensures kept { OnOk result (KeepsWalked (values_of run.old) clauses.old clauses.new) }
+    ensures left { OnOk result (
+        Propagates store.now rests.now clauses.old clauses.new run.old run.new) }
     ensures marks { OnOk result (KeepsMarks clauses.old clauses.new (list_of run.old)
         (list_of run.new) marks.old.items marks.new.items) }
-    ensures values { OnOk result (length (values_of run.new) ≡ length (values_of run.old)) }
-    ensures opens { OnOk result (length run.new.opens.items ≡ length store.now.stored.items) }
-    ensures candidates { OnOk result (
-        length run.new.candidates.items ≡ length store.now.stored.items) }
     ensures costs { RunSpends store.now rests.now clauses.old from waiting.now run.old run.new }
-    ensures pays { IfNotFound result (
-        RunPays store.now rests.now clauses.old clauses.new from waiting.now run.old run.new) }
     ensures reasons { OnOk result (RunReasons (all_of store.now clauses.old) run.old run.new) }
-    ensures undone { OnOk result (RunIsUndone store.now rests.now 0 run.new) }
+    ensures gains { OnOk result (RunGains run.old run.new) }
     ensures conflict { IfFound result (Conflicts (all_of store.now clauses.old) (list_of run.new)) }
     ensures settled { IfNotFound result (
-        AreSettled (all_of store.now clauses.old) (list_of run.new)) }
-    ensures counted { IfNotFound result (RunIsOpen store.now rests.now run.new) }
-    ensures tidy { IfNotFound result (RunIsCalm store.now rests.now [] run.new) }
-    ensures done { IfNotFound result (length run.new.work.items ≤ run.new.next) }
-    ensures found { OnOk result (RunVisitsEach run.old run.new) }
-    ensures rising { OnOk result (run.old.visits ≤ run.new.visits) }
+        HasSettled store.now rests.now clauses.old clauses.new waiting.now from run.old run.new) }
 {
     let mut taken = 0;
     let mut heads = from;
@@ -279,7 +242,7 @@ pub fn propagate(
             if visit_form(store, rests, run, form, &waiting[taken..])? {
                 return Ok(true);
             }
-        } else if let Some(ahead) = next_walk(heads, run.assignment.list.as_slice()) {
+        } else if let Some(ahead) = next_walk(order, heads, run.assignment.list.as_slice()) {
             if walk(store, rests, clauses, run, ahead.code)? {
                 return Ok(true);
             }

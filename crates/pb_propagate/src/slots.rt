@@ -1,6 +1,6 @@
 //! Forms take slots and leave them.
 
-ghost use Rattle.std.specs.Prelude.{◌≡◌, ℕ, ◌<◌, ◌++◌, ◌∷◌, [], All, Some, None, true, false, length, filter, slice_get, slice_set, slice_index_or, swap_remove, IfSome, IfOk, OnOk, OnErr};
+ghost use Rattle.std.specs.Prelude.{◌≡◌, ℕ, ◌<◌, ◌++◌, ◌∷◌, [], All, Some, None, length, slice_get, slice_set, slice_index_or, IfSome, IfOk, OnOk, OnErr};
 ghost use Rattle.pb_propagate.specs.engine.Engine.Fields.{forms_of};
 ghost use Rattle.pb_propagate.specs.engine.Engine.Rest.{IsAtRest};
 ghost use Rattle.pb_propagate.specs.engine.Engine.Root.{HasWidened, HasGained, HasVacated};

@@ -8,7 +8,7 @@ pub mod sorted_form;
 pub mod stored_form;
 pub mod units;
 
-ghost use Rattle.std.specs.Prelude.{◌≡◌, ℕ, ◌≤◌, ◌+◌, ◌-◌, ◌^◌, ◌<◌, length, min, slice_index_or};
+ghost use Rattle.std.specs.Prelude.{◌≡◌, ◌≤◌, ◌+◌, ◌-◌, ◌^◌, ◌<◌, length, min, slice_index_or};
 ghost use Rattle.pb_propagate.specs.declared.term.Term.{Term};
 ghost use Rattle.pb_propagate.specs.engine.Engine.Terms.{terms_of};
 ghost use Rattle.pb_propagate.specs.engine.Engine.Fields.{entry_at};

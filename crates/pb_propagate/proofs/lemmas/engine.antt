@@ -10,9 +10,9 @@ pub mod Laws
 pub mod Literals
 pub mod VisitSteps
 pub mod Propagated
+pub mod Stopped
 pub mod Puts
 pub mod Reasoned
-pub mod Rested
 pub mod Rests
 pub mod Runs
 pub mod Sources

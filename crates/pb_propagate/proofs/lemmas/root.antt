@@ -10,8 +10,10 @@ pub mod Replaced
 pub mod Retracted
 pub mod Rooted
 pub mod Roots
+pub mod Released
 pub mod Asked
 pub mod Denials
+pub mod Ready
 pub mod Returns
 pub mod Transplants
 pub mod Kept

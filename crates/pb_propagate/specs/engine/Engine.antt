@@ -11,6 +11,7 @@ pub mod Waiting
 pub mod Root
 pub mod Refreshed
 pub mod Progress
+pub mod Propagation
 pub mod Denial
 pub mod Reached
 pub mod Slots

@@ -1,11 +1,11 @@
 //! The clauses of slots, each with its watches and its search in one block of words. What propagation reads of a clause is
 //! so in one place of the memory.
 
-ghost use Rattle.std.specs.Prelude.{◌≡◌, ℕ, ◌+◌, ◌-◌, ◌*◌, ◌/◌, ◌%◌, ◌^◌, ◌<◌, ◌≤◌, ◌⊎◌, ◌++◌, ◌∷◌, [], true, List, length, slice_set, IfOk, OnOk, OnErr};
+ghost use Rattle.std.specs.Prelude.{◌≡◌, ℕ, ◌+◌, ◌-◌, ◌*◌, ◌/◌, ◌%◌, ◌^◌, ◌<◌, ◌≤◌, ◌⊎◌, ◌++◌, ◌∷◌, [], true, length, slice_set, IfOk, OnOk, OnErr};
 ghost use Rattle.pb_propagate.specs.declared.clauses.lists.Watch.{Watch};
 ghost use Rattle.pb_propagate.specs.engine.Clauses.Links.{idle, list_at, watch_at};
 ghost use Rattle.pb_propagate.specs.engine.Clauses.Runs.{search_at};
-ghost use Rattle.pb_propagate.specs.engine.Clauses.Blocks.{begun, number_at, HasBlock, rewatched, searched, rewritten, IsBare};
+ghost use Rattle.pb_propagate.specs.engine.Clauses.Blocks.{begun, number_at, HasBlock, rewatched, searched, rewritten, passed_by, IsBare, IsRenewed};
 
 use crate::clauses::lists::Watch;
 use crate::clauses::search::Search;
@@ -14,11 +14,14 @@ use std::marker::Model;
 
 /// For each slot a clause, its search and two watches. The watches of slot `s` are `2 * s` and `2 * s + 1`.
 ///
-/// A block begins with the literal and the position of each watch, the position of the search, how many literals this has
-/// passed, and the number of literals. These come last.
+/// A block begins with the literal and the position of each watch, the position of the search, how
+/// many literals this has passed, the number of literals, and the number of the run of the search.
+/// The literals come last.
 #[derive(Drop)]
 pub struct Blocks {
     words: Vec<u32>,
+    // The number of this run. A search of another run has passed nothing in this one.
+    run: u32,
     // For each slot, where its block begins. Slots that have none have a common one, which is first and is not written.
     starts: Vec<u32>,
     // For each slot, how many literals its block has room for. A slot keeps its block.
@@ -30,9 +33,9 @@ impl Model for Blocks {
 
     ghost Value = { Contents };
 
-    ghost view = { λ b. contents b.words.items b.starts.items b.rooms.items };
+    ghost view = { λ b. contents b.words.items b.starts.items b.rooms.items b.run };
 
-    ghost invariant = { λ b. AreBlocks b.words.items b.starts.items b.rooms.items };
+    ghost invariant = { λ b. AreBlocks b.words.items b.starts.items b.rooms.items b.run };
 }
 
 /// A clause as it is read: its search and its literals.
@@ -44,7 +47,7 @@ pub struct Clause<'a> {
 
 // Makes the common block, if there is no slot.
 fn begin(words: &mut Vec<u32>, starts: &[u32]) -> Result<(), AllocError>
-    ensures first { OnOk result (length starts.now ≡ 0 → (length words.new.items ≡ 7) ×
+    ensures first { OnOk result (length starts.now ≡ 0 → (length words.new.items ≡ 8) ×
         IsBare words.new.items 0) }
     ensures kept { 0 < length starts.now → words.new.items ≡ words.old.items }
 {
@@ -52,21 +55,21 @@ fn begin(words: &mut Vec<u32>, starts: &[u32]) -> Result<(), AllocError>
         return Ok(());
     }
     words.clear();
-    words.extend_from_slice(&[0, u32::MAX, 0, u32::MAX, 0, 0, 0])?;
+    words.extend_from_slice(&[0, u32::MAX, 0, u32::MAX, 0, 0, 0, 0])?;
     Ok(())
 }
 
 // Appends a block with no clause.
 fn append(words: &mut Vec<u32>, room: usize) -> Result<(), AllocError>
-    requires { length words.old.items + 7 + room < 2 ^ 32 }
-    ensures size { OnOk result (length words.new.items ≡ length words.old.items + 7 + room) }
+    requires { length words.old.items + 8 + room < 2 ^ 32 }
+    ensures size { OnOk result (length words.new.items ≡ length words.old.items + 8 + room) }
     ensures kept { OnOk result ((i : ℕ) → i < length words.old.items →
         number_at words.new.items i ≡ number_at words.old.items i) }
     ensures bare { OnOk result (IsBare words.new.items (length words.old.items)) }
     ensures unchanged { OnErr result (words.new.items ≡ words.old.items) }
 {
     let start = words.len();
-    words.resize(start + 7 + room, 0)?;
+    words.resize(start + 8 + room, 0)?;
     words[start + 1] = u32::MAX;
     words[start + 3] = u32::MAX;
     Ok(())
@@ -109,6 +112,17 @@ fn place_in(start: u32, watch: usize) -> usize
     start as usize + 2 * (watch % 2)
 }
 
+// How many literals a search has passed in a run, by the first words of its block.
+fn passed_in(header: &[u32], run: u32) -> usize
+    requires { length header.now ≡ 8 }
+    ensures { result ≡ passed_by run (number_at header.now 7) (number_at header.now 5) }
+{
+    if header[7] != run {
+        return 0;
+    }
+    header[5] as usize
+}
+
 impl Blocks {
     /// No slots.
     pub fn new(alloc: Global) -> Blocks
@@ -116,6 +130,7 @@ impl Blocks {
     {
         Blocks {
             words: Vec::new(alloc),
+            run: 0,
             starts: Vec::new(alloc),
             rooms: Vec::new(alloc),
         }
@@ -152,7 +167,7 @@ impl Blocks {
     {
         let start = self.starts[slot] as usize;
         let count = self.words[start + 6] as usize;
-        &self.words[start + 7..start + 7 + count]
+        &self.words[start + 8..start + 8 + count]
     }
 
     /// The clause of a slot with its search. What precedes the literals is read as one slice.
@@ -163,14 +178,14 @@ impl Blocks {
         ensures small { length result.literals.now < 2 ^ 32 }
     {
         let start = self.starts[slot] as usize;
-        let header = &self.words[start..start + 7];
+        let header = &self.words[start..start + 8];
         let count = header[6] as usize;
         Clause {
             search: Search {
                 position: header[4] as usize,
-                passed: header[5] as usize,
+                passed: passed_in(header, self.run),
             },
-            literals: &self.words[start + 7..start + 7 + count],
+            literals: &self.words[start + 8..start + 8 + count],
         }
     }
 
@@ -233,10 +248,11 @@ impl Blocks {
         let start = self.starts[slot] as usize;
         self.words[start + 4] = search.position as u32;
         self.words[start + 5] = search.passed as u32;
+        self.words[start + 7] = self.run;
     }
 
-    /// Begins the search in a clause where it is.
-    pub fn begin(&mut self, slot: usize)
+    // Begins the search in a clause where it is.
+    fn begin(&mut self, slot: usize)
         requires { slot < length self.old.literals }
         ensures { self.new ≡ searched self.old slot
             record { position = (search_at self.old.searches slot).position; passed = 0 } }
@@ -245,6 +261,28 @@ impl Blocks {
         if start > 0 {
             self.words[start + 5] = 0;
         }
+    }
+
+    // Begins all searches where they are.
+    fn begin_all(&mut self)
+        ensures { IsRenewed self.old self.new }
+    {
+        let _ = &self.words;
+        'slots: for slot in 0..self.len() {
+            self.begin(slot);
+        }
+    }
+
+    /// Begins another run: each search goes on where it is, and has passed nothing. No block is
+    /// read before all numbers of runs are used.
+    pub fn renew(&mut self)
+        ensures { IsRenewed self.old self.new }
+    {
+        if self.run == u32::MAX {
+            self.begin_all();
+            return;
+        }
+        self.run += 1;
     }
 
     /// How many literals the block of a slot has room for.
@@ -280,7 +318,7 @@ impl Blocks {
         }
         let start = self.words.len();
         let room = room_of(count);
-        let end = start.saturating_add(room).saturating_add(7);
+        let end = start.saturating_add(room).saturating_add(8);
         if end >= 4294967296 {
             return Ok(false);
         }
@@ -299,7 +337,7 @@ impl Blocks {
     {
         let start = self.starts[slot] as usize;
         self.words[start + 6] = literals.len() as u32;
-        write(&mut self.words, start + 7, literals);
+        write(&mut self.words, start + 8, literals);
     }
 
     /// Removes the clause of a slot.

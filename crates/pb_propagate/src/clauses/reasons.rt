@@ -2,7 +2,9 @@
 
 ghost use Rattle.std.specs.Prelude.{◌≡◌, ℕ, ◌*◌, ◌<◌, true, All, length, slice_index_or};
 ghost use Rattle.pb_propagate.specs.engine.Engine.Lists.{IsDue};
-ghost use Rattle.pb_propagate.specs.engine.Engine.Fields.{shapes_of};
+ghost use Rattle.pb_propagate.specs.engine.Engine.Fields.{shapes_of, IsSound};
+ghost use Rattle.pb_propagate.specs.engine.Engine.Progress.{list_of, reasons_of};
+ghost use Rattle.pb_propagate.specs.engine.Engine.Refreshed.{IsReleased, IsSomeRoot};
 ghost use Rattle.pb_propagate.specs.engine.Engine.Root.{HasOtherReasons};
 ghost use Rattle.pb_propagate.specs.engine.Clauses.Links.{list_at};
 ghost use Rattle.pb_propagate.specs.engine.Clauses.Runs.{AreReady};
@@ -10,6 +12,7 @@ ghost use Rattle.pb_propagate.specs.engine.Clauses.Shapes.{clauses_of, literal_a
 
 use crate::assignment::Assignment;
 use crate::clauses::Clauses;
+use crate::engine::root::Root;
 use crate::store::Store;
 use crate::store::reasons::replace_reason;
 use crate::walk::literal_of;
@@ -62,4 +65,35 @@ pub fn replace_by_literals(
         slot,
         clauses.blocks.literals(slot),
     )
+}
+
+// No literal of a clause needs it from now on. One that has no other reason is taken off the root,
+// with those after it.
+fn release_by_codes(store: &Store, root: &mut Root, slot: usize, codes: &[u32])
+    requires sound { IsSound store.now }
+    requires rooted { IsSomeRoot store.now root.old }
+    requires inside { All (λ x. x < 4 * store.now.variables) codes.now }
+    ensures released { IsReleased store.now slot root.old root.new }
+    ensures needless { (k d : ℕ) → k < length codes.now →
+        IsDue slot (list_of root.new.run) (reasons_of root.new.run)
+        (literal_at (slice_index_or codes.now k d)) → ⊥ }
+{
+    'literals: for i in 0..codes.len() {
+        root.release_literal(store, slot, literal_of(codes[i]));
+    }
+}
+
+/// The same for the clause of a slot.
+pub fn release_by_literals(clauses: &Clauses, store: &Store, root: &mut Root, slot: usize)
+    requires ready { AreReady clauses.now }
+    requires slot { slot < length clauses.now.blocks.literals }
+    requires widths { length clauses.now.lists.items ≡ 4 * store.now.variables }
+    requires sound { IsSound store.now }
+    requires rooted { IsSomeRoot store.now root.old }
+    ensures released { IsReleased store.now slot root.old root.new }
+    ensures needless { (k d : ℕ) → k < length (list_at (clauses_of clauses.now) slot) →
+        IsDue slot (list_of root.new.run) (reasons_of root.new.run)
+        (literal_at (slice_index_or (list_at (clauses_of clauses.now) slot) k d)) → ⊥ }
+{
+    release_by_codes(store, root, slot, clauses.blocks.literals(slot));
 }

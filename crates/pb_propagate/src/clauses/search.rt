@@ -16,17 +16,6 @@ pub struct Search {
     pub passed: usize,
 }
 
-// Reads a literal of a clause, and counts the visit.
-fn visit_literal(literals: &[u32], position: usize, visits: &mut Visits) -> u32
-    requires { position < length literals.now }
-    ensures item { (d : ℕ) → result ≡ slice_index_or literals.now position d }
-    ensures rising { visits.old ≤ visits.new }
-    ensures count { visits.new ≡ min (visits.old + 1) (2 ^ 64 - 1) }
-{
-    visits.count();
-    literals[position]
-}
-
 /// Whether a literal may be watched in place of a falsified one: it is not falsified, and it is not the other watched one.
 pub fn may_watch(assignment: &Assignment, literal: u32, other: u32) -> bool
     requires { literal < 4 * length assignment.now.values.items }
@@ -66,7 +55,8 @@ impl Search {
         }
     }
 
-    /// Goes on, up to the first literal that may be watched, or until all are passed. The search began at some `start`.
+    /// Goes on, up to the first literal that may be watched, or until all are passed, and counts
+    /// the literals that it reads. The search began at some `start`.
     pub fn advance(
         self,
         literals: &[u32],
@@ -74,12 +64,10 @@ impl Search {
         assignment: &Assignment,
         visits: &mut Visits,
     ) -> Search
-        requires position { self.position < length literals.now }
-        requires passed { self.passed ≤ length literals.now }
+        requires within { (self.position < length literals.now) × (self.passed ≤ length literals.now) }
         requires inside { All (λ x. x < 4 * length assignment.now.values.items) literals.now }
         ensures position { result.position < length literals.now }
-        ensures after { self.passed ≤ result.passed }
-        ensures within { result.passed ≤ length literals.now }
+        ensures within { (self.passed ≤ result.passed) × (result.passed ≤ length literals.now) }
         ensures round { (start : ℕ) → IsRound start self (length literals.now) →
             IsRound start result (length literals.now) }
         ensures passed { (start k d : ℕ) → IsRound start self (length literals.now) →
@@ -99,12 +87,13 @@ impl Search {
     {
         let mut at = self;
         'literals: while at.passed < literals.len() {
-            let literal = visit_literal(literals, at.position, visits);
-            if may_watch(assignment, literal, other) {
+            if may_watch(assignment, literals[at.position], other) {
+                visits.add(at.passed + 1 - self.passed);
                 return at;
             }
             at = at.next(literals.len());
         }
+        visits.add(at.passed - self.passed);
         at
     }
 }

@@ -1,10 +1,10 @@
 //! A visit to one watch of a falsified literal.
 
-ghost use Rattle.std.specs.Prelude.{◌≡◌, ℕ, ◌+◌, ◌-◌, ◌/◌, ◌^◌, ◌<◌, ◌≤◌, ◌⊎◌, ◌++◌, ◌∷◌, [], true, false, All, length, min, sum, slice_get, OnOk, IfOk, Some};
+ghost use Rattle.std.specs.Prelude.{◌≡◌, ℕ, ◌+◌, ◌-◌, ◌/◌, ◌^◌, ◌<◌, ◌≤◌, ◌⊎◌, ◌++◌, ◌∷◌, [], true, false, All, List, length, min, sum, slice_get, OnOk, IfOk, Some};
 ghost use Rattle.pb_propagate.specs.engine.Clauses.Truths.{flip, true_at, false_at};
 ghost use Rattle.pb_propagate.specs.engine.Clauses.Links.{watch_lists, list_at, watch_at, AreLinked, Remains, IsListed, AreMore};
 ghost use Rattle.pb_propagate.specs.engine.Clauses.Blocks.{HasBlock, rewatched};
-ghost use Rattle.pb_propagate.specs.engine.Clauses.Runs.{AreWithin, IsRunning, HasVisited, passed_of};
+ghost use Rattle.pb_propagate.specs.engine.Clauses.Runs.{AreWithin, IsRunning, HasVisited, IsServedTo, passed_of};
 
 use crate::assignment::Assignment;
 use crate::clause::opposite;
@@ -35,6 +35,17 @@ pub enum Visit {
     Falsified,
 }
 
+// An entry of a list of watches.
+fn read_entry(clauses: &Clauses, literal: usize, index: usize) -> Listed
+    requires literal { literal < length clauses.now.lists.items }
+    requires index { index < length (list_at (watch_lists clauses.now.lists.items) literal) }
+    ensures item { slice_get (list_at (watch_lists clauses.now.lists.items) literal) index ≡ Some
+        result.watch }
+    ensures listed { IsListed clauses.now.lists.items result }
+{
+    clauses.lists[literal][index]
+}
+
 // Reads an entry of a list of watches, and counts the visit.
 fn visit_entry(clauses: &Clauses, literal: usize, index: usize, visits: &mut Visits) -> Listed
     requires literal { literal < length clauses.now.lists.items }
@@ -46,7 +57,7 @@ fn visit_entry(clauses: &Clauses, literal: usize, index: usize, visits: &mut Vis
     ensures count { visits.new ≡ min (visits.old + 1) (2 ^ 64 - 1) }
 {
     visits.count();
-    clauses.lists[literal][index]
+    read_entry(clauses, literal, index)
 }
 
 // Reads the literal of the other watch, and counts the visit.
@@ -60,16 +71,50 @@ fn visit_watch(blocks: &Blocks, watch: usize, visits: &mut Visits) -> u32
     blocks.watched(watch)
 }
 
-// Adds a slot to the trail when its search begins.
-fn note(moved: &mut Vec<usize>, slot: usize, passed: usize) -> Result<(), AllocError>
-    ensures { OnOk result ((moved.new.items ≡ moved.old.items ++ slot ∷ []) ⊎
-        ((0 < passed) × (moved.new.items ≡ moved.old.items))) }
+// The position of the first watch from `from` on whose blocker is not true.
+fn next_untrue(clauses: &Clauses, assignment: &Assignment, literal: usize, from: usize) -> usize
+    requires running { IsRunning assignment.now.values.items clauses.now }
+    requires literal { literal < length clauses.now.lists.items }
+    requires from { from ≤ length (list_at (watch_lists clauses.now.lists.items) literal) }
+    ensures after { from ≤ result }
+    ensures within { result ≤ length (list_at (watch_lists clauses.now.lists.items) literal) }
+    ensures served { (walked : List ℕ) →
+        IsServedTo assignment.now.values.items clauses.now walked literal from →
+        IsServedTo assignment.now.values.items clauses.now walked literal result }
 {
-    if passed > 0 {
-        return Ok(());
+    let mut index = from;
+    'entries: while index < clauses.watch_count(literal) {
+        let entry = read_entry(clauses, literal, index);
+        if !assignment.satisfies(entry.blocker) {
+            return index;
+        }
+        index += 1;
     }
-    moved.push(slot)?;
-    Ok(())
+    index
+}
+
+/// Passes the watches from `from` on whose blockers are true, and counts a visit for each.
+pub fn pass_true(
+    clauses: &Clauses,
+    assignment: &Assignment,
+    literal: usize,
+    from: usize,
+    visits: &mut Visits,
+) -> usize
+    requires running { IsRunning assignment.now.values.items clauses.now }
+    requires literal { literal < length clauses.now.lists.items }
+    requires from { from ≤ length (list_at (watch_lists clauses.now.lists.items) literal) }
+    ensures after { from ≤ result }
+    ensures within { result ≤ length (list_at (watch_lists clauses.now.lists.items) literal) }
+    ensures served { (walked : List ℕ) →
+        IsServedTo assignment.now.values.items clauses.now walked literal from →
+        IsServedTo assignment.now.values.items clauses.now walked literal result }
+    ensures rising { visits.old ≤ visits.new }
+    ensures count { visits.new ≡ min (visits.old + (result - from)) (2 ^ 64 - 1) }
+{
+    let index = next_untrue(clauses, assignment, literal, from);
+    visits.add(index - from);
+    index
 }
 
 // Moves a watch from a position of a literal's list to another literal's list.
@@ -82,19 +127,18 @@ fn shift(
     found: u32,
     blocker: u32,
 ) -> Result<(), AllocError>
-    requires literal { literal < length lists.old.items }
-    requires found { found < length lists.old.items }
+    requires inside { (literal < length lists.old.items) × (found < length lists.old.items) }
     requires apart { found ≡ literal → ⊥ }
     requires item { slice_get (list_at (watch_lists lists.old.items) literal) index ≡ Some watch }
     requires block { HasBlock blocks.old (watch / 2) }
     requires linked { AreLinked blocks.old.watches (watch_lists lists.old.items) }
     ensures linked { OnOk result (AreLinked blocks.new.watches (watch_lists lists.new.items)) }
-    ensures literal { OnOk result ((watch_at blocks.new.watches watch).literal ≡ found) }
-    ensures live { OnOk result ((watch_at blocks.new.watches watch).live ≡ true) }
+    ensures moved { OnOk result (((watch_at blocks.new.watches watch).literal ≡ found) ×
+        ((watch_at blocks.new.watches watch).live ≡ true)) }
     ensures others { OnOk result ((k : ℕ) → (k ≡ watch → ⊥) →
         Remains index (watch_at blocks.old.watches k) (watch_at blocks.new.watches k)) }
-    ensures watches { OnOk result (length blocks.new.watches ≡ length blocks.old.watches) }
-    ensures lists { OnOk result (length lists.new.items ≡ length lists.old.items) }
+    ensures sizes { OnOk result ((length blocks.new.watches ≡ length blocks.old.watches) ×
+        (length lists.new.items ≡ length lists.old.items)) }
     ensures shorter { OnOk result
         (length (list_at (watch_lists lists.new.items) literal) + 1 ≡ length
         (list_at (watch_lists lists.old.items) literal)) }
@@ -136,7 +180,6 @@ fn search_clause(
     let clause = clauses.blocks.read(slot);
     let from = clause.search;
     let literals = clause.literals;
-    note(&mut clauses.moved, slot, from.passed)?;
     let stop = from.advance(literals, other, assignment, visits);
     if stop.passed >= literals.len() {
         clauses.blocks.seek(slot, stop);

@@ -2,20 +2,19 @@
 
 ghost use Rattle.std.specs.Prelude.{◌≡◌, [], ◌*◌, ◌<◌, ◌≤◌, true, All, length, OnOk, IfOk, IfSome, IfNone};
 ghost use Rattle.pb_normal.specs.declared.numbered.NumberedLiteral.{NumberedLiteral};
-ghost use Rattle.pb_propagate.specs.engine.Engine.Lists.{IsWithin, Extends};
-ghost use Rattle.pb_propagate.specs.engine.Engine.Counts.{AreSingle};
-ghost use Rattle.pb_propagate.specs.engine.Engine.Progress.{IfFound, IfNotFound, RunIsOpen, RunStaysTidy, shapes_in, list_of, values_of, RunIsCalm, RunIsUndone, RunKeepsReasons, RunAdvances, RunIsWalked};
-ghost use Rattle.pb_propagate.specs.engine.Engine.Fields.{shapes_of, IsSound};
+ghost use Rattle.pb_propagate.specs.engine.Engine.Lists.{IsWithin};
+ghost use Rattle.pb_propagate.specs.engine.Engine.Progress.{IfFound, IfNotFound, RunIsOpen, shapes_in, list_of};
+ghost use Rattle.pb_propagate.specs.engine.Engine.Propagation.{IsReadyRun, Propagates, RunPuts};
+ghost use Rattle.pb_propagate.specs.engine.Engine.Fields.{IsSound};
 ghost use Rattle.pb_propagate.specs.engine.Engine.Reached.{IsFrom, HasClash, HasEnded, IsMade, IsClashed};
 ghost use Rattle.pb_propagate.specs.engine.Engine.Root.{IsStanding, IsVacant, IsLeft};
-ghost use Rattle.pb_propagate.specs.engine.Clauses.Runs.{IsRunning, KeepsWalked};
 ghost use Rattle.pb_propagate.specs.engine.Clauses.Walked.{heads_at};
-ghost use Rattle.pb_propagate.specs.engine.Clauses.Shapes.{AreJoined, clauses_of, all_of};
+ghost use Rattle.pb_propagate.specs.engine.Clauses.Shapes.{all_of};
 
 use crate::clauses::Clauses;
 use crate::engine::conflict::Conflict;
 use crate::engine::root::{Root, back};
-use crate::heads::Heads;
+use crate::heads::{Heads, Order};
 use crate::rests::Rests;
 use crate::run::{Run, propagate, try_put};
 use crate::store::Store;
@@ -31,14 +30,9 @@ fn assume(
 ) -> Result<bool, AllocError>
     requires store { IsSound store.now }
     requires inside { All (λ l. l.variable < store.now.variables) given.now }
-    requires values { length (values_of run.old) ≡ store.now.variables }
-    requires opens { length run.old.opens.items ≡ length store.now.stored.items }
-    requires next { run.old.next ≤ length run.old.work.items }
-    requires counted { RunIsOpen store.now rests.now run.old }
-    ensures advances { OnOk result (RunAdvances store.now rests.now 0 0 run.old run.new) }
-    ensures counted { IfNotFound result (RunIsOpen store.now rests.now run.new) }
-    ensures tidy { OnOk result (RunStaysTidy store.now rests.now run.old run.new) }
-    ensures reasons { OnOk result (RunKeepsReasons run.old run.new) }
+    requires sums { RunIsOpen store.now run.old }
+    ensures puts { OnOk result (RunPuts store.now rests.now 0 run.old run.new) }
+    ensures sums { IfNotFound result (RunIsOpen store.now run.new) }
     ensures clash { IfFound result (HasClash (shapes_in store.now) (list_of run.old) given.now) }
     ensures within { IfNotFound result (IsFrom (list_of run.old) given.now (list_of run.new)) }
     ensures covers { IfNotFound result (IsWithin given.now (list_of run.new)) }
@@ -67,26 +61,11 @@ pub fn settle(
 ) -> Result<Option<Vec<Option<bool>>>, AllocError>
     requires store { IsSound store.now }
     requires inside { All (λ l. l.variable < store.now.variables) given.now }
-    requires values { length (values_of run.old) ≡ store.now.variables }
-    requires opens { length run.old.opens.items ≡ length store.now.stored.items }
-    requires candidates { length run.old.candidates.items ≡ length store.now.stored.items }
-    requires next { run.old.next ≤ length run.old.work.items }
-    requires single { AreSingle (list_of run.old) }
-    requires counted { RunIsOpen store.now rests.now run.old }
-    requires tidy { RunIsCalm store.now rests.now [] run.old }
-    requires joined { AreJoined (shapes_of store.now.stored.items) (clauses_of clauses.old) }
-    requires running { IsRunning (values_of run.old) clauses.old }
-    requires walked { RunIsWalked (heads_at (length (list_of run.old))) clauses.old run.old }
+    requires ready { IsReadyRun store.now rests.now clauses.old []
+        (heads_at (length (list_of run.old))) run.old }
     ensures literals { clauses.new.blocks.literals ≡ clauses.old.blocks.literals }
-    ensures running { OnOk result (IsRunning (values_of run.new) clauses.new) }
-    ensures kept { OnOk result (KeepsWalked (values_of run.old) clauses.old clauses.new) }
-    ensures values { OnOk result (length (values_of run.new) ≡ length (values_of run.old)) }
-    ensures opens { OnOk result (length run.new.opens.items ≡ length store.now.stored.items) }
-    ensures candidates { OnOk result (
-        length run.new.candidates.items ≡ length store.now.stored.items) }
-    ensures undone { OnOk result (RunIsUndone store.now rests.now 0 run.new) }
-    ensures extends { OnOk result (Extends (list_of run.old) (list_of run.new)) }
-    ensures reasons { OnOk result (RunKeepsReasons run.old run.new) }
+    ensures left { OnOk result (
+        Propagates store.now rests.now clauses.old clauses.new run.old run.new) }
     ensures clash { IfOk result (λ found. IfNone found (
         HasClash (all_of store.now clauses.old) (list_of run.old) given.now)) }
     ensures ended { IfOk result (λ found. IfSome found (λ values.
@@ -105,6 +84,7 @@ pub fn settle(
         clauses,
         run,
         none.as_slice(),
+        Order::ShortFirst,
         Heads::at(count),
         marks,
     )? {

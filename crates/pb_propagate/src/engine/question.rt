@@ -14,7 +14,7 @@ use crate::engine::conflict::Conflict;
 use crate::engine::denial::{is_disjunction, refute};
 use crate::engine::root::{Root, back, lay};
 use crate::engine::visits::Visits;
-use crate::heads::Heads;
+use crate::heads::{Heads, Order};
 use crate::run::propagate;
 use crate::store::Store;
 use crate::store::occurrence_lists::{enter, leave};
@@ -60,6 +60,7 @@ fn pose(
         clauses,
         &mut root.run,
         none.as_slice(),
+        Order::ShortFirst,
         Heads::at(count),
         &mut root.spare,
     )?;

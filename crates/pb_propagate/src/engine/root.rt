@@ -1,11 +1,12 @@
 //! The root: what the live forms force with nothing assumed.
 
-ghost use Rattle.std.specs.Prelude.{◌≡◌, ℕ, List, ◌+◌, ◌*◌, ◌<◌, ◌⊎◌, ◌++◌, ◌∷◌, [], length, take, slice_set, slice_index_or, OnOk};
+ghost use Rattle.std.specs.Prelude.{◌≡◌, ℕ, List, ◌+◌, ◌*◌, ◌<◌, ◌⊎◌, ◌++◌, ◌∷◌, [], length, slice_set, slice_index_or, OnOk};
 ghost use Rattle.pb_propagate.specs.declared.store.Store.{Store};
 ghost use Rattle.pb_propagate.specs.declared.clauses.Clauses.{Clauses};
 ghost use Rattle.pb_propagate.specs.engine.Engine.Lists.{Shape, open_sum};
 ghost use Rattle.pb_propagate.specs.engine.Engine.Progress.{RunIsUndone, IfFound, IfNotFound};
 ghost use Rattle.pb_propagate.specs.engine.Engine.Counts.{Grown, IsAbsent, IsCalm, IsUndone};
+ghost use Rattle.pb_propagate.specs.engine.Engine.Propagation.{GoesBack, IsKept};
 ghost use Rattle.pb_propagate.specs.engine.Engine.Fields.{shapes_of, IsSound};
 ghost use Rattle.pb_propagate.specs.engine.Engine.Root.{IsRootOf, WasRootOf, IsStanding, IsVacant, IsKeptConflict, HasReached, UpdateCosts, HasMet, HasUpdated};
 ghost use Rattle.pb_propagate.specs.engine.Clauses.Runs.{AreReady, IsRunning};
@@ -16,7 +17,7 @@ use crate::clauses::Clauses;
 use crate::eager::Eager;
 use crate::engine::conflict::Conflict;
 use crate::engine::visits::Visits;
-use crate::heads::{Heads, Walked};
+use crate::heads::{Heads, Order, Walked};
 use crate::rests::Rests;
 use crate::run::{Run, place_of, propagate, queue, undo_forms};
 use crate::store::Store;
@@ -113,15 +114,7 @@ fn keep(run: &mut Run, rests: &mut Rests)
     requires undone { (forms : List Shape) × (length forms ≡ length run.old.opens.items) ×
         IsUndone rests.old forms run.old.opens.items run.old.candidates.items run.old.trail.items
         0 }
-    ensures rests { (rests.new.opens.items ≡ run.old.opens.items) ×
-        (rests.new.starts.items ≡ run.old.candidates.items) }
-    ensures opens { run.new.opens ≡ run.old.opens }
-    ensures candidates { run.new.candidates ≡ run.old.candidates }
-    ensures assignment { run.new.assignment ≡ run.old.assignment }
-    ensures work { run.new.work.items ≡ [] }
-    ensures trail { run.new.trail.items ≡ [] }
-    ensures next { run.new.next ≡ 0 }
-    ensures visits { run.new.visits ≡ run.old.visits }
+    ensures { IsKept run.old run.new rests.new }
 {
     'forms: for i in 0..run.trail.len() {
         let form = run.trail[i];
@@ -222,6 +215,7 @@ impl Root {
             clauses,
             &mut self.run,
             self.waiting.list.as_slice(),
+            Order::ByLiteral,
             self.walked.heads,
             &mut self.walked.marks,
         )?;
@@ -245,22 +239,7 @@ pub fn back(store: &Store, rests: &Rests, clauses: &mut Clauses, run: &mut Run, 
     requires candidates { length run.old.candidates.items ≡ length store.now.stored.items }
     requires undone { RunIsUndone store.now rests.now 0 run.old }
     requires running { IsRunning run.old.assignment.values.items clauses.old }
-    ensures ready { AreReady clauses.new }
-    ensures literals { clauses.new.blocks.literals ≡ clauses.old.blocks.literals }
-    ensures lists { clauses.new.lists ≡ clauses.old.lists }
-    ensures watches { clauses.new.blocks.watches ≡ clauses.old.blocks.watches }
-    ensures opens { length run.new.opens.items ≡ length store.now.stored.items }
-    ensures candidates { length run.new.candidates.items ≡ length store.now.stored.items }
-    ensures undone { IsUndone rests.now (shapes_of store.now.stored.items) run.new.opens.items
-        run.new.candidates.items [] 0 }
-    ensures values { length run.new.assignment.values.items ≡ length
-        run.old.assignment.values.items }
-    ensures list { run.new.assignment.list.items ≡ take count run.old.assignment.list.items }
-    ensures reasons { run.new.assignment.reasons ≡ run.old.assignment.reasons }
-    ensures work { run.new.work.items ≡ [] }
-    ensures trail { run.new.trail.items ≡ [] }
-    ensures next { run.new.next ≡ 0 }
-    ensures visits { run.new.visits ≡ run.old.visits }
+    ensures { GoesBack store.now rests.now clauses.old clauses.new count run.old run.new }
 {
     undo_forms(store, rests, run);
     clauses.rest();

@@ -43,6 +43,14 @@ impl Visits {
         self.number = self.number.saturating_add(1);
     }
 
+    /// One visit more for each literal.
+    pub fn add(&mut self, literals: usize)
+        ensures rising { self.old ≤ self.new }
+        ensures count { self.new ≡ min (self.old + literals) (2 ^ 64 - 1) }
+    {
+        self.number = self.number.saturating_add(literals as u64);
+    }
+
     /// How many they are.
     pub fn number(&self) -> u64
         ensures { result ≡ self.now }

@@ -9,9 +9,9 @@ ghost use Rattle.pb_propagate.specs.engine.Engine.Counts.{AreFalling, IsCalm, pl
 ghost use Rattle.pb_propagate.specs.engine.Engine.Forms.{IsStoredAs};
 ghost use Rattle.pb_propagate.specs.engine.Engine.Terms.{terms_of};
 ghost use Rattle.pb_propagate.specs.engine.Engine.Fields.{stored_shape, shapes_of, forms_of, spots_of, lists_of, entries_of, IsSound, HasEntered, HasFilled, IsEmpty, IsUnlisted, AreLonger};
+ghost use Rattle.pb_propagate.specs.engine.Engine.Slots.{MayHold};
 ghost use Rattle.pb_propagate.specs.engine.Engine.Links.{IsLinked, Moved, cut, terms_at};
-ghost use Rattle.pb_propagate.specs.engine.Clauses.Links.{list_at};
-ghost use Rattle.pb_propagate.specs.engine.Clauses.Runs.{AreReady, AreSet, CanHold, IsPair};
+ghost use Rattle.pb_propagate.specs.engine.Clauses.Runs.{AreReady, AreSet};
 ghost use Rattle.pb_propagate.specs.engine.Clauses.Shapes.{clauses_of, codes_of_terms};
 
 use crate::clauses::Clauses;
@@ -19,7 +19,7 @@ use crate::clauses::watched::Pair;
 use crate::run::{Run, place_of};
 use crate::shared::Shared;
 use crate::store::sorted_form::SortedForm;
-use crate::store::stored_form::{StoredForm, is_below};
+use crate::store::stored_form::StoredForm;
 use crate::store::{Occurrence, Store};
 use pb_normal::{Normal, NumberedLiteral};
 use std::alloc::{AllocError, Global};
@@ -34,7 +34,6 @@ fn bound_of(terms: &SortedForm, degree: u128) -> u128
         result ≡ degree + (slice_index_or (terms_of terms.now) 0 d).coefficient }
     ensures calm { (opened c : ℕ) → result ≤ opened →
         IsCalm record { terms = terms_of terms.now; degree = degree } opened c }
-    ensures some { 0 < result → 0 < degree + length (terms_of terms.now) }
 {
     if terms.len() == 0 {
         return degree;
@@ -69,14 +68,12 @@ fn stored_of(alloc: Global, form: Shared) -> Result<StoredForm, AllocError>
     let total = normal.size();
     let terms = SortedForm::new(alloc, form)?;
     let bound = bound_of(&terms, degree);
-    let eager = is_below(total, bound);
     let even = is_even(&terms);
     Ok(StoredForm {
         terms,
         degree,
         total,
         bound,
-        eager,
         even,
     })
 }
@@ -171,7 +168,6 @@ fn empty_stored(alloc: Global) -> StoredForm
         degree: 0,
         total: 0,
         bound: 0,
-        eager: false,
         even: true,
     }
 }
@@ -186,7 +182,6 @@ fn watched_stored(alloc: Global, form: Shared) -> StoredForm
         degree: 0,
         total: 0,
         bound: 0,
-        eager: false,
         even: true,
     }
 }
@@ -200,15 +195,7 @@ pub fn watch(
     codes: Vec<u32>,
     pair: Pair,
 ) -> Result<(), AllocError>
-    requires ready { AreReady clauses.old }
-    requires slot { slot < length store.old.stored.items }
-    requires known { length clauses.old.blocks.literals ≡ length store.old.stored.items }
-    requires empty { list_at (clauses_of clauses.old) slot ≡ [] }
-    requires codes { codes.items ≡ codes_of_terms form.terms }
-    requires room { CanHold clauses.old slot (length codes.items) }
-    requires pair { IsPair codes.items pair }
-    requires inside { All (λ t. t.variable < store.old.variables) form.terms }
-    requires widths { length clauses.old.lists.items ≡ 4 * store.old.variables }
+    requires { MayHold store.old clauses.old slot form codes.items pair }
     ensures ready { OnOk result (AreReady clauses.new) }
     ensures literals { OnOk result (clauses_of clauses.new ≡ slice_set (clauses_of clauses.old) slot
         (codes_of_terms form.terms)) }

@@ -1,6 +1,6 @@
 //! A form under the values of some literals, outside of questions. No visit is counted.
 
-ghost use Rattle.std.specs.Prelude.{◌≡◌, ◌≤◌, ◌<◌, ◌^◌, true, false, List, length, sum_by};
+ghost use Rattle.std.specs.Prelude.{◌≡◌, ◌≤◌, ◌<◌, ◌^◌, false, List, length, sum_by};
 ghost use Rattle.pb_normal.specs.declared.numbered.NumberedLiteral.{NumberedLiteral};
 ghost use Rattle.pb_normal.specs.meaning.Rules.{negation};
 ghost use Rattle.pb_propagate.specs.engine.Engine.Lists.{has, says, open_part, open_sum, AreInside};

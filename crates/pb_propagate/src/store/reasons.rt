@@ -6,6 +6,8 @@ ghost use Rattle.pb_propagate.specs.engine.Engine.Lists.{HaveReasons, IsDue};
 ghost use Rattle.pb_propagate.specs.engine.Engine.Counts.{place};
 ghost use Rattle.pb_propagate.specs.engine.Engine.Fields.{shapes_of, IsSound};
 ghost use Rattle.pb_propagate.specs.engine.Engine.Links.{terms_at};
+ghost use Rattle.pb_propagate.specs.engine.Engine.Progress.{list_of, reasons_of};
+ghost use Rattle.pb_propagate.specs.engine.Engine.Refreshed.{IsReleased, IsSomeRoot};
 ghost use Rattle.pb_propagate.specs.engine.Engine.Root.{HasOtherReasons, IsNeedless};
 ghost use Rattle.pb_propagate.specs.engine.Clauses.Runs.{AreReady};
 ghost use Rattle.pb_propagate.specs.engine.Clauses.Shapes.{AreJoined, clauses_of, all_of};
@@ -13,6 +15,7 @@ ghost use Rattle.pb_propagate.specs.engine.Clauses.Shapes.{AreJoined, clauses_of
 use crate::assignment::Assignment;
 use crate::clauses::Clauses;
 use crate::clauses::reasons::replace_by_literals;
+use crate::engine::root::Root;
 use crate::store::Store;
 use crate::store::units::other_unit;
 use pb_normal::NumberedLiteral;
@@ -97,4 +100,22 @@ pub fn replace_reasons(
         return replace_by_literals(clauses, store, units, assignment, slot);
     }
     replace_by_terms(store, units, assignment, slot)
+}
+
+/// No literal of a form in the occurrence lists needs it from now on. One that has no other reason
+/// is taken off the root, with those after it.
+pub fn release_by_terms(store: &Store, root: &mut Root, slot: usize)
+    requires sound { IsSound store.now }
+    requires rooted { IsSomeRoot store.now root.old }
+    requires slot { slot < length store.now.stored.items }
+    ensures released { IsReleased store.now slot root.old root.new }
+    ensures needless { (k : ℕ) (d : Term) →
+        k < length (terms_at (shapes_of store.now.stored.items) slot) →
+        IsDue slot (list_of root.new.run) (reasons_of root.new.run)
+        (slice_index_or (terms_at (shapes_of store.now.stored.items) slot) k d).literal → ⊥ }
+{
+    let terms = &store.stored[slot].terms;
+    'terms: for i in 0..terms.len() {
+        root.release_literal(store, slot, terms.term(i).literal);
+    }
 }

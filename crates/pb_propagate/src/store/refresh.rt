@@ -1,18 +1,18 @@
-//! Forms with a literal that has lost its value, outside of questions. No visit is counted, and nothing is allocated.
+//! Forms with a literal that has lost its value, outside of questions. No visit is counted, and
+//! nothing is allocated.
 
-ghost use Rattle.std.specs.Prelude.{◌≡◌, ℕ, ◌≤◌, ◌<◌, ◌⊎◌, [], Some, length, slice_get, slice_index_or};
+ghost use Rattle.std.specs.Prelude.{◌≡◌, ℕ, ◌≤◌, ◌<◌, ◌⊎◌, [], Some, length, slice_get, slice_index_or, slice_set};
 ghost use Rattle.pb_propagate.specs.engine.Engine.Lists.{Weighted};
 ghost use Rattle.pb_propagate.specs.engine.Engine.Counts.{IsAbsent, place};
 ghost use Rattle.pb_propagate.specs.engine.Engine.Fields.{shapes_of, entries_of, IsSound};
 ghost use Rattle.pb_propagate.specs.engine.Engine.Links.{terms_at};
-ghost use Rattle.pb_propagate.specs.engine.Engine.Refreshed.{AreRefreshed, IsRefreshed};
+ghost use Rattle.pb_propagate.specs.engine.Engine.Refreshed.{AreRefreshed, IsRefreshed, Lacks};
 ghost use Rattle.pb_propagate.specs.engine.Engine.Root.{IsSized};
 
 use crate::eager::Eager;
 use crate::engine::root::Root;
 use crate::run::place_of;
 use crate::store::Store;
-use crate::store::opened::open_under;
 use pb_normal::NumberedLiteral;
 
 // A form waits if its open sum is below its bound.
@@ -22,7 +22,8 @@ fn wait_below(waiting: &mut Eager, form: usize, opened: u128, bound: u128)
         IsAbsent waiting.old.list.items 0 s }
     ensures above { IsAbsent waiting.new.list.items 0 form → bound ≤ opened }
     ensures older { (i s : ℕ) → slice_get waiting.new.list.items i ≡ Some s →
-        (s ≡ form) ⊎ ((j : ℕ) × (slice_get waiting.old.list.items j ≡ Some s)) }
+        ((s ≡ form) × (opened < bound)) ⊎
+        ((j : ℕ) × (slice_get waiting.old.list.items j ≡ Some s)) }
     ensures seats { length waiting.new.seats.items ≡ length waiting.old.seats.items }
 {
     if opened >= bound {
@@ -34,17 +35,17 @@ fn wait_below(waiting: &mut Eager, form: usize, opened: u128, bound: u128)
     waiting.put(form);
 }
 
-// A form gets its open sum under the list, and its first term as candidate. It waits if it may then force something.
-fn refresh(store: &Store, root: &mut Root, form: usize)
-    requires store { IsSound store.now }
+// A form gets an open sum, and its first term as candidate. It waits if it may then force
+// something.
+fn refresh(store: &Store, root: &mut Root, form: usize, opened: u128)
     requires form { form < length store.now.stored.items }
     requires some { 0 < length (terms_at (shapes_of store.now.stored.items) form) }
     requires sized { IsSized store.now root.old }
     ensures each { AreRefreshed store.now root.old root.new }
     ensures form { IsRefreshed store.now root.new form }
+    ensures opens { root.new.run.opens.items ≡ slice_set root.old.run.opens.items form opened }
 {
     let kept = &store.stored[form];
-    let opened = open_under(&kept.terms, root.run.assignment.values.as_slice());
     root.run.opens[form] = opened;
     root.run.candidates[form] = 0;
     root.rests.opens[form] = opened;
@@ -52,7 +53,7 @@ fn refresh(store: &Store, root: &mut Root, form: usize)
     wait_below(&mut root.waiting, form, opened, kept.bound);
 }
 
-/// Refreshes each form with a literal: its open sum under the list, its first term as candidate, and whether it waits.
+/// Refreshes each form with a literal. Its open sum stays.
 pub fn refresh_all(store: &Store, root: &mut Root, literal: NumberedLiteral)
     requires store { IsSound store.now }
     requires inside { literal.variable < store.now.variables }
@@ -61,10 +62,37 @@ pub fn refresh_all(store: &Store, root: &mut Root, literal: NumberedLiteral)
     ensures all { (j : ℕ) (e : Weighted) → slice_get (slice_index_or
         (entries_of (shapes_of store.now.stored.items) store.now.occurrences.items)
         (place literal) []) j ≡ Some e → IsRefreshed store.now root.new e.form }
+    ensures opens { root.new.run.opens.items ≡ root.old.run.opens.items }
 {
     let entries = &store.occurrences[place_of(literal)];
     'entries: for j in 0..entries.len() {
         let entry = entries[j];
-        refresh(store, root, entry.form);
+        let opened = root.run.opens[entry.form];
+        refresh(store, root, entry.form, opened);
+    }
+}
+
+/// Refreshes each form with a literal that is not falsified any more: its open sum gets the
+/// coefficient of the literal.
+pub fn lift_all(store: &Store, root: &mut Root, literal: NumberedLiteral)
+    requires store { IsSound store.now }
+    requires inside { literal.variable < store.now.variables }
+    requires sized { IsSized store.now root.old }
+    requires lacks { Lacks store.now root.old (slice_index_or
+        (entries_of (shapes_of store.now.stored.items) store.now.occurrences.items)
+        (place literal) []) }
+    ensures each { AreRefreshed store.now root.old root.new }
+    ensures all { (j : ℕ) (e : Weighted) → slice_get (slice_index_or
+        (entries_of (shapes_of store.now.stored.items) store.now.occurrences.items)
+        (place literal) []) j ≡ Some e → IsRefreshed store.now root.new e.form }
+    ensures lacks { Lacks store.now root.new [] }
+{
+    let entries = &store.occurrences[place_of(literal)];
+    'entries: for j in 0..entries.len() {
+        let entry = entries[j];
+        let kept = &store.stored[entry.form];
+        let before = root.run.opens[entry.form];
+        let opened = before + kept.terms.term(entry.index).coefficient;
+        refresh(store, root, entry.form, opened);
     }
 }

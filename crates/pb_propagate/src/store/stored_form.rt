@@ -11,8 +11,6 @@ use crate::store::sorted_form::SortedForm;
 #[derive(Drop)]
 pub struct StoredForm {
     pub terms: SortedForm,
-    // Whether it may propagate, or is falsified, with nothing assigned.
-    pub eager: bool,
     // Set if all coefficients are equal. Each of them is then the bound minus the degree.
     pub even: bool,
     pub degree: u128,
@@ -25,9 +23,6 @@ pub struct StoredForm {
     pub ghost low: { degree < 2 ^ 127 },
     pub ghost idle: { (opened c : ℕ) → bound ≤ opened →
         IsCalm record { terms = terms_of terms; degree = degree } opened c },
-    pub ghost aside: { eager ≡ false →
-        IsCalm record { terms = terms_of terms; degree = degree } total 0 },
-    pub ghost busy: { eager ≡ true → 0 < degree + length (terms_of terms) },
     pub ghost alike: { even ≡ true → (i : ℕ) (d : Term) → i < length (terms_of terms) →
         (slice_index_or (terms_of terms) i d).coefficient + degree ≡ bound },
 }

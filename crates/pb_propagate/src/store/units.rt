@@ -1,6 +1,6 @@
 //! Forms of one term, outside of questions. No visit is counted.
 
-ghost use Rattle.std.specs.Prelude.{◌≡◌, ℕ, ◌^◌, ◌<◌, ◌∷◌, [], true, length, IfSome, IfNone};
+ghost use Rattle.std.specs.Prelude.{◌≡◌, ◌^◌, ◌<◌, ◌∷◌, [], true, length, IfSome, IfNone};
 ghost use Rattle.pb_normal.specs.declared.numbered.NumberedLiteral.{NumberedLiteral};
 ghost use Rattle.pb_propagate.specs.engine.Engine.Counts.{place};
 ghost use Rattle.pb_propagate.specs.engine.Engine.Fields.{shapes_of};

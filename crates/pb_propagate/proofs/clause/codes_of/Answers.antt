@@ -1,6 +1,5 @@
 use Rattle.pb_propagate.proofs.Common.{◌++◌, ◌∙◌, ◌∷◌, ◌≡◌, [], ap, arith, false, length, List, map, subst, sym, take, map_more, take_all, Entry}
-use Rattle.pb_propagate.proofs.Common.{Term, code, code_in, group_by}
-use Rattle.pb_propagate.proofs.Common.{ℕ, ◌<◌, ◌^◌, Bool, true, Group, Long, Short}
+use Rattle.pb_propagate.proofs.Common.{Term, code, code_in, group_by, ℕ, ◌<◌, ◌^◌, Bool, true, Group, Long, Short}
 use Rattle.pb_propagate.proofs.clause.codes_of.Goals as goal
 
 pub entries-preserved : goal.entries-preserved

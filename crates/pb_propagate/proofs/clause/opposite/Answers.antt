@@ -1,11 +1,11 @@
-use Rattle.pb_propagate.proofs.Common.{arith, nat_tests}
+use Rattle.pb_propagate.proofs.Common.{◌≡◌, arith, nat_tests, ◌%◌}
+use Rattle.std.specs.Int.Bits.{bit_and, xor_add_and}
+use Rattle.std.proofs.lemmas.Nat.{and_mask}
 use Rattle.pb_propagate.specs.engine.Clauses.Truths.{flip}
 use Rattle.pb_propagate.proofs.clause.opposite.Goals as goal
 
-pub returns-then-code-eq0 : goal.returns-then-code-eq0
+pub returns : goal.returns
 unfolding flip
-returns-then-code-eq0 c = grind (arith, nat_tests)
-
-pub returns-else-code-eq0 : goal.returns-else-code-eq0
-unfolding flip
-returns-else-code-eq0 c = grind (arith, nat_tests)
+returns c =
+    let last : bit_and c.args.code 1 ≡ c.args.code % 2 = and_mask c.args.code 1 in
+    grind (arith, nat_tests, last, xor_add_and c.args.code 1)

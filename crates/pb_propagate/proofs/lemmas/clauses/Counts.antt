@@ -138,10 +138,3 @@ passed-most (p ∷ ps) (xs ∷ clauses) h =
     let first = h 0 in
     let b = sum_by-cons (λ (ys : List ℕ). length ys) xs clauses in
     omega (arith, rest, first, b, sum_by-cons (λ x. x) p ps)
-
-pub passed-none : (ps : List ℕ) → ((s : ℕ) → get_or ps s 0 ≡ 0) → sum ps ≡ 0
-passed-none [] h = refl
-passed-none (p ∷ ps) h =
-    let rest = passed-none ps (λ s. h (suc s)) in
-    let first = h 0 in
-    omega (arith, rest, first, sum_by-cons (λ x. x) p ps)

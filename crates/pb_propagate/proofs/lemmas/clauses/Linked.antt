@@ -6,9 +6,6 @@ use Rattle.pb_propagate.proofs.Common.{list_at, Remains, Sits, watch_at}
 use Rattle.pb_propagate.proofs.lemmas.clauses.Few.{numbers-few}
 use Rattle.pb_propagate.proofs.lemmas.clauses.Gets.{get-push_less, get-push_same, get-push_past, swap-other, swap-here, swap-past, lt_of_apart}
 
-pub sits-of : (w : Watch) (l i : ℕ) → w.live ≡ true → w.literal ≡ l → w.spot ≡ i → Sits w l i
-sits-of w l i live literal spot = record { live = live; literal = literal; spot = spot }
-
 idle-dead : (l i : ℕ) → Sits idle l i → ⊥
 idle-dead l i s = both_ways _ refl s.live
 

@@ -1,10 +1,9 @@
 -- Entries of lists are written, added and removed.
-use Rattle.pb_propagate.proofs.Common.{ℕ, ◌++◌, ◌-◌, ◌/◌, ◌<◌, ◌∙◌, ◌∷◌, ◌≡◌, ◌⊎◌, [], ap, arith, get_or, get_or-set_other}
-use Rattle.pb_propagate.proofs.Common.{get_or-set_same, Global, inl, inr, length, length-set, List, map, refl, set, subst, suc, sym, take, true}
-use Rattle.pb_propagate.proofs.Common.{Vec, zero, Contains, option_map, slice_get, Some, swap_remove, cases_eq, cases_lt, get_or-map}
-use Rattle.pb_propagate.proofs.Common.{length-map, map-set, set-get_or, take-map, get_or_from_slice_get, none-some, same_Some}
-use Rattle.pb_propagate.proofs.Common.{slice_get-map, slice_get_within, Listed, Watch, AreBlocked, AreFewer, AreLinked, AreMore, entries_at, IsListed}
-use Rattle.pb_propagate.proofs.Common.{list_at, watch_at, watch_lists}
+use Rattle.pb_propagate.proofs.Common.{ℕ, ◌++◌, ◌-◌, ◌/◌, ◌<◌, ◌∙◌, ◌∷◌, ◌≡◌, ◌⊎◌, [], ap, arith, get_or, get_or-set_other, get_or-set_same, Global}
+use Rattle.pb_propagate.proofs.Common.{inl, inr, length, length-set, List, map, refl, set, subst, suc, sym, take, true, Vec, zero, Contains}
+use Rattle.pb_propagate.proofs.Common.{option_map, slice_get, Some, swap_remove, cases_eq, cases_lt, get_or-map, length-map, map-set, set-get_or}
+use Rattle.pb_propagate.proofs.Common.{take-map, get_or_from_slice_get, none-some, same_Some, slice_get-map, slice_get_within, Listed, Watch}
+use Rattle.pb_propagate.proofs.Common.{AreBlocked, AreFewer, AreLinked, AreMore, entries_at, IsListed, list_at, watch_at, watch_lists}
 use Rattle.pb_propagate.proofs.lemmas.clauses.Gets.{get-take_less, get-set_same, get-set_other, get-push_same, get-push_other, swap-past}
 
 pub lists-length : (occ : List (Vec Listed Global)) → length (watch_lists occ) ≡ length occ
@@ -93,10 +92,6 @@ list-fewer occ p v v1 room value each x there = elim (list-older occ p v v1 (λ 
   | inl none ↦ absurd none
   | inr old ↦ old
 ]
-
--- blockers
-pub blocked-fewer : (clauses : List (List ℕ)) (old new : List (Vec Listed Global)) → AreFewer old new → AreBlocked clauses old → AreBlocked clauses new
-blocked-fewer clauses old new fewer b x there = b x (fewer x there)
 
 pub blocked-more : (clauses : List (List ℕ)) (entry : Listed) (old new : List (Vec Listed Global)) → AreMore entry old new → Contains (list_at clauses (entry.watch / 2)) entry.blocker → AreBlocked clauses old → AreBlocked clauses new
 blocked-more clauses entry old new more here b x there = elim (more x there) [

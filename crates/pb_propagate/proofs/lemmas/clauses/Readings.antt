@@ -2,13 +2,13 @@
 use Rattle.pb_propagate.proofs.Common.{ℕ, ◌*◌, ◌++◌, ◌+◌, ◌/◌, ◌<◌, ◌∙◌, ◌∷◌, ◌≡◌, ◌≤◌, ◌⊎◌, [], ap, arith, Bool, false, get_or, get_or-set_other}
 use Rattle.pb_propagate.proofs.Common.{get_or-set_same, Global, inl, inr, length, List, map, min, refl, set, subst, sym, true, Vec, All, Contains}
 use Rattle.pb_propagate.proofs.Common.{Option, slice_get, Some, sum, cases_eq, sum_by-set, Clauses, Listed, Watch, Search, Contents, rewatched}
-use Rattle.pb_propagate.proofs.Common.{searched, AreMore, list_at, watch_at, watch_lists, all_turned, AreNoted, ArePassed, IsRound, IsRunning}
+use Rattle.pb_propagate.proofs.Common.{searched, AreMore, list_at, watch_at, watch_lists, all_turned, ArePassed, IsRound, IsRunning}
 use Rattle.pb_propagate.proofs.Common.{passed_of, search_at, turned, false_at, flip}
 use Rattle.pb_propagate.proofs.lemmas.clauses.Searches.{turned-round, passed-at, passed-length, passed-set, round-set}
 use Rattle.pb_propagate.proofs.lemmas.clauses.Turned.{turned-at, turned-count, turned-length, turned-size, stored-turned, stored-back}
 use Rattle.pb_propagate.proofs.lemmas.clauses.Listed.{lists-length, blocked-more}
 use Rattle.pb_propagate.proofs.lemmas.clauses.Truths.{flip-half}
-use Rattle.pb_propagate.proofs.lemmas.clauses.Steps.{slot-within, literal-within, HasSearched, Visiting, noted-set, passed-end, Shifted, passed-move, stored-move}
+use Rattle.pb_propagate.proofs.lemmas.clauses.Steps.{slot-within, literal-within, HasSearched, Visiting, passed-end, Shifted, passed-move, stored-move}
 
 pub sum-raised : (passed : List ℕ) (s x : ℕ) → s < length passed → sum (set passed s x) + get_or passed s 0 ≡ sum passed + x
 sum-raised passed s x inside = sum_by-set (λ y. y) passed s x 0 inside
@@ -102,7 +102,6 @@ bounded-raised c values s x run inside within ss' now t = by (cases_eq t s)
 pub visiting-by : (c : Clauses) (values : List (Option Bool)) (l index e other : ℕ) (from stop : Search) (xs : List ℕ) → (run : IsRunning values c) → false_at values l ≡ true → Reading c l index e other → Resuming c (e / 2) from xs → HasSearched values (turned (get_or run.starts (e / 2) 0) xs) from.passed other stop.passed →
     Visiting values (all_turned run.starts c.blocks.literals) (passed_of c) c.blocks.watches (watch_lists c.lists.items) l index e other stop.passed
 visiting-by c values l index e other from stop xs run failed r s searched =
-    let two = reading-slot c values l index e other run r in
     record {
       stored = stored-turned run.starts c.blocks.literals c.blocks.watches (watch_lists c.lists.items) run.stored;
       passes = run.passed;
@@ -114,40 +113,35 @@ visiting-by c values l index e other from stop xs run failed r s searched =
     }
 
 -- the state if no literal is left that may be watched
-pub running-end : (c : Clauses) (values : List (Option Bool)) (l index e other : ℕ) (from stop : Search) (xs : List ℕ) (blocks' : Contents) (moved_v : Vec ℕ Global) → (run : IsRunning values c) → false_at values l ≡ true → Reading c l index e other → Resuming c (e / 2) from xs → HasSearched values (turned (get_or run.starts (e / 2) 0) xs) from.passed other stop.passed → length xs ≤ stop.passed → IsRound (get_or run.starts (e / 2) 0) stop (length xs) →
-    (moved_v.items ≡ c.moved.items ++ (e / 2 ∷ [])) ⊎ ((0 < from.passed) × (moved_v.items ≡ c.moved.items)) → blocks' ≡ searched c.blocks (e / 2) stop →
-    IsRunning values (record { blocks = blocks'; moved = moved_v; lists = c.lists })
-running-end c values l index e other from stop xs blocks' moved_v run failed r s found end round noted now =
-    subst (λ (b : Contents). IsRunning values (record { blocks = b; moved = moved_v; lists = c.lists })) (sym now) (
+pub running-end : (c : Clauses) (values : List (Option Bool)) (l index e other : ℕ) (from stop : Search) (xs : List ℕ) (blocks' : Contents) → (run : IsRunning values c) → false_at values l ≡ true → Reading c l index e other → Resuming c (e / 2) from xs → HasSearched values (turned (get_or run.starts (e / 2) 0) xs) from.passed other stop.passed → length xs ≤ stop.passed → IsRound (get_or run.starts (e / 2) 0) stop (length xs) →
+    blocks' ≡ searched c.blocks (e / 2) stop →
+    IsRunning values (record { blocks = blocks'; lists = c.lists })
+running-end c values l index e other from stop xs blocks' run failed r s found end round now =
+    subst (λ (b : Contents). IsRunning values (record { blocks = b; lists = c.lists })) (sym now) (
     let two = reading-slot c values l index e other run r in
     let clauses = c.blocks.literals in
     let in_visit = visiting-by c values l index e other from stop xs run failed r s found in
     let end_at : length (list_at (all_turned run.starts clauses) (e / 2)) ≤ stop.passed = omega (arith, end, ap length s.items, turned-size run.starts clauses (e / 2)) in
-    let noted_at = subst (λ n. (moved_v.items ≡ c.moved.items ++ (e / 2 ∷ [])) ⊎ ((0 < n) × (moved_v.items ≡ c.moved.items))) (resuming-from c (e / 2) from xs s) noted in
     let raised = passed-set c (set c.blocks.searches (e / 2) stop) (e / 2) stop refl in
-    let room : e / 2 < length (passed_of c) = omega (arith, two.1, passed-length c) in
     record {
       starts = run.starts;
       stored = run.stored;
       blocked = run.blocked;
       passed = subst (λ p. ArePassed values (all_turned run.starts clauses) p c.blocks.watches) (sym raised) (passed-end values (all_turned run.starts clauses) (passed_of c) c.blocks.watches (watch_lists c.lists.items) l index e other stop.passed in_visit end_at);
       round = round-set run.starts clauses c.blocks.searches (set c.blocks.searches (e / 2) stop) (e / 2) stop two.1 refl run.round (subst (λ ys. IsRound (get_or run.starts (e / 2) 0) stop (length ys)) s.items round);
-      noted = subst (λ p. AreNoted p moved_v.items) (sym raised) (noted-set (passed_of c) c.moved.items moved_v.items (e / 2) stop.passed run.noted room noted_at);
       sizes = run.sizes;
     })
 
-pub running-move : (c : Clauses) (values : List (Option Bool)) (l index e other : ℕ) (from stop next : Search) (xs : List ℕ) (ws' : List Watch) (moved_v : Vec ℕ Global) (lists' : Vec (Vec Listed Global) Global) → (run : IsRunning values c) → false_at values l ≡ true → Reading c l index e other → Resuming c (e / 2) from xs → HasSearched values (turned (get_or run.starts (e / 2) 0) xs) from.passed other stop.passed → IsRound (get_or run.starts (e / 2) 0) next (length xs) → next.passed ≡ stop.passed + 1 →
-    (moved_v.items ≡ c.moved.items ++ (e / 2 ∷ [])) ⊎ ((0 < from.passed) × (moved_v.items ≡ c.moved.items)) → length lists'.items ≡ length c.lists.items → AreMore (record { watch = e; blocker = other }) c.lists.items lists'.items →
+pub running-move : (c : Clauses) (values : List (Option Bool)) (l index e other : ℕ) (from stop next : Search) (xs : List ℕ) (ws' : List Watch) (lists' : Vec (Vec Listed Global) Global) → (run : IsRunning values c) → false_at values l ≡ true → Reading c l index e other → Resuming c (e / 2) from xs → HasSearched values (turned (get_or run.starts (e / 2) 0) xs) from.passed other stop.passed → IsRound (get_or run.starts (e / 2) 0) next (length xs) → next.passed ≡ stop.passed + 1 →
+    length lists'.items ≡ length c.lists.items → AreMore (record { watch = e; blocker = other }) c.lists.items lists'.items →
     Shifted values (all_turned run.starts c.blocks.literals) c.blocks.watches ws' (watch_lists c.lists.items) (watch_lists lists'.items) index e stop.passed →
-    IsRunning values (record { blocks = rewatched (searched c.blocks (e / 2) next) ws'; moved = moved_v; lists = lists' })
-running-move c values l index e other from stop next xs ws' moved_v lists' run failed r s found round one noted sizes more m =
+    IsRunning values (record { blocks = rewatched (searched c.blocks (e / 2) next) ws'; lists = lists' })
+running-move c values l index e other from stop next xs ws' lists' run failed r s found round one sizes more m =
     let two = reading-slot c values l index e other run r in
     let clauses = c.blocks.literals in
     let in_visit = visiting-by c values l index e other from stop xs run failed r s found in
-    let noted_at = subst (λ n. (moved_v.items ≡ c.moved.items ++ (e / 2 ∷ [])) ⊎ ((0 < n) × (moved_v.items ≡ c.moved.items))) (resuming-from c (e / 2) from xs s) noted in
     let searches' = set c.blocks.searches (e / 2) next in
     let raised : map (λ (x : Search). x.passed) searches' ≡ set (passed_of c) (e / 2) (stop.passed + 1) = passed-set c searches' (e / 2) next refl ∙ ap (set (passed_of c) (e / 2)) one in
-    let room : e / 2 < length (passed_of c) = omega (arith, two.1, passed-length c) in
     let live = reading-live c values l index e other run r in
     let at : Contains (list_at clauses (flip e / 2)) (watch_at c.blocks.watches (flip e)).literal = run.stored.watched (flip e) (run.stored.paired e live) in
     let blocker : Contains (list_at clauses (e / 2)) other = subst (Contains (list_at clauses (e / 2))) (sym r.other_is) (subst (λ t. Contains (list_at clauses t) (watch_at c.blocks.watches (flip e)).literal) (flip-half e) at) in
@@ -157,7 +151,6 @@ running-move c values l index e other from stop next xs ws' moved_v lists' run f
       blocked = blocked-more clauses (record { watch = e; blocker = other }) c.lists.items lists'.items more blocker run.blocked;
       passed = subst (λ p. ArePassed values (all_turned run.starts clauses) p ws') (sym raised) (passed-move values (all_turned run.starts clauses) (passed_of c) c.blocks.watches ws' (watch_lists c.lists.items) (watch_lists lists'.items) l index e other stop.passed in_visit m);
       round = round-set run.starts clauses c.blocks.searches searches' (e / 2) next two.1 refl run.round (subst (λ ys. IsRound (get_or run.starts (e / 2) 0) next (length ys)) s.items round);
-      noted = subst (λ p. AreNoted p moved_v.items) (sym raised) (noted-set (passed_of c) c.moved.items moved_v.items (e / 2) (stop.passed + 1) run.noted room noted_at);
       sizes = sizes ∙ run.sizes;
     }
 

@@ -3,8 +3,7 @@ use Rattle.pb_propagate.proofs.Common.{ℕ, ◌+◌, ◌<◌, ◌∙◌, ◌∷�
 use Rattle.pb_propagate.proofs.Common.{map, refl, suc, sym, true, zero, ◌==◌, Contains, count_by, Option, slice_get, Some, both_ways, cases_Bool}
 use Rattle.pb_propagate.proofs.Common.{get_or-map, length-map, sum_by-cons, slice_get-get_or, NumberedLiteral, negation, Term, list_at, IsBroken}
 use Rattle.pb_propagate.proofs.Common.{IsUnit, AreJoined, clause_shape, joined, literal_at, one_term, slot_shape, false_at, true_at, begin, broken}
-use Rattle.pb_propagate.proofs.Common.{Conflicts, Derives, has, IsSettled, open_part, open_sum, opposed, put, Puts, Shape, derived, IsRefuted}
-use Rattle.pb_propagate.specs.engine.Engine.Rest.{opposite}
+use Rattle.pb_propagate.proofs.Common.{Conflicts, Derives, has, IsSettled, open_part, open_sum, opposed, put, Puts, Shape}
 use Rattle.pb_propagate.proofs.lemmas.engine.Literals.{open_part-falsified, open_part-open}
 use Rattle.pb_propagate.proofs.lemmas.engine.Derivations.{one_itself, settled-of_terms}
 use Rattle.pb_propagate.proofs.lemmas.clauses.Literals.{Agree, true-listed, false-listed}
@@ -129,11 +128,6 @@ derives-joined xs clauses a _ j (put {list} l d m) = put l (derives-joined xs cl
 pub conflicts-joined : (xs : List Shape) (clauses : List (List ℕ)) (list : List NumberedLiteral) → AreJoined xs clauses → Conflicts xs list → Conflicts (joined xs clauses) list
 conflicts-joined xs clauses list j (opposed l here there) = opposed l here there
 conflicts-joined xs clauses list j (broken f among low) = broken f (kept-joined xs clauses f j among (omega (arith, low))) low
-
-pub refuted-joined : (xs : List Shape) (clauses : List (List ℕ)) (given list : List NumberedLiteral) → AreJoined xs clauses → IsRefuted xs given list → IsRefuted (joined xs clauses) given list
-refuted-joined xs clauses given list j (opposite l here there) = opposite l here there
-refuted-joined xs clauses given list j (derived d low) =
-    derived (record { first = d.first; within = d.within; covers = d.covers; derived = derives-joined xs clauses d.first list j d.derived }) (conflicts-joined xs clauses list j low)
 
 -- what a clause derives
 one-among : (codes : List ℕ) (x : ℕ) → Contains codes x → Contains (map one_term codes) (one_term x)

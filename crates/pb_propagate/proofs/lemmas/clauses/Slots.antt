@@ -206,14 +206,6 @@ rising-different g n (e ∷ es) r x =
           omega (arith, split, rest, apart-zero x (code g e) n)
     ]
 
-pub first-two : (g : Group) (n : ℕ) (es : List Entry) → IsRising n es → 2 ≤ length es → get_or (map (code g) es) 0 0 ≡ get_or (map (code g) es) 1 0 → ⊥
-first-two g n [] r h same = absurd (omega (arith, h))
-first-two g n (e ∷ []) r h same = absurd (omega (arith, h))
-first-two g n (e ∷ f ∷ es) r h same =
-    let a = code-from g e in
-    let b = code-from g f in
-    omega (arith, same, a.1, b.0, r.2.0)
-
 pub codes-inside : (g : Group) (es : List Entry) (n m : ℕ) → m ≡ 4 * n → All (λ e. e.variable < n) es → All (λ x. x < m) (map (code g) es)
 codes-inside g [] n m wide all k d less = absurd (omega (arith, less))
 codes-inside g (e ∷ es) n m wide all zero d less = let a = code-from g e in let inside : e.variable < n = all 0 e (omega arith) in omega (arith, a.1, inside, wide, offset-small g)

@@ -3,7 +3,7 @@ use Rattle.pb_propagate.proofs.Common.{ℕ, ◌*◌, ◌++◌, ◌+◌, ◌/◌,
 use Rattle.pb_propagate.proofs.Common.{get_or-set_same, inl, inr, length, length-set, List, refl, set, subst, sym, true, All, Contains, Option}
 use Rattle.pb_propagate.proofs.Common.{slice_get, Some, both_ways, cases_eq, cases_lt, get_or_default, All-contains, Contains-append_left}
 use Rattle.pb_propagate.proofs.Common.{Contains-get_or, Contains-push, Contains-push_cases, same_Some, Watch, AreLinked, list_at, Remains, watch_at}
-use Rattle.pb_propagate.proofs.Common.{AreNoted, ArePassed, AreServed, AreStored, HasTrue, IsBroken, IsUnit, IsWatched, false_at}
+use Rattle.pb_propagate.proofs.Common.{ArePassed, AreServed, AreStored, HasTrue, IsBroken, IsUnit, IsWatched, false_at}
 use Rattle.pb_propagate.proofs.Common.{flip, true_at}
 use Rattle.pb_propagate.proofs.lemmas.clauses.Linked.{sits-within}
 use Rattle.pb_propagate.proofs.lemmas.clauses.Truths.{flip-half, flip-flip, flip-apart, same-slot}
@@ -44,37 +44,6 @@ visiting-literal values clauses passed ws ls l index e other place g = (g.stored
 pub visiting-slot : (values : List (Option Bool)) (clauses : List (List ℕ)) (passed : List ℕ) (ws : List Watch) (ls : List (List ℕ)) (l index e other place : ℕ) → Visiting values clauses passed ws ls l index e other place → e / 2 < length passed
 visiting-slot values clauses passed ws ls l index e other place g =
     omega (arith, slot-within clauses ws ls e g.stored (visiting-live values clauses passed ws ls l index e other place g), g.passes.sizes)
-
--- the trail
-pub noted-set : (passed moved moved' : List ℕ) (s x : ℕ) → AreNoted passed moved → s < length passed → (moved' ≡ moved ++ (s ∷ [])) ⊎ ((0 < get_or passed s 0) × (moved' ≡ moved)) → AreNoted (set passed s x) moved'
-noted-set passed moved moved' s x old inside how = record {
-  noted = λ t. noted-at t (cases_eq t s) how;
-  named = named-by how;
-}
-  where
-    keeps : (t : ℕ) → Contains moved t → (moved' ≡ moved ++ (s ∷ [])) ⊎ ((0 < get_or passed s 0) × (moved' ≡ moved)) → Contains moved' t
-    keeps t h (inl e) = subst (λ (xs : List ℕ). Contains xs t) (sym e) (Contains-append_left moved (s ∷ []) t h)
-    keeps t h (inr p) = subst (λ (xs : List ℕ). Contains xs t) (sym p.1) h
-
-    has-s : (get_or passed s 0 ≡ 0) ⊎ Contains moved s → (moved' ≡ moved ++ (s ∷ [])) ⊎ ((0 < get_or passed s 0) × (moved' ≡ moved)) → Contains moved' s
-    has-s o (inl e) = subst (λ (xs : List ℕ). Contains xs s) (sym e) (Contains-push moved s)
-    has-s (inl z) (inr p) = absurd (omega (arith, z, p.0))
-    has-s (inr h) (inr p) = keeps s h (inr p)
-
-    noted-at : (t : ℕ) → (t ≡ s) ⊎ (t ≡ s → ⊥) → (moved' ≡ moved ++ (s ∷ [])) ⊎ ((0 < get_or passed s 0) × (moved' ≡ moved)) → (get_or (set passed s x) t 0 ≡ 0) ⊎ Contains moved' t
-    noted-at t (inl is) h = inr (subst (Contains moved') (sym is) (has-s (old.noted s) h))
-    noted-at t (inr n) h = elim (old.noted t) [
-      | inl z ↦ inl (get_or-set_other passed s t x 0 n ∙ z)
-      | inr m ↦ inr (keeps t m h)
-    ]
-
-    named-by : (moved' ≡ moved ++ (s ∷ [])) ⊎ ((0 < get_or passed s 0) × (moved' ≡ moved)) → All (λ t. t < length (set passed s x)) moved'
-    named-by (inr p) = λ k d h. omega (arith, old.named k d (omega (arith, h, ap length p.1)), ap (λ (xs : List ℕ). get_or xs k d) p.1, length-set passed s x)
-    named-by (inl e) = λ k d h.
-        elim (Contains-push_cases moved s (get_or moved' k d) (subst (λ (xs : List ℕ). Contains xs (get_or moved' k d)) e (Contains-get_or moved' k d h))) [
-          | inl m ↦ omega (arith, All-contains (λ t. t < length passed) moved (get_or moved' k d) old.named m, length-set passed s x)
-          | inr is ↦ omega (arith, is, inside, length-set passed s x)
-        ]
 
 -- no literal is left that may be watched
 pub passed-end : (values : List (Option Bool)) (clauses : List (List ℕ)) (passed : List ℕ) (ws : List Watch) (ls : List (List ℕ)) (l index e other place : ℕ) → Visiting values clauses passed ws ls l index e other place → length (list_at clauses (e / 2)) ≤ place → ArePassed values clauses (set passed (e / 2) place) ws

@@ -4,7 +4,7 @@ use Rattle.pb_propagate.proofs.Common.{get_or-set_same, Global, inl, inr, length
 use Rattle.pb_propagate.proofs.Common.{true, Vec, All, Contains, Option, slice_get, Some, both_ways, cases_eq, cases_lt}
 use Rattle.pb_propagate.proofs.Common.{get_or_past, get_or_read, map-append, Contains-get_or, slice_get_within, Clauses, Listed, Watch}
 use Rattle.pb_propagate.proofs.Common.{Search, begun, Contents, AreBlocked, AreFewer, AreLinked, AreMore, entries_at, idle, IsListed, list_at, Sits}
-use Rattle.pb_propagate.proofs.Common.{watch_at, watch_lists, AreNoted, AreReady, AreStored, IsPair, IsRunning, passed_of, search_at, flip}
+use Rattle.pb_propagate.proofs.Common.{IsRenewed, watch_at, watch_lists, AreReady, AreStored, IsPair, IsRunning, passed_of, search_at, flip}
 use Rattle.pb_propagate.specs.declared.clauses.watched.Pair.{Pair}
 use Rattle.pb_propagate.proofs.lemmas.clauses.Linked.{list-within}
 use Rattle.pb_propagate.proofs.lemmas.clauses.Listed.{lists-length, watch-entries, listed-live, blocked-set}
@@ -33,55 +33,18 @@ stored-same clauses clauses' ws ws' ls ls' same same_w same_l pairs longer old =
     was : (e : ℕ) → (watch_at ws' e).live ≡ true → (watch_at ws e).live ≡ true
     was e live = ap (λ (w : Watch). w.live) (sym (same_w e)) ∙ live
 
--- the slots that a run has touched and that are not yet as at rest are on the trail from a position on
-pub record AreLeft (passed moved : List ℕ) (from : ℕ) : Type 0 where
-  pub each : (s : ℕ) → (get_or passed s 0 ≡ 0) ⊎ ((k : ℕ) × (from ≤ k) × (k < length moved) × (get_or moved k s ≡ s))
-
-pub left-start : (passed moved : List ℕ) → AreNoted passed moved → AreLeft passed moved 0
-left-start passed moved n = record {
-  each = λ s. elim (n.noted s) [
-    | inl z ↦ inl z
-    | inr c ↦ inr (c.0, omega arith, c.1, c.2)
-  ];
-}
-
-pub left-next : (passed moved : List ℕ) (i slot : ℕ) → i < length moved → slot ≡ get_or moved i slot → slot < length passed → AreLeft passed moved i → AreLeft (set passed slot 0) moved (i + 1)
-left-next passed moved i slot inside is room old = record { each = λ s. at s (cases_eq s slot) (old.each s) }
-  where
-    at : (s : ℕ) → (s ≡ slot) ⊎ (s ≡ slot → ⊥) → (get_or passed s 0 ≡ 0) ⊎ ((k : ℕ) × (i ≤ k) × (k < length moved) × (get_or moved k s ≡ s)) → (get_or (set passed slot 0) s 0 ≡ 0) ⊎ ((k : ℕ) × (i + 1 ≤ k) × (k < length moved) × (get_or moved k s ≡ s))
-    at s (inl here) q = inl (ap (λ t. get_or (set passed slot 0) t 0) here ∙ get_or-set_same passed slot 0 0 room)
-    at s (inr n) (inl z) = inl (get_or-set_other passed slot s 0 0 n ∙ z)
-    at s (inr n) (inr (k, from, less, there)) =
-        let off : k ≡ i → ⊥ = λ same. n (sym there ∙ ap (λ t. get_or moved t s) same ∙ sym (get_or_read moved i slot inside is s)) in
-        inr (k, grind (arith, from, off), less, there)
-
-pub left-none : (passed moved : List ℕ) (i : ℕ) → length moved ≤ i → AreLeft passed moved i → (s : ℕ) → get_or passed s 0 ≡ 0
-left-none passed moved i end old s = elim (old.each s) [
-  | inl z ↦ z
-  | inr w ↦ absurd (omega (arith, w.1, w.2, end))
-]
-
--- the slots on the trail are those of clauses
-pub noted-slot : (values : List (Option Bool)) (c : Clauses) (moved : List ℕ) (i slot : ℕ) → IsRunning values c → moved ≡ c.moved.items → i < length moved → slot ≡ get_or moved i slot → slot < length c.blocks.literals
-noted-slot values c moved i slot run same inside is =
-    let named = run.noted.named i slot (omega (arith, inside, ap length same)) in
-    omega (arith, named, is, ap (λ ms. get_or ms i slot) same, run.passed.sizes, turned-count run.starts c.blocks.literals)
-
 -- once no search has passed anything, the clauses are ready
-pub rest-ready : (values : List (Option Bool)) (c c' : Clauses) (i : ℕ) → IsRunning values c → c'.blocks.literals ≡ c.blocks.literals → c'.blocks.watches ≡ c.blocks.watches → c'.lists ≡ c.lists → length c'.blocks.searches ≡ length c.blocks.searches → ((s : ℕ) → (search_at c'.blocks.searches s).position ≡ (search_at c.blocks.searches s).position) →
-    AreLeft (passed_of c') c.moved.items i → length c.moved.items ≤ i → c'.moved.items ≡ [] → AreReady c'
-rest-ready values c c' i run literals watches lists searches positions left end none =
-    record {
-      stored = rw (literals, watches, lists) run.stored;
-      blocked = rw (literals, lists) run.blocked;
-      sizes = omega (arith, searches, ap length literals, searches-length c values run);
-      inside = λ s some.
-          let same : length (list_at c'.blocks.literals s) ≡ length (list_at c.blocks.literals s) = ap (λ cs. length (list_at cs s)) literals in
-          let low = round-inside (get_or run.starts s 0) (search_at c.blocks.searches s) (length (list_at c.blocks.literals s)) (run.round s (omega (arith, some, same))) (omega (arith, running-bounded c values run s, passed-at c.blocks.searches s)) in
-          omega (arith, low, same, positions s);
-      none = left-none (passed_of c') c.moved.items i end left;
-      trail = none;
-    }
+pub rest-ready : (values : List (Option Bool)) (c : Clauses) (b : Contents) → IsRunning values c → IsRenewed c.blocks b → AreReady (record { blocks = b; lists = c.lists })
+rest-ready values c b run r = record {
+  stored = rw (r.literals, r.watches) run.stored;
+  blocked = rw r.literals run.blocked;
+  sizes = omega (arith, r.sizes, ap length r.literals, searches-length c values run);
+  inside = λ s some.
+      let same : length (list_at b.literals s) ≡ length (list_at c.blocks.literals s) = ap (λ cs. length (list_at cs s)) r.literals in
+      let low = round-inside (get_or run.starts s 0) (search_at c.blocks.searches s) (length (list_at c.blocks.literals s)) (run.round s (omega (arith, some, same))) (omega (arith, running-bounded c values run s, passed-at c.blocks.searches s)) in
+      omega (arith, low, same, ap (λ (x : Search). x.position) (r.searches s));
+  none = λ s. passed-at b.searches s ∙ ap (λ (x : Search). x.passed) (r.searches s);
+}
 
 -- a slot has two watches
 two-of : (k s : ℕ) → k / 2 ≡ s → (k ≡ 2 * s) ⊎ (k ≡ 2 * s + 1)
@@ -235,7 +198,7 @@ lists-push occ occ' v pushed none l =
     ∙ push-default (map (λ (x : Vec Listed Global). x.items) occ) l []
 
 pub rest-widen : (c : Clauses) (lists' : Vec (Vec Listed Global) Global) (occ1 : List (Vec Listed Global)) (v w : Vec Listed Global) → AreReady c → occ1 ≡ c.lists.items ++ (v ∷ []) → lists'.items ≡ occ1 ++ (w ∷ []) → v.items ≡ [] → w.items ≡ [] →
-    AreReady (record { blocks = c.blocks; moved = c.moved; lists = lists' })
+    AreReady (record { blocks = c.blocks; lists = lists' })
 rest-widen c lists' occ1 v w r one two none_v none_w = record {
   stored = stored-same c.blocks.literals c.blocks.literals c.blocks.watches c.blocks.watches (watch_lists c.lists.items) (watch_lists lists'.items) (λ s. refl) (λ e. refl)
       (λ l. watch-entries lists'.items l ∙ ap (map (λ (x : Listed). x.watch)) (same l) ∙ sym (watch-entries c.lists.items l))
@@ -244,14 +207,13 @@ rest-widen c lists' occ1 v w r one two none_v none_w = record {
   sizes = r.sizes;
   inside = r.inside;
   none = r.none;
-  trail = r.trail;
 }
   where
     same : (l : ℕ) → entries_at lists'.items l ≡ entries_at c.lists.items l
     same l = lists-push occ1 lists'.items w two none_w l ∙ lists-push c.lists.items occ1 v one none_v l
 
 pub rest-extend : (c : Clauses) (b : Contents) → AreReady c → b.literals ≡ c.blocks.literals ++ ([] ∷ []) → b.searches ≡ c.blocks.searches ++ (begun ∷ []) → b.watches ≡ (c.blocks.watches ++ (idle ∷ [])) ++ (idle ∷ []) →
-    AreReady (record { blocks = b; moved = c.moved; lists = c.lists })
+    AreReady (record { blocks = b; lists = c.lists })
 rest-extend c b r pushed searching both =
     let same : (s : ℕ) → list_at b.literals s ≡ list_at c.blocks.literals s = λ s. ap (λ xs. list_at xs s) pushed ∙ push-default c.blocks.literals s [] in
     let passed : map (λ (y : Search). y.passed) b.searches ≡ passed_of c ++ (0 ∷ []) = ap (map (λ (y : Search). y.passed)) searching ∙ map-append (λ (y : Search). y.passed) c.blocks.searches (begun ∷ []) in
@@ -269,18 +231,16 @@ rest-extend c b r pushed searching both =
           let old : search_at b.searches s ≡ search_at c.blocks.searches s = ap (λ ss. search_at ss s) searching ∙ push-default c.blocks.searches s begun in
           omega (arith, r.inside s many, ap length (same s), ap (λ (y : Search). y.position) old);
       none = λ s. ap (λ ps. get_or ps s 0) passed ∙ push-default (passed_of c) s 0 ∙ r.none s;
-      trail = r.trail;
     }
 
 -- only the room in blocks is another
-pub rest-fit : (c : Clauses) (b : Contents) → AreReady c → b.literals ≡ c.blocks.literals → b.searches ≡ c.blocks.searches → b.watches ≡ c.blocks.watches → AreReady (record { blocks = b; moved = c.moved; lists = c.lists })
+pub rest-fit : (c : Clauses) (b : Contents) → AreReady c → b.literals ≡ c.blocks.literals → b.searches ≡ c.blocks.searches → b.watches ≡ c.blocks.watches → AreReady (record { blocks = b; lists = c.lists })
 rest-fit c b r literals searches watches = record {
   stored = rw (literals, watches) r.stored;
   blocked = rw literals r.blocked;
   sizes = rw (literals, searches) r.sizes;
   inside = rw (literals, searches) r.inside;
   none = rw searches r.none;
-  trail = r.trail;
 }
 
 -- a clause is stored in a slot
@@ -289,7 +249,7 @@ pub rest-fill : (c : Clauses) (b : Contents) (lists1 lists' : Vec (Vec Listed Gl
     b.literals ≡ set c.blocks.literals s xs → b.searches ≡ set c.blocks.searches s begun → b.watches ≡ set (set c.blocks.watches (2 * s) (record { literal = x; live = true; spot = n })) (2 * s + 1) (record { literal = y; live = true; spot = m }) →
     AreLinked b.watches (watch_lists lists'.items) → length lists'.items ≡ length c.lists.items →
     AreMore (record { watch = 2 * s; blocker = y }) c.lists.items lists1.items → AreMore (record { watch = 2 * s + 1; blocker = x }) lists1.items lists'.items →
-    AreReady (record { blocks = b; moved = c.moved; lists = lists' })
+    AreReady (record { blocks = b; lists = lists' })
 rest-fill c b lists1 lists' n m s x y xs p r room empty pair x_is y_is inside filled searching both linked sizes more_1 more_2 =
     record {
       stored = subst (λ cs. AreStored cs b.watches (watch_lists lists'.items)) (sym filled)
@@ -303,7 +263,6 @@ rest-fill c b lists1 lists' n m s x y xs p r room empty pair x_is y_is inside fi
       sizes = omega (arith, r.sizes, ap length searching, length-set c.blocks.searches s begun, ap length filled, length-set c.blocks.literals s xs);
       inside = λ t some. inside-at t some (cases_eq t s);
       none = λ t. none-at t (cases_eq t s);
-      trail = r.trail;
     }
   where
     w1 : Watch
@@ -368,7 +327,7 @@ rest-fill c b lists1 lists' n m s x y xs p r room empty pair x_is y_is inside fi
 pub rest-vacate : (c : Clauses) (b : Contents) (lists1 lists' : Vec (Vec Listed Global) Global) (s : ℕ) → AreReady c → 0 < length (list_at c.blocks.literals s) → b.literals ≡ set c.blocks.literals s [] → b.searches ≡ c.blocks.searches → AreLinked b.watches (watch_lists lists'.items) →
     length b.watches ≡ length c.blocks.watches → length lists'.items ≡ length c.lists.items → (watch_at b.watches (2 * s)).live ≡ false → (watch_at b.watches (2 * s + 1)).live ≡ false →
     ((k : ℕ) → (k / 2 ≡ s → ⊥) → ((watch_at b.watches k).live ≡ (watch_at c.blocks.watches k).live) × ((watch_at b.watches k).literal ≡ (watch_at c.blocks.watches k).literal)) → AreFewer c.lists.items lists1.items → AreFewer lists1.items lists'.items →
-    AreReady (record { blocks = b; moved = c.moved; lists = lists' })
+    AreReady (record { blocks = b; lists = lists' })
 rest-vacate c b lists1 lists' s r some vacated searching linked sizes sizes_l dead_1 dead_2 same fewer_1 fewer_2 = record {
   stored = subst (λ cs. AreStored cs b.watches (watch_lists lists'.items)) (sym vacated)
       (stored-vacate c.blocks.literals c.blocks.watches b.watches (watch_lists c.lists.items) (watch_lists lists'.items) s r.stored linked room sizes (lists-length lists'.items ∙ sizes_l ∙ sym (lists-length c.lists.items)) dead_1 dead_2 same);
@@ -376,7 +335,6 @@ rest-vacate c b lists1 lists' s r some vacated searching linked sizes sizes_l de
   sizes = omega (arith, r.sizes, ap length searching, ap length vacated, length-set c.blocks.literals s []);
   inside = λ t any. inside-at t any (cases_eq t s);
   none = λ t. ap (λ ss. get_or (map (λ (z : Search). z.passed) ss) t 0) searching ∙ r.none t;
-  trail = r.trail;
 }
   where
     room : s < length c.blocks.literals
@@ -409,7 +367,3 @@ pub stands-by : (ws : List Watch) (ls : List (List ℕ)) (e : ℕ) (w : Watch) �
 stands-by ws ls e w linked live is =
     let item : slice_get (list_at ls w.literal) w.spot ≡ Some e = linked.sits e w.literal w.spot (record { live = live; literal = ap (λ (x : Watch). x.literal) (sym is); spot = ap (λ (x : Watch). x.spot) (sym is) }) in
     record { item = item; literal = list-within ls w.literal w.spot e item; spot = slice_get_within (list_at ls w.literal) w.spot e item }
-
--- a slot with one more clause
-pub slot-pushed : (clauses clauses' : List (List ℕ)) (s : ℕ) → clauses' ≡ clauses ++ ([] ∷ []) → list_at clauses' s ≡ list_at clauses s
-slot-pushed clauses clauses' s pushed = ap (λ xs. list_at xs s) pushed ∙ push-default clauses s []

@@ -1,7 +1,6 @@
 -- Literals, coded, and their truth.
-use Rattle.pb_propagate.proofs.Common.{ℕ, ◌*◌, ◌+◌, ◌/◌, ◌≡◌, arith, Bool, false, get_or, List, None, true, ◌%◌, ◌==◌, Option, Some, nat_tests}
-use Rattle.pb_propagate.proofs.Common.{is_failed, is_met}
-use Rattle.pb_propagate.specs.engine.Clauses.Truths.{flip, true_at, false_at}
+use Rattle.pb_propagate.proofs.Common.{ℕ, ◌*◌, ◌+◌, ◌/◌, ◌≡◌, arith, nat_tests}
+use Rattle.pb_propagate.specs.engine.Clauses.Truths.{flip}
 
 pub flip-half : (c : ℕ) → flip c / 2 ≡ c / 2
 unfolding flip
@@ -27,15 +26,3 @@ flip-even s = grind (arith, nat_tests)
 pub same-slot : (a b : ℕ) → a / 2 ≡ b / 2 → (a ≡ b → ⊥) → a ≡ flip b
 unfolding flip
 same-slot a b = grind (arith, nat_tests)
-
-met-failed : (o : Option Bool) (p : Bool) → is_met o p ≡ true → is_failed o p ≡ true → ⊥
-met-failed None p h k = cc
-met-failed (Some true) true h k = cc
-met-failed (Some true) false h k = cc
-met-failed (Some false) true h k = cc
-met-failed (Some false) false h k = cc
-
--- no literal is both true and falsified
-pub not_both : (values : List (Option Bool)) (c : ℕ) → true_at values c ≡ true → false_at values c ≡ true → ⊥
-unfolding true_at false_at
-not_both values c h k = met-failed (get_or values (c / 4) None) (c % 2 == 0) h k

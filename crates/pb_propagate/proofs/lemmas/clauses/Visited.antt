@@ -42,16 +42,16 @@ module _ (c : Clauses) (values : List (Option Bool)) (l index e other : ℕ) (fr
   visiting : Visiting values (all_turned s.run.starts c.blocks.literals) (passed_of c) c.blocks.watches (watch_lists c.lists.items) l index e other stop.passed
   visiting = visiting-by c values l index e other from stop xs s.run s.failed s.reading s.resuming sought
 
-  module _ (end : length xs ≤ stop.passed) (moved_v : Vec ℕ Global) (noted : (moved_v.items ≡ c.moved.items ++ (e / 2 ∷ [])) ⊎ ((0 < from.passed) × (moved_v.items ≡ c.moved.items))) (blocks' : Contents) (now : blocks' ≡ searched c.blocks (e / 2) stop) where
+  module _ (end : length xs ≤ stop.passed) (blocks' : Contents) (now : blocks' ≡ searched c.blocks (e / 2) stop) where
     end-at : length (list_at (all_turned s.run.starts c.blocks.literals) (e / 2)) ≤ stop.passed
     end-at = omega (arith, end, ap length s.resuming.items, turned-size s.run.starts c.blocks.literals (e / 2))
 
-    ended : IsRunning values (record { blocks = searched c.blocks (e / 2) stop; moved = moved_v; lists = c.lists })
-    ended = running-end c values l index e other from stop xs (searched c.blocks (e / 2) stop) moved_v s.run s.failed s.reading s.resuming sought end (s.round (get_or s.run.starts (e / 2) 0) begun) noted refl
+    ended : IsRunning values (record { blocks = searched c.blocks (e / 2) stop; lists = c.lists })
+    ended = running-end c values l index e other from stop xs (searched c.blocks (e / 2) stop) s.run s.failed s.reading s.resuming sought end (s.round (get_or s.run.starts (e / 2) 0) begun) refl
 
     -- all literals are falsified
-    pub visited-falsified : false_at values other ≡ true → HasVisited values c (record { blocks = blocks'; moved = moved_v; lists = c.lists }) l index Falsified
-    visited-falsified low = subst (λ (b : Contents). HasVisited values c (record { blocks = b; moved = moved_v; lists = c.lists }) l index Falsified) (sym now) (record {
+    pub visited-falsified : false_at values other ≡ true → HasVisited values c (record { blocks = blocks'; lists = c.lists }) l index Falsified
+    visited-falsified low = subst (λ (b : Contents). HasVisited values c (record { blocks = b; lists = c.lists }) l index Falsified) (sym now) (record {
       lists = refl;
       running = ended;
       served = λ walked old. old;
@@ -60,8 +60,8 @@ module _ (c : Clauses) (values : List (Option Bool)) (l index e other : ℕ) (fr
     })
 
     -- all but one are falsified
-    pub visited-forces : true_at values other ≡ false → false_at values other ≡ false → HasVisited values c (record { blocks = blocks'; moved = moved_v; lists = c.lists }) l index (Forces record { code = other; slot = e / 2 })
-    visited-forces untrue unfailed = subst (λ (b : Contents). HasVisited values c (record { blocks = b; moved = moved_v; lists = c.lists }) l index (Forces record { code = other; slot = e / 2 })) (sym now) (record {
+    pub visited-forces : true_at values other ≡ false → false_at values other ≡ false → HasVisited values c (record { blocks = blocks'; lists = c.lists }) l index (Forces record { code = other; slot = e / 2 })
+    visited-forces untrue unfailed = subst (λ (b : Contents). HasVisited values c (record { blocks = b; lists = c.lists }) l index (Forces record { code = other; slot = e / 2 })) (sym now) (record {
       lists = refl;
       running = ended;
       served = λ walked old. old;
@@ -74,7 +74,7 @@ module _ (c : Clauses) (values : List (Option Bool)) (l index e other : ℕ) (fr
     })
 
   -- the watch has moved
-  module _ (less : stop.passed < length xs) (moved_v : Vec ℕ Global) (noted : (moved_v.items ≡ c.moved.items ++ (e / 2 ∷ [])) ⊎ ((0 < from.passed) × (moved_v.items ≡ c.moved.items))) (next : Search) (round : IsRound (get_or s.run.starts (e / 2) 0) next (length xs)) (one : next.passed ≡ stop.passed + 1)
+  module _ (less : stop.passed < length xs) (next : Search) (round : IsRound (get_or s.run.starts (e / 2) 0) next (length xs)) (one : next.passed ≡ stop.passed + 1)
       (lists' : Vec (Vec Listed Global) Global) (b1 b2 : Contents) (now : b1 ≡ searched c.blocks (e / 2) next) (after : b2 ≡ rewatched b1 b2.watches) (linked : AreLinked b2.watches (watch_lists lists'.items)) (literal : (watch_at b2.watches e).literal ≡ get_or xs stop.position 0) (live : (watch_at b2.watches e).live ≡ true)
       (others : (k : ℕ) → (k ≡ e → ⊥) → Remains index (watch_at b1.watches k) (watch_at b2.watches k)) (count : length b2.watches ≡ length b1.watches) (sizes : length lists'.items ≡ length c.lists.items) (more : AreMore (record { watch = e; blocker = other }) c.lists.items lists'.items) where
     whole : b2 ≡ rewatched (searched c.blocks (e / 2) next) b2.watches
@@ -94,10 +94,10 @@ module _ (c : Clauses) (values : List (Option Bool)) (l index e other : ℕ) (fr
       lists = lists-length lists'.items ∙ sizes ∙ sym (lists-length c.lists.items);
     }
 
-    pub visited-leaves : length (list_at (watch_lists lists'.items) l) + 1 ≡ length (list_at (watch_lists c.lists.items) l) → HasVisited values c (record { blocks = b2; moved = moved_v; lists = lists' }) l index Leaves
-    visited-leaves shorter = subst (λ (b : Contents). HasVisited values c (record { blocks = b; moved = moved_v; lists = lists' }) l index Leaves) (sym whole) (record {
+    pub visited-leaves : length (list_at (watch_lists lists'.items) l) + 1 ≡ length (list_at (watch_lists c.lists.items) l) → HasVisited values c (record { blocks = b2; lists = lists' }) l index Leaves
+    visited-leaves shorter = subst (λ (b : Contents). HasVisited values c (record { blocks = b; lists = lists' }) l index Leaves) (sym whole) (record {
       lists = sizes;
-      running = running-move c values l index e other from stop next xs b2.watches moved_v lists' s.run s.failed s.reading s.resuming sought round one noted sizes more shifted;
+      running = running-move c values l index e other from stop next xs b2.watches lists' s.run s.failed s.reading s.resuming sought round one sizes more shifted;
       served = λ walked old. served-move values c.blocks.literals (all_turned s.run.starts c.blocks.literals) (passed_of c) c.blocks.watches b2.watches (watch_lists c.lists.items) (watch_lists lists'.items) l index e other stop.passed walked visiting shifted old;
       found = shorter;
       kept = λ k live failed.
@@ -109,19 +109,18 @@ module _ (c : Clauses) (values : List (Option Bool)) (l index e other : ℕ) (fr
   sought-round next less position passed = round-next (get_or s.run.starts (e / 2) 0) stop next (length xs) (s.round (get_or s.run.starts (e / 2) 0) begun) less position passed
 
 -- an entry has another blocker, a literal of its clause
-pub running-blocked : (c : Clauses) (values : List (Option Bool)) (entry : Listed) (lists' : Vec (Vec Listed Global) Global) → IsRunning values c → watch_lists lists'.items ≡ watch_lists c.lists.items → AreMore entry c.lists.items lists'.items → Contains (list_at c.blocks.literals (entry.watch / 2)) entry.blocker → IsRunning values (record { blocks = c.blocks; moved = c.moved; lists = lists' })
+pub running-blocked : (c : Clauses) (values : List (Option Bool)) (entry : Listed) (lists' : Vec (Vec Listed Global) Global) → IsRunning values c → watch_lists lists'.items ≡ watch_lists c.lists.items → AreMore entry c.lists.items lists'.items → Contains (list_at c.blocks.literals (entry.watch / 2)) entry.blocker → IsRunning values (record { blocks = c.blocks; lists = lists' })
 running-blocked c values entry lists' run same more here = record {
   starts = run.starts;
   stored = subst (AreStored c.blocks.literals c.blocks.watches) (sym same) run.stored;
   blocked = blocked-more c.blocks.literals entry c.lists.items lists'.items more here run.blocked;
   passed = run.passed;
   round = run.round;
-  noted = run.noted;
   sizes = omega (arith, run.sizes, lists-length c.lists.items, lists-length lists'.items, ap length same);
 }
 
 -- a true literal of the clause was read
-pub visited-stays : (c : Clauses) (values : List (Option Bool)) (l index e x : ℕ) (lists' : Vec (Vec Listed Global) Global) → IsRunning values (record { blocks = c.blocks; moved = c.moved; lists = lists' }) → watch_lists lists'.items ≡ watch_lists c.lists.items → slice_get (list_at (watch_lists c.lists.items) l) index ≡ Some e → Contains (list_at c.blocks.literals (e / 2)) x → true_at values x ≡ true → HasVisited values c (record { blocks = c.blocks; moved = c.moved; lists = lists' }) l index Stays
+pub visited-stays : (c : Clauses) (values : List (Option Bool)) (l index e x : ℕ) (lists' : Vec (Vec Listed Global) Global) → IsRunning values (record { blocks = c.blocks; lists = lists' }) → watch_lists lists'.items ≡ watch_lists c.lists.items → slice_get (list_at (watch_lists c.lists.items) l) index ≡ Some e → Contains (list_at c.blocks.literals (e / 2)) x → true_at values x ≡ true → HasVisited values c (record { blocks = c.blocks; lists = lists' }) l index Stays
 visited-stays c values l index e x lists' run same item here met = record {
   lists = omega (arith, lists-length c.lists.items, lists-length lists'.items, ap length same);
   running = run;

@@ -6,6 +6,7 @@ use Rattle.pb_propagate.proofs.Common.{HasTrue, HasVisited, index_after, IsRunni
 use Rattle.pb_propagate.proofs.Common.{Progress, visited_to, VisitsEach}
 use Rattle.pb_propagate.specs.declared.clauses.visiting.Forced.{Forced}
 use Rattle.pb_propagate.specs.declared.clauses.visiting.Visit.{Visit}
+use Rattle.pb_propagate.specs.engine.Clauses.Runs.{IsServedTo}
 use Rattle.pb_propagate.proofs.lemmas.engine.Literals.{has-push_old, has-push_new}
 use Rattle.pb_propagate.proofs.lemmas.clauses.Literals.{Agree, true-listed, false-listed}
 use Rattle.pb_propagate.proofs.lemmas.clauses.Steps.{served-true}
@@ -62,7 +63,6 @@ running-grow c old new sizes g r = record {
     ];
   };
   round = r.round;
-  noted = r.noted;
   sizes = r.sizes ∙ ap (λ n. 4 * n) (sym sizes);
 }
 
@@ -121,6 +121,20 @@ walking-next {c0} {c} {l} {index} {start} {now} c' r seen w v literals within vi
   grows = w.grows;
   kept = kept-then start.values now.values c0 c c' w.grows w.kept v.kept;
   found = λ few. let more = visit.counted few in let old = w.found (omega (arith, few, more)) in omega (arith, old, more);
+}
+
+-- watches that are passed
+pub walking-pass : {c0 c : Clauses} {l index : ℕ} {start now : Progress} (j seen : ℕ) → IsWalking c0 c l index start now → j ≤ length (list_at (watch_lists c.lists.items) l) → ((walked : List ℕ) → IsServedTo now.values c walked l index → IsServedTo now.values c walked l j) → now.visits ≤ seen → IsWalking c0 c l j start (visited_to seen now)
+walking-pass {c0} {c} {l} {index} {start} {now} j seen w within served rising = record {
+  literals = w.literals;
+  sizes = w.sizes;
+  running = w.running;
+  failed = w.failed;
+  within = within;
+  served = λ walked s. served walked (w.served walked s);
+  grows = w.grows;
+  kept = w.kept;
+  found = λ few. let old = w.found (omega (arith, few, rising)) in omega (arith, old, rising);
 }
 
 -- a visit, and the literal that it forces

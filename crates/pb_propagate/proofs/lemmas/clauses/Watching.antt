@@ -45,10 +45,6 @@ ready-running c values r sizes = record {
     each = λ s k d h. absurd (omega (arith, h, r.none s));
   };
   round = λ s some. ready-round c.blocks.searches s (length (list_at c.blocks.literals s)) (sym (passed-at c.blocks.searches s) ∙ r.none s) (r.inside s some);
-  noted = record {
-    noted = λ s. inl (r.none s);
-    named = λ k d h. absurd (omega (arith, h, ap length r.trail));
-  };
   sizes = sizes;
 }
 

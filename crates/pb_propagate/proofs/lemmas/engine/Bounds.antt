@@ -1,12 +1,10 @@
 -- The number of visits of a propagation, in terms of the live forms.
-use Rattle.pb_propagate.proofs.Common.{ℕ, ◌+◌, ◌<◌, ◌∙◌, ◌∷◌, ◌≡◌, ◌≤◌, [], ap, arith, false, get_or, get_or-set_other}
-use Rattle.pb_propagate.proofs.Common.{length, List, map, None, refl, set, subst, suc, sym, true, zero, Option, slice_get, Some, sum_by}
-use Rattle.pb_propagate.proofs.Common.{length-map, length_permutation, sum_by-cons, sum_by-set, Form, StoredForm, list_at}
-use Rattle.pb_propagate.proofs.Common.{AreJoined, joined, one_term, slot_shape, shapes_of, stored_shape, entry_of, Shape, one_in, terms_in}
-use Rattle.pb_propagate.proofs.Common.{AreSlots, IsSlot, waits, form_at, IsAbsent, get_or-map, slice_get_within}
+use Rattle.pb_propagate.proofs.Common.{ℕ, ◌+◌, ◌<◌, ◌∙◌, ◌∷◌, ◌≡◌, ◌≤◌, [], ap, arith, false, get_or, get_or-set_other, length, List, map, None, refl}
+use Rattle.pb_propagate.proofs.Common.{set, suc, sym, true, zero, Option, slice_get, Some, sum_by, length-map, length_permutation, sum_by-cons}
+use Rattle.pb_propagate.proofs.Common.{sum_by-set, Form, list_at, AreJoined, joined, one_term, slot_shape, entry_of, Shape, one_in, terms_in}
+use Rattle.pb_propagate.proofs.Common.{AreSlots, IsSlot, form_at, IsAbsent, get_or-map, slice_get_within}
 use Rattle.pb_propagate.proofs.lemmas.store.Options.{some-one}
 use Rattle.pb_propagate.proofs.lemmas.store.Seats.{AreSeated, absent-get}
-use Rattle.pb_propagate.proofs.lemmas.clauses.Slots.{joined-none}
 
 -- the terms of the stored forms are those of the live ones
 slot-terms : (o : Option Form) (x : Shape) → IsSlot o x → length x.terms ≡ terms_in o
@@ -38,26 +36,6 @@ terms-both (x ∷ xs) (codes ∷ clauses) short bare =
 
 pub joined-terms : (xs : List Shape) (clauses : List (List ℕ)) → AreJoined xs clauses → sum_by (λ f. length f.terms) (joined xs clauses) ≡ sum_by (λ f. length f.terms) xs + sum_by length clauses
 joined-terms xs clauses j = terms-both xs clauses j.short j.apart
-
--- a form that may propagate with nothing assigned is in its slot
-pub waits-form : (os : List (Option Form)) (keep : List StoredForm) (clauses : List (List ℕ)) (s : ℕ) → AreSlots os (joined (shapes_of keep) clauses) → waits keep s ≡ true → (f : Form) × (form_at os s ≡ Some f)
-waits-form os [] clauses s a w = absurd (let e : false ≡ true = w in cc)
-waits-form [] (k ∷ ks) [] s a w = absurd (let e : true ≡ false = a in cc)
-waits-form [] (k ∷ ks) (codes ∷ clauses) s a w = absurd (let e : true ≡ false = a in cc)
-waits-form (o ∷ os) (k ∷ ks) [] (suc s) a w = waits-form os ks [] s (subst (AreSlots os) (sym (joined-none (shapes_of ks))) a.1) w
-waits-form (o ∷ os) (k ∷ ks) (codes ∷ clauses) (suc s) a w = waits-form os ks clauses s a.1 w
-waits-form (o ∷ os) (k ∷ ks) [] zero a w = its o [] a.0 w
-  where
-    its : (p : Option Form) (codes : List ℕ) → IsSlot p (slot_shape (stored_shape k) codes) → k.eager ≡ true → (f : Form) × (p ≡ Some f)
-    its (Some f) codes e eager = (f, refl)
-    its None [] e eager = absurd (let some = k.busy eager in omega (arith, some, ap length e.0, e.1))
-    its None (x ∷ codes) e eager = absurd (omega (arith, ap length e.0, length-map (x ∷ codes) one_term))
-waits-form (o ∷ os) (k ∷ ks) (codes ∷ clauses) zero a w = its o codes a.0 w
-  where
-    its : (p : Option Form) (xs : List ℕ) → IsSlot p (slot_shape (stored_shape k) xs) → k.eager ≡ true → (f : Form) × (p ≡ Some f)
-    its (Some f) xs e eager = (f, refl)
-    its None [] e eager = absurd (let some = k.busy eager in omega (arith, some, ap length e.0, e.1))
-    its None (x ∷ xs) e eager = absurd (omega (arith, ap length e.0, length-map (x ∷ xs) one_term))
 
 -- a form is in one of the slots
 pub form-inside : (os : List (Option Form)) (n : ℕ) (f : Form) → form_at os n ≡ Some f → n < length os

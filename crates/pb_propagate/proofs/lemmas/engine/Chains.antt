@@ -1,7 +1,6 @@
 -- Lists of free slots, of which one is changed.
-use Rattle.pb_propagate.proofs.Common.{ℕ, ◌++◌, ◌<◌, ◌∷◌, ◌≡◌, [], arith, Contains, get_or}
-use Rattle.pb_propagate.proofs.Common.{get_or-set_other, get_or_append_left, length, length-append, length-set, List, set, subst, suc, sym}
-use Rattle.pb_propagate.proofs.Common.{cases_lt, get_or-set_same, get_or_past, inl, inr}
+use Rattle.pb_propagate.proofs.Common.{ℕ, ◌++◌, ◌<◌, ◌∷◌, ◌≡◌, [], arith, Contains, get_or, get_or-set_other, get_or_append_left, length}
+use Rattle.pb_propagate.proofs.Common.{length-append, length-set, List, set, subst, suc, sym, cases_lt, get_or-set_same, get_or_past, inl, inr}
 use Rattle.std.proofs.lemmas.List.{get_or-replicate, length-replicate}
 use Rattle.std.specs.Prelude.{replicate}
 use Rattle.pb_propagate.specs.declared.free.Free.{Free}

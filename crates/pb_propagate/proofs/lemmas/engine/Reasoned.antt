@@ -85,11 +85,8 @@ recorded old new list l reason absent opened is k s on at =
     let apart = λ (e : k.variable ≡ l.variable). both_ways _ (has-neither list l k absent opened e) on in
     ap (λ xs. slice_get xs k.variable) is ∙ get-set_other old l.variable k.variable reason apart ∙ at
 
-pub run-records : (reason : ℕ) (l : NumberedLiteral) (old new : Run) → has (list_of old) l ≡ false → has (list_of old) (negation l) ≡ false → l.variable < length (reasons_of old) → reasons_of new ≡ set (reasons_of old) l.variable reason → RunRecords reason l old new
-run-records reason l old new absent opened inside is = record {
-  kept = recorded (reasons_of old) (reasons_of new) (list_of old) l reason absent opened is;
-  reason = λ a o. ap (λ xs. slice_get xs l.variable) is ∙ get-set_same (reasons_of old) l.variable reason inside;
-}
+pub run-records : (reason : ℕ) (l : NumberedLiteral) (old new : Run) → has (list_of old) l ≡ false → has (list_of old) (negation l) ≡ false → l.variable < length (reasons_of old) → reasons_of new ≡ set (reasons_of old) l.variable reason → KeepsReasons (list_of old) (reasons_of old) (reasons_of new) × RunRecords reason l old new
+run-records reason l old new absent opened inside is = (recorded (reasons_of old) (reasons_of new) (list_of old) l reason absent opened is, λ a o. ap (λ xs. slice_get xs l.variable) is ∙ get-set_same (reasons_of old) l.variable reason inside)
 
 -- a literal whose reason is a slot has a term of its constraint
 pub record IsDueTerm (forms : List Shape) (slot : ℕ) (l : NumberedLiteral) : Type 0 where

@@ -1,12 +1,9 @@
 -- The engine between two calls: what a call finds, and what it leaves.
-use Rattle.pb_propagate.proofs.Common.{ℕ, ◌++◌, ◌-◌, ◌<◌, ◌∙◌, ◌∷◌, ◌≡◌, ◌⊎◌, [], ap, arith, false, get_or, inl, inr, length}
-use Rattle.pb_propagate.proofs.Common.{length-append, List, map, None, refl, set, subst, suc, sym, take, true, zero, All, Contains, Option}
-use Rattle.pb_propagate.proofs.Common.{slice_get, Some, take-append_seam, get_or-map}
-use Rattle.pb_propagate.proofs.Common.{length-map, map-append, Contains-append_left, Contains-push_cases, same_Some, Entry, Form}
-use Rattle.pb_propagate.proofs.Common.{opposite, StoredForm, AreJoined, IsCalm}
-use Rattle.pb_propagate.proofs.Common.{HasEntered, shapes_of, stored_shape, IsStoredAs, Shape, size, Live, AreAtRest, AreSlots, IsEager, IsSlot}
-use Rattle.pb_propagate.proofs.Common.{kept_waits, With}
-use Rattle.pb_propagate.proofs.lemmas.engine.Rested.{IsEager as IsCalmBut}
+use Rattle.pb_propagate.proofs.Common.{ℕ, ◌++◌, ◌-◌, ◌<◌, ◌∙◌, ◌∷◌, ◌≡◌, ◌⊎◌, [], ap, arith, false, get_or, inl, inr, length, length-append, List}
+use Rattle.pb_propagate.proofs.Common.{map, None, refl, set, subst, suc, sym, take, true, zero, All, Contains, Option, slice_get, Some}
+use Rattle.pb_propagate.proofs.Common.{take-append_seam, get_or-map, length-map, map-append, Contains-append_left, Contains-push_cases, same_Some}
+use Rattle.pb_propagate.proofs.Common.{Entry, Form, opposite, StoredForm, AreJoined, HasEntered, shapes_of, stored_shape, IsStoredAs, Shape, Live}
+use Rattle.pb_propagate.proofs.Common.{AreSlots, IsSlot, With}
 use Rattle.pb_propagate.proofs.lemmas.engine.Bridge.{AreKept}
 use Rattle.pb_propagate.proofs.lemmas.store.Gets.{last-is}
 use Rattle.pb_propagate.proofs.lemmas.clauses.Slots.{AreJoined-push}
@@ -22,33 +19,6 @@ element (x ∷ xs) zero h = record { value = x; at = λ d. refl; got = refl }
 element (x ∷ xs) (suc s) h =
     let e = element xs s (omega (arith, h)) in
     record { value = e.value; at = e.at; got = e.got }
-
--- at rest each form is as it was made
-pub rest-at : (keep : List StoredForm) (opens cands : List ℕ) → AreAtRest keep opens cands → (s : ℕ) (d : Shape) → s < length keep → (get_or opens s 0 ≡ size (get_or (shapes_of keep) s d).terms) × (get_or cands s 0 ≡ 0)
-rest-at keep opens cands r s d inside =
-    let e = element keep s inside in
-    let k = e.value in
-    let opened : get_or opens s 0 ≡ k.total = ap (λ (xs : List ℕ). get_or xs s 0) r.opened ∙ get_or-map (λ (x : StoredForm). x.total) keep s k 0 inside ∙ ap (λ (x : StoredForm). x.total) (e.at k) in
-    let passed : get_or cands s 0 ≡ 0 = ap (λ (xs : List ℕ). get_or xs s 0) r.passed ∙ get_or-map (λ (x : StoredForm). 0) keep s k 0 inside in
-    let shape : get_or (shapes_of keep) s d ≡ stored_shape k = get_or-map stored_shape keep s k d inside ∙ ap stored_shape (e.at k) in
-    (opened ∙ k.sum ∙ sym (ap (λ (f : Shape). size f.terms) shape), passed)
-
-pub rest-lengths : (keep : List StoredForm) (opens cands : List ℕ) → AreAtRest keep opens cands → (length opens ≡ length keep) × (length cands ≡ length keep)
-rest-lengths keep opens cands r = (ap length r.opened ∙ length-map keep (λ (k : StoredForm). k.total), ap length r.passed ∙ length-map {B = ℕ} keep (λ (k : StoredForm). 0))
-
--- a form that does not wait is calm
-pub calm-but : (keep : List StoredForm) (work : List ℕ) → IsEager keep work → IsCalmBut (shapes_of keep) work
-calm-but keep work e = record {
-  named = λ i d h. let named = e.named i d h in omega (arith, named, length-map keep stored_shape);
-  aside = λ s d less gone.
-      let inside : s < length keep = omega (arith, less, length-map keep stored_shape) in
-      let x = element keep s inside in
-      let k = x.value in
-      let idle : k.eager ≡ false = sym (ap kept_waits x.got) ∙ e.aside s inside gone in
-      let shape : get_or (shapes_of keep) s d ≡ stored_shape k = get_or-map stored_shape keep s k d inside ∙ ap stored_shape (x.at k) in
-      let calm : IsCalm (stored_shape k) (size (stored_shape k).terms) 0 = rw k.sum at k.aside idle in
-      rw shape calm;
-}
 
 pub slots-more : (os : List (Option Form)) (xs : List Shape) (p : Option Form) (x : Shape) → AreSlots os xs → IsSlot p x → AreSlots (os ++ (p ∷ [])) (xs ++ (x ∷ []))
 slots-more [] [] p x a k = (k, tt)

@@ -2,7 +2,7 @@
 use Rattle.pb_propagate.proofs.Common.{ℕ, ◌++◌, ◌+◌, ◌<◌, ◌∙◌, ◌∷◌, ◌≡◌, ◌≤◌, ◌⊎◌, [], ap, arith, Bool, drop, false, get_or, get_or-set_other}
 use Rattle.pb_propagate.proofs.Common.{get_or-set_same, inl, inr, length, length-append, length-set, List, min, None, not, refl, set, subst, suc, sym}
 use Rattle.pb_propagate.proofs.Common.{take, true, zero, Option, Some, sum_by, both_ways, cases_Bool, cases_eq, cases_lt, length-take-le, set_past}
-use Rattle.pb_propagate.proofs.Common.{take_all, take_min, take_more, sum_by-set, NumberedLiteral, negation, has, holds, vacancy}
+use Rattle.pb_propagate.proofs.Common.{take_all, take_more, sum_by-set, NumberedLiteral, negation, has, holds, vacancy}
 use Rattle.pb_propagate.specs.engine.Engine.Lists.{says}
 use Rattle.pb_propagate.proofs.lemmas.engine.Literals.{literal_ext, has-push_old, has-push_new, has-push_cases}
 use Rattle.pb_propagate.proofs.lemmas.engine.Values.{Agree, Forgotten, says-none, says-inside, opposite, forget-next, forget-none, vacancy-none}
@@ -101,16 +101,6 @@ pub record IsCut (values0 : List (Option Bool)) (list0 : List NumberedLiteral) (
   pub within : length list ≤ length list0
   pub enough : min count (length list0) ≤ length list
 
-pub cut-start : (values : List (Option Bool)) (list : List NumberedLiteral) (count : ℕ) → Agree values list → length list + sum_by vacancy values ≡ length values → IsCut values list count values list
-cut-start values list count a room = record {
-  agrees = a;
-  room = room;
-  sizes = refl;
-  first = sym (take_all (length list) list (omega arith));
-  within = omega arith;
-  enough = omega arith;
-}
-
 take-take : {X : Type 0} (m n : ℕ) (xs : List X) → m ≤ n → take m (take n xs) ≡ take m xs
 take-take zero n [] h = refl
 take-take zero zero (x ∷ xs) h = refl
@@ -142,8 +132,3 @@ cut-next values0 list0 count values list n l more e is c =
       within = omega (arith, short, e, c.within);
       enough = omega (arith, short, e, more);
     }
-
-pub cut-end : (values0 : List (Option Bool)) (list0 : List NumberedLiteral) (count : ℕ) (values : List (Option Bool)) (list : List NumberedLiteral) → length list ≤ count → IsCut values0 list0 count values list → list ≡ take count list0
-cut-end values0 list0 count values list short c =
-    let size : length list ≡ min count (length list0) = omega (arith, short, c.within, c.enough) in
-    c.first ∙ ap (λ k. take k list0) size ∙ take_min count list0

@@ -2,8 +2,7 @@
 use Rattle.pb_propagate.proofs.Common.{ℕ, ◌++◌, ◌||◌, ◌∙◌, ◌∷◌, ◌≡◌, ◌≤◌, [], ap, arith, Bool, cond, drop, false, get_or, length, List, map, refl}
 use Rattle.pb_propagate.proofs.Common.{subst, sym, take, true, ◌==◌, count_by, both_ways, append-nil, append_assoc, map-append, take-append-drop}
 use Rattle.pb_propagate.proofs.Common.{sum_by-append, sum_by-cons, NumberedLiteral, negation, Long, Short, Heads, fallen, falsified_code, killed}
-use Rattle.pb_propagate.proofs.Common.{place, spent, begin, Derives, Extends, IsWithin, put, reached, same, Shape, Weighted}
-use Rattle.pb_propagate.proofs.Common.{list_any, list_any-append, or_left}
+use Rattle.pb_propagate.proofs.Common.{place, spent, Extends, IsWithin, reached, same, Weighted, list_any, list_any-append, or_left}
 use Rattle.pb_propagate.specs.engine.Clauses.Walked.{has}
 use Rattle.pb_propagate.specs.engine.Engine.Lists.{has as listed}
 
@@ -24,10 +23,6 @@ extends-then a b c (r, e) (s, f) = (r ++ s, f ∙ ap (λ xs. xs ++ s) e ∙ appe
 
 pub extends-one : (a b : List NumberedLiteral) (l : NumberedLiteral) → b ≡ a ++ (l ∷ []) → Extends a b
 extends-one a b l e = (l ∷ [], e)
-
-pub derives-extends : (forms : List Shape) (a b : List NumberedLiteral) → Derives forms a b → Extends a b
-derives-extends forms a _ begin = extends-none a
-derives-extends forms a _ (put {list} l d m) = extends-then a list (list ++ (l ∷ [])) (derives-extends forms a list d) (extends-one list (list ++ (l ∷ [])) l refl)
 
 pub spent-extends : (lists : List (List Weighted)) (a b : List NumberedLiteral) → Extends a b → spent lists a ≤ spent lists b
 spent-extends lists a b (r, e) = omega (arith, ap (spent lists) e, sum_by-append (λ l. length (get_or lists (place (negation l)) [])) a r)

@@ -1,6 +1,6 @@
 -- Open sums under the values of some literals.
-use Rattle.pb_propagate.proofs.Common.{ℕ, ◌+◌, ◌<◌, ◌∙◌, ◌∷◌, ◌≡◌, ◌≤◌, [], ap, arith, Bool, false, get_or, length, List, None, not, refl, sym, take}
-use Rattle.pb_propagate.proofs.Common.{true, Option, Some, take_all, sum_by_more, sum_by_more_le, beq, NumberedLiteral, negation, Term, open_part}
+use Rattle.pb_propagate.proofs.Common.{ℕ, ◌+◌, ◌<◌, ◌∙◌, ◌≡◌, ◌≤◌, ap, arith, Bool, false, get_or, length, List, None, not, refl, sym, take}
+use Rattle.pb_propagate.proofs.Common.{true, Option, Some, sum_by_more, sum_by_more_le, beq, NumberedLiteral, negation, Term, open_part}
 use Rattle.pb_propagate.proofs.Common.{open_sum, says, size}
 use Rattle.pb_propagate.proofs.lemmas.engine.Literals.{open_part-falsified, open_part-open}
 use Rattle.pb_propagate.proofs.lemmas.engine.Values.{Agree, says-some}
@@ -15,16 +15,6 @@ beq-flipped false false = refl
 pub falsified-some : (values : List (Option Bool)) (l : NumberedLiteral) (m : Bool) → get_or values l.variable None ≡ Some m → says values (negation l) ≡ beq m l.negated
 falsified-some values l m h = says-some values (negation l) m h ∙ beq-flipped m l.negated
 
-beq-other : (m n : Bool) → beq (not m) n ≡ not (beq m n)
-beq-other true true = refl
-beq-other true false = refl
-beq-other false true = refl
-beq-other false false = refl
-
--- a literal is true if its variable has its value
-pub true-some : (values : List (Option Bool)) (l : NumberedLiteral) (m : Bool) → get_or values l.variable None ≡ Some m → says values l ≡ not (beq m l.negated)
-true-some values l m h = says-some values l m h ∙ beq-other m l.negated
-
 -- what a term adds
 pub part-none : (values : List (Option Bool)) (list : List NumberedLiteral) (t : Term) → Agree values list → says values (negation t.literal) ≡ true → 0 ≡ open_part list t
 part-none values list t a h = sym (open_part-falsified list t (a (negation t.literal) ∙ h))
@@ -36,16 +26,6 @@ part-whole values list t a h = sym (open_part-open list t (a (negation t.literal
 pub record IsSummed (values : List (Option Bool)) (terms : List Term) (i sum : ℕ) : Type 0 where
   pub each : (list : List NumberedLiteral) → Agree values list → sum ≡ open_sum list (take i terms)
   pub small : sum ≤ size (take i terms)
-
-nothing-taken : (terms : List Term) → take 0 terms ≡ []
-nothing-taken [] = refl
-nothing-taken (t ∷ terms) = refl
-
-pub summed-start : (values : List (Option Bool)) (terms : List Term) → IsSummed values terms 0 0
-summed-start values terms = record {
-  each = λ list a. sym (ap (open_sum list) (nothing-taken terms));
-  small = omega arith;
-}
 
 pub summed-next : (values : List (Option Bool)) (terms : List Term) (i sum part : ℕ) (t : Term) → i < length terms → t ≡ get_or terms i t → ((list : List NumberedLiteral) → Agree values list → part ≡ open_part list t) → part ≤ t.coefficient → IsSummed values terms i sum → IsSummed values terms (i + 1) (sum + part)
 summed-next values terms i sum part t inside is open_here small s = record {
@@ -63,6 +43,3 @@ pub summed-fits : (values : List (Option Bool)) (terms : List Term) (i sum part 
 summed-fits values terms i sum part t inside is small s =
     let most = sum_by_more_le (λ (x : Term). x.coefficient) terms i t inside in
     omega (arith, most, s.small, small, ap (λ (x : Term). x.coefficient) is)
-
-pub summed-end : (values : List (Option Bool)) (terms : List Term) (i sum : ℕ) (list : List NumberedLiteral) → length terms ≤ i → Agree values list → IsSummed values terms i sum → sum ≡ open_sum list terms
-summed-end values terms i sum list end a s = s.each list a ∙ ap (open_sum list) (take_all i terms end)

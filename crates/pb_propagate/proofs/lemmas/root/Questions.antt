@@ -3,10 +3,14 @@ use Rattle.pb_propagate.proofs.Common.{ℕ, ◌*◌, ◌++◌, ◌+◌, ◌-◌,
 use Rattle.pb_propagate.proofs.Common.{length, length-append, List, map, refl, set, suc, sym, take, Vec, zero, sum, sum_by, cases_eq, cases_lt}
 use Rattle.pb_propagate.proofs.Common.{ext_get_or, get_or_append_left, get_or_default, get_or_past, get_or_push, length-map, length-take, map-append}
 use Rattle.pb_propagate.proofs.Common.{take-append-drop, take_all, Contains-append_left, length_permutation, sum_by-append, sum_by-cons}
-use Rattle.pb_propagate.proofs.Common.{NumberedLiteral, Form, negation, Long, Short, Clauses, Heads, heads_at, reached, Rests, Run, Occurrence, Store, StoredForm, all_of}
+use Rattle.pb_propagate.proofs.Common.{NumberedLiteral, Form, negation, Long, Short, Clauses, Heads, heads_at, reached, Rests, Run, Occurrence, Store, StoredForm}
 use Rattle.pb_propagate.proofs.Common.{AreJoined, clauses_of, code_in, joined, fallen, AreFound, AreSingle, beside, Grown, IsCalm, IsCounted, IsTidy}
 use Rattle.pb_propagate.proofs.Common.{IsUndone, place, rest_open, spent, AreLonger, entries_of, HasEntered, IsSound, lists_of, shapes_of, spots_of}
 use Rattle.pb_propagate.proofs.Common.{stored_shape, entry_of, IsStoredAs, weighted, Derives, Extends, open_sum, Shape, size, RunPays, RunSpends}
+use Rattle.pb_propagate.proofs.Common.{UpdateCosts, list_of, values_of}
+use Rattle.pb_propagate.specs.declared.engine.root.Root.{Root}
+use Rattle.pb_propagate.specs.engine.Engine.Root.{IsStanding, terms_of_all}
+use Rattle.pb_propagate.proofs.lemmas.engine.Reasoned.{reasons-derive}
 use Rattle.pb_propagate.proofs.lemmas.engine.Values.{opposite}
 use Rattle.pb_propagate.proofs.lemmas.clauses.Killed.{IsOneSided, risen, killed-both}
 use Rattle.pb_propagate.proofs.lemmas.engine.Bounds.{joined-terms}
@@ -190,10 +194,12 @@ spent-longer forms forms' occ occ' (l ∷ list) h =
     count-at fs (x ∷ xs) (suc n) = count-at fs xs n
 
 -- the number of visits, if only the forms that wait were visited
-pub updated-most : (store : Store) (clauses : Clauses) (rests : Rests) (waiting : List ℕ) (from : Heads) (old new : Run) → IsSound store → AreJoined (shapes_of store.stored.items) (clauses_of clauses) → Derives (all_of store clauses) [] old.assignment.list.items → old.work.items ≡ [] → old.visits ≡ length old.assignment.list.items →
-    RunSpends store rests clauses from waiting old new → new.visits ≤ 3 * sum_by (λ (f : Shape). length f.terms) (all_of store clauses) + length waiting
-updated-most store clauses rests waiting from old new sound j d work visits s =
-    question-most store (clauses_of clauses) old.assignment.list.items new.assignment.list.items new.visits (length waiting) (sum new.candidates.items) sound j s.single (λ l on. opposite new.assignment.values.items new.assignment.list.items l new.assignment.agrees on) s.extends d s.bounded (omega (arith, s.upper, visits, ap length work))
+pub updated-most : {store : Store} {clauses : Clauses} {old new : Root} → IsStanding store clauses old → old.run.visits ≡ length (list_of old.run) → UpdateCosts store clauses old new → new.run.visits ≤ 3 * terms_of_all store clauses + length old.waiting.list.items
+updated-most {store} {clauses} {old} {new} s visits costs =
+    let done = costs.ended in
+    let u = costs.spends in
+    let most = question-most store (clauses_of clauses) (list_of old.run) (list_of done) done.visits (length old.waiting.list.items) (sum done.candidates.items) s.sound s.joined u.single (λ l on. opposite (values_of done) (list_of done) l done.assignment.agrees on) u.extends (reasons-derive s.rooted.reasoned) u.bounded (omega (arith, u.upper, visits, ap length s.rooted.work)) in
+    omega (arith, most, costs.visits)
 
 -- The visits of both parts of a question: what the first has read is not paid again.
 pub both-parts : (store store' : Store) (clauses between : Clauses) (rests rests' : Rests) (waiting : List ℕ) (from : Heads) (old mid laid new : Run) (at : Heads) → at ≡ heads_at (length mid.assignment.list.items) → clauses_of between ≡ clauses_of clauses → AreLonger store.occurrences.items store'.occurrences.items → laid.assignment.list.items ≡ mid.assignment.list.items → sum laid.candidates.items ≡ sum mid.candidates.items → laid.visits ≡ mid.visits →

@@ -1,20 +1,20 @@
 -- The last literal of the root's list is taken off.
 use Rattle.pb_propagate.proofs.Common.{ℕ, ◌++◌, ◌+◌, ◌<◌, ◌∙◌, ◌∷◌, ◌≡◌, ◌≤◌, [], ap, arith, Bool, false, get_or, inl, inr, Global, length, Vec}
+use Rattle.pb_propagate.proofs.Common.{cases_eq, coefficient_at, drop, drop_more, get_or-set_other, get_or-set_same, if◌then◌else◌, take_more, set, sum_by-le-sum_by, list_of}
 use Rattle.pb_propagate.proofs.Common.{List, None, refl, subst, suc, sym, take, true, ◌==◌, Option, slice_get, Some, cases_lt, eqb-true}
 use Rattle.pb_propagate.proofs.Common.{or_cases, or_left, or_right, get_or_default, get_or_from_slice_get, get_or_past, length-map, length-append, slice_get-get_or, slice_get_within}
-use Rattle.pb_propagate.proofs.Common.{sum_by-cons, take_all, take-append-le, length-take-le, get_or-take, get_or-map, map, IsDue, Occurrence, weighted, Eager, Rests, NumberedLiteral, negation, Form, Assignment, Clauses, Store, StoredForm, Term, all_of, clauses_of}
-use Rattle.pb_propagate.proofs.Common.{IsCalm, place, weight_in, weight_on, entries_of, forms_of, IsSound, shapes_of, spots_of, stored_shape, terms_at}
+use Rattle.pb_propagate.proofs.Common.{sum_by-cons, take_all, take-append-le, get_or-map, map, Occurrence, weighted, Eager, Rests, NumberedLiteral, negation, Form, Assignment, Clauses, Store, StoredForm, Term, all_of, clauses_of}
+use Rattle.pb_propagate.proofs.Common.{IsCalm, place, weight_in, entries_of, forms_of, IsSound, shapes_of, spots_of, stored_shape, terms_at}
 use Rattle.pb_propagate.proofs.Common.{HaveReasons, open_sum, Shape, size, Weighted, AreSlots, HasForm, IsWalkedTo, from_given, by_reason}
 use Rattle.pb_propagate.specs.declared.engine.root.Root.{Root}
 use Rattle.pb_propagate.specs.engine.Engine.Counts.{entry_weight, IsDone}
 use Rattle.pb_propagate.specs.engine.Engine.Links.{term_cross}
-use Rattle.pb_propagate.specs.engine.Engine.Lists.{has}
-use Rattle.pb_propagate.specs.engine.Engine.Refreshed.{AreRefreshed, IsRefreshed}
+use Rattle.pb_propagate.specs.engine.Engine.Lists.{has, open_part}
+use Rattle.pb_propagate.specs.engine.Engine.Refreshed.{AreRefreshed, IsRefreshed, Lacks}
 use Rattle.pb_propagate.specs.engine.Engine.Root.{IsRootOf, IsSized}
 use Rattle.pb_propagate.proofs.lemmas.clauses.Slots.{slots-vacant}
-use Rattle.pb_propagate.proofs.lemmas.engine.Literals.{has-push_cases, has-get, negation-negation}
-use Rattle.pb_propagate.proofs.lemmas.engine.Runs.{open_sum-push}
-use Rattle.pb_propagate.proofs.lemmas.clauses.Watching.{has-place}
+use Rattle.pb_propagate.proofs.lemmas.engine.Literals.{has-push_cases, negation-negation}
+use Rattle.pb_propagate.proofs.lemmas.engine.Runs.{entry_weight-other, entry_weight-same, open_sum-push}
 use Rattle.pb_propagate.proofs.lemmas.engine.Puts.{entries-at, form-within, place-inside}
 use Rattle.pb_propagate.proofs.lemmas.store.Unlinks.{entry-back}
 use Rattle.pb_propagate.proofs.lemmas.store.Weights.{index-within}
@@ -37,7 +37,6 @@ refreshed-none store r sized = record {
 pub refreshed-stays : (store : Store) (b c : Root) (s : ℕ) → AreRefreshed store b c → IsRefreshed store b s → IsRefreshed store c s
 refreshed-stays store b c s next r = elim (next.each s) [
   | inl u ↦ record {
-    opened = λ d. u.opened ∙ r.opened d ∙ ap (λ (a : Assignment). open_sum a.list.items (get_or (shapes_of store.stored.items) s d).terms) (sym next.assignment);
     passed = u.passed ∙ r.passed;
     calm = λ off d k. subst (λ o. IsCalm (get_or (shapes_of store.stored.items) s d) o k) (sym u.opened) (r.calm (u.absent off) d k);
   }
@@ -147,26 +146,34 @@ pub record IsCut (old mid : Root) (first : List NumberedLiteral) : Type 0 where
 abbrev pub AllRefreshed : Store → Root → NumberedLiteral → Type 0
 AllRefreshed store r l = (j : ℕ) (e : Weighted) → slice_get (get_or (entries_of (shapes_of store.stored.items) store.occurrences.items) (place l) []) j ≡ Some e → IsRefreshed store r e.form
 
+-- the last literal of a list
+pub listed-last : (list : List NumberedLiteral) (n : ℕ) (l : NumberedLiteral) → n + 1 ≡ length list → l ≡ get_or list n l → list ≡ take n list ++ (l ∷ [])
+listed-last list n l size is =
+    let inside : n < length list = omega (arith, size) in
+    sym (take_all (n + 1) list (omega (arith, size))) ∙ take_more list n l inside ∙ ap (λ (k : NumberedLiteral). take n list ++ (k ∷ [])) (sym is)
+
+-- after the cut the open sums lack the coefficients of the literal that was falsified
+pub cut-lacks : (store : Store) (clauses : Clauses) (old mid : Root) (first : List NumberedLiteral) (l : NumberedLiteral) → old.run.assignment.list.items ≡ first ++ (l ∷ []) → has first l ≡ false → IsSound store → IsRootOf store clauses old → IsCut old mid first →
+    Lacks store mid (get_or (entries_of (shapes_of store.stored.items) store.occurrences.items) (place (negation l)) [])
+cut-lacks store clauses old mid first l listed absent sound r cut s d less =
+    let terms = (get_or (shapes_of store.stored.items) s d).terms in
+    let was = r.counted s d less (λ e. absurd (omega (arith, e, less))) in
+    let sum = open_sum-push first l absent terms in
+    let link = sound.whole.linked s d (negation l) (omega (arith, less, length-map store.stored.items stored_shape)) in
+    let same = ap (λ (v : Vec ℕ Global). get_or v.items s 0) cut.opens in
+    omega (arith, was, sum, link, same, ap (λ xs. open_sum xs terms) listed, ap (λ xs. open_sum xs terms) cut.list)
+
 pub retracted-rooted : (store : Store) (clauses : Clauses) (old mid new : Root) (first : List NumberedLiteral) (l : NumberedLiteral) → old.run.assignment.list.items ≡ first ++ (l ∷ []) → has first l ≡ false → HaveReasons (all_of store clauses) old.run.assignment.reasons.items [] first → IsSound store → AreSlots (forms_of store.stored.items) (all_of store clauses) →
-    IsRootOf store clauses old → AreRefreshed store mid new → IsCut old mid first → AllRefreshed store new l → AllRefreshed store new (negation l) → IsWalkedTo clauses first mid.walked → IsRootOf store clauses new
-retracted-rooted store clauses old mid new first l listed absent reasoned sound slots r f cut mine theirs walks = record {
+    IsRootOf store clauses old → AreRefreshed store mid new → IsCut old mid first → AllRefreshed store new l → AllRefreshed store new (negation l) → IsWalkedTo clauses first mid.walked → Lacks store new [] → IsRootOf store clauses new
+retracted-rooted store clauses old mid new first l listed absent reasoned sound slots r f cut mine theirs walks lacks = record {
   values = ap (λ (a : Assignment). length a.values.items) f.assignment ∙ cut.values ∙ r.values;
   opens = opens_same;
   starts = starts_same;
   open_sizes = f.sized.opens;
   start_sizes = f.sized.candidates;
-  counted = λ s d less apart. elim (f.each s) [
-    | inl u ↦ elim (cases_lt 0 (weight_on (negation l) (get_or shapes s d).terms)) [
-      | inl some ↦
-          let e = weight-entry s (get_or lists (place (negation l)) []) (omega (arith, some, sound.whole.linked s d (negation l) (omega (arith, less, long)))) in
-          ((subst (IsRefreshed store new) e.3 (theirs e.0 e.1 e.2)).opened d)
-      | inr none ↦
-          let was = r.counted s d less (λ e. absurd (omega (arith, e, less))) in
-          let sum = open_sum-push first l absent (get_or shapes s d).terms in
-          u.opened ∙ was-open s ∙ omega (arith, was, sum, none, ap (λ xs. open_sum xs (get_or shapes s d).terms) listed, ap (λ xs. open_sum xs (get_or shapes s d).terms) now)
-    ]
-    | inr n ↦ n.opened d
-  ];
+  counted = λ s d less apart.
+      let none : weight_in s [] ≡ 0 = refl in
+      omega (arith, lacks s d less, none);
   tidy = record {
     calm = λ s d less idle off gone. elim (f.each s) [
       | inl u ↦
@@ -251,25 +258,10 @@ retracted-rooted store clauses old mid new first l listed absent reasoned sound 
           ]
         ]
 
--- a literal of the first ones is not due if none of them is
-pub due-first : (slot : ℕ) (list : List NumberedLiteral) (reasons : List ℕ) (n : ℕ) → n ≤ length list → ((j : ℕ) (d : NumberedLiteral) → j < n → IsDue slot list reasons (get_or list j d) → ⊥) → (l : NumberedLiteral) → IsDue slot (take n list) reasons l → ⊥
-due-first slot list reasons n within none l (on, at) =
-    let w = has-place (take n list) l on in
-    let small : w.0 < n = omega (arith, w.1, length-take-le n list within) in
-    let is : get_or list w.0 l ≡ l = sym (get_or-take n list w.0 l small) ∙ w.2 in
-    none w.0 l small (has-get list w.0 l (omega (arith, small, within)), ap (λ (k : NumberedLiteral). slice_get reasons k.variable) is ∙ at)
-
-pub before-next : (slot : ℕ) (list : List NumberedLiteral) (reasons : List ℕ) (i : ℕ) (l : NumberedLiteral) → i < length list → l ≡ get_or list i l → ((j : ℕ) (d : NumberedLiteral) → j < i → IsDue slot list reasons (get_or list j d) → ⊥) → (IsDue slot list reasons l → ⊥) → (j : ℕ) (d : NumberedLiteral) → j < i + 1 → IsDue slot list reasons (get_or list j d) → ⊥
-before-next slot list reasons i l inside is old never j d less due = elim (cases_lt j i) [
-  | inl before ↦ old j d before due
-  | inr after ↦
-      let at : j ≡ i = omega (arith, after, less) in
-      never (subst (IsDue slot list reasons) (ap (λ k. get_or list k d) at ∙ get_or_default list i d l inside ∙ sym is) due)
-]
-
 -- an entry of the list of a literal
 pub record IsOccurrence (store : Store) (l : NumberedLiteral) (items : List Occurrence) (o : Occurrence) : Type 0 where
   pub form : o.form < length store.stored.items
+  pub index : o.index < length (terms_at (shapes_of store.stored.items) o.form)
   pub some : 0 < length (terms_at (shapes_of store.stored.items) o.form)
   pub entries : get_or (entries_of (shapes_of store.stored.items) store.occurrences.items) (place l) [] ≡ map (weighted (shapes_of store.stored.items)) items
 
@@ -288,6 +280,7 @@ occurrence-read store l q v j o sound inside at read item less =
     let index = index-within forms (spots_of store.spots.items) store.occurrences.items (place l) j v.items o same item less sound.whole in
     record {
       form = omega (arith, form, length-map store.stored.items stored_shape);
+      index = index;
       some = omega (arith, index);
       entries = same;
     }
@@ -304,3 +297,45 @@ all-next store l items b c i o there item inside next mine old j e less at = eli
       let is : e ≡ weighted forms o = sym (get_or_from_slice_get (map (weighted forms) items) i e e got) ∙ get_or_default (map (weighted forms) items) i e (weighted forms o) (omega (arith, inside, length-map items (weighted forms))) ∙ get_or-map (weighted forms) items i o (weighted forms o) inside ∙ ap (weighted forms) (sym item) in
       subst (IsRefreshed store c) (ap (λ (x : Weighted). x.form) (sym is)) mine
 ]
+
+-- the entries from one on
+pub ahead-entry : (store : Store) (items : List Occurrence) (j : ℕ) (o : Occurrence) → o ≡ get_or items j o → j < length items → drop j (map (weighted (shapes_of store.stored.items)) items) ≡ weighted (shapes_of store.stored.items) o ∷ drop (j + 1) (map (weighted (shapes_of store.stored.items)) items)
+ahead-entry store items j o item inside =
+    let forms = shapes_of store.stored.items in
+    let es = map (weighted forms) items in
+    drop_more es j (weighted forms o) (omega (arith, inside, length-map items (weighted forms))) ∙ ap (λ x. x ∷ drop (j + 1) es) (get_or-map (weighted forms) items j o (weighted forms o) inside ∙ ap (weighted forms) (sym item))
+
+-- an open sum is at most the sum of all coefficients
+open_part-small : (list : List NumberedLiteral) (t : Term) → open_part list t ≤ t.coefficient
+unfolding open_part
+open_part-small list t = by (has list (negation t.literal))
+  where
+    by : (b : Bool) → (if b then 0 else t.coefficient) ≤ t.coefficient
+    by true = omega arith
+    by false = omega arith
+
+open_sum-small : (list : List NumberedLiteral) (terms : List Term) → open_sum list terms ≤ size terms
+open_sum-small list terms = sum_by-le-sum_by (open_part list) (λ t. t.coefficient) terms (open_part-small list)
+
+-- an entry is added to the open sum of its form
+lifted : (store : Store) (a b : Root) (e : Weighted) (rest : List Weighted) → e.form < length a.run.opens.items → b.run.opens.items ≡ set a.run.opens.items e.form (get_or a.run.opens.items e.form 0 + e.coefficient) → b.run.assignment ≡ a.run.assignment → Lacks store a (e ∷ rest) → Lacks store b rest
+lifted store a b e rest room opens same lacks s d less =
+    let terms = (get_or (shapes_of store.stored.items) s d).terms in
+    let sum = sum_by-cons (entry_weight s) e rest in
+    let list = ap (λ (x : Assignment). open_sum x.list.items terms) same in
+    elim (cases_eq s e.form) [
+      | inl here ↦ omega (arith, lacks s d less, sum, list, entry_weight-same s e (sym here), ap (λ xs. get_or xs s 0) opens, ap (λ n. get_or (set a.run.opens.items e.form (get_or a.run.opens.items e.form 0 + e.coefficient)) n 0) here, get_or-set_same a.run.opens.items e.form (get_or a.run.opens.items e.form 0 + e.coefficient) 0 room, ap (λ n. get_or a.run.opens.items n 0) here)
+      | inr other ↦ omega (arith, lacks s d less, sum, list, entry_weight-other s e other, ap (λ xs. get_or xs s 0) opens, get_or-set_other a.run.opens.items e.form s (get_or a.run.opens.items e.form 0 + e.coefficient) 0 other)
+    ]
+
+-- a coefficient that an open sum lacks fits beside it
+pub lacks-fits : (store : Store) (a : Root) (e : Weighted) (rest : List Weighted) (d : Shape) → e.form < length store.stored.items → Lacks store a (e ∷ rest) → get_or a.run.opens.items e.form 0 + e.coefficient ≤ size (get_or (shapes_of store.stored.items) e.form d).terms
+lacks-fits store a e rest d less lacks =
+    let terms = (get_or (shapes_of store.stored.items) e.form d).terms in
+    omega (arith, lacks e.form d less, sum_by-cons (entry_weight e.form) e rest, entry_weight-same e.form e refl, open_sum-small (list_of a.run) terms)
+
+-- what is still to be added after one more entry
+pub lacks-next : (store : Store) (l : NumberedLiteral) (items : List Occurrence) (a b : Root) (j : ℕ) (o : Occurrence) → IsOccurrence store l items o → o ≡ get_or items j o → j < length items → IsSized store a → b.run.opens.items ≡ set a.run.opens.items o.form (get_or a.run.opens.items o.form 0 + coefficient_at (shapes_of store.stored.items) o.form o.index) → b.run.assignment ≡ a.run.assignment →
+    Lacks store a (drop j (map (weighted (shapes_of store.stored.items)) items)) → Lacks store b (drop (j + 1) (map (weighted (shapes_of store.stored.items)) items))
+lacks-next store l items a b j o there item inside sized opens same lacks =
+    lifted store a b (weighted (shapes_of store.stored.items) o) (drop (j + 1) (map (weighted (shapes_of store.stored.items)) items)) (omega (arith, there.form, sized.opens)) opens same (subst (Lacks store a) (ahead-entry store items j o item inside) lacks)

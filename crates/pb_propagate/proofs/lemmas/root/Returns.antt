@@ -2,9 +2,10 @@
 use Rattle.pb_propagate.proofs.Common.{ℕ, ◌*◌, ◌+◌, ◌<◌, ◌∙◌, ◌≡◌, ◌≤◌, [], ap, arith, length, List, refl, sym, take, sum}
 use Rattle.pb_propagate.proofs.Common.{sum_by, take-append_seam, length-map, NumberedLiteral}
 use Rattle.pb_propagate.proofs.Common.{Assignment, Long, Short, Clauses, Eager, Rests, Run, Store, Heads, Walked, IsWalkedTo, AreWithin, Grows, passed_of, clauses_of}
-use Rattle.pb_propagate.proofs.Common.{fallen, falsified_code, heads_at, reached, AreSingle, IsCounted, IsUndone, spent, weight_in, RunRefutes, entries_of}
+use Rattle.pb_propagate.proofs.Common.{fallen, falsified_code, heads_at, reached, AreSingle, IsCounted, spent, weight_in, RunRefutes, entries_of}
 use Rattle.pb_propagate.proofs.Common.{shapes_of, stored_shape, Extends, HaveReasons, all_of, KeepsReasons, same, Advances, Costs, database, progress, RunPays}
-use Rattle.pb_propagate.proofs.Common.{RunSpends, IsRooted}
+use Rattle.pb_propagate.proofs.Common.{RunSpends, IsRooted, GoesBack, Propagates, list_of, reasons_of, values_of, Global, Vec, subst}
+use Rattle.pb_propagate.proofs.lemmas.clauses.Heads.{visits-back, walks-kept}
 use Rattle.pb_propagate.proofs.lemmas.clauses.Counts.{passed-most}
 use Rattle.pb_propagate.proofs.lemmas.clauses.Walks.{grows-listed}
 use Rattle.pb_propagate.proofs.lemmas.engine.Reasoned.{reasons-keep}
@@ -64,31 +65,18 @@ root-counted store clauses run rests waiting walked r = record {
       omega (arith, none, r.counted s d inside (λ e. absurd (omega (arith, e, inside))));
 }
 
--- what undoing a question leaves
-pub record IsBack (store : Store) (between after : Clauses) (run last : Run) (rests : Rests) (walked : Walked) (new : List NumberedLiteral) : Type 0 where
-  pub literals : clauses_of after ≡ clauses_of between
-  pub walks : IsWalkedTo after run.assignment.list.items walked
-  pub extends : Extends run.assignment.list.items new
-  pub reasons : KeepsReasons run.assignment.list.items run.assignment.reasons.items last.assignment.reasons.items
-  pub cut : last.assignment.list.items ≡ take (length run.assignment.list.items) new
-  pub values : length last.assignment.values.items ≡ length run.assignment.values.items
-  pub opens : length last.opens.items ≡ length store.stored.items
-  pub candidates : length last.candidates.items ≡ length store.stored.items
-  pub undone : IsUndone rests (shapes_of store.stored.items) last.opens.items last.candidates.items [] 0
-  pub work : last.work.items ≡ []
-  pub trail : last.trail.items ≡ []
-  pub next : last.next ≡ 0
-
-pub back-rooted : (store : Store) (between after : Clauses) (run last : Run) (rests : Rests) (waiting : Eager) (walked walked' : Walked) (new : List NumberedLiteral) → IsRooted store between run rests waiting walked (length store.stored.items) → IsBack store between after run last rests walked' new → IsRooted store after last rests waiting walked' (length store.stored.items)
-back-rooted store between after run last rests waiting walked walked' new r b =
+-- a question that was undone leaves the root
+pub back-rooted : {store : Store} {between mid after : Clauses} {run done last : Run} {rests : Rests} {waiting : Eager} {walked walked' : Walked} {count : ℕ} → IsRooted store between run rests waiting walked (length store.stored.items) → Propagates store rests between mid run done → GoesBack store rests mid after count done last → count ≡ length (list_of run) → mid.blocks.literals ≡ between.blocks.literals → IsWalkedTo after (list_of run) walked' → IsRooted store after last rests waiting walked' (length store.stored.items)
+back-rooted {store} {between} {mid} {after} {run} {done} {last} {rests} {waiting} {walked} {walked'} {count} r p b count_is literals walks =
     let shapes = shapes_of store.stored.items in
     let long = length-map store.stored.items stored_shape in
     let same = keep-all rests shapes last.opens.items last.candidates.items [] 0 (omega arith) (omega (arith, long, b.opens)) (omega (arith, b.opens, b.candidates)) (omega (arith, ap length r.opens, r.open_sizes, b.opens)) (omega (arith, ap length r.starts, r.start_sizes, b.candidates)) b.undone in
     let opens_is : last.opens.items ≡ run.opens.items = sym same.0 ∙ sym r.opens in
     let starts_is : last.candidates.items ≡ run.candidates.items = sym same.1 ∙ sym r.starts in
-    let list_is : last.assignment.list.items ≡ run.assignment.list.items = b.cut ∙ ap (take (length run.assignment.list.items)) b.extends.1 ∙ take-append_seam run.assignment.list.items b.extends.0 in
+    let list_is : list_of last ≡ list_of run = b.list ∙ ap (λ n. take n (list_of done)) count_is ∙ ap (take (length (list_of run))) p.extends.1 ∙ take-append_seam (list_of run) p.extends.0 in
+    let reasons = subst (λ (v : Vec ℕ Global). KeepsReasons (list_of run) (reasons_of run) v.items) (sym b.reasons) p.reasons in
     record {
-      values = b.values ∙ r.values;
+      values = b.values ∙ p.values ∙ r.values;
       opens = sym same.0;
       starts = sym same.1;
       open_sizes = b.opens;
@@ -98,11 +86,16 @@ back-rooted store between after run last rests waiting walked walked' new r b =
       work = b.work;
       trail = b.trail;
       next = b.next;
-      reasoned = rw (b.literals, list_is) (reasons-keep run.assignment.reasons.items last.assignment.reasons.items b.reasons r.reasoned);
-      walks = rw list_is b.walks;
+      reasoned = rw (b.literals ∙ literals, list_is) (reasons-keep (reasons_of run) (reasons_of last) reasons r.reasoned);
+      walks = rw list_is walks;
       seats = r.seats;
       live = r.live;
     }
+
+-- the same if its literals are walked as before
+pub question-back : {store : Store} {between mid after : Clauses} {run done last : Run} {rests : Rests} {waiting : Eager} {walked : Walked} {count : ℕ} → IsRooted store between run rests waiting walked (length store.stored.items) → Propagates store rests between mid run done → GoesBack store rests mid after count done last → count ≡ length (list_of run) → mid.blocks.literals ≡ between.blocks.literals → IsRooted store after last rests waiting walked (length store.stored.items)
+question-back {store} {between} {mid} {after} {run} {done} {last} {rests} {waiting} {walked} {count} r p b count_is literals =
+    back-rooted r p b count_is literals (walks-kept between after (list_of run) walked (visits-back (values_of run) between mid after (list_of run) run.assignment.agrees (b.literals ∙ literals) b.watches p.kept) r.walks)
 
 -- the same forms wait
 pub rooted-waiting : {store : Store} {clauses : Clauses} {run : Run} {rests : Rests} {walked : Walked} {busy : ℕ} (waiting waiting' : Eager) → waiting'.list ≡ waiting.list → waiting'.seats ≡ waiting.seats → IsRooted store clauses run rests waiting walked busy → IsRooted store clauses run rests waiting' walked busy

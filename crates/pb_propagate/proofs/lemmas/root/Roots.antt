@@ -1,16 +1,14 @@
 -- The state to which questions return becomes that of the run.
-use Rattle.pb_propagate.proofs.Common.{ℕ, ◌+◌, ◌<◌, ◌∙◌, ◌≡◌, ◌≤◌, ◌⊎◌, [], ap, arith, get_or, get_or-set_other, get_or-set_same, inl, inr}
-use Rattle.pb_propagate.proofs.Common.{length, List, refl, set, sym, slice_get, slice_get_within, Some, cases_eq, ext_get_or, get_or_default}
-use Rattle.pb_propagate.proofs.Common.{get_or_read, length-map, NumberedLiteral, Assignment, Clauses, Eager, Rests, Run, Store, StoredForm}
-use Rattle.pb_propagate.proofs.Common.{all_of, Walked, IsWalkedTo, heads_at, beside, IsAbsent, IsCounted, IsTidy, IsUndone, rest_open}
+use Rattle.pb_propagate.proofs.Common.{ℕ, ◌+◌, ◌<◌, ◌∙◌, ◌≡◌, ◌≤◌, ◌⊎◌, [], ap, arith, get_or, get_or-set_other, get_or-set_same, inl, inr, length}
+use Rattle.pb_propagate.proofs.Common.{List, set, sym, slice_get, slice_get_within, Some, cases_eq, ext_get_or, get_or_default, get_or_read}
+use Rattle.pb_propagate.proofs.Common.{length-map, NumberedLiteral, Assignment, Clauses, Eager, Rests, Run, Store, all_of, Walked, IsWalkedTo}
+use Rattle.pb_propagate.proofs.Common.{heads_at, beside, IsAbsent, IsCounted, IsTidy, IsUndone, rest_open, rest_start, shapes_of, stored_shape}
+use Rattle.pb_propagate.proofs.Common.{HaveReasons, KeepsReasons, Shape, size, from_given, HasForm, IsRooted}
+use Rattle.pb_propagate.specs.engine.Engine.Propagation.{IsKept}
 use Rattle.pb_propagate.proofs.lemmas.clauses.Heads.{walks-none}
-use Rattle.pb_propagate.proofs.Common.{rest_start, weight_in, shapes_of, stored_shape, HaveReasons, KeepsReasons, Shape, size, AreAtRest, IsEager}
-use Rattle.pb_propagate.proofs.Common.{from_given, HasForm, IsRooted}
 use Rattle.pb_propagate.proofs.lemmas.store.Gets.{lt_of_apart}
 use Rattle.pb_propagate.proofs.lemmas.engine.Reasoned.{reasons-keep}
 use Rattle.pb_propagate.proofs.lemmas.engine.VisitSteps.{open-now}
-use Rattle.pb_propagate.proofs.lemmas.engine.Rests.{rest-at, rest-lengths, calm-but}
-use Rattle.pb_propagate.proofs.lemmas.engine.Rested.{open_sum-empty}
 
 -- one form more
 pub keep-next : (rests rests' : Rests) (forms : List Shape) (opens cands trail : List ℕ) (i form o c : ℕ) → i < length trail → form ≡ get_or trail i form → form < length opens → form < length cands → o ≡ get_or opens form o → c ≡ get_or cands form c → length rests.opens.items ≡ length opens → length rests.starts.items ≡ length cands →
@@ -61,17 +59,6 @@ kept-tidy rests rests' aside aside' forms opens cands list work trail next waits
   traced = λ s gone. gone;
 }
 
--- what is read of the run and of the state to which questions return
-pub record IsKept (run run' : Run) (rests' : Rests) : Type 0 where
-  pub opens : run'.opens ≡ run.opens
-  pub candidates : run'.candidates ≡ run.candidates
-  pub assignment : run'.assignment ≡ run.assignment
-  pub work : run'.work.items ≡ []
-  pub trail : run'.trail.items ≡ []
-  pub next : run'.next ≡ 0
-  pub rest_opens : rests'.opens.items ≡ run.opens.items
-  pub rest_starts : rests'.starts.items ≡ run.candidates.items
-
 -- the parts of a root that lists of forms that wait do not touch
 pub record IsEnded (store : Store) (clauses : Clauses) (run : Run) (walked : Walked) : Type 0 where
   pub values : length run.assignment.values.items ≡ store.variables
@@ -107,32 +94,6 @@ kept-rooted store clauses run run' rests rests' aside waiting' walked e tidy wai
       seats = seats;
       live = live;
     }
-
--- what a propagation from nothing needs, if questions return to where it starts
-pub start-counted : (keep : List StoredForm) (opens cands : List ℕ) → AreAtRest keep opens cands → IsCounted (shapes_of keep) opens [] []
-start-counted keep opens cands r = record {
-  each = λ s d inside.
-      let at = rest-at keep opens cands r s d (omega (arith, inside, length-map keep stored_shape)) in
-      let sum = open_sum-empty (get_or (shapes_of keep) s d).terms in
-      let nothing : weight_in s [] ≡ 0 = refl in
-      omega (arith, at.0, sum, nothing);
-}
-
-pub start-tidy : (rests : Rests) (keep : List StoredForm) (eager opens cands : List ℕ) → rests.opens.items ≡ opens → rests.starts.items ≡ cands → AreAtRest keep opens cands → IsEager keep eager → IsTidy (beside rests eager) (shapes_of keep) opens cands [] [] [] 0 (length keep)
-start-tidy rests keep eager opens cands opened started r e = record {
-  calm = λ s d inside idle off gone.
-      let at = rest-at keep opens cands r s d (omega (arith, inside, length-map keep stored_shape)) in
-      rw (at.0, at.1) ((calm-but keep eager e).aside s d inside off);
-  passed = λ s d inside k f before within. absurd (omega (arith, before, (rest-at keep opens cands r s d (omega (arith, inside, length-map keep stored_shape))).1));
-  bounded = λ s d inside. omega (arith, (rest-at keep opens cands r s d (omega (arith, inside, length-map keep stored_shape))).1);
-  clean = λ s d inside gone. (
-    get_or_default opens s 0 (size (get_or (shapes_of keep) s d).terms) (omega (arith, inside, length-map keep stored_shape, (rest-lengths keep opens cands r).0)) ∙ sym (ap (λ xs. get_or xs s (size (get_or (shapes_of keep) s d).terms)) opened),
-    sym (ap (λ xs. get_or xs s 0) started),
-  );
-  named = λ i d less. absurd (omega (arith, less));
-  marked = λ i d less. absurd (omega (arith, less));
-  traced = λ s gone. gone;
-}
 
 -- the root of no forms over no variables
 pub new-rooted : (store : Store) (clauses : Clauses) (run : Run) (rests : Rests) (waiting : Eager) (walked : Walked) → store.stored.items ≡ [] → store.variables ≡ 0 → run.assignment.values.items ≡ [] → run.assignment.list.items ≡ [] → run.opens.items ≡ [] → run.candidates.items ≡ [] → run.work.items ≡ [] → run.trail.items ≡ [] → run.next ≡ 0 →

@@ -74,12 +74,6 @@ last-is [] y d (suc k) h = absurd (omega (arith, h))
 last-is (x ∷ xs) y d zero h = absurd (omega (arith, h))
 last-is (x ∷ xs) y d (suc k) h = last-is xs y d k (omega (arith, h))
 
-pub not_last : {X : Type 0} (xs : List X) (y z d : X) (k : ℕ) → (k ≡ length xs → ⊥) → get_or (xs ++ (y ∷ [])) k d ≡ get_or (xs ++ (z ∷ [])) k d
-not_last [] y z d zero n = absurd (n refl)
-not_last [] y z d (suc k) n = refl
-not_last (x ∷ xs) y z d zero n = refl
-not_last (x ∷ xs) y z d (suc k) n = not_last xs y z d k (λ e. n (omega (arith, e)))
-
 pub get-map : {X Y : Type 0} (f : X → Y) (xs : List X) (i : ℕ) (x : X) → i < length xs → x ≡ get_or xs i x → slice_get (map f xs) i ≡ Some (f x)
 get-map f [] i x h e = absurd (omega (arith, h))
 get-map {Y = Y} f (y ∷ xs) zero x h e = ap (λ v. let o : Option Y = Some (f v) in o) (sym e)

@@ -1,13 +1,10 @@
 -- Forms take slots and leave them.
-use Rattle.pb_propagate.proofs.Common.{ℕ, ◌*◌, ◌++◌, ◌<◌, ◌∙◌, ◌∷◌, ◌≡◌, [], ap, arith, get_or, Global}
-use Rattle.pb_propagate.proofs.Common.{length, length-append, length-set, List, None, set, sym, Vec, Option}
-use Rattle.pb_propagate.proofs.Common.{slice_get, Some, map-set_same}
-use Rattle.pb_propagate.proofs.Common.{get_or-map, length-map, map-append, map-set}
-use Rattle.pb_propagate.proofs.Common.{Form, IsNormal, Clauses, Listed}
-use Rattle.pb_propagate.proofs.Common.{Store, StoredForm, AreReady, IsRefitted, clause_shape, clauses_of, code, codes_of_terms, group_by}
-use Rattle.pb_propagate.proofs.Common.{IsClause, joined, HasFilled, IsEmpty, IsSound, IsUnlisted, shapes_of, stored_shape, terms_at, Shape}
-use Rattle.pb_propagate.proofs.Common.{AreSlots, IsAtRest}
-use Rattle.pb_propagate.proofs.lemmas.engine.Rests.{element, slots-set, slots-more, slots-length}
+use Rattle.pb_propagate.proofs.Common.{ℕ, ◌*◌, ◌++◌, ◌<◌, ◌∙◌, ◌∷◌, ◌≡◌, [], ap, arith, get_or, Global, length, length-append, length-set, List, None}
+use Rattle.pb_propagate.proofs.Common.{set, sym, Vec, Option, slice_get, Some, map-set_same, get_or-map, length-map, map-append, map-set, Form}
+use Rattle.pb_propagate.proofs.Common.{IsNormal, Clauses, Listed, Store, StoredForm, AreReady, IsRefitted, clause_shape, clauses_of, code}
+use Rattle.pb_propagate.proofs.Common.{codes_of_terms, group_by, IsClause, joined, HasFilled, IsEmpty, IsSound, IsUnlisted, shapes_of, stored_shape}
+use Rattle.pb_propagate.proofs.Common.{terms_at, Shape, AreSlots, IsAtRest}
+use Rattle.pb_propagate.proofs.lemmas.engine.Rests.{slots-set, slots-more, slots-length}
 use Rattle.pb_propagate.proofs.lemmas.clauses.Slots.{IsVacant, slots-vacant, joined-widen, AreJoined-widen, joined-set, AreJoined-set, joined-clause, AreJoined-clause, joined-cleared, AreJoined-cleared, clause-kept, rising-different}
 use Rattle.pb_propagate.proofs.lemmas.clauses.Shapes.{joined-length}
 
@@ -65,7 +62,6 @@ shape-made a b p q =
 pub shapes-watched : (keep keep' : List StoredForm) (k : StoredForm) (clauses : List (List ℕ)) (s : ℕ) → IsVacant (shapes_of keep) clauses s → IsUnlisted k → keep' ≡ set keep s k → shapes_of keep' ≡ shapes_of keep
 shapes-watched keep keep' k clauses s v e keeps =
     let inside : s < length keep = omega (arith, v.inside, length-map keep stored_shape) in
-    let x = element keep s inside in
     let shape : get_or (shapes_of keep) s (stored_shape k) ≡ stored_shape (get_or keep s k) = get_or-map stored_shape keep s k (stored_shape k) inside in
     let same : stored_shape k ≡ stored_shape (get_or keep s k) = shape-made (stored_shape k) (get_or (shapes_of keep) s (stored_shape k)) (e.terms ∙ sym (v.terms (stored_shape k))) (e.degree ∙ sym (v.degree (stored_shape k))) ∙ shape in
     ap shapes_of keeps ∙ map-set_same stored_shape keep s k k same

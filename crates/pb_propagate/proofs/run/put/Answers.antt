@@ -3,8 +3,9 @@ use Rattle.pb_propagate.proofs.Common.{stored_shape, assigned_to, database, entr
 use Rattle.pb_propagate.proofs.lemmas.store.Places.{entries-length}
 use Rattle.pb_propagate.proofs.lemmas.engine.Runs.{Counted-put}
 use Rattle.pb_propagate.proofs.lemmas.engine.Advances.{costs-none, on-err}
-use Rattle.pb_propagate.proofs.lemmas.engine.Puts.{assigns, IsPutting, putting-start, putting-fits, putting-next, putting-advances, putting-costs, assigned-tidy, counted-conflict, entry-read, place-read, place-inside}
+use Rattle.pb_propagate.proofs.lemmas.engine.Puts.{assigns, IsPutting, IsRead, putting-start, putting-fits, putting-next, putting-advances, putting-costs, assigned-tidy, counted-conflict, entry-read, place-read, place-inside}
 use Rattle.pb_propagate.proofs.lemmas.engine.Reasoned.{run-records}
+use Rattle.pb_propagate.proofs.run.put.Goals.{After-visit-entry}
 use Rattle.pb_propagate.proofs.run.put.Goals as goal
 
 pub entries-init : goal.entries-init
@@ -16,8 +17,8 @@ entries-init c =
       candidates = refl;
       next = refl;
       putting = putting-start d (entries_against d c.args.literal) (assigned_to c.put.new.self.values.items c.put.new.self.list.items (progress run))
-          (Counted-put d.forms run.opens.items run.assignment.list.items c.put.new.self.list.items c.args.literal _ c.in_ok-put.ensures.ok c.requires.absent (λ s f inside. c.requires.store.whole.linked s f (negation c.args.literal) inside) c.requires.counted)
-          (c.requires.opens ∙ sym (length-map c.args.store.now.stored.items stored_shape));
+          (Counted-put d.forms run.opens.items run.assignment.list.items c.put.new.self.list.items c.args.literal _ c.in_ok-put.ensures.ok c.requires.absent (λ s f inside. c.requires.store.whole.linked s f (negation c.args.literal) inside) c.requires.sums.counted)
+          (c.requires.sums.opens ∙ sym (length-map c.args.store.now.stored.items stored_shape));
     }
 
 pub place_of-requires : goal.place_of-requires
@@ -33,34 +34,33 @@ index-entries-requires c =
     let read = place-read (shapes_of store.stored.items) store.occurrences.items store.variables c.args.literal c.place_of.result c.requires.inside (c.place_of.ensures.place ∙ ap place c.negation.ensures) c.requires.store.places in
     omega (arith, read, store.occurrences.ok.0)
 
+-- the entry that is read is one of the literal's list
+read : (c : After-visit-entry) → IsRead (database c.args.store.now c.args.rests.now) (entries_against (database c.args.store.now c.args.rests.now) c.args.literal) c.visit-entry.result c.entries.j
+read c = entry-read c.args.store.now c.args.rests.now c.args.literal c.place_of.result c.index-entries.result.now c.deref.result.now c.entries.j c.visit-entry.result c.requires.store c.requires.inside (c.place_of.ensures.place ∙ ap place c.negation.ensures) c.index-entries.ensures c.deref.ensures.value c.visit-entry.ensures.item (omega (arith, c.entries-test.true, c.len-j-end.ensures, c.deref.ensures.len))
+
 pub lower-requires-clause-form : goal.lower-requires-clause-form
 lower-requires-clause-form c =
-    let read = entry-read c.args.store.now c.args.rests.now c.args.literal c.place_of.result c.index-entries.result.now c.deref.result.now c.entries.j c.visit-entry.result c.requires.store c.requires.inside (c.place_of.ensures.place ∙ ap place c.negation.ensures) c.index-entries.ensures c.deref.ensures.value c.visit-entry.ensures.item (omega (arith, c.entries-test.true, c.len-j-end.ensures, c.deref.ensures.len)) in
-    omega (arith, read.form, length-map c.args.store.now.stored.items stored_shape)
+    omega (arith, (read (goal.at.lower-requires-clause-form c).After-visit-entry).form, length-map c.args.store.now.stored.items stored_shape)
 
 pub lower-requires-clause-inside : goal.lower-requires-clause-inside
 lower-requires-clause-inside c =
-    let read = entry-read c.args.store.now c.args.rests.now c.args.literal c.place_of.result c.index-entries.result.now c.deref.result.now c.entries.j c.visit-entry.result c.requires.store c.requires.inside (c.place_of.ensures.place ∙ ap place c.negation.ensures) c.index-entries.ensures c.deref.ensures.value c.visit-entry.ensures.item (omega (arith, c.entries-test.true, c.len-j-end.ensures, c.deref.ensures.len)) in
-    omega (arith, read.form, c.entries.invariant.putting.sizes)
+    omega (arith, (read (goal.at.lower-requires-clause-inside c).After-visit-entry).form, c.entries.invariant.putting.sizes)
 
 pub lower-requires-clause-index : goal.lower-requires-clause-index
 lower-requires-clause-index c =
-    let read = entry-read c.args.store.now c.args.rests.now c.args.literal c.place_of.result c.index-entries.result.now c.deref.result.now c.entries.j c.visit-entry.result c.requires.store c.requires.inside (c.place_of.ensures.place ∙ ap place c.negation.ensures) c.index-entries.ensures c.deref.ensures.value c.visit-entry.ensures.item (omega (arith, c.entries-test.true, c.len-j-end.ensures, c.deref.ensures.len)) in
-    read.index
+    (read (goal.at.lower-requires-clause-index c).After-visit-entry).index
 
 pub lower-requires-clause-fits : goal.lower-requires-clause-fits
 lower-requires-clause-fits c =
-    let read = entry-read c.args.store.now c.args.rests.now c.args.literal c.place_of.result c.index-entries.result.now c.deref.result.now c.entries.j c.visit-entry.result c.requires.store c.requires.inside (c.place_of.ensures.place ∙ ap place c.negation.ensures) c.index-entries.ensures c.deref.ensures.value c.visit-entry.ensures.item (omega (arith, c.entries-test.true, c.len-j-end.ensures, c.deref.ensures.len)) in
-    putting-fits c.visit-entry.result read c.entries.invariant.putting
+    putting-fits c.visit-entry.result (read (goal.at.lower-requires-clause-fits c).After-visit-entry) c.entries.invariant.putting
 
 pub entries-preserved : goal.entries-preserved
 entries-preserved c =
-    let read = entry-read c.args.store.now c.args.rests.now c.args.literal c.place_of.result c.index-entries.result.now c.deref.result.now c.entries.j c.visit-entry.result c.requires.store c.requires.inside (c.place_of.ensures.place ∙ ap place c.negation.ensures) c.index-entries.ensures c.deref.ensures.value c.visit-entry.ensures.item (omega (arith, c.entries-test.true, c.len-j-end.ensures, c.deref.ensures.len)) in
     record {
       assignment = c.lower.ensures.assignment ∙ c.entries.invariant.assignment;
       candidates = c.lower.ensures.candidates ∙ c.entries.invariant.candidates;
       next = c.lower.ensures.next ∙ c.entries.invariant.next;
-      putting = putting-next c.visit-entry.new.visits c.visit-entry.result (progress c.lower.new.run) read c.requires.next c.visit-entry.ensures.count c.visit-entry.ensures.rising c.entries.invariant.putting c.in_ok-lower.ensures.lowers (ap (λ (a : Assignment). a.values.items) c.lower.ensures.assignment) c.lower.ensures.visits;
+      putting = putting-next c.visit-entry.new.visits c.visit-entry.result (progress c.lower.new.run) (read (goal.at.entries-preserved c).After-visit-entry) c.requires.sums.next c.visit-entry.ensures.count c.visit-entry.ensures.rising c.entries.invariant.putting c.in_ok-lower.ensures.lowers (ap (λ (a : Assignment). a.values.items) c.lower.ensures.assignment) c.lower.ensures.visits;
     }
 
 pub returns-in_err-put-clause-costs : goal.returns-in_err-put-clause-costs
@@ -68,39 +68,38 @@ returns-in_err-put-clause-costs c = on-err _ (costs-none (progress c.args.run.no
 
 pub returns-in_err-lower-clause-costs : goal.returns-in_err-lower-clause-costs
 returns-in_err-lower-clause-costs c =
-    let read = entry-read c.args.store.now c.args.rests.now c.args.literal c.place_of.result c.index-entries.result.now c.deref.result.now c.entries.j c.visit-entry.result c.requires.store c.requires.inside (c.place_of.ensures.place ∙ ap place c.negation.ensures) c.index-entries.ensures c.deref.ensures.value c.visit-entry.ensures.item (omega (arith, c.entries-test.true, c.len-j-end.ensures, c.deref.ensures.len)) in
-    on-err _ (putting-costs (progress c.lower.new.run) (assigns c.put.new.self.values.items c.put.new.self.list.items c.args.literal (progress c.args.run.now) c.in_ok-put.ensures.ok c.requires.absent c.put.ensures.values) read.inside (ap (λ (a : Assignment). a.list.items) c.lower.ensures.assignment) (ap (λ (v : Vec ℕ Global). v.items) c.lower.ensures.candidates) (omega (arith, c.lower.ensures.visits, c.visit-entry.ensures.count)) c.entries.invariant.putting)
-
-pub returns-clause-advances : goal.returns-clause-advances
-returns-clause-advances c = putting-advances (assigns c.put.new.self.values.items c.put.new.self.list.items c.args.literal (progress c.args.run.now) c.in_ok-put.ensures.ok c.requires.absent c.put.ensures.values) (c.requires.opens ∙ sym (length-map c.args.store.now.stored.items stored_shape)) c.entries.invariant.putting
-
-pub returns-clause-reasons : goal.returns-clause-reasons
-returns-clause-reasons c =
-    let run = c.args.run.now in
-    run-records c.args.reason c.args.literal run c.entries.run c.requires.absent c.requires.not_falsified (omega (arith, c.requires.inside, c.requires.values, run.assignment.known)) (ap (λ (a : Assignment). a.reasons.items) c.entries.invariant.assignment ∙ c.in_ok-put.ensures.reasons)
-
-pub returns-then-branch-clause-reasons : goal.returns-then-branch-clause-reasons
-returns-then-branch-clause-reasons c =
-    let run = c.args.run.now in
-    run-records c.args.reason c.args.literal run c.lower.new.run c.requires.absent c.requires.not_falsified (omega (arith, c.requires.inside, c.requires.values, run.assignment.known)) (ap (λ (a : Assignment). a.reasons.items) (c.lower.ensures.assignment ∙ c.entries.invariant.assignment) ∙ c.in_ok-put.ensures.reasons)
-
-pub returns-clause-tidy : goal.returns-clause-tidy
-returns-clause-tidy c = λ aside busy t. c.entries.invariant.putting.tidy aside busy (assigned-tidy (database c.args.store.now c.args.rests.now) (assigns c.put.new.self.values.items c.put.new.self.list.items c.args.literal (progress c.args.run.now) c.in_ok-put.ensures.ok c.requires.absent c.put.ensures.values) aside busy t)
+    on-err _ (putting-costs (progress c.lower.new.run) (assigns c.put.new.self.values.items c.put.new.self.list.items c.args.literal (progress c.args.run.now) c.in_ok-put.ensures.ok c.requires.absent c.put.ensures.values) (read (goal.at.returns-in_err-lower-clause-costs c).After-visit-entry).inside (ap (λ (a : Assignment). a.list.items) c.lower.ensures.assignment) (ap (λ (v : Vec ℕ Global). v.items) c.lower.ensures.candidates) (omega (arith, c.lower.ensures.visits, c.visit-entry.ensures.count)) c.entries.invariant.putting)
 
 -- where the loop ends early: one entry more was subtracted
 lowered : (c : goal.Then-branch) → IsPutting (database c.args.store.now c.args.rests.now) (entries_against (database c.args.store.now c.args.rests.now) c.args.literal) (assigned_to c.put.new.self.values.items c.put.new.self.list.items (progress c.args.run.now)) (progress c.lower.new.run) (c.entries.j + 1)
 lowered c =
     let read = entry-read c.args.store.now c.args.rests.now c.args.literal c.place_of.result c.index-entries.result.now c.deref.result.now c.entries.j c.visit-entry.result c.requires.store c.requires.inside (c.place_of.ensures.place ∙ ap place c.negation.ensures) c.index-entries.ensures c.deref.ensures.value c.visit-entry.ensures.item (omega (arith, c.entries-test.true, c.len-j-end.ensures, c.deref.ensures.len)) in
-    putting-next c.visit-entry.new.visits c.visit-entry.result (progress c.lower.new.run) read c.requires.next c.visit-entry.ensures.count c.visit-entry.ensures.rising c.entries.invariant.putting c.in_ok-lower.ensures.lowers (ap (λ (a : Assignment). a.values.items) c.lower.ensures.assignment) c.lower.ensures.visits
-
-pub returns-then-branch-clause-advances : goal.returns-then-branch-clause-advances
-returns-then-branch-clause-advances c =
-    putting-advances (assigns c.put.new.self.values.items c.put.new.self.list.items c.args.literal (progress c.args.run.now) c.in_ok-put.ensures.ok c.requires.absent c.put.ensures.values) (c.requires.opens ∙ sym (length-map c.args.store.now.stored.items stored_shape)) (lowered c)
-
-pub returns-then-branch-clause-tidy : goal.returns-then-branch-clause-tidy
-returns-then-branch-clause-tidy c = λ aside busy t. (lowered c).tidy aside busy (assigned-tidy (database c.args.store.now c.args.rests.now) (assigns c.put.new.self.values.items c.put.new.self.list.items c.args.literal (progress c.args.run.now) c.in_ok-put.ensures.ok c.requires.absent c.put.ensures.values) aside busy t)
+    putting-next c.visit-entry.new.visits c.visit-entry.result (progress c.lower.new.run) read c.requires.sums.next c.visit-entry.ensures.count c.visit-entry.ensures.rising c.entries.invariant.putting c.in_ok-lower.ensures.lowers (ap (λ (a : Assignment). a.values.items) c.lower.ensures.assignment) c.lower.ensures.visits
 
 pub returns-then-branch-clause-conflict : goal.returns-then-branch-clause-conflict
 returns-then-branch-clause-conflict c = λ found.
-    let read = entry-read c.args.store.now c.args.rests.now c.args.literal c.place_of.result c.index-entries.result.now c.deref.result.now c.entries.j c.visit-entry.result c.requires.store c.requires.inside (c.place_of.ensures.place ∙ ap place c.negation.ensures) c.index-entries.ensures c.deref.ensures.value c.visit-entry.ensures.item (omega (arith, c.entries-test.true, c.len-j-end.ensures, c.deref.ensures.len)) in
-    counted-conflict (shapes_of c.args.store.now.stored.items) c.lower.new.run.opens.items c.lower.new.run.assignment.list.items _ c.visit-entry.result.form read.form (lowered c).counted (c.in_ok-lower.ensures.falsified c.if-branch.true)
+    counted-conflict (shapes_of c.args.store.now.stored.items) c.lower.new.run.opens.items c.lower.new.run.assignment.list.items _ c.visit-entry.result.form (read (goal.at.returns-then-branch-clause-conflict c).After-visit-entry).form (lowered c).counted (c.in_ok-lower.ensures.falsified c.if-branch.true)
+
+pub returns-clause-reason : goal.returns-clause-reason
+returns-clause-reason c = (run-records c.args.reason c.args.literal c.args.run.now c.entries.run c.requires.absent c.requires.not_falsified (omega (arith, c.requires.inside, c.requires.sums.values, c.args.run.now.assignment.known)) (ap (λ (a : Assignment). a.reasons.items) c.entries.invariant.assignment ∙ c.in_ok-put.ensures.reasons)).1
+
+pub returns-then-branch-clause-reason : goal.returns-then-branch-clause-reason
+returns-then-branch-clause-reason c = (run-records c.args.reason c.args.literal c.args.run.now c.lower.new.run c.requires.absent c.requires.not_falsified (omega (arith, c.requires.inside, c.requires.sums.values, c.args.run.now.assignment.known)) (ap (λ (a : Assignment). a.reasons.items) (c.lower.ensures.assignment ∙ c.entries.invariant.assignment) ∙ c.in_ok-put.ensures.reasons)).1
+
+pub returns-clause-puts : goal.returns-clause-puts
+returns-clause-puts c =
+    let assigned = assigns c.put.new.self.values.items c.put.new.self.list.items c.args.literal (progress c.args.run.now) c.in_ok-put.ensures.ok c.requires.absent c.put.ensures.values in
+    record {
+      advances = putting-advances assigned (c.requires.sums.opens ∙ sym (length-map c.args.store.now.stored.items stored_shape)) c.entries.invariant.putting;
+      tidy = λ aside busy t. c.entries.invariant.putting.tidy aside busy (assigned-tidy (database c.args.store.now c.args.rests.now) assigned aside busy t);
+      kept = (run-records c.args.reason c.args.literal c.args.run.now c.entries.run c.requires.absent c.requires.not_falsified (omega (arith, c.requires.inside, c.requires.sums.values, c.args.run.now.assignment.known)) (ap (λ (a : Assignment). a.reasons.items) c.entries.invariant.assignment ∙ c.in_ok-put.ensures.reasons)).0;
+    }
+
+pub returns-then-branch-clause-puts : goal.returns-then-branch-clause-puts
+returns-then-branch-clause-puts c =
+    let assigned = assigns c.put.new.self.values.items c.put.new.self.list.items c.args.literal (progress c.args.run.now) c.in_ok-put.ensures.ok c.requires.absent c.put.ensures.values in
+    record {
+      advances = putting-advances assigned (c.requires.sums.opens ∙ sym (length-map c.args.store.now.stored.items stored_shape)) (lowered c);
+      tidy = λ aside busy t. (lowered c).tidy aside busy (assigned-tidy (database c.args.store.now c.args.rests.now) assigned aside busy t);
+      kept = (run-records c.args.reason c.args.literal c.args.run.now c.lower.new.run c.requires.absent c.requires.not_falsified (omega (arith, c.requires.inside, c.requires.sums.values, c.args.run.now.assignment.known)) (ap (λ (a : Assignment). a.reasons.items) (c.lower.ensures.assignment ∙ c.entries.invariant.assignment) ∙ c.in_ok-put.ensures.reasons)).0;
+    }

@@ -35,15 +35,6 @@ returns-in_err-fill-clause-refused c =
     let reported = ap forms_of c.in_err-fill.ensures.unchanged in
     search (rules, reported)
 
-pub watch-requires-clause-slot : goal.watch-requires-clause-slot
-watch-requires-clause-slot c =
-    let bare = slots-bare (forms_of c.args.store.now.stored.items) c.args.store.now.stored.items (clauses_of c.args.clauses.now) c.args.slot c.requires.rest.slots c.requires.slot in
-    bare.inside
-
-pub watch-requires-clause-empty : goal.watch-requires-clause-empty
-watch-requires-clause-empty c =
-    ap (λ (cs : List (List ℕ)). list_at cs c.args.slot) c.plan.ensures.clauses.literals ∙ (slots-vacant (forms_of c.args.store.now.stored.items) (shapes_of c.args.store.now.stored.items) (clauses_of c.args.clauses.now) c.args.slot c.requires.rest.slots c.requires.slot).clause
-
 pub returns-in-Some-clause-rest : goal.returns-in-Some-clause-rest
 returns-in-Some-clause-rest c =
     let planned = rw c.in-Some.is at c.in_ok-planned.ensures.planned in
@@ -92,28 +83,25 @@ returns-in-Some-clause-free c =
     let free = rw c.in-Some.is at c.in_ok-planned.ensures.free in
     pair-free _ _ _ _ _ _ free c.in_ok-watch.ensures.watches
 
-pub watch-requires-clause-codes : goal.watch-requires-clause-codes
-watch-requires-clause-codes c =
-    let planned = rw c.in-Some.is at c.in_ok-planned.ensures.planned in
-    rw c.form-2.ensures at planned.0.codes
-
-pub watch-requires-clause-pair : goal.watch-requires-clause-pair
-watch-requires-clause-pair c =
-    let planned = rw c.in-Some.is at c.in_ok-planned.ensures.planned in
-    planned.0.pair
-
-pub watch-requires-clause-known : goal.watch-requires-clause-known
-watch-requires-clause-known c = ap length c.plan.ensures.clauses.literals ∙ c.requires.rest.known
-
-pub watch-requires-clause-widths : goal.watch-requires-clause-widths
-watch-requires-clause-widths c = let same = c.plan.ensures.clauses.lists in ap (λ v. length v.items) same ∙ c.requires.rest.widths
-
-pub watch-requires-clause-room : goal.watch-requires-clause-room
-watch-requires-clause-room c =
-    let planned = rw c.in-Some.is at c.in_ok-planned.ensures.planned in
-    planned.1
-
 pub plan-requires-clause-slot : goal.plan-requires-clause-slot
 plan-requires-clause-slot c =
     let bare = slots-bare (forms_of c.args.store.now.stored.items) c.args.store.now.stored.items (clauses_of c.args.clauses.now) c.args.slot c.requires.rest.slots c.requires.slot in
     omega (arith, bare.inside, c.requires.rest.known)
+
+pub watch-requires : goal.watch-requires
+watch-requires c =
+    let keep = c.args.store.now.stored.items in
+    let planned = rw c.in-Some.is at c.in_ok-planned.ensures.planned in
+    let same = c.plan.ensures.clauses in
+    let bare = slots-bare (forms_of keep) keep (clauses_of c.args.clauses.now) c.args.slot c.requires.rest.slots c.requires.slot in
+    record {
+      ready = same.ready;
+      slot = bare.inside;
+      known = ap length same.literals ∙ c.requires.rest.known;
+      empty = ap (λ (cs : List (List ℕ)). list_at cs c.args.slot) same.literals ∙ (slots-vacant (forms_of keep) (shapes_of keep) (clauses_of c.args.clauses.now) c.args.slot c.requires.rest.slots c.requires.slot).clause;
+      codes = rw c.form-2.ensures at planned.0.codes;
+      room = planned.1;
+      pair = planned.0.pair;
+      inside = c.requires.inside;
+      widths = ap (λ v. length v.items) same.lists ∙ c.requires.rest.widths;
+    }

@@ -1,4 +1,4 @@
-use Rattle.pb_propagate.proofs.Common.{◌-◌, ◌≡◌, length, list_at, watch_lists, all_of, database, IsOpen, progress, RunReasons, StaysTidy}
+use Rattle.pb_propagate.proofs.Common.{◌-◌, ◌≡◌, length, list_at, watch_lists, all_of, database, RunIsOpen, progress, RunReasons, StaysTidy}
 use Rattle.pb_propagate.proofs.lemmas.clauses.Walks.{IsWalking}
 use Rattle.pb_propagate.proofs.lemmas.engine.Watched.{WalkIsAt}
 use Rattle.pb_propagate.proofs.walk.walk.Given as goal
@@ -9,7 +9,7 @@ invariant-watches l = record {
   walking : IsWalking l.initial.clauses l.clauses l.literal l.index (progress l.initial.run) (progress l.run);
   advances : WalkIsAt (database l.store l.rests) l.initial.clauses l.clauses l.literal l.index (progress l.initial.run) (progress l.run);
   candidates : l.run.candidates ≡ l.initial.run.candidates;
-  counted : IsOpen (database l.store l.rests) (progress l.run);
+  sums : RunIsOpen l.store l.run;
   tidy : StaysTidy (database l.store l.rests) (progress l.initial.run) (progress l.run);
 }
 

@@ -31,6 +31,14 @@ rewatched c watches = record { literals = c.literals; searches = c.searches; wat
 abbrev pub searched : Contents → ℕ → Search → Contents
 searched c s search = record { literals = c.literals; searches = slice_set c.searches s search; watches = c.watches; rooms = c.rooms }
 
+-- each search is where it was, and has passed nothing
+pub record IsRenewed (old new : Contents) : Type 0 where
+  pub literals : new.literals ≡ old.literals
+  pub watches : new.watches ≡ old.watches
+  pub rooms : new.rooms ≡ old.rooms
+  pub sizes : length new.searches ≡ length old.searches
+  pub searches : (s : ℕ) → slice_index_or new.searches s begun ≡ record { position = (slice_index_or old.searches s begun).position; passed = 0 }
+
 -- the clause of one slot is another
 abbrev pub rewritten : Contents → ℕ → List ℕ → Contents
 rewritten c s literals = record { literals = slice_set c.literals s literals; searches = c.searches; watches = c.watches; rooms = c.rooms }
@@ -51,21 +59,28 @@ watch_of literal spot = if spot == nowhere then idle else record { literal = lit
 abbrev pub watch_place : List ℕ → ℕ → ℕ
 watch_place starts e = number_at starts (e / 2) + 2 * (e % 2)
 
+-- what a search has passed in a run, if it has passed `passed` in its own
+abbrev pub passed_by : ℕ → ℕ → ℕ → ℕ
+passed_by run own passed = if own == run then passed else 0
+
 -- A block begins with the literal and the position of each watch, the position of the search, how many literals this has
--- passed, and the number of literals. These come last.
+-- passed, the number of literals, and the run of the search. The literals come last.
 abbrev pub stored_watch : List ℕ → List ℕ → ℕ → Watch
 stored_watch words starts e = watch_of (number_at words (watch_place starts e)) (number_at words (watch_place starts e + 1))
 
-abbrev pub stored_search : List ℕ → List ℕ → ℕ → Search
-stored_search words starts s = record { position = number_at words (number_at starts s + 4); passed = number_at words (number_at starts s + 5) }
+abbrev pub stored_search : List ℕ → List ℕ → ℕ → ℕ → Search
+stored_search words starts run s = record {
+  position = number_at words (number_at starts s + 4);
+  passed = passed_by run (number_at words (number_at starts s + 7)) (number_at words (number_at starts s + 5));
+}
 
 abbrev pub stored_clause : List ℕ → List ℕ → ℕ → List ℕ
-stored_clause words starts s = take (number_at words (number_at starts s + 6)) (drop (number_at starts s + 7) words)
+stored_clause words starts s = take (number_at words (number_at starts s + 6)) (drop (number_at starts s + 8) words)
 
-abbrev pub contents : List ℕ → List ℕ → List ℕ → Contents
-contents words starts rooms = record {
+abbrev pub contents : List ℕ → List ℕ → List ℕ → ℕ → Contents
+contents words starts rooms run = record {
   literals = table (length starts) (stored_clause words starts);
-  searches = table (length starts) (stored_search words starts);
+  searches = table (length starts) (stored_search words starts run);
   watches = table (2 * length starts) (stored_watch words starts);
   rooms = rooms;
 }
@@ -77,22 +92,24 @@ pub record IsBare (words : List ℕ) (start : ℕ) : Type 0 where
   pub position : number_at words (start + 4) ≡ 0
   pub passed : number_at words (start + 5) ≡ 0
   pub count : number_at words (start + 6) ≡ 0
+  pub run : number_at words (start + 7) ≡ 0
 
 -- the block of a slot ends before that of another begins
 abbrev pub IsBefore : List ℕ → List ℕ → ℕ → ℕ → Type 0
-IsBefore starts rooms s t = number_at starts s + 7 + number_at rooms s ≤ number_at starts t
+IsBefore starts rooms s t = number_at starts s + 8 + number_at rooms s ≤ number_at starts t
 
 -- Each slot has a block of its own, or a common one, which is first. A slot whose watches have numbers of 32 bits may have one.
-pub record AreBlocks (words starts rooms : List ℕ) : Type 0 where
+pub record AreBlocks (words starts rooms : List ℕ) (run : ℕ) : Type 0 where
   pub sizes : length rooms ≡ length starts
   pub common : 0 < length starts → IsBare words 0
   pub shared : (s : ℕ) → number_at rooms s ≡ 0 → number_at starts s ≡ 0
   pub small : (s : ℕ) → 0 < number_at rooms s → s < 2 ^ 31 - 1
   pub apart : (s t : ℕ) → (s ≡ t → ⊥) → 0 < number_at rooms s → IsBefore starts rooms t s ⊎ IsBefore starts rooms s t
-  pub inside : (s : ℕ) → s < length starts → number_at starts s + 7 + number_at rooms s ≤ length words
+  pub inside : (s : ℕ) → s < length starts → number_at starts s + 8 + number_at rooms s ≤ length words
   pub within : (s : ℕ) → s < length starts → number_at words (number_at starts s + 6) ≤ number_at rooms s
+  pub begun_by : (s : ℕ) → s < length starts → number_at words (number_at starts s + 7) ≤ run
 
 -- words outside of a slot's block are as before
 pub record AreKept (starts rooms : List ℕ) (s : ℕ) (old new : List ℕ) : Type 0 where
   pub size : length new ≡ length old
-  pub outside : (i : ℕ) → (i < number_at starts s) ⊎ (number_at starts s + 7 + number_at rooms s ≤ i) → number_at new i ≡ number_at old i
+  pub outside : (i : ℕ) → (i < number_at starts s) ⊎ (number_at starts s + 8 + number_at rooms s ≤ i) → number_at new i ≡ number_at old i

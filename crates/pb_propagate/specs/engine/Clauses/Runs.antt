@@ -87,11 +87,6 @@ pub record ArePassed (values : List (Option Bool)) (clauses : List (List ℕ)) (
   pub bounded : (s : ℕ) → slice_index_or passed s 0 ≤ length (list_at clauses s)
   pub each : (s k d : ℕ) → k < slice_index_or passed s 0 → (false_at values (slice_index_or (list_at clauses s) k d) ≡ true) ⊎ IsWatched watches s (slice_index_or (list_at clauses s) k d)
 
--- the slots whose search has begun are on the trail
-pub record AreNoted (passed moved : List ℕ) : Type 0 where
-  pub noted : (s : ℕ) → (slice_index_or passed s 0 ≡ 0) ⊎ Contains moved s
-  pub named : All (λ s. s < length passed) moved
-
 pub record IsRunning (values : List (Option Bool)) (c : Clauses) : Type 0 where
   -- where the searches of this run began
   pub starts : List ℕ
@@ -99,7 +94,6 @@ pub record IsRunning (values : List (Option Bool)) (c : Clauses) : Type 0 where
   pub blocked : AreBlocked c.blocks.literals c.lists.items
   pub passed : ArePassed values (all_turned starts c.blocks.literals) (passed_of c) c.blocks.watches
   pub round : AreRound starts c.blocks.literals c.blocks.searches
-  pub noted : AreNoted (passed_of c) c.moved.items
   pub sizes : length c.lists.items ≡ 4 * length values
 
 -- some literal of the clause is true
@@ -112,6 +106,10 @@ pub record AreServed (values : List (Option Bool)) (clauses : List (List ℕ)) (
   pub now : false_at values l ≡ true
   pub done : (e : ℕ) → (watch_at watches e).live ≡ true → Contains walked (watch_at watches e).literal → HasTrue values clauses (e / 2)
   pub here : (e : ℕ) → (watch_at watches e).live ≡ true → (watch_at watches e).literal ≡ l → (watch_at watches e).spot < index → HasTrue values clauses (e / 2)
+
+-- the same of the watches of a literal that a walk has visited
+abbrev pub IsServedTo : List (Option Bool) → Clauses → List ℕ → ℕ → ℕ → Type 0
+IsServedTo values c walked l index = AreServed values c.blocks.literals c.blocks.watches walked l index
 
 -- all literals of a slot's clause but one are falsified, and that one is open
 pub record IsUnit (values : List (Option Bool)) (clauses : List (List ℕ)) (slot x : ℕ) : Type 0 where
@@ -151,7 +149,6 @@ pub record AreReady (c : Clauses) : Type 0 where
   pub sizes : length c.blocks.searches ≡ length c.blocks.literals
   pub inside : (s : ℕ) → 0 < length (list_at c.blocks.literals s) → (search_at c.blocks.searches s).position < length (list_at c.blocks.literals s)
   pub none : (s : ℕ) → slice_index_or (passed_of c) s 0 ≡ 0
-  pub trail : c.moved.items ≡ []
 
 -- what was true or falsified still is
 pub record Grows (old new : List (Option Bool)) : Type 0 where

@@ -1,5 +1,5 @@
 -- The engine's fields as lists.
-use Rattle.std.specs.Prelude.{◌≡◌, ℕ, ◌≤◌, false, [], ◌∷◌, ◌++◌, List, Option, Some, None, map, length, slice_index_or, slice_set, Vec}
+use Rattle.std.specs.Prelude.{◌≡◌, ℕ, ◌≤◌, [], ◌∷◌, ◌++◌, List, Option, Some, None, map, length, slice_index_or, slice_set, Vec}
 use Rattle.std.specs.Global.{Global}
 use Rattle.pb_propagate.specs.declared.store.Occurrence.{Occurrence}
 use Rattle.pb_propagate.specs.declared.store.stored_form.StoredForm.{StoredForm}
@@ -64,7 +64,6 @@ pub record IsUnlisted (k : StoredForm) : Type 0 where
   pub terms : terms_of k.terms ≡ []
   pub degree : k.degree ≡ 0
   pub total : k.total ≡ 0
-  pub eager : k.eager ≡ false
 
 -- an empty form
 pub record IsEmpty (k : StoredForm) : Type 0 where
@@ -72,4 +71,3 @@ pub record IsEmpty (k : StoredForm) : Type 0 where
   pub terms : terms_of k.terms ≡ []
   pub degree : k.degree ≡ 0
   pub total : k.total ≡ 0
-  pub eager : k.eager ≡ false

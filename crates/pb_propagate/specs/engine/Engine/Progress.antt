@@ -153,9 +153,6 @@ abbrev pub AreSettled : List Shape → List NumberedLiteral → Type 0
 AreSettled forms list = (f : Shape) → Contains forms f → IsSettled f list
 
 -- the same of the program's values
-abbrev pub RunIsOpen : Store → Rests → Run → Type 0
-RunIsOpen store rests run = IsOpen (database store rests) (progress run)
-
 abbrev pub RunIsTidy : Store → Rests → List ℕ → ℕ → Run → Type 0
 RunIsTidy store rests aside busy run = IsTidyAt (database store rests) aside busy (progress run)
 
@@ -170,6 +167,21 @@ list_of run = run.assignment.list.items
 
 abbrev pub values_of : Run → List (Option Bool)
 values_of run = run.assignment.values.items
+
+-- the open sums of the run are those of its literals
+abbrev pub RunIsCounted : Store → Run → Type 0
+RunIsCounted store run = IsCounted (shapes_in store) run.opens.items (list_of run) []
+
+-- the lists have an entry for each variable and each form, and the open sums are those of the literals
+pub record AreOpen (store : Store) (os cs work : List ℕ) (at : ℕ) (vs : List (Option Bool)) (list : List NumberedLiteral) : Type 0 where
+  pub values : length vs ≡ store.variables
+  pub opens : length os ≡ length store.stored.items
+  pub candidates : length cs ≡ length store.stored.items
+  pub next : at ≤ length work
+  pub counted : IsCounted (shapes_in store) os list []
+
+abbrev pub RunIsOpen : Store → Run → Type 0
+RunIsOpen store run = AreOpen store run.opens.items run.candidates.items run.work.items run.next (values_of run) (list_of run)
 
 -- no form is being visited
 abbrev pub RunIsCalm : Store → Rests → List ℕ → Run → Type 0
@@ -201,9 +213,8 @@ pub record RunReasons (forms : List Shape) (old new : Run) : Type 0 where
   pub added : HaveReasons forms (reasons_of new) (list_of old) (list_of new)
 
 -- the constraint of the slot is the literal's reason if it was added
-pub record RunRecords (slot : ℕ) (l : NumberedLiteral) (old new : Run) : Type 0 where
-  pub kept : RunKeepsReasons old new
-  pub reason : has (list_of old) l ≡ false → has (list_of old) (negation l) ≡ false → slice_get (reasons_of new) l.variable ≡ Some slot
+abbrev pub RunRecords : ℕ → NumberedLiteral → Run → Run → Type 0
+RunRecords slot l old new = has (list_of old) l ≡ false → has (list_of old) (negation l) ≡ false → slice_get (reasons_of new) l.variable ≡ Some slot
 
 abbrev pub RunLowers : Store → Rests → Visited → Run → Run → Type 0
 RunLowers store rests e old new = Lowers (database store rests) e (progress old) (progress new)

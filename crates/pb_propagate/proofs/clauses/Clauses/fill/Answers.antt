@@ -68,7 +68,6 @@ write-requires-clause-room c =
 
 pub returns-clause-literals : goal.returns-clause-literals
 returns-clause-literals c =
-    let xs = c.args.literals.items in
     let me = c.args.self.now in
     let one = c.in_ok-put_in.ensures.watches in
     let two = c.in_ok-put_in-2.ensures.watches in

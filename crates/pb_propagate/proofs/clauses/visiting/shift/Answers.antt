@@ -10,18 +10,14 @@ put_in-requires-clause-watch c =
 pub put_in-requires-clause-small : goal.put_in-requires-clause-small
 put_in-requires-clause-small c = c.requires.linked.small c.args.watch (c.requires.linked.named c.args.watch c.args.literal c.args.index c.requires.item).live
 
-pub returns-clause-literal : goal.returns-clause-literal
-returns-clause-literal c =
-    let h = sits-within c.args.blocks.now.watches c.args.watch c.args.literal c.args.index (c.requires.linked.named c.args.watch c.args.literal c.args.index c.requires.item) in
-    ap (λ (b : Contents). (watch_at b.watches c.args.watch).literal) c.in_ok-put_in.ensures.watches ∙ ap (λ (w : Watch). w.literal) (get_or-set_same c.take_out.new.blocks.watches c.args.watch _ idle (omega (arith, h, c.take_out.ensures.sizes.0)))
-
-pub returns-clause-live : goal.returns-clause-live
-returns-clause-live c =
-    let h = sits-within c.args.blocks.now.watches c.args.watch c.args.literal c.args.index (c.requires.linked.named c.args.watch c.args.literal c.args.index c.requires.item) in
-    ap (λ (b : Contents). (watch_at b.watches c.args.watch).live) c.in_ok-put_in.ensures.watches ∙ ap (λ (w : Watch). w.live) (get_or-set_same c.take_out.new.blocks.watches c.args.watch _ idle (omega (arith, h, c.take_out.ensures.sizes.0)))
-
 pub returns-clause-more : goal.returns-clause-more
 returns-clause-more c = λ x there. elim (c.in_ok-put_in.ensures.more x there) [
   | inl is ↦ inl is
   | inr old ↦ inr (c.take_out.ensures.fewer x old)
 ]
+
+pub returns-clause-moved : goal.returns-clause-moved
+returns-clause-moved c =
+    let h = sits-within c.args.blocks.now.watches c.args.watch c.args.literal c.args.index (c.requires.linked.named c.args.watch c.args.literal c.args.index c.requires.item) in
+    let now = ap (λ (b : Contents). watch_at b.watches c.args.watch) c.in_ok-put_in.ensures.watches ∙ get_or-set_same c.take_out.new.blocks.watches c.args.watch _ idle (omega (arith, h, c.take_out.ensures.sizes.0)) in
+    (ap (λ (w : Watch). w.literal) now, ap (λ (w : Watch). w.live) now)

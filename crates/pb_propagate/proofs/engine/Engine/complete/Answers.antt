@@ -1,5 +1,4 @@
-use Rattle.pb_propagate.proofs.Common.{◌∙◌, ◌≡◌, ap, length, refl, all_of, clauses_of}
-use Rattle.pb_propagate.proofs.Common.{forms_of, Live, Standing, numbered}
+use Rattle.pb_propagate.proofs.Common.{◌∙◌, ◌≡◌, ap, length, refl, all_of, clauses_of, forms_of, Live, Standing, numbered}
 use Rattle.pb_propagate.proofs.lemmas.engine.Rests.{slots-kept}
 use Rattle.pb_propagate.proofs.lemmas.engine.Assumed.{refuted-meets, ended-free, ended-completion}
 use Rattle.pb_propagate.proofs.lemmas.root.Kept.{kept-conflicts, kept-vacant}

@@ -4,6 +4,7 @@ use Rattle.pb_propagate.proofs.lemmas.store.Changes.{forms-length}
 use Rattle.pb_propagate.proofs.lemmas.store.Placed.{numbered-same, numbered-filled, numbered-grown, placed-agree, placed-filled}
 use Rattle.pb_propagate.proofs.lemmas.root.Kept.{gained-kept}
 use Rattle.pb_propagate.proofs.lemmas.root.Gained.{gained-both}
+use Rattle.pb_propagate.proofs.engine.Engine.insert.Goals.{In_ok-slot}
 use Rattle.pb_propagate.proofs.engine.Engine.insert.Goals as goal
 
 pub invariant_of-self-2 : goal.invariant_of-self-2
@@ -36,8 +37,9 @@ returns-in_err-occupy-clause-unchanged c =
     let reported : numbered (forms_of c.occupy.new.store.stored.items) e.places.items ≡ c.args.self.now.forms = ap (λ fs. numbered fs e.places.items) c.in_err-occupy.ensures.refused ∙ same in
     search (rules, reported)
 
-pub returns-in_err-push-clause-unchanged : goal.returns-in_err-push-clause-unchanged
-returns-in_err-push-clause-unchanged c =
+-- the forms were the same before the number was pushed
+same-forms : (c : In_ok-slot) → numbered (set (forms_of c.vacancy.new.store.stored.items) c.in_ok-slot.slot (Some c.args.form)) c.self.inside.places.items ≡ c.args.self.now.forms
+same-forms c =
     let e = c.self.inside in
     let r = c.self.invariant (ap (λ (v : Standing). v.spent) c.self.view_is ∙ c.requires.ready) in
     let keep = c.vacancy.new.store.stored in
@@ -47,24 +49,13 @@ returns-in_err-push-clause-unchanged c =
     let none = c.in_ok-slot.ensures.slot in
     let small : slot < 2 ^ 64 - 1 = omega (arith, slice_get_within forms slot None none, keep.ok.0, keep.ok.1, forms-length keep.items) in
     let placed = placed-agree was forms e.places.items c.vacancy.ensures.forms r.1 in
-    let same : numbered (set forms slot (Some c.args.form)) e.places.items ≡ c.args.self.now.forms =
-    numbered-filled forms e.places.items slot c.args.form none small placed ∙ numbered-same was forms e.places.items (λ n s h. c.vacancy.ensures.forms s) ∙ ap (λ (v : Standing). v.forms) c.self.view_is in
-    search (rules, same)
+    numbered-filled forms e.places.items slot c.args.form none small placed ∙ numbered-same was forms e.places.items (λ n s h. c.vacancy.ensures.forms s) ∙ ap (λ (v : Standing). v.forms) c.self.view_is
+
+pub returns-in_err-push-clause-unchanged : goal.returns-in_err-push-clause-unchanged
+returns-in_err-push-clause-unchanged c = let same = same-forms (goal.at.returns-in_err-push-clause-unchanged c).In_ok-slot in search (rules, same)
 
 pub returns-in_err-admit-clause-unchanged : goal.returns-in_err-admit-clause-unchanged
-returns-in_err-admit-clause-unchanged c =
-    let e = c.self.inside in
-    let r = c.self.invariant (ap (λ (v : Standing). v.spent) c.self.view_is ∙ c.requires.ready) in
-    let keep = c.vacancy.new.store.stored in
-    let forms = forms_of keep.items in
-    let was = forms_of e.store.stored.items in
-    let slot = c.in_ok-slot.slot in
-    let none = c.in_ok-slot.ensures.slot in
-    let small : slot < 2 ^ 64 - 1 = omega (arith, slice_get_within forms slot None none, keep.ok.0, keep.ok.1, forms-length keep.items) in
-    let placed = placed-agree was forms e.places.items c.vacancy.ensures.forms r.1 in
-    let same : numbered (set forms slot (Some c.args.form)) e.places.items ≡ c.args.self.now.forms =
-    numbered-filled forms e.places.items slot c.args.form none small placed ∙ numbered-same was forms e.places.items (λ n s h. c.vacancy.ensures.forms s) ∙ ap (λ (v : Standing). v.forms) c.self.view_is in
-    search (rules, same)
+returns-in_err-admit-clause-unchanged c = let same = same-forms (goal.at.returns-in_err-admit-clause-unchanged c).In_ok-slot in search (rules, same)
 
 pub returns-clause-forms : goal.returns-clause-forms
 returns-clause-forms c =

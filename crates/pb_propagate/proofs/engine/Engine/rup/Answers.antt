@@ -1,10 +1,10 @@
-use Rattle.pb_propagate.proofs.Common.{◌*◌, ◌∙◌, ◌≡◌, ◌≤◌, [], ap, arith, inl, inr, length}
-use Rattle.pb_propagate.proofs.Common.{List, of_z, pos, refl, sym, true, w128}
-use Rattle.pb_propagate.proofs.Common.{NumberedLiteral, negation_of, all_of, clauses_of, forms_of}
-use Rattle.pb_propagate.proofs.Common.{Live, one_in, Standing, terms_in, alone, numbered, IsCompletion, MeetsConflict, With}
+use Rattle.pb_propagate.proofs.Common.{sum_by, ◌+◌, ◌*◌, ◌∙◌, ◌≡◌, ◌≤◌, [], ap, arith, inl, inr, length, List, of_z, pos, refl, sym, true, w128}
+use Rattle.pb_propagate.proofs.Common.{NumberedLiteral, negation_of, all_of, clauses_of, forms_of, Live, one_in, Standing, terms_in, alone, numbered}
+use Rattle.pb_propagate.proofs.Common.{IsCompletion, MeetsConflict, With}
 use Rattle.pb_propagate.proofs.lemmas.engine.Bounds.{slots-terms}
 use Rattle.pb_propagate.proofs.lemmas.root.Asked.{asked-meets, asked-free}
 use Rattle.pb_propagate.proofs.lemmas.root.Kept.{conflict-answered, conflict-few, kept-vacant}
+use Rattle.pb_propagate.proofs.engine.Engine.rup.Goals.{After-ask}
 use Rattle.pb_propagate.proofs.engine.Engine.rup.Goals as goal
 
 pub returns-then-degree-eq0-clause-not_implied : goal.returns-then-degree-eq0-clause-not_implied
@@ -109,8 +109,9 @@ returns-in_err-answer-clause-forms c =
     let both = c.self.invariant (ap (λ (v : Standing). v.spent) c.self.view_is ∙ c.requires.ready) in
     c.in_err-answer.ensures.forms e.places.items both.1 ∙ ap (λ (v : Standing). v.forms) c.self.view_is
 
-pub returns-clause-most : goal.returns-clause-most
-returns-clause-most c =
+-- the visits of the question
+asked-most : (c : After-ask) → c.ask.new.visits ≤ 3 * (sum_by terms_in c.args.self.now.forms + length c.args.goal.now.terms) + (sum_by one_in c.args.self.now.forms + 1)
+asked-most c =
     let e = c.self.inside in
     let both = c.self.invariant (ap (λ (v : Standing). v.spent) c.self.view_is ∙ c.requires.ready) in
     let forms = forms_of e.store.stored.items in
@@ -118,14 +119,11 @@ returns-clause-most c =
     let same : numbered forms e.places.items ≡ c.args.self.now.forms = ap (λ (v : Standing). v.forms) c.self.view_is in
     rw (← same) (omega (arith, c.ask.ensures.most, terms, both.1.alike terms_in refl, both.1.alike one_in refl))
 
+pub returns-clause-most : goal.returns-clause-most
+returns-clause-most c = asked-most (goal.at.returns-clause-most c).After-ask
+
 pub returns-in_err-answer-clause-most : goal.returns-in_err-answer-clause-most
-returns-in_err-answer-clause-most c =
-    let e = c.self.inside in
-    let both = c.self.invariant (ap (λ (v : Standing). v.spent) c.self.view_is ∙ c.requires.ready) in
-    let forms = forms_of e.store.stored.items in
-    let terms = slots-terms forms (all_of e.store e.clauses) both.0.slots in
-    let same : numbered forms e.places.items ≡ c.args.self.now.forms = ap (λ (v : Standing). v.forms) c.self.view_is in
-    rw (← same) (omega (arith, c.ask.ensures.most, terms, both.1.alike terms_in refl, both.1.alike one_in refl))
+returns-in_err-answer-clause-most c = asked-most (goal.at.returns-in_err-answer-clause-most c).After-ask
 
 -- a conflict of the root
 pub returns-then-self-clause-implied : goal.returns-then-self-clause-implied

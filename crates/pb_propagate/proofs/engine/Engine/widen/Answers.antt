@@ -1,5 +1,4 @@
-use Rattle.pb_propagate.proofs.Common.{◌∙◌, ◌∷◌, ◌≡◌, [], ap, arith, length, length-append, refl, all_of, clauses_of, shapes_of}
-use Rattle.pb_propagate.proofs.Common.{spots_of, Standing}
+use Rattle.pb_propagate.proofs.Common.{◌∙◌, ◌∷◌, ◌≡◌, [], ap, arith, length, length-append, refl, all_of, clauses_of, shapes_of, spots_of, Standing}
 use Rattle.pb_propagate.proofs.lemmas.store.Places.{entries-length}
 use Rattle.pb_propagate.proofs.lemmas.engine.Wider.{widened-stored, half}
 use Rattle.pb_propagate.proofs.lemmas.root.Kept.{conflict-same}

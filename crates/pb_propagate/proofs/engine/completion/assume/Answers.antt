@@ -1,19 +1,14 @@
-use Rattle.pb_propagate.proofs.Common.{◌+◌, ◌∙◌, ◌≡◌, arith, false, get_or, inl, true, NumberedLiteral, negation, shapes_of, begin, has, database}
-use Rattle.pb_propagate.proofs.Common.{list_of, progress, reasons_of}
+use Rattle.pb_propagate.proofs.Common.{◌+◌, ◌≡◌, false, get_or, inl, true, NumberedLiteral, negation, shapes_of, begin, has}
 use Rattle.pb_propagate.proofs.lemmas.engine.Assumed.{Assumed, assumed-next, none-assumed, opposed-clash}
-use Rattle.pb_propagate.proofs.lemmas.engine.Advances.{advances-refl, advances-then}
-use Rattle.pb_propagate.proofs.lemmas.engine.Reasoned.{keeps-then}
-use Rattle.pb_propagate.proofs.lemmas.root.Extends.{extends-within}
+use Rattle.pb_propagate.proofs.lemmas.root.Ready.{puts-none, puts-then}
 use Rattle.pb_propagate.proofs.engine.completion.assume.Goals as goal
 
 pub given-init : goal.given-init
 given-init c =
     let list = c.args.run.now.assignment.list.items in
     record {
-      advances = advances-refl (database c.args.store.now c.args.rests.now) (progress c.args.run.now);
-      counted = c.requires.counted;
-      tidy = λ aside busy t. t;
-      reasons = λ l s on at. at;
+      puts = puts-none c.args.store.now c.args.rests.now c.args.run.now;
+      sums = c.requires.sums;
       within = λ l h. inl h;
       covers = none-assumed list;
     }
@@ -43,10 +38,8 @@ given-preserved c =
     let reported = c.in_ok-try_put.ensures in
     let a = assumed-next c.args.run.now.assignment.list.items c.args.given.now c.given.run.assignment.list.items c.try_put.new.run.assignment.list.items c.given.i d c.given-test.true free reported.adopted (record { within = i.within; covers = i.covers }) in
     record {
-      advances = advances-then i.advances reported.advances;
-      counted = reported.counted c.if-branch.false;
-      tidy = λ aside busy t. reported.tidy aside busy (i.tidy aside busy t);
-      reasons = keeps-then (list_of c.args.run.now) (list_of c.given.run) (reasons_of c.args.run.now) (reasons_of c.given.run) (reasons_of c.try_put.new.run) (extends-within (list_of c.args.run.now) (list_of c.given.run) c.given.invariant.advances.costs.extends) c.given.invariant.reasons c.in_ok-try_put.ensures.reasons.kept;
+      puts = puts-then i.puts reported.puts;
+      sums = reported.sums c.if-branch.false;
       within = a.within;
       covers = a.covers;
     }
@@ -58,34 +51,5 @@ returns-then-branch-clause-clash c = λ found. record {
   conflict = c.in_ok-try_put.ensures.conflict c.if-branch.true;
 }
 
-pub returns-then-branch-clause-advances : goal.returns-then-branch-clause-advances
-returns-then-branch-clause-advances c = advances-then c.given.invariant.advances c.in_ok-try_put.ensures.advances
-
-pub returns-then-branch-clause-tidy : goal.returns-then-branch-clause-tidy
-returns-then-branch-clause-tidy c = λ aside busy t. c.in_ok-try_put.ensures.tidy aside busy (c.given.invariant.tidy aside busy t)
-
-pub returns-then-contains-clause-advances : goal.returns-then-contains-clause-advances
-returns-then-contains-clause-advances c = c.given.invariant.advances
-
-pub returns-clause-advances : goal.returns-clause-advances
-returns-clause-advances c = c.given.invariant.advances
-
-pub try_put-requires-clause-values : goal.try_put-requires-clause-values
-try_put-requires-clause-values c = c.given.invariant.advances.values ∙ c.requires.values
-
-pub try_put-requires-clause-opens : goal.try_put-requires-clause-opens
-try_put-requires-clause-opens c = c.given.invariant.advances.opens ∙ c.requires.opens
-
-pub try_put-requires-clause-next : goal.try_put-requires-clause-next
-try_put-requires-clause-next c =
-    let a = c.given.invariant.advances in
-    omega (arith, a.next, a.longer, c.requires.next)
-
-pub returns-then-branch-clause-reasons : goal.returns-then-branch-clause-reasons
-returns-then-branch-clause-reasons c = keeps-then (list_of c.args.run.now) (list_of c.given.run) (reasons_of c.args.run.now) (reasons_of c.given.run) (reasons_of c.try_put.new.run) (extends-within (list_of c.args.run.now) (list_of c.given.run) c.given.invariant.advances.costs.extends) c.given.invariant.reasons c.in_ok-try_put.ensures.reasons.kept
-
-pub returns-then-contains-clause-reasons : goal.returns-then-contains-clause-reasons
-returns-then-contains-clause-reasons c = c.given.invariant.reasons
-
-pub returns-clause-reasons : goal.returns-clause-reasons
-returns-clause-reasons c = c.given.invariant.reasons
+pub returns-then-branch-clause-puts : goal.returns-then-branch-clause-puts
+returns-then-branch-clause-puts c = puts-then c.given.invariant.puts c.in_ok-try_put.ensures.puts

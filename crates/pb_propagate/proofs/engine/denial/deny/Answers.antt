@@ -4,13 +4,6 @@ use Rattle.pb_propagate.proofs.lemmas.engine.Literals.{negation-negation}
 use Rattle.pb_propagate.proofs.lemmas.root.Denials.{adopted-denied, adopted-found}
 use Rattle.pb_propagate.proofs.engine.denial.deny.Goals as goal
 
-pub returns-then-contains-clause-advances : goal.returns-then-contains-clause-advances
-returns-then-contains-clause-advances c = advances-visit (database c.args.store.now c.args.rests.now) (progress c.args.run.now) c.count.new.self 0 1 c.count.ensures.rising (omega (arith, c.count.ensures.count))
-
-pub returns-clause-advances : goal.returns-clause-advances
-returns-clause-advances c =
-    advances-then (advances-visit (database c.args.store.now c.args.rests.now) (progress c.args.run.now) c.count.new.self 0 1 c.count.ensures.rising (omega (arith, c.count.ensures.count))) c.in_ok-found.ensures.advances
-
 pub returns-in_err-found-clause-costs : goal.returns-in_err-found-clause-costs
 returns-in_err-found-clause-costs c =
     on-err _ (costs-then (advances-visit (database c.args.store.now c.args.rests.now) (progress c.args.run.now) c.count.new.self 0 1 c.count.ensures.rising (omega (arith, c.count.ensures.count))).costs c.in_err-found.ensures.costs)
@@ -32,13 +25,19 @@ returns-clause-denied c = λ free.
     adopted-denied c.args.literal c.args.run.now.assignment.list.items c.try_put.new.run.assignment.list.items off (rw c.negation.ensures at c.in_ok-found.ensures.adopted)
 
 pub returns-clause-found : goal.returns-clause-found
-returns-clause-found c = adopted-found (negation c.args.literal) c.args.run.now.assignment.list.items c.try_put.new.run.assignment.list.items c.args.run.now.visits c.count.new.self c.try_put.new.run.visits c.count.ensures.count c.in_ok-found.ensures.advances.rising (rw c.negation.ensures at c.in_ok-found.ensures.adopted)
+returns-clause-found c = adopted-found (negation c.args.literal) c.args.run.now.assignment.list.items c.try_put.new.run.assignment.list.items c.args.run.now.visits c.count.new.self c.try_put.new.run.visits c.count.ensures.count c.in_ok-found.ensures.puts.advances.rising (rw c.negation.ensures at c.in_ok-found.ensures.adopted)
 
 pub returns-clause-conflict : goal.returns-clause-conflict
 returns-clause-conflict c = λ found. inr (c.in_ok-found.ensures.conflict found)
 
-pub returns-then-contains-clause-reasons : goal.returns-then-contains-clause-reasons
-returns-then-contains-clause-reasons c = λ l s on at. at
+pub returns-then-contains-clause-puts : goal.returns-then-contains-clause-puts
+returns-then-contains-clause-puts c = record {
+  advances = advances-visit (database c.args.store.now c.args.rests.now) (progress c.args.run.now) c.count.new.self 0 1 c.count.ensures.rising (omega (arith, c.count.ensures.count));
+  tidy = λ aside busy t. t;
+  kept = λ l s on at. at;
+}
 
-pub returns-clause-reasons : goal.returns-clause-reasons
-returns-clause-reasons c = c.in_ok-found.ensures.reasons.kept
+pub returns-clause-puts : goal.returns-clause-puts
+returns-clause-puts c =
+    let puts = c.in_ok-found.ensures.puts in
+    record { advances = advances-then (advances-visit (database c.args.store.now c.args.rests.now) (progress c.args.run.now) c.count.new.self 0 1 c.count.ensures.rising (omega (arith, c.count.ensures.count))) puts.advances; tidy = puts.tidy; kept = puts.kept }

@@ -1,8 +1,8 @@
 use Rattle.pb_propagate.proofs.Common.{ℕ, ◌++◌, ◌+◌, ◌∙◌, ◌∷◌, ◌≡◌, [], ap, arith, get_or, Global, length, length-append, length-set, List, refl}
 use Rattle.pb_propagate.proofs.Common.{rules, set, subst, sym, take, Vec, Contains, sum, sum_by, take-append_seam, length-map, sum_by_push}
-use Rattle.pb_propagate.proofs.Common.{NumberedLiteral, Assignment, Listed, KeepsWalked, IsMark, all_of, clauses_of, joined, beside, IsTidy}
-use Rattle.pb_propagate.proofs.Common.{none, forms_of, shapes_of, stored_shape, Conflicts, Derives, KeepsReasons, open_sum, Shape, list_of}
-use Rattle.pb_propagate.proofs.Common.{reasons_of, alone, posed, ArePlaced, numbered}
+use Rattle.pb_propagate.proofs.Common.{NumberedLiteral, Assignment, Listed, KeepsWalked, IsMark, all_of, clauses_of, joined, beside, IsTidy, none}
+use Rattle.pb_propagate.proofs.Common.{forms_of, shapes_of, stored_shape, Conflicts, Derives, KeepsReasons, open_sum, Shape, list_of, reasons_of}
+use Rattle.pb_propagate.proofs.Common.{alone, posed, ArePlaced, numbered, ◌*◌, ◌≤◌}
 use Rattle.pb_propagate.proofs.lemmas.clauses.Heads.{heads-is, visits-back, walks-kept}
 use Rattle.pb_propagate.proofs.lemmas.clauses.Slots.{joined-push}
 use Rattle.pb_propagate.proofs.lemmas.engine.Derivations.{derivation-then}
@@ -15,31 +15,29 @@ use Rattle.pb_propagate.proofs.lemmas.root.Kept.{conflict-answered}
 use Rattle.pb_propagate.proofs.lemmas.root.Questions.{entered-shapes, laid-counted, laid-tidy, undone-same, derives-entered, kept-terms, found-after, found-both, question-most, updated-most, both-parts}
 use Rattle.pb_propagate.proofs.lemmas.store.Placed.{numbered-entered}
 use Rattle.pb_propagate.proofs.lemmas.engine.Reasoned.{reasons-derive, reasons-keep}
+use Rattle.pb_propagate.specs.engine.Engine.Root.{terms_of_all}
+use Rattle.pb_propagate.proofs.engine.question.pose.Goals.{After-propagate}
 use Rattle.pb_propagate.proofs.engine.question.pose.Goals as goal
 
 pub returns-in_err-update-clause-most : goal.returns-in_err-update-clause-most
 returns-in_err-update-clause-most c =
-    let costs = c.update.ensures.costs in
-    let most = updated-most c.args.store.now c.args.clauses.now c.args.root.now.rests c.args.root.now.waiting.list.items c.args.root.now.walked.heads c.args.root.now.run costs.ended c.requires.standing.sound c.requires.standing.joined (reasons-derive c.requires.standing.rooted.reasoned) c.requires.standing.rooted.work c.requires.visits costs.spends in
-    omega (arith, most, costs.visits)
+    let most = updated-most c.requires.standing c.requires.visits c.update.ensures.costs in
+    omega (arith, most)
 
 pub returns-then-branch-clause-most : goal.returns-then-branch-clause-most
 returns-then-branch-clause-most c =
-    let costs = c.update.ensures.costs in
-    let most = updated-most c.args.store.now c.args.clauses.now c.args.root.now.rests c.args.root.now.waiting.list.items c.args.root.now.walked.heads c.args.root.now.run costs.ended c.requires.standing.sound c.requires.standing.joined (reasons-derive c.requires.standing.rooted.reasoned) c.requires.standing.rooted.work c.requires.visits costs.spends in
-    omega (arith, most, costs.visits)
+    let most = updated-most c.requires.standing c.requires.visits c.update.ensures.costs in
+    omega (arith, most)
 
 pub returns-in_err-enter-clause-most : goal.returns-in_err-enter-clause-most
 returns-in_err-enter-clause-most c =
-    let costs = c.update.ensures.costs in
-    let most = updated-most c.args.store.now c.args.clauses.now c.args.root.now.rests c.args.root.now.waiting.list.items c.args.root.now.walked.heads c.args.root.now.run costs.ended c.requires.standing.sound c.requires.standing.joined (reasons-derive c.requires.standing.rooted.reasoned) c.requires.standing.rooted.work c.requires.visits costs.spends in
-    omega (arith, most, costs.visits, c.enter.ensures.rest.3)
+    let most = updated-most c.requires.standing c.requires.visits c.update.ensures.costs in
+    omega (arith, most, c.enter.ensures.rest.3)
 
 pub returns-in_err-lay-clause-most : goal.returns-in_err-lay-clause-most
 returns-in_err-lay-clause-most c =
-    let costs = c.update.ensures.costs in
-    let most = updated-most c.args.store.now c.args.clauses.now c.args.root.now.rests c.args.root.now.waiting.list.items c.args.root.now.walked.heads c.args.root.now.run costs.ended c.requires.standing.sound c.requires.standing.joined (reasons-derive c.requires.standing.rooted.reasoned) c.requires.standing.rooted.work c.requires.visits costs.spends in
-    omega (arith, most, costs.visits, c.enter.ensures.rest.3, c.lay.ensures.visits)
+    let most = updated-most c.requires.standing c.requires.visits c.update.ensures.costs in
+    omega (arith, most, c.enter.ensures.rest.3, c.lay.ensures.visits)
 
 pub returns-in_err-lay-clause-forms : goal.returns-in_err-lay-clause-forms
 returns-in_err-lay-clause-forms c =
@@ -62,101 +60,9 @@ returns-then-branch-clause-asked c =
     let few = found-after (length a.list.items) c.update.new.self.run.visits (length c.args.root.now.run.assignment.list.items) (rw c.requires.visits at met.found) (omega (arith, a.list.ok.0, a.list.ok.1)) in
     alone refl (conflict-answered (all_of c.args.store.now c.args.clauses.now) c.update.new.self.run.visits a few (c.in_ok-update.ensures.kept.holds met.met))
 
-pub propagate-requires-clause-opens : goal.propagate-requires-clause-opens
-propagate-requires-clause-opens c =
-    let store = c.args.store.now in
-    let keep = store.stored.items in
-    let root = c.update.new.self in
-    let run = root.run in
-    let rests = root.rests in
-    let between = c.update.new.clauses in
-    let r = c.in_ok-update.ensures.rooted in
-    let new = c.enter.new in
-    let h = c.in_ok-enter.ensures.entered in
-    let list_is = ap (λ (a : Assignment). a.list.items) c.enter.ensures.rest.0 in
-    let opens = run.opens.items in
-    let d : Shape = record { terms = []; degree = 0 } in
-    omega (arith, ap length (c.in_ok-lay.ensures.opens d), length-set c.enter.new.run.opens.items c.len-number.result (open_sum c.enter.new.run.assignment.list.items (get_or (shapes_of c.enter.new.store.stored.items) c.len-number.result d).terms), ap length h.opened, length-append opens (h.kept.total ∷ []), r.open_sizes, ap length h.keeps, length-append keep (h.kept ∷ []))
-
-pub propagate-requires-clause-single : goal.propagate-requires-clause-single
-propagate-requires-clause-single c =
-    let store = c.args.store.now in
-    let keep = store.stored.items in
-    let root = c.update.new.self in
-    let run = root.run in
-    let rests = root.rests in
-    let between = c.update.new.clauses in
-    let r = c.in_ok-update.ensures.rooted in
-    let new = c.enter.new in
-    let h = c.in_ok-enter.ensures.entered in
-    let list_is = ap (λ (a : Assignment). a.list.items) c.enter.ensures.rest.0 in
-    let laid_is = ap (λ (a : Assignment). a.list.items) (c.lay.ensures.assignment ∙ c.enter.ensures.rest.0) in
-    let number_is : c.len-number.result ≡ length keep = omega (arith, c.len-number.ensures, store.stored.ok.0) in
-    rw laid_is (derivation-single (all_of store between) [] run.assignment.list.items none (reasons-derive r.reasoned))
-
-pub propagate-requires-clause-joined : goal.propagate-requires-clause-joined
-propagate-requires-clause-joined c =
-    let store = c.args.store.now in
-    let keep = store.stored.items in
-    let root = c.update.new.self in
-    let run = root.run in
-    let rests = root.rests in
-    let between = c.update.new.clauses in
-    let r = c.in_ok-update.ensures.rooted in
-    let new = c.enter.new in
-    let h = c.in_ok-enter.ensures.entered in
-    let list_is = ap (λ (a : Assignment). a.list.items) c.enter.ensures.rest.0 in
-    let lit : clauses_of between ≡ clauses_of c.args.clauses.now = c.update.ensures.literals in
-    rw lit (joined-entered c.args.form keep new.store.stored.items (clauses_of c.args.clauses.now) run.opens.items new.run.opens.items run.candidates.items new.run.candidates.items h c.requires.standing.joined)
-
-pub propagate-requires-clause-counted : goal.propagate-requires-clause-counted
-propagate-requires-clause-counted c =
-    let store = c.args.store.now in
-    let keep = store.stored.items in
-    let root = c.update.new.self in
-    let run = root.run in
-    let rests = root.rests in
-    let between = c.update.new.clauses in
-    let r = c.in_ok-update.ensures.rooted in
-    let new = c.enter.new in
-    let h = c.in_ok-enter.ensures.entered in
-    let list_is = ap (λ (a : Assignment). a.list.items) c.enter.ensures.rest.0 in
-    let laid_is = ap (λ (a : Assignment). a.list.items) (c.lay.ensures.assignment ∙ c.enter.ensures.rest.0) in
-    let number_is : c.len-number.result ≡ length keep = omega (arith, c.len-number.ensures, store.stored.ok.0) in
-    rw laid_is (laid-counted c.args.form keep new.store.stored.items run.opens.items new.run.opens.items run.candidates.items new.run.candidates.items c.lay.new.run.opens.items run.assignment.list.items c.len-number.result h number_is r.open_sizes
-    (λ s d less. r.counted s d less (λ e. absurd (omega (arith, e, less)))) (λ d. c.in_ok-lay.ensures.opens d ∙ ap (λ (xs : List NumberedLiteral). set new.run.opens.items c.len-number.result (open_sum xs (get_or (shapes_of new.store.stored.items) c.len-number.result d).terms)) list_is))
-
-pub propagate-requires-clause-tidy : goal.propagate-requires-clause-tidy
-propagate-requires-clause-tidy c =
-    let store = c.args.store.now in
-    let keep = store.stored.items in
-    let root = c.update.new.self in
-    let run = root.run in
-    let rests = root.rests in
-    let between = c.update.new.clauses in
-    let r = c.in_ok-update.ensures.rooted in
-    let new = c.enter.new in
-    let h = c.in_ok-enter.ensures.entered in
-    let list_is = ap (λ (a : Assignment). a.list.items) c.enter.ensures.rest.0 in
-    let laid_is = ap (λ (a : Assignment). a.list.items) (c.lay.ensures.assignment ∙ c.enter.ensures.rest.0) in
-    let number_is : c.len-number.result ≡ length keep = omega (arith, c.len-number.ensures, store.stored.ok.0) in
-    let low = λ (d : Shape). c.in_ok-lay.ensures.opens d ∙ ap (λ (xs : List NumberedLiteral). set new.run.opens.items c.len-number.result (open_sum xs (get_or (shapes_of new.store.stored.items) c.len-number.result d).terms)) list_is in
-    let work_is = ap (λ (v : Vec ℕ Global). v.items) c.enter.ensures.rest.1 ∙ r.work in
-    let queued = rw (list_is, work_is) at c.in_ok-lay.ensures.work in
-    let trail_is = c.in_ok-lay.ensures.trail ∙ ap (λ (xs : List ℕ). xs ++ (c.len-number.result ∷ [])) (ap (λ (v : Vec ℕ Global). v.items) c.enter.ensures.trail ∙ r.trail) in
-    let none_waits = (c.in_ok-update.ensures.updated c.if-branch.false).none in
-    let before : IsTidy (beside rests []) (shapes_of keep) run.opens.items run.candidates.items run.assignment.list.items [] [] 0 c.len-number.result = rw number_is (rw none_waits at r.tidy) in
-    let tidy = laid-tidy rests c.args.form keep new.store.stored.items run.opens.items new.run.opens.items run.candidates.items new.run.candidates.items c.lay.new.run.opens.items run.assignment.list.items c.lay.new.run.work.items c.lay.new.run.trail.items c.len-number.result h number_is r.open_sizes r.start_sizes (omega (arith, ap length r.opens, r.open_sizes)) (omega (arith, ap length r.starts, r.start_sizes)) before low queued trail_is in
-    let cands_is = ap (λ (v : Vec ℕ Global). v.items) c.lay.ensures.candidates in
-    rw (c.as_slice.ensures.value, c.new-none.ensures.items, laid_is, cands_is, c.lay.ensures.next ∙ c.enter.ensures.rest.2 ∙ r.next) tidy
-
-pub propagate-requires-clause-running : goal.propagate-requires-clause-running
-propagate-requires-clause-running c =
-    let values_is = ap (λ (a : Assignment). a.values.items) (c.lay.ensures.assignment ∙ c.enter.ensures.rest.0) in
-    rw values_is (c.in_ok-update.ensures.updated c.if-branch.false).running
-
-pub returns-in_err-found-clause-most : goal.returns-in_err-found-clause-most
-returns-in_err-found-clause-most c =
+-- the visits of both parts
+posed-most : (c : After-propagate) → c.propagate.new.run.visits ≤ 3 * (terms_of_all c.args.store.now c.args.clauses.now + length c.args.form.terms) + (length c.args.root.now.waiting.list.items + 1)
+posed-most c =
     let store = c.args.store.now in
     let keep = store.stored.items in
     let root = c.update.new.self in
@@ -187,37 +93,11 @@ returns-in_err-found-clause-most c =
     let more = ap (sum_by (λ (f : Shape). length f.terms)) whole ∙ sum_by_push (λ (f : Shape). length f.terms) (all_of store c.args.clauses.now) (stored_shape h.kept) in
     omega (arith, most, more, kept-terms c.args.form (stored_shape h.kept) h.is)
 
+pub returns-in_err-found-clause-most : goal.returns-in_err-found-clause-most
+returns-in_err-found-clause-most c = posed-most (goal.at.returns-in_err-found-clause-most c).After-propagate
+
 pub returns-clause-most : goal.returns-clause-most
-returns-clause-most c =
-    let store = c.args.store.now in
-    let keep = store.stored.items in
-    let root = c.update.new.self in
-    let run = root.run in
-    let rests = root.rests in
-    let between = c.update.new.clauses in
-    let r = c.in_ok-update.ensures.rooted in
-    let new = c.enter.new in
-    let h = c.in_ok-enter.ensures.entered in
-    let list_is = ap (λ (a : Assignment). a.list.items) c.enter.ensures.rest.0 in
-    let laid_is = ap (λ (a : Assignment). a.list.items) (c.lay.ensures.assignment ∙ c.enter.ensures.rest.0) in
-    let number_is : c.len-number.result ≡ length keep = omega (arith, c.len-number.ensures, store.stored.ok.0) in
-    let lit : clauses_of between ≡ clauses_of c.args.clauses.now = c.update.ensures.literals in
-    let count_is : c.len-count.result ≡ length run.assignment.list.items = omega (arith, c.len-count.ensures, run.assignment.list.ok.0) in
-    let clauses = clauses_of c.args.clauses.now in
-    let whole : all_of new.store c.args.clauses.now ≡ all_of store c.args.clauses.now ++ (stored_shape h.kept ∷ []) =
-    ap (λ xs. joined xs clauses) (entered-shapes c.args.form keep new.store.stored.items run.opens.items new.run.opens.items run.candidates.items new.run.candidates.items h) ∙ joined-push (shapes_of keep) clauses (stored_shape h.kept) c.requires.standing.joined.short in
-    let start : Derives (all_of new.store c.args.clauses.now) [] c.args.root.now.run.assignment.list.items = rw whole (derives-entered (all_of store c.args.clauses.now) (stored_shape h.kept) [] c.args.root.now.run.assignment.list.items (reasons-derive c.requires.standing.rooted.reasoned)) in
-    let done = c.propagate.new.run in
-    let work_is = ap (λ (v : Vec ℕ Global). v.items) c.enter.ensures.rest.1 ∙ r.work in
-    let few = grown-length c.len-number.result c.enter.new.run.work.items c.lay.new.run.work.items c.in_ok-lay.ensures.work in
-    let spends = rw (c.as_slice.ensures.value ∙ c.new-none.ensures.items) at c.propagate.ensures.costs in
-    let cands = ap (λ (v : Vec ℕ Global). sum v.items) c.lay.ensures.candidates ∙ ap sum h.candidates ∙ sum_by_push (λ (n : ℕ). n) run.candidates.items 0 in
-    let upper = both-parts store new.store c.args.clauses.now between c.args.root.now.rests rests c.args.root.now.waiting.list.items c.args.root.now.walked.heads c.args.root.now.run run c.lay.new.run done c.at.result (heads-is c.at.result (length run.assignment.list.items) (c.at.ensures.0 ∙ count_is) (c.at.ensures.1 ∙ count_is)) lit c.in_ok-enter.ensures.longer laid_is (omega (arith, cands)) (c.lay.ensures.visits ∙ c.enter.ensures.rest.3) c.requires.standing.rooted.work (omega (arith, few.1, ap length work_is)) c.requires.visits (c.in_ok-update.ensures.updated c.if-branch.false).pays spends in
-    let extends = extends-then c.args.root.now.run.assignment.list.items run.assignment.list.items done.assignment.list.items (c.in_ok-update.ensures.updated c.if-branch.false).pays.extends (rw laid_is at spends.extends) in
-    let most = question-most new.store clauses c.args.root.now.run.assignment.list.items done.assignment.list.items done.visits (length c.args.root.now.waiting.list.items + 1) (sum done.candidates.items) c.in_ok-enter.ensures.sound
-    (joined-entered c.args.form keep new.store.stored.items clauses run.opens.items new.run.opens.items run.candidates.items new.run.candidates.items h c.requires.standing.joined) spends.single (λ l on. opposite done.assignment.values.items done.assignment.list.items l done.assignment.agrees on) extends start spends.bounded upper in
-    let more = ap (sum_by (λ (f : Shape). length f.terms)) whole ∙ sum_by_push (λ (f : Shape). length f.terms) (all_of store c.args.clauses.now) (stored_shape h.kept) in
-    omega (arith, most, more, kept-terms c.args.form (stored_shape h.kept) h.is, c.back.ensures.visits, c.leave.ensures.rest.3)
+returns-clause-most c = let most = posed-most (goal.at.returns-clause-most c).After-propagate in omega (arith, most, c.back.ensures.visits, c.leave.ensures.rest.3)
 
 pub returns-clause-asked : goal.returns-clause-asked
 returns-clause-asked c =
@@ -225,7 +105,6 @@ returns-clause-asked c =
     let keep = store.stored.items in
     let root = c.update.new.self in
     let run = root.run in
-    let rests = root.rests in
     let between = c.update.new.clauses in
     let r = c.in_ok-update.ensures.rooted in
     let new = c.enter.new in
@@ -246,10 +125,10 @@ returns-clause-asked c =
     posed (stored_shape h.kept) h.is (record {
       list = done.assignment.list.items;
       derived = rw whole at all;
-      few = omega (arith, found-after (length done.assignment.list.items) done.visits (length c.args.root.now.run.assignment.list.items) (found-both (length c.args.root.now.run.assignment.list.items) (length run.assignment.list.items) (length c.lay.new.run.assignment.list.items) (length done.assignment.list.items) c.args.root.now.run.visits run.visits c.lay.new.run.visits done.visits c.requires.visits (ap length laid_is) (c.lay.ensures.visits ∙ c.enter.ensures.rest.3) (c.in_ok-update.ensures.updated c.if-branch.false).found reported.found c.in_ok-found.ensures.rising) (omega (arith, done.assignment.list.ok.0, done.assignment.list.ok.1)), c.back.ensures.visits, c.leave.ensures.rest.3);
+      few = omega (arith, found-after (length done.assignment.list.items) done.visits (length c.args.root.now.run.assignment.list.items) (found-both (length c.args.root.now.run.assignment.list.items) (length run.assignment.list.items) (length c.lay.new.run.assignment.list.items) (length done.assignment.list.items) c.args.root.now.run.visits run.visits c.lay.new.run.visits done.visits c.requires.visits (ap length laid_is) (c.lay.ensures.visits ∙ c.enter.ensures.rest.3) (c.in_ok-update.ensures.updated c.if-branch.false).found reported.gains.found c.in_ok-found.ensures.gains.rising) (omega (arith, done.assignment.list.ok.0, done.assignment.list.ok.1)), c.back.ensures.visits, c.leave.ensures.rest.3);
       one_sided = λ l on. opposite done.assignment.values.items done.assignment.list.items l done.assignment.agrees on;
       conflict = λ found. subst (λ xs. Conflicts xs done.assignment.list.items) (whole_now) (reported.conflict found);
-      settled = λ found f has. reported.settled found f (subst (λ xs. Contains xs f) (sym whole_now) has);
+      settled = λ found f has. (reported.settled found).settled f (subst (λ xs. Contains xs f) (sym whole_now) has);
     })
 
 pub returns-then-branch-clause-left : goal.returns-then-branch-clause-left
@@ -292,18 +171,18 @@ returns-clause-left c =
     let lit : clauses_of b.clauses ≡ clauses_of between = (c.back.ensures.literals ∙ c.propagate.ensures.literals) in
     let mine : c.lay.new.run.assignment ≡ run.assignment = c.lay.ensures.assignment ∙ c.enter.ensures.rest.0 in
     let last_is : reasons_of last.run ≡ reasons_of done = ap (λ (a : Assignment). a.reasons.items) c.leave.ensures.rest.0 ∙ ap (λ (v : Vec ℕ Global). v.items) c.back.ensures.reasons in
-    let keeps : KeepsReasons (list_of run) (reasons_of run) (reasons_of last.run) = subst (λ xs. KeepsReasons (list_of run) (reasons_of run) xs) (sym last_is) (subst (λ (a : Assignment). KeepsReasons a.list.items a.reasons.items (reasons_of done)) mine reported.reasons.kept) in
+    let keeps : KeepsReasons (list_of run) (reasons_of run) (reasons_of last.run) = subst (λ xs. KeepsReasons (list_of run) (reasons_of run) xs) (sym last_is) (subst (λ (a : Assignment). KeepsReasons a.list.items a.reasons.items (reasons_of done)) mine reported.left.reasons) in
     let values_is = ap (λ (a : Assignment). a.values.items) (c.lay.ensures.assignment ∙ c.enter.ensures.rest.0) in
-    let moved = subst (λ vs. KeepsWalked vs between c.propagate.new.clauses) values_is reported.kept in
+    let moved = subst (λ vs. KeepsWalked vs between c.propagate.new.clauses) values_is reported.left.kept in
     let fallen = visits-back run.assignment.values.items between c.propagate.new.clauses b.clauses run.assignment.list.items run.assignment.agrees lit c.back.ensures.watches moved in
     record {
       sound = c.leave.ensures.sound;
       kept = kept_is;
       ready = c.back.ensures.ready;
-      lists = omega (arith, ap (λ (v : Vec (Vec Listed Global) Global). length v.items) c.back.ensures.lists, reported.running.sizes, reported.values, ap length values_is, r.values, c.requires.standing.widths);
+      lists = omega (arith, ap (λ (v : Vec (Vec Listed Global) Global). length v.items) c.back.ensures.lists, reported.left.running.sizes, reported.left.values, ap length values_is, r.values, c.requires.standing.widths);
       conflict = c.in_ok-update.ensures.kept;
       rooted = record {
-        values = ap (λ (a : Assignment). length a.values.items) c.leave.ensures.rest.0 ∙ c.back.ensures.values ∙ reported.values ∙ ap (λ (a : Assignment). length a.values.items) (c.lay.ensures.assignment ∙ c.enter.ensures.rest.0) ∙ r.values ∙ sym (c.leave.ensures.variables ∙ c.enter.ensures.variables);
+        values = ap (λ (a : Assignment). length a.values.items) c.leave.ensures.rest.0 ∙ c.back.ensures.values ∙ reported.left.values ∙ ap (λ (a : Assignment). length a.values.items) (c.lay.ensures.assignment ∙ c.enter.ensures.rest.0) ∙ r.values ∙ sym (c.leave.ensures.variables ∙ c.enter.ensures.variables);
         opens = opens_is;
         starts = starts_is;
         open_sizes = ap length (opens_is ∙ sym r.opens) ∙ r.open_sizes ∙ sym (ap length kept_is);
@@ -320,12 +199,49 @@ returns-clause-left c =
       };
     }
 
-pub propagate-requires-clause-walked : goal.propagate-requires-clause-walked
-propagate-requires-clause-walked c =
+pub propagate-requires-clause-ready : goal.propagate-requires-clause-ready
+propagate-requires-clause-ready c =
+    let store = c.args.store.now in
+    let keep = store.stored.items in
     let root = c.update.new.self in
-    let list = root.run.assignment.list.items in
+    let run = root.run in
+    let r = c.in_ok-update.ensures.rooted in
+    let new = c.enter.new in
+    let h = c.in_ok-enter.ensures.entered in
+    let list_is = ap (λ (a : Assignment). a.list.items) c.enter.ensures.rest.0 in
+    let opens = run.opens.items in
+    let d : Shape = record { terms = []; degree = 0 } in
+    let between = c.update.new.clauses in
     let laid_is = ap (λ (a : Assignment). a.list.items) (c.lay.ensures.assignment ∙ c.enter.ensures.rest.0) in
+    let number_is : c.len-number.result ≡ length keep = omega (arith, c.len-number.ensures, store.stored.ok.0) in
+    let rests = root.rests in
+    let low = λ (d : Shape). c.in_ok-lay.ensures.opens d ∙ ap (λ (xs : List NumberedLiteral). set new.run.opens.items c.len-number.result (open_sum xs (get_or (shapes_of new.store.stored.items) c.len-number.result d).terms)) list_is in
+    let work_is = ap (λ (v : Vec ℕ Global). v.items) c.enter.ensures.rest.1 ∙ r.work in
+    let queued = rw (list_is, work_is) at c.in_ok-lay.ensures.work in
+    let trail_is = c.in_ok-lay.ensures.trail ∙ ap (λ (xs : List ℕ). xs ++ (c.len-number.result ∷ [])) (ap (λ (v : Vec ℕ Global). v.items) c.enter.ensures.trail ∙ r.trail) in
+    let none_waits = (c.in_ok-update.ensures.updated c.if-branch.false).none in
+    let before : IsTidy (beside rests []) (shapes_of keep) run.opens.items run.candidates.items run.assignment.list.items [] [] 0 c.len-number.result = rw number_is (rw none_waits at r.tidy) in
+    let tidy = laid-tidy rests c.args.form keep new.store.stored.items run.opens.items new.run.opens.items run.candidates.items new.run.candidates.items c.lay.new.run.opens.items run.assignment.list.items c.lay.new.run.work.items c.lay.new.run.trail.items c.len-number.result h number_is r.open_sizes r.start_sizes (omega (arith, ap length r.opens, r.open_sizes)) (omega (arith, ap length r.starts, r.start_sizes)) before low queued trail_is in
+    let cands_is = ap (λ (v : Vec ℕ Global). v.items) c.lay.ensures.candidates in
+    let lit : clauses_of between ≡ clauses_of c.args.clauses.now = c.update.ensures.literals in
+    let values_is = ap (λ (a : Assignment). a.values.items) (c.lay.ensures.assignment ∙ c.enter.ensures.rest.0) in
+    let list = root.run.assignment.list.items in
     let count_is : c.len-count.result ≡ length list = omega (arith, c.len-count.ensures, root.run.assignment.list.ok.0) in
     let heads = heads-is c.at.result (length list) (c.at.ensures.0 ∙ count_is) (c.at.ensures.1 ∙ count_is) in
     let whole = subst (IsMark c.update.new.clauses.blocks.literals c.update.new.clauses.blocks.watches list) (c.in_ok-update.ensures.updated c.if-branch.false).walked c.in_ok-update.ensures.rooted.walks.now in
-    rw (laid_is, heads) whole
+    let next_is = c.lay.ensures.next ∙ c.enter.ensures.rest.2 ∙ r.next in
+    record {
+      sums = record {
+        values = ap length values_is ∙ r.values ∙ sym c.enter.ensures.variables;
+        opens = omega (arith, ap length (c.in_ok-lay.ensures.opens d), length-set c.enter.new.run.opens.items c.len-number.result (open_sum c.enter.new.run.assignment.list.items (get_or (shapes_of c.enter.new.store.stored.items) c.len-number.result d).terms), ap length h.opened, length-append opens (h.kept.total ∷ []), r.open_sizes, ap length h.keeps, length-append keep (h.kept ∷ []));
+        candidates = omega (arith, ap (λ (v : Vec ℕ Global). length v.items) c.lay.ensures.candidates, ap length h.candidates, length-append run.candidates.items (0 ∷ []), r.start_sizes, ap length h.keeps, length-append keep (h.kept ∷ []));
+        next = omega (arith, next_is);
+        counted = rw laid_is (laid-counted c.args.form keep new.store.stored.items run.opens.items new.run.opens.items run.candidates.items new.run.candidates.items c.lay.new.run.opens.items run.assignment.list.items c.len-number.result h number_is r.open_sizes
+            (λ s d less. r.counted s d less (λ e. absurd (omega (arith, e, less)))) (λ d. c.in_ok-lay.ensures.opens d ∙ ap (λ (xs : List NumberedLiteral). set new.run.opens.items c.len-number.result (open_sum xs (get_or (shapes_of new.store.stored.items) c.len-number.result d).terms)) list_is));
+      };
+      single = rw laid_is (derivation-single (all_of store between) [] run.assignment.list.items none (reasons-derive r.reasoned));
+      tidy = rw (c.as_slice.ensures.value, c.new-none.ensures.items, laid_is, cands_is, c.lay.ensures.next ∙ c.enter.ensures.rest.2 ∙ r.next) tidy;
+      joined = rw lit (joined-entered c.args.form keep new.store.stored.items (clauses_of c.args.clauses.now) run.opens.items new.run.opens.items run.candidates.items new.run.candidates.items h c.requires.standing.joined);
+      running = rw values_is (c.in_ok-update.ensures.updated c.if-branch.false).running;
+      walked = rw (laid_is, heads) whole;
+    }

@@ -1,29 +1,27 @@
-use Rattle.pb_propagate.proofs.Common.{◌++◌, ◌+◌, ◌∙◌, ◌∷◌, ◌≡◌, [], ap, arith, Global, length, List, refl, subst, take, Vec, sum, Entry}
-use Rattle.pb_propagate.proofs.Common.{Listed, IsMark, all_of, clauses_of, joined, none, denial_of, shapes_of, Conflicts}
-use Rattle.pb_propagate.proofs.Common.{Derives, AreSettled, alone, posed}
-use Rattle.pb_propagate.proofs.lemmas.clauses.Heads.{visits-back, walks-kept}
+use Rattle.pb_propagate.proofs.Common.{◌++◌, ◌+◌, ◌∷◌, ◌≡◌, [], ap, arith, Global, length, List, refl, subst, Vec, sum, Entry, Listed, all_of}
+use Rattle.pb_propagate.proofs.Common.{clauses_of, joined, denial_of, shapes_of, Conflicts, Derives, AreSettled, alone, posed, ◌*◌, ◌≤◌}
 use Rattle.pb_propagate.proofs.lemmas.engine.Derivations.{derivation-then}
-use Rattle.pb_propagate.proofs.lemmas.engine.Spent.{derivation-single}
 use Rattle.pb_propagate.proofs.lemmas.engine.Values.{opposite}
 use Rattle.pb_propagate.proofs.lemmas.root.Denials.{denial-stored}
 use Rattle.pb_propagate.proofs.lemmas.root.Extends.{extends-then}
 use Rattle.pb_propagate.proofs.lemmas.root.Kept.{conflict-answered}
 use Rattle.pb_propagate.proofs.lemmas.root.Questions.{derives-entered, found-after, found-both, question-most, updated-most}
-use Rattle.pb_propagate.proofs.lemmas.root.Returns.{both-costs, back-rooted, root-counted}
+use Rattle.pb_propagate.proofs.lemmas.root.Ready.{updated-ready}
+use Rattle.pb_propagate.proofs.lemmas.root.Returns.{both-costs, question-back}
 use Rattle.pb_propagate.proofs.lemmas.engine.Reasoned.{reasons-derive}
+use Rattle.pb_propagate.specs.engine.Engine.Root.{terms_of_all}
+use Rattle.pb_propagate.proofs.engine.question.pose_clause.Goals.{After-refute}
 use Rattle.pb_propagate.proofs.engine.question.pose_clause.Goals as goal
 
 pub returns-in_err-update-clause-most : goal.returns-in_err-update-clause-most
 returns-in_err-update-clause-most c =
-    let costs = c.update.ensures.costs in
-    let most = updated-most c.args.store.now c.args.clauses.now c.args.root.now.rests c.args.root.now.waiting.list.items c.args.root.now.walked.heads c.args.root.now.run costs.ended c.requires.standing.sound c.requires.standing.joined (reasons-derive c.requires.standing.rooted.reasoned) c.requires.standing.rooted.work c.requires.visits costs.spends in
-    omega (arith, most, costs.visits)
+    let most = updated-most c.requires.standing c.requires.visits c.update.ensures.costs in
+    omega (arith, most)
 
 pub returns-then-branch-clause-most : goal.returns-then-branch-clause-most
 returns-then-branch-clause-most c =
-    let costs = c.update.ensures.costs in
-    let most = updated-most c.args.store.now c.args.clauses.now c.args.root.now.rests c.args.root.now.waiting.list.items c.args.root.now.walked.heads c.args.root.now.run costs.ended c.requires.standing.sound c.requires.standing.joined (reasons-derive c.requires.standing.rooted.reasoned) c.requires.standing.rooted.work c.requires.visits costs.spends in
-    omega (arith, most, costs.visits)
+    let most = updated-most c.requires.standing c.requires.visits c.update.ensures.costs in
+    omega (arith, most)
 
 pub returns-then-branch-clause-asked : goal.returns-then-branch-clause-asked
 returns-then-branch-clause-asked c =
@@ -38,48 +36,14 @@ refute-requires-clause-inside c = rw c.terms.ensures.terms c.requires.inside
 pub refute-requires-clause-light : goal.refute-requires-clause-light
 refute-requires-clause-light c = rw c.terms.ensures.terms c.requires.clause.light
 
-pub refute-requires-clause-values : goal.refute-requires-clause-values
-refute-requires-clause-values c = c.in_ok-update.ensures.rooted.values
-
-pub refute-requires-clause-opens : goal.refute-requires-clause-opens
-refute-requires-clause-opens c = c.in_ok-update.ensures.rooted.open_sizes
-
-pub refute-requires-clause-candidates : goal.refute-requires-clause-candidates
-refute-requires-clause-candidates c = c.in_ok-update.ensures.rooted.start_sizes
-
 pub refute-requires-clause-work : goal.refute-requires-clause-work
 refute-requires-clause-work c =
     let r = c.in_ok-update.ensures.rooted in
     (r.work, r.next)
 
-pub refute-requires-clause-single : goal.refute-requires-clause-single
-refute-requires-clause-single c =
-    let r = c.in_ok-update.ensures.rooted in
-    derivation-single (all_of c.args.store.now c.update.new.clauses) [] c.update.new.self.run.assignment.list.items none (reasons-derive r.reasoned)
-
-pub refute-requires-clause-counted : goal.refute-requires-clause-counted
-refute-requires-clause-counted c =
-    let r = c.in_ok-update.ensures.rooted in
-    root-counted c.args.store.now c.update.new.clauses c.update.new.self.run c.update.new.self.rests c.update.new.self.waiting c.update.new.self.walked r
-
-pub refute-requires-clause-tidy : goal.refute-requires-clause-tidy
-refute-requires-clause-tidy c =
-    let r = c.in_ok-update.ensures.rooted in
-    rw (r.work, r.trail, r.next) (rw (c.in_ok-update.ensures.updated c.if-branch.false).none at r.tidy)
-
-pub refute-requires-clause-joined : goal.refute-requires-clause-joined
-refute-requires-clause-joined c =
-    let lit : clauses_of c.update.new.clauses ≡ clauses_of c.args.clauses.now = c.update.ensures.literals in
-    rw lit c.requires.standing.joined
-
-pub refute-requires-clause-running : goal.refute-requires-clause-running
-refute-requires-clause-running c = (c.in_ok-update.ensures.updated c.if-branch.false).running
-
-pub refute-requires-clause-walked : goal.refute-requires-clause-walked
-refute-requires-clause-walked c = subst (IsMark c.update.new.clauses.blocks.literals c.update.new.clauses.blocks.watches c.update.new.self.run.assignment.list.items) (c.in_ok-update.ensures.updated c.if-branch.false).walked c.in_ok-update.ensures.rooted.walks.now
-
-pub returns-in_err-found-clause-most : goal.returns-in_err-found-clause-most
-returns-in_err-found-clause-most c =
+-- the visits of both parts
+posed-most : (c : After-refute) → c.refute.new.run.visits ≤ 3 * (terms_of_all c.args.store.now c.args.clauses.now + length c.args.goal.now.terms) + (length c.args.root.now.waiting.list.items + 1)
+posed-most c =
     let store = c.args.store.now in
     let start = c.args.root.now.run in
     let root = c.update.new.self in
@@ -93,20 +57,11 @@ returns-in_err-found-clause-most c =
     let most = question-most store (clauses_of c.args.clauses.now) start.assignment.list.items done.assignment.list.items done.visits (length c.args.root.now.waiting.list.items + length c.terms.result.now) (sum done.candidates.items) c.requires.standing.sound c.requires.standing.joined costs.single (λ l on. opposite done.assignment.values.items done.assignment.list.items l done.assignment.agrees on) extends (reasons-derive c.requires.standing.rooted.reasoned) costs.bounded upper in
     omega (arith, most, entries)
 
+pub returns-in_err-found-clause-most : goal.returns-in_err-found-clause-most
+returns-in_err-found-clause-most c = posed-most (goal.at.returns-in_err-found-clause-most c).After-refute
+
 pub returns-clause-most : goal.returns-clause-most
-returns-clause-most c =
-    let store = c.args.store.now in
-    let start = c.args.root.now.run in
-    let root = c.update.new.self in
-    let done = c.refute.new.run in
-    let between = c.update.new.clauses in
-    let lit : clauses_of between ≡ clauses_of c.args.clauses.now = c.update.ensures.literals in
-    let entries = ap (λ (xs : List Entry). length xs) c.terms.ensures.terms in
-    let costs = c.refute.ensures.costs in
-    let upper = both-costs store c.args.clauses.now between c.args.root.now.rests root.rests c.args.root.now.waiting.list.items c.args.root.now.walked.heads (length c.terms.result.now) start root.run done lit c.requires.standing.rooted.work c.requires.visits (c.in_ok-update.ensures.updated c.if-branch.false).pays costs in
-    let extends = extends-then start.assignment.list.items root.run.assignment.list.items done.assignment.list.items (c.in_ok-update.ensures.updated c.if-branch.false).pays.extends costs.extends in
-    let most = question-most store (clauses_of c.args.clauses.now) start.assignment.list.items done.assignment.list.items done.visits (length c.args.root.now.waiting.list.items + length c.terms.result.now) (sum done.candidates.items) c.requires.standing.sound c.requires.standing.joined costs.single (λ l on. opposite done.assignment.values.items done.assignment.list.items l done.assignment.agrees on) extends (reasons-derive c.requires.standing.rooted.reasoned) costs.bounded upper in
-    omega (arith, most, entries, c.back.ensures.visits)
+returns-clause-most c = let most = posed-most (goal.at.returns-clause-most c).After-refute in omega (arith, most, c.back.ensures.visits)
 
 pub returns-clause-asked : goal.returns-clause-asked
 returns-clause-asked c =
@@ -126,7 +81,7 @@ returns-clause-asked c =
     posed x (denial-stored c.args.goal.now c.terms.ensures.normal c.requires.clause) (record {
       list = done.assignment.list.items;
       derived = derivation-then all [] root.run.assignment.list.items done.assignment.list.items first second;
-      few = omega (arith, found-after (length done.assignment.list.items) done.visits (length start.assignment.list.items) (found-both (length start.assignment.list.items) (length root.run.assignment.list.items) (length root.run.assignment.list.items) (length done.assignment.list.items) start.visits root.run.visits root.run.visits done.visits c.requires.visits refl refl (c.in_ok-update.ensures.updated c.if-branch.false).found reported.found reported.rising) (omega (arith, done.assignment.list.ok.0, done.assignment.list.ok.1)), c.back.ensures.visits);
+      few = omega (arith, found-after (length done.assignment.list.items) done.visits (length start.assignment.list.items) (found-both (length start.assignment.list.items) (length root.run.assignment.list.items) (length root.run.assignment.list.items) (length done.assignment.list.items) start.visits root.run.visits root.run.visits done.visits c.requires.visits refl refl (c.in_ok-update.ensures.updated c.if-branch.false).found reported.gains.found reported.gains.rising) (omega (arith, done.assignment.list.ok.0, done.assignment.list.ok.1)), c.back.ensures.visits);
       one_sided = λ l on. opposite done.assignment.values.items done.assignment.list.items l done.assignment.agrees on;
       conflict = λ found. subst (λ xs. Conflicts xs done.assignment.list.items) whole (reported.conflict found);
       settled = λ found. subst (λ xs. AreSettled xs done.assignment.list.items) whole (reported.settled found);
@@ -142,34 +97,19 @@ returns-then-branch-clause-left c = record {
   conflict = c.in_ok-update.ensures.kept;
 }
 
+pub refute-requires-clause-ready : goal.refute-requires-clause-ready
+refute-requires-clause-ready c = updated-ready c.in_ok-update.ensures.rooted (rw c.update.ensures.literals c.requires.standing.joined) (c.in_ok-update.ensures.updated c.if-branch.false)
+
 pub returns-clause-left : goal.returns-clause-left
 returns-clause-left c =
-    let store = c.args.store.now in
-    let root = c.update.new.self in
-    let run = root.run in
-    let between = c.update.new.clauses in
-    let reported = c.in_ok-found.ensures in
-    let last = c.back.new.run in
-    let count_is : c.len-count.result ≡ length run.assignment.list.items = omega (arith, c.len-count.ensures, run.assignment.list.ok.0) in
+    let run = c.update.new.self.run in
+    let left = c.in_ok-found.ensures.left in
     let r = c.in_ok-update.ensures.rooted in
     record {
       sound = c.requires.standing.sound;
       kept = refl;
       ready = c.back.ensures.ready;
-      lists = omega (arith, ap (λ (v : Vec (Vec Listed Global) Global). length v.items) c.back.ensures.lists, reported.running.sizes, reported.values, r.values, c.requires.standing.widths);
+      lists = omega (arith, ap (λ (v : Vec (Vec Listed Global) Global). length v.items) c.back.ensures.lists, left.running.sizes, left.values, r.values, c.requires.standing.widths);
       conflict = c.in_ok-update.ensures.kept;
-      rooted = back-rooted store between c.back.new.clauses run last root.rests root.waiting root.walked root.walked c.refute.new.run.assignment.list.items c.in_ok-update.ensures.rooted (record {
-        literals = (c.back.ensures.literals ∙ c.refute.ensures.literals);
-        walks = walks-kept between c.back.new.clauses run.assignment.list.items root.walked (visits-back run.assignment.values.items between c.refute.new.clauses c.back.new.clauses run.assignment.list.items run.assignment.agrees (c.back.ensures.literals ∙ c.refute.ensures.literals) c.back.ensures.watches reported.kept) c.in_ok-update.ensures.rooted.walks;
-        extends = c.refute.ensures.costs.extends;
-        reasons = rw c.back.ensures.reasons reported.reasons;
-        cut = c.back.ensures.list ∙ ap (λ n. take n c.refute.new.run.assignment.list.items) count_is;
-        values = c.back.ensures.values ∙ reported.values;
-        opens = c.back.ensures.opens;
-        candidates = c.back.ensures.candidates;
-        undone = c.back.ensures.undone;
-        work = c.back.ensures.work;
-        trail = c.back.ensures.trail;
-        next = c.back.ensures.next;
-      });
+      rooted = question-back r left c.back.ensures (omega (arith, c.len-count.ensures, run.assignment.list.ok.0)) c.refute.ensures.literals;
     }

@@ -1,4 +1,4 @@
-use Rattle.pb_propagate.proofs.Common.{◌<◌, ◌∙◌, arith, length, length-set, refl}
+use Rattle.pb_propagate.proofs.Common.{◌<◌, ◌∙◌, arith, length, length-set, refl, rules}
 use Rattle.pb_propagate.proofs.lemmas.root.Roots.{keep-next, keep-all}
 use Rattle.pb_propagate.proofs.engine.root.keep.Goals as goal
 
@@ -21,9 +21,20 @@ forms-preserved c =
       undone = (forms, long, keep-next rests _ forms run.opens.items run.candidates.items run.trail.items c.forms.i form c.index.result.now c.index-in-forms.result.now inside c.index-form.ensures room roomc c.index.ensures c.index-in-forms.ensures c.forms.invariant.opens c.forms.invariant.starts refl refl u);
     }
 
-pub returns-clause-rests : goal.returns-clause-rests
-returns-clause-rests c =
+pub returns : goal.returns
+returns c =
     let run = c.args.run.now in
     let rests = c.forms.rests in
     let u = c.forms.invariant.undone in
-    keep-all rests u.0 run.opens.items run.candidates.items run.trail.items c.forms.i (omega (arith, c.forms-test.false, c.len-i-end.ensures, run.trail.ok.0)) u.1 c.requires.sizes c.forms.invariant.opens c.forms.invariant.starts u.2
+    let kept = keep-all rests u.0 run.opens.items run.candidates.items run.trail.items c.forms.i (omega (arith, c.forms-test.false, c.len-i-end.ensures, run.trail.ok.0)) u.1 c.requires.sizes c.forms.invariant.opens c.forms.invariant.starts u.2 in
+    record {
+      opens = search rules;
+      candidates = search rules;
+      assignment = search rules;
+      work = search rules;
+      trail = search rules;
+      next = search rules;
+      visits = search rules;
+      rest_opens = kept.0;
+      rest_starts = kept.1;
+    }

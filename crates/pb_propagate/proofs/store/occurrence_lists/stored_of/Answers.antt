@@ -23,10 +23,6 @@ invariant_of-result c =
       small = omega (arith, size, normal.size_in);
       low = omega (arith, degree-read c.unsigned_abs-degree.result c.degree.result c.args.form.degree c.unsigned_abs-degree.ensures.value (rw c.form-normal.ensures at c.degree.ensures.degree) normal.degree_in, normal.degree_in);
       idle = c.bound_of-bound.ensures.calm;
-      aside = λ h. c.bound_of-bound.ensures.calm c.size-total.result 0 (c.is_below-eager.ensures.above h);
-      busy = λ h.
-          let low = c.is_below-eager.ensures.below h in
-          c.bound_of-bound.ensures.some (omega (arith, low));
       alike = λ even i d h. omega (arith, c.bound_of-bound.ensures.first d (omega (arith, h)), c.is_even-even.ensures even i d h);
     }
 

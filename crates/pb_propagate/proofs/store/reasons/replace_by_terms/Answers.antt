@@ -1,17 +1,11 @@
-use Rattle.pb_propagate.proofs.Common.{ℕ, ◌<◌, ◌∙◌, ◌≡◌, [], ap, arith, Bool, get_or, Global, inl, inr, length, List, subst, sym, Vec, Option}
-use Rattle.pb_propagate.proofs.Common.{cases_eq, length-map, Store, StoredForm, Term, IsSound, shapes_of, stored_shape, terms_at, AreInside, IsDue}
+use Rattle.pb_propagate.proofs.Common.{◌<◌, ◌∙◌, ◌≡◌, [], ap, arith, Bool, get_or, Global, inl, inr, length, List, subst, sym, Vec, Option}
+use Rattle.pb_propagate.proofs.Common.{cases_eq, Term, shapes_of, terms_at, IsDue}
 use Rattle.pb_propagate.proofs.Common.{Shape, terms_of}
 use Rattle.pb_propagate.proofs.lemmas.engine.Puts.{place-inside}
 use Rattle.pb_propagate.proofs.lemmas.engine.VisitSteps.{shape-at}
-use Rattle.pb_propagate.proofs.lemmas.root.Replaced.{same-reasons, other-then}
+use Rattle.pb_propagate.proofs.lemmas.root.Replaced.{same-reasons, other-then, terms-inside}
 use Rattle.pb_propagate.proofs.lemmas.store.Places.{entries-length}
 use Rattle.pb_propagate.proofs.store.reasons.replace_by_terms.Goals as goal
-
--- the variables of a stored form are those of the store
-terms-inside : (store : Store) (slot : ℕ) (k : StoredForm) → IsSound store → slot < length store.stored.items → k ≡ get_or store.stored.items slot k → AreInside store.variables (terms_of k.terms)
-terms-inside store slot k sound inside is =
-    let here : slot < length (shapes_of store.stored.items) = omega (arith, inside, length-map store.stored.items stored_shape) in
-    subst (λ (f : Shape). AreInside store.variables f.terms) (shape-at store.stored.items slot k inside is (stored_shape k)) (sound.inside slot (stored_shape k) here)
 
 pub terms-init : goal.terms-init
 terms-init c = record {

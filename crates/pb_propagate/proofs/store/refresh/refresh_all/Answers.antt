@@ -1,4 +1,4 @@
-use Rattle.pb_propagate.proofs.Common.{◌<◌, ap, arith, length, length-map, shapes_of, weighted, slice_get_within}
+use Rattle.pb_propagate.proofs.Common.{◌∙◌, get_or_read, refl, set, set-get_or, ◌<◌, ap, arith, length, length-map, shapes_of, weighted, slice_get_within}
 use Rattle.pb_propagate.proofs.lemmas.root.Retracted.{all-next, listed-entries, occurrence-read, refreshed-none, refreshed-then}
 use Rattle.pb_propagate.proofs.store.refresh.refresh_all.Goals as goal
 
@@ -6,6 +6,7 @@ pub entries-init : goal.entries-init
 entries-init c = record {
   each = refreshed-none c.args.store.now c.args.root.now c.requires.sized;
   all = λ j e less at. absurd (omega (arith, less));
+  opens = refl;
 }
 
 pub refresh-requires : goal.refresh-requires
@@ -14,7 +15,6 @@ refresh-requires c =
     let less : c.entries.j < length v.items = omega (arith, c.entries-test.true, c.len-j-end.ensures, v.ok.0) in
     let o = occurrence-read c.args.store.now c.args.literal c.place_of.result v c.entries.j c.index-entry.result.now c.requires.store c.requires.inside c.place_of.ensures.place c.index-entries.ensures c.index-entry.ensures less in
     record {
-      store = c.requires.store;
       form = o.form;
       some = o.some;
       sized = c.entries.invariant.each.sized;
@@ -28,6 +28,10 @@ entries-preserved c =
     record {
       each = refreshed-then c.args.store.now c.args.root.now c.entries.root c.refresh.new.root c.entries.invariant.each c.refresh.ensures.each;
       all = all-next c.args.store.now c.args.literal v.items c.entries.root c.refresh.new.root c.entries.j c.index-entry.result.now o c.index-entry.ensures less c.refresh.ensures.each c.refresh.ensures.form c.entries.invariant.all;
+      opens =
+          let form = c.index-entry.result.now.form in
+          let read = get_or_read c.entries.root.run.opens.items form c.index-opened.result.now (omega (arith, o.form, c.entries.invariant.each.sized.opens)) c.index-opened.ensures 0 in
+          c.refresh.ensures.opens ∙ ap (set c.entries.root.run.opens.items form) read ∙ set-get_or c.entries.root.run.opens.items form 0 ∙ c.entries.invariant.opens;
     }
 
 pub returns-clause-all : goal.returns-clause-all
@@ -36,3 +40,10 @@ returns-clause-all c = λ j e at.
     let same = listed-entries c.args.store.now c.args.literal c.place_of.result v c.requires.store c.requires.inside c.place_of.ensures.place c.index-entries.ensures in
     let inside = slice_get_within _ j e at in
     c.entries.invariant.all j e (omega (arith, inside, ap length same, length-map v.items (weighted (shapes_of c.args.store.now.stored.items)), c.entries-test.false, c.len-j-end.ensures, v.ok.0)) at
+
+pub index-opened-requires : goal.index-opened-requires
+index-opened-requires c =
+    let v = c.index-entries.result.now in
+    let less : c.entries.j < length v.items = omega (arith, c.entries-test.true, c.len-j-end.ensures, v.ok.0) in
+    let o = occurrence-read c.args.store.now c.args.literal c.place_of.result v c.entries.j c.index-entry.result.now c.requires.store c.requires.inside c.place_of.ensures.place c.index-entries.ensures c.index-entry.ensures less in
+    omega (arith, o.form, c.entries.invariant.each.sized.opens, c.entries.root.run.opens.ok.0)

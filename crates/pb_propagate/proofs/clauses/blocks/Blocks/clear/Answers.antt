@@ -1,5 +1,4 @@
-use Rattle.pb_propagate.proofs.Common.{◌∙◌, [], ap, arith, inl, get_or_read}
-use Rattle.pb_propagate.proofs.Common.{Contents, rewritten}
+use Rattle.pb_propagate.proofs.Common.{◌∙◌, [], ap, arith, inl, get_or_read, Contents, rewritten}
 use Rattle.pb_propagate.proofs.lemmas.clauses.Blocks.{block-behind, room-inside, clear-written}
 use Rattle.pb_propagate.proofs.clauses.blocks.Blocks.clear.Goals as goal
 

@@ -1,6 +1,4 @@
-use Rattle.pb_propagate.proofs.Common.{◌*◌, ◌+◌, ◌/◌, ◌∙◌, ◌≡◌, ap, arith, set, ◌%◌, get_or_read}
-use Rattle.pb_propagate.proofs.Common.{Contents, rewatched}
-use Rattle.pb_propagate.proofs.Common.{watch_place, idle}
+use Rattle.pb_propagate.proofs.Common.{◌*◌, ◌+◌, ◌/◌, ◌∙◌, ◌≡◌, ap, arith, set, ◌%◌, get_or_read, Contents, rewatched, watch_place, idle}
 use Rattle.pb_propagate.proofs.lemmas.clauses.Blocks.{live-behind, idle-written}
 use Rattle.pb_propagate.proofs.clauses.blocks.Blocks.idle.Goals as goal
 

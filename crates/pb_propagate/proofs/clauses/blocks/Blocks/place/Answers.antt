@@ -1,5 +1,4 @@
-use Rattle.pb_propagate.proofs.Common.{◌*◌, ◌+◌, ◌/◌, ◌∙◌, ◌≡◌, ap, arith, set, sym, true, ◌%◌, get_or_read, Watch}
-use Rattle.pb_propagate.proofs.Common.{Contents, number_at, rewatched}
+use Rattle.pb_propagate.proofs.Common.{◌*◌, ◌+◌, ◌/◌, ◌∙◌, ◌≡◌, ap, arith, set, sym, true, ◌%◌, get_or_read, Watch, Contents, number_at, rewatched}
 use Rattle.pb_propagate.proofs.Common.{watch_place}
 use Rattle.pb_propagate.proofs.lemmas.clauses.Blocks.{live-behind, place-written}
 use Rattle.pb_propagate.proofs.clauses.blocks.Blocks.place.Goals as goal

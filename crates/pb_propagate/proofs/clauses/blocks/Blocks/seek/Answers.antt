@@ -1,5 +1,4 @@
-use Rattle.pb_propagate.proofs.Common.{◌∙◌, ap, arith, get_or_read}
-use Rattle.pb_propagate.proofs.Common.{Contents, searched}
+use Rattle.pb_propagate.proofs.Common.{◌∙◌, ap, arith, get_or_read, Contents, searched}
 use Rattle.pb_propagate.proofs.lemmas.clauses.Blocks.{block-behind, room-inside, seek-written}
 use Rattle.pb_propagate.proofs.clauses.blocks.Blocks.seek.Goals as goal
 
@@ -19,6 +18,14 @@ index_mut-requires c =
 
 pub index_mut-requires-2 : goal.index_mut-requires-2
 index_mut-requires-2 c =
+    let room = block-behind c.args.self.now c.self.inside.words.items c.self.inside.starts.items c.self.inside.rooms.items c.args.slot c.self.view_is c.self.invariant c.requires.block in
+    let slot = room-inside c.self.inside.words.items c.self.inside.starts.items c.self.inside.rooms.items c.self.invariant c.args.slot room in
+    let at = get_or_read c.self.inside.starts.items c.args.slot c.index.result.now slot c.index.ensures 0 in
+    let inside = c.self.invariant.inside c.args.slot slot in
+    omega (arith, at, inside, c.self.inside.words.ok.0)
+
+pub index_mut-requires-3 : goal.index_mut-requires-3
+index_mut-requires-3 c =
     let room = block-behind c.args.self.now c.self.inside.words.items c.self.inside.starts.items c.self.inside.rooms.items c.args.slot c.self.view_is c.self.invariant c.requires.block in
     let slot = room-inside c.self.inside.words.items c.self.inside.starts.items c.self.inside.rooms.items c.self.invariant c.args.slot room in
     let at = get_or_read c.self.inside.starts.items c.args.slot c.index.result.now slot c.index.ensures 0 in

@@ -1,6 +1,4 @@
-use Rattle.pb_propagate.proofs.Common.{◌*◌, ◌+◌, ◌/◌, ◌∙◌, ◌≡◌, ap, arith, set, true, ◌%◌, get_or_read}
-use Rattle.pb_propagate.proofs.Common.{Contents, rewatched}
-use Rattle.pb_propagate.proofs.Common.{watch_place}
+use Rattle.pb_propagate.proofs.Common.{◌*◌, ◌+◌, ◌/◌, ◌∙◌, ◌≡◌, ap, arith, set, true, ◌%◌, get_or_read, Contents, rewatched, watch_place}
 use Rattle.pb_propagate.proofs.lemmas.clauses.Blocks.{block-behind, room-inside, both-written}
 use Rattle.pb_propagate.proofs.clauses.blocks.Blocks.watch.Goals as goal
 

@@ -1,6 +1,4 @@
-use Rattle.pb_propagate.proofs.Common.{◌*◌, ◌+◌, ◌/◌, ◌∙◌, ◌≡◌, ap, arith, sym, ◌%◌, get_or_read, Watch}
-use Rattle.pb_propagate.proofs.Common.{number_at}
-use Rattle.pb_propagate.proofs.Common.{watch_place}
+use Rattle.pb_propagate.proofs.Common.{◌*◌, ◌+◌, ◌/◌, ◌∙◌, ◌≡◌, ap, arith, sym, ◌%◌, get_or_read, Watch, number_at, watch_place}
 use Rattle.pb_propagate.proofs.lemmas.clauses.Blocks.{live-behind}
 use Rattle.pb_propagate.proofs.clauses.blocks.Blocks.watched.Goals as goal
 

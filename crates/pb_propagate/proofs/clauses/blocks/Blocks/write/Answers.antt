@@ -1,5 +1,4 @@
-use Rattle.pb_propagate.proofs.Common.{◌+◌, ◌<◌, ◌∙◌, ◌≤◌, ap, arith, length, length-set}
-use Rattle.pb_propagate.proofs.Common.{get_or_read, Contents, number_at, rewritten}
+use Rattle.pb_propagate.proofs.Common.{◌+◌, ◌<◌, ◌∙◌, ◌≤◌, ap, arith, length, length-set, get_or_read, Contents, number_at, rewritten}
 use Rattle.pb_propagate.proofs.lemmas.clauses.Blocks.{room-inside, whole-written}
 use Rattle.pb_propagate.proofs.clauses.blocks.Blocks.write.Goals as goal
 

@@ -1,4 +1,4 @@
-use Rattle.pb_propagate.proofs.Common.{ℕ, ◌+◌, ◌-◌, ◌<◌, ◌^◌, ◌≡◌, ◌≤◌, ◌⊎◌, get_or, length, true, IsRound, turned, false_at}
+use Rattle.pb_propagate.proofs.Common.{ℕ, ◌+◌, ◌-◌, ◌<◌, ◌≡◌, ◌≤◌, ◌⊎◌, get_or, length, true, IsRound, turned, false_at}
 use Rattle.pb_propagate.proofs.clauses.search.Search.advance.Given as goal
 
 abbrev pub decreases-literals : goal.decreases-literals
@@ -11,7 +11,5 @@ invariant-literals l = record {
   after : l.fn.self.passed ≤ l.at.passed;
   round : (start : ℕ) → IsRound start l.fn.self (length l.literals) → IsRound start l.at (length l.literals);
   passed : (start k d : ℕ) → IsRound start l.fn.self (length l.literals) → l.fn.self.passed ≤ k → k < l.at.passed → (false_at l.assignment.values.items (get_or (turned start l.literals) k d) ≡ true) ⊎ (get_or (turned start l.literals) k d ≡ l.other);
-  rising : l.initial.visits ≤ l.visits;
-  count : l.visits < 2 ^ 64 - 1 → l.visits + l.fn.self.passed ≡ l.initial.visits + l.at.passed;
-  few : l.visits + l.fn.self.passed ≤ l.initial.visits + l.at.passed;
+  unread : l.visits ≡ l.initial.visits;
 }

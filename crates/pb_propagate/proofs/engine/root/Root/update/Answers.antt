@@ -1,19 +1,16 @@
-use Rattle.pb_propagate.proofs.Common.{ℕ, ◌∙◌, ◌≡◌, [], ap, arith, get_or, Global, length, refl, sym, take, Vec, slice_get-get_or, slice_get_within, all_of, none}
+use Rattle.pb_propagate.proofs.Common.{ℕ, ◌∙◌, ◌≡◌, [], ap, arith, get_or, Global, length, refl, sym, take, Vec, slice_get-get_or, slice_get_within, all_of}
 use Rattle.pb_propagate.proofs.Common.{◌++◌, ◌-◌, forms_of, Assignment, Listed, heads_at}
 use Rattle.std.proofs.Math.ListN.{replicate}
 use Rattle.pb_propagate.proofs.lemmas.clauses.Heads.{heads-is, visits-back, walks-back, walks-ended}
 use Rattle.pb_propagate.proofs.lemmas.clauses.Watching.{ready-running}
 use Rattle.pb_propagate.proofs.lemmas.engine.Bounds.{form-inside}
-use Rattle.pb_propagate.proofs.lemmas.engine.Spent.{derivation-single}
-use Rattle.pb_propagate.proofs.lemmas.engine.Reasoned.{reasons-derive, run-reasons-rooted}
+use Rattle.pb_propagate.proofs.lemmas.engine.Reasoned.{run-reasons-rooted}
 use Rattle.pb_propagate.proofs.lemmas.root.Kept.{conflicts-kept, conflict-same, met-kept, vacant-kept}
 use Rattle.pb_propagate.proofs.lemmas.root.Returns.{back-rooted, rooted-waiting}
+use Rattle.pb_propagate.proofs.lemmas.root.Ready.{root-ready}
 use Rattle.pb_propagate.proofs.lemmas.root.Roots.{kept-rooted}
 use Rattle.pb_propagate.proofs.lemmas.store.Changes.{forms-length}
 use Rattle.pb_propagate.proofs.engine.root.Root.update.Goals as goal
-
-pub propagate-requires-clause-single : goal.propagate-requires-clause-single
-propagate-requires-clause-single c = derivation-single (all_of c.args.store.now c.args.clauses.now) [] c.args.self.now.run.assignment.list.items none (reasons-derive c.requires.standing.rooted.reasoned)
 
 pub propagate-requires-clause-waiting : goal.propagate-requires-clause-waiting
 propagate-requires-clause-waiting c =
@@ -23,64 +20,42 @@ propagate-requires-clause-waiting c =
     let f = c.requires.standing.rooted.live k (get_or list k d) (slice_get-get_or list k d less) in
     omega (arith, form-inside (forms_of keep) (get_or list k d) f.0 f.1, forms-length keep))
 
-pub propagate-requires-clause-running : goal.propagate-requires-clause-running
-propagate-requires-clause-running c = ready-running c.args.clauses.now c.args.self.now.run.assignment.values.items c.requires.standing.ready (omega (arith, c.requires.standing.widths, c.requires.standing.rooted.values))
-
 -- an allocation ends it
 pub returns-in_err-found-clause-costs : goal.returns-in_err-found-clause-costs
 returns-in_err-found-clause-costs c =
-    let me = c.args.self.now in
-    let count_is : c.len-count.result ≡ length me.run.assignment.list.items = omega (arith, c.len-count.ensures, me.run.assignment.list.ok.0) in
     let spends = rw c.as_slice.ensures.value at c.propagate.ensures.costs in
     record { ended = c.propagate.new.run; spends = spends; visits = refl }
 
 pub returns-in_err-note-clause-costs : goal.returns-in_err-note-clause-costs
 returns-in_err-note-clause-costs c =
-    let me = c.args.self.now in
-    let count_is : c.len-count.result ≡ length me.run.assignment.list.items = omega (arith, c.len-count.ensures, me.run.assignment.list.ok.0) in
     let spends = rw c.as_slice.ensures.value at c.propagate.ensures.costs in
     record { ended = c.propagate.new.run; spends = spends; visits = refl }
 
 -- a conflict is met
 pub note-requires-clause-values : goal.note-requires-clause-values
-note-requires-clause-values c = c.requires.vacant.values ∙ sym (c.in_ok-found.ensures.values ∙ c.requires.standing.rooted.values)
+note-requires-clause-values c = c.requires.vacant.values ∙ sym (c.in_ok-found.ensures.left.values ∙ c.requires.standing.rooted.values)
 
 pub note-requires-clause-reasoned : goal.note-requires-clause-reasoned
 note-requires-clause-reasoned c = (all_of c.args.store.now c.args.clauses.now, run-reasons-rooted c.requires.standing.rooted.reasoned c.in_ok-found.ensures.reasons)
 
 pub returns-then-found-clause-lists : goal.returns-then-found-clause-lists
-returns-then-found-clause-lists c = omega (arith, ap (λ (v : Vec (Vec Listed Global) Global). length v.items) c.back.ensures.lists, c.in_ok-found.ensures.running.sizes, c.in_ok-found.ensures.values, c.requires.standing.rooted.values, c.requires.standing.widths)
+returns-then-found-clause-lists c = omega (arith, ap (λ (v : Vec (Vec Listed Global) Global). length v.items) c.back.ensures.lists, c.in_ok-found.ensures.left.running.sizes, c.in_ok-found.ensures.left.values, c.requires.standing.rooted.values, c.requires.standing.widths)
 
 pub returns-then-found-clause-costs : goal.returns-then-found-clause-costs
 returns-then-found-clause-costs c =
-    let me = c.args.self.now in
-    let count_is : c.len-count.result ≡ length me.run.assignment.list.items = omega (arith, c.len-count.ensures, me.run.assignment.list.ok.0) in
     let spends = rw c.as_slice.ensures.value at c.propagate.ensures.costs in
     record { ended = c.propagate.new.run; spends = spends; visits = c.back.ensures.visits }
 
 pub returns-then-found-clause-rooted : goal.returns-then-found-clause-rooted
 returns-then-found-clause-rooted c =
-    let store = c.args.store.now in
     let me = c.args.self.now in
     let run = me.run in
     let r = c.requires.standing.rooted in
     let done = c.propagate.new.run in
     let reported = c.in_ok-found.ensures in
     let count_is : c.len-count.result ≡ length run.assignment.list.items = omega (arith, c.len-count.ensures, run.assignment.list.ok.0) in
-    back-rooted store c.args.clauses.now c.back.new.clauses run c.back.new.run me.rests _ me.walked (record { heads = me.walked.heads; marks = c.truncate.new.self }) done.assignment.list.items (rooted-waiting me.waiting _ refl refl r) (record {
-      literals = c.back.ensures.literals ∙ c.propagate.ensures.literals;
-      walks = walks-back c.args.clauses.now c.back.new.clauses run.assignment.list.items done.assignment.list.items me.walked (record { heads = me.walked.heads; marks = c.truncate.new.self }) c.propagate.new.marks.items r.walks c.propagate.ensures.costs.extends (visits-back run.assignment.values.items c.args.clauses.now c.propagate.new.clauses c.back.new.clauses run.assignment.list.items run.assignment.agrees (c.back.ensures.literals ∙ c.propagate.ensures.literals) c.back.ensures.watches reported.kept) (λ long old. rw (c.back.ensures.literals, c.back.ensures.watches) (reported.marks long old)) refl (c.truncate.ensures.items ∙ ap (λ n. take n c.propagate.new.marks.items) count_is);
-      extends = c.propagate.ensures.costs.extends;
-      reasons = rw c.back.ensures.reasons reported.reasons.kept;
-      cut = c.back.ensures.list ∙ ap (λ n. take n done.assignment.list.items) count_is;
-      values = c.back.ensures.values ∙ reported.values;
-      opens = c.back.ensures.opens;
-      candidates = c.back.ensures.candidates;
-      undone = c.back.ensures.undone;
-      work = c.back.ensures.work;
-      trail = c.back.ensures.trail;
-      next = c.back.ensures.next;
-    })
+    back-rooted (rooted-waiting me.waiting _ refl refl r) reported.left c.back.ensures count_is c.propagate.ensures.literals
+    (walks-back c.args.clauses.now c.back.new.clauses run.assignment.list.items done.assignment.list.items me.walked (record { heads = me.walked.heads; marks = c.truncate.new.self }) c.propagate.new.marks.items r.walks c.propagate.ensures.costs.extends (visits-back run.assignment.values.items c.args.clauses.now c.propagate.new.clauses c.back.new.clauses run.assignment.list.items run.assignment.agrees (c.back.ensures.literals ∙ c.propagate.ensures.literals) c.back.ensures.watches reported.left.kept) (λ long old. rw (c.back.ensures.literals, c.back.ensures.watches) (reported.marks long old)) refl (c.truncate.ensures.items ∙ ap (λ n. take n c.propagate.new.marks.items) count_is))
 
 pub returns-then-found-clause-kept : goal.returns-then-found-clause-kept
 returns-then-found-clause-kept c =
@@ -96,14 +71,12 @@ pub returns-then-found-clause-met : goal.returns-then-found-clause-met
 returns-then-found-clause-met c = λ found. record {
   ready = c.back.ensures.ready;
   met = c.in_ok-note.ensures.met;
-  found = rw (c.in_ok-note.ensures.list, c.back.ensures.visits) c.in_ok-found.ensures.found;
+  found = rw (c.in_ok-note.ensures.list, c.back.ensures.visits) c.in_ok-found.ensures.gains.found;
 }
 
 -- none is met
 pub returns-clause-costs : goal.returns-clause-costs
 returns-clause-costs c =
-    let me = c.args.self.now in
-    let count_is : c.len-count.result ≡ length me.run.assignment.list.items = omega (arith, c.len-count.ensures, me.run.assignment.list.ok.0) in
     let spends = rw c.as_slice.ensures.value at c.propagate.ensures.costs in
     record { ended = c.propagate.new.run; spends = spends; visits = c.keep.ensures.visits }
 
@@ -114,37 +87,28 @@ returns-clause-rooted c =
     let r = c.requires.standing.rooted in
     let done = c.propagate.new.run in
     let reported = c.in_ok-found.ensures in
-    let end = c.if-found.false in
+    let settled = reported.settled c.if-found.false in
     let reasoned = run-reasons-rooted r.reasoned reported.reasons in
     let lit = c.propagate.ensures.literals in
     let whole_is : c.len-whole.result ≡ length done.assignment.list.items = omega (arith, c.len-whole.ensures, done.assignment.list.ok.0, ap (λ (a : Assignment). length a.list.items) c.keep.ensures.assignment, c.keep.new.run.assignment.list.ok.0) in
     let heads = heads-is c.finish.new.self.heads (length done.assignment.list.items) (c.in_ok-finish.ensures.heads.0 ∙ whole_is) (c.in_ok-finish.ensures.heads.1 ∙ whole_is) in
     kept-rooted store c.propagate.new.clauses done c.keep.new.run me.rests c.keep.new.rests [] c.clear.new.self c.finish.new.self
     (record {
-      values = reported.values ∙ r.values;
-      opens = reported.opens;
-      candidates = reported.candidates;
-      counted = reported.counted end;
+      values = reported.left.values ∙ r.values;
+      opens = reported.left.opens;
+      candidates = reported.left.candidates;
+      counted = settled.counted;
       reasoned = rw lit reasoned;
-      walks = walks-ended c.args.clauses.now c.propagate.new.clauses me.run.assignment.list.items done.assignment.list.items me.walked c.finish.new.self c.propagate.new.marks.items r.walks reported.marks (reported.walked end) heads (c.in_ok-finish.ensures.marks ∙ ap (λ n. c.propagate.new.marks.items ++ replicate (n - length c.propagate.new.marks.items) (heads_at 0)) whole_is);
+      walks = walks-ended c.args.clauses.now c.propagate.new.clauses me.run.assignment.list.items done.assignment.list.items me.walked c.finish.new.self c.propagate.new.marks.items r.walks reported.marks settled.walked heads (c.in_ok-finish.ensures.marks ∙ ap (λ n. c.propagate.new.marks.items ++ replicate (n - length c.propagate.new.marks.items) (heads_at 0)) whole_is);
     })
-    (reported.tidy end)
-    (λ s off. (λ i from less at. absurd (omega (arith, less)), λ i from less at. let end_is = reported.done end in absurd (omega (arith, from, less, end_is))))
-    (record {
-      opens = c.keep.ensures.opens;
-      candidates = c.keep.ensures.candidates;
-      assignment = c.keep.ensures.assignment;
-      work = c.keep.ensures.work;
-      trail = c.keep.ensures.trail;
-      next = c.keep.ensures.next;
-      rest_opens = c.keep.ensures.rests.0;
-      rest_starts = c.keep.ensures.rests.1;
-    })
+    settled.tidy
+    (λ s off. (λ i from less at. absurd (omega (arith, less)), λ i from less at. let end_is = settled.done in absurd (omega (arith, from, less, end_is))))
+    c.keep.ensures
     (ap (λ (v : Vec ℕ Global). length v.items) c.clear.ensures.seats ∙ r.seats)
     (λ i s at. absurd (omega (arith, slice_get_within c.clear.new.self.list.items i s at, ap length c.clear.ensures.list)))
 
 pub returns-clause-lists : goal.returns-clause-lists
-returns-clause-lists c = omega (arith, c.in_ok-found.ensures.running.sizes, c.in_ok-found.ensures.values, c.requires.standing.rooted.values, c.requires.standing.widths)
+returns-clause-lists c = omega (arith, c.in_ok-found.ensures.left.running.sizes, c.in_ok-found.ensures.left.values, c.requires.standing.rooted.values, c.requires.standing.widths)
 
 pub returns-clause-kept : goal.returns-clause-kept
 returns-clause-kept c = vacant-kept (all_of c.args.store.now c.args.clauses.now) c.args.store.now.variables c.args.conflict.now c.requires.vacant
@@ -153,20 +117,19 @@ pub returns-clause-updated : goal.returns-clause-updated
 returns-clause-updated c = λ none.
     let me = c.args.self.now in
     let reported = c.in_ok-found.ensures in
-    let end = c.if-found.false in
     let count_is : c.len-count.result ≡ length me.run.assignment.list.items = omega (arith, c.len-count.ensures, me.run.assignment.list.ok.0) in
-    let pays = rw c.as_slice.ensures.value at (reported.pays end) in
+    let pays = rw c.as_slice.ensures.value at (reported.settled c.if-found.false).pays in
     let done = c.propagate.new.run in
     let whole_is : c.len-whole.result ≡ length done.assignment.list.items = omega (arith, c.len-whole.ensures, done.assignment.list.ok.0, ap (λ (a : Assignment). length a.list.items) c.keep.ensures.assignment, c.keep.new.run.assignment.list.ok.0) in
     record {
-      running = rw c.keep.ensures.assignment reported.running;
+      running = rw c.keep.ensures.assignment reported.left.running;
       pays = record {
         extends = rw c.keep.ensures.assignment pays.extends;
         single = rw c.keep.ensures.assignment pays.single;
         bounded = rw c.keep.ensures.candidates pays.bounded;
         upper = rw (c.keep.ensures.assignment, c.keep.ensures.candidates, c.keep.ensures.visits) pays.upper;
       };
-      found = rw (c.keep.ensures.assignment, c.keep.ensures.visits) reported.found;
+      found = rw (c.keep.ensures.assignment, c.keep.ensures.visits) reported.gains.found;
       none = c.clear.ensures.list;
       walked = rw c.keep.ensures.assignment (heads-is c.finish.new.self.heads (length c.propagate.new.run.assignment.list.items) (c.in_ok-finish.ensures.heads.0 ∙ whole_is) (c.in_ok-finish.ensures.heads.1 ∙ whole_is));
     }
@@ -175,3 +138,8 @@ pub returns-in_err-finish-clause-costs : goal.returns-in_err-finish-clause-costs
 returns-in_err-finish-clause-costs c =
     let spends = rw c.as_slice.ensures.value at c.propagate.ensures.costs in
     record { ended = c.propagate.new.run; spends = spends; visits = c.keep.ensures.visits }
+
+pub propagate-requires-clause-ready : goal.propagate-requires-clause-ready
+propagate-requires-clause-ready c =
+    let s = c.requires.standing in
+    rw c.as_slice.ensures.value (root-ready s.rooted s.joined (ready-running c.args.clauses.now c.args.self.now.run.assignment.values.items s.ready (omega (arith, s.widths, s.rooted.values))))

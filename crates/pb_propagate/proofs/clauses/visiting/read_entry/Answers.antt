@@ -1,6 +1,6 @@
 use Rattle.pb_propagate.proofs.Common.{◌<◌, ◌∙◌, ap, arith, length, slice_get, length-map, Listed}
 use Rattle.pb_propagate.proofs.lemmas.clauses.Listed.{entries-here, watch-here, entry-read}
-use Rattle.pb_propagate.proofs.clauses.visiting.visit_entry.Goals as goal
+use Rattle.pb_propagate.proofs.clauses.visiting.read_entry.Goals as goal
 
 pub returns-clause-listed : goal.returns-clause-listed
 returns-clause-listed c =

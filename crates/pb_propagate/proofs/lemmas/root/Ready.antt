@@ -1,0 +1,118 @@
+-- What the parts of a question need, and what they leave: literals that are assigned, a propagation, and the way back.
+use Rattle.pb_propagate.proofs.Common.{ℕ, ◌+◌, ◌∙◌, ◌≤◌, [], arith, length, List, refl, subst, all_of, none}
+use Rattle.pb_propagate.proofs.Common.{Clauses, Eager, Heads, Rests, Run, Store, Walked, AreJoined, clauses_of, heads_at, IsRunning, Advances, database, Database}
+use Rattle.pb_propagate.proofs.Common.{IsRooted, HasUpdated, list_of, progress, reasons_of, shapes_in, values_of, AreOpen, IsCounted, Progress, RunIsOpen}
+use Rattle.pb_propagate.proofs.Common.{IsReadyRun, Propagates, RunGains, RunPuts, RunVisits, RunVisitsEach, RunReasons}
+use Rattle.pb_propagate.specs.declared.engine.root.Root.{Root}
+use Rattle.pb_propagate.proofs.lemmas.clauses.Heads.{mark-more}
+use Rattle.pb_propagate.proofs.lemmas.clauses.Walks.{kept-then, running-grow}
+use Rattle.pb_propagate.proofs.lemmas.engine.Advances.{advances-refl, advances-then, advances-as}
+use Rattle.pb_propagate.proofs.lemmas.engine.Reasoned.{keeps-then, reasons-derive}
+use Rattle.pb_propagate.proofs.lemmas.engine.Spent.{derivation-single}
+use Rattle.pb_propagate.proofs.lemmas.engine.VisitSteps.{IsVisiting}
+use Rattle.pb_propagate.proofs.lemmas.root.Extends.{extends-then, extends-within}
+use Rattle.pb_propagate.proofs.lemmas.root.Returns.{assigned-grow, root-counted}
+
+-- the open sums after a part of a run
+pub open-later : {store : Store} {d : Database} {m n : ℕ} {p q : Progress} → Advances d m n p q → AreOpen store p.opens p.candidates p.work p.next p.values p.list → IsCounted (shapes_in store) q.opens q.list [] → AreOpen store q.opens q.candidates q.work q.next q.values q.list
+open-later a o counted = record {
+  values = a.values ∙ o.values;
+  opens = a.opens ∙ o.opens;
+  candidates = a.candidates ∙ o.candidates;
+  next = omega (arith, o.next, a.next, a.longer);
+  counted = counted;
+}
+
+-- no literal is put, some are put after others, and visits are counted that were not made
+pub puts-none : (store : Store) (rests : Rests) (run : Run) → RunPuts store rests 0 run run
+puts-none store rests run = record {
+  advances = advances-refl (database store rests) (progress run);
+  tidy = λ aside busy t. t;
+  kept = λ l s on at. at;
+}
+
+pub puts-then : {store : Store} {rests : Rests} {m n : ℕ} {a b c : Run} → RunPuts store rests m a b → RunPuts store rests n b c → RunPuts store rests (m + n) a c
+puts-then {store} {rests} {m} {n} {a} {b} {c} p q = record {
+  advances = advances-then p.advances q.advances;
+  tidy = λ aside busy t. q.tidy aside busy (p.tidy aside busy t);
+  kept = keeps-then (list_of a) (list_of b) (reasons_of a) (reasons_of b) (reasons_of c) (extends-within (list_of a) (list_of b) p.advances.costs.extends) p.kept q.kept;
+}
+
+pub puts-as : {store : Store} {rests : Rests} {m : ℕ} {a b : Run} (n : ℕ) → m ≤ n → RunPuts store rests m a b → RunPuts store rests n a b
+puts-as n less p = record { advances = advances-as 0 n (omega arith) p.advances; tidy = p.tidy; kept = p.kept }
+
+-- one part of a run after another
+pub gains-then : (old mid new : Run) → RunGains old mid → RunVisitsEach mid new → mid.visits ≤ new.visits → RunGains old new
+gains-then old mid new g found rising = record {
+  found = λ few. let one = g.found (omega (arith, rising, few)) in let two = found few in omega (arith, one, two);
+  rising = omega (arith, g.rising, rising);
+}
+
+-- a visit to a form, also one that met a conflict
+pub visiting-visits : {store : Store} {rests : Rests} {aside : List ℕ} {form : ℕ} (start now : Run) → IsVisiting (database store rests) aside form (progress start) (progress now) → RunReasons (shapes_in store) start now → RunVisits store rests start now
+visiting-visits start now v reasons = record {
+  advances = advances-as 0 1 (omega arith) v.advances;
+  reasons = reasons;
+  undone = record { clean = v.tidy.clean; named = v.tidy.marked };
+  found = v.found;
+}
+
+-- what a propagation needs once literals are put, and what they leave if none follows
+pub puts-ready : {store : Store} {rests : Rests} {clauses : Clauses} {waiting : List ℕ} {heads : Heads} {n : ℕ} {old new : Run} → IsReadyRun store rests clauses waiting heads old → RunPuts store rests n old new → RunIsOpen store new → IsReadyRun store rests clauses waiting heads new
+puts-ready {store} {rests} {clauses} {waiting} {heads} {n} {old} {new} r p o = record {
+  sums = o;
+  single = p.advances.costs.single r.single;
+  tidy = p.tidy waiting (length store.stored.items) r.tidy;
+  joined = r.joined;
+  running = running-grow clauses (values_of old) (values_of new) p.advances.values (assigned-grow old.assignment new.assignment p.advances.costs.extends) r.running;
+  walked = mark-more clauses.blocks.literals clauses.blocks.watches (list_of old) (list_of new) heads p.advances.costs.extends r.walked;
+}
+
+pub puts-left : {store : Store} {rests : Rests} {clauses : Clauses} {waiting : List ℕ} {heads : Heads} {n : ℕ} {old new : Run} → IsReadyRun store rests clauses waiting heads old → RunPuts store rests n old new → Propagates store rests clauses clauses old new
+puts-left {store} {rests} {clauses} {waiting} {heads} {n} {old} {new} r p =
+    let t = p.tidy waiting (length store.stored.items) r.tidy in
+    record {
+      running = running-grow clauses (values_of old) (values_of new) p.advances.values (assigned-grow old.assignment new.assignment p.advances.costs.extends) r.running;
+      kept = λ e live failed. (refl, refl);
+      values = p.advances.values;
+      opens = p.advances.opens ∙ r.sums.opens;
+      candidates = p.advances.candidates ∙ r.sums.candidates;
+      undone = record { clean = t.clean; named = t.marked };
+      extends = p.advances.costs.extends;
+      reasons = p.kept;
+    }
+
+-- a propagation after literals are put
+pub left-then : {store : Store} {rests : Rests} {before after : Clauses} {n : ℕ} {old mid new : Run} → RunPuts store rests n old mid → Propagates store rests before after mid new → Propagates store rests before after old new
+left-then {store} {rests} {before} {after} {n} {old} {mid} {new} p q = record {
+  running = q.running;
+  kept = kept-then (values_of old) (values_of mid) before before after (assigned-grow old.assignment mid.assignment p.advances.costs.extends) (λ e live failed. (refl, refl)) q.kept;
+  values = q.values ∙ p.advances.values;
+  opens = q.opens;
+  candidates = q.candidates;
+  undone = q.undone;
+  extends = extends-then (list_of old) (list_of mid) (list_of new) p.advances.costs.extends q.extends;
+  reasons = keeps-then (list_of old) (list_of mid) (reasons_of old) (reasons_of mid) (reasons_of new) (extends-within (list_of old) (list_of mid) p.advances.costs.extends) p.kept q.reasons;
+}
+
+-- a root may be propagated, and so may one that was updated
+pub root-ready : {store : Store} {clauses : Clauses} {run : Run} {rests : Rests} {waiting : Eager} {walked : Walked} → IsRooted store clauses run rests waiting walked (length store.stored.items) → AreJoined (shapes_in store) (clauses_of clauses) → IsRunning (values_of run) clauses → IsReadyRun store rests clauses waiting.list.items walked.heads run
+root-ready {store} {clauses} {run} {rests} {waiting} {walked} r joined running = record {
+  sums = record {
+    values = r.values;
+    opens = r.open_sizes;
+    candidates = r.start_sizes;
+    next = omega (arith, r.next);
+    counted = root-counted store clauses run rests waiting walked r;
+  };
+  single = derivation-single (all_of store clauses) [] (list_of run) none (reasons-derive r.reasoned);
+  tidy = rw (r.work, r.trail, r.next) r.tidy;
+  joined = joined;
+  running = running;
+  walked = r.walks.now;
+}
+
+pub updated-ready : {store : Store} {old clauses : Clauses} {before root : Root} → IsRooted store clauses root.run root.rests root.waiting root.walked (length store.stored.items) → AreJoined (shapes_in store) (clauses_of clauses) → HasUpdated store old clauses before root → IsReadyRun store root.rests clauses [] (heads_at (length (list_of root.run))) root.run
+updated-ready {store} {old} {clauses} {before} {root} r joined u =
+    let ready = root-ready r joined u.running in
+    subst (λ h. IsReadyRun store root.rests clauses [] h root.run) u.walked (subst (λ w. IsReadyRun store root.rests clauses w root.walked.heads root.run) u.none ready)

@@ -1,0 +1,44 @@
+use Rattle.pb_propagate.proofs.Common.{◌∙◌, ◌≡◌, [], ap, arith, get_or, inl, inr, length, List, subst, sym, cases_eq, Term, shapes_of, terms_at}
+use Rattle.pb_propagate.proofs.Common.{IsDue, Shape, terms_of}
+use Rattle.pb_propagate.proofs.lemmas.engine.VisitSteps.{shape-at}
+use Rattle.pb_propagate.proofs.lemmas.root.Replaced.{terms-inside}
+use Rattle.pb_propagate.proofs.lemmas.root.Released.{released-same, released-then, some-released, some-sized}
+use Rattle.pb_propagate.proofs.store.reasons.release_by_terms.Goals as goal
+
+pub terms-init : goal.terms-init
+terms-init c = record {
+  released = released-same c.args.store.now c.args.slot c.args.root.now (some-sized c.args.store.now c.args.root.now c.requires.rooted);
+  needless = λ k d less. absurd (omega (arith, less));
+}
+
+pub release_literal-requires : goal.release_literal-requires
+release_literal-requires c =
+    let t = c.term.result in
+    let all = terms-inside c.args.store.now c.args.slot c.index.result.now c.requires.sound c.requires.slot c.index.ensures c.terms.i t (omega (arith, c.terms-test.true, c.len-i-end.ensures)) in
+    record {
+      sound = c.requires.sound;
+      rooted = some-released c.requires.rooted c.terms.invariant.released;
+      inside = omega (arith, all, ap (λ (x : Term). x.literal.variable) (c.term.ensures t));
+    }
+
+pub terms-preserved : goal.terms-preserved
+terms-preserved c =
+    let i = c.terms.invariant in
+    let next = c.release_literal.ensures in
+    let new = c.release_literal.new.self in
+    record {
+      released = released-then i.released next.released;
+      needless = λ k d less due. elim (cases_eq k c.terms.i) [
+        | inl is ↦
+            let same : (get_or (terms_of c.index.result.now.terms) k d).literal ≡ c.term.result.literal = ap (λ n. (get_or (terms_of c.index.result.now.terms) n d).literal) is ∙ ap (λ (x : Term). x.literal) (sym (c.term.ensures d)) in
+            next.needless (subst (IsDue c.args.slot new.run.assignment.list.items new.run.assignment.reasons.items) same due)
+        | inr apart ↦ i.needless k d (grind (arith, less, apart)) (next.released.fewer (get_or (terms_of c.index.result.now.terms) k d).literal due)
+      ];
+    }
+
+pub returns-clause-needless : goal.returns-clause-needless
+returns-clause-needless c = λ k d less due.
+    let store = c.args.store.now in
+    let new = c.terms.root in
+    let is : terms_at (shapes_of store.stored.items) c.args.slot ≡ terms_of c.index.result.now.terms = ap (λ (f : Shape). f.terms) (shape-at store.stored.items c.args.slot c.index.result.now c.requires.slot c.index.ensures (record { terms = []; degree = 0 })) in
+    c.terms.invariant.needless k d (omega (arith, less, ap length is, c.terms-test.false, c.len-i-end.ensures)) (subst (λ (ts : List Term). IsDue c.args.slot new.run.assignment.list.items new.run.assignment.reasons.items (get_or ts k d).literal) is due)
