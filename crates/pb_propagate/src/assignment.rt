@@ -18,7 +18,8 @@ pub struct Assignment {
     // Whether the literal of each code is falsified. Clauses read this in place of the values.
     failed: Vec<bool>,
     pub list: Vec<NumberedLiteral>,
-    // For each variable that has a literal on the list the slot of the form that has forced it, `usize::MAX` if none has.
+    // For each variable that has a literal on the list the slot of the form that has forced it,
+    // `usize::MAX` if none has.
     pub reasons: Vec<usize>,
     ghost agrees: { (l : NumberedLiteral) → has list.items l ≡ says values.items l },
     ghost room: { length list.items + sum_by vacancy values.items ≡ length values.items },

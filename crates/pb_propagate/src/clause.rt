@@ -1,5 +1,6 @@
-//! Constraints that are clauses, and the codes of their literals. A literal has two codes, one for each group of clauses:
-//! four times its variable, plus 2 in long clauses, and plus 1 if it is negated.
+//! Constraints that are clauses, and the codes of their literals. A literal has two codes, one for
+//! each group of clauses: four times its variable, plus 2 in long clauses, and plus 1 if it is
+//! negated.
 
 ghost use Rattle.std.specs.Prelude.{◌≡◌, ◌+◌, ◌*◌, ◌<◌, ◌≤◌, ◌^◌, All, true, false, IfOk};
 ghost use Rattle.pb_normal.specs.meaning.Form.{IsNormal};
@@ -30,7 +31,8 @@ fn is_light(entry: Entry) -> bool
     entry.variable < 1073741824
 }
 
-/// Whether the constraint is a clause of at least two literals, each with codes that fit in 4 bytes.
+/// Whether the constraint is a clause of at least two literals, each with codes that fit in 4
+/// bytes.
 pub fn is_clause(form: &Normal) -> bool
     ensures yes { result ≡ true → IsClause form.now }
     ensures no { result ≡ false → IsClause form.now → ⊥ }

@@ -112,8 +112,8 @@ impl Clauses {
         self.blocks.room(slot)
     }
 
-    /// Makes room for a clause of that number of literals in a slot. Returns whether it can be stored: the numbers of watches
-    /// and the positions of blocks have 32 bits.
+    /// Makes room for a clause of that number of literals in a slot. Returns whether it can be
+    /// stored: the numbers of watches and the positions of blocks have 32 bits.
     pub fn fit(&mut self, slot: usize, count: usize) -> Result<bool, AllocError>
         requires rest { AreReady self.old }
         requires slot { slot < length self.old.blocks.literals }

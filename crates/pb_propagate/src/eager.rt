@@ -6,7 +6,8 @@ ghost use Rattle.pb_propagate.specs.engine.Engine.Waiting.{IsWithout};
 
 use std::alloc::{AllocError, Global};
 
-/// Some of the forms, each once. The list has room for all of them. A form is removed without a search.
+/// Some of the forms, each once. The list has room for all of them. A form is removed without a
+/// search.
 #[derive(Drop)]
 pub struct Eager {
     pub list: Vec<usize>,

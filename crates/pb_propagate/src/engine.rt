@@ -35,8 +35,8 @@ pub struct Engine {
     clauses: Clauses,
     root: Root,
     conflict: Conflict,
-    // For each number the slot of its form, or no slot if the form was removed. The slot of a removed form is used
-    // again.
+    // For each number the slot of its form, or no slot if the form was removed. The slot of a
+    // removed form is used again.
     places: Vec<usize>,
     // The slots of removed forms.
     free: Free,
@@ -193,15 +193,17 @@ impl Engine {
         self.places.len()
     }
 
-    /// The number of visits of the last `rup`. Visits to entries of occurrence lists, to terms, and to watches and
-    /// literals of clauses are counted. A literal that was kept from earlier questions counts as one.
+    /// The number of visits of the last `rup`. Visits to entries of occurrence lists, to terms, and
+    /// to watches and literals of clauses are counted. A literal that was kept from earlier
+    /// questions counts as one.
     pub fn visits(&self) -> u64
         ensures { result ≡ self.now.visits }
     {
         self.visits.number()
     }
 
-    /// Whether propagation over the live forms and the negation of the goal meets a conflict, or the goal has degree 0.
+    /// Whether propagation over the live forms and the negation of the goal meets a conflict, or
+    /// the goal has degree 0.
     pub fn rup(&mut self, goal: &Normal) -> Result<bool, AllocError>
         requires ready { self.old.spent ≡ false }
         requires inside { All (λ t. t.variable < self.old.variables) goal.now.terms }
@@ -246,8 +248,9 @@ impl Engine {
         Ok(answer)
     }
 
-    /// The values of the completion of given literals over the live forms, or `None` if a conflict is met. There is one
-    /// value for each variable: `Some(true)` if the variable is true, `None` if it is open.
+    /// The values of the completion of given literals over the live forms, or `None` if a conflict
+    /// is met. There is one value for each variable: `Some(true)` if the variable is true, `None`
+    /// if it is open.
     pub fn complete(
         &mut self,
         given: &[NumberedLiteral],

@@ -5,7 +5,8 @@ ghost use Rattle.pb_propagate.specs.engine.Engine.Free.{Holds, HasPut, HasTaken,
 
 use std::alloc::{AllocError, Global};
 
-/// Slots to use again. Each is in the list of its size, so that a clause finds a slot whose block has room for it.
+/// Slots to use again. Each is in the list of its size, so that a clause finds a slot whose block
+/// has room for it.
 #[derive(Drop)]
 pub struct Free {
     // For each size the last slot of its list.
@@ -14,7 +15,8 @@ pub struct Free {
     before: Vec<usize>,
 }
 
-// Which list has the slots with room for that number of literals. Long clauses have room for a power of two.
+// Which list has the slots with room for that number of literals. Long clauses have room for a
+// power of two.
 fn size_of(room: usize) -> usize
     ensures { IsSizeOf room result }
 {
@@ -96,7 +98,8 @@ impl Free {
         None
     }
 
-    /// Takes a slot with just the room for that number of literals, else one that has no block, else one with more room.
+    /// Takes a slot with just the room for that number of literals, else one that has no block,
+    /// else one with more room.
     pub fn take(&mut self, count: usize) -> Option<usize>
         ensures some { IfSome result (λ slot. (size : ℕ) × HasTaken slot size self.old self.new) }
         ensures none { IfNone result (self.new ≡ self.old) }

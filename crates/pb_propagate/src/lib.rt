@@ -1,4 +1,5 @@
-//! Unit propagation over live forms by occurrence lists and by watched literals, with counted visits.
+//! Unit propagation over live forms by occurrence lists and by watched literals, with counted
+//! visits.
 #![tactic(auto)]
 
 mod assignment;

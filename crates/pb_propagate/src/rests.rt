@@ -4,8 +4,8 @@ ghost use Rattle.std.specs.Prelude.{◌≡◌, [], slice_index_or};
 
 use std::alloc::Global;
 
-/// The open sum and the candidate of each form between two questions. A form that has none here returns to its total,
-/// and to its first term.
+/// The open sum and the candidate of each form between two questions. A form that has none here
+/// returns to its total, and to its first term.
 #[derive(Drop)]
 pub struct Rests {
     pub opens: Vec<u128>,

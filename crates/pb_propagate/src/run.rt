@@ -58,8 +58,8 @@ pub fn queue(work: &mut Vec<usize>, form: usize, left: u128, bound: u128) -> Res
     Ok(())
 }
 
-/// Subtracts a visited entry from its form's open sum. Adds the form to the work list if it may then propagate or is
-/// falsified. Returns whether it is falsified.
+/// Subtracts a visited entry from its form's open sum. Adds the form to the work list if it may
+/// then propagate or is falsified. Returns whether it is falsified.
 fn lower(store: &Store, rests: &Rests, run: &mut Run, entry: Visited) -> Result<bool, AllocError>
     requires form { entry.form < length store.now.stored.items }
     requires index { entry.index < length (terms_at (shapes_of store.now.stored.items) entry.form) }
@@ -94,8 +94,9 @@ pub fn place_of(literal: NumberedLiteral) -> usize
     }
 }
 
-/// Assigns a literal that the form of the slot `reason` forces, and subtracts the entries of its negation from the open sums, up to the first form that is then
-/// falsified. Returns whether there is one.
+/// Assigns a literal that the form of the slot `reason` forces, and subtracts the entries of its
+/// negation from the open sums, up to the first form that is then falsified. Returns whether there
+/// is one.
 pub fn put(
     store: &Store,
     rests: &Rests,
@@ -156,8 +157,8 @@ pub fn try_put(
     Ok(found)
 }
 
-/// Visits a form until its candidate requires nothing. Returns whether it or another form is falsified. Waiting forms
-/// are visited later.
+/// Visits a form until its candidate requires nothing. Returns whether it or another form is
+/// falsified. Waiting forms are visited later.
 fn visit_form(
     store: &Store,
     rests: &Rests,
@@ -260,7 +261,8 @@ pub fn propagate(
     }
 }
 
-/// Restores the forms that the propagation changed. No other form is visited, and nothing is allocated.
+/// Restores the forms that the propagation changed. No other form is visited, and nothing is
+/// allocated.
 pub fn undo_forms(store: &Store, rests: &Rests, run: &mut Run)
     requires opens { length run.old.opens.items ≡ length store.now.stored.items }
     requires candidates { length run.old.candidates.items ≡ length store.now.stored.items }

@@ -42,8 +42,8 @@ pub fn clause_size(form: &Normal) -> usize
     form.len()
 }
 
-/// A slot without a form: that of a removed form, or a new one. A clause of `count` literals fits into its block, if it has
-/// one.
+/// A slot without a form: that of a removed form, or a new one. A clause of `count` literals fits
+/// into its block, if it has one.
 pub fn vacancy(
     store: &mut Store,
     clauses: &mut Clauses,
@@ -79,8 +79,8 @@ struct Planned {
     pair: Pair,
 }
 
-// How a form is stored if it is a clause that can be watched: it has two literals that the assigned ones do not falsify,
-// and the slot has room for it.
+// How a form is stored if it is a clause that can be watched: it has two literals that the assigned
+// ones do not falsify, and the slot has room for it.
 fn plan(
     alloc: Global,
     form: &Normal,
@@ -109,8 +109,8 @@ fn plan(
     Ok(Some(Planned { codes, pair }))
 }
 
-/// Stores a form in an empty slot. A clause of which the assigned literals falsify all but one or all is stored with its
-/// entries.
+/// Stores a form in an empty slot. A clause of which the assigned literals falsify all but one or
+/// all is stored with its entries.
 pub fn occupy(
     store: &mut Store,
     clauses: &mut Clauses,

@@ -18,8 +18,8 @@ use crate::store::sorted_form::SortedForm;
 use crate::store::stored_form::StoredForm;
 use crate::term::Term;
 
-/// A form that contains a literal, and the position of its term there. The fields are private: other modules learn
-/// them only by `visit`.
+/// A form that contains a literal, and the position of its term there. The fields are private:
+/// other modules learn them only by `visit`.
 #[derive(Clone, Copy)]
 pub struct Occurrence {
     form: usize,
@@ -43,8 +43,8 @@ pub struct Store {
     pub variables: usize,
 }
 
-/// Reads an entry of an occurrence list, and counts the visit. This is also a visit to the entry's term, whose
-/// coefficient `weight_of` returns.
+/// Reads an entry of an occurrence list, and counts the visit. This is also a visit to the entry's
+/// term, whose coefficient `weight_of` returns.
 pub fn visit(entries: &[Occurrence], i: usize, visits: &mut Visits) -> Visited
     requires { i < length entries.now }
     ensures item { entry_at result ≡ slice_index_or entries.now i (entry_at result) }
@@ -59,8 +59,8 @@ pub fn visit(entries: &[Occurrence], i: usize, visits: &mut Visits) -> Visited
     }
 }
 
-/// The coefficient of a visited entry's term. If all are equal, the bound gives it, and the terms need
-/// not be read.
+/// The coefficient of a visited entry's term. If all are equal, the bound gives it, and the terms
+/// need not be read.
 pub fn weight_of(kept: &StoredForm, entry: &Visited) -> u128
     requires { entry.now.index < length (terms_of kept.now.terms) }
     ensures { (d : Term) →

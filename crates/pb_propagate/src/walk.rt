@@ -27,8 +27,8 @@ pub fn literal_of(code: u32) -> NumberedLiteral
     }
 }
 
-/// Visits the clauses in which a falsified literal is watched, and propagates what they force. Returns whether one of
-/// them, or a form, is falsified.
+/// Visits the clauses in which a falsified literal is watched, and propagates what they force.
+/// Returns whether one of them, or a form, is falsified.
 pub fn walk(
     store: &Store,
     rests: &Rests,

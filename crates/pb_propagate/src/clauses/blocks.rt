@@ -1,5 +1,5 @@
-//! The clauses of slots, each with its watches and its search in one block of words. What propagation reads of a clause is
-//! so in one place of the memory.
+//! The clauses of slots, each with its watches and its search in one block of words. What
+//! propagation reads of a clause is so in one place of the memory.
 
 ghost use Rattle.std.specs.Prelude.{◌≡◌, ℕ, ◌+◌, ◌-◌, ◌*◌, ◌/◌, ◌%◌, ◌^◌, ◌<◌, ◌≤◌, ◌⊎◌, ◌++◌, ◌∷◌, [], true, length, slice_set, IfOk, OnOk, OnErr};
 ghost use Rattle.pb_propagate.specs.declared.clauses.lists.Watch.{Watch};
@@ -12,7 +12,8 @@ use crate::clauses::search::Search;
 use std::alloc::{AllocError, Global};
 use std::marker::Model;
 
-/// For each slot a clause, its search and two watches. The watches of slot `s` are `2 * s` and `2 * s + 1`.
+/// For each slot a clause, its search and two watches. The watches of slot `s` are `2 * s` and
+/// `2 * s + 1`.
 ///
 /// A block begins with the literal and the position of each watch, the position of the search, how
 /// many literals this has passed, the number of literals, and the number of the run of the search.
@@ -22,7 +23,8 @@ pub struct Blocks {
     words: Vec<u32>,
     // The number of this run. A search of another run has passed nothing in this one.
     run: u32,
-    // For each slot, where its block begins. Slots that have none have a common one, which is first and is not written.
+    // For each slot, where its block begins. Slots that have none have a common one, which is first
+    // and is not written.
     starts: Vec<u32>,
     // For each slot, how many literals its block has room for. A slot keeps its block.
     rooms: Vec<u32>,
@@ -89,8 +91,8 @@ fn write(words: &mut Vec<u32>, start: usize, literals: &[u32])
     }
 }
 
-/// How many literals the block of a clause has room for. Long ones have more room than they need, so that few sizes of
-/// blocks serve all clauses.
+/// How many literals the block of a clause has room for. Long ones have more room than they need,
+/// so that few sizes of blocks serve all clauses.
 pub fn room_of(count: usize) -> usize
     requires { count < 2 ^ 31 }
     ensures { count ≤ result }
@@ -295,8 +297,8 @@ impl Blocks {
         }
     }
 
-    /// Makes a block for a clause with that number of literals, if the slot has none. Returns whether the block has room
-    /// for them. All blocks together have fewer than `2^32` words.
+    /// Makes a block for a clause with that number of literals, if the slot has none. Returns
+    /// whether the block has room for them. All blocks together have fewer than `2^32` words.
     pub fn fit(&mut self, slot: usize, count: usize) -> Result<bool, AllocError>
         requires slot { slot < length self.old.literals }
         requires some { 0 < count }

@@ -16,7 +16,8 @@ pub struct Watch {
     pub spot: usize,
 }
 
-/// An entry of a list: a watch and its blocker, another literal of the clause. If the blocker is true, nothing more is read.
+/// An entry of a list: a watch and its blocker, another literal of the clause. If the blocker is
+/// true, nothing more is read.
 #[derive(Clone, Copy)]
 pub struct Listed {
     pub watch: u32,

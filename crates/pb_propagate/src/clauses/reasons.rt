@@ -17,7 +17,8 @@ use crate::store::Store;
 use crate::store::reasons::replace_reason;
 use crate::walk::literal_of;
 
-// Gives each literal whose reason is the clause of a slot another reason, up to one that needs the clause.
+// Gives each literal whose reason is the clause of a slot another reason, up to one that needs the
+// clause.
 fn replace_by_codes(
     store: &Store,
     units: &[usize],
@@ -40,7 +41,8 @@ fn replace_by_codes(
     true
 }
 
-/// Gives each literal whose reason is the clause of a slot another reason. Returns false if one has no other.
+/// Gives each literal whose reason is the clause of a slot another reason. Returns false if one has
+/// no other.
 pub fn replace_by_literals(
     clauses: &Clauses,
     store: &Store,

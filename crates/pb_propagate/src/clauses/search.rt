@@ -1,4 +1,5 @@
-//! The search for a literal of a clause that may be watched. It goes round the clause, and goes on where the last one ended.
+//! The search for a literal of a clause that may be watched. It goes round the clause, and goes on
+//! where the last one ended.
 
 ghost use Rattle.std.specs.Prelude.{◌≡◌, ℕ, ◌+◌, ◌*◌, ◌-◌, ◌^◌, ◌<◌, ◌≤◌, ◌⊎◌, true, false, All, length, min, slice_index_or};
 ghost use Rattle.pb_propagate.specs.engine.Clauses.Truths.{false_at};
@@ -16,7 +17,8 @@ pub struct Search {
     pub passed: usize,
 }
 
-/// Whether a literal may be watched in place of a falsified one: it is not falsified, and it is not the other watched one.
+/// Whether a literal may be watched in place of a falsified one: it is not falsified, and it is not
+/// the other watched one.
 pub fn may_watch(assignment: &Assignment, literal: u32, other: u32) -> bool
     requires { literal < 4 * length assignment.now.values.items }
     ensures yes { result ≡ true → (false_at assignment.now.values.items literal ≡ false) ×

@@ -26,8 +26,8 @@ pub struct Forced {
 pub enum Visit {
     // The blocker or the other watched literal is true.
     Stays,
-    // The watch has moved to another literal's list. The last watch of the old list, if it is another one, has its
-    // position.
+    // The watch has moved to another literal's list. The last watch of the old list, if it is
+    // another one, has its position.
     Leaves,
     // All literals but this one are falsified, and this one is open.
     Forces(Forced),
@@ -151,7 +151,8 @@ fn shift(
     Ok(())
 }
 
-// Searches a clause for a literal to watch in place of a falsified one. The other watched literal is not true.
+// Searches a clause for a literal to watch in place of a falsified one. The other watched literal
+// is not true.
 fn search_clause(
     clauses: &mut Clauses,
     assignment: &Assignment,

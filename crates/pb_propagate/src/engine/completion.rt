@@ -21,7 +21,8 @@ use crate::store::Store;
 use pb_normal::NumberedLiteral;
 use std::alloc::AllocError;
 
-// Assigns the given literals after those of the list. Returns whether one of them is falsified, or a form is then.
+// Assigns the given literals after those of the list. Returns whether one of them is falsified, or
+// a form is then.
 fn assume(
     store: &Store,
     rests: &Rests,
@@ -49,8 +50,8 @@ fn assume(
     Ok(false)
 }
 
-/// The values after the given literals are assigned and propagated, from a list that is walked, or `None` if a conflict
-/// is met.
+/// The values after the given literals are assigned and propagated, from a list that is walked, or
+/// `None` if a conflict is met.
 pub fn settle(
     store: &Store,
     rests: &Rests,
@@ -95,7 +96,8 @@ pub fn settle(
     Ok(Some(values))
 }
 
-/// The values of the completion of given literals, or `None` if a conflict is met. It continues from the root.
+/// The values of the completion of given literals, or `None` if a conflict is met. It continues
+/// from the root.
 pub fn extend(
     store: &Store,
     clauses: &mut Clauses,

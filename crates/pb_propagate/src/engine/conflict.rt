@@ -17,8 +17,8 @@ use crate::store::reasons::replace_reasons;
 use crate::store::stored_form::is_below;
 use std::alloc::{AllocError, Global};
 
-/// The literals of a conflict, each with the form that forces it after those before it. A live form is falsified under
-/// them. Nothing is assigned if no conflict is kept.
+/// The literals of a conflict, each with the form that forces it after those before it. A live form
+/// is falsified under them. Nothing is assigned if no conflict is kept.
 #[derive(Drop)]
 pub struct Conflict {
     pub assignment: Assignment,
@@ -94,8 +94,8 @@ impl Conflict {
         self.met = false;
     }
 
-    /// The form of a slot goes. The conflict stays if its literals have other reasons, and the form is not the falsified
-    /// one.
+    /// The form of a slot goes. The conflict stays if its literals have other reasons, and the form
+    /// is not the falsified one.
     pub fn lose(&mut self, store: &Store, clauses: &Clauses, units: &[usize], slot: usize)
         requires slot { slot < length store.now.stored.items }
         requires sound { IsSound store.now }

@@ -1,4 +1,5 @@
-//! A clause that is asked about. Its literals are assigned as false, in place of its negation in the store.
+//! A clause that is asked about. Its literals are assigned as false, in place of its negation in
+//! the store.
 
 ghost use Rattle.std.specs.Prelude.{◌≡◌, ◌<◌, ◌≤◌, ◌++◌, ◌∷◌, [], true, false, All, length, OnOk, OnErr};
 ghost use Rattle.pb_normal.specs.meaning.Form.{IsNormal};
@@ -39,7 +40,8 @@ pub fn is_disjunction(form: &Normal) -> bool
     true
 }
 
-// Visits a literal of the clause, and assigns it as false. Returns whether it is true, or a form is then falsified.
+// Visits a literal of the clause, and assigns it as false. Returns whether it is true, or a form is
+// then falsified.
 fn deny(
     store: &Store,
     rests: &Rests,
@@ -95,8 +97,8 @@ fn deny_all(store: &Store, rests: &Rests, run: &mut Run, goal: &Terms) -> Result
     Ok(false)
 }
 
-/// Propagates with the literals of a clause assigned as false, from a list that is walked. Returns whether a conflict is
-/// met.
+/// Propagates with the literals of a clause assigned as false, from a list that is walked. Returns
+/// whether a conflict is met.
 pub fn refute(
     store: &Store,
     rests: &Rests,

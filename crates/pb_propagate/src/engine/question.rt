@@ -22,7 +22,8 @@ use pb_normal::Normal;
 use std::alloc::AllocError;
 use std::mem;
 
-// Propagates the forms that wait, and then the one that is asked about. Returns whether a conflict is met.
+// Propagates the forms that wait, and then the one that is asked about. Returns whether a conflict
+// is met.
 fn pose(
     store: &mut Store,
     clauses: &mut Clauses,
@@ -108,7 +109,8 @@ fn pose_clause(
     Ok(found)
 }
 
-// Propagates the forms that wait, and then the negation of a goal. Returns whether a conflict is met.
+// Propagates the forms that wait, and then the negation of a goal. Returns whether a conflict is
+// met.
 fn question(
     store: &mut Store,
     clauses: &mut Clauses,
@@ -143,8 +145,8 @@ fn question(
     Ok(found)
 }
 
-/// Whether propagation over the live forms and the negation of a goal meets a conflict. It continues from the root, each
-/// literal of which counts as a visit.
+/// Whether propagation over the live forms and the negation of a goal meets a conflict. It
+/// continues from the root, each literal of which counts as a visit.
 pub fn ask(
     store: &mut Store,
     clauses: &mut Clauses,

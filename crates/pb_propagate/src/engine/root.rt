@@ -25,13 +25,15 @@ use crate::store::opened::open_under;
 use crate::store::units::only_literal;
 use std::alloc::{AllocError, Global};
 
-/// The literals that the live forms force with nothing assumed, and the state of each form under them. Questions
-/// extend it to the forms that were added since the last one, and continue from there.
+/// The literals that the live forms force with nothing assumed, and the state of each form under
+/// them. Questions extend it to the forms that were added since the last one, and continue from
+/// there.
 #[derive(Drop)]
 pub struct Root {
     pub run: Run,
     pub rests: Rests,
-    // The forms that may force something, or are falsified. No question has visited them since they were added.
+    // The forms that may force something, or are falsified. No question has visited them since they
+    // were added.
     pub waiting: Eager,
     // How far the literals are walked.
     pub walked: Walked,
@@ -41,8 +43,8 @@ pub struct Root {
     pub units: Vec<usize>,
 }
 
-/// Lowers the open sum of a form to that under the list. The form is put to work if it may then propagate or is
-/// falsified.
+/// Lowers the open sum of a form to that under the list. The form is put to work if it may then
+/// propagate or is falsified.
 pub fn lay(store: &Store, run: &mut Run, form: usize) -> Result<(), AllocError>
     requires store { IsSound store.now }
     requires form { form < length store.now.stored.items }
@@ -186,8 +188,8 @@ impl Root {
         Ok(())
     }
 
-    /// Propagates the forms that wait. Returns whether a conflict is met. Then the conflict is kept, and the root goes back:
-    /// the same forms wait.
+    /// Propagates the forms that wait. Returns whether a conflict is met. Then the conflict is
+    /// kept, and the root goes back: the same forms wait.
     pub fn update(
         &mut self,
         store: &Store,

@@ -2,7 +2,8 @@
 
 use std::marker::Model;
 
-/// How many visits a question took. Only the engine begins a count; all other code can do no more than count a visit.
+/// How many visits a question took. Only the engine begins a count; all other code can do no more
+/// than count a visit.
 #[derive(Drop)]
 pub struct Visits {
     number: u64,

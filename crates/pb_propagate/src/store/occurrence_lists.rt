@@ -24,8 +24,8 @@ use crate::store::{Occurrence, Store};
 use pb_normal::{Normal, NumberedLiteral};
 use std::alloc::{AllocError, Global};
 
-// The degree plus the largest coefficient. With an open sum of that size a form propagates nothing and is not
-// falsified.
+// The degree plus the largest coefficient. With an open sum of that size a form propagates nothing
+// and is not falsified.
 fn bound_of(terms: &SortedForm, degree: u128) -> u128
     requires size { sum_by (λ t. t.coefficient) (terms_of terms.now) < 2 ^ 127 }
     requires small { degree < 2 ^ 127 }

@@ -20,8 +20,8 @@ use crate::store::Store;
 use crate::store::units::other_unit;
 use pb_normal::NumberedLiteral;
 
-/// Gives a literal whose reason is the form of a slot a unit as its reason, if another slot has one. Returns whether the
-/// literal does not need the form.
+/// Gives a literal whose reason is the form of a slot a unit as its reason, if another slot has
+/// one. Returns whether the literal does not need the form.
 pub fn replace_reason(
     store: &Store,
     units: &[usize],
@@ -72,7 +72,8 @@ fn replace_by_terms(
     true
 }
 
-/// Gives each literal whose reason is the form of a slot another reason. Returns false if one has no other.
+/// Gives each literal whose reason is the form of a slot another reason. Returns false if one has
+/// no other.
 pub fn replace_reasons(
     store: &Store,
     clauses: &Clauses,

@@ -9,8 +9,8 @@ use crate::term::{Rank, Term};
 use pb_normal::{Entry, Normal, NumberedLiteral, Terms};
 use std::alloc::{AllocError, Global};
 
-/// A form or none, and the positions of its terms in order of falling coefficient. Each term is stored once, and the
-/// form may have other owners.
+/// A form or none, and the positions of its terms in order of falling coefficient. Each term is
+/// stored once, and the form may have other owners.
 #[derive(Drop)]
 pub struct SortedForm {
     form: Option<Shared>,
@@ -198,7 +198,8 @@ impl SortedForm {
         self.order.len()
     }
 
-    /// The term at a position of the order. Propagation reads it only by `visit_term` and `weight_of`.
+    /// The term at a position of the order. Propagation reads it only by `visit_term` and
+    /// `weight_of`.
     pub(super) fn term(&self, index: usize) -> Term
         requires { index < length (terms_of self.now) }
         ensures { (d : Term) → result ≡ slice_index_or (terms_of self.now) index d }

@@ -37,8 +37,8 @@ pub fn is_unit(kept: &StoredForm, literal: NumberedLiteral) -> bool
     }
 }
 
-/// Another slot with a unit of the literal. For each literal, by its occurrence list, `units` has the last slot that took
-/// one. Only that slot is looked at.
+/// Another slot with a unit of the literal. For each literal, by its occurrence list, `units` has
+/// the last slot that took one. Only that slot is looked at.
 pub fn other_unit(
     store: &Store,
     units: &[usize],
