@@ -105,11 +105,11 @@ pub(crate) fn open(
     if !fits_all(instance, limits) {
         return Err(Fault::Overflow);
     }
-    begun(alloc, keys, instance, limits)
+    load_instance(alloc, keys, instance, limits)
 }
 
 /// The same, with the numbers tested while they are loaded.
-fn begun(
+fn load_instance(
     alloc: Global,
     keys: HashKeys,
     instance: &Instance,

@@ -12,7 +12,7 @@ use crate::state::Running;
 use crate::state::find::find;
 use crate::state::objective::objective_form;
 use crate::step::contradiction::none_is_left;
-use crate::step::shown::shown;
+use crate::step::shown::shown_value;
 use pb_normal::{Normal, NormalFault, NumberedLiteral, Side};
 use pb_proof::Bound;
 use pb_propagate::Engine;
@@ -159,7 +159,7 @@ fn shown_reaches(running: &Running, bound: i128, given: &[NumberedLiteral]) -> R
     requires inside { All (λ l. l.variable < length running.now.names) given.now }
     ensures { ShownReaches (problem_of running.now) given.now bound result }
 {
-    if shown(running, given)? <= bound {
+    if shown_value(running, given)? <= bound {
         return Ok(());
     }
     Err(Fault::NotBound)

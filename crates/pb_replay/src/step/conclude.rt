@@ -11,7 +11,7 @@ use crate::fault::Fault;
 use crate::state::Running;
 use crate::step::bounds::{shows_lower, shows_upper};
 use crate::step::contradiction::none_is_left;
-use crate::step::shown::{shown, take_shown};
+use crate::step::shown::{shown_value, take_shown};
 use crate::step::solution::take_literals;
 use crate::verdict::Verdict;
 use pb_normal::NumberedLiteral;
@@ -41,7 +41,7 @@ fn conclude_sat(running: &mut Running, given: &[NumberedLiteral]) -> Result<(), 
         GoesAt running.old (Statement.Conclude (Conclusion.Sat (Some written))) result running.new }
     ensures preserves { Preserves running.old result running.new }
 {
-    let _ = shown(running, given)?;
+    let _ = shown_value(running, given)?;
     running.next = Stage::Closing;
     running.concluded = Some(Verdict::Sat);
     Ok(())

@@ -113,7 +113,7 @@ fn push<'a>(stack: &mut Vec<Sum<'a>>, form: Sum<'a>) -> Result<(), Fault>
 }
 
 /// The form that a word pushes on the stack, in place of the forms that it takes.
-fn made<'a>(
+fn form_of_word<'a>(
     alloc: Global,
     names: &Names,
     engine: &'a Engine,
@@ -191,7 +191,7 @@ fn number_words(names: &mut Names, words: &[PolWord]) -> Result<(), AllocError>
 }
 
 /// The form of the expression of these words, or its fault.
-fn evaluated(
+fn form_of_words(
     alloc: Global,
     names: &Names,
     engine: &Engine,
@@ -209,7 +209,7 @@ fn evaluated(
 {
     let mut stack = Vec::new(alloc);
     for word in words {
-        let form = made(alloc, names, engine, word, &mut stack, limits)?;
+        let form = form_of_word(alloc, names, engine, word, &mut stack, limits)?;
         push(&mut stack, form)?;
     }
     let form = pop(&mut stack).into_normal(alloc)?;
@@ -217,7 +217,7 @@ fn evaluated(
 }
 
 /// The constraint of the words, if they are one id and it is live. Its terms are not copied.
-fn repeated(engine: &Engine, words: &[PolWord]) -> Result<Option<Shared>, AllocError>
+fn constraint_of_id(engine: &Engine, words: &[PolWord]) -> Result<Option<Shared>, AllocError>
     ensures { IfOk result (λ found. IfSome found (λ f. (id : ℤ) × (words.now ≡ Id id ∷ []) ×
         IsLive engine.now.forms id f)) }
 {
@@ -231,7 +231,7 @@ fn repeated(engine: &Engine, words: &[PolWord]) -> Result<Option<Shared>, AllocE
 }
 
 /// The form of the expression of these words, or its fault. That of one id shares the terms of its constraint.
-fn expressed(
+fn shared_form(
     alloc: Global,
     names: &Names,
     engine: &Engine,
@@ -247,10 +247,10 @@ fn expressed(
         some (λ tree. words.now ≡ words_of tree)
         (FormOfExpression (largest limits) names.now engine.now.forms) (Err e)) }
 {
-    if let Some(form) = repeated(engine, words)? {
+    if let Some(form) = constraint_of_id(engine, words)? {
         return Ok(form);
     }
-    let form = evaluated(alloc, names, engine, words, limits)?;
+    let form = form_of_words(alloc, names, engine, words, limits)?;
     let form = Shared::new(alloc, form)?;
     Ok(form)
 }
@@ -268,7 +268,7 @@ pub(crate) fn pol(running: &mut Running, words: &Sequence<PolWord>) -> Result<()
         return Err(Fault::Memory);
     }
     widen(&mut running.engine, before, running.names.len())?;
-    let form = expressed(
+    let form = shared_form(
         running.alloc,
         &running.names,
         &running.engine,

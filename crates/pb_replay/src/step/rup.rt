@@ -21,7 +21,7 @@ use pb_sums::Linear;
 use std::alloc::AllocError;
 
 /// The form of a written constraint, once its names have numbers.
-fn entered(running: &mut Running, linear: &Linear) -> Result<Normal, Fault>
+fn take_form(running: &mut Running, linear: &Linear) -> Result<Normal, Fault>
     requires { IsLinked running.old }
     ensures fits { OnOk result (Fits (largest running.old.limits) linear.now) }
     ensures form { IfOk result (λ r. IsSideOf running.new.names Side.AtLeast linear.now r) }
@@ -99,7 +99,7 @@ pub(crate) fn rup(running: &mut Running, linear: &Linear) -> Result<(), Fault>
         running.new.visits }
     ensures memory { result ≡ Err Fault.Memory → Fits (largest running.old.limits) linear.now }
 {
-    let form = entered(running, linear)?;
+    let form = take_form(running, linear)?;
     let implied = is_implied(running, &form)?;
     judge(running, form, implied)
 }

@@ -8,7 +8,7 @@ ghost use Rattle.pb_replay.specs.contract.ReplayModel.{HasNamed, IsEngine, IsLin
 use crate::fault::Fault;
 use crate::state::Running;
 use crate::state::live::engine_of;
-use crate::state::solution::judged;
+use crate::state::solution::solution_value;
 use crate::step::solution::{completion, take_literals};
 use pb_normal::NumberedLiteral;
 use pb_propagate::Engine;
@@ -38,11 +38,11 @@ fn own_value(running: &Running, given: &[NumberedLiteral]) -> Result<i128, Fault
 {
     let mut engine = own_engine(running)?;
     let values = completion(&mut engine, given)?;
-    judged(running, values.as_slice(), running.own)
+    solution_value(running, values.as_slice(), running.own)
 }
 
 /// The value of the solution that the literals show.
-pub(crate) fn shown(running: &Running, given: &[NumberedLiteral]) -> Result<i128, Fault>
+pub(crate) fn shown_value(running: &Running, given: &[NumberedLiteral]) -> Result<i128, Fault>
     requires proper { IsProper running.now }
     requires inside { All (λ l. l.variable < length running.now.names) given.now }
     ensures ok { IfOk result (λ z. (g : Logged) × Shown (problem_of running.now) given.now g ×

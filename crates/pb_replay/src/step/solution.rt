@@ -16,7 +16,7 @@ use crate::state::Running;
 use crate::state::literals::{number_names, numbered_literals};
 use crate::state::live::{add, widen};
 use crate::state::objective::objective_form;
-use crate::state::solution::judged;
+use crate::state::solution::solution_value;
 use pb_normal::{Normal, NormalFault, NumberedLiteral, Side};
 use pb_proof::Statement;
 use pb_propagate::Engine;
@@ -74,7 +74,10 @@ fn better(best: Option<i128>, value: i128) -> i128
 }
 
 /// The value of the solution that the literals complete to over the live constraints.
-pub(crate) fn completed(running: &mut Running, given: &[NumberedLiteral]) -> Result<i128, Fault>
+pub(crate) fn completion_value(
+    running: &mut Running,
+    given: &[NumberedLiteral],
+) -> Result<i128, Fault>
     requires proper { IsProper running.old }
     requires linked { IsLinked running.old }
     requires inside { All (λ l. l.variable < length running.old.names) given.now }
@@ -85,11 +88,14 @@ pub(crate) fn completed(running: &mut Running, given: &[NumberedLiteral]) -> Res
     ensures preserves { Preserves running.old result running.new }
 {
     let values = completion(&mut running.engine, given)?;
-    judged(running, values.as_slice(), running.names.len())
+    solution_value(running, values.as_slice(), running.names.len())
 }
 
 /// The negations of the literals.
-fn negated(alloc: Global, given: &[NumberedLiteral]) -> Result<Vec<NumberedLiteral>, AllocError>
+fn negations_of(
+    alloc: Global,
+    given: &[NumberedLiteral],
+) -> Result<Vec<NumberedLiteral>, AllocError>
     ensures { IfOk result (λ v. v.items ≡ negations given.now) }
 {
     given.iter().map(|l| l.negation()).collect(alloc)
@@ -103,7 +109,7 @@ fn clause_of(alloc: Global, given: &[NumberedLiteral]) -> Result<Normal, Fault>
         IsInside n r) }
     ensures err { IfErr result (λ e. e ≡ Fault.Memory) }
 {
-    let literals = negated(alloc, given)?;
+    let literals = negations_of(alloc, given)?;
     let clause = Normal::from_literals(alloc, literals.as_slice(), 1)?;
     Ok(clause)
 }
@@ -129,7 +135,7 @@ fn exclude(running: &mut Running, given: &[NumberedLiteral]) -> Result<(), Fault
         GoesAt running.old (Statement.Solx written) result running.new }
     ensures preserves { Preserves running.old result running.new }
 {
-    let value = completed(running, given)?;
+    let value = completion_value(running, given)?;
     let clause = clause_of(running.alloc, given)?;
     log(running, value, clause)
 }
@@ -174,7 +180,7 @@ fn improve(running: &mut Running, given: &[NumberedLiteral]) -> Result<(), Fault
         GoesAt running.old (Statement.Soli written) result running.new }
     ensures preserves { Preserves running.old result running.new }
 {
-    let value = completed(running, given)?;
+    let value = completion_value(running, given)?;
     demand_less(running, value)
 }
 

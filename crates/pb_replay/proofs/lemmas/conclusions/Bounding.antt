@@ -106,16 +106,14 @@ lower-then limit s o Infinite id next r u h n = left-then s id next r u h n
 lower-then limit s o (Finite b) None next r u (inl (low, h)) n = inl (low, form-then limit s.names (objective_with o b) (IsShownBy s.live None) next r u h n)
 lower-then limit s o (Finite b) (Some i) next r u (inl (low, inl (f, is, h))) n = inl (low, inl (f, is, form-then limit s.names (objective_with o b) (IsShownBy s.live (Some f)) next r u h n))
 lower-then limit s o (Finite b) (Some i) next r u (inl (low, inr (none, k))) n = ok_or_err k
-lower-then limit s o (Finite b) None next r u (inr (late, k)) n = ok_or_err k
-lower-then limit s o (Finite b) (Some i) next r u (inr (late, k)) n = ok_or_err k
+lower-then limit s o (Finite b) id next r u (inr (late, k)) n = ok_or_err k
 
 pub lower-stop : {A : Type 0} (limit : ℕ) (s : State) (o : List Term) (b : Bound) (id : Option ℤ) (next : Answer A) (e : Fault) → lower_bound limit s o b id (gives (tt {0})) (Err e) → lower_bound limit s o b id next (Err e)
 lower-stop limit s o Infinite id next e h = left-stop s id next e h
 lower-stop limit s o (Finite b) None next e (inl (low, h)) = inl (low, form-stop limit s.names (objective_with o b) (IsShownBy s.live None) next e h)
 lower-stop limit s o (Finite b) (Some i) next e (inl (low, inl (f, is, h))) = inl (low, inl (f, is, form-stop limit s.names (objective_with o b) (IsShownBy s.live (Some f)) next e h))
 lower-stop limit s o (Finite b) (Some i) next e (inl (low, inr (none, k))) = inl (low, inr (none, err-moved k))
-lower-stop limit s o (Finite b) None next e (inr (late, k)) = inr (late, err-moved k)
-lower-stop limit s o (Finite b) (Some i) next e (inr (late, k)) = inr (late, err-moved k)
+lower-stop limit s o (Finite b) id next e (inr (late, k)) = inr (late, err-moved k)
 
 pub upper-then : {A : Type 0} (v : Problem) (s : State) (b : Bound) (written : Option (List Literal)) (next : Answer A) (r : Result A Fault) (u : Unit {0}) → upper_of v s.logged b (option_map (numbered s.names) written) (Ok u) → next r → upper_bound v s b written next r
 upper-then v s Infinite written next r u h n = n

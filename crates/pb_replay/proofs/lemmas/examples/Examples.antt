@@ -1,10 +1,12 @@
 -- Short proofs that are accepted
-use Rattle.pb_replay.proofs.Common.{ℕ, ◌&&◌, ◌+ℤ◌, ◌+◌, ◌-ℤ◌, ◌<◌, ◌∷◌, ◌≡◌, [], All, arith, Bool, cond, eqb, false, inl, inr, List, None, pos, refl}
-use Rattle.pb_replay.proofs.Common.{Some, suc, true, zero, Contains, Ok, Option, slice_get, Entry, NumberedLiteral, Fits, coefficient, Form, IsSum}
-use Rattle.pb_replay.proofs.Common.{negation_of, IsFormOf, written_on, Constraint, Sum, Tree, begin, broken, IsRup, Live, MayPropagate, put, With}
-use Rattle.pb_replay.proofs.Common.{Linear, name_x, other_proof, short_proof, unit_on, Verifies, Opened, Problem}
+use Rattle.pb_replay.proofs.Common.{◌&&◌, ◌+ℤ◌, ◌+◌, ◌-ℤ◌, ◌<◌, ◌∷◌, ◌≡◌, [], All, arith, Bool, cond, eqb, false, inl, inr, List, None, pos, refl}
+use Rattle.pb_replay.proofs.Common.{Some, suc, true, zero, Contains, Ok, Option, Entry, NumberedLiteral, Fits, coefficient, Form, IsSum, negation_of}
+use Rattle.pb_replay.proofs.Common.{IsFormOf, written_on, Constraint, Sum, Tree, begin, broken, IsRup, Live, MayPropagate, put, With, Linear, name_x}
+use Rattle.pb_replay.proofs.Common.{other_proof, short_proof, unit_on, Verifies, Opened, Problem}
 use Rattle.pb_replay.specs.declared.verdict.Verdict.TheVariants as verdict
 use Rattle.pb_replay.specs.contract.Example.{opposed}
+use Rattle.std.proofs.lemmas.List.Elements.{All-from_recursion}
+use Rattle.pb_replay.proofs.lemmas.examples.Pairs.{each-at}
 
 abbrev plain_x : Form
 plain_x = record { terms = record { variable = 0; negated = false; coefficient = 1 } ∷ []; degree = 1 }
@@ -25,32 +27,23 @@ abbrev problem : Problem
 problem = record { loaded = plain_x ∷ negated_x ∷ []; objective = None; names = name_x ∷ [] }
 
 below : (n : Bool) → All (λ (t : Entry). t.variable < 1) (record { variable = 0; negated = n; coefficient = 1 } ∷ [])
-below n zero d lt = omega arith
-below n (suc k) d lt = absurd (omega (arith, lt))
+below n = All-from_recursion (λ (t : Entry). t.variable < 1) (record { variable = 0; negated = n; coefficient = 1 } ∷ []) (omega arith, tt)
 
 first_form : IsFormOf (name_x ∷ []) ((unit_on false).terms) (pos 1) plain_x
 first_form = record {
   ordered = (omega arith, omega arith, tt);
   named = below false;
-  coefficients = here;
+  coefficients = each-at (λ v name. coefficient plain_x v ≡ written_on name ((unit_on false).terms)) (name_x ∷ []) (refl, tt);
   degree = refl;
 }
-  where
-    here : (v : ℕ) (name : List ℕ) → slice_get (name_x ∷ []) v ≡ Some name → coefficient plain_x v ≡ written_on name ((unit_on false).terms)
-    here zero name e = let same : name_x ≡ name = cc in rw (← same) refl
-    here (suc v) name e = absurd cc
 
 second_form : IsFormOf (name_x ∷ []) ((unit_on true).terms) (pos 1) negated_x
 second_form = record {
   ordered = (omega arith, omega arith, tt);
   named = below true;
-  coefficients = here;
+  coefficients = each-at (λ v name. coefficient negated_x v ≡ written_on name ((unit_on true).terms)) (name_x ∷ []) (refl, tt);
   degree = refl;
 }
-  where
-    here : (v : ℕ) (name : List ℕ) → slice_get (name_x ∷ []) v ≡ Some name → coefficient negated_x v ≡ written_on name ((unit_on true).terms)
-    here zero name e = let same : name_x ≡ name = cc in rw (← same) refl
-    here (suc v) name e = absurd cc
 
 fits_one : (c : Linear) → Contains (opposed.constraints) c → Fits 127 c
 fits_one c (zero, lt, is) = let e : unit_on false ≡ c = is in rw (← e) (omega arith)

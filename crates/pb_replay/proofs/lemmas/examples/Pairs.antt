@@ -2,7 +2,7 @@
 use Rattle.pb_replay.proofs.Common.{ℕ, ◌<◌, ◌∙◌, ◌∷◌, ◌≡◌, [], ap, arith, Bool, cond, eqb, false, get_or, inl, inr, List, None, not, refl, Some}
 use Rattle.pb_replay.proofs.Common.{subst, suc, sym, true, zero, Contains, Ok, Option, ne_eqb, Entry, NumberedLiteral, Form, Holds, total, assignment}
 use Rattle.pb_replay.proofs.Common.{on, only, begin, Live, MayPropagate, Term, name_x, name_y, Problem, AreValues, Completed, Excludes, HasValue}
-use Rattle.pb_replay.proofs.Common.{logged_of, negations}
+use Rattle.pb_replay.proofs.Common.{logged_of, negations, same_Some, slice_get}
 use Rattle.pb_replay.proofs.lemmas.meaning.Propagating.{AreTrue, AreTrue-put, on-negations, conflict-none}
 
 abbrev pub entry : ℕ → Bool → Entry
@@ -109,6 +109,16 @@ each-contains : {A : Type 0} (P : A → Type 0) (xs : List A) (x : A) → Each P
 each-contains P [] x all (k, lt, is) = absurd (omega (arith, lt))
 each-contains P (y ∷ xs) x all (zero, lt, is) = subst P is all.0
 each-contains P (y ∷ xs) x all (suc k, lt, is) = each-contains P xs x all.1 (k, omega (arith, lt), is)
+
+-- the same of each number and its name
+abbrev pub EachAt : (ℕ → List ℕ → Type 0) → List (List ℕ) → Type 0
+EachAt P [] = Unit {0}
+EachAt P (n ∷ ns) = P 0 n × EachAt (λ x. P (suc x)) ns
+
+pub each-at : (P : ℕ → List ℕ → Type 0) (names : List (List ℕ)) → EachAt P names → (x : ℕ) (name : List ℕ) → slice_get names x ≡ Some name → P x name
+each-at P [] all x name e = absurd cc
+each-at P (n ∷ ns) all zero name e = subst (P 0) (same_Some _ _ e) all.0
+each-at P (n ∷ ns) all (suc x) name e = each-at (λ y. P (suc y)) ns all.1 x name e
 
 abbrev pub OfLive : (Form → Type 0) → Option Form → Type 0
 OfLive P None = Unit {0}

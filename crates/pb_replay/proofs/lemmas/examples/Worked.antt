@@ -1,15 +1,16 @@
 -- Proofs over two names that are accepted, and conclusions that are rejected
 use Rattle.pb_replay.proofs.Common.{ℕ, ◌&&◌, ◌++◌, ◌+ℤ◌, ◌+◌, ◌-ℤ◌, ◌<◌, ◌∷◌, ◌≡◌, ◌≤ℤ◌, [], All, arith, Bool, cond, eqb, false, inl, inr, List, None}
-use Rattle.pb_replay.proofs.Common.{pos, refl, Some, subst, suc, sym, true, zero, Contains, neg_ℤ, Ok, Option, slice_get, Fits, coefficient, Form}
-use Rattle.pb_replay.proofs.Common.{IsSum, negation_of, IsFormOf, IsSideOf, written_on, Finite, Concluding, Statement, Conclude, End, Constraint, Sum}
-use Rattle.pb_replay.proofs.Common.{Tree, begin, broken, IsRup, Live, MayPropagate, put, With, Linear, Term, all_logged, at_least_one, best_logged}
+use Rattle.pb_replay.proofs.Common.{pos, refl, Some, subst, suc, sym, true, zero, Contains, neg_ℤ, Ok, Option, Fits, coefficient, Form, IsSum}
+use Rattle.pb_replay.proofs.Common.{negation_of, IsFormOf, IsSideOf, written_on, Finite, Concluding, Statement, Conclude, End, Constraint, Sum, Tree}
+use Rattle.pb_replay.proofs.Common.{begin, broken, IsRup, Live, MayPropagate, put, With, Linear, Term, all_logged, at_least_one, best_logged}
 use Rattle.pb_replay.proofs.Common.{best_proof, both_terms, bounds_of, either, logged_proof, name_x, name_y, Refuses, shown_proof, unit_on, Verifies}
 use Rattle.pb_replay.proofs.Common.{NotBound, SolutionLogged, objective_with, propagated, Opened, Problem, first_state, Logged, logged_of, State}
-use Rattle.pb_replay.proofs.Common.{Accepts}
+use Rattle.pb_replay.proofs.Common.{Accepts, Entry}
+use Rattle.std.proofs.lemmas.List.Elements.{All-from_recursion}
 use Rattle.pb_proof.specs.declared.Conclusion.TheVariants as conclusion
 use Rattle.pb_normal.specs.declared.Side.TheVariants.{AtLeast as least, AtMost as most}
 use Rattle.pb_replay.specs.declared.verdict.Verdict.TheVariants as verdict
-use Rattle.pb_replay.proofs.lemmas.examples.Pairs.{entry, pair, values, problem, met, completed, live-met, own-met, clause-of}
+use Rattle.pb_replay.proofs.lemmas.examples.Pairs.{each-at, entry, pair, values, problem, met, completed, live-met, own-met, clause-of}
 use Rattle.pb_propagate.proofs.lemmas.engine.Literals.{literal}
 
 abbrev names : List (List ℕ)
@@ -28,47 +29,31 @@ then limit top v s u t (st ∷ sts) more (w, out, rest) h = (w, out, then limit 
 
 -- the forms of the two terms, and of none and one of them
 below : (m n : Bool) (d : ℕ) → All (λ t. t.variable < 2) (pair m n d).terms
-below m n d zero e lt = omega arith
-below m n d (suc zero) e lt = omega arith
-below m n d (suc (suc k)) e lt = absurd (omega (arith, lt))
+below m n d = All-from_recursion (λ (t : Entry). t.variable < 2) (pair m n d).terms (omega arith, (omega arith, tt))
 
 least_form : IsSideOf names least (at_least_one both_terms) (pair false false 1)
 least_form = record {
   ordered = (omega arith, omega arith, (omega arith, omega arith, tt));
   named = below false false 1;
-  coefficients = here;
+  coefficients = each-at (λ x name. coefficient (pair false false 1) x ≡ written_on name both_terms) names (refl, (refl, tt));
   degree = refl;
 }
-  where
-    here : (x : ℕ) (name : List ℕ) → slice_get names x ≡ Some name → coefficient (pair false false 1) x ≡ written_on name both_terms
-    here zero name e = let same : name_x ≡ name = cc in rw (← same) refl
-    here (suc zero) name e = let same : name_y ≡ name = cc in rw (← same) refl
-    here (suc (suc x)) name e = absurd cc
 
 most_form : IsSideOf names most (objective_with both_terms (pos 0)) (pair true true 2)
 most_form = record {
   ordered = (omega arith, omega arith, (omega arith, omega arith, tt));
   named = below true true 2;
-  coefficients = here;
+  coefficients = each-at (λ x name. coefficient (pair true true 2) x ≡ written_on name (record { coefficient = neg_ℤ (pos 1); literal = record { name = name_x; negated = false } } ∷ record { coefficient = neg_ℤ (pos 1); literal = record { name = name_y; negated = false } } ∷ [])) names (refl, (refl, tt));
   degree = refl;
 }
-  where
-    here : (x : ℕ) (name : List ℕ) → slice_get names x ≡ Some name → coefficient (pair true true 2) x ≡ written_on name (record { coefficient = neg_ℤ (pos 1); literal = record { name = name_x; negated = false } } ∷ record { coefficient = neg_ℤ (pos 1); literal = record { name = name_y; negated = false } } ∷ [])
-    here zero name e = let same : name_x ≡ name = cc in rw (← same) refl
-    here (suc zero) name e = let same : name_y ≡ name = cc in rw (← same) refl
-    here (suc (suc x)) name e = absurd cc
 
 unit_form : IsFormOf names ((unit_on false).terms) (pos 1) unit
-unit_form = record { ordered = (omega arith, omega arith, tt); named = inside; coefficients = here; degree = refl }
-  where
-    inside : All (λ t. t.variable < 2) (entry 0 false ∷ [])
-    inside zero e lt = omega arith
-    inside (suc k) e lt = absurd (omega (arith, lt))
-
-    here : (x : ℕ) (name : List ℕ) → slice_get names x ≡ Some name → coefficient unit x ≡ written_on name ((unit_on false).terms)
-    here zero name e = let same : name_x ≡ name = cc in rw (← same) refl
-    here (suc zero) name e = let same : name_y ≡ name = cc in rw (← same) refl
-    here (suc (suc x)) name e = absurd cc
+unit_form = record {
+  ordered = (omega arith, omega arith, tt);
+  named = All-from_recursion (λ (t : Entry). t.variable < 2) unit.terms (omega arith, tt);
+  coefficients = each-at (λ x name. coefficient unit x ≡ written_on name ((unit_on false).terms)) names (refl, (refl, tt));
+  degree = refl;
+}
 
 nothing_form : IsFormOf names [] (pos 1) nothing
 nothing_form = record { ordered = tt; named = λ k d lt. absurd (omega (arith, lt)); coefficients = λ x name e. refl; degree = refl }

@@ -1,10 +1,9 @@
 -- Larger limits accept what smaller ones accept
 use Rattle.pb_replay.proofs.Common.{ℕ, ℤ, ◌-ℤ◌, ◌≡◌, ◌≤◌, arith, Err, inl, inr, length, List, None, pos, refl, Some, Ok, Option, Result, Side, Form}
-use Rattle.pb_replay.proofs.Common.{with_names, IsSum, Bound, Finite, Infinite, Conclusion, Bounds, NoClaim, Sat, Unsat, Statement, Conclude, Delete}
-use Rattle.pb_replay.proofs.Common.{End, F, Header, Output, Pol, Rup, Soli, Solx, Constraint, LiteralAxiom, Product, Quotient, Saturation, Sum, Tree}
-use Rattle.pb_replay.proofs.Common.{Weakening, words, Live, Linear, Term, AcceptsMore, OpensMore, Fault, after, Answer, found, need, some, Concludes}
-use Rattle.pb_replay.proofs.Common.{lower_bound, named, objective_with, Problem, added, Completed, FormOfExpression, limited, Logged, normal_form}
-use Rattle.pb_replay.proofs.Common.{numbered, State, Does, mentioned}
+use Rattle.pb_replay.proofs.Common.{with_names, IsSum, Bound, Finite, Infinite, Conclusion, Bounds, Sat, Statement, Conclude, F, Pol, Rup, Soli, Solx}
+use Rattle.pb_replay.proofs.Common.{Constraint, LiteralAxiom, Product, Quotient, Saturation, Sum, Tree, Weakening, words, Live, Linear, Term}
+use Rattle.pb_replay.proofs.Common.{AcceptsMore, OpensMore, Fault, after, Answer, found, need, some, Concludes, lower_bound, named, objective_with}
+use Rattle.pb_replay.proofs.Common.{Problem, added, Completed, FormOfExpression, limited, Logged, normal_form, numbered, State, Does, mentioned}
 use Rattle.pb_normal.specs.declared.Side.TheVariants.{AtLeast as least, AtMost as most}
 
 -- for any result that is `Ok`: a bare variable lets the prover find the arguments of the lemmas
@@ -57,28 +56,23 @@ module _ (limit more : ℕ) (wider : limit ≤ more) where
       grows-need _ _ _ _ _ (λ h. h) (named-more s.live id _ _ (λ f. normal-more s.names least (objective_with o b) _ _ (λ g r is h. h)))
 
   concludes-more : (v : Problem) (s : State) (c : Conclusion) (next : Answer State) → GrowsAt (Concludes limit v s c next) (Concludes more v s c next)
-  concludes-more v s NoClaim next = λ r is h. h
-  concludes-more v s (Unsat id) next = λ r is h. h
   concludes-more v s (Sat (Some given)) next = λ r is h. h
-  concludes-more v s (Sat None) next = λ r is h. h
   concludes-more v s (Bounds lower id upper shown) next = grows-found _ _ _ _ (λ o. lower-more s o lower id _)
+  concludes-more v s c next = λ r is h. h
 
   module _ (top above : ℕ) (higher : top ≤ above) where
     added-more : (s : State) (logged : List Logged) (r : Form) → GrowsAt (added top s logged r) (added above s logged r)
     added-more s logged r = grows-need _ _ _ _ _ (λ lt. omega (arith, lt, higher)) (λ r is h. h)
 
     does-more : (v : Problem) (s : State) (st : Statement) → GrowsAt (Does limit top v s st) (Does more above v s st)
-    does-more v s Header = λ r is h. h
     does-more v s (F count) = grows-need _ _ _ _ _ (λ h. h) (grows-need _ _ _ _ _ (λ le. omega (arith, le, higher)) (λ r is h. h))
     does-more v s (Pol ws) = grows-some (λ tree. ws ≡ words tree) _ _ (λ tree. grows-after _ _ _ _ (tree-more s.names s.live tree) (λ r. added-more s s.logged r))
     does-more v s (Rup linear) = normal-more s.names least linear _ _ (λ r. grows-need _ _ _ _ _ (λ h. h) (added-more s s.logged r))
     does-more v s (Solx given) = grows-after (Completed v (Live s.live) (length s.names) (numbered s.names given)) _ _ _ (λ r is h. h) (λ g. grows-some _ _ _ (λ r. added-more s _ r))
     does-more v s (Soli given) =
         grows-found _ _ _ _ (λ o. grows-after (Completed v (Live s.live) (length s.names) (numbered s.names given)) _ _ _ (λ r is h. h) (λ g. normal-more s.names most (objective_with o (g.value -ℤ pos 1)) _ _ (λ r. added-more s _ r)))
-    does-more v s (Delete ids) = λ r is h. h
-    does-more v s Output = λ r is h. h
     does-more v s (Conclude c) = concludes-more v s c _
-    does-more v s End = λ r is h. h
+    does-more v s st = λ r is h. h
 
 pub accepts-more : AcceptsMore
 accepts-more limit top more above v s t st wider higher h =

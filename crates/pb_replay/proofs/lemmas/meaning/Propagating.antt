@@ -11,8 +11,7 @@ true_at-not a v true = sym (not-not (a v))
 true_at-not a v false = refl
 
 not_sign : (n m : Bool) → cond (not n) m (not m) ≡ cond n (not m) (not (not m))
-not_sign true true = refl
-not_sign true false = refl
+not_sign true m = refl
 not_sign false true = refl
 not_sign false false = refl
 

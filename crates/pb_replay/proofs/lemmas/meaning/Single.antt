@@ -2,12 +2,12 @@
 use Rattle.pb_replay.proofs.Common.{ℕ, ℤ, ◌++◌, ◌-ℤ◌, ◌<◌, ◌∙◌, ◌∷◌, ◌≡◌, [], ap, arith, Bool, Err, false, inl, inr, length, List, None, pos, set}
 use Rattle.pb_replay.proofs.Common.{Some, sym, true, unsigned_abs, Contains, Ok, Option, Result, cases_order, ext_get_or, same_Some, IsFormOf-unique}
 use Rattle.pb_replay.proofs.Common.{same_forms, Side, NumberedLiteral, AreFormsOf, sides_in, Form, with_names, IsSum, multiplied, on, Bound, Finite}
-use Rattle.pb_replay.proofs.Common.{Infinite, Conclusion, Bounds, NoClaim, Sat, Unsat, Statement, Conclude, Delete, End, F, Header, Output, Pol, Rup}
-use Rattle.pb_replay.proofs.Common.{Soli, Solx, Constraint, LiteralAxiom, Product, Quotient, Saturation, Sum, Tree, Weakening, words, completion-one}
-use Rattle.pb_replay.proofs.Common.{Live, Linear, Literal, Term, ok_or_err, same_err, IsSingle, OpeningsAreSingle, OutcomesAreSingle, Fault, after}
-use Rattle.pb_replay.proofs.Common.{Answer, each_below, found, gives, need, some, Concludes, lower_bound, named, none_left, objective_with}
-use Rattle.pb_replay.proofs.Common.{upper_bound, FitsAll, names_in, Problem, added, AreValues, Completed, Deleted, Excludes, FormOfExpression}
-use Rattle.pb_replay.proofs.Common.{HasValue, IsLive, Logged, logged_of, normal_form, numbered, place, Shown, Solution, State, Does, mentioned}
+use Rattle.pb_replay.proofs.Common.{Infinite, Conclusion, Bounds, NoClaim, Sat, Unsat, Statement, Conclude, Delete, F, Pol, Rup, Soli, Solx}
+use Rattle.pb_replay.proofs.Common.{Constraint, LiteralAxiom, Product, Quotient, Saturation, Sum, Tree, Weakening, words, completion-one, Live}
+use Rattle.pb_replay.proofs.Common.{Linear, Literal, Term, ok_or_err, same_err, IsSingle, OpeningsAreSingle, OutcomesAreSingle, Fault, after, Answer}
+use Rattle.pb_replay.proofs.Common.{each_below, found, gives, need, some, Concludes, lower_bound, named, none_left, objective_with, upper_bound}
+use Rattle.pb_replay.proofs.Common.{FitsAll, names_in, Problem, added, AreValues, Completed, Deleted, Excludes, FormOfExpression, HasValue, IsLive}
+use Rattle.pb_replay.proofs.Common.{Logged, logged_of, normal_form, numbered, place, Shown, Solution, State, Does, mentioned}
 use Rattle.pb_normal.specs.declared.Side.TheVariants.{AtLeast as least, AtMost as most}
 use Rattle.pb_normal.proofs.lemmas.rules.Unique.{IsSum-unique, IsRising-same, same_form}
 use Rattle.pb_replay.proofs.lemmas.meaning.Accepting.{ok-same}
@@ -140,7 +140,6 @@ single-concludes limit v s (Bounds lower id upper shown) next h =
     single-found (λ o. v.objective ≡ Some o) _ _ (objective-one v) (λ o. single-lower limit s o lower id _ (single-upper v s upper shown next h))
 
 single-does : (limit top : ℕ) (v : Problem) (s : State) (st : Statement) → IsSingle (Does limit top v s st)
-single-does limit top v s Header = single-gives _
 single-does limit top v s (F count) = single-need _ _ _ (single-need _ _ _ (single-gives _))
 single-does limit top v s (Pol ws) =
     single-some (λ tree. ws ≡ words tree) _ (λ t u p q. words_report t u (sym p ∙ q)) (λ tree.
@@ -154,9 +153,8 @@ single-does limit top v s (Soli given) =
     single-after (Completed v (Live s.live) (length s.names) (numbered s.names given)) _ (single-completed v (Live s.live) (length s.names) (numbered s.names given)) (λ g.
     single-normal limit s.names most (objective_with o (g.value -ℤ pos 1)) _ (λ r. single-added top s (s.logged ++ (g ∷ [])) r)))
 single-does limit top v s (Delete ids) = single-after (Deleted s.live ids) _ (single-deleted s.live ids) (λ live. single-gives _)
-single-does limit top v s Output = single-gives _
 single-does limit top v s (Conclude c) = single-concludes limit v s c _ (single-gives _)
-single-does limit top v s End = single-gives _
+single-does limit top v s st = single-gives _
 
 pub outcomes-single : OutcomesAreSingle
 outcomes-single limit top v s st = single-need _ _ _ (single-does limit top v (record s { names = with_names s.names (mentioned st) }) st)

@@ -3,12 +3,12 @@ use Rattle.pb_replay.proofs.Common.{ℕ, ℤ, ◌++◌, ◌+◌, ◌-ℤ◌, ◌
 use Rattle.pb_replay.proofs.Common.{length-append, List, None, pos, refl, set, Some, sym, true, Option, Result, get_or-append_seam, cases_lt, or_left}
 use Rattle.pb_replay.proofs.Common.{or_right, get_or_append_left, slice_get-get_or, distinct, prefix, number_in-get, Side, NumberedLiteral, Form}
 use Rattle.pb_replay.proofs.Common.{AreDistinct, has_name, number_in, with_name, with_names, IsSum, on, only, Bound, Finite, Infinite, Conclusion}
-use Rattle.pb_replay.proofs.Common.{Bounds, NoClaim, Sat, Unsat, Statement, Conclude, Delete, End, F, Header, Output, Pol, Rup, Soli, Solx}
-use Rattle.pb_replay.proofs.Common.{Constraint, LiteralAxiom, Product, Quotient, Saturation, Sum, Tree, Weakening, words, only-self, derivation-keeps}
-use Rattle.pb_replay.proofs.Common.{Live, Linear, Literal, Term, UnvaluedAreOld, UnvaluedMayWant, Fault, after, Answer, found, gives, need, some}
-use Rattle.pb_replay.proofs.Common.{Concludes, lower_bound, named, none_left, objective_with, upper_bound, Problem, added, Completed, Deleted}
-use Rattle.pb_replay.proofs.Common.{Excludes, FormOfExpression, HasValue, IsLive, limited, Logged, normal_form, numbered, place, Shown, State, Does}
-use Rattle.pb_replay.proofs.Common.{literal_names, MayWant, mentioned, PassesFirst}
+use Rattle.pb_replay.proofs.Common.{Bounds, NoClaim, Sat, Unsat, Statement, Conclude, Delete, F, Pol, Rup, Soli, Solx, Constraint, LiteralAxiom}
+use Rattle.pb_replay.proofs.Common.{Product, Quotient, Saturation, Sum, Tree, Weakening, words, only-self, derivation-keeps, Live, Linear, Literal}
+use Rattle.pb_replay.proofs.Common.{Term, UnvaluedAreOld, UnvaluedMayWant, Fault, after, Answer, found, gives, need, some, Concludes, lower_bound}
+use Rattle.pb_replay.proofs.Common.{named, none_left, objective_with, upper_bound, Problem, added, Completed, Deleted, Excludes, FormOfExpression}
+use Rattle.pb_replay.proofs.Common.{HasValue, IsLive, limited, Logged, normal_form, numbered, place, Shown, State, Does, literal_names, MayWant}
+use Rattle.pb_replay.proofs.Common.{mentioned, PassesFirst}
 use Rattle.pb_replay.specs.declared.fault.Fault.TheVariants as fault
 use Rattle.pb_normal.specs.declared.Side.TheVariants.{AtLeast as least, AtMost as most}
 
@@ -173,7 +173,6 @@ solved v forms old ls n next r d h is (inr g) = unvalued v forms old ls n (Err g
 
 does : (limit top : ℕ) (v : Problem) (s : State) (st : Statement) (n : ℕ) (r : Result State Fault) → AreDistinct s.names → r ≡ Err (fault.NotTotal n)
     → Does limit top v (record s { names = with_names s.names (mentioned st) }) st r → n < length s.names
-does limit top v s Header n r d is h = absurd (never-gives _ r n is h)
 does limit top v s (F count) n r d is h = absurd (never-need _ _ _ (λ n h. cc) (never-need _ _ _ (λ n h. cc) (never-gives _)) r n is h)
 does limit top v s (Pol ws) n r d is h =
     absurd (never-some (λ tree. ws ≡ words tree) _ (λ tree. never-after (FormOfExpression limit _ s.live tree) _ (never-tree limit _ s.live tree) (λ f. never-added top (record s { names = with_names s.names (mentioned (Pol ws)) }) s.logged f)) r n is h)
@@ -185,9 +184,8 @@ does limit top v s (Soli given) n r d is (inr h) = absurd (let o : fault.NoObjec
 does limit top v s (Solx given) n r d is h =
     solved v (Live s.live) s.names given n _ r d (λ g. never-some (Excludes _) _ (λ f. never-added top (record s { names = with_names s.names (mentioned (Solx given)) }) (s.logged ++ (g ∷ [])) f)) is h
 does limit top v s (Delete ids) n r d is h = absurd (never-after (Deleted s.live ids) _ (never-deleted s.live ids) (λ live. never-gives _) r n is h)
-does limit top v s Output n r d is h = absurd (never-gives _ r n is h)
 does limit top v s (Conclude c) n r d is h = absurd (never-concludes limit v (record s { names = with_names s.names (mentioned (Conclude c)) }) c _ (never-gives _) r n is h)
-does limit top v s End n r d is h = absurd (never-gives _ r n is h)
+does limit top v s st n r d is h = absurd (never-gives _ r n is h)
 
 pub unvalued-old : UnvaluedAreOld
 unvalued-old limit top v s st n d (inl h) = does limit top v s st n (Err (fault.NotTotal n)) d refl h.1
@@ -199,7 +197,6 @@ concludes-wants limit top v s c next n r never is h = absurd (never-concludes li
 
 wants : (limit top : ℕ) (v : Problem) (s : State) (st : Statement) (n : ℕ) (r : Result State Fault) → r ≡ Err (fault.NotTotal n)
     → Does limit top v (record s { names = with_names s.names (mentioned st) }) st r → MayWant st × PassesFirst limit top v st
-wants limit top v s Header n r is h = absurd (never-gives _ r n is h)
 wants limit top v s (F count) n r is h = absurd (never-need _ _ _ (λ n h. cc) (never-need _ _ _ (λ n h. cc) (never-gives _)) r n is h)
 wants limit top v s (Pol ws) n r is h = (tt, tt)
 wants limit top v s (Rup linear) n r is h =
@@ -208,9 +205,8 @@ wants limit top v s (Soli given) n r is (inl (o, e, h)) = (tt, (o, e))
 wants limit top v s (Soli given) n r is (inr h) = absurd (let o : fault.NoObjective ≡ fault.NotTotal n = err_same r _ _ is h.1 in cc)
 wants limit top v s (Solx given) n r is h = (tt, tt)
 wants limit top v s (Delete ids) n r is h = absurd (never-after (Deleted s.live ids) _ (never-deleted s.live ids) (λ live. never-gives _) r n is h)
-wants limit top v s Output n r is h = absurd (never-gives _ r n is h)
 wants limit top v s (Conclude c) n r is h = concludes-wants limit top v (record s { names = with_names s.names (mentioned (Conclude c)) }) c _ n r (never-gives _) is h
-wants limit top v s End n r is h = absurd (never-gives _ r n is h)
+wants limit top v s st n r is h = absurd (never-gives _ r n is h)
 
 pub unvalued-wants : UnvaluedMayWant
 unvalued-wants limit top v s st n (inl h) = let w = wants limit top v s st n (Err (fault.NotTotal n)) refl h.1 in (h.0, w.0, w.1)

@@ -1,20 +1,16 @@
 -- The words so far, and those that are left
 use Rattle.pb_replay.proofs.Common.{ℕ, ◌++◌, ◌+◌, ◌-◌, ◌<◌, ◌∙◌, ◌∷◌, ◌≡◌, ◌≤◌, [], ap, arith, drop, Err, get_or, inl, inr, length, length-append}
 use Rattle.pb_replay.proofs.Common.{List, refl, sym, take, Ok, Option, Result, reverse, drop_all, drop_more, in_turn, prefix, Form, HasNames}
-use Rattle.pb_replay.proofs.Common.{with_names, Leaves, takes, PolWord, Add, Axiom, Divide, Id, Multiply, Saturate, Weaken, IsPostfix, words}
-use Rattle.pb_replay.proofs.Common.{take_read, Fault, Word, Words, some, IsNamePrefix, FormOfExpression, word_names}
+use Rattle.pb_replay.proofs.Common.{with_names, Leaves, takes, PolWord, Axiom, Weaken, IsPostfix, words, take_read, Fault, Word, Words, some}
+use Rattle.pb_replay.proofs.Common.{IsNamePrefix, FormOfExpression, word_names}
 use Rattle.pb_replay.proofs.lemmas.rules.Made.{last_first}
 use Rattle.pb_replay.proofs.lemmas.rules.Stacks.{leaves-one, tree-leaves, tree-fails}
 
 pub word_names-append : (xs ys : List PolWord) → word_names (xs ++ ys) ≡ word_names xs ++ word_names ys
 word_names-append [] ys = refl
-word_names-append (Id id ∷ xs) ys = word_names-append xs ys
 word_names-append (Axiom l ∷ xs) ys = ap (λ (ns : List (List ℕ)). l.name ∷ ns) (word_names-append xs ys)
-word_names-append (Add ∷ xs) ys = word_names-append xs ys
-word_names-append (Multiply k ∷ xs) ys = word_names-append xs ys
-word_names-append (Divide k ∷ xs) ys = word_names-append xs ys
-word_names-append (Saturate ∷ xs) ys = word_names-append xs ys
 word_names-append (Weaken name ∷ xs) ys = ap (λ (ns : List (List ℕ)). name ∷ ns) (word_names-append xs ys)
+word_names-append (w ∷ xs) ys = word_names-append xs ys
 
 pub next_names : (old names new : List (List ℕ)) (ws : List PolWord) (i : ℕ) (w : PolWord) → i < length ws → w ≡ get_or ws i w → names ≡ with_names old (word_names (take i ws)) → new ≡ with_names names (word_names (w ∷ []))
     → new ≡ with_names old (word_names (take (i + 1) ws))
@@ -45,13 +41,9 @@ rest_is ws i w lt e =
     drop_more ws i w lt ∙ ap (λ (x : PolWord). x ∷ drop (i + 1) ws) (sym e)
 
 named_apart : (names : List (List ℕ)) (w : PolWord) (ws : List PolWord) → HasNames names (word_names (w ∷ ws)) → HasNames names (word_names (w ∷ [])) × HasNames names (word_names ws)
-named_apart names (Id id) ws h = (tt, h)
 named_apart names (Axiom l) ws h = ((h.0, tt), h.1)
-named_apart names Add ws h = (tt, h)
-named_apart names (Multiply k) ws h = (tt, h)
-named_apart names (Divide k) ws h = (tt, h)
-named_apart names Saturate ws h = (tt, h)
 named_apart names (Weaken name) ws h = ((h.0, tt), h.1)
+named_apart names w ws h = (tt, h)
 
 module _ (limit top : ℕ) (names : List (List ℕ)) (live : List (Option Form)) (ws : List PolWord) (i : ℕ) (w : PolWord) (lt : i < length ws) (e : w ≡ get_or ws i w) (stack : List Form) (s : Standing limit top names live ws i stack) where
   pub word_takes : takes w ≤ length stack

@@ -55,6 +55,18 @@ module _ (limit : ℕ) (names : List (List ℕ)) (live : List (Option Form)) whe
   abbrev Then : List PolWord → List Form → Form → Answer (List Form)
   Then rest fs f = Words limit names live rest (f ∷ fs)
 
+  -- an expression, and then a word that takes its form
+  by_word : (a : Tree) (w : PolWord) (n : Form → Answer Form) (rest : List PolWord) (fs : List Form) (r : Result (List Form) Fault) → ((f : Form) → Words limit names live (w ∷ rest) (f ∷ fs) r → after (n f) (Then rest fs) r)
+      → (Words limit names live (words a ++ w ∷ rest) fs r → after (FormOfExpression limit names live a) (Then (w ∷ rest) fs) r) → Words limit names live ((words a ++ w ∷ []) ++ rest) fs r → after (after (FormOfExpression limit names live a) n) (Then rest fs) r
+  by_word a w n rest fs r step before h =
+      joined (FormOfExpression limit names live a) n (Then rest fs) r
+      (after_like (FormOfExpression limit names live a) (Then (w ∷ rest) fs) (λ f. after (n f) (Then rest fs)) r step (before (rw (append_assoc (words a) (w ∷ []) rest) at h)))
+
+  by_map : (a : Tree) (w : PolWord) (g : Form → Form) (rest : List PolWord) (fs : List Form) (r : Result (List Form) Fault) → ((f : Form) → Words limit names live (w ∷ rest) (f ∷ fs) r → after (gives (g f ∷ fs)) (Words limit names live rest) r)
+      → (Words limit names live (words a ++ w ∷ rest) fs r → after (FormOfExpression limit names live a) (Then (w ∷ rest) fs) r) → Words limit names live ((words a ++ w ∷ []) ++ rest) fs r → after (after (FormOfExpression limit names live a) (λ f. gives (g f))) (Then rest fs) r
+  by_map a w g rest fs r same before h =
+      by_word a w (λ f. gives (g f)) rest fs r (λ f x. inl (g f, refl, after_given (g f ∷ fs) (Words limit names live rest) r (same f x))) before h
+
   as_tree : (t : Tree) (rest : List PolWord) (fs : List Form) (r : Result (List Form) Fault) → Words limit names live (words t ++ rest) fs r → after (FormOfExpression limit names live t) (Then rest fs) r
   as_tree (Constraint id) rest fs r (inl (gs, inl (f, p, e), h)) = let same : gs ≡ f ∷ fs = cc in inl (f, inl (f, p, refl), rw same at h)
   as_tree (Constraint id) rest fs r (inl (gs, inr (p, bad), h)) = absurd cc
@@ -77,29 +89,11 @@ module _ (limit : ℕ) (names : List (List ℕ)) (live : List (Option Form)) whe
           let one = after_some (IsSum f g) (λ s. after (limited limit s) (λ x. gives (x ∷ fs))) (Words limit names live rest) r w in
           (one.0, one.1, after_gives (limited limit one.0) (λ x. x ∷ fs) (Words limit names live rest) r one.2)
   as_tree (Product a k) rest fs r h =
-      let split = rw (append_assoc (words a) (Multiply k ∷ []) rest) at h in
-      joined (FormOfExpression limit names live a) (λ f. limited limit (multiplied (unsigned_abs k) f)) (Then rest fs) r
-      (after_like (FormOfExpression limit names live a) (Then (Multiply k ∷ rest) fs) (λ f. after (limited limit (multiplied (unsigned_abs k) f)) (Then rest fs)) r
-      (λ f w. after_gives (limited limit (multiplied (unsigned_abs k) f)) (λ x. x ∷ fs) (Words limit names live rest) r w)
-      (as_tree a (Multiply k ∷ rest) fs r split))
-  as_tree (Quotient a k) rest fs r h =
-      let split = rw (append_assoc (words a) (Divide k ∷ []) rest) at h in
-      joined (FormOfExpression limit names live a) (λ f. gives (divided (unsigned_abs k) f)) (Then rest fs) r
-      (after_like (FormOfExpression limit names live a) (Then (Divide k ∷ rest) fs) (λ f. after (gives (divided (unsigned_abs k) f)) (Then rest fs)) r
-      (λ f w. inl (divided (unsigned_abs k) f, refl, after_given (divided (unsigned_abs k) f ∷ fs) (Words limit names live rest) r w))
-      (as_tree a (Divide k ∷ rest) fs r split))
-  as_tree (Saturation a) rest fs r h =
-      let split = rw (append_assoc (words a) (Saturate ∷ []) rest) at h in
-      joined (FormOfExpression limit names live a) (λ f. gives (saturated f)) (Then rest fs) r
-      (after_like (FormOfExpression limit names live a) (Then (Saturate ∷ rest) fs) (λ f. after (gives (saturated f)) (Then rest fs)) r
-      (λ f w. inl (saturated f, refl, after_given (saturated f ∷ fs) (Words limit names live rest) r w))
-      (as_tree a (Saturate ∷ rest) fs r split))
-  as_tree (Weakening a name) rest fs r h =
-      let split = rw (append_assoc (words a) (Weaken name ∷ []) rest) at h in
-      joined (FormOfExpression limit names live a) (λ f. gives (weakened (number_in names name) f)) (Then rest fs) r
-      (after_like (FormOfExpression limit names live a) (Then (Weaken name ∷ rest) fs) (λ f. after (gives (weakened (number_in names name) f)) (Then rest fs)) r
-      (λ f w. inl (weakened (number_in names name) f, refl, after_given (weakened (number_in names name) f ∷ fs) (Words limit names live rest) r w))
-      (as_tree a (Weaken name ∷ rest) fs r split))
+      by_word a (Multiply k) (λ f. limited limit (multiplied (unsigned_abs k) f)) rest fs r
+      (λ f w. after_gives (limited limit (multiplied (unsigned_abs k) f)) (λ x. x ∷ fs) (Words limit names live rest) r w) (λ w. as_tree a (Multiply k ∷ rest) fs r w) h
+  as_tree (Quotient a k) rest fs r h = by_map a (Divide k) (divided (unsigned_abs k)) rest fs r (λ f w. w) (λ w. as_tree a (Divide k ∷ rest) fs r w) h
+  as_tree (Saturation a) rest fs r h = by_map a Saturate saturated rest fs r (λ f w. w) (λ w. as_tree a (Saturate ∷ rest) fs r w) h
+  as_tree (Weakening a name) rest fs r h = by_map a (Weaken name) (weakened (number_in names name)) rest fs r (λ f w. w) (λ w. as_tree a (Weaken name ∷ rest) fs r w) h
 
   -- the form that the words leave is that of their expression, and so is their fault
   pub tree-leaves : (t : Tree) (ws : List PolWord) (f : Form) → ws ≡ words t → Words limit names live ws [] (Ok (f ∷ [])) → FormOfExpression limit names live t (Ok f)

@@ -10,10 +10,8 @@ use Rattle.pb_replay.proofs.lemmas.meaning.Single.{single-completed}
 -- what a value says of the plain literal and of its negation
 says-some : (o : Option Bool) (m : Bool) → o ≡ Some m → (value_says o false ≡ m) × (value_says o true ≡ not m)
 says-some (Some true) true e = (refl, refl)
-says-some (Some true) false e = absurd cc
-says-some (Some false) true e = absurd cc
 says-some (Some false) false e = (refl, refl)
-says-some None m e = absurd cc
+says-some o m e = absurd cc
 
 says-none : (o : Option Bool) → o ≡ None → (value_says o false ≡ false) × (value_says o true ≡ false)
 says-none None e = (refl, refl)

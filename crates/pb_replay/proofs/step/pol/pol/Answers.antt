@@ -3,8 +3,8 @@ use Rattle.pb_replay.proofs.lemmas.names.Named.{words_named}
 use Rattle.pb_replay.proofs.lemmas.rules.Pols.{pol-inside, pol-goes}
 use Rattle.pb_replay.proofs.step.pol.pol.Goals as goal
 
-pub expressed-requires-clause-named : goal.expressed-requires-clause-named
-expressed-requires-clause-named c =
+pub shared_form-requires-clause-named : goal.shared_form-requires-clause-named
+shared_form-requires-clause-named c =
     words_named _ _ _ _ c.args.words.now c.in_default.ensures.names c.as_slice.ensures c.as_slice-2.ensures
 
 pub add_shared-requires-clause-inside : goal.add_shared-requires-clause-inside

@@ -5,8 +5,8 @@ use Rattle.pb_replay.proofs.step.shown.own_value.Goals as goal
 
 pub returns : goal.returns
 returns c =
-    own-value (problem_of c.args.running.now) c.in_ok-engine.engine.forms c.in_ok-engine.ensures.engine.forms c.args.running.now.own c.args.given.now c.judged.result
-    (completed-value (problem_of c.args.running.now) (Live c.in_ok-engine.engine.forms) c.args.running.now.own c.args.given.now c.in_ok-values.values.items c.in_ok-values.ensures.free c.in_ok-values.ensures.list c.judged.result (rw c.as_slice.ensures.value at c.judged.ensures.value))
+    own-value (problem_of c.args.running.now) c.in_ok-engine.engine.forms c.in_ok-engine.ensures.engine.forms c.args.running.now.own c.args.given.now c.solution_value.result
+    (completed-value (problem_of c.args.running.now) (Live c.in_ok-engine.engine.forms) c.args.running.now.own c.args.given.now c.in_ok-values.values.items c.in_ok-values.ensures.free c.in_ok-values.ensures.list c.solution_value.result (rw c.as_slice.ensures.value at c.solution_value.ensures.value))
 
 pub returns-in_err-values : goal.returns-in_err-values
 returns-in_err-values c =

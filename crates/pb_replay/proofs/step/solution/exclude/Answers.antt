@@ -11,7 +11,7 @@ clause_of-requires c =
 pub returns-clause-goes : goal.returns-clause-goes
 returns-clause-goes c = λ written e.
     solx-ok c.args.running.now c.args.given.now written e c.in_ok-value.value c.in_ok-clause.clause c.log.result c.log.new.running c.in_ok-value.ensures.value c.in_ok-clause.ensures.clause
-    (logs-from c.args.running.now c.completed.new.running c.in_ok-value.ensures.same c.completed.ensures.preserves.kept c.in_ok-value.value c.in_ok-clause.clause c.log.result c.log.new.running (rw (to_z-of_z w128 c.in_ok-value.value (fits_signed_from_abs w128 c.in_ok-value.value c.in_ok-value.ensures.small)) at c.log.ensures.logs))
+    (logs-from c.args.running.now c.completion_value.new.running c.in_ok-value.ensures.same c.completion_value.ensures.preserves.kept c.in_ok-value.value c.in_ok-clause.clause c.log.result c.log.new.running (rw (to_z-of_z w128 c.in_ok-value.value (fits_signed_from_abs w128 c.in_ok-value.value c.in_ok-value.ensures.small)) at c.log.ensures.logs))
 
 pub returns-in_err-value-clause-goes : goal.returns-in_err-value-clause-goes
 returns-in_err-value-clause-goes c =
@@ -19,5 +19,5 @@ returns-in_err-value-clause-goes c =
     rw (p.1, p.2) (λ written e.
     elim c.in_err-value.ensures.value [
       | inl memory ↦ inl memory
-      | inr bad ↦ solx-err c.args.running.now c.args.given.now written e _ c.completed.new.running bad
+      | inr bad ↦ solx-err c.args.running.now c.args.given.now written e _ c.completion_value.new.running bad
     ])

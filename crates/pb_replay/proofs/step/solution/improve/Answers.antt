@@ -7,7 +7,7 @@ pub returns-clause-goes : goal.returns-clause-goes
 returns-clause-goes c = λ written e.
     let o = some-objective c.args.running.now c.requires.objective in
     soli-ok c.args.running.now c.args.given.now written e c.in_ok-value.value o.0 c.demand_less.result c.demand_less.new.running o.1 c.in_ok-value.ensures.value
-    (demands-from c.args.running.now c.completed.new.running c.in_ok-value.ensures.same c.requires.proper c.completed.ensures.preserves.kept c.in_ok-value.value c.demand_less.result c.demand_less.new.running (subst (λ (z : ℤ). Demands c.completed.new.running z c.demand_less.result c.demand_less.new.running) (to_z-of_z w128 c.in_ok-value.value (fits_signed_from_abs w128 c.in_ok-value.value c.in_ok-value.ensures.small)) c.demand_less.ensures.demands))
+    (demands-from c.args.running.now c.completion_value.new.running c.in_ok-value.ensures.same c.requires.proper c.completion_value.ensures.preserves.kept c.in_ok-value.value c.demand_less.result c.demand_less.new.running (subst (λ (z : ℤ). Demands c.completion_value.new.running z c.demand_less.result c.demand_less.new.running) (to_z-of_z w128 c.in_ok-value.value (fits_signed_from_abs w128 c.in_ok-value.value c.in_ok-value.ensures.small)) c.demand_less.ensures.demands))
 
 pub returns-in_err-value-clause-goes : goal.returns-in_err-value-clause-goes
 returns-in_err-value-clause-goes c =
@@ -16,5 +16,5 @@ returns-in_err-value-clause-goes c =
     let o = some-objective c.args.running.now c.requires.objective in
     elim c.in_err-value.ensures.value [
       | inl memory ↦ inl memory
-      | inr bad ↦ soli-err c.args.running.now c.args.given.now written e o.0 _ c.completed.new.running o.1 bad
+      | inr bad ↦ soli-err c.args.running.now c.args.given.now written e o.0 _ c.completion_value.new.running o.1 bad
     ])

@@ -1,15 +1,15 @@
 use Rattle.pb_replay.proofs.Common.{inl, inr, err_from_is_err_and}
 use Rattle.pb_replay.proofs.lemmas.rules.Evaluation.{stands_first, word_takes, word_named, word_fails, stands_next, some_form, some_fault}
-use Rattle.pb_replay.proofs.step.pol.evaluated.Goals as goal
+use Rattle.pb_replay.proofs.step.pol.form_of_words.Goals as goal
 
 pub loop-word-init : goal.loop-word-init
 loop-word-init c = rw c.new-stack.ensures.items (stands_first _ _ _ _ c.args.words.now c.requires.postfix c.requires.named)
 
-pub made-requires-clause-takes : goal.made-requires-clause-takes
-made-requires-clause-takes c = word_takes _ _ _ _ _ _ _ c.loop-word-test.true c.word-item.is _ c.loop-word.invariant
+pub form_of_word-requires-clause-takes : goal.form_of_word-requires-clause-takes
+form_of_word-requires-clause-takes c = word_takes _ _ _ _ _ _ _ c.loop-word-test.true c.word-item.is _ c.loop-word.invariant
 
-pub made-requires-clause-named : goal.made-requires-clause-named
-made-requires-clause-named c = word_named _ _ _ _ _ _ _ c.loop-word-test.true c.word-item.is _ c.loop-word.invariant
+pub form_of_word-requires-clause-named : goal.form_of_word-requires-clause-named
+form_of_word-requires-clause-named c = word_named _ _ _ _ _ _ _ c.loop-word-test.true c.word-item.is _ c.loop-word.invariant
 
 pub returns-in_err-form-clause-err : goal.returns-in_err-form-clause-err
 returns-in_err-form-clause-err c =

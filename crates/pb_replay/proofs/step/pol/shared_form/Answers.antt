@@ -1,5 +1,5 @@
 use Rattle.pb_replay.proofs.lemmas.rules.Pols.{repeated-form}
-use Rattle.pb_replay.proofs.step.pol.expressed.Goals as goal
+use Rattle.pb_replay.proofs.step.pol.shared_form.Goals as goal
 
 pub returns-in-Some-clause-ok : goal.returns-in-Some-clause-ok
 returns-in-Some-clause-ok c = repeated-form _ _ _ _ _ (rw c.in-Some.is at c.in_ok-form.ensures)

@@ -1,5 +1,5 @@
 use Rattle.pb_replay.proofs.Common.{ℕ, ◌<◌, ◌≡◌, false, get_or, length, None, Some}
-use Rattle.pb_replay.proofs.state.solution.listed.Given as goal
+use Rattle.pb_replay.proofs.state.solution.list_values.Given as goal
 
 -- each name so far has its value
 abbrev pub invariant-loop-number : goal.invariant-loop-number

@@ -1,7 +1,7 @@
 use Rattle.pb_replay.proofs.Common.{◌∙◌, ap, Err, refl, rules, sym, take, take-length}
 use Rattle.pb_replay.proofs.lemmas.rules.Ready.{opened_ok, opened_err}
 use Rattle.pb_replay.proofs.lemmas.rules.States.{same-state}
-use Rattle.pb_replay.proofs.state.load.begun.Goals as goal
+use Rattle.pb_replay.proofs.state.load.load_instance.Goals as goal
 
 pub returns-clause-ok : goal.returns-clause-ok
 returns-clause-ok c = record {
