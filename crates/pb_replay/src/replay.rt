@@ -53,9 +53,9 @@ impl Model for Replay {
 }
 
 impl Replay {
-    /// A replay before its first statement. It fails with `Overflow` if a constraint or the objective exceeds the
-    /// limit, and with `Memory` if memory runs out. The names are hashed with fixed keys. For names from untrusted
-    /// sources there is `with_hasher`.
+    /// A replay before its first statement. It fails with `Overflow` if a constraint or the
+    /// objective exceeds the limit, and with `Memory` if memory runs out. The names are hashed with
+    /// fixed keys. For names from untrusted sources there is `with_hasher`.
     pub fn new(alloc: Global, instance: &Instance, limits: Limits) -> Result<Replay, Fault>
         ensures opened { IfOk result (λ r. Opened (largest limits) instance.now (Ok r.problem)) }
         ensures limits { IfOk result (λ r. r.limits ≡ limits) }
@@ -104,8 +104,9 @@ impl Replay {
         ensures limits { self.new.limits ≡ self.old.limits }
         ensures problem { self.new.problem ≡ self.old.problem }
         ensures names { IsNamePrefix self.old.names self.new.names }
-        // What can be tested without memory is reported first. It is the order, a number of constraints that is wrong
-        // or too large, a constraint that is too large, and a missing objective.
+        // What can be tested without memory is reported first. It is the order, a number of
+        // constraints that is wrong or too large, a constraint that is too large, and a missing
+        // objective.
         ensures memory { self.old.fault ≡ None → result ≡ Err Fault.Memory →
             MayWantAt (largest self.old.limits)
             (top_of self.old.limits) self.old.problem self.old.next statement.now }
@@ -126,7 +127,8 @@ impl Replay {
         }
     }
 
-    /// A replay that is not spent represents a sound state of its problem. A call makes this known to the caller.
+    /// A replay that is not spent represents a sound state of its problem. A call makes this known
+    /// to the caller.
     pub fn report_sound(&self)
         ensures problem { self.now.fault ≡ None → IsProblem self.now.problem }
         ensures sound { self.now.fault ≡ None → (s : State) × StandsFor self.now s ×
@@ -175,8 +177,9 @@ impl Replay {
         self.running.names.name_of(number)
     }
 
-    /// The number of visits of the last `rup`. Visits to entries of occurrence lists, to terms, and to watches and
-    /// literals of clauses are counted. A literal that was kept from earlier steps counts as one.
+    /// The number of visits of the last `rup`. Visits to entries of occurrence lists, to terms, and
+    /// to watches and literals of clauses are counted. A literal that was kept from earlier steps
+    /// counts as one.
     pub fn visits(&self) -> u64
         ensures { result ≡ self.now.visits }
     {

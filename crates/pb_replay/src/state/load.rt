@@ -63,7 +63,8 @@ fn kept_objective(
     }
 }
 
-/// Whether each constraint fits, and the coefficients of the objective fit together. Nothing is allocated.
+/// Whether each constraint fits, and the coefficients of the objective fit together. Nothing is
+/// allocated.
 fn fits_all(instance: &Instance, limits: Limits) -> bool
     ensures { IsTrue result ↔ FitsAll (largest limits) instance.now }
 {

@@ -18,7 +18,8 @@ use pb_proof::Bound;
 use pb_propagate::Engine;
 use std::alloc::AllocError;
 
-/// Whether the form with this id is a contradiction, or its sum with the negation of the goal is one.
+/// Whether the form with this id is a contradiction, or its sum with the negation of the goal is
+/// one.
 fn is_refuted(engine: &Engine, id: Option<i64>, goal: &Normal) -> Result<bool, Fault>
     requires { 0 < goal.now.degree }
     ensures ok { IfOk result (λ b. (f : Option Form) → IsNamed engine.now.forms id f →

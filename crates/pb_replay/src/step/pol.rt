@@ -230,7 +230,8 @@ fn constraint_of_id(engine: &Engine, words: &[PolWord]) -> Result<Option<Shared>
     }
 }
 
-/// The form of the expression of these words, or its fault. That of one id shares the terms of its constraint.
+/// The form of the expression of these words, or its fault. That of one id shares the terms of its
+/// constraint.
 fn shared_form(
     alloc: Global,
     names: &Names,
