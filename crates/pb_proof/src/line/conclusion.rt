@@ -2,7 +2,9 @@
 
 ghost use Rattle.std.specs.Prelude.{◌≡◌};
 ghost use Rattle.pb_text.specs.meaning.Limits.{largest, top_of};
-ghost use Rattle.pb_proof.specs.engine.Line.ConclusionState.{showing_value, conclusion_value};
+ghost use Rattle.pb_proof.specs.engine.Line.ConclusionState.{showing_value, conclusion_value, conclusion_first, conclusion_automaton};
+ghost use Rattle.pb_text.specs.contract.Automaton.{Pushes};
+ghost use Rattle.pb_proof.specs.engine.Line.Conclusion.{transition};
 
 mod phase;
 mod transition;
@@ -64,8 +66,6 @@ fn conclusion_value(concluding: Concluding) -> Conclusion
 }
 
 impl ConclusionMachine {
-    ghost use Rattle.pb_proof.specs.engine.Line.ConclusionState.{conclusion_first};
-
     /// A machine at the start of its text. Creating it does not allocate.
     pub fn new(alloc: Global, limits: Limits) -> Self
         ensures begins { result ≡ conclusion_first (largest limits) (top_of limits) }
@@ -77,12 +77,6 @@ impl ConclusionMachine {
             literals: LiteralsMachine::new(alloc, true),
         }
     }
-}
-
-impl ConclusionMachine {
-    ghost use Rattle.pb_text.specs.contract.Automaton.{Pushes};
-    ghost use Rattle.pb_proof.specs.engine.Line.ConclusionState.{conclusion_automaton};
-    ghost use Rattle.pb_proof.specs.engine.Line.Conclusion.{transition};
 
     /// Takes a byte.
     fn take(&mut self, byte: u8) -> Push<Conclusion>
@@ -130,8 +124,6 @@ impl ConclusionMachine {
 }
 
 impl Machine for ConclusionMachine {
-    ghost use Rattle.pb_proof.specs.engine.Line.ConclusionState.{conclusion_automaton};
-
     type Event = Conclusion;
 
     ghost automaton = { conclusion_automaton };

@@ -2,7 +2,7 @@
 
 ghost use Rattle.std.specs.Prelude.{◌≡◌};
 ghost use Rattle.pb_text.specs.meaning.Limits.{largest, top_of};
-ghost use Rattle.pb_proof.specs.engine.Line.Machine.{line_first, IsCarried, IsEnded};
+ghost use Rattle.pb_proof.specs.engine.Line.Machine.{line_first, IsCarried, IsEnded, line_automaton};
 
 use crate::line::LineMachine;
 use crate::line::conclusion::ConclusionMachine;
@@ -73,8 +73,6 @@ pub fn line_first(alloc: Global, limits: Limits, kind: LineKind) -> LineMachine
 }
 
 impl Machine for LineMachine {
-    ghost use Rattle.pb_proof.specs.engine.Line.Machine.{line_automaton};
-
     type Event = Statement;
 
     ghost automaton = { line_automaton };
