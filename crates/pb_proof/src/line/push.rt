@@ -82,17 +82,13 @@ impl Machine for LineMachine {
     }
 
     fn try_finish(&mut self, byte: u8) -> Option<Statement> {
+        let _ = self.is_done();
         match self {
-            LineMachine::Count(machine) => ended(machine.try_finish(byte), Statement::F),
             LineMachine::Pol(machine) => ended(machine.try_finish(byte), Statement::Pol),
             LineMachine::Rup(machine) => ended(machine.try_finish(byte), Statement::Rup),
-            LineMachine::Soli(machine) => ended(machine.try_finish(byte), Statement::Soli),
-            LineMachine::Solx(machine) => ended(machine.try_finish(byte), Statement::Solx),
             LineMachine::Delete(machine) => ended(machine.try_finish(byte), Statement::Delete),
-            LineMachine::Conclusion(machine) => ended(
-                machine.try_finish(byte),
-                Statement::Conclude,
-            ),
+            // The other machines have no fast path for a line feed.
+            _ => None,
         }
     }
 
