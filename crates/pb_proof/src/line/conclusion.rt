@@ -11,7 +11,7 @@ mod transition;
 
 use crate::conclusion::Conclusion;
 use crate::line::conclusion::phase::{Action, Concluding, Phase, Showing};
-use crate::line::conclusion::transition::{is_done, is_in_digits, is_within, transition};
+use crate::line::conclusion::transition::{is_done, transition};
 use crate::line::solution::LiteralsMachine;
 use pb_sums::Literal;
 use pb_text::bytes::is_digit;
@@ -94,7 +94,8 @@ impl ConclusionMachine {
             }
             Action::Give(showing) => self.give(showing, byte),
             Action::Stop => {
-                if is_in_digits(self.phase) && is_digit(byte) {
+                let in_digits = matches!(self.phase, Phase::Digits(..) | Phase::IdDigits(..));
+                if in_digits && is_digit(byte) {
                     Push::Large
                 } else {
                     Push::No
@@ -139,7 +140,7 @@ impl Machine for ConclusionMachine {
     }
 
     fn starts(&self, byte: u8) -> bool {
-        if is_within(self.phase) {
+        if !matches!(self.phase, Phase::Start | Phase::Done) {
             return false;
         }
         !matches!(

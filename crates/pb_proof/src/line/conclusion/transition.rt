@@ -1,7 +1,7 @@
 //! What the machine for conclusions does with a byte, given what it has read last.
 
 ghost use Rattle.std.specs.Prelude.{◌≡◌, ◌<◌, ◌≤◌, ◌^◌, length};
-ghost use Rattle.pb_proof.specs.engine.Line.Conclusion.{word_of, phase_after_word, spell, first_word, digits, begin_bound, phase_after_bound, colon, next_action, between, after_bound, id_digits, after_id, transition, is_within, is_done, is_in_digits, PhaseFits};
+ghost use Rattle.pb_proof.specs.engine.Line.Conclusion.{word_of, phase_after_word, spell, first_word, digits, begin_bound, phase_after_bound, colon, next_action, between, after_bound, id_digits, after_id, transition, is_done, PhaseFits};
 
 use crate::conclusion::Bound;
 use crate::line::conclusion::phase::{Action, Concluding, Owner, Phase, Showing, Side, Word};
@@ -260,23 +260,9 @@ pub(crate) fn transition(limit: u128, top: u64, phase: Phase, byte: u8) -> Actio
     }
 }
 
-/// Whether a conclusion has begun and not ended.
-pub(crate) fn is_within(phase: Phase) -> bool
-    ensures { result ≡ is_within phase }
-{
-    !matches!(phase, Phase::Start | Phase::Done)
-}
-
 /// Whether nothing may follow.
 pub(crate) fn is_done(phase: Phase) -> bool
     ensures { result ≡ is_done phase }
 {
     matches!(phase, Phase::Done)
-}
-
-/// Whether the last byte read is a digit of a bound or an id.
-pub(crate) fn is_in_digits(phase: Phase) -> bool
-    ensures { result ≡ is_in_digits phase }
-{
-    matches!(phase, Phase::Digits(_, _, _) | Phase::IdDigits(_, _, _))
 }
