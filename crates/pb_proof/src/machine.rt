@@ -1,8 +1,19 @@
 //! The machine for proofs.
 
-ghost use Rattle.std.specs.Prelude.{◌≡◌, false, None, Some, Option};
+ghost use Rattle.std.specs.Prelude.{◌≡◌, false, None, Some, Option, ℕ, List, Bool, ◌↔◌, ◌≤◌, take, length};
 ghost use Rattle.pb_text.specs.meaning.Limits.{largest, top_of};
 ghost use Rattle.pb_proof.specs.engine.Line.Machine.{line_first};
+ghost use Rattle.pb_text.specs.meaning.Asking.{AsksOnly};
+ghost use Rattle.pb_text.specs.contract.Automaton.{AcceptsItems, MayAsk, Pushes, IsState, Runs};
+ghost use Rattle.pb_text.specs.meaning.Reading.{Reads};
+ghost use Rattle.pb_text.specs.declared.Place.{Place};
+ghost use Rattle.pb_text.specs.declared.Spanned.{Spanned};
+ghost use Rattle.pb_text.specs.declared.Stop.{Stop};
+ghost use Rattle.pb_text.specs.meaning.Spelling.{Item};
+ghost use Rattle.pb_proof.specs.meaning.Asking.{Asks};
+ghost use Rattle.pb_proof.specs.meaning.Proofs.{IsProof};
+ghost use Rattle.pb_proof.specs.engine.Machine.State.{proofs, begin};
+ghost use Rattle.pb_proof.specs.engine.Machine.Transition.{transition};
 
 mod end;
 pub(crate) mod phase;
@@ -54,18 +65,6 @@ fn start_line(line: &mut Option<LineMachine>, alloc: Global, limits: Limits, kin
 }
 
 impl ProofMachine {
-    ghost use Rattle.std.specs.Prelude.{ℕ, List, Bool, ◌↔◌};
-    ghost use Rattle.pb_text.specs.meaning.Asking.{AsksOnly};
-    ghost use Rattle.pb_text.specs.contract.Automaton.{AcceptsItems, MayAsk};
-    ghost use Rattle.pb_text.specs.meaning.Reading.{Reads};
-    ghost use Rattle.pb_text.specs.declared.Place.{Place};
-    ghost use Rattle.pb_text.specs.declared.Spanned.{Spanned};
-    ghost use Rattle.pb_text.specs.declared.Stop.{Stop};
-    ghost use Rattle.pb_text.specs.meaning.Spelling.{Item};
-    ghost use Rattle.pb_proof.specs.meaning.Asking.{Asks};
-    ghost use Rattle.pb_proof.specs.meaning.Proofs.{IsProof};
-    ghost use Rattle.pb_proof.specs.engine.Machine.State.{proofs, begin};
-
     /// A machine at the start of a proof. It accepts exactly the proofs under the limits.
     /// Creating it does not allocate.
     pub fn new(alloc: Global, limits: Limits) -> Self
@@ -92,12 +91,6 @@ impl ProofMachine {
             line: None,
         }
     }
-}
-
-impl ProofMachine {
-    ghost use Rattle.pb_text.specs.contract.Automaton.{Pushes};
-    ghost use Rattle.pb_proof.specs.engine.Machine.State.{proofs};
-    ghost use Rattle.pb_proof.specs.engine.Machine.Transition.{transition};
 
     /// Takes a byte.
     fn take(&mut self, byte: u8) -> Push<Statement>
@@ -150,12 +143,6 @@ impl ProofMachine {
             Push::Memory => Push::Memory,
         }
     }
-}
-
-impl ProofMachine {
-    ghost use Rattle.std.specs.Prelude.{◌≤◌, take, length};
-    ghost use Rattle.pb_text.specs.contract.Automaton.{IsState, Runs};
-    ghost use Rattle.pb_proof.specs.engine.Machine.State.{proofs};
 
     /// Gives bytes at the start of a text to the line machine, if there is one. Returns how many it took.
     fn give_prefix(&mut self, text: &[u8]) -> usize
@@ -199,8 +186,6 @@ impl ProofMachine {
 }
 
 impl Machine for ProofMachine {
-    ghost use Rattle.pb_proof.specs.engine.Machine.State.{proofs};
-
     type Event = Statement;
 
     ghost automaton = { proofs };

@@ -2,14 +2,16 @@
 
 ghost use Rattle.std.specs.Prelude.{◌≡◌};
 ghost use Rattle.pb_text.specs.meaning.Limits.{largest, top_of};
-ghost use Rattle.pb_proof.specs.engine.Line.ConclusionState.{showing_value, conclusion_value};
+ghost use Rattle.pb_proof.specs.engine.Line.ConclusionState.{showing_value, conclusion_value, conclusion_first, conclusion_automaton};
+ghost use Rattle.pb_text.specs.contract.Automaton.{Pushes};
+ghost use Rattle.pb_proof.specs.engine.Line.Conclusion.{transition};
 
 mod phase;
 mod transition;
 
 use crate::conclusion::Conclusion;
 use crate::line::conclusion::phase::{Action, Concluding, Phase, Showing};
-use crate::line::conclusion::transition::{is_done, is_in_digits, is_within, transition};
+use crate::line::conclusion::transition::{is_done, transition};
 use crate::line::solution::LiteralsMachine;
 use pb_sums::Literal;
 use pb_text::bytes::is_digit;
@@ -64,8 +66,6 @@ fn conclusion_value(concluding: Concluding) -> Conclusion
 }
 
 impl ConclusionMachine {
-    ghost use Rattle.pb_proof.specs.engine.Line.ConclusionState.{conclusion_first};
-
     /// A machine at the start of its text. Creating it does not allocate.
     pub fn new(alloc: Global, limits: Limits) -> Self
         ensures begins { result ≡ conclusion_first (largest limits) (top_of limits) }
@@ -77,12 +77,6 @@ impl ConclusionMachine {
             literals: LiteralsMachine::new(alloc, true),
         }
     }
-}
-
-impl ConclusionMachine {
-    ghost use Rattle.pb_text.specs.contract.Automaton.{Pushes};
-    ghost use Rattle.pb_proof.specs.engine.Line.ConclusionState.{conclusion_automaton};
-    ghost use Rattle.pb_proof.specs.engine.Line.Conclusion.{transition};
 
     /// Takes a byte.
     fn take(&mut self, byte: u8) -> Push<Conclusion>
@@ -100,7 +94,8 @@ impl ConclusionMachine {
             }
             Action::Give(showing) => self.give(showing, byte),
             Action::Stop => {
-                if is_in_digits(self.phase) && is_digit(byte) {
+                let in_digits = matches!(self.phase, Phase::Digits(..) | Phase::IdDigits(..));
+                if in_digits && is_digit(byte) {
                     Push::Large
                 } else {
                     Push::No
@@ -130,8 +125,6 @@ impl ConclusionMachine {
 }
 
 impl Machine for ConclusionMachine {
-    ghost use Rattle.pb_proof.specs.engine.Line.ConclusionState.{conclusion_automaton};
-
     type Event = Conclusion;
 
     ghost automaton = { conclusion_automaton };
@@ -147,7 +140,7 @@ impl Machine for ConclusionMachine {
     }
 
     fn starts(&self, byte: u8) -> bool {
-        if is_within(self.phase) {
+        if !matches!(self.phase, Phase::Start | Phase::Done) {
             return false;
         }
         !matches!(

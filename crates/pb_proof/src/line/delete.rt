@@ -1,9 +1,10 @@
 //! The machine for ids.
 
-ghost use Rattle.std.specs.Prelude.{◌≡◌, ◌<◌, ◌≤◌, ◌^◌};
+ghost use Rattle.std.specs.Prelude.{◌≡◌, ◌<◌, ◌≤◌, ◌^◌, take, length, List, ℤ};
 ghost use Rattle.pb_text.specs.meaning.Limits.{top_of};
-ghost use Rattle.pb_proof.specs.engine.Line.ByteKind.{NumberByteFits};
-ghost use Rattle.pb_proof.specs.engine.Line.Ids.{digits, before, next_action, transition, ids_first, begins_id, is_done, PhaseFits};
+ghost use Rattle.pb_proof.specs.engine.Line.ByteKind.{NumberByteFits, number_byte};
+ghost use Rattle.pb_proof.specs.engine.Line.Ids.{digits, before, next_action, transition, ids_first, begins_id, is_done, PhaseFits, ids_automaton};
+ghost use Rattle.pb_text.specs.contract.Automaton.{IsState, Runs, Pushes};
 
 mod phase;
 
@@ -128,12 +129,6 @@ impl IdsMachine {
             phase: IdsPhase::Start,
         }
     }
-}
-
-impl IdsMachine {
-    ghost use Rattle.std.specs.Prelude.{take, length};
-    ghost use Rattle.pb_text.specs.contract.Automaton.{IsState, Runs};
-    ghost use Rattle.pb_proof.specs.engine.Line.Ids.{ids_automaton};
 
     /// Takes the digits of an id, if an id may begin here.
     #[inline(always)]
@@ -154,12 +149,6 @@ impl IdsMachine {
         let _ = self.is_done();
         count
     }
-}
-
-impl IdsMachine {
-    ghost use Rattle.pb_text.specs.contract.Automaton.{Pushes};
-    ghost use Rattle.pb_proof.specs.engine.Line.ByteKind.{number_byte};
-    ghost use Rattle.pb_proof.specs.engine.Line.Ids.{ids_automaton, transition};
 
     /// Takes a byte with its action.
     #[inline(always)]
@@ -202,9 +191,6 @@ impl IdsMachine {
 }
 
 impl Machine for IdsMachine {
-    ghost use Rattle.std.specs.Prelude.{List, ℤ};
-    ghost use Rattle.pb_proof.specs.engine.Line.Ids.{ids_automaton};
-
     type Event = Sequence<i64>;
 
     ghost automaton = { ids_automaton };

@@ -1,9 +1,10 @@
 //! The machine for the rest of a line after `f`.
 
-ghost use Rattle.std.specs.Prelude.{◌≡◌, ◌<◌, ◌≤◌, ◌^◌};
+ghost use Rattle.std.specs.Prelude.{◌≡◌, ◌<◌, ◌≤◌, ◌^◌, Option, ℕ};
 ghost use Rattle.pb_text.specs.meaning.Limits.{top_of};
 ghost use Rattle.pb_proof.specs.engine.Line.ByteKind.{NumberByteFits};
-ghost use Rattle.pb_proof.specs.engine.Line.Count.{digits, next_action, transition, counting, is_done, PhaseFits};
+ghost use Rattle.pb_proof.specs.engine.Line.Count.{digits, next_action, transition, counting, is_done, PhaseFits, count_automaton};
+ghost use Rattle.pb_text.specs.contract.Automaton.{Pushes};
 
 mod phase;
 
@@ -95,11 +96,6 @@ impl CountMachine {
             phase: CountPhase::Start,
         }
     }
-}
-
-impl CountMachine {
-    ghost use Rattle.pb_text.specs.contract.Automaton.{Pushes};
-    ghost use Rattle.pb_proof.specs.engine.Line.Count.{count_automaton};
 
     /// Takes a byte.
     fn take(&mut self, byte: u8) -> Push<Option<u64>>
@@ -126,9 +122,6 @@ impl CountMachine {
 }
 
 impl Machine for CountMachine {
-    ghost use Rattle.std.specs.Prelude.{Option, ℕ};
-    ghost use Rattle.pb_proof.specs.engine.Line.Count.{count_automaton};
-
     type Event = Option<u64>;
 
     ghost automaton = { count_automaton };

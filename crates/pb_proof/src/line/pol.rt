@@ -1,7 +1,10 @@
 //! The machine for postfix words.
 
-ghost use Rattle.std.specs.Prelude.{◌≡◌};
+ghost use Rattle.std.specs.Prelude.{◌≡◌, ◌≤◌, ◌<◌, take, length, true};
 ghost use Rattle.pb_text.specs.meaning.Limits.{largest, top_of};
+ghost use Rattle.pb_proof.specs.engine.Line.PolState.{pol_first, pol_automaton};
+ghost use Rattle.pb_text.specs.contract.Automaton.{Continues, IsState, Runs, Pushes};
+ghost use Rattle.pb_proof.specs.engine.Line.Pol.{transition, kind_of, is_name_kind, ActionFits};
 
 mod close;
 mod fast;
@@ -53,8 +56,6 @@ impl Model for PolMachine {
 }
 
 impl PolMachine {
-    ghost use Rattle.pb_proof.specs.engine.Line.PolState.{pol_first};
-
     /// A machine at the start of its text. Creating it does not allocate.
     pub fn new(alloc: Global, limits: Limits) -> Self
         ensures begins { result ≡ pol_first (largest limits) (top_of limits) }
@@ -69,12 +70,6 @@ impl PolMachine {
             phase: Phase::Start,
         }
     }
-}
-
-impl PolMachine {
-    ghost use Rattle.std.specs.Prelude.{◌≤◌, ◌<◌, take, length};
-    ghost use Rattle.pb_text.specs.contract.Automaton.{Continues, IsState, Runs};
-    ghost use Rattle.pb_proof.specs.engine.Line.PolState.{pol_automaton};
 
     /// Takes a word and the space after it on a fast path.
     #[inline(always)]
@@ -109,13 +104,6 @@ impl PolMachine {
         let _ = self.is_done();
         length + 1
     }
-}
-
-impl PolMachine {
-    ghost use Rattle.std.specs.Prelude.{true, ◌<◌};
-    ghost use Rattle.pb_text.specs.contract.Automaton.{Pushes};
-    ghost use Rattle.pb_proof.specs.engine.Line.Pol.{transition, kind_of, is_name_kind, ActionFits};
-    ghost use Rattle.pb_proof.specs.engine.Line.PolState.{pol_automaton};
 
     /// Takes a byte with its action.
     #[inline(always)]
@@ -188,8 +176,6 @@ impl PolMachine {
 }
 
 impl Machine for PolMachine {
-    ghost use Rattle.pb_proof.specs.engine.Line.PolState.{pol_automaton};
-
     type Event = Sequence<PolWord>;
 
     ghost automaton = { pol_automaton };

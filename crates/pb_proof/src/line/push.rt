@@ -2,7 +2,7 @@
 
 ghost use Rattle.std.specs.Prelude.{◌≡◌};
 ghost use Rattle.pb_text.specs.meaning.Limits.{largest, top_of};
-ghost use Rattle.pb_proof.specs.engine.Line.Machine.{line_first, IsCarried, IsEnded};
+ghost use Rattle.pb_proof.specs.engine.Line.Machine.{line_first, IsCarried, IsEnded, line_automaton};
 
 use crate::line::LineMachine;
 use crate::line::conclusion::ConclusionMachine;
@@ -73,8 +73,6 @@ pub fn line_first(alloc: Global, limits: Limits, kind: LineKind) -> LineMachine
 }
 
 impl Machine for LineMachine {
-    ghost use Rattle.pb_proof.specs.engine.Line.Machine.{line_automaton};
-
     type Event = Statement;
 
     ghost automaton = { line_automaton };
@@ -84,17 +82,13 @@ impl Machine for LineMachine {
     }
 
     fn try_finish(&mut self, byte: u8) -> Option<Statement> {
+        let _ = self.is_done();
         match self {
-            LineMachine::Count(machine) => ended(machine.try_finish(byte), Statement::F),
             LineMachine::Pol(machine) => ended(machine.try_finish(byte), Statement::Pol),
             LineMachine::Rup(machine) => ended(machine.try_finish(byte), Statement::Rup),
-            LineMachine::Soli(machine) => ended(machine.try_finish(byte), Statement::Soli),
-            LineMachine::Solx(machine) => ended(machine.try_finish(byte), Statement::Solx),
             LineMachine::Delete(machine) => ended(machine.try_finish(byte), Statement::Delete),
-            LineMachine::Conclusion(machine) => ended(
-                machine.try_finish(byte),
-                Statement::Conclude,
-            ),
+            // The other machines have no fast path for a line feed.
+            _ => None,
         }
     }
 

@@ -1,8 +1,9 @@
 //! The machine for `rup`.
 
-ghost use Rattle.std.specs.Prelude.{◌≡◌, ◌-◌, ◌^◌, min};
+ghost use Rattle.std.specs.Prelude.{◌≡◌, ◌-◌, ◌^◌, min, ◌≤◌, take, length};
 ghost use Rattle.pb_text.specs.meaning.Limits.{largest};
-ghost use Rattle.pb_proof.specs.engine.Line.Rup.{rup_transition, rup_done, linear_of, units_in};
+ghost use Rattle.pb_proof.specs.engine.Line.Rup.{rup_transition, rup_done, linear_of, units_in, rup_automaton, rup_first};
+ghost use Rattle.pb_text.specs.contract.Automaton.{IsState, Pushes, Continues, Runs};
 
 mod end;
 mod phase;
@@ -81,9 +82,6 @@ fn units_in(linear: &Option<Linear>) -> usize
 }
 
 impl RupMachine {
-    ghost use Rattle.pb_text.specs.contract.Automaton.{IsState, Pushes};
-    ghost use Rattle.pb_proof.specs.engine.Line.Rup.{rup_automaton, rup_first, rup_transition};
-
     /// A machine at the start of its text. Creating it does not allocate.
     pub(crate) fn new(alloc: Global, limits: Limits) -> Self
         ensures begins { result ≡ rup_first (largest limits) }
@@ -144,12 +142,6 @@ impl RupMachine {
             None => Push::No,
         }
     }
-}
-
-impl RupMachine {
-    ghost use Rattle.std.specs.Prelude.{◌≤◌, take, length};
-    ghost use Rattle.pb_text.specs.contract.Automaton.{Continues, IsState, Runs};
-    ghost use Rattle.pb_proof.specs.engine.Line.Rup.{rup_automaton, rup_transition};
 
     /// Gives a byte to the machine for sums. Returns whether the byte was taken.
     fn gives(&mut self, byte: u8) -> bool
@@ -237,8 +229,6 @@ impl RupMachine {
 }
 
 impl Machine for RupMachine {
-    ghost use Rattle.pb_proof.specs.engine.Line.Rup.{rup_automaton};
-
     type Event = Linear;
 
     ghost automaton = { rup_automaton };

@@ -1,8 +1,9 @@
 //! The machine for literals.
 
 ghost use Rattle.std.specs.Prelude.{true, ◌≡◌, ℕ, ◌-◌, ◌^◌, ◌<◌, List, [], IfOk, OnOk, OnErr, min};
-ghost use Rattle.pb_proof.specs.engine.Line.ByteKind.{NameByteFits};
-ghost use Rattle.pb_proof.specs.engine.Line.Literals.{next_action, before, transition, flushed, is_more, is_done, in_hand, units, ActionFits};
+ghost use Rattle.pb_proof.specs.engine.Line.ByteKind.{NameByteFits, name_byte};
+ghost use Rattle.pb_proof.specs.engine.Line.Literals.{next_action, before, transition, flushed, is_more, is_done, in_hand, units, ActionFits, literals_first, literals_automaton};
+ghost use Rattle.pb_text.specs.contract.Automaton.{Pushes};
 
 mod phase;
 
@@ -166,8 +167,6 @@ fn count_units(literals: &[Literal]) -> usize
 }
 
 impl LiteralsMachine {
-    ghost use Rattle.pb_proof.specs.engine.Line.Literals.{literals_first};
-
     /// A machine at the start of its text. `joined` says whether the literals are joined to what comes before them.
     /// Creating it does not allocate.
     pub fn new(alloc: Global, joined: bool) -> Self
@@ -181,12 +180,6 @@ impl LiteralsMachine {
             phase: LiteralsPhase::Start,
         }
     }
-}
-
-impl LiteralsMachine {
-    ghost use Rattle.pb_text.specs.contract.Automaton.{Pushes};
-    ghost use Rattle.pb_proof.specs.engine.Line.ByteKind.{name_byte};
-    ghost use Rattle.pb_proof.specs.engine.Line.Literals.{literals_automaton};
 
     /// Takes a byte with its action.
     #[inline(always)]
@@ -236,8 +229,6 @@ impl LiteralsMachine {
 }
 
 impl Machine for LiteralsMachine {
-    ghost use Rattle.pb_proof.specs.engine.Line.Literals.{literals_automaton};
-
     type Event = Sequence<Literal>;
 
     ghost automaton = { literals_automaton };

@@ -1,6 +1,7 @@
 //! Collects the statements of a proof.
 
 ghost use Rattle.std.specs.Prelude.{◌≡◌, OnOk};
+ghost use Rattle.pb_proof.specs.contract.Gather.{nothing, with, asks};
 
 use crate::conclusion::Conclusion;
 use crate::proof::Proof;
@@ -15,8 +16,6 @@ pub struct ProofSoFar {
 }
 
 impl ProofSoFar {
-    ghost use Rattle.pb_proof.specs.contract.Gather.{nothing};
-
     /// The proof before any statement.
     pub fn new(alloc: Global) -> Self
         ensures { result.proof ≡ nothing }
@@ -32,8 +31,6 @@ impl ProofSoFar {
 }
 
 impl Gather for ProofSoFar {
-    ghost use Rattle.pb_proof.specs.contract.Gather.{with, asks};
-
     type Event = Statement;
 
     ghost with = { λ b e. record { proof = with b.proof e } };

@@ -1,7 +1,7 @@
 //! What the machine for conclusions does with a byte, given what it has read last.
 
 ghost use Rattle.std.specs.Prelude.{◌≡◌, ◌<◌, ◌≤◌, ◌^◌, length};
-ghost use Rattle.pb_proof.specs.engine.Line.Conclusion.{word_of, phase_after_word, spell, first_word, digits, begin_bound, phase_after_bound, colon, next_action, between, after_bound, id_digits, after_id, transition, is_within, is_done, is_in_digits, PhaseFits};
+ghost use Rattle.pb_proof.specs.engine.Line.Conclusion.{word_of, phase_after_word, spell, first_word, digits, begin_bound, phase_after_bound, colon, next_action, between, after_bound, id_digits, after_id, transition, is_done, PhaseFits};
 
 use crate::conclusion::Bound;
 use crate::line::conclusion::phase::{Action, Concluding, Owner, Phase, Showing, Side, Word};
@@ -185,32 +185,6 @@ fn in_word(word: Word, read: usize, byte: u8) -> Action
     spell(word_of(word), read, byte, more, phase_after_word(word))
 }
 
-/// The action for a byte after `;`.
-fn semicolon(concluding: Concluding, byte: u8) -> Action
-    ensures { result ≡ transition 0 0 (Phase.Semicolon concluding) byte }
-{
-    if is_blank(byte) {
-        return Action::To(Phase::Semicolon(concluding));
-    }
-    match byte {
-        b'\n' => Action::Finish(concluding),
-        _ => Action::Stop,
-    }
-}
-
-/// The action for a byte after digits of a bound.
-fn number(limit: u128, side: Side, negative: bool, magnitude: u128, byte: u8) -> Action
-    requires room { limit < 2 ^ 127 }
-    requires fits { magnitude ≤ limit }
-    ensures { result ≡ transition limit 0 (Phase.Digits side negative magnitude) byte }
-{
-    if is_digit(byte) {
-        return digits(limit, side, negative, magnitude, byte);
-    }
-    let bound = Bound::Finite(signed(negative, magnitude));
-    after_bound(side, bound, byte)
-}
-
 /// The action for a further byte of `INF`.
 fn infinity(side: Side, read: usize, byte: u8) -> Action
     requires { read < 3 }
@@ -226,32 +200,17 @@ fn infinity(side: Side, read: usize, byte: u8) -> Action
     )
 }
 
-/// The action for a byte after the lower bound and blanks.
-fn spaced(limit: u128, bound: Bound, byte: u8) -> Action
+/// The action for a byte after digits of a bound.
+fn number(limit: u128, side: Side, negative: bool, magnitude: u128, byte: u8) -> Action
     requires room { limit < 2 ^ 127 }
-    ensures { result ≡ transition limit 0 (Phase.Spaced bound) byte }
+    requires fits { magnitude ≤ limit }
+    ensures { result ≡ transition limit 0 (Phase.Digits side negative magnitude) byte }
 {
-    if is_blank(byte) {
-        return Action::To(Phase::Spaced(bound));
+    if is_digit(byte) {
+        return digits(limit, side, negative, magnitude, byte);
     }
-    match byte {
-        b':' => Action::To(Phase::BeforeId(Owner::Lower(bound))),
-        _ => begin_bound(limit, Side::Upper(bound, None), byte),
-    }
-}
-
-/// The action for a byte after `:` and before an id.
-fn before_id(top: u64, owner: Owner, byte: u8) -> Action
-    requires top { top < 2 ^ 63 }
-    ensures { result ≡ transition 0 top (Phase.BeforeId owner) byte }
-{
-    if is_blank(byte) {
-        return Action::To(Phase::BeforeId(owner));
-    }
-    match byte {
-        b'-' => Action::To(Phase::IdSigned(owner)),
-        _ => id_digits(top, owner, false, 0, byte),
-    }
+    let bound = Bound::Finite(signed(negative, magnitude));
+    after_bound(side, bound, byte)
 }
 
 /// The action for a byte after digits of an id.
@@ -278,33 +237,27 @@ pub(crate) fn transition(limit: u128, top: u64, phase: Phase, byte: u8) -> Actio
 {
     match phase {
         Phase::Start | Phase::Before if is_blank(byte) => Action::To(Phase::Before),
-        Phase::Start => Action::Stop,
+        Phase::Bounded if is_blank(byte) => Action::To(Phase::BeforeBound(Side::Lower)),
+        Phase::Semicolon(_) | Phase::BeforeBound(_) | Phase::Spaced(_) | Phase::BeforeId(_)
+            if is_blank(byte) => { Action::To(phase) }
         Phase::Before => first_word(byte),
         Phase::Word(word, read) => in_word(word, read, byte),
         Phase::AfterValue(concluding) => next_action(concluding, byte),
-        Phase::Semicolon(concluding) => semicolon(concluding, byte),
-        Phase::Bounded if is_blank(byte) => Action::To(Phase::BeforeBound(Side::Lower)),
-        Phase::Bounded => Action::Stop,
-        Phase::BeforeBound(_) if is_blank(byte) => Action::To(phase),
+        Phase::Semicolon(concluding) if byte == b'\n' => Action::Finish(concluding),
         Phase::BeforeBound(side) => begin_bound(limit, side, byte),
         Phase::Signed(side, negative) => digits(limit, side, negative, 0, byte),
         Phase::Digits(side, negative, n) => number(limit, side, negative, n, byte),
         Phase::Infinity(side, read) => infinity(side, read, byte),
         Phase::Between(bound) => between(bound, byte),
-        Phase::Spaced(bound) => spaced(limit, bound, byte),
-        Phase::BeforeId(owner) => before_id(top, owner, byte),
+        Phase::Spaced(bound) if byte == b':' => Action::To(Phase::BeforeId(Owner::Lower(bound))),
+        Phase::Spaced(bound) => begin_bound(limit, Side::Upper(bound, None), byte),
+        Phase::BeforeId(owner) if byte == b'-' => Action::To(Phase::IdSigned(owner)),
+        Phase::BeforeId(owner) => id_digits(top, owner, false, 0, byte),
         Phase::IdSigned(owner) => id_digits(top, owner, true, 0, byte),
         Phase::IdDigits(owner, negative, n) => id_number(top, owner, negative, n, byte),
         Phase::Shown(showing) => Action::Give(showing),
-        Phase::Done => Action::Stop,
+        Phase::Start | Phase::Semicolon(_) | Phase::Bounded | Phase::Done => Action::Stop,
     }
-}
-
-/// Whether a conclusion has begun and not ended.
-pub(crate) fn is_within(phase: Phase) -> bool
-    ensures { result ≡ is_within phase }
-{
-    !matches!(phase, Phase::Start | Phase::Done)
 }
 
 /// Whether nothing may follow.
@@ -312,11 +265,4 @@ pub(crate) fn is_done(phase: Phase) -> bool
     ensures { result ≡ is_done phase }
 {
     matches!(phase, Phase::Done)
-}
-
-/// Whether the last byte read is a digit of a bound or an id.
-pub(crate) fn is_in_digits(phase: Phase) -> bool
-    ensures { result ≡ is_in_digits phase }
-{
-    matches!(phase, Phase::Digits(_, _, _) | Phase::IdDigits(_, _, _))
 }

@@ -34,10 +34,7 @@ pub fn kind_of(byte: u8) -> Kind
 pub fn is_letter_kind(kind: Kind) -> bool
     ensures { result ≡ is_letter_kind kind }
 {
-    match kind {
-        Kind::D | Kind::S | Kind::W | Kind::Letter => true,
-        _ => false,
-    }
+    matches!(kind, Kind::D | Kind::S | Kind::W | Kind::Letter)
 }
 
 /// Whether a name may contain the byte.

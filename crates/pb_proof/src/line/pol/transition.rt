@@ -13,20 +13,14 @@ use pb_text::decimal::next_digit;
 pub fn is_in_number(phase: Phase) -> bool
     ensures { result ≡ is_in_number phase }
 {
-    match phase {
-        Phase::Signed(_) | Phase::Number(_) => true,
-        _ => false,
-    }
+    matches!(phase, Phase::Signed(_) | Phase::Number(_))
 }
 
 /// Whether the line is complete.
 pub fn is_done(phase: Phase) -> bool
     ensures { result ≡ is_done phase }
 {
-    match phase {
-        Phase::Done => true,
-        _ => false,
-    }
+    matches!(phase, Phase::Done)
 }
 
 /// How many literals have begun a name and are not a word yet.
