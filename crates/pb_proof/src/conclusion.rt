@@ -20,8 +20,9 @@ pub enum Conclusion {
     Unsat(Option<i64>),
     /// There is a solution: the one of these literals, if they are given.
     Sat(Option<Sequence<Literal>>),
-    /// The objective's least value lies between two bounds. If an id is given, the lower bound is by the constraint
-    /// with that id. If literals are given, the upper bound is by the solution of these literals.
+    /// The objective's least value lies between two bounds. If an id is given, the lower bound is
+    /// by the constraint with that id. If literals are given, the upper bound is by the solution of
+    /// these literals.
     Bounds {
         lower: Bound,
         id: Option<i64>,

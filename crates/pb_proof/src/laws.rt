@@ -17,8 +17,8 @@ pub fn one_proof()
     ensures { OneProof }
 {}
 
-/// In all proofs whose texts begin with the same bytes, the statements that end within these bytes are the same, at
-/// the same positions.
+/// In all proofs whose texts begin with the same bytes, the statements that end within these bytes
+/// are the same, at the same positions.
 pub fn fixed_spans()
     ensures { FixedSpans }
 {}
@@ -33,8 +33,8 @@ pub fn larger_limits()
     ensures { LargerLimits }
 {}
 
-/// A machine stores nothing besides its state, its limits, its allocator and, for `pol`, its vector of words, as
-/// contracts see these.
+/// A machine stores nothing besides its state, its limits, its allocator and, for `pol`, its vector
+/// of words, as contracts see these.
 pub fn keeps_its_state()
     ensures count { CountKeeps }
     ensures ids { IdsKeeps }

@@ -76,7 +76,8 @@ impl ProofMachine {
             → Reads (AcceptsItems proofs result) longest input used spans place done stop
             → Reads (IsProof (largest limits) (top_of limits)) longest input used spans place done
             stop }
-        // It may allocate only at a byte of a name or `pol` operator, or at one that ends a literal, id or `pol` word.
+        // It may allocate only at a byte of a name or `pol` operator, or at one that ends a
+        // literal, id or `pol` word.
         ensures asks { (used : List ℕ) (b : ℕ) → MayAsk proofs result used b →
             AsksOnly (IsProof (largest limits) (top_of limits)) Asks used b }
         ensures begins { result ≡ begin (largest limits) (top_of limits) }
@@ -144,7 +145,8 @@ impl ProofMachine {
         }
     }
 
-    /// Gives bytes at the start of a text to the line machine, if there is one. Returns how many it took.
+    /// Gives bytes at the start of a text to the line machine, if there is one. Returns how many it
+    /// took.
     fn give_prefix(&mut self, text: &[u8]) -> usize
         ensures bound { result ≤ length text.now }
         ensures runs { Runs proofs self.old (take result text.now) self.new }
@@ -238,7 +240,8 @@ impl Machine for ProofMachine {
         if self.try_continue(piece[0]) { 1 } else { 0 }
     }
 
-    /// Within a line it stops where the line machine stops, as `try_continue` gives that machine nothing.
+    /// Within a line it stops where the line machine stops, as `try_continue` gives that machine
+    /// nothing.
     fn take_run(&mut self, piece: &[u8]) -> usize {
         let _ = self.is_done();
         let mut taken: usize = 0;

@@ -19,26 +19,30 @@ use crate::statement::Statement;
 use pb_text::{BYTE_LIMIT, Limits, Machine, Source, Spanned, Stop, read_whole};
 use std::alloc::Global;
 
-/// Reads the proof at the start of the input, and takes only the bytes of its text: through the last byte of
-/// `end pseudo-Boolean proof`.
+/// Reads the proof at the start of the input, and takes only the bytes of its text: through the
+/// last byte of `end pseudo-Boolean proof`.
 ///
-/// A stop names the first byte that no text of a proof under the limits has there: `Byte`, or `TooLarge` for a
-/// further digit of a number. Or it names the end of the input (`Ended`) or the byte at offset `2^40` (`TooLong`). Or
-/// it names a fault of the source (`Read`), or the position at which memory ran out (`Memory`).
+/// A stop names the first byte that no text of a proof under the limits has there: `Byte`, or
+/// `TooLarge` for a further digit of a number. Or it names the end of the input (`Ended`) or the
+/// byte at offset `2^40` (`TooLong`). Or it names a fault of the source (`Read`), or the position
+/// at which memory ran out (`Memory`).
 pub fn read_proof<S: Source>(
     alloc: Global,
     input: &mut S,
     limits: Limits,
 ) -> Result<Spanned<Proof>, Stop>
-    // Memory runs out only at a byte that may allocate, or after a step, which is stored. A byte that may allocate
-    // belongs to a name or a `pol` operator, or ends a literal, an id or a `pol` word.
+    // Memory runs out only at a byte that may allocate, or after a step, which is stored. A byte
+    // that may allocate belongs to a name or a `pol` operator, or ends a literal, an id or a `pol`
+    // word.
     ensures reads { ReadsProof (largest limits) (top_of limits) BYTE_LIMIT (S.left input.old) result
         (S.left input.new) }
-    // For every source, including files: this is a result of reading the bytes that its calls have given.
+    // For every source, including files: this is a result of reading the bytes that its calls have
+    // given.
     ensures given { OfGiven (λ left rest.
         ReadsProof (largest limits) (top_of limits) BYTE_LIMIT left result rest)
         (S.history input.old) (S.history input.new) }
-    // A rejected byte is the one that the source has shown. The input has ended only if the source has shown its end.
+    // A rejected byte is the one that the source has shown. The input has ended only if the source
+    // has shown its end.
     ensures shown { IfErr result (λ s. IsShown (S.shown input.new) (S.ended input.new) s.why) }
     ensures past { IfOk result (λ m. IsInReach m.past) }
     // `Read` comes only if the source failed.
@@ -47,8 +51,9 @@ pub fn read_proof<S: Source>(
     read_proof_within(alloc, input, BYTE_LIMIT, limits)
 }
 
-/// Like `read_proof`, but it also stops with `TooLong` at a statement that has not ended within its first `longest`
-/// bytes. A statement counts from its first word through its line feed, the closing words through their last byte.
+/// Like `read_proof`, but it also stops with `TooLong` at a statement that has not ended within its
+/// first `longest` bytes. A statement counts from its first word through its line feed, the closing
+/// words through their last byte.
 pub fn read_proof_within<S: Source>(
     alloc: Global,
     input: &mut S,
@@ -56,15 +61,18 @@ pub fn read_proof_within<S: Source>(
     limits: Limits,
 ) -> Result<Spanned<Proof>, Stop>
     requires { 0 < longest }
-    // Memory runs out only at a byte that may allocate, or after a step, which is stored. A byte that may allocate
-    // belongs to a name or a `pol` operator, or ends a literal, an id or a `pol` word.
+    // Memory runs out only at a byte that may allocate, or after a step, which is stored. A byte
+    // that may allocate belongs to a name or a `pol` operator, or ends a literal, an id or a `pol`
+    // word.
     ensures reads { ReadsProof (largest limits) (top_of limits) longest (S.left input.old) result
         (S.left input.new) }
-    // For every source, including files: this is a result of reading the bytes that its calls have given.
+    // For every source, including files: this is a result of reading the bytes that its calls have
+    // given.
     ensures given { OfGiven (λ left rest.
         ReadsProof (largest limits) (top_of limits) longest left result rest) (S.history input.old)
         (S.history input.new) }
-    // A rejected byte is the one that the source has shown. The input has ended only if the source has shown its end.
+    // A rejected byte is the one that the source has shown. The input has ended only if the source
+    // has shown its end.
     ensures shown { IfErr result (λ s. IsShown (S.shown input.new) (S.ended input.new) s.why) }
     ensures past { IfOk result (λ m. IsInReach m.past) }
     // `Read` comes only if the source failed.

@@ -6,8 +6,8 @@ use crate::word::PolWord;
 use pb_sums::{Linear, Literal};
 use pb_text::Sequence;
 
-/// A statement of a proof in VeriPB 2.0, as it is read: a line from its first word through its line feed. The closing
-/// words have no line feed.
+/// A statement of a proof in VeriPB 2.0, as it is read: a line from its first word through its line
+/// feed. The closing words have no line feed.
 #[derive(Drop)]
 pub enum Statement {
     /// `pseudo-Boolean proof version 2.0`.

@@ -171,9 +171,9 @@ fn rup_is_value(goal: &Linear, limits: Limits) -> bool
     goal.relation == Relation::AtLeast && linear_is_value(goal, limits)
 }
 
-/// Whether the statement has a text under the limits. Its numbers have to be within them, and its names those of the
-/// grammar. No id may be 0, and a `Delete` needs an id. The words of a `Pol` have to be the postfix words of one
-/// expression, and the constraint of a `Rup` has to have `>=`.
+/// Whether the statement has a text under the limits. Its numbers have to be within them, and its
+/// names those of the grammar. No id may be 0, and a `Delete` needs an id. The words of a `Pol`
+/// have to be the postfix words of one expression, and the constraint of a `Rup` has to have `>=`.
 pub fn statement_is_value(statement: &Statement, limits: Limits) -> bool
     ensures { IsTrue result ↔ IsStatementValue (largest limits) (top_of limits) statement.now }
 {
@@ -219,8 +219,8 @@ fn are_steps(steps: &[Statement], limits: Limits) -> bool
     steps.iter().all(|step| step_is_value(step, limits))
 }
 
-/// Whether the proof has a text under the limits. Its steps have to be of the kinds that a step may have. The steps,
-/// the number of constraints and the conclusion have to meet the rules.
+/// Whether the proof has a text under the limits. Its steps have to be of the kinds that a step may
+/// have. The steps, the number of constraints and the conclusion have to meet the rules.
 pub fn proof_is_value(proof: &Proof, limits: Limits) -> bool
     ensures { IsTrue result ↔ IsProofValue (largest limits) (top_of limits) proof.now }
 {

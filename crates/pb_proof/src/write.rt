@@ -218,7 +218,8 @@ fn write_head<S: Sink>(count: Option<u64>, out: &mut S) -> Result<(), Failed>
     write_bytes(piece.as_bytes(), out)
 }
 
-/// Writes the canonical text of the proof: each statement on one line, and no line feed after the last one.
+/// Writes the canonical text of the proof: each statement on one line, and no line feed after the
+/// last one.
 pub fn write_proof<S: Sink>(proof: &Proof, out: &mut S) -> Result<(), Failed>
     ensures { Writes S.contents S.faults out.old (proof_bytes proof.now) result out.new }
 {

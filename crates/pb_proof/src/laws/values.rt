@@ -14,14 +14,14 @@ pub fn proofs_are_values()
     ensures proofs { ProofValues }
 {}
 
-/// The statements read so far are the first statements of a proof, in order, and each meets the rules. If the read is
-/// done, they are all of its statements.
+/// The statements read so far are the first statements of a proof, in order, and each meets the
+/// rules. If the read is done, they are all of its statements.
 pub fn reads_are_of_proofs()
     ensures { ReadStatements }
 {}
 
-/// The postfix words of an expression determine it. Words form one expression if and only if each finds as many
-/// finished expressions as it takes, and one is left after the last.
+/// The postfix words of an expression determine it. Words form one expression if and only if each
+/// finds as many finished expressions as it takes, and one is left after the last.
 pub fn postfix_words()
     ensures report { WordsReport }
     ensures leave { WordsLeaveOne }

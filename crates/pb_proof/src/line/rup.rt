@@ -174,8 +174,8 @@ impl RupMachine {
         taken
     }
 
-    /// Gives bytes at the start of a text to the machine for sums, if a constraint has begun or may begin. Returns
-    /// how many it took.
+    /// Gives bytes at the start of a text to the machine for sums, if a constraint has begun or may
+    /// begin. Returns how many it took.
     fn give_prefix(&mut self, text: &[u8]) -> usize
         ensures bound { result ≤ length text.now }
         ensures runs { Runs rup_automaton self.old (take result text.now) self.new }
@@ -210,7 +210,8 @@ impl RupMachine {
         true
     }
 
-    /// Takes bytes of a constraint at the start of a text, and its `;` after them. Returns how many it took.
+    /// Takes bytes of a constraint at the start of a text, and its `;` after them. Returns how many
+    /// it took.
     #[inline(always)]
     fn take_linear(&mut self, text: &[u8]) -> usize
         ensures bound { result ≤ length text.now }

@@ -167,8 +167,8 @@ fn count_units(literals: &[Literal]) -> usize
 }
 
 impl LiteralsMachine {
-    /// A machine at the start of its text. `joined` says whether the literals are joined to what comes before them.
-    /// Creating it does not allocate.
+    /// A machine at the start of its text. `joined` says whether the literals are joined to what
+    /// comes before them. Creating it does not allocate.
     pub fn new(alloc: Global, joined: bool) -> Self
         ensures begins { result ≡ literals_first joined }
     {

@@ -11,7 +11,8 @@ use crate::statement::Statement;
 use pb_text::Machine;
 
 impl ProofMachine {
-    /// Ends a statement with a byte after its first word, if the statement is complete and no allocation fails.
+    /// Ends a statement with a byte after its first word, if the statement is complete and no
+    /// allocation fails.
     #[inline(always)]
     pub(super) fn end(&mut self, byte: u8) -> Option<Statement>
         ensures finishes { Finishes proofs self.old byte result self.new }

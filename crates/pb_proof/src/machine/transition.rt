@@ -53,7 +53,8 @@ fn meets(expected: u8, byte: u8) -> bool
     }
 }
 
-/// The action for the next byte of the words, after `read` bytes of them. For any other byte it is `other`.
+/// The action for the next byte of the words, after `read` bytes of them. For any other byte it is
+/// `other`.
 fn spell(keyword: Keyword, read: usize, byte: u8, other: Action) -> Action
     requires { read < length (words_of keyword) }
     ensures { result ≡ spell keyword read byte other }
@@ -133,8 +134,8 @@ fn within(keyword: Keyword, read: usize, byte: u8) -> Action
     spell(keyword, read, byte, other)
 }
 
-/// The rest of the words that have begun, if the text begins with it and has one space for blanks. Returns its length
-/// in bytes, and what the machine does after it.
+/// The rest of the words that have begun, if the text begins with it and has one space for blanks.
+/// Returns its length in bytes, and what the machine does after it.
 #[inline(always)]
 pub fn words_prefix(phase: Phase, text: &[u8]) -> Option<(usize, Action)>
     requires { PhaseFits phase }

@@ -14,8 +14,8 @@ fn put_rup(goal: &Linear, piece: &mut Piece) -> bool
     put_linear(goal, piece) && put_lead(b"rup ", piece)
 }
 
-/// Prepends the line of a statement without its line feed, if it surely fits, and returns whether it did. If it did not,
-/// the piece may have a part of it.
+/// Prepends the line of a statement without its line feed, if it surely fits, and returns whether
+/// it did. If it did not, the piece may have a part of it.
 pub fn put_statement(statement: &Statement, piece: &mut Piece) -> bool
     ensures { IsTrue result → piece.new ≡ statement_bytes statement.now ++ piece.old }
 {

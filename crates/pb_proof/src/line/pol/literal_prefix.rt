@@ -71,7 +71,8 @@ fn negated_word(
     Some((1 + length, Change::Axiom(true), held_name(true, depth)))
 }
 
-/// A word at the start of a text, as `word_prefix` finds it, or a literal. The name of a literal is stored in `name`.
+/// A word at the start of a text, as `word_prefix` finds it, or a literal. The name of a literal is
+/// stored in `name`.
 #[inline(always)]
 pub fn named_prefix(
     alloc: Global,

@@ -33,7 +33,8 @@ pub fn in_hand(phase: Phase) -> usize
     }
 }
 
-/// The largest value that digits may have: that of an id or, with an expression before it, of a factor.
+/// The largest value that digits may have: that of an id or, with an expression before it, of a
+/// factor.
 fn bound(limit: u128, top: u64, depth: usize) -> u128
     ensures { result ≡ bound limit top depth }
 {

@@ -13,7 +13,8 @@ use pb_sums::Name;
 use pb_text::{Limits, Sequence};
 use std::alloc::Global;
 
-/// The words of a `pol` line at the start of a text, and the index of its line feed, if it is fast to read.
+/// The words of a `pol` line at the start of a text, and the index of its line feed, if it is fast
+/// to read.
 pub(crate) fn pol_at(
     alloc: Global,
     limits: Limits,
@@ -40,7 +41,8 @@ pub(crate) fn pol_at(
     Some((4 + length + more, words))
 }
 
-/// The words of one expression at the start of a text, and their length, if they are fast to read and memory suffices.
+/// The words of one expression at the start of a text, and their length, if they are fast to read
+/// and memory suffices.
 #[inline(always)]
 fn words_at(alloc: Global, limit: u128, top: u64, text: &[u8]) -> Option<(usize, Sequence<PolWord>)>
     requires top { top < 2 ^ 63 }

@@ -9,8 +9,9 @@ use crate::line::pol::phase::{Change, Held};
 use pb_text::bytes::is_digit;
 use pb_text::digits::number_prefix;
 
-/// A word that is no literal at the start of a text, without the byte after it: its length, what it does with the words
-/// before it, and how the last word may still change. A byte that begins no such word is left, with a length of 0.
+/// A word that is no literal at the start of a text, without the byte after it: its length, what it
+/// does with the words before it, and how the last word may still change. A byte that begins no
+/// such word is left, with a length of 0.
 #[inline(always)]
 pub fn word_prefix(
     limit: u128,

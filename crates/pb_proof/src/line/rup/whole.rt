@@ -9,8 +9,9 @@ use pb_text::Limits;
 use pb_text::bytes::is_blank;
 use std::alloc::Global;
 
-/// The constraint of a `rup` line at the start of a text, and the index of its line feed, if it is fast to read: one
-/// space after `rup` and after each part of the constraint, and no blank after its `;`.
+/// The constraint of a `rup` line at the start of a text, and the index of its line feed, if it is
+/// fast to read: one space after `rup` and after each part of the constraint, and no blank after
+/// its `;`.
 pub(crate) fn rup_at(alloc: Global, limits: Limits, text: &[u8]) -> Option<(usize, Linear)>
     ensures inside { IfSome result (λ r. r.0 < length text.now) }
     ensures first { IfSome result (λ r. get_or text.now 0 0 ≡ 114) }
