@@ -118,6 +118,12 @@ module _ (limits : Limits) (longest : ℕ) {V : Type 0} (got : V → Call → V 
   abbrev WholeGiven : Result Verdict ToolFault → List ℕ → List ℕ → Type 0
   WholeGiven result before after = OfGiven (λ left rest. ShowsProof limits longest got v first left old result rest new) before after
 
+  pub given_proof_stopped : (before after : List ℕ) (s : Stop) (f : ToolFault) → f ≡ Text of_proof s → RunGiven (Err (check.Text s)) before after → WholeGiven (Err f) before after
+  given_proof_stopped before after s f is (given, seen, e, h) = (given, seen, e, proof_stopped limits longest got v first old new (Some (given ++ seen)) (Some seen) s f is h)
+
+  pub given_proof_rejected : (before after : List ℕ) (names : List (List ℕ)) (place : Place) (e : Fault) (f : ToolFault) → IsReportedAs names place e f → RunGiven (Err (check.Step place e)) before after → WholeGiven (Err f) before after
+  given_proof_rejected before after names place e f reported (given, seen, is, h) = (given, seen, is, proof_rejected limits longest got v first old new (Some (given ++ seen)) (Some seen) names place e f reported h)
+
   -- the whole proof, with another rest
   whole_of : (used seen other : List ℕ) (place : Place) → HasSeen limits longest got v first (Some (used ++ seen)) old (Some seen) place true None new → HasSeen limits longest got v first (Some (used ++ other)) old (Some other) place true None new
   whole_of used seen other place h =

@@ -2,14 +2,15 @@
 use Rattle.pb_tool.proofs.Common.{ℕ, ◌++◌, ◌<◌, ◌^◌, ◌∙◌, ◌∷◌, ◌≡◌, ◌≢◌, ◌⊎◌, [], ap, arith, Bool, Err, false, inl, inr, List, None, Ok, Option, refl}
 use Rattle.pb_tool.proofs.Common.{Result, Some, subst, sym, true, unwrap_or, IfSome, eqb_tells, Keeps, event_bytes, IsValueOf, statement_bytes}
 use Rattle.pb_tool.proofs.Common.{IsProof, IsProofOf, writes_nothing, first_fault, ReadsNothing, Limits, Place, Spanned, Stop, Took, TookAll}
-use Rattle.pb_tool.proofs.Common.{TookSoFar, Item, IsRead, Reading, ReadsValue, IsRefusedAfter, IsSpelling, ShowsLines, File, ToolFault, Text, Write}
-use Rattle.pb_tool.proofs.Common.{AsksInProofText, IsProofText, MayBeInstance, MayBeProof, ShowsFile, tidied_proof, TidiesFile, AsksInInstanceText}
-use Rattle.pb_tool.proofs.Common.{IsFile, IsInstanceText, IsRefused, tidied, TidiesAs}
+use Rattle.pb_tool.proofs.Common.{TookSoFar, Item, IsRead, Reading, ReadsValue, IsRefusedAfter, IsSpelling, ShowsLines, File, ToolFault, Memory, Open}
+use Rattle.pb_tool.proofs.Common.{Overflow, Step, Text, Write, AsksInProofText, IsProofText, MayBeInstance, MayBeProof, ShowsFile, tidied_proof}
+use Rattle.pb_tool.proofs.Common.{TidiesFile, TidiesProof, AsksInInstanceText, IsFile, IsInstanceText, IsRefused, tidied, Tidies, TidiesAs}
 use Rattle.std.proofs.Math.Dec.{eqb}
 use Rattle.pb_opb.specs.meaning.Gather as opb_keeping
 use Rattle.pb_proof.specs.contract.Gather as veri_keeping
 use Rattle.pb_tool.specs.contract.Show.{InText, InRest}
 use Rattle.pb_tool.specs.meaning.Tidy.IsRefused.{InText as in_text, InRest as in_rest}
+use Rattle.pb_tool.specs.declared.fault.Input.TheVariants as input
 use Rattle.pb_tool.proofs.lemmas.file.OtherReading.{written_so}
 use Rattle.pb_tool.proofs.lemmas.show.ShownStatements.{took_none}
 
@@ -54,7 +55,12 @@ module _ {E : Type 0} (format : List (Item E) → Type 0) (longest : ℕ) (befor
     shows_before old (Ok u) after new (spans, i, w) = (spans, spelling_before after spans i, w)
     shows_before old (Err (Text File s)) after new (spans, i, w) = (spans, refused_before May after spans s i, w)
     shows_before old (Err Write) after new (spans, last, between, t, w, b) = (spans, last, between, so_far_before after (spans ++ last ∷ []) last.past t, w, b)
-    shows_before old (Err e) after new h = h
+    shows_before old (Err (Text input.Instance s)) after new h = h
+    shows_before old (Err (Text input.Proof s)) after new h = h
+    shows_before old (Err (Open i)) after new h = h
+    shows_before old (Err (Overflow i)) after new h = h
+    shows_before old (Err (Memory i)) after new h = h
+    shows_before old (Err (Step place e name)) after new h = h
 
     -- nothing, if the source failed at its first byte
     pub shows_nothing : ReadsNothing format longest → (old : W) → ShowsLines format longest May text contents faults before old (Err (Text File first_fault)) mid old
@@ -98,7 +104,24 @@ may_be None = inr tt
 may_be (Some []) = inr (λ h. let e = h.1 in cc)
 may_be (Some (b ∷ text)) = by_byte b text (eqb_tells b 112)
 
-module _ (limits : Limits) (longest : ℕ) {W : Type 0} (contents : W → Option (List ℕ)) (faults : W → ℕ) (before mid : Option (List ℕ)) (k : Keeps before mid) (old : W) where
+module _ (limits : Limits) (longest n : ℕ) (is : longest ≡ n) {W : Type 0} (contents : W → Option (List ℕ)) (faults : W → ℕ) (before mid : Option (List ℕ)) (k : Keeps before mid) (old : W) where
+  module _ (result : Result Unit ToolFault) (after : Option (List ℕ)) (new : W) where
+    pub shows_proof : MayBeProof before → ShowsLines (IsProofText limits) longest (AsksInProofText limits) statement_bytes contents faults mid old result after new → ShowsFile limits n contents faults before old result after new
+    shows_proof may s =
+        subst (λ (m : ℕ). ShowsFile limits m contents faults before old result after new) is (inl (may, shows_before (IsProofText limits) longest before mid k (AsksInProofText limits) statement_bytes contents faults old result after new s))
+
+    pub shows_instance : MayBeInstance before → ShowsLines (IsInstanceText limits) longest (AsksInInstanceText limits) event_bytes contents faults mid old result after new → ShowsFile limits n contents faults before old result after new
+    shows_instance may s =
+        subst (λ (m : ℕ). ShowsFile limits m contents faults before old result after new) is (inr (may, shows_before (IsInstanceText limits) longest before mid k (AsksInInstanceText limits) event_bytes contents faults old result after new s))
+
+    pub tidies_proof : MayBeProof before → TidiesProof limits longest contents faults mid old result after new → TidiesFile limits n contents faults false before old result after new
+    tidies_proof may t =
+        subst (λ (m : ℕ). TidiesFile limits m contents faults false before old result after new) is (inl (may, tidies_before before mid k (IsProofText limits) longest (AsksInProofText limits) veri_keeping.MayKeep IsProofOf tidied_proof contents faults old result after new t))
+
+    pub tidies_instance : MayBeInstance before → Tidies limits longest false contents faults mid old result after new → TidiesFile limits n contents faults false before old result after new
+    tidies_instance may t =
+        subst (λ (m : ℕ). TidiesFile limits m contents faults false before old result after new) is (inr (may, tidies_before before mid k (IsInstanceText limits) longest (AsksInInstanceText limits) opb_keeping.MayKeep IsValueOf tidied contents faults old result after new t))
+
   module _ (some : 0 < longest) (instance : (m : ℕ) → 0 < m → ReadsNothing (IsInstanceText limits) m) (proof : (m : ℕ) → 0 < m → ReadsNothing (IsProofText limits) m) (f : ToolFault) (fault : f ≡ Text File first_fault) where
     shows_either : MayBeProof before ⊎ MayBeInstance before → ShowsFile limits longest contents faults before old (Err (Text File first_fault)) mid old
     shows_either (inl may) = inl (may, shows_nothing (IsProofText limits) longest before mid k (AsksInProofText limits) statement_bytes contents faults (proof longest some) old)
@@ -108,8 +131,12 @@ module _ (limits : Limits) (longest : ℕ) {W : Type 0} (contents : W → Option
     tidies_either (inl may) = inl (may, tidies_nothing before mid k (IsProofText limits) longest (AsksInProofText limits) veri_keeping.MayKeep IsProofOf tidied_proof contents faults (proof longest some) old)
     tidies_either (inr may) = inr (may, tidies_nothing before mid k (IsInstanceText limits) longest (AsksInInstanceText limits) opb_keeping.MayKeep IsValueOf tidied contents faults (instance longest some) old)
 
-    pub shows_unread : ShowsFile limits longest contents faults before old (Err f) mid old
-    shows_unread = subst (λ (x : ToolFault). ShowsFile limits longest contents faults before old (Err x) mid old) (sym fault) (shows_either (may_be before))
+    pub shows_unread : ShowsFile limits n contents faults before old (Err f) mid old
+    shows_unread =
+        subst (λ (m : ℕ). ShowsFile limits m contents faults before old (Err f) mid old) is
+        (subst (λ (x : ToolFault). ShowsFile limits longest contents faults before old (Err x) mid old) (sym fault) (shows_either (may_be before)))
 
-    pub tidies_unread : TidiesFile limits longest contents faults false before old (Err f) mid old
-    tidies_unread = subst (λ (x : ToolFault). TidiesFile limits longest contents faults false before old (Err x) mid old) (sym fault) (tidies_either (may_be before))
+    pub tidies_unread : TidiesFile limits n contents faults false before old (Err f) mid old
+    tidies_unread =
+        subst (λ (m : ℕ). TidiesFile limits m contents faults false before old (Err f) mid old) is
+        (subst (λ (x : ToolFault). TidiesFile limits longest contents faults false before old (Err x) mid old) (sym fault) (tidies_either (may_be before)))

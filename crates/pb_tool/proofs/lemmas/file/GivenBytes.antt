@@ -1,9 +1,9 @@
 -- What is ensured for the bytes that the calls of a source have given. Offered to other crates.
-use Rattle.pb_tool.proofs.Common.{ℕ, ◌++◌, ◌+◌, ◌<◌, ◌∙◌, ◌≡◌, ◌≤◌, [], ap, append-nil, append_assoc, Err, false, inl, length, List, Ok, Option, refl}
-use Rattle.pb_tool.proofs.Common.{Result, Some, subst, sym, append_cancel_right, statement_bytes, IsProofOf, took_join, given_both, first_fault}
-use Rattle.pb_tool.proofs.Common.{ReadsNothing, Limits, Spanned, Stop, IsBlank, ReadsBlank, OfGiven, Took, byte_limit, place_after, ShowsGiven}
-use Rattle.pb_tool.proofs.Common.{TidiesGiven, ShowsLines, File, ToolFault, Text, AsksInProofText, IsProofText, tidied_proof, TidiesProof, IsFile}
-use Rattle.pb_tool.proofs.Common.{IsRefused, InRest}
+use Rattle.pb_tool.proofs.Common.{ℕ, ◌++◌, ◌+◌, ◌<◌, ◌∙◌, ◌≡◌, ◌≤◌, [], ap, append-nil, append_assoc, Err, false, inl, inr, length, List, Ok, Option}
+use Rattle.pb_tool.proofs.Common.{refl, Result, Some, subst, sym, append_cancel_right, event_bytes, statement_bytes, IsProofOf, took_join, given_both}
+use Rattle.pb_tool.proofs.Common.{first_fault, ReadsNothing, Limits, Spanned, Stop, IsBlank, ReadsBlank, OfGiven, Took, byte_limit, place_after}
+use Rattle.pb_tool.proofs.Common.{ShowsGiven, TidiesGiven, ShowsLines, File, ToolFault, Text, AsksInProofText, IsProofText, tidied_proof, TidiesProof}
+use Rattle.pb_tool.proofs.Common.{AsksInInstanceText, IsFile, IsInstanceText, IsRefused, Tidies, InRest}
 use Rattle.pb_proof.specs.contract.Gather.{MayKeep}
 use Rattle.pb_tool.proofs.lemmas.file.ChosenFormat.{shows_nothing, tidies_nothing}
 use Rattle.pb_tool.proofs.lemmas.show.ShownStatements.{rest_within}
@@ -65,11 +65,31 @@ given_stray Reads read s other before mid after (given, left, e, reads) (more, s
   InRest read (Some (more ++ seen)) (subst (λ (x : List ℕ). Reads (Some x) (Ok read) (Some (more ++ seen))) (sym (append_assoc given more seen)) (other given left (more ++ seen) reads)) blank,
 )
 
-module _ (limits : Limits) (longest : ℕ) {W : Type 0} (contents : W → Option (List ℕ)) (faults : W → ℕ) (mid : List ℕ) (old : W) where
+module _ (limits : Limits) (longest n : ℕ) (is : longest ≡ n) {W : Type 0} (contents : W → Option (List ℕ)) (faults : W → ℕ) (before mid : List ℕ) (k : mid ≡ before) (old : W) where
+  module _ (result : Result (Unit {0}) ToolFault) (after : List ℕ) (new : W) where
+    tidies_either : TidiesGiven limits longest contents faults false mid old result after new → TidiesGiven limits n contents faults false before old result after new
+    tidies_either t =
+        subst (λ (m : ℕ). TidiesGiven limits m contents faults false before old result after new) is (subst (λ (h : List ℕ). TidiesGiven limits longest contents faults false h old result after new) k t)
+
+    pub given_proof : OfGiven (λ left rest. TidiesProof limits longest contents faults left old result rest new) mid after → TidiesGiven limits n contents faults false before old result after new
+    given_proof t = tidies_either (inl t)
+
+    pub given_instance : OfGiven (λ left rest. Tidies limits longest false contents faults left old result rest new) mid after → TidiesGiven limits n contents faults false before old result after new
+    given_instance t = tidies_either (inr t)
+
+    shows_either : ShowsGiven limits longest contents faults mid old result after new → ShowsGiven limits n contents faults before old result after new
+    shows_either t = subst (λ (m : ℕ). ShowsGiven limits m contents faults before old result after new) is (subst (λ (h : List ℕ). ShowsGiven limits longest contents faults h old result after new) k t)
+
+    pub given_shown_proof : OfGiven (λ left rest. ShowsLines (IsProofText limits) longest (AsksInProofText limits) statement_bytes contents faults left old result rest new) mid after → ShowsGiven limits n contents faults before old result after new
+    given_shown_proof t = shows_either (inl t)
+
+    pub given_shown_instance : OfGiven (λ left rest. ShowsLines (IsInstanceText limits) longest (AsksInInstanceText limits) event_bytes contents faults left old result rest new) mid after → ShowsGiven limits n contents faults before old result after new
+    given_shown_instance t = shows_either (inr t)
+
   -- nothing, if the source failed at its first byte
-  pub given_unshown : 0 < longest → ((m : ℕ) → 0 < m → ReadsNothing (IsProofText limits) m) → (f : ToolFault) → f ≡ Text File first_fault → ShowsGiven limits longest contents faults mid old (Err f) mid old
+  pub given_unshown : 0 < longest → ((m : ℕ) → 0 < m → ReadsNothing (IsProofText limits) m) → (f : ToolFault) → f ≡ Text File first_fault → ShowsGiven limits n contents faults before old (Err f) mid old
   given_unshown some reads f fault =
-      inl (
+      given_shown_proof (Err f) mid old (
         [],
         [],
         sym (append-nil mid),
@@ -77,9 +97,9 @@ module _ (limits : Limits) (longest : ℕ) {W : Type 0} (contents : W → Option
             (shows_nothing (IsProofText limits) longest (Some []) (Some []) refl (AsksInProofText limits) statement_bytes contents faults (reads longest some) old),
       )
 
-  pub given_unread : 0 < longest → ((m : ℕ) → 0 < m → ReadsNothing (IsProofText limits) m) → (f : ToolFault) → f ≡ Text File first_fault → TidiesGiven limits longest contents faults false mid old (Err f) mid old
+  pub given_unread : 0 < longest → ((m : ℕ) → 0 < m → ReadsNothing (IsProofText limits) m) → (f : ToolFault) → f ≡ Text File first_fault → TidiesGiven limits n contents faults false before old (Err f) mid old
   given_unread some reads f fault =
-      inl (
+      given_proof (Err f) mid old (
         [],
         [],
         sym (append-nil mid),

@@ -1,7 +1,9 @@
 -- Statements that are shown one after another, for the bytes that the calls of a source have given.
-use Rattle.pb_tool.proofs.Common.{ℕ, ◌++◌, ◌∙◌, ◌∷◌, ◌≡◌, [], ap, append_assoc, arith, length-append, List, None, Ok, Option, refl, Result, Some}
-use Rattle.pb_tool.proofs.Common.{subst, sym, true, append_cancel_right, row, given_both, halt_of, is_complete, place_of, stop_of, Feeder, Ghosts}
-use Rattle.pb_tool.proofs.Common.{Place, Spanned, Stop, OfGiven, Pulls, PullsOn, TookAll, Item, Wrote, EndsAt, shown, ShowsLines, ToolFault, HasGiven}
+use Rattle.pb_tool.proofs.Common.{ℕ, ◌++◌, ◌∙◌, ◌∷◌, ◌≡◌, [], ap, append_assoc, arith, Err, false, length-append, List, None, Ok, Option, refl}
+use Rattle.pb_tool.proofs.Common.{Result, Some, subst, sym, true, append_cancel_right, row, given_both, AcceptsItems, halt_of, is_complete, place_of}
+use Rattle.pb_tool.proofs.Common.{stop_of, Feeder, Ghosts, Place, Spanned, Stop, OfGiven, Pulls, PullsOn, TookAll, TookSoFar, Item, IsAsking, Broke}
+use Rattle.pb_tool.proofs.Common.{Wrote, EndsAt, shown, shown_line, ShowsLines, File, ToolFault, Text, Write, HasGiven}
+use Rattle.pb_tool.specs.contract.Show.{InText}
 use Rattle.pb_tool.proofs.lemmas.show.ShownStatements.{shows_end}
 
 module _ {M E : Type 0} {g : Ghosts M E} (longest : ℕ) (start : M) (before mid after : List ℕ) (spans : List (Spanned E)) (old new : Feeder M E g) (h : HasGiven longest start before spans old mid) (left rest : Option (List ℕ)) where
@@ -18,6 +20,10 @@ module _ {M E : Type 0} {g : Ghosts M E} (longest : ℕ) (start : M) (before mid
         (record { taken = p.taken; seen = p.seen; took = (refl, refl); given_are = p.given_are; offset_is = p.offset_is; stands = p.stands })
         stop last past,
   )
+
+  pub given_so_far : (m : Spanned E) → OfGiven (λ text end. PullsOn longest start text spans (Ok (Some m)) new end) before after
+      → OfGiven (λ text end. TookSoFar (AcceptsItems g.automaton start) longest text end (spans ++ m ∷ []) m.past) before after
+  given_so_far m (given, seen, e, on) = (given, seen, e, on.1)
 
   -- the state of the feeder after an event
   pub given_next : (m : Spanned E) → Pulls longest start h.0 spans old left (Ok (Some m)) new rest mid after → halt_of new ≡ None → HasGiven longest start before (spans ++ m ∷ []) new after
@@ -48,3 +54,13 @@ module _ {E : Type 0} (format : List (Item E) → Type 0) (longest : ℕ) (May :
     subst (λ (x : List ℕ). ShowsLines format longest May text contents faults (Some x) old result (Some seen) new) (sym (append_assoc used given seen))
         (shows_end format longest May text contents faults (Some (used ++ (given ++ seen))) (Some (given ++ seen)) (Some seen) spans place old new result (all_of format longest used other (given ++ seen) spans place all) ends w),
   )
+
+  -- what was shown of a text that was rejected
+  pub given_refused : (before after : List ℕ) (spans : List (Spanned E)) (s : Stop) (old new : W) → OfGiven (λ left rest. (all : TookAll format longest left rest spans s.place false (Some s)) × IsAsking May all.used all.seen s.why) before after
+      → Wrote contents faults old (shown text spans) new → OfGiven (λ left rest. ShowsLines format longest May text contents faults left old (Err (Text File s)) rest new) before after
+  given_refused before after spans s old new (given, seen, e, (all, asking)) w = (given, seen, e, (spans, InText all asking, w))
+
+  -- what was shown before a line that could not be written
+  pub given_broken : (before after : List ℕ) (spans : List (Spanned E)) (last : Spanned E) (old mid new : W) → OfGiven (λ left rest. TookSoFar format longest left rest (spans ++ last ∷ []) last.past) before after
+      → Wrote contents faults old (shown text spans) mid → Broke contents faults mid (shown_line text last) new → OfGiven (λ left rest. ShowsLines format longest May text contents faults left old (Err Write) rest new) before after
+  given_broken before after spans last old mid new (given, seen, e, sofar) w b = (given, seen, e, (spans, last, mid, sofar, w, b))

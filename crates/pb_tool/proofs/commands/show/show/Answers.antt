@@ -1,36 +1,35 @@
-use Rattle.pb_tool.proofs.Common.{inl, inr, event_bytes, statement_bytes, AsksInProofText, IsProofText, AsksInInstanceText, IsInstanceText}
-use Rattle.pb_tool.proofs.lemmas.file.ChosenFormat.{shows_before, shows_unread, some_of}
-use Rattle.pb_tool.proofs.lemmas.file.GivenBytes.{given_unshown}
+use Rattle.pb_tool.proofs.lemmas.file.ChosenFormat.{shows_instance, shows_proof, shows_unread, some_of}
+use Rattle.pb_tool.proofs.lemmas.file.GivenBytes.{given_shown_proof, given_shown_instance, given_unshown}
 use Rattle.pb_tool.proofs.commands.show.show.Goals as goal
 
 pub returns-in-Ok-Proof-clause-shows : goal.returns-in-Ok-Proof-clause-shows
 returns-in-Ok-Proof-clause-shows g c =
     let t = rw (c.in-Ok-Proof.is, c.in-Ok-Proof.field-0-is) at c.format_of.ensures in
-    rw (← c.unwrap_or-longest.ensures) (inl (t.format, shows_before (IsProofText c.args.limits) _ _ _ t.left (AsksInProofText c.args.limits) statement_bytes g.W.Sink.contents g.W.Sink.faults _ _ _ _ c.show_proof.ensures.shows))
+    shows_proof c.args.limits _ _ c.unwrap_or-longest.ensures g.W.Sink.contents g.W.Sink.faults _ _ t.left _ _ _ _ t.format c.show_proof.ensures.shows
 
 pub returns-in-Ok-Instance-clause-shows : goal.returns-in-Ok-Instance-clause-shows
 returns-in-Ok-Instance-clause-shows g c =
     let t = rw (c.in-Ok-Instance.is, c.in-Ok-Instance.field-0-is) at c.format_of.ensures in
-    rw (← c.unwrap_or-longest.ensures) (inr (t.format, shows_before (IsInstanceText c.args.limits) _ _ _ t.left (AsksInInstanceText c.args.limits) event_bytes g.W.Sink.contents g.W.Sink.faults _ _ _ _ c.show_instance.ensures.shows))
+    shows_instance c.args.limits _ _ c.unwrap_or-longest.ensures g.W.Sink.contents g.W.Sink.faults _ _ t.left _ _ _ _ t.format c.show_instance.ensures.shows
 
 pub returns-in-Err-clause-shows : goal.returns-in-Err-clause-shows
 returns-in-Err-clause-shows g c =
     let t = rw c.in-Err.is at c.format_of.ensures in
     let u = c.unread_file.ensures in
-    rw (← c.unwrap_or-longest.ensures) (shows_unread c.args.limits _ g.W.Sink.contents g.W.Sink.faults _ _ t.left c.args.out.now (some_of c.args.longest _ c.unwrap_or-longest.ensures c.requires) u.instance u.proof _ u.fault)
+    shows_unread c.args.limits _ _ c.unwrap_or-longest.ensures g.W.Sink.contents g.W.Sink.faults _ _ t.left c.args.out.now (some_of c.args.longest _ c.unwrap_or-longest.ensures c.requires) u.instance u.proof _ u.fault
 
 pub returns-in-Ok-Proof-clause-given : goal.returns-in-Ok-Proof-clause-given
 returns-in-Ok-Proof-clause-given g c =
     let t = rw (c.in-Ok-Proof.is, c.in-Ok-Proof.field-0-is) at c.format_of.ensures in
-    rw (← c.unwrap_or-longest.ensures, ← t.history) (inl c.show_proof.ensures.given)
+    given_shown_proof c.args.limits _ _ c.unwrap_or-longest.ensures g.W.Sink.contents g.W.Sink.faults _ _ t.history _ _ _ _ c.show_proof.ensures.given
 
 pub returns-in-Ok-Instance-clause-given : goal.returns-in-Ok-Instance-clause-given
 returns-in-Ok-Instance-clause-given g c =
     let t = rw (c.in-Ok-Instance.is, c.in-Ok-Instance.field-0-is) at c.format_of.ensures in
-    rw (← c.unwrap_or-longest.ensures, ← t.history) (inr c.show_instance.ensures.given)
+    given_shown_instance c.args.limits _ _ c.unwrap_or-longest.ensures g.W.Sink.contents g.W.Sink.faults _ _ t.history _ _ _ _ c.show_instance.ensures.given
 
 pub returns-in-Err-clause-given : goal.returns-in-Err-clause-given
 returns-in-Err-clause-given g c =
     let t = rw c.in-Err.is at c.format_of.ensures in
     let u = c.unread_file.ensures in
-    rw (← c.unwrap_or-longest.ensures, ← t.history) (given_unshown c.args.limits _ g.W.Sink.contents g.W.Sink.faults _ c.args.out.now (some_of c.args.longest _ c.unwrap_or-longest.ensures c.requires) u.proof _ u.fault)
+    given_unshown c.args.limits _ _ c.unwrap_or-longest.ensures g.W.Sink.contents g.W.Sink.faults _ _ t.history c.args.out.now (some_of c.args.longest _ c.unwrap_or-longest.ensures c.requires) u.proof _ u.fault

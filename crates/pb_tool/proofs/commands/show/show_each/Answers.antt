@@ -1,7 +1,7 @@
 use Rattle.pb_tool.proofs.Common.{◌++◌, ◌^◌, ◌∙◌, ◌∷◌, ◌≤◌, [], ap, append-nil, Err, None, Ok, refl, Some, subst, sym, part_wrote, writes_nothing}
 use Rattle.pb_tool.proofs.Common.{AcceptsItems, MayAsk, place_of, Place, OfGiven, EndsAt}
 use Rattle.pb_tool.specs.contract.Show.{InText}
-use Rattle.pb_tool.proofs.lemmas.show.GivenStatements.{given_next, given_row, given_shown}
+use Rattle.pb_tool.proofs.lemmas.show.GivenStatements.{given_broken, given_next, given_refused, given_row, given_shown, given_so_far}
 use Rattle.pb_tool.proofs.lemmas.show.ShownStatements.{fewer, first_pull, shown_more, shows_end, so_far_within}
 use Rattle.pb_tool.proofs.commands.show.show_each.Goals as goal
 
@@ -70,15 +70,17 @@ pub returns-in-Err-show_statement-clause-given : goal.returns-in-Err-show_statem
 returns-in-Err-show_statement-clause-given g c =
     let (spans, has, wrote) = c.loop-read.invariant.given in
     let t = rw (c.in-Ok-Some.is, c.in-Ok-Some.field-0-is) at c.pull.ensures in
-    let (given, seen, e, (so_far, more)) = given_row {g = g.M.Machine} c.args.longest c.args.machine (g.S.Source.history c.args.input.now) (g.S.Source.history c.loop-read.input) (g.S.Source.history c.pull.new.source) spans c.loop-read.feeder c.pull.new.feeder has (g.S.Source.left c.loop-read.input) (g.S.Source.left c.pull.new.source) (Ok (Some c.in-Ok-Some.read)) (t.pulls c.args.longest c.args.machine has.0 spans (rw has.4 tt) has.3) t.stop t.last t.past in
-    (given, seen, e, (spans, c.in-Ok-Some.read, c.loop-read.out, so_far, wrote, c.in-Err-show_statement.ensures))
+    given_broken (AcceptsItems g.M.Machine.automaton c.args.machine) c.args.longest (MayAsk g.M.Machine.automaton c.args.machine) g.E.Canonical.text g.W.Sink.contents g.W.Sink.faults (g.S.Source.history c.args.input.now) (g.S.Source.history c.pull.new.source) spans c.in-Ok-Some.read c.args.out.now c.loop-read.out c.show_statement.new.out
+    (given_so_far {g = g.M.Machine} c.args.longest c.args.machine (g.S.Source.history c.args.input.now) (g.S.Source.history c.loop-read.input) (g.S.Source.history c.pull.new.source) spans c.loop-read.feeder c.pull.new.feeder has (g.S.Source.left c.loop-read.input) (g.S.Source.left c.pull.new.source) c.in-Ok-Some.read (given_row {g = g.M.Machine} c.args.longest c.args.machine (g.S.Source.history c.args.input.now) (g.S.Source.history c.loop-read.input) (g.S.Source.history c.pull.new.source) spans c.loop-read.feeder c.pull.new.feeder has (g.S.Source.left c.loop-read.input) (g.S.Source.left c.pull.new.source) (Ok (Some c.in-Ok-Some.read)) (t.pulls c.args.longest c.args.machine has.0 spans (rw has.4 tt) has.3) t.stop t.last t.past))
+    wrote c.in-Err-show_statement.ensures
 
 pub returns-in-Err-clause-given : goal.returns-in-Err-clause-given
 returns-in-Err-clause-given g c =
     let (spans, has, wrote) = c.loop-read.invariant.given in
     let t = rw c.in-Err.is at c.pull.ensures in
-    let (given, seen, e, (all, asking)) = given_row {g = g.M.Machine} c.args.longest c.args.machine (g.S.Source.history c.args.input.now) (g.S.Source.history c.loop-read.input) (g.S.Source.history c.pull.new.source) spans c.loop-read.feeder c.pull.new.feeder has (g.S.Source.left c.loop-read.input) (g.S.Source.left c.pull.new.source) (Err c.in-Err.stop) (t.pulls c.args.longest c.args.machine has.0 spans (rw has.4 tt) has.3) t.stop t.last t.past in
-    rw c.text_fault.ensures (given, seen, e, (spans, InText all asking, wrote))
+    rw c.text_fault.ensures (given_refused (AcceptsItems g.M.Machine.automaton c.args.machine) c.args.longest (MayAsk g.M.Machine.automaton c.args.machine) g.E.Canonical.text g.W.Sink.contents g.W.Sink.faults (g.S.Source.history c.args.input.now) (g.S.Source.history c.pull.new.source) spans c.in-Err.stop c.args.out.now c.loop-read.out
+    (given_row {g = g.M.Machine} c.args.longest c.args.machine (g.S.Source.history c.args.input.now) (g.S.Source.history c.loop-read.input) (g.S.Source.history c.pull.new.source) spans c.loop-read.feeder c.pull.new.feeder has (g.S.Source.left c.loop-read.input) (g.S.Source.left c.pull.new.source) (Err c.in-Err.stop) (t.pulls c.args.longest c.args.machine has.0 spans (rw has.4 tt) has.3) t.stop t.last t.past)
+    wrote)
 
 pub returns-clause-given : goal.returns-clause-given
 returns-clause-given g c =

@@ -1,8 +1,8 @@
-use Rattle.pb_tool.proofs.Common.{◌++◌, Err, Ok, Some, subst, sym, Verdict, ReadsBlank, Replays, ToolFault, AfterProof, InProof}
+use Rattle.pb_tool.proofs.Common.{Err, Ok, subst, sym, Verdict, ReadsBlank, Replays, ToolFault, AfterProof, InProof}
 use Rattle.pb_tool.proofs.lemmas.check.TwoSources.{step_report, whole_file}
-use Rattle.pb_tool.proofs.lemmas.check.GivenProof.{given_rest, given_whole}
+use Rattle.pb_tool.proofs.lemmas.check.GivenProof.{given_rest, given_text, given_report, given_whole}
 use Rattle.pb_tool.proofs.lemmas.check.Peeked.{report_faults, report_unseen}
-use Rattle.pb_tool.proofs.lemmas.check.WatchCalls.{given_proof_rest, given_proof_ended, proof_rest, proof_ended, proof_rejected, proof_stopped}
+use Rattle.pb_tool.proofs.lemmas.check.WatchCalls.{given_proof_rest, given_proof_ended, given_proof_rejected, given_proof_stopped, proof_rest, proof_ended, proof_rejected, proof_stopped}
 use Rattle.pb_tool.proofs.commands.check.proof.run_checker.Goals as goal
 
 pub returns-in-Err-Text-clause-comes : goal.returns-in-Err-Text-clause-comes
@@ -10,26 +10,22 @@ returns-in-Err-Text-clause-comes g c longest began begins first at =
     let t = rw (c.in-Err-Text.is, c.in-Err-Text.field-0-is) at c.check_statements.ensures in
     let run = t.runs longest began begins first at in
     let (last, accepted, asking) = run.runs in
-    let (taken, left, are, (end, all, asks)) = run.given in
-    let (given, seen, same, shown) = run.shown_given in
     record {
       replayed = subst (λ (f : ToolFault). Replays began.limits longest began.problem first (g.S.Source.left c.args.input.now) (Err f) (g.S.Source.left c.check_statements.new.input)) (sym c.text_fault.ensures) (InProof last accepted asking);
-      given = (taken, left, are, subst (λ (f : ToolFault). Replays began.limits longest began.problem first (Some (taken ++ left)) (Err f) (Some left)) (sym c.text_fault.ensures) (InProof end all asks));
+      given = given_text began.limits longest began.problem first (g.S.Source.history c.args.input.now) (g.S.Source.history c.check_statements.new.input) c.check_statements.new.checker.replay c.text_fault.result c.in-Err-Text.stop c.text_fault.ensures run.given;
       shown = proof_stopped began.limits longest g.V.Watch.got began.problem first c.args.watch.now c.check_statements.new.watch (g.S.Source.left c.args.input.now) (g.S.Source.left c.check_statements.new.input) c.in-Err-Text.stop c.text_fault.result c.text_fault.ensures run.shown;
-      shown_given = (given, seen, same, proof_stopped began.limits longest g.V.Watch.got began.problem first c.args.watch.now c.check_statements.new.watch (Some (given ++ seen)) (Some seen) c.in-Err-Text.stop c.text_fault.result c.text_fault.ensures shown);
+      shown_given = given_proof_stopped began.limits longest g.V.Watch.got began.problem first c.args.watch.now c.check_statements.new.watch (g.S.Source.history c.args.input.now) (g.S.Source.history c.check_statements.new.input) c.in-Err-Text.stop c.text_fault.result c.text_fault.ensures run.shown_given;
     }
 
 pub returns-in-Err-Step-clause-comes : goal.returns-in-Err-Step-clause-comes
 returns-in-Err-Step-clause-comes g c longest began begins first at =
     let t = rw (c.in-Err-Step.is, c.in-Err-Step.field-0-is) at c.check_statements.ensures in
     let run = t.runs longest began begins first at in
-    let (taken, left, are, runs) = run.given in
-    let (given, seen, same, shown) = run.shown_given in
     record {
       replayed = step_report began.limits longest began.problem first (g.S.Source.left c.args.input.now) c.outcomes_are_single.ensures.wanting (g.S.Source.left c.check_statements.new.input) c.check_statements.new.checker.replay c.in-Err-Step.place c.in-Err-Step.fault c.rejection.result run.runs c.rejection.ensures;
-      given = (taken, left, are, step_report began.limits longest began.problem first (Some (taken ++ left)) c.outcomes_are_single.ensures.wanting (Some left) c.check_statements.new.checker.replay c.in-Err-Step.place c.in-Err-Step.fault c.rejection.result runs c.rejection.ensures);
+      given = given_report began.limits longest began.problem first (g.S.Source.history c.args.input.now) (g.S.Source.history c.check_statements.new.input) c.check_statements.new.checker.replay c.rejection.result c.outcomes_are_single.ensures.wanting c.in-Err-Step.place c.in-Err-Step.fault c.rejection.ensures run.given;
       shown = proof_rejected began.limits longest g.V.Watch.got began.problem first c.args.watch.now c.check_statements.new.watch (g.S.Source.left c.args.input.now) (g.S.Source.left c.check_statements.new.input) c.check_statements.new.checker.replay.names c.in-Err-Step.place c.in-Err-Step.fault c.rejection.result c.rejection.ensures run.shown;
-      shown_given = (given, seen, same, proof_rejected began.limits longest g.V.Watch.got began.problem first c.args.watch.now c.check_statements.new.watch (Some (given ++ seen)) (Some seen) c.check_statements.new.checker.replay.names c.in-Err-Step.place c.in-Err-Step.fault c.rejection.result c.rejection.ensures shown);
+      shown_given = given_proof_rejected began.limits longest g.V.Watch.got began.problem first c.args.watch.now c.check_statements.new.watch (g.S.Source.history c.args.input.now) (g.S.Source.history c.check_statements.new.input) c.check_statements.new.checker.replay.names c.in-Err-Step.place c.in-Err-Step.fault c.rejection.result c.rejection.ensures run.shown_given;
     }
 
 pub returns-in-Ok-rest_is_blank-clause-comes : goal.returns-in-Ok-rest_is_blank-clause-comes
